@@ -1,0 +1,2 @@
+pub mod SpacesLemmas
+pub mod WritingLemmas

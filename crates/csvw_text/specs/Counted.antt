@@ -1,0 +1,11 @@
+-- What contracts see of a `Counted`.
+use Rattle.std.specs.Prelude.{ℕ}
+use Rattle.csvw_text.specs.declared.counted.Counted.{Counted}
+
+-- the reader or writer
+abbrev pub inner_of : {T : Type 0} → Counted T → T
+inner_of c = c.inner
+
+-- how often it failed
+abbrev pub failures_of : {T : Type 0} → Counted T → ℕ
+failures_of c = c.failures

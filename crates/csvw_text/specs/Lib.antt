@@ -1,0 +1,6 @@
+pub mod Class
+pub mod Code
+pub mod Collapse
+pub mod Count
+pub mod Counted
+pub mod Spaces

@@ -1,0 +1,19 @@
+//! Texts and lists that contracts see as lists, places and faults, and writes that say what went out.
+#![tactic(auto)]
+
+mod class;
+mod compared;
+mod counted;
+mod fault;
+mod seq;
+mod spaces;
+mod text;
+mod writing;
+
+pub use class::{is_reserved, is_unreserved, is_white};
+pub use counted::Counted;
+pub use fault::{Code, Fault, Kind, Place};
+pub use seq::{Copied, Seq, copied_option};
+pub use spaces::collapse;
+pub use text::Text;
+pub use writing::{Cut, write_out};

@@ -1,0 +1,128 @@
+//! A list that contracts see as the list of its elements, and what can be copied.
+ghost use Rattle.std.specs.Prelude.{◌≡◌, [], ◌∷◌, ◌++◌, length, IfOk, OnOk, OnErr};
+
+use std::alloc::{AllocError, Global};
+use std::marker::Model;
+
+/// What can be copied to an equal value, where there is memory.
+pub trait Copied: Sized {
+    /// An equal value; `AllocError` where there is no memory.
+    fn copied(&self, alloc: Global) -> Result<Self, AllocError>
+        ensures { IfOk result (λ x. x ≡ self.now) };
+}
+
+/// A list, which a contract sees as the list of its elements.
+#[derive(Debug, Drop)]
+pub struct Seq<T> {
+    inner: Vec<T>,
+}
+
+impl<T> Model for Seq<T> {
+    ghost use Rattle.std.specs.Prelude.{List};
+    ghost use Rattle.std.specs.Coded.{coded_list};
+
+    ghost Value = { List T };
+
+    ghost coded = { coded_list T.code };
+
+    ghost view = { λ s. s.inner.items };
+}
+
+impl<T> Seq<T> {
+    /// The empty list. It takes no memory.
+    pub fn new(alloc: Global) -> Seq<T>
+        ensures { result ≡ [] }
+    {
+        Seq {
+            inner: Vec::new(alloc),
+        }
+    }
+
+    /// The list of a vector's elements. It takes no memory.
+    pub fn of(items: Vec<T>) -> Seq<T>
+        ensures { result ≡ items.items }
+    {
+        Seq { inner: items }
+    }
+
+    /// The vector that it holds. It takes no memory.
+    pub fn into_vec(self) -> Vec<T>
+        ensures { result.items ≡ self }
+    {
+        let Seq { inner } = self;
+        inner
+    }
+
+    /// The elements, as a slice.
+    pub fn as_slice(&self) -> &[T]
+        ensures { result.now ≡ self.now }
+    {
+        self.inner.as_slice()
+    }
+
+    /// How many elements there are.
+    pub fn len(&self) -> usize
+        ensures { result ≡ length self.now }
+    {
+        self.inner.len()
+    }
+
+    /// Whether there are none.
+    pub fn is_empty(&self) -> bool
+        ensures { result ≡ Rattle.std.specs.Prelude.nat_eq (length self.now) 0 }
+    {
+        self.inner.is_empty()
+    }
+
+    /// Adds an element at the end; unchanged where there is no memory.
+    pub fn push(&mut self, x: T) -> Result<(), AllocError>
+    where
+        T: Drop,
+        ensures ok { OnOk result (self.new ≡ self.old ++ x ∷ []) }
+        ensures err { OnErr result (self.new ≡ self.old) }
+    {
+        self.inner.push(x)?;
+        Ok(())
+    }
+}
+
+impl<T: Copied + Drop> Seq<T> {
+    /// An equal list; `AllocError` where there is no memory.
+    pub fn clone(&self, alloc: Global) -> Result<Seq<T>, AllocError>
+        ensures { IfOk result (λ s. s ≡ self.now) }
+    {
+        Ok(Seq {
+            inner: copies(alloc, self.as_slice())?,
+        })
+    }
+}
+
+impl<T: Copied + Drop> Copied for Seq<T> {
+    fn copied(&self, alloc: Global) -> Result<Seq<T>, AllocError> {
+        self.clone(alloc)
+    }
+}
+
+fn copies<T: Copied + Drop>(alloc: Global, items: &[T]) -> Result<Vec<T>, AllocError>
+    ensures { IfOk result (λ v. v.items ≡ items.now) }
+{
+    let mut copies = Vec::new(alloc);
+    for x in items {
+        let copy = x.copied(alloc)?;
+        copies.push(copy)?;
+    }
+    Ok(copies)
+}
+
+/// An equal option; `AllocError` where there is no memory.
+pub fn copied_option<T: Copied + Drop>(
+    alloc: Global,
+    value: &Option<T>,
+) -> Result<Option<T>, AllocError>
+    ensures { IfOk result (λ x. x ≡ value.now) }
+{
+    match value {
+        None => Ok(None),
+        Some(x) => Ok(Some(x.copied(alloc)?)),
+    }
+}
