@@ -1,2 +1,3 @@
+pub mod LanguageLemmas
 pub mod SpacesLemmas
 pub mod WritingLemmas

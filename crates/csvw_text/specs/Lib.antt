@@ -3,4 +3,5 @@ pub mod Code
 pub mod Collapse
 pub mod Count
 pub mod Counted
+pub mod Language
 pub mod Spaces
