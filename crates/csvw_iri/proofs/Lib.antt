@@ -1,0 +1,2 @@
+pub mod SafeLemmas
+pub mod LinkLemmas

@@ -1,0 +1,48 @@
+-- Links, by the URL Standard as the crate `url` defines it.
+use Rattle.std.specs.Prelude.{◌≡◌, ℕ, List, Option, Some, None, Result, Ok, Err, false, nat_lt, length, if◌then◌else◌}
+use Rattle.url.specs.Parts.{Parts, serialize}
+use Rattle.url.specs.Parser.{parse_url, Parsed}
+use Rattle.csvw_iri.specs.Prefix.{expanded}
+use Rattle.csvw_iri.specs.Safe.{safe, has_hash}
+
+pub data Refusal : Type 0 where
+  too_long : Refusal
+  bad : Refusal
+
+abbrev pub max_text : ℕ
+max_text = 65536
+
+abbrev pub of_parse : Parsed Parts → Result Parts Refusal
+of_parse (Ok url) = Ok url
+of_parse (Err e) = Err bad
+
+-- the URL of a text, against a base where there is one; a long text is told first
+unfoldable pub url_of : Option Parts → List ℕ → Result Parts Refusal
+url_of base text = if nat_lt max_text (length text) then Err too_long else of_parse (parse_url base text)
+
+abbrev pub without_fragment : Parts → Parts
+without_fragment url = record url { fragment = None }
+
+-- the IRI of a URL
+abbrev pub iri_of : Parts → List ℕ
+iri_of url = safe (serialize url)
+
+-- the URL has no fragment, and its IRI no `#`
+pub record IsBase (url : Parts) (iri : List ℕ) : Type 0 where
+  pub no_fragment : url.fragment ≡ None
+  pub made : iri ≡ iri_of url
+  pub no_hash : has_hash iri ≡ false
+
+abbrev pub under : {A B : Type 0} → (A → B) → Result A Refusal → Result B Refusal
+under f (Ok a) = Ok (f a)
+under f (Err e) = Err e
+
+abbrev pub base_of : Option Parts → List ℕ → Result Parts Refusal
+base_of base text = under without_fragment (url_of base text)
+
+abbrev pub resolved : Parts → List ℕ → Result (List ℕ) Refusal
+resolved base text = under iri_of (url_of (Some base) text)
+
+-- the link of a text
+abbrev pub link_of : Parts → List ℕ → Result (List ℕ) Refusal
+link_of base text = resolved base (expanded text)

@@ -1,0 +1,130 @@
+//! URLs without a fragment, against which texts resolve.
+ghost use Rattle.std.specs.Prelude.{◌≡◌, IfOk, Some, None, false};
+ghost use Rattle.csvw_iri.specs.Safe.{has_hash};
+ghost use Rattle.csvw_iri.specs.Link.{base_of, iri_of, url_of, without_fragment};
+ghost use Rattle.csvw_iri.specs.Fault.{Gives};
+
+use crate::fault::IriFault;
+use crate::iri::Iri;
+use crate::safe::made_safe;
+use csvw_text::Copied;
+use std::alloc::{AllocError, Global};
+use std::marker::Model;
+use url::{ParseError, Url};
+
+/// How many bytes a text to resolve has at most.
+const MAX_TEXT: usize = 65536;
+
+/// A URL without a fragment.
+#[derive(Debug, Drop)]
+pub struct Base {
+    url: Url,
+    iri: Iri,
+}
+
+impl Model for Base {
+    ghost use Rattle.std.specs.Prelude.{◌≡◌, None, false};
+    ghost use Rattle.url.specs.Parts.{Parts, parts_code};
+    ghost use Rattle.csvw_iri.specs.Link.{IsBase};
+
+    ghost Value = { Parts };
+
+    ghost coded = { parts_code };
+
+    ghost view = { λ b. b.url };
+
+    ghost invariant = { λ b. IsBase b.url b.iri };
+}
+
+impl Copied for Base {
+    fn copied(&self, alloc: Global) -> Result<Base, AllocError> {
+        self.clone(alloc)
+    }
+}
+
+impl Base {
+    /// The URL that the text is, without its fragment. `UrlTooLong` where the text has more than
+    /// 65,536 bytes, else `BadUrl` where it is no URL (URL Standard, section 4.4); `Memory` where
+    /// there is none.
+    pub fn new(alloc: Global, text: &str) -> Result<Base, IriFault>
+        ensures { Gives (λ b. b) result (base_of None text.now) }
+    {
+        Ok(Base::of(alloc, parsed(alloc, text)?)?)
+    }
+
+    /// The URL that the text resolves to against this one, without its fragment. Faults are those of
+    /// `new`.
+    pub fn join(&self, alloc: Global, text: &str) -> Result<Base, IriFault>
+        ensures { Gives (λ b. b) result (base_of (Some self.now) text.now) }
+    {
+        Ok(Base::of(alloc, self.joined(text)?)?)
+    }
+
+    /// The URL, made safe. It has no `#`.
+    pub fn iri(&self) -> &Iri
+        ensures value { result.now ≡ iri_of self.now }
+        ensures no_hash { has_hash result.now ≡ false }
+    {
+        &self.iri
+    }
+
+    /// An equal base; `AllocError` where there is no memory.
+    pub fn clone(&self, alloc: Global) -> Result<Base, AllocError>
+        ensures { IfOk result (λ b. b ≡ self.now) }
+    {
+        Ok(Base {
+            url: self.url.clone()?,
+            iri: self.iri.clone(alloc)?,
+        })
+    }
+
+    fn of(alloc: Global, url: Url) -> Result<Base, AllocError>
+        ensures { IfOk result (λ b. b ≡ without_fragment url) }
+    {
+        let url = cut(url)?;
+        let iri = made_safe(alloc, url.as_str())?;
+        Ok(Base { url, iri })
+    }
+
+    #[tactic(auto, unfolding(crate::specs::Link::url_of))]
+    pub(crate) fn joined(&self, text: &str) -> Result<Url, IriFault>
+        ensures { Gives (λ u. u) result (url_of (Some self.now) text.now) }
+    {
+        if text.len() > MAX_TEXT {
+            return Err(IriFault::UrlTooLong);
+        }
+        match self.url.join(text) {
+            Ok(url) => Ok(url),
+            Err(ParseError::OutOfMemory) => Err(IriFault::Memory),
+            Err(ParseError::Overflow) => Err(IriFault::Memory),
+            Err(_) => Err(IriFault::BadUrl),
+        }
+    }
+}
+
+#[tactic(auto, unfolding(crate::specs::Link::url_of))]
+fn parsed(alloc: Global, text: &str) -> Result<Url, IriFault>
+    ensures { Gives (λ u. u) result (url_of None text.now) }
+{
+    if text.len() > MAX_TEXT {
+        return Err(IriFault::UrlTooLong);
+    }
+    match Url::parse(alloc, text) {
+        Ok(url) => Ok(url),
+        Err(ParseError::OutOfMemory) => Err(IriFault::Memory),
+        Err(ParseError::Overflow) => Err(IriFault::Memory),
+        Err(_) => Err(IriFault::BadUrl),
+    }
+}
+
+fn cut(mut url: Url) -> Result<Url, AllocError>
+    ensures value { IfOk result (λ u. u ≡ without_fragment url) }
+{
+    if url.fragment().is_none() {
+        return Ok(url);
+    }
+    match url.set_fragment(None) {
+        Ok(()) => Ok(url),
+        Err(_) => Err(AllocError),
+    }
+}

@@ -1,0 +1,36 @@
+//! Why a text gives no IRI.
+ghost use Rattle.std.specs.Prelude.{◌≡◌};
+
+use std::alloc::{AllocError, AllocFailed};
+
+/// Why a text gives no IRI, in the order in which they are tested but for `Memory`, which may come
+/// before any of them.
+#[derive(Clone, Copy, Debug, PartialEq, Eq)]
+pub enum IriFault {
+    /// There is no memory for it.
+    Memory,
+    /// The text to resolve is longer than 65,536 bytes.
+    UrlTooLong,
+    /// The text is no URL, or resolves to none, by the URL Standard.
+    BadUrl,
+}
+
+impl From<AllocError> for IriFault {
+    ghost use Rattle.csvw_iri.specs.declared.fault.IriFault.TheVariants.{Memory};
+
+    ghost from_gives = { λ _ e. e ≡ Memory };
+
+    fn from(_: AllocError) -> IriFault {
+        IriFault::Memory
+    }
+}
+
+impl<T: Drop> From<AllocFailed<T>> for IriFault {
+    ghost use Rattle.csvw_iri.specs.declared.fault.IriFault.TheVariants.{Memory};
+
+    ghost from_gives = { λ _ e. e ≡ Memory };
+
+    fn from(_: AllocFailed<T>) -> IriFault {
+        IriFault::Memory
+    }
+}

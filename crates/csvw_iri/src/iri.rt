@@ -1,0 +1,76 @@
+//! A shared text whose characters may all stand raw in an IRIREF.
+ghost use Rattle.std.specs.Prelude.{◌≡◌, ◌++◌, true, false, codes, string_bytes, IfOk};
+ghost use Rattle.csvw_iri.specs.Safe.{is_iri, has_hash};
+
+use csvw_text::{Copied, Text};
+use std::alloc::{AllocError, Global};
+use std::marker::Model;
+use std::rc::Rc;
+
+/// An IRI: a text whose characters may all stand raw in an IRIREF (N-Triples 1.1, section 7), so
+/// that it has no backslash and no escape. Clones share one text.
+#[derive(Drop)]
+pub struct Iri {
+    shared: Rc<Text>,
+}
+
+impl Model for Iri {
+    ghost use Rattle.std.specs.Prelude.{◌≡◌, ℕ, List, true};
+    ghost use Rattle.csvw_iri.specs.Safe.{is_iri};
+
+    ghost Value = { List ℕ };
+
+    ghost view = { λ i. i.shared.value };
+
+    ghost invariant = { λ i. is_iri i.shared.value ≡ true };
+}
+
+impl Iri {
+    /// The IRI of a text whose characters all stand raw; `AllocError` where there is no memory.
+    pub(crate) fn of(alloc: Global, text: String) -> Result<Iri, AllocError>
+        requires { is_iri (string_bytes text) ≡ true }
+        ensures { IfOk result (λ i. i ≡ string_bytes text) }
+    {
+        match Rc::new(alloc, Text::of(text)) {
+            Ok(shared) => Ok(Iri { shared }),
+            Err(_) => Err(AllocError),
+        }
+    }
+
+    /// Its text. It takes no memory.
+    pub fn as_str(&self) -> &str
+        ensures value { result.now ≡ self.now }
+        ensures raw { is_iri self.now ≡ true }
+    {
+        self.shared.as_ref().as_str()
+    }
+
+    /// An equal IRI, which shares the text: it takes no memory, and is an `AllocError` only where the
+    /// count of the owners is at its greatest.
+    pub fn clone(&self, _alloc: Global) -> Result<Iri, AllocError>
+        ensures { IfOk result (λ i. i ≡ self.now) }
+    {
+        Ok(Iri {
+            shared: self.shared.clone()?,
+        })
+    }
+}
+
+impl Copied for Iri {
+    fn copied(&self, alloc: Global) -> Result<Iri, AllocError> {
+        self.clone(alloc)
+    }
+}
+
+/// The IRI, `#` and the text; `AllocError` where there is no memory. The text is ready for it where
+/// `is_raw_text` says so, and `Base::iri` has no `#`.
+pub fn with_fragment(alloc: Global, iri: &Iri, text: &str) -> Result<Iri, AllocError>
+    requires no_hash { has_hash iri.now ≡ false }
+    requires raw { is_iri text.now ≡ true }
+    ensures { IfOk result (λ i. i ≡ iri.now ++ codes "#" ++ text.now) }
+{
+    let mut joined = String::from_str(alloc, iri.as_str())?;
+    joined.push('#')?;
+    joined.push_str(text)?;
+    Iri::of(alloc, joined)
+}

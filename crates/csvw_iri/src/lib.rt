@@ -1,0 +1,17 @@
+//! IRIs that are safe in N-Triples, prefixes, and what a text resolves to against a base.
+#![tactic(auto)]
+
+mod base;
+mod compared;
+mod fault;
+mod iri;
+mod links;
+mod prefix;
+mod safe;
+
+pub use base::Base;
+pub use fault::IriFault;
+pub use iri::{Iri, with_fragment};
+pub use links::{link, resolve};
+pub use prefix::expand_prefix;
+pub use safe::{is_raw, is_raw_text, made_safe};

@@ -1,0 +1,30 @@
+//! Links: the IRI that a text means against a base.
+ghost use Rattle.std.specs.Prelude.{◌≡◌};
+ghost use Rattle.csvw_iri.specs.Link.{resolved, link_of};
+ghost use Rattle.csvw_iri.specs.Fault.{Gives};
+
+use crate::base::Base;
+use crate::fault::IriFault;
+use crate::iri::Iri;
+use crate::prefix::expand_prefix;
+use crate::safe::made_safe;
+use std::alloc::Global;
+
+/// The IRI that the text resolves to against the base (URL Standard, section 4.4), made safe.
+/// `UrlTooLong` where the text has more than 65,536 bytes, else `BadUrl` where it resolves to none;
+/// `Memory` where there is none.
+pub fn resolve(alloc: Global, base: &Base, text: &str) -> Result<Iri, IriFault>
+    ensures { Gives (λ i. i) result (resolved base.now text.now) }
+{
+    let url = base.joined(text)?;
+    Ok(made_safe(alloc, url.as_str())?)
+}
+
+/// The IRI that the text resolves to once its prefix is replaced. Faults are those of `resolve`; what
+/// is measured is the text after that step.
+pub fn link(alloc: Global, base: &Base, text: &str) -> Result<Iri, IriFault>
+    ensures { Gives (λ i. i) result (link_of base.now text.now) }
+{
+    let expanded = expand_prefix(alloc, text)?;
+    resolve(alloc, base, expanded.as_str())
+}
