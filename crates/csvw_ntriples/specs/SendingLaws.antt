@@ -1,0 +1,39 @@
+-- How the states of a sink follow one another.
+use Rattle.std.proofs.Common.{◌≡◌, ◌<◌, ℕ, List, [], ◌∷◌, ◌++◌, Bool, true, false, Option, Some, None, refl, sym, ap, ◌∙◌, append_assoc, append-nil, take, length}
+use Rattle.std.proofs.KnownBytes.{Appends-nil, Appends-trans, Appends-kept}
+use Rattle.std.proofs.lemmas.List.Concat.{flat_map-append}
+use Rattle.std.specs.Io.KnownBytes.{Appends, Keeps}
+use Rattle.csvw_ntriples.specs.Sending.{Sends}
+use Rattle.csvw_ntriples.specs.Written.{written, line_text}
+use Rattle.csvw_triples.specs.declared.term.Triple.{Triple}
+
+Keeps-same : (a : Option (List ℕ)) → Keeps a a
+Keeps-same None = tt
+Keeps-same (Some x) = refl
+
+Keeps-trans : (a b c : Option (List ℕ)) → Keeps a b → Keeps b c → Keeps a c
+Keeps-trans None b c p q = tt
+Keeps-trans (Some x) None c p q = absurd p
+Keeps-trans (Some x) (Some y) None p q = absurd q
+Keeps-trans (Some x) (Some y) (Some z) p q = q ∙ p
+
+pub written-append : (xs ys : List Triple) → written (xs ++ ys) ≡ written xs ++ written ys
+written-append xs ys = flat_map-append line_text xs ys
+
+pub sends_nothing : (a : Option (List ℕ)) (o : Bool) → Sends a o [] a o
+sends_nothing a true = Appends-nil a
+sends_nothing a false = (refl, Keeps-same a)
+
+pub sends_on : (a b c : Option (List ℕ)) (o p q : Bool) (xs ys : List Triple) → Sends a o xs b p → Sends b p ys c q → Sends a o (xs ++ ys) c q
+sends_on a b c true true true xs ys f g = rw (written-append xs ys) (Appends-trans a b c (written xs) (written ys) f g)
+sends_on a b c true true false xs ys f g =
+    let cut = g.0 in let n = g.1 in let rest = take n (written (cut ∷ [])) in
+    (cut, n, g.2, rw (written-append xs ys, append_assoc (written xs) (written ys) rest) (Appends-trans a b c (written xs) (written ys ++ rest) f g.3))
+sends_on a b c true false true xs ys f g = absurd g
+sends_on a b c true false false xs ys f g =
+    let cut = f.0 in let n = f.1 in let rest = take n (written (cut ∷ [])) in
+    let same : xs ++ ys ≡ xs = ap (λ z. xs ++ z) g.0 ∙ append-nil xs in
+    (cut, n, f.2, rw same (Appends-kept a b c (written xs ++ rest) f.3 g.1))
+sends_on a b c false true q xs ys f g = absurd f
+sends_on a b c false false true xs ys f g = absurd g
+sends_on a b c false false false xs ys f g = (ap (λ z. z ++ ys) f.0 ∙ g.0, Keeps-trans a b c f.1 g.1)

@@ -1,0 +1,85 @@
+//! A sink that writes N-Triples.
+ghost use Rattle.std.specs.Prelude.{◌≡◌, true};
+ghost use Rattle.csvw_ntriples.specs.NtSink.{sink_out, sink_is_open};
+
+use crate::write::push_line;
+use csvw_text::{Counted, write_out};
+use csvw_triples::{SinkFault, Triple, TripleSink};
+use std::alloc::Global;
+use std::io::Write;
+
+/// Writes each triple as a line of N-Triples. A line is made whole in memory and then sent by
+/// `write_out`; after a line that was cut off nothing more is sent.
+#[derive(Drop)]
+pub struct NtSink<'a, W> {
+    out: &'a mut Counted<W>,
+    line: Vec<u8>,
+    is_open: bool,
+}
+
+impl<'a, W: Write> NtSink<'a, W> {
+    /// A sink that adds to what the writer holds. It takes no memory.
+    pub fn new(alloc: Global, out: &'a mut Counted<W>) -> NtSink<'a, W>
+        ensures same_reference { (sink_out result).ghost_name ≡ out.entry.ghost_name }
+        ensures out { (sink_out result).now ≡ out.entry.now }
+        ensures open { sink_is_open result ≡ true }
+    {
+        NtSink {
+            out,
+            line: Vec::new(alloc),
+            is_open: true,
+        }
+    }
+
+    /// The writer. It takes no memory.
+    pub fn into_inner(self) -> &'a mut Counted<W>
+        ensures same_reference { result.ghost_name ≡ (sink_out self.entry).ghost_name }
+        ensures value { result.now ≡ (sink_out self.entry).now }
+    {
+        let NtSink {
+            out,
+            line: _,
+            is_open: _,
+        } = self;
+        out
+    }
+}
+
+impl<'a, W: Write> TripleSink for NtSink<'a, W> {
+    ghost use Rattle.csvw_ntriples.specs.Sending.{Sends};
+    ghost use Rattle.std.proofs.Common.{refl, ◌∙◌};
+    ghost use Rattle.csvw_ntriples.specs.SendingLaws.{sends_nothing, sends_on};
+    ghost use Rattle.csvw_text.specs.Counted.{inner_of, failures_of};
+    ghost use Rattle.csvw_ntriples.specs.NtSink.{sink_out, sink_is_open};
+
+    ghost gains = { λ a ts b. ((sink_out b).ghost_name ≡ (sink_out a).ghost_name) × Sends (W.contents (inner_of (sink_out a).now)) (sink_is_open a) ts (W.contents (inner_of (sink_out b).now)) (sink_is_open b) };
+
+    ghost is_open = { λ s. sink_is_open s };
+
+    ghost failed = { λ s. failures_of (sink_out s).now };
+
+    fn failures(&self) -> u64 {
+        self.out.failures()
+    }
+
+    fn put(&mut self, triple: &Triple) -> Result<(), SinkFault> {
+        if !self.is_open {
+            return Err(SinkFault::Closed);
+        }
+        self.line.clear();
+        let Ok(()) = push_line(&mut self.line, triple) else {
+            return Err(SinkFault::Memory);
+        };
+        match write_out(self.out, self.line.as_slice()) {
+            Ok(()) => Ok(()),
+            Err(_) => {
+                self.is_open = false;
+                Err(SinkFault::Device)
+            }
+        }
+    }
+
+    ghost stays = { λ s. (refl, sends_nothing (W.contents (inner_of (sink_out s).now)) (sink_is_open s)) };
+
+    ghost goes_on = { λ a b c xs ys p q. (q.0 ∙ p.0, sends_on (W.contents (inner_of (sink_out a).now)) (W.contents (inner_of (sink_out b).now)) (W.contents (inner_of (sink_out c).now)) (sink_is_open a) (sink_is_open b) (sink_is_open c) xs ys p.1 q.1) };
+}
