@@ -1,0 +1,99 @@
+//! The columns that a header gives.
+ghost use Rattle.std.specs.Prelude.{◌≡◌, ◌+◌, ◌<◌, ◌≤◌, ◌^◌, IfOk, map, length, codes, bytes_eq, false};
+ghost use Rattle.std.specs.List.{list_any};
+ghost use Rattle.csvw_iri.specs.Link.{iri_of};
+ghost use Rattle.csvw_columns.specs.Columns.{string_type, column_of, columns_from, columns_of, is_named_among, has_repeated_name, column_limit, header_gives};
+ghost use Rattle.csvw_columns.specs.Outcome.{Answers};
+
+use crate::column::{Column, Columns};
+use crate::name::name_of;
+use crate::table_stop::TableStop;
+use csvw_iri::{Base, Iri, made_safe, with_fragment};
+use csvw_text::{Seq, Text};
+use std::alloc::{AllocError, Global};
+
+const COLUMN_LIMIT: usize = 1024;
+
+const STRING_TYPE: &str = "http://www.w3.org/2001/XMLSchema#string";
+
+/// A header row.
+#[derive(Debug, Drop)]
+pub struct HeaderRow {
+    /// Its source number, from 1.
+    pub source: u64,
+    pub cells: Seq<Text>,
+}
+
+/// xsd:string.
+fn string_type(alloc: Global) -> Result<Iri, AllocError>
+    ensures { IfOk result (λ iri. iri ≡ string_type) }
+{
+    made_safe(alloc, STRING_TYPE)
+}
+
+fn make_column(
+    alloc: Global,
+    url: &Base,
+    datatype: &Iri,
+    number: usize,
+    title: &str,
+) -> Result<Column, AllocError>
+    requires { datatype.now ≡ string_type }
+    ensures { IfOk result (λ c. c ≡ column_of (iri_of url.now) number title.now) }
+{
+    let name = name_of(alloc, number, title)?;
+    let predicate = with_fragment(alloc, url.iri(), name.as_str())?;
+    let datatype = datatype.clone(alloc)?;
+    Ok(Column {
+        name,
+        predicate,
+        datatype,
+    })
+}
+
+fn make_columns(alloc: Global, url: &Base, titles: &[Text]) -> Result<Vec<Column>, AllocError>
+    requires { length titles.now ≤ column_limit }
+    ensures { IfOk result (λ v. v.items ≡ columns_of (iri_of url.now) titles.now) }
+{
+    let datatype = string_type(alloc)?;
+    let mut columns = Vec::new(alloc);
+    for (i, title) in titles.iter().enumerate() {
+        let column = make_column(alloc, url, &datatype, i + 1, title.as_str())?;
+        columns.push(column)?;
+    }
+    Ok(columns)
+}
+
+fn is_named_among(name: &Text, columns: &[Column]) -> bool
+    ensures { result ≡ is_named_among name.now columns.now }
+{
+    columns.iter().any(|c| c.name.as_str() == name.as_str())
+}
+
+fn has_repeated_name(columns: &[Column]) -> bool
+    ensures { result ≡ has_repeated_name columns.now }
+{
+    match columns.split_first() {
+        None => false,
+        Some((first, others)) => is_named_among(&first.name, others) || has_repeated_name(others),
+    }
+}
+
+/// The columns of a table of this URL that its header row names: one for each cell, named by the cell,
+/// percent-encoded, or by `_col.` and its number where the cell is empty (Metadata Vocabulary,
+/// section 5.6). `TooManyColumns` where there are more than 1,024, else `DuplicateName` where two names
+/// are equal; `Memory` where there is none. It never answers `RaggedRow`.
+pub fn match_header(alloc: Global, url: &Base, header: &HeaderRow) -> Result<Columns, TableStop>
+    ensures { Answers result (header_gives (iri_of url.now) header.now.cells) }
+{
+    if header.cells.len() > COLUMN_LIMIT {
+        return Err(TableStop::TooManyColumns);
+    }
+    let columns = make_columns(alloc, url, header.cells.as_slice())?;
+    if has_repeated_name(columns.as_slice()) {
+        return Err(TableStop::DuplicateName);
+    }
+    Ok(Columns {
+        columns: Seq::of(columns),
+    })
+}
