@@ -1,3 +1,5 @@
 pub mod Literal
+pub mod RowTriples
+pub mod Taking
 pub mod VecSink
 pub mod Vocabulary

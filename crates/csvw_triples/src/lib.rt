@@ -1,12 +1,14 @@
 //! Triples, where their blank nodes come from, and what takes triples.
 #![tactic(auto)]
 
+mod emit;
 mod mode;
 mod origin;
 mod sink;
 mod term;
 mod vec_sink;
 
+pub use emit::emit_row;
 pub use mode::Mode;
 pub use origin::Origin;
 pub use sink::{SinkFault, TripleSink};

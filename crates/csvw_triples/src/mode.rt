@@ -7,6 +7,4 @@ pub enum Mode {
     Validate,
     /// The cells' triples alone.
     Minimal,
-    /// The cells' triples, and those that describe the group, its tables and rows.
-    Standard,
 }

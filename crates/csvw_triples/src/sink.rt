@@ -3,6 +3,7 @@ ghost use Rattle.std.specs.Prelude.{◌≡◌, ◌≢◌, ◌+◌, ◌<◌, ◌^
 ghost use Rattle.csvw_triples.specs.declared.term.Triple.{Triple as TheTriple};
 
 use crate::Triple;
+use std::alloc::AllocError;
 
 /// Why a sink took no triple.
 #[derive(Clone, Copy, Debug, PartialEq, Eq)]
@@ -13,6 +14,16 @@ pub enum SinkFault {
     Device,
     /// The device failed before.
     Closed,
+}
+
+impl From<AllocError> for SinkFault {
+    ghost use Rattle.csvw_triples.specs.declared.sink.SinkFault.TheVariants.{Memory};
+
+    ghost from_gives = { λ _ e. e ≡ Memory };
+
+    fn from(_: AllocError) -> SinkFault {
+        SinkFault::Memory
+    }
 }
 
 /// What takes triples, one after the other.

@@ -1,0 +1,27 @@
+-- The triples of a row, in their order (csv2rdf, minimal mode, section 4.5).
+use Rattle.std.specs.Prelude.{ℕ, List, [], map}
+use Rattle.std.specs.List.{zip}
+use Rattle.csvw_columns.specs.declared.column.Column.{Column}
+use Rattle.csvw_columns.specs.declared.column.Columns.{Columns}
+use Rattle.csvw_annotate.specs.declared.row.AnnCell.{AnnCell}
+use Rattle.csvw_annotate.specs.declared.row.Row.{Row}
+use Rattle.csvw_triples.specs.declared.mode.Mode.{Mode}
+use Rattle.csvw_triples.specs.declared.mode.Mode.TheVariants.{Validate, Minimal}
+use Rattle.csvw_triples.specs.declared.origin.Origin.TheVariants.{Subject}
+use Rattle.csvw_triples.specs.declared.term.Node.TheVariants as node
+use Rattle.csvw_triples.specs.declared.term.Term.TheVariants as term
+use Rattle.csvw_triples.specs.declared.term.Triple.{Triple}
+use Rattle.csvw_triples.specs.Literal.{typed_lit}
+
+-- the triple of a cell: the row's subject, the column's predicate, the value as a literal
+abbrev pub cell_triple : ℕ → ℕ → Column → AnnCell → Triple
+cell_triple t number column cell =
+    record { s = node.Blank (Subject t number); p = column.predicate; o = term.Literal (typed_lit cell.value column.datatype) }
+
+abbrev pub cells_triples : ℕ → ℕ → List Column → List AnnCell → List Triple
+cells_triples t number columns cells = map (λ p. cell_triple t number p.0 p.1) (zip columns cells)
+
+-- the triples of a row of table t
+abbrev pub row_triples : Mode → ℕ → Columns → Row → List Triple
+row_triples Validate t columns row = []
+row_triples Minimal t columns row = cells_triples t row.number columns.columns row.cells
