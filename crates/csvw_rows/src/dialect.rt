@@ -1,6 +1,7 @@
 //! How a text is cut into rows and fields.
-ghost use Rattle.std.specs.Prelude.{◌≡◌, ◌||◌, ◌==◌, ℕ, IfOk, OnOk, OnErr, chars};
-ghost use Rattle.std.specs.List.{list_any};
+ghost use Rattle.std.specs.Prelude.{◌≡◌, ◌||◌, ◌==◌, IfOk, OnOk, OnErr, chars};
+ghost use Rattle.csvw_rows.specs.Lawful.{IsLawful, IsDefault, has_break, prefix_breaks, delimiter_breaks, quote_breaks};
+ghost use Rattle.csvw_rows.specs.Files.{prefix_of};
 
 use csvw_text::{Text, copied_option};
 use std::alloc::{AllocError, Global};
@@ -64,7 +65,9 @@ fn is_break(c: char) -> bool
     c == '\r' || c == '\n'
 }
 
-fn has_break(text: &str) -> bool {
+fn has_break(text: &str) -> bool
+    ensures { result ≡ has_break (chars text.now) }
+{
     text.chars().any(|c| is_break(c))
 }
 
@@ -72,7 +75,9 @@ impl Dialect {
     /// The defaults: `,` between fields, `"` round them and doubled in them, comments after `#`, one
     /// header row, nothing skipped or stripped, rows that end with CR LF or LF. `AllocError` where there
     /// is no memory.
-    pub fn new(alloc: Global) -> Result<Dialect, AllocError> {
+    pub fn new(alloc: Global) -> Result<Dialect, AllocError>
+        ensures { IfOk result IsDefault }
+    {
         Ok(Dialect {
             delimiter: ',',
             quote_char: Some('"'),
@@ -92,7 +97,10 @@ impl Dialect {
     }
 
     /// Whether texts can be read by the dialect; `BadDialect` where they can't.
-    pub fn check(&self) -> Result<(), BadDialect> {
+    pub fn check(&self) -> Result<(), BadDialect>
+        ensures ok { OnOk result (IsLawful self.now) }
+        ensures bad { OnErr result (IsLawful self.now → ⊥) }
+    {
         if self.delimiter_is_bad() || self.quote_is_bad() || self.prefix_is_bad() {
             return Err(BadDialect);
         }
@@ -102,11 +110,15 @@ impl Dialect {
         Ok(())
     }
 
-    fn delimiter_is_bad(&self) -> bool {
+    fn delimiter_is_bad(&self) -> bool
+        ensures { result ≡ delimiter_breaks self.now }
+    {
         is_break(self.delimiter) || !self.double_quote && self.delimiter == '\\'
     }
 
-    fn quote_is_bad(&self) -> bool {
+    fn quote_is_bad(&self) -> bool
+        ensures { result ≡ quote_breaks self.now.delimiter self.now.double_quote self.now.quote_char }
+    {
         match self.quote_char {
             Some(quote) => {
                 is_break(quote) || quote == self.delimiter || !self.double_quote && quote == '\\'
@@ -115,7 +127,9 @@ impl Dialect {
         }
     }
 
-    fn prefix_is_bad(&self) -> bool {
+    fn prefix_is_bad(&self) -> bool
+        ensures { result ≡ prefix_breaks (prefix_of self.now) }
+    {
         match &self.comment_prefix {
             Some(prefix) => has_break(prefix.as_str()),
             None => false,

@@ -1,6 +1,7 @@
 //! A reader of rows.
 ghost use Rattle.std.specs.Prelude.{◌≡◌, ◌≤◌, ◌<◌, ◌-◌, ◌+◌, ◌^◌, true, false, length, IfOk};
 ghost use Rattle.std.specs.Borrow.{sem};
+ghost use Rattle.csvw_rows.specs.Lawful.{IsLawful};
 
 use crate::dialect::Dialect;
 use crate::field::{all_empty, field_texts};
@@ -38,7 +39,8 @@ impl Rows {
     /// A reader of no bytes yet, which takes at most so many rows of all kinds; `AllocError` where there is
     /// no memory. The dialect has to pass `check`.
     pub fn new(alloc: Global, dialect: Dialect, max_rows: u64) -> Result<Rows, AllocError>
-        requires { max_rows < 2 ^ 64 - 1 }
+        requires lawful { IsLawful dialect }
+        requires few { max_rows < 2 ^ 64 - 1 }
         ensures { IfOk result (λ r. is_ended_of r ≡ false) }
     {
         Ok(Rows {

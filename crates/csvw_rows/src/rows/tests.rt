@@ -46,6 +46,7 @@ fn ended(rows: &mut Rows) -> Result<(), Fail> {
 /// What a text gives in one piece.
 fn whole(alloc: Global, dialect: Dialect, max: u64, piece: &[u8]) -> Result<String, Fail> {
     let mut text = String::new(alloc);
+    dialect.check().map_err(|_| "dialect")?;
     let mut rows = Rows::new(alloc, dialect, max.min(MANY))?;
     fed(&mut rows, piece)?;
     ended(&mut rows)?;
@@ -56,6 +57,7 @@ fn whole(alloc: Global, dialect: Dialect, max: u64, piece: &[u8]) -> Result<Stri
 /// What a text gives in two pieces, with the rows of the first read before the second is fed.
 fn halves(alloc: Global, dialect: Dialect, a: &[u8], b: &[u8]) -> Result<String, Fail> {
     let mut text = String::new(alloc);
+    dialect.check().map_err(|_| "dialect")?;
     let mut rows = Rows::new(alloc, dialect, MANY)?;
     fed(&mut rows, a)?;
     told(&mut text, &mut rows)?;
