@@ -1,0 +1,28 @@
+-- How many bytes characters take.
+use Rattle.std.proofs.Common.{◌≡◌, ℕ, ◌+◌, ◌<◌, ◌≤◌, List, [], ◌∷◌, ◌++◌, length, take, get_or, refl, sym, ap, ◌∙◌, arith, append-nil, length-append, encode_utf8_all, drop, ◌-◌}
+use Rattle.std.proofs.Math.Seq.{take-add}
+use Rattle.std.proofs.Common.{length-drop}
+use Rattle.std.proofs.lemmas.Grind.{common_steps}
+use Rattle.std.proofs.lemmas.Str.{encodes-append, length-encode}
+use Rattle.std.proofs.lemmas.List.{take_more}
+use Rattle.std.specs.Char.{len_utf8, encode_utf8}
+use Rattle.csvw_rows.specs.Lengths.{byte_len}
+
+-- one character more
+pub byte_len_more : (xs : List ℕ) (i : ℕ) → i < length xs → byte_len (take (i + 1) xs) ≡ byte_len (take i xs) + len_utf8 (get_or xs i 0)
+byte_len_more xs i h =
+    let c = get_or xs i 0 in
+    let one : length (encode_utf8_all (c ∷ [])) ≡ len_utf8 c = ap length (append-nil (encode_utf8 c)) ∙ length-encode c in
+    ap byte_len (take_more xs i 0 h) ∙ ap length (encodes-append (take i xs) (c ∷ [])) ∙ length-append (encode_utf8_all (take i xs)) (encode_utf8_all (c ∷ [])) ∙ ap (λ n. byte_len (take i xs) + n) one
+
+take_all : (l : List ℕ) → take (length l) l ≡ l
+take_all l = grind (arith, common_steps)
+
+rest_whole : (l : List ℕ) (s : ℕ) → take (length l - s) (drop s l) ≡ drop s l
+rest_whole l s = ap (λ n. take n (drop s l)) (sym (length-drop s l)) ∙ take_all (drop s l)
+
+pub take_two : (l : List ℕ) (s n : ℕ) → s ≤ length l → n ≤ length (take (length l - s) (drop s l)) → take s l ++ take n (take (length l - s) (drop s l)) ≡ take (s + n) l
+take_two l s n h k = sym (take-add s n l ∙ ap (λ x. take s l ++ take n x) (sym (rest_whole l s)))
+
+pub within_two : (l : List ℕ) (s n : ℕ) → s ≤ length l → n ≤ length (take (length l - s) (drop s l)) → s + n ≤ length l
+within_two l s n h k = grind (arith, common_steps)

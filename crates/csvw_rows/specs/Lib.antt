@@ -1,0 +1,12 @@
+pub mod Grammar
+pub mod Scan
+pub mod Outcomes
+pub mod Lines
+pub mod Files
+pub mod Lawful
+pub mod Lengths
+pub mod Nexts
+pub mod RowValue
+pub mod SourceState
+pub mod RowsState
+pub mod RowsLending

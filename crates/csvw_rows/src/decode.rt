@@ -1,0 +1,27 @@
+//! The characters of bytes that come in pieces.
+ghost use Rattle.std.specs.Prelude.{◌≡◌, ◌≤◌, ◌+◌, length, take, drop, IfOk, chars, is_some};
+ghost use Rattle.std.specs.Str.Lossy.{utf8_valid_len, utf8_error_len};
+
+use std::alloc::{AllocError, Global};
+
+/// The text at the front of the bytes, and whether what comes after it begins no character, whatever
+/// follows.
+pub fn valid_front(bytes: &[u8]) -> (&str, bool)
+    ensures text { result.0.now ≡ take (utf8_valid_len bytes.now) bytes.now }
+    ensures bad { result.1 ≡ is_some (utf8_error_len (drop (utf8_valid_len bytes.now) bytes.now)) }
+{
+    match str::from_utf8(bytes) {
+        Ok(text) => (text, false),
+        Err(e) => match str::from_utf8(&bytes[..e.valid_up_to()]) {
+            Ok(text) => (text, e.error_len().is_some()),
+            Err(_) => unreachable!(),
+        },
+    }
+}
+
+/// The characters of a text; `AllocError` where there is no memory.
+pub fn chars_of(alloc: Global, text: &str) -> Result<Vec<char>, AllocError>
+    ensures { IfOk result (λ v. v.items ≡ chars text.now) }
+{
+    text.chars().collect(alloc)
+}

@@ -1,0 +1,19 @@
+//! The rows of a CSV text, in whatever pieces it comes, by a dialect.
+#![tactic(auto)]
+
+mod decode;
+mod dialect;
+mod field;
+mod line;
+mod next;
+mod raw_row;
+mod rows;
+mod rules;
+mod scan;
+mod source;
+mod stop;
+
+pub use dialect::{BadDialect, Dialect, LineTerminators, Trim};
+pub use raw_row::RawRow;
+pub use rows::Rows;
+pub use stop::RowStop;

@@ -1,0 +1,222 @@
+//! A reader of rows.
+ghost use Rattle.std.specs.Prelude.{◌≡◌, ◌≤◌, ◌<◌, ◌-◌, ◌+◌, ◌^◌, true, false, length, IfOk};
+ghost use Rattle.std.specs.Borrow.{sem};
+ghost use Rattle.csvw_rows.specs.Lawful.{IsLawful};
+
+use crate::dialect::Dialect;
+use crate::field::{all_empty, field_texts};
+use crate::next::{After, Next, Turn, next_row};
+use crate::raw_row::RawRow;
+use crate::rules::Rules;
+use crate::source::Source;
+use crate::stop::RowStop;
+use csvw_text::{Seq, Text};
+use std::alloc::{AllocError, Global};
+
+/// A reader of the rows of a text that comes in pieces of bytes.
+#[derive(Drop)]
+pub struct Rows {
+    alloc: Global,
+    rules: Rules,
+    max_rows: u64,
+    source: Source,
+    ended: bool,
+    row: u64,
+    remained: u64,
+    fields: Vec<Text>,
+    stop: Option<RowStop>,
+    ghost few: { max_rows < 2 ^ 64 - 1 },
+    ghost counted: { row ≤ max_rows },
+    ghost remained_few: { remained ≤ row },
+}
+
+impl Rows {
+    ghost use Rattle.csvw_rows.specs.RowsState.{is_ended_of, unread, Advances, Turns};
+    ghost use Rattle.csvw_rows.specs.RowsLending.{RestsAdvanced};
+    ghost use Rattle.csvw_rows.specs.SourceState.{rest_of};
+    ghost use Rattle.csvw_rows.specs.Nexts.{NextGives};
+
+    /// A reader of no bytes yet, which takes at most so many rows of all kinds; `AllocError` where there is
+    /// no memory. The dialect has to pass `check`.
+    pub fn new(alloc: Global, dialect: Dialect, max_rows: u64) -> Result<Rows, AllocError>
+        requires lawful { IsLawful dialect }
+        requires few { max_rows < 2 ^ 64 - 1 }
+        ensures { IfOk result (λ r. is_ended_of r ≡ false) }
+    {
+        Ok(Rows {
+            alloc,
+            rules: Rules::new(alloc, dialect)?,
+            max_rows,
+            source: Source::new(alloc),
+            ended: false,
+            row: 0,
+            remained: 0,
+            fields: Vec::new(alloc),
+            stop: None,
+        })
+    }
+
+    /// Whether the text has ended: `end` was called.
+    pub fn is_ended(&self) -> bool
+        ensures { result ≡ is_ended_of self.now }
+    {
+        self.ended
+    }
+
+    /// The source number, from 1, of the row that is being read: one more than there are complete rows.
+    pub fn row(&self) -> u64 {
+        self.row + 1
+    }
+
+    /// Takes some more bytes of the text. It answers the stop that was answered before, or `Memory`.
+    pub fn feed(&mut self, piece: &[u8]) -> Result<(), RowStop>
+        requires { is_ended_of self.old ≡ false }
+        ensures { is_ended_of self.new ≡ false }
+    {
+        if let Some(stop) = self.stop {
+            return Err(stop);
+        }
+        match self.source.push(piece) {
+            Ok(()) => Ok(()),
+            Err(_) => {
+                self.stop = Some(RowStop::Memory);
+                Err(RowStop::Memory)
+            }
+        }
+    }
+
+    /// Ends the text. It answers the stop that was answered before.
+    pub fn end(&mut self) -> Result<(), RowStop>
+        requires { is_ended_of self.old ≡ false }
+        ensures { is_ended_of self.new ≡ true }
+    {
+        self.ended = true;
+        match self.stop {
+            Some(stop) => Err(stop),
+            None => Ok(()),
+        }
+    }
+
+    /// The next header or data row that is complete; `None` where there is none yet or, after `end`, no
+    /// more. A stop is answered at its place, after all rows before it, and by every later call.
+    pub fn next(&mut self) -> Result<Option<RawRow<'_>>, RowStop>
+        ensures* after { sem 𝓛 (RestsAdvanced self.entry result) }
+    {
+        if self.advance()? {
+            Ok(Some(self.given_row()))
+        } else {
+            Ok(None)
+        }
+    }
+
+    fn given_row(&self) -> RawRow<'_> {
+        let columns = self.rules.dialect.skip_columns as usize;
+        let (_, fields) = self
+            .fields
+            .as_slice()
+            .split_at(columns.min(self.fields.len()));
+        let headers = u64::from(self.rules.dialect.header_row_count);
+        RawRow::new(fields, self.row, self.remained.saturating_sub(headers))
+    }
+
+    /// Reads on to the next row that is given.
+    fn advance(&mut self) -> Result<bool, RowStop>
+        ensures { Advances self.old self.new result }
+    {
+        if let Some(stop) = self.stop {
+            return Err(stop);
+        }
+        match self.read_on() {
+            Ok(given) => Ok(given),
+            Err(stop) => {
+                self.stop = Some(stop);
+                Err(stop)
+            }
+        }
+    }
+
+    fn read_on(&mut self) -> Result<bool, RowStop>
+        ensures { Advances self.old self.new result }
+    {
+        loop {
+            match self.turn()? {
+                Turn::Given => return Ok(true),
+                Turn::Waits => return Ok(false),
+                Turn::Passed => {}
+            }
+        }
+    }
+
+    /// What comes behind the characters that there are.
+    fn after(&self) -> After {
+        if self.source.is_bad() || self.ended && self.source.is_cut() {
+            After::NoText
+        } else if self.ended {
+            After::Nothing
+        } else {
+            After::More
+        }
+    }
+
+    /// What stands at the front of the characters that aren't read.
+    fn next_line(&self) -> Result<Next, RowStop>
+        ensures { NextGives self.now.max_rows self.now.row (rest_of self.now.source) result }
+    {
+        let text = self.source.rest();
+        next_row(
+            self.alloc,
+            &self.rules,
+            self.max_rows,
+            self.row,
+            text,
+            self.after(),
+        )
+    }
+
+    /// Reads one row on.
+    fn turn(&mut self) -> Result<Turn, RowStop>
+        ensures { Turns self.old self.new result }
+    {
+        match self.next_line()? {
+            Next::Row(len, None) => {
+                self.pass(len);
+                Ok(Turn::Passed)
+            }
+            Next::Row(len, Some(values)) => self.take_fields(len, values.as_slice()),
+            Next::Waits => Ok(Turn::Waits),
+        }
+    }
+
+    /// Goes behind a row and its terminator.
+    fn pass(&mut self, len: usize)
+        requires some { 0 < len }
+        requires within { len ≤ length (rest_of self.old.source) }
+        requires few { self.old.row < self.old.max_rows }
+        ensures ended { is_ended_of self.new ≡ is_ended_of self.old }
+        ensures unread { unread self.new < unread self.old }
+        ensures row { self.new.row ≡ self.old.row + 1 }
+        ensures remained { self.new.remained ≡ self.old.remained }
+    {
+        self.source.take(len);
+        self.row += 1;
+    }
+
+    /// Goes behind a row with these fields, which is given unless it is blank.
+    fn take_fields(&mut self, len: usize, values: &[Seq<char>]) -> Result<Turn, RowStop>
+        requires some { 0 < len }
+        requires within { len ≤ length (rest_of self.old.source) }
+        requires few { self.old.row < self.old.max_rows }
+        ensures { Turns self.old self.new result }
+    {
+        self.fields = field_texts(self.alloc, self.rules.dialect.trim, values)?;
+        self.pass(len);
+        if self.rules.dialect.skip_blank_rows && all_empty(self.fields.as_slice()) {
+            return Ok(Turn::Passed);
+        }
+        self.remained += 1;
+        Ok(Turn::Given)
+    }
+}
+
+#[cfg(test)]
+mod tests;

@@ -1,0 +1,64 @@
+//! A dialect with its comment prefix as characters.
+ghost use Rattle.std.specs.Prelude.{◌≡◌, ◌≤◌, length, IfOk};
+
+use crate::dialect::Dialect;
+use csvw_text::Seq;
+use std::alloc::{AllocError, Global};
+
+/// A dialect with the characters of its comment prefix.
+#[derive(Drop)]
+pub struct Rules {
+    pub dialect: Dialect,
+    pub prefix: Option<Seq<char>>,
+}
+
+impl Rules {
+    /// The rules of a dialect; `AllocError` where there is no memory.
+    pub fn new(alloc: Global, dialect: Dialect) -> Result<Rules, AllocError>
+        ensures { IfOk result (λ r. r.dialect ≡ dialect) }
+    {
+        let prefix = match &dialect.comment_prefix {
+            Some(text) => Some(Seq::of(text.as_str().chars().collect(alloc)?)),
+            None => None,
+        };
+        Ok(Rules { dialect, prefix })
+    }
+
+    /// Whether the row at this place, from 0, is skipped or a comment.
+    pub fn is_note(&self, place: u64, text: &[char]) -> bool {
+        let comment = match &self.prefix {
+            Some(prefix) => text.starts_with(prefix.as_slice()),
+            None => false,
+        };
+        place < self.dialect.skip_rows || comment
+    }
+
+    /// How many characters at the front of the text the prefix has too.
+    pub fn prefix_len(&self, text: &[char]) -> usize
+        ensures { result ≤ length text.now }
+    {
+        match &self.prefix {
+            Some(prefix) => common_len(prefix.as_slice(), text),
+            None => 0,
+        }
+    }
+
+    /// Whether the row that begins so may still become a comment.
+    pub fn may_be_note(&self, text: &[char]) -> bool {
+        match &self.prefix {
+            Some(prefix) => prefix.as_slice().starts_with(text),
+            None => false,
+        }
+    }
+}
+
+fn common_len(a: &[char], b: &[char]) -> usize
+    ensures { result ≤ length b.now }
+{
+    for (i, c) in b.iter().enumerate() {
+        if i >= a.len() || a[i] != *c {
+            return i;
+        }
+    }
+    b.len()
+}

@@ -1,0 +1,98 @@
+//! The characters of bytes that come in pieces, up to where they are no UTF-8.
+ghost use Rattle.std.specs.Prelude.{◌≡◌, ◌≤◌, ◌+◌, length, vec_len};
+
+use crate::decode::{chars_of, valid_front};
+use std::alloc::{AllocError, Global};
+
+const BYTE_ORDER_MARK: char = '\u{FEFF}';
+
+/// The characters that were decoded and not yet taken. A byte order mark at the start isn't among them.
+#[derive(Drop)]
+pub struct Source {
+    alloc: Global,
+    text: Vec<char>,
+    taken: usize,
+    pending: Vec<u8>,
+    begun: bool,
+    is_bad: bool,
+    ghost within: { taken ≤ vec_len text },
+}
+
+impl Source {
+    ghost use Rattle.csvw_rows.specs.SourceState.{rest_of, is_bad_of, pending_of};
+
+    /// No characters yet.
+    pub fn new(alloc: Global) -> Source {
+        Source {
+            alloc,
+            text: Vec::new(alloc),
+            taken: 0,
+            pending: Vec::new(alloc),
+            begun: false,
+            is_bad: false,
+        }
+    }
+
+    /// Decodes some more bytes; `AllocError` where there is no memory. Behind bytes that are no UTF-8
+    /// nothing is decoded.
+    pub fn push(&mut self, piece: &[u8]) -> Result<(), AllocError> {
+        if self.is_bad {
+            return Ok(());
+        }
+        self.pending.extend_from_slice(piece)?;
+        let (text, is_bad) = valid_front(self.pending.as_slice());
+        let chars = chars_of(self.alloc, text)?;
+        let (_, tail) = self.pending.as_slice().split_at(text.len());
+        let pending = Vec::from_slice(self.alloc, tail)?;
+        self.text.extend_from_slice(chars.as_slice())?;
+        self.pending = pending;
+        self.is_bad = is_bad;
+        self.skip_mark();
+        Ok(())
+    }
+
+    /// Drops the byte order mark, once there is a first character.
+    fn skip_mark(&mut self) {
+        if self.begun {
+            return;
+        }
+        match self.text.as_slice() {
+            [BYTE_ORDER_MARK, ..] => {
+                self.begun = true;
+                self.taken = 1;
+            }
+            [_, ..] => self.begun = true,
+            [] => {}
+        }
+    }
+
+    /// The characters that aren't taken.
+    pub fn rest(&self) -> &[char]
+        ensures { result.now ≡ rest_of self.now }
+    {
+        let (_, rest) = self.text.as_slice().split_at(self.taken);
+        rest
+    }
+
+    /// Takes some characters.
+    pub fn take(&mut self, count: usize)
+        requires { count ≤ length (rest_of self.old) }
+        ensures rest { rest_of self.new ≡ Rattle.std.specs.Prelude.drop count (rest_of self.old) }
+        ensures bad { is_bad_of self.new ≡ is_bad_of self.old }
+        ensures pending { pending_of self.new ≡ pending_of self.old }
+    {
+        self.taken += count;
+    }
+
+    /// Whether the bytes are no UTF-8, whatever follows.
+    pub fn is_bad(&self) -> bool
+        ensures { result ≡ is_bad_of self.now }
+    {
+        self.is_bad
+    }
+
+    /// Whether the bytes end inside a character.
+    pub fn is_cut(&self) -> bool {
+        !self.pending.is_empty()
+    }
+}
