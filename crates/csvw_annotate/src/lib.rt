@@ -1,8 +1,8 @@
 //! Rows, annotated with what their cells say.
 #![tactic(auto)]
 
-mod annotate;
+mod annotating;
 mod row;
 
-pub use annotate::annotate;
+pub use annotating::annotate;
 pub use row::{AnnCell, Row};

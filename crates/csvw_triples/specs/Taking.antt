@@ -19,7 +19,7 @@ pub record IsReady {S : Type 0} (is_open : S → Bool) (failed : S → ℕ) (s :
 -- A sink that was ready is so after a call that answers Ok or Memory; Device comes only with one more failure, Closed only
 -- from a sink that wasn't open.
 abbrev pub Ends : {S : Type 0} → (S → Bool) → (S → ℕ) → S → S → Result Unit SinkFault → Type 0
-Ends is_open failed old new (Ok u) = (IsReady is_open failed old → IsReady is_open failed new) × (failed new ≡ failed old)
+Ends is_open failed old new (Ok u) = (IsReady is_open failed old → IsReady is_open failed new) × (failed new ≡ failed old) × (is_open new ≡ is_open old)
 Ends is_open failed old new (Err Memory) = (IsReady is_open failed old → IsReady is_open failed new) × (failed new ≡ failed old)
 Ends is_open failed old new (Err Device) = IsReady is_open failed old → failed new ≡ failed old + 1
 Ends is_open failed old new (Err Closed) = is_open old ≡ false

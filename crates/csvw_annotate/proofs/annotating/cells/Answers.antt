@@ -1,0 +1,10 @@
+-- One cell more.
+use Rattle.std.proofs.Common.{◌∙◌, ◌++◌, ◌∷◌, [], ap}
+use Rattle.csvw_annotate.specs.Annotated.{cell_of}
+use Rattle.csvw_annotate.proofs.CellLemmas.{map-more}
+use Rattle.csvw_annotate.proofs.annotating.cells.Goals as goal
+
+pub loop-i-preserved : goal.loop-i-preserved
+loop-i-preserved c =
+    map-more cell_of c.args.row.now.fields.now c.loop-i.i c.field.result.now _ _ c.field.ensures c.loop-i.invariant
+    (c.in_ok-push.ensures.items ∙ ap (λ text. c.loop-i.cells.items ++ cell_of text ∷ []) c.in_ok-value.ensures)
