@@ -1,0 +1,3 @@
+pub mod Halts
+pub mod Outcome
+pub mod Tables
