@@ -5,8 +5,8 @@ use csvw_text::{Seq, Text};
 /// A cell of a row (Model for Tabular Data, section 4.5).
 #[derive(Debug, Drop)]
 pub struct AnnCell {
-    /// Its value, a string.
-    pub value: Text,
+    /// Its value, a string; `None` where it is null.
+    pub value: Option<Text>,
 }
 
 /// A row (Model for Tabular Data, section 4.4).

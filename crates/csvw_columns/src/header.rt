@@ -97,3 +97,43 @@ pub fn match_header(alloc: Global, url: &Base, header: &HeaderRow) -> Result<Col
         columns: Seq::of(columns),
     })
 }
+
+#[cfg(test)]
+mod tests {
+    use super::*;
+    use std::test::Fail;
+
+    fn header(alloc: Global, cells: &[&str]) -> Result<HeaderRow, AllocError> {
+        let mut texts = Vec::new(alloc);
+        for cell in cells {
+            texts.push(Text::copied(alloc, cell)?)?;
+        }
+        Ok(HeaderRow { source: 1, cells: Seq::of(texts) })
+    }
+
+    fn columns_of_cells(alloc: Global, cells: &[&str]) -> Result<Result<Columns, TableStop>, Fail> {
+        let Ok(url) = Base::new(alloc, "http://example.org/p.csv") else {
+            return Err(Fail::from("a URL"));
+        };
+        Ok(match_header(alloc, &url, &header(alloc, cells)?))
+    }
+
+    #[test]
+    fn names_are_encoded_titles(rt: HostRuntime) -> Result<(), Fail> {
+        let Ok(columns) = columns_of_cells(rt.alloc(), &["First Name", "", "caf\u{e9}"])? else {
+            return Err(Fail::from("columns"));
+        };
+        assert_eq!(rt; columns.len(), 3);
+        assert!(rt; columns.column(0).name.as_str() == "First%20Name");
+        assert!(rt; columns.column(1).name.as_str() == "_col.2");
+        assert!(rt; columns.column(2).predicate.as_str() == "http://example.org/p.csv#caf%C3%A9");
+        Ok(())
+    }
+
+    #[test]
+    fn equal_names_are_refused(rt: HostRuntime) -> Result<(), Fail> {
+        let outcome = columns_of_cells(rt.alloc(), &["a", "b", "a"])?;
+        assert!(rt; matches!(outcome, Err(TableStop::DuplicateName)));
+        Ok(())
+    }
+}

@@ -1,10 +1,11 @@
 -- One cell more.
-use Rattle.std.proofs.Common.{◌∙◌, ◌++◌, ◌∷◌, [], ap}
+use Rattle.std.proofs.Common.{◌∙◌, ◌++◌, ◌∷◌, [], ap, List, ℕ, Option}
+use Rattle.csvw_annotate.specs.declared.row.AnnCell.{AnnCell}
 use Rattle.csvw_annotate.specs.Annotated.{cell_of}
-use Rattle.csvw_annotate.proofs.CellLemmas.{map-more}
+use Rattle.csvw_annotate.proofs.CellLemmas.{map-more, cell_with}
 use Rattle.csvw_annotate.proofs.annotating.cells.Goals as goal
 
 pub loop-i-preserved : goal.loop-i-preserved
 loop-i-preserved c =
     map-more cell_of c.args.row.now.fields.now c.loop-i.i c.field.result.now _ _ c.field.ensures c.loop-i.invariant
-    (c.in_ok-push.ensures.items ∙ ap (λ text. c.loop-i.cells.items ++ cell_of text ∷ []) c.in_ok-value.ensures)
+        (c.in_ok-push.ensures.items ∙ ap (λ (value : Option (List ℕ)). c.loop-i.cells.items ++ cell_with value ∷ []) c.in_ok-value.ensures)

@@ -1,15 +1,17 @@
 -- One cell's triple more, a front of them, or all.
-use Rattle.std.proofs.Common.{◌∙◌, arith}
+use Rattle.std.proofs.Common.{refl, ◌∙◌, arith}
 use Rattle.std.proofs.lemmas.Result.{err_from_is_err_and}
-use Rattle.csvw_triples.specs.RowTriples.{cells_triples}
 use Rattle.csvw_triples.proofs.Emitting.{takes_more, takes_all, takes_front}
 use Rattle.csvw_triples.proofs.emit.emit_cells.Goals as goal
+
+pub loop-i-init : goal.loop-i-init
+loop-i-init g c = record { taken = g.met.S.TripleSink.stays c.args.sink.now; ready = λ r. r; failures = refl; same = refl }
 
 pub returns-in_err-emit_cell-clause-err : goal.returns-in_err-emit_cell-clause-err
 returns-in_err-emit_cell-clause-err g c =
     let p = err_from_is_err_and c.from_residual.result c.from_residual.ensures.1 in
     let s = g.S.TripleSink in
-    rw p.1 (takes_front s.gains s.is_open s.failed g.met.S.TripleSink.goes_on (cells_triples c.args.t c.args.number c.args.columns.now c.args.cells.now) c.loop-i.i
+    rw p.1 (takes_front s.gains s.is_open s.failed g.met.S.TripleSink.goes_on c.args.t c.args.number c.args.columns.now c.args.cells.now c.loop-i.i
     c.args.sink.now c.loop-i.sink c.emit_cell.new.sink c.loop-i.invariant.taken c.in_err-emit_cell.ensures.err)
 
 pub loop-i-preserved : goal.loop-i-preserved

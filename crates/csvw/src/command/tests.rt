@@ -1,0 +1,224 @@
+//! Runs of the program over files in memory.
+
+use crate::command::command;
+use crate::opener::Opener;
+use csvw_text::Counted;
+use std::alloc::{AllocError, Global};
+use std::io::{self, Write};
+use std::test::Fail;
+
+/// One file, of any path but `missing.csv`.
+struct OneFile<'a> {
+    bytes: &'a [u8],
+}
+
+impl<'a> Opener for OneFile<'a> {
+    type Reader = &'a [u8];
+
+    fn open(&mut self, path: &str) -> Option<&'a [u8]> {
+        if path == "missing.csv" { None } else { Some(self.bytes) }
+    }
+}
+
+/// A writer that fails once it took so many bytes.
+#[derive(Drop)]
+struct FailingWriter {
+    room: usize,
+    taken: Vec<u8>,
+}
+
+impl Write for FailingWriter {
+    fn write(&mut self, buf: &[u8]) -> io::Result<usize> {
+        let n = self.room.min(buf.len());
+        if n == 0 {
+            return Err(io::Error::from(io::ErrorKind::BrokenPipe));
+        }
+        let Ok(()) = self.taken.extend_from_slice(&buf[..n]) else {
+            return Err(io::Error::from(io::ErrorKind::OutOfMemory));
+        };
+        self.room -= n;
+        Ok(n)
+    }
+
+    fn flush(&mut self) -> io::Result<()> {
+        Ok(())
+    }
+}
+
+/// What a run left.
+#[derive(Drop)]
+struct Ran {
+    status: u8,
+    out: Vec<u8>,
+    err: Vec<u8>,
+}
+
+fn run(alloc: Global, words: &[&str], file: &[u8]) -> Result<Ran, AllocError> {
+    let mut owned = Vec::new(alloc);
+    for word in words {
+        owned.push(String::from_str(alloc, word)?)?;
+    }
+    let mut opener = OneFile { bytes: file };
+    let mut out = Counted::new(Vec::new(alloc));
+    let mut err = Counted::new(Vec::new(alloc));
+    let status = command(alloc, owned.as_slice(), &mut opener, &mut out, &mut err);
+    let OneFile { bytes: _ } = opener;
+    Ok(Ran {
+        status,
+        out: out.into_inner(),
+        err: err.into_inner(),
+    })
+}
+
+fn plain(alloc: Global, file: &[u8]) -> Result<Ran, AllocError> {
+    run(alloc, &["csvw", "plain", "http://example.org/p.csv", "p.csv"], file)
+}
+
+fn letters(alloc: Global, front: &[u8], count: usize) -> Result<Vec<u8>, AllocError> {
+    let mut bytes = Vec::from_slice(alloc, front)?;
+    for _ in 0..count {
+        bytes.push(b'x')?;
+    }
+    Ok(bytes)
+}
+
+/// A header of so many cells, `c` and their numbers.
+fn wide_header(alloc: Global, count: usize) -> Result<Vec<u8>, AllocError> {
+    let mut text = String::new(alloc);
+    for i in 0..count {
+        write!(&mut text, "c{i},")?;
+    }
+    text.push_str("last\n")?;
+    Vec::from_slice(alloc, text.as_bytes())
+}
+
+impl Ran {
+    /// Whether the run had this status and wrote just this.
+    fn is(&self, status: u8, out: &[u8], err: &[u8]) -> bool {
+        self.status == status && self.out.as_slice() == out && self.err.as_slice() == err
+    }
+}
+
+#[test]
+fn writes_a_triple_for_each_cell(rt: HostRuntime) -> Result<(), Fail> {
+    let ran = plain(rt.alloc(), b"id,name\n1,Ann\n")?;
+    let lines = b"_:t1r1s <http://example.org/p.csv#id> \"1\" .\n_:t1r1s <http://example.org/p.csv#name> \"Ann\" .\n";
+    assert!(rt; ran.is(0, lines, b""));
+    Ok(())
+}
+
+#[test]
+fn escapes_quotes_and_line_breaks(rt: HostRuntime) -> Result<(), Fail> {
+    let ran = plain(rt.alloc(), b"a,b\n\"p\"\"q\",\"x\ny\"\n")?;
+    let lines = b"_:t1r1s <http://example.org/p.csv#a> \"p\\\"q\" .\n_:t1r1s <http://example.org/p.csv#b> \"x\\ny\" .\n";
+    assert!(rt; ran.is(0, lines, b""));
+    Ok(())
+}
+
+#[test]
+fn an_empty_file_gives_nothing(rt: HostRuntime) -> Result<(), Fail> {
+    assert!(rt; plain(rt.alloc(), b"")?.is(0, b"", b""));
+    Ok(())
+}
+
+#[test]
+fn tells_broken_quotes(rt: HostRuntime) -> Result<(), Fail> {
+    let alloc = rt.alloc();
+    assert!(rt; plain(alloc, b"a\"b,c\n")?.is(3, b"", b"csvw: BadQuote table 1 row 1\n"));
+    assert!(rt; plain(alloc, b"\"a\"b\n")?.is(3, b"", b"csvw: TextAfterQuote table 1 row 1\n"));
+    assert!(rt; plain(alloc, b"x\n\"a")?.is(3, b"", b"csvw: UnclosedQuote table 1 row 2\n"));
+    Ok(())
+}
+
+#[test]
+fn tells_bytes_that_are_no_text(rt: HostRuntime) -> Result<(), Fail> {
+    assert!(rt; plain(rt.alloc(), b"x\n\xff")?.is(3, b"", b"csvw: NotUtf8 table 1 row 2\n"));
+    Ok(())
+}
+
+#[test]
+fn tells_a_row_that_is_too_long(rt: HostRuntime) -> Result<(), Fail> {
+    let alloc = rt.alloc();
+    let longest = letters(alloc, b"h\n", 1_048_576)?;
+    let ran = plain(alloc, longest.as_slice())?;
+    assert!(rt; ran.status == 0 && ran.err.is_empty());
+    let longer = letters(alloc, b"h\n", 1_048_577)?;
+    assert!(rt; plain(alloc, longer.as_slice())?.is(3, b"", b"csvw: RowTooLong table 1 row 2\n"));
+    Ok(())
+}
+
+#[test]
+fn tells_a_ragged_row_after_the_rows_in_front(rt: HostRuntime) -> Result<(), Fail> {
+    let ran = plain(rt.alloc(), b"id\n1\n2,3\n")?;
+    let line = b"_:t1r1s <http://example.org/p.csv#id> \"1\" .\n";
+    assert!(rt; ran.is(3, line, b"csvw: RaggedRow table 1 row 3\n"));
+    Ok(())
+}
+
+#[test]
+fn tells_a_header_that_names_no_columns(rt: HostRuntime) -> Result<(), Fail> {
+    let alloc = rt.alloc();
+    assert!(rt; plain(alloc, b"a,a\n")?.is(3, b"", b"csvw: DuplicateName table 1 row 1\n"));
+    let widest = wide_header(alloc, 1023)?;
+    assert!(rt; plain(alloc, widest.as_slice())?.is(0, b"", b""));
+    let wider = wide_header(alloc, 1024)?;
+    assert!(rt; plain(alloc, wider.as_slice())?.is(3, b"", b"csvw: TooManyColumns table 1 row 1\n"));
+    Ok(())
+}
+
+#[test]
+fn tells_a_url_that_is_none(rt: HostRuntime) -> Result<(), Fail> {
+    let alloc = rt.alloc();
+    let ran = run(alloc, &["csvw", "plain", "p.csv", "p.csv"], b"a\n1\n")?;
+    assert!(rt; ran.is(3, b"", b"csvw: metadata BadUrl /url\n"));
+    let url = letters(alloc, b"http://example.org/", 65_536)?;
+    let Ok(url) = String::from_utf8(url) else {
+        return Err(Fail::from("text"));
+    };
+    let ran = run(alloc, &["csvw", "plain", url.as_str(), "p.csv"], b"a\n1\n")?;
+    assert!(rt; ran.is(3, b"", b"csvw: metadata UrlTooLong /url\n"));
+    Ok(())
+}
+
+#[test]
+fn tells_a_missing_file(rt: HostRuntime) -> Result<(), Fail> {
+    let ran = run(rt.alloc(), &["csvw", "plain", "http://example.org/p.csv", "missing.csv"], b"")?;
+    assert!(rt; ran.is(4, b"", b"csvw: Read\n"));
+    Ok(())
+}
+
+#[test]
+fn tells_a_writer_that_fails(rt: HostRuntime) -> Result<(), Fail> {
+    let alloc = rt.alloc();
+    let mut words = Vec::new(alloc);
+    for word in ["csvw", "plain", "http://example.org/p.csv", "p.csv"] {
+        words.push(String::from_str(alloc, word)?)?;
+    }
+    let mut opener = OneFile { bytes: b"id,name\n1,Ann\n" };
+    let mut out = Counted::new(FailingWriter { room: 50, taken: Vec::new(alloc) });
+    let mut err = Counted::new(Vec::new(alloc));
+    let status = command(alloc, words.as_slice(), &mut opener, &mut out, &mut err);
+    let OneFile { bytes: _ } = opener;
+    assert_eq!(rt; status, 4);
+    assert!(rt; err.into_inner().as_slice() == b"csvw: Write\n".as_slice());
+    let front = b"_:t1r1s <http://example.org/p.csv#id> \"1\" .\n_:t1r1";
+    assert!(rt; out.into_inner().taken.as_slice() == front.as_slice());
+    Ok(())
+}
+
+#[test]
+fn help_goes_to_standard_output(rt: HostRuntime) -> Result<(), Fail> {
+    let ran = run(rt.alloc(), &["csvw", "plain", "--help"], b"")?;
+    assert!(rt; ran.status == 0 && !ran.out.is_empty() && ran.err.is_empty());
+    Ok(())
+}
+
+#[test]
+fn a_wrong_command_line_is_refused(rt: HostRuntime) -> Result<(), Fail> {
+    let alloc = rt.alloc();
+    let ran = run(alloc, &["csvw", "plain", "http://example.org/p.csv"], b"")?;
+    assert!(rt; ran.status == 2 && ran.out.is_empty() && !ran.err.is_empty());
+    let ran = run(alloc, &["csvw", "convert-all"], b"")?;
+    assert!(rt; ran.status == 2 && ran.out.is_empty() && !ran.err.is_empty());
+    Ok(())
+}
