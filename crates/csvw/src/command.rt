@@ -42,7 +42,12 @@ fn tell_stop<V: Write>(alloc: Global, stop: &Stop, err: &mut Counted<V>) -> u8 {
 }
 
 /// Tells what `clap` answers in place of a request: help on `out`, a mistake on `err`.
-fn tell_words<W: Write, V: Write>(alloc: Global, answer: &Error, out: &mut Counted<W>, err: &mut Counted<V>) -> u8 {
+fn tell_words<W: Write, V: Write>(
+    alloc: Global,
+    answer: &Error,
+    out: &mut Counted<W>,
+    err: &mut Counted<V>,
+) -> u8 {
     if answer.kind() == ErrorKind::OutOfMemory {
         return tell_stop(alloc, &Stop::Memory, err);
     }

@@ -11,15 +11,16 @@ pub enum Request<'a> {
 }
 
 const PLAIN_URL: &str = "URL";
+
 const PLAIN_FILE: &str = "FILE";
 
 fn plain_command<'a>(alloc: Global) -> Result<Command<'a>, AllocError> {
-    let url = Arg::new(alloc, PLAIN_URL)
-        .required(true)
-        .help("The absolute URL of the table; its columns' predicates begin with it");
-    let file = Arg::new(alloc, PLAIN_FILE)
-        .required(true)
-        .help("The CSV file: UTF-8, with one header row that names the columns");
+    let url = Arg::new(alloc, PLAIN_URL).required(true).help(
+        "The absolute URL of the table; its columns' predicates begin with it",
+    );
+    let file = Arg::new(alloc, PLAIN_FILE).required(true).help(
+        "The CSV file: UTF-8, with one header row that names the columns",
+    );
     Command::new(alloc, "plain")
         .about("Converts one CSV file without metadata to N-Triples on standard output")
         .arg(url)?

@@ -108,7 +108,10 @@ mod tests {
         for cell in cells {
             texts.push(Text::copied(alloc, cell)?)?;
         }
-        Ok(HeaderRow { source: 1, cells: Seq::of(texts) })
+        Ok(HeaderRow {
+            source: 1,
+            cells: Seq::of(texts),
+        })
     }
 
     fn columns_of_cells(alloc: Global, cells: &[&str]) -> Result<Result<Columns, TableStop>, Fail> {

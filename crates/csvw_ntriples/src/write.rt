@@ -151,7 +151,11 @@ fn push_language(out: &mut Vec<u8>, tag: &LanguageTag) -> Result<(), AllocError>
     out.extend_from_slice(tag.as_str().as_bytes())
 }
 
-fn push_suffix(out: &mut Vec<u8>, lang: &Option<LanguageTag>, datatype: &Iri) -> Result<(), AllocError>
+fn push_suffix(
+    out: &mut Vec<u8>,
+    lang: &Option<LanguageTag>,
+    datatype: &Iri,
+) -> Result<(), AllocError>
     ensures { OnOk result (out.new.items ≡ out.old.items ++ suffix_text lang.now datatype.now) }
 {
     match lang {

@@ -110,13 +110,37 @@ mod tests {
 
     #[test]
     fn faults_are_in_the_order_of_reports(rt: HostRuntime) {
-        let place = Place { table: 1, row: 2, column: 3 };
-        let required = Fault { place, code: Code::Required, kind: Kind::Error };
-        let later = Fault { place: Place { table: 1, row: 10, column: 0 }, code: Code::HeaderMissing, kind: Kind::Error };
-        let unknown = Fault { place, code: Code::UnknownProperty, kind: Kind::Warning };
+        let place = Place {
+            table: 1,
+            row: 2,
+            column: 3,
+        };
+        let required = Fault {
+            place,
+            code: Code::Required,
+            kind: Kind::Error,
+        };
+        let later = Fault {
+            place: Place {
+                table: 1,
+                row: 10,
+                column: 0,
+            },
+            code: Code::HeaderMissing,
+            kind: Kind::Error,
+        };
+        let unknown = Fault {
+            place,
+            code: Code::UnknownProperty,
+            kind: Kind::Warning,
+        };
         assert!(rt; required < later);
         assert!(rt; unknown < required);
-        assert!(rt; Code::NumberTooLong < Code::OutOfRange && Code::OutOfRange < Code::BadDate && Code::BadDate < Code::BadDateTime);
+        assert!(rt;
+            Code::NumberTooLong < Code::OutOfRange
+                && Code::OutOfRange < Code::BadDate
+                && Code::BadDate < Code::BadDateTime
+        );
         assert!(rt; Code::ManyReferencedRows.name() == "ManyReferencedRows");
     }
 }

@@ -82,7 +82,10 @@ mod tests {
 
     #[test]
     fn goes_on_byte_by_byte(rt: HostRuntime) -> Result<(), Fail> {
-        let mut w = Counted::new(SlowWriter { room: 3, taken: Vec::new(rt.alloc()) });
+        let mut w = Counted::new(SlowWriter {
+            room: 3,
+            taken: Vec::new(rt.alloc()),
+        });
         assert!(rt; write_out(&mut w, b"abc").is_ok());
         assert_eq!(rt; w.failures(), 0);
         assert!(rt; w.into_inner().taken.as_slice() == b"abc".as_slice());
@@ -91,7 +94,10 @@ mod tests {
 
     #[test]
     fn tells_how_many_bytes_went_out(rt: HostRuntime) -> Result<(), Fail> {
-        let mut w = Counted::new(SlowWriter { room: 2, taken: Vec::new(rt.alloc()) });
+        let mut w = Counted::new(SlowWriter {
+            room: 2,
+            taken: Vec::new(rt.alloc()),
+        });
         assert_eq!(rt; write_out(&mut w, b"abc"), Err(Cut { sent: 2 }));
         assert_eq!(rt; w.failures(), 1);
         Ok(())

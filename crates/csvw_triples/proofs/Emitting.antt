@@ -51,9 +51,9 @@ module _ {S : Type 0} (gains : S → List Triple → S → Type 0) (is_open : S 
       → gains old (triples_so_far t number columns cells (i + 1)) new
   takes_more t number columns cells i c v old mid new h k p q f g =
       let same : cell_triples t number (get_or columns i c) (get_or cells i v) ≡ cell_triples t number c v =
-          ap (λ (x : Column). cell_triples t number x (get_or cells i v)) (sym p) ∙ ap (λ (x : AnnCell). cell_triples t number c x) (sym q) in
+      ap (λ (x : Column). cell_triples t number x (get_or cells i v)) (sym p) ∙ ap (λ (x : AnnCell). cell_triples t number c x) (sym q) in
       let step : triples_so_far t number columns cells (suc i) ≡ triples_so_far t number columns cells i ++ cell_triples t number c v =
-          triples_so_far-suc t number columns cells i c v h k ∙ ap (λ x. triples_so_far t number columns cells i ++ x) same in
+      triples_so_far-suc t number columns cells i c v h k ∙ ap (λ x. triples_so_far t number columns cells i ++ x) same in
       rw (add-one, step) (goes_on old mid new _ _ f g)
 
   -- all were taken

@@ -9,7 +9,13 @@ use csvw_columns::{Column, Columns};
 use csvw_text::Text;
 use std::alloc::{AllocError, Global};
 
-fn value_triple(alloc: Global, column: &Column, t: u32, number: u64, value: &Text) -> Result<Triple, AllocError>
+fn value_triple(
+    alloc: Global,
+    column: &Column,
+    t: u32,
+    number: u64,
+    value: &Text,
+) -> Result<Triple, AllocError>
     ensures { IfOk result (λ x. x ≡ value_triple t number column.now value.now) }
 {
     let text = value.clone(alloc)?;
@@ -21,7 +27,14 @@ fn value_triple(alloc: Global, column: &Column, t: u32, number: u64, value: &Tex
     })
 }
 
-fn emit_value<S: TripleSink>(alloc: Global, column: &Column, t: u32, number: u64, value: &Text, sink: &mut S) -> Result<(), SinkFault>
+fn emit_value<S: TripleSink>(
+    alloc: Global,
+    column: &Column,
+    t: u32,
+    number: u64,
+    value: &Text,
+    sink: &mut S,
+) -> Result<(), SinkFault>
     ensures ok { OnOk result (S.gains sink.old (value_triple t number column.now value.now ∷ []) sink.new) }
     ensures err { OnErr result (S.gains sink.old [] sink.new) }
     ensures sink { Ends S.is_open S.failed sink.old sink.new result }
@@ -30,7 +43,14 @@ fn emit_value<S: TripleSink>(alloc: Global, column: &Column, t: u32, number: u64
     sink.put(&triple)
 }
 
-fn emit_cell<S: TripleSink>(alloc: Global, column: &Column, t: u32, number: u64, cell: &AnnCell, sink: &mut S) -> Result<(), SinkFault>
+fn emit_cell<S: TripleSink>(
+    alloc: Global,
+    column: &Column,
+    t: u32,
+    number: u64,
+    cell: &AnnCell,
+    sink: &mut S,
+) -> Result<(), SinkFault>
     ensures ok { OnOk result (S.gains sink.old (cell_triples t number column.now cell.now) sink.new) }
     ensures err { OnErr result (S.gains sink.old [] sink.new) }
     ensures sink { Ends S.is_open S.failed sink.old sink.new result }
@@ -110,7 +130,10 @@ mod tests {
         let Ok(url) = Base::new(alloc, "http://example.org/p.csv") else {
             return Err(Fail::from("a URL"));
         };
-        let header = HeaderRow { source: 1, cells: Seq::of(texts(alloc, cells)?) };
+        let header = HeaderRow {
+            source: 1,
+            cells: Seq::of(texts(alloc, cells)?),
+        };
         match match_header(alloc, &url, &header) {
             Ok(columns) => Ok(columns),
             Err(_) => Err(Fail::from("columns")),
@@ -120,10 +143,18 @@ mod tests {
     fn row(alloc: Global, cells: &[&str]) -> Result<Row, AllocError> {
         let mut values = Vec::new(alloc);
         for cell in cells {
-            let value = if cell.is_empty() { None } else { Some(Text::copied(alloc, cell)?) };
+            let value = if cell.is_empty() {
+                None
+            } else {
+                Some(Text::copied(alloc, cell)?)
+            };
             values.push(AnnCell { value })?;
         }
-        Ok(Row { number: 1, source: 2, cells: Seq::of(values) })
+        Ok(Row {
+            number: 1,
+            source: 2,
+            cells: Seq::of(values),
+        })
     }
 
     #[test]

@@ -16,7 +16,11 @@ impl<'a> Opener for OneFile<'a> {
     type Reader = &'a [u8];
 
     fn open(&mut self, path: &str) -> Option<&'a [u8]> {
-        if path == "missing.csv" { None } else { Some(self.bytes) }
+        if path == "missing.csv" {
+            None
+        } else {
+            Some(self.bytes)
+        }
     }
 }
 
@@ -71,7 +75,11 @@ fn run(alloc: Global, words: &[&str], file: &[u8]) -> Result<Ran, AllocError> {
 }
 
 fn plain(alloc: Global, file: &[u8]) -> Result<Ran, AllocError> {
-    run(alloc, &["csvw", "plain", "http://example.org/p.csv", "p.csv"], file)
+    run(
+        alloc,
+        &["csvw", "plain", "http://example.org/p.csv", "p.csv"],
+        file,
+    )
 }
 
 fn letters(alloc: Global, front: &[u8], count: usize) -> Result<Vec<u8>, AllocError> {
@@ -102,7 +110,8 @@ impl Ran {
 #[test]
 fn writes_a_triple_for_each_cell(rt: HostRuntime) -> Result<(), Fail> {
     let ran = plain(rt.alloc(), b"id,name\n1,Ann\n")?;
-    let lines = b"_:t1r1s <http://example.org/p.csv#id> \"1\" .\n_:t1r1s <http://example.org/p.csv#name> \"Ann\" .\n";
+    let lines =
+        b"_:t1r1s <http://example.org/p.csv#id> \"1\" .\n_:t1r1s <http://example.org/p.csv#name> \"Ann\" .\n";
     assert!(rt; ran.is(0, lines, b""));
     Ok(())
 }
@@ -110,7 +119,8 @@ fn writes_a_triple_for_each_cell(rt: HostRuntime) -> Result<(), Fail> {
 #[test]
 fn escapes_quotes_and_line_breaks(rt: HostRuntime) -> Result<(), Fail> {
     let ran = plain(rt.alloc(), b"a,b\n\"p\"\"q\",\"x\ny\"\n")?;
-    let lines = b"_:t1r1s <http://example.org/p.csv#a> \"p\\\"q\" .\n_:t1r1s <http://example.org/p.csv#b> \"x\\ny\" .\n";
+    let lines =
+        b"_:t1r1s <http://example.org/p.csv#a> \"p\\\"q\" .\n_:t1r1s <http://example.org/p.csv#b> \"x\\ny\" .\n";
     assert!(rt; ran.is(0, lines, b""));
     Ok(())
 }
@@ -162,7 +172,9 @@ fn tells_a_header_that_names_no_columns(rt: HostRuntime) -> Result<(), Fail> {
     let widest = wide_header(alloc, 1023)?;
     assert!(rt; plain(alloc, widest.as_slice())?.is(0, b"", b""));
     let wider = wide_header(alloc, 1024)?;
-    assert!(rt; plain(alloc, wider.as_slice())?.is(3, b"", b"csvw: TooManyColumns table 1 row 1\n"));
+    assert!(rt;
+        plain(alloc, wider.as_slice())?.is(3, b"", b"csvw: TooManyColumns table 1 row 1\n")
+    );
     Ok(())
 }
 
@@ -182,7 +194,11 @@ fn tells_a_url_that_is_none(rt: HostRuntime) -> Result<(), Fail> {
 
 #[test]
 fn tells_a_missing_file(rt: HostRuntime) -> Result<(), Fail> {
-    let ran = run(rt.alloc(), &["csvw", "plain", "http://example.org/p.csv", "missing.csv"], b"")?;
+    let ran = run(
+        rt.alloc(),
+        &["csvw", "plain", "http://example.org/p.csv", "missing.csv"],
+        b"",
+    )?;
     assert!(rt; ran.is(4, b"", b"csvw: Read\n"));
     Ok(())
 }
@@ -194,8 +210,13 @@ fn tells_a_writer_that_fails(rt: HostRuntime) -> Result<(), Fail> {
     for word in ["csvw", "plain", "http://example.org/p.csv", "p.csv"] {
         words.push(String::from_str(alloc, word)?)?;
     }
-    let mut opener = OneFile { bytes: b"id,name\n1,Ann\n" };
-    let mut out = Counted::new(FailingWriter { room: 50, taken: Vec::new(alloc) });
+    let mut opener = OneFile {
+        bytes: b"id,name\n1,Ann\n",
+    };
+    let mut out = Counted::new(FailingWriter {
+        room: 50,
+        taken: Vec::new(alloc),
+    });
     let mut err = Counted::new(Vec::new(alloc));
     let status = command(alloc, words.as_slice(), &mut opener, &mut out, &mut err);
     let OneFile { bytes: _ } = opener;

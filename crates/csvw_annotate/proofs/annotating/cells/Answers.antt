@@ -8,4 +8,4 @@ use Rattle.csvw_annotate.proofs.annotating.cells.Goals as goal
 pub loop-i-preserved : goal.loop-i-preserved
 loop-i-preserved c =
     map-more cell_of c.args.row.now.fields.now c.loop-i.i c.field.result.now _ _ c.field.ensures c.loop-i.invariant
-        (c.in_ok-push.ensures.items ∙ ap (λ (value : Option (List ℕ)). c.loop-i.cells.items ++ cell_with value ∷ []) c.in_ok-value.ensures)
+    (c.in_ok-push.ensures.items ∙ ap (λ (value : Option (List ℕ)). c.loop-i.cells.items ++ cell_with value ∷ []) c.in_ok-value.ensures)
