@@ -49,8 +49,8 @@ fn begins_with_slashes(text: &str) -> bool
 
 /// The text with its prefix replaced: where what stands before the first colon is one of the
 /// prefixes and `//` doesn't follow, the prefix and the colon give way to its IRI (Metadata
-/// Vocabulary for Tabular Data, section 5.1.4 on common properties). Else the text as it is.
-/// `AllocError` where there is no memory.
+/// Vocabulary for Tabular Data, section 5.8 on names of common properties, which section 5.1.3
+/// asks of links too). Else the text as it is. `AllocError` where there is no memory.
 #[tactic(auto, unfolding(crate::specs::Prefix::expanded))]
 pub fn expand_prefix(alloc: Global, text: &str) -> Result<String, AllocError>
     ensures { IfOk result (λ s. string_bytes s ≡ expanded text.now) }
