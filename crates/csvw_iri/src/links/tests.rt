@@ -27,6 +27,57 @@ const PREFIXES: [(&str, &str); 17] = [
     ("void", "http://rdfs.org/ns/void#"),
 ];
 
+/// Texts and what they resolve to against `http://example.org/d/p.csv?v=1`.
+const TEXTS: [(&str, &str); 26] = [
+    ("", "http://example.org/d/p.csv?v=1"),
+    ("q.csv", "http://example.org/d/q.csv"),
+    ("../q.csv", "http://example.org/q.csv"),
+    ("./a/../b", "http://example.org/d/b"),
+    ("a/./b/..", "http://example.org/d/a/"),
+    ("/r", "http://example.org/r"),
+    ("//h.example/x", "http://h.example/x"),
+    ("?x y", "http://example.org/d/p.csv?x%20y"),
+    ("#f", "http://example.org/d/p.csv?v=1#f"),
+    ("#a b|c", "http://example.org/d/p.csv?v=1#a%20b%7Cc"),
+    (
+        "a|b`c^d{e}\"<f>",
+        "http://example.org/d/a%7Cb%60c%5Ed%7Be%7D%22%3Cf%3E",
+    ),
+    (
+        "?q|`^{}\"<>",
+        "http://example.org/d/p.csv?q%7C%60%5E%7B%7D%22%3C%3E",
+    ),
+    ("\\r", "http://example.org/r"),
+    ("  s\t", "http://example.org/d/s"),
+    ("é/ü.csv", "http://example.org/d/%C3%A9/%C3%BC.csv"),
+    ("😀", "http://example.org/d/%F0%9F%98%80"),
+    (
+        "http://bücher.example/é",
+        "http://xn--bcher-kva.example/%C3%A9",
+    ),
+    ("%zz%41", "http://example.org/d/%zz%41"),
+    ("HTTP://EX.org:80/%7e", "http://ex.org/%7e"),
+    ("mailto:a b", "mailto:a%20b"),
+    ("dc://x", "dc://x"),
+    ("DC:x", "dc:x"),
+    (":x", "http://example.org/d/:x"),
+    ("http://[", "BadUrl"),
+    ("http://h.example:99999/", "BadUrl"),
+    ("//", "BadUrl"),
+];
+
+/// Texts and the bases that they are.
+const BASES: [(&str, &str); 8] = [
+    ("http://example.org/p|q.csv", "http://example.org/p%7Cq.csv"),
+    ("http://example.org/p.csv?q#f", "http://example.org/p.csv?q"),
+    ("HTTP://EXAMPLE.org:80/a/../b#x", "http://example.org/b"),
+    ("http://example.org", "http://example.org/"),
+    ("urn:a:b#c", "urn:a:b"),
+    ("http://é.example/?ü#ö", "http://xn--9ca.example/?%C3%BC"),
+    ("p.csv", "BadUrl"),
+    ("http://[", "BadUrl"),
+];
+
 /// The text of an IRI, or the name of the fault.
 fn told(alloc: Global, answer: Result<Iri, IriFault>) -> Result<String, AllocError> {
     match answer {
@@ -43,6 +94,23 @@ fn base_told(alloc: Global, answer: Result<Base, IriFault>) -> Result<String, Al
     }
 }
 
+/// Whether a text resolves to what is wanted, and its link is the same.
+fn gives(alloc: Global, base: &Base, text: &str, want: &str) -> Result<bool, AllocError> {
+    let resolved = told(alloc, resolve(alloc, base, text))?;
+    let linked = told(alloc, link(alloc, base, text))?;
+    Ok(resolved.as_str() == want && linked.as_str() == want)
+}
+
+/// Whether a prefix gives way to an IRI in a link, and stays where `//` follows.
+fn is_prefix(alloc: Global, base: &Base, prefix: &str, iri: &str) -> Result<bool, AllocError> {
+    let text = format!(in alloc; "{prefix}:a:b")?;
+    let slashes = format!(in alloc; "{prefix}://x")?;
+    let want = format!(in alloc; "{iri}a:b")?;
+    let linked = told(alloc, link(alloc, base, text.as_str()))?;
+    let stays = gives(alloc, base, slashes.as_str(), slashes.as_str())?;
+    Ok(linked.as_str() == want.as_str() && stays)
+}
+
 /// A text of so many letters.
 fn letters(alloc: Global, n: usize) -> Result<String, AllocError> {
     let mut text = String::new(alloc);
@@ -56,33 +124,21 @@ fn letters(alloc: Global, n: usize) -> Result<String, AllocError> {
 fn prefixes_are_replaced(rt: HostRuntime) -> Result<(), Fail> {
     let alloc = rt.alloc();
     let base = Base::new(alloc, "http://example.org/p.csv")?;
-    for (prefix, iri) in PREFIXES {
-        let text = format!(in alloc; "{prefix}:a:b")?;
-        let want = format!(in alloc; "{iri}a:b")?;
-        assert_eq!(rt;
-            expand_prefix(alloc, text.as_str())?.as_str(),
-            want.as_str()
-        );
-        assert_eq!(rt;
-            told(alloc, link(alloc, &base, text.as_str()))?.as_str(),
-            want.as_str()
-        );
-        let slashes = format!(in alloc; "{prefix}://x")?;
-        assert_eq!(rt;
-            told(alloc, link(alloc, &base, slashes.as_str()))?.as_str(),
-            slashes.as_str()
-        );
-        assert_eq!(rt;
-            told(alloc, resolve(alloc, &base, text.as_str()))?.as_str(),
-            text.as_str()
-        );
+    for (prefix, iri) in &PREFIXES {
+        assert!(rt; is_prefix(alloc, &base, prefix, iri)?, "{prefix}");
     }
-    for text in ["dc", "", ":x", "Dc:x", "ex:y", " dc:x", "dct:x"] {
+    Ok(())
+}
+
+#[test]
+fn other_texts_stay(rt: HostRuntime) -> Result<(), Fail> {
+    let alloc = rt.alloc();
+    for text in ["dc", "", ":x", "Dc:x", "ex:y", " dc:x", "dct:x", "dc://x"] {
         assert_eq!(rt; expand_prefix(alloc, text)?.as_str(), text);
     }
     assert_eq!(rt;
-        told(alloc, link(alloc, &base, "xsd:dc:x|"))?.as_str(),
-        "http://www.w3.org/2001/XMLSchema#dc:x%7C"
+        expand_prefix(alloc, "dc:dc:x")?.as_str(),
+        "http://purl.org/dc/terms/dc:x"
     );
     Ok(())
 }
@@ -91,53 +147,8 @@ fn prefixes_are_replaced(rt: HostRuntime) -> Result<(), Fail> {
 fn texts_resolve(rt: HostRuntime) -> Result<(), Fail> {
     let alloc = rt.alloc();
     let base = Base::new(alloc, "http://example.org/d/p.csv?v=1#f")?;
-    for (text, want) in [
-        ("", "http://example.org/d/p.csv?v=1"),
-        ("q.csv", "http://example.org/d/q.csv"),
-        ("../q.csv", "http://example.org/q.csv"),
-        ("./a/../b", "http://example.org/d/b"),
-        ("a/./b/..", "http://example.org/d/a/"),
-        ("/r", "http://example.org/r"),
-        ("//h.example/x", "http://h.example/x"),
-        ("?x y", "http://example.org/d/p.csv?x%20y"),
-        ("#f", "http://example.org/d/p.csv?v=1#f"),
-        ("#a b|c", "http://example.org/d/p.csv?v=1#a%20b%7Cc"),
-        (
-            "a|b`c^d{e}\"<f>",
-            "http://example.org/d/a%7Cb%60c%5Ed%7Be%7D%22%3Cf%3E",
-        ),
-        (
-            "?q|`^{}\"<>",
-            "http://example.org/d/p.csv?q%7C%60%5E%7B%7D%22%3C%3E",
-        ),
-        ("\\r", "http://example.org/r"),
-        ("  s\t", "http://example.org/d/s"),
-        ("é/ü.csv", "http://example.org/d/%C3%A9/%C3%BC.csv"),
-        ("😀", "http://example.org/d/%F0%9F%98%80"),
-        (
-            "http://bücher.example/é",
-            "http://xn--bcher-kva.example/%C3%A9",
-        ),
-        ("%zz%41", "http://example.org/d/%zz%41"),
-        ("HTTP://EX.org:80/%7e", "http://ex.org/%7e"),
-        ("mailto:a b", "mailto:a%20b"),
-        ("dc://x", "dc://x"),
-        ("DC:x", "dc:x"),
-        (":x", "http://example.org/d/:x"),
-        ("http://[", "BadUrl"),
-        ("http://h.example:99999/", "BadUrl"),
-        ("//", "BadUrl"),
-    ] {
-        assert_eq!(rt;
-            told(alloc, resolve(alloc, &base, text))?.as_str(),
-            want,
-            "{text:?}"
-        );
-        assert_eq!(rt;
-            told(alloc, link(alloc, &base, text))?.as_str(),
-            want,
-            "{text:?}"
-        );
+    for (text, want) in &TEXTS {
+        assert!(rt; gives(alloc, &base, text, want)?, "{text:?}");
     }
     Ok(())
 }
@@ -145,22 +156,15 @@ fn texts_resolve(rt: HostRuntime) -> Result<(), Fail> {
 #[test]
 fn bases_have_no_fragment(rt: HostRuntime) -> Result<(), Fail> {
     let alloc = rt.alloc();
-    for (text, want) in [
-        ("http://example.org/p|q.csv", "http://example.org/p%7Cq.csv"),
-        ("http://example.org/p.csv?q#f", "http://example.org/p.csv?q"),
-        ("HTTP://EXAMPLE.org:80/a/../b#x", "http://example.org/b"),
-        ("http://example.org", "http://example.org/"),
-        ("urn:a:b#c", "urn:a:b"),
-        ("http://é.example/?ü#ö", "http://xn--9ca.example/?%C3%BC"),
-        ("p.csv", "BadUrl"),
-        ("http://[", "BadUrl"),
-    ] {
-        assert_eq!(rt;
-            base_told(alloc, Base::new(alloc, text))?.as_str(),
-            want,
-            "{text:?}"
-        );
+    for (text, want) in &BASES {
+        assert_eq!(rt; base_told(alloc, Base::new(alloc, text))?.as_str(), *want);
     }
+    Ok(())
+}
+
+#[test]
+fn bases_join(rt: HostRuntime) -> Result<(), Fail> {
+    let alloc = rt.alloc();
     let base = Base::new(alloc, "http://example.org/d/meta.json")?;
     assert_eq!(rt;
         base_told(alloc, base.join(alloc, "p|q.csv#x"))?.as_str(),
@@ -183,63 +187,77 @@ fn bases_have_no_fragment(rt: HostRuntime) -> Result<(), Fail> {
 }
 
 #[test]
-fn long_texts_are_refused(rt: HostRuntime) -> Result<(), Fail> {
+fn longest_text(rt: HostRuntime) -> Result<(), Fail> {
     let alloc = rt.alloc();
     let base = Base::new(alloc, "http://example.org/p.csv")?;
-    let fits = letters(alloc, 65536)?;
-    let past = letters(alloc, 65537)?;
-    let want = format!(in alloc; "http://example.org/{}", fits.as_str())?;
-    assert!(rt; told(alloc, resolve(alloc, &base, fits.as_str()))?.as_str() == want.as_str());
-    assert!(rt; told(alloc, link(alloc, &base, fits.as_str()))?.as_str() == want.as_str());
-    assert!(rt; base_told(alloc, base.join(alloc, fits.as_str()))?.as_str() == want.as_str());
+    let text = letters(alloc, 65536)?;
+    let mut want = String::from_str(alloc, "http://example.org/")?;
+    want.push_str(text.as_str())?;
+    assert!(rt; gives(alloc, &base, text.as_str(), want.as_str())?);
+    assert!(rt; base_told(alloc, base.join(alloc, text.as_str()))?.as_str() == want.as_str());
     assert_eq!(rt;
-        base_told(alloc, Base::new(alloc, fits.as_str()))?.as_str(),
+        base_told(alloc, Base::new(alloc, text.as_str()))?.as_str(),
         "BadUrl"
     );
+    Ok(())
+}
+
+#[test]
+fn too_long_texts(rt: HostRuntime) -> Result<(), Fail> {
+    let alloc = rt.alloc();
+    let base = Base::new(alloc, "http://example.org/p.csv")?;
+    let text = letters(alloc, 65537)?;
+    assert!(rt; gives(alloc, &base, text.as_str(), "UrlTooLong")?);
     assert_eq!(rt;
-        told(alloc, resolve(alloc, &base, past.as_str()))?.as_str(),
+        base_told(alloc, base.join(alloc, text.as_str()))?.as_str(),
         "UrlTooLong"
     );
     assert_eq!(rt;
-        told(alloc, link(alloc, &base, past.as_str()))?.as_str(),
+        base_told(alloc, Base::new(alloc, text.as_str()))?.as_str(),
         "UrlTooLong"
     );
+    Ok(())
+}
+
+// what is measured is the text with its prefix replaced, here by 25 bytes
+#[test]
+fn longest_text_with_a_prefix(rt: HostRuntime) -> Result<(), Fail> {
+    let alloc = rt.alloc();
+    let base = Base::new(alloc, "http://example.org/p.csv")?;
+    let mut text = String::from_str(alloc, "dc:")?;
+    text.push_str(letters(alloc, 65511)?.as_str())?;
+    assert!(rt; link(alloc, &base, text.as_str()).is_ok());
+    text.push('a')?;
     assert_eq!(rt;
-        base_told(alloc, base.join(alloc, past.as_str()))?.as_str(),
+        told(alloc, link(alloc, &base, text.as_str()))?.as_str(),
         "UrlTooLong"
     );
-    assert_eq!(rt;
-        base_told(alloc, Base::new(alloc, past.as_str()))?.as_str(),
-        "UrlTooLong"
-    );
-    // what is measured is the text with its prefix replaced, by 22 bytes more here
-    let prefixed = format!(in alloc; "dc:{}", letters(alloc, 65511)?.as_str())?;
-    assert_eq!(rt; prefixed.len(), 65514);
-    let long = format!(in alloc; "dc:{}", letters(alloc, 65512)?.as_str())?;
-    assert!(rt; told(alloc, link(alloc, &base, prefixed.as_str()))?.as_str() != "UrlTooLong");
-    assert_eq!(rt;
-        told(alloc, link(alloc, &base, long.as_str()))?.as_str(),
-        "UrlTooLong"
-    );
+    assert!(rt; resolve(alloc, &base, text.as_str()).is_ok());
     Ok(())
 }
 
 #[test]
 fn forbidden_characters_are_encoded(rt: HostRuntime) -> Result<(), Fail> {
     let alloc = rt.alloc();
-    let all = "\u{0}\n !\"#$<=>[\\]^_`{|}~\u{7F}é";
-    let want = "%00%0A%20!%22#$%3C=%3E[%5C]%5E_%60%7B%7C%7D~\u{7F}é";
-    assert_eq!(rt; made_safe(alloc, all)?.as_str(), want);
-    assert!(rt; is_raw_text(want) && !is_raw_text(all));
-    assert!(rt; is_raw('é') && !is_raw('|'));
-    let iri = made_safe(alloc, want)?;
-    assert!(rt; iri == made_safe(alloc, all)?);
-    assert!(rt; iri.clone(alloc)? == iri);
-    assert!(rt; iri < made_safe(alloc, "a")?);
+    let text = "\u{0}\n !\"#$<=>[\\]^_`{|}~\u{7F}é";
+    let iri = made_safe(alloc, text)?;
     assert_eq!(rt;
-        format!(in alloc; "{:?}", made_safe(alloc, "a|")?)?.as_str(),
-        "\"a%7C\""
+        iri.as_str(),
+        "%00%0A%20!%22#$%3C=%3E[%5C]%5E_%60%7B%7C%7D~\u{7F}é"
     );
+    assert!(rt; is_raw_text(iri.as_str()) && !is_raw_text(text));
+    assert!(rt; is_raw('é') && !is_raw('|'));
+    Ok(())
+}
+
+#[test]
+fn iris_compare(rt: HostRuntime) -> Result<(), Fail> {
+    let alloc = rt.alloc();
+    let iri = made_safe(alloc, "a|")?;
+    assert!(rt; iri == made_safe(alloc, "a%7C")?);
+    assert!(rt; iri.clone(alloc)? == iri);
+    assert!(rt; iri < made_safe(alloc, "b")?);
+    assert_eq!(rt; format!(in alloc; "{iri:?}")?.as_str(), "\"a%7C\"");
     Ok(())
 }
 

@@ -1,0 +1,6 @@
+pub mod Expand
+pub mod Fault
+pub mod Grammar
+pub mod Name
+pub mod Reading
+pub mod Variables

@@ -1,0 +1,93 @@
+//! Texts percent-encoded, with and without reserved characters and triplets kept.
+ghost use Rattle.std.specs.Prelude.{◌≡◌, ◌≤◌, ◌++◌, OnOk, string_bytes, length, take, drop, true};
+ghost use Rattle.std.specs.List.{flat_map};
+ghost use Rattle.csvw_template.specs.Expand.{encoded, encoded_byte, kept, kept_byte, begins_triplet};
+
+use crate::names::is_hex;
+use crate::part::Operator;
+use csvw_text::{is_reserved, is_unreserved};
+use percent_encoding::percent_encode_byte;
+use std::alloc::AllocError;
+
+/// Adds a text as the operator encodes it.
+pub(crate) fn push_encoded(out: &mut String, operator: Operator, text: &str) -> Result<(), AllocError>
+    ensures { OnOk result (string_bytes out.new ≡ string_bytes out.old ++ encoded operator text.now) }
+{
+    match operator {
+        Operator::Simple => push_plain(out, text),
+        Operator::Reserved | Operator::Fragment => push_kept(out, text),
+    }
+}
+
+fn push_plain(out: &mut String, text: &str) -> Result<(), AllocError>
+    ensures { OnOk result (string_bytes out.new ≡ string_bytes out.old ++ flat_map encoded_byte text.now) }
+{
+    for b in text.as_bytes() {
+        push_plain_byte(out, *b)?;
+    }
+    Ok(())
+}
+
+fn push_plain_byte(out: &mut String, b: u8) -> Result<(), AllocError>
+    ensures { OnOk result (string_bytes out.new ≡ string_bytes out.old ++ encoded_byte b) }
+{
+    if is_unreserved(b as char) {
+        out.push(b as char)
+    } else {
+        out.push_str(percent_encode_byte(b))
+    }
+}
+
+/// Adds a text with reserved characters and triplets as they are.
+#[tactic(auto, using(crate::proofs::KeptLemmas::keeping))]
+pub(crate) fn push_kept(out: &mut String, text: &str) -> Result<(), AllocError>
+    ensures { OnOk result (string_bytes out.new ≡ string_bytes out.old ++ kept text.now) }
+{
+    let mut rest = text.as_bytes();
+    while !rest.is_empty() {
+        if is_triplet(rest) {
+            push_triplet(out, rest)?;
+            rest = skip(rest, 3);
+        } else {
+            push_kept_byte(out, rest[0])?;
+            rest = skip(rest, 1);
+        }
+    }
+    Ok(())
+}
+
+fn skip(text: &[u8], n: usize) -> &[u8]
+    requires { n ≤ length text.now }
+    ensures { result.now ≡ drop n text.now }
+{
+    &text[n..]
+}
+
+fn push_triplet(out: &mut String, text: &[u8]) -> Result<(), AllocError>
+    requires { begins_triplet text.now ≡ true }
+    ensures { OnOk result (string_bytes out.new ≡ string_bytes out.old ++ take 3 text.now) }
+{
+    out.push('%')?;
+    out.push(text[1] as char)?;
+    out.push(text[2] as char)
+}
+
+fn is_triplet(text: &[u8]) -> bool
+    ensures value { result ≡ begins_triplet text.now }
+    ensures long { begins_triplet text.now ≡ true → 3 ≤ length text.now }
+{
+    match text {
+        [b'%', high, low, ..] => is_hex(*high) && is_hex(*low),
+        _ => false,
+    }
+}
+
+fn push_kept_byte(out: &mut String, b: u8) -> Result<(), AllocError>
+    ensures { OnOk result (string_bytes out.new ≡ string_bytes out.old ++ kept_byte b) }
+{
+    if is_unreserved(b as char) || is_reserved(b as char) {
+        out.push(b as char)
+    } else {
+        out.push_str(percent_encode_byte(b))
+    }
+}

@@ -1,0 +1,98 @@
+//! URI templates.
+ghost use Rattle.std.specs.Prelude.{◌≡◌, IfOk, string_bytes};
+ghost use Rattle.csvw_template.specs.Fault.{Gives};
+ghost use Rattle.csvw_template.specs.Expand.{expand};
+ghost use Rattle.csvw_template.specs.Grammar.{IsTheReading};
+ghost use Rattle.csvw_template.specs.Reading.{template, is_past};
+
+use crate::expand::expand_parts;
+use crate::fault::TemplateFault;
+use crate::part::Part;
+use crate::read::{count_open, of_pieces, pieces};
+use crate::vars::Vars;
+use csvw_text::{Copied, Seq};
+use std::alloc::{AllocError, Global};
+use std::marker::Model;
+
+/// How many bytes a template has at most.
+const MAX_LEN: usize = 4096;
+
+/// How many `{` a template has at most.
+const MAX_OPEN: usize = 32;
+
+/// A URI template, which a contract sees as its parts.
+#[derive(Debug, Drop)]
+pub struct Template {
+    parts: Seq<Part>,
+}
+
+impl Model for Template {
+    ghost use Rattle.std.specs.Prelude.{List};
+    ghost use Rattle.csvw_template.specs.declared.part.Part.{Part};
+
+    ghost Value = { List Part };
+
+    ghost view = { λ t. t.parts };
+}
+
+impl Template {
+    /// The template that the text is (RFC 6570, section 2). `TooLong` where it has more than 4,096 bytes or
+    /// more than 32 `{`; else the fault that is first from the left: `BadTemplate` for a `{` without its `}`
+    /// before the next `{` or the end, for a `}` that closes none and for what is no expression between
+    /// braces, `TemplateLevel` for an expression that begins with one of `./;?&=,!@|` or has `:` or `*` after
+    /// a name. `Memory` where there is none.
+    pub fn read(alloc: Global, text: &str) -> Result<Template, TemplateFault>
+        ensures value { Gives (λ t. t) result (template text.now) }
+
+        // and that is what the grammar says
+        ensures grammar { IsTheReading text.now (template text.now) }
+    {
+        if is_past(text) {
+            return Err(TemplateFault::TooLong);
+        }
+        let pieces = pieces(alloc, text)?;
+        let parts = of_pieces(alloc, pieces.as_slice())?;
+        Ok(Template {
+            parts: Seq::of(parts),
+        })
+    }
+
+    /// The expansion (RFC 6570, section 3), where a name that the map doesn't have and a list without items
+    /// are undefined; `AllocError` where there is no memory.
+    pub fn expand(&self, alloc: Global, vars: &Vars) -> Result<String, AllocError>
+        ensures { IfOk result (λ s. string_bytes s ≡ expand vars.now self.now) }
+    {
+        expand_parts(alloc, self.parts.as_slice(), vars)
+    }
+
+    /// Its parts, in order.
+    pub fn parts(&self) -> &[Part]
+        ensures { result.now ≡ self.now }
+    {
+        self.parts.as_slice()
+    }
+
+    /// An equal template; `AllocError` where there is no memory.
+    pub fn clone(&self, alloc: Global) -> Result<Template, AllocError>
+        ensures { IfOk result (λ t. t ≡ self.now) }
+    {
+        Ok(Template {
+            parts: self.parts.clone(alloc)?,
+        })
+    }
+}
+
+impl Copied for Template {
+    fn copied(&self, alloc: Global) -> Result<Template, AllocError> {
+        self.clone(alloc)
+    }
+}
+
+fn is_past(text: &str) -> bool
+    ensures { result ≡ is_past text.now }
+{
+    text.len() > MAX_LEN || count_open(text.as_bytes()) > MAX_OPEN
+}
+
+#[cfg(test)]
+mod tests;

@@ -1,0 +1,137 @@
+//! What variables stand for.
+ghost use Rattle.std.specs.Prelude.{◌≡◌, ◌<◌, ◌∷◌, ◌++◌, [], length, slice_set, IfOk, OnOk, OnErr, MatchOption};
+ghost use Rattle.csvw_template.specs.Variables.{lookup, put};
+
+use csvw_text::{Copied, Seq, Text};
+use std::alloc::{AllocError, Global};
+use std::marker::Model;
+
+/// What a variable stands for.
+#[derive(Debug, Drop)]
+pub enum Var {
+    /// Nothing.
+    Undefined,
+    /// A text.
+    One(Text),
+    /// A list of texts. One without items counts as undefined where it is expanded.
+    Many(Seq<Text>),
+}
+
+impl Var {
+    /// An equal value; `AllocError` where there is no memory.
+    pub fn clone(&self, alloc: Global) -> Result<Var, AllocError>
+        ensures { IfOk result (λ v. v ≡ self.now) }
+    {
+        match self {
+            Var::Undefined => Ok(Var::Undefined),
+            Var::One(text) => Ok(Var::One(text.clone(alloc)?)),
+            Var::Many(items) => Ok(Var::Many(items.clone(alloc)?)),
+        }
+    }
+}
+
+impl Copied for Var {
+    fn copied(&self, alloc: Global) -> Result<Var, AllocError> {
+        self.clone(alloc)
+    }
+}
+
+/// A finite map from names to what they stand for.
+#[derive(Debug, Drop)]
+pub struct Vars {
+    pairs: Vec<(Text, Var)>,
+    undefined: Var,
+    alloc: Global,
+}
+
+impl Model for Vars {
+    ghost use Rattle.std.specs.Prelude.{◌≡◌};
+    ghost use Rattle.csvw_template.specs.Variables.{Variables};
+    ghost use Rattle.csvw_template.specs.declared.vars.Var.TheVariants.{Undefined};
+
+    ghost Value = { Variables };
+
+    ghost view = { λ v. v.pairs.items };
+
+    ghost invariant = { λ v. v.undefined ≡ Undefined };
+}
+
+impl Vars {
+    /// The map in which each name is undefined. It takes no memory; `alloc` is kept for `set`.
+    pub fn new(alloc: Global) -> Vars
+        ensures { result ≡ [] }
+    {
+        Vars {
+            pairs: Vec::new(alloc),
+            undefined: Var::Undefined,
+            alloc,
+        }
+    }
+
+    /// What a name stands for; `Undefined` where it was never set. Names are compared as texts. It takes no
+    /// memory.
+    pub fn get(&self, name: &str) -> &Var
+        ensures { result.now ≡ lookup self.now name.now }
+    {
+        for (key, var) in &self.pairs {
+            if key.as_str() == name {
+                return var;
+            }
+        }
+        &self.undefined
+    }
+
+    /// Lets a name stand for a value. `AllocError` where there is no memory; the map is then unchanged.
+    pub fn set(&mut self, name: &str, value: Var) -> Result<(), AllocError>
+        ensures ok { OnOk result (self.new ≡ put self.old name.now value) }
+        ensures err { OnErr result (self.new ≡ self.old) }
+    {
+        match self.position(name) {
+            Some(i) => {
+                self.pairs[i].1 = value;
+                Ok(())
+            }
+            None => {
+                let name = Text::copied(self.alloc, name)?;
+                self.pairs.push((name, value))?;
+                Ok(())
+            }
+        }
+    }
+
+    /// An equal map; `AllocError` where there is no memory.
+    pub fn clone(&self) -> Result<Vars, AllocError>
+        ensures { IfOk result (λ v. v ≡ self.now) }
+    {
+        Ok(Vars {
+            pairs: copies(self.alloc, &self.pairs)?,
+            undefined: Var::Undefined,
+            alloc: self.alloc,
+        })
+    }
+
+    /// Where the pair of a name is.
+    fn position(&self, name: &str) -> Option<usize>
+        ensures { MatchOption result ((v : Var) → put self.now name.now v ≡ self.now ++ (name.now, v) ∷ [])
+            (λ i. (i < length self.now) × ((v : Var) → put self.now name.now v ≡ slice_set self.now i (name.now, v))) }
+    {
+        for (i, (key, _)) in self.pairs.iter().enumerate() {
+            if key.as_str() == name {
+                return Some(i);
+            }
+        }
+        None
+    }
+}
+
+fn copies(alloc: Global, pairs: &[(Text, Var)]) -> Result<Vec<(Text, Var)>, AllocError>
+    ensures { IfOk result (λ v. v.items ≡ pairs.now) }
+{
+    let mut copies = Vec::new(alloc);
+    for (name, value) in pairs {
+        let name = name.clone(alloc)?;
+        let value = value.clone(alloc)?;
+        copies.push((name, value))?;
+    }
+    Ok(copies)
+}
