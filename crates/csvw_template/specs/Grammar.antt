@@ -71,7 +71,7 @@ is_modifier b = b == 58 || b == 42
 pub data IsHigher (inner : List ℕ) : Type 0 where
   by_operator : (b : ℕ) (more : List ℕ) → is_level_operator b ≡ true → inner ≡ b ∷ more → IsHigher inner
   by_modifier : (operator : Operator) (names : List (List ℕ)) (b : ℕ) (more : List ℕ)
-    → AreNames names → is_modifier b ≡ true → inner ≡ mark operator ++ listed names ++ b ∷ more → IsHigher inner
+      → AreNames names → is_modifier b ≡ true → inner ≡ mark operator ++ listed names ++ b ∷ more → IsHigher inner
 
 -- the end, or a `{`
 abbrev pub IsEndOrOpen : List ℕ → Type 0
@@ -84,7 +84,7 @@ pub data BeginsBad (text : List ℕ) : Type 0 where
   closes_none : (more : List ℕ) → text ≡ 125 ∷ more → BeginsBad text
   not_closed : (inner more : List ℕ) → HasNoBrace inner → IsEndOrOpen more → text ≡ 123 ∷ inner ++ more → BeginsBad text
   no_expression : (inner more : List ℕ)
-    → HasNoBrace inner → ¬ IsExpression inner → ¬ IsHigher inner → text ≡ 123 ∷ inner ++ 125 ∷ more → BeginsBad text
+      → HasNoBrace inner → ¬ IsExpression inner → ¬ IsHigher inner → text ≡ 123 ∷ inner ++ 125 ∷ more → BeginsBad text
 
 -- A text that begins with an expression of a higher level.
 pub data BeginsHigher (text : List ℕ) : Type 0 where

@@ -10,7 +10,11 @@ use percent_encoding::percent_encode_byte;
 use std::alloc::AllocError;
 
 /// Adds a text as the operator encodes it.
-pub(crate) fn push_encoded(out: &mut String, operator: Operator, text: &str) -> Result<(), AllocError>
+pub(crate) fn push_encoded(
+    out: &mut String,
+    operator: Operator,
+    text: &str,
+) -> Result<(), AllocError>
     ensures { OnOk result (string_bytes out.new ≡ string_bytes out.old ++ encoded operator text.now) }
 {
     match operator {

@@ -29,7 +29,12 @@ fn push_part(out: &mut String, part: &Part, vars: &Vars) -> Result<(), AllocErro
     }
 }
 
-fn push_values(out: &mut String, operator: Operator, names: &[Text], vars: &Vars) -> Result<(), AllocError>
+fn push_values(
+    out: &mut String,
+    operator: Operator,
+    names: &[Text],
+    vars: &Vars,
+) -> Result<(), AllocError>
     ensures { OnOk result (string_bytes out.new ≡ string_bytes out.old ++ signed operator (values operator vars.now names.now)) }
 {
     let mut is_first = true;
@@ -42,7 +47,12 @@ fn push_values(out: &mut String, operator: Operator, names: &[Text], vars: &Vars
 }
 
 /// Adds what a variable gives, after the sign or a comma, and tells whether it is defined.
-fn push_value(out: &mut String, operator: Operator, is_first: bool, var: &Var) -> Result<bool, AllocError>
+fn push_value(
+    out: &mut String,
+    operator: Operator,
+    is_first: bool,
+    var: &Var,
+) -> Result<bool, AllocError>
     ensures { IfOk result (λ b. Adds operator is_first (value operator var.now) b (string_bytes out.old) (string_bytes out.new)) }
 {
     match var {
@@ -56,7 +66,12 @@ fn push_value(out: &mut String, operator: Operator, is_first: bool, var: &Var) -
     }
 }
 
-fn push_list(out: &mut String, operator: Operator, is_first: bool, items: &[Text]) -> Result<bool, AllocError>
+fn push_list(
+    out: &mut String,
+    operator: Operator,
+    is_first: bool,
+    items: &[Text],
+) -> Result<bool, AllocError>
     ensures { IfOk result (λ b. Adds operator is_first (value operator (Var.Many items.now)) b (string_bytes out.old) (string_bytes out.new)) }
 {
     let Some((first, others)) = items.split_first() else {

@@ -94,5 +94,9 @@ pub(crate) fn kind_of(text: &[u8]) -> Kind
             Some(next) => place = next,
         }
     }
-    if is_end(place) { Kind::Names } else { Kind::Bad }
+    if is_end(place) {
+        Kind::Names
+    } else {
+        Kind::Bad
+    }
 }

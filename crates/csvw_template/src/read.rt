@@ -118,7 +118,10 @@ fn expression(alloc: Global, text: &str) -> Result<Part, TemplateFault>
 fn is_level_operator(b: u8) -> bool
     ensures { result ≡ is_level_operator b }
 {
-    matches!(b, b'.' | b'/' | b';' | b'?' | b'&' | b'=' | b',' | b'!' | b'@' | b'|')
+    matches!(
+        b,
+        b'.' | b'/' | b';' | b'?' | b'&' | b'=' | b',' | b'!' | b'@' | b'|'
+    )
 }
 
 fn after_first(text: &str) -> &str

@@ -1,5 +1,5 @@
 //! What variables stand for.
-ghost use Rattle.std.specs.Prelude.{◌≡◌, ◌<◌, ◌∷◌, ◌++◌, [], length, slice_set, IfOk, OnOk, OnErr, MatchOption};
+ghost use Rattle.std.specs.Prelude.{◌≡◌, ℕ, List, [], bytes_eq, position, if◌then◌else◌, IfOk, OnOk, OnErr};
 ghost use Rattle.csvw_template.specs.Variables.{lookup, put};
 
 use csvw_text::{Copied, Seq, Text};
@@ -84,6 +84,7 @@ impl Vars {
     /// Lets a name stand for a value. `AllocError` where there is no memory; the map is then unchanged.
     pub fn set(&mut self, name: &str, value: Var) -> Result<(), AllocError>
         ensures ok { OnOk result (self.new ≡ put self.old name.now value) }
+        ensures found { OnOk result ((other : List ℕ) → lookup self.new other ≡ (if bytes_eq name.now other then value else lookup self.old other)) }
         ensures err { OnErr result (self.new ≡ self.old) }
     {
         match self.position(name) {
@@ -112,15 +113,9 @@ impl Vars {
 
     /// Where the pair of a name is.
     fn position(&self, name: &str) -> Option<usize>
-        ensures { MatchOption result ((v : Var) → put self.now name.now v ≡ self.now ++ (name.now, v) ∷ [])
-            (λ i. (i < length self.now) × ((v : Var) → put self.now name.now v ≡ slice_set self.now i (name.now, v))) }
+        ensures { result ≡ position (λ p. bytes_eq p.0 name.now) self.now }
     {
-        for (i, (key, _)) in self.pairs.iter().enumerate() {
-            if key.as_str() == name {
-                return Some(i);
-            }
-        }
-        None
+        self.pairs.iter().position(|p| p.0.as_str() == name)
     }
 }
 
@@ -128,9 +123,9 @@ fn copies(alloc: Global, pairs: &[(Text, Var)]) -> Result<Vec<(Text, Var)>, Allo
     ensures { IfOk result (λ v. v.items ≡ pairs.now) }
 {
     let mut copies = Vec::new(alloc);
-    for (name, value) in pairs {
-        let name = name.clone(alloc)?;
-        let value = value.clone(alloc)?;
+    for (key, var) in pairs {
+        let name = key.clone(alloc)?;
+        let value = var.clone(alloc)?;
         copies.push((name, value))?;
     }
     Ok(copies)

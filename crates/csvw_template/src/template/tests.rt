@@ -106,7 +106,10 @@ fn names_lists_and_literals(rt: HostRuntime) -> Result<(), Fail> {
         ("{a.b}", "%2520%C3%A9%254"),
         ("{+a.b}", "%20%C3%A9%254"),
         ("{_row}{9}{%41}", ""),
-        ("é a|%41%zz%4~:/?#[]@!$&'()*+,;=-._", "%C3%A9%20a%7C%41%25zz%254~:/?#[]@!$&'()*+,;=-._"),
+        (
+            "é a|%41%zz%4~:/?#[]@!$&'()*+,;=-._",
+            "%C3%A9%20a%7C%41%25zz%254~:/?#[]@!$&'()*+,;=-._",
+        ),
     ] {
         assert_eq!(rt; expanded(alloc, text)?.as_str(), want, "{text:?}");
     }
@@ -117,17 +120,43 @@ fn names_lists_and_literals(rt: HostRuntime) -> Result<(), Fail> {
 fn faults_from_the_left(rt: HostRuntime) -> Result<(), Fail> {
     let alloc = rt.alloc();
     for text in [
-        "{x", "{", "a{", "}", "a}b", "{x}}", "{x{y}", "{.x{y}", "{.x", "{x}{", "{}", "{+}", "{#}", "{+,x}", "{:3}",
-        "{*}", "{x,}", "{x,,y}", "{x,.y}", "{x,*}", "{x.}", "{x.*}", "{x..y}", "{%2}", "{%2g}", "{x%}", "{x!}",
-        "{x }", "{é}", "{+.x}", "{++x}", "{#/x}", "{x-y}", "{x!}{.y}",
+        "{x", "{", "a{", "}", "a}b", "{x}}", "{x{y}", "{.x{y}", "{.x", "{x}{", "{}", "{+}", "{#}",
+        "{+,x}", "{:3}", "{*}", "{x,}", "{x,,y}", "{x,.y}", "{x,*}", "{x.}", "{x.*}", "{x..y}",
+        "{%2}", "{%2g}", "{x%}", "{x!}", "{x }", "{é}", "{+.x}", "{++x}", "{#/x}", "{x-y}",
+        "{x!}{.y}",
     ] {
         assert_eq!(rt; expanded(alloc, text)?.as_str(), "BadTemplate", "{text:?}");
     }
     for text in [
-        "{.}", "{/}", "{.x}", "{/x}", "{;x}", "{?x}", "{&x}", "{=x}", "{,x}", "{!x}", "{@x}", "{|x}", "{x:3}", "{x*}",
-        "{x,y:3}", "{x,y*}", "{x*,y}", "{+x*}", "{#x,y.z:1,}", "{x*!}", "{.x}}", "{.x}{y", "{.\"}",
+        "{.}",
+        "{/}",
+        "{.x}",
+        "{/x}",
+        "{;x}",
+        "{?x}",
+        "{&x}",
+        "{=x}",
+        "{,x}",
+        "{!x}",
+        "{@x}",
+        "{|x}",
+        "{x:3}",
+        "{x*}",
+        "{x,y:3}",
+        "{x,y*}",
+        "{x*,y}",
+        "{+x*}",
+        "{#x,y.z:1,}",
+        "{x*!}",
+        "{.x}}",
+        "{.x}{y",
+        "{.\"}",
     ] {
-        assert_eq!(rt; expanded(alloc, text)?.as_str(), "TemplateLevel", "{text:?}");
+        assert_eq!(rt;
+            expanded(alloc, text)?.as_str(),
+            "TemplateLevel",
+            "{text:?}"
+        );
     }
     Ok(())
 }
@@ -137,12 +166,27 @@ fn limits(rt: HostRuntime) -> Result<(), Fail> {
     let alloc = rt.alloc();
     let most = times(alloc, "a", 4096)?;
     assert!(rt; expanded(alloc, most.as_str())?.as_str() == most.as_str());
-    assert_eq!(rt; expanded(alloc, times(alloc, "a", 4097)?.as_str())?.as_str(), "TooLong");
-    assert_eq!(rt; expanded(alloc, times(alloc, "}", 4097)?.as_str())?.as_str(), "TooLong");
+    assert_eq!(rt;
+        expanded(alloc, times(alloc, "a", 4097)?.as_str())?.as_str(),
+        "TooLong"
+    );
+    assert_eq!(rt;
+        expanded(alloc, times(alloc, "}", 4097)?.as_str())?.as_str(),
+        "TooLong"
+    );
     let full = times(alloc, "{x}", 32)?;
-    assert_eq!(rt; expanded(alloc, full.as_str())?.as_str(), times(alloc, "1024", 32)?.as_str());
-    assert_eq!(rt; expanded(alloc, times(alloc, "{x}", 33)?.as_str())?.as_str(), "TooLong");
-    assert_eq!(rt; expanded(alloc, times(alloc, "}{", 33)?.as_str())?.as_str(), "TooLong");
+    assert_eq!(rt;
+        expanded(alloc, full.as_str())?.as_str(),
+        times(alloc, "1024", 32)?.as_str()
+    );
+    assert_eq!(rt;
+        expanded(alloc, times(alloc, "{x}", 33)?.as_str())?.as_str(),
+        "TooLong"
+    );
+    assert_eq!(rt;
+        expanded(alloc, times(alloc, "}{", 33)?.as_str())?.as_str(),
+        "TooLong"
+    );
     Ok(())
 }
 
