@@ -14,13 +14,13 @@ use Rattle.csvw_template.specs.Name.{is_hex, is_name_byte, IsVarchar, IsName, Ar
 use Rattle.csvw_template.specs.Reading.{varchar_step, step, is_end, kind, is_comma}
 
 -- the begin of a varchar
-abbrev Begins : ℕ → Type 0
+abbrev pub Begins : ℕ → Type 0
 Begins b = (is_name_byte b || b == 37) ≡ true
 
-letter_begins : (b : ℕ) → is_name_byte b ≡ true → Begins b
+pub letter_begins : (b : ℕ) → is_name_byte b ≡ true → Begins b
 letter_begins b h = rw h refl
 
-percent_begins : (b : ℕ) → b ≡ 37 → Begins b
+pub percent_begins : (b : ℕ) → b ≡ 37 → Begins b
 percent_begins b e = rw e refl
 
 letter_step : (b : ℕ) → is_name_byte b ≡ true → varchar_step b ≡ Some Char
@@ -227,7 +227,7 @@ percent_tail b e t s =
     let P : List ℕ → Type 0 = λ x. IsTail (b ∷ x) in
     subst P (sym s.3) (with_varchar false (b ∷ s.0 ∷ s.1 ∷ []) s.2 (e, s.4, s.5) s.6)
 
-is_same : (b c : ℕ) → (b == c) ≡ true → b ≡ c
+pub is_same : (b c : ℕ) → (b == c) ≡ true → b ≡ c
 is_same b c e = grind (arith, nat_tests)
 
 -- Whatever the pass says is so.
