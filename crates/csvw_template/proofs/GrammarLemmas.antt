@@ -26,7 +26,7 @@ whole text = of_pieces (slice_split is_open text)
 abbrev inside : List ℕ → Parts
 inside text = all_opened (slice_split is_open text)
 
-abbrev with_part : Part → Parts → Parts
+abbrev pub with_part : Part → Parts → Parts
 with_part p r = r >>= λ ps. Ok (p ∷ ps)
 
 abbrev with_parts : List Part → Parts → Parts
@@ -41,7 +41,7 @@ one_more p front (Ok ps) = refl
 one_more p front (Err e) = refl
 
 -- an expression, what stands behind it and the other pieces, in either order
-regroup : (x : Result Part TemplateFault) (o g : Parts)
+pub regroup : (x : Result Part TemplateFault) (o g : Parts)
     → ((x >>= λ e. o >>= λ es. Ok (e ∷ es)) >>= λ a. g >>= λ es. Ok (a ++ es)) ≡ (x >>= λ e. with_part e (o >>= λ a. g >>= λ es. Ok (a ++ es)))
 regroup (Err f) o g = refl
 regroup (Ok e) (Err f) g = refl

@@ -1,11 +1,11 @@
 -- A text cut at each `{`, and a piece cut at its first `}`.
 use Rattle.std.proofs.Common.{◌≡◌, ℕ, ◌+◌, ◌<◌, ◌≤◌, List, [], ◌∷◌, ◌++◌, Bool, true, false, cond, not, Result, Ok, Err, length, take, drop, get_or, min, suc, refl, ap, sym, subst, ◌∙◌, append_assoc, append-nil, arith, ◌==◌, ◌||◌, flat_map, All, length-append, ⊎_elim, inl, inr}
 use Rattle.std.specs.List.{slice_split, onto_first, list_any, position_or_len, before_first, after_first}
-use Rattle.std.proofs.lemmas.Bool.{cond_both, cond-true, cond-false, cases_Bool, cases_lt, false≢true}
+use Rattle.std.proofs.lemmas.Bool.{cond_both, cond-true, cond-false, cases_Bool, cases_lt, false≢true, false_from_ne_true}
 use Rattle.std.proofs.lemmas.Bool.Decides.{nat_tests}
 use Rattle.std.proofs.lemmas.List.{take_at, drop_at, get_or-take, length-take}
-use Rattle.std.proofs.lemmas.List.Elements.{All-head, All-tail, All-nil, All-cons, All-append, All-take, All-same, All-weaker}
-use Rattle.std.proofs.lemmas.List.Folds.{list_any_none, list_any-append}
+use Rattle.std.proofs.lemmas.List.Elements.{All-head, All-tail, All-nil, All-cons, All-append, All-take, All-drop, All-same, All-weaker}
+use Rattle.std.proofs.lemmas.List.Folds.{list_any_none, list_any-append, list_any_at}
 use Rattle.std.proofs.lemmas.List.Sums.{fails_before_first, passes_at_first, split_at_first}
 use Rattle.std.proofs.lemmas.List.Splits.{slice_split-cons_no}
 use Rattle.csvw_template.specs.declared.fault.TemplateFault.TheVariants.{BadTemplate}
@@ -144,3 +144,9 @@ closed text e =
 
 pub no_open_left : (a b : List ℕ) → HasNoOpen (a ++ b) → HasNoOpen a
 no_open_left a b h = subst HasNoOpen (take_at a b (length a) refl) (All-take (λ b. is_open b ≡ false) (length a) (a ++ b) h)
+
+pub no_open_right : (a b : List ℕ) → HasNoOpen (a ++ b) → HasNoOpen b
+no_open_right a b h = subst HasNoOpen (drop_at a b (length a) refl) (All-drop (λ b. is_open b ≡ false) (length a) (a ++ b) h)
+
+pub lacks_close : (text : List ℕ) → list_any is_close text ≡ false → HasNoClose text
+lacks_close text e = λ k d l. false_from_ne_true _ (λ h. false≢true (sym e ∙ list_any_at is_close text k d l h))
