@@ -21,11 +21,11 @@ HasNoOpen text = All (λ b. is_open b ≡ false) text
 abbrev pub HasNoClose : List ℕ → Type 0
 HasNoClose text = All (λ b. is_close b ≡ false) text
 
-or_left : (x y : Bool) → (x || y) ≡ false → x ≡ false
+pub or_left : (x y : Bool) → (x || y) ≡ false → x ≡ false
 or_left true y e = e
 or_left false y e = refl
 
-or_right : (x y : Bool) → (x || y) ≡ false → y ≡ false
+pub or_right : (x y : Bool) → (x || y) ≡ false → y ≡ false
 or_right true y e = absurd (false≢true (sym e))
 or_right false y e = e
 

@@ -15,7 +15,7 @@ use Rattle.csvw_template.specs.Name.{listed}
 use Rattle.csvw_template.specs.Grammar.{is_open, is_close, HasNoBrace, mark, spelling, spelling_of, IsLiteral, AreParts, IsTemplate, IsEndOrOpen, BeginsBad, closes_none, not_closed, no_expression, BeginsHigher, higher, IsFirst, IsWithin, IsPast, IsTheReading}
 use Rattle.csvw_template.specs.Reading.{Parts, expression, literal, outside, opened, all_opened, of_pieces, is_past, template}
 use Rattle.csvw_template.proofs.ExpressionLemmas.{IsOf, Answers, answers, bad_is_no_expression, bad_is_not_higher}
-use Rattle.csvw_template.proofs.PiecesLemmas.{HasNoOpen, HasNoClose, no_brace, no_open_left, no_open_right, after_open, IsCut, cut, opened_of, IsClosed, closed, lacks_close}
+use Rattle.csvw_template.proofs.PiecesLemmas.{HasNoOpen, HasNoClose, no_brace, no_open_left, no_open_right, after_open, IsCut, cut, opened_of, IsClosed, closed, lacks_close, or_left, or_right}
 use Rattle.csvw_template.proofs.GrammarLemmas.{whole, regroup, with_part, template_read, bad_told, higher_told}
 
 -- what an answer says of a text
@@ -190,3 +190,51 @@ of_cut text (p ∷ ps) c =
 
 found : (text : List ℕ) → Found text (whole text)
 found text = of_cut text (slice_split is_open text) (cut text)
+
+-- The limits.
+past_from : (text : List ℕ) → is_past text ≡ true → IsPast text
+past_from text e =
+    ⊎_elim (λ (a : nat_lt 4096 (length text) ≡ true). let l : 4096 < length text = grind (arith, nat_tests) in inl l)
+    (λ (a : nat_lt 32 (count_by is_open text) ≡ true). let l : 32 < count_by is_open text = grind (arith, nat_tests) in inr l)
+    (or_cases _ _ e)
+
+within_from : (text : List ℕ) → is_past text ≡ false → IsWithin text
+within_from text e =
+    let a = or_left (nat_lt 4096 (length text)) (nat_lt 32 (count_by is_open text)) e in
+    let b = or_right (nat_lt 4096 (length text)) (nat_lt 32 (count_by is_open text)) e in
+    let short : length text ≤ 4096 = grind (arith, nat_tests) in
+    let few : count_by is_open text ≤ 32 = grind (arith, nat_tests) in
+    (short, few)
+
+never_both : (text : List ℕ) → IsWithin text → IsPast text → ⊥
+never_both text w p =
+    ⊎_elim (λ (l : 4096 < length text). let c : ⊥ = omega (arith, w.0, l) in c) (λ (l : 32 < count_by is_open text). let c : ⊥ = omega (arith, w.1, l) in c) p
+
+abbrev IsTooLong : Parts → Type 0
+IsTooLong (Ok parts) = ⊥
+IsTooLong (Err Memory) = ⊥
+IsTooLong (Err TooLong) = Unit {0}
+IsTooLong (Err BadTemplate) = ⊥
+IsTooLong (Err TemplateLevel) = ⊥
+
+past_reading : (text : List ℕ) → IsPast text → IsTheReading text (Err TooLong)
+past_reading text past = record {
+  too_long = (λ _. past, λ _. refl);
+  is_template = λ parts. (λ e. absurd (subst IsTooLong e tt), λ h. absurd (never_both text h.0 past));
+  bad = (λ e. absurd (subst IsTooLong e tt), λ h. absurd (never_both text h.0 past));
+  higher = (λ e. absurd (subst IsTooLong e tt), λ h. absurd (never_both text h.0 past));
+}
+
+within_reading : (text : List ℕ) → IsWithin text → IsTheReading text (whole text)
+within_reading text within = record {
+  too_long = (λ e. absurd (subst (Found text) e (found text)), λ p. absurd (never_both text within p));
+  is_template = λ parts. (λ e. (within, subst (Found text) e (found text)), λ h. template_read text parts h.1);
+  bad = (λ e. (within, subst (Found text) e (found text)), λ h. bad_told text h.1);
+  higher = (λ e. (within, subst (Found text) e (found text)), λ h. higher_told text h.1);
+}
+
+-- the reading is the grammar's
+pub reading : (text : List ℕ) → IsTheReading text (template text)
+unfolding template
+reading text =
+    cond_both (is_past text) (Err TooLong) (whole text) (IsTheReading text) (λ e. past_reading text (past_from text e)) (λ e. within_reading text (within_from text e))

@@ -2,6 +2,7 @@
 ghost use Rattle.std.specs.Prelude.{◌≡◌, IfOk, string_bytes};
 ghost use Rattle.csvw_template.specs.Fault.{Gives};
 ghost use Rattle.csvw_template.specs.Expand.{expand};
+ghost use Rattle.csvw_template.specs.Grammar.{IsTheReading};
 ghost use Rattle.csvw_template.specs.Reading.{template, is_past};
 
 use crate::expand::expand_parts;
@@ -40,9 +41,12 @@ impl Template {
     /// before the next `{` or the end, for a `}` that closes none and for what is no expression between
     /// braces, `TemplateLevel` for an expression that begins with one of `./;?&=,!@|` or has `:` or `*` after
     /// a name. `Memory` where there is none.
-    #[tactic(auto, unfolding(crate::specs::Reading::template))]
+    #[tactic(auto, using(crate::proofs::ReadingLemmas::reading), unfolding(crate::specs::Reading::template))]
     pub fn read(alloc: Global, text: &str) -> Result<Template, TemplateFault>
-        ensures { Gives (λ t. t) result (template text.now) }
+        ensures value { Gives (λ t. t) result (template text.now) }
+
+        // and that is the parts that spell the text, or the first fault, by the grammar
+        ensures grammar { IsTheReading text.now (template text.now) }
     {
         if is_past(text) {
             return Err(TemplateFault::TooLong);
