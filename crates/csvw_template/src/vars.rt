@@ -106,7 +106,7 @@ impl Vars {
     {
         Ok(Vars {
             pairs: copies(self.alloc, &self.pairs)?,
-            undefined: Var::Undefined,
+            undefined: self.undefined.clone(self.alloc)?,
             alloc: self.alloc,
         })
     }
