@@ -1,0 +1,2 @@
+//! Datatypes of columns, and values.
+#![tactic(auto)]

@@ -1,0 +1,11 @@
+pub mod ScanLemmas
+pub mod Accepts
+pub mod KindLemmas
+pub mod Spelled
+pub mod Counts
+pub mod Answer
+pub mod ReadLemmas
+pub mod LexicalLemmas
+pub mod LexicalNumber
+pub mod DateLemmas
+pub mod OneValue

@@ -1,0 +1,10 @@
+//! How texts write numbers, dates and moments, and the lexical forms of these.
+#![tactic(auto)]
+
+mod date;
+mod lexical_number;
+mod number;
+
+pub use date::{DateFormat, FieldDigits, Separator, read_date};
+pub use lexical_number::number_text;
+pub use number::{NumberFault, NumberRules, one_number, read_number};
