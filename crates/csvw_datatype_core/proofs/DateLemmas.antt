@@ -144,10 +144,10 @@ end_sound [] u h = refl
 end_sound (b ∷ bs) u h = cc
 
 -- four digits
-value_four : (h l : List ℕ) → Digits 2 l → digits_value 10 h * 100 + digits_value 10 l ≡ digits_value 10 (h ++ l)
+pub value_four : (h l : List ℕ) → Digits 2 l → digits_value 10 h * 100 + digits_value 10 l ≡ digits_value 10 (h ++ l)
 value_four h l d = sym (value-append 0 h l ∙ value-after (digits_value 10 h) l ∙ ap (λ n. digits_value 10 h * 10 ^ n + digits_value 10 l) d.1)
 
-all_append : (xs ys : List ℕ) → AllByRecursion IsAsciiDigit xs → AllByRecursion IsAsciiDigit ys → AllByRecursion IsAsciiDigit (xs ++ ys)
+pub all_append : (xs ys : List ℕ) → AllByRecursion IsAsciiDigit xs → AllByRecursion IsAsciiDigit ys → AllByRecursion IsAsciiDigit (xs ++ ys)
 all_append [] ys h k = k
 all_append (x ∷ xs) ys h k = (h.0, all_append xs ys h.1 k)
 
@@ -342,7 +342,7 @@ fields_again Compact y m d hy hm hd = compact_again y m d hy (padded_field Compa
 fields_again (DayFirst digits by) y m d hy hm hd = day_first_again digits by y m d hy (field_short (DayFirst digits by) (is_padded digits) m (λ e. e) hm) (field_short (DayFirst digits by) (is_padded digits) d (λ e. e) hd)
 fields_again (MonthFirst digits by) y m d hy hm hd = month_first_again digits by y m d hy (field_short (MonthFirst digits by) (is_padded digits) m (λ e. e) hm) (field_short (MonthFirst digits by) (is_padded digits) d (λ e. e) hd)
 
-digits_small : (n : ℕ) (ds : List ℕ) → Digits n ds → digits_value 10 ds < 10 ^ n
+pub digits_small : (n : ℕ) (ds : List ℕ) → Digits n ds → digits_value 10 ds < 10 ^ n
 digits_small n ds h = let P : ℕ → Type 0 = λ n. digits_value 10 ds < 10 ^ n in subst P h.1 (value-below ds h.0)
 
 field_small : (f : DateFormat) (ds : List ℕ) → IsField f ds → digits_value 10 ds < 100

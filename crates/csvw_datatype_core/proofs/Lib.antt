@@ -9,3 +9,6 @@ pub mod LexicalLemmas
 pub mod LexicalNumber
 pub mod DateLemmas
 pub mod OneValue
+pub mod TimeLemmas
+pub mod LexicalDateLemmas
+pub mod LawfulLemmas

@@ -3,15 +3,15 @@ use Rattle.std.proofs.Common.{◌≡◌, ℕ, ◌+◌, ◌-◌, ◌*◌, ◌<◌
 use Rattle.std.specs.List.{AllByRecursion}
 use Rattle.std.specs.Char.{IsAsciiDigit}
 use Rattle.std.specs.Str.Parse.{digits_value}
-use Rattle.std.proofs.lemmas.List.{take-append, drop-append}
+use Rattle.std.proofs.Math.Seq.{take-append_seam, drop-append_seam}
 use Rattle.csvw_datatype_core.specs.declared.date.DateFormat.TheVariants.{YearFirst}
 use Rattle.csvw_datatype_core.specs.declared.moment.MomentFormat.{MomentFormat}
 use Rattle.csvw_datatype_core.specs.declared.moment.MomentFormat.TheVariants.{Seconds, Minutes}
 use Rattle.csvw_datatype_core.specs.Dates.{ReadsDate, IsField}
 use Rattle.csvw_datatype_core.specs.Moments.{IsPair, IsSeconds, ReadsTime, ReadsMoment}
 use Rattle.csvw_datatype_core.specs.Fields.{after_separator, two_at, at_end, ◌>>=◌}
-use Rattle.csvw_datatype_core.specs.TimeFields.{second_field, time_fields}
-use Rattle.csvw_datatype_core.proofs.DateLemmas.{Front, Digits, two_sound, two_again, bind_some, separator_sound, separator_again, end_sound}
+use Rattle.csvw_datatype_core.specs.TimeFields.{IsTimeOfDay, second_field, time_fields}
+use Rattle.csvw_datatype_core.proofs.DateLemmas.{Front, Digits, two_sound, two_again, bind_some, separator_sound, end_sound}
 
 -- the seconds that a text ends with
 record EndsWith (f : MomentFormat) (bs : List ℕ) (x : ℕ) : Type 0 where
@@ -71,23 +71,20 @@ time_sound f bs h m s is hour minute second =
 
 second_again : (f : MomentFormat) (tail s : List ℕ) → IsSeconds f tail s → second_field f tail ≡ Some (digits_value 10 s)
 second_again Seconds tail s h =
-    let a = separator_again 58 s in
     let b : two_at s ≡ Some (digits_value 10 s, []) = ap two_at (sym (append-nil s)) ∙ two_again s [] (h.1.0, h.1.1) in
-    rw (h.0, a, b) refl
+    rw (h.0, b) refl
 second_again Minutes tail s h = rw (h.0, h.1) refl
 
 -- what is read has fields in range
 pub time_again : (f : MomentFormat) (bs : List ℕ) (second : ℕ) → (r : ReadsTime f bs second) → time_fields f bs ≡ Some (digits_value 10 r.h, digits_value 10 r.m, digits_value 10 r.s)
 unfolding time_fields
 time_again f bs second r =
-    let a = separator_again 84 (r.h ++ (58 ∷ (r.m ++ r.tail))) in
     let b = two_again r.h (58 ∷ (r.m ++ r.tail)) (r.is_hour.0, r.is_hour.1) in
-    let c = separator_again 58 (r.m ++ r.tail) in
     let d = two_again r.m r.tail (r.is_minute.0, r.is_minute.1) in
     let e = second_again f r.tail r.s r.is_second in
-    rw (r.spelled, a, b, c, d, e) refl
+    rw (r.spelled, b, d, e) refl
 
-seconds_below : (f : MomentFormat) (tail s : List ℕ) → IsSeconds f tail s → digits_value 10 s < 60
+pub seconds_below : (f : MomentFormat) (tail s : List ℕ) → IsSeconds f tail s → digits_value 10 s < 60
 seconds_below Seconds tail s h = h.1.2
 seconds_below Minutes tail s h = rw h.1 (omega arith)
 
@@ -102,8 +99,10 @@ no_time f bs h m s is never second r =
     let sv : s ≡ digits_value 10 r.s = ap (λ (x : ℕ × ℕ × ℕ). x.2) same in
     never (omega (arith, hv, r.is_hour.2)) (omega (arith, mv, r.is_minute.2)) (omega (arith, sv, seconds_below f r.tail r.s r.is_second))
 
-pub time_small : (f : MomentFormat) (bs : List ℕ) (h m s : ℕ) → time_fields f bs ≡ Some (h, m, s) → h < 24 → m < 60 → s < 60 → h * 3600 + m * 60 + s < 86_400
-time_small f bs h m s is a b c = omega arith
+-- the answer for fields, as one for the text
+pub time_answer : (f : MomentFormat) (bs : List ℕ) (h m s : ℕ) (o : Option ℕ) → time_fields f bs ≡ Some (h, m, s) → MatchOption o (IsTimeOfDay h m s → ⊥) (λ n. IsTimeOfDay h m s × (n ≡ h * 3600 + m * 60 + s)) → MatchOption o ((second : ℕ) → ReadsTime f bs second → ⊥) (ReadsTime f bs)
+time_answer f bs h m s None is a = no_time f bs h m s is (λ x y z. a (x, y, z))
+time_answer f bs h m s (Some n) is a = let P : ℕ → Type 0 = λ n. ReadsTime f bs n in subst P (sym a.1) (time_sound f bs h m s is a.0.0 a.0.1 a.0.2)
 
 -- the date of a moment is its first ten bytes
 date_length : (text : List ℕ) (day : ℤ) → ReadsDate YearFirst text day → length text ≡ 10
@@ -124,10 +123,10 @@ record Parts (f : MomentFormat) (text : List ℕ) (moment : ℤ) : Type 0 where
   pub value : moment ≡ (day *ℤ pos 86_400) +ℤ pos second
 
 take_front : (xs ys : List ℕ) (n : ℕ) → length xs ≡ n → take n (xs ++ ys) ≡ xs
-take_front xs ys n e = rw (← e) (simp take-append)
+take_front xs ys n e = ap (λ k. take k (xs ++ ys)) (sym e) ∙ take-append_seam xs ys
 
 drop_front : (xs ys : List ℕ) (n : ℕ) → length xs ≡ n → drop n (xs ++ ys) ≡ ys
-drop_front xs ys n e = rw (← e) (simp drop-append)
+drop_front xs ys n e = ap (λ k. drop k (xs ++ ys)) (sym e) ∙ drop-append_seam xs ys
 
 parts_of : (f : MomentFormat) (text : List ℕ) (moment : ℤ) → ReadsMoment f text moment → Parts f text moment
 parts_of f text moment r =

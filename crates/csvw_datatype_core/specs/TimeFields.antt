@@ -1,5 +1,5 @@
 -- The fields of a time of day, from the front of a text on.
-use Rattle.std.specs.Prelude.{ℕ, Option, Some, None, List}
+use Rattle.std.specs.Prelude.{ℕ, ◌<◌, Option, Some, None, List}
 use Rattle.csvw_datatype_core.specs.declared.moment.MomentFormat.{MomentFormat}
 use Rattle.csvw_datatype_core.specs.declared.moment.MomentFormat.TheVariants.{Seconds, Minutes}
 use Rattle.csvw_datatype_core.specs.Fields.{◌>>=◌, after_separator, two_at, at_end}
@@ -23,3 +23,7 @@ time_fields format bs = do
   m ← two_at rest
   s ← second_field format m.1
   Some (h.0, m.0, s)
+
+-- hours, minutes and seconds of a day
+abbrev pub IsTimeOfDay : ℕ → ℕ → ℕ → Type 0
+IsTimeOfDay h m s = (h < 24) × (m < 60) × (s < 60)

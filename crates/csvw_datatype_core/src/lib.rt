@@ -2,9 +2,13 @@
 #![tactic(auto)]
 
 mod date;
+mod lexical_date;
 mod lexical_number;
+mod moment;
 mod number;
 
 pub use date::{DateFormat, FieldDigits, Separator, read_date};
+pub use lexical_date::{date_text, moment_text};
 pub use lexical_number::number_text;
+pub use moment::{MomentFormat, read_moment};
 pub use number::{NumberFault, NumberRules, one_number, read_number};

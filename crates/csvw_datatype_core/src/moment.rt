@@ -1,7 +1,7 @@
 //! How a text writes a date and a time of day.
-ghost use Rattle.std.specs.Prelude.{◌≡◌, ◌≤◌, ◌<◌, IfSome, MatchOption, ℕ, ℤ, ◌-◌};
+ghost use Rattle.std.specs.Prelude.{◌≡◌, ◌≤◌, ◌<◌, ◌+◌, ◌*◌, MatchOption, ℕ, ℤ, pos, ◌+ℤ◌, ◌*ℤ◌, ◌-◌};
 ghost use Rattle.csvw_datatype_core.specs.Moments.{ReadsMoment, ReadsTime};
-ghost use Rattle.csvw_datatype_core.specs.TimeFields.{time_fields, second_field};
+ghost use Rattle.csvw_datatype_core.specs.TimeFields.{IsTimeOfDay, time_fields, second_field};
 
 use crate::date::{DateFormat, ended, past, read_day, two};
 
@@ -29,14 +29,25 @@ pub fn read_moment(format: MomentFormat, text: &str) -> Option<i64>
     let (date, time) = bytes.split_at(DATE_LEN);
     let day = read_day(DateFormat::YearFirst, date)?;
     let second = read_time(format, time)?;
-    Some(day as i64 * 86_400 + second as i64)
+    Some(moment_of(day, second))
+}
+
+fn moment_of(day: i32, second: u32) -> i64
+    ensures { result ≡ (day *ℤ pos 86_400) +ℤ pos second }
+{
+    day as i64 * 86_400 + second as i64
 }
 
 fn read_time(format: MomentFormat, bytes: &[u8]) -> Option<u32>
-    ensures value { MatchOption result ((second : ℕ) → ReadsTime format bytes.now second → ⊥) (ReadsTime format bytes.now) }
-    ensures bound { IfSome result (λ second. second < 86_400) }
+    ensures { MatchOption result ((second : ℕ) → ReadsTime format bytes.now second → ⊥) (ReadsTime format bytes.now) }
 {
     let (hour, minute, second) = fields(format, bytes)?;
+    second_of_day(hour, minute, second)
+}
+
+fn second_of_day(hour: u8, minute: u8, second: u8) -> Option<u32>
+    ensures { MatchOption result (¬ IsTimeOfDay hour minute second) (λ n. IsTimeOfDay hour minute second × (n ≡ hour * 3600 + minute * 60 + second)) }
+{
     if hour < 24 && minute < 60 && second < 60 {
         Some(hour as u32 * 3600 + minute as u32 * 60 + second as u32)
     } else {

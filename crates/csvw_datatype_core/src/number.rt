@@ -48,6 +48,31 @@ pub enum Mark {
 }
 
 ghost use Rattle.csvw_datatype_core.specs.Scan.{holds};
+ghost use Rattle.csvw_datatype_core.specs.Lawful.{is_free, is_free_option, differ};
+
+fn is_free(c: char) -> bool
+    ensures { result ≡ is_free c }
+{
+    !(c.is_ascii_digit() || matches!(c, '+' | '-' | '%' | '‰' | '\t' | '\n' | '\r'))
+}
+
+fn is_free_option(option: Option<char>) -> bool
+    ensures { result ≡ is_free_option option }
+{
+    match option {
+        None => true,
+        Some(c) => is_free(c),
+    }
+}
+
+fn differ(a: Option<char>, b: Option<char>) -> bool
+    ensures { result ≡ differ a b }
+{
+    match (a, b) {
+        (Some(x), Some(y)) => x != y,
+        (Some(_), None) | (None, Some(_)) | (None, None) => true,
+    }
+}
 
 fn holds(option: Option<char>, c: char) -> bool
     ensures { result ≡ holds option c }
@@ -59,7 +84,19 @@ fn holds(option: Option<char>, c: char) -> bool
 }
 
 impl NumberRules {
+    ghost use Rattle.std.specs.Prelude.{◌↔◌, IsTrue};
+    ghost use Rattle.csvw_datatype_core.specs.Numbers.{IsLawful};
     ghost use Rattle.csvw_datatype_core.specs.Scan.{kind_of, IsBelowTen};
+
+    /// Whether the two characters differ from each other and from all others of a number, and are none of
+    /// carriage return, line feed and tab.
+    pub fn is_lawful(&self) -> bool
+        ensures { IsTrue result ↔ IsLawful self.now }
+    {
+        is_free_option(self.decimal_char)
+            && is_free_option(self.group_char)
+            && differ(self.decimal_char, self.group_char)
+    }
 
     #[tactic(auto, unfolding(crate::specs::Scan::kind_of))]
     fn kind(&self, c: char) -> Kind
@@ -263,34 +300,4 @@ pub fn one_number()
 }
 
 #[cfg(test)]
-mod tests {
-    use super::*;
-
-    fn row(point: char, group: Option<char>, marks: bool, text: &str) -> Option<i128> {
-        read(&NumberRules { point: Some(point), group, marks }, text)
-    }
-
-    fn read(rules: &NumberRules, text: &str) -> Option<i128> {
-        let scan = scan_text(rules, text);
-        if !scan.place.ends() {
-            return None;
-        }
-        scan.count().map(|n| if scan.minus { -(n as i128) } else { n as i128 })
-    }
-
-    #[test]
-    fn rows(rt: HostRuntime) {
-        assert!(rt; row('.', Some(','), true, "1,234") == Some(1_234_000_000_000_000_000_000));
-        assert!(rt; row('.', Some(','), true, "1,,2") == None);
-        assert!(rt; row('.', None, false, ".5") == Some(500_000_000_000_000_000));
-        assert!(rt; row('.', None, false, "5.") == Some(5_000_000_000_000_000_000));
-        assert!(rt; row('.', None, false, ".") == None);
-        assert!(rt; row('.', None, false, "5%") == None);
-        assert!(rt; row('.', None, true, "5‰") == Some(5_000_000_000_000_000));
-        assert!(rt; row('.', None, true, "100000000000000000000%") == Some(1_000_000_000_000_000_000_000_000_000_000_000_000));
-        assert!(rt; row('.', None, true, "0.000000000000000001") == Some(1));
-        assert!(rt; row('.', None, true, "0.000000000000000001%") == None);
-        assert!(rt; row('.', None, false, "1.0000000000000000000") == Some(1_000_000_000_000_000_000));
-        assert!(rt; row('.', None, false, "-0") == Some(0));
-    }
-}
+mod tests;
