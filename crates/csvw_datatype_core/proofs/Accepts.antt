@@ -61,7 +61,6 @@ record FractionRest (rules : NumberRules) (cs : List ℕ) : Type 0 where
   pub marked : IsMarked rules mark
   pub spelled : cs ≡ digits ++ mark_text mark
 
-
 fraction_kind : (rules : NumberRules) (c : ℕ) (cs : List ℕ) (k : Kind) → KindFact rules c k → (ends (goes rules places.Fraction cs) ≡ true → FractionRest rules cs) → ends (goes rules (next places.Fraction k) cs) ≡ true → FractionRest rules (c ∷ cs)
 fraction_kind rules c cs (kinds.Digit d) f rest h =
     let r = rest h in

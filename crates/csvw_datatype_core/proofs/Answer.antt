@@ -120,11 +120,12 @@ is_found p s d u n t w r =
     let whole : s.whole ≡ whole_value 0 p.whole = omega (arith, n.whole, n.small) in
     let held = held_fraction p s d u n t in
     let quot = quotient s.fraction d r in
-    let small : s.fraction < 10 ^ 18 = small_part s.fraction (10 ^ length (fraction_digits p)) _ (10 ^ 18) held (value-below (fraction_digits p) n.digits) (pow_is_pos 18) in
-    (bound s.whole u (s.fraction / d) d (10 ^ 20) (10 ^ 18) w (below_unit (s.fraction / d) u d (10 ^ 18) (rw quot small) n.units) n.units,
-     found s.whole u (s.fraction / d) d (10 ^ length (fraction_digits p)) (digits_value 10 (fraction_digits p)) s.fraction (10 ^ 18) n.units quot held
-     ∙ ap (λ w. (w * 10 ^ length (fraction_digits p) + digits_value 10 (fraction_digits p)) * 10 ^ 18) whole
-     ∙ sym (ap (λ x. x * 10 ^ 18) (digits_split p)))
+    let small : s.fraction < 10 ^ 18 = small_part s.fraction (10 ^ length (fraction_digits p)) _ (10 ^ 18) held (value-below (fraction_digits p) n.digits) (pow_is_pos 18) in (
+      bound s.whole u (s.fraction / d) d (10 ^ 20) (10 ^ 18) w (below_unit (s.fraction / d) u d (10 ^ 18) (rw quot small) n.units) n.units,
+      found s.whole u (s.fraction / d) d (10 ^ length (fraction_digits p)) (digits_value 10 (fraction_digits p)) s.fraction (10 ^ 18) n.units quot held
+          ∙ ap (λ w. (w * 10 ^ length (fraction_digits p) + digits_value 10 (fraction_digits p)) * 10 ^ 18) whole
+          ∙ sym (ap (λ x. x * 10 ^ 18) (digits_split p)),
+    )
 
 too_many_places : (p : Parts) (s : Scan) (d u : ℕ) → Numbers p s d u → s.too_long ≡ true → IsAnswerBy p d None
 too_many_places p s d u n t m _ e =
@@ -147,17 +148,17 @@ answer_by p s d u n =
     let P : Option ℕ → Type 0 = λ o. IsAnswerBy p d o in
     cond_both _ _ _ P
     (λ yes. ⊎_elim (λ (t : s.too_long ≡ true). too_many_places p s d u n t)
-      (λ (f : s.too_long ≡ false).
-        ⊎_elim (λ (a : nat_le (10 ^ 20 * d) s.whole ≡ true). is_too_large p s d u n (grind (arith, nat_tests)))
-        (λ (b : not (s.fraction % d == 0) ≡ true). is_no_multiple p s d u n f (grind (arith, nat_tests)))
-        (or_cases (nat_le (10 ^ 20 * d) s.whole) (not (s.fraction % d == 0)) (sym (ap (λ t. t || (nat_le (10 ^ 20 * d) s.whole || not (s.fraction % d == 0))) f) ∙ yes)))
-      (cases_Bool s.too_long))
+    (λ (f : s.too_long ≡ false).
+    ⊎_elim (λ (a : nat_le (10 ^ 20 * d) s.whole ≡ true). is_too_large p s d u n (grind (arith, nat_tests)))
+    (λ (b : not (s.fraction % d == 0) ≡ true). is_no_multiple p s d u n f (grind (arith, nat_tests)))
+    (or_cases (nat_le (10 ^ 20 * d) s.whole) (not (s.fraction % d == 0)) (sym (ap (λ t. t || (nat_le (10 ^ 20 * d) s.whole || not (s.fraction % d == 0))) f) ∙ yes)))
+    (cases_Bool s.too_long))
     (λ no.
-      let a = or_none s.too_long (nat_le (10 ^ 20 * d) s.whole || not (s.fraction % d == 0)) no in
-      let b = or_none (nat_le (10 ^ 20 * d) s.whole) (not (s.fraction % d == 0)) a.1 in
-      let w = b.0 in
-      let r = b.1 in
-      is_found p s d u n a.0 (grind (arith, nat_tests)) (grind (arith, nat_tests)))
+    let a = or_none s.too_long (nat_le (10 ^ 20 * d) s.whole || not (s.fraction % d == 0)) no in
+    let b = or_none (nat_le (10 ^ 20 * d) s.whole) (not (s.fraction % d == 0)) a.1 in
+    let w = b.0 in
+    let r = b.1 in
+    is_found p s d u n a.0 (grind (arith, nat_tests)) (grind (arith, nat_tests)))
 
 -- by the mark
 answer_mark : (p : Parts) (s : Scan) (m : Mark) → p.mark ≡ m → ((d u : ℕ) → 0 < d → 10 ^ 20 * d ≤ 10 ^ 23 → u * d ≡ 10 ^ 18 → Numbers p s d u) → IsAnswerBy p (divisor m) (count_by s (divisor m) (10 ^ 18 / divisor m))

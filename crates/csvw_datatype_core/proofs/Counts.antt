@@ -45,7 +45,6 @@ value-after n (d ∷ ds) =
     let p : 10 ^ suc (length ds) ≡ 10 * 10 ^ length ds = pow-suc 10 (length ds) ∙ omega arith in
     regroup n v (10 ^ length ds) (10 ^ suc (length ds)) (digits_value 10 ds) _ _ _ a b p refl
 
-
 -- the value of a digit and more
 pub value-cons : (c : ℕ) (cs : List ℕ) → IsAsciiDigit c → digits_value 10 (c ∷ cs) ≡ (c - 48) * 10 ^ length cs + digits_value 10 cs
 value-cons c cs h =
@@ -74,10 +73,11 @@ past : (s : Scan) (ds : List ℕ) → s.weight ≡ 0 → AllByRecursion IsAsciiD
 past s [] w h = (refl, λ t. (t, refl), λ _. refl)
 past s (c ∷ cs) w h =
     let d = c - 48 in
-    let rest = past (push_fraction s d) cs (rw w refl) h.1 in
-    (rest.0 ∙ past_fraction s d w,
-     λ t. let b = rest.1 t in let o = or_false s.too_long _ b.0 in (o.0, value-cons c cs h.0 ∙ past_value s.weight d _ _ w o.1 b.1),
-     λ v. let zeros = zero_digits d _ _ (sym (value-cons c cs h.0) ∙ v) (pow_is_pos (length cs)) in rest.2 zeros.1 ∙ past_flag s.too_long s.weight d zeros.0)
+    let rest = past (push_fraction s d) cs (rw w refl) h.1 in (
+      rest.0 ∙ past_fraction s d w,
+      λ t. let b = rest.1 t in let o = or_false s.too_long _ b.0 in (o.0, value-cons c cs h.0 ∙ past_value s.weight d _ _ w o.1 b.1),
+      λ v. let zeros = zero_digits d _ _ (sym (value-cons c cs h.0) ∙ v) (pow_is_pos (length cs)) in rest.2 zeros.1 ∙ past_flag s.too_long s.weight d zeros.0,
+    )
 
 count_step : (o f v w p x : ℕ) → o * p ≡ (f + v * w) * p + x * w → o * (p * 10) ≡ f * (p * 10) + (v * p + x) * (w * 10)
 count_step o f v w p x h = omega arith
@@ -122,4 +122,4 @@ no_count (suc e) s (c ∷ cs) f w h t x y q =
     let weight : s.weight ≡ 10 ^ e = w ∙ tenth e in
     let q' = rw (value-cons c cs h.0, pow-suc 10 (length cs), pow-suc 10 e) at q in
     no_count e (push_fraction s d) cs (or_true_weight s.too_long s.weight d (10 ^ e) f weight (pow_is_pos e)) (ap (λ x. x / 10) weight) h.1 t x (y + d * 10 ^ e)
-      (none_step x y d (10 ^ e) (10 ^ length cs) (digits_value 10 cs) q')
+    (none_step x y d (10 ^ e) (10 ^ length cs) (digits_value 10 cs) q')

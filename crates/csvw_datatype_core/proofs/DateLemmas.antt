@@ -91,8 +91,8 @@ short_sound padded (a ∷ []) v rest h = elim (chosen (not padded && is_ascii_di
 short_sound padded (a ∷ b ∷ bs) v rest h =
     let less = cond (not padded && is_ascii_digit a) (answer (a - 48) (b ∷ bs)) None in
     elim (chosen (is_ascii_digit a && is_ascii_digit b) (answer ((a - 48) * 10 + (b - 48)) bs) less (answer v rest) h) [
-      inl t ↦ let f = two_front a b bs v rest t.0 t.1 in record { digits = f.digits; right = inl f.right; front = f.front; value = f.value }
-    | inr f ↦ elim (chosen (not padded && is_ascii_digit a) (answer (a - 48) (b ∷ bs)) None (answer v rest) f.1) [ inl t ↦ one_front padded a (b ∷ bs) v rest t.0 t.1 | inr g ↦ cc ]
+      | inl t ↦ let f = two_front a b bs v rest t.0 t.1 in record { digits = f.digits; right = inl f.right; front = f.front; value = f.value }
+      | inr f ↦ elim (chosen (not padded && is_ascii_digit a) (answer (a - 48) (b ∷ bs)) None (answer v rest) f.1) [ inl t ↦ one_front padded a (b ∷ bs) v rest t.0 t.1 | inr g ↦ cc ]
     ]
 
 pub two_again : (ds rest : List ℕ) → Digits 2 ds → two_at (ds ++ rest) ≡ Some (digits_value 10 ds, rest)
@@ -112,9 +112,9 @@ short_again padded [] rest by h = ⊎_elim (λ (h : Digits 2 []). absurd (omega 
 short_again padded (a ∷ []) rest by h =
     ⊎_elim (λ (h : Digits 2 (a ∷ [])). absurd (omega (arith, h.1)))
     (λ (h : (padded ≡ false) × Digits 1 (a ∷ [])).
-      cond-false _ _ _ (ap (λ x. is_ascii_digit a && x) (no_digit by) ∙ and_false _)
-      ∙ cond-true _ _ _ (ap (λ p. not p && is_ascii_digit a) h.0 ∙ digit_test a h.1.0.0)
-      ∙ ap (λ v. answer v (separator_byte by ∷ rest)) (value_one a h.1.0.0)) h
+    cond-false _ _ _ (ap (λ x. is_ascii_digit a && x) (no_digit by) ∙ and_false _)
+    ∙ cond-true _ _ _ (ap (λ p. not p && is_ascii_digit a) h.0 ∙ digit_test a h.1.0.0)
+    ∙ ap (λ v. answer v (separator_byte by ∷ rest)) (value_one a h.1.0.0)) h
 short_again padded (a ∷ b ∷ []) rest by h =
     ⊎_elim (λ (h : Digits 2 (a ∷ b ∷ [])). cond-true _ _ _ (tests a b h.0.0 h.0.1.0) ∙ ap (λ v. answer v (separator_byte by ∷ rest)) (value_two a b h.0.0 h.0.1.0))
     (λ (h : (padded ≡ false) × Digits 1 (a ∷ b ∷ [])). absurd (omega (arith, h.1.1))) h
@@ -132,8 +132,8 @@ pub separator_sound : (by : ℕ) (bs rest : List ℕ) → after_separator by bs 
 separator_sound by [] rest h = cc
 separator_sound by (b ∷ bs) rest h =
     elim (chosen (b == by) (Some bs) None (Some rest) h) [
-      inl t ↦ let e : b ≡ by = same_test b by t.0 in let r : bs ≡ rest = cc (t.1) in ap (λ x. x ∷ bs) e ∙ ap (λ x. by ∷ x) r
-    | inr f ↦ cc
+      | inl t ↦ let e : b ≡ by = same_test b by t.0 in let r : bs ≡ rest = cc (t.1) in ap (λ x. x ∷ bs) e ∙ ap (λ x. by ∷ x) r
+      | inr f ↦ cc
     ]
 
 pub separator_again : (by : ℕ) (rest : List ℕ) → after_separator by (by ∷ rest) ≡ Some rest
@@ -195,7 +195,7 @@ two_field f ds h = record { are_digits = h.0; count = inl h.1 }
 triple : ℕ → ℕ → ℕ → ℕ × ℕ × ℕ
 triple y m d = (y, m, d)
 
-some_same : (x z : ℕ × ℕ × ℕ) → Some x ≡ Some z → x ≡ z
+pub some_same : (x z : ℕ × ℕ × ℕ) → Some x ≡ Some z → x ≡ z
 some_same x z h = let g : Option (ℕ × ℕ × ℕ) → ℕ × ℕ × ℕ = λ o. elim o [ None ↦ (0, 0, 0) | Some x ↦ x ] in ap g h
 
 year_first_sound : (bs : List ℕ) (x : ℕ × ℕ × ℕ) → date_fields YearFirst bs ≡ Some x → Spelled YearFirst bs x
@@ -212,9 +212,16 @@ year_first_sound bs x h =
     let fd = two_sound q.0 d.0.0 d.0.1 d.1.0 in
     let s = some_same (y.0.0, m.0.0, d.0.0) x e.1.1 in
     record {
-      y = fy.digits; m = fm.digits; d = fd.digits; year = fy.right; month = two_field YearFirst fm.digits fm.right; date = two_field YearFirst fd.digits fd.right;
+      y = fy.digits;
+      m = fm.digits;
+      d = fd.digits;
+      year = fy.right;
+      month = two_field YearFirst fm.digits fm.right;
+      date = two_field YearFirst fd.digits fd.right;
       text = fy.front ∙ ap (λ t. fy.digits ++ t) (separator_sound 45 y.0.1 r.0 r.1.0 ∙ ap (λ t. 45 ∷ t) (fm.front ∙ ap (λ t. fm.digits ++ t) (separator_sound 45 m.0.1 q.0 q.1.0 ∙ ap (λ t. 45 ∷ t) (fd.front ∙ ap (λ t. fd.digits ++ t) (end_sound d.0.1 e.0 e.1.0) ∙ append-nil fd.digits))));
-      y_is = sym (ap (λ (x : ℕ × ℕ × ℕ). x.0) s) ∙ fy.value; m_is = sym (ap (λ (x : ℕ × ℕ × ℕ). x.1) s) ∙ fm.value; d_is = sym (ap (λ (x : ℕ × ℕ × ℕ). x.2) s) ∙ fd.value;
+      y_is = sym (ap (λ (x : ℕ × ℕ × ℕ). x.0) s) ∙ fy.value;
+      m_is = sym (ap (λ (x : ℕ × ℕ × ℕ). x.1) s) ∙ fm.value;
+      d_is = sym (ap (λ (x : ℕ × ℕ × ℕ). x.2) s) ∙ fd.value;
     }
 
 year_first_again : (y m d : List ℕ) → Digits 4 y → Digits 2 m → Digits 2 d → date_fields YearFirst (date_text YearFirst y m d) ≡ Some (digits_value 10 y, digits_value 10 m, digits_value 10 d)
@@ -240,9 +247,9 @@ day_first_again digits by y m d hy hm hd =
 
 short_field : (f : DateFormat) (padded : Bool) (ds : List ℕ) → (padded ≡ false → MayBeShort f) → Short padded ds → IsField f ds
 short_field f padded ds may h = elim h [
-    inl two ↦ two_field f ds two
+  | inl two ↦ two_field f ds two
   | inr one ↦ record { are_digits = one.1.0; count = inr (may one.0, one.1.1) }
-  ]
+]
 
 compact_sound : (bs : List ℕ) (x : ℕ × ℕ × ℕ) → date_fields Compact bs ≡ Some x → Spelled Compact bs x
 unfolding date_fields
@@ -256,9 +263,16 @@ compact_sound bs x h =
     let fd = two_sound m.0.1 d.0.0 d.0.1 d.1.0 in
     let s = some_same (y.0.0, m.0.0, d.0.0) x e.1.1 in
     record {
-      y = fy.digits; m = fm.digits; d = fd.digits; year = fy.right; month = two_field Compact fm.digits fm.right; date = two_field Compact fd.digits fd.right;
+      y = fy.digits;
+      m = fm.digits;
+      d = fd.digits;
+      year = fy.right;
+      month = two_field Compact fm.digits fm.right;
+      date = two_field Compact fd.digits fd.right;
       text = fy.front ∙ ap (λ t. fy.digits ++ t) (fm.front ∙ ap (λ t. fm.digits ++ t) (fd.front ∙ ap (λ t. fd.digits ++ t) (end_sound d.0.1 e.0 e.1.0) ∙ append-nil fd.digits));
-      y_is = sym (ap (λ (x : ℕ × ℕ × ℕ). x.0) s) ∙ fy.value; m_is = sym (ap (λ (x : ℕ × ℕ × ℕ). x.1) s) ∙ fm.value; d_is = sym (ap (λ (x : ℕ × ℕ × ℕ). x.2) s) ∙ fd.value;
+      y_is = sym (ap (λ (x : ℕ × ℕ × ℕ). x.0) s) ∙ fy.value;
+      m_is = sym (ap (λ (x : ℕ × ℕ × ℕ). x.1) s) ∙ fm.value;
+      d_is = sym (ap (λ (x : ℕ × ℕ × ℕ). x.2) s) ∙ fd.value;
     }
 
 compact_again : (y m d : List ℕ) → Digits 4 y → Digits 2 m → Digits 2 d → date_fields Compact (date_text Compact y m d) ≡ Some (digits_value 10 y, digits_value 10 m, digits_value 10 d)
@@ -284,10 +298,16 @@ day_first_sound digits by bs x h =
     let fy = four_sound q.0 y.0.0 y.0.1 y.1.0 in
     let s = some_same (y.0.0, b.0.0, a.0.0) x e.1.1 in
     record {
-      y = fy.digits; m = fb.digits; d = fa.digits; year = fy.right;
-      month = short_field (DayFirst digits by) (is_padded digits) fb.digits (λ e. e) fb.right; date = short_field (DayFirst digits by) (is_padded digits) fa.digits (λ e. e) fa.right;
+      y = fy.digits;
+      m = fb.digits;
+      d = fa.digits;
+      year = fy.right;
+      month = short_field (DayFirst digits by) (is_padded digits) fb.digits (λ e. e) fb.right;
+      date = short_field (DayFirst digits by) (is_padded digits) fa.digits (λ e. e) fa.right;
       text = fa.front ∙ ap (λ t. fa.digits ++ t) (separator_sound p a.0.1 r.0 r.1.0 ∙ ap (λ t. p ∷ t) (fb.front ∙ ap (λ t. fb.digits ++ t) (separator_sound p b.0.1 q.0 q.1.0 ∙ ap (λ t. p ∷ t) (fy.front ∙ ap (λ t. fy.digits ++ t) (end_sound y.0.1 e.0 e.1.0) ∙ append-nil fy.digits))));
-      y_is = sym (ap (λ (x : ℕ × ℕ × ℕ). x.0) s) ∙ fy.value; m_is = sym (ap (λ (x : ℕ × ℕ × ℕ). x.1) s) ∙ fb.value; d_is = sym (ap (λ (x : ℕ × ℕ × ℕ). x.2) s) ∙ fa.value;
+      y_is = sym (ap (λ (x : ℕ × ℕ × ℕ). x.0) s) ∙ fy.value;
+      m_is = sym (ap (λ (x : ℕ × ℕ × ℕ). x.1) s) ∙ fb.value;
+      d_is = sym (ap (λ (x : ℕ × ℕ × ℕ). x.2) s) ∙ fa.value;
     }
 
 month_first_sound : (digits : FieldDigits) (by : Separator) (bs : List ℕ) (x : ℕ × ℕ × ℕ) → date_fields (MonthFirst digits by) bs ≡ Some x → Spelled (MonthFirst digits by) bs x
@@ -305,10 +325,16 @@ month_first_sound digits by bs x h =
     let fy = four_sound q.0 y.0.0 y.0.1 y.1.0 in
     let s = some_same (y.0.0, a.0.0, b.0.0) x e.1.1 in
     record {
-      y = fy.digits; m = fa.digits; d = fb.digits; year = fy.right;
-      month = short_field (MonthFirst digits by) (is_padded digits) fa.digits (λ e. e) fa.right; date = short_field (MonthFirst digits by) (is_padded digits) fb.digits (λ e. e) fb.right;
+      y = fy.digits;
+      m = fa.digits;
+      d = fb.digits;
+      year = fy.right;
+      month = short_field (MonthFirst digits by) (is_padded digits) fa.digits (λ e. e) fa.right;
+      date = short_field (MonthFirst digits by) (is_padded digits) fb.digits (λ e. e) fb.right;
       text = fa.front ∙ ap (λ t. fa.digits ++ t) (separator_sound p a.0.1 r.0 r.1.0 ∙ ap (λ t. p ∷ t) (fb.front ∙ ap (λ t. fb.digits ++ t) (separator_sound p b.0.1 q.0 q.1.0 ∙ ap (λ t. p ∷ t) (fy.front ∙ ap (λ t. fy.digits ++ t) (end_sound y.0.1 e.0 e.1.0) ∙ append-nil fy.digits))));
-      y_is = sym (ap (λ (x : ℕ × ℕ × ℕ). x.0) s) ∙ fy.value; m_is = sym (ap (λ (x : ℕ × ℕ × ℕ). x.1) s) ∙ fa.value; d_is = sym (ap (λ (x : ℕ × ℕ × ℕ). x.2) s) ∙ fb.value;
+      y_is = sym (ap (λ (x : ℕ × ℕ × ℕ). x.0) s) ∙ fy.value;
+      m_is = sym (ap (λ (x : ℕ × ℕ × ℕ). x.1) s) ∙ fa.value;
+      d_is = sym (ap (λ (x : ℕ × ℕ × ℕ). x.2) s) ∙ fb.value;
     }
 
 month_first_again : (digits : FieldDigits) (by : Separator) (y m d : List ℕ) → Digits 4 y → Short (is_padded digits) m → Short (is_padded digits) d → date_fields (MonthFirst digits by) (date_text (MonthFirst digits by) y m d) ≡ Some (digits_value 10 y, digits_value 10 m, digits_value 10 d)
@@ -347,9 +373,9 @@ digits_small n ds h = let P : ℕ → Type 0 = λ n. digits_value 10 ds < 10 ^ n
 
 field_small : (f : DateFormat) (ds : List ℕ) → IsField f ds → digits_value 10 ds < 100
 field_small f ds h = elim h.count [
-    inl two ↦ digits_small 2 ds (h.are_digits, two)
+  | inl two ↦ digits_small 2 ds (h.are_digits, two)
   | inr one ↦ let s : digits_value 10 ds < 10 = digits_small 1 ds (h.are_digits, one.1) in omega arith
-  ]
+]
 
 -- what is found is small
 pub fields_small : (f : DateFormat) (bs : List ℕ) (x : ℕ × ℕ × ℕ) → date_fields f bs ≡ Some x → (x.0 < 10000) × (x.1 < 100) × (x.2 < 100)

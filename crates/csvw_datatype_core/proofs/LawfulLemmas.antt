@@ -1,5 +1,5 @@
 -- The test of a format's characters is right.
-use Rattle.std.proofs.Common.{◌≡◌, ◌≢◌, ◌↔◌, ℕ, Bool, true, false, Option, Some, None, refl, sym, ap, arith, ◌&&◌, ◌==◌, not, IfSome, IsTrue}
+use Rattle.std.proofs.Common.{◌≡◌, ◌≢◌, ◌↔◌, ℕ, Bool, true, false, Option, Some, None, refl, sym, ap, ◌∙◌, arith, ◌&&◌, ◌==◌, not, IfSome, IsTrue}
 use Rattle.std.proofs.lemmas.Bool.Decides.{nat_tests}
 use Rattle.csvw_datatype_core.specs.declared.number.NumberRules.{NumberRules}
 use Rattle.csvw_datatype_core.specs.Numbers.{IsFree, IsLawful}
@@ -7,9 +7,14 @@ use Rattle.csvw_datatype_core.specs.Lawful.{is_free, is_free_option, differ}
 
 free_of : (c : ℕ) → is_free c ≡ true → IsFree c
 free_of c h = record {
-    no_digit = grind (arith, nat_tests); no_plus = grind (arith, nat_tests); no_minus = grind (arith, nat_tests);
-    no_percent = grind (arith, nat_tests); no_per_mille = grind (arith, nat_tests); no_tab = grind (arith, nat_tests);
-    no_line_feed = grind (arith, nat_tests); no_carriage_return = grind (arith, nat_tests)
+  no_digit = grind (arith, nat_tests);
+  no_plus = grind (arith, nat_tests);
+  no_minus = grind (arith, nat_tests);
+  no_percent = grind (arith, nat_tests);
+  no_per_mille = grind (arith, nat_tests);
+  no_tab = grind (arith, nat_tests);
+  no_line_feed = grind (arith, nat_tests);
+  no_carriage_return = grind (arith, nat_tests);
 }
 
 of_free : (c : ℕ) → IsFree c → is_free c ≡ true
@@ -51,12 +56,23 @@ both : (a b : Bool) → (a && b) ≡ true → (a ≡ true) × (b ≡ true)
 both true b h = (refl, h)
 both false b h = cc
 
-all_true : (a b c : Bool) → a ≡ true → b ≡ true → c ≡ true → ((a && b) && c) ≡ true
-all_true a b c p q r = rw (p, q, r) refl
+and_true : (a b : Bool) → a ≡ true → b ≡ true → (a && b) ≡ true
+and_true a b p q = rw (p, q) refl
 
-pub lawful : (rules : NumberRules) → (((is_free_option rules.decimal_char && is_free_option rules.group_char) && differ rules.decimal_char rules.group_char) ≡ true) ↔ IsLawful rules
-lawful rules =
-    (λ h. let a = both (is_free_option rules.decimal_char && is_free_option rules.group_char) (differ rules.decimal_char rules.group_char) h in
-      let b = both (is_free_option rules.decimal_char) (is_free_option rules.group_char) a.0 in
-      record { decimal_char = free_option_of _ b.0; group_char = free_option_of _ b.1; differ = differ_of _ _ a.1 },
-     λ l. all_true _ _ _ (of_free_option _ l.decimal_char) (of_free_option _ l.group_char) (of_differ _ _ l.differ))
+abbrev free : NumberRules → Bool
+free rules = is_free_option rules.decimal_char && is_free_option rules.group_char
+
+free_lawful : (rules : NumberRules) → IsLawful rules → free rules ≡ true
+free_lawful rules l = and_true _ _ (of_free_option _ l.decimal_char) (of_free_option _ l.group_char)
+
+-- where both are free, they are lawful where they differ
+pub lawful : (rules : NumberRules) (b : Bool) → free rules ≡ true → b ≡ differ rules.decimal_char rules.group_char → IsTrue b ↔ IsLawful rules
+lawful rules b h e =
+    let f = both (is_free_option rules.decimal_char) (is_free_option rules.group_char) h in (
+      λ t. record { decimal_char = free_option_of _ f.0; group_char = free_option_of _ f.1; differ = differ_of _ _ (sym e ∙ t) },
+      λ l. e ∙ of_differ _ _ l.differ,
+    )
+
+-- where they aren't, they aren't lawful
+pub unlawful : (rules : NumberRules) (b : Bool) → free rules ≡ false → b ≡ false → IsTrue b ↔ IsLawful rules
+unlawful rules b h e = (λ t. absurd (cc), λ l. let f = free_lawful rules l in cc)

@@ -59,8 +59,15 @@ date_digits_read y m d day f =
     let S : ℕ → Type 0 = λ x. P (digits_value 10 (four_digits y)) (digits_value 10 (two_digits m)) x in
     let all = subst S (sym (two_value d s.1)) (subst R (sym (two_value m s.0)) (subst Q (sym (four_value y f.year)) (f.is_day, f.is_value))) in
     record {
-      y = four_digits y; m = two_digits m; d = two_digits d; year = four_are y f.year; month = field m s.0; date = field d s.1;
-      spelled = refl; is_day = all.0; is_value = all.1
+      y = four_digits y;
+      m = two_digits m;
+      d = two_digits d;
+      year = four_are y f.year;
+      month = field m s.0;
+      date = field d s.1;
+      spelled = refl;
+      is_day = all.0;
+      is_value = all.1;
     }
 
 pair : (n limit : ℕ) → n < limit → n < 100 → IsPair (two_digits n) limit
@@ -73,9 +80,15 @@ time_digits_read h m s second a b c e =
     let y : m < 100 = omega arith in
     let z : s < 100 = omega arith in
     record {
-      h = two_digits h; m = two_digits m; tail = 58 ∷ two_digits s; s = two_digits s;
-      is_hour = pair h 24 a x; is_minute = pair m 60 b y; is_second = (refl, pair s 60 c z); spelled = refl;
-      is_value = omega (arith, e, two_value h x, two_value m y, two_value s z)
+      h = two_digits h;
+      m = two_digits m;
+      tail = 58 ∷ two_digits s;
+      s = two_digits s;
+      is_hour = pair h 24 a x;
+      is_minute = pair m 60 b y;
+      is_second = (refl, pair s 60 c z);
+      spelled = refl;
+      is_value = omega (arith, e, two_value h x, two_value m y, two_value s z);
     }
 
 -- 1 January of the year 1
@@ -99,11 +112,11 @@ count_from : (y m d : ℕ) → IsDay y m d → 3_652_791 ≤ day_count (pos y) m
 count_from y m d h =
     let c = civil_of y m d h in
     ⊎_elim (λ (e : y ≡ 1).
-      let P : ℕ → Type 0 = λ y. 3_652_791 ≤ day_count (pos y) m d in
-      subst P (sym e) (omega (arith, first_count, day_count-day_of_year (pos 1) m d c.2.0, c.2.0)))
+    let P : ℕ → Type 0 = λ y. 3_652_791 ≤ day_count (pos y) m d in
+    subst P (sym e) (omega (arith, first_count, day_count-day_of_year (pos 1) m d c.2.0, c.2.0)))
     (λ (r : (y < 1) ⊎ (1 < y)).
-      ⊎_elim (λ (l : y < 1). absurd (omega (arith, l, h.0)))
-      (λ (g : 1 < y). omega (arith, first_count, day_count-lt_year (pos 1) 1 1 (pos y) m d first_civil c.2.0 (omega (arith, ints, g)))) r)
+    ⊎_elim (λ (l : y < 1). absurd (omega (arith, l, h.0)))
+    (λ (g : 1 < y). omega (arith, first_count, day_count-lt_year (pos 1) 1 1 (pos y) m d first_civil c.2.0 (omega (arith, ints, g)))) r)
     (cases_order y 1)
 
 -- a day of the years 0001 to 9999 has a number in this range
@@ -145,7 +158,7 @@ fields_of d day h e =
     record {
       year = abs_small d.year d.year_in;
       is_day = (one, (c.0, (omega (arith, ints, c.1.0), omega (arith, ints, c.1.1)), (omega (arith, ints, c.2.0), omega (arith, ints, c.2.1))));
-      is_value = sym e ∙ ap (λ y. days_from_civil y d.month d.day) same
+      is_value = sym e ∙ ap (λ y. days_from_civil y d.month d.day) same;
     }
 
 on_ok : {T E : Type 0} {P Q : Type 0} (r : Result T E) → (P → Q) → OnOk r P → OnOk r Q

@@ -122,26 +122,40 @@ lexical_number z n a b c d abs small ea eb ec part =
     let text : c ≡ ([] ++ cond (lt_z z (pos 0)) (45 ∷ []) []) ++ decimal w = ec ∙ ap (λ x. x ++ decimal w) (eb ∙ ap (λ x. x ++ cond (lt_z z (pos 0)) (45 ∷ []) []) ea) in
     let value : z ≡ signed (sign_of z) n = signed_abs z ∙ ap (signed (sign_of z)) (sym abs) in
     elim part [
-      inl whole ↦
-        let p : Parts = record { sign = sign_of z; whole = decimal w; fraction = None; mark = Plain } in
-        record {
-          reads = record {
-            parts = p;
-            is_number = record { whole = inr grouped; fraction = tt; not_both_missing = not_empty (decimal w) [] numeral.0.0; mark = tt };
-            spelled = whole.1 ∙ text ∙ sym (append-nil _) ∙ lexical_sign z (decimal w) [];
-            count = n; small = small; is_count = count_whole z n small whole.0; is_value = value;
-          };
-          minus = minus_of z; no_plus = plus_of z; whole = no_leading_zero w (decimal w) (leads w wide); fraction = tt; no_mark = refl;
-        }
-    | inr f ↦
-        let p : Parts = record { sign = sign_of z; whole = decimal w; fraction = Some f.digits; mark = Plain } in
-        record {
-          reads = record {
-            parts = p;
-            is_number = record { whole = inr grouped; fraction = (refl, f.are_digits); not_both_missing = not_empty (decimal w) f.digits numeral.0.0; mark = tt };
-            spelled = f.appended ∙ ap (λ x. (x ++ (46 ∷ [])) ++ f.digits) text ∙ point_text _ (decimal w) f.digits ∙ ap (λ x. x ++ (decimal w ++ ((46 ∷ f.digits) ++ []))) (sign_text_of z);
-            count = n; small = small; is_count = count_fraction z n f.digits small f.value; is_value = value;
-          };
-          minus = minus_of z; no_plus = plus_of z; whole = no_leading_zero w (decimal w) (leads w wide); fraction = f.no_trailing_zero; no_mark = refl;
-        }
+      | inl whole ↦
+          let p : Parts = record { sign = sign_of z; whole = decimal w; fraction = None; mark = Plain } in
+          record {
+            reads = record {
+              parts = p;
+              is_number = record { whole = inr grouped; fraction = tt; not_both_missing = not_empty (decimal w) [] numeral.0.0; mark = tt };
+              spelled = whole.1 ∙ text ∙ sym (append-nil _) ∙ lexical_sign z (decimal w) [];
+              count = n;
+              small = small;
+              is_count = count_whole z n small whole.0;
+              is_value = value;
+            };
+            minus = minus_of z;
+            no_plus = plus_of z;
+            whole = no_leading_zero w (decimal w) (leads w wide);
+            fraction = tt;
+            no_mark = refl;
+          }
+      | inr f ↦
+          let p : Parts = record { sign = sign_of z; whole = decimal w; fraction = Some f.digits; mark = Plain } in
+          record {
+            reads = record {
+              parts = p;
+              is_number = record { whole = inr grouped; fraction = (refl, f.are_digits); not_both_missing = not_empty (decimal w) f.digits numeral.0.0; mark = tt };
+              spelled = f.appended ∙ ap (λ x. (x ++ (46 ∷ [])) ++ f.digits) text ∙ point_text _ (decimal w) f.digits ∙ ap (λ x. x ++ (decimal w ++ ((46 ∷ f.digits) ++ []))) (sign_text_of z);
+              count = n;
+              small = small;
+              is_count = count_fraction z n f.digits small f.value;
+              is_value = value;
+            };
+            minus = minus_of z;
+            no_plus = plus_of z;
+            whole = no_leading_zero w (decimal w) (leads w wide);
+            fraction = f.no_trailing_zero;
+            no_mark = refl;
+          }
     ]

@@ -8,7 +8,8 @@ pub mod ReadLemmas
 pub mod LexicalLemmas
 pub mod LexicalNumber
 pub mod DateLemmas
-pub mod OneValue
+pub mod AsciiLemmas
 pub mod TimeLemmas
 pub mod LexicalDateLemmas
 pub mod LawfulLemmas
+pub mod OneValue

@@ -56,11 +56,11 @@ run_grouped rules l s n (c ∷ d ∷ w) t e g =
     let m = n * 10 + (c - 48) in
     ap (λ s. run rules s (d ∷ w)) (step_whole rules s n c t e g.0)
     ∙ elim g.1 [
-      inl more ↦ run_grouped rules l (with_whole s m) m (d ∷ w) (λ _. refl) refl more
-    | inr next ↦
-        ap (λ s. run rules s w) (step_kind rules (with_whole s m) d _ (kind_group rules d l next.0))
-        ∙ run_grouped rules l (record (with_whole s m) { place = places.Group }) m w (λ _. refl) refl next.1
-        ∙ ap (with_whole s) (sym (value_skip m d w (free _ d l.group_char next.0).no_digit))
+      | inl more ↦ run_grouped rules l (with_whole s m) m (d ∷ w) (λ _. refl) refl more
+      | inr next ↦
+          ap (λ s. run rules s w) (step_kind rules (with_whole s m) d _ (kind_group rules d l next.0))
+          ∙ run_grouped rules l (record (with_whole s m) { place = places.Group }) m w (λ _. refl) refl next.1
+          ∙ ap (with_whole s) (sym (value_skip m d w (free _ d l.group_char next.0).no_digit))
     ]
     ∙ ap (with_whole s) (sym (value_cons n c (d ∷ w) g.0))
 
@@ -215,18 +215,18 @@ unfolding signed_start
 after_sign rules l p n =
     let tail = fraction_text rules.decimal_char p.fraction ++ mark_text p.mark in
     elim n.whole [
-      inl empty ↦
-        let P : List ℕ → Type 0 = λ w. HoldsParts p (run rules (signed_start p) (w ++ tail)) in
-        let w : 0 ≡ min (whole_value 0 p.whole) (10 ^ 23) = sym (ap (λ w. min (whole_value 0 w) (10 ^ 23)) empty) in
-        subst P (sym empty) (without_whole rules l p (signed_start p) (sign_place p.sign) p.fraction refl n.fraction (λ e. n.not_both_missing (empty, e))
+      | inl empty ↦
+          let P : List ℕ → Type 0 = λ w. HoldsParts p (run rules (signed_start p) (w ++ tail)) in
+          let w : 0 ≡ min (whole_value 0 p.whole) (10 ^ 23) = sym (ap (λ w. min (whole_value 0 w) (10 ^ 23)) empty) in
+          subst P (sym empty) (without_whole rules l p (signed_start p) (sign_place p.sign) p.fraction refl n.fraction (λ e. n.not_both_missing (empty, e))
           (record { place = refl; mark = refl; minus = refl; whole = w; fraction = refl; weight = refl; too_long = refl }) (sign_takes p.sign).1 n.mark)
-    | inr grouped ↦
-        let P : Scan → Type 0 = λ s. HoldsParts p (run rules s tail) in
-        let Q : Scan → Type 0 = λ s. HoldsParts p s in
-        subst Q (sym (run-append rules (signed_start p) p.whole tail))
-        (subst P (sym (run_grouped rules l (signed_start p) 0 p.whole (sign_takes p.sign).0 refl grouped))
+      | inr grouped ↦
+          let P : Scan → Type 0 = λ s. HoldsParts p (run rules s tail) in
+          let Q : Scan → Type 0 = λ s. HoldsParts p s in
+          subst Q (sym (run-append rules (signed_start p) p.whole tail))
+          (subst P (sym (run_grouped rules l (signed_start p) 0 p.whole (sign_takes p.sign).0 refl grouped))
           (with_fraction rules l p (with_whole (signed_start p) (whole_value 0 p.whole)) p.fraction refl n.fraction
-            (record { place = refl; mark = refl; minus = refl; whole = refl; fraction = refl; weight = refl; too_long = refl }) n.mark))
+          (record { place = refl; mark = refl; minus = refl; whole = refl; fraction = refl; weight = refl; too_long = refl }) n.mark))
     ]
 
 -- of a spelled number the pass holds the parts

@@ -61,7 +61,10 @@ time_sound f bs h m s is hour minute second =
     let cv : c.0 ≡ s = ap (λ (x : ℕ × ℕ × ℕ). x.2) same in
     let sv : s ≡ digits_value 10 fc.s = sym cv ∙ fc.value in
     record {
-      h = fa.digits; m = fb.digits; tail = b.0.1; s = fc.s;
+      h = fa.digits;
+      m = fb.digits;
+      tail = b.0.1;
+      s = fc.s;
       is_hour = pair_of fa.digits h 24 fa.right hv hour;
       is_minute = pair_of fb.digits m 60 fb.right mv minute;
       is_second = fc.right (omega (arith, cv, second));
@@ -115,7 +118,7 @@ pub moment_long : (f : MomentFormat) (text : List ℕ) → length text < 10 → 
 moment_long f text short moment r = omega (arith, short, ap length r.spelled, length-append r.date r.time, date_length r.date r.day r.is_date)
 
 -- a moment has its date in front of its time
-record Parts (f : MomentFormat) (text : List ℕ) (moment : ℤ) : Type 0 where
+pub record Parts (f : MomentFormat) (text : List ℕ) (moment : ℤ) : Type 0 where
   pub day : ℤ
   pub second : ℕ
   pub date : ReadsDate YearFirst (take 10 text) day
@@ -128,7 +131,7 @@ take_front xs ys n e = ap (λ k. take k (xs ++ ys)) (sym e) ∙ take-append_seam
 drop_front : (xs ys : List ℕ) (n : ℕ) → length xs ≡ n → drop n (xs ++ ys) ≡ ys
 drop_front xs ys n e = ap (λ k. drop k (xs ++ ys)) (sym e) ∙ drop-append_seam xs ys
 
-parts_of : (f : MomentFormat) (text : List ℕ) (moment : ℤ) → ReadsMoment f text moment → Parts f text moment
+pub parts_of : (f : MomentFormat) (text : List ℕ) (moment : ℤ) → ReadsMoment f text moment → Parts f text moment
 parts_of f text moment r =
     let l = date_length r.date r.day r.is_date in
     let a : take 10 text ≡ r.date = ap (take 10) r.spelled ∙ take_front r.date r.time 10 l in

@@ -9,3 +9,4 @@ pub mod Fields
 pub mod Moments
 pub mod TimeFields
 pub mod LexicalDates
+pub mod DatePatterns

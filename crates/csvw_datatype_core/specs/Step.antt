@@ -38,7 +38,6 @@ abbrev pub run : NumberRules → Scan → List ℕ → Scan
 run rules s [] = s
 run rules s (c ∷ cs) = run rules (step rules s c) cs
 
-
 abbrev pub count_of : Scan → Option ℕ
 count_of s = if s.too_long || (nat_le (10 ^ 20 * divisor s.mark) s.whole || not (s.fraction % divisor s.mark == 0)) then None
     else Some (s.whole * (10 ^ 18 / divisor s.mark) + s.fraction / divisor s.mark)

@@ -181,3 +181,15 @@ fn four(bytes: &[u8]) -> Option<(u16, &[u8])>
     let (low, rest) = two(rest)?;
     Some((high as u16 * 100 + low as u16, rest))
 }
+
+ghost use Rattle.std.specs.Prelude.{List, ℕ};
+ghost use Rattle.csvw_datatype_core.specs.LexicalDates.{IsDayNumber};
+
+/// A law: a text is one date at most, and one of the years 0001 to 9999.
+pub fn one_date()
+    ensures same { (f : DateFormat) (text : List ℕ) (a b : ℤ) → ReadsDate f text a → ReadsDate f text b → a ≡ b }
+    ensures in_range { (f : DateFormat) (text : List ℕ) (day : ℤ) → ReadsDate f text day → IsDayNumber day }
+{}
+
+#[cfg(test)]
+mod tests;

@@ -41,7 +41,10 @@ fn day_and_second(moment: i64) -> (i32, u32)
     ensures { IsDayAndSecond moment result.0 result.1 }
 {
     let seconds = (moment + 62_135_596_800) as u64;
-    ((seconds / 86_400) as i32 - DAYS_BEFORE_1970, (seconds % 86_400) as u32)
+    (
+        (seconds / 86_400) as i32 - DAYS_BEFORE_1970,
+        (seconds % 86_400) as u32,
+    )
 }
 
 fn push_date(out: &mut String, day: i32) -> Result<(), AllocError>
@@ -80,7 +83,12 @@ fn push_time(out: &mut String, second: u32) -> Result<(), AllocError>
     requires { second < 86_400 }
     ensures { OnOk result (AppendsTime (string_bytes out.old) (string_bytes out.new) second) }
 {
-    push_time_digits(out, (second / 3600) as u8, (second / 60 % 60) as u8, (second % 60) as u8)
+    push_time_digits(
+        out,
+        (second / 3600) as u8,
+        (second / 60 % 60) as u8,
+        (second % 60) as u8,
+    )
 }
 
 fn push_time_digits(out: &mut String, hour: u8, minute: u8, second: u8) -> Result<(), AllocError>

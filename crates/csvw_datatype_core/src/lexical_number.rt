@@ -9,10 +9,11 @@ use std::fmt::Write;
 
 const UNIT: u128 = 1_000_000_000_000_000_000;
 
-/// The lexical form of a number in units of 10^-18.
+/// The lexical form of a number in units of 10^-18, below 10^38 of them in size: `-` only below zero, no zero
+/// that could be left out, no point where it is whole; `AllocError` where there is no memory.
 pub fn number_text(alloc: Global, number: i128) -> Result<String, AllocError>
     requires { unsigned_abs number < 10 ^ 38 }
-    ensures { IfOk result (λ s. IsLexicalNumber (string_bytes s) number) }
+    ensures { IfOk result (λ s. IsLexicalNumber (chars (string_bytes s)) number) }
 {
     let count = number.unsigned_abs();
     let mut out = String::new(alloc);
@@ -59,4 +60,23 @@ fn push_fraction(out: &mut String, fraction: u64) -> Result<(), AllocError>
         weight /= 10;
     }
     Ok(())
+}
+
+#[cfg(test)]
+mod tests {
+    use super::*;
+    use std::test::Fail;
+
+    #[test]
+    fn nothing_that_can_be_left_out(rt: HostRuntime) -> Result<(), Fail> {
+        let alloc = rt.alloc();
+        let one = 1_000_000_000_000_000_000;
+        assert!(rt; number_text(alloc, 0)?.as_str() == "0");
+        assert!(rt; number_text(alloc, 7 * one)?.as_str() == "7");
+        assert!(rt; number_text(alloc, one / 2)?.as_str() == "0.5");
+        assert!(rt; number_text(alloc, -one / 4)?.as_str() == "-0.25");
+        assert!(rt; number_text(alloc, 1)?.as_str() == "0.000000000000000001");
+        assert!(rt; number_text(alloc, -10 * one)?.as_str() == "-10");
+        Ok(())
+    }
 }

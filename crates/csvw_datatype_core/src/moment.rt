@@ -80,3 +80,15 @@ fn last_field(format: MomentFormat, bytes: &[u8]) -> Option<u8>
         }
     }
 }
+
+ghost use Rattle.std.specs.Prelude.{List};
+ghost use Rattle.csvw_datatype_core.specs.LexicalDates.{IsMomentNumber};
+
+/// A law: a text is one moment at most, and one of the years 0001 to 9999.
+pub fn one_moment()
+    ensures same { (f : MomentFormat) (text : List ℕ) (a b : ℤ) → ReadsMoment f text a → ReadsMoment f text b → a ≡ b }
+    ensures in_range { (f : MomentFormat) (text : List ℕ) (moment : ℤ) → ReadsMoment f text moment → IsMomentNumber moment }
+{}
+
+#[cfg(test)]
+mod tests;

@@ -84,8 +84,9 @@ fn holds(option: Option<char>, c: char) -> bool
 }
 
 impl NumberRules {
-    ghost use Rattle.std.specs.Prelude.{◌↔◌, IsTrue};
+    ghost use Rattle.std.specs.Prelude.{◌↔◌, ◌&&◌, IsTrue};
     ghost use Rattle.csvw_datatype_core.specs.Numbers.{IsLawful};
+    ghost use Rattle.csvw_datatype_core.specs.Lawful.{is_free_option, differ};
     ghost use Rattle.csvw_datatype_core.specs.Scan.{kind_of, IsBelowTen};
 
     /// Whether the two characters differ from each other and from all others of a number, and are none of
@@ -93,9 +94,13 @@ impl NumberRules {
     pub fn is_lawful(&self) -> bool
         ensures { IsTrue result ↔ IsLawful self.now }
     {
-        is_free_option(self.decimal_char)
-            && is_free_option(self.group_char)
-            && differ(self.decimal_char, self.group_char)
+        self.are_free() && differ(self.decimal_char, self.group_char)
+    }
+
+    fn are_free(&self) -> bool
+        ensures { result ≡ (is_free_option self.now.decimal_char && is_free_option self.now.group_char) }
+    {
+        is_free_option(self.decimal_char) && is_free_option(self.group_char)
     }
 
     #[tactic(auto, unfolding(crate::specs::Scan::kind_of))]
@@ -136,7 +141,8 @@ impl Place {
         ensures { result ≡ next self kind }
     {
         match (self, kind) {
-            (Place::Start | Place::Sign | Place::Whole | Place::Group, Kind::Digit(_)) => Place::Whole,
+            (Place::Start | Place::Sign | Place::Whole | Place::Group, Kind::Digit(_)) =>
+                Place::Whole,
             (Place::BarePoint | Place::Fraction, Kind::Digit(_)) => Place::Fraction,
             (Place::Start, Kind::Plus | Kind::Minus) => Place::Sign,
             (Place::Start | Place::Sign, Kind::Point) => Place::BarePoint,
@@ -200,7 +206,12 @@ impl Scan {
         let fraction = self.fraction + digit as u64 * self.weight;
         let too_long = self.too_long || (self.weight == 0 && digit != 0);
         let weight = self.weight / 10;
-        Scan { fraction, too_long, weight, ..self }
+        Scan {
+            fraction,
+            too_long,
+            weight,
+            ..self
+        }
     }
 
     fn step(self, rules: &NumberRules, c: char) -> Scan
@@ -219,9 +230,18 @@ impl Scan {
                     next.push_fraction(digit)
                 }
             }
-            Kind::Minus => Scan { minus: true, ..next },
-            Kind::Percent => Scan { mark: Mark::Percent, ..next },
-            Kind::PerMille => Scan { mark: Mark::PerMille, ..next },
+            Kind::Minus => Scan {
+                minus: true,
+                ..next
+            },
+            Kind::Percent => Scan {
+                mark: Mark::Percent,
+                ..next
+            },
+            Kind::PerMille => Scan {
+                mark: Mark::PerMille,
+                ..next
+            },
             _ => next,
         }
     }
@@ -260,16 +280,20 @@ fn scan_text(rules: &NumberRules, text: &str) -> Scan
 }
 
 /// Why a text is no number.
-#[derive(Clone, Copy)]
+#[derive(Clone, Copy, Debug, PartialEq, Eq)]
 pub enum NumberFault {
+    /// It isn't spelled as one.
     Bad,
+    /// It is 10^20 or more in size, or no whole multiple of 10^-18.
     TooLong,
 }
 
 ghost use Rattle.csvw_datatype_core.specs.Numbers.{IsLawful, ReadsNumber};
 ghost use Rattle.csvw_datatype_core.specs.Misread.{MisreadNumber};
 
-/// The number that a text spells, in units of 10^-18.
+/// The number that a text spells, in units of 10^-18; `Bad` where it spells none, else `TooLong` where the
+/// number is 10^20 or more in size or no whole count of them. The rules have passed `is_lawful`
+/// (Model for Tabular Data and Metadata on the Web, section 6.4.2).
 pub fn read_number(rules: &NumberRules, text: &str) -> Result<i128, NumberFault>
     requires { IsLawful rules.now }
     ensures { MatchResult result (ReadsNumber rules.now (chars text.now)) (MisreadNumber rules.now (chars text.now)) }
@@ -288,16 +312,19 @@ fn signed(minus: bool, count: u128) -> i128
     requires { count ≤ 10 ^ 38 }
     ensures { result ≡ (if minus then neg_ℤ (pos count) else pos count) }
 {
-    if minus { -(count as i128) } else { count as i128 }
+    if minus {
+        -(count as i128)
+    } else {
+        count as i128
+    }
 }
 
 ghost use Rattle.std.specs.Prelude.{ℤ, List, ℕ};
 
-/// A text is one number at most.
+/// A law: a text is one number at most.
 pub fn one_number()
     ensures { (rules : NumberRules) (cs : List ℕ) (y z : ℤ) → IsLawful rules → ReadsNumber rules cs y → ReadsNumber rules cs z → y ≡ z }
-{
-}
+{}
 
 #[cfg(test)]
 mod tests;

@@ -1,6 +1,11 @@
 use super::*;
 
-fn read(decimal_char: Option<char>, group_char: Option<char>, allows_marks: bool, text: &str) -> Result<i128, NumberFault> {
+fn read(
+    decimal_char: Option<char>,
+    group_char: Option<char>,
+    allows_marks: bool,
+    text: &str,
+) -> Result<i128, NumberFault> {
     let rules = NumberRules {
         decimal_char,
         group_char,
@@ -45,15 +50,24 @@ fn decimals_with_marks(rt: HostRuntime) {
     assert_eq!(rt; decimal("100000000000000000000%"), Ok(ONE * ONE));
     assert_eq!(rt; decimal("0.000000000000000001"), Ok(1));
     assert_eq!(rt; decimal("0.000000000000000001%"), Err(NumberFault::TooLong));
-    assert_eq!(rt; decimal("99999999999999999999"), Ok(99_999_999_999_999_999_999 * ONE));
+    assert_eq!(rt;
+        decimal("99999999999999999999"),
+        Ok(99_999_999_999_999_999_999 * ONE)
+    );
     assert_eq!(rt; decimal("100000000000000000000"), Err(NumberFault::TooLong));
 }
 
 #[test]
 fn characters_of_a_format(rt: HostRuntime) {
-    assert_eq!(rt; read(Some(','), Some('.'), true, "1.234,5"), Ok(1234 * ONE + ONE / 2));
+    assert_eq!(rt;
+        read(Some(','), Some('.'), true, "1.234,5"),
+        Ok(1234 * ONE + ONE / 2)
+    );
     for c in ['0', '9', '+', '-', '%', '‰', '\t', '\n', '\r'] {
         assert_eq!(rt; read(Some(c), None, true, "1"), Err(NumberFault::Bad));
     }
-    assert_eq!(rt; read(Some('.'), Some('.'), true, "1"), Err(NumberFault::Bad));
+    assert_eq!(rt;
+        read(Some('.'), Some('.'), true, "1"),
+        Err(NumberFault::Bad)
+    );
 }

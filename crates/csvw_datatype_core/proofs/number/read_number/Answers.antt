@@ -15,9 +15,10 @@ returns-then-not-ends c =
     (ap (λ (s : Scan). ends s.place) (sym c.scan_text-scan.ensures.value) ∙ sym c.ends.ensures ∙ c.if-not-ends.true)
 
 pub returns-in-None : goal.returns-in-None
-returns-in-None c =
-    (spells c.args.rules.now (chars c.args.text.now) (ap (λ (s : Scan). ends s.place) (sym c.scan_text-scan.ensures.value) ∙ sym c.ends.ensures ∙ c.if-not-ends.false),
-     reads_nothing c.args.rules.now c.requires (chars c.args.text.now) (ap count_of (sym c.scan_text-scan.ensures.value) ∙ sym c.count.ensures.value ∙ c.in-None.is))
+returns-in-None c = (
+  spells c.args.rules.now (chars c.args.text.now) (ap (λ (s : Scan). ends s.place) (sym c.scan_text-scan.ensures.value) ∙ sym c.ends.ensures ∙ c.if-not-ends.false),
+  reads_nothing c.args.rules.now c.requires (chars c.args.text.now) (ap count_of (sym c.scan_text-scan.ensures.value) ∙ sym c.count.ensures.value ∙ c.in-None.is),
+)
 
 pub returns-in-Some : goal.returns-in-Some
 returns-in-Some c =
@@ -25,6 +26,6 @@ returns-in-Some c =
     let P : ℤ → Type 0 = λ z. ReadsNumber c.args.rules.now (chars c.args.text.now) z in
     subst P (sym (to_z-of_z w128 c.signed.result fits))
     (reads c.args.rules.now c.requires (chars c.args.text.now) c.in-Some.count c.signed.result
-      (ap (λ (s : Scan). ends s.place) (sym c.scan_text-scan.ensures.value) ∙ sym c.ends.ensures ∙ c.if-not-ends.false)
-      (ap count_of (sym c.scan_text-scan.ensures.value) ∙ sym c.count.ensures.value ∙ c.in-Some.is)
-      (cc))
+    (ap (λ (s : Scan). ends s.place) (sym c.scan_text-scan.ensures.value) ∙ sym c.ends.ensures ∙ c.if-not-ends.false)
+    (ap count_of (sym c.scan_text-scan.ensures.value) ∙ sym c.count.ensures.value ∙ c.in-Some.is)
+    (cc))
