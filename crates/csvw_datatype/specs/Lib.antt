@@ -1,0 +1,7 @@
+pub mod Names
+pub mod Widths
+pub mod Formats
+pub mod Breaks
+pub mod Reads
+pub mod Sound
+pub mod Lexical

@@ -1,2 +1,21 @@
-//! Datatypes of columns, and values.
+//! Datatypes of columns: which value a text is, which facets it breaks, and the lexical forms of values.
 #![tactic(auto)]
+
+mod check;
+mod datatype;
+mod facets;
+mod format;
+mod lexical;
+mod read;
+mod simple;
+mod truth;
+mod value;
+mod width;
+
+pub use check::BadDatatype;
+pub use csvw_datatype_core::{DateFormat, FieldDigits, MomentFormat, Separator};
+pub use datatype::{Datatype, Facets};
+pub use facets::Broken;
+pub use format::{Format, NumberFormat, TruthFormat};
+pub use simple::{Simple, Width};
+pub use value::Value;

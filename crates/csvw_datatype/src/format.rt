@@ -1,0 +1,78 @@
+//! The formats that texts of a datatype are written in.
+ghost use Rattle.std.specs.Prelude.{◌≡◌, IfOk};
+
+use csvw_datatype_core::{DateFormat, MomentFormat, NumberRules};
+use csvw_text::{Copied, Text};
+use std::alloc::{AllocError, Global};
+
+/// The two texts of the truths (Model for Tabular Data and Metadata on the Web, section 6.4.3).
+#[derive(Debug, Drop, PartialEq, Eq)]
+pub struct TruthFormat {
+    pub if_true: Text,
+    pub if_false: Text,
+}
+
+/// The characters of a number (Model for Tabular Data and Metadata on the Web, section 6.4.2).
+#[derive(Clone, Copy, Debug, PartialEq, Eq)]
+pub struct NumberFormat {
+    /// `decimalChar`, what stands before a fraction.
+    pub decimal_char: char,
+    /// `groupChar`, what may stand between two digits of the whole part.
+    pub group_char: Option<char>,
+}
+
+/// How texts of a datatype are written, where it isn't the default way.
+#[derive(Debug, Drop, PartialEq, Eq)]
+pub enum Format {
+    Truth(TruthFormat),
+    Number(NumberFormat),
+    Day(DateFormat),
+    Moment(MomentFormat),
+}
+
+impl TruthFormat {
+    /// An equal format; `AllocError` where there is no memory.
+    pub fn clone(&self, alloc: Global) -> Result<TruthFormat, AllocError>
+        ensures { IfOk result (λ f. f ≡ self.now) }
+    {
+        Ok(TruthFormat {
+            if_true: self.if_true.clone(alloc)?,
+            if_false: self.if_false.clone(alloc)?,
+        })
+    }
+}
+
+impl NumberFormat {
+    ghost use Rattle.csvw_datatype.specs.Formats.{format_rules};
+
+    /// How decimals are written in the format.
+    pub(crate) fn rules(&self) -> NumberRules
+        ensures { result ≡ format_rules self.now }
+    {
+        NumberRules {
+            decimal_char: Some(self.decimal_char),
+            group_char: self.group_char,
+            allows_marks: true,
+        }
+    }
+}
+
+impl Format {
+    /// An equal format; `AllocError` where there is no memory.
+    pub fn clone(&self, alloc: Global) -> Result<Format, AllocError>
+        ensures { IfOk result (λ f. f ≡ self.now) }
+    {
+        match self {
+            Format::Truth(format) => Ok(Format::Truth(format.clone(alloc)?)),
+            Format::Number(format) => Ok(Format::Number(*format)),
+            Format::Day(format) => Ok(Format::Day(*format)),
+            Format::Moment(format) => Ok(Format::Moment(*format)),
+        }
+    }
+}
+
+impl Copied for Format {
+    fn copied(&self, alloc: Global) -> Result<Format, AllocError> {
+        self.clone(alloc)
+    }
+}
