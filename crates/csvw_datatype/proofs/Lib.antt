@@ -1,0 +1,2 @@
+pub mod FormatLemmas
+pub mod LawLemmas

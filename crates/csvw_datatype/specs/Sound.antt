@@ -20,6 +20,15 @@ IsNumberSize z = unsigned_abs z < 10 ^ 38
 abbrev pub IsWholeNumber : ℤ → Type 0
 IsWholeNumber z = unsigned_abs z % 10 ^ 18 ≡ 0
 
+-- a type whose values are ordered
+abbrev pub has_bounds : Simple → Bool
+has_bounds simples.Whole = true
+has_bounds (simples.Derived w) = true
+has_bounds simples.Decimal = true
+has_bounds simples.Day = true
+has_bounds simples.Moment = true
+has_bounds _ = false
+
 -- a value that some text of the type is, and that can be a bound
 abbrev pub IsBoundOf : Simple → Value → Type 0
 IsBoundOf simples.Whole (values.Number z) = IsNumberSize z × IsWholeNumber z

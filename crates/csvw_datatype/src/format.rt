@@ -31,6 +31,9 @@ pub enum Format {
 }
 
 impl TruthFormat {
+    ghost use Rattle.csvw_datatype.specs.declared.format.TruthFormat.{TruthFormat};
+    ghost use Rattle.csvw_datatype.specs.Formats.{AreTruthTexts, truth_pattern};
+
     /// An equal format; `AllocError` where there is no memory.
     pub fn clone(&self, alloc: Global) -> Result<TruthFormat, AllocError>
         ensures { IfOk result (λ f. f ≡ self.now) }
