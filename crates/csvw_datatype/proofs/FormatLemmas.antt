@@ -13,8 +13,14 @@ use Rattle.csvw_datatype.specs.Reads.{whole_rules, decimal_rules}
 
 point_free : IsFree 46
 point_free = record {
-    no_digit = λ h. omega arith; no_plus = λ e. omega arith; no_minus = λ e. omega arith; no_percent = λ e. omega arith;
-    no_per_mille = λ e. omega arith; no_tab = λ e. omega arith; no_line_feed = λ e. omega arith; no_carriage_return = λ e. omega arith
+  no_digit = λ h. omega arith;
+  no_plus = λ e. omega arith;
+  no_minus = λ e. omega arith;
+  no_percent = λ e. omega arith;
+  no_per_mille = λ e. omega arith;
+  no_tab = λ e. omega arith;
+  no_line_feed = λ e. omega arith;
+  no_carriage_return = λ e. omega arith;
 }
 
 whole_of : (f : NumberFormat) → IsLawful (format_rules f) → IsLawful (whole_rules (Some (formats.Number f)))

@@ -97,9 +97,9 @@ value_or_code simples.Uri f text v code ok r m = m
 value_or_code simples.Truth f text v code ok r m = m.0 r.0 r.1
 value_or_code simples.Whole f text v code ok r m = not_misread (whole_rules f) (chars text) r.0 m.0 r.1 m.1
 value_or_code (simples.Derived w) f text v code ok r m = elim m [
-    inl n ↦ not_misread (whole_rules f) (chars text) r.0 n.0 r.1 n.1
+  | inl n ↦ not_misread (whole_rules f) (chars text) r.0 n.0 r.1 n.1
   | inr n ↦ n.2 (in_width w r.0 n.0 (one_number (whole_rules f) (derived_lawful w f ok) (chars text) r.0 n.0 r.1 n.1) r.2)
-  ]
+]
 value_or_code simples.Decimal f text v code ok r m = not_misread (decimal_rules f) (chars text) r.0 m.0 r.1 m.1
 value_or_code simples.Day f text v code ok r m = m.0 r.0 r.1
 value_or_code simples.Moment f text v code ok r m = m.0 r.0 r.1
@@ -110,15 +110,15 @@ one_code simples.Uri f text c d ok p q = absurd p
 one_code simples.Truth f text c d ok p q = p.1 ∙ sym q.1
 one_code simples.Whole f text c d ok p q = one_number_code BadInteger (whole_rules f) text c d p q
 one_code (simples.Derived w) f text c d ok p q = elim p [
-    inl m ↦ elim q [
-      inl n ↦ one_number_code BadInteger (whole_rules f) text c d m n
+  | inl m ↦ elim q [
+    | inl n ↦ one_number_code BadInteger (whole_rules f) text c d m n
     | inr n ↦ absurd (not_misread (whole_rules f) (chars text) n.0 m.0 n.1 m.1)
-    ]
-  | inr m ↦ elim q [
-      inl n ↦ absurd (not_misread (whole_rules f) (chars text) m.0 n.0 m.1 n.1)
-    | inr n ↦ m.3 ∙ sym n.3
-    ]
   ]
+  | inr m ↦ elim q [
+    | inl n ↦ absurd (not_misread (whole_rules f) (chars text) m.0 n.0 m.1 n.1)
+    | inr n ↦ m.3 ∙ sym n.3
+  ]
+]
 one_code simples.Decimal f text c d ok p q = one_number_code BadDecimal (decimal_rules f) text c d p q
 one_code simples.Day f text c d ok p q = p.1 ∙ sym q.1
 one_code simples.Moment f text c d ok p q = p.1 ∙ sym q.1

@@ -10,8 +10,15 @@ use Rattle.csvw_datatype.specs.declared.facets.Broken.{Broken}
 
 abbrev pub no_facets : Facets
 no_facets = record {
-  length = None; min_length = None; max_length = None; minimum = None; min_inclusive = None; min_exclusive = None;
-  maximum = None; max_inclusive = None; max_exclusive = None;
+  length = None;
+  min_length = None;
+  max_length = None;
+  minimum = None;
+  min_inclusive = None;
+  min_exclusive = None;
+  maximum = None;
+  max_inclusive = None;
+  max_exclusive = None;
 }
 
 -- a number, a day or a moment is below another

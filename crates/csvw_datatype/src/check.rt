@@ -63,7 +63,9 @@ fn are_bounds_of(simple: Simple, facets: &Facets) -> bool
     if !is_bound_option(simple, &facets.minimum) || !is_bound_option(simple, &facets.maximum) {
         return false;
     }
-    if !is_bound_option(simple, &facets.min_inclusive) || !is_bound_option(simple, &facets.max_inclusive) {
+    if !is_bound_option(simple, &facets.min_inclusive)
+        || !is_bound_option(simple, &facets.max_inclusive)
+    {
         return false;
     }
     is_bound_option(simple, &facets.min_exclusive) && is_bound_option(simple, &facets.max_exclusive)
@@ -120,7 +122,9 @@ fn is_moment_number(moment: i64) -> bool
 fn are_truth_texts(texts: &TruthFormat) -> bool
     ensures { IsTrue result ↔ AreTruthTexts texts.now }
 {
-    is_truth_text(texts.if_true.as_str()) && is_truth_text(texts.if_false.as_str()) && texts.if_true != texts.if_false
+    is_truth_text(texts.if_true.as_str())
+        && is_truth_text(texts.if_false.as_str())
+        && texts.if_true != texts.if_false
 }
 
 fn is_truth_text(text: &str) -> bool
@@ -153,14 +157,20 @@ fn lengths_agree(facets: &Facets) -> bool
 fn bounds_agree(facets: &Facets) -> bool
     ensures { result ≡ bounds_agree facets.now }
 {
-    side_agrees(&facets.minimum, &facets.min_inclusive, &facets.min_exclusive)
-        && side_agrees(&facets.maximum, &facets.max_inclusive, &facets.max_exclusive)
-        && sides_agree(
-            first_of(&facets.minimum, &facets.min_inclusive),
-            facets.min_exclusive.as_ref(),
-            first_of(&facets.maximum, &facets.max_inclusive),
-            facets.max_exclusive.as_ref(),
-        )
+    side_agrees(
+        &facets.minimum,
+        &facets.min_inclusive,
+        &facets.min_exclusive,
+    ) && side_agrees(
+        &facets.maximum,
+        &facets.max_inclusive,
+        &facets.max_exclusive,
+    ) && sides_agree(
+        first_of(&facets.minimum, &facets.min_inclusive),
+        facets.min_exclusive.as_ref(),
+        first_of(&facets.maximum, &facets.max_inclusive),
+        facets.max_exclusive.as_ref(),
+    )
 }
 
 fn side_agrees(bound: &Option<Value>, inclusive: &Option<Value>, exclusive: &Option<Value>) -> bool
@@ -187,7 +197,12 @@ fn first_of<'a>(a: &'a Option<Value>, b: &'a Option<Value>) -> Option<&'a Value>
     }
 }
 
-fn sides_agree(low: Option<&Value>, low_exclusive: Option<&Value>, high: Option<&Value>, high_exclusive: Option<&Value>) -> bool
+fn sides_agree(
+    low: Option<&Value>,
+    low_exclusive: Option<&Value>,
+    high: Option<&Value>,
+    high_exclusive: Option<&Value>,
+) -> bool
     ensures { result ≡ sides_agree (option_copied low.entry) (option_copied low_exclusive.entry) (option_copied high.entry) (option_copied high_exclusive.entry) }
 {
     !(is_over(low, high)

@@ -136,7 +136,8 @@ fn date_format(format: &Option<Format>) -> DateFormat
 {
     match format {
         Some(Format::Day(format)) => *format,
-        Some(Format::Truth(_) | Format::Number(_) | Format::Moment(_)) | None => DateFormat::YearFirst,
+        Some(Format::Truth(_) | Format::Number(_) | Format::Moment(_)) | None =>
+            DateFormat::YearFirst,
     }
 }
 
