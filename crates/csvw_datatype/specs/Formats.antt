@@ -1,22 +1,14 @@
 -- Formats that a datatype may have (Model for Tabular Data and Metadata on the Web, sections 6.4.2 to 6.4.4).
-use Rattle.std.specs.Prelude.{◌≡◌, ◌≢◌, ℕ, ◌==◌, Bool, true, false, Option, Some, None, List, [], ◌∷◌, ◌++◌}
-use Rattle.std.specs.List.{list_any}
+use Rattle.std.specs.Prelude.{◌≢◌, ℕ, true, Option, Some, None, List, ◌∷◌, ◌++◌}
 use Rattle.csvw_datatype_core.specs.declared.number.NumberRules.{NumberRules}
 use Rattle.csvw_datatype_core.specs.Numbers.{IsLawful}
+use Rattle.csvw_datatype.specs.Bars.{IsTruthText}
 use Rattle.csvw_datatype.specs.declared.simple.Simple.{Simple}
 use Rattle.csvw_datatype.specs.declared.simple.Simple.TheVariants as simples
 use Rattle.csvw_datatype.specs.declared.format.TruthFormat.{TruthFormat}
 use Rattle.csvw_datatype.specs.declared.format.NumberFormat.{NumberFormat}
 use Rattle.csvw_datatype.specs.declared.format.Format.{Format}
 use Rattle.csvw_datatype.specs.declared.format.Format.TheVariants as formats
-
--- a text holds a vertical line
-abbrev pub has_bar : List ℕ → Bool
-has_bar text = list_any (λ b. b == 124) text
-
--- the text of a truth: it isn't empty and holds no vertical line
-abbrev pub IsTruthText : List ℕ → Type 0
-IsTruthText text = (text ≢ []) × (has_bar text ≡ false)
 
 -- two different texts of truths
 abbrev pub AreTruthTexts : TruthFormat → Type 0

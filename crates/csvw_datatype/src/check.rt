@@ -2,12 +2,12 @@
 ghost use Rattle.std.specs.Prelude.{◌≡◌, ◌↔◌, ◌<◌, ◌^◌, ◌%◌, ◌||◌, not, option_copied, IsTrue, IsOk, IfSome, Some, unsigned_abs};
 ghost use Rattle.csvw_datatype_core.specs.LexicalDates.{IsDayNumber, IsMomentNumber};
 ghost use Rattle.csvw_datatype.specs.Breaks.{is_below, fails};
-ghost use Rattle.csvw_datatype.specs.Formats.{IsFormatOf, AreTruthTexts, IsTruthText, has_bar};
+ghost use Rattle.csvw_datatype.specs.Formats.{IsFormatOf};
 ghost use Rattle.csvw_datatype.specs.Sound.{IsSound, IsBoundOf, AreBoundsOf, IsNumberSize, IsWholeNumber, is_text, lengths_apply, lengths_agree, side_agrees, sides_agree, first_of, bounds_agree};
 
 use crate::datatype::{Datatype, Facets};
 use crate::facets::{is_below, is_less, is_not_under, is_over};
-use crate::format::{Format, TruthFormat};
+use crate::format::Format;
 use crate::simple::Simple;
 use crate::value::Value;
 use crate::width::{UNIT, is_in_width};
@@ -47,7 +47,7 @@ fn is_format_of(simple: Simple, format: &Option<Format>) -> bool
 {
     match (simple, format) {
         (_, None) => true,
-        (Simple::Truth, Some(Format::Truth(texts))) => are_truth_texts(texts),
+        (Simple::Truth, Some(Format::Truth(texts))) => texts.is_good(),
         (Simple::Whole | Simple::Derived(_) | Simple::Decimal, Some(Format::Number(format))) => {
             format.rules().is_lawful()
         }
@@ -117,26 +117,6 @@ fn is_moment_number(moment: i64) -> bool
     ensures { IsTrue result ↔ IsMomentNumber moment }
 {
     -62_135_596_800 <= moment && moment <= 253_402_300_799
-}
-
-fn are_truth_texts(texts: &TruthFormat) -> bool
-    ensures { IsTrue result ↔ AreTruthTexts texts.now }
-{
-    is_truth_text(texts.if_true.as_str())
-        && is_truth_text(texts.if_false.as_str())
-        && texts.if_true != texts.if_false
-}
-
-fn is_truth_text(text: &str) -> bool
-    ensures { IsTrue result ↔ IsTruthText text.now }
-{
-    !text.is_empty() && !has_bar(text)
-}
-
-fn has_bar(text: &str) -> bool
-    ensures { result ≡ has_bar text.now }
-{
-    text.as_bytes().iter().any(|b| *b == b'|')
 }
 
 fn lengths_apply(simple: Simple, facets: &Facets) -> bool

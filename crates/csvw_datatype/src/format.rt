@@ -1,5 +1,6 @@
 //! The formats that texts of a datatype are written in.
-ghost use Rattle.std.specs.Prelude.{◌≡◌, IfOk};
+ghost use Rattle.std.specs.Prelude.{◌≡◌, ◌≢◌, ◌↔◌, IfOk, IsTrue, MatchOption};
+ghost use Rattle.csvw_datatype.specs.Bars.{IsTruthText, has_bar, HasNoSplit, IsOnlySplit};
 
 use csvw_datatype_core::{DateFormat, MomentFormat, NumberRules};
 use csvw_text::{Copied, Text};
@@ -33,6 +34,36 @@ pub enum Format {
 impl TruthFormat {
     ghost use Rattle.csvw_datatype.specs.declared.format.TruthFormat.{TruthFormat};
     ghost use Rattle.csvw_datatype.specs.Formats.{AreTruthTexts, truth_pattern};
+
+    /// The format of a pattern: two different texts, neither empty, with one `|` between them; `None` where
+    /// the pattern isn't that, `AllocError` where there is no memory
+    /// (Model for Tabular Data and Metadata on the Web, section 6.4.3).
+    pub fn of(alloc: Global, pattern: &str) -> Result<Option<TruthFormat>, AllocError>
+        ensures { IfOk result (λ o. MatchOption o ((f : TruthFormat) → AreTruthTexts f → pattern.now ≢ truth_pattern f)
+            (λ f. AreTruthTexts f × (pattern.now ≡ truth_pattern f))) }
+    {
+        let Some((if_true, if_false)) = split_at_bar(pattern) else {
+            return Ok(None);
+        };
+        let format = TruthFormat {
+            if_true: Text::copied(alloc, if_true)?,
+            if_false: Text::copied(alloc, if_false)?,
+        };
+        if format.is_good() {
+            Ok(Some(format))
+        } else {
+            Ok(None)
+        }
+    }
+
+    /// Whether the two texts differ, and neither is empty or holds `|`.
+    pub(crate) fn is_good(&self) -> bool
+        ensures { IsTrue result ↔ AreTruthTexts self.now }
+    {
+        is_truth_text(self.if_true.as_str())
+            && is_truth_text(self.if_false.as_str())
+            && self.if_true != self.if_false
+    }
 
     /// An equal format; `AllocError` where there is no memory.
     pub fn clone(&self, alloc: Global) -> Result<TruthFormat, AllocError>
@@ -78,4 +109,22 @@ impl Copied for Format {
     fn copied(&self, alloc: Global) -> Result<Format, AllocError> {
         self.clone(alloc)
     }
+}
+
+fn is_truth_text(text: &str) -> bool
+    ensures { IsTrue result ↔ IsTruthText text.now }
+{
+    !text.is_empty() && !has_bar(text)
+}
+
+fn has_bar(text: &str) -> bool
+    ensures { result ≡ has_bar text.now }
+{
+    text.as_bytes().iter().any(|b| *b == b'|')
+}
+
+fn split_at_bar(text: &str) -> Option<(&str, &str)>
+    ensures { MatchOption result (HasNoSplit text.now) (λ x. IsOnlySplit text.now x.0.now x.1.now) }
+{
+    text.split_once('|')
 }

@@ -17,11 +17,24 @@ fn plain(simple: Simple, format: Option<Format>) -> Datatype {
     }
 }
 
+fn with(simple: Simple, facets: Facets) -> Datatype {
+    Datatype {
+        simple,
+        id: None,
+        format: None,
+        facets,
+    }
+}
+
 fn number(decimal_char: char, group_char: Option<char>) -> Option<Format> {
     Some(Format::Number(NumberFormat {
         decimal_char,
         group_char,
     }))
+}
+
+fn date(pattern: &str) -> Option<Format> {
+    DateFormat::of(pattern).map(Format::Day)
 }
 
 // The lexical form of the value that a text is, or the name of its code.
@@ -35,14 +48,14 @@ fn answer(alloc: Global, datatype: &Datatype, text: &str) -> Result<String, Allo
     }
 }
 
-fn check_each(
+fn each_reads(
     rt: &impl Abort,
     alloc: Global,
-    datatype: &Datatype,
+    datatype: Datatype,
     rows: &[(&str, &str)],
 ) -> Result<(), AllocError> {
     for (text, expected) in rows {
-        let found = answer(alloc, datatype, text)?;
+        let found = answer(alloc, &datatype, text)?;
         assert!(rt; found.as_str() == *expected, "{text}: {found}");
     }
     Ok(())
@@ -50,34 +63,30 @@ fn check_each(
 
 #[test]
 fn integers(rt: HostRuntime) -> Result<(), Fail> {
-    let alloc = rt.alloc();
-    let whole = plain(Simple::Whole, None);
-    check_each(
+    each_reads(
         &rt,
-        alloc,
-        &whole,
+        rt.alloc(),
+        plain(Simple::Whole, None),
         &[
             ("-0", "0"),
             ("1.", "BadInteger"),
             ("+007", "7"),
             ("", "BadInteger"),
-        ],
-    )?;
-    check_each(
-        &rt,
-        alloc,
-        &whole,
-        &[
             ("99999999999999999999", "99999999999999999999"),
             ("100000000000000000000", "NumberTooLong"),
             ("-100000000000000000000", "NumberTooLong"),
         ],
     )?;
+    Ok(())
+}
+
+#[test]
+fn integers_with_groups(rt: HostRuntime) -> Result<(), Fail> {
     let grouped = plain(Simple::Whole, number('.', Some(',')));
-    check_each(
+    each_reads(
         &rt,
-        alloc,
-        &grouped,
+        rt.alloc(),
+        grouped,
         &[
             ("1,234", "1234"),
             ("1,,2", "BadInteger"),
@@ -89,30 +98,28 @@ fn integers(rt: HostRuntime) -> Result<(), Fail> {
 
 #[test]
 fn decimals(rt: HostRuntime) -> Result<(), Fail> {
-    let alloc = rt.alloc();
-    let decimal = plain(Simple::Decimal, None);
-    check_each(
+    each_reads(
         &rt,
-        alloc,
-        &decimal,
+        rt.alloc(),
+        plain(Simple::Decimal, None),
         &[
             (".5", "0.5"),
             ("5.", "5"),
             (".", "BadDecimal"),
             ("1e3", "BadDecimal"),
+            ("5%", "BadDecimal"),
+            ("1.0000000000000000000", "1"),
         ],
     )?;
-    check_each(
+    Ok(())
+}
+
+#[test]
+fn decimals_with_a_format(rt: HostRuntime) -> Result<(), Fail> {
+    each_reads(
         &rt,
-        alloc,
-        &decimal,
-        &[("5%", "BadDecimal"), ("1.0000000000000000000", "1")],
-    )?;
-    let marked = plain(Simple::Decimal, number('.', None));
-    check_each(
-        &rt,
-        alloc,
-        &marked,
+        rt.alloc(),
+        plain(Simple::Decimal, number('.', None)),
         &[
             ("5‰", "0.005"),
             ("100000000000000000000%", "1000000000000000000"),
@@ -127,44 +134,45 @@ fn decimals(rt: HostRuntime) -> Result<(), Fail> {
 }
 
 #[test]
-fn dates_and_moments(rt: HostRuntime) -> Result<(), Fail> {
+fn dates(rt: HostRuntime) -> Result<(), Fail> {
     let alloc = rt.alloc();
-    let day = plain(Simple::Day, None);
-    check_each(
+    each_reads(
         &rt,
         alloc,
-        &day,
+        plain(Simple::Day, None),
         &[("0001-01-01", "0001-01-01"), ("0000-01-01", "BadDate")],
     )?;
-    let dotted = plain(Simple::Day, DateFormat::of("d.M.yyyy").map(Format::Day));
-    check_each(
+    each_reads(
         &rt,
         alloc,
-        &dotted,
+        plain(Simple::Day, date("d.M.yyyy")),
         &[("1.12.2024", "2024-12-01"), ("31.4.2024", "BadDate")],
     )?;
-    let slashed = plain(Simple::Day, DateFormat::of("dd/MM/yyyy").map(Format::Day));
-    check_each(
+    each_reads(
         &rt,
         alloc,
-        &slashed,
+        plain(Simple::Day, date("dd/MM/yyyy")),
         &[("29/02/2024", "2024-02-29"), ("29/02/2023", "BadDate")],
     )?;
-    let moment = plain(Simple::Moment, Some(Format::Moment(MomentFormat::Minutes)));
-    check_each(
+    Ok(())
+}
+
+#[test]
+fn moments(rt: HostRuntime) -> Result<(), Fail> {
+    let alloc = rt.alloc();
+    each_reads(
         &rt,
         alloc,
-        &moment,
+        plain(Simple::Moment, Some(Format::Moment(MomentFormat::Minutes))),
         &[
             ("2024-02-29T23:59", "2024-02-29T23:59:00"),
             ("2024-02-29T24:00", "BadDateTime"),
         ],
     )?;
-    let seconds = plain(Simple::Moment, None);
-    check_each(
+    each_reads(
         &rt,
         alloc,
-        &seconds,
+        plain(Simple::Moment, None),
         &[
             ("2024-02-29T23:59:59", "2024-02-29T23:59:59"),
             ("2024-02-29T23:59", "BadDateTime"),
@@ -174,44 +182,61 @@ fn dates_and_moments(rt: HostRuntime) -> Result<(), Fail> {
 }
 
 #[test]
-fn truths_and_texts(rt: HostRuntime) -> Result<(), Fail> {
-    let alloc = rt.alloc();
-    let truth = plain(Simple::Truth, None);
-    check_each(
+fn truths(rt: HostRuntime) -> Result<(), Fail> {
+    each_reads(
         &rt,
-        alloc,
-        &truth,
+        rt.alloc(),
+        plain(Simple::Truth, None),
         &[
             ("1", "true"),
+            ("true", "true"),
             ("false", "false"),
             ("0", "false"),
             ("TRUE", "BadBoolean"),
         ],
     )?;
-    let letters = TruthFormat {
-        if_true: Text::copied(alloc, "Y")?,
-        if_false: Text::copied(alloc, "N")?,
-    };
-    let letters = plain(Simple::Truth, Some(Format::Truth(letters)));
-    check_each(
+    Ok(())
+}
+
+#[test]
+fn truths_with_a_format(rt: HostRuntime) -> Result<(), Fail> {
+    let letters = TruthFormat::of(rt.alloc(), "Y|N")?.ok_or("a format")?;
+    let truth = plain(Simple::Truth, Some(Format::Truth(letters)));
+    each_reads(
         &rt,
-        alloc,
-        &letters,
+        rt.alloc(),
+        truth,
         &[("Y", "true"), ("N", "false"), ("1", "BadBoolean")],
     )?;
-    check_each(
+    Ok(())
+}
+
+#[test]
+fn patterns_of_truths(rt: HostRuntime) -> Result<(), Fail> {
+    for pattern in ["", "Y", "Y|", "|N", "Y|Y", "Y|N|", "|"] {
+        assert!(rt;
+            TruthFormat::of(rt.alloc(), pattern)?.is_none(),
+            "{pattern}"
+        );
+    }
+    Ok(())
+}
+
+#[test]
+fn texts(rt: HostRuntime) -> Result<(), Fail> {
+    let alloc = rt.alloc();
+    each_reads(
         &rt,
         alloc,
-        &plain(Simple::Text, None),
+        plain(Simple::Text, None),
         &[(" a\n", " a\n"), ("", "")],
     )?;
-    check_each(&rt, alloc, &plain(Simple::Uri, None), &[("x y", "x y")])?;
+    each_reads(&rt, alloc, plain(Simple::Uri, None), &[("x y", "x y")])?;
     Ok(())
 }
 
 #[test]
 fn bounds_of_derived_integers(rt: HostRuntime) -> Result<(), Fail> {
-    let alloc = rt.alloc();
     let rows = [
         (Width::Long, "-9223372036854775808", "-9223372036854775809"),
         (Width::Long, "9223372036854775807", "9223372036854775808"),
@@ -239,17 +264,26 @@ fn bounds_of_derived_integers(rt: HostRuntime) -> Result<(), Fail> {
         (Width::NegativeInteger, "-1", "0"),
     ];
     for (width, met, passed) in rows {
-        let datatype = plain(Simple::Derived(width), None);
-        check_each(&rt, alloc, &datatype, &[(met, met), (passed, "OutOfRange")])?;
+        each_reads(
+            &rt,
+            rt.alloc(),
+            plain(Simple::Derived(width), None),
+            &[(met, met), (passed, "OutOfRange")],
+        )?;
     }
-    let byte = plain(Simple::Derived(Width::Byte), None);
-    check_each(
+    Ok(())
+}
+
+#[test]
+fn codes_of_derived_integers(rt: HostRuntime) -> Result<(), Fail> {
+    each_reads(
         &rt,
-        alloc,
-        &byte,
+        rt.alloc(),
+        plain(Simple::Derived(Width::Byte), None),
         &[
             ("100000000000000000000", "NumberTooLong"),
             ("x", "BadInteger"),
+            ("01", "1"),
         ],
     )?;
     Ok(())
@@ -266,113 +300,214 @@ fn broken(
     Ok(datatype.facets(&value.expect(rt, "a value")))
 }
 
-#[test]
-fn lengths_in_characters(rt: HostRuntime) -> Result<(), Fail> {
-    let alloc = rt.alloc();
-    let mut one = plain(Simple::Text, None);
-    one.facets.length = Some(1);
-    for text in ["é", "😀", "a"] {
-        assert!(rt; !broken(&rt, alloc, &one, text)?.wrong_length);
+const UNBROKEN: Broken = Broken {
+    wrong_length: false,
+    too_short: false,
+    too_long: false,
+    below_minimum: false,
+    above_maximum: false,
+};
+
+const TOO_SHORT: Broken = Broken {
+    too_short: true,
+    ..UNBROKEN
+};
+
+const TOO_LONG: Broken = Broken {
+    too_long: true,
+    ..UNBROKEN
+};
+
+const WRONG_LENGTH: Broken = Broken {
+    wrong_length: true,
+    ..UNBROKEN
+};
+
+const BELOW: Broken = Broken {
+    below_minimum: true,
+    ..UNBROKEN
+};
+
+const ABOVE: Broken = Broken {
+    above_maximum: true,
+    ..UNBROKEN
+};
+
+fn each_breaks(
+    rt: &impl Abort,
+    alloc: Global,
+    datatype: Datatype,
+    rows: &[(&str, Broken)],
+) -> Result<(), AllocError> {
+    for (text, expected) in rows {
+        let found = broken(rt, alloc, &datatype, text)?;
+        assert!(rt; found == *expected, "{text}");
     }
-    assert!(rt; broken(&rt, alloc, &one, "")?.wrong_length);
-    let mut some = plain(Simple::Text, None);
-    some.facets.min_length = Some(2);
-    some.facets.max_length = Some(3);
-    assert!(rt; broken(&rt, alloc, &some, "é")?.too_short);
-    assert!(rt; !broken(&rt, alloc, &some, "éé")?.too_short);
-    assert!(rt; !broken(&rt, alloc, &some, "ééé")?.too_long);
-    assert!(rt; broken(&rt, alloc, &some, "éééé")?.too_long);
+    Ok(())
+}
+
+#[test]
+fn one_character(rt: HostRuntime) -> Result<(), Fail> {
+    let mut facets = Facets::new();
+    facets.length = Some(1);
+    each_breaks(
+        &rt,
+        rt.alloc(),
+        with(Simple::Text, facets),
+        &[
+            ("é", UNBROKEN),
+            ("😀", UNBROKEN),
+            ("", WRONG_LENGTH),
+            ("ab", WRONG_LENGTH),
+        ],
+    )?;
+    Ok(())
+}
+
+#[test]
+fn two_or_three_characters(rt: HostRuntime) -> Result<(), Fail> {
+    let mut facets = Facets::new();
+    facets.min_length = Some(2);
+    facets.max_length = Some(3);
+    each_breaks(
+        &rt,
+        rt.alloc(),
+        with(Simple::Text, facets),
+        &[
+            ("é", TOO_SHORT),
+            ("éé", UNBROKEN),
+            ("ééé", UNBROKEN),
+            ("éééé", TOO_LONG),
+        ],
+    )?;
     Ok(())
 }
 
 const HALF: i128 = 500_000_000_000_000_000;
 
 #[test]
-fn ranges(rt: HostRuntime) -> Result<(), Fail> {
-    let alloc = rt.alloc();
-    let mut decimal = plain(Simple::Decimal, None);
-    decimal.facets.maximum = Some(Value::Number(3 * HALF));
-    decimal.facets.min_exclusive = Some(Value::Number(-HALF));
-    assert!(rt; !broken(&rt, alloc, &decimal, "1.500")?.above_maximum);
-    assert!(rt; broken(&rt, alloc, &decimal, "2.0")?.above_maximum);
-    assert!(rt; broken(&rt, alloc, &decimal, "-0.5")?.below_minimum);
-    assert!(rt; !broken(&rt, alloc, &decimal, "-0.49")?.below_minimum);
-    let mut day = plain(Simple::Day, None);
-    day.facets.min_inclusive = Some(Value::Day(0));
-    day.facets.max_exclusive = Some(Value::Day(365));
-    assert!(rt; !broken(&rt, alloc, &day, "1970-01-01")?.below_minimum);
-    assert!(rt; broken(&rt, alloc, &day, "1969-12-31")?.below_minimum);
-    assert!(rt; broken(&rt, alloc, &day, "1971-01-01")?.above_maximum);
-    assert!(rt; !broken(&rt, alloc, &day, "1970-12-31")?.above_maximum);
+fn ranges_of_numbers(rt: HostRuntime) -> Result<(), Fail> {
+    let mut facets = Facets::new();
+    facets.maximum = Some(Value::Number(3 * HALF));
+    facets.min_exclusive = Some(Value::Number(-HALF));
+    each_breaks(
+        &rt,
+        rt.alloc(),
+        with(Simple::Decimal, facets),
+        &[
+            ("1.500", UNBROKEN),
+            ("2.0", ABOVE),
+            ("-0.5", BELOW),
+            ("-0.49", UNBROKEN),
+        ],
+    )?;
     Ok(())
 }
 
 #[test]
-fn datatypes_that_do_not_fit(rt: HostRuntime) {
-    let mut lengths = plain(Simple::Text, None);
-    lengths.facets.min_length = Some(2);
-    lengths.facets.max_length = Some(1);
-    assert!(rt; lengths.check().is_err());
-    let mut byte = plain(Simple::Derived(Width::UnsignedByte), None);
-    byte.facets.maximum = Some(Value::Number(256 * 2 * HALF));
-    assert!(rt; byte.check().is_err());
-    byte.facets.maximum = Some(Value::Number(255 * 2 * HALF));
-    assert!(rt; byte.check().is_ok());
-    let mut whole = plain(Simple::Whole, None);
-    whole.facets.minimum = Some(Value::Number(HALF));
-    assert!(rt; whole.check().is_err());
+fn ranges_of_days(rt: HostRuntime) -> Result<(), Fail> {
+    let mut facets = Facets::new();
+    facets.min_inclusive = Some(Value::Day(0));
+    facets.max_exclusive = Some(Value::Day(365));
+    each_breaks(
+        &rt,
+        rt.alloc(),
+        with(Simple::Day, facets),
+        &[
+            ("1970-01-01", UNBROKEN),
+            ("1969-12-31", BELOW),
+            ("1971-01-01", ABOVE),
+            ("1970-12-31", UNBROKEN),
+        ],
+    )?;
+    Ok(())
+}
+
+#[test]
+fn lengths_that_do_not_fit(rt: HostRuntime) {
+    let mut crossed = Facets::new();
+    crossed.min_length = Some(2);
+    crossed.max_length = Some(1);
+    assert!(rt; with(Simple::Text, crossed).check().is_err());
+    let mut length = Facets::new();
+    length.length = Some(1);
+    assert!(rt; with(Simple::Uri, length).check().is_err());
+}
+
+fn at_most(bound: i128) -> Facets {
+    let mut facets = Facets::new();
+    facets.maximum = Some(Value::Number(bound));
+    facets
+}
+
+#[test]
+fn bounds_outside_their_type(rt: HostRuntime) {
+    let byte = Simple::Derived(Width::UnsignedByte);
+    assert!(rt; with(byte, at_most(256 * 2 * HALF)).check().is_err());
+    assert!(rt; with(byte, at_most(255 * 2 * HALF)).check().is_ok());
+    assert!(rt; with(Simple::Whole, at_most(HALF)).check().is_err());
+    assert!(rt; with(Simple::Text, at_most(HALF)).check().is_err());
+    assert!(rt; with(Simple::Decimal, at_most(HALF)).check().is_ok());
+}
+
+#[test]
+fn formats_that_do_not_fit(rt: HostRuntime) {
     assert!(rt; plain(Simple::Day, number('.', None)).check().is_err());
     assert!(rt;
         plain(Simple::Decimal, number('.', Some('.')))
             .check()
             .is_err()
     );
-    let mut length = plain(Simple::Uri, None);
-    length.facets.length = Some(1);
-    assert!(rt; length.check().is_err());
+    assert!(rt; plain(Simple::Whole, number('5', None)).check().is_err());
+}
+
+fn between(low: i128, high: i128) -> Facets {
+    let mut facets = Facets::new();
+    facets.min_exclusive = Some(Value::Number(low));
+    facets.max_exclusive = Some(Value::Number(high));
+    facets
+}
+
+fn from(low: i128, other: i128) -> Facets {
+    let mut facets = Facets::new();
+    facets.minimum = Some(Value::Number(low));
+    facets.min_inclusive = Some(Value::Number(other));
+    facets
 }
 
 #[test]
-fn bounds_that_do_not_agree(rt: HostRuntime) {
-    let one = Value::Number(2 * HALF);
-    let two = Value::Number(4 * HALF);
-    let bounds = |low: Value, high: Value| {
-        let mut datatype = plain(Simple::Decimal, None);
-        datatype.facets.min_exclusive = Some(low);
-        datatype.facets.max_exclusive = Some(high);
-        datatype
-    };
-    assert!(rt;
-        bounds(Value::Number(HALF), Value::Number(HALF))
-            .check()
-            .is_ok()
-    );
-    assert!(rt; bounds(two, one).check().is_err());
-    let mut sides = plain(Simple::Decimal, None);
-    sides.facets.minimum = Some(Value::Number(HALF));
-    sides.facets.min_inclusive = Some(Value::Number(HALF));
-    assert!(rt; sides.check().is_ok());
-    sides.facets.max_exclusive = Some(Value::Number(HALF));
-    assert!(rt; sides.check().is_err());
-    sides.facets.max_exclusive = None;
-    sides.facets.min_exclusive = Some(Value::Number(0));
-    assert!(rt; sides.check().is_err());
-    sides.facets.min_exclusive = None;
-    sides.facets.min_inclusive = Some(Value::Number(0));
-    assert!(rt; sides.check().is_err());
+fn bounds_of_two_sides(rt: HostRuntime) {
+    assert!(rt; with(Simple::Decimal, between(1, 1)).check().is_ok());
+    assert!(rt; with(Simple::Decimal, between(2, 1)).check().is_err());
+    let mut touching = from(1, 1);
+    touching.max_exclusive = Some(Value::Number(1));
+    assert!(rt; with(Simple::Decimal, touching).check().is_err());
+    let mut single = from(1, 1);
+    single.max_inclusive = Some(Value::Number(1));
+    assert!(rt; with(Simple::Decimal, single).check().is_ok());
+}
+
+#[test]
+fn bounds_of_one_side(rt: HostRuntime) {
+    assert!(rt; with(Simple::Decimal, from(1, 1)).check().is_ok());
+    assert!(rt; with(Simple::Decimal, from(1, 2)).check().is_err());
+    let mut both = from(1, 1);
+    both.min_exclusive = Some(Value::Number(0));
+    assert!(rt; with(Simple::Decimal, both).check().is_err());
+}
+
+fn value(rt: &impl Abort, alloc: Global, simple: Simple, text: &str) -> Result<Value, AllocError> {
+    let datatype = plain(simple, None);
+    assert!(rt; datatype.check().is_ok());
+    Ok(datatype.read(alloc, text)?.expect(rt, "a value"))
 }
 
 #[test]
 fn numbers_are_equal_across_types(rt: HostRuntime) -> Result<(), Fail> {
-    let alloc = rt.alloc();
-    let whole = plain(Simple::Whole, None);
-    let decimal = plain(Simple::Decimal, None);
-    let byte = plain(Simple::Derived(Width::Byte), None);
-    assert!(rt; whole.check().is_ok() && decimal.check().is_ok() && byte.check().is_ok());
-    let one = whole.read(alloc, "01")?;
-    assert!(rt; one == decimal.read(alloc, "1.0")?);
-    assert!(rt; one == byte.read(alloc, "+1")?);
-    assert!(rt; one != Ok(Value::Text(Text::copied(alloc, "1")?)));
+    let one = value(&rt, rt.alloc(), Simple::Whole, "01")?;
+    assert!(rt; one == value(&rt, rt.alloc(), Simple::Decimal, "1.0")?);
+    assert!(rt; one == value(&rt, rt.alloc(), Simple::Derived(Width::Byte), "+1")?);
+    assert!(rt; one != value(&rt, rt.alloc(), Simple::Text, "1")?);
     Ok(())
 }
 
@@ -389,15 +524,18 @@ fn names(rt: HostRuntime) {
 
 #[test]
 fn copies_are_equal(rt: HostRuntime) -> Result<(), Fail> {
-    let alloc = rt.alloc();
-    let letters = TruthFormat {
-        if_true: Text::copied(alloc, "Y")?,
-        if_false: Text::copied(alloc, "N")?,
-    };
-    let mut datatype = plain(Simple::Truth, Some(Format::Truth(letters)));
-    datatype.facets.length = Some(3);
-    datatype.facets.minimum = Some(Value::Text(Text::copied(alloc, "t")?));
-    assert!(rt; datatype.clone(alloc)? == datatype);
-    assert!(rt; Value::Moment(1).clone(alloc)? == Value::Moment(1));
+    let mut datatype = plain(Simple::Decimal, number(',', None));
+    datatype.facets.minimum = Some(Value::Text(Text::copied(rt.alloc(), "t")?));
+    let copy = datatype.clone(rt.alloc())?;
+    assert!(rt; copy == datatype);
+    Ok(())
+}
+
+#[test]
+fn copies_of_parts_are_equal(rt: HostRuntime) -> Result<(), Fail> {
+    let letters = Format::Truth(TruthFormat::of(rt.alloc(), "Y|N")?.ok_or("a format")?);
+    let copy = letters.clone(rt.alloc())?;
+    assert!(rt; copy == letters);
+    assert!(rt; Value::Moment(1).clone(rt.alloc())? == Value::Moment(1));
     Ok(())
 }
