@@ -1,5 +1,5 @@
 -- A text has one value or one code.
-use Rattle.std.proofs.Common.{◌≡◌, ℕ, zero, suc, ◌*◌, ◌%◌, ◌^◌, ◌<◌, ◌⊎◌, inl, inr, ⊎_elim, Bool, true, false, Option, Some, None, IsSome, List, [], ◌∷◌, ◌++◌, length, refl, sym, ap, subst, ◌∙◌, arith, ℤ, pos, negsuc, neg_ℤ, unsigned_abs, unwrap_or, IfSome}
+use Rattle.std.proofs.Common.{◌≡◌, ℕ, zero, suc, ◌*◌, ◌%◌, ◌^◌, ◌<◌, ◌⊎◌, inl, inr, ⊎_elim, Bool, true, false, Option, Some, None, IsSome, List, [], ◌∷◌, ◌++◌, length, refl, sym, ap, subst, ◌∙◌, arith, ℤ, pos, negsuc, neg_ℤ, unsigned_abs, unwrap_or, IfSome, Result, Ok, Err, MatchResult, IfOk}
 use Rattle.std.specs.Prelude.{codes}
 use Rattle.std.specs.Str.{chars}
 use Rattle.std.specs.Str.Parse.{digits_value}
@@ -173,6 +173,10 @@ writable (simples.Derived w) f text v r = at_value (λ v. IsWritable v) v (value
 writable simples.Decimal f text v r = at_value (λ v. IsWritable v) v (values.Number r.0) r.2 (size (decimal_rules f) (chars text) r.0 r.1)
 writable simples.Day f text v r = at_value (λ v. IsWritable v) v (values.Day r.0) r.2 (date_in_range (date_format f) text r.0 r.1)
 writable simples.Moment f text v r = at_value (λ v. IsWritable v) v (values.Moment r.0) r.2 (moment_in_range (moment_format f) text r.0 r.1)
+
+pub writable_answer : (s : Simple) (f : Option Format) (text : List ℕ) (r : Result Value Code) → MatchResult r (ReadsAs s f text) (MisreadAs s f text) → IfOk r IsWritable
+writable_answer s f text (Ok v) h = writable s f text v h
+writable_answer s f text (Err code) h = tt
 
 pub bound : (s : Simple) (f : Option Format) (text : List ℕ) (v : Value) → has_bounds s ≡ true → ReadsAs s f text v → IsBoundOf s v
 bound simples.Text f text v h r = cc
