@@ -1,0 +1,189 @@
+-- A text has one value or one code.
+use Rattle.std.proofs.Common.{◌≡◌, ℕ, zero, suc, ◌*◌, ◌%◌, ◌^◌, ◌<◌, ◌⊎◌, inl, inr, ⊎_elim, Bool, true, false, Option, Some, None, IsSome, List, [], ◌∷◌, ◌++◌, length, refl, sym, ap, subst, ◌∙◌, arith, ℤ, pos, negsuc, neg_ℤ, unsigned_abs, unwrap_or, IfSome, Result, Ok, Err, MatchResult, IfOk}
+use Rattle.std.specs.Prelude.{codes}
+use Rattle.std.specs.Str.{chars}
+use Rattle.std.specs.Str.Parse.{digits_value}
+use Rattle.std.proofs.Math.Nat.{mul-mod_left}
+use Rattle.csvw_text.specs.declared.fault.Code.{Code}
+use Rattle.csvw_text.specs.declared.fault.Code.TheVariants.{BadBoolean, BadInteger, BadDecimal, NumberTooLong, OutOfRange, BadDate, BadDateTime}
+use Rattle.csvw_datatype_core.specs.declared.number.NumberRules.{NumberRules}
+use Rattle.csvw_datatype_core.specs.declared.number.NumberFault.{NumberFault}
+use Rattle.csvw_datatype_core.specs.declared.number.NumberFault.TheVariants as faults
+use Rattle.csvw_datatype_core.specs.declared.number.Mark.{Mark}
+use Rattle.csvw_datatype_core.specs.declared.number.Mark.TheVariants as marks
+use Rattle.csvw_datatype_core.specs.Numbers.{Sign, NoSign, Plus, Minus, Parts, signed, divisor, fraction_digits, digits_of, IsFraction, IsMarked, IsCount, IsLawful, ReadsNumber, SpellsNumber}
+use Rattle.csvw_datatype_core.specs.Misread.{MisreadNumber}
+use Rattle.csvw_datatype_core.specs.Dates.{ReadsDate}
+use Rattle.csvw_datatype_core.specs.Moments.{ReadsMoment}
+use Rattle.csvw_datatype_core.proofs.LexicalDateLemmas.{date_in_range, moment_in_range}
+use Rattle.csvw_datatype_core.proofs.OneValue.{one_number, one_date, one_moment}
+use Rattle.csvw_datatype.specs.declared.value.Value.{Value}
+use Rattle.csvw_datatype.specs.declared.value.Value.TheVariants as values
+use Rattle.csvw_datatype.specs.declared.simple.Simple.{Simple}
+use Rattle.csvw_datatype.specs.declared.simple.Simple.TheVariants as simples
+use Rattle.csvw_datatype.specs.declared.simple.Width.{Width}
+use Rattle.csvw_datatype.specs.declared.format.Format.{Format}
+use Rattle.csvw_datatype.specs.declared.format.Format.TheVariants as formats
+use Rattle.csvw_datatype.specs.Formats.{IsFormatOf}
+use Rattle.csvw_datatype.specs.Widths.{IsInWidth}
+use Rattle.csvw_datatype.specs.Reads.{SpellsTruth, whole_rules, decimal_rules, date_format, moment_format, ReadsAs, MisreadAs, MisreadsNumber, number_code}
+use Rattle.csvw_datatype.specs.Sound.{IsNumberSize, IsWholeNumber, IsBoundOf, has_bounds}
+use Rattle.csvw_datatype.specs.Lexical.{IsWritable}
+use Rattle.csvw_datatype.proofs.FormatLemmas.{whole_lawful, derived_lawful, decimal_lawful}
+
+-- truths
+
+by_texts : (T F : Type 0) (a b : Bool) → (T → F → ⊥) → ((a ≡ true) × T) ⊎ ((a ≡ false) × F) → ((b ≡ true) × T) ⊎ ((b ≡ false) × F) → a ≡ b
+by_texts T F a b apart (inl r) (inl s) = r.0 ∙ sym s.0
+by_texts T F a b apart (inr r) (inr s) = r.0 ∙ sym s.0
+by_texts T F a b apart (inl r) (inr s) = absurd (apart r.1 s.1)
+by_texts T F a b apart (inr r) (inl s) = absurd (apart s.1 r.1)
+
+apart_heads : (x y : ℕ) (text xs ys : List ℕ) → (x ≡ y → ⊥) → text ≡ x ∷ xs → text ≡ y ∷ ys → ⊥
+apart_heads x y text xs ys n p q = let e : x ∷ xs ≡ y ∷ ys = sym p ∙ q in n (cc)
+
+plain_apart : (text : List ℕ) → (text ≡ codes "true") ⊎ (text ≡ codes "1") → (text ≡ codes "false") ⊎ (text ≡ codes "0") → ⊥
+plain_apart text (inl p) (inl q) = apart_heads 116 102 text _ _ (λ e. omega arith) p q
+plain_apart text (inl p) (inr q) = apart_heads 116 48 text _ _ (λ e. omega arith) p q
+plain_apart text (inr p) (inl q) = apart_heads 49 102 text _ _ (λ e. omega arith) p q
+plain_apart text (inr p) (inr q) = apart_heads 49 48 text _ _ (λ e. omega arith) p q
+
+one_truth : (f : Option Format) (text : List ℕ) (a b : Bool) → IsFormatOf simples.Truth f → SpellsTruth f text a → SpellsTruth f text b → a ≡ b
+one_truth None text a b ok r s = by_texts _ _ a b (plain_apart text) r s
+one_truth (Some (formats.Truth f)) text a b ok r s = by_texts (text ≡ f.if_true) (text ≡ f.if_false) a b (λ p q. ok.2 (sym p ∙ q)) r s
+one_truth (Some (formats.Number f)) text a b ok r s = absurd ok
+one_truth (Some (formats.Day f)) text a b ok r s = absurd ok
+one_truth (Some (formats.Moment f)) text a b ok r s = absurd ok
+
+-- numbers
+
+same_number : (rules : NumberRules) (l : IsLawful rules) (cs : List ℕ) (v w : Value) (x y : ℤ) → ReadsNumber rules cs x → ReadsNumber rules cs y → v ≡ values.Number x → w ≡ values.Number y → v ≡ w
+same_number rules l cs v w x y r s p q = p ∙ ap (λ z. values.Number z) (one_number rules l cs x y r s) ∙ sym q
+
+spells_of : (rules : NumberRules) (cs : List ℕ) (z : ℤ) → ReadsNumber rules cs z → SpellsNumber rules cs
+spells_of rules cs z r = record { parts = r.parts; is_number = r.is_number; spelled = r.spelled }
+
+not_misread : (rules : NumberRules) (cs : List ℕ) (z : ℤ) (fault : NumberFault) → ReadsNumber rules cs z → MisreadNumber rules cs fault → ⊥
+not_misread rules cs z faults.Bad r m = m (spells_of rules cs z r)
+not_misread rules cs z faults.TooLong r m = m.1 z r
+
+one_fault : (rules : NumberRules) (cs : List ℕ) (a b : NumberFault) → MisreadNumber rules cs a → MisreadNumber rules cs b → a ≡ b
+one_fault rules cs faults.Bad faults.Bad p q = refl
+one_fault rules cs faults.TooLong faults.TooLong p q = refl
+one_fault rules cs faults.Bad faults.TooLong p q = absurd (p q.0)
+one_fault rules cs faults.TooLong faults.Bad p q = absurd (q p.0)
+
+one_number_code : (bad : Code) (rules : NumberRules) (text : List ℕ) (c d : Code) → MisreadsNumber bad rules text c → MisreadsNumber bad rules text d → c ≡ d
+one_number_code bad rules text c d p q = p.2 ∙ ap (number_code bad) (one_fault rules (chars text) p.0 q.0 p.1 q.1) ∙ sym q.2
+
+-- values
+
+pub one_value : (s : Simple) (f : Option Format) (text : List ℕ) (v w : Value) → IsFormatOf s f → ReadsAs s f text v → ReadsAs s f text w → v ≡ w
+one_value simples.Text f text v w ok r s = r ∙ sym s
+one_value simples.Uri f text v w ok r s = r ∙ sym s
+one_value simples.Truth f text v w ok r s = r.2 ∙ ap (λ b. values.Truth b) (one_truth f text r.0 s.0 ok r.1 s.1) ∙ sym s.2
+one_value simples.Whole f text v w ok r s = same_number (whole_rules f) (whole_lawful f ok) (chars text) v w r.0 s.0 r.1 s.1 r.2 s.2
+one_value (simples.Derived width) f text v w ok r s = same_number (whole_rules f) (derived_lawful width f ok) (chars text) v w r.0 s.0 r.1 s.1 r.3 s.3
+one_value simples.Decimal f text v w ok r s = same_number (decimal_rules f) (decimal_lawful f ok) (chars text) v w r.0 s.0 r.1 s.1 r.2 s.2
+one_value simples.Day f text v w ok r s = r.2 ∙ ap (λ d. values.Day d) (one_date (date_format f) text r.0 s.0 r.1 s.1) ∙ sym s.2
+one_value simples.Moment f text v w ok r s = r.2 ∙ ap (λ m. values.Moment m) (one_moment (moment_format f) text r.0 s.0 r.1 s.1) ∙ sym s.2
+
+in_width : (w : Width) (x y : ℤ) → x ≡ y → IsInWidth w x → IsInWidth w y
+in_width w x y e h = let P : ℤ → Type 0 = λ z. IsInWidth w z in subst P e h
+
+pub value_or_code : (s : Simple) (f : Option Format) (text : List ℕ) (v : Value) (code : Code) → IsFormatOf s f → ReadsAs s f text v → MisreadAs s f text code → ⊥
+value_or_code simples.Text f text v code ok r m = m
+value_or_code simples.Uri f text v code ok r m = m
+value_or_code simples.Truth f text v code ok r m = m.0 r.0 r.1
+value_or_code simples.Whole f text v code ok r m = not_misread (whole_rules f) (chars text) r.0 m.0 r.1 m.1
+value_or_code (simples.Derived w) f text v code ok r m = elim m [
+  | inl n ↦ not_misread (whole_rules f) (chars text) r.0 n.0 r.1 n.1
+  | inr n ↦ n.2 (in_width w r.0 n.0 (one_number (whole_rules f) (derived_lawful w f ok) (chars text) r.0 n.0 r.1 n.1) r.2)
+]
+value_or_code simples.Decimal f text v code ok r m = not_misread (decimal_rules f) (chars text) r.0 m.0 r.1 m.1
+value_or_code simples.Day f text v code ok r m = m.0 r.0 r.1
+value_or_code simples.Moment f text v code ok r m = m.0 r.0 r.1
+
+pub one_code : (s : Simple) (f : Option Format) (text : List ℕ) (c d : Code) → IsFormatOf s f → MisreadAs s f text c → MisreadAs s f text d → c ≡ d
+one_code simples.Text f text c d ok p q = absurd p
+one_code simples.Uri f text c d ok p q = absurd p
+one_code simples.Truth f text c d ok p q = p.1 ∙ sym q.1
+one_code simples.Whole f text c d ok p q = one_number_code BadInteger (whole_rules f) text c d p q
+one_code (simples.Derived w) f text c d ok p q = elim p [
+  | inl m ↦ elim q [
+    | inl n ↦ one_number_code BadInteger (whole_rules f) text c d m n
+    | inr n ↦ absurd (not_misread (whole_rules f) (chars text) n.0 m.0 n.1 m.1)
+  ]
+  | inr m ↦ elim q [
+    | inl n ↦ absurd (not_misread (whole_rules f) (chars text) m.0 n.0 m.1 n.1)
+    | inr n ↦ m.3 ∙ sym n.3
+  ]
+]
+one_code simples.Decimal f text c d ok p q = one_number_code BadDecimal (decimal_rules f) text c d p q
+one_code simples.Day f text c d ok p q = p.1 ∙ sym q.1
+one_code simples.Moment f text c d ok p q = p.1 ∙ sym q.1
+
+-- what a text is can be written, and is of the type
+
+signed_abs : (s : Sign) (n : ℕ) → unsigned_abs (signed s n) ≡ n
+signed_abs NoSign n = refl
+signed_abs Plus n = refl
+signed_abs Minus zero = refl
+signed_abs Minus (suc n) = refl
+
+size : (rules : NumberRules) (cs : List ℕ) (z : ℤ) → ReadsNumber rules cs z → IsNumberSize z
+size rules cs z r = let e : unsigned_abs z ≡ r.count = ap unsigned_abs r.is_value ∙ signed_abs r.parts.sign r.count in subst (λ n. n < 10 ^ 38) (sym e) r.small
+
+no_fraction : (group : Option ℕ) (o : Option (List ℕ)) → IsFraction (record { decimal_char = None; group_char = group; allows_marks = false }) o → unwrap_or o [] ≡ []
+no_fraction group None h = refl
+no_fraction group (Some ds) h = absurd (cc (h.0))
+
+no_mark : (group : Option ℕ) (m : Mark) → IsMarked (record { decimal_char = None; group_char = group; allows_marks = false }) m → divisor m ≡ 1
+no_mark group marks.Plain h = refl
+no_mark group marks.Percent h = cc
+no_mark group marks.PerMille h = cc
+
+count_whole : (n v l d : ℕ) → l ≡ 1 → d ≡ 1 → n * (l * d) ≡ v * 10 ^ 18 → n % 10 ^ 18 ≡ 0
+count_whole n v l d a b e =
+    let s : n ≡ v * 10 ^ 18 = omega (arith, rw (a, b) at e) in
+    ap (λ n. n % 10 ^ 18) s ∙ mul-mod_left v (10 ^ 18)
+
+whole_group : (group : Option ℕ) (cs : List ℕ) (z : ℤ) → ReadsNumber (record { decimal_char = None; group_char = group; allows_marks = false }) cs z → IsWholeNumber z
+whole_group group cs z r =
+    let e : unsigned_abs z ≡ r.count = ap unsigned_abs r.is_value ∙ signed_abs r.parts.sign r.count in
+    let f : 10 ^ length (fraction_digits r.parts) ≡ 1 = ap (λ ds. 10 ^ length ds) (no_fraction group r.parts.fraction r.is_number.fraction) in
+    ap (λ n. n % 10 ^ 18) e ∙ count_whole r.count (digits_value 10 (digits_of r.parts)) _ _ f (no_mark group r.parts.mark r.is_number.mark) r.is_count
+
+whole : (f : Option Format) (cs : List ℕ) (z : ℤ) → ReadsNumber (whole_rules f) cs z → IsWholeNumber z
+whole None cs z r = whole_group None cs z r
+whole (Some (formats.Number f)) cs z r = whole_group f.group_char cs z r
+whole (Some (formats.Truth f)) cs z r = whole_group None cs z r
+whole (Some (formats.Day f)) cs z r = whole_group None cs z r
+whole (Some (formats.Moment f)) cs z r = whole_group None cs z r
+
+at_value : (P : Value → Type 0) (v w : Value) → v ≡ w → P w → P v
+at_value P v w e h = subst P (sym e) h
+
+pub writable : (s : Simple) (f : Option Format) (text : List ℕ) (v : Value) → ReadsAs s f text v → IsWritable v
+writable simples.Text f text v r = at_value (λ v. IsWritable v) v (values.Text text) r tt
+writable simples.Uri f text v r = at_value (λ v. IsWritable v) v (values.Text text) r tt
+writable simples.Truth f text v r = at_value (λ v. IsWritable v) v (values.Truth r.0) r.2 tt
+writable simples.Whole f text v r = at_value (λ v. IsWritable v) v (values.Number r.0) r.2 (size (whole_rules f) (chars text) r.0 r.1)
+writable (simples.Derived w) f text v r = at_value (λ v. IsWritable v) v (values.Number r.0) r.3 (size (whole_rules f) (chars text) r.0 r.1)
+writable simples.Decimal f text v r = at_value (λ v. IsWritable v) v (values.Number r.0) r.2 (size (decimal_rules f) (chars text) r.0 r.1)
+writable simples.Day f text v r = at_value (λ v. IsWritable v) v (values.Day r.0) r.2 (date_in_range (date_format f) text r.0 r.1)
+writable simples.Moment f text v r = at_value (λ v. IsWritable v) v (values.Moment r.0) r.2 (moment_in_range (moment_format f) text r.0 r.1)
+
+pub writable_answer : (s : Simple) (f : Option Format) (text : List ℕ) (r : Result Value Code) → MatchResult r (ReadsAs s f text) (MisreadAs s f text) → IfOk r IsWritable
+writable_answer s f text (Ok v) h = writable s f text v h
+writable_answer s f text (Err code) h = tt
+
+pub bound : (s : Simple) (f : Option Format) (text : List ℕ) (v : Value) → has_bounds s ≡ true → ReadsAs s f text v → IsBoundOf s v
+bound simples.Text f text v h r = cc
+bound simples.Uri f text v h r = cc
+bound simples.Truth f text v h r = cc
+bound simples.Whole f text v h r = at_value (λ v. IsBoundOf simples.Whole v) v (values.Number r.0) r.2 (size (whole_rules f) (chars text) r.0 r.1, whole f (chars text) r.0 r.1)
+bound (simples.Derived w) f text v h r = at_value (λ v. IsBoundOf (simples.Derived w) v) v (values.Number r.0) r.3 (size (whole_rules f) (chars text) r.0 r.1, whole f (chars text) r.0 r.1, r.2)
+bound simples.Decimal f text v h r = at_value (λ v. IsBoundOf simples.Decimal v) v (values.Number r.0) r.2 (size (decimal_rules f) (chars text) r.0 r.1)
+bound simples.Day f text v h r = at_value (λ v. IsBoundOf simples.Day v) v (values.Day r.0) r.2 (date_in_range (date_format f) text r.0 r.1)
+bound simples.Moment f text v h r = at_value (λ v. IsBoundOf simples.Moment v) v (values.Moment r.0) r.2 (moment_in_range (moment_format f) text r.0 r.1)

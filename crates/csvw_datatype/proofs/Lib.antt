@@ -1,0 +1,3 @@
+pub mod BarLemmas
+pub mod FormatLemmas
+pub mod LawLemmas

@@ -1,0 +1,8 @@
+use Rattle.csvw_datatype.proofs.LawLemmas as law
+use Rattle.csvw_datatype.proofs.laws.values_of_texts.Goals as goal
+
+pub returns-clause-writable : goal.returns-clause-writable
+returns-clause-writable c = law.writable
+
+pub returns-clause-bound : goal.returns-clause-bound
+returns-clause-bound c = law.bound

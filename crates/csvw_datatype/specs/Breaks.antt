@@ -1,0 +1,56 @@
+-- The facets that a value breaks (Metadata Vocabulary for Tabular Data, section 5.11.2; Model for Tabular Data and
+-- Metadata on the Web, sections 4.6.1 and 4.6.2).
+use Rattle.std.specs.Prelude.{ℕ, ◌==◌, ◌||◌, nat_lt, not, Bool, true, false, Option, Some, None, List, length, ℤ}
+use Rattle.std.specs.Str.{chars}
+use lib.Signed.{lt_z}
+use Rattle.csvw_datatype.specs.declared.value.Value.{Value}
+use Rattle.csvw_datatype.specs.declared.value.Value.TheVariants.{Text, Truth, Number, Day, Moment}
+use Rattle.csvw_datatype.specs.declared.datatype.Facets.{Facets}
+use Rattle.csvw_datatype.specs.declared.facets.Broken.{Broken}
+
+abbrev pub no_facets : Facets
+no_facets = record {
+  length = None;
+  min_length = None;
+  max_length = None;
+  minimum = None;
+  min_inclusive = None;
+  min_exclusive = None;
+  maximum = None;
+  max_inclusive = None;
+  max_exclusive = None;
+}
+
+-- a number, a day or a moment is below another
+abbrev pub is_below : Value → Value → Bool
+is_below (Number a) (Number b) = lt_z a b
+is_below (Day a) (Day b) = lt_z a b
+is_below (Moment a) (Moment b) = lt_z a b
+is_below _ _ = false
+
+-- how many characters a text has
+abbrev pub length_of : Value → Option ℕ
+length_of (Text text) = Some (length (chars text))
+length_of _ = None
+
+-- both are there, and the test holds of them
+abbrev pub fails : {A B : Type 0} → (A → B → Bool) → Option A → Option B → Bool
+fails test (Some a) (Some b) = test a b
+fails test _ _ = false
+
+-- both are there, and the second is below the first
+abbrev pub is_over : Option Value → Option Value → Bool
+is_over a b = fails (λ a b. is_below b a) a b
+
+-- both are there, and the first isn't below the second
+abbrev pub is_not_under : Option Value → Option Value → Bool
+is_not_under a b = fails (λ a b. not (is_below a b)) a b
+
+abbrev pub breaks : Value → Facets → Broken
+breaks v f = record {
+  wrong_length = fails (λ n k. not (n == k)) (length_of v) f.length;
+  too_short = fails (λ n k. nat_lt n k) (length_of v) f.min_length;
+  too_long = fails (λ n k. nat_lt k n) (length_of v) f.max_length;
+  below_minimum = is_over f.minimum (Some v) || is_over f.min_inclusive (Some v) || is_not_under f.min_exclusive (Some v);
+  above_maximum = is_over (Some v) f.maximum || is_over (Some v) f.max_inclusive || is_not_under (Some v) f.max_exclusive;
+}

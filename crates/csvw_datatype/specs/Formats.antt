@@ -1,0 +1,34 @@
+-- Formats that a datatype may have (Model for Tabular Data and Metadata on the Web, sections 6.4.2 to 6.4.4).
+use Rattle.std.specs.Prelude.{◌≢◌, ℕ, true, Option, Some, None, List, ◌∷◌, ◌++◌}
+use Rattle.csvw_datatype_core.specs.declared.number.NumberRules.{NumberRules}
+use Rattle.csvw_datatype_core.specs.Numbers.{IsLawful}
+use Rattle.csvw_datatype.specs.Bars.{IsTruthText}
+use Rattle.csvw_datatype.specs.declared.simple.Simple.{Simple}
+use Rattle.csvw_datatype.specs.declared.simple.Simple.TheVariants as simples
+use Rattle.csvw_datatype.specs.declared.format.TruthFormat.{TruthFormat}
+use Rattle.csvw_datatype.specs.declared.format.NumberFormat.{NumberFormat}
+use Rattle.csvw_datatype.specs.declared.format.Format.{Format}
+use Rattle.csvw_datatype.specs.declared.format.Format.TheVariants as formats
+
+-- two different texts of truths
+abbrev pub AreTruthTexts : TruthFormat → Type 0
+AreTruthTexts f = IsTruthText f.if_true × IsTruthText f.if_false × (f.if_true ≢ f.if_false)
+
+-- the two texts, with a vertical line between them
+abbrev pub truth_pattern : TruthFormat → List ℕ
+truth_pattern f = f.if_true ++ (124 ∷ f.if_false)
+
+-- how decimals are written in a format: marks are allowed
+abbrev pub format_rules : NumberFormat → NumberRules
+format_rules f = record { decimal_char = Some f.decimal_char; group_char = f.group_char; allows_marks = true }
+
+-- a type may have this format
+abbrev pub IsFormatOf : Simple → Option Format → Type 0
+IsFormatOf s None = Unit {0}
+IsFormatOf simples.Truth (Some (formats.Truth f)) = AreTruthTexts f
+IsFormatOf simples.Whole (Some (formats.Number f)) = IsLawful (format_rules f)
+IsFormatOf (simples.Derived w) (Some (formats.Number f)) = IsLawful (format_rules f)
+IsFormatOf simples.Decimal (Some (formats.Number f)) = IsLawful (format_rules f)
+IsFormatOf simples.Day (Some (formats.Day f)) = Unit {0}
+IsFormatOf simples.Moment (Some (formats.Moment f)) = Unit {0}
+IsFormatOf _ _ = ⊥

@@ -1,0 +1,35 @@
+-- The names of datatypes (Metadata Vocabulary for Tabular Data, section 5.11.1).
+use Rattle.std.specs.Prelude.{◌≡◌, ◌⊎◌, ℕ, List, codes}
+use Rattle.csvw_datatype.specs.declared.simple.Simple.{Simple}
+use Rattle.csvw_datatype.specs.declared.simple.Simple.TheVariants.{Text, Truth, Whole, Decimal, Day, Uri, Derived, Moment}
+use Rattle.csvw_datatype.specs.declared.simple.Width.{Width}
+use Rattle.csvw_datatype.specs.declared.simple.Width.TheVariants.{Long, Int, Short, Byte, UnsignedLong, UnsignedInt, UnsignedShort, UnsignedByte, NonNegativeInteger, PositiveInteger, NonPositiveInteger, NegativeInteger}
+
+abbrev pub width_name : Width → List ℕ
+width_name Long = codes "long"
+width_name Int = codes "int"
+width_name Short = codes "short"
+width_name Byte = codes "byte"
+width_name UnsignedLong = codes "unsignedLong"
+width_name UnsignedInt = codes "unsignedInt"
+width_name UnsignedShort = codes "unsignedShort"
+width_name UnsignedByte = codes "unsignedByte"
+width_name NonNegativeInteger = codes "nonNegativeInteger"
+width_name PositiveInteger = codes "positiveInteger"
+width_name NonPositiveInteger = codes "nonPositiveInteger"
+width_name NegativeInteger = codes "negativeInteger"
+
+abbrev pub name_of : Simple → List ℕ
+name_of Text = codes "string"
+name_of Truth = codes "boolean"
+name_of Whole = codes "integer"
+name_of Decimal = codes "decimal"
+name_of Day = codes "date"
+name_of Uri = codes "anyURI"
+name_of (Derived w) = width_name w
+name_of Moment = codes "dateTime"
+
+-- the type has this name, or its other name
+abbrev pub IsNamed : List ℕ → Simple → Type 0
+IsNamed name Moment = (name ≡ codes "dateTime") ⊎ (name ≡ codes "datetime")
+IsNamed name s = name ≡ name_of s

@@ -1,0 +1,89 @@
+-- Which value a text is under a datatype, and what is wrong where it is none (Model for Tabular Data and Metadata on
+-- the Web, section 6.4; XML Schema 1.1 part 2, section 3).
+use Rattle.std.specs.Prelude.{◌≡◌, ℕ, ◌⊎◌, Bool, true, false, Option, Some, None, codes, List, ℤ}
+use Rattle.std.specs.Str.{chars}
+use Rattle.csvw_text.specs.declared.fault.Code.{Code}
+use Rattle.csvw_text.specs.declared.fault.Code.TheVariants.{BadBoolean, BadInteger, BadDecimal, NumberTooLong, OutOfRange, BadDate, BadDateTime}
+use Rattle.csvw_datatype_core.specs.declared.number.NumberRules.{NumberRules}
+use Rattle.csvw_datatype_core.specs.declared.number.NumberFault.{NumberFault}
+use Rattle.csvw_datatype_core.specs.declared.number.NumberFault.TheVariants as faults
+use Rattle.csvw_datatype_core.specs.declared.date.DateFormat.{DateFormat}
+use Rattle.csvw_datatype_core.specs.declared.date.DateFormat.TheVariants.{YearFirst}
+use Rattle.csvw_datatype_core.specs.declared.moment.MomentFormat.{MomentFormat}
+use Rattle.csvw_datatype_core.specs.declared.moment.MomentFormat.TheVariants.{Seconds}
+use Rattle.csvw_datatype_core.specs.Numbers.{ReadsNumber}
+use Rattle.csvw_datatype_core.specs.Misread.{MisreadNumber}
+use Rattle.csvw_datatype_core.specs.Dates.{ReadsDate}
+use Rattle.csvw_datatype_core.specs.Moments.{ReadsMoment}
+use Rattle.csvw_datatype.specs.declared.value.Value.{Value}
+use Rattle.csvw_datatype.specs.declared.value.Value.TheVariants as values
+use Rattle.csvw_datatype.specs.declared.simple.Simple.{Simple}
+use Rattle.csvw_datatype.specs.declared.simple.Simple.TheVariants as simples
+use Rattle.csvw_datatype.specs.declared.format.Format.{Format}
+use Rattle.csvw_datatype.specs.declared.format.Format.TheVariants as formats
+use Rattle.csvw_datatype.specs.declared.datatype.Datatype.{Datatype}
+use Rattle.csvw_datatype.specs.Formats.{format_rules}
+use Rattle.csvw_datatype.specs.Widths.{IsInWidth}
+
+-- the texts of the truths
+abbrev pub SpellsTruth : Option Format → List ℕ → Bool → Type 0
+SpellsTruth (Some (formats.Truth f)) text b = ((b ≡ true) × (text ≡ f.if_true)) ⊎ ((b ≡ false) × (text ≡ f.if_false))
+SpellsTruth _ text b = ((b ≡ true) × ((text ≡ codes "true") ⊎ (text ≡ codes "1"))) ⊎ ((b ≡ false) × ((text ≡ codes "false") ⊎ (text ≡ codes "0")))
+
+-- how integers are written: with a group character where the format has one
+abbrev pub whole_rules : Option Format → NumberRules
+whole_rules (Some (formats.Number f)) = record { decimal_char = None; group_char = f.group_char; allows_marks = false }
+whole_rules _ = record { decimal_char = None; group_char = None; allows_marks = false }
+
+-- how decimals are written: a format allows the marks too
+abbrev pub decimal_rules : Option Format → NumberRules
+decimal_rules (Some (formats.Number f)) = format_rules f
+decimal_rules _ = record { decimal_char = Some 46; group_char = None; allows_marks = false }
+
+abbrev pub date_format : Option Format → DateFormat
+date_format (Some (formats.Day f)) = f
+date_format _ = YearFirst
+
+abbrev pub moment_format : Option Format → MomentFormat
+moment_format (Some (formats.Moment f)) = f
+moment_format _ = Seconds
+
+-- the text is this value
+abbrev pub ReadsAs : Simple → Option Format → List ℕ → Value → Type 0
+ReadsAs simples.Text format text v = v ≡ values.Text text
+ReadsAs simples.Uri format text v = v ≡ values.Text text
+ReadsAs simples.Truth format text v = (b : Bool) × SpellsTruth format text b × (v ≡ values.Truth b)
+ReadsAs simples.Whole format text v = (z : ℤ) × ReadsNumber (whole_rules format) (chars text) z × (v ≡ values.Number z)
+ReadsAs (simples.Derived w) format text v = (z : ℤ) × ReadsNumber (whole_rules format) (chars text) z × IsInWidth w z × (v ≡ values.Number z)
+ReadsAs simples.Decimal format text v = (z : ℤ) × ReadsNumber (decimal_rules format) (chars text) z × (v ≡ values.Number z)
+ReadsAs simples.Day format text v = (day : ℤ) × ReadsDate (date_format format) text day × (v ≡ values.Day day)
+ReadsAs simples.Moment format text v = (moment : ℤ) × ReadsMoment (moment_format format) text moment × (v ≡ values.Moment moment)
+
+-- the text is this value under a datatype
+abbrev pub Reads : Datatype → List ℕ → Value → Type 0
+Reads d text v = ReadsAs d.simple d.format text v
+
+-- the code of a number that isn't read
+abbrev pub number_code : Code → NumberFault → Code
+number_code bad faults.Bad = bad
+number_code bad faults.TooLong = NumberTooLong
+
+abbrev pub MisreadsNumber : Code → NumberRules → List ℕ → Code → Type 0
+MisreadsNumber bad rules text code = (fault : NumberFault) × MisreadNumber rules (chars text) fault × (code ≡ number_code bad fault)
+
+-- the text is no value, for this reason
+abbrev pub MisreadAs : Simple → Option Format → List ℕ → Code → Type 0
+MisreadAs simples.Text format text code = ⊥
+MisreadAs simples.Uri format text code = ⊥
+MisreadAs simples.Truth format text code = ((b : Bool) → ¬ SpellsTruth format text b) × (code ≡ BadBoolean)
+MisreadAs simples.Whole format text code = MisreadsNumber BadInteger (whole_rules format) text code
+MisreadAs (simples.Derived w) format text code =
+    MisreadsNumber BadInteger (whole_rules format) text code
+    ⊎ ((z : ℤ) × ReadsNumber (whole_rules format) (chars text) z × (¬ IsInWidth w z) × (code ≡ OutOfRange))
+MisreadAs simples.Decimal format text code = MisreadsNumber BadDecimal (decimal_rules format) text code
+MisreadAs simples.Day format text code = ((day : ℤ) → ¬ ReadsDate (date_format format) text day) × (code ≡ BadDate)
+MisreadAs simples.Moment format text code = ((moment : ℤ) → ¬ ReadsMoment (moment_format format) text moment) × (code ≡ BadDateTime)
+
+-- the text is no value under a datatype, for this reason
+abbrev pub Misread : Datatype → List ℕ → Code → Type 0
+Misread d text code = MisreadAs d.simple d.format text code

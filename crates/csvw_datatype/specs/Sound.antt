@@ -1,0 +1,89 @@
+-- Datatypes that fit together (Metadata Vocabulary for Tabular Data, section 5.11.2; Model for Tabular Data and
+-- Metadata on the Web, sections 4.6.1 and 4.6.2).
+use Rattle.std.specs.Prelude.{◌≡◌, ℕ, ◌<◌, ◌%◌, ◌^◌, ◌&&◌, ◌||◌, not, nat_lt, Bool, true, false, Option, Some, None, IfSome, is_some, ℤ, unsigned_abs}
+use Rattle.csvw_datatype_core.specs.LexicalDates.{IsDayNumber, IsMomentNumber}
+use Rattle.csvw_datatype.specs.declared.value.Value.{Value}
+use Rattle.csvw_datatype.specs.declared.value.Value.TheVariants as values
+use Rattle.csvw_datatype.specs.declared.simple.Simple.{Simple}
+use Rattle.csvw_datatype.specs.declared.simple.Simple.TheVariants as simples
+use Rattle.csvw_datatype.specs.declared.datatype.Facets.{Facets}
+use Rattle.csvw_datatype.specs.declared.datatype.Datatype.{Datatype}
+use Rattle.csvw_datatype.specs.Breaks.{is_below, fails, is_over, is_not_under}
+use Rattle.csvw_datatype.specs.Formats.{IsFormatOf}
+use Rattle.csvw_datatype.specs.Widths.{IsInWidth}
+
+-- a number that a text can spell, as a count of units of 10^-18
+abbrev pub IsNumberSize : ℤ → Type 0
+IsNumberSize z = unsigned_abs z < 10 ^ 38
+
+-- a count of units of 10^-18 that is a whole number
+abbrev pub IsWholeNumber : ℤ → Type 0
+IsWholeNumber z = unsigned_abs z % 10 ^ 18 ≡ 0
+
+-- a type whose values are ordered
+abbrev pub has_bounds : Simple → Bool
+has_bounds simples.Whole = true
+has_bounds (simples.Derived w) = true
+has_bounds simples.Decimal = true
+has_bounds simples.Day = true
+has_bounds simples.Moment = true
+has_bounds _ = false
+
+-- a value that some text of the type is, and that can be a bound
+abbrev pub IsBoundOf : Simple → Value → Type 0
+IsBoundOf simples.Whole (values.Number z) = IsNumberSize z × IsWholeNumber z
+IsBoundOf (simples.Derived w) (values.Number z) = IsNumberSize z × IsWholeNumber z × IsInWidth w z
+IsBoundOf simples.Decimal (values.Number z) = IsNumberSize z
+IsBoundOf simples.Day (values.Day day) = IsDayNumber day
+IsBoundOf simples.Moment (values.Moment moment) = IsMomentNumber moment
+IsBoundOf _ _ = ⊥
+
+-- each bound that there is, is one of the type; a type without bounds has none
+pub record AreBoundsOf (s : Simple) (f : Facets) : Type 0 where
+  pub minimum : IfSome f.minimum (IsBoundOf s)
+  pub min_inclusive : IfSome f.min_inclusive (IsBoundOf s)
+  pub min_exclusive : IfSome f.min_exclusive (IsBoundOf s)
+  pub maximum : IfSome f.maximum (IsBoundOf s)
+  pub max_inclusive : IfSome f.max_inclusive (IsBoundOf s)
+  pub max_exclusive : IfSome f.max_exclusive (IsBoundOf s)
+
+abbrev pub is_text : Simple → Bool
+is_text simples.Text = true
+is_text _ = false
+
+-- lengths are facets of strings alone
+abbrev pub lengths_apply : Simple → Facets → Bool
+lengths_apply s f = is_text s || not (is_some f.length || is_some f.min_length || is_some f.max_length)
+
+-- `minLength` isn't above `maxLength`, and `length` not below `minLength` or above `maxLength`
+abbrev pub lengths_agree : Facets → Bool
+lengths_agree f =
+    not (fails (λ n k. nat_lt n k) f.max_length f.min_length || fails (λ n k. nat_lt n k) f.length f.min_length || fails (λ n k. nat_lt n k) f.max_length f.length)
+
+-- two bounds of one side, both inclusive, are equal, and none stands beside an exclusive one
+abbrev pub side_agrees : Option Value → Option Value → Option Value → Bool
+side_agrees bound inclusive exclusive =
+    not (fails (λ a b. is_below a b || is_below b a) bound inclusive) && not (is_some exclusive && (is_some bound || is_some inclusive))
+
+-- the first that is there
+abbrev pub first_of : Option Value → Option Value → Option Value
+first_of None b = b
+first_of (Some a) b = Some a
+
+-- a lower bound isn't above an upper one, nor equal to it where exactly one of them is exclusive
+abbrev pub sides_agree : Option Value → Option Value → Option Value → Option Value → Bool
+sides_agree low low_exclusive high high_exclusive =
+    not (is_over low high || is_over low_exclusive high_exclusive || is_not_under low high_exclusive || is_not_under low_exclusive high)
+
+abbrev pub bounds_agree : Facets → Bool
+bounds_agree f =
+    side_agrees f.minimum f.min_inclusive f.min_exclusive && side_agrees f.maximum f.max_inclusive f.max_exclusive
+    && sides_agree (first_of f.minimum f.min_inclusive) f.min_exclusive (first_of f.maximum f.max_inclusive) f.max_exclusive
+
+-- the format and the facets fit the type and each other
+pub record IsSound (d : Datatype) : Type 0 where
+  pub format : IsFormatOf d.simple d.format
+  pub bounds : AreBoundsOf d.simple d.facets
+  pub lengths_apply : lengths_apply d.simple d.facets ≡ true
+  pub lengths_agree : lengths_agree d.facets ≡ true
+  pub bounds_agree : bounds_agree d.facets ≡ true

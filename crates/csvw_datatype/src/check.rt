@@ -1,0 +1,192 @@
+//! Whether a datatype's format and facets fit together.
+ghost use Rattle.std.specs.Prelude.{◌≡◌, ◌↔◌, ◌<◌, ◌^◌, ◌%◌, ◌||◌, not, option_copied, IsTrue, IsOk, IfSome, Some, unsigned_abs};
+ghost use Rattle.csvw_datatype_core.specs.LexicalDates.{IsDayNumber, IsMomentNumber};
+ghost use Rattle.csvw_datatype.specs.Breaks.{is_below, fails};
+ghost use Rattle.csvw_datatype.specs.Formats.{IsFormatOf};
+ghost use Rattle.csvw_datatype.specs.Sound.{IsSound, IsBoundOf, AreBoundsOf, IsNumberSize, IsWholeNumber, is_text, lengths_apply, lengths_agree, side_agrees, sides_agree, first_of, bounds_agree};
+
+use crate::datatype::{Datatype, Facets};
+use crate::facets::{is_below, is_less, is_not_under, is_over};
+use crate::format::Format;
+use crate::simple::Simple;
+use crate::value::Value;
+use crate::width::{UNIT, is_in_width};
+
+/// The format or the facets of a datatype don't fit together.
+#[derive(Clone, Copy, Debug, PartialEq, Eq)]
+pub struct BadDatatype;
+
+impl Datatype {
+    /// Whether the format is one of the type's and the facets fit the type and each other: lengths stand on
+    /// strings alone, bounds are values of an ordered type, and no facet rules out what another asks for. It
+    /// takes no memory (Metadata Vocabulary for Tabular Data, section 5.11.2).
+    pub fn check(&self) -> Result<(), BadDatatype>
+        ensures { IsOk result ↔ IsSound self.now }
+    {
+        if !is_format_of(self.simple, &self.format) {
+            return Err(BadDatatype);
+        }
+        if !are_bounds_of(self.simple, &self.facets) {
+            return Err(BadDatatype);
+        }
+        if !lengths_apply(self.simple, &self.facets) {
+            return Err(BadDatatype);
+        }
+        if !lengths_agree(&self.facets) {
+            return Err(BadDatatype);
+        }
+        if !bounds_agree(&self.facets) {
+            return Err(BadDatatype);
+        }
+        Ok(())
+    }
+}
+
+fn is_format_of(simple: Simple, format: &Option<Format>) -> bool
+    ensures { IsTrue result ↔ IsFormatOf simple format.now }
+{
+    match (simple, format) {
+        (_, None) => true,
+        (Simple::Truth, Some(Format::Truth(texts))) => texts.is_good(),
+        (Simple::Whole | Simple::Derived(_) | Simple::Decimal, Some(Format::Number(format))) => {
+            format.rules().is_lawful()
+        }
+        (Simple::Day, Some(Format::Day(_))) => true,
+        (Simple::Moment, Some(Format::Moment(_))) => true,
+        _ => false,
+    }
+}
+
+fn are_bounds_of(simple: Simple, facets: &Facets) -> bool
+    ensures { IsTrue result ↔ AreBoundsOf simple facets.now }
+{
+    if !is_bound_option(simple, &facets.minimum) || !is_bound_option(simple, &facets.maximum) {
+        return false;
+    }
+    if !is_bound_option(simple, &facets.min_inclusive)
+        || !is_bound_option(simple, &facets.max_inclusive)
+    {
+        return false;
+    }
+    is_bound_option(simple, &facets.min_exclusive) && is_bound_option(simple, &facets.max_exclusive)
+}
+
+fn is_bound_option(simple: Simple, bound: &Option<Value>) -> bool
+    ensures { IsTrue result ↔ IfSome bound.now (IsBoundOf simple) }
+{
+    match bound {
+        None => true,
+        Some(value) => is_bound_of(simple, value),
+    }
+}
+
+fn is_bound_of(simple: Simple, value: &Value) -> bool
+    ensures { IsTrue result ↔ IsBoundOf simple value.now }
+{
+    match (simple, value) {
+        (Simple::Whole, Value::Number(number)) => is_number_size(*number) && is_whole(*number),
+        (Simple::Derived(width), Value::Number(number)) => {
+            is_number_size(*number) && is_whole(*number) && is_in_width(width, *number)
+        }
+        (Simple::Decimal, Value::Number(number)) => is_number_size(*number),
+        (Simple::Day, Value::Day(day)) => is_day_number(*day),
+        (Simple::Moment, Value::Moment(moment)) => is_moment_number(*moment),
+        _ => false,
+    }
+}
+
+fn is_number_size(number: i128) -> bool
+    ensures { IsTrue result ↔ IsNumberSize number }
+{
+    number.unsigned_abs() < 100_000_000_000_000_000_000_000_000_000_000_000_000
+}
+
+fn is_whole(number: i128) -> bool
+    ensures { IsTrue result ↔ IsWholeNumber number }
+{
+    number.unsigned_abs() % UNIT.unsigned_abs() == 0
+}
+
+fn is_day_number(day: i32) -> bool
+    ensures { IsTrue result ↔ IsDayNumber day }
+{
+    -719_162 <= day && day <= 2_932_896
+}
+
+fn is_moment_number(moment: i64) -> bool
+    ensures { IsTrue result ↔ IsMomentNumber moment }
+{
+    -62_135_596_800 <= moment && moment <= 253_402_300_799
+}
+
+fn lengths_apply(simple: Simple, facets: &Facets) -> bool
+    ensures { result ≡ lengths_apply simple facets.now }
+{
+    matches!(simple, Simple::Text)
+        || !(facets.length.is_some() || facets.min_length.is_some() || facets.max_length.is_some())
+}
+
+fn lengths_agree(facets: &Facets) -> bool
+    ensures { result ≡ lengths_agree facets.now }
+{
+    !(is_less(facets.max_length, facets.min_length)
+        || is_less(facets.length, facets.min_length)
+        || is_less(facets.max_length, facets.length))
+}
+
+fn bounds_agree(facets: &Facets) -> bool
+    ensures { result ≡ bounds_agree facets.now }
+{
+    side_agrees(
+        &facets.minimum,
+        &facets.min_inclusive,
+        &facets.min_exclusive,
+    ) && side_agrees(
+        &facets.maximum,
+        &facets.max_inclusive,
+        &facets.max_exclusive,
+    ) && sides_agree(
+        first_of(&facets.minimum, &facets.min_inclusive),
+        facets.min_exclusive.as_ref(),
+        first_of(&facets.maximum, &facets.max_inclusive),
+        facets.max_exclusive.as_ref(),
+    )
+}
+
+fn side_agrees(bound: &Option<Value>, inclusive: &Option<Value>, exclusive: &Option<Value>) -> bool
+    ensures { result ≡ side_agrees bound.now inclusive.now exclusive.now }
+{
+    !differ(bound, inclusive) && !(exclusive.is_some() && (bound.is_some() || inclusive.is_some()))
+}
+
+fn differ(a: &Option<Value>, b: &Option<Value>) -> bool
+    ensures { result ≡ fails (λ a b. is_below a b || is_below b a) a.now b.now }
+{
+    match (a, b) {
+        (Some(x), Some(y)) => is_below(x, y) || is_below(y, x),
+        (Some(_), None) | (None, Some(_)) | (None, None) => false,
+    }
+}
+
+fn first_of<'a>(a: &'a Option<Value>, b: &'a Option<Value>) -> Option<&'a Value>
+    ensures { option_copied result ≡ first_of a.now b.now }
+{
+    match a {
+        Some(x) => Some(x),
+        None => b.as_ref(),
+    }
+}
+
+fn sides_agree(
+    low: Option<&Value>,
+    low_exclusive: Option<&Value>,
+    high: Option<&Value>,
+    high_exclusive: Option<&Value>,
+) -> bool
+    ensures { result ≡ sides_agree (option_copied low.entry) (option_copied low_exclusive.entry) (option_copied high.entry) (option_copied high_exclusive.entry) }
+{
+    !(is_over(low, high)
+        || is_over(low_exclusive, high_exclusive)
+        || is_not_under(low, high_exclusive)
+        || is_not_under(low_exclusive, high))
+}

@@ -1,0 +1,88 @@
+//! A datatype of a column.
+ghost use Rattle.std.specs.Prelude.{◌≡◌, IfOk};
+
+use crate::format::Format;
+use crate::simple::Simple;
+use crate::value::Value;
+use csvw_iri::Iri;
+use csvw_text::copied_option;
+use std::alloc::{AllocError, Global};
+
+/// What values a column takes besides their type (Metadata Vocabulary for Tabular Data, section 5.11.2).
+/// Lengths are in characters.
+#[derive(Debug, Drop, PartialEq, Eq)]
+pub struct Facets {
+    pub length: Option<u64>,
+    pub min_length: Option<u64>,
+    pub max_length: Option<u64>,
+    pub minimum: Option<Value>,
+    pub min_inclusive: Option<Value>,
+    pub min_exclusive: Option<Value>,
+    pub maximum: Option<Value>,
+    pub max_inclusive: Option<Value>,
+    pub max_exclusive: Option<Value>,
+}
+
+/// A datatype (Metadata Vocabulary for Tabular Data, section 5.11.2).
+#[derive(Debug, Drop, PartialEq, Eq)]
+pub struct Datatype {
+    /// Its `base`.
+    pub simple: Simple,
+    /// Its `@id`, where it has one.
+    pub id: Option<Iri>,
+    /// Its `format`, where it has one.
+    pub format: Option<Format>,
+    pub facets: Facets,
+}
+
+impl Facets {
+    ghost use Rattle.csvw_datatype.specs.Breaks.{no_facets};
+
+    /// No facet.
+    pub fn new() -> Facets
+        ensures { result ≡ no_facets }
+    {
+        Facets {
+            length: None,
+            min_length: None,
+            max_length: None,
+            minimum: None,
+            min_inclusive: None,
+            min_exclusive: None,
+            maximum: None,
+            max_inclusive: None,
+            max_exclusive: None,
+        }
+    }
+
+    /// Equal facets; `AllocError` where there is no memory.
+    pub fn clone(&self, alloc: Global) -> Result<Facets, AllocError>
+        ensures { IfOk result (λ f. f ≡ self.now) }
+    {
+        Ok(Facets {
+            length: self.length,
+            min_length: self.min_length,
+            max_length: self.max_length,
+            minimum: copied_option(alloc, &self.minimum)?,
+            min_inclusive: copied_option(alloc, &self.min_inclusive)?,
+            min_exclusive: copied_option(alloc, &self.min_exclusive)?,
+            maximum: copied_option(alloc, &self.maximum)?,
+            max_inclusive: copied_option(alloc, &self.max_inclusive)?,
+            max_exclusive: copied_option(alloc, &self.max_exclusive)?,
+        })
+    }
+}
+
+impl Datatype {
+    /// An equal datatype; `AllocError` where there is no memory.
+    pub fn clone(&self, alloc: Global) -> Result<Datatype, AllocError>
+        ensures { IfOk result (λ d. d ≡ self.now) }
+    {
+        Ok(Datatype {
+            simple: self.simple,
+            id: copied_option(alloc, &self.id)?,
+            format: copied_option(alloc, &self.format)?,
+            facets: self.facets.clone(alloc)?,
+        })
+    }
+}

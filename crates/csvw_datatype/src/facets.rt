@@ -1,0 +1,101 @@
+//! The facets that a value breaks.
+ghost use Rattle.std.specs.Prelude.{◌≡◌, length, ◌==◌, nat_lt, not, option_copied, Some};
+ghost use Rattle.std.specs.Str.{chars};
+ghost use Rattle.csvw_datatype.specs.Breaks.{breaks, is_below, length_of, fails, is_over, is_not_under};
+
+use crate::datatype::Datatype;
+use crate::value::Value;
+
+/// The facets that a value breaks, one for each code.
+#[derive(Clone, Copy, Debug, PartialEq, Eq)]
+pub struct Broken {
+    pub wrong_length: bool,
+    pub too_short: bool,
+    pub too_long: bool,
+    pub below_minimum: bool,
+    pub above_maximum: bool,
+}
+
+impl Datatype {
+    /// The facets that a value breaks. It takes no memory (Metadata Vocabulary for Tabular Data, section 5.11.2).
+    pub fn facets(&self, value: &Value) -> Broken
+        ensures { result ≡ breaks value.now self.now.facets }
+    {
+        let facets = &self.facets;
+        let length = length_of(value);
+        let value = Some(value);
+        Broken {
+            wrong_length: differs(length, facets.length),
+            too_short: is_less(length, facets.min_length),
+            too_long: is_less(facets.max_length, length),
+            below_minimum: is_over(facets.minimum.as_ref(), value)
+                || is_over(facets.min_inclusive.as_ref(), value)
+                || is_not_under(facets.min_exclusive.as_ref(), value),
+            above_maximum: is_over(value, facets.maximum.as_ref())
+                || is_over(value, facets.max_inclusive.as_ref())
+                || is_not_under(value, facets.max_exclusive.as_ref()),
+        }
+    }
+}
+
+fn length_of(value: &Value) -> Option<u64>
+    ensures { result ≡ length_of value.now }
+{
+    match value {
+        Value::Text(text) => Some(count(text.as_str())),
+        Value::Truth(_) | Value::Number(_) | Value::Day(_) | Value::Moment(_) => None,
+    }
+}
+
+fn count(text: &str) -> u64
+    ensures { result ≡ length (chars text.now) }
+{
+    text.chars().count() as u64
+}
+
+pub(crate) fn differs(a: Option<u64>, b: Option<u64>) -> bool
+    ensures { result ≡ fails (λ n k. not (n == k)) a b }
+{
+    match (a, b) {
+        (Some(n), Some(k)) => n != k,
+        (Some(_), None) | (None, Some(_)) | (None, None) => false,
+    }
+}
+
+pub(crate) fn is_less(a: Option<u64>, b: Option<u64>) -> bool
+    ensures { result ≡ fails (λ n k. nat_lt n k) a b }
+{
+    match (a, b) {
+        (Some(n), Some(k)) => n < k,
+        (Some(_), None) | (None, Some(_)) | (None, None) => false,
+    }
+}
+
+pub(crate) fn is_below(a: &Value, b: &Value) -> bool
+    ensures { result ≡ is_below a.now b.now }
+{
+    match (a, b) {
+        (Value::Number(x), Value::Number(y)) => *x < *y,
+        (Value::Day(x), Value::Day(y)) => *x < *y,
+        (Value::Moment(x), Value::Moment(y)) => *x < *y,
+        _ => false,
+    }
+}
+
+pub(crate) fn is_over(a: Option<&Value>, b: Option<&Value>) -> bool
+    ensures { result ≡ is_over (option_copied a.entry) (option_copied b.entry) }
+{
+    match (a, b) {
+        (Some(x), Some(y)) => is_below(y, x),
+        (Some(_), None) | (None, Some(_)) | (None, None) => false,
+    }
+}
+
+pub(crate) fn is_not_under(a: Option<&Value>, b: Option<&Value>) -> bool
+    ensures { result ≡ is_not_under (option_copied a.entry) (option_copied b.entry) }
+{
+    match (a, b) {
+        (Some(x), Some(y)) => !is_below(x, y),
+        (Some(_), None) | (None, Some(_)) | (None, None) => false,
+    }
+}

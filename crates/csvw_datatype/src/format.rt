@@ -1,0 +1,130 @@
+//! The formats that texts of a datatype are written in.
+ghost use Rattle.std.specs.Prelude.{◌≡◌, ◌≢◌, ◌↔◌, IfOk, IsTrue, MatchOption};
+ghost use Rattle.csvw_datatype.specs.Bars.{IsTruthText, has_bar, HasNoSplit, IsOnlySplit};
+
+use csvw_datatype_core::{DateFormat, MomentFormat, NumberRules};
+use csvw_text::{Copied, Text};
+use std::alloc::{AllocError, Global};
+
+/// The two texts of the truths (Model for Tabular Data and Metadata on the Web, section 6.4.3).
+#[derive(Debug, Drop, PartialEq, Eq)]
+pub struct TruthFormat {
+    pub if_true: Text,
+    pub if_false: Text,
+}
+
+/// The characters of a number (Model for Tabular Data and Metadata on the Web, section 6.4.2).
+#[derive(Clone, Copy, Debug, PartialEq, Eq)]
+pub struct NumberFormat {
+    /// `decimalChar`, what stands before a fraction.
+    pub decimal_char: char,
+    /// `groupChar`, what may stand between two digits of the whole part.
+    pub group_char: Option<char>,
+}
+
+/// How texts of a datatype are written, where it isn't the default way.
+#[derive(Debug, Drop, PartialEq, Eq)]
+pub enum Format {
+    Truth(TruthFormat),
+    Number(NumberFormat),
+    Day(DateFormat),
+    Moment(MomentFormat),
+}
+
+impl TruthFormat {
+    ghost use Rattle.csvw_datatype.specs.declared.format.TruthFormat.{TruthFormat};
+    ghost use Rattle.csvw_datatype.specs.Formats.{AreTruthTexts, truth_pattern};
+
+    /// The format of a pattern: two different texts, neither empty, with one `|` between them; `None` where
+    /// the pattern isn't that, `AllocError` where there is no memory
+    /// (Model for Tabular Data and Metadata on the Web, section 6.4.3).
+    pub fn of(alloc: Global, pattern: &str) -> Result<Option<TruthFormat>, AllocError>
+        ensures { IfOk result (λ o. MatchOption o ((f : TruthFormat) → AreTruthTexts f → pattern.now ≢ truth_pattern f)
+            (λ f. AreTruthTexts f × (pattern.now ≡ truth_pattern f))) }
+    {
+        let Some((if_true, if_false)) = split_at_bar(pattern) else {
+            return Ok(None);
+        };
+        let format = TruthFormat {
+            if_true: Text::copied(alloc, if_true)?,
+            if_false: Text::copied(alloc, if_false)?,
+        };
+        if format.is_good() {
+            Ok(Some(format))
+        } else {
+            Ok(None)
+        }
+    }
+
+    /// Whether the two texts differ, and neither is empty or holds `|`.
+    pub(crate) fn is_good(&self) -> bool
+        ensures { IsTrue result ↔ AreTruthTexts self.now }
+    {
+        is_truth_text(self.if_true.as_str())
+            && is_truth_text(self.if_false.as_str())
+            && self.if_true != self.if_false
+    }
+
+    /// An equal format; `AllocError` where there is no memory.
+    pub fn clone(&self, alloc: Global) -> Result<TruthFormat, AllocError>
+        ensures { IfOk result (λ f. f ≡ self.now) }
+    {
+        Ok(TruthFormat {
+            if_true: self.if_true.clone(alloc)?,
+            if_false: self.if_false.clone(alloc)?,
+        })
+    }
+}
+
+impl NumberFormat {
+    ghost use Rattle.csvw_datatype.specs.Formats.{format_rules};
+
+    /// How decimals are written in the format.
+    pub(crate) fn rules(&self) -> NumberRules
+        ensures { result ≡ format_rules self.now }
+    {
+        NumberRules {
+            decimal_char: Some(self.decimal_char),
+            group_char: self.group_char,
+            allows_marks: true,
+        }
+    }
+}
+
+impl Format {
+    /// An equal format; `AllocError` where there is no memory.
+    pub fn clone(&self, alloc: Global) -> Result<Format, AllocError>
+        ensures { IfOk result (λ f. f ≡ self.now) }
+    {
+        match self {
+            Format::Truth(format) => Ok(Format::Truth(format.clone(alloc)?)),
+            Format::Number(format) => Ok(Format::Number(*format)),
+            Format::Day(format) => Ok(Format::Day(*format)),
+            Format::Moment(format) => Ok(Format::Moment(*format)),
+        }
+    }
+}
+
+impl Copied for Format {
+    fn copied(&self, alloc: Global) -> Result<Format, AllocError> {
+        self.clone(alloc)
+    }
+}
+
+fn is_truth_text(text: &str) -> bool
+    ensures { IsTrue result ↔ IsTruthText text.now }
+{
+    !text.is_empty() && !has_bar(text)
+}
+
+fn has_bar(text: &str) -> bool
+    ensures { result ≡ has_bar text.now }
+{
+    text.as_bytes().iter().any(|b| *b == b'|')
+}
+
+fn split_at_bar(text: &str) -> Option<(&str, &str)>
+    ensures { MatchOption result (HasNoSplit text.now) (λ x. IsOnlySplit text.now x.0.now x.1.now) }
+{
+    text.split_once('|')
+}

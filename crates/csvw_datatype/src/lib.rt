@@ -1,0 +1,25 @@
+//! Datatypes of columns: which value a text is, which facets it breaks, and the lexical forms of values.
+#![tactic(auto)]
+
+mod check;
+mod datatype;
+mod facets;
+mod format;
+mod laws;
+mod lexical;
+mod read;
+mod simple;
+#[cfg(test)]
+mod tests;
+mod truth;
+mod value;
+mod width;
+
+pub use check::BadDatatype;
+pub use csvw_datatype_core::{DateFormat, FieldDigits, MomentFormat, Separator};
+pub use datatype::{Datatype, Facets};
+pub use facets::Broken;
+pub use format::{Format, NumberFormat, TruthFormat};
+pub use laws::{one_code, one_value, value_or_code, values_of_texts};
+pub use simple::{Simple, Width};
+pub use value::Value;

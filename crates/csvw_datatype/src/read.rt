@@ -1,0 +1,162 @@
+//! Which value a text is under a datatype.
+ghost use Rattle.std.specs.Prelude.{◌≡◌, IfOk, MatchResult};
+ghost use Rattle.csvw_datatype_core.specs.Numbers.{IsLawful};
+ghost use Rattle.csvw_datatype.specs.declared.simple.Simple.TheVariants as simples;
+ghost use Rattle.csvw_datatype.specs.Reads.{Reads, Misread, whole_rules, decimal_rules, date_format, moment_format, number_code, ReadsAs, MisreadAs};
+ghost use Rattle.csvw_datatype.specs.Sound.{IsSound};
+ghost use Rattle.csvw_datatype.specs.Lexical.{IsWritable};
+
+use crate::datatype::Datatype;
+use crate::format::Format;
+use crate::simple::{Simple, Width};
+use crate::truth::read_truth;
+use crate::value::Value;
+use crate::width::is_in_width;
+use csvw_datatype_core::{
+    DateFormat, MomentFormat, NumberFault, NumberRules, read_date, read_moment, read_number,
+};
+use csvw_text::{Code, Text};
+use std::alloc::{AllocError, Global};
+
+impl Datatype {
+    /// The value that a text is, or the code of why it is none: `BadBoolean`, `BadInteger`, `BadDecimal`,
+    /// `BadDate` or `BadDateTime` where it isn't written as one, `NumberTooLong` where a number is 10^20 or more
+    /// in size or no whole multiple of 10^-18, and else `OutOfRange` where it is outside its derived type.
+    /// `AllocError` where there is no memory. The datatype has passed `check`
+    /// (Model for Tabular Data and Metadata on the Web, section 6.4).
+    #[tactic(auto, using(crate::proofs::LawLemmas::writable_answer))]
+    pub fn read(&self, alloc: Global, text: &str) -> Result<Result<Value, Code>, AllocError>
+        requires { IsSound self.now }
+        ensures value { IfOk result (λ answer. MatchResult answer (Reads self.now text.now) (Misread self.now text.now)) }
+        ensures writable { IfOk result (λ answer. IfOk answer IsWritable) }
+    {
+        let format = &self.format;
+        match self.simple {
+            Simple::Text | Simple::Uri => Ok(Ok(Value::Text(Text::copied(alloc, text)?))),
+            Simple::Truth => Ok(read_boolean(format, text)),
+            Simple::Whole => Ok(read_whole(format, text)),
+            Simple::Derived(width) => Ok(read_derived(width, format, text)),
+            Simple::Decimal => Ok(read_decimal(format, text)),
+            Simple::Day => Ok(read_day(format, text)),
+            Simple::Moment => Ok(read_date_time(format, text)),
+        }
+    }
+}
+
+fn read_boolean(format: &Option<Format>, text: &str) -> Result<Value, Code>
+    ensures { MatchResult result (ReadsAs simples.Truth format.now text.now) (MisreadAs simples.Truth format.now text.now) }
+{
+    match read_truth(format, text) {
+        Some(truth) => Ok(Value::Truth(truth)),
+        None => Err(Code::BadBoolean),
+    }
+}
+
+fn read_whole(format: &Option<Format>, text: &str) -> Result<Value, Code>
+    requires { IsLawful (whole_rules format.now) }
+    ensures { MatchResult result (ReadsAs simples.Whole format.now text.now) (MisreadAs simples.Whole format.now text.now) }
+{
+    match read_number(&whole_rules(format), text) {
+        Ok(number) => Ok(Value::Number(number)),
+        Err(fault) => Err(number_code(Code::BadInteger, fault)),
+    }
+}
+
+fn read_derived(width: Width, format: &Option<Format>, text: &str) -> Result<Value, Code>
+    requires { IsLawful (whole_rules format.now) }
+    ensures { MatchResult result (ReadsAs (simples.Derived width) format.now text.now) (MisreadAs (simples.Derived width) format.now text.now) }
+{
+    match read_number(&whole_rules(format), text) {
+        Ok(number) => {
+            if is_in_width(width, number) {
+                Ok(Value::Number(number))
+            } else {
+                Err(Code::OutOfRange)
+            }
+        }
+        Err(fault) => Err(number_code(Code::BadInteger, fault)),
+    }
+}
+
+fn read_decimal(format: &Option<Format>, text: &str) -> Result<Value, Code>
+    requires { IsLawful (decimal_rules format.now) }
+    ensures { MatchResult result (ReadsAs simples.Decimal format.now text.now) (MisreadAs simples.Decimal format.now text.now) }
+{
+    match read_number(&decimal_rules(format), text) {
+        Ok(number) => Ok(Value::Number(number)),
+        Err(fault) => Err(number_code(Code::BadDecimal, fault)),
+    }
+}
+
+fn read_day(format: &Option<Format>, text: &str) -> Result<Value, Code>
+    ensures { MatchResult result (ReadsAs simples.Day format.now text.now) (MisreadAs simples.Day format.now text.now) }
+{
+    match read_date(date_format(format), text) {
+        Some(day) => Ok(Value::Day(day)),
+        None => Err(Code::BadDate),
+    }
+}
+
+fn read_date_time(format: &Option<Format>, text: &str) -> Result<Value, Code>
+    ensures { MatchResult result (ReadsAs simples.Moment format.now text.now) (MisreadAs simples.Moment format.now text.now) }
+{
+    match read_moment(moment_format(format), text) {
+        Some(moment) => Ok(Value::Moment(moment)),
+        None => Err(Code::BadDateTime),
+    }
+}
+
+fn whole_rules(format: &Option<Format>) -> NumberRules
+    ensures { result ≡ whole_rules format.now }
+{
+    let group_char = match format {
+        Some(Format::Number(format)) => format.group_char,
+        Some(Format::Truth(_) | Format::Day(_) | Format::Moment(_)) | None => None,
+    };
+    NumberRules {
+        decimal_char: None,
+        group_char,
+        allows_marks: false,
+    }
+}
+
+fn decimal_rules(format: &Option<Format>) -> NumberRules
+    ensures { result ≡ decimal_rules format.now }
+{
+    match format {
+        Some(Format::Number(format)) => format.rules(),
+        Some(Format::Truth(_) | Format::Day(_) | Format::Moment(_)) | None => NumberRules {
+            decimal_char: Some('.'),
+            group_char: None,
+            allows_marks: false,
+        },
+    }
+}
+
+fn date_format(format: &Option<Format>) -> DateFormat
+    ensures { result ≡ date_format format.now }
+{
+    match format {
+        Some(Format::Day(format)) => *format,
+        Some(Format::Truth(_) | Format::Number(_) | Format::Moment(_)) | None =>
+            DateFormat::YearFirst,
+    }
+}
+
+fn moment_format(format: &Option<Format>) -> MomentFormat
+    ensures { result ≡ moment_format format.now }
+{
+    match format {
+        Some(Format::Moment(format)) => *format,
+        Some(Format::Truth(_) | Format::Number(_) | Format::Day(_)) | None => MomentFormat::Seconds,
+    }
+}
+
+fn number_code(bad: Code, fault: NumberFault) -> Code
+    ensures { result ≡ number_code bad fault }
+{
+    match fault {
+        NumberFault::Bad => bad,
+        NumberFault::TooLong => Code::NumberTooLong,
+    }
+}

@@ -1,0 +1,117 @@
+//! The built-in datatypes and their names.
+ghost use Rattle.std.specs.Prelude.{◌≡◌, MatchOption};
+ghost use Rattle.csvw_datatype.specs.Names.{name_of, IsNamed, width_name};
+
+/// A derived integer type (XML Schema 1.1 part 2, sections 3.4.14 to 3.4.25).
+#[derive(Clone, Copy, Debug, PartialEq, Eq)]
+pub enum Width {
+    Long,
+    Int,
+    Short,
+    Byte,
+    UnsignedLong,
+    UnsignedInt,
+    UnsignedShort,
+    UnsignedByte,
+    NonNegativeInteger,
+    PositiveInteger,
+    NonPositiveInteger,
+    NegativeInteger,
+}
+
+/// A built-in datatype (Metadata Vocabulary for Tabular Data, section 5.11.1).
+#[derive(Clone, Copy, Debug, PartialEq, Eq)]
+pub enum Simple {
+    /// `string`.
+    Text,
+    /// `boolean`.
+    Truth,
+    /// `integer`.
+    Whole,
+    /// `decimal`.
+    Decimal,
+    /// `date`.
+    Day,
+    /// `anyURI`.
+    Uri,
+    /// A type derived from `integer`.
+    Derived(Width),
+    /// `dateTime`.
+    Moment,
+}
+
+impl Width {
+    fn name(self) -> &'static str
+        ensures { result.now ≡ width_name self }
+    {
+        match self {
+            Width::Long => "long",
+            Width::Int => "int",
+            Width::Short => "short",
+            Width::Byte => "byte",
+            Width::UnsignedLong => "unsignedLong",
+            Width::UnsignedInt => "unsignedInt",
+            Width::UnsignedShort => "unsignedShort",
+            Width::UnsignedByte => "unsignedByte",
+            Width::NonNegativeInteger => "nonNegativeInteger",
+            Width::PositiveInteger => "positiveInteger",
+            Width::NonPositiveInteger => "nonPositiveInteger",
+            Width::NegativeInteger => "negativeInteger",
+        }
+    }
+
+    fn of(name: &str) -> Option<Width>
+        ensures { MatchOption result ((w : Width) → ¬ (name.now ≡ width_name w)) (λ w. name.now ≡ width_name w) }
+    {
+        match name {
+            "long" => Some(Width::Long),
+            "int" => Some(Width::Int),
+            "short" => Some(Width::Short),
+            "byte" => Some(Width::Byte),
+            "unsignedLong" => Some(Width::UnsignedLong),
+            "unsignedInt" => Some(Width::UnsignedInt),
+            "unsignedShort" => Some(Width::UnsignedShort),
+            "unsignedByte" => Some(Width::UnsignedByte),
+            "nonNegativeInteger" => Some(Width::NonNegativeInteger),
+            "positiveInteger" => Some(Width::PositiveInteger),
+            "nonPositiveInteger" => Some(Width::NonPositiveInteger),
+            "negativeInteger" => Some(Width::NegativeInteger),
+            _ => None,
+        }
+    }
+}
+
+impl Simple {
+    /// The name of the type in XML Schema, after `http://www.w3.org/2001/XMLSchema#`.
+    pub fn name(self) -> &'static str
+        ensures { result.now ≡ name_of self }
+    {
+        match self {
+            Simple::Text => "string",
+            Simple::Truth => "boolean",
+            Simple::Whole => "integer",
+            Simple::Decimal => "decimal",
+            Simple::Day => "date",
+            Simple::Uri => "anyURI",
+            Simple::Derived(width) => width.name(),
+            Simple::Moment => "dateTime",
+        }
+    }
+
+    /// The type of a name; `None` where it is none of them. `datetime` is another name of `dateTime`
+    /// (Metadata Vocabulary for Tabular Data, section 5.11.1).
+    pub fn of(name: &str) -> Option<Simple>
+        ensures { MatchOption result ((s : Simple) → ¬ IsNamed name.now s) (IsNamed name.now) }
+    {
+        match name {
+            "string" => Some(Simple::Text),
+            "boolean" => Some(Simple::Truth),
+            "integer" => Some(Simple::Whole),
+            "decimal" => Some(Simple::Decimal),
+            "date" => Some(Simple::Day),
+            "anyURI" => Some(Simple::Uri),
+            "dateTime" | "datetime" => Some(Simple::Moment),
+            _ => Width::of(name).map(Simple::Derived),
+        }
+    }
+}

@@ -1,0 +1,27 @@
+//! How a text writes a truth.
+ghost use Rattle.std.specs.Prelude.{◌≡◌, MatchOption, Bool};
+ghost use Rattle.csvw_datatype.specs.Reads.{SpellsTruth};
+
+use crate::format::Format;
+
+/// The truth that a text writes.
+pub(crate) fn read_truth(format: &Option<Format>, text: &str) -> Option<bool>
+    ensures { MatchOption result ((b : Bool) → ¬ SpellsTruth format.now text.now b) (SpellsTruth format.now text.now) }
+{
+    match format {
+        Some(Format::Truth(texts)) => {
+            if text == texts.if_true.as_str() {
+                Some(true)
+            } else if text == texts.if_false.as_str() {
+                Some(false)
+            } else {
+                None
+            }
+        }
+        _ => match text {
+            "true" | "1" => Some(true),
+            "false" | "0" => Some(false),
+            _ => None,
+        },
+    }
+}

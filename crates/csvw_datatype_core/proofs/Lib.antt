@@ -1,0 +1,15 @@
+pub mod ScanLemmas
+pub mod Accepts
+pub mod KindLemmas
+pub mod Spelled
+pub mod Counts
+pub mod Answer
+pub mod ReadLemmas
+pub mod LexicalLemmas
+pub mod LexicalNumber
+pub mod DateLemmas
+pub mod AsciiLemmas
+pub mod TimeLemmas
+pub mod LexicalDateLemmas
+pub mod LawfulLemmas
+pub mod OneValue

@@ -1,0 +1,12 @@
+pub mod Numbers
+pub mod Lawful
+pub mod Scan
+pub mod Step
+pub mod Misread
+pub mod LexicalNumbers
+pub mod Dates
+pub mod Fields
+pub mod Moments
+pub mod TimeFields
+pub mod LexicalDates
+pub mod DatePatterns

@@ -1,0 +1,48 @@
+-- The numbers that the pass keeps.
+use Rattle.std.specs.Prelude.{ℕ, ◌+◌, ◌-◌, ◌*◌, ◌/◌, ◌%◌, ◌^◌, min, ◌≤◌, ◌==◌, ◌&&◌, ◌||◌, not, nat_lt, nat_le, Bool, true, false, Option, Some, None, if◌then◌else◌, List, [], ◌∷◌}
+use Rattle.csvw_datatype_core.specs.declared.number.NumberRules.{NumberRules}
+use Rattle.csvw_datatype_core.specs.declared.number.Kind.{Kind}
+use Rattle.csvw_datatype_core.specs.declared.number.Kind.TheVariants as kinds
+use Rattle.csvw_datatype_core.specs.declared.number.Place.{Place}
+use Rattle.csvw_datatype_core.specs.declared.number.Place.TheVariants as places
+use Rattle.csvw_datatype_core.specs.declared.number.Mark.{Mark}
+use Rattle.csvw_datatype_core.specs.declared.number.Mark.TheVariants as marks
+use Rattle.csvw_datatype_core.specs.declared.number.Scan.{Scan}
+use Rattle.csvw_datatype_core.specs.Scan.{kind_of, next}
+use Rattle.csvw_datatype_core.specs.Numbers.{divisor}
+
+abbrev pub begun : Scan
+begun = record { place = places.Start; minus = false; whole = 0; fraction = 0; weight = 10 ^ 17; too_long = false; mark = marks.Plain }
+
+abbrev pub push_whole : Scan → ℕ → Scan
+push_whole s d = record s { whole = min (s.whole * 10 + d) (10 ^ 23) }
+
+abbrev pub push_fraction : Scan → ℕ → Scan
+push_fraction s d = record s { fraction = s.fraction + d * s.weight; too_long = s.too_long || (s.weight == 0 && not (d == 0)); weight = s.weight / 10 }
+
+abbrev pub push_digit : Place → Scan → ℕ → Scan
+push_digit places.Whole s d = push_whole s d
+push_digit _ s d = push_fraction s d
+
+abbrev pub push : Scan → Kind → Scan
+push s (kinds.Digit d) = push_digit s.place s d
+push s kinds.Minus = record s { minus = true }
+push s kinds.Percent = record s { mark = marks.Percent }
+push s kinds.PerMille = record s { mark = marks.PerMille }
+push s _ = s
+
+abbrev pub step : NumberRules → Scan → ℕ → Scan
+step rules s c = push (record s { place = next s.place (kind_of rules c) }) (kind_of rules c)
+
+abbrev pub run : NumberRules → Scan → List ℕ → Scan
+run rules s [] = s
+run rules s (c ∷ cs) = run rules (step rules s c) cs
+
+abbrev pub count_of : Scan → Option ℕ
+count_of s = if s.too_long || (nat_le (10 ^ 20 * divisor s.mark) s.whole || not (s.fraction % divisor s.mark == 0)) then None
+    else Some (s.whole * (10 ^ 18 / divisor s.mark) + s.fraction / divisor s.mark)
+
+-- the numbers stay this small
+pub record IsSmall (s : Scan) : Type 0 where
+  pub whole : s.whole ≤ 10 ^ 23
+  pub fraction : s.fraction + 10 * s.weight ≤ 10 ^ 18

@@ -1,0 +1,121 @@
+//! The lexical forms of days and moments.
+ghost use Rattle.std.specs.Prelude.{◌≡◌, ◌≤◌, ◌+◌, ◌*◌, ◌<◌, ◌++◌, [], ◌∷◌, IfOk, OnOk, string_bytes, ℤ, pos, ◌+ℤ◌, ◌*ℤ◌};
+ghost use Rattle.csvw_datatype_core.specs.Dates.{IsDay, day_number, ReadsDate};
+ghost use Rattle.csvw_datatype_core.specs.Moments.{ReadsMoment};
+ghost use Rattle.csvw_datatype_core.specs.LexicalDates.{IsDayNumber, IsMomentNumber, AppendsDate, AppendsTime, IsFields, IsDayAndSecond, two_digits, four_digits, date_digits, time_digits};
+
+use crate::date::DateFormat;
+use crate::moment::MomentFormat;
+use jiff_core::civil::Date;
+use std::alloc::{AllocError, Global};
+
+/// The lexical form `yyyy-MM-dd` of a day, in days since 1 January 1970, of the years 0001 to 9999;
+/// `AllocError` where there is no memory (XML Schema 1.1 part 2, section 3.3.9).
+pub fn date_text(alloc: Global, day: i32) -> Result<String, AllocError>
+    requires { IsDayNumber day }
+    ensures { IfOk result (λ s. ReadsDate DateFormat.YearFirst (string_bytes s) day) }
+{
+    let mut out = String::new(alloc);
+    push_date(&mut out, day)?;
+    Ok(out)
+}
+
+/// The lexical form `yyyy-MM-ddTHH:mm:ss` of a moment, in seconds since 1 January 1970, of the years 0001 to
+/// 9999; `AllocError` where there is no memory (XML Schema 1.1 part 2, section 3.3.7).
+pub fn moment_text(alloc: Global, moment: i64) -> Result<String, AllocError>
+    requires { IsMomentNumber moment }
+    ensures { IfOk result (λ s. ReadsMoment MomentFormat.Seconds (string_bytes s) moment) }
+{
+    let (day, second) = day_and_second(moment);
+    let mut out = String::new(alloc);
+    push_date(&mut out, day)?;
+    push_time(&mut out, second)?;
+    Ok(out)
+}
+
+/// How many days lie between 1 January of the year 1 and of 1970.
+const DAYS_BEFORE_1970: i32 = 719_162;
+
+fn day_and_second(moment: i64) -> (i32, u32)
+    requires { IsMomentNumber moment }
+    ensures { IsDayAndSecond moment result.0 result.1 }
+{
+    let seconds = (moment + 62_135_596_800) as u64;
+    (
+        (seconds / 86_400) as i32 - DAYS_BEFORE_1970,
+        (seconds % 86_400) as u32,
+    )
+}
+
+fn push_date(out: &mut String, day: i32) -> Result<(), AllocError>
+    requires { IsDayNumber day }
+    ensures { OnOk result (AppendsDate (string_bytes out.old) (string_bytes out.new) day) }
+{
+    let (year, month, date) = fields(day);
+    push_date_digits(out, year, month, date)
+}
+
+fn fields(day: i32) -> (u16, u8, u8)
+    requires { IsDayNumber day }
+    ensures { IsFields day result.0 result.1 result.2 }
+{
+    match Date::from_unix_epoch_day(day as i64) {
+        Ok(date) => (date.year.unsigned_abs(), date.month, date.day),
+        Err(_) => unreachable!(),
+    }
+}
+
+fn push_date_digits(out: &mut String, year: u16, month: u8, date: u8) -> Result<(), AllocError>
+    requires year { year < 10_000 }
+    requires month { month < 100 }
+    requires date { date < 100 }
+    ensures { OnOk result (string_bytes out.new ≡ string_bytes out.old ++ date_digits year month date) }
+{
+    push_two(out, (year / 100) as u8)?;
+    push_two(out, (year % 100) as u8)?;
+    out.push_str("-")?;
+    push_two(out, month)?;
+    out.push_str("-")?;
+    push_two(out, date)
+}
+
+fn push_time(out: &mut String, second: u32) -> Result<(), AllocError>
+    requires { second < 86_400 }
+    ensures { OnOk result (AppendsTime (string_bytes out.old) (string_bytes out.new) second) }
+{
+    push_time_digits(
+        out,
+        (second / 3600) as u8,
+        (second / 60 % 60) as u8,
+        (second % 60) as u8,
+    )
+}
+
+fn push_time_digits(out: &mut String, hour: u8, minute: u8, second: u8) -> Result<(), AllocError>
+    requires hour { hour < 100 }
+    requires minute { minute < 100 }
+    requires second { second < 100 }
+    ensures { OnOk result (string_bytes out.new ≡ string_bytes out.old ++ time_digits hour minute second) }
+{
+    out.push_str("T")?;
+    push_two(out, hour)?;
+    out.push_str(":")?;
+    push_two(out, minute)?;
+    out.push_str(":")?;
+    push_two(out, second)
+}
+
+fn push_two(out: &mut String, n: u8) -> Result<(), AllocError>
+    requires { n < 100 }
+    ensures { OnOk result (string_bytes out.new ≡ string_bytes out.old ++ two_digits n) }
+{
+    push_digit(out, n / 10)?;
+    push_digit(out, n % 10)
+}
+
+fn push_digit(out: &mut String, digit: u8) -> Result<(), AllocError>
+    requires { digit < 10 }
+    ensures { OnOk result (string_bytes out.new ≡ string_bytes out.old ++ (48 + digit) ∷ []) }
+{
+    out.push((48 + digit) as char)
+}

@@ -1,0 +1,82 @@
+//! The lexical form of a number.
+ghost use Rattle.std.specs.Prelude.{◌≡◌, ◌≤◌, ◌+◌, ◌*◌, ◌^◌, ◌<◌, ◌++◌, IfOk, OnOk, OnErr, string_bytes, unsigned_abs, [], ◌∷◌, if◌then◌else◌};
+ghost use Rattle.std.specs.Fmt.{decimal};
+ghost use Rattle.std.specs.Str.{chars};
+ghost use Rattle.csvw_datatype_core.specs.LexicalNumbers.{AppendsPart, AppendsFraction, IsLexicalNumber};
+
+use std::alloc::{AllocError, Global};
+use std::fmt::Write;
+
+const UNIT: u128 = 1_000_000_000_000_000_000;
+
+/// The lexical form of a number in units of 10^-18, below 10^38 of them in size: `-` only below zero, no zero
+/// that could be left out, no point where it is whole; `AllocError` where there is no memory.
+pub fn number_text(alloc: Global, number: i128) -> Result<String, AllocError>
+    requires { unsigned_abs number < 10 ^ 38 }
+    ensures { IfOk result (λ s. IsLexicalNumber (chars (string_bytes s)) number) }
+{
+    let count = number.unsigned_abs();
+    let mut out = String::new(alloc);
+    push_sign(&mut out, number < 0)?;
+    push_decimal(&mut out, count / UNIT)?;
+    push_point_and_fraction(&mut out, (count % UNIT) as u64)?;
+    Ok(out)
+}
+
+fn push_sign(out: &mut String, negative: bool) -> Result<(), AllocError>
+    ensures { OnOk result (string_bytes out.new ≡ string_bytes out.old ++ (if negative then 45 ∷ [] else [])) }
+{
+    if negative { out.push_str("-") } else { Ok(()) }
+}
+
+fn push_point_and_fraction(out: &mut String, fraction: u64) -> Result<(), AllocError>
+    requires { fraction < 10 ^ 18 }
+    ensures { OnOk result (AppendsPart (string_bytes out.old) (string_bytes out.new) fraction) }
+{
+    if fraction == 0 {
+        return Ok(());
+    }
+    out.push_str(".")?;
+    push_fraction(out, fraction)
+}
+
+fn push_decimal(out: &mut String, n: u128) -> Result<(), AllocError>
+    ensures { OnOk result (string_bytes out.new ≡ string_bytes out.old ++ decimal n) }
+{
+    write!(out, "{n}")
+}
+
+fn push_fraction(out: &mut String, fraction: u64) -> Result<(), AllocError>
+    requires above { 0 < fraction }
+    requires below { fraction < 10 ^ 18 }
+    ensures { OnOk result (AppendsFraction (string_bytes out.old) (string_bytes out.new) fraction) }
+{
+    let mut rest = fraction;
+    let mut weight = 100_000_000_000_000_000u64;
+    while rest > 0 {
+        let digit = (rest / weight) as u8;
+        out.push((48 + digit) as char)?;
+        rest %= weight;
+        weight /= 10;
+    }
+    Ok(())
+}
+
+#[cfg(test)]
+mod tests {
+    use super::*;
+    use std::test::Fail;
+
+    #[test]
+    fn nothing_that_can_be_left_out(rt: HostRuntime) -> Result<(), Fail> {
+        let alloc = rt.alloc();
+        let one = 1_000_000_000_000_000_000;
+        assert!(rt; number_text(alloc, 0)?.as_str() == "0");
+        assert!(rt; number_text(alloc, 7 * one)?.as_str() == "7");
+        assert!(rt; number_text(alloc, one / 2)?.as_str() == "0.5");
+        assert!(rt; number_text(alloc, -one / 4)?.as_str() == "-0.25");
+        assert!(rt; number_text(alloc, 1)?.as_str() == "0.000000000000000001");
+        assert!(rt; number_text(alloc, -10 * one)?.as_str() == "-10");
+        Ok(())
+    }
+}

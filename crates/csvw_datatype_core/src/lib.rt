@@ -1,0 +1,15 @@
+//! How texts write numbers, dates and moments, and the lexical forms of these.
+#![tactic(auto)]
+
+mod date;
+mod date_format;
+mod lexical_date;
+mod lexical_number;
+mod moment;
+mod number;
+
+pub use date::{DateFormat, FieldDigits, Separator, one_date, read_date};
+pub use lexical_date::{date_text, moment_text};
+pub use lexical_number::number_text;
+pub use moment::{MomentFormat, one_moment, read_moment};
+pub use number::{NumberFault, NumberRules, one_number, read_number};

@@ -1,0 +1,94 @@
+//! How a text writes a date and a time of day.
+ghost use Rattle.std.specs.Prelude.{◌≡◌, ◌≤◌, ◌<◌, ◌+◌, ◌*◌, MatchOption, ℕ, ℤ, pos, ◌+ℤ◌, ◌*ℤ◌, ◌-◌};
+ghost use Rattle.csvw_datatype_core.specs.Moments.{ReadsMoment, ReadsTime};
+ghost use Rattle.csvw_datatype_core.specs.TimeFields.{IsTimeOfDay, time_fields, second_field};
+
+use crate::date::{DateFormat, ended, past, read_day, two};
+
+/// How fine a moment is (Model for Tabular Data and Metadata on the Web, section 6.4.4).
+#[derive(Clone, Copy, Debug, PartialEq, Eq)]
+pub enum MomentFormat {
+    /// `yyyy-MM-ddTHH:mm:ss`.
+    Seconds,
+    /// `yyyy-MM-ddTHH:mm`, where the seconds are 0.
+    Minutes,
+}
+
+/// How long a date is in the format `yyyy-MM-dd`.
+const DATE_LEN: usize = 10;
+
+/// The moment that a text writes, in seconds since 1 January 1970 of days that all have 86,400; `None` where
+/// the text isn't in the format, or its day isn't one of the years 0001 to 9999.
+pub fn read_moment(format: MomentFormat, text: &str) -> Option<i64>
+    ensures { MatchOption result ((moment : ℤ) → ReadsMoment format text.now moment → ⊥) (ReadsMoment format text.now) }
+{
+    let bytes = text.as_bytes();
+    if bytes.len() < DATE_LEN {
+        return None;
+    }
+    let (date, time) = bytes.split_at(DATE_LEN);
+    let day = read_day(DateFormat::YearFirst, date)?;
+    let second = read_time(format, time)?;
+    Some(moment_of(day, second))
+}
+
+fn moment_of(day: i32, second: u32) -> i64
+    ensures { result ≡ (day *ℤ pos 86_400) +ℤ pos second }
+{
+    day as i64 * 86_400 + second as i64
+}
+
+fn read_time(format: MomentFormat, bytes: &[u8]) -> Option<u32>
+    ensures { MatchOption result ((second : ℕ) → ReadsTime format bytes.now second → ⊥) (ReadsTime format bytes.now) }
+{
+    let (hour, minute, second) = fields(format, bytes)?;
+    second_of_day(hour, minute, second)
+}
+
+fn second_of_day(hour: u8, minute: u8, second: u8) -> Option<u32>
+    ensures { MatchOption result (¬ IsTimeOfDay hour minute second) (λ n. IsTimeOfDay hour minute second × (n ≡ hour * 3600 + minute * 60 + second)) }
+{
+    if hour < 24 && minute < 60 && second < 60 {
+        Some(hour as u32 * 3600 + minute as u32 * 60 + second as u32)
+    } else {
+        None
+    }
+}
+
+#[tactic(auto, unfolding(crate::specs::TimeFields::time_fields))]
+fn fields(format: MomentFormat, bytes: &[u8]) -> Option<(u8, u8, u8)>
+    ensures { result ≡ time_fields format bytes.now }
+{
+    let (hour, rest) = two(past(bytes, b'T')?)?;
+    let (minute, rest) = two(past(rest, b':')?)?;
+    let second = last_field(format, rest)?;
+    Some((hour, minute, second))
+}
+
+fn last_field(format: MomentFormat, bytes: &[u8]) -> Option<u8>
+    ensures { result ≡ second_field format bytes.now }
+{
+    match format {
+        MomentFormat::Seconds => {
+            let (second, rest) = two(past(bytes, b':')?)?;
+            ended(rest)?;
+            Some(second)
+        }
+        MomentFormat::Minutes => {
+            ended(bytes)?;
+            Some(0)
+        }
+    }
+}
+
+ghost use Rattle.std.specs.Prelude.{List};
+ghost use Rattle.csvw_datatype_core.specs.LexicalDates.{IsMomentNumber};
+
+/// A law: a text is one moment at most, and one of the years 0001 to 9999.
+pub fn one_moment()
+    ensures same { (f : MomentFormat) (text : List ℕ) (a b : ℤ) → ReadsMoment f text a → ReadsMoment f text b → a ≡ b }
+    ensures in_range { (f : MomentFormat) (text : List ℕ) (moment : ℤ) → ReadsMoment f text moment → IsMomentNumber moment }
+{}
+
+#[cfg(test)]
+mod tests;

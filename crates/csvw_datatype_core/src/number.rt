@@ -1,0 +1,330 @@
+//! How a text writes a number.
+ghost use Rattle.std.specs.Prelude.{◌≡◌, ◌≤◌, ◌+◌, ◌*◌, ◌^◌, ◌<◌, Some, None, pos, neg_ℤ, MatchOption, MatchResult, IfSome, fold, if◌then◌else◌};
+ghost use Rattle.std.specs.Str.{chars};
+
+/// How a column writes its numbers.
+#[derive(Clone, Copy, Debug, PartialEq, Eq)]
+pub struct NumberRules {
+    /// What stands before a fraction; none where numbers have no fraction.
+    pub decimal_char: Option<char>,
+    /// What may stand between two digits of the whole part.
+    pub group_char: Option<char>,
+    /// Whether `%` or `‰` may end a number.
+    pub allows_marks: bool,
+}
+
+/// What a character can be in a number.
+#[derive(Clone, Copy)]
+pub enum Kind {
+    Digit(u8),
+    Plus,
+    Minus,
+    Point,
+    Group,
+    Percent,
+    PerMille,
+    Other,
+}
+
+/// What was read last.
+#[derive(Clone, Copy)]
+pub enum Place {
+    Start,
+    Sign,
+    Whole,
+    Group,
+    BarePoint,
+    Fraction,
+    Mark,
+    Bad,
+}
+
+/// What a number ends with.
+#[derive(Clone, Copy)]
+pub enum Mark {
+    Plain,
+    Percent,
+    PerMille,
+}
+
+ghost use Rattle.csvw_datatype_core.specs.Scan.{holds};
+ghost use Rattle.csvw_datatype_core.specs.Lawful.{is_free, is_free_option, differ};
+
+fn is_free(c: char) -> bool
+    ensures { result ≡ is_free c }
+{
+    !(c.is_ascii_digit() || matches!(c, '+' | '-' | '%' | '‰' | '\t' | '\n' | '\r'))
+}
+
+fn is_free_option(option: Option<char>) -> bool
+    ensures { result ≡ is_free_option option }
+{
+    match option {
+        None => true,
+        Some(c) => is_free(c),
+    }
+}
+
+fn differ(a: Option<char>, b: Option<char>) -> bool
+    ensures { result ≡ differ a b }
+{
+    match (a, b) {
+        (Some(x), Some(y)) => x != y,
+        (Some(_), None) | (None, Some(_)) | (None, None) => true,
+    }
+}
+
+fn holds(option: Option<char>, c: char) -> bool
+    ensures { result ≡ holds option c }
+{
+    match option {
+        None => false,
+        Some(d) => d == c,
+    }
+}
+
+impl NumberRules {
+    ghost use Rattle.std.specs.Prelude.{◌↔◌, ◌&&◌, IsTrue};
+    ghost use Rattle.csvw_datatype_core.specs.Numbers.{IsLawful};
+    ghost use Rattle.csvw_datatype_core.specs.Lawful.{is_free_option, differ};
+    ghost use Rattle.csvw_datatype_core.specs.Scan.{kind_of, IsBelowTen};
+
+    /// Whether the two characters differ from each other and from all others of a number, and are none of
+    /// carriage return, line feed and tab.
+    pub fn is_lawful(&self) -> bool
+        ensures { IsTrue result ↔ IsLawful self.now }
+    {
+        self.are_free() && differ(self.decimal_char, self.group_char)
+    }
+
+    fn are_free(&self) -> bool
+        ensures { result ≡ (is_free_option self.now.decimal_char && is_free_option self.now.group_char) }
+    {
+        is_free_option(self.decimal_char) && is_free_option(self.group_char)
+    }
+
+    #[tactic(auto, unfolding(crate::specs::Scan::kind_of))]
+    fn kind(&self, c: char) -> Kind
+        ensures value { result ≡ kind_of self.now c }
+        ensures digit { IsBelowTen result }
+    {
+        if c.is_ascii_digit() {
+            Kind::Digit((c as u32 - 48) as u8)
+        } else if c == '+' {
+            Kind::Plus
+        } else if c == '-' {
+            Kind::Minus
+        } else if holds(self.decimal_char, c) {
+            Kind::Point
+        } else if holds(self.group_char, c) {
+            Kind::Group
+        } else if self.allows_marks && c == '%' {
+            Kind::Percent
+        } else if self.allows_marks && c == '‰' {
+            Kind::PerMille
+        } else {
+            Kind::Other
+        }
+    }
+}
+
+impl Place {
+    ghost use Rattle.csvw_datatype_core.specs.Scan.{next, ends};
+
+    fn ends(self) -> bool
+        ensures { result ≡ ends self }
+    {
+        matches!(self, Place::Whole | Place::Fraction | Place::Mark)
+    }
+
+    fn after(self, kind: Kind) -> Place
+        ensures { result ≡ next self kind }
+    {
+        match (self, kind) {
+            (Place::Start | Place::Sign | Place::Whole | Place::Group, Kind::Digit(_)) =>
+                Place::Whole,
+            (Place::BarePoint | Place::Fraction, Kind::Digit(_)) => Place::Fraction,
+            (Place::Start, Kind::Plus | Kind::Minus) => Place::Sign,
+            (Place::Start | Place::Sign, Kind::Point) => Place::BarePoint,
+            (Place::Whole, Kind::Point) => Place::Fraction,
+            (Place::Whole, Kind::Group) => Place::Group,
+            (Place::Whole | Place::Fraction, Kind::Percent | Kind::PerMille) => Place::Mark,
+            _ => Place::Bad,
+        }
+    }
+}
+
+/// A number as far as it was read. The fraction is counted in units of 10^-18.
+#[derive(Clone, Copy)]
+pub struct Scan {
+    place: Place,
+    minus: bool,
+    whole: u128,
+    fraction: u64,
+    weight: u64,
+    too_long: bool,
+    mark: Mark,
+}
+
+const WHOLE_LIMIT: u128 = 100_000_000_000_000_000_000_000;
+
+impl Scan {
+    ghost use Rattle.csvw_datatype_core.specs.Step.{begun, step, push_whole, push_fraction, run, count_of, IsSmall};
+    ghost use Rattle.std.specs.Str.{chars};
+
+    fn new() -> Scan
+        ensures value { result ≡ begun }
+        ensures small { IsSmall result }
+    {
+        Scan {
+            place: Place::Start,
+            minus: false,
+            whole: 0,
+            fraction: 0,
+            weight: 100_000_000_000_000_000,
+            too_long: false,
+            mark: Mark::Plain,
+        }
+    }
+
+    fn push_whole(self, digit: u8) -> Scan
+        requires digit { digit < 10 }
+        requires small { IsSmall self }
+        ensures value { result ≡ push_whole self digit }
+        ensures small { IsSmall result }
+    {
+        let whole = (self.whole * 10 + digit as u128).min(WHOLE_LIMIT);
+        Scan { whole, ..self }
+    }
+
+    fn push_fraction(self, digit: u8) -> Scan
+        requires digit { digit < 10 }
+        requires small { IsSmall self }
+        ensures value { result ≡ push_fraction self digit }
+        ensures small { IsSmall result }
+    {
+        let fraction = self.fraction + digit as u64 * self.weight;
+        let too_long = self.too_long || (self.weight == 0 && digit != 0);
+        let weight = self.weight / 10;
+        Scan {
+            fraction,
+            too_long,
+            weight,
+            ..self
+        }
+    }
+
+    fn step(self, rules: &NumberRules, c: char) -> Scan
+        requires { IsSmall self }
+        ensures value { result ≡ step rules.now self c }
+        ensures small { IsSmall result }
+    {
+        let kind = rules.kind(c);
+        let place = self.place.after(kind);
+        let next = Scan { place, ..self };
+        match kind {
+            Kind::Digit(digit) => {
+                if matches!(place, Place::Whole) {
+                    next.push_whole(digit)
+                } else {
+                    next.push_fraction(digit)
+                }
+            }
+            Kind::Minus => Scan {
+                minus: true,
+                ..next
+            },
+            Kind::Percent => Scan {
+                mark: Mark::Percent,
+                ..next
+            },
+            Kind::PerMille => Scan {
+                mark: Mark::PerMille,
+                ..next
+            },
+            _ => next,
+        }
+    }
+
+    /// The number in units of 10^-18, where it is a whole count of them below 10^38.
+    fn count(self) -> Option<u128>
+        requires { IsSmall self }
+        ensures value { result ≡ count_of self }
+        ensures bound { IfSome result (λ n. n ≤ 10 ^ 38) }
+    {
+        let (limit, unit, divisor) = match self.mark {
+            Mark::Plain => (100_000_000_000_000_000_000, 1_000_000_000_000_000_000, 1),
+            Mark::Percent => (10_000_000_000_000_000_000_000, 10_000_000_000_000_000, 100),
+            Mark::PerMille => (WHOLE_LIMIT, 1_000_000_000_000_000, 1000),
+        };
+        if self.too_long || self.whole >= limit || self.fraction % divisor != 0 {
+            None
+        } else {
+            Some(self.whole * unit + (self.fraction / divisor) as u128)
+        }
+    }
+}
+
+ghost use Rattle.csvw_datatype_core.specs.Step.{begun, run, IsSmall};
+
+#[tactic(auto)]
+fn scan_text(rules: &NumberRules, text: &str) -> Scan
+    ensures value { result ≡ run rules.now begun (chars text.now) }
+    ensures small { IsSmall result }
+{
+    let mut scan = Scan::new();
+    for c in text.chars() {
+        scan = scan.step(rules, c);
+    }
+    scan
+}
+
+/// Why a text is no number.
+#[derive(Clone, Copy, Debug, PartialEq, Eq)]
+pub enum NumberFault {
+    /// It isn't spelled as one.
+    Bad,
+    /// It is 10^20 or more in size, or no whole multiple of 10^-18.
+    TooLong,
+}
+
+ghost use Rattle.csvw_datatype_core.specs.Numbers.{IsLawful, ReadsNumber};
+ghost use Rattle.csvw_datatype_core.specs.Misread.{MisreadNumber};
+
+/// The number that a text spells, in units of 10^-18; `Bad` where it spells none, else `TooLong` where the
+/// number is 10^20 or more in size or no whole count of them. The rules have passed `is_lawful`
+/// (Model for Tabular Data and Metadata on the Web, section 6.4.2).
+pub fn read_number(rules: &NumberRules, text: &str) -> Result<i128, NumberFault>
+    requires { IsLawful rules.now }
+    ensures { MatchResult result (ReadsNumber rules.now (chars text.now)) (MisreadNumber rules.now (chars text.now)) }
+{
+    let scan = scan_text(rules, text);
+    if !scan.place.ends() {
+        return Err(NumberFault::Bad);
+    }
+    match scan.count() {
+        None => Err(NumberFault::TooLong),
+        Some(count) => Ok(signed(scan.minus, count)),
+    }
+}
+
+fn signed(minus: bool, count: u128) -> i128
+    requires { count ≤ 10 ^ 38 }
+    ensures { result ≡ (if minus then neg_ℤ (pos count) else pos count) }
+{
+    if minus {
+        -(count as i128)
+    } else {
+        count as i128
+    }
+}
+
+ghost use Rattle.std.specs.Prelude.{ℤ, List, ℕ};
+
+/// A law: a text is one number at most.
+pub fn one_number()
+    ensures { (rules : NumberRules) (cs : List ℕ) (y z : ℤ) → IsLawful rules → ReadsNumber rules cs y → ReadsNumber rules cs z → y ≡ z }
+{}
+
+#[cfg(test)]
+mod tests;
