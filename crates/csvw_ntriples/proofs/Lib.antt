@@ -1,2 +1,9 @@
 pub mod Cutting
+pub mod Decoded
+pub mod Denoted
 pub mod EscapeLemmas
+pub mod LabelParts
+pub mod Labels
+pub mod Once
+pub mod Pieces
+pub mod Spelled

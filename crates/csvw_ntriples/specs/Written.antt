@@ -10,6 +10,12 @@ use Rattle.csvw_triples.specs.declared.term.Term.{Term}
 use Rattle.csvw_triples.specs.declared.term.Term.TheVariants as term
 use Rattle.csvw_triples.specs.declared.term.Triple.{Triple}
 use Rattle.csvw_triples.specs.Vocabulary.{xsd_string}
+use Rattle.csvw_ntriples.specs.declared.term.NtNode.{NtNode}
+use Rattle.csvw_ntriples.specs.declared.term.NtNode.TheVariants as nt_node
+use Rattle.csvw_ntriples.specs.declared.term.NtLit.{NtLit}
+use Rattle.csvw_ntriples.specs.declared.term.NtTerm.{NtTerm}
+use Rattle.csvw_ntriples.specs.declared.term.NtTerm.TheVariants as nt_term
+use Rattle.csvw_ntriples.specs.declared.term.NtTriple.{NtTriple}
 
 -- the label of a blank node
 abbrev pub label : Origin → List ℕ
@@ -66,3 +72,19 @@ line_text t = node_text t.s ++ 32 ∷ iri_text t.p ++ 32 ∷ term_text t.o ++ co
 -- triples, a line each
 abbrev pub written : List Triple → List ℕ
 written ts = flat_map line_text ts
+
+-- a triple with each origin as its label
+abbrev pub node_said : Node → NtNode
+node_said (node.Named iri) = nt_node.Named iri
+node_said (node.Blank o) = nt_node.Blank (label o)
+
+abbrev pub lit_said : Lit → NtLit
+lit_said l = record { text = l.text; datatype = l.datatype; lang = l.lang }
+
+abbrev pub term_said : Term → NtTerm
+term_said (term.Named iri) = nt_term.Named iri
+term_said (term.Blank o) = nt_term.Blank (label o)
+term_said (term.Literal l) = nt_term.Literal (lit_said l)
+
+abbrev pub said : Triple → NtTriple
+said t = record { s = node_said t.s; p = t.p; o = term_said t.o }

@@ -1,7 +1,11 @@
 //! N-Triples, written and read.
 #![tactic(auto)]
 
+mod laws;
 mod nt_sink;
+mod term;
 mod write;
 
+pub use laws::{denotes_one_list, labels_differ, written_denotes};
 pub use nt_sink::NtSink;
+pub use term::{NtFault, NtLit, NtNode, NtTerm, NtTriple};

@@ -1,0 +1,33 @@
+-- What the types of a triple keep, so that it can be written.
+use Rattle.std.specs.Prelude.{ℕ, ◌≡◌, List, Option, Some, None, true, IsUtf8}
+use Rattle.csvw_text.specs.Language.{is_language_tag}
+use Rattle.csvw_iri.specs.Safe.{is_iri}
+use Rattle.csvw_triples.specs.declared.term.Node.{Node}
+use Rattle.csvw_triples.specs.declared.term.Node.TheVariants as node
+use Rattle.csvw_triples.specs.declared.term.Lit.{Lit}
+use Rattle.csvw_triples.specs.declared.term.Term.{Term}
+use Rattle.csvw_triples.specs.declared.term.Term.TheVariants as term
+use Rattle.csvw_triples.specs.declared.term.Triple.{Triple}
+
+-- a text whose characters may all stand raw in an IRIREF
+abbrev pub IriFits : List ℕ → Type 0
+IriFits iri = IsUtf8 iri × (is_iri iri ≡ true)
+
+abbrev pub NodeFits : Node → Type 0
+NodeFits (node.Named iri) = IriFits iri
+NodeFits (node.Blank o) = Unit {0}
+
+abbrev pub LanguageFits : Option (List ℕ) → Type 0
+LanguageFits None = Unit {0}
+LanguageFits (Some tag) = is_language_tag tag ≡ true
+
+abbrev pub LitFits : Lit → Type 0
+LitFits l = IsUtf8 l.text × IriFits l.datatype × LanguageFits l.lang
+
+abbrev pub TermFits : Term → Type 0
+TermFits (term.Named iri) = IriFits iri
+TermFits (term.Blank o) = Unit {0}
+TermFits (term.Literal l) = LitFits l
+
+abbrev pub TripleFits : Triple → Type 0
+TripleFits t = NodeFits t.s × IriFits t.p × TermFits t.o
