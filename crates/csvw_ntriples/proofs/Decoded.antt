@@ -1,17 +1,17 @@
 -- The bytes of a text, and its characters.
-use Rattle.std.proofs.Common.{◌≡◌, ◌<◌, ◌≤◌, ◌+◌, ℕ, List, [], ◌∷◌, ◌++◌, refl, sym, ap, ◌∙◌, subst, arith, true, false, Bool, cond, not, ◌/◌, ◌%◌, ◌&&◌, ◌||◌, append_assoc, append-nil}
+use Rattle.std.proofs.Common.{◌≡◌, ◌<◌, ◌≤◌, ◌+◌, ℕ, List, [], ◌∷◌, ◌++◌, refl, sym, ap, ◌∙◌, subst, arith, true, false, Bool, cond, not, ◌/◌, ◌%◌, ◌&&◌, append-nil}
 use Rattle.std.proofs.lemmas.Bool.{and_parts}
-use Rattle.std.proofs.lemmas.Bool.Decides.{nat_tests, Decides-eqb}
+use Rattle.std.proofs.lemmas.Bool.Decides.{nat_tests}
 use Rattle.std.proofs.lemmas.Str.{encode_ascii, encodes-append}
 use Rattle.std.proofs.lemmas.List.Concat.{flat_map-append}
 use Rattle.std.proofs.lemmas.List.Folds.{list_all-append}
-use Rattle.std.specs.Prelude.{◌==◌, nat_lt, nat_le, codes, flat_map, encode_utf8_all, encode_utf8}
+use Rattle.std.specs.Prelude.{nat_lt, nat_le, flat_map, encode_utf8_all}
 use Rattle.std.specs.List.{list_all, list_any}
 use lib.Utf8.{encode}
 use Rattle.csvw_iri.specs.Safe.{is_forbidden, is_iri}
 use Rattle.csvw_ntriples.specs.Character.{is_raw_in_iri}
 use Rattle.csvw_ntriples.specs.Escape.{needs_escape}
-use Rattle.csvw_ntriples.specs.Written.{escaped, string_text, iri_text}
+use Rattle.csvw_ntriples.specs.Written.{escaped}
 use Rattle.csvw_ntriples.proofs.EscapeLemmas.{flat_map-escaped}
 
 -- outside ASCII

@@ -1,14 +1,14 @@
 -- What is written denotes the triples.
-use Rattle.std.proofs.Common.{◌≡◌, ◌<◌, ℕ, List, [], ◌∷◌, ◌++◌, refl, sym, ap, ◌∙◌, subst, arith, true, false, Bool, cond, not, ◌&&◌, ◌||◌, append_assoc, append-nil, inl, inr, ◌⊎◌, map, Option, Some, None}
+use Rattle.std.proofs.Common.{◌≡◌, ◌<◌, ℕ, List, [], ◌∷◌, ◌++◌, refl, sym, ap, ◌∙◌, subst, arith, true, false, Bool, cond, not, ◌&&◌, append_assoc, inl, inr, map, Option, Some, None}
 use Rattle.std.proofs.lemmas.Bool.{and_parts}
 use Rattle.std.proofs.lemmas.Str.{chars-encodes, encodes-append}
 use Rattle.std.proofs.lemmas.Slice.Eq.{bytes_eq-Decides}
-use Rattle.std.specs.Prelude.{IsTrue, ◌==◌, nat_lt, codes, flat_map, encode_utf8_all, IsUtf8, chars, bytes_eq, is_some}
+use Rattle.std.specs.Prelude.{IsTrue, ◌==◌, nat_lt, codes, flat_map, encode_utf8_all, IsUtf8, chars, is_some}
 use Rattle.std.specs.List.{list_all, slice_split, AllByRecursion}
 use lib.Utf8.{scalar, scalars, low_scalar}
 use Rattle.std.proofs.lemmas.Bool.Decides.{nat_tests, Decides-eqb}
 use Rattle.std.proofs.lemmas.List.Folds.{list_all-append}
-use Rattle.csvw_text.specs.Language.{is_letter_or_digit_char, is_language_tag}
+use Rattle.csvw_text.specs.Language.{is_letter_or_digit_char}
 use Rattle.csvw_iri.specs.Safe.{is_iri}
 use Rattle.csvw_triples.specs.Vocabulary.{xsd_string, lang_string}
 use Rattle.csvw_triples.specs.declared.origin.Origin.{Origin}
@@ -20,10 +20,9 @@ use Rattle.csvw_triples.specs.declared.term.Term.TheVariants as term
 use Rattle.csvw_triples.specs.declared.term.Triple.{Triple}
 use Rattle.csvw_ntriples.specs.Character.{is_blank, is_break, is_raw_in_iri}
 use Rattle.csvw_ntriples.specs.Terminal.{InBytes, IsString, IsIriref, IsLangtag, IsBlankNode}
-use Rattle.csvw_ntriples.specs.Grammar.{Takes, IsLongest, IsMark, TakesIri, TakesBlank, TakesNode, TakesSuffix, TakesLit, TakesTerm, IsIdle, IsTripleLine, AreLines, Denotes, DenotesText}
-use Rattle.csvw_ntriples.specs.Written.{iri_text, blank_text, string_text, node_text, is_string_type, datatype_text, suffix_text, lit_text, term_text, line_text, written, node_said, lit_said, term_said, said, label, escaped}
-use Rattle.csvw_ntriples.specs.Writable.{IriFits, NodeFits, LanguageFits, LitFits, TermFits, TripleFits}
-use Rattle.csvw_ntriples.specs.declared.term.NtTriple.{NtTriple}
+use Rattle.csvw_ntriples.specs.Grammar.{Takes, TakesIri, TakesBlank, TakesNode, TakesSuffix, TakesTerm, IsTripleLine, AreLines, Denotes, DenotesText}
+use Rattle.csvw_ntriples.specs.Written.{iri_text, blank_text, string_text, node_text, is_string_type, suffix_text, lit_text, term_text, line_text, written, node_said, term_said, said, label, escaped}
+use Rattle.csvw_ntriples.specs.Writable.{IriFits, NodeFits, SuffixFits, LitFits, TermFits, TripleFits}
 use Rattle.csvw_ntriples.proofs.Decoded.{raw_chars, escaped_chars, encodes_low}
 use Rattle.csvw_ntriples.proofs.Spelled.{iri_written, string_written, blank_written, iri_longest, string_longest, mark_longest, blank_longest, tag_longest, bytes_longest, and_both, in_tag, tag_chars}
 use Rattle.csvw_ntriples.proofs.Labels.{label_plain, encodes-label}
@@ -208,22 +207,22 @@ type_says iri false e h =
       holds = λ after. inr (s.text ++ 32 ∷ after, ([], codes "^^", refl, refl, refl, mark_longest (codes "^^") (s.text ++ 32 ∷ after)), s.holds [] (32 ∷ after) refl);
     }
 
-suffix_says : (lang : Option (List ℕ)) (datatype : List ℕ) → (is_some lang ≡ true → datatype ≡ lang_string) → IriFits datatype → LanguageFits lang
+suffix_says : (lang : Option (List ℕ)) (datatype : List ℕ) → (is_some lang ≡ true → datatype ≡ lang_string) → SuffixFits lang datatype
     → Says (SuffixStands lang datatype) (suffix_text lang datatype)
-suffix_says None datatype tagged h k = type_says datatype (is_string_type datatype) refl h
-suffix_says (Some tag) datatype tagged h k =
-    let inside = tag_chars tag k in let low = tag_low tag inside in
+suffix_says None datatype tagged h = type_says datatype (is_string_type datatype) refl h
+suffix_says (Some tag) datatype tagged h =
+    let inside = tag_chars tag h in let low = tag_low tag inside in
     record {
       text = 64 ∷ tag;
       same = low_append (64 ∷ []) tag refl ∙ ap (λ z. 64 ∷ z) (encodes_low tag low);
       clean = good-append (64 ∷ []) tag good_marks.5 (tag_good tag inside);
-      holds = λ after. (tagged refl, ([], 64 ∷ tag, refl, refl, (tag, (refl, k), sym (encodes_low tag low)), bytes_longest IsLangtag (64 ∷ tag) (32 ∷ after) (tag_longest (64 ∷ tag) after)));
+      holds = λ after. (tagged refl, ([], 64 ∷ tag, refl, refl, (tag, (refl, h), sym (encodes_low tag low)), bytes_longest IsLangtag (64 ∷ tag) (32 ∷ after) (tag_longest (64 ∷ tag) after)));
     }
 
 lit_says : (l : Lit) → LitFits l → Says (TermStands (term.Literal l)) (lit_text l)
 lit_says l h =
     let s = string_says l.text h.0 in
-    let t = suffix_says l.lang l.datatype l.tagged h.1 h.2 in
+    let t = suffix_says l.lang l.datatype l.tagged h.1 in
     record {
       text = s.text ++ t.text;
       same = encodes-append s.text t.text ∙ (ap (λ z. z ++ encode_utf8_all t.text) s.same ∙ ap (λ z. string_text l.text ++ z) t.same);

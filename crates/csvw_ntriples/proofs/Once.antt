@@ -1,13 +1,12 @@
 -- A text denotes one list of triples at most.
-use Rattle.std.proofs.Common.{◌≡◌, ◌<◌, ℕ, zero, suc, List, [], ◌∷◌, ◌++◌, refl, sym, ap, ◌∙◌, subst, true, false, Bool, cond, ◌&&◌, append_assoc, append-nil, inl, inr, ◌⊎◌, Option, Some, None}
+use Rattle.std.proofs.Common.{◌≡◌, ℕ, List, [], ◌∷◌, ◌++◌, refl, sym, ap, ◌∙◌, subst, true, false, cond, append-nil, inl, inr, ◌⊎◌, Option, Some, None}
 use Rattle.std.proofs.lemmas.Bool.{and_parts}
-use Rattle.std.specs.Prelude.{IsTrue, codes, ◌==◌, encode_utf8_all}
+use Rattle.std.specs.Prelude.{codes, ◌==◌, encode_utf8_all}
 use Rattle.std.proofs.lemmas.Bool.Decides.{Decides-eqb}
-use Rattle.std.specs.List.{list_all, slice_split}
-use Rattle.csvw_ntriples.specs.Character.{is_blank, is_break}
-use Rattle.csvw_triples.specs.Vocabulary.{lang_string, xsd_string}
-use Rattle.csvw_ntriples.specs.Terminal.{InBytes, IsString, IsIriref, IsLangtag, IsBlankNode, StringPiece, IriPiece, Spells}
-use Rattle.csvw_ntriples.specs.Grammar.{Takes, IsLongest, IsMark, TakesIri, TakesBlank, TakesNode, TakesSuffix, TakesLit, TakesTerm, IsIdle, IsTripleLine, AreLines, Denotes, DenotesText}
+use Rattle.std.specs.List.{list_all}
+use Rattle.csvw_ntriples.specs.Character.{is_blank}
+use Rattle.csvw_ntriples.specs.Terminal.{InBytes, IsString, IsIriref, IsLangtag, IsBlankNode, StringPiece, IriPiece}
+use Rattle.csvw_ntriples.specs.Grammar.{Takes, IsLongest, IsMark, TakesIri, TakesBlank, TakesNode, TakesSuffix, TakesLit, TakesTerm, IsIdle, IsTripleLine, AreLines, Denotes}
 use Rattle.csvw_ntriples.specs.declared.term.NtNode.{NtNode}
 use Rattle.csvw_ntriples.specs.declared.term.NtNode.TheVariants as node
 use Rattle.csvw_ntriples.specs.declared.term.NtLit.{NtLit}

@@ -1,8 +1,6 @@
 -- a text is read as pieces in one way
-use Rattle.std.proofs.Common.{◌≡◌, ◌<◌, ◌≤◌, ◌+◌, ℕ, zero, suc, List, [], ◌∷◌, ◌++◌, refl, sym, ap, ◌∙◌, subst, arith, true, false, Bool, length, append_assoc, append-nil, inl, inr, ◌⊎◌, Option, Some, None}
-use Rattle.std.proofs.lemmas.Bool.Decides.{nat_tests}
-use Rattle.std.specs.Prelude.{IsTrue}
-use Rattle.std.specs.Str.Parse.{AllDigits, digits_value}
+use Rattle.std.proofs.Common.{◌≡◌, ℕ, List, [], ◌∷◌, ◌++◌, refl, sym, ap, ◌∙◌, subst, arith, true, length, append_assoc, inl, inr, ◌⊎◌, Some, None}
+use Rattle.std.specs.Str.Parse.{digits_value}
 use Rattle.csvw_ntriples.specs.Character.{is_raw_in_iri, is_raw_in_string, escape_of}
 use Rattle.csvw_ntriples.specs.Terminal.{IsEscape, IsNumbered, StringPiece, IriPiece, Spells}
 

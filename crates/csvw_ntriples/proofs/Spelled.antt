@@ -1,14 +1,14 @@
 -- What is written is a terminal, and the longest.
-use Rattle.std.proofs.Common.{◌≡◌, ◌<◌, ◌≤◌, ◌+◌, ℕ, zero, suc, List, [], ◌∷◌, ◌++◌, refl, sym, ap, ◌∙◌, subst, arith, true, false, Bool, cond, not, ◌&&◌, ◌||◌, append_assoc, append-nil, inl, inr, ◌⊎◌, Option, Some, None, length, length-append}
+use Rattle.std.proofs.Common.{◌≡◌, ℕ, List, [], ◌∷◌, ◌++◌, refl, sym, ap, ◌∙◌, subst, arith, true, false, Bool, cond, not, ◌&&◌, ◌||◌, append_assoc, inl, inr, length, length-append}
 use Rattle.std.proofs.lemmas.Bool.{and_parts}
-use Rattle.std.proofs.lemmas.Bool.Decides.{nat_tests, Decides-eqb}
-use Rattle.std.specs.Prelude.{IsTrue, codes, ◌==◌, flat_map}
+use Rattle.std.proofs.lemmas.Bool.Decides.{Decides-eqb}
+use Rattle.std.specs.Prelude.{codes, ◌==◌, flat_map}
 use Rattle.std.specs.List.{list_all, slice_split, AllByRecursion, onto_first}
 use Rattle.csvw_text.specs.Class.{is_letter_char, is_digit_char, is_within}
 use Rattle.csvw_text.specs.Language.{is_letter_or_digit_char, is_dash, is_word, are_subtags, is_language_tag}
-use Rattle.csvw_ntriples.specs.Character.{is_blank, is_raw_in_string, is_raw_in_iri, is_label_char, is_label_start, is_label_letter}
+use Rattle.csvw_ntriples.specs.Character.{is_raw_in_string, is_raw_in_iri, is_label_char, is_label_start, is_label_letter}
 use Rattle.csvw_ntriples.specs.Terminal.{IsString, IsIriref, IsLangtag, IsBlankNode, IsLabel, IsLabelTail, StringPiece, IriPiece, Spells, InBytes}
-use Rattle.csvw_ntriples.specs.Grammar.{Takes, IsLongest, IsMark}
+use Rattle.csvw_ntriples.specs.Grammar.{IsLongest, IsMark}
 use Rattle.csvw_ntriples.specs.Written.{escaped, iri_text, string_text, label}
 use Rattle.csvw_triples.specs.declared.origin.Origin.{Origin}
 use Rattle.csvw_triples.specs.declared.origin.Origin.TheVariants.{Group, Table, Row, Subject, Entry, Note}

@@ -1,5 +1,5 @@
 -- The law of labels.
-use Rattle.std.specs.Prelude.{ℕ, ◌≡◌, ◌<◌, ◌^◌}
+use Rattle.std.specs.Prelude.{◌≡◌, ◌<◌, ◌^◌}
 use Rattle.csvw_triples.specs.declared.origin.Origin.{Origin}
 use Rattle.csvw_triples.specs.declared.origin.Origin.TheVariants.{Group, Table, Row, Subject, Entry, Note}
 use Rattle.csvw_ntriples.specs.Written.{label}

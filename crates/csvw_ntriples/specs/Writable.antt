@@ -17,12 +17,13 @@ abbrev pub NodeFits : Node → Type 0
 NodeFits (node.Named iri) = IriFits iri
 NodeFits (node.Blank o) = Unit {0}
 
-abbrev pub LanguageFits : Option (List ℕ) → Type 0
-LanguageFits None = Unit {0}
-LanguageFits (Some tag) = is_language_tag tag ≡ true
+-- a language, or the datatype where there is none
+abbrev pub SuffixFits : Option (List ℕ) → List ℕ → Type 0
+SuffixFits None datatype = IriFits datatype
+SuffixFits (Some tag) datatype = is_language_tag tag ≡ true
 
 abbrev pub LitFits : Lit → Type 0
-LitFits l = IsUtf8 l.text × IriFits l.datatype × LanguageFits l.lang
+LitFits l = IsUtf8 l.text × SuffixFits l.lang l.datatype
 
 abbrev pub TermFits : Term → Type 0
 TermFits (term.Named iri) = IriFits iri
