@@ -8,6 +8,7 @@ use Rattle.csvw_triples.specs.declared.term.Lit.{Lit}
 use Rattle.csvw_triples.specs.declared.term.Term.{Term}
 use Rattle.csvw_triples.specs.declared.term.Term.TheVariants as term
 use Rattle.csvw_triples.specs.declared.term.Triple.{Triple}
+use Rattle.csvw_ntriples.specs.LabelLaw.{IsOrigin}
 
 -- a text whose characters may all stand raw in an IRIREF
 abbrev pub IriFits : List ℕ → Type 0
@@ -15,7 +16,7 @@ IriFits iri = IsUtf8 iri × (is_iri iri ≡ true)
 
 abbrev pub NodeFits : Node → Type 0
 NodeFits (node.Named iri) = IriFits iri
-NodeFits (node.Blank o) = Unit {0}
+NodeFits (node.Blank o) = IsOrigin o
 
 -- a language, or the datatype where there is none
 abbrev pub SuffixFits : Option (List ℕ) → List ℕ → Type 0
@@ -27,7 +28,7 @@ LitFits l = IsUtf8 l.text × SuffixFits l.lang l.datatype
 
 abbrev pub TermFits : Term → Type 0
 TermFits (term.Named iri) = IriFits iri
-TermFits (term.Blank o) = Unit {0}
+TermFits (term.Blank o) = IsOrigin o
 TermFits (term.Literal l) = LitFits l
 
 abbrev pub TripleFits : Triple → Type 0

@@ -3,6 +3,7 @@ ghost use Rattle.std.specs.Prelude.{◌≡◌, ◌∷◌, [], ◌++◌, true, On
 ghost use Rattle.std.specs.List.{list_any};
 ghost use Rattle.csvw_ntriples.specs.Written.{label, escaped, iri_text, blank_text, string_text, node_text, datatype_text, suffix_text, is_string_type, lit_text, term_text, line_text};
 ghost use Rattle.csvw_ntriples.specs.Escape.{needs_escape};
+ghost use Rattle.csvw_ntriples.specs.LabelLaw.{IsOrigin};
 ghost use Rattle.csvw_ntriples.specs.Writable.{IriFits, NodeFits, SuffixFits, LitFits, TermFits, TripleFits};
 ghost use Rattle.csvw_text.specs.Language.{is_language_tag};
 
@@ -96,7 +97,8 @@ fn push_row_label(out: &mut Vec<u8>, table: u32, row: u64) -> Result<(), AllocEr
 }
 
 fn push_label(out: &mut Vec<u8>, origin: Origin) -> Result<(), AllocError>
-    ensures { OnOk result (out.new.items ≡ out.old.items ++ label origin) }
+    ensures text { OnOk result (out.new.items ≡ out.old.items ++ label origin) }
+    ensures fits { OnOk result (IsOrigin origin) }
 {
     match origin {
         Origin::Group => out.extend_from_slice(b"g"),
@@ -116,7 +118,8 @@ fn push_label(out: &mut Vec<u8>, origin: Origin) -> Result<(), AllocError>
 }
 
 fn push_blank(out: &mut Vec<u8>, origin: Origin) -> Result<(), AllocError>
-    ensures { OnOk result (out.new.items ≡ out.old.items ++ blank_text origin) }
+    ensures text { OnOk result (out.new.items ≡ out.old.items ++ blank_text origin) }
+    ensures fits { OnOk result (IsOrigin origin) }
 {
     out.extend_from_slice(b"_:")?;
     push_label(out, origin)
