@@ -21,7 +21,7 @@ use Rattle.csvw_triples.specs.declared.term.Triple.{Triple}
 use Rattle.csvw_ntriples.specs.Character.{is_blank, is_break, is_raw_in_iri}
 use Rattle.csvw_ntriples.specs.Terminal.{InBytes, IsString, IsIriref, IsLangtag, IsBlankNode}
 use Rattle.csvw_ntriples.specs.Grammar.{Takes, TakesIri, TakesBlank, TakesNode, TakesSuffix, TakesTerm, IsTripleLine, AreLines, Denotes, DenotesText}
-use Rattle.csvw_ntriples.specs.Written.{iri_text, blank_text, string_text, node_text, is_string_type, suffix_text, lit_text, term_text, line_text, written, node_said, term_said, said, label, escaped}
+use Rattle.csvw_ntriples.specs.Written.{iri_text, blank_text, string_text, node_text, is_string_type, suffix_text, lit_text, term_text, line_text, written, node_named, term_named, said, label, escaped}
 use Rattle.csvw_ntriples.specs.Writable.{IriFits, NodeFits, SuffixFits, LitFits, TermFits, TripleFits}
 use Rattle.csvw_ntriples.proofs.Decoded.{raw_chars, escaped_chars, encodes_low}
 use Rattle.csvw_ntriples.proofs.Spelled.{iri_written, string_written, blank_written, iri_longest, string_longest, mark_longest, blank_longest, tag_longest, bytes_longest, and_both, in_tag, tag_chars}
@@ -144,13 +144,13 @@ abbrev BlankStands : List ℕ → List ℕ → Type 0
 BlankStands name x = (gap after : List ℕ) → IsTrue (list_all is_blank gap) → TakesBlank name (gap ++ (x ++ 32 ∷ after)) (32 ∷ after)
 
 abbrev NodeStands : Node → List ℕ → Type 0
-NodeStands n x = (gap after : List ℕ) → IsTrue (list_all is_blank gap) → TakesNode (node_said n) (gap ++ (x ++ 32 ∷ after)) (32 ∷ after)
+NodeStands n x = (gap after : List ℕ) → IsTrue (list_all is_blank gap) → TakesNode (node_named label n) (gap ++ (x ++ 32 ∷ after)) (32 ∷ after)
 
 abbrev SuffixStands : Option (List ℕ) → List ℕ → List ℕ → Type 0
 SuffixStands lang datatype x = (after : List ℕ) → TakesSuffix lang datatype (x ++ 32 ∷ after) (32 ∷ after)
 
 abbrev TermStands : Term → List ℕ → Type 0
-TermStands t x = (gap after : List ℕ) → IsTrue (list_all is_blank gap) → TakesTerm (term_said t) (gap ++ (x ++ 32 ∷ after)) (32 ∷ after)
+TermStands t x = (gap after : List ℕ) → IsTrue (list_all is_blank gap) → TakesTerm (term_named label t) (gap ++ (x ++ 32 ∷ after)) (32 ∷ after)
 
 iri_says : (iri : List ℕ) → IriFits iri → Says (IriStands iri) (iri_text iri)
 iri_says iri h =

@@ -6,4 +6,5 @@ pub mod LabelParts
 pub mod Labels
 pub mod Once
 pub mod Pieces
+pub mod SameGraphs
 pub mod Spelled

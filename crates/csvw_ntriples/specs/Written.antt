@@ -73,18 +73,22 @@ line_text t = node_text t.s ++ 32 ∷ iri_text t.p ++ 32 ∷ term_text t.o ++ co
 abbrev pub written : List Triple → List ℕ
 written ts = flat_map line_text ts
 
--- a triple with each origin as its label
-abbrev pub node_said : Node → NtNode
-node_said (node.Named iri) = nt_node.Named iri
-node_said (node.Blank o) = nt_node.Blank (label o)
+-- a triple whose blank nodes have these names
+abbrev pub node_named : (Origin → List ℕ) → Node → NtNode
+node_named name (node.Named iri) = nt_node.Named iri
+node_named name (node.Blank o) = nt_node.Blank (name o)
 
 abbrev pub lit_said : Lit → NtLit
 lit_said l = record { text = l.text; datatype = l.datatype; lang = l.lang }
 
-abbrev pub term_said : Term → NtTerm
-term_said (term.Named iri) = nt_term.Named iri
-term_said (term.Blank o) = nt_term.Blank (label o)
-term_said (term.Literal l) = nt_term.Literal (lit_said l)
+abbrev pub term_named : (Origin → List ℕ) → Term → NtTerm
+term_named name (term.Named iri) = nt_term.Named iri
+term_named name (term.Blank o) = nt_term.Blank (name o)
+term_named name (term.Literal l) = nt_term.Literal (lit_said l)
 
+abbrev pub named : (Origin → List ℕ) → Triple → NtTriple
+named name t = record { s = node_named name t.s; p = t.p; o = term_named name t.o }
+
+-- a triple with each origin as its label
 abbrev pub said : Triple → NtTriple
-said t = record { s = node_said t.s; p = t.p; o = term_said t.o }
+said t = named label t

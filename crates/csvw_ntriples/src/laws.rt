@@ -1,10 +1,11 @@
 //! Laws about what is written and read.
-ghost use Rattle.std.specs.Prelude.{◌≡◌, List, ℕ, map};
+ghost use Rattle.std.specs.Prelude.{◌≡◌, List, ℕ, map, Contains};
 ghost use Rattle.std.specs.List.{AllByRecursion};
 ghost use Rattle.csvw_triples.specs.declared.term.Triple.{Triple};
 ghost use Rattle.csvw_ntriples.specs.LabelLaw.{LabelsDiffer};
 ghost use Rattle.csvw_ntriples.specs.Grammar.{Denotes};
 ghost use Rattle.csvw_ntriples.specs.declared.term.NtTriple.{NtTriple};
+ghost use Rattle.csvw_ntriples.specs.SameUpTo.{SameUpTo};
 ghost use Rattle.csvw_ntriples.specs.Written.{written, said};
 ghost use Rattle.csvw_ntriples.specs.Writable.{TripleFits};
 
@@ -23,5 +24,12 @@ pub fn denotes_one_list()
 /// What is written denotes the triples, each origin as its label.
 pub fn written_denotes()
     ensures { (ts : List Triple) → AllByRecursion TripleFits ts → Denotes (written ts) (map said ts) }
+{
+}
+
+/// The triples that are written, each origin as its label, are the same graph as the triples, up to
+/// the names of blank nodes (RDF 1.1 Concepts, section 3.6).
+pub fn labels_name_one_to_one()
+    ensures { (ts : List Triple) → AllByRecursion TripleFits ts → SameUpTo (Contains ts) (map said ts) }
 {
 }

@@ -6,6 +6,6 @@ mod nt_sink;
 mod term;
 mod write;
 
-pub use laws::{denotes_one_list, labels_differ, written_denotes};
+pub use laws::{denotes_one_list, labels_differ, labels_name_one_to_one, written_denotes};
 pub use nt_sink::NtSink;
 pub use term::{NtFault, NtLit, NtNode, NtTerm, NtTriple};

@@ -1,5 +1,5 @@
 -- The triples that rows give are their graph.
-use Rattle.std.proofs.Common.{◌≡◌, ◌<◌, ℕ, List, [], ◌∷◌, ◌++◌, refl, sym, ap, ◌∙◌, subst, arith, inl, inr, ◌⊎◌, ◌↔◌, Option, Some, None, Contains, length}
+use Rattle.std.proofs.Common.{◌≡◌, ℕ, List, [], ◌∷◌, refl, sym, ap, ◌∙◌, subst, arith, inl, inr, ◌⊎◌, ◌↔◌, Option, Some, None, Contains}
 use Rattle.std.proofs.lemmas.List.Elements.{Contains-append_left, Contains-append_right, Contains-append_cases, Contains-push, Contains-push_cases}
 use Rattle.std.specs.Prelude.{flat_map}
 use Rattle.std.specs.List.{zip}
@@ -11,8 +11,8 @@ use Rattle.csvw_triples.specs.declared.mode.Mode.TheVariants as mode
 use Rattle.csvw_triples.specs.declared.term.Node.{Node}
 use Rattle.csvw_triples.specs.declared.term.Term.{Term}
 use Rattle.csvw_triples.specs.declared.term.Triple.{Triple}
-use Rattle.csvw_triples.specs.Graph.{IsCell, IsObject, subject_of, RowGraph, Minimal}
-use Rattle.csvw_triples.specs.RowTriples.{value_triple, value_triples, cell_triples, cells_triples, row_triples}
+use Rattle.csvw_triples.specs.Graph.{IsObject, subject_of, RowGraph, Minimal}
+use Rattle.csvw_triples.specs.RowTriples.{value_triple, value_triples, cell_triples, row_triples}
 
 -- lists
 none_in : {X : Type 0} (x : X) → Contains [] x → ⊥
