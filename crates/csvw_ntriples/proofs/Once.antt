@@ -7,6 +7,7 @@ use Rattle.std.specs.List.{list_all}
 use Rattle.csvw_ntriples.specs.Character.{is_blank}
 use Rattle.csvw_ntriples.specs.Terminal.{InBytes, IsString, IsIriref, IsLangtag, IsBlankNode, StringPiece, IriPiece}
 use Rattle.csvw_ntriples.specs.Grammar.{Takes, IsLongest, IsMark, TakesIri, TakesBlank, TakesNode, TakesSuffix, TakesLit, TakesTerm, IsIdle, IsTripleLine, AreLines, Denotes}
+use Rattle.csvw_ntriples.specs.Reading.{dark}
 use Rattle.csvw_ntriples.specs.declared.term.NtNode.{NtNode}
 use Rattle.csvw_ntriples.specs.declared.term.NtNode.TheVariants as node
 use Rattle.csvw_ntriples.specs.declared.term.NtLit.{NtLit}
@@ -14,11 +15,6 @@ use Rattle.csvw_ntriples.specs.declared.term.NtTerm.{NtTerm}
 use Rattle.csvw_ntriples.specs.declared.term.NtTerm.TheVariants as term
 use Rattle.csvw_ntriples.specs.declared.term.NtTriple.{NtTriple}
 use Rattle.csvw_ntriples.proofs.Pieces.{body_once, string_piece_once, string_begins, iri_piece_once, iri_begins}
-
--- the first character that is no space or tab
-abbrev dark : List ℕ → Option ℕ
-dark [] = None
-dark (c ∷ cs) = cond (is_blank c) (dark cs) (Some c)
 
 dark_after : (gap : List ℕ) (c : ℕ) (rest : List ℕ) → list_all is_blank gap ≡ true → is_blank c ≡ false → dark (gap ++ c ∷ rest) ≡ Some c
 dark_after [] c rest h k = rw k refl

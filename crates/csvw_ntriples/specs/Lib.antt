@@ -3,6 +3,7 @@ pub mod Escape
 pub mod Grammar
 pub mod LabelLaw
 pub mod NtSink
+pub mod Reading
 pub mod SameUpTo
 pub mod Sending
 pub mod SendingLaws

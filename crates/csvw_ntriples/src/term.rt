@@ -1,6 +1,6 @@
 //! What a text in N-Triples says.
 
-use csvw_text::Text;
+use csvw_text::{LanguageTag, Text};
 
 /// A node: an IRI, or a blank node by its label.
 #[derive(Debug, Drop)]
@@ -14,7 +14,7 @@ pub enum NtNode {
 pub struct NtLit {
     pub text: Text,
     pub datatype: Text,
-    pub lang: Option<Text>,
+    pub lang: Option<LanguageTag>,
 }
 
 /// What a triple ends with: an IRI, a blank node by its label, or a literal.
