@@ -5,7 +5,7 @@ use Rattle.std.specs.Char.{IsScalar}
 use Rattle.std.specs.List.{list_all}
 use Rattle.std.specs.Str.Parse.{AllDigits, digits_value}
 use Rattle.csvw_text.specs.Language.{is_letter_or_digit_char, is_language_tag}
-use Rattle.csvw_ntriples.specs.Character.{is_blank, is_label_char, is_raw_in_iri, is_raw_in_string, escape_of}
+use Rattle.csvw_ntriples.specs.Character.{is_blank, is_label_start, is_label_char, is_raw_in_iri, is_raw_in_string, escape_of}
 use Rattle.csvw_ntriples.specs.Terminal.{IsNumbered, Spells, IsLabel}
 use Rattle.csvw_ntriples.specs.Grammar.{IsIdle, IsTripleLine, IsLongest}
 use Rattle.csvw_ntriples.specs.declared.reading.runs.Class.{Class}
@@ -107,6 +107,11 @@ abbrev pub EndsWithoutDot : List ℕ → ℕ → Type 0
 EndsWithoutDot text n =
     (front dots : List ℕ) × (text ≡ front ++ dots) × (length front ≡ n) × (list_all (λ c. c == 46) dots ≡ true)
     × ((xs : List ℕ) → front ≡ xs ++ 46 ∷ [] → ⊥)
+
+-- the first character may begin a label
+abbrev pub BeginsLabel : List ℕ → Type 0
+BeginsLabel [] = ⊥
+BeginsLabel (c ∷ cs) = is_label_start c ≡ true
 
 -- the text is the longest label, of these bytes, and a rest
 abbrev pub TakesLabel : List ℕ → List ℕ → List ℕ → Type 0

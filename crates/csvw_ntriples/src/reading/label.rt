@@ -1,7 +1,7 @@
 //! Labels of blank nodes.
-ghost use Rattle.std.specs.Prelude.{◌≡◌, ◌++◌, ℕ, List, IfOk, encode_utf8_all, MatchOption};
+ghost use Rattle.std.specs.Prelude.{◌≡◌, ◌++◌, ℕ, List, IfOk, encode_utf8_all, IsTrue, ◌↔◌};
 ghost use Rattle.csvw_ntriples.specs.Grammar.{TakesBlank};
-ghost use Rattle.csvw_ntriples.specs.Reading.{Finds, EndsWithoutDot, TakesLabel};
+ghost use Rattle.csvw_ntriples.specs.Reading.{Finds, BeginsLabel, EndsWithoutDot, TakesLabel};
 
 use super::character::is_label_start;
 use super::runs::{Class, after_blanks, after_two, run};
@@ -28,9 +28,11 @@ pub(crate) fn text_of(alloc: Global, characters: &[char]) -> Result<Text, AllocE
     Ok(Text::of(text))
 }
 
-fn is_label(text: &[char]) -> bool {
-    match text.first() {
-        Some(c) => is_label_start(*c),
+fn begins_label(text: &[char]) -> bool
+    ensures { IsTrue result ↔ BeginsLabel text.now }
+{
+    match text.split_first() {
+        Some((first, _)) => is_label_start(*first),
         None => false,
     }
 }
@@ -41,7 +43,7 @@ fn label(alloc: Global, text: &[char]) -> Result<(Text, &[char]), NtFault>
 {
     let front = run(Class::Label, text).0;
     let (name, rest) = text.split_at(length_without_dots(front));
-    if !is_label(name) {
+    if !begins_label(name) {
         return Err(NtFault::Syntax);
     }
     match text_of(alloc, name) {

@@ -74,10 +74,16 @@ pub(crate) fn after_two(text: &[char], first: char, second: char) -> Option<&[ch
 pub(crate) fn start_of(text: &[char]) -> Start
     ensures { StartsSo text.now result }
 {
-    match after_blanks(text).first() {
-        Some('<') => Start::Iri,
-        Some('_') => Start::Blank,
-        Some('"') => Start::Literal,
-        _ => Start::Other,
+    let Some((first, _)) = after_blanks(text).split_first() else {
+        return Start::Other;
+    };
+    if *first == '<' {
+        Start::Iri
+    } else if *first == '_' {
+        Start::Blank
+    } else if *first == '"' {
+        Start::Literal
+    } else {
+        Start::Other
     }
 }

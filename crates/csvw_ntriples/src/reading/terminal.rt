@@ -43,8 +43,8 @@ pub(crate) fn after_dot(text: &[char]) -> Option<&[char]>
 pub(crate) fn is_idle(text: &[char]) -> bool
     ensures { IsTrue result ↔ IsIdle text.now }
 {
-    match after_blanks(text).first() {
+    match after_blanks(text).split_first() {
         None => true,
-        Some(c) => *c == '#',
+        Some((first, _)) => *first == '#',
     }
 }
