@@ -17,7 +17,7 @@ use Rattle.csvw_ntriples.proofs.Runs.{first_of, dark_run}
 use Rattle.csvw_ntriples.proofs.Spelled.{iri_longest, string_longest, mark_longest, bytes_longest}
 
 -- past a gap the text begins so, in any reading
-past_gap : (text gap rest other after : List ℕ) (c : ℕ) → IsRun is_blank text gap rest → list_all is_blank other ≡ true → is_blank c ≡ false → text ≡ other ++ c ∷ after → rest ≡ c ∷ after
+pub past_gap : (text gap rest other after : List ℕ) (c : ℕ) → IsRun is_blank text gap rest → list_all is_blank other ≡ true → is_blank c ≡ false → text ≡ other ++ c ∷ after → rest ≡ c ∷ after
 past_gap text gap [] other after c r h k e =
     let none : dark text ≡ None = dark_run text gap [] r in
     let some = dark_run text other (c ∷ after) (e, h, k) in

@@ -6,6 +6,7 @@ pub mod Denoted
 pub mod EscapeLemmas
 pub mod Hex
 pub mod LabelParts
+pub mod LabelRuns
 pub mod Labels
 pub mod Lines
 pub mod Once

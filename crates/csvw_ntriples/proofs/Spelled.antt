@@ -135,7 +135,7 @@ label_ok (Note n) = (refl, plain_tail _ (label_plain (Note n)))
 pub blank_written : (o : Origin) → IsBlankNode (codes "_:" ++ label o) (label o)
 blank_written o = (refl, label_ok o)
 
-in_label : ℕ → Bool
+unfoldable pub in_label : ℕ → Bool
 in_label c = is_label_char c || c == 46
 
 swap_or : (a b x y : Bool) → (a || b) ≡ true → (a || (x || (b || y))) ≡ true
@@ -144,7 +144,7 @@ swap_or false true true y h = refl
 swap_or false true false y h = refl
 swap_or false false x y h = cc
 
-start_in_label : (c : ℕ) → is_label_start c ≡ true → in_label c ≡ true
+pub start_in_label : (c : ℕ) → is_label_start c ≡ true → in_label c ≡ true
 unfolding in_label
 start_in_label c h = or_left (is_label_char c) (c == 46) (swap_or (is_label_letter c) (is_digit_char c) (c == 45) (c == 0xB7 || (is_within 0x300 0x36F c || is_within 0x203F 0x2040 c)) h)
 
@@ -158,7 +158,7 @@ tail_in_label [] h = refl
 tail_in_label (c ∷ []) h = and_both _ true (or_left (is_label_char c) (c == 46) h) refl
 tail_in_label (c ∷ d ∷ cs) h = and_both _ _ h.0 (tail_in_label (d ∷ cs) h.1)
 
-all_in_label : (v : List ℕ) → IsLabel v → list_all in_label v ≡ true
+pub all_in_label : (v : List ℕ) → IsLabel v → list_all in_label v ≡ true
 all_in_label [] h = absurd h
 all_in_label (c ∷ cs) h = and_both _ _ (start_in_label c h.0) (tail_in_label cs h.1)
 
@@ -175,15 +175,14 @@ blank_longest p after = plain_longest IsBlankNode in_label no_space_in_label bla
 
 -- language tags
 unfoldable pub in_tag : ℕ → Bool
-in_tag c = is_letter_or_digit_char c || (c == 45 || c == 64)
+in_tag c = is_letter_or_digit_char c || c == 45
 
-sixty_four : in_tag 64 ≡ true
-unfolding in_tag
-sixty_four = refl
+in_marked : ℕ → Bool
+in_marked c = in_tag c || c == 64
 
-no_space_in_tag : in_tag 32 ≡ false
-unfolding in_tag
-no_space_in_tag = refl
+no_space_marked : in_marked 32 ≡ false
+unfolding in_tag in_marked
+no_space_marked = refl
 
 abbrev pub AllPlain : List (List ℕ) → Type 0
 AllPlain parts = AllByRecursion (λ w. list_all is_letter_or_digit_char w ≡ true) parts
@@ -194,8 +193,8 @@ onto_parts x (part ∷ parts) h = let both = and_parts (is_letter_or_digit_char 
 
 split_at_dash : (x : ℕ) (xs : List ℕ) (b : Bool) → (x == 45) ≡ b → AllPlain (cond b ([] ∷ slice_split is_dash xs) (onto_first x (slice_split is_dash xs))) → (in_tag x ≡ true) × AllPlain (slice_split is_dash xs)
 unfolding in_tag
-split_at_dash x xs true e h = (or_right (is_letter_or_digit_char x) (x == 45 || x == 64) (or_left (x == 45) (x == 64) e), h.1)
-split_at_dash x xs false e h = let k = onto_parts x (slice_split is_dash xs) h in (or_left (is_letter_or_digit_char x) (x == 45 || x == 64) k.0, k.1)
+split_at_dash x xs true e h = (or_right (is_letter_or_digit_char x) (x == 45) e, h.1)
+split_at_dash x xs false e h = let k = onto_parts x (slice_split is_dash xs) h in (or_left (is_letter_or_digit_char x) (x == 45) k.0, k.1)
 
 split_in_tag : (v : List ℕ) → AllPlain (slice_split is_dash v) → list_all in_tag v ≡ true
 split_in_tag [] h = refl
@@ -227,11 +226,17 @@ pub tag_chars : (tag : List ℕ) → is_language_tag tag ≡ true → list_all i
 unfolding is_language_tag
 tag_chars tag h = split_in_tag tag (subtags_plain (slice_split is_dash tag) h)
 
-tag_in_tag : (p v : List ℕ) → IsLangtag p v → list_all in_tag p ≡ true
-tag_in_tag p v f = rw f.0 (and_both _ _ sixty_four (tag_chars v f.1))
+marked : (cs : List ℕ) → list_all in_tag cs ≡ true → list_all in_marked cs ≡ true
+unfolding in_marked
+marked [] h = refl
+marked (c ∷ cs) h = let both = and_parts (in_tag c) (list_all in_tag cs) h in and_both _ _ (or_left (in_tag c) (c == 64) both.0) (marked cs both.1)
+
+tag_marked : (p v : List ℕ) → IsLangtag p v → list_all in_marked p ≡ true
+unfolding in_marked
+tag_marked p v f = rw f.0 (and_both _ _ (or_right (in_tag 64) (64 == 64) refl) (marked v (tag_chars v f.1)))
 
 pub tag_longest : (p after : List ℕ) → IsLongest IsLangtag p (32 ∷ after)
-tag_longest p after = plain_longest IsLangtag in_tag no_space_in_tag tag_in_tag p after
+tag_longest p after = plain_longest IsLangtag in_marked no_space_marked tag_marked p after
 
 -- the longest piece for a text is the longest for its bytes
 pub bytes_longest : (P : List ℕ → List ℕ → Type 0) (p after : List ℕ) → IsLongest P p after → IsLongest (InBytes P) p after

@@ -1,5 +1,5 @@
 //! IRIs, strings and dots at the front of a text.
-ghost use Rattle.std.specs.Prelude.{◌≡◌, ℕ, List, codes, tt, MatchOption, ◌↔◌, IsTrue};
+ghost use Rattle.std.specs.Prelude.{◌≡◌, ℕ, List, codes, MatchOption, ◌↔◌, IsTrue};
 ghost use Rattle.csvw_ntriples.specs.Grammar.{Takes, IsMark, TakesIri, IsIdle};
 ghost use Rattle.csvw_ntriples.specs.Terminal.{InBytes, IsString};
 ghost use Rattle.csvw_ntriples.specs.Reading.{Finds};
