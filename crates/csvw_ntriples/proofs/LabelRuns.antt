@@ -255,9 +255,34 @@ dot_stops (c ∷ cs) d = at (is_blank c) refl
     at true e = blank_stops c e
     at false e = let k : Some c ≡ Some 46 = sym (ap (λ (b : Bool). cond b (dark cs) (Some c)) e) ∙ d in let same : c ≡ 46 = cc in rw same refl
 
+-- before a dot there is one tag
+pub tag_once : (text front end : List ℕ) → IsRun (is_in class.Tag) text front end → (v rest : List ℕ) → TagBefore v text rest → dark rest ≡ Some 46 → rest ≡ end
+tag_once text front end r v rest t d =
+    sym (run_once (is_in class.Tag) front t.0 end rest r.1 (tag_in t.0 t.2) r.2 (dot_stops rest d) (sym r.0 ∙ t.1)).1
+
 pub tag_missing : (text front end bytes : List ℕ) → IsRun (is_in class.Tag) text front end → bytes ≡ encode_utf8_all front → is_language_tag bytes ≡ false
     → (v rest : List ℕ) → TagBefore v text rest → dark rest ≡ Some 46 → ⊥
 tag_missing text front end bytes r e h v rest t d =
     let plain : bytes ≡ front = e ∙ encodes_low front (tag_low front r.1) in
     let once = run_once (is_in class.Tag) front t.0 end rest r.1 (tag_in t.0 t.2) r.2 (dot_stops rest d) (sym r.0 ∙ t.1) in
     let same : is_language_tag bytes ≡ true = subst (λ (z : List ℕ). is_language_tag z ≡ true) (sym (plain ∙ once.0)) t.2 in cc
+
+-- the text cut behind the label
+pub label_split : (text name dots end a b : List ℕ) (n : ℕ) → Parts text name dots end → length name ≡ n → a ≡ take n text → b ≡ drop n text → (a ≡ name) × (b ≡ dots ++ end)
+label_split text name dots end a b n p size e f =
+    let cut = cut_at name (dots ++ end) n size in
+    (e ∙ (ap (λ z. take n z) p.0 ∙ cut.0), f ∙ (ap (λ z. drop n z) p.0 ∙ cut.1))
+
+pub label_there : (text name dots end a b bytes : List ℕ) (n : ℕ) → Parts text name dots end → length name ≡ n → a ≡ take n text → b ≡ drop n text → BeginsLabel a → bytes ≡ encode_utf8_all a
+    → TakesLabel bytes text b
+label_there text name dots end a b bytes n p size e f begins g =
+    let s = label_split text name dots end a b n p size e f in
+    let begun : BeginsLabel name = subst BeginsLabel s.0 begins in
+    let same : bytes ≡ encode_utf8_all name = g ∙ ap encode_utf8_all s.0 in
+    subst (λ z. TakesLabel bytes text z) (sym s.1) (label_found text name dots end bytes p begun same)
+
+pub label_not_there : (text name dots end a b : List ℕ) (n : ℕ) → Parts text name dots end → length name ≡ n → a ≡ take n text → b ≡ drop n text → (BeginsLabel a → ⊥)
+    → (v rest : List ℕ) → TakesLabel v text rest → ⊥
+label_not_there text name dots end a b n p size e f none =
+    let s = label_split text name dots end a b n p size e f in
+    label_missing text name dots end p (λ begins. none (subst BeginsLabel (sym s.0) begins))

@@ -1,5 +1,6 @@
 pub mod Begun
 pub mod BodyPieces
+pub mod Composed
 pub mod Cutting
 pub mod Decoded
 pub mod Denoted

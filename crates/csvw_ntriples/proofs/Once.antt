@@ -135,47 +135,50 @@ mark_starts mark others p v f = (others, f)
 mark_one : (mark : List ℕ) → Functional (IsMark mark)
 mark_one mark p v w f g = refl
 
-apart : (text : List ℕ) (c d : ℕ) → dark text ≡ Some c → dark text ≡ Some d → (c ≡ d → ⊥) → ⊥
+pub apart : (text : List ℕ) (c d : ℕ) → dark text ≡ Some c → dark text ≡ Some d → (c ≡ d → ⊥) → ⊥
 apart text c d f g h = let e : Some c ≡ Some d = sym f ∙ g in let k : c ≡ d = cc in h k
 
-iri_dark : (v text a : List ℕ) → TakesIri v text a → dark text ≡ Some 60
+pub iri_dark : (v text a : List ℕ) → TakesIri v text a → dark text ≡ Some 60
 iri_dark v text a f = takes_dark (InBytes IsIriref) 60 refl iri_starts v text a f
 
-blank_dark : (v text a : List ℕ) → TakesBlank v text a → dark text ≡ Some 95
+pub blank_dark : (v text a : List ℕ) → TakesBlank v text a → dark text ≡ Some 95
 blank_dark v text a f = takes_dark (InBytes IsBlankNode) 95 refl blank_starts v text a f
 
-string_dark : (v text a : List ℕ) → Takes (InBytes IsString) v text a → dark text ≡ Some 34
+pub string_dark : (v text a : List ℕ) → Takes (InBytes IsString) v text a → dark text ≡ Some 34
 string_dark v text a f = takes_dark (InBytes IsString) 34 refl string_starts v text a f
 
-tag_dark : (v text a : List ℕ) → Takes (InBytes IsLangtag) v text a → dark text ≡ Some 64
+pub tag_dark : (v text a : List ℕ) → Takes (InBytes IsLangtag) v text a → dark text ≡ Some 64
 tag_dark v text a f = takes_dark (InBytes IsLangtag) 64 refl tag_starts v text a f
 
-dot_dark : (text a : List ℕ) → Takes (IsMark (codes ".")) tt text a → dark text ≡ Some 46
+pub dot_dark : (text a : List ℕ) → Takes (IsMark (codes ".")) tt text a → dark text ≡ Some 46
 dot_dark text a f = takes_dark (IsMark (codes ".")) 46 refl (mark_starts 46 []) tt text a f
 
-hats_dark : (text a : List ℕ) → Takes (IsMark (codes "^^")) tt text a → dark text ≡ Some 94
+pub hats_dark : (text a : List ℕ) → Takes (IsMark (codes "^^")) tt text a → dark text ≡ Some 94
 hats_dark text a f = takes_dark (IsMark (codes "^^")) 94 refl (mark_starts 94 (94 ∷ [])) tt text a f
 
-differ : (a b : ℕ) → (a == b) ≡ false → a ≡ b → ⊥
+pub differ : (a b : ℕ) → (a == b) ≡ false → a ≡ b → ⊥
 differ a b h e = let k = Decides-eqb a b in let t : (a == b) ≡ true = k.1 e in cc
 
-iri_once : (v w text a b : List ℕ) → TakesIri v text a → TakesIri w text b → (v ≡ w) × (a ≡ b)
+pub iri_once : (v w text a b : List ℕ) → TakesIri v text a → TakesIri w text b → (v ≡ w) × (a ≡ b)
 iri_once v w text a b f g = takes_once (InBytes IsIriref) 60 refl iri_starts iri_one v w text a b f g
 
-blank_once : (v w text a b : List ℕ) → TakesBlank v text a → TakesBlank w text b → (v ≡ w) × (a ≡ b)
+pub blank_once : (v w text a b : List ℕ) → TakesBlank v text a → TakesBlank w text b → (v ≡ w) × (a ≡ b)
 blank_once v w text a b f g = takes_once (InBytes IsBlankNode) 95 refl blank_starts blank_one v w text a b f g
 
-string_once : (v w text a b : List ℕ) → Takes (InBytes IsString) v text a → Takes (InBytes IsString) w text b → (v ≡ w) × (a ≡ b)
+pub string_once : (v w text a b : List ℕ) → Takes (InBytes IsString) v text a → Takes (InBytes IsString) w text b → (v ≡ w) × (a ≡ b)
 string_once v w text a b f g = takes_once (InBytes IsString) 34 refl string_starts string_one v w text a b f g
 
 tag_once : (v w text a b : List ℕ) → Takes (InBytes IsLangtag) v text a → Takes (InBytes IsLangtag) w text b → (v ≡ w) × (a ≡ b)
 tag_once v w text a b f g = takes_once (InBytes IsLangtag) 64 refl tag_starts tag_one v w text a b f g
 
-node_dark : (n : NtNode) (text a : List ℕ) → TakesNode n text a → (dark text ≡ Some 60) ⊎ (dark text ≡ Some 95)
+pub dot_once : (text a b : List ℕ) → Takes (IsMark (codes ".")) tt text a → Takes (IsMark (codes ".")) tt text b → a ≡ b
+dot_once text a b f g = (takes_once (IsMark (codes ".")) 46 refl (mark_starts 46 []) (mark_one (codes ".")) tt tt text a b f g).1
+
+pub node_dark : (n : NtNode) (text a : List ℕ) → TakesNode n text a → (dark text ≡ Some 60) ⊎ (dark text ≡ Some 95)
 node_dark (node.Named v) text a f = inl (iri_dark v text a f)
 node_dark (node.Blank v) text a f = inr (blank_dark v text a f)
 
-node_once : (m n : NtNode) (text a b : List ℕ) → TakesNode m text a → TakesNode n text b → (m ≡ n) × (a ≡ b)
+pub node_once : (m n : NtNode) (text a b : List ℕ) → TakesNode m text a → TakesNode n text b → (m ≡ n) × (a ≡ b)
 node_once (node.Named v) (node.Named w) text a b f g = let h = iri_once v w text a b f g in (ap node.Named h.0, h.1)
 node_once (node.Named v) (node.Blank w) text a b f g = absurd (apart text 60 95 (iri_dark v text a f) (blank_dark w text b g) (differ 60 95 refl))
 node_once (node.Blank v) (node.Named w) text a b f g = absurd (apart text 95 60 (blank_dark v text a f) (iri_dark w text b g) (differ 95 60 refl))
@@ -221,10 +224,10 @@ lit_once m n text a b d f g =
     let t = suffix_once m.lang n.lang m.datatype n.datatype f.0 a b d f.2 (subst (λ z. TakesSuffix n.lang n.datatype z b) (sym s.1) g.2) in
     (same_lit m.text n.text m.datatype n.datatype m.lang n.lang s.0 t.1 t.0, t.2)
 
-lit_dark : (m : NtLit) (text a : List ℕ) → TakesLit m text a → dark text ≡ Some 34
+pub lit_dark : (m : NtLit) (text a : List ℕ) → TakesLit m text a → dark text ≡ Some 34
 lit_dark m text a f = string_dark m.text text f.0 f.1
 
-term_once : (m n : NtTerm) (text a b : List ℕ) → Dotted a b → TakesTerm m text a → TakesTerm n text b → (m ≡ n) × (a ≡ b)
+pub term_once : (m n : NtTerm) (text a b : List ℕ) → Dotted a b → TakesTerm m text a → TakesTerm n text b → (m ≡ n) × (a ≡ b)
 term_once (term.Named v) (term.Named w) text a b d f g = let h = iri_once v w text a b f g in (ap term.Named h.0, h.1)
 term_once (term.Named v) (term.Blank w) text a b d f g = absurd (apart text 60 95 (iri_dark v text a f) (blank_dark w text b g) (differ 60 95 refl))
 term_once (term.Named v) (term.Literal n) text a b d f g = absurd (apart text 60 34 (iri_dark v text a f) (lit_dark n text b g) (differ 60 34 refl))

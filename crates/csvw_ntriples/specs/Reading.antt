@@ -78,9 +78,9 @@ abbrev pub dark : List ℕ → Option ℕ
 dark [] = None
 dark (c ∷ cs) = if is_blank c then dark cs else Some c
 
--- The same where only a rest counts that goes on with a dot.
+-- The same where only a rest counts that goes on with a dot: then it is the rest that was found.
 abbrev pub FindsBeforeDot : {V : Type 0} → (V → List ℕ → Type 0) → Result (V × Bor (List ℕ)) NtFault → Type 0
-FindsBeforeDot R (Ok r) = R r.0 r.1.now
+FindsBeforeDot {V} R (Ok r) = R r.0 r.1.now × ((v : V) (rest : List ℕ) → R v rest → dark rest ≡ Some 46 → rest ≡ r.1.now)
 FindsBeforeDot R (Err Memory) = Unit {0}
 FindsBeforeDot {V} R (Err Syntax) = (v : V) (rest : List ℕ) → R v rest → dark rest ≡ Some 46 → ⊥
 

@@ -1,5 +1,5 @@
 //! Literals at the front of a text.
-ghost use Rattle.std.specs.Prelude.{◌≡◌, IfOk};
+ghost use Rattle.std.specs.Prelude.{◌≡◌, IfOk, Some, None};
 ghost use Rattle.csvw_triples.specs.Vocabulary.{lang_string, xsd_string};
 ghost use Rattle.csvw_ntriples.specs.Grammar.{TakesLit, TakesSuffix};
 ghost use Rattle.csvw_ntriples.specs.Reading.{FindsBeforeDot};
@@ -9,7 +9,7 @@ use super::runs::{after_blanks, after_char, after_two};
 use super::terminal::{iri, string};
 use crate::{NtFault, NtLit};
 use csvw_text::{LanguageTag, Text};
-use std::alloc::Global;
+use std::alloc::{AllocError, Global};
 
 const LANG_STRING: &str = "http://www.w3.org/1999/02/22-rdf-syntax-ns#langString";
 const XSD_STRING: &str = "http://www.w3.org/2001/XMLSchema#string";
@@ -21,28 +21,22 @@ pub(crate) struct Suffix {
     datatype: Text,
 }
 
-fn plain_suffix(alloc: Global) -> Result<Suffix, NtFault>
-    ensures { IfOk result (λ s. (s.lang ≡ Rattle.std.specs.Prelude.None) × (s.datatype ≡ xsd_string)) }
+fn plain_suffix(alloc: Global) -> Result<Suffix, AllocError>
+    ensures { IfOk result (λ s. (s.lang ≡ None) × (s.datatype ≡ xsd_string)) }
 {
-    match Text::copied(alloc, XSD_STRING) {
-        Ok(datatype) => Ok(Suffix {
-            lang: None,
-            datatype,
-        }),
-        Err(_) => Err(NtFault::Memory),
-    }
+    Ok(Suffix {
+        lang: None,
+        datatype: Text::copied(alloc, XSD_STRING)?,
+    })
 }
 
-fn tagged_suffix(alloc: Global, tag: LanguageTag) -> Result<Suffix, NtFault>
-    ensures { IfOk result (λ s. (s.lang ≡ Rattle.std.specs.Prelude.Some tag) × (s.datatype ≡ lang_string)) }
+fn tagged_suffix(alloc: Global, tag: LanguageTag) -> Result<Suffix, AllocError>
+    ensures { IfOk result (λ s. (s.lang ≡ Some tag) × (s.datatype ≡ lang_string)) }
 {
-    match Text::copied(alloc, LANG_STRING) {
-        Ok(datatype) => Ok(Suffix {
-            lang: Some(tag),
-            datatype,
-        }),
-        Err(_) => Err(NtFault::Memory),
-    }
+    Ok(Suffix {
+        lang: Some(tag),
+        datatype: Text::copied(alloc, LANG_STRING)?,
+    })
 }
 
 /// The suffix in front, and what comes after it.
@@ -58,9 +52,17 @@ fn read_suffix(alloc: Global, text: &[char]) -> Result<(Suffix, &[char]), NtFaul
     match after_char(front, '@') {
         Some(after) => {
             let (tag, rest) = language(alloc, after)?;
-            Ok((tagged_suffix(alloc, tag)?, rest))
+            let Ok(tagged) = tagged_suffix(alloc, tag) else {
+                return Err(NtFault::Memory);
+            };
+            Ok((tagged, rest))
         }
-        None => Ok((plain_suffix(alloc)?, text)),
+        None => {
+            let Ok(plain) = plain_suffix(alloc) else {
+                return Err(NtFault::Memory);
+            };
+            Ok((plain, text))
+        }
     }
 }
 
