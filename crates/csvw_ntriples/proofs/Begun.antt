@@ -1,19 +1,18 @@
 -- What stands at the front of a text, past spaces and tabs.
-use Rattle.std.proofs.Common.{◌≡◌, ◌<◌, ◌≤◌, ◌+◌, ℕ, zero, suc, List, [], ◌∷◌, ◌++◌, refl, sym, ap, ◌∙◌, subst, arith, true, false, Bool, ◌&&◌, ◌||◌, length, append_assoc, append-nil, inl, inr, ◌⊎◌, Option, Some, None, Bor, MatchOption, IsTrue, Result, Ok, Err}
+use Rattle.std.proofs.Common.{◌≡◌, ℕ, List, [], ◌∷◌, ◌++◌, refl, sym, ap, ◌∙◌, subst, arith, true, false, length, append_assoc, inl, inr, Option, Some, None, Bor, MatchOption, Result, Ok, Err}
 use Rattle.std.proofs.lemmas.Bool.{and_parts}
-use Rattle.std.proofs.lemmas.Bool.Decides.{Decides-eqb}
-use Rattle.std.specs.Prelude.{codes, encode_utf8_all, ◌==◌}
+use Rattle.std.specs.Prelude.{codes}
 use Rattle.std.specs.List.{list_all}
 use Rattle.csvw_ntriples.specs.Character.{is_blank}
-use Rattle.csvw_ntriples.specs.Terminal.{InBytes, IsString, IsIriref, IsBlankNode, IsLangtag, IsLabel}
-use Rattle.csvw_ntriples.specs.Grammar.{Takes, IsLongest, IsMark, TakesIri, TakesBlank, IsIdle}
-use Rattle.csvw_ntriples.specs.Reading.{Stops, IsRun, dark, ReadsBytes, Finds, TakesLabel}
+use Rattle.csvw_ntriples.specs.Terminal.{InBytes, IsString, IsIriref}
+use Rattle.csvw_ntriples.specs.Grammar.{Takes, IsMark, TakesIri, IsIdle}
+use Rattle.csvw_ntriples.specs.Reading.{Stops, IsRun, dark, ReadsBytes, Finds}
 use Rattle.csvw_ntriples.specs.declared.term.NtFault.{NtFault}
 use Rattle.csvw_ntriples.specs.declared.term.NtFault.TheVariants.{Memory, Syntax}
 use Rattle.csvw_ntriples.specs.declared.reading.enclosed.Enclosed.TheVariants as enclosed
 use Rattle.csvw_ntriples.proofs.BodyPieces.{to_iri, from_iri}
 use Rattle.csvw_ntriples.proofs.Once.{gap_once}
-use Rattle.csvw_ntriples.proofs.Runs.{first_of, dark_run}
+use Rattle.csvw_ntriples.proofs.Runs.{dark_run}
 use Rattle.csvw_ntriples.proofs.Spelled.{iri_longest, string_longest, mark_longest, bytes_longest}
 
 -- past a gap the text begins so, in any reading

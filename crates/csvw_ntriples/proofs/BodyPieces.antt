@@ -1,13 +1,12 @@
 -- Pieces at the front of a text, up to a mark.
-use Rattle.std.proofs.Common.{◌≡◌, ◌<◌, ◌≤◌, ◌+◌, ℕ, zero, suc, List, [], ◌∷◌, ◌++◌, refl, sym, ap, ◌∙◌, subst, arith, true, false, Bool, length, append_assoc, append-nil, inl, inr, ◌⊎◌, Option, Some, None, Bor, length-append}
+use Rattle.std.proofs.Common.{◌≡◌, ◌<◌, ℕ, List, [], ◌∷◌, ◌++◌, refl, sym, ap, ◌∙◌, subst, arith, true, false, length, append_assoc, append-nil, inl, inr, ◌⊎◌, Option, Some, None, Bor, length-append}
 use Rattle.std.specs.Prelude.{MatchOption, encode_utf8_all, encode_utf8}
-use Rattle.csvw_ntriples.specs.Character.{is_raw_in_string, is_raw_in_iri, escape_of}
-use Rattle.csvw_ntriples.specs.Terminal.{IsNumbered, StringPiece, IriPiece, Spells}
-use Rattle.csvw_ntriples.specs.Reading.{mark_of, is_raw_in, escape_in, PieceOf, Begins, BeginsDigits, ReadsBody, ReadsBytes}
+use Rattle.csvw_ntriples.specs.Terminal.{IriPiece, Spells}
+use Rattle.csvw_ntriples.specs.Reading.{mark_of, is_raw_in, escape_in, PieceOf, Begins, BeginsDigits, ReadsBytes}
 use Rattle.csvw_ntriples.specs.declared.reading.enclosed.Enclosed.{Enclosed}
 use Rattle.csvw_ntriples.specs.declared.reading.enclosed.Enclosed.TheVariants as enclosed
 use Rattle.csvw_ntriples.proofs.Pieces.{Once, BeginsNot, string_piece_once, string_begins, iri_piece_once, iri_begins}
-use Rattle.std.proofs.lemmas.Str.{encodes-append, encodes_same}
+use Rattle.std.proofs.lemmas.Str.{encodes-append}
 
 -- the pieces of IRIs and of strings are those of the grammar
 pub to_iri_piece : (p : List ℕ) (c : ℕ) → PieceOf enclosed.Iri p c → IriPiece p c

@@ -1,14 +1,12 @@
 -- A triple from its parts.
-use Rattle.std.proofs.Common.{◌≡◌, ℕ, List, [], ◌∷◌, ◌++◌, refl, sym, ap, ◌∙◌, subst, true, false, Option, Some, None, Bor, Result, Ok, Err, MatchOption, IsTrue, ◌⊎◌, inl, inr}
-use Rattle.std.specs.Prelude.{codes, ◌==◌, encode_utf8_all}
+use Rattle.std.proofs.Common.{◌≡◌, ℕ, List, [], ◌∷◌, ◌++◌, refl, sym, ap, ◌∙◌, subst, Option, Some, None, Bor, Result, Err, inl, inr}
+use Rattle.std.specs.Prelude.{codes, encode_utf8_all}
 use Rattle.csvw_text.specs.Language.{is_language_tag}
 use Rattle.csvw_triples.specs.Vocabulary.{lang_string, xsd_string}
 use Rattle.csvw_ntriples.specs.Character.{is_blank}
 use Rattle.csvw_ntriples.specs.Terminal.{InBytes, IsString, IsLangtag}
-use Rattle.csvw_ntriples.specs.Grammar.{Takes, IsLongest, IsMark, TakesIri, TakesBlank, TakesNode, TakesSuffix, TakesLit, TakesTerm, IsIdle, IsTripleLine}
-use Rattle.csvw_ntriples.specs.Reading.{IsRun, dark, Finds, FindsBeforeDot, TagBefore, Answers, LineGives, StartsSo}
-use Rattle.csvw_ntriples.specs.declared.reading.runs.Start.{Start}
-use Rattle.csvw_ntriples.specs.declared.reading.runs.Start.TheVariants as start
+use Rattle.csvw_ntriples.specs.Grammar.{Takes, IsMark, TakesIri, TakesBlank, TakesNode, TakesSuffix, TakesLit, TakesTerm, IsIdle, IsTripleLine}
+use Rattle.csvw_ntriples.specs.Reading.{IsRun, dark, Finds, FindsBeforeDot, TagBefore, Answers, LineGives}
 use Rattle.csvw_ntriples.specs.declared.reading.literal.Suffix.{Suffix}
 use Rattle.csvw_ntriples.specs.declared.term.NtFault.{NtFault}
 use Rattle.csvw_ntriples.specs.declared.term.NtFault.TheVariants.{Memory, Syntax}
@@ -19,9 +17,9 @@ use Rattle.csvw_ntriples.specs.declared.term.NtTerm.{NtTerm}
 use Rattle.csvw_ntriples.specs.declared.term.NtTerm.TheVariants as term
 use Rattle.csvw_ntriples.specs.declared.term.NtTriple.{NtTriple}
 use Rattle.csvw_ntriples.proofs.Begun.{past_gap}
-use Rattle.csvw_ntriples.proofs.Once.{node_once, iri_once, term_once, string_once, blank_once, dot_once, node_dark, iri_dark, blank_dark, lit_dark, string_dark, tag_dark, hats_dark, dot_dark, apart, differ}
+use Rattle.csvw_ntriples.proofs.Once.{node_once, iri_once, string_once, blank_once, dot_once, iri_dark, blank_dark, lit_dark, tag_dark, hats_dark, dot_dark, apart, differ}
 use Rattle.csvw_ntriples.proofs.Runs.{first_of, dark_run}
-use Rattle.csvw_ntriples.proofs.Spelled.{mark_longest, bytes_longest}
+use Rattle.csvw_ntriples.proofs.Spelled.{mark_longest}
 
 -- an error that goes on from a part to the whole
 pub err_on : {V W : Type 0} (R : V → List ℕ → Type 0) (S : W → List ℕ → Type 0) (r : Result (W × Bor (List ℕ)) NtFault) (e f : NtFault) → r ≡ Err e → e ≡ f

@@ -1,22 +1,21 @@
 -- Labels of blank nodes and language tags as runs of characters.
-use Rattle.std.proofs.Common.{◌≡◌, ◌<◌, ◌≤◌, ◌+◌, ◌-◌, ℕ, zero, suc, List, [], ◌∷◌, ◌++◌, refl, sym, ap, ◌∙◌, subst, arith, true, false, Bool, ◌&&◌, ◌||◌, length, take, drop, get_or, append_assoc, append-nil, inl, inr, ◌⊎◌, Option, Some, None, cond, IsTrue, Bor, Result, Ok, Err, MatchOption, length-append, length-take, add-one, drop-cons, take_all}
+use Rattle.std.proofs.Common.{◌≡◌, ◌<◌, ◌≤◌, ◌+◌, ℕ, zero, suc, List, [], ◌∷◌, ◌++◌, refl, sym, ap, ◌∙◌, subst, arith, true, false, Bool, ◌||◌, length, take, drop, get_or, append_assoc, Some, cond, Bor, Result, Ok, Err, length-append, add-one}
 use Rattle.std.proofs.lemmas.Bool.{and_parts}
 use Rattle.std.proofs.lemmas.Bool.Decides.{Decides-eqb, nat_tests}
 use Rattle.std.proofs.lemmas.List.Folds.{list_all-append}
-use Rattle.std.specs.Prelude.{◌==◌, nat_lt, codes, encode_utf8_all}
+use Rattle.std.specs.Prelude.{◌==◌, nat_lt, encode_utf8_all}
 use Rattle.std.specs.List.{list_all}
-use Rattle.csvw_text.specs.Language.{is_letter_or_digit_char, is_language_tag}
+use Rattle.csvw_text.specs.Language.{is_language_tag}
 use Rattle.csvw_ntriples.specs.Character.{is_blank, is_label_start, is_label_char}
-use Rattle.csvw_ntriples.specs.Terminal.{InBytes, IsBlankNode, IsLangtag, IsLabel, IsLabelTail}
-use Rattle.csvw_ntriples.specs.Grammar.{Takes, IsLongest, TakesBlank}
+use Rattle.csvw_ntriples.specs.Terminal.{IsLabel, IsLabelTail}
+use Rattle.csvw_ntriples.specs.Grammar.{IsLongest, TakesBlank}
 use Rattle.csvw_ntriples.specs.Reading.{is_in, Stops, IsRun, dark, Finds, BeginsLabel, EndsWithoutDot, TakesLabel, TagBefore}
 use Rattle.csvw_ntriples.specs.declared.reading.runs.Class.TheVariants as class
 use Rattle.csvw_ntriples.specs.declared.term.NtFault.{NtFault}
 use Rattle.csvw_ntriples.specs.declared.term.NtFault.TheVariants.{Memory, Syntax}
 use Rattle.csvw_ntriples.proofs.Begun.{past_gap}
 use Rattle.csvw_ntriples.proofs.Decoded.{encodes_low}
-use Rattle.csvw_ntriples.proofs.Once.{gap_once}
-use Rattle.csvw_ntriples.proofs.Runs.{first_of, dark_run, run_once}
+use Rattle.csvw_ntriples.proofs.Runs.{run_once}
 use Rattle.csvw_ntriples.proofs.Spelled.{and_both, in_label, start_in_label, all_in_label, in_tag, tag_chars}
 
 abbrev is_dot : ℕ → Bool

@@ -1,12 +1,12 @@
 -- the lines of a text, one after another
-use Rattle.std.proofs.Common.{◌≡◌, ◌<◌, ℕ, zero, suc, List, [], ◌∷◌, ◌++◌, refl, sym, ap, ◌∙◌, subst, arith, append_assoc, append-nil, inl, inr, ◌⊎◌, length, Bor, ◌+◌, ◌-◌, ◌≤◌, true, false, take, drop, get_or, take_all, add-one, length-drop, length-take}
+use Rattle.std.proofs.Common.{◌≡◌, ◌<◌, ℕ, zero, suc, List, [], ◌∷◌, ◌++◌, refl, sym, ap, ◌∙◌, subst, arith, append_assoc, inl, inr, length, Bor, ◌+◌, ◌-◌, true, false, take, drop, get_or, add-one, length-drop}
 use Rattle.std.proofs.lemmas.List.{take_rest}
-use Rattle.std.specs.Prelude.{Option, Some, None, MatchOption, Result, Ok, Err}
+use Rattle.std.specs.Prelude.{Option, Some, None, MatchOption, Result, Err}
 use Rattle.csvw_ntriples.specs.declared.term.NtFault.{NtFault}
 use Rattle.csvw_ntriples.specs.declared.term.NtFault.TheVariants.{Syntax}
-use Rattle.std.specs.List.{slice_split, AllByRecursion, onto_first}
+use Rattle.std.specs.List.{slice_split, AllByRecursion}
 use Rattle.csvw_ntriples.specs.Character.{is_break}
-use Rattle.csvw_ntriples.specs.Grammar.{AreLines, DenotesText, IsIdle, IsTripleLine}
+use Rattle.csvw_ntriples.specs.Grammar.{AreLines, DenotesText}
 use Rattle.csvw_ntriples.specs.Reading.{LineGives}
 use Rattle.csvw_ntriples.specs.declared.term.NtTriple.{NtTriple}
 use Rattle.csvw_ntriples.proofs.Once.{triple_once, not_idle}

@@ -1,6 +1,6 @@
-use Rattle.std.proofs.Common.{◌<◌, ◌≤◌, length, arith, sym, ◌∙◌, subst, take_all, take, ◌≡◌, List, ℕ}
+use Rattle.std.proofs.Common.{◌≤◌, length, arith, sym, ◌∙◌, subst, take_all, List, ℕ}
 use Rattle.std.specs.List.{AllByRecursion}
-use Rattle.csvw_ntriples.proofs.Lines.{first_break, split_no_break, more_no_break, NoBreak}
+use Rattle.csvw_ntriples.proofs.Lines.{first_break, split_no_break, NoBreak}
 use Rattle.csvw_ntriples.proofs.reading.document.first_line.Goals as goal
 
 pub returns-then-is_line_break : goal.returns-then-is_line_break

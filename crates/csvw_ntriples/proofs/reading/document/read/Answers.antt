@@ -1,8 +1,7 @@
 use Rattle.std.proofs.Common.{◌≡◌, ◌∙◌, List, ℕ, rules, sym, ap, subst}
-use Rattle.std.specs.Prelude.{chars, IsUtf8}
+use Rattle.std.specs.Prelude.{chars}
 use Rattle.std.proofs.lemmas.Str.{chars_from_encodes}
 use Rattle.std.proofs.lemmas.Result.{IfOk-weaker}
-use Rattle.csvw_ntriples.specs.declared.term.NtTriple.{NtTriple}
 use Rattle.csvw_ntriples.specs.Grammar.{DenotesText}
 use Rattle.csvw_ntriples.proofs.reading.document.read.Goals as goal
 

@@ -1,5 +1,4 @@
-use Rattle.std.proofs.Common.{◌≡◌, ◌++◌, List, length, ◌+◌}
-use Rattle.std.specs.Prelude.{Option, Some, None}
+use Rattle.std.proofs.Common.{◌≡◌, ◌++◌, List}
 use Rattle.csvw_ntriples.specs.Grammar.{AreLines, DenotesText}
 use Rattle.csvw_ntriples.specs.declared.term.NtTriple.{NtTriple}
 use Rattle.csvw_ntriples.proofs.Lines.{rest_lines, rest_length}

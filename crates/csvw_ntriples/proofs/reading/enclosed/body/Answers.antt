@@ -1,8 +1,8 @@
 -- One piece more, the closing mark, or none of both.
-use Rattle.std.proofs.Common.{◌≡◌, ◌∙◌, sym, ℕ, true, false, nat_eq}
+use Rattle.std.proofs.Common.{◌≡◌, ◌∙◌, sym, ℕ, false, nat_eq}
 use Rattle.std.proofs.lemmas.Bool.Decides.{Decides-eqb}
 use Rattle.csvw_ntriples.specs.Reading.{mark_of}
-use Rattle.csvw_ntriples.proofs.BodyPieces.{body_more, body_found, body_end, body_stuck}
+use Rattle.csvw_ntriples.proofs.BodyPieces.{body_more, body_end, body_stuck}
 use Rattle.csvw_ntriples.proofs.reading.enclosed.body.Goals as goal
 
 pub loop-first-preserved : goal.loop-first-preserved

@@ -1,4 +1,4 @@
-use Rattle.std.proofs.Common.{◌<◌, ◌≤◌, ◌≡◌, ◌*◌, ◌+◌, ◌^◌, length, length-take, take, arith}
+use Rattle.std.proofs.Common.{◌<◌, ◌≤◌, ◌*◌, ◌+◌, ◌^◌, length, length-take, take, arith}
 use Rattle.csvw_ntriples.proofs.Hex.{hex_step, no_digit, product_fits}
 use Rattle.csvw_ntriples.proofs.reading.enclosed.hex_value.Goals as goal
 

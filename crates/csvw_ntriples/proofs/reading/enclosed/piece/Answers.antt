@@ -1,6 +1,6 @@
 -- One piece at the front.
-use Rattle.std.proofs.Common.{inl, inr, refl, ◌∷◌, ◌≡◌, ap, ◌∙◌, sym}
-use Rattle.csvw_ntriples.proofs.BodyPieces.{raw_piece, escape_piece, numbered_result, two_heads, not_begun, lone_backslash, no_escaped, no_empty_piece}
+use Rattle.std.proofs.Common.{inl, inr, refl, ◌∙◌, sym}
+use Rattle.csvw_ntriples.proofs.BodyPieces.{raw_piece, escape_piece, numbered_result, two_heads}
 use Rattle.csvw_ntriples.proofs.reading.enclosed.piece.Goals as goal
 
 pub returns-then-is_raw : goal.returns-then-is_raw

@@ -1,5 +1,4 @@
 -- The run of label characters without the dots at its end.
-use Rattle.std.proofs.Common.{◌≡◌, ◌∙◌, sym, true, false}
 use Rattle.csvw_ntriples.proofs.LabelRuns.{parts_of, label_there, label_not_there}
 use Rattle.csvw_ntriples.proofs.reading.label.label.Goals as goal
 
