@@ -1,5 +1,5 @@
 -- A line that was cut off.
-use Rattle.std.proofs.Common.{◌≡◌, ◌<◌, ℕ, List, [], ◌∷◌, ◌++◌, Bool, true, false, Option, refl, sym, subst, ◌∙◌, append-nil, take, length}
+use Rattle.std.proofs.Common.{◌≡◌, ◌<◌, ℕ, List, [], ◌∷◌, Bool, true, false, Option, sym, subst, ◌∙◌, append-nil, take, length}
 use Rattle.std.specs.Io.KnownBytes.{Appends}
 use Rattle.csvw_ntriples.specs.Sending.{Sends}
 use Rattle.csvw_ntriples.specs.Written.{written, line_text}

@@ -1,2 +1,17 @@
+pub mod Begun
+pub mod BodyPieces
+pub mod Composed
 pub mod Cutting
+pub mod Decoded
+pub mod Denoted
 pub mod EscapeLemmas
+pub mod Hex
+pub mod LabelParts
+pub mod LabelRuns
+pub mod Labels
+pub mod Lines
+pub mod Once
+pub mod Pieces
+pub mod Runs
+pub mod SameGraphs
+pub mod Spelled

@@ -1,5 +1,12 @@
+pub mod Character
 pub mod Escape
+pub mod Grammar
+pub mod LabelLaw
 pub mod NtSink
+pub mod Reading
+pub mod SameUpTo
 pub mod Sending
 pub mod SendingLaws
+pub mod Terminal
+pub mod Writable
 pub mod Written

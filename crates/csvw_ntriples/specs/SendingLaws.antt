@@ -1,11 +1,17 @@
 -- How the states of a sink follow one another.
-use Rattle.std.proofs.Common.{◌≡◌, ◌<◌, ℕ, List, [], ◌∷◌, ◌++◌, Bool, true, false, Option, Some, None, refl, sym, ap, ◌∙◌, append_assoc, append-nil, take, length}
+use Rattle.std.proofs.Common.{◌≡◌, ℕ, List, [], ◌∷◌, ◌++◌, Bool, true, false, Option, Some, None, refl, ap, ◌∙◌, append_assoc, append-nil, take}
 use Rattle.std.proofs.KnownBytes.{Appends-nil, Appends-trans, Appends-kept}
 use Rattle.std.proofs.lemmas.List.Concat.{flat_map-append}
-use Rattle.std.specs.Io.KnownBytes.{Appends, Keeps}
+use Rattle.std.specs.Io.KnownBytes.{Keeps}
+use Rattle.std.specs.List.{AllByRecursion}
 use Rattle.csvw_ntriples.specs.Sending.{Sends}
 use Rattle.csvw_ntriples.specs.Written.{written, line_text}
+use Rattle.csvw_ntriples.specs.Writable.{TripleFits}
 use Rattle.csvw_triples.specs.declared.term.Triple.{Triple}
+
+pub all_fit : (xs ys : List Triple) → AllByRecursion TripleFits xs → AllByRecursion TripleFits ys → AllByRecursion TripleFits (xs ++ ys)
+all_fit [] ys h k = k
+all_fit (x ∷ xs) ys h k = (h.0, all_fit xs ys h.1 k)
 
 Keeps-same : (a : Option (List ℕ)) → Keeps a a
 Keeps-same None = tt

@@ -10,6 +10,12 @@ use Rattle.csvw_triples.specs.declared.term.Term.{Term}
 use Rattle.csvw_triples.specs.declared.term.Term.TheVariants as term
 use Rattle.csvw_triples.specs.declared.term.Triple.{Triple}
 use Rattle.csvw_triples.specs.Vocabulary.{xsd_string}
+use Rattle.csvw_ntriples.specs.declared.term.NtNode.{NtNode}
+use Rattle.csvw_ntriples.specs.declared.term.NtNode.TheVariants as nt_node
+use Rattle.csvw_ntriples.specs.declared.term.NtLit.{NtLit}
+use Rattle.csvw_ntriples.specs.declared.term.NtTerm.{NtTerm}
+use Rattle.csvw_ntriples.specs.declared.term.NtTerm.TheVariants as nt_term
+use Rattle.csvw_ntriples.specs.declared.term.NtTriple.{NtTriple}
 
 -- the label of a blank node
 abbrev pub label : Origin → List ℕ
@@ -66,3 +72,23 @@ line_text t = node_text t.s ++ 32 ∷ iri_text t.p ++ 32 ∷ term_text t.o ++ co
 -- triples, a line each
 abbrev pub written : List Triple → List ℕ
 written ts = flat_map line_text ts
+
+-- a triple whose blank nodes have these names
+abbrev pub node_named : (Origin → List ℕ) → Node → NtNode
+node_named name (node.Named iri) = nt_node.Named iri
+node_named name (node.Blank o) = nt_node.Blank (name o)
+
+abbrev pub lit_said : Lit → NtLit
+lit_said l = record { text = l.text; datatype = l.datatype; lang = l.lang }
+
+abbrev pub term_named : (Origin → List ℕ) → Term → NtTerm
+term_named name (term.Named iri) = nt_term.Named iri
+term_named name (term.Blank o) = nt_term.Blank (name o)
+term_named name (term.Literal l) = nt_term.Literal (lit_said l)
+
+abbrev pub named : (Origin → List ℕ) → Triple → NtTriple
+named name t = record { s = node_named name t.s; p = t.p; o = term_named name t.o }
+
+-- a triple with each origin as its label
+abbrev pub said : Triple → NtTriple
+said t = named label t

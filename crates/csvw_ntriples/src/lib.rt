@@ -1,7 +1,13 @@
 //! N-Triples, written and read.
 #![tactic(auto)]
 
+mod laws;
 mod nt_sink;
+mod reading;
+mod term;
 mod write;
 
+pub use laws::{denotes_one_list, labels_differ, labels_name_one_to_one, written_denotes};
 pub use nt_sink::NtSink;
+pub use reading::read;
+pub use term::{NtFault, NtLit, NtNode, NtTerm, NtTriple};

@@ -1,8 +1,11 @@
 //! The line of a triple.
-ghost use Rattle.std.specs.Prelude.{◌≡◌, ◌∷◌, [], ◌++◌, OnOk, flat_map, codes, decimal, Bool};
+ghost use Rattle.std.specs.Prelude.{◌≡◌, ◌∷◌, [], ◌++◌, true, OnOk, flat_map, codes, decimal, Bool};
 ghost use Rattle.std.specs.List.{list_any};
 ghost use Rattle.csvw_ntriples.specs.Written.{label, escaped, iri_text, blank_text, string_text, node_text, datatype_text, suffix_text, is_string_type, lit_text, term_text, line_text};
 ghost use Rattle.csvw_ntriples.specs.Escape.{needs_escape};
+ghost use Rattle.csvw_ntriples.specs.LabelLaw.{IsOrigin};
+ghost use Rattle.csvw_ntriples.specs.Writable.{IriFits, NodeFits, SuffixFits, LitFits, TermFits, TripleFits};
+ghost use Rattle.csvw_text.specs.Language.{is_language_tag};
 
 use csvw_iri::Iri;
 use csvw_text::LanguageTag;
@@ -13,7 +16,8 @@ use std::alloc::AllocError;
 const XSD_STRING: &str = "http://www.w3.org/2001/XMLSchema#string";
 
 fn push_iri(out: &mut Vec<u8>, iri: &Iri) -> Result<(), AllocError>
-    ensures { OnOk result (out.new.items ≡ out.old.items ++ iri_text iri.now) }
+    ensures text { OnOk result (out.new.items ≡ out.old.items ++ iri_text iri.now) }
+    ensures fits { OnOk result (IriFits iri.now) }
 {
     out.push(b'<')?;
     out.extend_from_slice(iri.as_str().as_bytes())?;
@@ -93,7 +97,8 @@ fn push_row_label(out: &mut Vec<u8>, table: u32, row: u64) -> Result<(), AllocEr
 }
 
 fn push_label(out: &mut Vec<u8>, origin: Origin) -> Result<(), AllocError>
-    ensures { OnOk result (out.new.items ≡ out.old.items ++ label origin) }
+    ensures text { OnOk result (out.new.items ≡ out.old.items ++ label origin) }
+    ensures fits { OnOk result (IsOrigin origin) }
 {
     match origin {
         Origin::Group => out.extend_from_slice(b"g"),
@@ -113,14 +118,16 @@ fn push_label(out: &mut Vec<u8>, origin: Origin) -> Result<(), AllocError>
 }
 
 fn push_blank(out: &mut Vec<u8>, origin: Origin) -> Result<(), AllocError>
-    ensures { OnOk result (out.new.items ≡ out.old.items ++ blank_text origin) }
+    ensures text { OnOk result (out.new.items ≡ out.old.items ++ blank_text origin) }
+    ensures fits { OnOk result (IsOrigin origin) }
 {
     out.extend_from_slice(b"_:")?;
     push_label(out, origin)
 }
 
 fn push_node(out: &mut Vec<u8>, node: &Node) -> Result<(), AllocError>
-    ensures { OnOk result (out.new.items ≡ out.old.items ++ node_text node.now) }
+    ensures text { OnOk result (out.new.items ≡ out.old.items ++ node_text node.now) }
+    ensures fits { OnOk result (NodeFits node.now) }
 {
     match node {
         Node::Named(iri) => push_iri(out, iri),
@@ -129,13 +136,15 @@ fn push_node(out: &mut Vec<u8>, node: &Node) -> Result<(), AllocError>
 }
 
 fn is_xsd_string(iri: &Iri) -> bool
-    ensures { result ≡ is_string_type iri.now }
+    ensures value { result ≡ is_string_type iri.now }
+    ensures fits { IriFits iri.now }
 {
     iri.as_str() == XSD_STRING
 }
 
 fn push_datatype(out: &mut Vec<u8>, iri: &Iri) -> Result<(), AllocError>
-    ensures { OnOk result (out.new.items ≡ out.old.items ++ datatype_text iri.now) }
+    ensures text { OnOk result (out.new.items ≡ out.old.items ++ datatype_text iri.now) }
+    ensures fits { OnOk result (IriFits iri.now) }
 {
     if is_xsd_string(iri) {
         return Ok(());
@@ -145,7 +154,8 @@ fn push_datatype(out: &mut Vec<u8>, iri: &Iri) -> Result<(), AllocError>
 }
 
 fn push_language(out: &mut Vec<u8>, tag: &LanguageTag) -> Result<(), AllocError>
-    ensures { OnOk result (out.new.items ≡ out.old.items ++ 64 ∷ tag.now) }
+    ensures text { OnOk result (out.new.items ≡ out.old.items ++ 64 ∷ tag.now) }
+    ensures fits { OnOk result (is_language_tag tag.now ≡ true) }
 {
     out.push(b'@')?;
     out.extend_from_slice(tag.as_str().as_bytes())
@@ -156,7 +166,8 @@ fn push_suffix(
     lang: &Option<LanguageTag>,
     datatype: &Iri,
 ) -> Result<(), AllocError>
-    ensures { OnOk result (out.new.items ≡ out.old.items ++ suffix_text lang.now datatype.now) }
+    ensures text { OnOk result (out.new.items ≡ out.old.items ++ suffix_text lang.now datatype.now) }
+    ensures fits { OnOk result (SuffixFits lang.now datatype.now) }
 {
     match lang {
         None => push_datatype(out, datatype),
@@ -165,14 +176,16 @@ fn push_suffix(
 }
 
 fn push_lit(out: &mut Vec<u8>, lit: &Lit) -> Result<(), AllocError>
-    ensures { OnOk result (out.new.items ≡ out.old.items ++ lit_text lit.now) }
+    ensures text { OnOk result (out.new.items ≡ out.old.items ++ lit_text lit.now) }
+    ensures fits { OnOk result (LitFits lit.now) }
 {
     push_string(out, lit.text.as_str().as_bytes())?;
     push_suffix(out, &lit.lang, &lit.datatype)
 }
 
 fn push_term(out: &mut Vec<u8>, term: &Term) -> Result<(), AllocError>
-    ensures { OnOk result (out.new.items ≡ out.old.items ++ term_text term.now) }
+    ensures text { OnOk result (out.new.items ≡ out.old.items ++ term_text term.now) }
+    ensures fits { OnOk result (TermFits term.now) }
 {
     match term {
         Term::Named(iri) => push_iri(out, iri),
@@ -183,7 +196,8 @@ fn push_term(out: &mut Vec<u8>, term: &Term) -> Result<(), AllocError>
 
 /// Adds the line of a triple.
 pub(crate) fn push_line(out: &mut Vec<u8>, triple: &Triple) -> Result<(), AllocError>
-    ensures { OnOk result (out.new.items ≡ out.old.items ++ line_text triple.now) }
+    ensures text { OnOk result (out.new.items ≡ out.old.items ++ line_text triple.now) }
+    ensures fits { OnOk result (TripleFits triple.now) }
 {
     push_node(out, &triple.s)?;
     out.push(b' ')?;

@@ -1,3 +1,4 @@
+pub mod Graph
 pub mod Literal
 pub mod RowTriples
 pub mod Taking

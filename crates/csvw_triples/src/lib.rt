@@ -2,6 +2,7 @@
 #![tactic(auto)]
 
 mod emit;
+mod laws;
 mod mode;
 mod origin;
 mod sink;
@@ -9,6 +10,7 @@ mod term;
 mod vec_sink;
 
 pub use emit::emit_row;
+pub use laws::{row_triples_are_row_graph, rows_triples_are_minimal};
 pub use mode::Mode;
 pub use origin::Origin;
 pub use sink::{SinkFault, TripleSink};

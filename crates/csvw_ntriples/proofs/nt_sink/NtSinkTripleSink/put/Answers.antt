@@ -6,5 +6,5 @@ use Rattle.csvw_ntriples.proofs.nt_sink.NtSinkTripleSink.put.Goals as goal
 
 pub returns-in-Err-clause-err : goal.returns-in-Err-clause-err
 returns-in-Err-clause-err g c =
-    let line = c.as_slice.ensures.value ∙ (c.in-Ok.ensures ∙ ap (λ front. front ++ line_text c.args.triple.now) c.clear.ensures.items) in
-    (refl, cut_sends _ _ _ c.args.triple.now c.in-Err.field-0.sent c.as_slice.result.now (search rules) line c.in-Err.ensures.cut_before_end c.in-Err.ensures.cut)
+    let line = c.as_slice.ensures.value ∙ (c.in-Ok.ensures.text ∙ ap (λ front. front ++ line_text c.args.triple.now) c.clear.ensures.items) in
+    (refl, tt, cut_sends _ _ _ c.args.triple.now c.in-Err.field-0.sent c.as_slice.result.now (search rules) line c.in-Err.ensures.cut_before_end c.in-Err.ensures.cut)

@@ -1,0 +1,13 @@
+-- Only dots stand from the end on.
+use Rattle.std.proofs.Common.{◌≤◌, length}
+use Rattle.csvw_ntriples.proofs.LabelRuns.{DotsFrom}
+use Rattle.csvw_ntriples.proofs.reading.label.length_without_dots.Given as goal
+
+abbrev pub invariant-loop-end : goal.invariant-loop-end
+invariant-loop-end l = record {
+  within : l.end ≤ length l.text;
+  dots : DotsFrom l.text l.end;
+}
+
+abbrev pub decreases-loop-end : goal.decreases-loop-end
+decreases-loop-end l = l.end

@@ -1,0 +1,35 @@
+-- What the types of a triple keep, so that it can be written.
+use Rattle.std.specs.Prelude.{ℕ, ◌≡◌, List, Option, Some, None, true, IsUtf8}
+use Rattle.csvw_text.specs.Language.{is_language_tag}
+use Rattle.csvw_iri.specs.Safe.{is_iri}
+use Rattle.csvw_triples.specs.declared.term.Node.{Node}
+use Rattle.csvw_triples.specs.declared.term.Node.TheVariants as node
+use Rattle.csvw_triples.specs.declared.term.Lit.{Lit}
+use Rattle.csvw_triples.specs.declared.term.Term.{Term}
+use Rattle.csvw_triples.specs.declared.term.Term.TheVariants as term
+use Rattle.csvw_triples.specs.declared.term.Triple.{Triple}
+use Rattle.csvw_ntriples.specs.LabelLaw.{IsOrigin}
+
+-- a text whose characters may all stand raw in an IRIREF
+abbrev pub IriFits : List ℕ → Type 0
+IriFits iri = IsUtf8 iri × (is_iri iri ≡ true)
+
+abbrev pub NodeFits : Node → Type 0
+NodeFits (node.Named iri) = IriFits iri
+NodeFits (node.Blank o) = IsOrigin o
+
+-- a language, or the datatype where there is none
+abbrev pub SuffixFits : Option (List ℕ) → List ℕ → Type 0
+SuffixFits None datatype = IriFits datatype
+SuffixFits (Some tag) datatype = is_language_tag tag ≡ true
+
+abbrev pub LitFits : Lit → Type 0
+LitFits l = IsUtf8 l.text × SuffixFits l.lang l.datatype
+
+abbrev pub TermFits : Term → Type 0
+TermFits (term.Named iri) = IriFits iri
+TermFits (term.Blank o) = IsOrigin o
+TermFits (term.Literal l) = LitFits l
+
+abbrev pub TripleFits : Triple → Type 0
+TripleFits t = NodeFits t.s × IriFits t.p × TermFits t.o

@@ -1,0 +1,13 @@
+//! N-Triples, read.
+
+mod character;
+mod document;
+mod enclosed;
+mod label;
+mod language;
+mod literal;
+mod runs;
+mod terminal;
+mod triple_line;
+
+pub use document::read;

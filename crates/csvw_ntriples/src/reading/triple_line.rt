@@ -1,0 +1,76 @@
+//! The triple of a line.
+ghost use Rattle.csvw_ntriples.specs.Grammar.{TakesNode, TakesTerm, IsTripleLine};
+ghost use Rattle.csvw_ntriples.specs.Reading.{Finds, FindsBeforeDot, Answers, LineGives};
+
+use super::label::blank;
+use super::literal::literal;
+use super::runs::{Start, start_of};
+use super::terminal::{after_dot, iri, is_idle};
+use crate::{NtFault, NtNode, NtTerm, NtTriple};
+use std::alloc::Global;
+
+/// The node in front, and what comes after it.
+fn node(alloc: Global, text: &[char]) -> Result<(NtNode, &[char]), NtFault>
+    ensures { Finds (λ n rest. TakesNode n text.now rest) result }
+{
+    match start_of(text) {
+        Start::Iri => {
+            let (iri, rest) = iri(alloc, text)?;
+            Ok((NtNode::Named(iri), rest))
+        }
+        Start::Blank => {
+            let (label, rest) = blank(alloc, text)?;
+            Ok((NtNode::Blank(label), rest))
+        }
+        Start::Literal | Start::Other => Err(NtFault::Syntax),
+    }
+}
+
+/// The term in front, and what comes after it.
+fn term(alloc: Global, text: &[char]) -> Result<(NtTerm, &[char]), NtFault>
+    ensures { FindsBeforeDot (λ t rest. TakesTerm t text.now rest) result }
+{
+    match start_of(text) {
+        Start::Iri => {
+            let (iri, rest) = iri(alloc, text)?;
+            Ok((NtTerm::Named(iri), rest))
+        }
+        Start::Blank => {
+            let (label, rest) = blank(alloc, text)?;
+            Ok((NtTerm::Blank(label), rest))
+        }
+        Start::Literal => {
+            let (lit, rest) = literal(alloc, text)?;
+            Ok((NtTerm::Literal(lit), rest))
+        }
+        Start::Other => Err(NtFault::Syntax),
+    }
+}
+
+/// The triple of a line that has one.
+fn triple(alloc: Global, text: &[char]) -> Result<NtTriple, NtFault>
+    ensures { Answers (IsTripleLine text.now) result }
+{
+    let (s, after_subject) = node(alloc, text)?;
+    let (p, after_predicate) = iri(alloc, after_subject)?;
+    let (o, after_object) = term(alloc, after_predicate)?;
+    let Some(end) = after_dot(after_object) else {
+        return Err(NtFault::Syntax);
+    };
+    if is_idle(end) {
+        Ok(NtTriple { s, p, o })
+    } else {
+        Err(NtFault::Syntax)
+    }
+}
+
+/// The triple of a line, or `None` where the line is empty but for spaces, tabs and a comment.
+pub(crate) fn line(alloc: Global, text: &[char]) -> Result<Option<NtTriple>, NtFault>
+    ensures { Answers (LineGives text.now) result }
+{
+    if is_idle(text) {
+        return Ok(None);
+    }
+    let triple = triple(alloc, text)?;
+    Ok(Some(triple))
+}
