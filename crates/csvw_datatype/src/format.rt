@@ -49,7 +49,7 @@ impl TruthFormat {
             if_true: Text::copied(alloc, if_true)?,
             if_false: Text::copied(alloc, if_false)?,
         };
-        if format.is_good() {
+        if format.is_lawful() {
             Ok(Some(format))
         } else {
             Ok(None)
@@ -57,7 +57,7 @@ impl TruthFormat {
     }
 
     /// Whether the two texts differ, and neither is empty or holds `|`.
-    pub(crate) fn is_good(&self) -> bool
+    pub(crate) fn is_lawful(&self) -> bool
         ensures { IsTrue result ↔ AreTruthTexts self.now }
     {
         is_truth_text(self.if_true.as_str())
