@@ -1,3 +1,4 @@
+pub mod CharacterLemmas
 pub mod BarLemmas
 pub mod FormatLemmas
 pub mod LawLemmas

@@ -3,6 +3,7 @@ use Rattle.std.specs.Prelude.{◌≢◌, ℕ, true, Option, Some, None, List, �
 use Rattle.csvw_datatype_core.specs.declared.number.NumberRules.{NumberRules}
 use Rattle.csvw_datatype_core.specs.Numbers.{IsLawful}
 use Rattle.csvw_datatype.specs.Bars.{IsTruthText}
+use Rattle.csvw_datatype.specs.Characters.{IsCharacterOr, IsOptionalCharacter}
 use Rattle.csvw_datatype.specs.declared.simple.Simple.{Simple}
 use Rattle.csvw_datatype.specs.declared.simple.Simple.TheVariants as simples
 use Rattle.csvw_datatype.specs.declared.format.TruthFormat.{TruthFormat}
@@ -17,6 +18,11 @@ AreTruthTexts f = IsTruthText f.if_true × IsTruthText f.if_false × (f.if_true 
 -- the two texts, with a vertical line between them
 abbrev pub truth_pattern : TruthFormat → List ℕ
 truth_pattern f = f.if_true ++ (124 ∷ f.if_false)
+
+-- the format has the characters of these texts; the decimal character is "." where it is absent
+pub record IsNumberFormat (decimal_char group_char : Option (List ℕ)) (f : NumberFormat) : Type 0 where
+  pub decimal : IsCharacterOr 46 decimal_char f.decimal_char
+  pub group : IsOptionalCharacter group_char f.group_char
 
 -- how decimals are written in a format: marks are allowed
 abbrev pub format_rules : NumberFormat → NumberRules

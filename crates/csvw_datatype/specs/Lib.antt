@@ -1,3 +1,4 @@
+pub mod Characters
 pub mod Bars
 pub mod Names
 pub mod Widths

@@ -47,7 +47,7 @@ fn is_format_of(simple: Simple, format: &Option<Format>) -> bool
 {
     match (simple, format) {
         (_, None) => true,
-        (Simple::Truth, Some(Format::Truth(texts))) => texts.is_good(),
+        (Simple::Truth, Some(Format::Truth(texts))) => texts.is_lawful(),
         (Simple::Whole | Simple::Derived(_) | Simple::Decimal, Some(Format::Number(format))) => {
             format.rules().is_lawful()
         }
@@ -183,7 +183,8 @@ fn sides_agree(
     high: Option<&Value>,
     high_exclusive: Option<&Value>,
 ) -> bool
-    ensures { result ≡ sides_agree (option_copied low.entry) (option_copied low_exclusive.entry) (option_copied high.entry) (option_copied high_exclusive.entry) }
+    ensures { result ≡ sides_agree (option_copied low.entry) (option_copied low_exclusive.entry)
+        (option_copied high.entry) (option_copied high_exclusive.entry) }
 {
     !(is_over(low, high)
         || is_over(low_exclusive, high_exclusive)

@@ -1,5 +1,6 @@
 //! The formats that texts of a datatype are written in.
-ghost use Rattle.std.specs.Prelude.{◌≡◌, ◌≢◌, ◌↔◌, IfOk, IsTrue, MatchOption};
+ghost use Rattle.std.specs.Prelude.{◌≡◌, ◌≢◌, ◌↔◌, IfOk, IsTrue, MatchOption, option_copied, ℕ};
+ghost use Rattle.csvw_datatype.specs.Characters.{IsCharacter};
 ghost use Rattle.csvw_datatype.specs.Bars.{IsTruthText, has_bar, HasNoSplit, IsOnlySplit};
 
 use csvw_datatype_core::{DateFormat, MomentFormat, NumberRules};
@@ -49,7 +50,7 @@ impl TruthFormat {
             if_true: Text::copied(alloc, if_true)?,
             if_false: Text::copied(alloc, if_false)?,
         };
-        if format.is_good() {
+        if format.is_lawful() {
             Ok(Some(format))
         } else {
             Ok(None)
@@ -57,7 +58,7 @@ impl TruthFormat {
     }
 
     /// Whether the two texts differ, and neither is empty or holds `|`.
-    pub(crate) fn is_good(&self) -> bool
+    pub(crate) fn is_lawful(&self) -> bool
         ensures { IsTrue result ↔ AreTruthTexts self.now }
     {
         is_truth_text(self.if_true.as_str())
@@ -77,7 +78,29 @@ impl TruthFormat {
 }
 
 impl NumberFormat {
-    ghost use Rattle.csvw_datatype.specs.Formats.{format_rules};
+    ghost use Rattle.csvw_datatype.specs.declared.format.NumberFormat.{NumberFormat};
+    ghost use Rattle.csvw_datatype.specs.Formats.{IsNumberFormat, format_rules};
+
+    /// The format of the texts of `decimalChar`, which is `.` where it is absent, and `groupChar`; `None` where
+    /// one of them isn't one character (Metadata Vocabulary for Tabular Data, section 5.11.2).
+    pub fn of(decimal_char: Option<&str>, group_char: Option<&str>) -> Option<NumberFormat>
+        ensures { MatchOption result
+            ((f : NumberFormat) → ¬ IsNumberFormat (option_copied decimal_char.entry) (option_copied group_char.entry) f)
+            (IsNumberFormat (option_copied decimal_char.entry) (option_copied group_char.entry)) }
+    {
+        let decimal_char = match decimal_char {
+            None => '.',
+            Some(text) => one_character(text)?,
+        };
+        let group_char = match group_char {
+            None => None,
+            Some(text) => Some(one_character(text)?),
+        };
+        Some(NumberFormat {
+            decimal_char,
+            group_char,
+        })
+    }
 
     /// How decimals are written in the format.
     pub(crate) fn rules(&self) -> NumberRules
@@ -127,4 +150,15 @@ fn split_at_bar(text: &str) -> Option<(&str, &str)>
     ensures { MatchOption result (HasNoSplit text.now) (λ x. IsOnlySplit text.now x.0.now x.1.now) }
 {
     text.split_once('|')
+}
+
+fn one_character(text: &str) -> Option<char>
+    ensures { MatchOption result ((c : ℕ) → ¬ IsCharacter text.now c) (IsCharacter text.now) }
+{
+    let mut characters = text.chars();
+    let first = characters.next()?;
+    match characters.next() {
+        None => Some(first),
+        Some(_) => None,
+    }
 }

@@ -1,5 +1,5 @@
 //! Laws: a text has one value or one code.
-ghost use Rattle.std.specs.Prelude.{◌≡◌, true, List, ℕ, Option};
+ghost use Rattle.std.specs.Prelude.{◌≡◌, ◌↔◌, IsTrue, true, List, ℕ, Option};
 ghost use Rattle.csvw_text.specs.declared.fault.Code.{Code};
 ghost use Rattle.csvw_datatype.specs.Formats.{IsFormatOf};
 ghost use Rattle.csvw_datatype.specs.Reads.{ReadsAs, MisreadAs};
@@ -12,21 +12,33 @@ use crate::value::Value;
 
 /// A law: a text is one value at most.
 pub fn one_value()
-    ensures { (s : Simple) (f : Option Format) (text : List ℕ) (v w : Value) → IsFormatOf s f → ReadsAs s f text v → ReadsAs s f text w → v ≡ w }
+    ensures { (s : Simple) (f : Option Format) (text : List ℕ) (v w : Value) → IsFormatOf s f
+        → ReadsAs s f text v → ReadsAs s f text w → v ≡ w }
 {}
 
 /// A law: a text that is a value has no code.
 pub fn value_or_code()
-    ensures { (s : Simple) (f : Option Format) (text : List ℕ) (v : Value) (code : Code) → IsFormatOf s f → ReadsAs s f text v → MisreadAs s f text code → ⊥ }
+    ensures { (s : Simple) (f : Option Format) (text : List ℕ) (v : Value) (code : Code) → IsFormatOf s f
+        → ReadsAs s f text v → ¬ MisreadAs s f text code }
 {}
 
 /// A law: a text has one code at most.
 pub fn one_code()
-    ensures { (s : Simple) (f : Option Format) (text : List ℕ) (c d : Code) → IsFormatOf s f → MisreadAs s f text c → MisreadAs s f text d → c ≡ d }
+    ensures { (s : Simple) (f : Option Format) (text : List ℕ) (c d : Code) → IsFormatOf s f
+        → MisreadAs s f text c → MisreadAs s f text d → c ≡ d }
 {}
 
 /// A law: each value that a text is has a lexical form, and under an ordered type it can be a bound.
 pub fn values_of_texts()
-    ensures writable { (s : Simple) (f : Option Format) (text : List ℕ) (v : Value) → ReadsAs s f text v → IsWritable v }
-    ensures bound { (s : Simple) (f : Option Format) (text : List ℕ) (v : Value) → has_bounds s ≡ true → ReadsAs s f text v → IsBoundOf s v }
+    ensures writable { (s : Simple) (f : Option Format) (text : List ℕ) (v : Value)
+        → ReadsAs s f text v → IsWritable v }
+    ensures in_type { (s : Simple) (f : Option Format) (text : List ℕ) (v : Value) → has_bounds s ≡ true
+        → ReadsAs s f text v → IsBoundOf s v }
 {}
+
+/// Whether `==` holds of two values, which it does where they are the same text, truth, number, day or moment.
+pub fn are_equal(a: &Value, b: &Value) -> bool
+    ensures { IsTrue result ↔ (a.now ≡ b.now) }
+{
+    a == b
+}

@@ -27,7 +27,8 @@ impl Datatype {
     #[tactic(auto, using(crate::proofs::LawLemmas::writable_answer))]
     pub fn read(&self, alloc: Global, text: &str) -> Result<Result<Value, Code>, AllocError>
         requires { IsSound self.now }
-        ensures value { IfOk result (λ answer. MatchResult answer (Reads self.now text.now) (Misread self.now text.now)) }
+        ensures value { IfOk result
+            (λ answer. MatchResult answer (Reads self.now text.now) (Misread self.now text.now)) }
         ensures writable { IfOk result (λ answer. IfOk answer IsWritable) }
     {
         let format = &self.format;
@@ -44,7 +45,8 @@ impl Datatype {
 }
 
 fn read_boolean(format: &Option<Format>, text: &str) -> Result<Value, Code>
-    ensures { MatchResult result (ReadsAs simples.Truth format.now text.now) (MisreadAs simples.Truth format.now text.now) }
+    ensures { MatchResult result (ReadsAs simples.Truth format.now text.now)
+        (MisreadAs simples.Truth format.now text.now) }
 {
     match read_truth(format, text) {
         Some(truth) => Ok(Value::Truth(truth)),
@@ -54,7 +56,8 @@ fn read_boolean(format: &Option<Format>, text: &str) -> Result<Value, Code>
 
 fn read_whole(format: &Option<Format>, text: &str) -> Result<Value, Code>
     requires { IsLawful (whole_rules format.now) }
-    ensures { MatchResult result (ReadsAs simples.Whole format.now text.now) (MisreadAs simples.Whole format.now text.now) }
+    ensures { MatchResult result (ReadsAs simples.Whole format.now text.now)
+        (MisreadAs simples.Whole format.now text.now) }
 {
     match read_number(&whole_rules(format), text) {
         Ok(number) => Ok(Value::Number(number)),
@@ -64,7 +67,8 @@ fn read_whole(format: &Option<Format>, text: &str) -> Result<Value, Code>
 
 fn read_derived(width: Width, format: &Option<Format>, text: &str) -> Result<Value, Code>
     requires { IsLawful (whole_rules format.now) }
-    ensures { MatchResult result (ReadsAs (simples.Derived width) format.now text.now) (MisreadAs (simples.Derived width) format.now text.now) }
+    ensures { MatchResult result (ReadsAs (simples.Derived width) format.now text.now)
+        (MisreadAs (simples.Derived width) format.now text.now) }
 {
     match read_number(&whole_rules(format), text) {
         Ok(number) => {
@@ -80,7 +84,8 @@ fn read_derived(width: Width, format: &Option<Format>, text: &str) -> Result<Val
 
 fn read_decimal(format: &Option<Format>, text: &str) -> Result<Value, Code>
     requires { IsLawful (decimal_rules format.now) }
-    ensures { MatchResult result (ReadsAs simples.Decimal format.now text.now) (MisreadAs simples.Decimal format.now text.now) }
+    ensures { MatchResult result (ReadsAs simples.Decimal format.now text.now)
+        (MisreadAs simples.Decimal format.now text.now) }
 {
     match read_number(&decimal_rules(format), text) {
         Ok(number) => Ok(Value::Number(number)),
@@ -89,7 +94,8 @@ fn read_decimal(format: &Option<Format>, text: &str) -> Result<Value, Code>
 }
 
 fn read_day(format: &Option<Format>, text: &str) -> Result<Value, Code>
-    ensures { MatchResult result (ReadsAs simples.Day format.now text.now) (MisreadAs simples.Day format.now text.now) }
+    ensures { MatchResult result (ReadsAs simples.Day format.now text.now)
+        (MisreadAs simples.Day format.now text.now) }
 {
     match read_date(date_format(format), text) {
         Some(day) => Ok(Value::Day(day)),
@@ -98,7 +104,8 @@ fn read_day(format: &Option<Format>, text: &str) -> Result<Value, Code>
 }
 
 fn read_date_time(format: &Option<Format>, text: &str) -> Result<Value, Code>
-    ensures { MatchResult result (ReadsAs simples.Moment format.now text.now) (MisreadAs simples.Moment format.now text.now) }
+    ensures { MatchResult result (ReadsAs simples.Moment format.now text.now)
+        (MisreadAs simples.Moment format.now text.now) }
 {
     match read_moment(moment_format(format), text) {
         Some(moment) => Ok(Value::Moment(moment)),

@@ -523,6 +523,24 @@ fn names(rt: HostRuntime) {
 }
 
 #[test]
+fn characters_of_numbers(rt: HostRuntime) {
+    let plain = NumberFormat {
+        decimal_char: '.',
+        group_char: None,
+    };
+    let grouped = NumberFormat {
+        decimal_char: ',',
+        group_char: Some('·'),
+    };
+    assert_eq!(rt; NumberFormat::of(None, None), Some(plain));
+    assert_eq!(rt; NumberFormat::of(Some(","), Some("·")), Some(grouped));
+    for text in ["", "..", ".·"] {
+        assert_eq!(rt; NumberFormat::of(Some(text), None), None, "{text}");
+        assert_eq!(rt; NumberFormat::of(None, Some(text)), None, "{text}");
+    }
+}
+
+#[test]
 fn copies_are_equal(rt: HostRuntime) -> Result<(), Fail> {
     let mut datatype = plain(Simple::Decimal, number(',', None));
     datatype.facets.minimum = Some(Value::Text(Text::copied(rt.alloc(), "t")?));

@@ -80,7 +80,8 @@ fn day_of(year: u16, month: u8, day: u8) -> Option<i32>
     requires year { year < 10000 }
     requires month { month < 100 }
     requires day { day < 100 }
-    ensures { MatchOption result (¬ IsDay year month day) (λ n. IsDay year month day × (n ≡ day_number year month day)) }
+    ensures { MatchOption result (¬ IsDay year month day)
+        (λ n. IsDay year month day × (n ≡ day_number year month day)) }
 {
     if year == 0 {
         return None;

@@ -11,7 +11,8 @@ impl DateFormat {
     /// The format of a pattern such as `dd/MM/yyyy`; `None` where it is none of the fourteen
     /// (Model for Tabular Data and Metadata on the Web, section 6.4.4).
     pub fn of(pattern: &str) -> Option<DateFormat>
-        ensures { MatchOption result ((f : DateFormat) → pattern.now ≢ date_pattern f) (λ f. pattern.now ≡ date_pattern f) }
+        ensures { MatchOption result ((f : DateFormat) → pattern.now ≢ date_pattern f)
+            (λ f. pattern.now ≡ date_pattern f) }
     {
         match pattern {
             "yyyy-MM-dd" => Some(DateFormat::YearFirst),
@@ -40,7 +41,8 @@ impl MomentFormat {
     /// The format of a pattern; `None` where it is none of the two
     /// (Model for Tabular Data and Metadata on the Web, section 6.4.4).
     pub fn of(pattern: &str) -> Option<MomentFormat>
-        ensures { MatchOption result ((f : MomentFormat) → pattern.now ≢ moment_pattern f) (λ f. pattern.now ≡ moment_pattern f) }
+        ensures { MatchOption result ((f : MomentFormat) → pattern.now ≢ moment_pattern f)
+            (λ f. pattern.now ≡ moment_pattern f) }
     {
         match pattern {
             "yyyy-MM-ddTHH:mm:ss" => Some(MomentFormat::Seconds),

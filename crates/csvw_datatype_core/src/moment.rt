@@ -46,7 +46,8 @@ fn read_time(format: MomentFormat, bytes: &[u8]) -> Option<u32>
 }
 
 fn second_of_day(hour: u8, minute: u8, second: u8) -> Option<u32>
-    ensures { MatchOption result (¬ IsTimeOfDay hour minute second) (λ n. IsTimeOfDay hour minute second × (n ≡ hour * 3600 + minute * 60 + second)) }
+    ensures { MatchOption result (¬ IsTimeOfDay hour minute second)
+        (λ n. IsTimeOfDay hour minute second × (n ≡ hour * 3600 + minute * 60 + second)) }
 {
     if hour < 24 && minute < 60 && second < 60 {
         Some(hour as u32 * 3600 + minute as u32 * 60 + second as u32)
@@ -87,7 +88,8 @@ ghost use Rattle.csvw_datatype_core.specs.LexicalDates.{IsMomentNumber};
 /// A law: a text is one moment at most, and one of the years 0001 to 9999.
 pub fn one_moment()
     ensures same { (f : MomentFormat) (text : List ℕ) (a b : ℤ) → ReadsMoment f text a → ReadsMoment f text b → a ≡ b }
-    ensures in_range { (f : MomentFormat) (text : List ℕ) (moment : ℤ) → ReadsMoment f text moment → IsMomentNumber moment }
+    ensures in_range { (f : MomentFormat) (text : List ℕ) (moment : ℤ)
+        → ReadsMoment f text moment → IsMomentNumber moment }
 {}
 
 #[cfg(test)]

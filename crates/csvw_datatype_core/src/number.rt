@@ -323,7 +323,8 @@ ghost use Rattle.std.specs.Prelude.{ℤ, List, ℕ};
 
 /// A law: a text is one number at most.
 pub fn one_number()
-    ensures { (rules : NumberRules) (cs : List ℕ) (y z : ℤ) → IsLawful rules → ReadsNumber rules cs y → ReadsNumber rules cs z → y ≡ z }
+    ensures { (rules : NumberRules) (cs : List ℕ) (y z : ℤ) → IsLawful rules
+        → ReadsNumber rules cs y → ReadsNumber rules cs z → y ≡ z }
 {}
 
 #[cfg(test)]

@@ -4,5 +4,5 @@ use Rattle.csvw_datatype.proofs.laws.values_of_texts.Goals as goal
 pub returns-clause-writable : goal.returns-clause-writable
 returns-clause-writable c = law.writable
 
-pub returns-clause-bound : goal.returns-clause-bound
-returns-clause-bound c = law.bound
+pub returns-clause-in_type : goal.returns-clause-in_type
+returns-clause-in_type c = law.bound
