@@ -46,7 +46,8 @@ fn safe_text(alloc: Global, text: &str) -> Result<String, AllocError>
 }
 
 fn push_safe(out: &mut String, c: char) -> Result<(), AllocError>
-    ensures { OnOk result (string_bytes out.new ≡ string_bytes out.old ++ (if is_forbidden c then percent_encode_byte c else encode_utf8 c)) }
+    ensures { OnOk result (string_bytes out.new
+        ≡ string_bytes out.old ++ (if is_forbidden c then percent_encode_byte c else encode_utf8 c)) }
 {
     if is_raw(c) {
         out.push(c)

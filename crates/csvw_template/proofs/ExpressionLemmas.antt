@@ -1,5 +1,5 @@
 -- What `expression` answers: an expression, one of a higher level, or neither.
-use Rattle.std.proofs.Common.{◌≡◌, ℕ, List, [], ◌∷◌, ◌++◌, true, false, cond, Some, Result, Ok, Err, refl, ap, sym, subst, ◌∙◌, append_assoc, append-nil, arith, ◌==◌, flat_map}
+use Rattle.std.proofs.Common.{◌≡◌, ℕ, List, [], ◌∷◌, ◌++◌, true, false, Some, Result, Ok, Err, refl, ap, sym, subst, ◌∙◌, append_assoc, append-nil, arith, ◌==◌, flat_map}
 use Rattle.std.specs.List.{slice_split}
 use Rattle.std.proofs.lemmas.Bool.{cond_both, cond-true, cond-false}
 use Rattle.std.proofs.lemmas.Bool.Decides.{nat_tests}

@@ -1,23 +1,23 @@
 -- The parts that a text is read as are those that spell it, and a fault is the first.
-use Rattle.std.proofs.Common.{◌≡◌, ℕ, ◌+◌, ◌<◌, ◌≤◌, List, [], ◌∷◌, ◌++◌, Bool, true, false, cond, Result, Ok, Err, length, refl, ap, sym, subst, ◌∙◌, append_assoc, append-nil, arith, ◌==◌, ◌||◌, flat_map, All, ◌⊎◌, ⊎_elim, inl, inr}
+use Rattle.std.proofs.Common.{◌≡◌, ℕ, ◌<◌, List, [], ◌∷◌, ◌++◌, false, Result, Ok, Err, length, refl, ap, sym, subst, ◌∙◌, append_assoc, append-nil, arith, ◌||◌, flat_map, All, ◌⊎◌, ⊎_elim, inl, inr}
 use Rattle.std.specs.List.{slice_split, onto_first, list_any}
-use Rattle.std.proofs.lemmas.Bool.{cond_both, cond-true, cond-false, cases_Bool}
+use Rattle.std.proofs.lemmas.Bool.{cond-true, cond-false}
 use Rattle.std.proofs.lemmas.Bool.Decides.{nat_tests}
 use Rattle.std.proofs.lemmas.List.Elements.{All-head, All-tail, All-nil, All-cons, All-append, All-weaker}
 use Rattle.std.proofs.lemmas.List.Folds.{list_any_none}
 use Rattle.csvw_template.specs.declared.fault.TemplateFault.{TemplateFault}
-use Rattle.csvw_template.specs.declared.fault.TemplateFault.TheVariants.{Memory, TooLong, BadTemplate, TemplateLevel}
+use Rattle.csvw_template.specs.declared.fault.TemplateFault.TheVariants.{BadTemplate, TemplateLevel}
 use Rattle.csvw_template.specs.declared.part.Operator.{Operator}
 use Rattle.csvw_template.specs.declared.part.Operator.TheVariants.{Simple, Reserved, Fragment}
 use Rattle.csvw_template.specs.declared.part.Part.{Part}
 use Rattle.csvw_template.specs.declared.part.Part.TheVariants.{Literal, Expression}
 use Rattle.csvw_template.specs.Fault.{◌>>=◌}
 use Rattle.csvw_template.specs.Name.{IsName, AreNames, listed, after_comma}
-use Rattle.csvw_template.specs.Grammar.{is_open, is_close, HasNoBrace, mark, spelling, spelling_of, IsLiteral, AreParts, IsTemplate, IsExpression, IsHigher, IsEndOrOpen, BeginsBad, closes_none, not_closed, no_expression, BeginsHigher, higher, IsFirst}
+use Rattle.csvw_template.specs.Grammar.{is_open, is_close, HasNoBrace, mark, spelling, IsLiteral, AreParts, IsTemplate, IsEndOrOpen, BeginsBad, closes_none, not_closed, no_expression, BeginsHigher, higher, IsFirst}
 use Rattle.csvw_template.specs.Reading.{Parts, expression, literal, outside, opened, all_opened, of_pieces}
 use Rattle.csvw_template.proofs.NamesLemmas.{IsNameChar, name_chars}
-use Rattle.csvw_template.proofs.ExpressionLemmas.{IsOf, Answers, answers, expression_read, higher_refused, bad_is_no_expression, bad_is_not_higher, bad_refused}
-use Rattle.csvw_template.proofs.PiecesLemmas.{HasNoOpen, HasNoClose, no_open, no_close, no_brace, no_open_left, after_open, IsCut, cut, onto, split_onto, closes, opened_of, IsClosed, closed}
+use Rattle.csvw_template.proofs.ExpressionLemmas.{expression_read, higher_refused, bad_refused}
+use Rattle.csvw_template.proofs.PiecesLemmas.{HasNoClose, no_open, no_close, IsCut, cut, onto, split_onto, closes, opened_of}
 
 -- the reading, of a whole text and of what follows a `{`
 abbrev pub whole : List ℕ → Parts

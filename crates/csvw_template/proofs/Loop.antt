@@ -1,5 +1,5 @@
 -- Reading the pieces one after another, as a loop does.
-use Rattle.std.proofs.Common.{◌≡◌, ℕ, ◌+◌, ◌<◌, ◌≤◌, List, [], ◌∷◌, ◌++◌, Result, Ok, Err, length, map, drop, get_or, refl, sym, ap, ◌∙◌, subst, append_assoc, suc, add-one, drop-cons}
+use Rattle.std.proofs.Common.{◌≡◌, ℕ, ◌+◌, ◌<◌, ◌≤◌, List, ◌∷◌, ◌++◌, Ok, Err, length, map, drop, get_or, refl, sym, ap, ◌∙◌, append_assoc, suc, add-one, drop-cons}
 use Rattle.std.specs.Borrow.{Bor}
 use Rattle.std.proofs.lemmas.List.{append-nil, drop_all}
 use Rattle.csvw_template.specs.declared.part.Part.{Part}

@@ -1,7 +1,7 @@
 -- The pass over a list of names tells lists of names, with what may stand behind them.
-use Rattle.std.proofs.Common.{◌≡◌, ℕ, List, [], ◌∷◌, ◌++◌, Bool, true, false, cond, Option, Some, None, refl, ap, sym, subst, ◌∙◌, flat_map, append_assoc, append-nil, arith, All, ◌==◌, ◌||◌, ◌&&◌}
+use Rattle.std.proofs.Common.{◌≡◌, ℕ, List, [], ◌∷◌, ◌++◌, Bool, true, false, cond, Option, Some, None, refl, ap, sym, subst, ◌∙◌, flat_map, append_assoc, append-nil, arith, All, ◌==◌, ◌||◌}
 use Rattle.std.specs.List.{slice_split}
-use Rattle.std.proofs.lemmas.Bool.{cond_both, cond-true, cond-false, ne_eqb}
+use Rattle.std.proofs.lemmas.Bool.{cond_both, cond-true, cond-false}
 use Rattle.std.proofs.lemmas.Bool.Decides.{nat_tests}
 use Rattle.std.proofs.lemmas.List.Elements.{All-head, All-tail, All-nil, All-cons, All-append, All-same, All-weaker}
 use Rattle.std.proofs.lemmas.List.Splits.{slice_split_none, slice_split_at}
@@ -11,7 +11,7 @@ use Rattle.csvw_template.specs.declared.names.Kind.{Kind}
 use Rattle.csvw_template.specs.declared.names.Kind.TheVariants.{Names, Higher, Bad}
 use Rattle.csvw_template.specs.Grammar.{is_modifier}
 use Rattle.csvw_template.specs.Name.{is_hex, is_name_byte, IsVarchar, IsName, AreNames, further, after_comma, listed}
-use Rattle.csvw_template.specs.Reading.{varchar_step, step, is_end, kind, is_comma}
+use Rattle.csvw_template.specs.Reading.{varchar_step, step, kind, is_comma}
 
 -- the begin of a varchar
 abbrev pub Begins : ℕ → Type 0

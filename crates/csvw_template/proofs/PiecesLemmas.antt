@@ -1,18 +1,15 @@
 -- A text cut at each `{`, and a piece cut at its first `}`.
-use Rattle.std.proofs.Common.{◌≡◌, ℕ, ◌+◌, ◌<◌, ◌≤◌, List, [], ◌∷◌, ◌++◌, Bool, true, false, cond, not, Result, Ok, Err, length, take, drop, get_or, min, suc, refl, ap, sym, subst, ◌∙◌, append_assoc, append-nil, arith, ◌==◌, ◌||◌, flat_map, All, length-append, ⊎_elim, inl, inr}
+use Rattle.std.proofs.Common.{◌≡◌, ℕ, ◌+◌, ◌<◌, ◌≤◌, List, [], ◌∷◌, ◌++◌, Bool, true, false, not, Ok, length, drop, get_or, refl, ap, sym, subst, ◌∙◌, append_assoc, arith, ◌||◌, flat_map, All, length-append, ⊎_elim}
 use Rattle.std.specs.List.{slice_split, onto_first, list_any, position_or_len, before_first, after_first}
-use Rattle.std.proofs.lemmas.Bool.{cond_both, cond-true, cond-false, cases_Bool, cases_lt, false≢true, false_from_ne_true}
-use Rattle.std.proofs.lemmas.Bool.Decides.{nat_tests}
+use Rattle.std.proofs.lemmas.Bool.{cond_both, cond-true, cases_lt, false≢true, false_from_ne_true}
 use Rattle.std.proofs.lemmas.List.{take_at, drop_at, get_or-take, length-take}
-use Rattle.std.proofs.lemmas.List.Elements.{All-head, All-tail, All-nil, All-cons, All-append, All-take, All-drop, All-same, All-weaker}
+use Rattle.std.proofs.lemmas.List.Elements.{All-head, All-tail, All-nil, All-cons, All-take, All-drop}
 use Rattle.std.proofs.lemmas.List.Folds.{list_any_none, list_any-append, list_any_at}
 use Rattle.std.proofs.lemmas.List.Sums.{fails_before_first, passes_at_first, split_at_first}
 use Rattle.std.proofs.lemmas.List.Splits.{slice_split-cons_no}
-use Rattle.csvw_template.specs.declared.fault.TemplateFault.TheVariants.{BadTemplate}
-use Rattle.csvw_template.specs.declared.part.Part.{Part}
 use Rattle.csvw_template.specs.Fault.{◌>>=◌}
 use Rattle.csvw_template.specs.Grammar.{is_open, is_close, HasNoBrace}
-use Rattle.csvw_template.specs.Reading.{Parts, expression, outside, opened}
+use Rattle.csvw_template.specs.Reading.{expression, outside, opened}
 use Rattle.csvw_template.proofs.NamesLemmas.{is_same}
 
 abbrev pub HasNoOpen : List ℕ → Type 0

@@ -1,10 +1,9 @@
 -- What is read is what the grammar has.
-use Rattle.std.proofs.Common.{◌≡◌, ℕ, ◌+◌, ◌<◌, ◌≤◌, List, [], ◌∷◌, ◌++◌, Bool, true, false, cond, Result, Ok, Err, length, refl, ap, sym, subst, ◌∙◌, append_assoc, append-nil, arith, ◌==◌, ◌||◌, ◌↔◌, flat_map, All, ◌⊎◌, ⊎_elim, inl, inr, nat_lt, count_by}
+use Rattle.std.proofs.Common.{◌≡◌, ℕ, ◌<◌, ◌≤◌, List, [], ◌∷◌, ◌++◌, true, false, Result, Ok, Err, length, refl, ap, sym, subst, ◌∙◌, append_assoc, append-nil, arith, flat_map, All, ⊎_elim, inl, inr, nat_lt, count_by}
 use Rattle.std.specs.List.{slice_split, list_any}
-use Rattle.std.proofs.lemmas.Bool.{cond_both, cond-true, cond-false, cases_Bool, or_cases}
+use Rattle.std.proofs.lemmas.Bool.{cond_both, cond-false, cases_Bool, or_cases}
 use Rattle.std.proofs.lemmas.Bool.Decides.{nat_tests}
-use Rattle.std.proofs.lemmas.List.Elements.{All-head, All-tail, All-nil}
-use Rattle.std.proofs.lemmas.List.Folds.{list_any_at}
+use Rattle.std.proofs.lemmas.List.Elements.{All-head, All-tail}
 use Rattle.csvw_template.specs.declared.fault.TemplateFault.{TemplateFault}
 use Rattle.csvw_template.specs.declared.fault.TemplateFault.TheVariants.{Memory, TooLong, BadTemplate, TemplateLevel}
 use Rattle.csvw_template.specs.declared.part.Operator.{Operator}
@@ -12,10 +11,10 @@ use Rattle.csvw_template.specs.declared.part.Part.{Part}
 use Rattle.csvw_template.specs.declared.part.Part.TheVariants.{Literal, Expression}
 use Rattle.csvw_template.specs.Fault.{◌>>=◌}
 use Rattle.csvw_template.specs.Name.{listed}
-use Rattle.csvw_template.specs.Grammar.{is_open, is_close, HasNoBrace, mark, spelling, spelling_of, IsLiteral, AreParts, IsTemplate, IsEndOrOpen, BeginsBad, closes_none, not_closed, no_expression, BeginsHigher, higher, IsFirst, IsWithin, IsPast, IsTheReading}
+use Rattle.csvw_template.specs.Grammar.{is_open, is_close, HasNoBrace, mark, spelling, AreParts, IsTemplate, IsEndOrOpen, BeginsBad, closes_none, not_closed, no_expression, BeginsHigher, higher, IsFirst, IsWithin, IsPast, IsTheReading}
 use Rattle.csvw_template.specs.Reading.{Parts, expression, literal, outside, opened, all_opened, of_pieces, is_past, template}
 use Rattle.csvw_template.proofs.ExpressionLemmas.{IsOf, Answers, answers, bad_is_no_expression, bad_is_not_higher}
-use Rattle.csvw_template.proofs.PiecesLemmas.{HasNoOpen, HasNoClose, no_brace, no_open_left, no_open_right, after_open, IsCut, cut, opened_of, IsClosed, closed, lacks_close, or_left, or_right}
+use Rattle.csvw_template.proofs.PiecesLemmas.{HasNoOpen, no_brace, no_open_left, no_open_right, after_open, IsCut, cut, opened_of, closed, lacks_close, or_left, or_right}
 use Rattle.csvw_template.proofs.GrammarLemmas.{whole, regroup, with_part, template_read, bad_told, higher_told}
 
 -- what an answer says of a text

@@ -77,4 +77,5 @@ lead operator false = 44 ∷ []
 -- one value more was written, where there is one
 abbrev pub Adds : Operator → Bool → Option (List ℕ) → Bool → List ℕ → List ℕ → Type 0
 Adds operator is_first None is_defined old new = (is_defined ≡ false) × (new ≡ old)
-Adds operator is_first (Some text) is_defined old new = (is_defined ≡ true) × (new ≡ old ++ (lead operator is_first ++ text))
+Adds operator is_first (Some text) is_defined old new =
+    (is_defined ≡ true) × (new ≡ old ++ (lead operator is_first ++ text))

@@ -44,7 +44,8 @@ abbrev pub AreParts : List Part → Type 0
 AreParts [] = Unit {0}
 AreParts (Literal text ∷ []) = IsLiteral text
 AreParts (Literal text ∷ Literal more ∷ parts) = ⊥
-AreParts (Literal text ∷ Expression operator names ∷ parts) = IsLiteral text × AreParts (Expression operator names ∷ parts)
+AreParts (Literal text ∷ Expression operator names ∷ parts) =
+    IsLiteral text × AreParts (Expression operator names ∷ parts)
 AreParts (Expression operator names ∷ parts) = AreNames names × AreParts parts
 
 -- the parts spell the text
@@ -61,7 +62,8 @@ pub record IsExpression (inner : List ℕ) : Type 0 where
 -- one of `./;?&=,!@|`, with which expressions of higher levels and those kept for later begin
 -- (RFC 6570, section 2.2)
 abbrev pub is_level_operator : ℕ → Bool
-is_level_operator b = b == 46 || b == 47 || b == 59 || b == 63 || b == 38 || b == 61 || b == 44 || b == 33 || b == 64 || b == 124
+is_level_operator b =
+    b == 46 || b == 47 || b == 59 || b == 63 || b == 38 || b == 61 || b == 44 || b == 33 || b == 64 || b == 124
 
 -- `:` or `*`, with which the modifiers of level 4 begin (RFC 6570, section 2.4)
 abbrev pub is_modifier : ℕ → Bool
@@ -88,7 +90,8 @@ pub data BeginsBad (text : List ℕ) : Type 0 where
 
 -- A text that begins with an expression of a higher level.
 pub data BeginsHigher (text : List ℕ) : Type 0 where
-  higher : (inner more : List ℕ) → HasNoBrace inner → IsHigher inner → text ≡ 123 ∷ inner ++ 125 ∷ more → BeginsHigher text
+  higher : (inner more : List ℕ)
+      → HasNoBrace inner → IsHigher inner → text ≡ 123 ∷ inner ++ 125 ∷ more → BeginsHigher text
 
 -- The fault is the first from the left: a template stands in front of it.
 pub record IsFirst (Begins : List ℕ → Type 0) (text : List ℕ) : Type 0 where

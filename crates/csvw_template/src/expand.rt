@@ -35,7 +35,8 @@ fn push_values(
     names: &[Text],
     vars: &Vars,
 ) -> Result<(), AllocError>
-    ensures { OnOk result (string_bytes out.new ≡ string_bytes out.old ++ signed operator (values operator vars.now names.now)) }
+    ensures { OnOk result (string_bytes out.new
+        ≡ string_bytes out.old ++ signed operator (values operator vars.now names.now)) }
 {
     let mut is_first = true;
     for name in names {
@@ -53,7 +54,8 @@ fn push_value(
     is_first: bool,
     var: &Var,
 ) -> Result<bool, AllocError>
-    ensures { IfOk result (λ b. Adds operator is_first (value operator var.now) b (string_bytes out.old) (string_bytes out.new)) }
+    ensures { IfOk result (λ b. Adds operator is_first (value operator var.now) b
+        (string_bytes out.old) (string_bytes out.new)) }
 {
     match var {
         Var::Undefined => Ok(false),
@@ -72,7 +74,8 @@ fn push_list(
     is_first: bool,
     items: &[Text],
 ) -> Result<bool, AllocError>
-    ensures { IfOk result (λ b. Adds operator is_first (value operator (Var.Many items.now)) b (string_bytes out.old) (string_bytes out.new)) }
+    ensures { IfOk result (λ b. Adds operator is_first (value operator (Var.Many items.now)) b
+        (string_bytes out.old) (string_bytes out.new)) }
 {
     let Some((first, others)) = items.split_first() else {
         return Ok(false);

@@ -13,7 +13,7 @@ pub enum TemplateFault {
     TooLong,
     /// A brace has no partner, or what stands between braces is no expression.
     BadTemplate,
-    /// An expression has an operator or a modifier of RFC 6570 other than `+` and `#`.
+    /// An expression is of a higher level: it has another operator than `+` and `#`, or a modifier.
     TemplateLevel,
 }
 

@@ -3,7 +3,8 @@ ghost use Rattle.std.specs.Prelude.{◌≡◌, ◌<◌, IfOk, MatchOption, map, 
 ghost use Rattle.std.specs.List.{slice_split, list_any, before_first, after_first};
 ghost use Rattle.csvw_template.specs.Fault.{Gives};
 ghost use Rattle.csvw_template.specs.Grammar.{is_open, is_close, is_level_operator};
-ghost use Rattle.csvw_template.specs.Reading.{of_operator, expression, literal, outside, opened, all_opened, of_pieces, is_comma};
+ghost use Rattle.csvw_template.specs.Reading.{of_operator, expression, is_comma};
+ghost use Rattle.csvw_template.specs.Reading.{literal, outside, opened, all_opened, of_pieces};
 
 use crate::fault::TemplateFault;
 use crate::names::{Kind, kind_of};

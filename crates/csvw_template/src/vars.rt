@@ -84,7 +84,8 @@ impl Vars {
     /// Lets a name stand for a value. `AllocError` where there is no memory; the map is then unchanged.
     pub fn set(&mut self, name: &str, value: Var) -> Result<(), AllocError>
         ensures ok { OnOk result (self.new ≡ put self.old name.now value) }
-        ensures found { OnOk result ((other : List ℕ) → lookup self.new other ≡ (if bytes_eq name.now other then value else lookup self.old other)) }
+        ensures found { OnOk result ((other : List ℕ) → lookup self.new other
+            ≡ (if bytes_eq name.now other then value else lookup self.old other)) }
         ensures err { OnErr result (self.new ≡ self.old) }
     {
         match self.position(name) {

@@ -1,6 +1,6 @@
-use Rattle.std.proofs.Common.{◌≡◌, ◌<◌, ◌++◌, [], length, string_bytes, sym, ap, ◌∙◌, append_assoc, append-nil, arith}
+use Rattle.std.proofs.Common.{◌≡◌, ◌<◌, ◌++◌, length, string_bytes, sym, ap, ◌∙◌, append_assoc, append-nil, arith}
 use Rattle.std.proofs.lemmas.Bool.Decides.{nat_tests}
-use Rattle.csvw_template.specs.Expand.{kept, kept_byte}
+use Rattle.csvw_template.specs.Expand.{kept}
 use Rattle.csvw_template.proofs.KeptLemmas.{kept-other, kept-nil}
 use Rattle.csvw_template.proofs.encode.push_kept.Goals as goal
 

@@ -1,4 +1,4 @@
-use Rattle.std.proofs.Common.{◌≡◌, ◌∙◌, ◌++◌, refl, ap, string_bytes, flat_map}
+use Rattle.std.proofs.Common.{◌∙◌, ◌++◌, refl, ap, string_bytes, flat_map}
 use Rattle.std.proofs.lemmas.List.{take_all}
 use Rattle.csvw_template.specs.Name.{after_comma}
 use Rattle.csvw_template.specs.Expand.{encoded, lead}

@@ -1,4 +1,4 @@
-use Rattle.std.proofs.Common.{◌≡◌, ◌∙◌, ◌++◌, ◌∷◌, [], ap, sym, position, set, bytes_eq, List, ℕ}
+use Rattle.std.proofs.Common.{◌∙◌, ◌++◌, ◌∷◌, [], ap, sym, position, set, bytes_eq, List, ℕ}
 use Rattle.csvw_template.specs.declared.vars.Var.{Var}
 use Rattle.csvw_template.specs.Variables.{Variables, put, lookup}
 use Rattle.csvw_template.proofs.VariablesLemmas.{put_at, put_end, lookup-put}
