@@ -30,7 +30,7 @@ iri_takes text gap rest after v end r e b =
     let value = b.0 in let body = b.1.0 in
     let whole : IsIriref (60 ∷ body ++ 62 ∷ []) value = (body, refl, to_iri body value b.1.2) in
     let spelled : text ≡ gap ++ ((60 ∷ body ++ 62 ∷ []) ++ end) =
-        r.0 ∙ ap (λ z. gap ++ z) (e ∙ ap (λ z. 60 ∷ z) (b.1.1 ∙ sym (append_assoc body (62 ∷ []) end))) in
+    r.0 ∙ ap (λ z. gap ++ z) (e ∙ ap (λ z. 60 ∷ z) (b.1.1 ∙ sym (append_assoc body (62 ∷ []) end))) in
     (gap, 60 ∷ body ++ 62 ∷ [], spelled, r.1, (value, whole, b.2), bytes_longest IsIriref (60 ∷ body ++ 62 ∷ []) end (iri_longest (60 ∷ body ++ 62 ∷ []) value end whole))
 
 pub string_takes : (text gap rest after v end : List ℕ) → IsRun is_blank text gap rest → rest ≡ 34 ∷ after → ReadsBytes enclosed.Literal after v end → Takes (InBytes IsString) v text end
@@ -38,23 +38,27 @@ string_takes text gap rest after v end r e b =
     let value = b.0 in let body = b.1.0 in
     let whole : IsString (34 ∷ body ++ 34 ∷ []) value = (body, refl, b.1.2) in
     let spelled : text ≡ gap ++ ((34 ∷ body ++ 34 ∷ []) ++ end) =
-        r.0 ∙ ap (λ z. gap ++ z) (e ∙ ap (λ z. 34 ∷ z) (b.1.1 ∙ sym (append_assoc body (34 ∷ []) end))) in
+    r.0 ∙ ap (λ z. gap ++ z) (e ∙ ap (λ z. 34 ∷ z) (b.1.1 ∙ sym (append_assoc body (34 ∷ []) end))) in
     (gap, 34 ∷ body ++ 34 ∷ [], spelled, r.1, (value, whole, b.2), bytes_longest IsString (34 ∷ body ++ 34 ∷ []) end (string_longest (34 ∷ body ++ 34 ∷ []) value end whole))
 
 -- and back
 iri_taken : (text gap rest v end : List ℕ) → IsRun is_blank text gap rest → TakesIri v text end → (after : List ℕ) × (rest ≡ 60 ∷ after) × ReadsBytes enclosed.Iri after v end
 iri_taken text gap rest v end r t =
     let value = t.4.0 in let body = t.4.1.0 in
-    let piece : t.1 ++ end ≡ 60 ∷ (body ++ 62 ∷ end) = ap (λ z. z ++ end) t.4.1.1 ∙ ap (λ z. 60 ∷ z) (append_assoc body (62 ∷ []) end) in
-    (body ++ 62 ∷ end, past_gap text gap rest t.0 (body ++ 62 ∷ end) 60 r t.3 refl (t.2 ∙ ap (λ z. t.0 ++ z) piece),
-     (value, (body, refl, from_iri body value t.4.1.2), t.4.2))
+    let piece : t.1 ++ end ≡ 60 ∷ (body ++ 62 ∷ end) = ap (λ z. z ++ end) t.4.1.1 ∙ ap (λ z. 60 ∷ z) (append_assoc body (62 ∷ []) end) in (
+      body ++ 62 ∷ end,
+      past_gap text gap rest t.0 (body ++ 62 ∷ end) 60 r t.3 refl (t.2 ∙ ap (λ z. t.0 ++ z) piece),
+      (value, (body, refl, from_iri body value t.4.1.2), t.4.2),
+    )
 
 string_taken : (text gap rest v end : List ℕ) → IsRun is_blank text gap rest → Takes (InBytes IsString) v text end → (after : List ℕ) × (rest ≡ 34 ∷ after) × ReadsBytes enclosed.Literal after v end
 string_taken text gap rest v end r t =
     let value = t.4.0 in let body = t.4.1.0 in
-    let piece : t.1 ++ end ≡ 34 ∷ (body ++ 34 ∷ end) = ap (λ z. z ++ end) t.4.1.1 ∙ ap (λ z. 34 ∷ z) (append_assoc body (34 ∷ []) end) in
-    (body ++ 34 ∷ end, past_gap text gap rest t.0 (body ++ 34 ∷ end) 34 r t.3 refl (t.2 ∙ ap (λ z. t.0 ++ z) piece),
-     (value, (body, refl, t.4.1.2), t.4.2))
+    let piece : t.1 ++ end ≡ 34 ∷ (body ++ 34 ∷ end) = ap (λ z. z ++ end) t.4.1.1 ∙ ap (λ z. 34 ∷ z) (append_assoc body (34 ∷ []) end) in (
+      body ++ 34 ∷ end,
+      past_gap text gap rest t.0 (body ++ 34 ∷ end) 34 r t.3 refl (t.2 ∙ ap (λ z. t.0 ++ z) piece),
+      (value, (body, refl, t.4.1.2), t.4.2),
+    )
 
 -- an answer about the text after the opening mark is one about the text
 tails : (x y : ℕ) (xs ys rest : List ℕ) → rest ≡ x ∷ xs → rest ≡ y ∷ ys → xs ≡ ys

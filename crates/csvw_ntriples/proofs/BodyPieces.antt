@@ -145,7 +145,7 @@ module _ (P : List ℕ → ℕ → Type 0) (mark : ℕ) (once : Once P) (begins 
       absurd (begins f.0 (f.1 ++ rest) x c f.3 whole)
   body_rest (c ∷ m) (d ∷ n) a b rest x f g e =
       let whole : f.0 ++ (f.1 ++ rest) ≡ g.0 ++ (g.1 ++ mark ∷ x) =
-          sym (append_assoc f.0 f.1 rest) ∙ (ap (λ z. z ++ rest) (sym f.2) ∙ (e ∙ (ap (λ z. z ++ mark ∷ x) g.2 ∙ append_assoc g.0 g.1 (mark ∷ x)))) in
+      sym (append_assoc f.0 f.1 rest) ∙ (ap (λ z. z ++ rest) (sym f.2) ∙ (e ∙ (ap (λ z. z ++ mark ∷ x) g.2 ∙ append_assoc g.0 g.1 (mark ∷ x)))) in
       let one = once f.0 g.0 (f.1 ++ rest) (g.1 ++ mark ∷ x) c d f.3 g.3 whole in
       body_rest m n f.1 g.1 rest x f.4 g.4 one.2
 
@@ -167,9 +167,13 @@ two_heads text after rest x y c d e f g h = cc
 pub body_more : (kind : Enclosed) (text front rest next : List ℕ) (m : List ℕ) (c : ℕ) (bytes more : List ℕ) → text ≡ front ++ rest → Spells (PieceOf kind) front m → bytes ≡ encode_utf8_all m
     → Begins kind rest c next → more ≡ bytes ++ encode_utf8 c
     → (so_far : List ℕ) × (before : List ℕ) × (text ≡ before ++ next) × Spells (PieceOf kind) before so_far × (more ≡ encode_utf8_all so_far)
-body_more kind text front rest next m c bytes more e s b p q =
-    (m ++ c ∷ [], front ++ p.0, e ∙ (ap (λ z. front ++ z) p.1 ∙ sym (append_assoc front p.0 next)), spells_more (PieceOf kind) m front p.0 c s p.2,
-     q ∙ (ap (λ z. z ++ encode_utf8 c) b ∙ rw (encodes-append, append-nil) refl))
+body_more kind text front rest next m c bytes more e s b p q = (
+  m ++ c ∷ [],
+  front ++ p.0,
+  e ∙ (ap (λ z. front ++ z) p.1 ∙ sym (append_assoc front p.0 next)),
+  spells_more (PieceOf kind) m front p.0 c s p.2,
+  q ∙ (ap (λ z. z ++ encode_utf8 c) b ∙ rw (encodes-append, append-nil) refl),
+)
 
 -- the body is read
 pub body_found : (kind : Enclosed) (text front rest after m bytes : List ℕ) (c : ℕ) → text ≡ front ++ rest → rest ≡ c ∷ after → c ≡ mark_of kind → Spells (PieceOf kind) front m → bytes ≡ encode_utf8_all m

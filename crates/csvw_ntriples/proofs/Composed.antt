@@ -111,19 +111,30 @@ literal_term_once text end d once (term.Literal l) rest t dot = once l rest t do
 
 -- languages and datatypes
 tag_takes : (text gap rest after v end : List ℕ) → IsRun is_blank text gap rest → rest ≡ 64 ∷ after → TagBefore v after end → Takes (InBytes IsLangtag) v text end
-tag_takes text gap rest after v end r e t =
-    (gap, 64 ∷ t.0, r.0 ∙ ap (λ z. gap ++ z) (e ∙ ap (λ z. 64 ∷ z) t.1), r.1, (t.0, (refl, t.2), t.4),
-     λ more others w g f.
-       let inner : t.0 ++ more ≡ f.0 = let k : 64 ∷ (t.0 ++ more) ≡ 64 ∷ f.0 = f.1.0 in cc in
-       t.3 more others (t.0 ++ more) g (ap is_language_tag inner ∙ f.1.1, refl))
+tag_takes text gap rest after v end r e t = (
+  gap,
+  64 ∷ t.0,
+  r.0 ∙ ap (λ z. gap ++ z) (e ∙ ap (λ z. 64 ∷ z) t.1),
+  r.1,
+  (t.0, (refl, t.2), t.4),
+  λ more others w g f.
+      let inner : t.0 ++ more ≡ f.0 = let k : 64 ∷ (t.0 ++ more) ≡ 64 ∷ f.0 = f.1.0 in cc in
+      t.3 more others (t.0 ++ more) g (ap is_language_tag inner ∙ f.1.1, refl),
+)
 
 tag_taken : (text gap rest v end : List ℕ) → IsRun is_blank text gap rest → Takes (InBytes IsLangtag) v text end → (after : List ℕ) × (rest ≡ 64 ∷ after) × TagBefore v after end
 tag_taken text gap rest v end r t =
-    let tag = t.4.0 in
-    (tag ++ end, past_gap text gap rest t.0 (tag ++ end) 64 r t.3 refl (t.2 ∙ ap (λ z. t.0 ++ z) (ap (λ z. z ++ end) t.4.1.0)),
-     (tag, refl, t.4.1.1,
-      λ more others w g f. t.5 more others (encode_utf8_all (tag ++ more)) g (tag ++ more, (ap (λ z. z ++ more) t.4.1.0, f.0), refl),
-      t.4.2))
+    let tag = t.4.0 in (
+      tag ++ end,
+      past_gap text gap rest t.0 (tag ++ end) 64 r t.3 refl (t.2 ∙ ap (λ z. t.0 ++ z) (ap (λ z. z ++ end) t.4.1.0)),
+      (
+        tag,
+        refl,
+        t.4.1.1,
+        λ more others w g f. t.5 more others (encode_utf8_all (tag ++ more)) g (tag ++ more, (ap (λ z. z ++ more) t.4.1.0, f.0), refl),
+        t.4.2,
+      ),
+    )
 
 hats_take : (text gap rest after : List ℕ) → IsRun is_blank text gap rest → rest ≡ 94 ∷ 94 ∷ after → Takes (IsMark (codes "^^")) tt text after
 hats_take text gap rest after r e = (gap, 94 ∷ 94 ∷ [], r.0 ∙ ap (λ z. gap ++ z) e, r.1, refl, mark_longest (94 ∷ 94 ∷ []) after)

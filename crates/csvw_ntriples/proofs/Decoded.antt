@@ -48,9 +48,9 @@ encode_high : (c : ℕ) → 128 ≤ c → list_all is_high (encode c) ≡ true
 unfolding encode
 encode_high c h =
     rw (not_below c h)
-        (chosen_high (nat_lt c 2048) _ _ (two_high _ _ (lead_high 192 (c / 64) (omega arith)) (next_high (c % 64)))
-            (chosen_high (nat_lt c 65536) _ _ (three_high _ _ _ (lead_high 224 (c / 4096) (omega arith)) (next_high ((c / 64) % 64)) (next_high (c % 64)))
-                (four_high _ _ _ _ (lead_high 240 (c / 262144) (omega arith)) (next_high ((c / 4096) % 64)) (next_high ((c / 64) % 64)) (next_high (c % 64)))))
+    (chosen_high (nat_lt c 2048) _ _ (two_high _ _ (lead_high 192 (c / 64) (omega arith)) (next_high (c % 64)))
+    (chosen_high (nat_lt c 65536) _ _ (three_high _ _ _ (lead_high 224 (c / 4096) (omega arith)) (next_high ((c / 64) % 64)) (next_high (c % 64)))
+    (four_high _ _ _ _ (lead_high 240 (c / 262144) (omega arith)) (next_high ((c / 4096) % 64)) (next_high ((c / 64) % 64)) (next_high (c % 64)))))
 
 -- IRIs
 and_true : (a b : Bool) → a ≡ true → b ≡ true → (a && b) ≡ true

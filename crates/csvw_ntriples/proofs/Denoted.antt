@@ -57,6 +57,7 @@ no_break p c h k l = at_return (c == 13) refl
     at_line : (b : Bool) → (c == 13) ≡ false → (c == 10) ≡ b → not (is_break c) ≡ true
     at_line true e f = let same : c ≡ 10 = (Decides-eqb c 10).0 f in let wrong : p 10 ≡ true = subst (λ z. p z ≡ true) same h in cc
     at_line false e f = rw (e, f) refl
+
     at_return : (b : Bool) → (c == 13) ≡ b → not (is_break c) ≡ true
     at_return true e = let same : c ≡ 13 = (Decides-eqb c 13).0 e in let wrong : p 13 ≡ true = subst (λ z. p z ≡ true) same h in cc
     at_return false e = at_line (c == 10) e refl
@@ -87,12 +88,15 @@ escaped_good c s = by_quote (c == 34) refl
     by_return : (b : Bool) → (c == 34) ≡ false → (c == 92) ≡ false → (c == 10) ≡ false → (c == 13) ≡ b → list_all good (escaped c) ≡ true
     by_return true p q r e = rw (p, q, r, e) refl
     by_return false p q r e = rw (p, q, r) (rw e (and_both _ true (and_both _ _ s (rw (e, r) refl)) refl))
+
     by_line : (b : Bool) → (c == 34) ≡ false → (c == 92) ≡ false → (c == 10) ≡ b → list_all good (escaped c) ≡ true
     by_line true p q r = rw (p, q, r) refl
     by_line false p q r = by_return (c == 13) p q r refl
+
     by_slash : (b : Bool) → (c == 34) ≡ false → (c == 92) ≡ b → list_all good (escaped c) ≡ true
     by_slash true p q = rw (p, q) refl
     by_slash false p q = by_line (c == 10) p q refl
+
     by_quote : (b : Bool) → (c == 34) ≡ b → list_all good (escaped c) ≡ true
     by_quote true p = rw p refl
     by_quote false p = by_slash (c == 92) p refl
@@ -123,6 +127,7 @@ tag_good tag h = low_good in_tag tag_13 tag_10 tag (low_scalars tag (tag_low tag
   where
     tag_13 : in_tag 13 ≡ false
     tag_13 = unfold in_tag in refl
+
     tag_10 : in_tag 10 ≡ false
     tag_10 = unfold in_tag in refl
 
@@ -228,10 +233,11 @@ lit_says l h =
       same = encodes-append s.text t.text ∙ (ap (λ z. z ++ encode_utf8_all t.text) s.same ∙ ap (λ z. string_text l.text ++ z) t.same);
       clean = good-append s.text t.text s.clean t.clean;
       holds = λ gap after b.
-        let split : gap ++ ((s.text ++ t.text) ++ 32 ∷ after) ≡ gap ++ (s.text ++ (t.text ++ 32 ∷ after)) = ap (λ z. gap ++ z) (append_assoc s.text t.text (32 ∷ after)) in
-        (t.text ++ 32 ∷ after,
-         subst (λ (z : List ℕ). Takes (InBytes IsString) l.text z (t.text ++ 32 ∷ after)) (sym split) (s.holds gap (t.text ++ 32 ∷ after) b),
-         t.holds after);
+          let split : gap ++ ((s.text ++ t.text) ++ 32 ∷ after) ≡ gap ++ (s.text ++ (t.text ++ 32 ∷ after)) = ap (λ z. gap ++ z) (append_assoc s.text t.text (32 ∷ after)) in (
+            t.text ++ 32 ∷ after,
+            subst (λ (z : List ℕ). Takes (InBytes IsString) l.text z (t.text ++ 32 ∷ after)) (sym split) (s.holds gap (t.text ++ 32 ∷ after) b),
+            t.holds after,
+          );
     }
 
 term_says : (t : Term) → TermFits t → Says (TermStands t) (term_text t)
@@ -257,20 +263,24 @@ line_says t h =
     let b = p.text ++ (32 ∷ [] ++ c) in
     let c_same : encode_utf8_all (32 ∷ [] ++ c) ≡ 32 ∷ [] ++ (term_text t.o ++ 32 ∷ 46 ∷ []) = between (32 ∷ []) (32 ∷ 46 ∷ []) o.text (term_text t.o) refl refl o.same in
     let b_same : encode_utf8_all (32 ∷ [] ++ b) ≡ 32 ∷ [] ++ (iri_text t.p ++ (32 ∷ [] ++ (term_text t.o ++ 32 ∷ 46 ∷ []))) =
-        low_append (32 ∷ []) b refl ∙ ap (λ z. 32 ∷ [] ++ z) (encodes-append p.text (32 ∷ [] ++ c) ∙ (ap (λ z. z ++ encode_utf8_all (32 ∷ [] ++ c)) p.same ∙ ap (λ z. iri_text t.p ++ z) c_same)) in
+    low_append (32 ∷ []) b refl ∙ ap (λ z. 32 ∷ [] ++ z) (encodes-append p.text (32 ∷ [] ++ c) ∙ (ap (λ z. z ++ encode_utf8_all (32 ∷ [] ++ c)) p.same ∙ ap (λ z. iri_text t.p ++ z) c_same)) in
     record {
       text = s.text ++ (32 ∷ [] ++ b);
       same = encodes-append s.text (32 ∷ [] ++ b) ∙ (ap (λ z. z ++ encode_utf8_all (32 ∷ [] ++ b)) s.same ∙ ap (λ z. node_text t.s ++ z) b_same);
       clean = good-append s.text (32 ∷ [] ++ b) s.clean
-        (good-append (32 ∷ []) b good_marks.6 (good-append p.text (32 ∷ [] ++ c) p.clean
-        (good-append (32 ∷ []) c good_marks.6 (good-append o.text (32 ∷ 46 ∷ []) o.clean good_marks.7))));
-      holds =
-        (32 ∷ b, 32 ∷ c, 32 ∷ 46 ∷ [], [],
-         s.holds [] b refl,
-         p.holds (32 ∷ []) (32 ∷ c) refl,
-         o.holds (32 ∷ []) (46 ∷ []) refl,
-         (32 ∷ [], 46 ∷ [], refl, refl, refl, mark_longest (46 ∷ []) []),
-         tt);
+          (good-append (32 ∷ []) b good_marks.6 (good-append p.text (32 ∷ [] ++ c) p.clean
+          (good-append (32 ∷ []) c good_marks.6 (good-append o.text (32 ∷ 46 ∷ []) o.clean good_marks.7))));
+      holds = (
+        32 ∷ b,
+        32 ∷ c,
+        32 ∷ 46 ∷ [],
+        [],
+        s.holds [] b refl,
+        p.holds (32 ∷ []) (32 ∷ c) refl,
+        o.holds (32 ∷ []) (46 ∷ []) refl,
+        (32 ∷ [], 46 ∷ [], refl, refl, refl, mark_longest (46 ∷ []) []),
+        tt,
+      );
     }
 
 split_line : (body rest : List ℕ) → list_all good body ≡ true → slice_split is_break (body ++ 10 ∷ rest) ≡ body ∷ slice_split is_break rest
@@ -311,7 +321,7 @@ all_say (t ∷ ts) h =
     record {
       text = one.text ++ 10 ∷ rest.text;
       same = encodes-append one.text (10 ∷ rest.text) ∙ (ap (λ z. z ++ encode_utf8_all (10 ∷ rest.text)) one.same
-        ∙ (ap (λ z. bytes ++ z) (low_append (10 ∷ []) rest.text refl ∙ ap (λ z. 10 ∷ z) rest.same) ∙ sym split));
+          ∙ (ap (λ z. bytes ++ z) (low_append (10 ∷ []) rest.text refl ∙ ap (λ z. 10 ∷ z) rest.same) ∙ sym split));
       clean = scalars-append one.text (10 ∷ rest.text) (good_scalars one.text one.clean) rest.clean;
       lines = subst (λ (z : List (List ℕ)). AreLines z (map said (t ∷ ts))) (sym parts) (inr (said t, map said ts, refl, one.holds, rest.lines));
     }

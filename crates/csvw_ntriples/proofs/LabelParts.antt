@@ -25,7 +25,7 @@ onto_digits (suc k) n acc h =
     let small : n % 10 < 10 = omega arith in
     let more : list_all is_digit_char (digit_glyph false (n % 10) ∷ acc) ≡ true = rw (glyph_is_digit (n % 10) small) h in
     chosen_digits (n / 10 == 0) (digit_glyph false (n % 10) ∷ acc) (digits_onto k 10 false (n / 10) (digit_glyph false (n % 10) ∷ acc)) more
-        (onto_digits k (n / 10) (digit_glyph false (n % 10) ∷ acc) more)
+    (onto_digits k (n / 10) (digit_glyph false (n % 10) ∷ acc) more)
 
 decimal_is_digits : (n : ℕ) → list_all is_digit_char (decimal n) ≡ true
 unfolding digits

@@ -73,9 +73,14 @@ ends_at_zero text n z h =
     ([], text, refl, sym z, subst (λ k. DotsFrom text k) z h, λ xs e. let size = ap length e in absurd (omega (arith, size, length-append xs (46 ∷ []))))
 
 pub ends_at : (text : List ℕ) (n m c : ℕ) → n ≡ m + 1 → m < length text → DotsFrom text n → c ≡ get_or text m c → (c ≡ 46 → ⊥) → EndsWithoutDot text n
-ends_at text n m c e l h f none =
-    (take n text, drop n text, front_drop text n, front_size text n (omega arith), h,
-     λ xs k. none (last_is xs text m c l f (subst (λ i. take i text ≡ xs ++ 46 ∷ []) (e ∙ add-one m) k)))
+ends_at text n m c e l h f none = (
+  take n text,
+  drop n text,
+  front_drop text n,
+  front_size text n (omega arith),
+  h,
+  λ xs k. none (last_is xs text m c l f (subst (λ i. take i text ≡ xs ++ 46 ∷ []) (e ∙ add-one m) k)),
+)
 
 -- labels
 tail_ok : (cs : List ℕ) → list_all (is_in class.Label) cs ≡ true → ((xs : List ℕ) → cs ≡ xs ++ 46 ∷ [] → ⊥) → IsLabelTail cs
@@ -188,20 +193,31 @@ label_missing text [] [] (x ∷ end) p none v rest (c ∷ cs, e, l, more, _) =
 
 -- blank nodes
 blank_takes : (text gap rest after v end : List ℕ) → IsRun is_blank text gap rest → rest ≡ 95 ∷ 58 ∷ after → TakesLabel v after end → TakesBlank v text end
-blank_takes text gap rest after v end r e t =
-    (gap, 95 ∷ 58 ∷ t.0, r.0 ∙ ap (λ z. gap ++ z) (e ∙ ap (λ z. 95 ∷ 58 ∷ z) t.1), r.1, (t.0, (refl, t.2), t.4),
-     λ more others w g f.
-       let inner : t.0 ++ more ≡ f.0 = let k : 95 ∷ 58 ∷ (t.0 ++ more) ≡ 95 ∷ 58 ∷ f.0 = f.1.0 in cc in
-       t.3 more others (t.0 ++ more) g (subst IsLabel (sym inner) f.1.1, refl))
+blank_takes text gap rest after v end r e t = (
+  gap,
+  95 ∷ 58 ∷ t.0,
+  r.0 ∙ ap (λ z. gap ++ z) (e ∙ ap (λ z. 95 ∷ 58 ∷ z) t.1),
+  r.1,
+  (t.0, (refl, t.2), t.4),
+  λ more others w g f.
+      let inner : t.0 ++ more ≡ f.0 = let k : 95 ∷ 58 ∷ (t.0 ++ more) ≡ 95 ∷ 58 ∷ f.0 = f.1.0 in cc in
+      t.3 more others (t.0 ++ more) g (subst IsLabel (sym inner) f.1.1, refl),
+)
 
 blank_taken : (text gap rest v end : List ℕ) → IsRun is_blank text gap rest → TakesBlank v text end → (after : List ℕ) × (rest ≡ 95 ∷ 58 ∷ after) × TakesLabel v after end
 blank_taken text gap rest v end r t =
     let name = t.4.0 in
-    let whole : t.1 ++ end ≡ 95 ∷ 58 ∷ (name ++ end) = ap (λ z. z ++ end) t.4.1.0 in
-    (name ++ end, past_gap text gap rest t.0 (58 ∷ (name ++ end)) 95 r t.3 refl (t.2 ∙ ap (λ z. t.0 ++ z) whole),
-     (name, refl, t.4.1.1,
-      λ more others w g f. t.5 more others (encode_utf8_all (name ++ more)) g (name ++ more, (ap (λ z. z ++ more) t.4.1.0, f.0), refl),
-      t.4.2))
+    let whole : t.1 ++ end ≡ 95 ∷ 58 ∷ (name ++ end) = ap (λ z. z ++ end) t.4.1.0 in (
+      name ++ end,
+      past_gap text gap rest t.0 (58 ∷ (name ++ end)) 95 r t.3 refl (t.2 ∙ ap (λ z. t.0 ++ z) whole),
+      (
+        name,
+        refl,
+        t.4.1.1,
+        λ more others w g f. t.5 more others (encode_utf8_all (name ++ more)) g (name ++ more, (ap (λ z. z ++ more) t.4.1.0, f.0), refl),
+        t.4.2,
+      ),
+    )
 
 two_tails : (xs ys rest : List ℕ) → rest ≡ 95 ∷ 58 ∷ xs → rest ≡ 95 ∷ 58 ∷ ys → xs ≡ ys
 two_tails xs ys rest e f = let k : 95 ∷ 58 ∷ xs ≡ 95 ∷ 58 ∷ ys = sym e ∙ f in cc
@@ -239,10 +255,13 @@ none_more p (x ∷ end) (m ∷ more) after s h e =
 pub tag_found : (text front end bytes tag : List ℕ) → IsRun (is_in class.Tag) text front end → bytes ≡ encode_utf8_all front → tag ≡ bytes → is_language_tag bytes ≡ true → TagBefore tag text end
 tag_found text front end bytes tag r e f h =
     let plain : bytes ≡ front = e ∙ encodes_low front (tag_low front r.1) in
-    let is : is_language_tag front ≡ true = subst (λ (z : List ℕ). is_language_tag z ≡ true) plain h in
-    (front, r.0, is,
-     λ more rest v g k. none_more (is_in class.Tag) end more rest r.2 (back_of (is_in class.Tag) front more (tag_in (front ++ more) k.0)) g,
-     f ∙ e)
+    let is : is_language_tag front ≡ true = subst (λ (z : List ℕ). is_language_tag z ≡ true) plain h in (
+      front,
+      r.0,
+      is,
+      λ more rest v g k. none_more (is_in class.Tag) end more rest r.2 (back_of (is_in class.Tag) front more (tag_in (front ++ more) k.0)) g,
+      f ∙ e,
+    )
 
 dot_stops : (end : List ℕ) → dark end ≡ Some 46 → Stops (is_in class.Tag) end
 dot_stops [] d = tt
@@ -250,6 +269,7 @@ dot_stops (c ∷ cs) d = at (is_blank c) refl
   where
     blank_stops : (x : ℕ) → is_blank x ≡ true → is_in class.Tag x ≡ false
     blank_stops x h = grind (arith, nat_tests)
+
     at : (b : Bool) → is_blank c ≡ b → is_in class.Tag c ≡ false
     at true e = blank_stops c e
     at false e = let k : Some c ≡ Some 46 = sym (ap (λ (b : Bool). cond b (dark cs) (Some c)) e) ∙ d in let same : c ≡ 46 = cc in rw same refl

@@ -24,7 +24,7 @@ onto_plain (suc k) n acc h =
     let small : n % 10 < 10 = omega arith in
     let more : list_all is_letter_or_digit_char (digit_glyph false (n % 10) ∷ acc) ≡ true = rw (digit_plain (n % 10) small) h in
     chosen_plain (n / 10 == 0) (digit_glyph false (n % 10) ∷ acc) (digits_onto k 10 false (n / 10) (digit_glyph false (n % 10) ∷ acc)) more
-        (onto_plain k (n / 10) (digit_glyph false (n % 10) ∷ acc) more)
+    (onto_plain k (n / 10) (digit_glyph false (n % 10) ∷ acc) more)
 
 pub decimal_plain : (n : ℕ) → list_all is_letter_or_digit_char (decimal n) ≡ true
 unfolding digits

@@ -136,7 +136,7 @@ module _ (P : List ℕ → ℕ → Type 0) (mark : ℕ) (once : Once P) (begins 
       absurd (begins piece (rest ++ mark ∷ x) y c f.3 whole)
   body_once (c ∷ m) (d ∷ n) a b x y f g e =
       let whole : f.0 ++ (f.1 ++ mark ∷ x) ≡ g.0 ++ (g.1 ++ mark ∷ y) =
-          sym (append_assoc f.0 f.1 (mark ∷ x)) ∙ (ap (λ z. z ++ mark ∷ x) (sym f.2) ∙ (e ∙ (ap (λ z. z ++ mark ∷ y) g.2 ∙ append_assoc g.0 g.1 (mark ∷ y)))) in
+      sym (append_assoc f.0 f.1 (mark ∷ x)) ∙ (ap (λ z. z ++ mark ∷ x) (sym f.2) ∙ (e ∙ (ap (λ z. z ++ mark ∷ y) g.2 ∙ append_assoc g.0 g.1 (mark ∷ y)))) in
       let one = once f.0 g.0 (f.1 ++ mark ∷ x) (g.1 ++ mark ∷ y) c d f.3 g.3 whole in
       let others = body_once m n f.1 g.1 x y f.4 g.4 one.2 in
       let v : (c ∷ m) ≡ (d ∷ n) = let h = one.1 in let k = others.0 in cc in

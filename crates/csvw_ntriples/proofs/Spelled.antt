@@ -35,12 +35,15 @@ escaped_piece c = by_quote (c == 34) refl
     by_return : (b : Bool) → (c == 34) ≡ false → (c == 92) ≡ false → (c == 10) ≡ false → (c == 13) ≡ b → StringPiece (escaped c) c
     by_return true p q r s = let e : c ≡ 13 = (Decides-eqb c 13).0 s in subst (λ z. StringPiece (escaped z) z) (sym e) (inr (inl (114, refl, refl)))
     by_return false p q r s = rw (p, q, r, s) (inl (refl, refl))
+
     by_line : (b : Bool) → (c == 34) ≡ false → (c == 92) ≡ false → (c == 10) ≡ b → StringPiece (escaped c) c
     by_line true p q r = let e : c ≡ 10 = (Decides-eqb c 10).0 r in subst (λ z. StringPiece (escaped z) z) (sym e) (inr (inl (110, refl, refl)))
     by_line false p q r = by_return (c == 13) p q r refl
+
     by_slash : (b : Bool) → (c == 34) ≡ false → (c == 92) ≡ b → StringPiece (escaped c) c
     by_slash true p q = let e : c ≡ 92 = (Decides-eqb c 92).0 q in subst (λ z. StringPiece (escaped z) z) (sym e) (inr (inl (92, refl, refl)))
     by_slash false p q = by_line (c == 10) p q refl
+
     by_quote : (b : Bool) → (c == 34) ≡ b → StringPiece (escaped c) c
     by_quote true p = let e : c ≡ 34 = (Decides-eqb c 34).0 p in subst (λ z. StringPiece (escaped z) z) (sym e) (inr (inl (34, refl, refl)))
     by_quote false p = by_slash (c == 92) p refl

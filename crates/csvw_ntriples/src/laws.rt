@@ -12,24 +12,20 @@ ghost use Rattle.csvw_ntriples.specs.Writable.{TripleFits};
 /// Different origins have different labels.
 pub fn labels_differ()
     ensures { LabelsDiffer }
-{
-}
+{}
 
 /// A text denotes one list of triples at most (RDF 1.1 N-Triples, section 7).
 pub fn denotes_one_list()
     ensures { (bytes : List ℕ) (xs ys : List NtTriple) → Denotes bytes xs → Denotes bytes ys → xs ≡ ys }
-{
-}
+{}
 
 /// What is written denotes the triples, each origin as its label.
 pub fn written_denotes()
     ensures { (ts : List Triple) → AllByRecursion TripleFits ts → Denotes (written ts) (map said ts) }
-{
-}
+{}
 
 /// The triples that are written, each origin as its label, are the same graph as the triples, up to
 /// the names of blank nodes (RDF 1.1 Concepts, section 3.6).
 pub fn labels_name_one_to_one()
     ensures { (ts : List Triple) → AllByRecursion TripleFits ts → SameUpTo (Contains ts) (map said ts) }
-{
-}
+{}

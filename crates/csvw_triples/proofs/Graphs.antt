@@ -36,16 +36,16 @@ from_flat : {X Y : Type 0} (f : X → List Y) (xs : List X) (y : Y) → Contains
 from_flat f [] y h = absurd (none_in y h)
 from_flat f (x ∷ xs) y h =
     elim (Contains-append_cases (f x) (flat_map f xs) y h) [
-      inl k ↦ (x, first_in x xs, k)
-    | inr k ↦ let rest = from_flat f xs y k in (rest.0, later_in x xs rest.0 rest.1, rest.2)
+      | inl k ↦ (x, first_in x xs, k)
+      | inr k ↦ let rest = from_flat f xs y k in (rest.0, later_in x xs rest.0 rest.1, rest.2)
     ]
 
 to_flat : {X Y : Type 0} (f : X → List Y) (xs : List X) (x : X) (y : Y) → Contains xs x → Contains (f x) y → Contains (flat_map f xs) y
 to_flat f [] x y h k = absurd (none_in x h)
 to_flat f (z ∷ xs) x y h k =
     elim (Contains-append_cases (z ∷ []) xs x h) [
-      inl e ↦ Contains-append_left (f z) (flat_map f xs) y (subst (λ w. Contains (f w) y) (one_in z x e) k)
-    | inr l ↦ Contains-append_right (f z) (flat_map f xs) y (to_flat f xs x y l k)
+      | inl e ↦ Contains-append_left (f z) (flat_map f xs) y (subst (λ w. Contains (f w) y) (one_in z x e) k)
+      | inr l ↦ Contains-append_right (f z) (flat_map f xs) y (to_flat f xs x y l k)
     ]
 
 -- a triple of its parts
@@ -89,6 +89,7 @@ row_graph t columns row x = (from_row t columns row x, to_row t columns row x)
 
 pub table_graph : (t : ℕ) (columns : Columns) (rows : List Row) (x : Triple)
     → Contains (flat_map (row_triples mode.Minimal t columns) rows) x ↔ Minimal t (Some columns) rows x
-table_graph t columns rows x =
-    ( λ h. let r = from_flat (row_triples mode.Minimal t columns) rows x h in (r.0, r.1, from_row t columns r.0 x r.2)
-    , λ h. to_flat (row_triples mode.Minimal t columns) rows h.0 x h.1 (to_row t columns h.0 x h.2))
+table_graph t columns rows x = (
+  λ h. let r = from_flat (row_triples mode.Minimal t columns) rows x h in (r.0, r.1, from_row t columns r.0 x r.2),
+  λ h. to_flat (row_triples mode.Minimal t columns) rows h.0 x h.1 (to_row t columns h.0 x h.2),
+)

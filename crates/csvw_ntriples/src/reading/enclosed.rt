@@ -105,11 +105,7 @@ fn piece(kind: Enclosed, text: &[char]) -> Option<(char, &[char])>
 }
 
 /// The text up to the closing mark, and what comes after that.
-pub(crate) fn body(
-    alloc: Global,
-    kind: Enclosed,
-    text: &[char],
-) -> Result<(Text, &[char]), NtFault>
+pub(crate) fn body(alloc: Global, kind: Enclosed, text: &[char]) -> Result<(Text, &[char]), NtFault>
     ensures { Finds (ReadsBytes kind text.now) result }
 {
     let mut value = String::new(alloc);

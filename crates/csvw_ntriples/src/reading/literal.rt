@@ -12,6 +12,7 @@ use csvw_text::{LanguageTag, Text};
 use std::alloc::{AllocError, Global};
 
 const LANG_STRING: &str = "http://www.w3.org/1999/02/22-rdf-syntax-ns#langString";
+
 const XSD_STRING: &str = "http://www.w3.org/2001/XMLSchema#string";
 
 /// What stands behind the string of a literal: its language or its datatype.

@@ -45,7 +45,7 @@ returns-in_err-triple-clause-none c =
     let n = next_lines c.args.text.now front c.in-Some.lines c.first_line.result.1 c.first_line.ensures in
     let e = ap rest_lines c.in-Some.is ∙ n.0 in
     λ h ts d.
-      let same : p.0 ≡ Syntax = err_same c.from_residual.result p.0 p.1 h in
-      let none = subst (λ (z : NtFault). Answers (LineGives front) (Err z)) (sym p.2 ∙ same) c.in_err-triple.ensures in
-      let old = c.loop-rest.invariant.only ts d in
-      line_none front (rest_lines c.first_line.result.1) old.0 none (subst (λ (z : List (List ℕ)). AreLines z old.0) e old.2)
+    let same : p.0 ≡ Syntax = err_same c.from_residual.result p.0 p.1 h in
+    let none = subst (λ (z : NtFault). Answers (LineGives front) (Err z)) (sym p.2 ∙ same) c.in_err-triple.ensures in
+    let old = c.loop-rest.invariant.only ts d in
+    line_none front (rest_lines c.first_line.result.1) old.0 none (subst (λ (z : List (List ℕ)). AreLines z old.0) e old.2)

@@ -12,7 +12,7 @@ loop-first-preserved c = let i = c.loop-first.invariant in
 pub returns-in_default-piece : goal.returns-in_default-piece
 returns-in_default-piece c = let i = c.loop-first.invariant in
     body_stuck c.args.kind c.args.text.now i.1 c.loop-first.rest.now i.0 c.in-Some.first.now c.in-Some.after.now i.2 i.3 c.in-Some.ensures.cases.0
-        (not_same c.in-Some.first.now (mark_of c.args.kind) (sym c.is_mark.ensures ∙ c.if-is_mark.false)) c.in_default-piece.ensures
+    (not_same c.in-Some.first.now (mark_of c.args.kind) (sym c.is_mark.ensures ∙ c.if-is_mark.false)) c.in_default-piece.ensures
   where
     not_same : (a b : ℕ) → nat_eq a b ≡ false → a ≡ b → ⊥
     not_same a b h e = let k = (Decides-eqb a b).1 e in cc

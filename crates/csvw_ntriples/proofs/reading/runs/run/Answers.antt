@@ -11,9 +11,9 @@ loop-i-preserved c =
 pub returns-then-not-is_in : goal.returns-then-not-is_in
 returns-then-not-is_in c =
     rw (c.split_at.ensures.front, c.split_at.ensures.back)
-        (run_at (is_in c.args.class) c.args.text.now c.loop-i.i c.index-text-i.result c.loop-i-test.true c.loop-i.invariant c.index-text-i.is (sym c.is_in.ensures ∙ c.if-not-is_in.true))
+    (run_at (is_in c.args.class) c.args.text.now c.loop-i.i c.index-text-i.result c.loop-i-test.true c.loop-i.invariant c.index-text-i.is (sym c.is_in.ensures ∙ c.if-not-is_in.true))
 
 pub returns : goal.returns
 returns c =
     rw (c.split_at-2.ensures.front, c.split_at-2.ensures.back)
-        (run_all (is_in c.args.class) c.args.text.now c.loop-i.i c.loop-i-test.false c.loop-i.invariant)
+    (run_all (is_in c.args.class) c.args.text.now c.loop-i.i c.loop-i-test.false c.loop-i.invariant)

@@ -12,6 +12,7 @@ returns-in-None c =
 pub returns-in-Some : goal.returns-in-Some
 returns-in-Some c =
     let r = c.after_blanks.ensures in
-    let d = Decides-eqb c.in-Some.first.now 35 in
-    (λ h. idle_if c.args.text.now r.0 c.after_blanks.result.now c.in-Some.field-0-1.now c.in-Some.first.now r.1 c.in-Some.ensures.cases.0 (d.0 h),
-     λ i. d.1 (idle_only c.args.text.now r.0 c.after_blanks.result.now c.in-Some.field-0-1.now c.in-Some.first.now r.1 c.in-Some.ensures.cases.0 i))
+    let d = Decides-eqb c.in-Some.first.now 35 in (
+      λ h. idle_if c.args.text.now r.0 c.after_blanks.result.now c.in-Some.field-0-1.now c.in-Some.first.now r.1 c.in-Some.ensures.cases.0 (d.0 h),
+      λ i. d.1 (idle_only c.args.text.now r.0 c.after_blanks.result.now c.in-Some.field-0-1.now c.in-Some.first.now r.1 c.in-Some.ensures.cases.0 i),
+    )

@@ -18,6 +18,6 @@ returns-in_err-label-in-Blank c =
 pub returns-in-Literal : goal.returns-in-Literal
 returns-in-Literal c =
     elim c.in-Literal.is [
-      inl e ↦ literal_no_node c.args.text.now (subst (StartsSo c.args.text.now) e c.start_of.ensures)
-    | inr e ↦ let other = subst (StartsSo c.args.text.now) e c.start_of.ensures in no_node c.args.text.now other.0 other.1
+      | inl e ↦ literal_no_node c.args.text.now (subst (StartsSo c.args.text.now) e c.start_of.ensures)
+      | inr e ↦ let other = subst (StartsSo c.args.text.now) e c.start_of.ensures in no_node c.args.text.now other.0 other.1
     ]
