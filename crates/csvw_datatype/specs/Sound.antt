@@ -8,7 +8,7 @@ use Rattle.csvw_datatype.specs.declared.simple.Simple.{Simple}
 use Rattle.csvw_datatype.specs.declared.simple.Simple.TheVariants as simples
 use Rattle.csvw_datatype.specs.declared.datatype.Facets.{Facets}
 use Rattle.csvw_datatype.specs.declared.datatype.Datatype.{Datatype}
-use Rattle.csvw_datatype.specs.Breaks.{is_below, fails, is_over, is_not_under}
+use Rattle.csvw_datatype.specs.Breaks.{has_lengths, is_below, fails, is_over, is_not_under}
 use Rattle.csvw_datatype.specs.Formats.{IsFormatOf}
 use Rattle.csvw_datatype.specs.Widths.{IsInWidth}
 
@@ -53,7 +53,7 @@ is_text _ = false
 
 -- lengths are facets of strings alone
 abbrev pub lengths_apply : Simple → Facets → Bool
-lengths_apply s f = is_text s || not (is_some f.length || is_some f.min_length || is_some f.max_length)
+lengths_apply s f = is_text s || not (has_lengths f)
 
 -- `minLength` isn't above `maxLength`, and `length` not below `minLength` or above `maxLength`
 abbrev pub lengths_agree : Facets → Bool
