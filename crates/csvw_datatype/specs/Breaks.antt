@@ -1,10 +1,10 @@
 -- The facets that a value breaks (Metadata Vocabulary for Tabular Data, section 5.11.2; Model for Tabular Data and
 -- Metadata on the Web, sections 4.6.1 and 4.6.2).
-use Rattle.std.specs.Prelude.{ℕ, ◌==◌, ◌||◌, nat_lt, not, Bool, true, false, Option, Some, None, is_some, List, length, ℤ}
+use Rattle.std.specs.Prelude.{ℕ, ◌==◌, ◌||◌, nat_lt, not, Bool, false, Option, Some, None, is_some, length}
 use Rattle.std.specs.Str.{chars}
 use lib.Signed.{lt_z}
 use Rattle.csvw_datatype.specs.declared.value.Value.{Value}
-use Rattle.csvw_datatype.specs.declared.value.Value.TheVariants.{Text, Truth, Number, Day, Moment}
+use Rattle.csvw_datatype.specs.declared.value.Value.TheVariants.{Text, Number, Day, Moment}
 use Rattle.csvw_datatype.specs.declared.datatype.Facets.{Facets}
 use Rattle.csvw_datatype.specs.declared.facets.Broken.{Broken}
 
