@@ -1,8 +1,6 @@
 -- The rules of a sound datatype's format are lawful.
-use Rattle.std.proofs.Common.{◌≡◌, ℕ, Option, Some, None, IfSome, arith, refl}
-use Rattle.std.proofs.lemmas.Bool.Decides.{nat_tests}
+use Rattle.std.proofs.Common.{Option, Some, None, arith}
 use Rattle.csvw_datatype_core.specs.Numbers.{IsFree, IsLawful}
-use Rattle.csvw_datatype.specs.declared.simple.Simple.{Simple}
 use Rattle.csvw_datatype.specs.declared.simple.Simple.TheVariants as simples
 use Rattle.csvw_datatype.specs.declared.simple.Width.{Width}
 use Rattle.csvw_datatype.specs.declared.format.NumberFormat.{NumberFormat}

@@ -1,20 +1,18 @@
 -- A text has one value or one code.
-use Rattle.std.proofs.Common.{◌≡◌, ℕ, zero, suc, ◌*◌, ◌%◌, ◌^◌, ◌<◌, ◌⊎◌, inl, inr, ⊎_elim, Bool, true, false, Option, Some, None, IsSome, List, [], ◌∷◌, ◌++◌, length, refl, sym, ap, subst, ◌∙◌, arith, ℤ, pos, negsuc, neg_ℤ, unsigned_abs, unwrap_or, IfSome, Result, Ok, Err, MatchResult, IfOk}
+use Rattle.std.proofs.Common.{◌≡◌, ℕ, zero, suc, ◌*◌, ◌%◌, ◌^◌, ◌<◌, ◌⊎◌, inl, inr, Bool, true, false, Option, Some, None, List, [], ◌∷◌, length, refl, sym, ap, subst, ◌∙◌, arith, ℤ, unsigned_abs, unwrap_or, Result, Ok, Err, MatchResult, IfOk}
 use Rattle.std.specs.Prelude.{codes}
 use Rattle.std.specs.Str.{chars}
 use Rattle.std.specs.Str.Parse.{digits_value}
 use Rattle.std.proofs.Math.Nat.{mul-mod_left}
 use Rattle.csvw_text.specs.declared.fault.Code.{Code}
-use Rattle.csvw_text.specs.declared.fault.Code.TheVariants.{BadBoolean, BadInteger, BadDecimal, NumberTooLong, OutOfRange, BadDate, BadDateTime}
+use Rattle.csvw_text.specs.declared.fault.Code.TheVariants.{BadInteger, BadDecimal}
 use Rattle.csvw_datatype_core.specs.declared.number.NumberRules.{NumberRules}
 use Rattle.csvw_datatype_core.specs.declared.number.NumberFault.{NumberFault}
 use Rattle.csvw_datatype_core.specs.declared.number.NumberFault.TheVariants as faults
 use Rattle.csvw_datatype_core.specs.declared.number.Mark.{Mark}
 use Rattle.csvw_datatype_core.specs.declared.number.Mark.TheVariants as marks
-use Rattle.csvw_datatype_core.specs.Numbers.{Sign, NoSign, Plus, Minus, Parts, signed, divisor, fraction_digits, digits_of, IsFraction, IsMarked, IsCount, IsLawful, ReadsNumber, SpellsNumber}
+use Rattle.csvw_datatype_core.specs.Numbers.{Sign, NoSign, Plus, Minus, signed, divisor, fraction_digits, digits_of, IsFraction, IsMarked, IsLawful, ReadsNumber, SpellsNumber}
 use Rattle.csvw_datatype_core.specs.Misread.{MisreadNumber}
-use Rattle.csvw_datatype_core.specs.Dates.{ReadsDate}
-use Rattle.csvw_datatype_core.specs.Moments.{ReadsMoment}
 use Rattle.csvw_datatype_core.proofs.LexicalDateLemmas.{date_in_range, moment_in_range}
 use Rattle.csvw_datatype_core.proofs.OneValue.{one_number, one_date, one_moment}
 use Rattle.csvw_datatype.specs.declared.value.Value.{Value}

@@ -1,3 +1,4 @@
+pub mod BreaksLemmas
 pub mod CharacterLemmas
 pub mod BarLemmas
 pub mod FormatLemmas

@@ -1,10 +1,10 @@
 -- The facets that a value breaks (Metadata Vocabulary for Tabular Data, section 5.11.2; Model for Tabular Data and
 -- Metadata on the Web, sections 4.6.1 and 4.6.2).
-use Rattle.std.specs.Prelude.{ℕ, ◌==◌, ◌||◌, nat_lt, not, Bool, true, false, Option, Some, None, List, length, ℤ}
+use Rattle.std.specs.Prelude.{ℕ, ◌==◌, ◌||◌, nat_lt, not, Bool, false, Option, Some, None, is_some, length}
 use Rattle.std.specs.Str.{chars}
 use lib.Signed.{lt_z}
 use Rattle.csvw_datatype.specs.declared.value.Value.{Value}
-use Rattle.csvw_datatype.specs.declared.value.Value.TheVariants.{Text, Truth, Number, Day, Moment}
+use Rattle.csvw_datatype.specs.declared.value.Value.TheVariants.{Text, Number, Day, Moment}
 use Rattle.csvw_datatype.specs.declared.datatype.Facets.{Facets}
 use Rattle.csvw_datatype.specs.declared.facets.Broken.{Broken}
 
@@ -46,11 +46,22 @@ is_over a b = fails (λ a b. is_below b a) a b
 abbrev pub is_not_under : Option Value → Option Value → Bool
 is_not_under a b = fails (λ a b. not (is_below a b)) a b
 
-abbrev pub breaks : Value → Facets → Broken
-breaks v f = record {
+-- a facet asks for a length
+abbrev pub has_lengths : Facets → Bool
+has_lengths f = is_some f.length || is_some f.min_length || is_some f.max_length
+
+-- the lengths alone
+abbrev pub length_breaks : Value → Facets → Broken
+length_breaks v f = record {
   wrong_length = fails (λ n k. not (n == k)) (length_of v) f.length;
   too_short = fails (λ n k. nat_lt n k) (length_of v) f.min_length;
   too_long = fails (λ n k. nat_lt k n) (length_of v) f.max_length;
+  below_minimum = false;
+  above_maximum = false;
+}
+
+abbrev pub breaks : Value → Facets → Broken
+breaks v f = record (length_breaks v f) {
   below_minimum = is_over f.minimum (Some v) || is_over f.min_inclusive (Some v) || is_not_under f.min_exclusive (Some v);
   above_maximum = is_over (Some v) f.maximum || is_over (Some v) f.max_inclusive || is_not_under (Some v) f.max_exclusive;
 }

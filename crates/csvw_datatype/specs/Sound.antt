@@ -1,6 +1,6 @@
 -- Datatypes that fit together (Metadata Vocabulary for Tabular Data, section 5.11.2; Model for Tabular Data and
 -- Metadata on the Web, sections 4.6.1 and 4.6.2).
-use Rattle.std.specs.Prelude.{◌≡◌, ℕ, ◌<◌, ◌%◌, ◌^◌, ◌&&◌, ◌||◌, not, nat_lt, Bool, true, false, Option, Some, None, IfSome, is_some, ℤ, unsigned_abs}
+use Rattle.std.specs.Prelude.{◌≡◌, ◌<◌, ◌%◌, ◌^◌, ◌&&◌, ◌||◌, not, nat_lt, Bool, true, false, Option, Some, None, IfSome, is_some, ℤ, unsigned_abs}
 use Rattle.csvw_datatype_core.specs.LexicalDates.{IsDayNumber, IsMomentNumber}
 use Rattle.csvw_datatype.specs.declared.value.Value.{Value}
 use Rattle.csvw_datatype.specs.declared.value.Value.TheVariants as values
@@ -8,7 +8,7 @@ use Rattle.csvw_datatype.specs.declared.simple.Simple.{Simple}
 use Rattle.csvw_datatype.specs.declared.simple.Simple.TheVariants as simples
 use Rattle.csvw_datatype.specs.declared.datatype.Facets.{Facets}
 use Rattle.csvw_datatype.specs.declared.datatype.Datatype.{Datatype}
-use Rattle.csvw_datatype.specs.Breaks.{is_below, fails, is_over, is_not_under}
+use Rattle.csvw_datatype.specs.Breaks.{has_lengths, is_below, fails, is_over, is_not_under}
 use Rattle.csvw_datatype.specs.Formats.{IsFormatOf}
 use Rattle.csvw_datatype.specs.Widths.{IsInWidth}
 
@@ -53,7 +53,7 @@ is_text _ = false
 
 -- lengths are facets of strings alone
 abbrev pub lengths_apply : Simple → Facets → Bool
-lengths_apply s f = is_text s || not (is_some f.length || is_some f.min_length || is_some f.max_length)
+lengths_apply s f = is_text s || not (has_lengths f)
 
 -- `minLength` isn't above `maxLength`, and `length` not below `minLength` or above `maxLength`
 abbrev pub lengths_agree : Facets → Bool

@@ -1,5 +1,5 @@
 -- The ranges of the derived integer types (XML Schema 1.1 part 2, sections 3.4.14 to 3.4.25).
-use Rattle.std.specs.Prelude.{ℕ, ◌-◌, ◌^◌, Option, Some, None, ℤ, pos, neg_ℤ, ◌*ℤ◌, ◌≤ℤ◌}
+use Rattle.std.specs.Prelude.{◌-◌, ◌^◌, Option, Some, None, ℤ, pos, neg_ℤ, ◌*ℤ◌, ◌≤ℤ◌}
 use Rattle.csvw_datatype.specs.declared.simple.Width.{Width}
 use Rattle.csvw_datatype.specs.declared.simple.Width.TheVariants.{Long, Int, Short, Byte, UnsignedLong, UnsignedInt, UnsignedShort, UnsignedByte, NonNegativeInteger, PositiveInteger, NonPositiveInteger, NegativeInteger}
 

@@ -6,11 +6,24 @@ ghost use Rattle.csvw_datatype.specs.Formats.{IsFormatOf};
 ghost use Rattle.csvw_datatype.specs.Sound.{IsSound, IsBoundOf, AreBoundsOf, IsNumberSize, IsWholeNumber, is_text, lengths_apply, lengths_agree, side_agrees, sides_agree, first_of, bounds_agree};
 
 use crate::datatype::{Datatype, Facets};
-use crate::facets::{is_below, is_less, is_not_under, is_over};
+use crate::facets::{has_lengths, is_below, is_less, is_not_under, is_over};
 use crate::format::Format;
 use crate::simple::Simple;
 use crate::value::Value;
 use crate::width::{UNIT, is_in_width};
+
+/// Numbers are below 10^20 in size, so that they count less than this many units of 10^-18.
+const NUMBER_LIMIT: u128 = 100_000_000_000_000_000_000_000_000_000_000_000_000;
+
+/// 1 January of the year 1 and 31 December of the year 9999, in days since 1 January 1970.
+const FIRST_DAY: i32 = -719_162;
+
+const LAST_DAY: i32 = 2_932_896;
+
+/// The first and the last second of those years, in seconds since 1 January 1970.
+const FIRST_MOMENT: i64 = -62_135_596_800;
+
+const LAST_MOMENT: i64 = 253_402_300_799;
 
 /// The format or the facets of a datatype don't fit together.
 #[derive(Clone, Copy, Debug, PartialEq, Eq)]
@@ -98,7 +111,7 @@ fn is_bound_of(simple: Simple, value: &Value) -> bool
 fn is_number_size(number: i128) -> bool
     ensures { IsTrue result ↔ IsNumberSize number }
 {
-    number.unsigned_abs() < 100_000_000_000_000_000_000_000_000_000_000_000_000
+    number.unsigned_abs() < NUMBER_LIMIT
 }
 
 fn is_whole(number: i128) -> bool
@@ -110,20 +123,19 @@ fn is_whole(number: i128) -> bool
 fn is_day_number(day: i32) -> bool
     ensures { IsTrue result ↔ IsDayNumber day }
 {
-    -719_162 <= day && day <= 2_932_896
+    FIRST_DAY <= day && day <= LAST_DAY
 }
 
 fn is_moment_number(moment: i64) -> bool
     ensures { IsTrue result ↔ IsMomentNumber moment }
 {
-    -62_135_596_800 <= moment && moment <= 253_402_300_799
+    FIRST_MOMENT <= moment && moment <= LAST_MOMENT
 }
 
 fn lengths_apply(simple: Simple, facets: &Facets) -> bool
     ensures { result ≡ lengths_apply simple facets.now }
 {
-    matches!(simple, Simple::Text)
-        || !(facets.length.is_some() || facets.min_length.is_some() || facets.max_length.is_some())
+    matches!(simple, Simple::Text) || !has_lengths(facets)
 }
 
 fn lengths_agree(facets: &Facets) -> bool

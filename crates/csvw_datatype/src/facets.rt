@@ -1,9 +1,9 @@
 //! The facets that a value breaks.
 ghost use Rattle.std.specs.Prelude.{◌≡◌, length, ◌==◌, nat_lt, not, option_copied, Some};
 ghost use Rattle.std.specs.Str.{chars};
-ghost use Rattle.csvw_datatype.specs.Breaks.{breaks, is_below, length_of, fails, is_over, is_not_under};
+ghost use Rattle.csvw_datatype.specs.Breaks.{breaks, length_breaks, has_lengths, is_below, length_of, fails, is_over, is_not_under};
 
-use crate::datatype::Datatype;
+use crate::datatype::{Datatype, Facets};
 use crate::value::Value;
 
 /// The facets that a value breaks, one for each code.
@@ -22,20 +22,47 @@ impl Datatype {
         ensures { result ≡ breaks value.now self.now.facets }
     {
         let facets = &self.facets;
-        let length = length_of(value);
+        let lengths = broken_lengths(value, facets);
         let value = Some(value);
         Broken {
-            wrong_length: differs(length, facets.length),
-            too_short: is_less(length, facets.min_length),
-            too_long: is_less(facets.max_length, length),
             below_minimum: is_over(facets.minimum.as_ref(), value)
                 || is_over(facets.min_inclusive.as_ref(), value)
                 || is_not_under(facets.min_exclusive.as_ref(), value),
             above_maximum: is_over(value, facets.maximum.as_ref())
                 || is_over(value, facets.max_inclusive.as_ref())
                 || is_not_under(value, facets.max_exclusive.as_ref()),
+            ..lengths
         }
     }
+}
+
+// A text is measured only where a facet asks for its length.
+fn broken_lengths(value: &Value, facets: &Facets) -> Broken
+    ensures { result ≡ length_breaks value.now facets.now }
+{
+    if !has_lengths(facets) {
+        return Broken {
+            wrong_length: false,
+            too_short: false,
+            too_long: false,
+            below_minimum: false,
+            above_maximum: false,
+        };
+    }
+    let length = length_of(value);
+    Broken {
+        wrong_length: differs(length, facets.length),
+        too_short: is_less(length, facets.min_length),
+        too_long: is_less(facets.max_length, length),
+        below_minimum: false,
+        above_maximum: false,
+    }
+}
+
+pub(crate) fn has_lengths(facets: &Facets) -> bool
+    ensures { result ≡ has_lengths facets.now }
+{
+    facets.length.is_some() || facets.min_length.is_some() || facets.max_length.is_some()
 }
 
 fn length_of(value: &Value) -> Option<u64>

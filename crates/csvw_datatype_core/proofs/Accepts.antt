@@ -1,5 +1,5 @@
 -- What the pass accepts is spelled as a number.
-use Rattle.std.proofs.Common.{◌≡◌, ◌≢◌, ℕ, ◌+◌, ◌-◌, ◌≤◌, List, [], ◌∷◌, ◌++◌, refl, sym, ap, subst, ◌∙◌, Bool, true, false, cond, Option, Some, None, IsSome, IsTrue, inl, inr, ◌⊎◌, arith, unwrap_or, ◌&&◌, ◌==◌}
+use Rattle.std.proofs.Common.{◌≡◌, ◌≢◌, ℕ, List, [], ◌∷◌, ◌++◌, refl, sym, ap, subst, ◌∙◌, Bool, true, false, Option, Some, None, IsSome, inl, inr, arith, ◌&&◌, ◌==◌}
 use Rattle.std.specs.List.{AllByRecursion}
 use Rattle.std.specs.Char.{is_ascii_digit, IsAsciiDigit}
 use Rattle.std.proofs.lemmas.Bool.{cond_both}
@@ -9,10 +9,9 @@ use Rattle.csvw_datatype_core.specs.declared.number.Mark.{Mark}
 use Rattle.csvw_datatype_core.specs.declared.number.Mark.TheVariants as marks
 use Rattle.csvw_datatype_core.specs.declared.number.Kind.{Kind}
 use Rattle.csvw_datatype_core.specs.declared.number.Kind.TheVariants as kinds
-use Rattle.csvw_datatype_core.specs.declared.number.Place.{Place}
 use Rattle.csvw_datatype_core.specs.declared.number.Place.TheVariants as places
 use Rattle.csvw_datatype_core.specs.Scan.{kind_of, next, ends, goes, holds}
-use Rattle.csvw_datatype_core.specs.Numbers.{Sign, NoSign, Plus, Minus, Parts, sign_text, fraction_text, mark_text, text_of, IsGrouped, IsFraction, IsMarked, IsNumber, SpellsNumber, fraction_digits}
+use Rattle.csvw_datatype_core.specs.Numbers.{Sign, NoSign, Plus, Minus, Parts, sign_text, fraction_text, mark_text, IsGrouped, IsFraction, IsMarked, SpellsNumber}
 
 -- what a character of a kind is
 abbrev pub KindFact : NumberRules → ℕ → Kind → Type 0

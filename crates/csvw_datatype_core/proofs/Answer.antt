@@ -1,5 +1,5 @@
 -- What `count` answers is the count of the number that the text spells, where there is one.
-use Rattle.std.proofs.Common.{◌≡◌, ◌≢◌, ℕ, suc, zero, ◌+◌, ◌-◌, ◌*◌, ◌/◌, ◌%◌, ◌^◌, ◌≤◌, ◌<◌, min, List, [], ◌∷◌, ◌++◌, length, refl, sym, ap, subst, ◌∙◌, Bool, true, false, cond, Option, Some, None, inl, inr, ⊎_elim, ◌⊎◌, arith, ◌||◌, not, ◌==◌, filter, nat_le, unwrap_or, lit≤, mul-le-mul_right, mul-le-mul_left}
+use Rattle.std.proofs.Common.{◌≡◌, ◌≢◌, ℕ, ◌+◌, ◌*◌, ◌/◌, ◌%◌, ◌^◌, ◌≤◌, ◌<◌, min, List, [], ◌∷◌, ◌++◌, length, refl, sym, ap, subst, ◌∙◌, Bool, true, false, cond, Option, Some, None, inl, inr, ⊎_elim, ◌⊎◌, arith, ◌||◌, not, ◌==◌, filter, nat_le, unwrap_or, lit≤, mul-le-mul_right}
 use Rattle.std.specs.List.{AllByRecursion}
 use Rattle.std.specs.Char.{IsAsciiDigit, is_ascii_digit, digit_value}
 use Rattle.std.specs.Str.Parse.{digits_value, digits_value_after}

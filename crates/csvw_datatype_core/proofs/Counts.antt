@@ -1,15 +1,14 @@
 -- The count of a number, from the digits as the pass holds them.
-use Rattle.std.proofs.Common.{◌≡◌, ◌≢◌, ℕ, suc, ◌+◌, ◌-◌, ◌*◌, ◌/◌, ◌%◌, ◌^◌, ◌≤◌, ◌<◌, min, List, [], ◌∷◌, ◌++◌, length, refl, sym, ap, subst, ◌∙◌, Bool, true, false, cond, Option, Some, None, inl, inr, ⊎_elim, arith, ◌&&◌, ◌||◌, not, ◌==◌, filter, mul_comm, mul_assoc, add-one, lit≤, zero, mul-le-mul_right}
+use Rattle.std.proofs.Common.{◌≡◌, ℕ, suc, ◌+◌, ◌-◌, ◌*◌, ◌/◌, ◌%◌, ◌^◌, ◌≤◌, ◌<◌, List, [], ◌∷◌, length, refl, sym, ap, subst, ◌∙◌, Bool, true, false, arith, ◌&&◌, ◌||◌, not, ◌==◌, mul_assoc, lit≤, zero, mul-le-mul_right}
 use Rattle.std.specs.List.{AllByRecursion}
 use Rattle.std.specs.Char.{IsAsciiDigit, digit_value}
 use Rattle.std.specs.Str.Parse.{digits_value, digits_value_after}
 use Rattle.std.proofs.lemmas.Str.{digit_value_digit}
-use Rattle.std.proofs.lemmas.Bool.{cases_Bool}
 use Rattle.std.proofs.lemmas.Bool.Decides.{nat_tests}
-use Rattle.std.proofs.lemmas.Nat.{pow-add, mod-mul-add}
+use Rattle.std.proofs.lemmas.Nat.{mod-mul-add}
 use Rattle.std.proofs.Math.Nat.{pow-suc, one-le-pow, mul-div_cancel, mul-mod_left}
 use Rattle.csvw_datatype_core.specs.declared.number.Scan.{Scan}
-use Rattle.csvw_datatype_core.specs.Step.{begun, push_fraction}
+use Rattle.csvw_datatype_core.specs.Step.{push_fraction}
 use Rattle.csvw_datatype_core.proofs.Spelled.{fractions}
 
 regroup : (n v p q r x y z : ℕ) → x ≡ (n * 10 + v) * p + r → y ≡ v * p + r → q ≡ 10 * p → z ≡ n * q + y → x ≡ z

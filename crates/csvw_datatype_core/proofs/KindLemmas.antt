@@ -1,10 +1,9 @@
 -- The kind of each character of a number.
-use Rattle.std.proofs.Common.{◌≡◌, ◌≢◌, ℕ, ◌+◌, ◌-◌, ◌≤◌, List, [], ◌∷◌, refl, sym, ap, subst, ◌∙◌, Bool, true, false, cond, Option, Some, None, inl, inr, ⊎_elim, arith, ◌&&◌, ◌==◌, IfSome}
+use Rattle.std.proofs.Common.{◌≡◌, ◌≢◌, ℕ, ◌-◌, refl, ap, subst, ◌∙◌, true, false, Option, Some, ⊎_elim, arith, ◌&&◌, ◌==◌, IfSome}
 use Rattle.std.specs.Char.{is_ascii_digit, IsAsciiDigit}
 use Rattle.std.proofs.lemmas.Bool.{cond-true, cond-false, cases_Bool}
 use Rattle.std.proofs.lemmas.Bool.Decides.{nat_tests}
 use Rattle.csvw_datatype_core.specs.declared.number.NumberRules.{NumberRules}
-use Rattle.csvw_datatype_core.specs.declared.number.Kind.{Kind}
 use Rattle.csvw_datatype_core.specs.declared.number.Kind.TheVariants as kinds
 use Rattle.csvw_datatype_core.specs.Scan.{kind_of, holds}
 use Rattle.csvw_datatype_core.specs.Numbers.{IsFree, IsLawful}

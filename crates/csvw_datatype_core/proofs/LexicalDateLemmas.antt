@@ -1,13 +1,11 @@
 -- The digits of a date and of a time, and the numbers that days and moments have.
-use Rattle.std.proofs.Common.{◌≡◌, ℕ, ◌+◌, ◌-◌, ◌*◌, ◌/◌, ◌%◌, ◌<◌, ◌≤◌, ◌⊎◌, inl, inr, ⊎_elim, List, [], ◌∷◌, ◌++◌, length, refl, sym, ap, subst, ◌∙◌, arith, ℤ, pos, negsuc, neg_ℤ, ◌+ℤ◌, ◌*ℤ◌, ◌<ℤ◌, ◌≤ℤ◌, unsigned_abs, Result, Ok, Err, OnOk}
-use Rattle.std.specs.List.{AllByRecursion}
+use Rattle.std.proofs.Common.{◌≡◌, ℕ, ◌+◌, ◌*◌, ◌/◌, ◌%◌, ◌<◌, ◌≤◌, ◌⊎◌, inl, ⊎_elim, List, [], ◌∷◌, ◌++◌, refl, sym, ap, subst, ◌∙◌, arith, ℤ, pos, negsuc, neg_ℤ, ◌+ℤ◌, ◌*ℤ◌, ◌≤ℤ◌, unsigned_abs, Result, Ok, Err, OnOk}
 use Rattle.std.specs.declared.alloc.AllocError.{AllocError}
-use Rattle.std.specs.Char.{IsAsciiDigit}
 use Rattle.std.specs.Str.Parse.{digits_value}
 use Rattle.std.proofs.lemmas.Bool.{cases_order}
 use Rattle.std.proofs.lemmas.Int.{ints, by_lt_z}
 use Rattle.jiff_core.specs.declared.civil.date.Date.{Date}
-use Rattle.jiff_core.specs.Calendar.{day_count, day_of_year, days_in_month, days_from_civil, IsYear, IsCivilDate}
+use Rattle.jiff_core.specs.Calendar.{day_count, days_from_civil, IsYear, IsCivilDate}
 use Rattle.jiff_core.specs.Date.{epoch_day}
 use Rattle.jiff_core.proofs.SignedLemmas.{signed_arith}
 use Rattle.jiff_core.proofs.CalendarLemmas.{days_from_civil-day_count, day_count_bounds, day_count-lt_year, day_count-day_of_year, days_in_month_bounds}
@@ -20,7 +18,7 @@ use Rattle.csvw_datatype_core.specs.declared.moment.MomentFormat.TheVariants.{Se
 use Rattle.csvw_datatype_core.specs.Dates.{IsDay, day_number, IsField, ReadsDate}
 use Rattle.csvw_datatype_core.specs.Moments.{IsPair, ReadsTime, ReadsMoment}
 use Rattle.csvw_datatype_core.specs.LexicalDates.{IsDayNumber, IsMomentNumber, two_digits, four_digits, date_digits, time_digits, IsFields, IsDayAndSecond, AppendsDate, AppendsTime}
-use Rattle.csvw_datatype_core.proofs.DateLemmas.{Digits, value_two, value_four, all_append, digits_small}
+use Rattle.csvw_datatype_core.proofs.DateLemmas.{Digits, value_two, value_four, all_append}
 use Rattle.csvw_datatype_core.proofs.TimeLemmas.{seconds_below}
 
 two_are : (n : ℕ) → n < 100 → Digits 2 (two_digits n)

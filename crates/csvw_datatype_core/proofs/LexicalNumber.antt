@@ -1,6 +1,5 @@
 -- The text that `number_text` writes is the lexical form of its number.
-use Rattle.std.proofs.Common.{◌≡◌, ◌≢◌, ◌↔◌, ◌⊎◌, ℕ, zero, suc, ◌+◌, ◌-◌, ◌*◌, ◌/◌, ◌%◌, ◌^◌, ◌<◌, ◌≤◌, Bool, true, false, cond, List, [], ◌∷◌, ◌++◌, length, Option, Some, None, refl, sym, ap, subst, ◌∙◌, arith, append_assoc, append-nil, ℤ, pos, negsuc, neg_ℤ, ◌<ℤ◌, unsigned_abs, inl, inr, filter, lit≤}
-use Rattle.std.specs.List.{AllByRecursion}
+use Rattle.std.proofs.Common.{◌≡◌, ◌≢◌, ◌↔◌, ℕ, ◌+◌, ◌*◌, ◌/◌, ◌%◌, ◌^◌, ◌<◌, ◌≤◌, cond, List, [], ◌∷◌, ◌++◌, length, Some, None, refl, sym, ap, ◌∙◌, arith, append_assoc, append-nil, ℤ, pos, negsuc, ◌<ℤ◌, unsigned_abs, inl, inr, filter}
 use Rattle.std.specs.Char.{IsAsciiDigit, digit_value, is_ascii_digit}
 use Rattle.std.specs.Str.Parse.{digits_value, AllDigits, IsNumeral}
 use Rattle.std.specs.Fmt.{decimal}
@@ -8,16 +7,14 @@ use lib.Signed.{lt_z}
 use Rattle.std.proofs.Common.{ltb}
 use Rattle.std.proofs.lemmas.Fmt.{decimal_is_IsNumeral_wide, decimal_by_steps_wide}
 use Rattle.std.proofs.lemmas.Int.{ints}
-use Rattle.std.proofs.lemmas.Nat.{div-add-mod', div_below, mod_below}
+use Rattle.std.proofs.lemmas.Nat.{div-add-mod'}
 use Rattle.std.proofs.lemmas.Bool.{cond-true, cond-false}
 use Rattle.std.proofs.lemmas.Bool.Decides.{nat_tests}
-use Rattle.std.proofs.Math.Nat.{pow-suc}
 use Rattle.csvw_datatype_core.specs.declared.number.Mark.TheVariants.{Plain}
-use Rattle.csvw_datatype_core.specs.Numbers.{Sign, NoSign, Plus, Minus, Parts, sign_text, text_of, signed, IsGrouped, IsNumber, IsCount, digits_of, fraction_digits, ReadsNumber}
-use Rattle.csvw_datatype_core.specs.LexicalNumbers.{plain_rules, HasNoLeadingZero, HasNoTrailingZero, IsLexicalNumber, AppendsFraction, AppendsPart}
+use Rattle.csvw_datatype_core.specs.Numbers.{Sign, NoSign, Plus, Minus, Parts, sign_text, signed, IsGrouped, IsCount}
+use Rattle.csvw_datatype_core.specs.LexicalNumbers.{HasNoLeadingZero, IsLexicalNumber, AppendsPart}
 use Rattle.csvw_datatype_core.proofs.KindLemmas.{digit_test}
 use Rattle.csvw_datatype_core.proofs.Spelled.{whole_value}
-use Rattle.csvw_datatype_core.proofs.Counts.{pow_is_pos}
 use Rattle.csvw_datatype_core.proofs.Answer.{digits_split}
 
 sign_of : ℤ → Sign

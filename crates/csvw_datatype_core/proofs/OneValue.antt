@@ -1,5 +1,5 @@
 -- A text is one number, one date and one moment at most.
-use Rattle.std.proofs.Common.{◌≡◌, ℕ, ◌*◌, ◌^◌, List, refl, sym, ap, ◌∙◌, Bool, cond, Option, Some, None, ℤ, pos, neg_ℤ, length}
+use Rattle.std.proofs.Common.{◌≡◌, ℕ, ◌*◌, ◌^◌, List, sym, ap, ◌∙◌, cond, Option, Some, None, ℤ, pos, neg_ℤ, length}
 use Rattle.csvw_datatype_core.specs.declared.number.NumberRules.{NumberRules}
 use Rattle.csvw_datatype_core.specs.declared.number.Mark.{Mark}
 use Rattle.csvw_datatype_core.specs.declared.number.Mark.TheVariants.{Plain, Percent, PerMille}

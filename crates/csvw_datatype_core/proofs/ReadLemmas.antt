@@ -1,11 +1,9 @@
 -- What the pass says of a text.
-use Rattle.std.proofs.Common.{◌≡◌, ◌≢◌, ℕ, ◌*◌, ◌^◌, ◌<◌, List, refl, sym, ap, subst, ◌∙◌, Bool, true, false, cond, Option, Some, None, ℤ, pos, neg_ℤ, arith, length}
-use Rattle.std.specs.Str.Parse.{digits_value}
+use Rattle.std.proofs.Common.{◌≡◌, ℕ, List, refl, sym, ap, subst, ◌∙◌, true, false, cond, Option, Some, None, ℤ, pos, neg_ℤ}
 use Rattle.csvw_datatype_core.specs.declared.number.NumberRules.{NumberRules}
-use Rattle.csvw_datatype_core.specs.declared.number.Scan.{Scan}
-use Rattle.csvw_datatype_core.specs.Scan.{ends, goes}
+use Rattle.csvw_datatype_core.specs.Scan.{ends}
 use Rattle.csvw_datatype_core.specs.Step.{begun, run, count_of}
-use Rattle.csvw_datatype_core.specs.Numbers.{Sign, NoSign, Plus, Minus, Parts, text_of, IsNumber, IsLawful, ReadsNumber, SpellsNumber, IsCount, signed, divisor, fraction_digits}
+use Rattle.csvw_datatype_core.specs.Numbers.{Sign, NoSign, Plus, Minus, Parts, text_of, IsNumber, IsLawful, ReadsNumber, SpellsNumber, signed}
 use Rattle.csvw_datatype_core.proofs.Accepts.{accepted_spells}
 use Rattle.csvw_datatype_core.proofs.Spelled.{HoldsParts, spelled_holds, run_place, is_minus}
 use Rattle.csvw_datatype_core.proofs.Answer.{IsAnswer, count_answers}

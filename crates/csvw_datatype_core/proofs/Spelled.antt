@@ -1,8 +1,8 @@
 -- What is spelled as a number is accepted, and what the pass then holds.
-use Rattle.std.proofs.Common.{◌≡◌, ◌≢◌, ℕ, ◌+◌, ◌-◌, ◌*◌, ◌^◌, ◌≤◌, ◌<◌, min, List, [], ◌∷◌, ◌++◌, refl, sym, ap, subst, ◌∙◌, Bool, true, false, cond, Option, Some, None, IsSome, inl, inr, ⊎_elim, arith, unwrap_or, ◌&&◌, ◌==◌, IfSome, filter}
+use Rattle.std.proofs.Common.{◌≡◌, ◌≢◌, ℕ, ◌+◌, ◌-◌, ◌*◌, ◌^◌, min, List, [], ◌∷◌, ◌++◌, refl, sym, ap, subst, ◌∙◌, Bool, true, false, Option, Some, None, IsSome, inl, inr, arith, unwrap_or, filter}
 use Rattle.std.specs.List.{AllByRecursion}
 use Rattle.std.specs.Char.{is_ascii_digit, IsAsciiDigit, digit_value}
-use Rattle.std.specs.Str.Parse.{digits_value, digits_value_after}
+use Rattle.std.specs.Str.Parse.{digits_value_after}
 use Rattle.std.proofs.lemmas.Str.{digit_value_digit}
 use Rattle.std.proofs.lemmas.Bool.{cond-true, cond-false}
 use Rattle.csvw_datatype_core.specs.declared.number.NumberRules.{NumberRules}
@@ -15,8 +15,7 @@ use Rattle.csvw_datatype_core.specs.declared.number.Place.TheVariants as places
 use Rattle.csvw_datatype_core.specs.declared.number.Scan.{Scan}
 use Rattle.csvw_datatype_core.specs.Scan.{kind_of, next, ends, goes}
 use Rattle.csvw_datatype_core.specs.Step.{begun, step, push, push_digit, push_fraction, run}
-use Rattle.csvw_datatype_core.specs.Numbers.{Sign, NoSign, Plus, Minus, Parts, sign_text, fraction_text, mark_text, text_of, IsGrouped, IsFraction, IsMarked, IsNumber, IsFree, IsLawful, fraction_digits}
-use Rattle.csvw_datatype_core.proofs.Accepts.{kind_fact}
+use Rattle.csvw_datatype_core.specs.Numbers.{Sign, NoSign, Plus, Minus, Parts, sign_text, fraction_text, mark_text, text_of, IsGrouped, IsFraction, IsMarked, IsNumber, IsLawful, fraction_digits}
 use Rattle.csvw_datatype_core.proofs.KindLemmas.{kind_digit, kind_point, kind_group, kind_percent, kind_per_mille, kind_plus, kind_minus, digit_test, no_digit_test, free}
 use Rattle.csvw_datatype_core.proofs.ScanLemmas.{run-append}
 

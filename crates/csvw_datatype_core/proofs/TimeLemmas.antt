@@ -1,17 +1,15 @@
 -- The fields of a time of day and its text, and the moment of a date and a time.
-use Rattle.std.proofs.Common.{◌≡◌, ℕ, ◌+◌, ◌-◌, ◌*◌, ◌<◌, ◌≤◌, ◌⊎◌, inl, inr, Option, Some, None, List, [], ◌∷◌, ◌++◌, length, take, drop, refl, sym, ap, subst, ◌∙◌, arith, append_assoc, append-nil, length-append, ℤ, pos, ◌+ℤ◌, ◌*ℤ◌, MatchOption, IfSome}
-use Rattle.std.specs.List.{AllByRecursion}
-use Rattle.std.specs.Char.{IsAsciiDigit}
+use Rattle.std.proofs.Common.{◌≡◌, ℕ, ◌+◌, ◌*◌, ◌<◌, inl, inr, Option, Some, None, List, [], ◌∷◌, ◌++◌, length, take, drop, refl, sym, ap, subst, ◌∙◌, arith, append-nil, length-append, ℤ, pos, ◌+ℤ◌, ◌*ℤ◌, MatchOption}
 use Rattle.std.specs.Str.Parse.{digits_value}
 use Rattle.std.proofs.Math.Seq.{take-append_seam, drop-append_seam}
 use Rattle.csvw_datatype_core.specs.declared.date.DateFormat.TheVariants.{YearFirst}
 use Rattle.csvw_datatype_core.specs.declared.moment.MomentFormat.{MomentFormat}
 use Rattle.csvw_datatype_core.specs.declared.moment.MomentFormat.TheVariants.{Seconds, Minutes}
-use Rattle.csvw_datatype_core.specs.Dates.{ReadsDate, IsField}
+use Rattle.csvw_datatype_core.specs.Dates.{ReadsDate}
 use Rattle.csvw_datatype_core.specs.Moments.{IsPair, IsSeconds, ReadsTime, ReadsMoment}
-use Rattle.csvw_datatype_core.specs.Fields.{after_separator, two_at, at_end, ◌>>=◌}
+use Rattle.csvw_datatype_core.specs.Fields.{after_separator, two_at, at_end}
 use Rattle.csvw_datatype_core.specs.TimeFields.{IsTimeOfDay, second_field, time_fields}
-use Rattle.csvw_datatype_core.proofs.DateLemmas.{Front, Digits, two_sound, two_again, bind_some, separator_sound, end_sound}
+use Rattle.csvw_datatype_core.proofs.DateLemmas.{Digits, two_sound, two_again, bind_some, separator_sound, end_sound}
 
 -- the seconds that a text ends with
 record EndsWith (f : MomentFormat) (bs : List ℕ) (x : ℕ) : Type 0 where

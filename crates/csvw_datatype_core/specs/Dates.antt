@@ -1,5 +1,5 @@
 -- Dates: the texts that write one, and which (Model for Tabular Data and Metadata on the Web, section 6.4.4).
-use Rattle.std.specs.Prelude.{◌≡◌, ℕ, ◌≤◌, ◌⊎◌, Bool, true, false, List, [], ◌∷◌, ◌++◌, length, ℤ, pos}
+use Rattle.std.specs.Prelude.{◌≡◌, ℕ, ◌≤◌, ◌⊎◌, Bool, true, false, List, ◌∷◌, ◌++◌, length, ℤ, pos}
 use Rattle.std.specs.List.{AllByRecursion}
 use Rattle.std.specs.Char.{IsAsciiDigit}
 use Rattle.std.specs.Str.Parse.{digits_value}

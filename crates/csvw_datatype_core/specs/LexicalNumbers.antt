@@ -1,6 +1,6 @@
 -- The lexical form of a number: the canonical form of xsd:decimal without a point where it is whole
 -- (XML Schema 1.1 part 2, section 3.3.3).
-use Rattle.std.specs.Prelude.{◌≡◌, ◌≢◌, ◌↔◌, ◌⊎◌, ℕ, ◌+◌, ◌*◌, ◌^◌, Option, Some, None, IfSome, false, List, [], ◌∷◌, ◌++◌, length, ℤ, pos, ◌<ℤ◌}
+use Rattle.std.specs.Prelude.{◌≡◌, ◌≢◌, ◌↔◌, ◌⊎◌, ℕ, ◌*◌, ◌^◌, Some, None, IfSome, false, List, [], ◌∷◌, ◌++◌, length, ℤ, pos, ◌<ℤ◌}
 use Rattle.std.specs.List.{AllByRecursion}
 use Rattle.std.specs.Char.{IsAsciiDigit}
 use Rattle.std.specs.Str.Parse.{digits_value}

@@ -1,11 +1,10 @@
 -- The numbers that the pass keeps.
-use Rattle.std.specs.Prelude.{ℕ, ◌+◌, ◌-◌, ◌*◌, ◌/◌, ◌%◌, ◌^◌, min, ◌≤◌, ◌==◌, ◌&&◌, ◌||◌, not, nat_lt, nat_le, Bool, true, false, Option, Some, None, if◌then◌else◌, List, [], ◌∷◌}
+use Rattle.std.specs.Prelude.{ℕ, ◌+◌, ◌*◌, ◌/◌, ◌%◌, ◌^◌, min, ◌≤◌, ◌==◌, ◌&&◌, ◌||◌, not, nat_le, true, false, Option, Some, None, if◌then◌else◌, List, [], ◌∷◌}
 use Rattle.csvw_datatype_core.specs.declared.number.NumberRules.{NumberRules}
 use Rattle.csvw_datatype_core.specs.declared.number.Kind.{Kind}
 use Rattle.csvw_datatype_core.specs.declared.number.Kind.TheVariants as kinds
 use Rattle.csvw_datatype_core.specs.declared.number.Place.{Place}
 use Rattle.csvw_datatype_core.specs.declared.number.Place.TheVariants as places
-use Rattle.csvw_datatype_core.specs.declared.number.Mark.{Mark}
 use Rattle.csvw_datatype_core.specs.declared.number.Mark.TheVariants as marks
 use Rattle.csvw_datatype_core.specs.declared.number.Scan.{Scan}
 use Rattle.csvw_datatype_core.specs.Scan.{kind_of, next}

@@ -1,5 +1,5 @@
 -- The fields of a time of day, from the front of a text on.
-use Rattle.std.specs.Prelude.{ℕ, ◌<◌, Option, Some, None, List}
+use Rattle.std.specs.Prelude.{ℕ, ◌<◌, Option, Some, List}
 use Rattle.csvw_datatype_core.specs.declared.moment.MomentFormat.{MomentFormat}
 use Rattle.csvw_datatype_core.specs.declared.moment.MomentFormat.TheVariants.{Seconds, Minutes}
 use Rattle.csvw_datatype_core.specs.Fields.{◌>>=◌, after_separator, two_at, at_end}

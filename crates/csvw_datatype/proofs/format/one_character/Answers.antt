@@ -1,4 +1,4 @@
-use Rattle.std.proofs.Common.{◌≡◌, ℕ, Option, List, MatchOption, sym, ap, ◌∙◌, subst, length}
+use Rattle.std.proofs.Common.{ℕ, Option, MatchOption, sym, ap, ◌∙◌, subst, length}
 use Rattle.csvw_datatype.specs.Characters.{IsCharacter}
 use Rattle.csvw_datatype.proofs.CharacterLemmas.{no_character, a_character, two_characters}
 use Rattle.csvw_datatype.proofs.format.one_character.Goals as goal

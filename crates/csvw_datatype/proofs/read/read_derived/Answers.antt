@@ -1,4 +1,4 @@
-use Rattle.std.proofs.Common.{◌≡◌, subst, sym, ◌∙◌, refl, inl, inr, ℤ, Bool, false, rules, FitsSigned, IsTrue, ◌↔◌}
+use Rattle.std.proofs.Common.{◌≡◌, subst, refl, inl, inr, ℤ, Bool, false, rules, FitsSigned, IsTrue, ◌↔◌}
 use mir.Syntax.{w128}
 use Rattle.std.proofs.lemmas.Int.{to_z-of_z}
 use Rattle.csvw_datatype.specs.Widths.{IsInWidth}

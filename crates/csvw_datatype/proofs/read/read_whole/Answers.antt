@@ -1,8 +1,7 @@
-use Rattle.std.proofs.Common.{◌≡◌, subst, sym, ◌∙◌, refl, inl, inr, ℤ, false}
+use Rattle.std.proofs.Common.{subst}
 use Rattle.std.specs.Str.{chars}
 use Rattle.csvw_datatype_core.specs.declared.number.NumberRules.{NumberRules}
 use Rattle.csvw_datatype_core.specs.Misread.{MisreadNumber}
-use Rattle.csvw_datatype_core.specs.Numbers.{ReadsNumber}
 use Rattle.csvw_datatype.proofs.read.read_whole.Goals as goal
 
 pub returns-in-Err : goal.returns-in-Err

@@ -1,6 +1,5 @@
-use Rattle.std.proofs.Common.{◌≡◌, sym, ap, ◌∙◌, subst, Some, None, Option, ℕ, ℤ, MatchOption}
+use Rattle.std.proofs.Common.{sym, subst, Option, ℤ, MatchOption}
 use Rattle.csvw_datatype_core.specs.Dates.{ReadsDate}
-use Rattle.csvw_datatype_core.specs.Fields.{date_fields}
 use Rattle.csvw_datatype_core.proofs.DateLemmas.{fields_small, no_fields, day_answer}
 use Rattle.csvw_datatype_core.proofs.date.read_day.Goals as goal
 

@@ -1,7 +1,6 @@
-use Rattle.std.proofs.Common.{rules, FitsSigned, subst, sym, ap, ◌∙◌, ◌≡◌, ℕ, ℤ, unsigned_abs}
+use Rattle.std.proofs.Common.{rules, FitsSigned, subst, sym, ap, ◌∙◌, ◌≡◌, ℕ, unsigned_abs}
 use mir.Syntax.{w16, w32, w64}
 use Rattle.std.proofs.lemmas.Int.{to_z-of_z}
-use Rattle.jiff_core.specs.Date.{epoch_day}
 use Rattle.csvw_datatype_core.specs.LexicalDates.{IsFields}
 use Rattle.csvw_datatype_core.proofs.LexicalDateLemmas.{fields_of}
 use Rattle.csvw_datatype_core.proofs.lexical_date.fields.Goals as goal

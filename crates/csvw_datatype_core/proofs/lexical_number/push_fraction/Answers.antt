@@ -1,4 +1,4 @@
-use Rattle.std.proofs.Common.{ap, ◌∙◌, arith, ◌+◌, ◌/◌, ◌%◌, ◌++◌, ◌≡◌, ◌<◌, string_bytes, [], ◌∷◌, subst, sym, refl, List, ℕ}
+use Rattle.std.proofs.Common.{ap, ◌∙◌, arith, ◌+◌, ◌/◌, ◌%◌, ◌++◌, ◌<◌, string_bytes, subst, sym, refl, List, ℕ}
 use Rattle.std.proofs.lemmas.Str.{encode_ascii}
 use Rattle.csvw_datatype_core.proofs.LexicalLemmas.{IsPushing, pushing_begins, pushing_weight, pushing_step, pushing_ends}
 use Rattle.csvw_datatype_core.proofs.lexical_number.push_fraction.Goals as goal

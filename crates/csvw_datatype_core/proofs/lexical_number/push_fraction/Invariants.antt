@@ -1,4 +1,4 @@
-use Rattle.std.proofs.Common.{◌≡◌, string_bytes}
+use Rattle.std.proofs.Common.{string_bytes}
 use Rattle.csvw_datatype_core.proofs.LexicalLemmas.{IsPushing}
 use Rattle.csvw_datatype_core.proofs.lexical_number.push_fraction.Given as goal
 

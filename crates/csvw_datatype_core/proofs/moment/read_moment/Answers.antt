@@ -1,6 +1,6 @@
 use mir.Syntax.{w32, w64}
 use Rattle.std.proofs.lemmas.Int.{to_z-of_z}
-use Rattle.std.proofs.Common.{rules, FitsSigned, pos, ◌+ℤ◌, ◌*ℤ◌, ◌≡◌, subst, sym, ap, ◌∙◌, List, ℕ, ℤ, take, drop, length, Option, None, MatchOption, arith, ◌<◌, take-append-drop}
+use Rattle.std.proofs.Common.{rules, FitsSigned, pos, ◌+ℤ◌, ◌*ℤ◌, subst, sym, ap, ◌∙◌, List, ℕ, ℤ, take, drop, length, Option, MatchOption, arith, take-append-drop}
 use Rattle.csvw_datatype_core.specs.declared.date.DateFormat.TheVariants.{YearFirst}
 use Rattle.csvw_datatype_core.specs.Dates.{ReadsDate}
 use Rattle.csvw_datatype_core.specs.Moments.{ReadsMoment, ReadsTime}

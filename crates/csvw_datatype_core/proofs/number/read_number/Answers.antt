@@ -1,10 +1,10 @@
-use Rattle.std.proofs.Common.{rules, ◌≡◌, sym, ap, ◌∙◌, Some, None, ℤ, Bool, FitsSigned, subst, true, false}
+use Rattle.std.proofs.Common.{rules, sym, ap, ◌∙◌, ℤ, FitsSigned, subst}
 use mir.Syntax.{w128}
 use Rattle.std.specs.Str.{chars}
 use Rattle.std.proofs.lemmas.Int.{to_z-of_z}
 use Rattle.csvw_datatype_core.specs.declared.number.Scan.{Scan}
 use Rattle.csvw_datatype_core.specs.Scan.{ends}
-use Rattle.csvw_datatype_core.specs.Step.{begun, run, count_of}
+use Rattle.csvw_datatype_core.specs.Step.{count_of}
 use Rattle.csvw_datatype_core.specs.Numbers.{ReadsNumber}
 use Rattle.csvw_datatype_core.proofs.ReadLemmas.{spells_nothing, spells, reads_nothing, reads}
 use Rattle.csvw_datatype_core.proofs.number.read_number.Goals as goal

@@ -1,8 +1,6 @@
 use Rattle.std.proofs.Common.{sym, ap, ◌∙◌, map-id, [], ◌∷◌}
-use Rattle.std.specs.Str.{chars}
 use Rattle.std.proofs.lemmas.Iterator.{YieldsList-from_chars}
 use Rattle.std.proofs.lemmas.Iterator.Consumers.{YieldsList-end}
-use Rattle.std.proofs.lemmas.Str.{chars_from_encodes}
 use Rattle.csvw_datatype_core.specs.Step.{begun, run, step}
 use Rattle.csvw_datatype_core.proofs.ScanLemmas.{run-append}
 use Rattle.csvw_datatype_core.proofs.number.scan_text.Goals as goal
