@@ -3,6 +3,7 @@ pub mod Scan
 pub mod Outcomes
 pub mod Lines
 pub mod Files
+pub mod Looks
 pub mod Lawful
 pub mod Lengths
 pub mod Nexts
