@@ -3,6 +3,8 @@ pub mod RunSteps
 pub mod Complete
 pub mod Sound
 pub mod Joins
+pub mod Notes
+pub mod RowLaws
 pub mod FieldLemmas
 pub mod LineLemmas
 pub mod DecodeLemmas
