@@ -5,6 +5,7 @@ pub mod Sound
 pub mod Joins
 pub mod Notes
 pub mod RowLaws
+pub mod Broken
 pub mod FieldLemmas
 pub mod LineLemmas
 pub mod DecodeLemmas

@@ -4,6 +4,7 @@ pub mod Outcomes
 pub mod Lines
 pub mod Files
 pub mod Looks
+pub mod Stops
 pub mod Lawful
 pub mod Lengths
 pub mod Nexts
