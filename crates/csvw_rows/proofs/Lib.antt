@@ -6,6 +6,8 @@ pub mod Joins
 pub mod Notes
 pub mod RowLaws
 pub mod Broken
+pub mod Continue
+pub mod Sees
 pub mod FieldLemmas
 pub mod LineLemmas
 pub mod DecodeLemmas

@@ -91,7 +91,7 @@ pub record ReadsRow (f : Bool) (d : Dialect) (i : ℕ) (text : List ℕ) (fields
   pub is_row : IsRow d i (record { text = row; fields = fields }) after
   pub ends : EndsRow f d after
 
-found_sound : (f : Bool) (d : Dialect) (text : List ℕ) (o : Outcome) (fields : Option (List (List ℕ))) (after : List ℕ) → pass f d Start [] [] text ≡ o → found_row d o ≡ Some (fields, after)
+pub found_sound : (f : Bool) (d : Dialect) (text : List ℕ) (o : Outcome) (fields : Option (List (List ℕ))) (after : List ℕ) → pass f d Start [] [] text ≡ o → found_row d o ≡ Some (fields, after)
     → (values : List (List ℕ)) × (pass f d Start [] [] text ≡ Found values after) × (fields ≡ Some (map (trimmed d.trim) values))
 found_sound f d text (Found values rest) fields after e h =
     let r : rest ≡ after = ap (λ (o : Option (Option (List (List ℕ)) × List ℕ)). (unwrap_or o (fields, after)).1) h in
@@ -100,7 +100,7 @@ found_sound f d text (Found values rest) fields after e h =
 found_sound f d text (Broken stop rest) fields after e h = absurd cc
 found_sound f d text (Unfinished st vs cur) fields after e h = absurd cc
 
-line_some : (o : Option (List ℕ)) (fields : Option (List (List ℕ))) (after : List ℕ) → ◌≡◌ {A = Option (Option (List (List ℕ)) × List ℕ)} (option_map (λ l. (None, l)) o) (Some (fields, after)) → (o ≡ Some after) × (fields ≡ None)
+pub line_some : (o : Option (List ℕ)) (fields : Option (List (List ℕ))) (after : List ℕ) → ◌≡◌ {A = Option (Option (List (List ℕ)) × List ℕ)} (option_map (λ l. (None, l)) o) (Some (fields, after)) → (o ≡ Some after) × (fields ≡ None)
 line_some None fields after h = absurd cc
 line_some (Some l) fields after h =
     let r : l ≡ after = ap (λ (o : Option (Option (List (List ℕ)) × List ℕ)). (unwrap_or o (fields, after)).1) h in

@@ -5,6 +5,7 @@ pub mod Lines
 pub mod Files
 pub mod Looks
 pub mod Stops
+pub mod Parts
 pub mod Lawful
 pub mod Lengths
 pub mod Nexts
