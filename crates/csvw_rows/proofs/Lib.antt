@@ -8,6 +8,7 @@ pub mod RowLaws
 pub mod Broken
 pub mod Continue
 pub mod Sees
+pub mod Lookahead
 pub mod FieldLemmas
 pub mod LineLemmas
 pub mod DecodeLemmas
