@@ -9,6 +9,7 @@ pub mod Broken
 pub mod Continue
 pub mod Sees
 pub mod Lookahead
+pub mod Texts
 pub mod FieldLemmas
 pub mod LineLemmas
 pub mod DecodeLemmas
