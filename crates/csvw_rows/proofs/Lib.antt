@@ -10,6 +10,7 @@ pub mod Continue
 pub mod Sees
 pub mod Lookahead
 pub mod Texts
+pub mod Stands
 pub mod FieldLemmas
 pub mod LineLemmas
 pub mod DecodeLemmas

@@ -56,3 +56,7 @@ pub record Ends (d : Dialect) (max : ℕ) (i : ℕ) (part : List ℕ) : Type 0 w
 abbrev pub NoRow : Dialect → ℕ → ℕ → List ℕ → Type 0
 NoRow d max i text = i < max → (row : Row) (after : List ℕ) → text ≡ row.text ++ after → IsRow d i row after → 0 < terminator_len d after
     → byte_len row.text ≤ row_limit → ⊥
+
+-- the text isn't the last row, which lacks its terminator
+abbrev pub NoLast : Dialect → ℕ → ℕ → List ℕ → Type 0
+NoLast d max i text = i < max → (row : Row) → text ≡ row.text → IsRow d i row [] → byte_len row.text ≤ row_limit → ⊥
