@@ -190,7 +190,7 @@ continues_note d i part w n e = record {
       row_reaches s (unsettled d part ++ rest) other.text after (sym (regroup d part rest) ∙ e') (omega (arith, ap length l.spelled, length-append l.line after))
 
 -- a text that may become a comment
-starts_split : (prefix text : List ℕ) → starts_with nat_eq prefix text ≡ true → (tail : List ℕ) × (prefix ≡ text ++ tail)
+pub starts_split : (prefix text : List ℕ) → starts_with nat_eq prefix text ≡ true → (tail : List ℕ) × (prefix ≡ text ++ tail)
 starts_split prefix [] h = (prefix, refl)
 starts_split [] (c ∷ cs) h = absurd cc
 starts_split (p ∷ ps) (c ∷ cs) h = joined (starts_split ps cs) (both (nat_eq c p) (starts_with nat_eq ps cs) h)

@@ -11,6 +11,7 @@ pub mod Sees
 pub mod Lookahead
 pub mod Texts
 pub mod Stands
-pub mod FieldLemmas
 pub mod LineLemmas
+pub mod Shown
+pub mod FieldLemmas
 pub mod DecodeLemmas

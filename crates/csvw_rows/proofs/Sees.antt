@@ -9,7 +9,7 @@ use Rattle.csvw_rows.specs.declared.scan.Step.TheVariants.{Keep, Skip, Open, Nex
 use Rattle.csvw_rows.specs.Grammar.{terminator_len, trimmed, IsOpened}
 use Rattle.csvw_rows.specs.Lawful.{IsLawful}
 use Rattle.csvw_rows.specs.Files.{Row, IsRow, EndsRow, is_note}
-use Rattle.csvw_rows.specs.Scan.{Outcome, Found, Broken, Unfinished, quote_is, step_of, run, pass, finish}
+use Rattle.csvw_rows.specs.Scan.{Outcome, Found, Broken, Unfinished, quote_is, is_quoted, step_of, run, pass, finish}
 use Rattle.csvw_rows.specs.Looks.{settled, unsettled, line_of, found_row, next_row, terminator_of, may_be_note}
 use Rattle.csvw_rows.specs.Parts.{Continues, Breaks, HasRow}
 use Rattle.csvw_rows.proofs.RunSteps.{ends_at, act_run, differs}
@@ -19,14 +19,6 @@ use Rattle.csvw_rows.proofs.RowLaws.{ReadsRow, row_sound, found_sound}
 use Rattle.csvw_rows.proofs.Complete.{start_after, closed_after, plain_found, closed_keep, same_test, quote_no_end, quote_no_delimiter}
 use Rattle.csvw_rows.proofs.Broken.{run_tells, Tells, IsReading}
 use Rattle.csvw_rows.proofs.Continue.{term_some, unsettled_is, closing, found_within, not_in_unsettled, row_reaches, regroup, settled_len, settled_fits, found_is_row, other_found, fields_next, note_next, take_front, take_long, clear_all, continues_note, continues_maybe}
-
--- whether a state is inside quotes
-abbrev pub is_quoted : State → Bool
-is_quoted Start = false
-is_quoted Plain = false
-is_quoted Inside = true
-is_quoted Escaped = true
-is_quoted Closed = false
 
 -- outside quotes the terminator ends the row
 ends_unquoted : (d : Dialect) (st : State) (vs : List (List ℕ)) (cur : List ℕ) → IsLawful d → is_quoted st ≡ false
