@@ -176,3 +176,8 @@ act_broken d vs cur c cs (Stop s) stop rest ih e =
 pub broken_within : (d : Dialect) (st : State) (vs : List (List ℕ)) (cur text : List ℕ) (stop : RowStop) (rest : List ℕ) → run d st vs cur text ≡ Broken stop rest → (length rest ≤ length text) × (0 < length rest)
 broken_within d st vs cur [] stop rest e = absurd cc
 broken_within d st vs cur (c ∷ cs) stop rest e = act_broken d vs cur c cs (step_of d st c (ends_at d (c ∷ cs))) stop rest (λ st vs cur. broken_within d st vs cur cs stop rest) e
+
+pub get_any : (l : List ℕ) (k a b : ℕ) → k < length l → get_or l k a ≡ get_or l k b
+get_any [] k a b h = absurd (omega arith)
+get_any (x ∷ xs) zero a b h = refl
+get_any (x ∷ xs) (suc k) a b h = get_any xs k a b (omega arith)
