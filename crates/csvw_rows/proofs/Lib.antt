@@ -13,5 +13,8 @@ pub mod Texts
 pub mod Stands
 pub mod LineLemmas
 pub mod Shown
+pub mod NextLemmas
+pub mod Utf8
+pub mod Readings
 pub mod FieldLemmas
 pub mod DecodeLemmas

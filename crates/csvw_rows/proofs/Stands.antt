@@ -11,12 +11,12 @@ use Rattle.csvw_rows.specs.Lawful.{IsLawful}
 use Rattle.csvw_rows.specs.Lengths.{byte_len, row_limit}
 use Rattle.csvw_rows.specs.Files.{Row, IsRow, AreRows, AreAllRows, EndsOpen, KeepsLimits, BeginsWithRows, IsLongest}
 use Rattle.csvw_rows.specs.Looks.{terminator_of}
-use Rattle.csvw_rows.specs.Parts.{Fits, Goes, Ends, NoRow, NoLast}
+use Rattle.csvw_rows.specs.Parts.{Fits, Goes, Ends, NoRow, NoLast, FirstEnd}
 use Rattle.csvw_rows.specs.Stops.{AreRowsWithin, Begins, StopsAt}
 use Rattle.csvw_rows.proofs.RowLaws.{row_unique, rows_prefix, SameRow}
 use Rattle.csvw_rows.proofs.Continue.{term_some, term_len}
 use Rattle.csvw_rows.proofs.Lookahead.{Again, rows_again}
-use Rattle.csvw_rows.proofs.Texts.{IsShort, FirstEnd, within_of, within_less, within_are, within_behind, rows_len}
+use Rattle.csvw_rows.proofs.Texts.{IsShort, within_of, within_less, within_are, within_behind, rows_len}
 use Rattle.csvw_rows.proofs.Complete.{nothing_ends}
 
 nil_none : (n : ℕ) (l : List ℕ) → n ≡ length l → drop n l ≡ []

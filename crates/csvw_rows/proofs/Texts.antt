@@ -15,7 +15,7 @@ use Rattle.csvw_rows.specs.Lengths.{byte_len, row_limit}
 use Rattle.csvw_rows.specs.Files.{Row, IsRow, AreRows, KeepsLimits, BeginsWithRows, IsLongest}
 use Rattle.csvw_rows.specs.Scan.{Outcome, Found, Broken, Unfinished, run, finish}
 use Rattle.csvw_rows.specs.Looks.{unsettled, settled, terminator_of, next_row, found_row}
-use Rattle.csvw_rows.specs.Parts.{Continues, Breaks, HasRow, Fits, Goes, Ends, NoRow}
+use Rattle.csvw_rows.specs.Parts.{Continues, Breaks, HasRow, Fits, Goes, Ends, NoRow, FirstEnd}
 use Rattle.csvw_rows.specs.Stops.{AreRowsWithin, Begins, StopsAt}
 use Rattle.csvw_rows.proofs.Joins.{goes_on}
 use Rattle.csvw_rows.proofs.Notes.{note_never}
@@ -110,13 +110,6 @@ search P Q test (suc n) = step (search P Q test n) (test n)
     step (inl f) (inl p) = inl (λ k h. last k h f p)
     step (inl f) (inr q) = inr (n, (let h : n < suc n = omega arith in h), q, f)
     step (inr (m, h, q, f)) t = inr (m, (let k : m < suc n = omega arith in k), q, f)
-
--- the first front of a text at which no row begins
-pub record FirstEnd (d : Dialect) (max i : ℕ) (text : List ℕ) (n : ℕ) : Type 0 where
-  pub at : ℕ
-  pub within : at ≤ n
-  pub ends : Ends d max i (take at text)
-  pub before : (k : ℕ) → k < at → Goes d max i (take k text)
 
 pub first_end : (d : Dialect) (max i : ℕ) (text : List ℕ) (n : ℕ) → IsLawful d → NoRow d max i text → Ends d max i (take n text) → FirstEnd d max i text n
 first_end d max i text n w free e = found (search (λ k. Goes d max i (take k text)) (λ k. Ends d max i (take k text)) (decide d max i text w free) (suc n))

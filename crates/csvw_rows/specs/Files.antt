@@ -111,6 +111,10 @@ remaining_fields d source (Some fields) = if d.skip_blank_rows && list_all is_em
 abbrev pub given : Dialect → ℕ × (ℕ × List (List ℕ)) → Given
 given d (place, (source, fields)) = record { fields = map encode_utf8_all (drop d.skip_columns fields); source = source; number = (place + 1) - d.header_row_count }
 
+-- the rows that remain, with their source numbers, which go on from the first
+abbrev pub remaining : Dialect → ℕ → List Row → List (ℕ × List (List ℕ))
+remaining d source rows = filter_map (λ (r : ℕ × Row). remaining_fields d r.0 r.1.fields) (enumerate_from source rows)
+
 -- the header rows and data rows
 abbrev pub Body : Dialect → List Row → List Given
-Body d rows = map (given d) (enumerate_from 0 (filter_map (λ r. remaining_fields d r.0 r.1.fields) (enumerate_from 1 rows)))
+Body d rows = map (given d) (enumerate_from 0 (remaining d 1 rows))

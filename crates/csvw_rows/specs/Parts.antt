@@ -60,3 +60,10 @@ NoRow d max i text = i < max → (row : Row) (after : List ℕ) → text ≡ row
 -- the text isn't the last row, which lacks its terminator
 abbrev pub NoLast : Dialect → ℕ → ℕ → List ℕ → Type 0
 NoLast d max i text = i < max → (row : Row) → text ≡ row.text → IsRow d i row [] → byte_len row.text ≤ row_limit → ⊥
+
+-- the first front of a text at which no row begins
+pub record FirstEnd (d : Dialect) (max i : ℕ) (text : List ℕ) (n : ℕ) : Type 0 where
+  pub at : ℕ
+  pub within : at ≤ n
+  pub ends : Ends d max i (take at text)
+  pub before : (k : ℕ) → k < at → Goes d max i (take k text)

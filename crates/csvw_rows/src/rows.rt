@@ -1,5 +1,5 @@
 //! A reader of rows.
-ghost use Rattle.std.specs.Prelude.{◌≡◌, ◌≤◌, ◌<◌, ◌-◌, ◌+◌, ◌^◌, true, false, length, IfOk};
+ghost use Rattle.std.specs.Prelude.{◌≡◌, ◌≤◌, ◌<◌, ◌-◌, ◌+◌, ◌^◌, true, false, [], length, IfOk, Ok, Some};
 ghost use Rattle.std.specs.Borrow.{sem};
 ghost use Rattle.csvw_rows.specs.Lawful.{IsLawful};
 
@@ -31,9 +31,10 @@ pub struct Rows {
 }
 
 impl Rows {
-    ghost use Rattle.csvw_rows.specs.RowsState.{is_ended_of, unread, Advances, Turns};
+    ghost use Rattle.csvw_rows.specs.RowsState.{is_ended_of, unread, reading_of, stop_of, after_of, last_of, Holds, Feeds, Closes, Advances, Turns, KeepsStop};
     ghost use Rattle.csvw_rows.specs.RowsLending.{RestsAdvanced};
     ghost use Rattle.csvw_rows.specs.SourceState.{rest_of};
+    ghost use Rattle.csvw_rows.specs.RowValue.{row_of};
     ghost use Rattle.csvw_rows.specs.Nexts.{NextGives};
 
     /// A reader of no bytes yet, which takes at most so many rows of all kinds; `AllocError` where there is
@@ -41,7 +42,8 @@ impl Rows {
     pub fn new(alloc: Global, dialect: Dialect, max_rows: u64) -> Result<Rows, AllocError>
         requires lawful { IsLawful dialect }
         requires few { max_rows < 2 ^ 64 - 1 }
-        ensures { IfOk result (λ r. is_ended_of r ≡ false) }
+        ensures ended { IfOk result (λ r. is_ended_of r ≡ false) }
+        ensures holds { IfOk result (λ r. Holds r dialect max_rows [] false []) }
     {
         Ok(Rows {
             alloc,
@@ -64,14 +66,18 @@ impl Rows {
     }
 
     /// The source number, from 1, of the row that is being read: one more than there are complete rows.
-    pub fn row(&self) -> u64 {
+    pub fn row(&self) -> u64
+        ensures { result ≡ reading_of self.now }
+    {
         self.row + 1
     }
 
     /// Takes some more bytes of the text. It answers the stop that was answered before, or `Memory`.
     pub fn feed(&mut self, piece: &[u8]) -> Result<(), RowStop>
         requires { is_ended_of self.old ≡ false }
-        ensures { is_ended_of self.new ≡ false }
+        ensures ended { is_ended_of self.new ≡ false }
+        ensures feeds { Feeds self.old self.new piece.now result }
+        ensures keeps { KeepsStop self.old self.new result }
     {
         if let Some(stop) = self.stop {
             return Err(stop);
@@ -88,7 +94,9 @@ impl Rows {
     /// Ends the text. It answers the stop that was answered before.
     pub fn end(&mut self) -> Result<(), RowStop>
         requires { is_ended_of self.old ≡ false }
-        ensures { is_ended_of self.new ≡ true }
+        ensures ended { is_ended_of self.new ≡ true }
+        ensures closes { Closes self.old self.new result }
+        ensures keeps { KeepsStop self.old self.new result }
     {
         self.ended = true;
         match self.stop {
@@ -109,7 +117,9 @@ impl Rows {
         }
     }
 
-    fn given_row(&self) -> RawRow<'_> {
+    fn given_row(&self) -> RawRow<'_>
+        ensures { row_of result ≡ last_of self.now }
+    {
         let columns = self.rules.dialect.skip_columns as usize;
         let (_, fields) = self
             .fields
@@ -121,7 +131,8 @@ impl Rows {
 
     /// Reads on to the next row that is given.
     fn advance(&mut self) -> Result<bool, RowStop>
-        ensures { Advances self.old self.new result }
+        ensures advances { Advances self.old self.new result }
+        ensures keeps { KeepsStop self.old self.new result }
     {
         if let Some(stop) = self.stop {
             return Err(stop);
@@ -148,7 +159,9 @@ impl Rows {
     }
 
     /// What comes behind the characters that there are.
-    fn after(&self) -> After {
+    fn after(&self) -> After
+        ensures { result ≡ after_of self.now }
+    {
         if self.source.is_bad() || self.ended && self.source.is_cut() {
             After::NoText
         } else if self.ended {
@@ -160,7 +173,7 @@ impl Rows {
 
     /// What stands at the front of the characters that aren't read.
     fn next_line(&self) -> Result<Next, RowStop>
-        ensures { NextGives self.now.max_rows self.now.row (rest_of self.now.source) result }
+        ensures { NextGives (after_of self.now) self.now.rules.dialect self.now.max_rows self.now.row (rest_of self.now.source) result }
     {
         let text = self.source.rest();
         next_row(

@@ -1,6 +1,7 @@
 //! A dialect with its comment prefix as characters.
 ghost use Rattle.std.specs.Prelude.{◌≡◌, ◌≤◌, length, IfOk};
 ghost use Rattle.csvw_rows.specs.Files.{prefix_of, is_note};
+ghost use Rattle.csvw_rows.specs.Lawful.{IsLawful};
 ghost use Rattle.csvw_rows.specs.Looks.{may_be_note};
 ghost use Rattle.csvw_rows.specs.Lines.{IsCommon, IsPrefixLen};
 
@@ -15,11 +16,13 @@ pub struct Rules {
     pub dialect: Dialect,
     pub prefix: Option<Seq<char>>,
     ghost same_prefix: { prefix ≡ prefix_of dialect },
+    ghost lawful: { IsLawful dialect },
 }
 
 impl Rules {
     /// The rules of a dialect; `AllocError` where there is no memory.
     pub fn new(alloc: Global, dialect: Dialect) -> Result<Rules, AllocError>
+        requires { IsLawful dialect }
         ensures { IfOk result (λ r. r.dialect ≡ dialect) }
     {
         let prefix = match &dialect.comment_prefix {
