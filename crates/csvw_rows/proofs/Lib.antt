@@ -16,5 +16,7 @@ pub mod Shown
 pub mod NextLemmas
 pub mod Utf8
 pub mod Readings
+pub mod Bodies
+pub mod States
 pub mod FieldLemmas
 pub mod DecodeLemmas

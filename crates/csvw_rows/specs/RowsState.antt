@@ -10,7 +10,7 @@ use Rattle.csvw_rows.specs.declared.next.Turn.{Turn}
 use Rattle.csvw_rows.specs.declared.next.Turn.TheVariants as turn
 use Rattle.csvw_rows.specs.Files.{Row, AreRows, EndsOpen, KeepsLimits, Front, Body, content, is_text, remaining}
 use Rattle.csvw_rows.specs.RowValue.{Given}
-use Rattle.csvw_rows.specs.SourceState.{rest_of, is_bad_of, pending_of, Decodes}
+use Rattle.csvw_rows.specs.SourceState.{rest_of, is_bad_of, pending_of, begun_of, Decodes}
 use Rattle.csvw_rows.specs.Stops.{Begins, StopOf}
 
 -- whether the text has ended
@@ -110,3 +110,15 @@ Turns old new (Ok turn.Given) = (is_ended_of new ≡ is_ended_of old) × (unread
 Turns old new (Ok turn.Passed) = (is_ended_of new ≡ is_ended_of old) × (unread new < unread old) × Stays old new
 Turns old new (Ok turn.Waits) = (is_ended_of new ≡ is_ended_of old) × Stays old new × IsDone old
 Turns old new (Err e) = (is_ended_of new ≡ is_ended_of old) × IsStopped old e (reading_of new)
+
+-- some characters were taken, which are a row
+pub record Passes (old new : Rows) (len : ℕ) : Type 0 where
+  pub rules : new.rules ≡ old.rules
+  pub max_rows : new.max_rows ≡ old.max_rows
+  pub ended : new.ended ≡ old.ended
+  pub stop : new.stop ≡ old.stop
+  pub rest : rest_of new.source ≡ drop len (rest_of old.source)
+  pub begun : begun_of new.source ≡ begun_of old.source
+  pub pending : pending_of new.source ≡ pending_of old.source
+  pub bad : is_bad_of new.source ≡ is_bad_of old.source
+  pub row : new.row ≡ old.row + 1

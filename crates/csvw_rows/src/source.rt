@@ -1,5 +1,5 @@
 //! The characters of bytes that come in pieces, up to where they are no UTF-8.
-ghost use Rattle.std.specs.Prelude.{◌≡◌, ◌≤◌, ◌+◌, ◌==◌, not, false, [], if◌then◌else◌, length, vec_len, OnOk};
+ghost use Rattle.std.specs.Prelude.{◌≡◌, ◌≤◌, ◌+◌, ◌==◌, ◌++◌, not, true, false, [], if◌then◌else◌, length, drop, vec_len, IfOk, OnOk};
 ghost use Rattle.csvw_rows.specs.Files.{without_mark};
 
 use crate::decode::{chars_of, valid_front};
@@ -43,14 +43,12 @@ impl Source {
     pub fn push(&mut self, piece: &[u8]) -> Result<(), AllocError>
         ensures { OnOk result (Pushes self.old self.new piece.now) }
     {
-        self.pending.extend_from_slice(piece)?;
-        let (text, is_bad) = valid_front(self.pending.as_slice());
+        let bytes = joined_bytes(self.alloc, self.pending.as_slice(), piece)?;
+        let (text, is_bad) = valid_front(bytes.as_slice());
         let chars = chars_of(self.alloc, text)?;
-        let (_, tail) = self.pending.as_slice().split_at(text.len());
-        let pending = Vec::from_slice(self.alloc, tail)?;
-        let mut unread = Vec::from_slice(self.alloc, self.rest())?;
-        unread.extend_from_slice(unmarked(self.begun, chars.as_slice()))?;
-        self.begun = self.begun || !chars.is_empty();
+        let unread = joined_chars(self.alloc, self.rest(), unmarked(self.begun, chars.as_slice()))?;
+        let pending = tail(self.alloc, bytes.as_slice(), text.len())?;
+        self.begun = has_begun(self.begun, chars.as_slice());
         self.text = unread;
         self.taken = 0;
         self.pending = pending;
@@ -69,7 +67,7 @@ impl Source {
     /// Takes some characters.
     pub fn take(&mut self, count: usize)
         requires { count ≤ length (rest_of self.old) }
-        ensures rest { rest_of self.new ≡ Rattle.std.specs.Prelude.drop count (rest_of self.old) }
+        ensures rest { rest_of self.new ≡ drop count (rest_of self.old) }
         ensures bad { is_bad_of self.new ≡ is_bad_of self.old }
         ensures pending { pending_of self.new ≡ pending_of self.old }
         ensures begun { begun_of self.new ≡ begun_of self.old }
@@ -100,4 +98,36 @@ fn unmarked(begun: bool, chars: &[char]) -> &[char]
         [BYTE_ORDER_MARK, rest @ ..] if !begun => rest,
         _ => chars,
     }
+}
+
+/// Whether there was a character, these among them.
+fn has_begun(begun: bool, chars: &[char]) -> bool
+    ensures { result ≡ (if begun then true else not (length chars.now == 0)) }
+{
+    begun || !chars.is_empty()
+}
+
+fn joined_bytes(alloc: Global, a: &[u8], b: &[u8]) -> Result<Vec<u8>, AllocError>
+    ensures { IfOk result (λ v. v.items ≡ a.now ++ b.now) }
+{
+    let mut all = Vec::from_slice(alloc, a)?;
+    all.extend_from_slice(b)?;
+    Ok(all)
+}
+
+fn joined_chars(alloc: Global, a: &[char], b: &[char]) -> Result<Vec<char>, AllocError>
+    ensures { IfOk result (λ v. v.items ≡ a.now ++ b.now) }
+{
+    let mut all = Vec::from_slice(alloc, a)?;
+    all.extend_from_slice(b)?;
+    Ok(all)
+}
+
+/// The bytes behind the first of them.
+fn tail(alloc: Global, bytes: &[u8], count: usize) -> Result<Vec<u8>, AllocError>
+    requires { count ≤ length bytes.now }
+    ensures { IfOk result (λ v. v.items ≡ drop count bytes.now) }
+{
+    let (_, rest) = bytes.split_at(count);
+    Vec::from_slice(alloc, rest)
 }
