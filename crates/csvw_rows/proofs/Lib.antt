@@ -18,5 +18,6 @@ pub mod Utf8
 pub mod Readings
 pub mod Bodies
 pub mod States
+pub mod FrontLaws
 pub mod FieldLemmas
 pub mod DecodeLemmas

@@ -160,7 +160,7 @@ are_longest d max text rows rest w are k none = (record { rest = rest; are_rows 
     by_length others b (inr h) = h
 
 -- a last row has no row in it
-no_row_in_last : (d : Dialect) (i : ℕ) (last b : Row) (bs : List Row) (rest : List ℕ) → IsLawful d → IsRow d i last [] → AreRows d i last.text (b ∷ bs) rest → ⊥
+pub no_row_in_last : (d : Dialect) (i : ℕ) (last b : Row) (bs : List Row) (rest : List ℕ) → IsLawful d → IsRow d i last [] → AreRows d i last.text (b ∷ bs) rest → ⊥
 no_row_in_last d i last b bs rest w l (after, e, r, t, rows) =
     let same = row_unique true d i last b [] after w (append-nil last.text ∙ e) l (inr (refl, refl)) r (inl t) in
     nothing_ends d (let P : List ℕ → Type 0 = λ x. 0 < terminator_len d x in subst P (sym same.rest) t)

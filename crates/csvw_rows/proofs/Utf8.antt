@@ -188,3 +188,9 @@ text_ends bytes e = let same : utf8_valid_len bytes ≡ length bytes = grind (ar
   where
     all : (l : List ℕ) → drop (length l) l ≡ []
     all l = grind (arith, common_steps)
+
+-- the content of bytes that go on
+pub content_more : (bytes piece : List ℕ) → (more : List ℕ) × (content (bytes ++ piece) ≡ content bytes ++ more)
+content_more bytes piece =
+    let rest = text_of (drop (utf8_valid_len bytes) bytes ++ piece) in
+    ((if not (is_empty (text_of bytes)) then rest else without_mark rest), ap without_mark (text_more bytes piece) ∙ by_begun (text_of bytes) rest)

@@ -13,3 +13,4 @@ pub mod RowValue
 pub mod SourceState
 pub mod RowsState
 pub mod RowsLending
+pub mod Laws
