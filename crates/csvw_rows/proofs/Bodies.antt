@@ -53,10 +53,11 @@ pub one_given : (d : Dialect) (rows : List Row) (row : Row) (fields : List (List
 one_given d rows row fields e =
     let last : remaining d (1 + length rows) (row ∷ []) ≡ (1 + length rows, fields) ∷ [] = ap (λ o. cons_option o []) e in
     let all = remaining_append d 1 rows (row ∷ []) ∙ ap (λ l. remaining d 1 rows ++ l) last in
-    let place : 0 + length (remaining d 1 rows) ≡ length (remaining d 1 rows) = omega arith in
-    (Body_append d rows (row ∷ []) ∙ ap (λ l. Body d rows ++ map (given d) (enumerate_from (0 + length (remaining d 1 rows)) l)) last
-      ∙ ap (λ n. Body d rows ++ given d (n, (1 + length rows, fields)) ∷ []) place,
-     ap length all ∙ length-append (remaining d 1 rows) ((1 + length rows, fields) ∷ []))
+    let place : 0 + length (remaining d 1 rows) ≡ length (remaining d 1 rows) = omega arith in (
+      Body_append d rows (row ∷ []) ∙ ap (λ l. Body d rows ++ map (given d) (enumerate_from (0 + length (remaining d 1 rows)) l)) last
+          ∙ ap (λ n. Body d rows ++ given d (n, (1 + length rows, fields)) ∷ []) place,
+      ap length all ∙ length-append (remaining d 1 rows) ((1 + length rows, fields) ∷ []),
+    )
 
 -- the texts of fields
 pub texts_of : (t : Trim) (n : ℕ) (values : List (List ℕ)) → drop n (map (λ x. encode_utf8_all (trimmed t x)) values) ≡ map encode_utf8_all (drop n (map (trimmed t) values))

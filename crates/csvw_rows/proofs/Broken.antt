@@ -117,15 +117,26 @@ in_start d text vs values cur src c cs a (sk, pl, same) ih =
         | inl p ↦ by d text vs cur c cs Start Next p.2 (next_field d text vs values cur src c cs a (is_same c d.delimiter p.1) (inl (pl, same)) ih)
         | inr r ↦ elim r [
           | inl p ↦ by d text vs cur c cs Start Open p.3 (ih Inside vs [] values (src ++ c ∷ []) (moved d text values src c cs a) (record {
-              spaces = src; quote = c; inside = []; is_quote = quote_here d.quote_char c p.2; skipped = sk c (quote_here d.quote_char c p.2); units = refl; spelled = refl }))
+            spaces = src;
+            quote = c;
+            inside = [];
+            is_quote = quote_here d.quote_char c p.2;
+            skipped = sk c (quote_here d.quote_char c p.2);
+            units = refl;
+            spelled = refl;
+          }))
           | inr r ↦ elim r [
             | inl p ↦ let skips = and_both d.skip_initial_space (c == 32) p.3 in
-                by d text vs cur c cs Start (Keep Start) p.4 (ih Start vs (cur ++ c ∷ []) values (src ++ c ∷ []) (moved d text values src c cs a)
-                  (λ q h. skipped_snoc d q src c (sk q h) skips.0 (is_same c 32 skips.1) (not_same c d.delimiter p.1) (no_quote_is d.quote_char c q p.2 h),
-                   plain_snoc d src c cs pl (not_same c d.delimiter p.1) (no_quote_here d.quote_char c p.2) (no_ends_is d (c ∷ cs) p.0), ap (λ l. l ++ c ∷ []) same))
-            | inr p ↦ by d text vs cur c cs Start (Keep Plain) p.4 (ih Plain vs (cur ++ c ∷ []) values (src ++ c ∷ []) (moved d text values src c cs a)
-                  (λ q h k. let l = skipped_last d q src c k in no_skip d.skip_initial_space true c p.3 l.0 l.1,
-                   plain_snoc d src c cs pl (not_same c d.delimiter p.1) (no_quote_here d.quote_char c p.2) (no_ends_is d (c ∷ cs) p.0), ap (λ l. l ++ c ∷ []) same))
+                by d text vs cur c cs Start (Keep Start) p.4 (ih Start vs (cur ++ c ∷ []) values (src ++ c ∷ []) (moved d text values src c cs a) (
+                  λ q h. skipped_snoc d q src c (sk q h) skips.0 (is_same c 32 skips.1) (not_same c d.delimiter p.1) (no_quote_is d.quote_char c q p.2 h),
+                  plain_snoc d src c cs pl (not_same c d.delimiter p.1) (no_quote_here d.quote_char c p.2) (no_ends_is d (c ∷ cs) p.0),
+                  ap (λ l. l ++ c ∷ []) same,
+                ))
+            | inr p ↦ by d text vs cur c cs Start (Keep Plain) p.4 (ih Plain vs (cur ++ c ∷ []) values (src ++ c ∷ []) (moved d text values src c cs a) (
+              λ q h k. let l = skipped_last d q src c k in no_skip d.skip_initial_space true c p.3 l.0 l.1,
+              plain_snoc d src c cs pl (not_same c d.delimiter p.1) (no_quote_here d.quote_char c p.2) (no_ends_is d (c ∷ cs) p.0),
+              ap (λ l. l ++ c ∷ []) same,
+            ))
           ]
         ]
       ]
@@ -160,10 +171,10 @@ in_inside d text vs values cur src c cs a o ih =
       | inr r ↦ elim r [
         | inl p ↦ let both = and_both (not d.double_quote) (c == 92) p.1 in
             by d text vs cur c cs Inside (Skip Escaped) p.2 (ih Escaped vs cur values (src ++ c ∷ []) (moved d text values src c cs a)
-              (src, o, ap (λ x. src ++ x ∷ []) (is_same c 92 both.1), not_true d.double_quote both.0))
+            (src, o, ap (λ x. src ++ x ∷ []) (is_same c 92 both.1), not_true d.double_quote both.0))
         | inr p ↦ let n = no_quote_is d.quote_char c o.quote p.0 o.is_quote in
             by d text vs cur c cs Inside (Keep Inside) p.2 (ih Inside vs (cur ++ c ∷ []) values (src ++ c ∷ []) (moved d text values src c cs a)
-              (opened_snoc d src cur (c ∷ []) c o (inl (refl, n, keep_unit d.double_quote o.quote c n p.1))))
+            (opened_snoc d src cur (c ∷ []) c o (inl (refl, n, keep_unit d.double_quote o.quote c n p.1))))
       ]
     ]
 
@@ -172,7 +183,7 @@ in_escaped : (d : Dialect) (text : List ℕ) (vs values : List (List ℕ)) (cur 
 in_escaped d text vs values cur src c cs a (opened, o, e, single) ih =
     let joined : opened ++ 92 ∷ c ∷ [] ≡ src ++ c ∷ [] = sym (append_assoc opened (92 ∷ []) (c ∷ [])) ∙ ap (λ l. l ++ c ∷ []) (sym e) in
     ih Inside vs (cur ++ c ∷ []) values (src ++ c ∷ []) (moved d text values src c cs a)
-      (subst (λ (l : List ℕ). IsOpened d l (cur ++ c ∷ [])) joined (opened_snoc d opened cur (92 ∷ c ∷ []) c o (escape_unit d o.quote c single)))
+    (subst (λ (l : List ℕ). IsOpened d l (cur ++ c ∷ [])) joined (opened_snoc d opened cur (92 ∷ c ∷ []) c o (escape_unit d o.quote c single)))
 
 no_second : (d : Dialect) (c : ℕ) (a : Bool) → (a && quote_is d.quote_char c) ≡ false → IsTrue a → Some c ≢ d.quote_char
 no_second d c true n t = no_quote_here d.quote_char c n
@@ -187,16 +198,27 @@ in_closed d text vs values cur src c cs a (opened, o, e) ih =
         | inl p ↦ by d text vs cur c cs Closed Next p.2 (next_field d text vs values cur src c cs a (is_same c d.delimiter p.1) (inr (opened, o, e)) ih)
         | inr r ↦ elim r [
           | inl p ↦ let no = closed_stops (ends_at d (c ∷ cs)) (c == d.delimiter) (d.double_quote && quote_is d.quote_char c) p in
-              by d text vs cur c cs Closed (Stop TextAfterQuote) p (record { values = values; source = src; value = cur; c = c; rest = cs; before = a; quoted = (opened, o, e);
-                no_delimiter = not_same c d.delimiter no.1; no_terminator = no_ends_is d (c ∷ cs) no.0; no_escape = no_second d c d.double_quote no.2 })
+              by d text vs cur c cs Closed (Stop TextAfterQuote) p (record {
+                values = values;
+                source = src;
+                value = cur;
+                c = c;
+                rest = cs;
+                before = a;
+                quoted = (opened, o, e);
+                no_delimiter = not_same c d.delimiter no.1;
+                no_terminator = no_ends_is d (c ∷ cs) no.0;
+                no_escape = no_second d c d.double_quote no.2;
+              })
           | inr p ↦ let both = and_both d.double_quote (quote_is d.quote_char c) p.0 in
               let is = same_quote d c o.quote (quote_here d.quote_char c both.1) o.is_quote in
               let joined : opened ++ c ∷ c ∷ [] ≡ src ++ c ∷ [] = sym (append_assoc opened (c ∷ []) (c ∷ [])) ∙ ap (λ x. (opened ++ x ∷ []) ++ c ∷ []) is ∙ ap (λ l. l ++ c ∷ []) (sym e) in
               by d text vs cur c cs Closed (Keep Inside) p.1 (ih Inside vs (cur ++ c ∷ []) values (src ++ c ∷ []) (moved d text values src c cs a)
-                (subst (λ (l : List ℕ). IsOpened d l (cur ++ c ∷ [])) joined (opened_snoc d opened cur (c ∷ c ∷ []) c o (subst (λ x. IsUnit d x (c ∷ c ∷ []) c) is (double_unit d c both.0)))))
+              (subst (λ (l : List ℕ). IsOpened d l (cur ++ c ∷ [])) joined (opened_snoc d opened cur (c ∷ c ∷ []) c o (subst (λ x. IsUnit d x (c ∷ c ∷ []) c) is (double_unit d c both.0)))))
         ]
       ]
     ]
+
 pub tells : (d : Dialect) (text : List ℕ) (st : State) (vs : List (List ℕ)) (cur : List ℕ) (values : List (List ℕ)) (src more : List ℕ) → AfterFields d text values (src ++ more)
     → IsReading d st src cur more → Tells d text (run d st vs cur more)
 tells d text st vs cur values src [] a r = (values, src, subst (AfterFields d text values) (append-nil src) a, r)

@@ -60,28 +60,30 @@ unsettled_is d (c ∷ e ∷ cs) = unsettled_is d (e ∷ cs)
 
 pub closing : (d : Dialect) (text : List ℕ) → (more : List ℕ) × (unsettled d text ++ more ≡ terminator_of d)
 closing d text = elim (unsettled_is d text) [
-    | inl e ↦ (terminator_of d, ap (λ l. l ++ terminator_of d) e)
-    | inr p ↦ (10 ∷ [], ap (λ l. l ++ 10 ∷ []) p.0 ∙ sym ((term_crlf d p.1).0))
-  ]
+  | inl e ↦ (terminator_of d, ap (λ l. l ++ terminator_of d) e)
+  | inr p ↦ (10 ∷ [], ap (λ l. l ++ 10 ∷ []) p.0 ∙ sym ((term_crlf d p.1).0))
+]
 
 unsettled_breaks : (d : Dialect) (text : List ℕ) → BeginsBreak (unsettled d text)
 unsettled_breaks d text = elim (unsettled_is d text) [
-    | inl e ↦ subst BeginsBreak (sym e) tt
-    | inr p ↦ subst BeginsBreak (sym p.0) refl
-  ]
+  | inl e ↦ subst BeginsBreak (sym e) tt
+  | inr p ↦ subst BeginsBreak (sym p.0) refl
+]
 
 -- no row ends in what isn't settled
 no_end_there : (d : Dialect) (row after text : List ℕ) → unsettled d text ≡ row ++ after → 0 < terminator_len d after → ⊥
 no_end_there d row after text e h = elim (unsettled_is d text) [
-    | inl u ↦ none row after (sym u ∙ e) h
-    | inr p ↦ one row after (sym p.0 ∙ e) h
-  ]
+  | inl u ↦ none row after (sym u ∙ e) h
+  | inr p ↦ one row after (sym p.0 ∙ e) h
+]
   where
     nil_tests : (crlf lf : Bool) → ◌≡◌ {A = ℕ} (if crlf && false then 2 else (if lf && false then 1 else 0)) 0
     nil_tests crlf lf = grind arith
+
     none : (row after : List ℕ) → [] ≡ row ++ after → 0 < terminator_len d after → ⊥
     none [] after e h = nothing_ends d (let P : List ℕ → Type 0 = λ x. 0 < terminator_len d x in subst P (sym e) h)
     none (r ∷ rs) after e h = absurd cc
+
     one : (row after : List ℕ) → 13 ∷ [] ≡ row ++ after → 0 < terminator_len d after → ⊥
     one [] after e h = let k : 0 < terminator_len d (13 ∷ []) = (let P : List ℕ → Type 0 = λ x. 0 < terminator_len d x in subst P (sym e) h) in omega (arith, nil_tests d.line_terminators.crlf d.line_terminators.lf)
     one (r ∷ rs) after e h = none rs after (cc) h
@@ -171,23 +173,28 @@ continues_note d i part w n e = record {
   where
     s : List ℕ
     s = settled d part
+
     more : List ℕ
     more = (closing d part).0
+
     closed : unsettled d part ++ more ≡ terminator_of d
     closed = (closing d part).1
+
     note_s : is_note d i s ≡ true
     note_s = sym (note_same d i s (unsettled d part) w (unsettled_breaks d part)) ∙ ap (is_note d i) (settled_all d part) ∙ n
+
     found : next_row false d i (s ++ terminator_of d) ≡ Some (None, terminator_of d)
     found = note_next d i (s ++ terminator_of d) (note_stays d i s (terminator_of d) note_s)
-      ∙ ap (option_map (λ l. (None, l))) (line_join d false s (terminator_of d) (subst (Clear d s) closed (settled_clear d part more)) e ∙ line_term d w)
+        ∙ ap (option_map (λ l. (None, l))) (line_join d false s (terminator_of d) (subst (Clear d s) closed (settled_clear d part more)) e ∙ line_term d w)
+
     sure : (other : Row) (rest after : List ℕ) → part ++ rest ≡ other.text ++ after → IsRow d i other after → 0 < terminator_len d after → length s ≤ length other.text
     sure other rest after e' r h =
-      let found = sym (note_next d i (part ++ rest) (note_stays d i part rest n)) ∙ other_found d i part rest after other w e' r h in
-      let line = (line_some (line_of false d (part ++ rest)) other.fields after found).0 in
-      let joined : line_of false d (unsettled d part ++ rest) ≡ Some after =
+        let found = sym (note_next d i (part ++ rest) (note_stays d i part rest n)) ∙ other_found d i part rest after other w e' r h in
+        let line = (line_some (line_of false d (part ++ rest)) other.fields after found).0 in
+        let joined : line_of false d (unsettled d part ++ rest) ≡ Some after =
         sym (ap (line_of false d) (regroup d part rest) ∙ line_join d false s (unsettled d part ++ rest) (settled_clear d part rest) e) ∙ line in
-      let l = line_sound false d (unsettled d part ++ rest) after joined in
-      row_reaches s (unsettled d part ++ rest) other.text after (sym (regroup d part rest) ∙ e') (omega (arith, ap length l.spelled, length-append l.line after))
+        let l = line_sound false d (unsettled d part ++ rest) after joined in
+        row_reaches s (unsettled d part ++ rest) other.text after (sym (regroup d part rest) ∙ e') (omega (arith, ap length l.spelled, length-append l.line after))
 
 -- a text that may become a comment
 pub starts_split : (prefix text : List ℕ) → starts_with nat_eq prefix text ≡ true → (tail : List ℕ) × (prefix ≡ text ++ tail)
@@ -198,8 +205,10 @@ starts_split (p ∷ ps) (c ∷ cs) h = joined (starts_split ps cs) (both (nat_eq
     both : (a b : Bool) → (a && b) ≡ true → (a ≡ true) × (b ≡ true)
     both true b h = (refl, h)
     both false b h = absurd cc
+
     same : (a b : ℕ) → nat_eq a b ≡ true → a ≡ b
     same a b e = grind (arith, nat_tests)
+
     joined : (starts_with nat_eq ps cs ≡ true → (tail : List ℕ) × (ps ≡ cs ++ tail)) → (nat_eq c p ≡ true) × (starts_with nat_eq ps cs ≡ true) → (tail : List ℕ) × (p ∷ ps ≡ c ∷ cs ++ tail)
     joined ih (e, f) = let t = ih f in (t.0, ap (λ x. x ∷ ps) (sym (same c p e)) ∙ ap (λ l. c ∷ l) t.1)
 
@@ -246,11 +255,11 @@ found_not_here d st vs cur part b = by_outcome (finish (run d st vs cur part) fa
   where
     by_outcome : (o : Outcome) → finish (run d st vs cur part) false ≡ o → found_row d o ≡ None
     by_outcome (Found values after) e =
-      let r = sound false d st vs cur part values after e in
-      let t = ends_false d after r.ends in
-      let l = not_inside d part [] r.row after b (append-nil part ∙ r.spelled) t in
-      let z : length after ≡ 0 = omega (arith, ap length r.spelled, length-append r.row after) in
-      absurd (empty after z t)
+        let r = sound false d st vs cur part values after e in
+        let t = ends_false d after r.ends in
+        let l = not_inside d part [] r.row after b (append-nil part ∙ r.spelled) t in
+        let z : length after ≡ 0 = omega (arith, ap length r.spelled, length-append r.row after) in
+        absurd (empty after z t)
       where
         empty : (a : List ℕ) → length a ≡ 0 → 0 < terminator_len d a → ⊥
         empty [] z t = nothing_ends d t
@@ -276,17 +285,22 @@ continues_prefix d i part prefix w o n m = record {
   where
     tail : List ℕ
     tail = (starts_split prefix part m).0
+
     spelled : prefix ≡ part ++ tail
     spelled = (starts_split prefix part m).1
+
     whole : has_break prefix ≡ false
     whole = ap prefix_breaks (sym o) ∙ w.prefix
+
     plain : has_break part ≡ false
     plain = break_front part tail (ap has_break (sym spelled) ∙ whole)
+
     note : is_note d i prefix ≡ true
     note = or_right (nat_lt i d.skip_rows) (begins_with prefix (prefix_of d)) (ap (begins_with prefix) o ∙ starts_itself prefix)
+
     found : next_row false d i (prefix ++ terminator_of d) ≡ Some (None, terminator_of d)
     found = note_next d i (prefix ++ terminator_of d) (note_stays d i prefix (terminator_of d) note)
-      ∙ ap (option_map (λ l. (None, l))) (no_terminators d prefix (terminator_of d) whole ∙ line_term d w)
+        ∙ ap (option_map (λ l. (None, l))) (no_terminators d prefix (terminator_of d) whole ∙ line_term d w)
 
 pub continues_maybe : (d : Dialect) (i : ℕ) (part : List ℕ) → IsLawful d → is_note d i part ≡ false → may_be_note d part ≡ true → Continues d i part (length part)
 continues_maybe d i part w n m = by_prefix (prefix_of d) refl m

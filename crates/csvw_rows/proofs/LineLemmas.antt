@@ -106,12 +106,13 @@ note_part d i text len h e n = by_line (line_true d s (drop len s) e)
   where
     s : List ℕ
     s = settled d text
+
     by_line : ((drop len s ≡ []) × (line_of false d s ≡ None)) ⊎ ((0 < length (drop len s)) × (line_of false d s ≡ Some (drop len s))) → IsFound false d i text len None
     by_line (inl (z, f)) = absurd (omega (arith, h, ap length z, length-drop len s))
     by_line (inr (p, f)) = record {
       within = (let k = settled_short d text in omega (arith, h, k));
       found = note_next d i text n ∙ ap (option_map (λ after. (None, after)))
-        (ap (line_of false d) (sym (settled_all d text)) ∙ line_joins d false s (unsettled d text) (drop len s) (clear_all d text) f ∙ ap Some (drop_settled d text len (omega (arith, h))));
+          (ap (line_of false d) (sym (settled_all d text)) ∙ line_joins d false s (unsettled d text) (drop len s) (clear_all d text) f ∙ ap Some (drop_settled d text len (omega (arith, h))));
     }
 
 pub note_open : (d : Dialect) (i : ℕ) (text : List ℕ) (len : ℕ) → IsLawful d → len ≤ length (settled d text) → (len < length (settled d text) → ⊥) → line_of true d (settled d text) ≡ Some (drop len (settled d text))
@@ -120,6 +121,7 @@ note_open d i text len w h k e n = by_line (line_true d s (drop len s) e)
   where
     s : List ℕ
     s = settled d text
+
     by_line : ((drop len s ≡ []) × (line_of false d s ≡ None)) ⊎ ((0 < length (drop len s)) × (line_of false d s ≡ Some (drop len s))) → Continues d i text (length s)
     by_line (inl (z, f)) = continues_note d i text w n f
     by_line (inr (p, f)) = absurd (omega (arith, h, k, p, length-drop len s))
@@ -137,7 +139,7 @@ pub found_part : (d : Dialect) (i : ℕ) (text : List ℕ) (len : ℕ) (values :
 found_part d i text len values h e n = record {
   within = (let k = settled_short d text in omega (arith, h, k));
   found = fields_next false d i text n ∙ ap (λ o. found_row d (finish o false))
-    (run_whole d text ∙ ap (λ o. goes_on d o (unsettled d text)) e ∙ ap (Found values) (drop_settled d text len h));
+      (run_whole d text ∙ ap (λ o. goes_on d o (unsettled d text)) e ∙ ap (Found values) (drop_settled d text len h));
 }
 
 pub broken_part : (d : Dialect) (text : List ℕ) (stop : RowStop) (at : ℕ) → at < length (settled d text) → run d Start [] [] (settled d text) ≡ Broken stop (drop at (settled d text))
@@ -156,7 +158,7 @@ pub last_whole : (d : Dialect) (i : ℕ) (text : List ℕ) (st : State) (vs push
 last_whole d i text st vs pushed cur e q p n = record {
   within = omega arith;
   found = fields_next true d i text n ∙ ap (λ o. found_row d (finish o true)) e ∙ ap (found_row d) (unquoted_ends st vs cur q)
-    ∙ ap (λ l. Some (Some (map (trimmed d.trim) l), [])) (sym p) ∙ ap (λ l. Some (Some (map (trimmed d.trim) pushed), l)) (sym (drop_all (length text) text (omega arith)));
+      ∙ ap (λ l. Some (Some (map (trimmed d.trim) l), [])) (sym p) ∙ ap (λ l. Some (Some (map (trimmed d.trim) pushed), l)) (sym (drop_all (length text) text (omega arith)));
 }
 
 -- a broken rule leaves some of the text

@@ -78,8 +78,8 @@ term_view d (c ∷ e ∷ cs) h = by_crlf (d.line_terminators.crlf && (nat_eq 13 
   where
     by_crlf : (b : Bool) → (d.line_terminators.crlf && (nat_eq 13 c && (nat_eq 10 e && true))) ≡ b → Term d (c ∷ e ∷ cs)
     by_crlf true k =
-      let p = and_three d.line_terminators.crlf (nat_eq 13 c) (nat_eq 10 e) k in
-      record { first = 13; others = 10 ∷ []; rest = cs; spelled = ap (λ x. x ∷ e ∷ cs) (is_char 13 c p.1) ∙ ap (λ x. 13 ∷ x ∷ cs) (is_char 10 e p.2); again = λ more. crlf_again d more p.0 }
+        let p = and_three d.line_terminators.crlf (nat_eq 13 c) (nat_eq 10 e) k in
+        record { first = 13; others = 10 ∷ []; rest = cs; spelled = ap (λ x. x ∷ e ∷ cs) (is_char 13 c p.1) ∙ ap (λ x. 13 ∷ x ∷ cs) (is_char 10 e p.2); again = λ more. crlf_again d more p.0 }
     by_crlf false k = lf_term d c (e ∷ cs) (one_end d.line_terminators.crlf d.line_terminators.lf (nat_eq 13 c) (nat_eq 10 c) (nat_eq 10 e && true) false h k)
 
 pub term_is : (d : Dialect) (after : List ℕ) (t : Term d after) → terminator_len d after ≡ length (t.first ∷ t.others)
@@ -127,7 +127,7 @@ rows_again d i text (row ∷ rows) rest (after, e, r, h, are) = more_rows (term_
     more_rows t a = record {
       front = row.text ++ (t.first ∷ t.others ++ a.front);
       spelled = e ∙ ap (λ l. row.text ++ l) (t.spelled ∙ ap (λ l. t.first ∷ t.others ++ l) (sym (behind_term d after t) ∙ a.spelled) ∙ sym (append_assoc (t.first ∷ t.others) a.front rest))
-        ∙ sym (append_assoc row.text (t.first ∷ t.others ++ a.front) rest);
+          ∙ sym (append_assoc row.text (t.first ∷ t.others ++ a.front) rest);
       again = λ more. (
         t.first ∷ t.others ++ (a.front ++ more),
         append_assoc row.text (t.first ∷ t.others ++ a.front) more ∙ ap (λ l. row.text ++ l) (append_assoc (t.first ∷ t.others) a.front more),

@@ -85,14 +85,15 @@ end_named d max i text k w few none e = by_length (cases_le (byte_len (take k te
   where
     by_seen : byte_len (take k text) ≤ row_limit → Sees d i (take k text) → (row_limit < byte_len (take k text)) ⊎ ((stop : RowStop) × Breaks d i (take k text) stop)
     by_seen h (inl r) =
-      let whole = row_in d i text k r in
-      let fits : byte_len r.row.text ≤ byte_len (take k text) = (let n = byte_len_take (length r.row.text) (take k text) in
+        let whole = row_in d i text k r in
+        let fits : byte_len r.row.text ≤ byte_len (take k text) = (let n = byte_len_take (length r.row.text) (take k text) in
         omega (arith, n, ap byte_len (same_front (take k text) [] r.row.text r.after (length r.row.text) (append-nil (take k text) ∙ r.spelled) (omega (arith, ap length r.spelled, length-append r.row.text r.after)) (omega arith)), ap byte_len (take_all (length r.row.text) r.row.text (omega arith)))) in
-      absurd (none few whole.row whole.after whole.spelled whole.is_row whole.ends (omega (arith, fits, h)))
+        absurd (none few whole.row whole.after whole.spelled whole.is_row whole.ends (omega (arith, fits, h)))
     by_seen h (inr (inl (len, c))) =
-      let n = byte_len_take len (take k text) in
-      absurd (not_both d max i (take k text) w (inr (few, record { row = c.row; more = c.more; spelled = c.spelled; is_row = c.is_row; short = omega (arith, h, n, ap byte_len c.fits) })) e)
+        let n = byte_len_take len (take k text) in
+        absurd (not_both d max i (take k text) w (inr (few, record { row = c.row; more = c.more; spelled = c.spelled; is_row = c.is_row; short = omega (arith, h, n, ap byte_len c.fits) })) e)
     by_seen h (inr (inr b)) = inr b
+
     by_length : (byte_len (take k text) ≤ row_limit) ⊎ (row_limit < byte_len (take k text)) → (row_limit < byte_len (take k text)) ⊎ ((stop : RowStop) × Breaks d i (take k text) stop)
     by_length (inr h) = inl h
     by_length (inl h) = by_seen h (sees d i (take k text) w)
@@ -100,9 +101,9 @@ end_named d max i text k w few none e = by_length (cases_le (byte_len (take k te
 -- whether a whole text goes on
 whole_goes : (d : Dialect) (max i : ℕ) (text : List ℕ) → IsLawful d → NoRow d max i text → Goes d max i text ⊎ Ends d max i (take (length text) text)
 whole_goes d max i text w none = elim (decide_part d max i text [] w (subst (NoRow d max i) (sym (append-nil text)) none)) [
-    | inl g ↦ inl g
-    | inr e ↦ inr (subst (Ends d max i) (sym (take_all (length text) text (omega arith))) e)
-  ]
+  | inl g ↦ inl g
+  | inr e ↦ inr (subst (Ends d max i) (sym (take_all (length text) text (omega arith))) e)
+]
 
 -- no row is found
 none_complete : (d : Dialect) (max i : ℕ) (text : List ℕ) → IsLawful d → next_row false d i text ≡ None → NoRow d max i text
@@ -125,16 +126,19 @@ wrong_stops whole d max i text len stop w few some g short = record {
   where
     none : NoRow d max i text
     none = none_complete d max i text w g.no_row.1
+
     in_text : (f : FirstEnd d max i text (length text)) → f.at ≤ len → IsNamed d max i (take f.at text) false stop
     in_text f h = by_name (end_named d max i text f.at w few none f.ends)
       where
         less : byte_len (take f.at text) ≤ row_limit
         less = (let n = byte_len_less f.at len text h in omega (arith, n, short))
+
         by_name : (row_limit < byte_len (take f.at text)) ⊎ ((s : RowStop) × Breaks d i (take f.at text) s) → IsNamed d max i (take f.at text) false stop
         by_name (inl long) = absurd (omega (arith, long, less))
         by_name (inr (s, b)) =
-          let same = (g.first f.at s (let h = f.within in omega (arith, h)) b).1 in
-          named_of d max i (take f.at text) false stop less (subst (IsBroken d i (take f.at text) false) same (breaks_named d i (take f.at text) s b))
+            let same = (g.first f.at s (let h = f.within in omega (arith, h)) b).1 in
+            named_of d max i (take f.at text) false stop less (subst (IsBroken d i (take f.at text) false) same (breaks_named d i (take f.at text) s b))
+
     at_len : Breaks d i (take len text) stop → Ends d max i (take len text)
     at_len b = record {
       some = λ e. empty e;
@@ -143,6 +147,7 @@ wrong_stops whole d max i text len stop w few some g short = record {
       where
         empty : take len text ≡ [] → ⊥
         empty e = let z = ap (λ l. run d Start [] [] (settled d l)) (sym e) ∙ b.broken in cc
+
     by_end : Goes d max i text ⊎ Ends d max i (take (length text) text)
         → ((f : FirstEnd d max i text (length text)) × IsNamed d max i (take f.at text) false stop) ⊎ ((whole ≡ true) × Goes d max i text × IsNamed d max i text true stop)
     by_end (inl goes) = by_stands g.stands
@@ -150,22 +155,22 @@ wrong_stops whole d max i text len stop w few some g short = record {
         by_stands : Breaks d i (take len text) stop ⊎ ((whole ≡ true) × (len ≡ length text))
             → ((f : FirstEnd d max i text (length text)) × IsNamed d max i (take f.at text) false stop) ⊎ ((whole ≡ true) × Goes d max i text × IsNamed d max i text true stop)
         by_stands (inl b) =
-          let f = first_end d max i text len w none (at_len b) in
-          let within = f.within in
-          let inside = g.within in
-          let full : FirstEnd d max i text (length text) = record { at = f.at; within = omega (arith, within, inside); ends = f.ends; before = f.before } in
-          inl (full, in_text full within)
+            let f = first_end d max i text len w none (at_len b) in
+            let within = f.within in
+            let inside = g.within in
+            let full : FirstEnd d max i text (length text) = record { at = f.at; within = omega (arith, within, inside); ends = f.ends; before = f.before } in
+            inl (full, in_text full within)
         by_stands (inr (t, e)) = inr (t, goes, named_of d max i text true stop (omega (arith, short, ap byte_len (take_all len text (omega (arith, e))))) (g.is_broken t))
     by_end (inr ends) = by_stands g.stands
       where
         by_stands : Breaks d i (take len text) stop ⊎ ((whole ≡ true) × (len ≡ length text))
             → ((f : FirstEnd d max i text (length text)) × IsNamed d max i (take f.at text) false stop) ⊎ ((whole ≡ true) × Goes d max i text × IsNamed d max i text true stop)
         by_stands (inl b) =
-          let f = first_end d max i text len w none (at_len b) in
-          let within = f.within in
-          let inside = g.within in
-          let full : FirstEnd d max i text (length text) = record { at = f.at; within = omega (arith, within, inside); ends = f.ends; before = f.before } in
-          inl (full, in_text full within)
+            let f = first_end d max i text len w none (at_len b) in
+            let within = f.within in
+            let inside = g.within in
+            let full : FirstEnd d max i text (length text) = record { at = f.at; within = omega (arith, within, inside); ends = f.ends; before = f.before } in
+            inl (full, in_text full within)
         by_stands (inr (t, e)) = let f = first_end d max i text (length text) w none ends in let within = f.within in inl (f, in_text f (omega (arith, within, e)))
 
 -- too many rows
@@ -175,12 +180,15 @@ many_stops whole d max i (c ∷ cs) e some = record {
   some = some;
   no_row = λ few row after s r h short. omega (arith, few, e);
   no_last = λ t few row s r short. omega (arith, few, e);
-  stands = inl (record {
+  stands = inl (
+    record {
       at = 1;
       within = omega arith;
       ends = record { some = λ f. cc; none = λ few row more after s r h short. omega (arith, few, e) };
       before = λ k h. inl (ap (λ n. take n (c ∷ cs)) (let z : k ≡ 0 = omega (arith, h) in z));
-    }, (refl, e));
+    },
+    (refl, e),
+  );
 }
 
 -- a row that is found
@@ -197,9 +205,16 @@ pub record Seen (whole : Bool) (d : Dialect) (i : ℕ) (text : List ℕ) (len : 
 pub seen_of : (whole : Bool) (d : Dialect) (i : ℕ) (text : List ℕ) (len : ℕ) (fields : Option (List (List ℕ))) → IsLawful d → IsFound whole d i text len fields → Seen whole d i text len fields
 seen_of whole d i text len fields w f =
     let r = row_sound whole d i text fields (drop len text) w f.found in
-    record { row = record { text = r.row; fields = fields }; rest = drop len text; fields_are = refl;
+    record {
+      row = record { text = r.row; fields = fields };
+      rest = drop len text;
+      fields_are = refl;
       text_is = append_cancel_right r.row (take len text) (drop len text) (sym r.spelled ∙ sym (take-append-drop len text));
-      rest_is = refl; spelled = r.spelled; is_row = r.is_row; ends = r.ends }
+      rest_is = refl;
+      spelled = r.spelled;
+      is_row = r.is_row;
+      ends = r.ends;
+    }
 
 as_true : (whole : Bool) (d : Dialect) (rest : List ℕ) → EndsRow whole d rest → EndsRow true d rest
 as_true whole d rest (inl h) = inl h
@@ -229,22 +244,26 @@ module _ (whole : Bool) (d : Dialect) (max i : ℕ) (text : List ℕ) (len : ℕ
     where
       none : NoRow d max i text
       none few row after e r h short = omega (arith, long, short, ap byte_len (seen_same whole d i text len fields w s row after e r (inl h)))
+
       last : NoLast d max i text
       last few row e r short = omega (arith, long, short, ap byte_len (seen_same whole d i text len fields w s row [] (e ∙ sym (append-nil row.text)) r (inr (refl, refl))))
+
       breaks : (k : ℕ) (stop : RowStop) → k ≤ length text → Breaks d i (take k text) stop → row_limit < byte_len (take k text)
       breaks k stop h b = let z = sym (breaks_next whole d i text k stop b) ∙ f.found in absurd cc
+
       by_rest : Goes d max i text → EndsRow whole d s.rest → (whole ≡ true) × (row_limit < byte_len text)
       by_rest g (inl h) = absurd (complete g)
         where
           complete : Goes d max i text → ⊥
           complete (inl e) = some e
           complete (inr (few, t)) =
-            let same = row_unique false d i s.row t.row (s.rest ++ t.more) (terminator_of d) w (sym (append_assoc s.row.text s.rest t.more) ∙ ap (λ l. l ++ t.more) (sym s.spelled) ∙ t.spelled)
+              let same = row_unique false d i s.row t.row (s.rest ++ t.more) (terminator_of d) w (sym (append_assoc s.row.text s.rest t.more) ∙ ap (λ l. l ++ t.more) (sym s.spelled) ∙ t.spelled)
               (row_stays d i s.row s.rest t.more s.is_row h) (inl (let k = h in omega (arith, k, term_stays d s.rest t.more h))) t.is_row (inl (term_some d w)) in
-            let whole_row : take (length text) t.row.text ≡ t.row.text = take_all (length text) t.row.text (omega (arith, ap length s.spelled, length-append s.row.text s.rest, ap (λ (x : Row). length x.text) same.row)) in
-            let short = t.short in
-            omega (arith, long, short, ap byte_len whole_row, ap (λ (x : Row). byte_len x.text) same.row, ap byte_len s.text_is)
+              let whole_row : take (length text) t.row.text ≡ t.row.text = take_all (length text) t.row.text (omega (arith, ap length s.spelled, length-append s.row.text s.rest, ap (λ (x : Row). length x.text) same.row)) in
+              let short = t.short in
+              omega (arith, long, short, ap byte_len whole_row, ap (λ (x : Row). byte_len x.text) same.row, ap byte_len s.text_is)
       by_rest g (inr (t, e)) = (t, (let z : row_limit < byte_len text = omega (arith, long, ap byte_len (sym s.text_is), ap byte_len (s.spelled ∙ ap (λ l. s.row.text ++ l) e ∙ append-nil s.row.text)) in z))
+
       by_end : Goes d max i text ⊎ Ends d max i (take (length text) text) → InText ⊎ ((whole ≡ true) × Goes d max i text × IsNamed d max i text true RowTooLong)
       by_end (inl g) = let r = by_rest g s.ends in inr (r.0, g, r.1)
       by_end (inr e) = inl (long_text none breaks e)
@@ -255,17 +274,20 @@ module _ (whole : Bool) (d : Dialect) (max i : ℕ) (text : List ℕ) (len : ℕ
     where
       none : NoRow d max i text
       none = none_complete d max i text w c.incomplete
+
       breaks : (k : ℕ) (stop : RowStop) → k ≤ length text → Breaks d i (take k text) stop → row_limit < byte_len (take k text)
       breaks k stop h b = absurd (breaks_none d i (take k text) stop w b c.row (drop k text ++ c.more) (terminator_of d)
-        (sym (append_assoc (take k text) (drop k text) c.more) ∙ ap (λ l. l ++ c.more) (take-append-drop k text) ∙ c.spelled) c.is_row (term_some d w))
+          (sym (append_assoc (take k text) (drop k text) c.more) ∙ ap (λ l. l ++ c.more) (take-append-drop k text) ∙ c.spelled) c.is_row (term_some d w))
+
       too_long : Goes d max i text → ⊥
       too_long (inl e) = some e
       too_long (inr (few, f)) =
-        let sure = c.sure f.row f.more (terminator_of d) f.spelled f.is_row (term_some d w) in
-        let within = c.within in
-        let short = f.short in
-        let k = byte_len_less len (length text) f.row.text within in
-        omega (arith, long, short, k, ap byte_len (same_front text f.more f.row.text (terminator_of d) len f.spelled within sure))
+          let sure = c.sure f.row f.more (terminator_of d) f.spelled f.is_row (term_some d w) in
+          let within = c.within in
+          let short = f.short in
+          let k = byte_len_less len (length text) f.row.text within in
+          omega (arith, long, short, k, ap byte_len (same_front text f.more f.row.text (terminator_of d) len f.spelled within sure))
+
       by_end : Goes d max i text ⊎ Ends d max i (take (length text) text) → InText ⊎ ((whole ≡ true) × Goes d max i text × IsNamed d max i text true RowTooLong)
       by_end (inl g) = absurd (too_long g)
       by_end (inr e) = inl (long_text none breaks e)
@@ -276,13 +298,16 @@ module _ (whole : Bool) (d : Dialect) (max i : ℕ) (text : List ℕ) (len : ℕ
     where
       none : NoRow d max i text
       none = none_complete d max i text w g.no_row.1
+
       breaks : (k : ℕ) (stop : RowStop) → k ≤ length text → Breaks d i (take k text) stop → row_limit < byte_len (take k text)
       breaks k stop h b = let l = (g.first k stop h b).0 in let n = byte_len_less len k text l in omega (arith, n, long)
+
       by_stands : Goes d max i text → Breaks d i (take len text) stop ⊎ ((whole ≡ true) × (len ≡ length text)) → (whole ≡ true) × (row_limit < byte_len text)
       by_stands (inl e) b = absurd (some e)
       by_stands (inr (few, f)) (inl b) = absurd (breaks_none d i (take len text) stop w b f.row (drop len text ++ f.more) (terminator_of d)
-        (sym (append_assoc (take len text) (drop len text) f.more) ∙ ap (λ l. l ++ f.more) (take-append-drop len text) ∙ f.spelled) f.is_row (term_some d w))
+          (sym (append_assoc (take len text) (drop len text) f.more) ∙ ap (λ l. l ++ f.more) (take-append-drop len text) ∙ f.spelled) f.is_row (term_some d w))
       by_stands g (inr (t, e)) = (t, (let z : row_limit < byte_len text = omega (arith, long, ap byte_len (take_all len text (omega (arith, e)))) in z))
+
       by_end : Goes d max i text ⊎ Ends d max i (take (length text) text) → InText ⊎ ((whole ≡ true) × Goes d max i text × IsNamed d max i text true RowTooLong)
       by_end (inl goes) = let r = by_stands goes g.stands in inr (r.0, goes, r.1)
       by_end (inr e) = inl (long_text none breaks e)
@@ -302,47 +327,73 @@ found_takes whole d max i text behind len t fields w few some f short eb et with
   where
     s : Seen whole d i text len fields
     s = seen_of whole d i text len fields w f
+
     count : length (take len text) ≡ len
     count = let h = f.within in omega (arith, h, ap length s.text_is, ap length s.spelled, length-append s.row.text s.rest, ap length s.rest_is, length-drop len text)
+
     tl : t ≡ terminator_len d s.rest
     tl = et ∙ ap (terminator_len d) (eb ∙ sym s.rest_is)
+
     inside : length (take len text) + t ≤ length text
     inside = let h = f.within in omega (arith, count, within, h, ap length eb, length-drop len text)
+
     passed : drop (length (take len text) + t) text ≡ drop (terminator_len d s.rest) s.rest
     passed = ap (λ n. drop (n + t) text) count ∙ sym (drop-drop t len text) ∙ ap (drop t) (sym s.rest_is) ∙ ap (λ n. drop n s.rest) tl
+
     row_short : byte_len s.row.text ≤ row_limit
     row_short = omega (arith, short, ap byte_len s.text_is)
+
     by_ends : EndsRow whole d s.rest → TakesRow whole d max i text (length (take len text) + t) fields
-    by_ends (inl h) = record { some = omega (arith, h, tl); within = inside; few = few; row = s.row; fields_are = s.fields_are; short = row_short;
-      stands = inl (s.rest, s.spelled, s.is_row, h, passed) }
-    by_ends (inr (o, e)) = record { some = long_enough; within = inside; few = few; row = s.row; fields_are = s.fields_are; short = row_short;
-      stands = inr (o, all, subst (IsRow d i s.row) e s.is_row, passed ∙ ap (λ l. drop (terminator_len d l) l) e ∙ drop_none (terminator_len d []), goes) }
+    by_ends (inl h) = record {
+      some = omega (arith, h, tl);
+      within = inside;
+      few = few;
+      row = s.row;
+      fields_are = s.fields_are;
+      short = row_short;
+      stands = inl (s.rest, s.spelled, s.is_row, h, passed);
+    }
+    by_ends (inr (o, e)) = record {
+      some = long_enough;
+      within = inside;
+      few = few;
+      row = s.row;
+      fields_are = s.fields_are;
+      short = row_short;
+      stands = inr (o, all, subst (IsRow d i s.row) e s.is_row, passed ∙ ap (λ l. drop (terminator_len d l) l) e ∙ drop_none (terminator_len d []), goes);
+    }
       where
         all : text ≡ s.row.text
         all = s.spelled ∙ ap (λ l. s.row.text ++ l) e ∙ append-nil s.row.text
+
         drop_none : (n : ℕ) → drop n (let e : List ℕ = [] in e) ≡ []
         drop_none zero = refl
         drop_none (suc n) = refl
+
         length_some : (l : List ℕ) → l ≢ [] → 0 < length l
         length_some [] n = absurd (n refl)
         length_some (x ∷ xs) n = omega arith
+
         long_enough : 0 < length (take len text) + t
         long_enough = let k = length_some text some in omega (arith, k, ap length all, ap length s.text_is)
+
         fits : byte_len text ≤ row_limit
         fits = omega (arith, row_short, ap byte_len all)
+
         found : next_row true d i text ≡ Some (s.row.fields, [])
         found = ap (next_row true d i) (all ∙ sym (append-nil s.row.text)) ∙ row_complete true d i s.row [] w (subst (IsRow d i s.row) e s.is_row) (inr (refl, refl))
+
         goes : Goes d max i text
         goes = by_seen (sees d i text w)
           where
             by_seen : Sees d i text → Goes d max i text
             by_seen (inl r) =
-              let same = row_unique true d i r.row s.row r.after [] w (sym r.spelled ∙ all ∙ sym (append-nil s.row.text)) r.is_row (inl r.ends) (subst (IsRow d i s.row) e s.is_row) (inr (refl, refl)) in
-              absurd (nothing_ends d (let P : List ℕ → Type 0 = λ x. 0 < terminator_len d x in subst P same.rest r.ends))
+                let same = row_unique true d i r.row s.row r.after [] w (sym r.spelled ∙ all ∙ sym (append-nil s.row.text)) r.is_row (inl r.ends) (subst (IsRow d i s.row) e s.is_row) (inr (refl, refl)) in
+                absurd (nothing_ends d (let P : List ℕ → Type 0 = λ x. 0 < terminator_len d x in subst P same.rest r.ends))
             by_seen (inr (inl (n, c))) = let k = byte_len_take n text in inr (few, record { row = c.row; more = c.more; spelled = c.spelled; is_row = c.is_row; short = omega (arith, k, fits, ap byte_len c.fits) })
             by_seen (inr (inr (stop, b))) =
-              let whole_text = take_all (length text) text (omega arith) in
-              let z = sym (breaks_next true d i text (length text) stop (subst (λ l. Breaks d i l stop) (sym whole_text) b)) ∙ found in absurd cc
+                let whole_text = take_all (length text) text (omega arith) in
+                let z = sym (breaks_next true d i text (length text) stop (subst (λ l. Breaks d i l stop) (sym whole_text) b)) ∙ found in absurd cc
 
 pub open_waits : (d : Dialect) (max i : ℕ) (text : List ℕ) (len : ℕ) → IsLawful d → i < max → Continues d i text len → byte_len (take len text) ≤ row_limit → Goes d max i text × NoRow d max i text
 open_waits d max i text len w few c short =

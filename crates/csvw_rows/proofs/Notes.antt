@@ -81,6 +81,7 @@ starts_never (p ∷ ps) (c ∷ cs) more h k = neither (nat_eq p c) (nat_eq c p) 
   where
     order : (a b : ℕ) → nat_eq a b ≡ nat_eq b a
     order a b = grind (arith, nat_tests)
+
     neither : (a b x y z : Bool) → (a ≡ true → b ≡ true) → (a && x) ≡ false → (b && y) ≡ false → (x ≡ false → y ≡ false → z ≡ false) → (a && z) ≡ false
     neither false b x y z f h k g = refl
     neither true true x y z f h k g = g h k

@@ -45,18 +45,30 @@ takes_reads d max bytes ended whole rest rows len i fields w known h place t = r
   where
     limits : KeepsLimits max (rows ++ t.row ∷ [])
     limits = (let few = t.few in let c : length (rows ++ t.row ∷ []) ≤ max = omega (arith, few, place, length-append rows (t.row ∷ [])) in c, All-push IsShort rows t.row h.limits.1 t.short)
+
     by_stands : AreRows d 0 (content bytes) rows rest → StandsThere whole d max i rest len t.row
         → AreRows d 0 (content bytes) (rows ++ t.row ∷ []) (drop len rest) ⊎ ((ended ≡ true) × (is_text bytes ≡ true) × EndsOpen d (content bytes) (rows ++ t.row ∷ []) × (drop len rest ≡ []) × Begins d max (content bytes))
     by_stands are (inl (after, e, r, k, behind)) =
-      inl (subst (AreRows d 0 (content bytes) (rows ++ t.row ∷ [])) (sym behind)
+        inl (subst (AreRows d 0 (content bytes) (rows ++ t.row ∷ [])) (sym behind)
         (rows_snoc d 0 (content bytes) rows rest after t.row are e (subst (λ (n : ℕ). IsRow d n t.row after) (place ∙ sym (zero-add (length rows))) r) k))
     by_stands are (inr (o, e, r, behind, g)) =
-      let some = t.some in
-      let within = t.within in
-      inr ((known o).0, (known o).1, record {
-          front = rows; last = t.row; all = refl; before = subst (AreRows d 0 (content bytes) rows) e are; is_row = subst (λ (n : ℕ). IsRow d n t.row []) place r;
-          not_empty = λ z. omega (arith, some, within, ap length (e ∙ z));
-        }, behind, goes_on_begins d max (content bytes) rows rest w are h.limits (subst (λ (n : ℕ). Goes d max n rest) place g))
+        let some = t.some in
+        let within = t.within in
+        inr (
+          (known o).0,
+          (known o).1,
+          record {
+            front = rows;
+            last = t.row;
+            all = refl;
+            before = subst (AreRows d 0 (content bytes) rows) e are;
+            is_row = subst (λ (n : ℕ). IsRow d n t.row []) place r;
+            not_empty = λ z. omega (arith, some, within, ap length (e ∙ z));
+          },
+          behind,
+          goes_on_begins d max (content bytes) rows rest w are h.limits (subst (λ (n : ℕ). Goes d max n rest) place g),
+        )
+
     by_reached : AreRows d 0 (content bytes) rows rest ⊎ ((ended ≡ true) × (is_text bytes ≡ true) × EndsOpen d (content bytes) rows × (rest ≡ []) × Begins d max (content bytes))
         → AreRows d 0 (content bytes) (rows ++ t.row ∷ []) (drop len rest) ⊎ ((ended ≡ true) × (is_text bytes ≡ true) × EndsOpen d (content bytes) (rows ++ t.row ∷ []) × (drop len rest ≡ []) × Begins d max (content bytes))
     by_reached (inl are) = by_stands are t.stands
@@ -91,14 +103,16 @@ waits_done d max bytes ended rest rows w h g none at_end text = by_reached h.rea
   where
     file_of : ended ≡ true → AreAllRows d (content bytes) rows → File d max bytes rows
     file_of e all = record { is_utf8 = (at_end e).0; are_rows = all; limits = h.limits }
+
     by_ended : (b : Bool) → ended ≡ b → AreRows d 0 (content bytes) rows rest → Front d max bytes ended rows
     by_ended true e are = inl (e, file_of e (inl (subst (AreRows d 0 (content bytes) rows) (at_end e).1 are)))
     by_ended false e are = inr ((λ t others f. let z = sym t ∙ e in absurd cc), are_longest d max (content bytes) rows rest w are h.limits none)
+
     by_reached : AreRows d 0 (content bytes) rows rest ⊎ ((ended ≡ true) × (is_text bytes ≡ true) × EndsOpen d (content bytes) rows × (rest ≡ []) × Begins d max (content bytes)) → Done d max bytes ended rows
     by_reached (inl are) = record {
       is_front = by_ended ended refl are;
       none = no_stop d max bytes ended (goes_on_begins d max (content bytes) rows rest w are h.limits g) text
-        (λ e. (rows, file_of e (inl (subst (AreRows d 0 (content bytes) rows) (at_end e).1 are))));
+          (λ e. (rows, file_of e (inl (subst (AreRows d 0 (content bytes) rows) (at_end e).1 are))));
     }
     by_reached (inr (a, b, o, e, k)) = record { is_front = inl (a, file_of a (inr o)); none = no_stop d max bytes ended k text (λ e. (rows, file_of e (inr o))) }
 
@@ -117,10 +131,13 @@ here_stopped d max bytes ended whole rest rows stop w known back h s = by_reache
       where
         again : Again d 0 (content bytes) rows rest
         again = rows_again d 0 (content bytes) rows rest are
+
         no_file : ended ≡ true → (others : List Row) → File d max bytes others → ⊥
         no_file e others f = not_all d max (content bytes) rows rest w are h.limits s.no_row (s.no_last (back e f.is_utf8)) s.some others f.are_rows f.limits
+
         is_front : Front d max bytes ended rows
         is_front = inr (no_file, are_longest d max (content bytes) rows rest w are h.limits s.no_row)
+
         by_stands : ((f : FirstEnd d max (length rows) rest (length rest)) × IsNamed d max (length rows) (take f.at rest) false stop) ⊎ ((whole ≡ true) × Goes d max (length rows) rest × IsNamed d max (length rows) rest true stop)
             → StopsInText d max bytes rows stop ⊎ (StopsInBytes d max bytes ended stop ⊎ StopsAtEnd d max bytes ended rows stop)
         by_stands (inl (f, name)) = inl (record {
@@ -139,6 +156,7 @@ here_stopped d max bytes ended whole rest rows stop w known back h s = by_reache
           behind = are;
           is_named = name;
         }))
+
     by_reached : AreRows d 0 (content bytes) rows rest ⊎ ((ended ≡ true) × (is_text bytes ≡ true) × EndsOpen d (content bytes) rows × (rest ≡ []) × Begins d max (content bytes)) → Stopped d max bytes ended rows stop
     by_reached (inl are) = by_are are
     by_reached (inr (a, b, o, e, k)) = absurd (s.some e)
@@ -150,16 +168,26 @@ bytes_stopped d max bytes ended rest rows w h g none text bad = by_reached h.rea
     some_of : (o : Option ℕ) → is_some o ≡ true → IsSome o
     some_of None e = absurd cc
     some_of (Some x) e = refl
+
     by_are : AreRows d 0 (content bytes) rows rest → Stopped d max bytes ended rows NotUtf8
-    by_are are = record { is_front = is_front; stands = record { front = rows; is_front = is_front; number = refl; stands = inr (inl (record {
-        begins = goes_on_begins d max (content bytes) rows rest w are h.limits g;
-        no_text = text;
-        is_bad = elim bad [ inl e ↦ inl e | inr e ↦ inr (some_of (utf8_error_len (drop (utf8_valid_len bytes) bytes)) e) ];
-        is_name = refl;
-      })) } }
+    by_are are = record {
+      is_front = is_front;
+      stands = record {
+        front = rows;
+        is_front = is_front;
+        number = refl;
+        stands = inr (inl (record {
+          begins = goes_on_begins d max (content bytes) rows rest w are h.limits g;
+          no_text = text;
+          is_bad = elim bad [ inl e ↦ inl e | inr e ↦ inr (some_of (utf8_error_len (drop (utf8_valid_len bytes) bytes)) e) ];
+          is_name = refl;
+        }));
+      };
+    }
       where
         is_front : Front d max bytes ended rows
         is_front = inr ((λ t others f. let z = sym f.is_utf8 ∙ text in absurd cc), are_longest d max (content bytes) rows rest w are h.limits none)
+
     by_reached : AreRows d 0 (content bytes) rows rest ⊎ ((ended ≡ true) × (is_text bytes ≡ true) × EndsOpen d (content bytes) rows × (rest ≡ []) × Begins d max (content bytes)) → Stopped d max bytes ended rows NotUtf8
     by_reached (inl are) = by_are are
     by_reached (inr (a, b, o, e, k)) = let z = sym b ∙ text in absurd cc

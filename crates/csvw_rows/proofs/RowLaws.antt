@@ -34,8 +34,12 @@ line_step f d c cs after true e h ih =
     record { line = []; spelled = same; none = tt; ends = subst (EndsRow f d) same (inl (ends_is d (c ∷ cs) e)) }
 line_step f d c cs after false e h ih =
     let r = ih h in
-    record { line = c ∷ r.line; spelled = ap (λ l. c ∷ l) r.spelled;
-      none = (subst (λ (x : List ℕ). terminator_len d (c ∷ x) ≡ 0) r.spelled (no_ends_is d (c ∷ cs) e), r.none); ends = r.ends }
+    record {
+      line = c ∷ r.line;
+      spelled = ap (λ l. c ∷ l) r.spelled;
+      none = (subst (λ (x : List ℕ). terminator_len d (c ∷ x) ≡ 0) r.spelled (no_ends_is d (c ∷ cs) e), r.none);
+      ends = r.ends;
+    }
 
 pub line_sound : (f : Bool) (d : Dialect) (text after : List ℕ) → line_of f d text ≡ Some after → ReadsLine f d text after
 line_sound true d [] after h = record { line = []; spelled = cc; none = tt; ends = inr (refl, cc) }
@@ -80,7 +84,7 @@ rows_prefix d i text (a ∷ xs) (b ∷ ys) rest later w (after, e, row, ends, ro
     let same = row_unique false d i a b after after' w (sym e ∙ e') row (inl ends) row' (inl ends') in
     let shorter : length xs ≤ length ys = omega arith in
     let deeper = rows_prefix d (i + 1) (drop (terminator_len d after) after) xs ys rest later w rows
-      (subst (λ (x : List ℕ). AreRows d (i + 1) (drop (terminator_len d x) x) ys later) (sym same.rest) rows') shorter in
+    (subst (λ (x : List ℕ). AreRows d (i + 1) (drop (terminator_len d x) x) ys later) (sym same.rest) rows') shorter in
     let place : i + 1 + length xs ≡ i + length (a ∷ xs) = omega arith in
     (deeper.0, ap (λ x. x ∷ ys) (sym same.row) ∙ ap (λ x. a ∷ x) deeper.1, subst (λ (n : ℕ). AreRows d n rest deeper.0 later) place deeper.2)
 

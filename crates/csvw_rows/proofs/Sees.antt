@@ -57,25 +57,30 @@ continues_unquoted d i part st vs cur w n m e q = record {
   fits = settled_fits d part;
   sure = sure;
   incomplete = fields_next false d i part n ∙ ap (λ l. found_row d (finish (run d Start [] [] l) false)) (sym (append-nil part))
-    ∙ ap (λ o. found_row d (finish o false)) (unfinished_on d part [] st vs cur e ∙ ap (run d st vs cur) (append-nil (unsettled d part))) ∙ not_in_unsettled d st vs cur part;
+      ∙ ap (λ o. found_row d (finish o false)) (unfinished_on d part [] st vs cur e ∙ ap (run d st vs cur) (append-nil (unsettled d part))) ∙ not_in_unsettled d st vs cur part;
 }
   where
     s : List ℕ
     s = settled d part
+
     more : List ℕ
     more = (closing d part).0
+
     closed : unsettled d part ++ more ≡ terminator_of d
     closed = (closing d part).1
+
     spelled : part ++ more ≡ s ++ terminator_of d
     spelled = regroup d part more ∙ ap (λ l. s ++ l) closed
+
     found : next_row false d i (s ++ terminator_of d) ≡ Some (Some (map (trimmed d.trim) (vs ++ cur ∷ [])), terminator_of d)
     found = ap (next_row false d i) (sym spelled) ∙ fields_next false d i (part ++ more) (note_never d i part more n m)
-      ∙ ap (λ o. found_row d (finish o false)) (unfinished_on d part more st vs cur e ∙ ap (run d st vs cur) closed)
-      ∙ ap (found_row d) (ends_unquoted d st vs cur w q)
+        ∙ ap (λ o. found_row d (finish o false)) (unfinished_on d part more st vs cur e ∙ ap (run d st vs cur) closed)
+        ∙ ap (found_row d) (ends_unquoted d st vs cur w q)
+
     sure : (other : Row) (rest after : List ℕ) → part ++ rest ≡ other.text ++ after → IsRow d i other after → 0 < terminator_len d after → length s ≤ length other.text
     sure other rest after e' r h =
-      let f = sym (ap (λ o. found_row d (finish o false)) (unfinished_on d part rest st vs cur e)) ∙ sym (fields_next false d i (part ++ rest) (note_never d i part rest n m)) ∙ other_found d i part rest after other w e' r h in
-      row_reaches s (unsettled d part ++ rest) other.text after (sym (regroup d part rest) ∙ e') (reaches d st vs cur (unsettled d part ++ rest) after other.fields f)
+        let f = sym (ap (λ o. found_row d (finish o false)) (unfinished_on d part rest st vs cur e)) ∙ sym (fields_next false d i (part ++ rest) (note_never d i part rest n m)) ∙ other_found d i part rest after other w e' r h in
+        row_reaches s (unsettled d part ++ rest) other.text after (sym (regroup d part rest) ∙ e') (reaches d st vs cur (unsettled d part ++ rest) after other.fields f)
 
 -- a CR inside quotes is text
 pub record Quoted (d : Dialect) (part : List ℕ) (st : State) (vs : List (List ℕ)) (cur : List ℕ) : Type 0 where
@@ -96,13 +101,17 @@ inside_keeps d q w h e =
 
 quoted_on : (d : Dialect) (q : ℕ) (part : List ℕ) (st : State) (vs : List (List ℕ)) (cur : List ℕ) → IsLawful d → d.quote_char ≡ Some q → is_quoted st ≡ true → Quoted d part st vs cur
 quoted_on d q part st vs cur w h t = elim (unsettled_is d part) [
-    | inl e ↦ record { to = st; kept = cur; quoted = t; goes = λ more. ap (λ l. run d st vs cur (l ++ more)) e }
-    | inr p ↦ by_state st t p.0
-  ]
+  | inl e ↦ record { to = st; kept = cur; quoted = t; goes = λ more. ap (λ l. run d st vs cur (l ++ more)) e }
+  | inr p ↦ by_state st t p.0
+]
   where
     by_state : (st : State) → is_quoted st ≡ true → unsettled d part ≡ 13 ∷ [] → Quoted d part st vs cur
-    by_state Inside t e = record { to = Inside; kept = cur ++ 13 ∷ []; quoted = refl;
-      goes = λ more. ap (λ l. run d Inside vs cur (l ++ more)) e ∙ ap (act_run d vs cur 13 more) (inside_keeps d q w h (ends_at d (13 ∷ more))) }
+    by_state Inside t e = record {
+      to = Inside;
+      kept = cur ++ 13 ∷ [];
+      quoted = refl;
+      goes = λ more. ap (λ l. run d Inside vs cur (l ++ more)) e ∙ ap (act_run d vs cur 13 more) (inside_keeps d q w h (ends_at d (13 ∷ more)));
+    }
     by_state Escaped t e = record { to = Inside; kept = cur ++ 13 ∷ []; quoted = refl; goes = λ more. ap (λ l. run d Escaped vs cur (l ++ more)) e }
     by_state Start t e = absurd cc
     by_state Plain t e = absurd cc
@@ -120,10 +129,16 @@ inside_closes d q vs cur more h =
     ap (λ (b : Bool). act_run d vs cur q more (if b then Skip Closed else (if not d.double_quote && (q == 92) then Skip Escaped else Keep Inside))) is
 
 ending : (d : Dialect) (q : ℕ) (st : State) (vs : List (List ℕ)) (cur : List ℕ) → IsLawful d → d.quote_char ≡ Some q → is_quoted st ≡ true → Ending d st vs cur
-ending d q Inside vs cur w h t = record { close = q ∷ []; values = vs ++ cur ∷ [];
-  found = ap (λ o. finish o false) (inside_closes d q vs cur (terminator_of d) h) ∙ ends_unquoted d Closed vs cur w refl }
-ending d q Escaped vs cur w h t = record { close = q ∷ q ∷ []; values = vs ++ (cur ++ q ∷ []) ∷ [];
-  found = ap (λ o. finish o false) (inside_closes d q vs (cur ++ q ∷ []) (terminator_of d) h) ∙ ends_unquoted d Closed vs (cur ++ q ∷ []) w refl }
+ending d q Inside vs cur w h t = record {
+  close = q ∷ [];
+  values = vs ++ cur ∷ [];
+  found = ap (λ o. finish o false) (inside_closes d q vs cur (terminator_of d) h) ∙ ends_unquoted d Closed vs cur w refl;
+}
+ending d q Escaped vs cur w h t = record {
+  close = q ∷ q ∷ [];
+  values = vs ++ (cur ++ q ∷ []) ∷ [];
+  found = ap (λ o. finish o false) (inside_closes d q vs (cur ++ q ∷ []) (terminator_of d) h) ∙ ends_unquoted d Closed vs (cur ++ q ∷ []) w refl;
+}
 ending d q Start vs cur w h t = absurd cc
 ending d q Plain vs cur w h t = absurd cc
 ending d q Closed vs cur w h t = absurd cc
@@ -150,25 +165,30 @@ continues_quoted d i part st vs cur w n m e t = record {
   fits = take_front part last.close ∙ sym (take_long (length part) part (omega arith));
   sure = sure;
   incomplete = fields_next false d i part n ∙ ap (λ l. found_row d (finish (run d Start [] [] l) false)) (sym (append-nil part))
-    ∙ ap (λ o. found_row d (finish o false)) (unfinished_on d part [] st vs cur e ∙ ap (run d st vs cur) (append-nil (unsettled d part))) ∙ not_in_unsettled d st vs cur part;
+      ∙ ap (λ o. found_row d (finish o false)) (unfinished_on d part [] st vs cur e ∙ ap (run d st vs cur) (append-nil (unsettled d part))) ∙ not_in_unsettled d st vs cur part;
 }
   where
     quote : (q : ℕ) × (d.quote_char ≡ Some q)
     quote = has_quote d (settled d part) st vs cur e t
+
     on : Quoted d part st vs cur
     on = quoted_on d quote.0 part st vs cur w quote.1 t
+
     last : Ending d on.to vs on.kept
     last = ending d quote.0 on.to vs on.kept w quote.1 on.quoted
+
     passes : (more : List ℕ) → run d Start [] [] (part ++ more) ≡ run d on.to vs on.kept more
     passes more = unfinished_on d part more st vs cur e ∙ on.goes more
+
     found : next_row false d i ((part ++ last.close) ++ terminator_of d) ≡ Some (Some (map (trimmed d.trim) last.values), terminator_of d)
     found = ap (next_row false d i) (append_assoc part last.close (terminator_of d))
-      ∙ fields_next false d i (part ++ (last.close ++ terminator_of d)) (note_never d i part (last.close ++ terminator_of d) n m)
-      ∙ ap (λ o. found_row d (finish o false)) (passes (last.close ++ terminator_of d)) ∙ ap (found_row d) last.found
+        ∙ fields_next false d i (part ++ (last.close ++ terminator_of d)) (note_never d i part (last.close ++ terminator_of d) n m)
+        ∙ ap (λ o. found_row d (finish o false)) (passes (last.close ++ terminator_of d)) ∙ ap (found_row d) last.found
+
     sure : (other : Row) (rest after : List ℕ) → part ++ rest ≡ other.text ++ after → IsRow d i other after → 0 < terminator_len d after → length part ≤ length other.text
     sure other rest after e' r h =
-      let f = sym (ap (λ o. found_row d (finish o false)) (passes rest)) ∙ sym (fields_next false d i (part ++ rest) (note_never d i part rest n m)) ∙ other_found d i part rest after other w e' r h in
-      row_reaches part rest other.text after e' (reaches d on.to vs on.kept rest after other.fields f)
+        let f = sym (ap (λ o. found_row d (finish o false)) (passes rest)) ∙ sym (fields_next false d i (part ++ rest) (note_never d i part rest n m)) ∙ other_found d i part rest after other w e' r h in
+        row_reaches part rest other.text after e' (reaches d on.to vs on.kept rest after other.fields f)
 
 -- what a part is
 abbrev pub Sees : Dialect → ℕ → List ℕ → Type 0
@@ -206,6 +226,7 @@ sees d i part w = by_note (is_note d i part) refl
     by_maybe : (b : Bool) → may_be_note d part ≡ b → is_note d i part ≡ false → Sees d i part
     by_maybe true m n = inr (inl (length part, continues_maybe d i part w n m))
     by_maybe false m n = sees_fields d i part (run d Start [] [] (settled d part)) w n m refl
+
     by_note : (b : Bool) → is_note d i part ≡ b → Sees d i part
     by_note true n = sees_note d i part (line_of false d (settled d part)) w n refl
     by_note false n = by_maybe (may_be_note d part) refl n

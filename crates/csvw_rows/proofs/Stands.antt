@@ -36,22 +36,27 @@ goes_begins d max text rows rest part w a k (inl e) =
       more = [];
       rows = rows;
       are_rows = subst (λ (n : ℕ). AreRowsWithin d 0 n ((a.front ++ part) ++ []) rows) count
-        (subst (λ (l : List ℕ). AreRowsWithin d 0 (length (a.front ++ []) - length (let e : List ℕ = [] in e) + 0) l rows) same
+          (subst (λ (l : List ℕ). AreRowsWithin d 0 (length (a.front ++ []) - length (let e : List ℕ = [] in e) + 0) l rows) same
           (subst (λ (l : List Row). AreRowsWithin d 0 (length (a.front ++ []) - length (let e : List ℕ = [] in e) + 0) (a.front ++ []) l) (append-nil rows) inner));
       few = k.0;
     }
 goes_begins d max text rows rest part w a k (inr (few, f)) =
     let whole = a.front ++ (part ++ f.more) in
-    let last : AreRowsWithin d (0 + length rows) (length part) (part ++ f.more) (f.row ∷ []) =
-      (terminator_of d, f.spelled, subst (λ (n : ℕ). IsRow d n f.row (terminator_of d)) (sym (zero-add (length rows))) f.is_row, term_some d w, f.short,
-        nil_none (terminator_len d (terminator_of d)) (terminator_of d) (term_len d w)) in
+    let last : AreRowsWithin d (0 + length rows) (length part) (part ++ f.more) (f.row ∷ []) = (
+      terminator_of d,
+      f.spelled,
+      subst (λ (n : ℕ). IsRow d n f.row (terminator_of d)) (sym (zero-add (length rows))) f.is_row,
+      term_some d w,
+      f.short,
+      nil_none (terminator_len d (terminator_of d)) (terminator_of d) (term_len d w),
+    ) in
     let inner = within_of d 0 (length part) whole rows (f.row ∷ []) (part ++ f.more) (a.again (part ++ f.more)) k.1 last in
     let count : length whole - length (part ++ f.more) + length part ≡ length (a.front ++ part) = omega (arith, length-append a.front (part ++ f.more), length-append part f.more, length-append a.front part) in
     record {
       more = f.more;
       rows = rows ++ f.row ∷ [];
       are_rows = subst (λ (n : ℕ). AreRowsWithin d 0 n ((a.front ++ part) ++ f.more) (rows ++ f.row ∷ [])) count
-        (subst (λ (l : List ℕ). AreRowsWithin d 0 (length whole - length (part ++ f.more) + length part) l (rows ++ f.row ∷ [])) (sym (append_assoc a.front part f.more)) inner);
+          (subst (λ (l : List ℕ). AreRowsWithin d 0 (length whole - length (part ++ f.more) + length part) l (rows ++ f.row ∷ [])) (sym (append_assoc a.front part f.more)) inner);
       few = (let h = k.0 in omega (arith, few, length-append rows (f.row ∷ [])));
     }
 
@@ -78,31 +83,37 @@ no_more d i b bs rest (after, e, r, t, rows) = nothing_ends d (let P : List ℕ 
 pub ends_not : (d : Dialect) (max : ℕ) (text : List ℕ) (rows : List Row) (rest part : List ℕ) → IsLawful d → (a : Again d 0 text rows rest)
     → Ends d max (length rows) part → Begins d max (a.front ++ part) → ⊥
 ends_not d max text rows rest part w a n b = elim (cases_lt (length b.rows) (length rows)) [
-    | inl h ↦ fewer h (rows_prefix d 0 whole b.rows rows [] (part ++ b.more) w theirs mine (omega (arith, h)))
-    | inr h ↦ more (rows_prefix d 0 whole rows b.rows (part ++ b.more) [] w mine theirs h)
-  ]
+  | inl h ↦ fewer h (rows_prefix d 0 whole b.rows rows [] (part ++ b.more) w theirs mine (omega (arith, h)))
+  | inr h ↦ more (rows_prefix d 0 whole rows b.rows (part ++ b.more) [] w mine theirs h)
+]
   where
     whole : List ℕ
     whole = a.front ++ (part ++ b.more)
+
     mine : AreRows d 0 whole rows (part ++ b.more)
     mine = a.again (part ++ b.more)
+
     counted : AreRowsWithin d 0 (length (a.front ++ part)) whole b.rows
     counted = subst (λ (l : List ℕ). AreRowsWithin d 0 (length (a.front ++ part)) l b.rows) (append_assoc a.front part b.more) b.are_rows
+
     theirs : AreRows d 0 whole b.rows []
     theirs = within_are d 0 (length (a.front ++ part)) whole b.rows counted
+
     fewer : length b.rows < length rows → (ms : List Row) × (rows ≡ b.rows ++ ms) × AreRows d (0 + length b.rows) [] ms (part ++ b.more) → ⊥
     fewer h ([], e, r) = omega (arith, h, ap length e, ap length (append-nil b.rows))
     fewer h (m ∷ ms, e, r) = no_more d (0 + length b.rows) m ms (part ++ b.more) r
+
     no_part : (p q : List ℕ) → p ++ q ≡ [] → p ≡ []
     no_part [] q e = refl
     no_part (c ∷ cs) q e = absurd cc
+
     more : (ms : List Row) × (b.rows ≡ rows ++ ms) × AreRows d (0 + length rows) (part ++ b.more) ms [] → ⊥
     more ([], e, r) = n.some (no_part part b.more r)
     more (m ∷ ms, e, r) =
-      let behind = within_behind d 0 (length (a.front ++ part)) whole rows (m ∷ ms) (part ++ b.more) mine (subst (λ (l : List Row). AreRowsWithin d 0 (length (a.front ++ part)) whole l) e counted) in
-      let count : length (a.front ++ part) - (length whole - length (part ++ b.more)) ≡ length part = omega (arith, length-append a.front (part ++ b.more), length-append part b.more, length-append a.front part) in
-      let few : length rows < max = (let k = b.few in omega (arith, k, ap length e, length-append rows (m ∷ ms))) in
-      n.none few m b.more behind.0 behind.1 (subst (λ (k : ℕ). IsRow d k m behind.0) (zero-add (length rows)) behind.2) behind.3
+        let behind = within_behind d 0 (length (a.front ++ part)) whole rows (m ∷ ms) (part ++ b.more) mine (subst (λ (l : List Row). AreRowsWithin d 0 (length (a.front ++ part)) whole l) e counted) in
+        let count : length (a.front ++ part) - (length whole - length (part ++ b.more)) ≡ length part = omega (arith, length-append a.front (part ++ b.more), length-append part b.more, length-append a.front part) in
+        let few : length rows < max = (let k = b.few in omega (arith, k, ap length e, length-append rows (m ∷ ms))) in
+        n.none few m b.more behind.0 behind.1 (subst (λ (k : ℕ). IsRow d k m behind.0) (zero-add (length rows)) behind.2) behind.3
         (subst (λ (k : ℕ). byte_len (take k m.text) ≤ row_limit) count behind.4)
 
 take_past : (front rest : List ℕ) (n : ℕ) → take (length front + n) (front ++ rest) ≡ front ++ take n rest
@@ -119,12 +130,12 @@ stops_at d max text rows rest n w a k f h = record {
     | inl before ↦
         let whole = goes_begins d max text rows rest [] w a k (inl refl) in
         subst (Begins d max) (take-append-le j a.front [] (omega (arith, before)) ∙ sym (ap (take j) a.spelled ∙ take-append-le j a.front rest (omega (arith, before))))
-          (begins_front d max (a.front ++ []) j whole)
+        (begins_front d max (a.front ++ []) j whole)
     | inr past ↦
         let e : j ≡ length a.front + (j - length a.front) = omega (arith, past) in
         let goes = f.before (j - length a.front) (omega (arith, past, less)) in
         subst (Begins d max) (sym (take_past a.front rest (j - length a.front)) ∙ ap (take (length a.front + (j - length a.front))) (sym a.spelled) ∙ ap (λ n. take n text) (sym e))
-          (goes_begins d max text rows rest (take (j - length a.front) rest) w a k goes)
+        (goes_begins d max text rows rest (take (j - length a.front) rest) w a k goes)
   ];
 }
 
@@ -150,13 +161,14 @@ are_longest d max text rows rest w are k none = (record { rest = rest; are_rows 
         → (more : List Row) × (others ≡ rows ++ more) × ((later : List ℕ) × AreRows d (0 + length rows) rest more later) → ⊥
     one others b h ([], e, r) = omega (arith, h, ap length e, ap length (append-nil rows))
     one others b h (m ∷ ms, e, (later, (after, e', r, t, are'))) =
-      let few : length rows < max = (let c = b.limits.0 in omega (arith, c, h)) in
-      let short = All-head IsShort m ms (All-behind rows (m ∷ ms) (subst (All IsShort) e b.limits.1)) in
-      none few m after e' (subst (λ (n : ℕ). IsRow d n m after) (zero-add (length rows)) r) t short
+        let few : length rows < max = (let c = b.limits.0 in omega (arith, c, h)) in
+        let short = All-head IsShort m ms (All-behind rows (m ∷ ms) (subst (All IsShort) e b.limits.1)) in
+        none few m after e' (subst (λ (n : ℕ). IsRow d n m after) (zero-add (length rows)) r) t short
+
     by_length : (others : List Row) → BeginsWithRows d max text others → (length rows < length others) ⊎ (length others ≤ length rows) → length others ≤ length rows
     by_length others b (inl h) =
-      let m = rows_prefix d 0 text rows others rest b.rest w are b.are_rows (omega (arith, h)) in
-      absurd (one others b h (m.0, m.1, (b.rest, m.2)))
+        let m = rows_prefix d 0 text rows others rest b.rest w are b.are_rows (omega (arith, h)) in
+        absurd (one others b h (m.0, m.1, (b.rest, m.2)))
     by_length others b (inr h) = h
 
 -- a last row has no row in it
@@ -183,8 +195,8 @@ not_all d max text rows rest w are k none last some others (inr o) limits =
   where
     behind : (more : List Row) × (rows ≡ o.front ++ more) × AreRows d (0 + length o.front) o.last.text more rest → ⊥
     behind ([], e, r) =
-      let same : length rows ≡ length o.front = ap length (e ∙ append-nil o.front) in
-      let few : length rows < max = (let c = limits.0 in omega (arith, c, same, ap length o.all, length-append o.front (o.last ∷ []))) in
-      last few o.last (sym r) (subst (λ (n : ℕ). IsRow d n o.last []) (sym same) o.is_row)
+        let same : length rows ≡ length o.front = ap length (e ∙ append-nil o.front) in
+        let few : length rows < max = (let c = limits.0 in omega (arith, c, same, ap length o.all, length-append o.front (o.last ∷ []))) in
+        last few o.last (sym r) (subst (λ (n : ℕ). IsRow d n o.last []) (sym same) o.is_row)
         (All-head IsShort o.last [] (All-behind o.front (o.last ∷ []) (subst (All IsShort) o.all limits.1)))
     behind (m ∷ ms, e, r) = no_row_in_last d (0 + length o.front) o.last m ms rest w (subst (λ (n : ℕ). IsRow d n o.last []) (sym (zero-add (length o.front))) o.is_row) r

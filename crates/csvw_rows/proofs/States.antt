@@ -87,7 +87,7 @@ module _ (s : Rows) (d : Dialect) (max : ℕ) (bytes : List ℕ) (ended : Bool) 
     decodes = decodes_same s.source t.source bytes p.begun p.pending p.bad h.decodes;
     rows = h.rows ++ r.row ∷ [];
     read = subst (λ (l : List ℕ). HasRead d max bytes ended l (h.rows ++ r.row ∷ [])) (sym p.rest)
-      (takes_reads d max bytes ended (is_last (after_of s)) (rest_of s.source) h.rows len s.row fields (lawful_of s d h.dialect) known h.read h.row_is
+        (takes_reads d max bytes ended (is_last (after_of s)) (rest_of s.source) h.rows len s.row fields (lawful_of s d h.dialect) known h.read h.row_is
         (record { some = r.some; within = r.within; few = subst (λ (n : ℕ). s.row < n) h.max_is r.few; row = r.row; fields_are = r.fields_are; short = r.short; stands = stands }));
     row_is = p.row ∙ (let e = h.row_is in let z : s.row + 1 ≡ length (h.rows ++ r.row ∷ []) = omega (arith, e, length-append h.rows (r.row ∷ [])) in z);
     remained_is = count;
@@ -96,31 +96,32 @@ module _ (s : Rows) (d : Dialect) (max : ℕ) (bytes : List ℕ) (ended : Bool) 
     where
       stands : StandsThere (is_last (after_of s)) d max s.row (rest_of s.source) len r.row
       stands = subst (λ (x : Dialect). StandsThere (is_last (after_of s)) x max s.row (rest_of s.source) len r.row) h.dialect
-        (subst (λ (n : ℕ). StandsThere (is_last (after_of s)) s.rules.dialect n s.row (rest_of s.source) len r.row) h.max_is r.stands)
+          (subst (λ (n : ℕ). StandsThere (is_last (after_of s)) s.rules.dialect n s.row (rest_of s.source) len r.row) h.max_is r.stands)
 
   -- nothing is complete
   pub done : NextGives (after_of s) s.rules.dialect s.max_rows s.row (rest_of s.source) (Ok next.Waits) → HasGiven d max bytes ended given × NoStop d max bytes ended
   done (text, goes, none, last) =
       let a = after_text (is_bad_of s.source) s.ended (not (length (pending_of s.source) == 0)) text in
       let at_end : ended ≡ true → (is_text bytes ≡ true) × (rest_of s.source ≡ []) =
-        λ e. (let b = a.1 (h.ended_is ∙ e) in (is_text_of bytes (sym h.decodes.pending ∙ uncut (pending_of s.source) b.0), last b.1)) in
+      λ e. (let b = a.1 (h.ended_is ∙ e) in (is_text_of bytes (sym h.decodes.pending ∙ uncut (pending_of s.source) b.0), last b.1)) in
       let r : Done d max bytes ended h.rows = waits_done d max bytes ended (rest_of s.source) h.rows (lawful_of s d h.dialect) h.read
-        (subst (λ (n : ℕ). Goes d max n (rest_of s.source)) h.row_is (subst (λ (n : ℕ). Goes d n s.row (rest_of s.source)) h.max_is (subst (λ (x : Dialect). Goes x s.max_rows s.row (rest_of s.source)) h.dialect goes)))
-        (subst (λ (n : ℕ). NoRow d max n (rest_of s.source)) h.row_is (subst (λ (n : ℕ). NoRow d n s.row (rest_of s.source)) h.max_is (subst (λ (x : Dialect). NoRow x s.max_rows s.row (rest_of s.source)) h.dialect none)))
-        at_end
-        (λ t. (open_of t at_end, sym h.decodes.bad ∙ a.0)) in
+      (subst (λ (n : ℕ). Goes d max n (rest_of s.source)) h.row_is (subst (λ (n : ℕ). Goes d n s.row (rest_of s.source)) h.max_is (subst (λ (x : Dialect). Goes x s.max_rows s.row (rest_of s.source)) h.dialect goes)))
+      (subst (λ (n : ℕ). NoRow d max n (rest_of s.source)) h.row_is (subst (λ (n : ℕ). NoRow d n s.row (rest_of s.source)) h.max_is (subst (λ (x : Dialect). NoRow x s.max_rows s.row (rest_of s.source)) h.dialect none)))
+      at_end
+      (λ t. (open_of t at_end, sym h.decodes.bad ∙ a.0)) in
       (record { front = h.rows; is_front = r.is_front; all = h.given_is }, r.none)
     where
       by_ended : (b : Bool) → ended ≡ b → is_text bytes ≡ false → (ended ≡ true → (is_text bytes ≡ true) × (rest_of s.source ≡ [])) → b ≡ false
       by_ended false e t f = refl
       by_ended true e t f = let z = sym (f e).0 ∙ t in absurd cc
+
       open_of : is_text bytes ≡ false → (ended ≡ true → (is_text bytes ≡ true) × (rest_of s.source ≡ [])) → ended ≡ false
       open_of t f = by_ended ended refl t f
 
   here : (e : RowStop) → StopsHere (is_last (after_of s)) s.rules.dialect s.max_rows s.row (rest_of s.source) e → HasGiven d max bytes ended given × StopOf d max bytes ended e (reading_of s)
   here e t =
       let u = subst (λ (n : ℕ). StopsHere (is_last (after_of s)) d max n (rest_of s.source) e) h.row_is (subst (λ (n : ℕ). StopsHere (is_last (after_of s)) d n s.row (rest_of s.source) e) h.max_is
-        (subst (λ (x : Dialect). StopsHere (is_last (after_of s)) x s.max_rows s.row (rest_of s.source) e) h.dialect t)) in
+      (subst (λ (x : Dialect). StopsHere (is_last (after_of s)) x s.max_rows s.row (rest_of s.source) e) h.dialect t)) in
       let r : Stopped d max bytes ended h.rows e = here_stopped d max bytes ended (is_last (after_of s)) (rest_of s.source) h.rows e (lawful_of s d h.dialect) known back h.read u in
       (record { front = h.rows; is_front = r.is_front; all = h.given_is }, subst (λ (n : ℕ). StopOf d max bytes ended e (n + 1)) (sym h.row_is) r.stands)
 
@@ -135,23 +136,29 @@ module _ (s : Rows) (d : Dialect) (max : ℕ) (bytes : List ℕ) (ended : Bool) 
       let why = after_bytes (is_bad_of s.source) s.ended (not (length (pending_of s.source) == 0)) a in
       let some : drop (utf8_valid_len bytes) bytes ≡ [] → ⊥ = λ z. elim why [
         | inl b ↦ let k = sym (sym h.decodes.bad ∙ b) ∙ ap (λ l. is_some (utf8_error_len l)) z ∙ no_error in cc
-        | inr p ↦ let k = sym p.1 ∙ is_cut (pending_of s.source) (h.decodes.pending ∙ z) in cc ] in
+        | inr p ↦ let k = sym p.1 ∙ is_cut (pending_of s.source) (h.decodes.pending ∙ z) in cc
+      ] in
       let bad : (ended ≡ true) ⊎ (is_some (utf8_error_len (drop (utf8_valid_len bytes) bytes)) ≡ true) = elim why [ inl b ↦ inr (sym h.decodes.bad ∙ b) | inr p ↦ inl (sym h.ended_is ∙ p.0) ] in
       let r : Stopped d max bytes ended h.rows NotUtf8 = bytes_stopped d max bytes ended (rest_of s.source) h.rows (lawful_of s d h.dialect) h.read
-        (subst (λ (n : ℕ). Goes d max n (rest_of s.source)) h.row_is (subst (λ (n : ℕ). Goes d n s.row (rest_of s.source)) h.max_is (subst (λ (x : Dialect). Goes x s.max_rows s.row (rest_of s.source)) h.dialect goes)))
-        (subst (λ (n : ℕ). NoRow d max n (rest_of s.source)) h.row_is (subst (λ (n : ℕ). NoRow d n s.row (rest_of s.source)) h.max_is (subst (λ (x : Dialect). NoRow x s.max_rows s.row (rest_of s.source)) h.dialect none)))
-        (no_text_of bytes some) bad in
+      (subst (λ (n : ℕ). Goes d max n (rest_of s.source)) h.row_is (subst (λ (n : ℕ). Goes d n s.row (rest_of s.source)) h.max_is (subst (λ (x : Dialect). Goes x s.max_rows s.row (rest_of s.source)) h.dialect goes)))
+      (subst (λ (n : ℕ). NoRow d max n (rest_of s.source)) h.row_is (subst (λ (n : ℕ). NoRow d n s.row (rest_of s.source)) h.max_is (subst (λ (x : Dialect). NoRow x s.max_rows s.row (rest_of s.source)) h.dialect none)))
+      (no_text_of bytes some) bad in
       (record { front = h.rows; is_front = r.is_front; all = h.given_is }, subst (λ (n : ℕ). StopOf d max bytes ended NotUtf8 (n + 1)) (sym h.row_is) r.stands)
 
 -- a new reader
 pub new_holds : (s : Rows) (d : Dialect) (max : ℕ) → s.rules.dialect ≡ d → s.max_rows ≡ max → s.ended ≡ false → s.stop ≡ None → s.row ≡ 0 → s.remained ≡ 0
     → rest_of s.source ≡ [] → begun_of s.source ≡ false → pending_of s.source ≡ [] → is_bad_of s.source ≡ false → Holds s d max [] false []
 new_holds s d max e m n k row remained rest begun pending bad = record {
-  dialect = e; max_is = m; ended_is = n; no_stop = k;
+  dialect = e;
+  max_is = m;
+  ended_is = n;
+  no_stop = k;
   decodes = new_decodes s.source begun pending bad;
   rows = [];
   read = record { limits = ((let z : 0 ≤ max = omega arith in z), All-nil IsShort); reached = inl (ap without_mark text_none ∙ sym rest) };
-  row_is = row; remained_is = remained; given_is = refl;
+  row_is = row;
+  remained_is = remained;
+  given_is = refl;
 }
 
 -- more bytes
@@ -161,18 +168,24 @@ feed_holds s t d max bytes piece given h r m n k row remained p = by_more (p byt
   where
     by_more : Decodes t.source (bytes ++ piece) × ((more : List ℕ) × (rest_of t.source ≡ rest_of s.source ++ more) × (content (bytes ++ piece) ≡ content bytes ++ more)) → Holds t d max (bytes ++ piece) false given
     by_more (decodes, (more, rest, text)) = record {
-      dialect = ap (λ x. x.dialect) r ∙ h.dialect; max_is = m ∙ h.max_is; ended_is = n ∙ h.ended_is; no_stop = k ∙ h.no_stop;
+      dialect = ap (λ x. x.dialect) r ∙ h.dialect;
+      max_is = m ∙ h.max_is;
+      ended_is = n ∙ h.ended_is;
+      no_stop = k ∙ h.no_stop;
       decodes = decodes;
       rows = h.rows;
       read = record { limits = h.read.limits; reached = by_reached h.read.reached };
-      row_is = row ∙ h.row_is; remained_is = remained ∙ h.remained_is; given_is = h.given_is;
+      row_is = row ∙ h.row_is;
+      remained_is = remained ∙ h.remained_is;
+      given_is = h.given_is;
     }
       where
         longer : AreRows d 0 (content bytes) h.rows (rest_of s.source) → AreRows d 0 (content (bytes ++ piece)) h.rows (rest_of t.source)
         longer are =
-          let a = rows_again d 0 (content bytes) h.rows (rest_of s.source) are in
-          subst (λ (l : List ℕ). AreRows d 0 (content (bytes ++ piece)) h.rows l) (sym rest)
+            let a = rows_again d 0 (content bytes) h.rows (rest_of s.source) are in
+            subst (λ (l : List ℕ). AreRows d 0 (content (bytes ++ piece)) h.rows l) (sym rest)
             (subst (λ (l : List ℕ). AreRows d 0 l h.rows (rest_of s.source ++ more)) (sym (text ∙ ap (λ l. l ++ more) a.spelled ∙ append_assoc a.front (rest_of s.source) more)) (a.again (rest_of s.source ++ more)))
+
         by_reached : AreRows d 0 (content bytes) h.rows (rest_of s.source) ⊎ ((false ≡ true) × (is_text bytes ≡ true) × EndsOpen d (content bytes) h.rows × (rest_of s.source ≡ []) × Begins d max (content bytes))
             → AreRows d 0 (content (bytes ++ piece)) h.rows (rest_of t.source) ⊎ ((false ≡ true) × (is_text (bytes ++ piece) ≡ true) × EndsOpen d (content (bytes ++ piece)) h.rows × (rest_of t.source ≡ []) × Begins d max (content (bytes ++ piece)))
         by_reached (inl are) = inl (longer are)
@@ -182,11 +195,16 @@ feed_holds s t d max bytes piece given h r m n k row remained p = by_more (p byt
 pub end_holds : (s t : Rows) (d : Dialect) (max : ℕ) (bytes : List ℕ) (given : List Given) → Holds s d max bytes false given → t.rules ≡ s.rules → t.max_rows ≡ s.max_rows → t.ended ≡ true → t.stop ≡ s.stop
     → t.row ≡ s.row → t.remained ≡ s.remained → t.source ≡ s.source → Holds t d max bytes true given
 end_holds s t d max bytes given h r m n k row remained source = record {
-  dialect = ap (λ x. x.dialect) r ∙ h.dialect; max_is = m ∙ h.max_is; ended_is = n; no_stop = k ∙ h.no_stop;
+  dialect = ap (λ x. x.dialect) r ∙ h.dialect;
+  max_is = m ∙ h.max_is;
+  ended_is = n;
+  no_stop = k ∙ h.no_stop;
   decodes = subst (λ x. Decodes x bytes) (sym source) h.decodes;
   rows = h.rows;
   read = record { limits = h.read.limits; reached = by_reached h.read.reached };
-  row_is = row ∙ h.row_is; remained_is = remained ∙ h.remained_is; given_is = h.given_is;
+  row_is = row ∙ h.row_is;
+  remained_is = remained ∙ h.remained_is;
+  given_is = h.given_is;
 }
   where
     by_reached : AreRows d 0 (content bytes) h.rows (rest_of s.source) ⊎ ((false ≡ true) × (is_text bytes ≡ true) × EndsOpen d (content bytes) h.rows × (rest_of s.source ≡ []) × Begins d max (content bytes))
@@ -214,15 +232,15 @@ row_gives s t len values p more r texts full d max bytes ended given h =
     let rules : t.rules.dialect ≡ d = ap (λ x. x.dialect) p.rules ∙ h.dialect in
     let count : length (remaining d 1 h.rows) + 1 ≡ t.remained = (let e = h.remained_is in omega (arith, e, more)) in
     let shown : map encode_utf8_all (drop d.skip_columns fields) ≡ drop t.rules.dialect.skip_columns t.fields.items =
-      sym (texts_of s.rules.dialect.trim d.skip_columns values) ∙ ap (drop d.skip_columns) (sym texts) ∙ ap (λ (x : Dialect). drop x.skip_columns t.fields.items) (sym rules) in
+    sym (texts_of s.rules.dialect.trim d.skip_columns values) ∙ ap (drop d.skip_columns) (sym texts) ∙ ap (λ (x : Dialect). drop x.skip_columns t.fields.items) (sym rules) in
     let number : (length (remaining d 1 h.rows) + 1) - d.header_row_count ≡ t.remained - t.rules.dialect.header_row_count =
-      ap (λ (k : ℕ). k - d.header_row_count) count ∙ ap (λ (x : Dialect). t.remained - x.header_row_count) (sym rules) in
+    ap (λ (k : ℕ). k - d.header_row_count) count ∙ ap (λ (x : Dialect). t.remained - x.header_row_count) (sym rules) in
     let same : given_row d (length (remaining d 1 h.rows), (n, fields)) ≡ last_of t =
-      ap (λ (l : List (List ℕ)). record { fields = l; source = n; number = (length (remaining d 1 h.rows) + 1) - d.header_row_count }) shown
-      ∙ ap (λ (k : ℕ). record { fields = drop t.rules.dialect.skip_columns t.fields.items; source = k; number = (length (remaining d 1 h.rows) + 1) - d.header_row_count }) source
-      ∙ ap (λ (k : ℕ). record { fields = drop t.rules.dialect.skip_columns t.fields.items; source = t.row; number = k }) number in
+    ap (λ (l : List (List ℕ)). record { fields = l; source = n; number = (length (remaining d 1 h.rows) + 1) - d.header_row_count }) shown
+    ∙ ap (λ (k : ℕ). record { fields = drop t.rules.dialect.skip_columns t.fields.items; source = k; number = (length (remaining d 1 h.rows) + 1) - d.header_row_count }) source
+    ∙ ap (λ (k : ℕ). record { fields = drop t.rules.dialect.skip_columns t.fields.items; source = t.row; number = k }) number in
     passed s d max bytes ended given h t len (Some fields) p r (given ++ last_of t ∷ []) (sym (body.1 ∙ count))
-      (ap (λ l. l ++ last_of t ∷ []) h.given_is ∙ ap (λ g. Body d h.rows ++ g ∷ []) (sym same) ∙ sym body.0)
+    (ap (λ l. l ++ last_of t ∷ []) h.given_is ∙ ap (λ g. Body d h.rows ++ g ∷ []) (sym same) ∙ sym body.0)
 
 pub is_done : (s : Rows) → NextGives (after_of s) s.rules.dialect s.max_rows s.row (rest_of s.source) (Ok next.Waits) → IsDone s
 is_done s n d max bytes ended given h = done s d max bytes ended given h n
@@ -233,15 +251,27 @@ is_stopped s e g n d max bytes ended given h = stopped s d max bytes ended given
 -- a step from a state that differs in its fields alone
 pub passes_from : (s u t : Rows) (len : ℕ) → u.rules ≡ s.rules → u.max_rows ≡ s.max_rows → u.ended ≡ s.ended → u.stop ≡ s.stop → u.source ≡ s.source → u.row ≡ s.row → Passes u t len → Passes s t len
 passes_from s u t len r m e k source row p = record {
-  rules = p.rules ∙ r; max_rows = p.max_rows ∙ m; ended = p.ended ∙ e; stop = p.stop ∙ k;
-  rest = p.rest ∙ ap (λ x. drop len (rest_of x)) source; begun = p.begun ∙ ap begun_of source; pending = p.pending ∙ ap pending_of source; bad = p.bad ∙ ap is_bad_of source;
+  rules = p.rules ∙ r;
+  max_rows = p.max_rows ∙ m;
+  ended = p.ended ∙ e;
+  stop = p.stop ∙ k;
+  rest = p.rest ∙ ap (λ x. drop len (rest_of x)) source;
+  begun = p.begun ∙ ap begun_of source;
+  pending = p.pending ∙ ap pending_of source;
+  bad = p.bad ∙ ap is_bad_of source;
   row = p.row ∙ ap (λ n. n + 1) row;
 }
 
 pub passes_to : (s t u : Rows) (len : ℕ) → u.rules ≡ t.rules → u.max_rows ≡ t.max_rows → u.ended ≡ t.ended → u.stop ≡ t.stop → u.source ≡ t.source → u.row ≡ t.row → Passes s t len → Passes s u len
 passes_to s t u len r m e k source row p = record {
-  rules = r ∙ p.rules; max_rows = m ∙ p.max_rows; ended = e ∙ p.ended; stop = k ∙ p.stop;
-  rest = ap rest_of source ∙ p.rest; begun = ap begun_of source ∙ p.begun; pending = ap pending_of source ∙ p.pending; bad = ap is_bad_of source ∙ p.bad;
+  rules = r ∙ p.rules;
+  max_rows = m ∙ p.max_rows;
+  ended = e ∙ p.ended;
+  stop = k ∙ p.stop;
+  rest = ap rest_of source ∙ p.rest;
+  begun = ap begun_of source ∙ p.begun;
+  pending = ap pending_of source ∙ p.pending;
+  bad = ap is_bad_of source ∙ p.bad;
   row = row ∙ p.row;
 }
 

@@ -64,33 +64,33 @@ decide_seen : (d : Dialect) (max i : ℕ) (part rest : List ℕ) → IsLawful d 
 decide_seen d max i part rest w some few free (inl r) = inr (record {
   some = some;
   none = λ h row more after e is ends short.
-    let same = row_unique false d i r.row row (r.after ++ more) after w (sym (append_assoc r.row.text r.after more) ∙ ap (λ l. l ++ more) (sym r.spelled) ∙ e)
+      let same = row_unique false d i r.row row (r.after ++ more) after w (sym (append_assoc r.row.text r.after more) ∙ ap (λ l. l ++ more) (sym r.spelled) ∙ e)
       (row_stays d i r.row r.after more r.is_row r.ends) (inl (let k = r.ends in omega (arith, term_stays d r.after more r.ends))) is (inl ends) in
-    let fits : length row.text ≤ length part = omega (arith, ap length r.spelled, length-append r.row.text r.after, ap (λ (x : Row). length x.text) same.row) in
-    let whole : byte_len row.text ≤ row_limit = omega (arith, short, ap byte_len (take_all (length part) row.text fits)) in
-    free few r.row (r.after ++ rest) (ap (λ l. l ++ rest) r.spelled ∙ append_assoc r.row.text r.after rest) (row_stays d i r.row r.after rest r.is_row r.ends)
+      let fits : length row.text ≤ length part = omega (arith, ap length r.spelled, length-append r.row.text r.after, ap (λ (x : Row). length x.text) same.row) in
+      let whole : byte_len row.text ≤ row_limit = omega (arith, short, ap byte_len (take_all (length part) row.text fits)) in
+      free few r.row (r.after ++ rest) (ap (λ l. l ++ rest) r.spelled ∙ append_assoc r.row.text r.after rest) (row_stays d i r.row r.after rest r.is_row r.ends)
       (let k = r.ends in omega (arith, term_stays d r.after rest r.ends)) (omega (arith, whole, ap (λ (x : Row). byte_len x.text) same.row));
 })
 decide_seen d max i part rest w some few free (inr (inl (len, c))) = elim (cases_le (byte_len (take len part)) row_limit) [
-    | inl h ↦ inl (inr (few, record { row = c.row; more = c.more; spelled = c.spelled; is_row = c.is_row; short = omega (arith, h, ap byte_len c.fits) }))
-    | inr h ↦ inr (record {
-        some = some;
-        none = λ _ row more after e is ends short.
-          let sure = c.sure row more after e is ends in
-          let within = c.within in
-          let k = byte_len_less len (length part) row.text within in
-          omega (arith, h, k, short, ap byte_len (same_front part more row.text after len e within sure));
-      })
-  ]
+  | inl h ↦ inl (inr (few, record { row = c.row; more = c.more; spelled = c.spelled; is_row = c.is_row; short = omega (arith, h, ap byte_len c.fits) }))
+  | inr h ↦ inr (record {
+    some = some;
+    none = λ _ row more after e is ends short.
+        let sure = c.sure row more after e is ends in
+        let within = c.within in
+        let k = byte_len_less len (length part) row.text within in
+        omega (arith, h, k, short, ap byte_len (same_front part more row.text after len e within sure));
+  })
+]
 decide_seen d max i part rest w some few free (inr (inr (stop, b))) =
     inr (record { some = some; none = λ _ row more after e is ends short. breaks_none d i part stop w b row more after e is ends })
 
 pub decide_part : (d : Dialect) (max i : ℕ) (part rest : List ℕ) → IsLawful d → NoRow d max i (part ++ rest) → Goes d max i part ⊎ Ends d max i part
 decide_part d max i [] rest w free = inl (inl refl)
 decide_part d max i (c ∷ cs) rest w free = elim (cases_lt i max) [
-    | inl few ↦ decide_seen d max i (c ∷ cs) rest w (λ e. cc) few free (sees d i (c ∷ cs) w)
-    | inr many ↦ inr (record { some = λ e. cc; none = λ few row more after e is ends short. omega (arith, few, many) })
-  ]
+  | inl few ↦ decide_seen d max i (c ∷ cs) rest w (λ e. cc) few free (sees d i (c ∷ cs) w)
+  | inr many ↦ inr (record { some = λ e. cc; none = λ few row more after e is ends short. omega (arith, few, many) })
+]
 
 pub decide : (d : Dialect) (max i : ℕ) (text : List ℕ) → IsLawful d → NoRow d max i text → (k : ℕ) → Goes d max i (take k text) ⊎ Ends d max i (take k text)
 decide d max i text w free k = decide_part d max i (take k text) (drop k text) w (subst (NoRow d max i) (sym (take-append-drop k text)) free)
@@ -106,6 +106,7 @@ search P Q test (suc n) = step (search P Q test n) (test n)
   where
     last : (k : ℕ) → k < suc n → ((j : ℕ) → j < n → P j) → P n → P k
     last k h f p = elim (cases_lt k n) [ inl b ↦ f k b | inr b ↦ subst P (let e : n ≡ k = omega arith in e) p ]
+
     step : ((k : ℕ) → k < n → P k) ⊎ ((m : ℕ) × (m < n) × Q m × ((k : ℕ) → k < m → P k)) → P n ⊎ Q n → ((k : ℕ) → k < suc n → P k) ⊎ ((m : ℕ) × (m < suc n) × Q m × ((k : ℕ) → k < m → P k))
     step (inl f) (inl p) = inl (λ k h. last k h f p)
     step (inl f) (inr q) = inr (n, (let h : n < suc n = omega arith in h), q, f)
@@ -146,9 +147,14 @@ within_of d i m text (row ∷ rows) more rest (after, e, r, h, are) s ms =
 pub within_less : (d : Dialect) (i n m : ℕ) (text : List ℕ) (rows : List Row) → AreRowsWithin d i n text rows → m ≤ n → AreRowsWithin d i m text rows
 within_less d i n m text [] a h = a
 within_less d i n m text (row ∷ rows) (after, e, r, t, s, a) h =
-    let k = byte_len_less m n row.text h in
-    (after, e, r, t, (let x : byte_len (take m row.text) ≤ row_limit = omega (arith, k, s) in x),
-      within_less d (i + 1) (n - (length row.text + terminator_len d after)) (m - (length row.text + terminator_len d after)) (drop (terminator_len d after) after) rows a (omega arith))
+    let k = byte_len_less m n row.text h in (
+      after,
+      e,
+      r,
+      t,
+      (let x : byte_len (take m row.text) ≤ row_limit = omega (arith, k, s) in x),
+      within_less d (i + 1) (n - (length row.text + terminator_len d after)) (m - (length row.text + terminator_len d after)) (drop (terminator_len d after) after) rows a (omega arith),
+    )
 
 pub within_are : (d : Dialect) (i n : ℕ) (text : List ℕ) (rows : List Row) → AreRowsWithin d i n text rows → AreRows d i text rows []
 within_are d i n text [] a = a
@@ -166,7 +172,7 @@ within_behind d i n text (row ∷ rows) more rest (after, e, r, h, are) (after',
     let behind = drop (terminator_len d after) after in
     let k = n - (length row.text + terminator_len d after) in
     let inner : AreRowsWithin d (i + 1) k behind (rows ++ more) =
-      subst (λ (l : List ℕ). AreRowsWithin d (i + 1) (n - (length row.text + terminator_len d l)) (drop (terminator_len d l) l) (rows ++ more)) same a in
+    subst (λ (l : List ℕ). AreRowsWithin d (i + 1) (n - (length row.text + terminator_len d l)) (drop (terminator_len d l) l) (rows ++ more)) same a in
     let deeper = within_behind d (i + 1) k behind rows more rest are inner in
     let place : i + 1 + length rows ≡ i + length (row ∷ rows) = omega arith in
     let reach = rows_len d (i + 1) behind rows rest are in

@@ -28,11 +28,11 @@ up_to_longest bs (suc n) m h k u = by_test (is_utf8 (take (suc n) bs)) refl h (�
     by_test : (b : Bool) → is_utf8 (take (suc n) bs) ≡ b → (if b then suc n else valid_len_up_to bs n) < m → (valid_len_up_to bs n < m → m ≤ n → ⊥) → ⊥
     by_test true e h ih = omega (arith, h, k)
     by_test false e h ih = elim (cases_lt n m) [
-        | inl past ↦
-            let same : m ≡ suc n = omega (arith, past, k) in
-            let z = sym e ∙ is_utf8-from_IsUtf8 (take (suc n) bs) (subst (λ (j : ℕ). IsUtf8 (take j bs)) same u) in absurd cc
-        | inr within ↦ ih h within
-      ]
+      | inl past ↦
+          let same : m ≡ suc n = omega (arith, past, k) in
+          let z = sym e ∙ is_utf8-from_IsUtf8 (take (suc n) bs) (subst (λ (j : ℕ). IsUtf8 (take j bs)) same u) in absurd cc
+      | inr within ↦ ih h within
+    ]
 
 pub front_valid : (bs : List ℕ) → IsUtf8 (take (utf8_valid_len bs) bs)
 unfolding utf8_valid_len
@@ -77,15 +77,16 @@ module _ (front more : List ℕ) (u : IsUtf8 front) where
     where
       w : ℕ
       w = utf8_valid_len more
+
       later : (m : ℕ) → length front + w < m → m ≤ length (front ++ more) → IsUtf8 (take m (front ++ more)) → ⊥
       later m h k v =
-        let n = m - length front in
-        let e : m ≡ length front + n = omega (arith, h) in
-        let full = front ++ take n more in
-        let whole : IsUtf8 full = subst IsUtf8 (ap (λ j. take j (front ++ more)) e ∙ take_past front more n) v in
-        let seam = IsCharBoundary-from_take full (length front) whole (omega (arith, length-append front (take n more))) (subst IsUtf8 (sym (take_seam front (take n more))) u) in
-        let tail = IsUtf8-drop full (length front) whole seam in
-        front_longest more n (omega (arith, h, e)) (omega (arith, k, e, length-append front more)) (subst IsUtf8 (behind_front front (take n more) (length front) refl) tail)
+          let n = m - length front in
+          let e : m ≡ length front + n = omega (arith, h) in
+          let full = front ++ take n more in
+          let whole : IsUtf8 full = subst IsUtf8 (ap (λ j. take j (front ++ more)) e ∙ take_past front more n) v in
+          let seam = IsCharBoundary-from_take full (length front) whole (omega (arith, length-append front (take n more))) (subst IsUtf8 (sym (take_seam front (take n more))) u) in
+          let tail = IsUtf8-drop full (length front) whole seam in
+          front_longest more n (omega (arith, h, e)) (omega (arith, k, e, length-append front more)) (subst IsUtf8 (behind_front front (take n more) (length front) refl) tail)
 
 -- the text of bytes with a piece behind them
 split : (bytes piece : List ℕ) → bytes ++ piece ≡ take (utf8_valid_len bytes) bytes ++ (drop (utf8_valid_len bytes) bytes ++ piece)
@@ -135,14 +136,19 @@ pushes old new piece bytes text h t begun pending bad rest =
     let same : pending_of old ++ piece ≡ p = ap (λ l. l ++ piece) h.pending in
     let c : chars text ≡ text_of p = ap chars (t ∙ ap (λ l. take (utf8_valid_len l) l) same) in
     let len : length text ≡ utf8_valid_len p = (let k = utf8_valid_len_le p in ap length (t ∙ ap (λ l. take (utf8_valid_len l) l) same) ∙ take_len (utf8_valid_len p) p k) in
-    let all = text_more bytes piece in
-    (record {
-      begun = begun ∙ empty_more (begun_of old) (text_of bytes) (chars text) h.begun ∙ ap (λ l. not (is_empty (text_of bytes ++ l))) c ∙ ap (λ l. not (is_empty l)) (sym all);
-      pending = pending ∙ ap (λ n. drop n (pending_of old ++ piece)) len ∙ ap (drop (utf8_valid_len p)) same ∙ sym (pending_on bytes piece);
-      bad = bad ∙ ap (λ l. is_some (utf8_error_len (drop (utf8_valid_len l) l))) same ∙ ap (λ l. is_some (utf8_error_len l)) (sym (pending_on bytes piece));
-    }, ((if begun_of old then chars text else without_mark (chars text)), rest,
-      ap without_mark all ∙ by_begun (text_of bytes) (text_of p) ∙ ap (λ (b : Bool). content bytes ++ (if b then text_of p else without_mark (text_of p))) (sym h.begun)
-        ∙ ap (λ l. content bytes ++ (if begun_of old then l else without_mark l)) (sym c)))
+    let all = text_more bytes piece in (
+      record {
+        begun = begun ∙ empty_more (begun_of old) (text_of bytes) (chars text) h.begun ∙ ap (λ l. not (is_empty (text_of bytes ++ l))) c ∙ ap (λ l. not (is_empty l)) (sym all);
+        pending = pending ∙ ap (λ n. drop n (pending_of old ++ piece)) len ∙ ap (drop (utf8_valid_len p)) same ∙ sym (pending_on bytes piece);
+        bad = bad ∙ ap (λ l. is_some (utf8_error_len (drop (utf8_valid_len l) l))) same ∙ ap (λ l. is_some (utf8_error_len l)) (sym (pending_on bytes piece));
+      },
+      (
+        (if begun_of old then chars text else without_mark (chars text)),
+        rest,
+        ap without_mark all ∙ by_begun (text_of bytes) (text_of p) ∙ ap (λ (b : Bool). content bytes ++ (if b then text_of p else without_mark (text_of p))) (sym h.begun)
+            ∙ ap (λ l. content bytes ++ (if begun_of old then l else without_mark l)) (sym c),
+      ),
+    )
 
 drop_none : (n : ℕ) → drop n (let e : List ℕ = [] in e) ≡ []
 drop_none zero = refl

@@ -55,11 +55,7 @@ fn encoded(alloc: Global, chars: &[char]) -> Result<Text, AllocError>
 }
 
 /// The texts of a row's fields, from their values; `AllocError` where there is no memory.
-pub fn field_texts(
-    alloc: Global,
-    trim: Trim,
-    values: &[Seq<char>],
-) -> Result<Vec<Text>, AllocError>
+pub fn field_texts(alloc: Global, trim: Trim, values: &[Seq<char>]) -> Result<Vec<Text>, AllocError>
     ensures { IfOk result (λ v. v.items ≡ map (λ x. encode_utf8_all (trimmed trim x)) values.now) }
 {
     let mut texts = Vec::new(alloc);

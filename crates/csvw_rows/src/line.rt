@@ -114,12 +114,7 @@ fn is_quoted(state: State) -> bool
 }
 
 /// A row of a text that has ended.
-fn last_line(
-    alloc: Global,
-    rules: &Rules,
-    place: u64,
-    text: &[char],
-) -> Result<Line, AllocError>
+fn last_line(alloc: Global, rules: &Rules, place: u64, text: &[char]) -> Result<Line, AllocError>
     ensures within { IfOk result (λ l. line_chars l ≤ length text.now) }
     ensures line { IfOk result (λ l. IsLawful rules.now.dialect → is_note rules.now.dialect place text.now ≡ false → IsLine true rules.now.dialect place text.now l) }
 {
@@ -137,12 +132,7 @@ fn last_line(
 }
 
 /// A row of a text that may go on.
-fn open_line(
-    alloc: Global,
-    rules: &Rules,
-    place: u64,
-    text: &[char],
-) -> Result<Line, AllocError>
+fn open_line(alloc: Global, rules: &Rules, place: u64, text: &[char]) -> Result<Line, AllocError>
     ensures within { IfOk result (λ l. line_chars l ≤ length text.now) }
     ensures line { IfOk result (λ l. IsLawful rules.now.dialect → is_note rules.now.dialect place text.now ≡ false → may_be_note rules.now.dialect text.now ≡ false
         → IsLine false rules.now.dialect place text.now l) }

@@ -46,7 +46,11 @@ impl Source {
         let bytes = joined_bytes(self.alloc, self.pending.as_slice(), piece)?;
         let (text, is_bad) = valid_front(bytes.as_slice());
         let chars = chars_of(self.alloc, text)?;
-        let unread = joined_chars(self.alloc, self.rest(), unmarked(self.begun, chars.as_slice()))?;
+        let unread = joined_chars(
+            self.alloc,
+            self.rest(),
+            unmarked(self.begun, chars.as_slice()),
+        )?;
         let pending = tail(self.alloc, bytes.as_slice(), text.len())?;
         self.begun = has_begun(self.begun, chars.as_slice());
         self.text = unread;

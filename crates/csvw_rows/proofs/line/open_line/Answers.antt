@@ -20,7 +20,7 @@ returns-in-Found-clause-line c = λ w n m.
     let e = c.settled-front.ensures in
     let q = rw c.in-Found.is at c.in_ok-values.ensures in
     found_part d c.args.place c.args.text.now c.in-Found.len c.in-Found.values.items (subst (λ (l : List ℕ). c.in-Found.len ≤ length l) e q.0)
-      (subst (λ (l : List ℕ). run d Start [] [] l ≡ Found c.in-Found.values.items (drop c.in-Found.len l)) e q.1) n
+    (subst (λ (l : List ℕ). run d Start [] [] l ≡ Found c.in-Found.values.items (drop c.in-Found.len l)) e q.1) n
 
 pub shown_len-requires : goal.shown_len-requires
 shown_len-requires c =
@@ -53,6 +53,8 @@ pub returns-clause-line : goal.returns-clause-line
 returns-clause-line c = λ w n m.
     let d = c.args.rules.now.dialect in
     let text = c.args.text.now in
-    let q = rw c.in-Unfinished.is at c.in_ok-values.ensures in
-    (refl, subst (Continues d c.args.place text) (ap length (sym c.settled-front.ensures))
-      (continues_unquoted d c.args.place text c.in-Unfinished.state _ _ w n m (ap (run d Start [] []) (sym c.settled-front.ensures) ∙ q.1) (sym c.is_quoted.ensures ∙ c.if-is_quoted.false)))
+    let q = rw c.in-Unfinished.is at c.in_ok-values.ensures in (
+      refl,
+      subst (Continues d c.args.place text) (ap length (sym c.settled-front.ensures))
+          (continues_unquoted d c.args.place text c.in-Unfinished.state _ _ w n m (ap (run d Start [] []) (sym c.settled-front.ensures) ∙ q.1) (sym c.is_quoted.ensures ∙ c.if-is_quoted.false)),
+    )

@@ -9,7 +9,7 @@ returns-then-text-len-eq13 c =
     let some = c.if-len-gt0.true in
     let at : length text - 1 < length text = omega (arith, some) in
     c.split_at.ensures.front ∙ settled_last c.args.rules.now.dialect text c.if-rules.true some
-      (get_any text (length text - 1) 0 _ at ∙ sym c.index-text-len.is ∙ c.if-text-len-eq13.true)
+    (get_any text (length text - 1) 0 _ at ∙ sym c.index-text-len.is ∙ c.if-text-len-eq13.true)
 
 pub returns-else-rules : goal.returns-else-rules
 returns-else-rules c =

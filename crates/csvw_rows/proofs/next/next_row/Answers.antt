@@ -11,7 +11,7 @@ pub returns-then-is_empty : goal.returns-then-is_empty
 returns-then-is_empty c =
     let d = c.args.rules.now.dialect in
     subst (NextGives c.args.after d c.args.max_rows c.args.place c.args.text.now) (sym c.waits.ensures)
-      (empty_waits c.args.after d c.args.max_rows c.args.place c.args.text.now (empty_of c.args.text.now (sym c.is_empty.ensures ∙ c.if-is_empty.true)))
+    (empty_waits c.args.after d c.args.max_rows c.args.place c.args.text.now (empty_of c.args.text.now (sym c.is_empty.ensures ∙ c.if-is_empty.true)))
 
 pub returns-then-place-max_rows : goal.returns-then-place-max_rows
 returns-then-place-max_rows c =
@@ -45,8 +45,8 @@ returns-in-Note c =
     let f = subst (λ (b : Bool). IsFound b d c.args.place text c.in-Note.field-0 None) c.is_last.ensures l in
     let short = subst (λ (l : List ℕ). byte_len l ≤ row_limit) c.split_at.ensures.front (c.is_too_long.ensures.short c.if-is_too_long.false) in
     subst (λ (l : List ℕ). TakesRow (is_last c.args.after) d c.args.max_rows c.args.place text (length l + c.terminator.result) None) (sym c.split_at.ensures.front)
-      (found_takes (is_last c.args.after) d c.args.max_rows c.args.place text c.split_at.result.1.now c.len.result c.terminator.result None w few some
-        (subst (λ n. IsFound (is_last c.args.after) d c.args.place text n None) len f) short c.split_at.ensures.back c.terminator.ensures.value c.terminator.ensures.within)
+    (found_takes (is_last c.args.after) d c.args.max_rows c.args.place text c.split_at.result.1.now c.len.result c.terminator.result None w few some
+    (subst (λ n. IsFound (is_last c.args.after) d c.args.place text n None) len f) short c.split_at.ensures.back c.terminator.ensures.value c.terminator.ensures.within)
 
 pub returns-in-Fields : goal.returns-in-Fields
 returns-in-Fields c =
@@ -62,8 +62,8 @@ returns-in-Fields c =
     let f = subst (λ (b : Bool). IsFound b d c.args.place text c.in-Fields.field-0 fields) c.is_last.ensures l in
     let short = subst (λ (l : List ℕ). byte_len l ≤ row_limit) c.split_at.ensures.front (c.is_too_long.ensures.short c.if-is_too_long.false) in
     subst (λ (l : List ℕ). TakesRow (is_last c.args.after) d c.args.max_rows c.args.place text (length l + c.terminator.result) fields) (sym c.split_at.ensures.front)
-      (found_takes (is_last c.args.after) d c.args.max_rows c.args.place text c.split_at.result.1.now c.len.result c.terminator.result fields w few some
-        (subst (λ n. IsFound (is_last c.args.after) d c.args.place text n fields) len f) short c.split_at.ensures.back c.terminator.ensures.value c.terminator.ensures.within)
+    (found_takes (is_last c.args.after) d c.args.max_rows c.args.place text c.split_at.result.1.now c.len.result c.terminator.result fields w few some
+    (subst (λ n. IsFound (is_last c.args.after) d c.args.place text n fields) len f) short c.split_at.ensures.back c.terminator.ensures.value c.terminator.ensures.within)
 
 pub returns-in-Open : goal.returns-in-Open
 returns-in-Open c =
@@ -77,7 +77,7 @@ returns-in-Open c =
     let short = subst (λ (l : List ℕ). byte_len l ≤ row_limit) (c.split_at.ensures.front ∙ ap (λ n. take n text) len) (c.is_too_long.ensures.short c.if-is_too_long.false) in
     let g = open_waits d c.args.max_rows c.args.place text c.in-Open.field-0 w few l.1 short in
     subst (NextGives c.args.after d c.args.max_rows c.args.place text) (sym c.waits-in-Open.ensures)
-      (waits_gives c.args.after d c.args.max_rows c.args.place text g.0 g.1 (not_nothing c.args.after text (sym c.is_last.ensures ∙ l.0)))
+    (waits_gives c.args.after d c.args.max_rows c.args.place text g.0 g.1 (not_nothing c.args.after text (sym c.is_last.ensures ∙ l.0)))
 
 pub returns-in-Broken : goal.returns-in-Broken
 returns-in-Broken c =

@@ -15,9 +15,12 @@ returns-then-all_empty-clause-turns c =
     let p = passes_from s _ t c.args.len refl refl refl refl refl refl c.pass.ensures.passes in
     let texts = c.as_slice.ensures.value ∙ ap (λ f. f.items) c.pass.ensures.fields ∙ c.in_ok-self.ensures in
     let blank = sym (blank_texts d.trim c.args.values.now) ∙ ap (list_all _) (sym texts) ∙ sym c.all_empty.ensures ∙ c.if-all_empty.true in
-    let skips = ap (λ r. r.dialect.skip_blank_rows) (sym p.rules) ∙ c.if-self.true in
-    (p.ended, c.pass.ensures.unread, note_stays s t c.args.len (Some (map (trimmed d.trim) c.args.values.now)) p c.pass.ensures.remained c.requires
-      (λ n. blank_none d n (map (trimmed d.trim) c.args.values.now) (and_true _ _ skips blank)))
+    let skips = ap (λ r. r.dialect.skip_blank_rows) (sym p.rules) ∙ c.if-self.true in (
+      p.ended,
+      c.pass.ensures.unread,
+      note_stays s t c.args.len (Some (map (trimmed d.trim) c.args.values.now)) p c.pass.ensures.remained c.requires
+          (λ n. blank_none d n (map (trimmed d.trim) c.args.values.now) (and_true _ _ skips blank)),
+    )
 
 pub returns-clause-turns : goal.returns-clause-turns
 returns-clause-turns c =
