@@ -4,7 +4,7 @@ use Rattle.std.proofs.Math.Seq.{take-add}
 use Rattle.std.proofs.Common.{length-drop}
 use Rattle.std.proofs.lemmas.Grind.{common_steps}
 use Rattle.std.proofs.lemmas.Str.{encodes-append, length-encode}
-use Rattle.std.proofs.lemmas.List.{take_more}
+use Rattle.std.proofs.lemmas.List.{take_more, take-append-drop}
 use Rattle.std.specs.Char.{len_utf8, encode_utf8}
 use Rattle.csvw_rows.specs.Lengths.{byte_len}
 
@@ -26,3 +26,10 @@ take_two l s n h k = sym (take-add s n l ∙ ap (λ x. take s l ++ take n x) (sy
 
 pub within_two : (l : List ℕ) (s n : ℕ) → s ≤ length l → n ≤ length (take (length l - s) (drop s l)) → s + n ≤ length l
 within_two l s n h k = grind (arith, common_steps)
+
+byte_len_append : (a b : List ℕ) → byte_len (a ++ b) ≡ byte_len a + byte_len b
+byte_len_append a b = ap length (encodes-append a b) ∙ length-append (encode_utf8_all a) (encode_utf8_all b)
+
+-- the characters up to one more are some of all
+pub byte_len_past : (xs : List ℕ) (i : ℕ) → i < length xs → byte_len (take i xs) + len_utf8 (get_or xs i 0) ≤ byte_len xs
+byte_len_past xs i h = omega (arith, byte_len_more xs i h, byte_len_append (take (i + 1) xs) (drop (i + 1) xs), ap byte_len (take-append-drop (i + 1) xs))

@@ -49,7 +49,7 @@ closed_ends e b q h = grind arith
 closed_next : (e b q : Bool) → e ≡ false → b ≡ true → (if e then End else (if b then Next else (if q then Keep Inside else Stop TextAfterQuote))) ≡ Next
 closed_next e b q h k = grind arith
 
-closed_keep : (e b q : Bool) → e ≡ false → b ≡ false → q ≡ true → (if e then End else (if b then Next else (if q then Keep Inside else Stop TextAfterQuote))) ≡ Keep Inside
+pub closed_keep : (e b q : Bool) → e ≡ false → b ≡ false → q ≡ true → (if e then End else (if b then Next else (if q then Keep Inside else Stop TextAfterQuote))) ≡ Keep Inside
 closed_keep e b q h k j = grind arith
 
 start_open : (e b q s : Bool) → e ≡ false → b ≡ false → q ≡ true → (if e then End else (if b then Next else (if q then Open else (if s then Keep Start else Keep Plain)))) ≡ Open
@@ -146,10 +146,10 @@ no_backslash : (double : Bool) (q c : ℕ) → c ≢ (if double then q else 92) 
 no_backslash true q c n = refl
 no_backslash false q c n = differs c 92 n
 
-quote_no_end : (d : Dialect) (q : ℕ) (rest : List ℕ) → IsLawful d → d.quote_char ≡ Some q → ends_at d (q ∷ rest) ≡ false
+pub quote_no_end : (d : Dialect) (q : ℕ) (rest : List ℕ) → IsLawful d → d.quote_char ≡ Some q → ends_at d (q ∷ rest) ≡ false
 quote_no_end d q rest w e = no_end d (q ∷ rest) (no_terminator d q rest (λ h. w.quote_cr (e ∙ ap Some h)) (λ h. w.quote_lf (e ∙ ap Some h)))
 
-quote_no_delimiter : (d : Dialect) (q : ℕ) → IsLawful d → d.quote_char ≡ Some q → (q == d.delimiter) ≡ false
+pub quote_no_delimiter : (d : Dialect) (q : ℕ) → IsLawful d → d.quote_char ≡ Some q → (q == d.delimiter) ≡ false
 quote_no_delimiter d q w e = differs q d.delimiter (λ h. w.apart (e ∙ ap Some h))
 
 -- one unit: itself
@@ -208,7 +208,7 @@ pub run_field : (f : Bool) (d : Dialect) (vs : List (List ℕ)) (source value af
 run_field f d vs source value after w (inl (p, e)) a = run_start f d vs [] source after w p a ∙ ap (λ l. pass f d Plain vs l after) (sym e)
 run_field f d vs source value after w (inr u) a = run_quoted f d vs source value after w u a
 
-plain_found : (f : Bool) (d : Dialect) (vs : List (List ℕ)) (cur after : List ℕ) → EndsRow f d after → pass f d Plain vs cur after ≡ Found (vs ++ cur ∷ []) after
+pub plain_found : (f : Bool) (d : Dialect) (vs : List (List ℕ)) (cur after : List ℕ) → EndsRow f d after → pass f d Plain vs cur after ≡ Found (vs ++ cur ∷ []) after
 plain_found f d vs cur [] (inl h) = absurd (nothing_ends d h)
 plain_found f d vs cur [] (inr (t, e)) = at_end_found f d vs cur t
 plain_found f d vs cur (c ∷ cs) (inl h) = run_by f d Plain vs cur c cs End (plain_ends _ _ _ (has_end d (c ∷ cs) h))

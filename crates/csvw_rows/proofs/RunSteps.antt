@@ -25,7 +25,7 @@ act f d vs cur c cs Next = pass f d Start (vs ++ cur ∷ []) [] cs
 act f d vs cur c cs End = Found (vs ++ cur ∷ []) (c ∷ cs)
 act f d vs cur c cs (Stop stop) = Broken stop (c ∷ cs)
 
-abbrev act_run : Dialect → List (List ℕ) → List ℕ → ℕ → List ℕ → Step → Outcome
+abbrev pub act_run : Dialect → List (List ℕ) → List ℕ → ℕ → List ℕ → Step → Outcome
 act_run d vs cur c cs (Keep next) = run d next vs (cur ++ c ∷ []) cs
 act_run d vs cur c cs (Skip next) = run d next vs cur cs
 act_run d vs cur c cs Open = run d Inside vs [] cs

@@ -139,29 +139,29 @@ reads_move f d st to vs cur moved c cs values after r back = move r.row r.new r.
     }
 
 -- the tests, by which of them decided
-start_view : (e b q s : Bool) → let x : Step = if e then End else (if b then Next else (if q then Open else (if s then Keep Start else Keep Plain))) in
+pub start_view : (e b q s : Bool) → let x : Step = if e then End else (if b then Next else (if q then Open else (if s then Keep Start else Keep Plain))) in
     ((e ≡ true) × (x ≡ End)) ⊎ (((e ≡ false) × (b ≡ true) × (x ≡ Next)) ⊎ (((e ≡ false) × (b ≡ false) × (q ≡ true) × (x ≡ Open))
-    ⊎ (((e ≡ false) × (b ≡ false) × (q ≡ false) × (s ≡ true) × (x ≡ Keep Start)) ⊎ ((e ≡ false) × (b ≡ false) × (q ≡ false) × (x ≡ Keep Plain)))))
+    ⊎ (((e ≡ false) × (b ≡ false) × (q ≡ false) × (s ≡ true) × (x ≡ Keep Start)) ⊎ ((e ≡ false) × (b ≡ false) × (q ≡ false) × (s ≡ false) × (x ≡ Keep Plain)))))
 start_view true b q s = inl (refl, refl)
 start_view false true q s = inr (inl (refl, refl, refl))
 start_view false false true s = inr (inr (inl (refl, refl, refl, refl)))
 start_view false false false true = inr (inr (inr (inl (refl, refl, refl, refl, refl))))
-start_view false false false false = inr (inr (inr (inr (refl, refl, refl, refl))))
+start_view false false false false = inr (inr (inr (inr (refl, refl, refl, refl, refl))))
 
-plain_view : (e b q : Bool) → let x : Step = if e then End else (if b then Next else (if q then Stop BadQuote else Keep Plain)) in
+pub plain_view : (e b q : Bool) → let x : Step = if e then End else (if b then Next else (if q then Stop BadQuote else Keep Plain)) in
     ((e ≡ true) × (x ≡ End)) ⊎ (((e ≡ false) × (b ≡ true) × (x ≡ Next)) ⊎ ((x ≡ Stop BadQuote) ⊎ ((e ≡ false) × (b ≡ false) × (q ≡ false) × (x ≡ Keep Plain))))
 plain_view true b q = inl (refl, refl)
 plain_view false true q = inr (inl (refl, refl, refl))
 plain_view false false true = inr (inr (inl refl))
 plain_view false false false = inr (inr (inr (refl, refl, refl, refl)))
 
-inside_view : (q e : Bool) → let x : Step = if q then Skip Closed else (if e then Skip Escaped else Keep Inside) in
+pub inside_view : (q e : Bool) → let x : Step = if q then Skip Closed else (if e then Skip Escaped else Keep Inside) in
     ((q ≡ true) × (x ≡ Skip Closed)) ⊎ (((q ≡ false) × (e ≡ true) × (x ≡ Skip Escaped)) ⊎ ((q ≡ false) × (e ≡ false) × (x ≡ Keep Inside)))
 inside_view true e = inl (refl, refl)
 inside_view false true = inr (inl (refl, refl, refl))
 inside_view false false = inr (inr (refl, refl, refl))
 
-closed_view : (e b q : Bool) → let x : Step = if e then End else (if b then Next else (if q then Keep Inside else Stop TextAfterQuote)) in
+pub closed_view : (e b q : Bool) → let x : Step = if e then End else (if b then Next else (if q then Keep Inside else Stop TextAfterQuote)) in
     ((e ≡ true) × (x ≡ End)) ⊎ (((e ≡ false) × (b ≡ true) × (x ≡ Next)) ⊎ ((x ≡ Stop TextAfterQuote) ⊎ ((q ≡ true) × (x ≡ Keep Inside))))
 closed_view true b q = inl (refl, refl)
 closed_view false true q = inr (inl (refl, refl, refl))
@@ -169,28 +169,28 @@ closed_view false false true = inr (inr (inr (refl, refl)))
 closed_view false false false = inr (inr (inl refl))
 
 -- what a test says
-is_same : (a b : ℕ) → (a == b) ≡ true → a ≡ b
+pub is_same : (a b : ℕ) → (a == b) ≡ true → a ≡ b
 is_same a b e = grind (arith, nat_tests)
 
-not_same : (a b : ℕ) → (a == b) ≡ false → a ≢ b
+pub not_same : (a b : ℕ) → (a == b) ≡ false → a ≢ b
 not_same a b e = grind (arith, nat_tests)
 
-quote_here : (o : Option ℕ) (c : ℕ) → quote_is o c ≡ true → o ≡ Some c
+pub quote_here : (o : Option ℕ) (c : ℕ) → quote_is o c ≡ true → o ≡ Some c
 quote_here None c e = absurd (grind arith)
 quote_here (Some q) c e = ap Some (sym (is_same c q e))
 
-no_quote_here : (o : Option ℕ) (c : ℕ) → quote_is o c ≡ false → Some c ≢ o
+pub no_quote_here : (o : Option ℕ) (c : ℕ) → quote_is o c ≡ false → Some c ≢ o
 no_quote_here None c e h = cc
 no_quote_here (Some q) c e h = not_same c q e cc
 
-no_quote_is : (o : Option ℕ) (c q : ℕ) → quote_is o c ≡ false → o ≡ Some q → c ≢ q
+pub no_quote_is : (o : Option ℕ) (c q : ℕ) → quote_is o c ≡ false → o ≡ Some q → c ≢ q
 no_quote_is o c q e h k = no_quote_here o c e (ap Some k ∙ sym h)
 
-and_both : (a b : Bool) → (a && b) ≡ true → (a ≡ true) × (b ≡ true)
+pub and_both : (a b : Bool) → (a && b) ≡ true → (a ≡ true) × (b ≡ true)
 and_both true b e = (refl, e)
 and_both false b e = absurd (grind arith)
 
-not_true : (a : Bool) → not a ≡ true → a ≡ false
+pub not_true : (a : Bool) → not a ≡ true → a ≡ false
 not_true true e = absurd (grind arith)
 not_true false e = refl
 
@@ -211,20 +211,20 @@ unit_back d q c cur source value unit u r = record {
   all = r.all ∙ append_assoc cur (c ∷ []) r.more;
 }
 
-keep_unit : (double : Bool) (q c : ℕ) → c ≢ q → (not double && (c == 92)) ≡ false → c ≢ (if double then q else 92)
+pub keep_unit : (double : Bool) (q c : ℕ) → c ≢ q → (not double && (c == 92)) ≡ false → c ≢ (if double then q else 92)
 keep_unit true q c n e = n
 keep_unit false q c n e = not_same c 92 e
 
-escape_unit : (d : Dialect) (q c : ℕ) → d.double_quote ≡ false → IsUnit d q (92 ∷ c ∷ []) c
+pub escape_unit : (d : Dialect) (q c : ℕ) → d.double_quote ≡ false → IsUnit d q (92 ∷ c ∷ []) c
 escape_unit d q c e = inr (rw e refl, λ h. absurd (grind (arith, h, e)))
 
-double_unit : (d : Dialect) (q : ℕ) → d.double_quote ≡ true → IsUnit d q (q ∷ q ∷ []) q
+pub double_unit : (d : Dialect) (q : ℕ) → d.double_quote ≡ true → IsUnit d q (q ∷ q ∷ []) q
 double_unit d q e = inr (rw e refl, λ h. refl)
 
 abbrev Ind : Bool → Dialect → List ℕ → List (List ℕ) → List ℕ → Type 0
 Ind f d cs values after = (st : State) (vs : List (List ℕ)) (cur : List ℕ) → pass f d st vs cur cs ≡ Found values after → Reads f d st vs cur cs values after
 
-same_quote : (d : Dialect) (a b : ℕ) → d.quote_char ≡ Some a → d.quote_char ≡ Some b → a ≡ b
+pub same_quote : (d : Dialect) (a b : ℕ) → d.quote_char ≡ Some a → d.quote_char ≡ Some b → a ≡ b
 same_quote d a b e f = let g : Some a ≡ Some b = sym e ∙ f in cc
 
 start_back : (d : Dialect) (cur : List ℕ) (c : ℕ) (cs source value l : List ℕ) → ends_at d (c ∷ cs) ≡ false → (c == d.delimiter) ≡ false → quote_is d.quote_char c ≡ false
@@ -263,7 +263,7 @@ sound_start f d vs cur c cs values after h ih =
           | inr r ↦ elim r [
             | inl p ↦ reads_move f d Start Start vs cur (cur ++ c ∷ []) c cs values after (ih Start vs (cur ++ c ∷ []) (sym (run_by f d Start vs cur c cs (Keep Start) p.4) ∙ h))
                 (λ source value l spelled field. start_back d cur c cs source value l p.0 p.1 p.2 p.3 spelled field)
-            | inr p ↦ reads_move f d Start Plain vs cur (cur ++ c ∷ []) c cs values after (ih Plain vs (cur ++ c ∷ []) (sym (run_by f d Start vs cur c cs (Keep Plain) p.3) ∙ h))
+            | inr p ↦ reads_move f d Start Plain vs cur (cur ++ c ∷ []) c cs values after (ih Plain vs (cur ++ c ∷ []) (sym (run_by f d Start vs cur c cs (Keep Plain) p.4) ∙ h))
                 (λ source value l spelled field. inl (plain_back d cur c cs source value l p.0 p.1 p.2 spelled field))
           ]
         ]

@@ -71,13 +71,17 @@ without_mark (c ∷ cs) = if c == 65279 then cs else c ∷ cs
 abbrev pub text_of : List ℕ → List ℕ
 text_of bytes = chars (take (utf8_valid_len bytes) bytes)
 
+-- those characters without the mark
+abbrev pub content : List ℕ → List ℕ
+content bytes = without_mark (text_of bytes)
+
 abbrev pub is_text : List ℕ → Bool
 is_text bytes = utf8_valid_len bytes == length bytes
 
 -- the bytes are a file of these rows
 pub record File (d : Dialect) (max : ℕ) (bytes : List ℕ) (rows : List Row) : Type 0 where
   pub is_utf8 : IsTrue (is_text bytes)
-  pub are_rows : AreAllRows d (without_mark (text_of bytes)) rows
+  pub are_rows : AreAllRows d (content bytes) rows
   pub limits : KeepsLimits max rows
 
 -- the text begins with these rows, each with its terminator
@@ -92,7 +96,7 @@ IsLongest P rows = P rows × ((others : List Row) → P others → length others
 -- the longest list of rows from the start, each with its terminator; of a whole file all its rows
 abbrev pub Front : Dialect → ℕ → List ℕ → Bool → List Row → Type 0
 Front d max bytes ended rows = (IsTrue ended × File d max bytes rows)
-    ⊎ ((IsTrue ended → (others : List Row) → File d max bytes others → ⊥) × IsLongest (BeginsWithRows d max (without_mark (text_of bytes))) rows)
+    ⊎ ((IsTrue ended → (others : List Row) → File d max bytes others → ⊥) × IsLongest (BeginsWithRows d max (content bytes)) rows)
 
 abbrev pub is_empty : {X : Type 0} → List X → Bool
 is_empty [] = true
@@ -107,6 +111,10 @@ remaining_fields d source (Some fields) = if d.skip_blank_rows && list_all is_em
 abbrev pub given : Dialect → ℕ × (ℕ × List (List ℕ)) → Given
 given d (place, (source, fields)) = record { fields = map encode_utf8_all (drop d.skip_columns fields); source = source; number = (place + 1) - d.header_row_count }
 
+-- the rows that remain, with their source numbers, which go on from the first
+abbrev pub remaining : Dialect → ℕ → List Row → List (ℕ × List (List ℕ))
+remaining d source rows = filter_map (λ (r : ℕ × Row). remaining_fields d r.0 r.1.fields) (enumerate_from source rows)
+
 -- the header rows and data rows
 abbrev pub Body : Dialect → List Row → List Given
-Body d rows = map (given d) (enumerate_from 0 (filter_map (λ r. remaining_fields d r.0 r.1.fields) (enumerate_from 1 rows)))
+Body d rows = map (given d) (enumerate_from 0 (remaining d 1 rows))

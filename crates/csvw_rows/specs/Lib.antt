@@ -3,6 +3,9 @@ pub mod Scan
 pub mod Outcomes
 pub mod Lines
 pub mod Files
+pub mod Looks
+pub mod Stops
+pub mod Parts
 pub mod Lawful
 pub mod Lengths
 pub mod Nexts
@@ -10,3 +13,4 @@ pub mod RowValue
 pub mod SourceState
 pub mod RowsState
 pub mod RowsLending
+pub mod Laws

@@ -1,9 +1,14 @@
 -- What stands at the front of the characters that no row has yet.
-use Rattle.std.specs.Prelude.{◌≡◌, ◌⊎◌, ℕ, ◌<◌, ◌≤◌, List, length, drop}
+use Rattle.std.specs.Prelude.{◌≡◌, ◌≢◌, ◌⊎◌, ℕ, ◌+◌, ◌<◌, ◌≤◌, Bool, true, false, IsTrue, List, length, take, drop, map, Option, Some, None, slice_index}
 use Rattle.csvw_rows.specs.declared.dialect.Dialect.{Dialect}
-use Rattle.csvw_rows.specs.Grammar.{terminator_len}
+use Rattle.csvw_rows.specs.declared.stop.RowStop.{RowStop}
 use Rattle.csvw_rows.specs.declared.line.Line.{Line}
 use Rattle.csvw_rows.specs.declared.line.Line.TheVariants as line
+use Rattle.csvw_rows.specs.Grammar.{terminator_len, trimmed}
+use Rattle.csvw_rows.specs.Files.{is_note, prefix_of}
+use Rattle.csvw_rows.specs.Looks.{next_row}
+use Rattle.csvw_rows.specs.Parts.{Continues, Breaks}
+use Rattle.csvw_rows.specs.Stops.{IsBroken}
 
 -- how many characters it has
 abbrev pub line_chars : Line → ℕ
@@ -12,12 +17,48 @@ line_chars (line.Fields len values) = len
 line_chars (line.Open len) = len
 line_chars (line.Broken len stop) = len
 
--- so many characters stand before a terminator, or are all
-abbrev pub EndsLine : Dialect → List ℕ → ℕ → Type 0
-EndsLine d text len = (len ≤ length text) × ((0 < terminator_len d (drop len text)) ⊎ (len ≡ length text))
+-- so many characters stand at the front of both
+pub record IsCommon (prefix text : List ℕ) (len : ℕ) : Type 0 where
+  pub in_prefix : len ≤ length prefix
+  pub in_text : len ≤ length text
+  pub same : take len prefix ≡ take len text
+  pub most : len < length prefix → len < length text → slice_index prefix len ≢ slice_index text len
 
-abbrev pub IsLine : Dialect → List ℕ → Line → Type 0
-IsLine d text (line.Note len) = EndsLine d text len
-IsLine d text (line.Fields len values) = EndsLine d text len
-IsLine d text (line.Open len) = len ≤ length text
-IsLine d text (line.Broken len stop) = len ≤ length text
+abbrev pub IsPrefixLen : Option (List ℕ) → List ℕ → ℕ → Type 0
+IsPrefixLen None text len = len ≡ 0
+IsPrefixLen (Some prefix) text len = IsCommon prefix text len
+
+-- a CR that may begin a terminator stands there
+abbrev pub IsCr : Dialect → List ℕ → ℕ → Type 0
+IsCr d text at = (d.line_terminators.crlf ≡ true) × (slice_index text at ≡ 13)
+
+-- how many characters show that a rule is broken at a place: that character, the next where it is a CR, and those by which
+-- the row is no comment
+pub record IsShown (d : Dialect) (text : List ℕ) (at len : ℕ) : Type 0 where
+  pub here : ℕ
+  pub common : ℕ
+  pub is_here : ((here ≡ at + 1) × IsCr d text at) ⊎ ((here ≡ at) × (IsCr d text at → ⊥))
+  pub is_common : IsPrefixLen (prefix_of d) text common
+  pub within : len ≤ length text
+  pub past_here : (here < len) ⊎ (len ≡ length text)
+  pub past_common : (common < len) ⊎ (len ≡ length text)
+  pub least : (len ≤ here + 1) ⊎ (len ≤ common + 1)
+
+-- a row of so many characters is found
+pub record IsFound (whole : Bool) (d : Dialect) (i : ℕ) (text : List ℕ) (len : ℕ) (fields : Option (List (List ℕ))) : Type 0 where
+  pub within : len ≤ length text
+  pub found : next_row whole d i text ≡ Some (fields, drop len text)
+
+-- a rule is broken, as so many characters show, and no fewer
+pub record IsWrong (whole : Bool) (d : Dialect) (i : ℕ) (text : List ℕ) (len : ℕ) (stop : RowStop) : Type 0 where
+  pub within : len ≤ length text
+  pub stands : Breaks d i (take len text) stop ⊎ ((whole ≡ true) × (len ≡ length text))
+  pub first : (k : ℕ) (other : RowStop) → k ≤ length text → Breaks d i (take k text) other → (len ≤ k) × (other ≡ stop)
+  pub no_row : (next_row whole d i text ≡ None) × (next_row false d i text ≡ None)
+  pub is_broken : whole ≡ true → IsBroken d i text true stop
+
+abbrev pub IsLine : Bool → Dialect → ℕ → List ℕ → Line → Type 0
+IsLine whole d i text (line.Note len) = IsFound whole d i text len None
+IsLine whole d i text (line.Fields len values) = IsFound whole d i text len (Some (map (trimmed d.trim) values.items))
+IsLine whole d i text (line.Open len) = (whole ≡ false) × Continues d i text len
+IsLine whole d i text (line.Broken len stop) = IsWrong whole d i text len stop

@@ -1,22 +1,60 @@
--- What stands at the front.
-use Rattle.std.specs.Prelude.{◌≡◌, ℕ, ◌<◌, ◌≤◌, List, length, Result, Ok, Err}
+-- What stands at the front, behind so many rows.
+use Rattle.std.specs.Prelude.{◌≡◌, ◌≢◌, ◌⊎◌, ℕ, ◌+◌, ◌<◌, ◌≤◌, Bool, true, false, List, [], ◌++◌, length, take, drop, map, Option, Some, None, option_map, Result, Ok, Err}
+use Rattle.csvw_rows.specs.declared.dialect.Dialect.{Dialect}
 use Rattle.csvw_rows.specs.declared.stop.RowStop.{RowStop}
-use Rattle.csvw_rows.specs.declared.stop.RowStop.TheVariants.{NotUtf8}
+use Rattle.csvw_rows.specs.declared.stop.RowStop.TheVariants.{Memory, NotUtf8, RowTooLong, BadQuote, TextAfterQuote, UnclosedQuote, TooManyRows}
 use Rattle.csvw_rows.specs.declared.next.After.{After}
 use Rattle.csvw_rows.specs.declared.next.After.TheVariants.{More, Nothing, NoText}
 use Rattle.csvw_rows.specs.declared.next.Next.{Next}
-use Rattle.csvw_rows.specs.declared.next.Next.TheVariants.{Row, Waits}
+use Rattle.csvw_rows.specs.declared.next.Next.TheVariants as next
+use Rattle.csvw_rows.specs.Grammar.{terminator_len, trimmed}
+use Rattle.csvw_rows.specs.Files.{Row, IsRow}
+use Rattle.csvw_rows.specs.Lengths.{byte_len, row_limit}
+use Rattle.csvw_rows.specs.Parts.{Goes, NoRow, NoLast, FirstEnd}
+use Rattle.csvw_rows.specs.Stops.{IsNamed}
 
 -- what there is where no row is complete
 abbrev pub waits_of : After → Result Next RowStop
-waits_of More = Ok Waits
-waits_of Nothing = Ok Waits
+waits_of More = Ok next.Waits
+waits_of Nothing = Ok next.Waits
 waits_of NoText = Err NotUtf8
 
-abbrev pub IsNext : ℕ → ℕ → List ℕ → Next → Type 0
-IsNext max place text (Row len values) = (0 < len) × (len ≤ length text) × (place < max)
-IsNext max place text Waits = Unit {0}
+abbrev pub is_last : After → Bool
+is_last More = false
+is_last Nothing = true
+is_last NoText = false
 
-abbrev pub NextGives : ℕ → ℕ → List ℕ → Result Next RowStop → Type 0
-NextGives max place text (Ok n) = IsNext max place text n
-NextGives max place text (Err e) = Unit {0}
+-- a row with its terminator, or the last one, which may lack it
+abbrev pub StandsThere : Bool → Dialect → ℕ → ℕ → List ℕ → ℕ → Row → Type 0
+StandsThere whole d max i text len row = ((rest : List ℕ) × (text ≡ row.text ++ rest) × IsRow d i row rest × (0 < terminator_len d rest) × (drop len text ≡ drop (terminator_len d rest) rest))
+    ⊎ ((whole ≡ true) × (text ≡ row.text) × IsRow d i row [] × (drop len text ≡ []) × Goes d max i text)
+
+pub record TakesRow (whole : Bool) (d : Dialect) (max i : ℕ) (text : List ℕ) (len : ℕ) (fields : Option (List (List ℕ))) : Type 0 where
+  pub some : 0 < len
+  pub within : len ≤ length text
+  pub few : i < max
+  pub row : Row
+  pub fields_are : row.fields ≡ fields
+  pub short : byte_len row.text ≤ row_limit
+  pub stands : StandsThere whole d max i text len row
+
+-- the stop stands at a character, or at the end
+pub record StopsHere (whole : Bool) (d : Dialect) (max i : ℕ) (text : List ℕ) (stop : RowStop) : Type 0 where
+  pub some : text ≢ []
+  pub no_row : NoRow d max i text
+  pub no_last : whole ≡ true → NoLast d max i text
+  pub stands : ((f : FirstEnd d max i text (length text)) × IsNamed d max i (take f.at text) false stop) ⊎ ((whole ≡ true) × Goes d max i text × IsNamed d max i text true stop)
+
+abbrev pub StopGives : After → Dialect → ℕ → ℕ → List ℕ → RowStop → Type 0
+StopGives after d max i text Memory = Unit {0}
+StopGives after d max i text NotUtf8 = (after ≡ NoText) × Goes d max i text × NoRow d max i text
+StopGives after d max i text RowTooLong = StopsHere (is_last after) d max i text RowTooLong
+StopGives after d max i text BadQuote = StopsHere (is_last after) d max i text BadQuote
+StopGives after d max i text TextAfterQuote = StopsHere (is_last after) d max i text TextAfterQuote
+StopGives after d max i text UnclosedQuote = StopsHere (is_last after) d max i text UnclosedQuote
+StopGives after d max i text TooManyRows = StopsHere (is_last after) d max i text TooManyRows
+
+abbrev pub NextGives : After → Dialect → ℕ → ℕ → List ℕ → Result Next RowStop → Type 0
+NextGives after d max i text (Ok (next.Row len values)) = TakesRow (is_last after) d max i text len (option_map (λ v. map (trimmed d.trim) v.items) values)
+NextGives after d max i text (Ok next.Waits) = (after ≢ NoText) × Goes d max i text × NoRow d max i text × (after ≡ Nothing → text ≡ [])
+NextGives after d max i text (Err stop) = StopGives after d max i text stop

@@ -5,14 +5,15 @@ use Rattle.csvw_rows.specs.declared.rows.Rows.{Rows}
 use Rattle.csvw_rows.specs.declared.raw_row.RawRow.{RawRow}
 use Rattle.csvw_rows.specs.declared.stop.RowStop.{RowStop}
 use Rattle.csvw_rows.specs.contracts.rows.Rows.{the_row}
-use Rattle.csvw_rows.specs.RowsState.{Advances}
+use Rattle.csvw_rows.specs.RowValue.{row_of}
+use Rattle.csvw_rows.specs.RowsState.{is_ended_of, unread, reading_of, Stays, Gives, IsDone, IsStopped, stop_of}
 use mathlib.Core.Option.{none}
 
--- whether a row was given
-abbrev pub is_given : {R : Type 0} → Result (Option R) RowStop → Result Bool RowStop
-is_given (Ok (Some x)) = Ok true
-is_given (Ok None) = Ok false
-is_given (Err e) = Err e
+-- the row is given; or all were, and no stop stands; or the stop stands behind all rows
+abbrev pub Reads : Rows → Rows → Result (Option RawRow) RowStop → Type 0
+Reads old new (Ok (Some row)) = (is_ended_of new ≡ is_ended_of old) × (unread new < unread old) × Gives old new (row_of row) × (stop_of old ≡ None) × (stop_of new ≡ None)
+Reads old new (Ok None) = (is_ended_of new ≡ is_ended_of old) × Stays old new × IsDone old × (stop_of old ≡ None) × (stop_of new ≡ None)
+Reads old new (Err e) = (is_ended_of new ≡ is_ended_of old) × IsStopped old e (reading_of new) × (stop_of new ≡ Some e) × ((stop : RowStop) → stop_of old ≡ Some stop → stop ≡ e)
 
 abbrev pub RestsAdvanced : MutBor Rows → Result (Option RawRow) RowStop → Fml
-RestsAdvanced s r = follows_so the_row the_row s.ghost_name none (λ _ _. ⊤) (λ v. Advances s.now v (is_given r))
+RestsAdvanced s r = follows_so the_row the_row s.ghost_name none (λ _ _. ⊤) (λ v. Reads s.now v r)

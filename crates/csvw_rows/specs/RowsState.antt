@@ -1,28 +1,124 @@
--- What contracts see of a reader of rows.
-use Rattle.std.specs.Prelude.{◌≡◌, ◌<◌, ℕ, Bool, true, false, length, Result, Ok, Err}
+-- What a reader of rows stands for: all bytes so far, whether they ended, and the rows given.
+use Rattle.std.specs.Prelude.{◌≡◌, ◌≢◌, ◌⊎◌, ℕ, ◌+◌, ◌-◌, ◌<◌, Bool, true, false, not, ◌&&◌, ◌||◌, ◌==◌, if◌then◌else◌, List, [], ◌∷◌, ◌++◌, drop, length, Option, Some, None, Result, Ok, Err}
+use Rattle.csvw_rows.specs.declared.dialect.Dialect.{Dialect}
 use Rattle.csvw_rows.specs.declared.rows.Rows.{Rows}
 use Rattle.csvw_rows.specs.declared.stop.RowStop.{RowStop}
+use Rattle.csvw_rows.specs.declared.stop.RowStop.TheVariants.{Memory}
+use Rattle.csvw_rows.specs.declared.next.After.{After}
+use Rattle.csvw_rows.specs.declared.next.After.TheVariants.{More, Nothing, NoText}
 use Rattle.csvw_rows.specs.declared.next.Turn.{Turn}
-use Rattle.csvw_rows.specs.declared.next.Turn.TheVariants.{Given, Passed, Waits}
-use Rattle.csvw_rows.specs.SourceState.{rest_of}
+use Rattle.csvw_rows.specs.declared.next.Turn.TheVariants as turn
+use Rattle.csvw_rows.specs.Files.{Row, AreRows, EndsOpen, KeepsLimits, Front, Body, content, is_text, remaining}
+use Rattle.csvw_rows.specs.RowValue.{Given}
+use Rattle.csvw_rows.specs.SourceState.{rest_of, is_bad_of, pending_of, begun_of, Decodes}
+use Rattle.csvw_rows.specs.Stops.{Begins, StopOf}
 
 -- whether the text has ended
 abbrev pub is_ended_of : Rows → Bool
 is_ended_of s = s.ended
 
+-- the stop that was answered, if one was
+abbrev pub stop_of : Rows → Option RowStop
+stop_of s = s.stop
+
+-- the source number of the row that is being read
+abbrev pub reading_of : Rows → ℕ
+reading_of s = s.row + 1
+
 -- how many characters aren't read: each row that is given makes it less
 abbrev pub unread : Rows → ℕ
 unread s = length (rest_of s.source)
 
+-- what comes behind the characters that there are
+abbrev pub after_of : Rows → After
+after_of s = if is_bad_of s.source || (s.ended && not (length (pending_of s.source) == 0)) then NoText else (if s.ended then Nothing else More)
+
+-- these rows were read of the bytes, up to what is left
+pub record HasRead (d : Dialect) (max : ℕ) (bytes : List ℕ) (ended : Bool) (rest : List ℕ) (rows : List Row) : Type 0 where
+  pub limits : KeepsLimits max rows
+  pub reached : AreRows d 0 (content bytes) rows rest
+      ⊎ ((ended ≡ true) × (is_text bytes ≡ true) × EndsOpen d (content bytes) rows × (rest ≡ []) × Begins d max (content bytes))
+
+-- no stop was answered, and these rows were given
+pub record Holds (s : Rows) (d : Dialect) (max : ℕ) (bytes : List ℕ) (ended : Bool) (given : List Given) : Type 0 where
+  pub dialect : s.rules.dialect ≡ d
+  pub max_is : s.max_rows ≡ max
+  pub ended_is : s.ended ≡ ended
+  pub no_stop : s.stop ≡ None
+  pub decodes : Decodes s.source bytes
+  pub rows : List Row
+  pub read : HasRead d max bytes ended (rest_of s.source) rows
+  pub row_is : s.row ≡ length rows
+  pub remained_is : s.remained ≡ length (remaining d 1 rows)
+  pub given_is : given ≡ Body d rows
+
+-- the row that was read last
+abbrev pub last_of : Rows → Given
+last_of s = record { fields = drop s.rules.dialect.skip_columns s.fields.items; source = s.row; number = s.remained - s.rules.dialect.header_row_count }
+
+-- all rows of the front were given
+pub record HasGiven (d : Dialect) (max : ℕ) (bytes : List ℕ) (ended : Bool) (given : List Given) : Type 0 where
+  pub front : List Row
+  pub is_front : Front d max bytes ended front
+  pub all : given ≡ Body d front
+
+abbrev pub NoStop : Dialect → ℕ → List ℕ → Bool → Type 0
+NoStop d max bytes ended = (stop : RowStop) (row : ℕ) → StopOf d max bytes ended stop row → ⊥
+
+-- what it stands for where nothing changes
+abbrev pub Stays : Rows → Rows → Type 0
+Stays old new = (d : Dialect) (max : ℕ) (bytes : List ℕ) (ended : Bool) (given : List Given) → Holds old d max bytes ended given → Holds new d max bytes ended given
+
+-- one more row is given
+abbrev pub Gives : Rows → Rows → Given → Type 0
+Gives old new row = (d : Dialect) (max : ℕ) (bytes : List ℕ) (ended : Bool) (given : List Given) → Holds old d max bytes ended given → Holds new d max bytes ended (given ++ row ∷ [])
+
+-- all rows were given, and no stop stands
+abbrev pub IsDone : Rows → Type 0
+IsDone old = (d : Dialect) (max : ℕ) (bytes : List ℕ) (ended : Bool) (given : List Given) → Holds old d max bytes ended given
+    → HasGiven d max bytes ended given × NoStop d max bytes ended
+
+-- all rows were given, and the stop stands behind them
+abbrev pub IsStopped : Rows → RowStop → ℕ → Type 0
+IsStopped old stop row = stop ≢ Memory → (d : Dialect) (max : ℕ) (bytes : List ℕ) (ended : Bool) (given : List Given) → Holds old d max bytes ended given
+    → HasGiven d max bytes ended given × StopOf d max bytes ended stop row
+
+-- a stop that is answered stays, and is answered by every later call
+abbrev pub KeepsStop : {T : Type 0} → Rows → Rows → Result T RowStop → Type 0
+KeepsStop old new (Ok x) = (stop_of old ≡ None) × (stop_of new ≡ None)
+KeepsStop old new (Err e) = (stop_of new ≡ Some e) × ((stop : RowStop) → stop_of old ≡ Some stop → stop ≡ e)
+
+-- after a call that takes some more bytes
+abbrev pub Feeds : Rows → Rows → List ℕ → Result Unit RowStop → Type 0
+Feeds old new piece (Ok x) = (d : Dialect) (max : ℕ) (bytes : List ℕ) (given : List Given) → Holds old d max bytes false given → Holds new d max (bytes ++ piece) false given
+Feeds old new piece (Err e) = (stop_of old ≡ Some e) ⊎ (e ≡ Memory)
+
+-- after a call that ends the text
+abbrev pub Closes : Rows → Rows → Result Unit RowStop → Type 0
+Closes old new (Ok x) = (d : Dialect) (max : ℕ) (bytes : List ℕ) (given : List Given) → Holds old d max bytes false given → Holds new d max bytes true given
+Closes old new (Err e) = stop_of old ≡ Some e
+
 -- after a call that reads on to a row that is given
 abbrev pub Advances : Rows → Rows → Result Bool RowStop → Type 0
-Advances old new (Ok true) = (is_ended_of new ≡ is_ended_of old) × (unread new < unread old)
-Advances old new (Ok false) = is_ended_of new ≡ is_ended_of old
-Advances old new (Err e) = is_ended_of new ≡ is_ended_of old
+Advances old new (Ok true) = (is_ended_of new ≡ is_ended_of old) × (unread new < unread old) × Gives old new (last_of new)
+Advances old new (Ok false) = (is_ended_of new ≡ is_ended_of old) × Stays old new × IsDone old
+Advances old new (Err e) = (is_ended_of new ≡ is_ended_of old) × IsStopped old e (reading_of new)
 
 -- after a call that reads one row on
 abbrev pub Turns : Rows → Rows → Result Turn RowStop → Type 0
-Turns old new (Ok Given) = (is_ended_of new ≡ is_ended_of old) × (unread new < unread old)
-Turns old new (Ok Passed) = (is_ended_of new ≡ is_ended_of old) × (unread new < unread old)
-Turns old new (Ok Waits) = is_ended_of new ≡ is_ended_of old
-Turns old new (Err e) = is_ended_of new ≡ is_ended_of old
+Turns old new (Ok turn.Given) = (is_ended_of new ≡ is_ended_of old) × (unread new < unread old) × Gives old new (last_of new)
+Turns old new (Ok turn.Passed) = (is_ended_of new ≡ is_ended_of old) × (unread new < unread old) × Stays old new
+Turns old new (Ok turn.Waits) = (is_ended_of new ≡ is_ended_of old) × Stays old new × IsDone old
+Turns old new (Err e) = (is_ended_of new ≡ is_ended_of old) × IsStopped old e (reading_of new)
+
+-- some characters were taken, which are a row
+pub record Passes (old new : Rows) (len : ℕ) : Type 0 where
+  pub rules : new.rules ≡ old.rules
+  pub max_rows : new.max_rows ≡ old.max_rows
+  pub ended : new.ended ≡ old.ended
+  pub stop : new.stop ≡ old.stop
+  pub rest : rest_of new.source ≡ drop len (rest_of old.source)
+  pub begun : begun_of new.source ≡ begun_of old.source
+  pub pending : pending_of new.source ≡ pending_of old.source
+  pub bad : is_bad_of new.source ≡ is_bad_of old.source
+  pub row : new.row ≡ old.row + 1

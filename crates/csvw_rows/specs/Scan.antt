@@ -38,6 +38,14 @@ run d st vs cur (c ∷ cs) = elim (step_of d st c (nat_lt 0 (terminator_len d (c
   | Stop stop ↦ Broken stop (c ∷ cs)
 ]
 
+-- whether a state is inside quotes
+abbrev pub is_quoted : State → Bool
+is_quoted Start = false
+is_quoted Plain = false
+is_quoted Inside = true
+is_quoted Escaped = true
+is_quoted Closed = false
+
 -- where the text has ended for good, what is there is the last row, unless a quote is open
 abbrev pub finish : Outcome → Bool → Outcome
 finish (Found values after) ended = Found values after

@@ -1,6 +1,8 @@
 -- What a source of characters holds.
-use Rattle.std.specs.Prelude.{ℕ, Bool, List, drop}
+use Rattle.std.specs.Prelude.{◌≡◌, ℕ, Bool, not, List, ◌++◌, drop, is_some}
+use Rattle.std.specs.Str.Lossy.{utf8_valid_len, utf8_error_len}
 use Rattle.csvw_rows.specs.declared.source.Source.{Source}
+use Rattle.csvw_rows.specs.Files.{text_of, content, is_empty}
 
 -- the characters that aren't taken
 abbrev pub rest_of : Source → List ℕ
@@ -13,3 +15,17 @@ is_bad_of s = s.is_bad
 -- the bytes at the end that are no whole character
 abbrev pub pending_of : Source → List ℕ
 pending_of s = s.pending.items
+
+abbrev pub begun_of : Source → Bool
+begun_of s = s.begun
+
+-- it has decoded these bytes
+pub record Decodes (s : Source) (bytes : List ℕ) : Type 0 where
+  pub begun : begun_of s ≡ not (is_empty (text_of bytes))
+  pub pending : pending_of s ≡ drop (utf8_valid_len bytes) bytes
+  pub bad : is_bad_of s ≡ is_some (utf8_error_len (drop (utf8_valid_len bytes) bytes))
+
+-- it decodes some more: there are more characters behind those that aren't taken, which the text has too
+abbrev pub Pushes : Source → Source → List ℕ → Type 0
+Pushes old new piece = (bytes : List ℕ) → Decodes old bytes → Decodes new (bytes ++ piece)
+    × ((more : List ℕ) × (rest_of new ≡ rest_of old ++ more) × (content (bytes ++ piece) ≡ content bytes ++ more))

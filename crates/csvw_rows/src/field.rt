@@ -1,5 +1,6 @@
 //! The text of a field, from its value.
-ghost use Rattle.std.specs.Prelude.{◌≡◌, IfOk, encode_utf8_all, string_bytes};
+ghost use Rattle.std.specs.Prelude.{◌≡◌, ◌==◌, IfOk, length, map, encode_utf8_all, string_bytes};
+ghost use Rattle.std.specs.List.{list_all};
 ghost use Rattle.csvw_rows.specs.Grammar.{strip_start, strip_end, trimmed};
 
 use crate::dialect::Trim;
@@ -54,11 +55,9 @@ fn encoded(alloc: Global, chars: &[char]) -> Result<Text, AllocError>
 }
 
 /// The texts of a row's fields, from their values; `AllocError` where there is no memory.
-pub fn field_texts(
-    alloc: Global,
-    trim: Trim,
-    values: &[Seq<char>],
-) -> Result<Vec<Text>, AllocError> {
+pub fn field_texts(alloc: Global, trim: Trim, values: &[Seq<char>]) -> Result<Vec<Text>, AllocError>
+    ensures { IfOk result (λ v. v.items ≡ map (λ x. encode_utf8_all (trimmed trim x)) values.now) }
+{
     let mut texts = Vec::new(alloc);
     for value in values {
         texts.push(encoded(alloc, trimmed(trim, value.as_slice()))?)?;
@@ -67,6 +66,8 @@ pub fn field_texts(
 }
 
 /// Whether all texts are empty.
-pub fn all_empty(texts: &[Text]) -> bool {
+pub fn all_empty(texts: &[Text]) -> bool
+    ensures { result ≡ list_all (λ x. length x == 0) texts.now }
+{
     texts.iter().all(|text| text.is_empty())
 }

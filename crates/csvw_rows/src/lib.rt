@@ -4,6 +4,7 @@
 mod decode;
 mod dialect;
 mod field;
+pub mod laws;
 mod line;
 mod next;
 mod raw_row;

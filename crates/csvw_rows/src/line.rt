@@ -1,7 +1,10 @@
 //! What stands at the front of the characters that no row has yet.
-ghost use Rattle.std.specs.Prelude.{◌≡◌, ◌≤◌, ◌<◌, ◌+◌, length, drop, IfOk};
-ghost use Rattle.csvw_rows.specs.Grammar.{terminator_len};
-ghost use Rattle.csvw_rows.specs.Lines.{line_chars, IsLine};
+ghost use Rattle.std.specs.Prelude.{◌≡◌, ◌≤◌, ◌<◌, length, drop, IfOk, Some, true, false};
+ghost use Rattle.csvw_rows.specs.Lawful.{IsLawful};
+ghost use Rattle.csvw_rows.specs.Scan.{is_quoted};
+ghost use Rattle.csvw_rows.specs.Files.{is_note};
+ghost use Rattle.csvw_rows.specs.Looks.{settled, line_of, may_be_note};
+ghost use Rattle.csvw_rows.specs.Lines.{line_chars, IsLine, IsShown};
 
 use crate::rules::Rules;
 use crate::scan::{Read, State, read_fields, terminator};
@@ -18,7 +21,7 @@ pub enum Line {
     Fields(usize, Vec<Seq<char>>),
     /// No row is complete; this many characters are sure to be the row's.
     Open(usize),
-    /// A rule is broken, at the last of these characters or at the end.
+    /// A rule is broken, as these characters show.
     Broken(usize, RowStop),
 }
 
@@ -39,7 +42,7 @@ impl Line {
 /// How many characters stand before the first terminator.
 fn line_len(rules: &Rules, text: &[char]) -> usize
     ensures within { result ≤ length text.now }
-    ensures ends { result < length text.now → 0 < terminator_len rules.now.dialect (drop result text.now) }
+    ensures line { line_of true rules.now.dialect text.now ≡ Some (drop result text.now) }
 {
     for (i, _) in text.iter().enumerate() {
         if 0 < terminator(&rules.dialect, &text[i..]) {
@@ -49,69 +52,103 @@ fn line_len(rules: &Rules, text: &[char]) -> usize
     text.len()
 }
 
-/// How many characters of a row without its terminator are sure to be the row's: a CR at the end isn't,
-/// where it may begin a terminator.
-fn settled_len(rules: &Rules, text: &[char]) -> usize
-    ensures { result ≤ length text.now }
+/// The text without a CR at its end that may begin a terminator.
+fn settled<'a>(rules: &Rules, text: &'a [char]) -> &'a [char]
+    ensures { result.now ≡ settled rules.now.dialect text.now }
 {
-    match text {
-        [front @ .., '\r'] if rules.dialect.line_terminators.crlf => front.len(),
-        _ => text.len(),
+    let len = text.len();
+    if rules.dialect.line_terminators.crlf && 0 < len && text[len - 1] == '\r' {
+        let (front, _) = text.split_at(len - 1);
+        front
+    } else {
+        text
     }
 }
 
-/// A skipped row or a comment.
-fn note_line(rules: &Rules, text: &[char], whole: bool) -> Line
-    ensures { IsLine rules.now.dialect text.now result }
+/// A skipped row or a comment of a text that has ended.
+fn last_note(rules: &Rules, place: u64, text: &[char]) -> Line
+    ensures within { line_chars result ≤ length text.now }
+    ensures line { is_note rules.now.dialect place text.now ≡ true → IsLine true rules.now.dialect place text.now result }
 {
-    let len = line_len(rules, text);
-    if len < text.len() || whole {
+    Line::Note(line_len(rules, text))
+}
+
+/// A skipped row or a comment of a text that may go on.
+fn note_line(rules: &Rules, place: u64, text: &[char]) -> Line
+    ensures within { line_chars result ≤ length text.now }
+    ensures line { IsLawful rules.now.dialect → is_note rules.now.dialect place text.now ≡ true → IsLine false rules.now.dialect place text.now result }
+{
+    let front = settled(rules, text);
+    let len = line_len(rules, front);
+    if len < front.len() {
         Line::Note(len)
     } else {
-        Line::Open(settled_len(rules, text))
+        Line::Open(front.len())
     }
 }
 
-/// A row that breaks a rule at a character. A CR that may begin a terminator is judged with the next
-/// character, and a row that may be a comment with the one that shows that it is none.
-fn broken_line(rules: &Rules, text: &[char], whole: bool, stop: RowStop, at: usize) -> Line
+/// How many characters show that a rule is broken at a place. A CR that may begin a terminator is judged
+/// with the next character, and a row that may be a comment with the one that shows that it is none.
+fn shown_len(rules: &Rules, text: &[char], at: usize) -> usize
     requires { at < length text.now }
-    ensures { IsLine rules.now.dialect text.now result }
+    ensures { IsShown rules.now.dialect text.now at result }
 {
-    let waits = rules.dialect.line_terminators.crlf && text[at] == '\r';
-    let here = if waits { at + 1 } else { at };
-    let place = here.max(rules.prefix_len(text));
+    let is_cr = rules.dialect.line_terminators.crlf && text[at] == '\r';
+    let here = if is_cr { at + 1 } else { at };
+    let common = rules.prefix_len(text);
+    let place = here.max(common);
     if place < text.len() {
-        Line::Broken(place + 1, stop)
-    } else if whole {
-        Line::Broken(text.len(), stop)
+        place + 1
     } else {
-        Line::Open(at)
+        text.len()
     }
 }
 
-/// A row whose fields go on to the end of the text.
-fn last_line(
-    rules: &Rules,
-    text: &[char],
-    whole: bool,
-    state: State,
-    mut values: Vec<Seq<char>>,
-    current: Seq<char>,
-) -> Result<Line, AllocError>
-    ensures { IfOk result (λ l. IsLine rules.now.dialect text.now l) }
+fn is_quoted(state: State) -> bool
+    ensures { result ≡ is_quoted state }
 {
-    Ok(match state {
-        State::Inside | State::Escaped if whole => {
-            Line::Broken(text.len(), RowStop::UnclosedQuote)
-        }
-        State::Inside | State::Escaped => Line::Open(text.len()),
-        _ if whole => {
+    match state {
+        State::Inside | State::Escaped => true,
+        State::Start | State::Plain | State::Closed => false,
+    }
+}
+
+/// A row of a text that has ended.
+fn last_line(alloc: Global, rules: &Rules, place: u64, text: &[char]) -> Result<Line, AllocError>
+    ensures within { IfOk result (λ l. line_chars l ≤ length text.now) }
+    ensures line { IfOk result (λ l. IsLawful rules.now.dialect → is_note rules.now.dialect place text.now ≡ false → IsLine true rules.now.dialect place text.now l) }
+{
+    match read_fields(alloc, &rules.dialect, text)? {
+        Read::Found(values, len) => Ok(Line::Fields(len, values)),
+        Read::Broken(stop, at) => Ok(Line::Broken(shown_len(rules, text, at), stop)),
+        Read::Unfinished(state, mut values, current) => {
+            if is_quoted(state) {
+                return Ok(Line::Broken(text.len(), RowStop::UnclosedQuote));
+            }
             values.push(current)?;
-            Line::Fields(text.len(), values)
+            Ok(Line::Fields(text.len(), values))
         }
-        _ => Line::Open(settled_len(rules, text)),
-    })
+    }
+}
+
+/// A row of a text that may go on.
+fn open_line(alloc: Global, rules: &Rules, place: u64, text: &[char]) -> Result<Line, AllocError>
+    ensures within { IfOk result (λ l. line_chars l ≤ length text.now) }
+    ensures line { IfOk result (λ l. IsLawful rules.now.dialect → is_note rules.now.dialect place text.now ≡ false → may_be_note rules.now.dialect text.now ≡ false
+        → IsLine false rules.now.dialect place text.now l) }
+{
+    let front = settled(rules, text);
+    match read_fields(alloc, &rules.dialect, front)? {
+        Read::Found(values, len) => Ok(Line::Fields(len, values)),
+        Read::Broken(stop, at) => Ok(Line::Broken(shown_len(rules, text, at), stop)),
+        Read::Unfinished(state, _, _) => {
+            if is_quoted(state) {
+                Ok(Line::Open(text.len()))
+            } else {
+                Ok(Line::Open(front.len()))
+            }
+        }
+    }
 }
 
 /// What stands at the front of the text, behind so many rows. The text is `whole` where nothing comes
@@ -123,19 +160,21 @@ pub fn read_line(
     text: &[char],
     whole: bool,
 ) -> Result<Line, AllocError>
-    ensures { IfOk result (λ l. IsLine rules.now.dialect text.now l) }
+    ensures within { IfOk result (λ l. line_chars l ≤ length text.now) }
+    ensures line { IfOk result (λ l. IsLawful rules.now.dialect → IsLine whole rules.now.dialect place text.now l) }
 {
-    if rules.is_note(place, text) {
-        return Ok(note_line(rules, text, whole));
+    let note = rules.is_note(place, text);
+    if whole {
+        if note {
+            return Ok(last_note(rules, place, text));
+        }
+        return last_line(alloc, rules, place, text);
     }
-    if !whole && rules.may_be_note(text) {
+    if note {
+        return Ok(note_line(rules, place, text));
+    }
+    if rules.may_be_note(text) {
         return Ok(Line::Open(text.len()));
     }
-    match read_fields(alloc, &rules.dialect, text)? {
-        Read::Found(values, len) => Ok(Line::Fields(len, values)),
-        Read::Broken(stop, at) => Ok(broken_line(rules, text, whole, stop, at)),
-        Read::Unfinished(state, values, current) => {
-            last_line(rules, text, whole, state, values, current)
-        }
-    }
+    open_line(alloc, rules, place, text)
 }

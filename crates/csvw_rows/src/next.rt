@@ -1,7 +1,7 @@
 //! The next row of the characters that no row has yet, or the stop that stands there.
-ghost use Rattle.std.specs.Prelude.{◌≡◌, ◌≤◌, ◌<◌, ◌+◌, length, IfOk, false};
+ghost use Rattle.std.specs.Prelude.{◌≡◌, ◌≤◌, ◌<◌, ◌+◌, length, IfOk, true, false};
 ghost use Rattle.csvw_rows.specs.Lengths.{byte_len, row_limit};
-ghost use Rattle.csvw_rows.specs.Nexts.{NextGives, waits_of};
+ghost use Rattle.csvw_rows.specs.Nexts.{NextGives, waits_of, is_last};
 
 use crate::line::{Line, read_line};
 use crate::rules::Rules;
@@ -45,9 +45,10 @@ pub enum Turn {
 }
 
 /// Whether the characters take more bytes than a row may have.
-#[tactic(auto, using(crate::proofs::ByteLens::byte_len_more))]
+#[tactic(auto, using(crate::proofs::ByteLens::byte_len_more, crate::proofs::ByteLens::byte_len_past))]
 fn is_too_long(text: &[char]) -> bool
-    ensures { result ≡ false → byte_len text.now ≤ row_limit }
+    ensures short { result ≡ false → byte_len text.now ≤ row_limit }
+    ensures long { result ≡ true → row_limit < byte_len text.now }
 {
     let mut bytes = 0;
     for c in text {
@@ -69,6 +70,16 @@ fn waits(after: After) -> Result<Next, RowStop>
     }
 }
 
+/// Whether the text has ended.
+fn is_last(after: After) -> bool
+    ensures { result ≡ is_last after }
+{
+    match after {
+        After::Nothing => true,
+        After::More | After::NoText => false,
+    }
+}
+
 /// What stands at the front of the text, behind so many rows.
 pub fn next_row(
     alloc: Global,
@@ -78,7 +89,8 @@ pub fn next_row(
     text: &[char],
     after: After,
 ) -> Result<Next, RowStop>
-    ensures { NextGives max_rows place text.now result }
+    requires { place ≤ max_rows }
+    ensures { NextGives after rules.now.dialect max_rows place text.now result }
 {
     if text.is_empty() {
         return waits(after);
@@ -86,7 +98,7 @@ pub fn next_row(
     if place >= max_rows {
         return Err(RowStop::TooManyRows);
     }
-    let line = read_line(alloc, rules, place, text, after == After::Nothing)?;
+    let line = read_line(alloc, rules, place, text, is_last(after))?;
     let (row, behind) = text.split_at(line.len());
     if is_too_long(row) {
         return Err(RowStop::RowTooLong);

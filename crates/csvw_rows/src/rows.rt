@@ -1,5 +1,5 @@
 //! A reader of rows.
-ghost use Rattle.std.specs.Prelude.{◌≡◌, ◌≤◌, ◌<◌, ◌-◌, ◌+◌, ◌^◌, true, false, length, IfOk};
+ghost use Rattle.std.specs.Prelude.{◌≡◌, ◌≤◌, ◌<◌, ◌-◌, ◌+◌, ◌^◌, true, false, [], length, map, IfOk, Some};
 ghost use Rattle.std.specs.Borrow.{sem};
 ghost use Rattle.csvw_rows.specs.Lawful.{IsLawful};
 
@@ -31,17 +31,20 @@ pub struct Rows {
 }
 
 impl Rows {
-    ghost use Rattle.csvw_rows.specs.RowsState.{is_ended_of, unread, Advances, Turns};
+    ghost use Rattle.csvw_rows.specs.RowsState.{is_ended_of, unread, reading_of, stop_of, after_of, last_of, Holds, Passes, Feeds, Closes, Advances, Turns, KeepsStop};
     ghost use Rattle.csvw_rows.specs.RowsLending.{RestsAdvanced};
     ghost use Rattle.csvw_rows.specs.SourceState.{rest_of};
-    ghost use Rattle.csvw_rows.specs.Nexts.{NextGives};
+    ghost use Rattle.csvw_rows.specs.RowValue.{row_of};
+    ghost use Rattle.csvw_rows.specs.Nexts.{NextGives, TakesRow, is_last};
+    ghost use Rattle.csvw_rows.specs.Grammar.{trimmed};
 
     /// A reader of no bytes yet, which takes at most so many rows of all kinds; `AllocError` where there is
     /// no memory. The dialect has to pass `check`.
     pub fn new(alloc: Global, dialect: Dialect, max_rows: u64) -> Result<Rows, AllocError>
         requires lawful { IsLawful dialect }
         requires few { max_rows < 2 ^ 64 - 1 }
-        ensures { IfOk result (λ r. is_ended_of r ≡ false) }
+        ensures ended { IfOk result (λ r. is_ended_of r ≡ false) }
+        ensures holds { IfOk result (λ r. Holds r dialect max_rows [] false []) }
     {
         Ok(Rows {
             alloc,
@@ -64,14 +67,18 @@ impl Rows {
     }
 
     /// The source number, from 1, of the row that is being read: one more than there are complete rows.
-    pub fn row(&self) -> u64 {
+    pub fn row(&self) -> u64
+        ensures { result ≡ reading_of self.now }
+    {
         self.row + 1
     }
 
     /// Takes some more bytes of the text. It answers the stop that was answered before, or `Memory`.
     pub fn feed(&mut self, piece: &[u8]) -> Result<(), RowStop>
         requires { is_ended_of self.old ≡ false }
-        ensures { is_ended_of self.new ≡ false }
+        ensures ended { is_ended_of self.new ≡ false }
+        ensures feeds { Feeds self.old self.new piece.now result }
+        ensures keeps { KeepsStop self.old self.new result }
     {
         if let Some(stop) = self.stop {
             return Err(stop);
@@ -88,7 +95,9 @@ impl Rows {
     /// Ends the text. It answers the stop that was answered before.
     pub fn end(&mut self) -> Result<(), RowStop>
         requires { is_ended_of self.old ≡ false }
-        ensures { is_ended_of self.new ≡ true }
+        ensures ended { is_ended_of self.new ≡ true }
+        ensures closes { Closes self.old self.new result }
+        ensures keeps { KeepsStop self.old self.new result }
     {
         self.ended = true;
         match self.stop {
@@ -102,14 +111,16 @@ impl Rows {
     pub fn next(&mut self) -> Result<Option<RawRow<'_>>, RowStop>
         ensures* after { sem 𝓛 (RestsAdvanced self.entry result) }
     {
-        if self.advance()? {
-            Ok(Some(self.given_row()))
-        } else {
-            Ok(None)
+        match self.advance() {
+            Ok(true) => Ok(Some(self.given_row())),
+            Ok(false) => Ok(None),
+            Err(stop) => Err(stop),
         }
     }
 
-    fn given_row(&self) -> RawRow<'_> {
+    fn given_row(&self) -> RawRow<'_>
+        ensures { row_of result ≡ last_of self.now }
+    {
         let columns = self.rules.dialect.skip_columns as usize;
         let (_, fields) = self
             .fields
@@ -121,7 +132,8 @@ impl Rows {
 
     /// Reads on to the next row that is given.
     fn advance(&mut self) -> Result<bool, RowStop>
-        ensures { Advances self.old self.new result }
+        ensures advances { Advances self.old self.new result }
+        ensures keeps { KeepsStop self.old self.new result }
     {
         if let Some(stop) = self.stop {
             return Err(stop);
@@ -136,19 +148,23 @@ impl Rows {
     }
 
     fn read_on(&mut self) -> Result<bool, RowStop>
-        ensures { Advances self.old self.new result }
+        ensures advances { Advances self.old self.new result }
+        ensures stop { stop_of self.new ≡ stop_of self.old }
     {
         loop {
-            match self.turn()? {
-                Turn::Given => return Ok(true),
-                Turn::Waits => return Ok(false),
-                Turn::Passed => {}
+            match self.turn() {
+                Ok(Turn::Given) => return Ok(true),
+                Ok(Turn::Waits) => return Ok(false),
+                Ok(Turn::Passed) => {}
+                Err(stop) => return Err(stop),
             }
         }
     }
 
     /// What comes behind the characters that there are.
-    fn after(&self) -> After {
+    fn after(&self) -> After
+        ensures { result ≡ after_of self.now }
+    {
         if self.source.is_bad() || self.ended && self.source.is_cut() {
             After::NoText
         } else if self.ended {
@@ -160,7 +176,7 @@ impl Rows {
 
     /// What stands at the front of the characters that aren't read.
     fn next_line(&self) -> Result<Next, RowStop>
-        ensures { NextGives self.now.max_rows self.now.row (rest_of self.now.source) result }
+        ensures { NextGives (after_of self.now) self.now.rules.dialect self.now.max_rows self.now.row (rest_of self.now.source) result }
     {
         let text = self.source.rest();
         next_row(
@@ -175,15 +191,17 @@ impl Rows {
 
     /// Reads one row on.
     fn turn(&mut self) -> Result<Turn, RowStop>
-        ensures { Turns self.old self.new result }
+        ensures turns { Turns self.old self.new result }
+        ensures stop { stop_of self.new ≡ stop_of self.old }
     {
-        match self.next_line()? {
-            Next::Row(len, None) => {
+        match self.next_line() {
+            Ok(Next::Row(len, None)) => {
                 self.pass(len);
                 Ok(Turn::Passed)
             }
-            Next::Row(len, Some(values)) => self.take_fields(len, values.as_slice()),
-            Next::Waits => Ok(Turn::Waits),
+            Ok(Next::Row(len, Some(values))) => self.take_fields(len, values.as_slice()),
+            Ok(Next::Waits) => Ok(Turn::Waits),
+            Err(stop) => Err(stop),
         }
     }
 
@@ -192,10 +210,10 @@ impl Rows {
         requires some { 0 < len }
         requires within { len ≤ length (rest_of self.old.source) }
         requires few { self.old.row < self.old.max_rows }
-        ensures ended { is_ended_of self.new ≡ is_ended_of self.old }
+        ensures passes { Passes self.old self.new len }
         ensures unread { unread self.new < unread self.old }
-        ensures row { self.new.row ≡ self.old.row + 1 }
         ensures remained { self.new.remained ≡ self.old.remained }
+        ensures fields { self.new.fields ≡ self.old.fields }
     {
         self.source.take(len);
         self.row += 1;
@@ -203,10 +221,10 @@ impl Rows {
 
     /// Goes behind a row with these fields, which is given unless it is blank.
     fn take_fields(&mut self, len: usize, values: &[Seq<char>]) -> Result<Turn, RowStop>
-        requires some { 0 < len }
-        requires within { len ≤ length (rest_of self.old.source) }
-        requires few { self.old.row < self.old.max_rows }
-        ensures { Turns self.old self.new result }
+        requires { TakesRow (is_last (after_of self.old)) self.old.rules.dialect self.old.max_rows self.old.row (rest_of self.old.source) len
+            (Some (map (trimmed self.old.rules.dialect.trim) values.now)) }
+        ensures turns { Turns self.old self.new result }
+        ensures stop { stop_of self.new ≡ stop_of self.old }
     {
         self.fields = field_texts(self.alloc, self.rules.dialect.trim, values)?;
         self.pass(len);

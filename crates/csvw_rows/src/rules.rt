@@ -1,6 +1,11 @@
 //! A dialect with its comment prefix as characters.
 ghost use Rattle.std.specs.Prelude.{◌≡◌, ◌≤◌, length, IfOk};
+ghost use Rattle.csvw_rows.specs.Files.{prefix_of, is_note};
+ghost use Rattle.csvw_rows.specs.Lawful.{IsLawful};
+ghost use Rattle.csvw_rows.specs.Looks.{may_be_note};
+ghost use Rattle.csvw_rows.specs.Lines.{IsCommon, IsPrefixLen};
 
+use crate::decode::chars_of;
 use crate::dialect::Dialect;
 use csvw_text::Seq;
 use std::alloc::{AllocError, Global};
@@ -10,22 +15,27 @@ use std::alloc::{AllocError, Global};
 pub struct Rules {
     pub dialect: Dialect,
     pub prefix: Option<Seq<char>>,
+    ghost same_prefix: { prefix ≡ prefix_of dialect },
+    ghost lawful: { IsLawful dialect },
 }
 
 impl Rules {
     /// The rules of a dialect; `AllocError` where there is no memory.
     pub fn new(alloc: Global, dialect: Dialect) -> Result<Rules, AllocError>
+        requires { IsLawful dialect }
         ensures { IfOk result (λ r. r.dialect ≡ dialect) }
     {
         let prefix = match &dialect.comment_prefix {
-            Some(text) => Some(Seq::of(text.as_str().chars().collect(alloc)?)),
+            Some(text) => Some(Seq::of(chars_of(alloc, text.as_str())?)),
             None => None,
         };
         Ok(Rules { dialect, prefix })
     }
 
     /// Whether the row at this place, from 0, is skipped or a comment.
-    pub fn is_note(&self, place: u64, text: &[char]) -> bool {
+    pub fn is_note(&self, place: u64, text: &[char]) -> bool
+        ensures { result ≡ is_note self.now.dialect place text.now }
+    {
         let comment = match &self.prefix {
             Some(prefix) => text.starts_with(prefix.as_slice()),
             None => false,
@@ -35,7 +45,8 @@ impl Rules {
 
     /// How many characters at the front of the text the prefix has too.
     pub fn prefix_len(&self, text: &[char]) -> usize
-        ensures { result ≤ length text.now }
+        ensures within { result ≤ length text.now }
+        ensures value { IsPrefixLen (prefix_of self.now.dialect) text.now result }
     {
         match &self.prefix {
             Some(prefix) => common_len(prefix.as_slice(), text),
@@ -44,7 +55,9 @@ impl Rules {
     }
 
     /// Whether the row that begins so may still become a comment.
-    pub fn may_be_note(&self, text: &[char]) -> bool {
+    pub fn may_be_note(&self, text: &[char]) -> bool
+        ensures { result ≡ may_be_note self.now.dialect text.now }
+    {
         match &self.prefix {
             Some(prefix) => prefix.as_slice().starts_with(text),
             None => false,
@@ -53,7 +66,7 @@ impl Rules {
 }
 
 fn common_len(a: &[char], b: &[char]) -> usize
-    ensures { result ≤ length b.now }
+    ensures { IsCommon a.now b.now result }
 {
     for (i, c) in b.iter().enumerate() {
         if i >= a.len() || a[i] != *c {

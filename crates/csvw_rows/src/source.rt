@@ -1,5 +1,6 @@
 //! The characters of bytes that come in pieces, up to where they are no UTF-8.
-ghost use Rattle.std.specs.Prelude.{◌≡◌, ◌≤◌, ◌+◌, length, vec_len};
+ghost use Rattle.std.specs.Prelude.{◌≡◌, ◌≤◌, ◌+◌, ◌==◌, ◌++◌, not, true, false, [], if◌then◌else◌, length, drop, vec_len, IfOk, OnOk};
+ghost use Rattle.csvw_rows.specs.Files.{without_mark};
 
 use crate::decode::{chars_of, valid_front};
 use std::alloc::{AllocError, Global};
@@ -19,10 +20,15 @@ pub struct Source {
 }
 
 impl Source {
-    ghost use Rattle.csvw_rows.specs.SourceState.{rest_of, is_bad_of, pending_of};
+    ghost use Rattle.csvw_rows.specs.SourceState.{rest_of, is_bad_of, pending_of, begun_of, Pushes};
 
     /// No characters yet.
-    pub fn new(alloc: Global) -> Source {
+    pub fn new(alloc: Global) -> Source
+        ensures rest { rest_of result ≡ [] }
+        ensures begun { begun_of result ≡ false }
+        ensures pending { pending_of result ≡ [] }
+        ensures bad { is_bad_of result ≡ false }
+    {
         Source {
             alloc,
             text: Vec::new(alloc),
@@ -33,37 +39,25 @@ impl Source {
         }
     }
 
-    /// Decodes some more bytes; `AllocError` where there is no memory. Behind bytes that are no UTF-8
-    /// nothing is decoded.
-    pub fn push(&mut self, piece: &[u8]) -> Result<(), AllocError> {
-        if self.is_bad {
-            return Ok(());
-        }
-        self.pending.extend_from_slice(piece)?;
-        let (text, is_bad) = valid_front(self.pending.as_slice());
+    /// Decodes some more bytes; `AllocError` where there is no memory.
+    pub fn push(&mut self, piece: &[u8]) -> Result<(), AllocError>
+        ensures { OnOk result (Pushes self.old self.new piece.now) }
+    {
+        let bytes = joined_bytes(self.alloc, self.pending.as_slice(), piece)?;
+        let (text, is_bad) = valid_front(bytes.as_slice());
         let chars = chars_of(self.alloc, text)?;
-        let (_, tail) = self.pending.as_slice().split_at(text.len());
-        let pending = Vec::from_slice(self.alloc, tail)?;
-        self.text.extend_from_slice(chars.as_slice())?;
+        let unread = joined_chars(
+            self.alloc,
+            self.rest(),
+            unmarked(self.begun, chars.as_slice()),
+        )?;
+        let pending = tail(self.alloc, bytes.as_slice(), text.len())?;
+        self.begun = has_begun(self.begun, chars.as_slice());
+        self.text = unread;
+        self.taken = 0;
         self.pending = pending;
         self.is_bad = is_bad;
-        self.skip_mark();
         Ok(())
-    }
-
-    /// Drops the byte order mark, once there is a first character.
-    fn skip_mark(&mut self) {
-        if self.begun {
-            return;
-        }
-        match self.text.as_slice() {
-            [BYTE_ORDER_MARK, ..] => {
-                self.begun = true;
-                self.taken = 1;
-            }
-            [_, ..] => self.begun = true,
-            [] => {}
-        }
     }
 
     /// The characters that aren't taken.
@@ -77,9 +71,10 @@ impl Source {
     /// Takes some characters.
     pub fn take(&mut self, count: usize)
         requires { count ≤ length (rest_of self.old) }
-        ensures rest { rest_of self.new ≡ Rattle.std.specs.Prelude.drop count (rest_of self.old) }
+        ensures rest { rest_of self.new ≡ drop count (rest_of self.old) }
         ensures bad { is_bad_of self.new ≡ is_bad_of self.old }
         ensures pending { pending_of self.new ≡ pending_of self.old }
+        ensures begun { begun_of self.new ≡ begun_of self.old }
     {
         self.taken += count;
     }
@@ -92,7 +87,51 @@ impl Source {
     }
 
     /// Whether the bytes end inside a character.
-    pub fn is_cut(&self) -> bool {
+    pub fn is_cut(&self) -> bool
+        ensures { result ≡ not (length (pending_of self.now) == 0) }
+    {
         !self.pending.is_empty()
     }
+}
+
+/// The characters without a byte order mark at the start of the text.
+fn unmarked(begun: bool, chars: &[char]) -> &[char]
+    ensures { result.now ≡ (if begun then chars.now else without_mark chars.now) }
+{
+    match chars {
+        [BYTE_ORDER_MARK, rest @ ..] if !begun => rest,
+        _ => chars,
+    }
+}
+
+/// Whether there was a character, these among them.
+fn has_begun(begun: bool, chars: &[char]) -> bool
+    ensures { result ≡ (if begun then true else not (length chars.now == 0)) }
+{
+    begun || !chars.is_empty()
+}
+
+fn joined_bytes(alloc: Global, a: &[u8], b: &[u8]) -> Result<Vec<u8>, AllocError>
+    ensures { IfOk result (λ v. v.items ≡ a.now ++ b.now) }
+{
+    let mut all = Vec::from_slice(alloc, a)?;
+    all.extend_from_slice(b)?;
+    Ok(all)
+}
+
+fn joined_chars(alloc: Global, a: &[char], b: &[char]) -> Result<Vec<char>, AllocError>
+    ensures { IfOk result (λ v. v.items ≡ a.now ++ b.now) }
+{
+    let mut all = Vec::from_slice(alloc, a)?;
+    all.extend_from_slice(b)?;
+    Ok(all)
+}
+
+/// The bytes behind the first of them.
+fn tail(alloc: Global, bytes: &[u8], count: usize) -> Result<Vec<u8>, AllocError>
+    requires { count ≤ length bytes.now }
+    ensures { IfOk result (λ v. v.items ≡ drop count bytes.now) }
+{
+    let (_, rest) = bytes.split_at(count);
+    Vec::from_slice(alloc, rest)
 }

@@ -1,8 +1,7 @@
-use Rattle.std.proofs.Common.{inl, ◌∙◌, sym, drop}
-use Rattle.csvw_rows.proofs.LineLemmas.{found_ends}
+use Rattle.std.proofs.Common.{refl, sym, ◌∙◌}
+use Rattle.csvw_rows.proofs.Continue.{continues_maybe}
 use Rattle.csvw_rows.proofs.line.read_line.Goals as goal
 
-pub returns-in-Found : goal.returns-in-Found
-returns-in-Found c =
-    let q = rw c.in-Found.is at c.in_ok-values.ensures in
-    (q.0, inl (found_ends c.args.rules.now.dialect c.args.text.now (drop c.in-Found.len c.args.text.now) c.in-Found.values.items q.1))
+pub returns-then-may_be_note-clause-line : goal.returns-then-may_be_note-clause-line
+returns-then-may_be_note-clause-line c = λ w.
+    (c.if-whole.false, continues_maybe c.args.rules.now.dialect c.args.place c.args.text.now w (sym c.is_note-note.ensures ∙ c.if-note-2.false) (sym c.may_be_note.ensures ∙ c.if-may_be_note.true))

@@ -1,0 +1,144 @@
+-- One list of rows, and fronts that grow.
+use Rattle.std.proofs.Common.{◌≡◌, ◌≢◌, ℕ, zero, suc, ◌+◌, ◌<◌, ◌≤◌, Bool, true, false, List, [], ◌∷◌, ◌++◌, length, map, take, drop, refl, sym, ap, ◌∙◌, subst, arith, append_assoc, append-nil, length-append, ◌⊎◌, inl, inr, zero-add}
+use Rattle.std.proofs.lemmas.Grind.{common_steps}
+use Rattle.std.proofs.lemmas.Bool.{cases_lt}
+use Rattle.std.specs.List.{enumerate_from}
+use Rattle.csvw_rows.specs.declared.dialect.Dialect.{Dialect}
+use Rattle.csvw_rows.specs.declared.rows.Rows.{Rows}
+use Rattle.csvw_rows.specs.Grammar.{terminator_len}
+use Rattle.csvw_rows.specs.Lawful.{IsLawful}
+use Rattle.csvw_rows.specs.Files.{Row, IsRow, AreRows, AreAllRows, EndsOpen, KeepsLimits, BeginsWithRows, IsLongest, File, Front, Body, given, remaining, content, text_of, is_text, without_mark}
+use Rattle.csvw_rows.specs.SourceState.{rest_of}
+use Rattle.csvw_rows.specs.RowValue.{Given}
+use Rattle.csvw_rows.specs.Stops.{Begins, StopsAt}
+use Rattle.csvw_rows.specs.RowsState.{Holds, HasRead}
+use Rattle.csvw_rows.specs.Laws.{HaveOneList, FrontsGrow, StopsPart, GivenBegin, NothingGiven}
+use Rattle.csvw_rows.proofs.RowLaws.{row_unique, rows_prefix}
+use Rattle.csvw_rows.proofs.Complete.{nothing_ends}
+use Rattle.csvw_rows.proofs.Lookahead.{Again, rows_again}
+use Rattle.csvw_rows.proofs.Stands.{no_more, no_row_in_last, begins_front}
+use Rattle.csvw_rows.proofs.Bodies.{Body_append}
+use Rattle.csvw_rows.proofs.Utf8.{content_more, text_none}
+
+-- the longer of two lists has one more
+one_more : (d : Dialect) (text : List ℕ) (xs ys : List Row) (rest later : List ℕ) → IsLawful d → AreRows d 0 text xs rest → AreRows d 0 text ys later → length xs < length ys
+    → (b : Row) × (bs : List Row) × AreRows d (length xs) rest (b ∷ bs) later
+one_more d text xs ys rest later w r s h = split (rows_prefix d 0 text xs ys rest later w r s (omega arith))
+  where
+    split : (more : List Row) × (ys ≡ xs ++ more) × AreRows d (0 + length xs) rest more later → (b : Row) × (bs : List Row) × AreRows d (length xs) rest (b ∷ bs) later
+    split ([], e, rows) = absurd (let n : length ys ≡ length (xs ++ []) = ap length e in omega (arith, length-append xs (let k : List Row = [] in k)))
+    split (b ∷ bs, e, rows) = (b, bs, subst (λ (n : ℕ). AreRows d n rest (b ∷ bs) later) (let z : 0 + length xs ≡ length xs = omega arith in z) rows)
+
+abbrev Begun : List Row → List Row → Type 0
+Begun rows front = (more : List Row) × (front ≡ rows ++ more)
+
+by_file : (d : Dialect) (text : List ℕ) (rows front : List Row) (rest : List ℕ) → IsLawful d → AreRows d 0 text rows rest ⊎ EndsOpen d text rows → AreAllRows d text front → Begun rows front
+by_file d text rows front rest w (inl are) (inl all) =
+    elim (cases_lt (length front) (length rows)) [
+      | inl h ↦ let m = one_more d text front rows [] rest w all are h in absurd (no_more d (length front) m.0 m.1 rest m.2)
+      | inr h ↦ let m = rows_prefix d 0 text rows front rest [] w are all h in (m.0, m.1)
+    ]
+by_file d text rows front rest w (inl are) (inr o) =
+    elim (cases_lt (length o.front) (length rows)) [
+      | inl h ↦ let m = one_more d text o.front rows o.last.text rest w o.before are h in absurd (no_row_in_last d (length o.front) o.last m.0 m.1 rest w o.is_row m.2)
+      | inr h ↦ let m = rows_prefix d 0 text rows o.front rest o.last.text w are o.before h in
+          (m.0 ++ o.last ∷ [], o.all ∙ ap (λ l. l ++ o.last ∷ []) m.1 ∙ append_assoc rows m.0 (o.last ∷ []))
+    ]
+by_file d text rows front rest w (inr o) (inl all) =
+    elim (cases_lt (length o.front) (length front)) [
+      | inl h ↦ let m = one_more d text o.front front o.last.text [] w o.before all h in absurd (no_row_in_last d (length o.front) o.last m.0 m.1 [] w o.is_row m.2)
+      | inr h ↦ absurd (ended (rows_prefix d 0 text front o.front [] o.last.text w all o.before h))
+    ]
+  where
+    ended : (more : List Row) × (o.front ≡ front ++ more) × AreRows d (0 + length front) [] more o.last.text → ⊥
+    ended ([], e, r) = o.not_empty (sym r)
+    ended (b ∷ bs, e, r) = no_more d (0 + length front) b bs o.last.text r
+by_file d text rows front rest w (inr o) (inr k) =
+    elim (cases_lt (length o.front) (length k.front)) [
+      | inl h ↦ let m = one_more d text o.front k.front o.last.text k.last.text w o.before k.before h in absurd (no_row_in_last d (length o.front) o.last m.0 m.1 k.last.text w o.is_row m.2)
+      | inr h ↦ elim (cases_lt (length k.front) (length o.front)) [
+        | inl g ↦ let m = one_more d text k.front o.front k.last.text o.last.text w k.before o.before g in absurd (no_row_in_last d (length k.front) k.last m.0 m.1 o.last.text w k.is_row m.2)
+        | inr g ↦ same (rows_prefix d 0 text k.front o.front k.last.text o.last.text w k.before o.before h) g
+      ]
+    ]
+  where
+    same : (more : List Row) × (o.front ≡ k.front ++ more) × AreRows d (0 + length k.front) k.last.text more o.last.text → length o.front ≤ length k.front → Begun rows front
+    same ([], e, r) g =
+        let fronts : o.front ≡ k.front = e ∙ append-nil k.front in
+        let lasts = row_unique true d (length k.front) k.last o.last [] [] w (ap (λ l. l ++ []) r) k.is_row (inr (refl, refl)) (subst (λ (f : List Row). IsRow d (length f) o.last []) fronts o.is_row) (inr (refl, refl)) in
+        ([], k.all ∙ ap (λ f. f ++ k.last ∷ []) (sym fronts) ∙ ap (λ x. o.front ++ x ∷ []) lasts.row ∙ sym o.all ∙ sym (append-nil rows))
+    same (b ∷ bs, e, r) g = absurd (let n : length o.front ≡ length (k.front ++ b ∷ bs) = ap length e in omega (arith, length-append k.front (b ∷ bs)))
+
+no_rest : (xs ys more less : List Row) → xs ≡ ys ++ more → ys ≡ xs ++ less → xs ≡ ys
+no_rest xs ys [] less e f = e ∙ append-nil ys
+no_rest xs ys (b ∷ bs) less e f = absurd (let n : length xs ≡ length (ys ++ b ∷ bs) = ap length e in let m : length ys ≡ length (xs ++ less) = ap length f in omega (arith, length-append ys (b ∷ bs), length-append xs less))
+
+-- a text has one list of rows
+all_same : (d : Dialect) (text : List ℕ) (rows others : List Row) → IsLawful d → AreAllRows d text rows → AreAllRows d text others → rows ≡ others
+all_same d text rows others w a b =
+    let m = by_file d text rows others [] w a b in
+    let k = by_file d text others rows [] w b a in
+    no_rest rows others k.0 m.0 k.1 m.1
+
+pub one_list : HaveOneList
+one_list d max bytes rows others w a b = all_same d (content bytes) rows others w a.are_rows b.are_rows
+
+-- rows that were read begin the front
+begins_front_of : (d : Dialect) (max : ℕ) (bytes : List ℕ) (ended : Bool) (rows front : List Row) (rest : List ℕ) → IsLawful d → KeepsLimits max rows → AreRows d 0 (content bytes) rows rest → Front d max bytes ended front → Begun rows front
+begins_front_of d max bytes ended rows front rest w k are (inl (e, f)) = by_file d (content bytes) rows front rest w (inl are) f.are_rows
+begins_front_of d max bytes ended rows front rest w k are (inr (n, longest)) =
+    let m = rows_prefix d 0 (content bytes) rows front rest longest.0.rest w are longest.0.are_rows (longest.1 rows (record { rest = rest; are_rows = are; limits = k })) in (m.0, m.1)
+
+pub fronts_grow : FrontsGrow
+fronts_grow d max bytes more ended front later w f g = by_front f
+  where
+    by_front : Front d max bytes false front → (rest : List Row) × (later ≡ front ++ rest)
+    by_front (inl (e, x)) = absurd cc
+    by_front (inr (n, longest)) =
+        let a = rows_again d 0 (content bytes) front longest.0.rest longest.0.are_rows in
+        let c = content_more bytes more in
+        let joined : content (bytes ++ more) ≡ a.front ++ (longest.0.rest ++ c.0) = c.1 ∙ ap (λ l. l ++ c.0) a.spelled ∙ append_assoc a.front longest.0.rest c.0 in
+        begins_front_of d max (bytes ++ more) ended front later (longest.0.rest ++ c.0) w longest.0.limits
+        (subst (λ (l : List ℕ). AreRows d 0 l front (longest.0.rest ++ c.0)) (sym joined) (a.again (longest.0.rest ++ c.0))) g
+
+take_take : (m n : ℕ) (l : List ℕ) → m ≤ n → take m (take n l) ≡ take m l
+take_take zero n l h = refl
+take_take (suc m) zero l h = absurd (omega arith)
+take_take (suc m) (suc n) [] h = refl
+take_take (suc m) (suc n) (x ∷ xs) h = ap (λ l. x ∷ l) (take_take m n xs (omega arith))
+
+pub stops_part : StopsPart
+stops_part d max text n s = (s.shorter, λ k h b. s.none (subst (Begins d max) (take_take n k text h) (begins_front d max (take k text) n b)))
+
+body_begun : (d : Dialect) (rows front : List Row) → Begun rows front → (rest : List Given) × (Body d front ≡ Body d rows ++ rest)
+body_begun d rows front (more, e) = (map (given d) (enumerate_from (0 + length (remaining d 1 rows)) (remaining d (1 + length rows) more)), ap (Body d) e ∙ Body_append d rows more)
+
+pub given_begin : GivenBegin
+given_begin s d max bytes ended before front h f = told (body_begun d h.rows front (by_reached h.read.reached))
+  where
+    w : IsLawful d
+    w = subst IsLawful h.dialect s.rules.lawful
+
+    by_reached : AreRows d 0 (content bytes) h.rows (rest_of s.source) ⊎ ((ended ≡ true) × (is_text bytes ≡ true) × EndsOpen d (content bytes) h.rows
+        × (rest_of s.source ≡ []) × Begins d max (content bytes)) → Begun h.rows front
+    by_reached (inl are) = begins_front_of d max bytes ended h.rows front (rest_of s.source) w h.read.limits are f
+    by_reached (inr (e, t, o, z, b)) = by_front f
+      where
+        by_front : Front d max bytes ended front → Begun h.rows front
+        by_front (inl (e, k)) = by_file d (content bytes) h.rows front [] w (inr o) k.are_rows
+        by_front (inr (n, longest)) = absurd (n e h.rows (record { is_utf8 = t; are_rows = inr o; limits = h.read.limits }))
+
+    told : (rest : List Given) × (Body d front ≡ Body d h.rows ++ rest) → (rest : List Given) × (Body d front ≡ before ++ rest)
+    told (rest, e) = (rest, e ∙ ap (λ l. l ++ rest) (sym h.given_is))
+
+pub nothing_given : NothingGiven
+nothing_given s d max before h = h.given_is ∙ by_rows h.rows h.read.reached
+  where
+    none : content (let e : List ℕ = [] in e) ≡ []
+    none = ap without_mark text_none
+
+    by_rows : (rows : List Row) → AreRows d 0 (content []) rows (rest_of s.source) ⊎ ((false ≡ true) × (is_text [] ≡ true) × EndsOpen d (content []) rows
+        × (rest_of s.source ≡ []) × Begins d max (content [])) → Body d rows ≡ []
+    by_rows [] r = refl
+    by_rows (row ∷ rows) (inl are) = absurd (no_more d 0 row rows (rest_of s.source) (subst (λ (l : List ℕ). AreRows d 0 l (row ∷ rows) (rest_of s.source)) none are))
+    by_rows (row ∷ rows) (inr (e, t, o, z, b)) = absurd cc

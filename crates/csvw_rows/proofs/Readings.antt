@@ -1,0 +1,193 @@
+-- What a reader's next step says of all bytes so far.
+use Rattle.std.proofs.Common.{◌≡◌, ◌≢◌, ℕ, zero, suc, ◌+◌, ◌-◌, ◌<◌, ◌≤◌, Bool, true, false, not, ◌&&◌, ◌||◌, ◌==◌, if◌then◌else◌, List, [], ◌∷◌, ◌++◌, length, take, drop, Option, Some, None, refl, sym, ap, ◌∙◌, subst, arith, append_assoc, append-nil, length-append, length-drop, ◌⊎◌, inl, inr, IsTrue, zero-add, Ok, Err}
+use Rattle.std.specs.Prelude.{is_some, IsSome}
+use Rattle.std.specs.List.{All}
+use Rattle.std.specs.Str.Lossy.{utf8_valid_len, utf8_error_len}
+use Rattle.std.proofs.lemmas.Grind.{common_steps}
+use Rattle.std.proofs.lemmas.Bool.Decides.{nat_tests}
+use Rattle.std.proofs.lemmas.List.Elements.{All-push}
+use Rattle.csvw_rows.specs.declared.dialect.Dialect.{Dialect}
+use Rattle.csvw_rows.specs.declared.stop.RowStop.{RowStop}
+use Rattle.csvw_rows.specs.declared.stop.RowStop.TheVariants.{Memory, NotUtf8, RowTooLong, BadQuote, TextAfterQuote, UnclosedQuote, TooManyRows}
+use Rattle.csvw_rows.specs.declared.next.After.{After}
+use Rattle.csvw_rows.specs.declared.next.After.TheVariants.{More, Nothing, NoText}
+use Rattle.csvw_rows.specs.Grammar.{terminator_len}
+use Rattle.csvw_rows.specs.Lawful.{IsLawful}
+use Rattle.csvw_rows.specs.Lengths.{byte_len, row_limit}
+use Rattle.csvw_rows.specs.Files.{Row, IsRow, AreRows, AreAllRows, EndsOpen, KeepsLimits, File, Front, content, is_text}
+use Rattle.csvw_rows.specs.Parts.{Goes, NoRow, NoLast, FirstEnd}
+use Rattle.csvw_rows.specs.Stops.{Begins, StopOf, StopsInText, StopsInBytes, StopsAtEnd, IsNamed}
+use Rattle.csvw_rows.specs.Nexts.{is_last, TakesRow, StandsThere, StopsHere, StopGives}
+use Rattle.csvw_rows.specs.RowsState.{HasRead}
+use Rattle.csvw_rows.proofs.Texts.{IsShort}
+use Rattle.csvw_rows.proofs.Lookahead.{Again, rows_again}
+use Rattle.csvw_rows.proofs.Stands.{goes_begins, begins_front, stops_at, rows_before, are_longest, not_all}
+
+-- a row at the end of rows
+rows_snoc : (d : Dialect) (i : ℕ) (text : List ℕ) (xs : List Row) (rest after : List ℕ) (row : Row) → AreRows d i text xs rest → rest ≡ row.text ++ after
+    → IsRow d (i + length xs) row after → 0 < terminator_len d after → AreRows d i text (xs ++ row ∷ []) (drop (terminator_len d after) after)
+rows_snoc d i text [] rest after row r e is_row ends = (after, r ∙ e, subst (λ (n : ℕ). IsRow d n row after) (let z : i + length (let e : List Row = [] in e) ≡ i = omega arith in z) is_row, ends, refl)
+rows_snoc d i text (x ∷ xs) rest after row (later, e', r, h, rows) e is_row ends =
+    let place : i + length (x ∷ xs) ≡ i + 1 + length xs = omega arith in
+    (later, e', r, h, rows_snoc d (i + 1) (drop (terminator_len d later) later) xs rest after row rows e (subst (λ (n : ℕ). IsRow d n row after) place is_row) ends)
+
+-- the content begins a file where what is left goes on
+goes_on_begins : (d : Dialect) (max : ℕ) (text : List ℕ) (rows : List Row) (rest : List ℕ) → IsLawful d → AreRows d 0 text rows rest → KeepsLimits max rows → Goes d max (length rows) rest → Begins d max text
+goes_on_begins d max text rows rest w are k g =
+    let a = rows_again d 0 text rows rest are in
+    subst (Begins d max) (sym a.spelled) (goes_begins d max text rows rest rest w a k g)
+
+-- one row more
+pub takes_reads : (d : Dialect) (max : ℕ) (bytes : List ℕ) (ended whole : Bool) (rest : List ℕ) (rows : List Row) (len i : ℕ) (fields : Option (List (List ℕ))) → IsLawful d
+    → (whole ≡ true → (ended ≡ true) × (is_text bytes ≡ true)) → HasRead d max bytes ended rest rows → i ≡ length rows → (t : TakesRow whole d max i rest len fields)
+    → HasRead d max bytes ended (drop len rest) (rows ++ t.row ∷ [])
+takes_reads d max bytes ended whole rest rows len i fields w known h place t = record { limits = limits; reached = by_reached h.reached }
+  where
+    limits : KeepsLimits max (rows ++ t.row ∷ [])
+    limits = (let few = t.few in let c : length (rows ++ t.row ∷ []) ≤ max = omega (arith, few, place, length-append rows (t.row ∷ [])) in c, All-push IsShort rows t.row h.limits.1 t.short)
+
+    by_stands : AreRows d 0 (content bytes) rows rest → StandsThere whole d max i rest len t.row
+        → AreRows d 0 (content bytes) (rows ++ t.row ∷ []) (drop len rest) ⊎ ((ended ≡ true) × (is_text bytes ≡ true) × EndsOpen d (content bytes) (rows ++ t.row ∷ []) × (drop len rest ≡ []) × Begins d max (content bytes))
+    by_stands are (inl (after, e, r, k, behind)) =
+        inl (subst (AreRows d 0 (content bytes) (rows ++ t.row ∷ [])) (sym behind)
+        (rows_snoc d 0 (content bytes) rows rest after t.row are e (subst (λ (n : ℕ). IsRow d n t.row after) (place ∙ sym (zero-add (length rows))) r) k))
+    by_stands are (inr (o, e, r, behind, g)) =
+        let some = t.some in
+        let within = t.within in
+        inr (
+          (known o).0,
+          (known o).1,
+          record {
+            front = rows;
+            last = t.row;
+            all = refl;
+            before = subst (AreRows d 0 (content bytes) rows) e are;
+            is_row = subst (λ (n : ℕ). IsRow d n t.row []) place r;
+            not_empty = λ z. omega (arith, some, within, ap length (e ∙ z));
+          },
+          behind,
+          goes_on_begins d max (content bytes) rows rest w are h.limits (subst (λ (n : ℕ). Goes d max n rest) place g),
+        )
+
+    by_reached : AreRows d 0 (content bytes) rows rest ⊎ ((ended ≡ true) × (is_text bytes ≡ true) × EndsOpen d (content bytes) rows × (rest ≡ []) × Begins d max (content bytes))
+        → AreRows d 0 (content bytes) (rows ++ t.row ∷ []) (drop len rest) ⊎ ((ended ≡ true) × (is_text bytes ≡ true) × EndsOpen d (content bytes) (rows ++ t.row ∷ []) × (drop len rest ≡ []) × Begins d max (content bytes))
+    by_reached (inl are) = by_stands are t.stands
+    by_reached (inr (a, b, o, e, g)) = absurd (let some = t.some in let within = t.within in omega (arith, some, within, ap length e))
+
+-- nothing is left, or no row is complete
+pub record Done (d : Dialect) (max : ℕ) (bytes : List ℕ) (ended : Bool) (rows : List Row) : Type 0 where
+  pub is_front : Front d max bytes ended rows
+  pub none : (stop : RowStop) (row : ℕ) → StopOf d max bytes ended stop row → ⊥
+
+not_some : (o : Option ℕ) → is_some o ≡ false → IsSome o → ⊥
+not_some None e s = absurd cc
+not_some (Some x) e s = cc
+
+no_stop : (d : Dialect) (max : ℕ) (bytes : List ℕ) (ended : Bool) → Begins d max (content bytes) → (is_text bytes ≡ false → (ended ≡ false) × (is_some (utf8_error_len (drop (utf8_valid_len bytes) bytes)) ≡ false))
+    → (ended ≡ true → (rows : List Row) × File d max bytes rows) → (stop : RowStop) (row : ℕ) → StopOf d max bytes ended stop row → ⊥
+no_stop d max bytes ended b text file stop row s = by_place s.stands
+  where
+    by_place : StopsInText d max bytes s.front stop ⊎ (StopsInBytes d max bytes ended stop ⊎ StopsAtEnd d max bytes ended s.front stop) → ⊥
+    by_place (inl t) = t.stops.none (begins_front d max (content bytes) t.n b)
+    by_place (inr (inl t)) = by_bad t.is_bad
+      where
+        by_bad : IsTrue ended ⊎ IsSome (utf8_error_len (drop (utf8_valid_len bytes) bytes)) → ⊥
+        by_bad (inl e) = let z = sym e ∙ (text t.no_text).0 in absurd cc
+        by_bad (inr e) = not_some (utf8_error_len (drop (utf8_valid_len bytes) bytes)) (text t.no_text).1 e
+    by_place (inr (inr t)) = t.no_file (file t.is_ended).0 (file t.is_ended).1
+
+pub waits_done : (d : Dialect) (max : ℕ) (bytes : List ℕ) (ended : Bool) (rest : List ℕ) (rows : List Row) → IsLawful d → HasRead d max bytes ended rest rows
+    → Goes d max (length rows) rest → NoRow d max (length rows) rest → (ended ≡ true → (is_text bytes ≡ true) × (rest ≡ []))
+    → (is_text bytes ≡ false → (ended ≡ false) × (is_some (utf8_error_len (drop (utf8_valid_len bytes) bytes)) ≡ false)) → Done d max bytes ended rows
+waits_done d max bytes ended rest rows w h g none at_end text = by_reached h.reached
+  where
+    file_of : ended ≡ true → AreAllRows d (content bytes) rows → File d max bytes rows
+    file_of e all = record { is_utf8 = (at_end e).0; are_rows = all; limits = h.limits }
+
+    by_ended : (b : Bool) → ended ≡ b → AreRows d 0 (content bytes) rows rest → Front d max bytes ended rows
+    by_ended true e are = inl (e, file_of e (inl (subst (AreRows d 0 (content bytes) rows) (at_end e).1 are)))
+    by_ended false e are = inr ((λ t others f. let z = sym t ∙ e in absurd cc), are_longest d max (content bytes) rows rest w are h.limits none)
+
+    by_reached : AreRows d 0 (content bytes) rows rest ⊎ ((ended ≡ true) × (is_text bytes ≡ true) × EndsOpen d (content bytes) rows × (rest ≡ []) × Begins d max (content bytes)) → Done d max bytes ended rows
+    by_reached (inl are) = record {
+      is_front = by_ended ended refl are;
+      none = no_stop d max bytes ended (goes_on_begins d max (content bytes) rows rest w are h.limits g) text
+          (λ e. (rows, file_of e (inl (subst (AreRows d 0 (content bytes) rows) (at_end e).1 are))));
+    }
+    by_reached (inr (a, b, o, e, k)) = record { is_front = inl (a, file_of a (inr o)); none = no_stop d max bytes ended k text (λ e. (rows, file_of e (inr o))) }
+
+-- a stop
+pub record Stopped (d : Dialect) (max : ℕ) (bytes : List ℕ) (ended : Bool) (rows : List Row) (stop : RowStop) : Type 0 where
+  pub is_front : Front d max bytes ended rows
+  pub stands : StopOf d max bytes ended stop (length rows + 1)
+
+pub here_stopped : (d : Dialect) (max : ℕ) (bytes : List ℕ) (ended whole : Bool) (rest : List ℕ) (rows : List Row) (stop : RowStop) → IsLawful d
+    → (whole ≡ true → (ended ≡ true) × (is_text bytes ≡ true)) → (ended ≡ true → is_text bytes ≡ true → whole ≡ true) → HasRead d max bytes ended rest rows
+    → StopsHere whole d max (length rows) rest stop → Stopped d max bytes ended rows stop
+here_stopped d max bytes ended whole rest rows stop w known back h s = by_reached h.reached
+  where
+    by_are : AreRows d 0 (content bytes) rows rest → Stopped d max bytes ended rows stop
+    by_are are = record { is_front = is_front; stands = record { front = rows; is_front = is_front; number = refl; stands = by_stands s.stands } }
+      where
+        again : Again d 0 (content bytes) rows rest
+        again = rows_again d 0 (content bytes) rows rest are
+
+        no_file : ended ≡ true → (others : List Row) → File d max bytes others → ⊥
+        no_file e others f = not_all d max (content bytes) rows rest w are h.limits s.no_row (s.no_last (back e f.is_utf8)) s.some others f.are_rows f.limits
+
+        is_front : Front d max bytes ended rows
+        is_front = inr (no_file, are_longest d max (content bytes) rows rest w are h.limits s.no_row)
+
+        by_stands : ((f : FirstEnd d max (length rows) rest (length rest)) × IsNamed d max (length rows) (take f.at rest) false stop) ⊎ ((whole ≡ true) × Goes d max (length rows) rest × IsNamed d max (length rows) rest true stop)
+            → StopsInText d max bytes rows stop ⊎ (StopsInBytes d max bytes ended stop ⊎ StopsAtEnd d max bytes ended rows stop)
+        by_stands (inl (f, name)) = inl (record {
+          n = length again.front + f.at;
+          part = take f.at rest;
+          stops = stops_at d max (content bytes) rows rest (length rest) w again h.limits f (omega arith);
+          behind = rows_before d (content bytes) rows rest f.at again;
+          is_named = name;
+        })
+        by_stands (inr (o, g, name)) = inr (inr (record {
+          part = rest;
+          is_ended = (known o).0;
+          begins = goes_on_begins d max (content bytes) rows rest w are h.limits g;
+          is_utf8 = (known o).1;
+          no_file = no_file (known o).0;
+          behind = are;
+          is_named = name;
+        }))
+
+    by_reached : AreRows d 0 (content bytes) rows rest ⊎ ((ended ≡ true) × (is_text bytes ≡ true) × EndsOpen d (content bytes) rows × (rest ≡ []) × Begins d max (content bytes)) → Stopped d max bytes ended rows stop
+    by_reached (inl are) = by_are are
+    by_reached (inr (a, b, o, e, k)) = absurd (s.some e)
+
+pub bytes_stopped : (d : Dialect) (max : ℕ) (bytes : List ℕ) (ended : Bool) (rest : List ℕ) (rows : List Row) → IsLawful d → HasRead d max bytes ended rest rows
+    → Goes d max (length rows) rest → NoRow d max (length rows) rest → is_text bytes ≡ false → (ended ≡ true) ⊎ (is_some (utf8_error_len (drop (utf8_valid_len bytes) bytes)) ≡ true) → Stopped d max bytes ended rows NotUtf8
+bytes_stopped d max bytes ended rest rows w h g none text bad = by_reached h.reached
+  where
+    some_of : (o : Option ℕ) → is_some o ≡ true → IsSome o
+    some_of None e = absurd cc
+    some_of (Some x) e = refl
+
+    by_are : AreRows d 0 (content bytes) rows rest → Stopped d max bytes ended rows NotUtf8
+    by_are are = record {
+      is_front = is_front;
+      stands = record {
+        front = rows;
+        is_front = is_front;
+        number = refl;
+        stands = inr (inl (record {
+          begins = goes_on_begins d max (content bytes) rows rest w are h.limits g;
+          no_text = text;
+          is_bad = elim bad [ inl e ↦ inl e | inr e ↦ inr (some_of (utf8_error_len (drop (utf8_valid_len bytes) bytes)) e) ];
+          is_name = refl;
+        }));
+      };
+    }
+      where
+        is_front : Front d max bytes ended rows
+        is_front = inr ((λ t others f. let z = sym f.is_utf8 ∙ text in absurd cc), are_longest d max (content bytes) rows rest w are h.limits none)
+
+    by_reached : AreRows d 0 (content bytes) rows rest ⊎ ((ended ≡ true) × (is_text bytes ≡ true) × EndsOpen d (content bytes) rows × (rest ≡ []) × Begins d max (content bytes)) → Stopped d max bytes ended rows NotUtf8
+    by_reached (inl are) = by_are are
+    by_reached (inr (a, b, o, e, k)) = let z = sym b ∙ text in absurd cc

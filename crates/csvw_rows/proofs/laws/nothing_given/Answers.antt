@@ -1,0 +1,5 @@
+use Rattle.csvw_rows.proofs.FrontLaws.{nothing_given}
+use Rattle.csvw_rows.proofs.laws.nothing_given.Goals as goal
+
+pub returns : goal.returns
+returns c = nothing_given

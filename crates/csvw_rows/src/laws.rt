@@ -1,0 +1,28 @@
+//! Laws that bind the definitions by which the contracts speak. The calls do nothing.
+ghost use Rattle.csvw_rows.specs.Laws.{HaveOneList, FrontsGrow, StopsPart, GivenBegin, NothingGiven};
+
+/// Bytes are a file of at most one list of rows.
+pub fn have_one_list()
+    ensures { HaveOneList }
+{}
+
+/// The front of bytes that haven't ended begins the front of all that they go on to.
+pub fn fronts_grow()
+    ensures { FrontsGrow }
+{}
+
+/// The place of a stop parts the fronts of a text that begin a file from those that don't: it is the
+/// shortest that doesn't.
+pub fn stops_part()
+    ensures { StopsPart }
+{}
+
+/// The rows that a reader gave begin the rows of its front.
+pub fn given_begin()
+    ensures { GivenBegin }
+{}
+
+/// Of nothing read nothing was given.
+pub fn nothing_given()
+    ensures { NothingGiven }
+{}
