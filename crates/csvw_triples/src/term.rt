@@ -58,11 +58,10 @@ impl Lit {
     pub fn typed(text: Text, datatype: Iri) -> Lit
         ensures { result ≡ typed_lit text datatype }
     {
-        let lang = None;
         Lit {
             text,
             datatype,
-            lang,
+            lang: None,
         }
     }
 
