@@ -29,7 +29,8 @@ impl<T> Counted<T> {
     pub fn failures(&self) -> u64
         ensures { result ≡ failures_of self.now }
     {
-        self.failures
+        let Counted { inner: _, failures } = self;
+        *failures
     }
 
     /// The reader or writer.
