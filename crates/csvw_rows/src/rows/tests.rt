@@ -137,7 +137,7 @@ fn table(
     Ok(())
 }
 
-const FIELDS: [(&[u8], &str); 10] = [
+const FIELDS: [(&[u8], &str); 12] = [
     (
         b"a,b\n\"p\"\"q\",\"x\ny\"\n",
         "1/0 \"a\" \"b\"; 2/1 \"p\\\"q\" \"x\\ny\"; ",
@@ -150,6 +150,8 @@ const FIELDS: [(&[u8], &str); 10] = [
     ),
     (b"a\n\"\"", "1/0 \"a\"; 2/1 \"\"; "),
     (b"a\n\n", "1/0 \"a\"; 2/1 \"\"; "),
+    (b"\n", "1/0 \"\"; "),
+    (b"\"\"", "1/0 \"\"; "),
     (b"id\n7\r", "1/0 \"id\"; 2/1 \"7\\r\"; "),
     (
         b"\"#x\"\n #x\n#x\ny\n",
@@ -324,4 +326,53 @@ fn a_stop_stays(rt: HostRuntime) -> Result<(), Fail> {
         &[b"b\"\n", b"c\n"],
         "BadQuote 1; | BadQuote 1; | BadQuote 1; ",
     )
+}
+
+#[test]
+fn prefix_that_begins_with_a_quote(rt: HostRuntime) -> Result<(), Fail> {
+    let alloc = rt.alloc();
+    let mut d = Dialect::new(alloc)?;
+    d.comment_prefix = Some(Text::copied(alloc, "\"a\"b")?);
+    table(&rt, alloc, &d, &QUOTE_PREFIXES)
+}
+
+const QUOTE_PREFIXES: [(&[u8], &str); 4] = [
+    (b"\"a\"bx\ny\n", "2/0 \"y\"; "),
+    (b"\"a\"", "1/0 \"a\"; "),
+    (b"\"a\"x", "TextAfterQuote 1; "),
+    (b"\"a", "UnclosedQuote 1; "),
+];
+
+const LIMIT: usize = 1_048_576;
+
+fn letters(alloc: Global, count: usize) -> Result<Vec<u8>, Fail> {
+    let mut text = Vec::new(alloc);
+    for _ in 0..count {
+        text.push(b'a')?;
+    }
+    Ok(text)
+}
+
+/// What a row of the longest length gives with CR behind it, and then these bytes.
+fn longest(alloc: Global, behind: &[u8]) -> Result<String, Fail> {
+    let mut text = String::new(alloc);
+    let mut rows = open(alloc, Dialect::new(alloc)?, 9)?;
+    let row = letters(alloc, LIMIT)?;
+    feed(&mut rows, row.as_slice());
+    feed(&mut rows, b"\r");
+    write_rows(&mut text, &mut rows)?;
+    feed(&mut rows, behind);
+    end(&mut rows);
+    write_rows(&mut text, &mut rows)?;
+    Ok(text)
+}
+
+#[test]
+fn the_longest_row(rt: HostRuntime) -> Result<(), Fail> {
+    let alloc = rt.alloc();
+    assert_eq!(rt; longest(alloc, b"x")?.as_str(), "RowTooLong 1; ");
+    assert_eq!(rt; longest(alloc, b"")?.as_str(), "RowTooLong 1; ");
+    let text = longest(alloc, b"\n")?;
+    assert_eq!(rt; text.len(), "1/0 \"\"; ".len() + LIMIT);
+    Ok(())
 }
