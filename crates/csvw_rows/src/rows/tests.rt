@@ -1,220 +1,378 @@
-//! Worked rows.
+//! Worked rows, each text at every cut.
+ghost use Rattle.std.specs.Prelude.{◌≡◌, ◌<◌, ◌-◌, ◌^◌, true, false, IfOk};
+ghost use Rattle.csvw_rows.specs.Lawful.{IsLawful};
+
 use super::*;
-use crate::dialect::{LineTerminators, Trim};
+use crate::dialect::{BadDialect, LineTerminators, Trim};
 use std::fmt::Write;
+use std::process::Abort;
 use std::test::Fail;
 
 const MANY: u64 = 4_000_000_000;
 
-/// The rows that are there now, each as its source number, its row number and its fields, and the stop
-/// with its row.
-fn told(text: &mut String, rows: &mut Rows) -> Result<(), Fail> {
+fn lawful(dialect: Dialect) -> Result<Dialect, BadDialect>
+    ensures { IfOk result IsLawful }
+{
+    match dialect.check() {
+        Ok(()) => Ok(dialect),
+        Err(bad) => Err(bad),
+    }
+}
+
+fn reader(alloc: Global, dialect: Dialect, max: u32) -> Result<Rows, AllocError>
+    requires { IsLawful dialect }
+{
+    Rows::new(alloc, dialect, u64::from(max))
+}
+
+fn open(alloc: Global, dialect: Dialect, max: u32) -> Result<Rows, Fail> {
+    let dialect = lawful(dialect)?;
+    Ok(reader(alloc, dialect, max)?)
+}
+
+/// Whether the bytes were taken.
+fn feed(rows: &mut Rows, piece: &[u8]) -> bool {
+    if rows.is_ended() {
+        return false;
+    }
+    rows.feed(piece).is_ok()
+}
+
+/// Whether the text is ended now.
+fn end(rows: &mut Rows) -> bool {
+    if rows.is_ended() {
+        return false;
+    }
+    rows.end().is_ok()
+}
+
+fn write_row(text: &mut String, row: RawRow<'_>) -> Result<(), Fail> {
+    write!(text, "{}/{}", row.source(), row.number())?;
+    for i in 0..row.len() {
+        write!(text, " {:?}", row.field(i))?;
+    }
+    Ok(text.push_str("; ")?)
+}
+
+fn write_stop(text: &mut String, stop: RowStop, row: u64) -> Result<(), Fail> {
+    Ok(write!(text, "{stop:?} {row}; ")?)
+}
+
+/// Writes the next row, or the stop with its row; whether a row was there.
+fn write_next(text: &mut String, rows: &mut Rows) -> Result<bool, Fail> {
+    let stop = match rows.next() {
+        Ok(Some(row)) => {
+            write_row(text, row)?;
+            return Ok(true);
+        }
+        Ok(None) => return Ok(false),
+        Err(stop) => stop,
+    };
+    write_stop(text, stop, rows.row())?;
+    Ok(false)
+}
+
+/// Writes the rows that are there now, each as its source number, its row number and its fields, and the
+/// stop with its row.
+fn write_rows(text: &mut String, rows: &mut Rows) -> Result<(), Fail> {
     for _ in 0..64 {
-        match rows.next() {
-            Ok(Some(row)) => {
-                write!(text, "{}/{}", row.source(), row.number())?;
-                for i in 0..row.len() {
-                    write!(text, " {:?}", row.field(i))?;
-                }
-                text.push_str("; ")?;
-            }
-            Ok(None) => return Ok(()),
-            Err(stop) => {
-                let row = rows.row();
-                write!(text, "{stop:?} {row}")?;
-                return Ok(());
-            }
+        if !write_next(text, rows)? {
+            break;
         }
     }
     Ok(())
 }
 
-fn fed(rows: &mut Rows, piece: &[u8]) -> Result<(), Fail> {
-    if !rows.is_ended() {
-        rows.feed(piece).map_err(|_| "feed")?;
+/// What the pieces give, a bar behind what was there after each of them.
+fn steps(alloc: Global, pieces: &[&[u8]]) -> Result<String, Fail> {
+    let mut text = String::new(alloc);
+    let mut rows = open(alloc, Dialect::new(alloc)?, 1000)?;
+    for piece in pieces {
+        feed(&mut rows, piece);
+        write_rows(&mut text, &mut rows)?;
+        text.push_str("| ")?;
+    }
+    end(&mut rows);
+    write_rows(&mut text, &mut rows)?;
+    Ok(text)
+}
+
+/// What a text gives in two pieces.
+fn halves(alloc: Global, dialect: Dialect, max: u32, a: &[u8], b: &[u8]) -> Result<String, Fail> {
+    let mut text = String::new(alloc);
+    let mut rows = open(alloc, dialect, max)?;
+    feed(&mut rows, a);
+    feed(&mut rows, b);
+    end(&mut rows);
+    write_rows(&mut text, &mut rows)?;
+    Ok(text)
+}
+
+/// Cuts the text everywhere.
+fn cuts(
+    rt: &impl Abort,
+    alloc: Global,
+    dialect: &Dialect,
+    max: u32,
+    text: &[u8],
+    want: &str,
+) -> Result<(), Fail> {
+    for i in 0..=text.len() {
+        let (a, b) = text.split_at(i);
+        let dialect = dialect.clone(alloc)?;
+        assert_eq!(rt; halves(alloc, dialect, max, a, b)?.as_str(), want, "at {i}");
     }
     Ok(())
 }
 
-fn ended(rows: &mut Rows) -> Result<(), Fail> {
-    if !rows.is_ended() {
-        rows.end().map_err(|_| "end")?;
+fn table(
+    rt: &impl Abort,
+    alloc: Global,
+    dialect: &Dialect,
+    cases: &[(&[u8], &str)],
+) -> Result<(), Fail> {
+    for (text, want) in cases {
+        cuts(rt, alloc, dialect, 1000, text, want)?;
     }
     Ok(())
 }
 
-/// What a text gives in one piece.
-fn whole(alloc: Global, dialect: Dialect, max: u64, piece: &[u8]) -> Result<String, Fail> {
-    let mut text = String::new(alloc);
-    dialect.check().map_err(|_| "dialect")?;
-    let mut rows = Rows::new(alloc, dialect, max.min(MANY))?;
-    fed(&mut rows, piece)?;
-    ended(&mut rows)?;
-    told(&mut text, &mut rows)?;
-    Ok(text)
-}
-
-/// What a text gives in two pieces, with the rows of the first read before the second is fed.
-fn halves(alloc: Global, dialect: Dialect, a: &[u8], b: &[u8]) -> Result<String, Fail> {
-    let mut text = String::new(alloc);
-    dialect.check().map_err(|_| "dialect")?;
-    let mut rows = Rows::new(alloc, dialect, MANY)?;
-    fed(&mut rows, a)?;
-    told(&mut text, &mut rows)?;
-    fed(&mut rows, b)?;
-    told(&mut text, &mut rows)?;
-    ended(&mut rows)?;
-    told(&mut text, &mut rows)?;
-    Ok(text)
-}
-
-fn plain(alloc: Global, piece: &[u8]) -> Result<String, Fail> {
-    whole(alloc, Dialect::new(alloc)?, MANY, piece)
-}
+const FIELDS: [(&[u8], &str); 12] = [
+    (
+        b"a,b\n\"p\"\"q\",\"x\ny\"\n",
+        "1/0 \"a\" \"b\"; 2/1 \"p\\\"q\" \"x\\ny\"; ",
+    ),
+    (b"", ""),
+    (b"\xEF\xBB\xBF", ""),
+    (
+        b"\xEF\xBB\xBFa\n\xEF\xBB\xBF",
+        "1/0 \"a\"; 2/1 \"\\u{feff}\"; ",
+    ),
+    (b"a\n\"\"", "1/0 \"a\"; 2/1 \"\"; "),
+    (b"a\n\n", "1/0 \"a\"; 2/1 \"\"; "),
+    (b"\n", "1/0 \"\"; "),
+    (b"\"\"", "1/0 \"\"; "),
+    (b"id\n7\r", "1/0 \"id\"; 2/1 \"7\\r\"; "),
+    (
+        b"\"#x\"\n #x\n#x\ny\n",
+        "1/0 \"#x\"; 2/1 \" #x\"; 4/2 \"y\"; ",
+    ),
+    (b"id\r\n7\r\n", "1/0 \"id\"; 2/1 \"7\"; "),
+    (b"id\n\xC3\xA9\n#", "1/0 \"id\"; 2/1 \"\u{E9}\"; "),
+];
 
 #[test]
 fn fields_and_quotes(rt: HostRuntime) -> Result<(), Fail> {
     let alloc = rt.alloc();
-    assert_eq!(rt;
-        plain(alloc, b"a,b\n\"p\"\"q\",\"x\ny\"\n")?.as_str(),
-        "1/0 \"a\" \"b\"; 2/1 \"p\\\"q\" \"x\\ny\"; "
-    );
-    assert_eq!(rt; plain(alloc, b"")?.as_str(), "");
-    assert_eq!(rt; plain(alloc, b"\xEF\xBB\xBF")?.as_str(), "");
-    assert_eq!(rt;
-        plain(alloc, b"\xEF\xBB\xBFa\n\xEF\xBB\xBF")?.as_str(),
-        "1/0 \"a\"; 2/1 \"\\u{feff}\"; "
-    );
-    assert_eq!(rt; plain(alloc, b"a\n\"\"")?.as_str(), "1/0 \"a\"; 2/1 \"\"; ");
-    assert_eq!(rt; plain(alloc, b"a\n\n")?.as_str(), "1/0 \"a\"; 2/1 \"\"; ");
-    assert_eq!(rt;
-        plain(alloc, b"id\n7\r")?.as_str(),
-        "1/0 \"id\"; 2/1 \"7\\r\"; "
-    );
-    assert_eq!(rt;
-        plain(alloc, b"\"#x\"\n #x\n#x\ny\n")?.as_str(),
-        "1/0 \"#x\"; 2/1 \" #x\"; 4/2 \"y\"; "
-    );
-    Ok(())
+    table(&rt, alloc, &Dialect::new(alloc)?, &FIELDS)
 }
+
+const STOPS: [(&[u8], &str); 8] = [
+    (b"a\"b,c\n", "BadQuote 1; "),
+    (b"\"a\"b\n", "TextAfterQuote 1; "),
+    (b"x\n\"a", "1/0 \"x\"; UnclosedQuote 2; "),
+    (b"x\n\xFF", "1/0 \"x\"; NotUtf8 2; "),
+    (b"x\n\"a\xC3", "1/0 \"x\"; NotUtf8 2; "),
+    (b"\"a\"\r", "TextAfterQuote 1; "),
+    (b"\"a\"\rx", "TextAfterQuote 1; "),
+    (b"\"a\"\r\xFF", "NotUtf8 1; "),
+];
 
 #[test]
 fn stops(rt: HostRuntime) -> Result<(), Fail> {
     let alloc = rt.alloc();
-    assert_eq!(rt; plain(alloc, b"a\"b,c\n")?.as_str(), "BadQuote 1");
-    assert_eq!(rt; plain(alloc, b"\"a\"b\n")?.as_str(), "TextAfterQuote 1");
-    assert_eq!(rt;
-        plain(alloc, b"x\n\"a")?.as_str(),
-        "1/0 \"x\"; UnclosedQuote 2"
-    );
-    assert_eq!(rt; plain(alloc, b"x\n\xFF")?.as_str(), "1/0 \"x\"; NotUtf8 2");
-    assert_eq!(rt;
-        plain(alloc, b"x\n\"a\xC3")?.as_str(),
-        "1/0 \"x\"; NotUtf8 2"
-    );
-    assert_eq!(rt; plain(alloc, b"\"a\"\r")?.as_str(), "TextAfterQuote 1");
-    assert_eq!(rt; plain(alloc, b"\"a\"\rx")?.as_str(), "TextAfterQuote 1");
-    assert_eq!(rt; plain(alloc, b"\"a\"\r\xFF")?.as_str(), "NotUtf8 1");
-    assert_eq!(rt;
-        whole(alloc, Dialect::new(alloc)?, 1, b"x\ny\n")?.as_str(),
-        "1/0 \"x\"; TooManyRows 2"
-    );
-    assert_eq!(rt;
-        whole(alloc, Dialect::new(alloc)?, 1, b"x\n")?.as_str(),
-        "1/0 \"x\"; "
-    );
-    assert_eq!(rt;
-        whole(alloc, Dialect::new(alloc)?, 1, b"x\n\xFF")?.as_str(),
-        "1/0 \"x\"; NotUtf8 2"
-    );
-    Ok(())
+    table(&rt, alloc, &Dialect::new(alloc)?, &STOPS)
 }
 
 #[test]
-fn other_dialects(rt: HostRuntime) -> Result<(), Fail> {
+fn too_many_rows(rt: HostRuntime) -> Result<(), Fail> {
+    let alloc = rt.alloc();
+    let d = Dialect::new(alloc)?;
+    cuts(&rt, alloc, &d, 1, b"x\ny\n", "1/0 \"x\"; TooManyRows 2; ")?;
+    cuts(&rt, alloc, &d, 1, b"x\n", "1/0 \"x\"; ")?;
+    cuts(&rt, alloc, &d, 1, b"x\n\xFF", "1/0 \"x\"; NotUtf8 2; ")
+}
+
+#[test]
+fn skipped_rows(rt: HostRuntime) -> Result<(), Fail> {
     let alloc = rt.alloc();
     let mut d = Dialect::new(alloc)?;
+    d.skip_rows = 2;
     d.skip_blank_rows = true;
-    assert_eq!(rt;
-        whole(alloc, d, MANY, b"#note\nid\n\n7\n")?.as_str(),
-        "2/0 \"id\"; 4/1 \"7\"; "
-    );
+    table(&rt, alloc, &d, &SKIPS)
+}
+
+const SKIPS: [(&[u8], &str); 4] = [
+    (b"\"x\n\n#note\nid\n\n7\n", "4/0 \"id\"; 6/1 \"7\"; "),
+    (b"x\ny", ""),
+    (b"x\n", ""),
+    (b"x\ny\n#z", ""),
+];
+
+#[test]
+fn only_line_feeds(rt: HostRuntime) -> Result<(), Fail> {
+    let alloc = rt.alloc();
     let mut d = Dialect::new(alloc)?;
     d.line_terminators = LineTerminators {
         crlf: false,
         lf: true,
     };
-    assert_eq!(rt;
-        whole(alloc, d.clone(alloc)?, MANY, b"a\r\n")?.as_str(),
-        "1/0 \"a\\r\"; "
-    );
-    assert_eq!(rt;
-        whole(alloc, d, MANY, b"\"a\"\r\n")?.as_str(),
-        "TextAfterQuote 1"
-    );
+    table(&rt, alloc, &d, &LINE_FEEDS)
+}
+
+const LINE_FEEDS: [(&[u8], &str); 2] = [
+    (b"a\r\n", "1/0 \"a\\r\"; "),
+    (b"\"a\"\r\n", "TextAfterQuote 1; "),
+];
+
+#[test]
+fn backslashes(rt: HostRuntime) -> Result<(), Fail> {
+    let alloc = rt.alloc();
     let mut d = Dialect::new(alloc)?;
     d.double_quote = false;
-    assert_eq!(rt;
-        whole(alloc, d, MANY, b"\"a\\\"b\"")?.as_str(),
-        "1/0 \"a\\\"b\"; "
-    );
-    let mut d = Dialect::new(alloc)?;
-    d.skip_rows = 1;
-    assert_eq!(rt;
-        whole(alloc, d, MANY, b"\"x\nh\n1\n")?.as_str(),
-        "2/0 \"h\"; 3/1 \"1\"; "
-    );
+    cuts(&rt, alloc, &d, 9, b"\"a\\\"b\"", "1/0 \"a\\\"b\"; ")
+}
+
+#[test]
+fn spaces(rt: HostRuntime) -> Result<(), Fail> {
+    let alloc = rt.alloc();
     let mut d = Dialect::new(alloc)?;
     d.skip_initial_space = true;
     d.trim = Trim::Start;
-    assert_eq!(rt;
-        whole(alloc, d, MANY, b"id, n\n1, \"x\"\n")?.as_str(),
-        "1/0 \"id\" \"n\"; 2/1 \"1\" \"x\"; "
-    );
+    let text = b"id, n\n1, \" x\"\n";
+    cuts(
+        &rt,
+        alloc,
+        &d,
+        9,
+        text,
+        "1/0 \"id\" \"n\"; 2/1 \"1\" \"x\"; ",
+    )
+}
+
+#[test]
+fn columns(rt: HostRuntime) -> Result<(), Fail> {
+    let alloc = rt.alloc();
     let mut d = Dialect::new(alloc)?;
     d.skip_columns = 2;
     d.skip_blank_rows = true;
     d.trim = Trim::Both;
-    assert_eq!(rt;
-        whole(alloc, d, MANY, b"a,b,c\n ,\" \"\nx\n")?.as_str(),
-        "1/0 \"c\"; 3/1; "
-    );
+    let text = b"a,b,c\n ,\" \"\nx\n";
+    cuts(&rt, alloc, &d, 9, text, "1/0 \"c\"; 3/1; ")
+}
+
+#[test]
+fn prefix_with_a_quote(rt: HostRuntime) -> Result<(), Fail> {
+    let alloc = rt.alloc();
     let mut d = Dialect::new(alloc)?;
     d.comment_prefix = Some(Text::copied(alloc, "a\"b")?);
-    assert_eq!(rt;
-        whole(alloc, d.clone(alloc)?, MANY, b"a\"bx\ny\n")?.as_str(),
-        "2/0 \"y\"; "
-    );
-    assert_eq!(rt;
-        whole(alloc, d.clone(alloc)?, MANY, b"a\"")?.as_str(),
-        "BadQuote 1"
-    );
-    assert_eq!(rt;
-        whole(alloc, d.clone(alloc)?, MANY, b"a\"x")?.as_str(),
-        "BadQuote 1"
-    );
-    assert_eq!(rt; whole(alloc, d, MANY, b"a\"\xFF")?.as_str(), "NotUtf8 1");
+    table(&rt, alloc, &d, &PREFIXES)
+}
+
+const PREFIXES: [(&[u8], &str); 4] = [
+    (b"a\"bx\ny\n", "2/0 \"y\"; "),
+    (b"a\"", "BadQuote 1; "),
+    (b"a\"x", "BadQuote 1; "),
+    (b"a\"\xFF", "NotUtf8 1; "),
+];
+
+fn step(rt: &impl Abort, alloc: Global, pieces: &[&[u8]], want: &str) -> Result<(), Fail> {
+    assert_eq!(rt; steps(alloc, pieces)?.as_str(), want);
     Ok(())
 }
 
 #[test]
-fn at_every_cut(rt: HostRuntime) -> Result<(), Fail> {
+fn as_soon_as_the_terminator_is_known(rt: HostRuntime) -> Result<(), Fail> {
     let alloc = rt.alloc();
-    let text = b"id\r\n7\r\n";
-    for i in 0..=text.len() {
-        let (a, b) = text.as_slice().split_at(i);
-        assert_eq!(rt;
-            halves(alloc, Dialect::new(alloc)?, a, b)?.as_str(),
-            "1/0 \"id\"; 2/1 \"7\"; "
-        );
+    step(
+        &rt,
+        alloc,
+        &[b"id\n7\r", b"\n"],
+        "1/0 \"id\"; | 2/1 \"7\"; | ",
+    )?;
+    step(
+        &rt,
+        alloc,
+        &[b"id\n\"a\"", b"\"b\"\n"],
+        "1/0 \"id\"; | 2/1 \"a\\\"b\"; | ",
+    )?;
+    step(
+        &rt,
+        alloc,
+        &[b"id\n\xC3", b"\xA9\n"],
+        "1/0 \"id\"; | 2/1 \"\u{E9}\"; | ",
+    )?;
+    step(&rt, alloc, &[b"\xEF\xBB", b"\xBFid\n"], "| 1/0 \"id\"; | ")
+}
+
+#[test]
+fn a_stop_stays(rt: HostRuntime) -> Result<(), Fail> {
+    let alloc = rt.alloc();
+    step(
+        &rt,
+        alloc,
+        &[b"id\n\xC3", b"x"],
+        "1/0 \"id\"; | NotUtf8 2; | NotUtf8 2; ",
+    )?;
+    step(
+        &rt,
+        alloc,
+        &[b"id\n\"a\"\xC3", b"x"],
+        "1/0 \"id\"; | NotUtf8 2; | NotUtf8 2; ",
+    )?;
+    step(
+        &rt,
+        alloc,
+        &[b"b\"\n", b"c\n"],
+        "BadQuote 1; | BadQuote 1; | BadQuote 1; ",
+    )
+}
+
+#[test]
+fn prefix_that_begins_with_a_quote(rt: HostRuntime) -> Result<(), Fail> {
+    let alloc = rt.alloc();
+    let mut d = Dialect::new(alloc)?;
+    d.comment_prefix = Some(Text::copied(alloc, "\"a\"b")?);
+    table(&rt, alloc, &d, &QUOTE_PREFIXES)
+}
+
+const QUOTE_PREFIXES: [(&[u8], &str); 4] = [
+    (b"\"a\"bx\ny\n", "2/0 \"y\"; "),
+    (b"\"a\"", "1/0 \"a\"; "),
+    (b"\"a\"x", "TextAfterQuote 1; "),
+    (b"\"a", "UnclosedQuote 1; "),
+];
+
+const LIMIT: usize = 1_048_576;
+
+fn letters(alloc: Global, count: usize) -> Result<Vec<u8>, Fail> {
+    let mut text = Vec::new(alloc);
+    for _ in 0..count {
+        text.push(b'a')?;
     }
-    let text = b"id\n\xC3\xA9\n\"a\"\"b\"\n";
-    for i in 0..=text.len() {
-        let (a, b) = text.as_slice().split_at(i);
-        assert_eq!(rt;
-            halves(alloc, Dialect::new(alloc)?, a, b)?.as_str(),
-            "1/0 \"id\"; 2/1 \"\u{E9}\"; 3/2 \"a\\\"b\"; "
-        );
-    }
+    Ok(text)
+}
+
+/// What a row of the longest length gives with CR behind it, and then these bytes.
+fn longest(alloc: Global, behind: &[u8]) -> Result<String, Fail> {
+    let mut text = String::new(alloc);
+    let mut rows = open(alloc, Dialect::new(alloc)?, 9)?;
+    let row = letters(alloc, LIMIT)?;
+    feed(&mut rows, row.as_slice());
+    feed(&mut rows, b"\r");
+    write_rows(&mut text, &mut rows)?;
+    feed(&mut rows, behind);
+    end(&mut rows);
+    write_rows(&mut text, &mut rows)?;
+    Ok(text)
+}
+
+#[test]
+fn the_longest_row(rt: HostRuntime) -> Result<(), Fail> {
+    let alloc = rt.alloc();
+    assert_eq!(rt; longest(alloc, b"x")?.as_str(), "RowTooLong 1; ");
+    assert_eq!(rt; longest(alloc, b"")?.as_str(), "RowTooLong 1; ");
+    let text = longest(alloc, b"\n")?;
+    assert_eq!(rt; text.len(), "1/0 \"\"; ".len() + LIMIT);
     Ok(())
 }
