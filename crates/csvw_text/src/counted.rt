@@ -29,8 +29,7 @@ impl<T> Counted<T> {
     pub fn failures(&self) -> u64
         ensures { result ≡ failures_of self.now }
     {
-        let Counted { inner: _, failures } = self;
-        *failures
+        self.failures
     }
 
     /// The reader or writer.
