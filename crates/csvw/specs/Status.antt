@@ -1,5 +1,5 @@
 -- The exit statuses of the program.
-use Rattle.std.specs.Prelude.{ℕ, Bool, if◌then◌else◌}
+use Rattle.std.specs.Prelude.{ℕ, if◌then◌else◌}
 use Rattle.std.specs.List.{list_all}
 use Rattle.csvw_engine.specs.declared.outcome.Outcome.{Outcome}
 use Rattle.csvw_engine.specs.Outcome.{is_no_error}
