@@ -1,2 +1,6 @@
+pub mod Converting
 pub mod Dialects
-pub mod Taken
+pub mod Draining
+pub mod Lists
+pub mod Pieces
+pub mod Tables
