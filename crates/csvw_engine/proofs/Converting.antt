@@ -1,5 +1,5 @@
 -- What a run over an N-Triples sink leaves.
-use Rattle.std.proofs.Common.{◌≡◌, ◌<◌, ◌≤◌, ◌^◌, ◌-◌, ◌+◌, ℕ, List, [], ◌∷◌, ◌++◌, refl, sym, ap, ◌∙◌, subst, arith, true, false, Bool, take, length, map, append-nil, inl, inr, ◌⊎◌, ◌↔◌, Contains, Option, Some, None, Result, Ok, Err}
+use Rattle.std.proofs.Common.{◌≡◌, ◌≤◌, ◌^◌, ◌+◌, ℕ, List, [], ◌∷◌, ◌++◌, refl, sym, ap, ◌∙◌, subst, arith, true, false, Bool, take, length, map, append-nil, inl, inr, ◌⊎◌, ◌↔◌, Contains, Option, Some, None, Err}
 use Rattle.std.proofs.KnownBytes.{Appends-nil}
 use Rattle.std.specs.Prelude.{flat_map}
 use Rattle.std.specs.List.{AllByRecursion}
@@ -10,11 +10,9 @@ use Rattle.csvw_text.specs.Counted.{inner_of, failures_of}
 use Rattle.csvw_text.specs.declared.counted.Counted.{Counted}
 use Rattle.csvw_iri.specs.Link.{iri_of}
 use Rattle.csvw_rows.specs.declared.dialect.Dialect.{Dialect}
-use Rattle.csvw_rows.specs.Files.{Front, IsWhole, Body}
+use Rattle.csvw_rows.specs.Files.{Front, IsWhole}
 use Rattle.csvw_rows.specs.Lawful.{IsDefault}
 use Rattle.csvw_rows.specs.Laws.{NothingGiven}
-use Rattle.csvw_rows.specs.RowValue.{Given}
-use Rattle.csvw_rows.specs.RowsState.{HasGiven}
 use Rattle.csvw_rows.specs.Stops.{StopOf}
 use Rattle.csvw_columns.specs.declared.column.Columns.{Columns}
 use Rattle.csvw_annotate.specs.Tables.{IsTable, IsAnnotated}
@@ -33,7 +31,7 @@ use Rattle.csvw_ntriples.specs.Sending.{Sends}
 use Rattle.csvw_ntriples.specs.Writable.{TripleFits}
 use Rattle.csvw_ntriples.specs.Written.{written, said}
 use Rattle.csvw_engine.specs.Halts.{of_table}
-use Rattle.csvw_engine.specs.Plain.{Run, run_of, Rose, StaysAt, WroteGraph, Converts, StopsBehind, StopsWithin, IsCutShort, IsCutLine, StopsSo}
+use Rattle.csvw_engine.specs.Plain.{Run, run_of, StaysAt, WroteGraph, Converts, StopsBehind, StopsWithin, IsCutShort, IsCutLine, StopsSo}
 use Rattle.csvw_engine.specs.Tables.{max_rows, table_triples, TableHolds, HasAll, IsRefused, Stands, Finishes, TookPart, Reads}
 use Rattle.csvw_engine.specs.Tables as tables
 use Rattle.csvw_engine.specs.declared.halt.Halt.{Halt}

@@ -1,7 +1,6 @@
 -- How the sink of a table goes on, row by row.
-use Rattle.std.proofs.Common.{◌≡◌, ◌<◌, ◌+◌, ℕ, List, [], ◌∷◌, ◌++◌, refl, sym, ap, ◌∙◌, subst, true, false, Bool, append_assoc, append-nil, inl, inr, ◌⊎◌, Option, Some, None, Result, Ok, Err}
+use Rattle.std.proofs.Common.{◌≡◌, ◌+◌, ℕ, List, [], ◌∷◌, ◌++◌, refl, sym, ap, ◌∙◌, subst, false, Bool, append_assoc, append-nil, inl, inr, ◌⊎◌, Some, None, Result, Err}
 use Rattle.csvw_rows.specs.declared.dialect.Dialect.{Dialect}
-use Rattle.csvw_columns.specs.declared.column.Columns.{Columns}
 use Rattle.csvw_annotate.specs.declared.row.Row.{Row}
 use Rattle.csvw_triples.specs.Taking.{FrontOf, IsAsReady}
 use Rattle.csvw_triples.specs.declared.term.Triple.{Triple}
@@ -11,7 +10,7 @@ use Rattle.csvw_rows.specs.declared.stop.RowStop.{RowStop}
 use Rattle.csvw_rows.specs.declared.stop.RowStop.TheVariants as row_stop
 use Rattle.csvw_annotate.specs.Tables.{IsTable}
 use Rattle.csvw_engine.specs.Halts.{of_row_stop}
-use Rattle.csvw_engine.specs.Tables.{max_rows, TableHolds, BeginsWith, HaltsSo, Goes, IsDrained, IsSameTable, Stands, Finishes, TookPart, TookRows, StopsSo, Drains, GivesRow, table_triples}
+use Rattle.csvw_engine.specs.Tables.{max_rows, TableHolds, BeginsWith, HaltsSo, Goes, IsDrained, IsSameTable, Stands, Finishes, TookPart, StopsSo, Drains, GivesRow, table_triples}
 use Rattle.csvw_engine.specs.declared.halt.Halt.{Halt}
 use Rattle.csvw_engine.specs.declared.halt.Halt.TheVariants as halt
 use Rattle.csvw_engine.specs.declared.table.Table.{Table}

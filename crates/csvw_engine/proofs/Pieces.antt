@@ -1,11 +1,9 @@
 -- The bytes of a reader, piece by piece.
-use Rattle.std.proofs.Common.{◌≡◌, ◌<◌, ◌≤◌, ◌+◌, ◌^◌, ℕ, zero, List, [], ◌∷◌, ◌++◌, refl, sym, ap, ◌∙◌, subst, arith, true, false, Bool, length, take, length-append, length-take, inl, inr, ◌⊎◌, Option, Some, None, Result, Ok, Err, append-nil}
-use Rattle.std.proofs.KnownBytes.{Consumes-nil, Consumes-trans}
+use Rattle.std.proofs.Common.{◌≡◌, ℕ, List, sym, ap, ◌∙◌, subst, true, Bool, Option, Result, Ok, Err}
 use Rattle.std.specs.Io.KnownBytes.{Consumes, IsAtEnd}
 use Rattle.csvw_rows.specs.declared.dialect.Dialect.{Dialect}
 use Rattle.csvw_triples.specs.declared.term.Triple.{Triple}
-use Rattle.csvw_text.specs.Count.{one_more}
-use Rattle.csvw_engine.specs.Tables.{Stands, Finishes, StopsSo, Drains, Reads}
+use Rattle.csvw_engine.specs.Tables.{StopsSo, Drains, Reads}
 use Rattle.csvw_engine.specs.declared.halt.Halt.{Halt}
 use Rattle.csvw_engine.specs.declared.halt.Halt.TheVariants as halt
 use Rattle.csvw_engine.specs.declared.table.Table.{Table}

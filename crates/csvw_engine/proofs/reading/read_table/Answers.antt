@@ -1,5 +1,5 @@
 -- A piece more, the end, and what halts.
-use Rattle.std.proofs.Common.{◌≡◌, ◌<◌, ◌≤◌, ◌+◌, ℕ, List, ◌++◌, [], length, take, sym, ap, ◌∙◌, refl, rules, inl, inr, arith, subst, length-append, length-take, append-nil, false, true}
+use Rattle.std.proofs.Common.{◌≡◌, ◌≤◌, ◌+◌, ℕ, List, ◌++◌, [], length, take, ap, ◌∙◌, rules, inl, inr, arith, subst, length-append, length-take, append-nil, false}
 use Rattle.std.proofs.KnownBytes.{Consumes-nil, Consumes-trans, Consumes-kept}
 use Rattle.std.proofs.lemmas.Result.{err_from_is_err_and}
 use Rattle.csvw_text.specs.Count.{one_more}
@@ -7,7 +7,7 @@ use Rattle.csvw_text.specs.Counted.{inner_of, failures_of}
 use Rattle.csvw_engine.specs.declared.halt.Halt.TheVariants as halt
 use Rattle.std.specs.Io.KnownBytes.{Consumes}
 use Rattle.csvw_engine.proofs.Draining.{stands_halted}
-use Rattle.csvw_engine.proofs.Pieces.{reads_halted, reads_ended, reads_err}
+use Rattle.csvw_engine.proofs.Pieces.{reads_ended, reads_err}
 use Rattle.csvw_engine.proofs.reading.read_table.Goals as goal
 
 more_read : (k n : ℕ) (bytes buf : List ℕ) → k ≤ length bytes → (n ≡ 0 → ⊥) → n ≤ length buf → k + 1 ≤ length (bytes ++ take n buf)

@@ -1,5 +1,5 @@
 -- The table was read to its end, or stops.
-use Rattle.std.proofs.Common.{◌≡◌, refl, sym, ap, ◌∙◌, true}
+use Rattle.std.proofs.Common.{sym, ◌∙◌, true}
 use Rattle.csvw_engine.proofs.Converting.{Laws, begun, converts, stops, finishes_at, same_writer, spans_of}
 use Rattle.csvw_engine.proofs.running.convert.Goals as goal
 

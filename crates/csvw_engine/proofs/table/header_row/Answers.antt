@@ -1,5 +1,5 @@
 -- One cell more.
-use Rattle.std.proofs.Common.{◌≡◌, ◌∙◌, ◌∷◌, ◌++◌, [], ap, sym, List, ℕ, take}
+use Rattle.std.proofs.Common.{◌∙◌, ◌∷◌, ◌++◌, [], ap, sym, List, ℕ, take}
 use Rattle.csvw_engine.proofs.Lists.{take_next}
 use Rattle.csvw_engine.proofs.table.header_row.Goals as goal
 

@@ -1,5 +1,5 @@
 -- The row that is lent: taken, or refused.
-use Rattle.std.proofs.Common.{refl, ◌∙◌, ap, sym, subst}
+use Rattle.std.proofs.Common.{refl}
 use Rattle.std.proofs.lemmas.Result.{err_from_is_err_and}
 use Rattle.csvw_rows.specs.RowValue.{row_of}
 use Rattle.csvw_engine.proofs.Tables.{row_taken, header_taken, rows_stay, all_there, header_refused, row_refused, records_stopped, step_halts}
