@@ -371,19 +371,13 @@ fn fed(alloc: Global, front: &[u8], row: &[u8], behind: &[u8]) -> Result<String,
     Ok(text)
 }
 
-const LONG: [(&[u8], usize, bool, &[u8], &str); 9] = [
-    (b"", LIMIT, false, b"x", "RowTooLong 1; "),
-    (b"", LIMIT, false, b"", "RowTooLong 1; "),
-    (b"", LIMIT, true, b"x", "RowTooLong 1; "),
-    (b"", LIMIT, true, b"", "RowTooLong 1; "),
-    (b"", LIMIT - 1, true, b"x", "RowTooLong 1; "),
-    (b"", LIMIT - 1, true, b"", "TextAfterQuote 1; "),
-    (b"", LIMIT - 2, true, b"x", "TextAfterQuote 1; "),
-    (b"\xEF\xBB\xBF", LIMIT, false, b"x", "RowTooLong 1; "),
+const LONG: [(&[u8], usize, &[u8], &str); 4] = [
+    (b"", LIMIT, b"x", "RowTooLong 1; "),
+    (b"", LIMIT, b"", "RowTooLong 1; "),
+    (b"\xEF\xBB\xBF", LIMIT, b"x", "RowTooLong 1; "),
     (
         b"\xEF\xBB\xBF\xEF\xBB\xBF",
         LIMIT - 3,
-        false,
         b"x",
         "RowTooLong 1; ",
     ),
@@ -392,10 +386,32 @@ const LONG: [(&[u8], usize, bool, &[u8], &str); 9] = [
 #[test]
 fn too_long(rt: HostRuntime) -> Result<(), Fail> {
     let alloc = rt.alloc();
-    for (front, len, quoted, behind, want) in LONG {
-        let row = row_of(alloc, len, quoted)?;
+    for (front, len, behind, want) in LONG {
+        let row = row_of(alloc, len, false)?;
         assert_eq!(rt;
             fed(alloc, front, row.as_slice(), behind)?.as_str(),
+            want,
+            "{len}"
+        );
+    }
+    Ok(())
+}
+
+const LONG_QUOTED: [(usize, &[u8], &str); 5] = [
+    (LIMIT, b"x", "RowTooLong 1; "),
+    (LIMIT, b"", "RowTooLong 1; "),
+    (LIMIT - 1, b"x", "RowTooLong 1; "),
+    (LIMIT - 1, b"", "TextAfterQuote 1; "),
+    (LIMIT - 2, b"x", "TextAfterQuote 1; "),
+];
+
+#[test]
+fn too_long_behind_a_quote(rt: HostRuntime) -> Result<(), Fail> {
+    let alloc = rt.alloc();
+    for (len, behind, want) in LONG_QUOTED {
+        let row = row_of(alloc, len, true)?;
+        assert_eq!(rt;
+            fed(alloc, b"", row.as_slice(), behind)?.as_str(),
             want,
             "{len}"
         );

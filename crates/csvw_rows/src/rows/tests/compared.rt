@@ -148,7 +148,7 @@ fn pieces(alloc: Global, bytes: &[u8], len: usize) -> Result<String, Fail>
     Ok(text)
 }
 
-const TEXTS: u32 = 300;
+const TEXTS: u32 = 1000;
 
 #[test]
 fn as_the_crate_csv(rt: HostRuntime) -> Result<(), Fail> {
