@@ -10,9 +10,10 @@ use Rattle.csvw_text.specs.Counted.{inner_of, failures_of}
 use Rattle.csvw_text.specs.declared.counted.Counted.{Counted}
 use Rattle.csvw_iri.specs.Link.{iri_of}
 use Rattle.csvw_rows.specs.declared.dialect.Dialect.{Dialect}
-use Rattle.csvw_rows.specs.Files.{Front, IsWhole}
+use Rattle.csvw_rows.specs.Files.{Front, IsWhole, Body}
 use Rattle.csvw_rows.specs.Lawful.{IsDefault}
-use Rattle.csvw_rows.specs.Laws.{NothingGiven}
+use Rattle.csvw_rows.specs.RowValue.{Given}
+use Rattle.csvw_rows.specs.Laws.{GivenBegin, GivenBeginLater, NothingGiven}
 use Rattle.csvw_rows.specs.Stops.{StopOf}
 use Rattle.csvw_columns.specs.declared.column.Columns.{Columns}
 use Rattle.csvw_annotate.specs.Tables.{IsTable, IsAnnotated}
@@ -31,8 +32,8 @@ use Rattle.csvw_ntriples.specs.Sending.{Sends}
 use Rattle.csvw_ntriples.specs.Writable.{TripleFits}
 use Rattle.csvw_ntriples.specs.Written.{written, said}
 use Rattle.csvw_engine.specs.Halts.{of_table}
-use Rattle.csvw_engine.specs.Plain.{Run, run_of, StaysAt, WroteGraph, Converts, StopsBehind, StopsWithin, IsCutShort, IsCutLine, StopsSo}
-use Rattle.csvw_engine.specs.Tables.{max_rows, table_triples, TableHolds, HasAll, IsRefused, Stands, Finishes, TookPart, Reads}
+use Rattle.csvw_engine.specs.Plain.{Run, run_of, StaysAt, WroteGraph, AreFirst, IsStoppedAt, IsRefusedAt, Converts, StopsBehind, StopsWithin, IsCutShort, IsCutLine, StopsSo}
+use Rattle.csvw_engine.specs.Tables.{max_rows, table_triples, TableHolds, HasAll, IsGivenBy, Stands, Finishes, TookPart, Reads}
 use Rattle.csvw_engine.specs.Tables as tables
 use Rattle.csvw_engine.specs.declared.halt.Halt.{Halt}
 use Rattle.csvw_engine.specs.declared.halt.Halt.TheVariants as halt
@@ -66,6 +67,8 @@ pub record Laws : Type 0 where
   pub names : (ts : List Triple) → AllByRecursion TripleFits ts → SameUpTo (Contains ts) (map said ts)
   pub minimal : (t : ℕ) (columns : Columns) (rows : List Row) (x : Triple) → Contains (flat_map (row_triples mode.Minimal t columns) rows) x ↔ Minimal t (Some columns) rows x
   pub nothing : NothingGiven
+  pub first : GivenBegin
+  pub later : GivenBeginLater
 
 wrote_graph : Laws → (run : Run) (columns : Option Columns) (rows : List Row) → AllByRecursion TripleFits (table_triples 1 columns rows) → Appends run.held run.holds (written (table_triples 1 columns rows))
     → WroteGraph run columns rows
@@ -91,6 +94,16 @@ no_rows : NothingGiven → (d : Dialect) (t : Table) (bytes : List ℕ) (rows : 
 no_rows law d t bytes rows e h =
     let none : h.given ≡ [] = law t.rows d max_rows h.given (rw e at h.reader) in
     subst (λ g. IsTable (iri_of t.url) g t.columns rows) none h.table
+
+-- rows that some reader gave come first
+are_first : Laws → (d : Dialect) (bytes : List ℕ) (ended : Bool) (given : List Given) → IsGivenBy d bytes ended given → AreFirst d bytes ended given
+are_first laws d bytes ended given g front f = by_part g.whole
+  where
+    by_part : ((g.rest ≡ []) × (g.closed ≡ ended)) ⊎ (g.closed ≡ false) → (rest : List Given) × (Body d front ≡ given ++ rest)
+    by_part (inl (e, k)) =
+        let all : bytes ≡ g.part = g.parts ∙ ap (λ z. g.part ++ z) e ∙ append-nil g.part in
+        laws.first g.reader d max_rows g.part g.closed given front g.holds (subst (λ c. Front d max_rows g.part c front) (sym k) (subst (λ (b : List ℕ). Front d max_rows b ended front) all f))
+    by_part (inr k) = laws.later g.reader d max_rows g.part g.rest ended given front (rw k at g.holds) (subst (λ (b : List ℕ). Front d max_rows b ended front) g.parts f)
 
 -- what a sink did that is open at both ends
 sends_whole : (k m : Option (List ℕ)) (a b : Bool) (ts : List Triple) → a ≡ true → b ≡ true → Sends k a ts m b → Appends k m (written ts)
@@ -166,15 +179,18 @@ module _ {W : Type 0} (contents : W → Option (List ℕ)) (laws : Laws) (base :
 
   pub converts : (d : Dialect) (bytes : List ℕ) → IsDefault d → Consumes run.unread run.left bytes → IsAtEnd run.left
       → Finishes (takes contents) sink_is_open failed_of d start 1 base bytes true now → Converts base run × StaysAt run.out_failures run.out_failed
-  converts d bytes default consumed at_end f = (record {
-    dialect = d;
-    bytes = bytes;
-    read = record { is_default = default; consumed = consumed; at_end = λ _. at_end };
-    columns = f.columns;
-    rows = f.rows;
-    annotated = file_of d base f.columns bytes f.rows f.all (f.whole refl);
-    wrote = graph f.columns f.rows f.gained f.ready;
-  }, stays_at f.ready)
+  converts d bytes default consumed at_end f = (
+    record {
+      dialect = d;
+      bytes = bytes;
+      read = record { is_default = default; consumed = consumed; at_end = λ _. at_end };
+      columns = f.columns;
+      rows = f.rows;
+      annotated = file_of d base f.columns bytes f.rows f.all (f.whole refl);
+      wrote = graph f.columns f.rows f.gained f.ready;
+    },
+    stays_at f.ready,
+  )
 
   -- behind rows
   behind : (Reason : Dialect → List ℕ → Bool → Option Columns → List Row → Type 0) (d : Dialect) (bytes : List ℕ) (ended : Bool) (columns : Option Columns) (rows : List Row)
@@ -203,6 +219,7 @@ module _ {W : Type 0} (contents : W → Option (List ℕ)) (laws : Laws) (base :
     columns = p.columns;
     rows = p.rows;
     begins = p.begins;
+    first = are_first laws d bytes ended p.begins.given p.begins.is_given;
     front = p.took.front;
     rest = p.took.rest;
     parts = p.took.parts;
@@ -212,17 +229,24 @@ module _ {W : Type 0} (contents : W → Option (List ℕ)) (laws : Laws) (base :
   halts : (d : Dialect) (bytes : List ℕ) (ended : Bool) → IsDefault d → Consumes run.unread run.left bytes → (ended ≡ true → IsAtEnd run.left)
       → (reason : Halt) → tables.StopsSo (takes contents) sink_is_open failed_of d start 1 base bytes ended now reason → StopsSo base run (of_table 1 reason)
   halts d bytes ended default consumed at_end halt.Memory so =
-      inr (within d bytes ended [] default consumed at_end so.0
-          (subst (λ xs. Appends run.held run.holds xs) (sym (append-nil (written so.0.took.front))) (whole_lines so.0.took.front so.0.took.gained so.1)), stays_at so.1)
+      inr (
+        within d bytes ended [] default consumed at_end so.0
+            (subst (λ xs. Appends run.held run.holds xs) (sym (append-nil (written so.0.took.front))) (whole_lines so.0.took.front so.0.took.gained so.1)),
+        stays_at so.1,
+      )
   halts d bytes ended default consumed at_end halt.Read so = absurd so
   halts d bytes ended default consumed at_end halt.Write so =
-      let cut = sends_cut (contents (inner_of (sink_out start).now)) (contents (inner_of (sink_out now).now)) (sink_is_open start) (sink_is_open now) so.0.took.front spans.begun so.0.took.gained.2 in
-      (cut.0, cut.1, within d bytes ended cut.0 default consumed at_end so.0 (rw (spans.held, spans.holds) cut.2),
-       λ room. spans.failed ∙ (so.1 spans.begun (rw spans.failures at room) ∙ ap (λ n. n + 1) (sym spans.failures)))
+      let cut = sends_cut (contents (inner_of (sink_out start).now)) (contents (inner_of (sink_out now).now)) (sink_is_open start) (sink_is_open now) so.0.took.front spans.begun so.0.took.gained.2 in (
+        cut.0,
+        cut.1,
+        within d bytes ended cut.0 default consumed at_end so.0 (rw (spans.held, spans.holds) cut.2),
+        λ room. spans.failed ∙ (so.1 spans.begun (rw spans.failures at room) ∙ ap (λ n. n + 1) (sym spans.failures)),
+      )
   halts d bytes ended default consumed at_end (halt.Rows row stop) so =
-      (refl, behind (λ d2 bytes2 ended2 columns rows. HasAll d2 base columns bytes2 ended2 rows × StopOf d2 max_rows bytes2 ended2 stop row) d bytes ended so.columns so.rows default consumed at_end so.reason so.gained so.ready)
+      (refl, behind (IsStoppedAt base row stop) d bytes ended so.columns so.rows default consumed at_end so.reason so.gained so.ready)
   halts d bytes ended default consumed at_end (halt.Table row stop) so =
-      (refl, behind (λ d2 bytes2 ended2 columns rows. IsRefused d2 base columns bytes2 ended2 rows row stop) d bytes ended so.columns so.rows default consumed at_end so.reason so.gained so.ready)
+      (refl, behind (IsRefusedAt base row stop) d bytes ended so.columns so.rows default consumed at_end
+          (record { refused = so.reason; first = are_first laws d bytes ended (so.reason.given ++ so.reason.raw ∷ []) so.reason.is_given }) so.gained so.ready)
 
   at_base : (d : Dialect) (bytes : List ℕ) (ended : Bool) (t : Table) (reason : Halt) → t.number ≡ 1 → t.url ≡ base
       → tables.StopsSo (takes contents) sink_is_open failed_of d start t.number t.url bytes ended now reason → tables.StopsSo (takes contents) sink_is_open failed_of d start 1 base bytes ended now reason
@@ -243,12 +267,12 @@ module _ {W : Type 0} (contents : W → Option (List ℕ)) (laws : Laws) (base :
   cut_short d bytes t default n u consumed blame stands (inl e) =
       let none = no_rows laws.nothing d t bytes stands.rows e stands.holds in
       behind (IsCutShort base run) d bytes false t.columns stands.rows default consumed (λ q. cc)
-          (record { not_ended = refl; blame = blame; whole = inl (e, none.0, none.1) })
-          (subst (λ z. takes contents start (table_triples z t.columns stands.rows) now) n stands.gained) stands.ready
+      (record { not_ended = refl; blame = blame; whole = inl (e, none.0, none.1) })
+      (subst (λ z. takes contents start (table_triples z t.columns stands.rows) now) n stands.gained) stands.ready
   cut_short d bytes t default n u consumed blame stands (inr f) =
       let g = finishes_at d bytes false t n u f in
       behind (IsCutShort base run) d bytes false g.columns g.rows default consumed (λ e. cc)
-          (record { not_ended = refl; blame = blame; whole = inr g.all }) g.gained g.ready
+      (record { not_ended = refl; blame = blame; whole = inr g.all }) g.gained g.ready
 
   -- after the table was read
   pub stops : (d : Dialect) (t : Table) (reason : Halt) → IsDefault d → t.number ≡ 1 → t.url ≡ base

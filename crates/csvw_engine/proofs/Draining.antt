@@ -19,7 +19,6 @@ use Rattle.csvw_engine.proofs.Tables.{triples_more, no_triples, none_yet}
 
 module _ {S : Type 0} (gains : S → List Triple → S → Type 0) (is_open : S → Bool) (failed : S → ℕ)
     (stays : (s : S) → gains s [] s) (goes_on : (a b c : S) (xs ys : List Triple) → gains a xs b → gains b ys c → gains a (xs ++ ys) c) where
-
   ready_on : (a b c : S) → IsAsReady is_open failed a b → IsAsReady is_open failed b c → IsAsReady is_open failed a c
   ready_on a b c f g = (g.0 ∙ f.0, g.1 ∙ f.1)
 
@@ -43,10 +42,10 @@ module _ {S : Type 0} (gains : S → List Triple → S → Type 0) (is_open : S 
     holds = goes d bytes ended h.rows h.holds;
     gained =
         let before : gains start (table_triples new.number new.columns h.rows) now =
-            subst (λ n. gains start (table_triples n new.columns h.rows) now) (sym same.0)
-            (subst (λ z. gains start (table_triples old.number z h.rows) now) (sym columns) h.gained) in
+        subst (λ n. gains start (table_triples n new.columns h.rows) now) (sym same.0)
+        (subst (λ z. gains start (table_triples old.number z h.rows) now) (sym columns) h.gained) in
         subst (λ ts. gains start ts then) (sym (triples_more new.number new.columns h.rows row))
-            (goes_on start now then (table_triples new.number new.columns h.rows) (table_triples new.number new.columns (row ∷ [])) before gained);
+        (goes_on start now then (table_triples new.number new.columns h.rows) (table_triples new.number new.columns (row ∷ [])) before gained);
     ready = ready_on start now then h.ready ready;
   }
 
@@ -61,7 +60,7 @@ module _ {S : Type 0} (gains : S → List Triple → S → Type 0) (is_open : S 
   begins : (d : Dialect) (bytes : List ℕ) (ended : Bool) (old : Table) (rows : List Row) → TableHolds d old bytes ended rows → BeginsWith d old.url old.columns bytes ended rows
   begins d bytes ended old rows h = record {
     given = h.given;
-    is_given = record { reader = old.rows; part = bytes; rest = []; ended = ended; parts = sym (append-nil bytes); holds = h.reader };
+    is_given = record { reader = old.rows; part = bytes; rest = []; closed = ended; parts = sym (append-nil bytes); whole = inl (refl, refl); holds = h.reader };
     table = h.table;
   }
 
@@ -79,16 +78,30 @@ module _ {S : Type 0} (gains : S → List Triple → S → Type 0) (is_open : S 
   -- a halt of the text
   pub stands_halted : (d : Dialect) (bytes : List ℕ) (ended : Bool) (start now : S) (old : Table) (reason : Halt) → HaltsSo old reason
       → Stands gains is_open failed d start old bytes ended now → StopsSo gains is_open failed d start old.number old.url bytes ended now reason
-  stands_halted d bytes ended start now old halt.Memory so h = (record {
-    columns = old.columns; rows = h.rows; begins = begins d bytes ended old h.rows h.holds; took = part_of_all start now (table_triples old.number old.columns h.rows) h.gained;
-  }, h.ready)
+  stands_halted d bytes ended start now old halt.Memory so h = (
+    record {
+      columns = old.columns;
+      rows = h.rows;
+      begins = begins d bytes ended old h.rows h.holds;
+      took = part_of_all start now (table_triples old.number old.columns h.rows) h.gained;
+    },
+    h.ready,
+  )
   stands_halted d bytes ended start now old halt.Read so h = absurd so
   stands_halted d bytes ended start now old halt.Write so h = absurd so
   stands_halted d bytes ended start now old (halt.Rows row stop) so h = record {
-    columns = old.columns; rows = h.rows; reason = so d bytes ended h.rows h.holds; gained = h.gained; ready = h.ready;
+    columns = old.columns;
+    rows = h.rows;
+    reason = so d bytes ended h.rows h.holds;
+    gained = h.gained;
+    ready = h.ready;
   }
   stands_halted d bytes ended start now old (halt.Table row stop) so h = record {
-    columns = old.columns; rows = h.rows; reason = so d bytes ended h.rows h.holds; gained = h.gained; ready = h.ready;
+    columns = old.columns;
+    rows = h.rows;
+    reason = so d bytes ended h.rows h.holds;
+    gained = h.gained;
+    ready = h.ready;
   }
 
   cut_part : (d : Dialect) (bytes : List ℕ) (ended : Bool) (start now then : S) (old new : Table) (row : Row) → IsSameTable old new → new.columns ≡ old.columns → Goes old new (λ rows. rows ++ row ∷ [])
@@ -100,10 +113,10 @@ module _ {S : Type 0} (gains : S → List Triple → S → Type 0) (is_open : S 
     begins = begins d bytes ended new (h.rows ++ row ∷ []) (goes d bytes ended h.rows h.holds);
     took =
         let before : gains start (table_triples new.number new.columns h.rows) now =
-            subst (λ n. gains start (table_triples n new.columns h.rows) now) (sym same.0)
-            (subst (λ z. gains start (table_triples old.number z h.rows) now) (sym columns) h.gained) in
+        subst (λ n. gains start (table_triples n new.columns h.rows) now) (sym same.0)
+        (subst (λ z. gains start (table_triples old.number z h.rows) now) (sym columns) h.gained) in
         subst (λ ts. FrontOf gains start ts then) (sym (triples_more new.number new.columns h.rows row))
-            (part_on start now then (table_triples new.number new.columns h.rows) (table_triples new.number new.columns (row ∷ [])) before f);
+        (part_on start now then (table_triples new.number new.columns h.rows) (table_triples new.number new.columns (row ∷ [])) before f);
   }
 
   -- a halt at the sink, in the triples of a row
@@ -113,9 +126,10 @@ module _ {S : Type 0} (gains : S → List Triple → S → Type 0) (is_open : S 
   stands_cut d bytes ended start now then old new row halt.Memory same columns goes g h =
       (cut_part d bytes ended start now then old new row same columns goes g.0 h, ready_on start now then h.ready g.1)
   stands_cut d bytes ended start now then old new row halt.Read same columns goes g h = absurd g
-  stands_cut d bytes ended start now then old new row halt.Write same columns goes g h =
-      (cut_part d bytes ended start now then old new row same columns goes g.0 h,
-       λ o r. g.1 (h.ready.0 ∙ o) (rw h.ready.1 r) ∙ ap (λ n. n + 1) h.ready.1)
+  stands_cut d bytes ended start now then old new row halt.Write same columns goes g h = (
+    cut_part d bytes ended start now then old new row same columns goes g.0 h,
+    λ o r. g.1 (h.ready.0 ∙ o) (rw h.ready.1 r) ∙ ap (λ n. n + 1) h.ready.1,
+  )
   stands_cut d bytes ended start now then old new row (halt.Rows at stop) same columns goes g h = absurd g
   stands_cut d bytes ended start now then old new row (halt.Table at stop) same columns goes g h = absurd g
 
@@ -160,7 +174,7 @@ module _ {S : Type 0} (gains : S → List Triple → S → Type 0) (is_open : S 
       given = h.holds.given;
       reader = move h.holds.given h.holds.reader;
       table = subst (λ z. IsTable (iri_of z) h.holds.given new.columns h.rows) (sym same.1)
-        (subst (λ z. IsTable (iri_of old.url) h.holds.given z h.rows) (sym columns) h.holds.table);
+          (subst (λ z. IsTable (iri_of old.url) h.holds.given z h.rows) (sym columns) h.holds.table);
     };
     gained = subst (λ n. gains start (table_triples n new.columns h.rows) now) (sym same.0)
         (subst (λ z. gains start (table_triples old.number z h.rows) now) (sym columns) h.gained);
@@ -173,16 +187,18 @@ module _ {S : Type 0} (gains : S → List Triple → S → Type 0) (is_open : S 
       → Stands gains is_open failed d start old bytes false now → StopsSo gains is_open failed d start new.number new.url (bytes ++ piece) false now (of_row_stop row stop)
   stands_unfed d bytes piece start now old new stop row same (inl e) h = let wrong : None ≡ Some stop = sym h.holds.reader.no_stop ∙ e in cc
   stands_unfed d bytes piece start now old new stop row same (inr e) h =
-      subst (λ z. StopsSo gains is_open failed d start new.number new.url (bytes ++ piece) false now (of_row_stop row z)) (sym e)
-      (subst (λ n. TookPart gains d start n new.url (bytes ++ piece) false now) (sym same.0)
-      (subst (λ u. TookPart gains d start old.number u (bytes ++ piece) false now) (sym same.1)
-      (record {
-        columns = old.columns;
-        rows = h.rows;
-        begins = record {
-          given = h.holds.given;
-          is_given = record { reader = old.rows; part = bytes; rest = piece; ended = false; parts = refl; holds = h.holds.reader };
-          table = h.holds.table;
-        };
-        took = part_of_all start now (table_triples old.number old.columns h.rows) h.gained;
-      })), h.ready)
+      subst (λ z. StopsSo gains is_open failed d start new.number new.url (bytes ++ piece) false now (of_row_stop row z)) (sym e) (
+        subst (λ n. TookPart gains d start n new.url (bytes ++ piece) false now) (sym same.0)
+            (subst (λ u. TookPart gains d start old.number u (bytes ++ piece) false now) (sym same.1)
+            (record {
+              columns = old.columns;
+              rows = h.rows;
+              begins = record {
+                given = h.holds.given;
+                is_given = record { reader = old.rows; part = bytes; rest = piece; closed = false; parts = refl; whole = inr refl; holds = h.holds.reader };
+                table = h.holds.table;
+              };
+              took = part_of_all start now (table_triples old.number old.columns h.rows) h.gained;
+            })),
+        h.ready,
+      )

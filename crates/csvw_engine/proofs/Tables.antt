@@ -1,5 +1,5 @@
 -- How a table and its sink go on.
-use Rattle.std.proofs.Common.{◌≡◌, ◌≢◌, ℕ, List, [], ◌∷◌, ◌++◌, refl, sym, ap, ◌∙◌, subst, true, Bool, append-nil, Option, Some, None, Result, Ok, Err}
+use Rattle.std.proofs.Common.{◌≡◌, ◌≢◌, ℕ, List, [], ◌∷◌, ◌++◌, refl, sym, ap, ◌∙◌, subst, true, Bool, append-nil, inl, inr, Option, Some, None, Result, Ok, Err}
 use Rattle.std.proofs.lemmas.List.Concat.{flat_map-append}
 use Rattle.csvw_iri.specs.Link.{iri_of}
 use Rattle.csvw_rows.specs.declared.dialect.Dialect.{Dialect}
@@ -64,8 +64,8 @@ module _ (d : Dialect) (bytes : List ℕ) (ended : Bool) where
   row_taken old new rows raw cs row u p q gives e h =
       let table : IsTable (iri_of old.url) (h.given ++ raw ∷ []) old.columns (rows ++ row ∷ []) = table_more (iri_of old.url) h.given old.columns cs rows raw row h.table q e in
       make_holds new (h.given ++ raw ∷ []) (rows ++ row ∷ []) (gives d max_rows bytes ended h.given h.reader)
-          (subst (λ z. IsTable (iri_of z) (h.given ++ raw ∷ []) new.columns (rows ++ row ∷ [])) (sym u)
-          (subst (λ z. IsTable (iri_of old.url) (h.given ++ raw ∷ []) z (rows ++ row ∷ [])) (sym p) table))
+      (subst (λ z. IsTable (iri_of z) (h.given ++ raw ∷ []) new.columns (rows ++ row ∷ [])) (sym u)
+      (subst (λ z. IsTable (iri_of old.url) (h.given ++ raw ∷ []) z (rows ++ row ∷ [])) (sym p) table))
 
   pub header_taken : (old new : Table) (rows : List Row) (raw : Given) (cs : Columns)
       → new.url ≡ old.url → old.columns ≡ None → new.columns ≡ Some cs → Gives old.rows new.rows raw → header_gives (iri_of old.url) raw.fields ≡ Ok cs
@@ -73,13 +73,13 @@ module _ (d : Dialect) (bytes : List ℕ) (ended : Bool) where
   header_taken old new rows raw cs u p q gives e h =
       let table : IsTable (iri_of old.url) (h.given ++ raw ∷ []) (Some cs) rows = table_begun (iri_of old.url) h.given old.columns cs rows raw h.table p e in
       make_holds new (h.given ++ raw ∷ []) rows (gives d max_rows bytes ended h.given h.reader)
-          (subst (λ z. IsTable (iri_of z) (h.given ++ raw ∷ []) new.columns rows) (sym u)
-          (subst (λ z. IsTable (iri_of old.url) (h.given ++ raw ∷ []) z rows) (sym q) table))
+      (subst (λ z. IsTable (iri_of z) (h.given ++ raw ∷ []) new.columns rows) (sym u)
+      (subst (λ z. IsTable (iri_of old.url) (h.given ++ raw ∷ []) z rows) (sym q) table))
 
   pub rows_stay : (old new : Table) (rows : List Row) → new.url ≡ old.url → new.columns ≡ old.columns → Stays old.rows new.rows → TableHolds d old bytes ended rows → TableHolds d new bytes ended rows
   rows_stay old new rows u p stays h =
       make_holds new h.given rows (stays d max_rows bytes ended h.given h.reader)
-          (subst (λ z. IsTable (iri_of z) h.given new.columns rows) (sym u) (subst (λ z. IsTable (iri_of old.url) h.given z rows) (sym p) h.table))
+      (subst (λ z. IsTable (iri_of z) h.given new.columns rows) (sym u) (subst (λ z. IsTable (iri_of old.url) h.given z rows) (sym p) h.table))
 
   pub all_there : (old : Table) (rows : List Row) → IsDone old.rows → TableHolds d old bytes ended rows → HasAll d old.url old.columns bytes ended rows × NoStop d max_rows bytes ended × (ended ≡ true → IsWhole d max_rows bytes)
   all_there old rows done h =
@@ -95,7 +95,7 @@ module _ (d : Dialect) (bytes : List ℕ) (ended : Bool) where
   pub refused : (old : Table) (new : Rows) (rows : List Row) (raw : Given) (row : ℕ) (stop : TableStop) → Gives old.rows new raw → Refuses (iri_of old.url) old.columns raw stop → raw.source ≡ row
       → TableHolds d old bytes ended rows → IsRefused d old.url old.columns bytes ended rows row stop
   refused old new rows raw row stop gives refusal e h =
-      record { given = h.given; raw = raw; is_given = record { reader = new; part = bytes; rest = []; ended = ended; parts = sym (append-nil bytes); holds = gives d max_rows bytes ended h.given h.reader }; table = h.table; refuses = refusal; source = e }
+      record { given = h.given; raw = raw; is_given = record { reader = new; part = bytes; rest = []; closed = ended; parts = sym (append-nil bytes); whole = inl (refl, refl); holds = gives d max_rows bytes ended h.given h.reader }; table = h.table; refuses = refusal; source = e }
 
 -- why a step halts
 pub header_refused : (old : Table) (new : Rows) (raw : Given) (reason : Halt) → old.columns ≡ None → Gives old.rows new raw

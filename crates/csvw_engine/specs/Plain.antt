@@ -7,9 +7,13 @@ use Rattle.csvw_text.specs.Count.{one_more}
 use Rattle.csvw_text.specs.Counted.{inner_of, failures_of}
 use Rattle.csvw_iri.specs.Link.{Refusal, too_long, bad, base_of, iri_of}
 use Rattle.csvw_rows.specs.declared.dialect.Dialect.{Dialect}
+use Rattle.csvw_rows.specs.declared.stop.RowStop.{RowStop}
+use Rattle.csvw_rows.specs.Files.{Row as FileRow, Front, Body}
 use Rattle.csvw_rows.specs.Lawful.{IsDefault}
+use Rattle.csvw_rows.specs.RowValue.{Given}
 use Rattle.csvw_rows.specs.Stops.{StopOf}
 use Rattle.csvw_columns.specs.declared.column.Columns.{Columns}
+use Rattle.csvw_columns.specs.declared.table_stop.TableStop.{TableStop}
 use Rattle.csvw_annotate.specs.Tables.{IsAnnotated}
 use Rattle.csvw_annotate.specs.declared.row.Row.{Row}
 use Rattle.csvw_triples.specs.declared.term.Triple.{Triple}
@@ -93,6 +97,19 @@ pub record StopsBehind (run : Run) (Reason : Dialect → List ℕ → Bool → O
   pub wrote : WroteGraph run columns rows
   pub no_failure : StaysAt run.out_failures run.out_failed
 
+-- these rows of the source come first in the text so far
+abbrev pub AreFirst : Dialect → List ℕ → Bool → List Given → Type 0
+AreFirst d bytes ended given = (front : List FileRow) → Front d max_rows bytes ended front → (rest : List Given) × (Body d front ≡ given ++ rest)
+
+-- all rows of the text so far are there, and the stop of the records stands behind them
+abbrev pub IsStoppedAt : Parts → ℕ → RowStop → Dialect → List ℕ → Bool → Option Columns → List Row → Type 0
+IsStoppedAt base row reason d bytes ended columns rows = HasAll d base columns bytes ended rows × StopOf d max_rows bytes ended reason row
+
+-- a row of the text so far is refused, and those in front of it are there
+pub record IsRefusedAt (base : Parts) (row : ℕ) (reason : TableStop) (d : Dialect) (bytes : List ℕ) (ended : Bool) (columns : Option Columns) (rows : List Row) : Type 0 where
+  pub refused : IsRefused d base columns bytes ended rows row reason
+  pub first : AreFirst d bytes ended (refused.given ++ (refused.raw ∷ []))
+
 -- a reader failed, or many bytes were read; all rows of the bytes so far are there
 pub record IsCutShort (base : Parts) (run : Run) (d : Dialect) (bytes : List ℕ) (ended : Bool) (columns : Option Columns) (rows : List Row) : Type 0 where
   pub not_ended : ended ≡ false
@@ -108,6 +125,7 @@ pub record StopsWithin (base : Parts) (run : Run) (more : List ℕ) : Type 0 whe
   pub columns : Option Columns
   pub rows : List Row
   pub begins : BeginsWith dialect base columns bytes ended rows
+  pub first : AreFirst dialect bytes ended begins.given
   pub front : List Triple
   pub rest : List Triple
   pub parts : table_triples 1 columns rows ≡ front ++ rest
@@ -128,8 +146,8 @@ abbrev pub StopsSo : Parts → Run → Stop → Type 0
 StopsSo base run stop.Memory = IsUntouched run ⊎ (StopsWithin base run [] × StaysAt run.out_failures run.out_failed)
 StopsSo base run stop.Read = StopsBehind run (IsCutShort base run)
 StopsSo base run stop.Write = (more : List ℕ) × IsCutLine more × StopsWithin base run more × Rose run.out_failures run.out_failed
-StopsSo base run (stop.Rows t row reason) = (t ≡ 1) × StopsBehind run (λ d bytes ended columns rows. HasAll d base columns bytes ended rows × StopOf d max_rows bytes ended reason row)
-StopsSo base run (stop.Table t row reason) = (t ≡ 1) × StopsBehind run (λ d bytes ended columns rows. IsRefused d base columns bytes ended rows row reason)
+StopsSo base run (stop.Rows t row reason) = (t ≡ 1) × StopsBehind run (IsStoppedAt base row reason)
+StopsSo base run (stop.Table t row reason) = (t ≡ 1) × StopsBehind run (IsRefusedAt base row reason)
 StopsSo base run (stop.Meta fault) = ⊥
 StopsSo base run stop.TableCount = ⊥
 StopsSo base run stop.UnknownTable = ⊥

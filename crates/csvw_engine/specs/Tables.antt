@@ -40,26 +40,27 @@ pub record HasAll (d : Dialect) (url : Parts) (columns : Option Columns) (bytes 
   pub all : HasGiven d max_rows bytes ended given
   pub table : IsTable (iri_of url) given columns rows
 
--- some reader of a front of the text so far gave these rows of the source
-pub record IsGivenBy (d : Dialect) (bytes : List ℕ) (given : List Given) : Type 0 where
+-- some reader gave these rows of the source, of the text so far or of a front of it that hadn't ended
+pub record IsGivenBy (d : Dialect) (bytes : List ℕ) (ended : Bool) (given : List Given) : Type 0 where
   pub reader : Rows
   pub part : List ℕ
   pub rest : List ℕ
-  pub ended : Bool
+  pub closed : Bool
   pub parts : bytes ≡ part ++ rest
-  pub holds : Holds reader d max_rows part ended given
+  pub whole : ((rest ≡ []) × (closed ≡ ended)) ⊎ (closed ≡ false)
+  pub holds : Holds reader d max_rows part closed given
 
 -- these are rows of the text so far, from the first on
 pub record BeginsWith (d : Dialect) (url : Parts) (columns : Option Columns) (bytes : List ℕ) (ended : Bool) (rows : List Row) : Type 0 where
   pub given : List Given
-  pub is_given : IsGivenBy d bytes given
+  pub is_given : IsGivenBy d bytes ended given
   pub table : IsTable (iri_of url) given columns rows
 
 -- behind these rows of the text so far comes one that the table refuses
 pub record IsRefused (d : Dialect) (url : Parts) (columns : Option Columns) (bytes : List ℕ) (ended : Bool) (rows : List Row) (row : ℕ) (stop : TableStop) : Type 0 where
   pub given : List Given
   pub raw : Given
-  pub is_given : IsGivenBy d bytes (given ++ (raw ∷ []))
+  pub is_given : IsGivenBy d bytes ended (given ++ (raw ∷ []))
   pub table : IsTable (iri_of url) given columns rows
   pub refuses : Refuses (iri_of url) columns raw stop
   pub source : raw.source ≡ row

@@ -15,7 +15,7 @@ use crate::stop::Stop;
 use crate::table::Table;
 use csvw_iri::{Base, IriFault};
 use csvw_ntriples::{NtSink, labels_name_one_to_one, written_denotes};
-use csvw_rows::laws::nothing_given;
+use csvw_rows::laws::{given_begin, given_begin_later, nothing_given};
 use csvw_text::{Counted, Seq, Text};
 use csvw_triples::rows_triples_are_minimal;
 use std::alloc::Global;
@@ -65,6 +65,8 @@ fn convert<R: Read, W: Write>(
     written_denotes();
     labels_name_one_to_one();
     rows_triples_are_minimal();
+    given_begin();
+    given_begin_later();
     nothing_given();
     let Ok(mut table) = Table::new(alloc, 1, url) else {
         return Err(Stop::Memory);
@@ -105,3 +107,6 @@ pub fn plain<R: Read, W: Write, V: Write>(
         faults: Seq::new(alloc),
     })
 }
+
+#[cfg(test)]
+mod tests;

@@ -13,7 +13,7 @@ loop-row-preserved-in-Row g c =
       same = (s.2.0 ∙ i.same.0, s.2.1 ∙ i.same.1);
       ended = s.0 ∙ i.ended;
       stands = λ d bytes ended start h. stands_more g.S.TripleSink.gains g.S.TripleSink.is_open g.S.TripleSink.failed g.met.S.TripleSink.stays g.met.S.TripleSink.goes_on d bytes ended start c.loop-row.sink c.give.new.sink c.loop-row.table c.next_row.new.table c.in-Row.row s.2 s.4 s.5 gave.0 gave.1
-        (i.stands d bytes ended start h);
+          (i.stands d bytes ended start h);
     }
 
 pub loop-row-preserved : goal.loop-row-preserved
@@ -35,23 +35,24 @@ returns-in_err-row-clause-drains g c =
     let s = c.in_err-row.ensures in let i = c.loop-row.invariant in
     let p = err_from_is_err_and c.from_residual.result c.from_residual.ensures.1 in
     λ d bytes ended start h.
-      drains_err g.S.TripleSink.gains g.S.TripleSink.is_open g.S.TripleSink.failed g.met.S.TripleSink.stays g.met.S.TripleSink.goes_on d bytes ended start c.loop-row.sink c.next_row.new.table c.from_residual.result p.0 _ p.1 p.2
-        (stops_same g.S.TripleSink.gains g.S.TripleSink.is_open g.S.TripleSink.failed g.met.S.TripleSink.stays g.met.S.TripleSink.goes_on d bytes ended start c.loop-row.sink c.loop-row.table c.next_row.new.table _ s.1
-        (stands_halted g.S.TripleSink.gains g.S.TripleSink.is_open g.S.TripleSink.failed g.met.S.TripleSink.stays g.met.S.TripleSink.goes_on d bytes ended start c.loop-row.sink c.loop-row.table _ s.2 (i.stands d bytes ended start h)))
+    drains_err g.S.TripleSink.gains g.S.TripleSink.is_open g.S.TripleSink.failed g.met.S.TripleSink.stays g.met.S.TripleSink.goes_on d bytes ended start c.loop-row.sink c.next_row.new.table c.from_residual.result p.0 _ p.1 p.2
+    (stops_same g.S.TripleSink.gains g.S.TripleSink.is_open g.S.TripleSink.failed g.met.S.TripleSink.stays g.met.S.TripleSink.goes_on d bytes ended start c.loop-row.sink c.loop-row.table c.next_row.new.table _ s.1
+    (stands_halted g.S.TripleSink.gains g.S.TripleSink.is_open g.S.TripleSink.failed g.met.S.TripleSink.stays g.met.S.TripleSink.goes_on d bytes ended start c.loop-row.sink c.loop-row.table _ s.2 (i.stands d bytes ended start h)))
 
 pub returns-in_err-give-in-Row-clause-drains : goal.returns-in_err-give-in-Row-clause-drains
 returns-in_err-give-in-Row-clause-drains g c =
     let s = rw c.in-Row.is at c.in_ok-row.ensures in let i = c.loop-row.invariant in
     let p = err_from_is_err_and c.from_residual-in_err-give-in-Row.result c.from_residual-in_err-give-in-Row.ensures.1 in
     λ d bytes ended start h.
-      drains_err g.S.TripleSink.gains g.S.TripleSink.is_open g.S.TripleSink.failed g.met.S.TripleSink.stays g.met.S.TripleSink.goes_on d bytes ended start c.give.new.sink c.next_row.new.table c.from_residual-in_err-give-in-Row.result p.0 _ p.1 p.2
-        (stands_cut g.S.TripleSink.gains g.S.TripleSink.is_open g.S.TripleSink.failed g.met.S.TripleSink.stays g.met.S.TripleSink.goes_on d bytes ended start c.loop-row.sink c.give.new.sink c.loop-row.table c.next_row.new.table c.in-Row.row _ s.2 s.4 s.5 c.in_err-give-in-Row.ensures
-        (i.stands d bytes ended start h))
+    drains_err g.S.TripleSink.gains g.S.TripleSink.is_open g.S.TripleSink.failed g.met.S.TripleSink.stays g.met.S.TripleSink.goes_on d bytes ended start c.give.new.sink c.next_row.new.table c.from_residual-in_err-give-in-Row.result p.0 _ p.1 p.2
+    (stands_cut g.S.TripleSink.gains g.S.TripleSink.is_open g.S.TripleSink.failed g.met.S.TripleSink.stays g.met.S.TripleSink.goes_on d bytes ended start c.loop-row.sink c.give.new.sink c.loop-row.table c.next_row.new.table c.in-Row.row _ s.2 s.4 s.5 c.in_err-give-in-Row.ensures
+    (i.stands d bytes ended start h))
 
 pub returns-in-Nothing-clause-drains : goal.returns-in-Nothing-clause-drains
 returns-in-Nothing-clause-drains g c =
     let s = rw c.in-Nothing.is at c.in_ok-row.ensures in let i = c.loop-row.invariant in
-    λ d bytes ended start h.
-      (stands_on g.S.TripleSink.gains g.S.TripleSink.is_open g.S.TripleSink.failed g.met.S.TripleSink.stays g.met.S.TripleSink.goes_on d bytes ended start c.loop-row.sink c.loop-row.table c.next_row.new.table s.1 s.2 s.3 (i.stands d bytes ended start h),
-       finishes_same g.S.TripleSink.gains g.S.TripleSink.is_open g.S.TripleSink.failed g.met.S.TripleSink.stays g.met.S.TripleSink.goes_on d bytes ended start c.loop-row.sink c.loop-row.table c.next_row.new.table s.1
-        (stands_whole g.S.TripleSink.gains g.S.TripleSink.is_open g.S.TripleSink.failed g.met.S.TripleSink.stays g.met.S.TripleSink.goes_on d bytes ended start c.loop-row.sink c.loop-row.table s.4 (i.stands d bytes ended start h)))
+    λ d bytes ended start h. (
+      stands_on g.S.TripleSink.gains g.S.TripleSink.is_open g.S.TripleSink.failed g.met.S.TripleSink.stays g.met.S.TripleSink.goes_on d bytes ended start c.loop-row.sink c.loop-row.table c.next_row.new.table s.1 s.2 s.3 (i.stands d bytes ended start h),
+      finishes_same g.S.TripleSink.gains g.S.TripleSink.is_open g.S.TripleSink.failed g.met.S.TripleSink.stays g.met.S.TripleSink.goes_on d bytes ended start c.loop-row.sink c.loop-row.table c.next_row.new.table s.1
+          (stands_whole g.S.TripleSink.gains g.S.TripleSink.is_open g.S.TripleSink.failed g.met.S.TripleSink.stays g.met.S.TripleSink.goes_on d bytes ended start c.loop-row.sink c.loop-row.table s.4 (i.stands d bytes ended start h)),
+    )

@@ -1,4 +1,4 @@
-use Rattle.std.proofs.Common.{◌≡◌, None, refl, sym, ap}
+use Rattle.std.proofs.Common.{None, refl}
 use Rattle.csvw_rows.proofs.States.{note_stays, is_done, is_stopped}
 use Rattle.csvw_rows.proofs.rows.Rows.turn.Goals as goal
 

@@ -1,4 +1,4 @@
-use Rattle.std.proofs.Common.{◌≡◌, ◌∙◌, sym, ap, refl, Bool, true, not, ◌==◌, List, ℕ, length, drop, take, ◌++◌, if◌then◌else◌, chars}
+use Rattle.std.proofs.Common.{◌∙◌, ap, true, not, ◌==◌, List, ℕ, length, drop, take, ◌++◌, if◌then◌else◌}
 use Rattle.std.specs.Prelude.{is_some}
 use Rattle.std.specs.Str.Lossy.{utf8_valid_len, utf8_error_len}
 use Rattle.csvw_rows.specs.Files.{without_mark}
