@@ -1,0 +1,111 @@
+//! What one run of the program does, over any reader and writers.
+ghost use Rattle.std.specs.Prelude.{◌≡◌, ℕ, List, IfOk, OnOk, IfSome, Err};
+ghost use Rattle.csvw_text.specs.Counted.{inner_of};
+ghost use Rattle.csvw_ntriples_bench.specs.Runs.{HasCount, IsRefused, IsCopied};
+ghost use Rattle.csvw_ntriples_bench.specs.declared.halt.Halt.TheVariants as halt;
+
+use crate::halt::Halt;
+use crate::putting::put_all;
+use crate::words::{Task, requested};
+use csvw_ntriples::{NtSink, read};
+use csvw_text::{Counted, write_out};
+use std::alloc::Global;
+use std::io::{Read, Write};
+
+/// Everything that the reader has left.
+fn read_all<R: Read>(alloc: Global, input: &mut R) -> Result<Vec<u8>, Halt>
+    ensures { IfOk result (λ v. IfSome (R.remaining input.old) (λ xs. v.items ≡ xs)) }
+{
+    let mut bytes = Vec::new(alloc);
+    match input.read_to_end(&mut bytes) {
+        Ok(_) => Ok(bytes),
+        Err(_) => Err(Halt::Read),
+    }
+}
+
+/// How many triples the document has.
+fn count(alloc: Global, document: &[u8]) -> Result<usize, Halt>
+    ensures found { IfOk result (λ n. HasCount document.now n) }
+    ensures refused { result ≡ Err halt.Syntax → IsRefused document.now }
+{
+    let triples = read(alloc, document)?;
+    Ok(triples.len())
+}
+
+/// Writes the triples of the document.
+fn copy<W: Write>(alloc: Global, document: &[u8], out: &mut Counted<W>) -> Result<(), Halt>
+    ensures copied { OnOk result (IsCopied document.now (W.contents (inner_of out.old)) (W.contents (inner_of out.new))) }
+    ensures refused { result ≡ Err halt.Syntax → IsRefused document.now }
+{
+    let triples = read(alloc, document)?;
+    let mut sink = NtSink::new(alloc, out);
+    put_all(alloc, triples, &mut sink)?;
+    let _out = sink.into_inner();
+    Ok(())
+}
+
+fn send<W: Write>(w: &mut Counted<W>, text: &str) -> Result<(), Halt> {
+    match write_out(w, text.as_bytes()) {
+        Ok(()) => Ok(()),
+        Err(_) => Err(Halt::Write),
+    }
+}
+
+fn tell_count<W: Write>(alloc: Global, count: usize, out: &mut Counted<W>) -> Result<(), Halt> {
+    let Ok(line) = format!(in alloc; "{count} triples\n") else {
+        return Err(Halt::Memory);
+    };
+    send(out, line.as_str())
+}
+
+fn run<R: Read, W: Write>(
+    alloc: Global,
+    words: &[String],
+    input: &mut R,
+    out: &mut Counted<W>,
+) -> Result<(), Halt> {
+    let Some(task) = requested(words) else {
+        return Err(Halt::Usage);
+    };
+    let document = read_all(alloc, input)?;
+    match task {
+        Task::Count => tell_count(alloc, count(alloc, document.as_slice())?, out)?,
+        Task::Copy => copy(alloc, document.as_slice(), out)?,
+    }
+    match out.flush() {
+        Ok(()) => Ok(()),
+        Err(_) => Err(Halt::Write),
+    }
+}
+
+/// The exit status of a halt, and the line that tells it.
+fn told(halt: Halt) -> (u8, &'static str) {
+    match halt {
+        Halt::Syntax => (1, "csvw_ntriples_bench: Syntax\n"),
+        Halt::Usage => (2, "usage: csvw_ntriples_bench count|copy <DOCUMENT\n"),
+        Halt::NotWritable => (3, "csvw_ntriples_bench: NotWritable\n"),
+        Halt::Memory => (4, "csvw_ntriples_bench: Memory\n"),
+        Halt::Read => (4, "csvw_ntriples_bench: Read\n"),
+        Halt::Write => (4, "csvw_ntriples_bench: Write\n"),
+    }
+}
+
+/// Runs the program on its words, the first of which is its name, and answers its exit status: 0 where it
+/// did what was asked, 1 where the document isn't N-Triples, 2 where the words ask for nothing that there
+/// is, 3 where a triple was read that is never written, 4 where a stream failed or memory ran out.
+pub fn command<R: Read, W: Write, V: Write>(
+    alloc: Global,
+    words: &[String],
+    input: &mut R,
+    out: &mut Counted<W>,
+    err: &mut Counted<V>,
+) -> u8 {
+    match run(alloc, words, input, out) {
+        Ok(()) => 0,
+        Err(halt) => {
+            let (status, line) = told(halt);
+            let _ = send(err, line);
+            status
+        }
+    }
+}
