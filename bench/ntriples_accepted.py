@@ -1,10 +1,12 @@
 """Compares which documents are N-Triples to our reader, to serdi, to rapper and to the standard's grammar.
 
-    python3 bench/ntriples_accepted.py [PROGRAM]
+    python3 bench/ntriples_accepted.py
 
-The documents are small and the same at each run: every spelling of a triple, and lines with one character dropped,
-doubled or replaced. The grammar is that of RDF 1.1 N-Triples, section 7, written here as regular expressions. Exit
-status 1 where our reader differs from it, or a difference of another program is of no kind that is listed.
+The documents are small and the same at each run: each spelling of a triple, and lines with one character dropped,
+doubled, replaced or put in. The grammar is that of RDF 1.1 N-Triples, section 7, written here once more, as regular
+expressions. Printed are the differences of serdi and rapper from it by their kinds, each with how many documents have it
+and the shortest of them. A kind is a change of the grammar that accounts for the difference. Exit status 1 where our
+reader differs from the grammar, or a difference is of no kind.
 """
 
 import os
@@ -12,6 +14,7 @@ import re
 import subprocess
 import sys
 from concurrent.futures import ThreadPoolExecutor
+from dataclasses import dataclass
 
 HERE = os.path.dirname(os.path.abspath(__file__))
 PROGRAM = os.path.join(HERE, "..", "crates", "csvw_ntriples_bench", "out", "csvw_ntriples_bench")
@@ -19,7 +22,6 @@ PROGRAM = os.path.join(HERE, "..", "crates", "csvw_ntriples_bench", "out", "csvw
 READERS = {
     "ours": [PROGRAM, "count"],
     "serdi": ["serdi", "-q", "-i", "ntriples", "-o", "ntriples", "-"],
-    "serdi -l": ["serdi", "-q", "-l", "-i", "ntriples", "-o", "ntriples", "-"],
     "rapper": ["rapper", "-q", "-i", "ntriples", "-c", "-", "http://example.org/"],
 }
 
@@ -37,34 +39,106 @@ IRIREF = rf'<(?:[^\x00-\x20<>"{{}}|^`\\]|{UCHAR})*>'
 STRING_LITERAL_QUOTE = rf'"(?:[^"\\\n\r]|{ECHAR}|{UCHAR})*"'
 BLANK_NODE_LABEL = rf"_:[{PN_CHARS_U}0-9](?:[{PN_CHARS}.]*[{PN_CHARS}])?"
 LANGTAG = r"@[a-zA-Z]+(?:-[a-zA-Z0-9]+)*"
-GAP = r"[ \t]*"
-LITERAL = rf"{STRING_LITERAL_QUOTE}(?:{GAP}\^\^{GAP}{IRIREF}|{GAP}{LANGTAG})?"
-SUBJECT = rf"(?:{IRIREF}|{BLANK_NODE_LABEL})"
-OBJECT = rf"(?:{IRIREF}|{BLANK_NODE_LABEL}|{LITERAL})"
-TRIPLE = rf"{SUBJECT}{GAP}{IRIREF}{GAP}{OBJECT}{GAP}\."
-LINE = re.compile(rf"{GAP}(?:{TRIPLE}{GAP})?(?:#.*)?", re.DOTALL)
-NUMBERED = re.compile(rf"(?<!\\)(?:\\\\)*(?:{UCHAR})")
+COMMENT = r"#[^\r\n]*"
+NUMBERED = re.compile(rf"\\\\|\\u({HEX}{{4}})|\\U({HEX}{{8}})")
 
 
 def is_character(number):
     return number < 0xD800 or 0xDFFF < number < 0x110000
 
 
-def by_grammar(document):
-    """Whether the bytes are a document: UTF-8, each line a triple or none, each UCHAR a character."""
-    try:
-        text = document.decode("utf-8")
-    except UnicodeDecodeError:
-        return False
-    for line in re.split("[\r\n]", text):
-        if not LINE.fullmatch(line):
+@dataclass
+class Grammar:
+    """The grammar, and what a kind of difference changes in it."""
+
+    iri: str = IRIREF
+    label: str = BLANK_NODE_LABEL
+    string: str = STRING_LITERAL_QUOTE
+    tag: str = LANGTAG
+    mark: str = r"\^\^"
+    dot: str = r"\."
+    gap: str = r"[ \t]*"
+    gap_in_literal: str = r"[ \t]*"
+    before: str = ""
+    after: str = ""
+    between: str = r"[\r\n]"
+    decoding: str = "strict"
+    any_number: bool = False
+
+    def document(self):
+        typed = rf"{self.gap_in_literal}{self.mark}{self.gap_in_literal}{self.iri}"
+        literal = rf"{self.string}(?:{typed}|{self.gap_in_literal}{self.tag})?"
+        terms = [rf"(?:{self.iri}|{self.label})", self.iri, rf"(?:{self.iri}|{self.label}|{literal})", self.dot]
+        line = rf"{self.gap}(?:{self.gap.join(terms)}{self.gap})?"
+        return rf"{self.before}{line}(?:{COMMENT})?(?:{self.between}{line}(?:{COMMENT})?)*{self.after}"
+
+    def has(self, document):
+        """Whether the bytes are a document: UTF-8, each line a triple or none, each UCHAR a character."""
+        try:
+            text = document.decode("utf-8", self.decoding)
+        except UnicodeDecodeError:
             return False
-        code = re.sub(rf"^((?:{IRIREF}|{STRING_LITERAL_QUOTE}|[^#<\"])*)#.*", r"\1", line, flags=re.DOTALL)
-        for found in NUMBERED.finditer(code):
-            digits = re.search(rf"[uU]({HEX}+)$", found.group())
-            if not is_character(int(digits.group(1), 16)):
-                return False
-    return True
+        return re.fullmatch(self.document(), text) is not None and (self.any_number or are_characters(text))
+
+
+def are_characters(text):
+    """Whether each UCHAR outside comments is the number of a character."""
+    code = re.sub(rf'({STRING_LITERAL_QUOTE}|<[^>\r\n]*>)|{COMMENT}', r"\1", text)
+    numbers = [int(a or b, 16) for a, b in NUMBERED.findall(code) if a or b]
+    return all(is_character(number) for number in numbers)
+
+
+# The kinds: where another reader takes what the grammar refuses, and where it refuses what the grammar has.
+ANY_LABEL = r"_[^\s<>\"]*[^\s<>\".]"
+TAKEN = {
+    "serdi": {
+        "line breaks as white space, more than one triple in a line": {
+            "gap": rf"(?:[ \t\r\n]|{COMMENT}[\r\n])*",
+            "between": "",
+        },
+        "a UCHAR of no character": {"any_number": True},
+        "other characters in a label": {"label": ANY_LABEL},
+        "a dot at the end of a label": {"label": rf"{BLANK_NODE_LABEL}\.*"},
+        "empty parts in a language tag": {"tag": r"@[a-zA-Z]+(?:-[a-zA-Z0-9]*)*"},
+        "one ^ for ^^": {"mark": r"\^+"},
+        "no IRI after ^^": {"string": rf"{STRING_LITERAL_QUOTE}(?:\^\^)?"},
+        "a byte order mark": {"before": "\ufeff?"},
+        "a NUL, and anything after it": {"after": r"(?:\x00[\x00-\U0010ffff]*)?"},
+        "bytes that aren't UTF-8": {"decoding": "replace"},
+        "`a`, `[]` and `;` of Turtle": {"iri": rf"(?:{IRIREF}|a(?= ))", "label": rf"(?:{BLANK_NODE_LABEL}|\[\])", "dot": r"(?:;.*)?\."},
+    },
+    "rapper": {
+        "other characters in an IRI": {"iri": r"<(?:[^> \r\n\\]|\\[^ \r\n])*>"},
+        "no dot": {"dot": r"\.?"},
+        "U+000B and U+000C as white space": {"gap": r"[ \t\x0b\x0c]*"},
+        "a NUL, and anything after it": {"after": r"(?:\x00[\x00-\U0010ffff]*)?"},
+        "other characters in a label": {"label": ANY_LABEL},
+        "a dot at the end of a label": {"label": rf"{BLANK_NODE_LABEL}\.*"},
+        "a UCHAR of a surrogate": {"any_number": True},
+        "line breaks in a string": {"string": rf'"(?:[^"\\]|{ECHAR}|{UCHAR})*"'},
+        "other escapes in a string": {"string": r'"(?:[^"\\\r\n]|\\[^\r\n])*"'},
+        "other characters in a language tag": {"tag": r"@[^\s<>\".]+"},
+        "bytes that aren't UTF-8": {"decoding": "replace"},
+    },
+}
+RELATIVE = {"iri": rf"(?=<[A-Za-z][-+.A-Za-z0-9]*:)(?:{IRIREF})"}
+SPACED = {"gap_in_literal": ""}
+REFUSED = {
+    "serdi": {
+        "a relative IRI": RELATIVE,
+        "white space in a literal": SPACED,
+        "a colon in a label": {"label": BLANK_NODE_LABEL.replace("_:" + "]", "]").replace(PN_CHARS_U, PN_CHARS_BASE + "_")},
+        "an escape in an IRI of what can't stand there": {"iri": rf"(?!<[^>]*\\u00(?:[01]|20|22|3[CE]|5[CE]|60|7[BCD]))(?:{IRIREF})"},
+    },
+    "rapper": {
+        "a relative IRI": RELATIVE,
+        "white space in a literal": SPACED,
+        "an escape in an IRI of what can't stand there": {"iri": rf"(?!<[^>]*\\u00(?:[01]|20|22|3[CE]|5[CE]|60|7[BCD]))(?:{IRIREF})"},
+        "a letter outside ASCII and then a dot or a dash at the start of a label": {"label": rf"(?!_:[^\x00-\x7f][-.]){BLANK_NODE_LABEL}"},
+        "an escaped apostrophe": {"string": STRING_LITERAL_QUOTE.replace("'", "")},
+        "a UCHAR of U+FFFE or U+FFFF": {"string": rf'(?!"[^"]*\\uFFF[EF])(?:{STRING_LITERAL_QUOTE})'},
+    },
+}
 
 
 def accepts(reader, document):
@@ -126,7 +200,7 @@ LINES = [
     "<a:s> <a:p> <a:o> .\n",
     "_:a.b <a:p> _:1-c.\n",
     '<a:s><a:p>"x\\n\\u00E9"@en-GB.\n',
-    '_:a <a:p> "\\U0001F600" ^^<a:d> . # c\n',
+    '_:a <a:p> "\\U0001F600"^^<a:d> . # c\n',
 ]
 REPLACEMENTS = ["<", ">", '"', "\\", ".", " ", "\t", "\n", "\r", "#", "@", "^", ":", "_", "-", "0", "g", "\u00e9", "\x01", "|"]
 
@@ -183,23 +257,47 @@ def verdicts(document):
     return {reader: accepts(reader, document) for reader in READERS}
 
 
+def kind_of(reader, document, taken):
+    """The first change of the grammar that accounts for the difference; two of them, or none."""
+    changes = (TAKEN if taken else REFUSED)[reader]
+    for kind, change in changes.items():
+        if Grammar(**change).has(document) == taken:
+            return kind
+    for kind, change in changes.items():
+        for other, more in changes.items():
+            if Grammar(**{**change, **more}).has(document) == taken:
+                return "two of these"
+    return None
+
+
+def show(reader, taken, found):
+    """Prints the kinds of a reader's differences, and answers whether each has a kind."""
+    kinds = {}
+    for document in found:
+        kinds.setdefault(kind_of(reader, document, taken), []).append(document)
+    print(f"{reader} {'takes' if taken else 'refuses'} {len(found)} documents that the grammar {'refuses' if taken else 'has'}:")
+    for kind, some in sorted(kinds.items(), key=lambda entry: -len(entry[1])):
+        print(f"  {len(some):5} {kind}: {min(some, key=len)!r}")
+    for document in kinds.get(None, []):
+        print(f"  of no kind: {document!r}")
+    return None not in kinds
+
+
 def main():
-    if len(sys.argv) > 1:
-        READERS["ours"][0] = sys.argv[1]
     every = documents()
     with ThreadPoolExecutor(max_workers=3) as pool:
         answers = list(pool.map(verdicts, every))
-    import pickle
-    pickle.dump(list(zip(every, answers)), open(os.path.join(HERE, "out", "answers.pickle"), "wb"))
-    wrong = 0
-    for document, answer in zip(every, answers):
-        wanted = by_grammar(document)
-        if answer["ours"] != wanted:
-            wrong += 1
-            print(f"ours {answer['ours']}, grammar {wanted}: {document!r}")
-    print(len(every), "documents", wrong, "wrong")
-    for reader in READERS:
-        print(reader, sum(1 for d, a in zip(every, answers) if a[reader] != by_grammar(d)))
+    grammar = Grammar()
+    wanted = [grammar.has(document) for document in every]
+    print(f"{len(every)} documents, of which the grammar has {sum(wanted)}")
+    wrong = [d for d, w, a in zip(every, wanted, answers) if a["ours"] != w]
+    print(f"ours differs at {len(wrong)}", *map(repr, wrong))
+    named = not wrong
+    for reader in ("serdi", "rapper"):
+        for taken in (True, False):
+            found = [d for d, w, a in zip(every, wanted, answers) if a[reader] != w and w != taken]
+            named = show(reader, taken, found) and named
+    sys.exit(0 if named else 1)
 
 
 main()
