@@ -14,44 +14,45 @@ if [ ! -s "$document" ] || [ "$bench/triples.py" -nt "$document" ]; then
   python3 "$bench/triples.py" "$document"
 fi
 
-# Runs a program on the document and adds a line with its seconds and its peak in KiB.
+# Runs a program on a document and adds a line with its seconds and its peak in KiB.
 measure() {
-  /usr/bin/time -a -o "$work/$1.times" -f '%e %M' "${@:2}" <"$document" >/dev/null
+  /usr/bin/time -a -o "$work/$1.times" -f '%e %M' "${@:3}" <"$2" >/dev/null
 }
 
-# The least seconds and the greatest peak in MB.
-summary() {
-  awk 'NR == 1 || $1 < s { s = $1 } $2 > m { m = $2 } END { printf "%.2f %.0f", s, m * 1.024 / 1000 }' "$work/$1.times"
+# A line of the table: the least seconds, megabytes a second, and the greatest peak.
+row() {
+  awk -v what="$1" -v program="$2" -v size="$size" \
+    'NR == 1 || $1 < s { s = $1 } $2 > m { m = $2 }
+     END { printf "%-16s %-8s %8.2f %8.0f %9.0f\n", what, program, s, size / s, m * 1.024 / 1000 }' "$work/$3.times"
 }
 
-# The same triples in our spelling, from what another program wrote.
-"$program" copy <"$document" >"$work/ours.nt"
-serdi -i ntriples -o ntriples "$document" | "$program" copy | cmp - "$work/ours.nt" || {
+# The triples in our spelling, of the document and of what serdi writes of it.
+"$program" write 1 <"$document" >"$work/ours.nt"
+serdi -i ntriples -o ntriples "$document" | "$program" write 1 | cmp - "$work/ours.nt" || {
   echo "ntriples.sh: a run failed, or serdi reads other triples" >&2
   exit 1
 }
 
-names=(read read_write rapper_read serdi rapper)
-for name in "${names[@]}"; do rm -f "$work/$name.times"; done
-for _ in $(seq "$runs"); do
-  measure read "$program" count
-  measure read_write "$program" copy
-  measure rapper_read rapper -q -i ntriples -c - http://example.org/
-  measure serdi serdi -i ntriples -o ntriples "$document"
-  measure rapper rapper -q -i ntriples -o ntriples - http://example.org/
-done
+# The writer alone: the first lines, read once and written so often that it comes to the size of the document.
+head -n 1000 "$document" >"$work/head.nt"
+rounds=$(($(wc -c <"$document") / $("$program" write 1 <"$work/head.nt" | wc -c)))
 
-row() {
-  read -r seconds peak <<<"$(summary "$3")"
-  awk -v what="$1" -v program="$2" -v s="$seconds" -v m="$peak" -v b="$size" \
-    'BEGIN { printf "%-16s %-10s %8.2f %8.1f %9.0f\n", what, program, s, b / s, m }'
-}
+rm -f "$work"/*.times
+for _ in $(seq "$runs"); do
+  measure read "$document" "$program" count
+  measure read_rapper "$document" rapper -q -i ntriples -c - http://example.org/
+  measure write "$work/head.nt" "$program" write "$rounds"
+  measure both "$document" "$program" write 1
+  measure both_serdi "$document" serdi -i ntriples -o ntriples -
+  measure both_rapper "$document" rapper -q -i ntriples -o ntriples - http://example.org/
+done
 
 size=$(awk -v b="$(wc -c <"$document")" 'BEGIN { print b / 1000000 }')
 echo "$("$program" count <"$document"), $size MB; least of $runs runs; $(uptime | sed 's/.*load/load/')"
-printf '%-16s %-10s %8s %8s %9s\n' what program seconds MB/s 'peak MB'
+printf '%-16s %-8s %8s %8s %9s\n' what program seconds MB/s 'peak MB'
 row read ours read
-row read rapper rapper_read
-row 'read and write' ours read_write
-row 'read and write' serdi serdi
-row 'read and write' rapper rapper
+row read rapper read_rapper
+row write ours write
+row 'read and write' ours both
+row 'read and write' serdi both_serdi
+row 'read and write' rapper both_rapper

@@ -5,6 +5,7 @@ use Rattle.csvw_triples.specs.declared.term.Triple.{Triple}
 use Rattle.csvw_ntriples.specs.declared.term.NtTriple.{NtTriple}
 use Rattle.csvw_ntriples.specs.Grammar.{Denotes}
 use Rattle.csvw_ntriples.specs.Written.{said, written}
+use Rattle.csvw_ntriples_bench.specs.Rounds.{repeated}
 
 -- a document of so many triples
 abbrev pub HasCount : List ℕ → ℕ → Type 0
@@ -14,6 +15,6 @@ HasCount bytes n = (ts : List NtTriple) × Denotes bytes ts × (n ≡ length ts)
 abbrev pub IsRefused : List ℕ → Type 0
 IsRefused bytes = (ts : List NtTriple) → Denotes bytes ts → ⊥
 
--- the triples of a document were written behind what a writer held
-abbrev pub IsCopied : List ℕ → Option (List ℕ) → Option (List ℕ) → Type 0
-IsCopied bytes old new = (ts : List Triple) × Denotes bytes (map said ts) × Appends old new (written ts)
+-- the triples of a document were written so many times behind what a writer held
+abbrev pub IsWritten : ℕ → List ℕ → Option (List ℕ) → Option (List ℕ) → Type 0
+IsWritten rounds bytes old new = (ts : List Triple) × Denotes bytes (map said ts) × Appends old new (written (repeated rounds ts))

@@ -1,11 +1,12 @@
 //! What one run of the program does, over any reader and writers.
 ghost use Rattle.std.specs.Prelude.{◌≡◌, ℕ, List, IfOk, OnOk, IfSome, Err};
 ghost use Rattle.csvw_text.specs.Counted.{inner_of};
-ghost use Rattle.csvw_ntriples_bench.specs.Runs.{HasCount, IsRefused, IsCopied};
+ghost use Rattle.csvw_ntriples_bench.specs.Runs.{HasCount, IsRefused, IsWritten};
 ghost use Rattle.csvw_ntriples_bench.specs.declared.halt.Halt.TheVariants as halt;
 
+use crate::convert::triples;
 use crate::halt::Halt;
-use crate::putting::put_all;
+use crate::putting::put_rounds;
 use crate::words::{Task, requested};
 use csvw_ntriples::{NtSink, read};
 use csvw_text::{Counted, write_out};
@@ -32,14 +33,19 @@ fn count(alloc: Global, document: &[u8]) -> Result<usize, Halt>
     Ok(triples.len())
 }
 
-/// Writes the triples of the document.
-fn copy<W: Write>(alloc: Global, document: &[u8], out: &mut Counted<W>) -> Result<(), Halt>
-    ensures copied { OnOk result (IsCopied document.now (W.contents (inner_of out.old)) (W.contents (inner_of out.new))) }
+/// Writes the triples of the document so many times.
+fn write<W: Write>(
+    alloc: Global,
+    rounds: u64,
+    document: &[u8],
+    out: &mut Counted<W>,
+) -> Result<(), Halt>
+    ensures written { OnOk result (IsWritten rounds document.now (W.contents (inner_of out.old)) (W.contents (inner_of out.new))) }
     ensures refused { result ≡ Err halt.Syntax → IsRefused document.now }
 {
-    let triples = read(alloc, document)?;
+    let triples = triples(alloc, read(alloc, document)?)?;
     let mut sink = NtSink::new(alloc, out);
-    put_all(alloc, triples, &mut sink)?;
+    put_rounds(rounds, triples.as_slice(), &mut sink)?;
     let _out = sink.into_inner();
     Ok(())
 }
@@ -70,7 +76,7 @@ fn run<R: Read, W: Write>(
     let document = read_all(alloc, input)?;
     match task {
         Task::Count => tell_count(alloc, count(alloc, document.as_slice())?, out)?,
-        Task::Copy => copy(alloc, document.as_slice(), out)?,
+        Task::Write(rounds) => write(alloc, rounds, document.as_slice(), out)?,
     }
     match out.flush() {
         Ok(()) => Ok(()),
@@ -82,7 +88,10 @@ fn run<R: Read, W: Write>(
 fn told(halt: Halt) -> (u8, &'static str) {
     match halt {
         Halt::Syntax => (1, "csvw_ntriples_bench: Syntax\n"),
-        Halt::Usage => (2, "usage: csvw_ntriples_bench count|copy <DOCUMENT\n"),
+        Halt::Usage => (
+            2,
+            "usage: csvw_ntriples_bench count <DOCUMENT, or csvw_ntriples_bench write ROUNDS <DOCUMENT\n",
+        ),
         Halt::NotWritable => (3, "csvw_ntriples_bench: NotWritable\n"),
         Halt::Memory => (4, "csvw_ntriples_bench: Memory\n"),
         Halt::Read => (4, "csvw_ntriples_bench: Read\n"),

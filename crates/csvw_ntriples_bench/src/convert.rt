@@ -1,5 +1,5 @@
 //! What was read, as what can be written.
-ghost use Rattle.std.specs.Prelude.{◌≡◌, IfSome, IfOk, bytes_eq};
+ghost use Rattle.std.specs.Prelude.{◌≡◌, IfSome, IfOk, bytes_eq, map};
 ghost use Rattle.csvw_triples.specs.Vocabulary.{lang_string};
 ghost use Rattle.csvw_triples.specs.declared.origin.Origin.TheVariants as origin;
 ghost use Rattle.csvw_ntriples.specs.Written.{label, node_named, term_named, lit_said, said};
@@ -102,9 +102,7 @@ fn term(alloc: Global, read: NtTerm) -> Result<Term, Unwritable>
     }
 }
 
-/// The triple that `NtSink` writes as what was read. `Spelling` where an IRI or a label is one that it
-/// doesn't write; `Memory` where there is none.
-pub fn triple(alloc: Global, read: NtTriple) -> Result<Triple, Unwritable>
+fn triple(alloc: Global, read: NtTriple) -> Result<Triple, Unwritable>
     ensures { IfOk result (λ t. said t ≡ read) }
 {
     let NtTriple { s, p, o } = read;
@@ -113,4 +111,19 @@ pub fn triple(alloc: Global, read: NtTriple) -> Result<Triple, Unwritable>
         p: iri(alloc, &p)?,
         o: term(alloc, o)?,
     })
+}
+
+/// The triples that `NtSink` writes as what was read. `Spelling` where an IRI or a label is one that it
+/// doesn't write; `Memory` where there is none.
+pub fn triples(alloc: Global, read: Vec<NtTriple>) -> Result<Vec<Triple>, Unwritable>
+    ensures { IfOk result (λ ts. map said ts.items ≡ read.items) }
+{
+    let mut triples = Vec::new(alloc);
+    for one in read {
+        let made = triple(alloc, one)?;
+        let Ok(()) = triples.push(made) else {
+            return Err(Unwritable::Memory);
+        };
+    }
+    Ok(triples)
 }

@@ -1,36 +1,30 @@
-//! What was read, put into a sink.
-ghost use Rattle.std.specs.Prelude.{◌≡◌, ◌≢◌, ◌∷◌, [], OnOk, IfErr};
-ghost use Rattle.csvw_ntriples_bench.specs.Putting.{Puts};
-ghost use Rattle.csvw_ntriples_bench.specs.declared.halt.Halt.TheVariants as halt;
+//! Triples put into a sink.
+ghost use Rattle.std.specs.Prelude.{◌≡◌, OnOk};
+ghost use Rattle.csvw_ntriples_bench.specs.Rounds.{repeated};
 
-use crate::convert::triple;
-use crate::halt::Halt;
-use csvw_ntriples::NtTriple;
-use csvw_triples::TripleSink;
-use std::alloc::Global;
+use csvw_triples::{SinkFault, Triple, TripleSink};
 
-fn put<S: TripleSink>(alloc: Global, read: NtTriple, sink: &mut S) -> Result<(), Halt>
-    ensures ok { OnOk result (Puts S.gains sink.old (read ∷ []) sink.new) }
+fn put_all<S: TripleSink>(triples: &[Triple], sink: &mut S) -> Result<(), SinkFault>
+    ensures ok { OnOk result (S.gains sink.old triples.now sink.new) }
     ensures open { OnOk result (S.is_open sink.new ≡ S.is_open sink.old) }
-    ensures err { IfErr result (λ h. h ≢ halt.Syntax) }
 {
-    let triple = triple(alloc, read)?;
-    sink.put(&triple)?;
+    for triple in triples {
+        sink.put(triple)?;
+    }
     Ok(())
 }
 
-/// Puts each triple that was read into the sink. After an error a front of them was put.
-pub fn put_all<S: TripleSink>(
-    alloc: Global,
-    triples: Vec<NtTriple>,
+/// Puts the triples into the sink so many times. After an error a front of them was put.
+pub fn put_rounds<S: TripleSink>(
+    rounds: u64,
+    triples: &[Triple],
     sink: &mut S,
-) -> Result<(), Halt>
-    ensures ok { OnOk result (Puts S.gains sink.old triples.items sink.new) }
+) -> Result<(), SinkFault>
+    ensures ok { OnOk result (S.gains sink.old (repeated rounds triples.now) sink.new) }
     ensures open { OnOk result (S.is_open sink.new ≡ S.is_open sink.old) }
-    ensures err { IfErr result (λ h. h ≢ halt.Syntax) }
 {
-    for read in triples {
-        put(alloc, read, sink)?;
+    for _ in 0..rounds {
+        put_all(triples, sink)?;
     }
     Ok(())
 }
