@@ -11,6 +11,10 @@ use Rattle.csvw_ntriples_bench.specs.Rounds.{repeated}
 abbrev pub HasCount : List ℕ → ℕ → Type 0
 HasCount bytes n = (ts : List NtTriple) × Denotes bytes ts × (n ≡ length ts)
 
+-- a document
+abbrev pub IsRead : List ℕ → Type 0
+IsRead bytes = (ts : List NtTriple) × Denotes bytes ts
+
 -- no document
 abbrev pub IsRefused : List ℕ → Type 0
 IsRefused bytes = (ts : List NtTriple) → Denotes bytes ts → ⊥

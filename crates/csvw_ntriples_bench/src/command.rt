@@ -1,7 +1,7 @@
 //! What one run of the program does, over any reader and writers.
-ghost use Rattle.std.specs.Prelude.{◌≡◌, ℕ, List, IfOk, OnOk, IfSome, Err};
+ghost use Rattle.std.specs.Prelude.{◌≡◌, ◌≢◌, IfOk, IfErr, OnOk, IfSome, Err};
 ghost use Rattle.csvw_text.specs.Counted.{inner_of};
-ghost use Rattle.csvw_ntriples_bench.specs.Runs.{HasCount, IsRefused, IsWritten};
+ghost use Rattle.csvw_ntriples_bench.specs.Runs.{HasCount, IsRead, IsRefused, IsWritten};
 ghost use Rattle.csvw_ntriples_bench.specs.declared.halt.Halt.TheVariants as halt;
 
 use crate::convert::triples;
@@ -15,7 +15,8 @@ use std::io::{Read, Write};
 
 /// Everything that the reader has left.
 fn read_all<R: Read>(alloc: Global, input: &mut R) -> Result<Vec<u8>, Halt>
-    ensures { IfOk result (λ v. IfSome (R.remaining input.old) (λ xs. v.items ≡ xs)) }
+    ensures bytes { IfOk result (λ v. IfSome (R.remaining input.old) (λ xs. v.items ≡ xs)) }
+    ensures err { IfErr result (λ h. h ≢ halt.Syntax) }
 {
     let mut bytes = Vec::new(alloc);
     match input.read_to_end(&mut bytes) {
@@ -50,18 +51,50 @@ fn write<W: Write>(
     Ok(())
 }
 
-fn send<W: Write>(w: &mut Counted<W>, text: &str) -> Result<(), Halt> {
+fn send<W: Write>(w: &mut Counted<W>, text: &str) -> Result<(), Halt>
+    ensures { IfErr result (λ h. h ≢ halt.Syntax) }
+{
     match write_out(w, text.as_bytes()) {
         Ok(()) => Ok(()),
         Err(_) => Err(Halt::Write),
     }
 }
 
-fn tell_count<W: Write>(alloc: Global, count: usize, out: &mut Counted<W>) -> Result<(), Halt> {
+fn tell_count<W: Write>(alloc: Global, count: usize, out: &mut Counted<W>) -> Result<(), Halt>
+    ensures { IfErr result (λ h. h ≢ halt.Syntax) }
+{
     let Ok(line) = format!(in alloc; "{count} triples\n") else {
         return Err(Halt::Memory);
     };
     send(out, line.as_str())
+}
+
+fn flush<W: Write>(w: &mut Counted<W>) -> Result<(), Halt>
+    ensures { IfErr result (λ h. h ≢ halt.Syntax) }
+{
+    match w.flush() {
+        Ok(()) => Ok(()),
+        Err(_) => Err(Halt::Write),
+    }
+}
+
+/// Does the task with the document.
+fn perform<W: Write>(
+    alloc: Global,
+    task: Task,
+    document: &[u8],
+    out: &mut Counted<W>,
+) -> Result<(), Halt>
+    ensures read { OnOk result (IsRead document.now) }
+    ensures refused { result ≡ Err halt.Syntax → IsRefused document.now }
+{
+    match task {
+        Task::Count => {
+            let count = count(alloc, document)?;
+            tell_count(alloc, count, out)
+        }
+        Task::Write(rounds) => write(alloc, rounds, document, out),
+    }
 }
 
 fn run<R: Read, W: Write>(
@@ -69,24 +102,24 @@ fn run<R: Read, W: Write>(
     words: &[String],
     input: &mut R,
     out: &mut Counted<W>,
-) -> Result<(), Halt> {
+) -> Result<(), Halt>
+    ensures read { OnOk result (IfSome (R.remaining input.old) IsRead) }
+    ensures refused { result ≡ Err halt.Syntax → IfSome (R.remaining input.old) IsRefused }
+{
     let Some(task) = requested(words) else {
         return Err(Halt::Usage);
     };
     let document = read_all(alloc, input)?;
-    match task {
-        Task::Count => tell_count(alloc, count(alloc, document.as_slice())?, out)?,
-        Task::Write(rounds) => write(alloc, rounds, document.as_slice(), out)?,
-    }
-    match out.flush() {
-        Ok(()) => Ok(()),
-        Err(_) => Err(Halt::Write),
-    }
+    perform(alloc, task, document.as_slice(), out)?;
+    flush(out)
 }
 
 /// The exit status of a halt, and the line that tells it.
-fn told(halt: Halt) -> (u8, &'static str) {
-    match halt {
+fn told(why: Halt) -> (u8, &'static str)
+    ensures fault { result.0 ≢ 0 }
+    ensures syntax { result.0 ≡ 1 → why ≡ halt.Syntax }
+{
+    match why {
         Halt::Syntax => (1, "csvw_ntriples_bench: Syntax\n"),
         Halt::Usage => (
             2,
@@ -108,11 +141,14 @@ pub fn command<R: Read, W: Write, V: Write>(
     input: &mut R,
     out: &mut Counted<W>,
     err: &mut Counted<V>,
-) -> u8 {
+) -> u8
+    ensures read { result ≡ 0 → IfSome (R.remaining input.old) IsRead }
+    ensures refused { result ≡ 1 → IfSome (R.remaining input.old) IsRefused }
+{
     match run(alloc, words, input, out) {
         Ok(()) => 0,
-        Err(halt) => {
-            let (status, line) = told(halt);
+        Err(why) => {
+            let (status, line) = told(why);
             let _ = send(err, line);
             status
         }
