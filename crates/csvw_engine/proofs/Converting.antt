@@ -14,7 +14,6 @@ use Rattle.csvw_rows.specs.Files.{Front, IsWhole, Body}
 use Rattle.csvw_rows.specs.Lawful.{IsDefault}
 use Rattle.csvw_rows.specs.RowValue.{Given}
 use Rattle.csvw_rows.specs.Laws.{GivenBegin, GivenBeginLater, NothingGiven}
-use Rattle.csvw_rows.specs.Stops.{StopOf}
 use Rattle.csvw_columns.specs.declared.column.Columns.{Columns}
 use Rattle.csvw_annotate.specs.Tables.{IsTable, IsAnnotated}
 use Rattle.csvw_annotate.specs.declared.row.Row.{Row}
@@ -244,9 +243,11 @@ module _ {W : Type 0} (contents : W → Option (List ℕ)) (laws : Laws) (base :
       )
   halts d bytes ended default consumed at_end (halt.Rows row stop) so =
       (refl, behind (IsStoppedAt base row stop) d bytes ended so.columns so.rows default consumed at_end so.reason so.gained so.ready)
-  halts d bytes ended default consumed at_end (halt.Table row stop) so =
-      (refl, behind (IsRefusedAt base row stop) d bytes ended so.columns so.rows default consumed at_end
-          (record { refused = so.reason; first = are_first laws d bytes ended (so.reason.given ++ so.reason.raw ∷ []) so.reason.is_given }) so.gained so.ready)
+  halts d bytes ended default consumed at_end (halt.Table row stop) so = (
+    refl,
+    behind (IsRefusedAt base row stop) d bytes ended so.columns so.rows default consumed at_end
+        (record { refused = so.reason; first = are_first laws d bytes ended (so.reason.given ++ so.reason.raw ∷ []) so.reason.is_given }) so.gained so.ready,
+  )
 
   at_base : (d : Dialect) (bytes : List ℕ) (ended : Bool) (t : Table) (reason : Halt) → t.number ≡ 1 → t.url ≡ base
       → tables.StopsSo (takes contents) sink_is_open failed_of d start t.number t.url bytes ended now reason → tables.StopsSo (takes contents) sink_is_open failed_of d start 1 base bytes ended now reason

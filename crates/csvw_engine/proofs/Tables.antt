@@ -1,5 +1,5 @@
 -- How a table and its sink go on.
-use Rattle.std.proofs.Common.{◌≡◌, ◌≢◌, ℕ, List, [], ◌∷◌, ◌++◌, refl, sym, ap, ◌∙◌, subst, true, Bool, append-nil, inl, inr, Option, Some, None, Result, Ok, Err}
+use Rattle.std.proofs.Common.{◌≡◌, ◌≢◌, ℕ, List, [], ◌∷◌, ◌++◌, refl, sym, ap, ◌∙◌, subst, true, Bool, append-nil, inl, Option, Some, None, Result, Ok, Err}
 use Rattle.std.proofs.lemmas.List.Concat.{flat_map-append}
 use Rattle.csvw_iri.specs.Link.{iri_of}
 use Rattle.csvw_rows.specs.declared.dialect.Dialect.{Dialect}
