@@ -17,7 +17,8 @@ from concurrent.futures import ThreadPoolExecutor
 from dataclasses import dataclass
 
 HERE = os.path.dirname(os.path.abspath(__file__))
-PROGRAM = os.path.join(HERE, "..", "crates", "csvw_ntriples_bench", "out", "csvw_ntriples_bench")
+CRATE = os.path.join(HERE, "..", "crates", "csvw_ntriples_bench")
+PROGRAM = os.path.join(CRATE, "out", "csvw_ntriples_bench")
 
 READERS = {
     "ours": [PROGRAM, "count"],
@@ -284,6 +285,7 @@ def show(reader, taken, found):
 
 
 def main():
+    subprocess.run(["rt", "run", "--", "count"], cwd=CRATE, stdin=subprocess.DEVNULL, stdout=subprocess.DEVNULL, check=True)
     every = documents()
     with ThreadPoolExecutor(max_workers=3) as pool:
         answers = list(pool.map(verdicts, every))
