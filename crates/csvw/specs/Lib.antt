@@ -1,0 +1,4 @@
+pub mod Lines
+pub mod MetaNames
+pub mod Names
+pub mod Status

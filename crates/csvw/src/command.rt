@@ -1,4 +1,6 @@
 //! What one run of the program does, over any files and writers.
+ghost use Rattle.std.specs.Prelude.{◌≡◌, ◌≤◌};
+ghost use Rattle.csvw.specs.Status.{stop_status, outcome_status};
 
 use crate::names::stop_line;
 use crate::opener::Opener;
@@ -25,7 +27,9 @@ fn send<W: Write>(w: &mut Counted<W>, text: &str) -> bool {
     write_out(w, text.as_bytes()).is_ok() && w.flush().is_ok()
 }
 
-fn stop_status(stop: &Stop) -> u8 {
+fn stop_status(stop: &Stop) -> u8
+    ensures { result ≡ stop_status stop.now }
+{
     match stop {
         Stop::Memory | Stop::Read | Stop::Write => DEVICE,
         _ => REFUSED,
@@ -33,7 +37,9 @@ fn stop_status(stop: &Stop) -> u8 {
 }
 
 /// Tells a stop in one line. Where that fails, the status is all that is told.
-fn tell_stop<V: Write>(alloc: Global, stop: &Stop, err: &mut Counted<V>) -> u8 {
+fn tell_stop<V: Write>(alloc: Global, stop: &Stop, err: &mut Counted<V>) -> u8
+    ensures { result ≡ stop_status stop.now }
+{
     let _ = match stop_line(alloc, stop) {
         Ok(line) => send(err, line.as_str()) && send(err, "\n"),
         Err(_) => send(err, "csvw: Memory\n"),
@@ -47,7 +53,9 @@ fn tell_words<W: Write, V: Write>(
     answer: &Error,
     out: &mut Counted<W>,
     err: &mut Counted<V>,
-) -> u8 {
+) -> u8
+    ensures { result ≤ 4 }
+{
     if answer.kind() == ErrorKind::OutOfMemory {
         return tell_stop(alloc, &Stop::Memory, err);
     }
@@ -65,7 +73,9 @@ fn tell_words<W: Write, V: Write>(
     }
 }
 
-fn outcome_status(outcome: &Outcome) -> u8 {
+fn outcome_status(outcome: &Outcome) -> u8
+    ensures { result ≡ outcome_status outcome.now }
+{
     if outcome.valid() { SUCCESS } else { FAULTS }
 }
 
@@ -76,7 +86,9 @@ fn run_plain<O: Opener, W: Write, V: Write>(
     opener: &mut O,
     out: &mut Counted<W>,
     err: &mut Counted<V>,
-) -> u8 {
+) -> u8
+    ensures { result ≤ 4 }
+{
     let Some(reader) = opener.open(file) else {
         return tell_stop(alloc, &Stop::Read, err);
     };
@@ -97,7 +109,9 @@ pub fn command<O: Opener, W: Write, V: Write>(
     opener: &mut O,
     out: &mut Counted<W>,
     err: &mut Counted<V>,
-) -> u8 {
+) -> u8
+    ensures { result ≤ 4 }
+{
     match requested(alloc, words) {
         Ok(Request::Plain { url, file }) => run_plain(alloc, url, file, opener, out, err),
         Err(answer) => tell_words(alloc, &answer, out, err),

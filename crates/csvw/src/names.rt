@@ -1,10 +1,16 @@
 //! The names of stops, as the program's lines spell them.
+ghost use Rattle.std.specs.Prelude.{◌≡◌, IfOk, string_bytes};
+ghost use Rattle.csvw.specs.MetaNames.{meta_code_name};
+ghost use Rattle.csvw.specs.Names.{row_stop_name, table_stop_name};
+ghost use Rattle.csvw.specs.Lines.{line_at, line_of};
 
 use csvw_engine::{MetaCode, Stop, TableStop};
 use csvw_rows::RowStop;
 use std::alloc::{AllocError, Global};
 
-fn meta_code_name(code: MetaCode) -> &'static str {
+fn meta_code_name(code: MetaCode) -> &'static str
+    ensures { result.now ≡ meta_code_name code }
+{
     match code {
         MetaCode::Memory => "Memory",
         MetaCode::TooLong => "TooLong",
@@ -28,7 +34,9 @@ fn meta_code_name(code: MetaCode) -> &'static str {
     }
 }
 
-fn row_stop_name(stop: RowStop) -> &'static str {
+fn row_stop_name(stop: RowStop) -> &'static str
+    ensures { result.now ≡ row_stop_name stop }
+{
     match stop {
         RowStop::Memory => "Memory",
         RowStop::NotUtf8 => "NotUtf8",
@@ -40,7 +48,9 @@ fn row_stop_name(stop: RowStop) -> &'static str {
     }
 }
 
-fn table_stop_name(stop: TableStop) -> &'static str {
+fn table_stop_name(stop: TableStop) -> &'static str
+    ensures { result.now ≡ table_stop_name stop }
+{
     match stop {
         TableStop::Memory => "Memory",
         TableStop::DuplicateName => "DuplicateName",
@@ -49,8 +59,17 @@ fn table_stop_name(stop: TableStop) -> &'static str {
     }
 }
 
+/// A name, and the table and row that it is told of.
+fn line_at(alloc: Global, name: &str, table: u32, row: u64) -> Result<String, AllocError>
+    ensures { IfOk result (λ line. string_bytes line ≡ line_at name.now table row) }
+{
+    format!(in alloc; "csvw: {name} table {table} row {row}")
+}
+
 /// The line, without its end, that tells a stop; `AllocError` where there is no memory.
-pub fn stop_line(alloc: Global, stop: &Stop) -> Result<String, AllocError> {
+pub fn stop_line(alloc: Global, stop: &Stop) -> Result<String, AllocError>
+    ensures { IfOk result (λ line. string_bytes line ≡ line_of stop.now) }
+{
     match stop {
         Stop::Memory => String::from_str(alloc, "csvw: Memory"),
         Stop::Read => String::from_str(alloc, "csvw: Read"),
@@ -65,13 +84,7 @@ pub fn stop_line(alloc: Global, stop: &Stop) -> Result<String, AllocError> {
             let pointer = fault.pointer.as_str();
             format!(in alloc; "csvw: metadata {name} {pointer}")
         }
-        Stop::Rows { table, row, stop } => {
-            let name = row_stop_name(*stop);
-            format!(in alloc; "csvw: {name} table {table} row {row}")
-        }
-        Stop::Table { table, row, stop } => {
-            let name = table_stop_name(*stop);
-            format!(in alloc; "csvw: {name} table {table} row {row}")
-        }
+        Stop::Rows { table, row, stop } => line_at(alloc, row_stop_name(*stop), *table, *row),
+        Stop::Table { table, row, stop } => line_at(alloc, table_stop_name(*stop), *table, *row),
     }
 }

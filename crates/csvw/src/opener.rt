@@ -1,4 +1,5 @@
 //! Where the program's files come from.
+ghost use Rattle.std.specs.Prelude.{◌≡◌};
 
 use std::fs;
 use std::io::Read;
@@ -19,7 +20,10 @@ pub struct FileOpener<'a, R> {
 }
 
 impl<'a, R: Files> FileOpener<'a, R> {
-    pub fn new(rt: &'a R) -> FileOpener<'a, R> {
+    /// Opens the files that this runtime reaches.
+    pub fn new(rt: &'a R) -> FileOpener<'a, R>
+        ensures { result.rt ≡ rt.entry }
+    {
         FileOpener { rt }
     }
 }
