@@ -4,6 +4,7 @@ ghost use Rattle.csvw_rows.specs.Lawful.{IsLawful};
 
 use super::*;
 use crate::dialect::{BadDialect, LineTerminators, Trim};
+use csvw_text::Text;
 use std::fmt::Write;
 use std::process::Abort;
 use std::test::Fail;
