@@ -14,7 +14,7 @@ use Rattle.csvw_rows.specs.declared.next.After.{After}
 use Rattle.csvw_rows.specs.declared.next.After.TheVariants.{More, Nothing, NoText}
 use Rattle.csvw_rows.specs.declared.next.Next.TheVariants as next
 use Rattle.csvw_rows.specs.Lawful.{IsLawful}
-use Rattle.csvw_rows.specs.Files.{Row, AreRows, EndsOpen, content, is_text, Body, remaining, remaining_fields, text_of, without_mark, is_empty, given as given_row}
+use Rattle.csvw_rows.specs.Files.{Row, AreRows, EndsOpen, IsWhole, content, is_text, Body, remaining, remaining_fields, text_of, without_mark, is_empty, given as given_row}
 use Rattle.csvw_rows.specs.RowValue.{Given}
 use Rattle.csvw_rows.specs.Parts.{Goes, NoRow}
 use Rattle.csvw_rows.specs.Stops.{StopOf, Begins}
@@ -99,7 +99,7 @@ module _ (s : Rows) (d : Dialect) (max : ℕ) (bytes : List ℕ) (ended : Bool) 
           (subst (λ (n : ℕ). StandsThere (is_last (after_of s)) s.rules.dialect n s.row (rest_of s.source) len r.row) h.max_is r.stands)
 
   -- nothing is complete
-  pub done : NextGives (after_of s) s.rules.dialect s.max_rows s.row (rest_of s.source) (Ok next.Waits) → HasGiven d max bytes ended given × NoStop d max bytes ended
+  pub done : NextGives (after_of s) s.rules.dialect s.max_rows s.row (rest_of s.source) (Ok next.Waits) → HasGiven d max bytes ended given × NoStop d max bytes ended × (ended ≡ true → IsWhole d max bytes)
   done (text, goes, none, last) =
       let a = after_text (is_bad_of s.source) s.ended (not (length (pending_of s.source) == 0)) text in
       let at_end : ended ≡ true → (is_text bytes ≡ true) × (rest_of s.source ≡ []) =
@@ -109,7 +109,7 @@ module _ (s : Rows) (d : Dialect) (max : ℕ) (bytes : List ℕ) (ended : Bool) 
       (subst (λ (n : ℕ). NoRow d max n (rest_of s.source)) h.row_is (subst (λ (n : ℕ). NoRow d n s.row (rest_of s.source)) h.max_is (subst (λ (x : Dialect). NoRow x s.max_rows s.row (rest_of s.source)) h.dialect none)))
       at_end
       (λ t. (open_of t at_end, sym h.decodes.bad ∙ a.0)) in
-      (record { front = h.rows; is_front = r.is_front; all = h.given_is }, r.none)
+      (record { front = h.rows; is_front = r.is_front; all = h.given_is }, r.none, r.whole)
     where
       by_ended : (b : Bool) → ended ≡ b → is_text bytes ≡ false → (ended ≡ true → (is_text bytes ≡ true) × (rest_of s.source ≡ [])) → b ≡ false
       by_ended false e t f = refl

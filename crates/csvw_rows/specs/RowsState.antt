@@ -9,7 +9,7 @@ use Rattle.csvw_rows.specs.declared.next.After.TheVariants.{More, Nothing, NoTex
 use Rattle.csvw_rows.specs.declared.next.Turn.{Turn}
 use Rattle.csvw_rows.specs.declared.next.Turn.TheVariants as turn
 use Rattle.csvw_rows.specs.Bounds.{fields_at}
-use Rattle.csvw_rows.specs.Files.{Row, AreRows, EndsOpen, KeepsLimits, Front, Body, content, is_text, remaining}
+use Rattle.csvw_rows.specs.Files.{Row, AreRows, EndsOpen, KeepsLimits, IsWhole, Front, Body, content, is_text, remaining}
 use Rattle.csvw_rows.specs.RowValue.{Given}
 use Rattle.csvw_rows.specs.SourceState.{text_items, rest_bytes, rest_of, is_bad_of, pending_of, begun_of, Decodes}
 use Rattle.csvw_rows.specs.Grammar.{trimmed}
@@ -81,10 +81,10 @@ Stays old new = (d : Dialect) (max : ℕ) (bytes : List ℕ) (ended : Bool) (giv
 abbrev pub Gives : Rows → Rows → Given → Type 0
 Gives old new row = (d : Dialect) (max : ℕ) (bytes : List ℕ) (ended : Bool) (given : List Given) → Holds old d max bytes ended given → Holds new d max bytes ended (given ++ row ∷ [])
 
--- all rows were given, and no stop stands
+-- all rows were given, no stop stands, and at the end the bytes are a file
 abbrev pub IsDone : Rows → Type 0
 IsDone old = (d : Dialect) (max : ℕ) (bytes : List ℕ) (ended : Bool) (given : List Given) → Holds old d max bytes ended given
-    → HasGiven d max bytes ended given × NoStop d max bytes ended
+    → HasGiven d max bytes ended given × NoStop d max bytes ended × (ended ≡ true → IsWhole d max bytes)
 
 -- all rows were given, and the stop stands behind them
 abbrev pub IsStopped : Rows → RowStop → ℕ → Type 0
