@@ -1,6 +1,6 @@
 -- Whether a row is a comment shows in the row itself.
-use Rattle.std.proofs.Common.{◌≡◌, ℕ, ◌<◌, Bool, true, false, ◌&&◌, ◌||◌, ◌==◌, if◌then◌else◌, List, [], ◌∷◌, ◌++◌, Option, Some, None, refl, sym, ap, ◌∙◌, arith, inl, inr, nat_lt, nat_eq}
-use Rattle.std.specs.List.{starts_with}
+use Rattle.std.proofs.Common.{◌≡◌, ◌≢◌, ℕ, ◌+◌, ◌<◌, ◌≤◌, Bool, true, false, ◌&&◌, ◌||◌, ◌==◌, if◌then◌else◌, List, [], ◌∷◌, ◌++◌, length, Option, Some, None, refl, sym, ap, ◌∙◌, subst, arith, append_assoc, append-nil, ◌⊎◌, inl, inr, nat_lt, nat_eq, IsTrue}
+use Rattle.std.specs.List.{starts_with, list_any}
 use Rattle.std.proofs.lemmas.Bool.Decides.{nat_tests}
 use Rattle.csvw_rows.specs.declared.dialect.Dialect.{Dialect}
 use Rattle.csvw_rows.specs.Grammar.{terminator_len}
@@ -53,7 +53,7 @@ pub note_same : (d : Dialect) (i : ℕ) (row after : List ℕ) → IsLawful d �
 note_same d i row after w b = ap (λ x. nat_lt i d.skip_rows || x) (begins_same (prefix_of d) row after w.prefix b)
 
 -- a comment stays one
-starts_stays : (prefix text more : List ℕ) → starts_with nat_eq text prefix ≡ true → starts_with nat_eq (text ++ more) prefix ≡ true
+pub starts_stays : (prefix text more : List ℕ) → starts_with nat_eq text prefix ≡ true → starts_with nat_eq (text ++ more) prefix ≡ true
 starts_stays [] text more h = refl
 starts_stays (p ∷ ps) [] more h = absurd cc
 starts_stays (p ∷ ps) (c ∷ cs) more h = both (nat_eq p c) _ _ h (starts_stays ps cs more)

@@ -1,5 +1,5 @@
 -- What stands at the front, behind so many rows.
-use Rattle.std.specs.Prelude.{◌≡◌, ◌≢◌, ◌⊎◌, ℕ, ◌<◌, ◌≤◌, Bool, true, false, List, [], ◌++◌, length, take, drop, map, Option, option_map, Result, Ok, Err}
+use Rattle.std.specs.Prelude.{◌≡◌, ◌≢◌, ◌⊎◌, ℕ, ◌+◌, ◌<◌, ◌≤◌, Bool, true, false, List, [], ◌++◌, length, take, drop, map, Option, Some, None, option_map, Result, Ok, Err}
 use Rattle.csvw_rows.specs.declared.dialect.Dialect.{Dialect}
 use Rattle.csvw_rows.specs.declared.stop.RowStop.{RowStop}
 use Rattle.csvw_rows.specs.declared.stop.RowStop.TheVariants.{Memory, NotUtf8, RowTooLong, BadQuote, TextAfterQuote, UnclosedQuote, TooManyRows}
@@ -58,3 +58,8 @@ abbrev pub NextGives : After → Dialect → ℕ → ℕ → List ℕ → Result
 NextGives after d max i text (Ok (next.Row len values)) = TakesRow (is_last after) d max i text len (option_map (λ v. map (trimmed d.trim) v.items) values)
 NextGives after d max i text (Ok next.Waits) = (after ≢ NoText) × Goes d max i text × NoRow d max i text × (after ≡ Nothing → text ≡ [])
 NextGives after d max i text (Err stop) = StopGives after d max i text stop
+
+-- a row is complete at the front
+abbrev pub IsRowThere : Dialect → ℕ → ℕ → List ℕ → Next → Type 0
+IsRowThere d max i text (next.Row len values) = TakesRow false d max i text len (option_map (λ v. map (trimmed d.trim) v.items) values)
+IsRowThere d max i text next.Waits = ⊥

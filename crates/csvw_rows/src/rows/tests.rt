@@ -6,6 +6,7 @@ mod compared;
 
 use super::*;
 use crate::dialect::{BadDialect, LineTerminators, Trim};
+use csvw_text::Text;
 use std::fmt::Write;
 use std::process::Abort;
 use std::test::Fail;
