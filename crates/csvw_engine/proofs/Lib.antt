@@ -1,2 +1,7 @@
+pub mod Converting
 pub mod Dialects
-pub mod Taken
+pub mod Draining
+pub mod Flushing
+pub mod Lists
+pub mod Pieces
+pub mod Tables

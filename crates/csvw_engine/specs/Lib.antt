@@ -1,3 +1,4 @@
 pub mod Halts
 pub mod Outcome
+pub mod Plain
 pub mod Tables

@@ -1,5 +1,8 @@
 //! Why the reading of one table stops.
 
+ghost use Rattle.std.specs.Prelude.{◌≡◌};
+ghost use Rattle.csvw_engine.specs.Halts.{of_table, of_row_stop, of_table_stop};
+
 use crate::stop::Stop;
 use csvw_columns::TableStop;
 use csvw_rows::RowStop;
@@ -18,7 +21,9 @@ pub(crate) enum Halt {
 
 impl Halt {
     /// The stop of a run, by the table's number.
-    pub(crate) fn of_table(self, table: u32) -> Stop {
+    pub(crate) fn of_table(self, table: u32) -> Stop
+        ensures { result ≡ of_table table self }
+    {
         match self {
             Halt::Memory => Stop::Memory,
             Halt::Read => Stop::Read,
@@ -29,7 +34,9 @@ impl Halt {
     }
 
     /// A stop of the records in this row; `Memory` is told as such.
-    pub(crate) fn of_row_stop(row: u64, stop: RowStop) -> Halt {
+    pub(crate) fn of_row_stop(row: u64, stop: RowStop) -> Halt
+        ensures { result ≡ of_row_stop row stop }
+    {
         match stop {
             RowStop::Memory => Halt::Memory,
             other => Halt::Rows(row, other),
@@ -37,7 +44,9 @@ impl Halt {
     }
 
     /// A stop of the table in this row; `Memory` is told as such.
-    pub(crate) fn of_table_stop(row: u64, stop: TableStop) -> Halt {
+    pub(crate) fn of_table_stop(row: u64, stop: TableStop) -> Halt
+        ensures { result ≡ of_table_stop row stop }
+    {
         match stop {
             TableStop::Memory => Halt::Memory,
             other => Halt::Table(row, other),

@@ -1,7 +1,9 @@
 //! A table, read to its end.
-ghost use Rattle.std.specs.Prelude.{◌≡◌, false};
+ghost use Rattle.std.specs.Prelude.{◌≡◌, [], false, IfOk, length};
+ghost use Rattle.csvw_rows.specs.declared.dialect.Dialect.{Dialect as TheDialect};
 ghost use Rattle.csvw_rows.specs.RowsState.{is_ended_of};
-ghost use Rattle.csvw_engine.specs.Tables.{Takes};
+ghost use Rattle.csvw_text.specs.Counted.{inner_of, failures_of};
+ghost use Rattle.csvw_engine.specs.Tables.{IsSameTable, Stands, Reads};
 
 use crate::halt::Halt;
 use crate::table::{Table, end_table, feed_table};
@@ -16,8 +18,10 @@ const MAX_READS: u64 = 1_099_511_627_776;
 /// How many bytes one read takes at most.
 const PIECE: usize = 65_536;
 
-fn piece_buffer(alloc: Global) -> Result<Vec<u8>, AllocError> {
-    vec![in alloc; 0u8; PIECE]
+fn buffer_of(alloc: Global, len: usize) -> Result<Vec<u8>, AllocError>
+    ensures { IfOk result (λ v. length v.items ≡ len) }
+{
+    vec![in alloc; 0u8; len]
 }
 
 /// Reads a table to its end, and gives each row as soon as it is complete.
@@ -28,17 +32,19 @@ pub(crate) fn read_table<R: Read, S: TripleSink>(
     sink: &mut S,
 ) -> Result<(), Halt>
     requires { is_ended_of table.old.rows ≡ false }
-    ensures { Takes S.gains sink.old sink.new }
+    ensures same { IsSameTable table.old table.new }
+    ensures reads { (d : TheDialect) (start : S) → Stands S.gains S.is_open S.failed d start table.old [] false sink.old → Reads S.gains S.is_open S.failed d (R.remaining (inner_of input.old)) (R.remaining (inner_of input.new)) (failures_of input.old) (failures_of input.new) start table.new sink.new result }
 {
-    let mut buffer = piece_buffer(alloc)?;
-    for _ in 0..MAX_READS {
-        let Ok(n) = input.read(buffer.as_mut_slice()) else {
+    let mut buffer = buffer_of(alloc, PIECE)?;
+    let piece = buffer.as_mut_slice();
+    for _reads in 0..MAX_READS {
+        let Ok(n) = input.read(piece) else {
             return Err(Halt::Read);
         };
         if n == 0 {
             return end_table(alloc, table, sink);
         }
-        feed_table(alloc, table, &buffer[..n], sink)?;
+        feed_table(alloc, table, &piece[..n], sink)?;
     }
     Err(Halt::Read)
 }

@@ -1,5 +1,11 @@
 //! Whole runs.
-ghost use Rattle.std.specs.Prelude.{◌≡◌, OnOk};
+ghost use Rattle.std.specs.Prelude.{◌≡◌, [], None, Ok, IfOk, IfErr};
+ghost use Rattle.std.specs.Io.KnownBytes.{Keeps};
+ghost use Rattle.csvw_text.specs.Count.{after_call};
+ghost use Rattle.csvw_text.specs.Counted.{inner_of, failures_of};
+ghost use Rattle.csvw_iri.specs.Link.{base_of};
+ghost use Rattle.csvw_engine.specs.declared.stop.Stop.TheVariants as stop;
+ghost use Rattle.csvw_engine.specs.Plain.{run_of, AtUrl, Converts, IsUrlStop, PlainStops, Runs, TellsCode};
 
 use crate::halt::Halt;
 use crate::meta_fault::{MetaCode, MetaFault};
@@ -8,19 +14,26 @@ use crate::reading::read_table;
 use crate::stop::Stop;
 use crate::table::Table;
 use csvw_iri::{Base, IriFault};
-use csvw_ntriples::NtSink;
+use csvw_ntriples::{NtSink, labels_name_one_to_one, written_denotes};
+use csvw_rows::laws::{given_begin, given_begin_later, nothing_given};
 use csvw_text::{Counted, Seq, Text};
+use csvw_triples::rows_triples_are_minimal;
 use std::alloc::Global;
 use std::io::{Read, Write};
 
-fn url_fault(alloc: Global, code: MetaCode) -> Stop {
+fn url_fault(alloc: Global, code: MetaCode) -> Stop
+    ensures { TellsCode code result }
+{
     match Text::copied(alloc, "/url") {
         Ok(pointer) => Stop::Meta(MetaFault { code, pointer }),
         Err(_) => Stop::Memory,
     }
 }
 
-fn table_url(alloc: Global, url: &str) -> Result<Base, Stop> {
+fn table_url(alloc: Global, url: &str) -> Result<Base, Stop>
+    ensures url { IfOk result (λ base. base_of None url.now ≡ Ok base) }
+    ensures stop { IfErr result (λ reason. IsUrlStop (base_of None url.now) reason) }
+{
     match Base::new(alloc, url) {
         Ok(base) => Ok(base),
         Err(IriFault::Memory) => Err(Stop::Memory),
@@ -29,10 +42,41 @@ fn table_url(alloc: Global, url: &str) -> Result<Base, Stop> {
     }
 }
 
-fn flush<W: Write>(w: &mut Counted<W>) -> Result<(), Stop> {
+fn flush<W: Write>(w: &mut Counted<W>) -> Result<(), Stop>
+    ensures keeps { Keeps (W.contents (inner_of w.old)) (W.contents (inner_of w.new)) }
+    ensures count { failures_of w.new ≡ after_call result (failures_of w.old) }
+    ensures write { IfErr result (λ reason. reason ≡ stop.Write) }
+{
     match w.flush() {
         Ok(()) => Ok(()),
         Err(_) => Err(Stop::Write),
+    }
+}
+
+/// Reads table 1 to its end and writes its graph.
+fn convert<R: Read, W: Write>(
+    alloc: Global,
+    url: Base,
+    input: &mut Counted<R>,
+    out: &mut Counted<W>,
+) -> Result<(), Stop>
+    ensures { Runs url (run_of R.remaining W.contents input.old input.new out.old out.new) result }
+{
+    written_denotes();
+    labels_name_one_to_one();
+    rows_triples_are_minimal();
+    given_begin();
+    given_begin_later();
+    nothing_given();
+    let Ok(mut table) = Table::new(alloc, 1, url) else {
+        return Err(Stop::Memory);
+    };
+    let mut sink = NtSink::new(alloc, out);
+    let read = read_table(alloc, &mut table, input, &mut sink);
+    let _ = sink.into_inner();
+    match read {
+        Ok(()) => Ok(()),
+        Err(halt) => Err(halt.of_table(1)),
     }
 }
 
@@ -49,20 +93,20 @@ pub fn plain<R: Read, W: Write, V: Write>(
     input: &mut Counted<R>,
     out: &mut Counted<W>,
     report: &mut Counted<V>,
-) -> Result<Outcome, Stop> {
+) -> Result<Outcome, Stop>
+    ensures converts { IfOk result (λ outcome. AtUrl url.now (λ base. Converts base (run_of R.remaining W.contents input.old input.new out.old out.new))) }
+    ensures faults { IfOk result (λ outcome. outcome.faults ≡ []) }
+    ensures stops { IfErr result (λ reason. PlainStops url.now (run_of R.remaining W.contents input.old input.new out.old out.new) (failures_of report.old) (failures_of report.new) reason) }
+    ensures report { Keeps (V.contents (inner_of report.old)) (V.contents (inner_of report.new)) }
+{
     let url = table_url(alloc, url)?;
-    let Ok(mut table) = Table::new(alloc, 1, url) else {
-        return Err(Stop::Memory);
-    };
-    let mut sink = NtSink::new(alloc, out);
-    match read_table(alloc, &mut table, input, &mut sink) {
-        Ok(()) => {}
-        Err(halt) => return Err(halt.of_table(1)),
-    }
-    let out = sink.into_inner();
+    convert(alloc, url, input, out)?;
     flush(out)?;
     flush(report)?;
     Ok(Outcome {
         faults: Seq::new(alloc),
     })
 }
+
+#[cfg(test)]
+mod tests;

@@ -1,7 +1,14 @@
 //! The state of one table, and how a piece of its text goes on to the sink.
-ghost use Rattle.std.specs.Prelude.{◌≡◌, true, false};
+ghost use Rattle.std.specs.Prelude.{◌≡◌, ◌++◌, ◌∷◌, ℕ, List, [], Bool, true, false, IfOk, IfErr, Some, None, Ok};
+ghost use Rattle.csvw_rows.specs.declared.dialect.Dialect.{Dialect as TheDialect};
+ghost use Rattle.csvw_iri.specs.Link.{iri_of};
+ghost use Rattle.csvw_rows.specs.Lawful.{IsDefault};
+ghost use Rattle.csvw_rows.specs.RowValue.{row_of};
+ghost use Rattle.csvw_columns.specs.Columns.{header_gives};
+ghost use Rattle.csvw_annotate.specs.Annotated.{annotated};
+ghost use Rattle.csvw_engine.specs.Halts.{HaltsAt};
 ghost use Rattle.csvw_rows.specs.RowsState.{is_ended_of};
-ghost use Rattle.csvw_engine.specs.Tables.{Steps, RowFits, Takes};
+ghost use Rattle.csvw_engine.specs.Tables.{TableHolds, Steps, RowFits, IsSameTable, table_triples, GivesRow, Stands, Drains};
 
 use crate::halt::Halt;
 use csvw_annotate::{Row, annotate};
@@ -34,7 +41,9 @@ pub(crate) enum Step {
 impl Table {
     /// A table of this number, from 1, and URL, with the default dialect, of whose text nothing was read.
     pub(crate) fn new(alloc: Global, number: u32, url: Base) -> Result<Table, AllocError>
-        ensures { Rattle.std.specs.Prelude.IfOk result (λ t. is_ended_of t.rows ≡ false) }
+        ensures open { IfOk result (λ t. is_ended_of t.rows ≡ false) }
+        ensures own { IfOk result (λ t. (t.number ≡ number) × (t.url ≡ url)) }
+        ensures holds { IfOk result (λ t. (d : TheDialect) × IsDefault d × TableHolds d t [] false []) }
     {
         let dialect = Dialect::new(alloc)?;
         Ok(Table {
@@ -46,7 +55,9 @@ impl Table {
     }
 }
 
-fn header_row(alloc: Global, raw: &RawRow) -> Result<HeaderRow, AllocError> {
+fn header_row(alloc: Global, raw: &RawRow) -> Result<HeaderRow, AllocError>
+    ensures { IfOk result (λ h. (h.source ≡ (row_of raw.now).source) × (h.cells ≡ (row_of raw.now).fields)) }
+{
     let mut cells = Vec::new(alloc);
     for i in 0..raw.len() {
         cells.push(Text::copied(alloc, raw.field(i))?)?;
@@ -57,7 +68,10 @@ fn header_row(alloc: Global, raw: &RawRow) -> Result<HeaderRow, AllocError> {
     })
 }
 
-fn columns_of(alloc: Global, url: &Base, raw: &RawRow) -> Result<Columns, Halt> {
+fn columns_of(alloc: Global, url: &Base, raw: &RawRow) -> Result<Columns, Halt>
+    ensures columns { IfOk result (λ c. header_gives (iri_of url.now) (row_of raw.now).fields ≡ Ok c) }
+    ensures halt { IfErr result (λ halt. HaltsAt (header_gives (iri_of url.now) (row_of raw.now).fields) (row_of raw.now).source halt) }
+{
     let header = header_row(alloc, raw)?;
     match match_header(alloc, url, &header) {
         Ok(columns) => Ok(columns),
@@ -66,7 +80,9 @@ fn columns_of(alloc: Global, url: &Base, raw: &RawRow) -> Result<Columns, Halt> 
 }
 
 fn row_of(alloc: Global, columns: &Columns, raw: &RawRow) -> Result<Row, Halt>
-    ensures { Rattle.std.specs.Prelude.IfOk result (λ row. RowFits (Rattle.std.specs.Prelude.Some columns.now) row) }
+    ensures row { IfOk result (λ row. annotated columns.now (row_of raw.now) ≡ Ok row) }
+    ensures fits { IfOk result (λ row. RowFits (Some columns.now) row) }
+    ensures halt { IfErr result (λ halt. HaltsAt (annotated columns.now (row_of raw.now)) (row_of raw.now).source halt) }
 {
     match annotate(alloc, columns, raw) {
         Ok(row) => Ok(row),
@@ -94,7 +110,7 @@ pub(crate) fn next_row(alloc: Global, table: &mut Table) -> Result<Step, Halt>
 /// Puts the triples of a row.
 fn give<S: TripleSink>(alloc: Global, table: &Table, row: &Row, sink: &mut S) -> Result<(), Halt>
     requires { RowFits table.now.columns row.now }
-    ensures { Takes S.gains sink.old sink.new }
+    ensures { GivesRow S.gains S.is_open S.failed (table_triples table.now.number table.now.columns (row.now ∷ [])) sink.old sink.new result }
 {
     match &table.columns {
         Some(columns) => {
@@ -107,8 +123,9 @@ fn give<S: TripleSink>(alloc: Global, table: &Table, row: &Row, sink: &mut S) ->
 
 /// Gives each row that is complete.
 fn drain<S: TripleSink>(alloc: Global, table: &mut Table, sink: &mut S) -> Result<(), Halt>
-    ensures taken { Takes S.gains sink.old sink.new }
+    ensures same { IsSameTable table.old table.new }
     ensures ended { is_ended_of table.new.rows ≡ is_ended_of table.old.rows }
+    ensures drains { (d : TheDialect) (bytes : List ℕ) (ended : Bool) (start : S) → Stands S.gains S.is_open S.failed d start table.old bytes ended sink.old → Drains S.gains S.is_open S.failed d bytes ended start table.new sink.new result }
 {
     loop {
         match next_row(alloc, table)? {
@@ -127,8 +144,9 @@ pub(crate) fn feed_table<S: TripleSink>(
     sink: &mut S,
 ) -> Result<(), Halt>
     requires { is_ended_of table.old.rows ≡ false }
-    ensures taken { Takes S.gains sink.old sink.new }
+    ensures same { IsSameTable table.old table.new }
     ensures ended { is_ended_of table.new.rows ≡ false }
+    ensures drains { (d : TheDialect) (bytes : List ℕ) (start : S) → Stands S.gains S.is_open S.failed d start table.old bytes false sink.old → Drains S.gains S.is_open S.failed d (bytes ++ piece.now) false start table.new sink.new result }
 {
     match table.rows.feed(piece) {
         Ok(()) => drain(alloc, table, sink),
@@ -143,7 +161,8 @@ pub(crate) fn end_table<S: TripleSink>(
     sink: &mut S,
 ) -> Result<(), Halt>
     requires { is_ended_of table.old.rows ≡ false }
-    ensures { Takes S.gains sink.old sink.new }
+    ensures same { IsSameTable table.old table.new }
+    ensures drains { (d : TheDialect) (bytes : List ℕ) (start : S) → Stands S.gains S.is_open S.failed d start table.old bytes false sink.old → Drains S.gains S.is_open S.failed d bytes true start table.new sink.new result }
 {
     match table.rows.end() {
         Ok(()) => drain(alloc, table, sink),

@@ -212,7 +212,7 @@ starts_split (p ∷ ps) (c ∷ cs) h = joined (starts_split ps cs) (both (nat_eq
     joined : (starts_with nat_eq ps cs ≡ true → (tail : List ℕ) × (ps ≡ cs ++ tail)) → (nat_eq c p ≡ true) × (starts_with nat_eq ps cs ≡ true) → (tail : List ℕ) × (p ∷ ps ≡ c ∷ cs ++ tail)
     joined ih (e, f) = let t = ih f in (t.0, ap (λ x. x ∷ ps) (sym (same c p e)) ∙ ap (λ l. c ∷ l) t.1)
 
-starts_itself : (prefix : List ℕ) → starts_with nat_eq prefix prefix ≡ true
+pub starts_itself : (prefix : List ℕ) → starts_with nat_eq prefix prefix ≡ true
 starts_itself [] = refl
 starts_itself (p ∷ ps) = let e : nat_eq p p ≡ true = grind (arith, nat_tests) in ap (λ b. b && starts_with nat_eq ps ps) e ∙ starts_itself ps
 

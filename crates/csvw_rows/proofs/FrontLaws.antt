@@ -1,21 +1,16 @@
 -- One list of rows, and fronts that grow.
-use Rattle.std.proofs.Common.{◌≡◌, ◌≢◌, ℕ, zero, suc, ◌+◌, ◌<◌, ◌≤◌, Bool, true, false, List, [], ◌∷◌, ◌++◌, length, map, take, drop, refl, sym, ap, ◌∙◌, subst, arith, append_assoc, append-nil, length-append, ◌⊎◌, inl, inr, zero-add}
-use Rattle.std.proofs.lemmas.Grind.{common_steps}
+use Rattle.std.proofs.Common.{◌≡◌, ℕ, zero, suc, ◌+◌, ◌<◌, ◌≤◌, Bool, true, false, List, [], ◌∷◌, ◌++◌, length, map, take, refl, sym, ap, ◌∙◌, subst, arith, append_assoc, append-nil, length-append, ◌⊎◌, inl, inr}
 use Rattle.std.proofs.lemmas.Bool.{cases_lt}
 use Rattle.std.specs.List.{enumerate_from}
 use Rattle.csvw_rows.specs.declared.dialect.Dialect.{Dialect}
-use Rattle.csvw_rows.specs.declared.rows.Rows.{Rows}
-use Rattle.csvw_rows.specs.Grammar.{terminator_len}
 use Rattle.csvw_rows.specs.Lawful.{IsLawful}
-use Rattle.csvw_rows.specs.Files.{Row, IsRow, AreRows, AreAllRows, EndsOpen, KeepsLimits, BeginsWithRows, IsLongest, File, Front, Body, given, remaining, content, text_of, is_text, without_mark}
+use Rattle.csvw_rows.specs.Files.{Row, IsRow, AreRows, AreAllRows, EndsOpen, KeepsLimits, Front, Body, given, remaining, content, is_text, without_mark}
 use Rattle.csvw_rows.specs.SourceState.{rest_of}
 use Rattle.csvw_rows.specs.RowValue.{Given}
-use Rattle.csvw_rows.specs.Stops.{Begins, StopsAt}
-use Rattle.csvw_rows.specs.RowsState.{Holds, HasRead}
-use Rattle.csvw_rows.specs.Laws.{HaveOneList, FrontsGrow, StopsPart, GivenBegin, NothingGiven}
+use Rattle.csvw_rows.specs.Stops.{Begins}
+use Rattle.csvw_rows.specs.Laws.{HaveOneList, FrontsGrow, StopsPart, GivenBegin, GivenBeginLater, NothingGiven}
 use Rattle.csvw_rows.proofs.RowLaws.{row_unique, rows_prefix}
-use Rattle.csvw_rows.proofs.Complete.{nothing_ends}
-use Rattle.csvw_rows.proofs.Lookahead.{Again, rows_again}
+use Rattle.csvw_rows.proofs.Lookahead.{rows_again}
 use Rattle.csvw_rows.proofs.Stands.{no_more, no_row_in_last, begins_front}
 use Rattle.csvw_rows.proofs.Bodies.{Body_append}
 use Rattle.csvw_rows.proofs.Utf8.{content_more, text_none}
@@ -89,17 +84,22 @@ begins_front_of d max bytes ended rows front rest w k are (inl (e, f)) = by_file
 begins_front_of d max bytes ended rows front rest w k are (inr (n, longest)) =
     let m = rows_prefix d 0 (content bytes) rows front rest longest.0.rest w are longest.0.are_rows (longest.1 rows (record { rest = rest; are_rows = are; limits = k })) in (m.0, m.1)
 
+-- and the front of all that the bytes go on to
+begins_later_front : (d : Dialect) (max : ℕ) (bytes more : List ℕ) (ended : Bool) (rows later : List Row) (rest : List ℕ) → IsLawful d → KeepsLimits max rows → AreRows d 0 (content bytes) rows rest
+    → Front d max (bytes ++ more) ended later → Begun rows later
+begins_later_front d max bytes more ended rows later rest w k are g =
+    let a = rows_again d 0 (content bytes) rows rest are in
+    let c = content_more bytes more in
+    let joined : content (bytes ++ more) ≡ a.front ++ (rest ++ c.0) = c.1 ∙ ap (λ l. l ++ c.0) a.spelled ∙ append_assoc a.front rest c.0 in
+    begins_front_of d max (bytes ++ more) ended rows later (rest ++ c.0) w k
+    (subst (λ (l : List ℕ). AreRows d 0 l rows (rest ++ c.0)) (sym joined) (a.again (rest ++ c.0))) g
+
 pub fronts_grow : FrontsGrow
 fronts_grow d max bytes more ended front later w f g = by_front f
   where
     by_front : Front d max bytes false front → (rest : List Row) × (later ≡ front ++ rest)
     by_front (inl (e, x)) = absurd cc
-    by_front (inr (n, longest)) =
-        let a = rows_again d 0 (content bytes) front longest.0.rest longest.0.are_rows in
-        let c = content_more bytes more in
-        let joined : content (bytes ++ more) ≡ a.front ++ (longest.0.rest ++ c.0) = c.1 ∙ ap (λ l. l ++ c.0) a.spelled ∙ append_assoc a.front longest.0.rest c.0 in
-        begins_front_of d max (bytes ++ more) ended front later (longest.0.rest ++ c.0) w longest.0.limits
-        (subst (λ (l : List ℕ). AreRows d 0 l front (longest.0.rest ++ c.0)) (sym joined) (a.again (longest.0.rest ++ c.0))) g
+    by_front (inr (n, longest)) = begins_later_front d max bytes more ended front later longest.0.rest w longest.0.limits longest.0.are_rows g
 
 take_take : (m n : ℕ) (l : List ℕ) → m ≤ n → take m (take n l) ≡ take m l
 take_take zero n l h = refl
@@ -129,6 +129,20 @@ given_begin s d max bytes ended before front h f = told (body_begun d h.rows fro
         by_front (inr (n, longest)) = absurd (n e h.rows (record { is_utf8 = t; are_rows = inr o; limits = h.read.limits }))
 
     told : (rest : List Given) × (Body d front ≡ Body d h.rows ++ rest) → (rest : List Given) × (Body d front ≡ before ++ rest)
+    told (rest, e) = (rest, e ∙ ap (λ l. l ++ rest) (sym h.given_is))
+
+pub given_begin_later : GivenBeginLater
+given_begin_later s d max bytes more ended before later h g = told (body_begun d h.rows later (by_reached h.read.reached))
+  where
+    w : IsLawful d
+    w = subst IsLawful h.dialect s.rules.lawful
+
+    by_reached : AreRows d 0 (content bytes) h.rows (rest_of s.source) ⊎ ((false ≡ true) × (is_text bytes ≡ true) × EndsOpen d (content bytes) h.rows
+        × (rest_of s.source ≡ []) × Begins d max (content bytes)) → Begun h.rows later
+    by_reached (inl are) = begins_later_front d max bytes more ended h.rows later (rest_of s.source) w h.read.limits are g
+    by_reached (inr (e, t, o, z, b)) = absurd cc
+
+    told : (rest : List Given) × (Body d later ≡ Body d h.rows ++ rest) → (rest : List Given) × (Body d later ≡ before ++ rest)
     told (rest, e) = (rest, e ∙ ap (λ l. l ++ rest) (sym h.given_is))
 
 pub nothing_given : NothingGiven

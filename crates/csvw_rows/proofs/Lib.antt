@@ -1,3 +1,4 @@
+pub mod Ascii
 pub mod ByteLens
 pub mod RunSteps
 pub mod Complete
@@ -19,5 +20,13 @@ pub mod Readings
 pub mod Bodies
 pub mod States
 pub mod FrontLaws
+pub mod BoundLemmas
+pub mod DecodeSteps
+pub mod SourceSteps
+pub mod Windows
+pub mod RowSteps
+pub mod CutLemmas
+pub mod CutTakes
+pub mod RowCuts
 pub mod FieldLemmas
 pub mod DecodeLemmas

@@ -43,26 +43,26 @@ pub record Term (d : Dialect) (after : List ℕ) : Type 0 where
   pub spelled : after ≡ first ∷ others ++ rest
   pub again : (more : List ℕ) → terminator_len d (first ∷ others ++ more) ≡ length (first ∷ others)
 
-one_end : (crlf lf a b x y : Bool) → 0 < (if crlf && (a && x) then 2 else (if lf && (b && true) then 1 else 0)) → (crlf && (a && x)) ≡ false → (lf ≡ true) × (b ≡ true)
+pub one_end : (crlf lf a b x y : Bool) → 0 < (if crlf && (a && x) then 2 else (if lf && (b && true) then 1 else 0)) → (crlf && (a && x)) ≡ false → (lf ≡ true) × (b ≡ true)
 one_end crlf lf a b x y h e = (grind (arith, nat_tests), grind (arith, nat_tests))
 
-is_char : (a c : ℕ) → nat_eq a c ≡ true → c ≡ a
+pub is_char : (a c : ℕ) → nat_eq a c ≡ true → c ≡ a
 is_char a c e = grind (arith, nat_tests)
 
-lf_again : (d : Dialect) (more : List ℕ) → d.line_terminators.lf ≡ true → terminator_len d (10 ∷ more) ≡ 1
+pub lf_again : (d : Dialect) (more : List ℕ) → d.line_terminators.lf ≡ true → terminator_len d (10 ∷ more) ≡ 1
 lf_again d more e = tests d.line_terminators.crlf d.line_terminators.lf e
   where
     tests : (crlf lf : Bool) → lf ≡ true → ◌≡◌ {A = ℕ} (if crlf && false then 2 else (if lf && true then 1 else 0)) 1
     tests true lf e = rw e refl
     tests false lf e = rw e refl
 
-crlf_again : (d : Dialect) (more : List ℕ) → d.line_terminators.crlf ≡ true → terminator_len d (13 ∷ 10 ∷ more) ≡ 2
+pub crlf_again : (d : Dialect) (more : List ℕ) → d.line_terminators.crlf ≡ true → terminator_len d (13 ∷ 10 ∷ more) ≡ 2
 crlf_again d more e = rw e refl
 
 lf_term : (d : Dialect) (c : ℕ) (cs : List ℕ) → (d.line_terminators.lf ≡ true) × (nat_eq 10 c ≡ true) → Term d (c ∷ cs)
 lf_term d c cs (l, e) = record { first = 10; others = []; rest = cs; spelled = ap (λ x. x ∷ cs) (is_char 10 c e); again = λ more. lf_again d more l }
 
-and_three : (a b c : Bool) → (a && (b && (c && true))) ≡ true → (a ≡ true) × (b ≡ true) × (c ≡ true)
+pub and_three : (a b c : Bool) → (a && (b && (c && true))) ≡ true → (a ≡ true) × (b ≡ true) × (c ≡ true)
 and_three true true true h = (refl, refl, refl)
 and_three true true false h = absurd cc
 and_three true false c h = absurd cc

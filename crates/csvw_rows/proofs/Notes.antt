@@ -53,7 +53,7 @@ pub note_same : (d : Dialect) (i : ℕ) (row after : List ℕ) → IsLawful d �
 note_same d i row after w b = ap (λ x. nat_lt i d.skip_rows || x) (begins_same (prefix_of d) row after w.prefix b)
 
 -- a comment stays one
-starts_stays : (prefix text more : List ℕ) → starts_with nat_eq text prefix ≡ true → starts_with nat_eq (text ++ more) prefix ≡ true
+pub starts_stays : (prefix text more : List ℕ) → starts_with nat_eq text prefix ≡ true → starts_with nat_eq (text ++ more) prefix ≡ true
 starts_stays [] text more h = refl
 starts_stays (p ∷ ps) [] more h = absurd cc
 starts_stays (p ∷ ps) (c ∷ cs) more h = both (nat_eq p c) _ _ h (starts_stays ps cs more)

@@ -14,7 +14,7 @@ use Rattle.csvw_rows.specs.declared.next.After.TheVariants.{More, Nothing, NoTex
 use Rattle.csvw_rows.specs.Grammar.{terminator_len}
 use Rattle.csvw_rows.specs.Lawful.{IsLawful}
 use Rattle.csvw_rows.specs.Lengths.{byte_len, row_limit}
-use Rattle.csvw_rows.specs.Files.{Row, IsRow, AreRows, AreAllRows, EndsOpen, KeepsLimits, File, Front, content, is_text}
+use Rattle.csvw_rows.specs.Files.{Row, IsRow, AreRows, AreAllRows, EndsOpen, KeepsLimits, File, IsWhole, Front, content, is_text}
 use Rattle.csvw_rows.specs.Parts.{Goes, NoRow, NoLast, FirstEnd}
 use Rattle.csvw_rows.specs.Stops.{Begins, StopOf, StopsInText, StopsInBytes, StopsAtEnd, IsNamed}
 use Rattle.csvw_rows.specs.Nexts.{is_last, TakesRow, StandsThere, StopsHere, StopGives}
@@ -78,13 +78,14 @@ takes_reads d max bytes ended whole rest rows len i fields w known h place t = r
 pub record Done (d : Dialect) (max : ℕ) (bytes : List ℕ) (ended : Bool) (rows : List Row) : Type 0 where
   pub is_front : Front d max bytes ended rows
   pub none : (stop : RowStop) (row : ℕ) → StopOf d max bytes ended stop row → ⊥
+  pub whole : ended ≡ true → IsWhole d max bytes
 
 not_some : (o : Option ℕ) → is_some o ≡ false → IsSome o → ⊥
 not_some None e s = absurd cc
 not_some (Some x) e s = cc
 
 no_stop : (d : Dialect) (max : ℕ) (bytes : List ℕ) (ended : Bool) → Begins d max (content bytes) → (is_text bytes ≡ false → (ended ≡ false) × (is_some (utf8_error_len (drop (utf8_valid_len bytes) bytes)) ≡ false))
-    → (ended ≡ true → (rows : List Row) × File d max bytes rows) → (stop : RowStop) (row : ℕ) → StopOf d max bytes ended stop row → ⊥
+    → (ended ≡ true → IsWhole d max bytes) → (stop : RowStop) (row : ℕ) → StopOf d max bytes ended stop row → ⊥
 no_stop d max bytes ended b text file stop row s = by_place s.stands
   where
     by_place : StopsInText d max bytes s.front stop ⊎ (StopsInBytes d max bytes ended stop ⊎ StopsAtEnd d max bytes ended s.front stop) → ⊥
@@ -104,6 +105,9 @@ waits_done d max bytes ended rest rows w h g none at_end text = by_reached h.rea
     file_of : ended ≡ true → AreAllRows d (content bytes) rows → File d max bytes rows
     file_of e all = record { is_utf8 = (at_end e).0; are_rows = all; limits = h.limits }
 
+    whole_of : AreRows d 0 (content bytes) rows rest → ended ≡ true → IsWhole d max bytes
+    whole_of are e = (rows, file_of e (inl (subst (AreRows d 0 (content bytes) rows) (at_end e).1 are)))
+
     by_ended : (b : Bool) → ended ≡ b → AreRows d 0 (content bytes) rows rest → Front d max bytes ended rows
     by_ended true e are = inl (e, file_of e (inl (subst (AreRows d 0 (content bytes) rows) (at_end e).1 are)))
     by_ended false e are = inr ((λ t others f. let z = sym t ∙ e in absurd cc), are_longest d max (content bytes) rows rest w are h.limits none)
@@ -111,10 +115,11 @@ waits_done d max bytes ended rest rows w h g none at_end text = by_reached h.rea
     by_reached : AreRows d 0 (content bytes) rows rest ⊎ ((ended ≡ true) × (is_text bytes ≡ true) × EndsOpen d (content bytes) rows × (rest ≡ []) × Begins d max (content bytes)) → Done d max bytes ended rows
     by_reached (inl are) = record {
       is_front = by_ended ended refl are;
-      none = no_stop d max bytes ended (goes_on_begins d max (content bytes) rows rest w are h.limits g) text
-          (λ e. (rows, file_of e (inl (subst (AreRows d 0 (content bytes) rows) (at_end e).1 are))));
+      none = no_stop d max bytes ended (goes_on_begins d max (content bytes) rows rest w are h.limits g) text (whole_of are);
+      whole = whole_of are;
     }
-    by_reached (inr (a, b, o, e, k)) = record { is_front = inl (a, file_of a (inr o)); none = no_stop d max bytes ended k text (λ e. (rows, file_of e (inr o))) }
+    by_reached (inr (a, b, o, e, k)) = let whole : ended ≡ true → IsWhole d max bytes = λ e. (rows, file_of e (inr o)) in
+        record { is_front = inl (a, file_of a (inr o)); none = no_stop d max bytes ended k text whole; whole = whole }
 
 -- a stop
 pub record Stopped (d : Dialect) (max : ℕ) (bytes : List ℕ) (ended : Bool) (rows : List Row) (stop : RowStop) : Type 0 where

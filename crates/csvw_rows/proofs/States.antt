@@ -14,13 +14,13 @@ use Rattle.csvw_rows.specs.declared.next.After.{After}
 use Rattle.csvw_rows.specs.declared.next.After.TheVariants.{More, Nothing, NoText}
 use Rattle.csvw_rows.specs.declared.next.Next.TheVariants as next
 use Rattle.csvw_rows.specs.Lawful.{IsLawful}
-use Rattle.csvw_rows.specs.Files.{Row, AreRows, EndsOpen, content, is_text, Body, remaining, remaining_fields, text_of, without_mark, is_empty, given as given_row}
+use Rattle.csvw_rows.specs.Files.{Row, AreRows, EndsOpen, IsWhole, content, is_text, Body, remaining, remaining_fields, text_of, without_mark, is_empty, given as given_row}
 use Rattle.csvw_rows.specs.RowValue.{Given}
 use Rattle.csvw_rows.specs.Parts.{Goes, NoRow}
 use Rattle.csvw_rows.specs.Stops.{StopOf, Begins}
 use Rattle.csvw_rows.specs.Nexts.{is_last, StandsThere, TakesRow, StopsHere, StopGives, NextGives}
 use Rattle.csvw_rows.specs.SourceState.{Decodes, rest_of, is_bad_of, pending_of, begun_of, Pushes}
-use Rattle.csvw_rows.specs.RowsState.{Holds, HasRead, HasGiven, NoStop, Stays, IsDone, IsStopped, Passes, after_of, reading_of, last_of, Gives as RowGives}
+use Rattle.csvw_rows.specs.RowsState.{fields_of, Holds, HasRead, HasGiven, NoStop, Stays, IsDone, IsStopped, Passes, after_of, reading_of, last_of, Gives as RowGives}
 use Rattle.csvw_rows.specs.Grammar.{trimmed}
 use Rattle.csvw_rows.proofs.Bodies.{none_given, one_given, texts_of, some_remain}
 use Rattle.csvw_rows.proofs.Texts.{IsShort}
@@ -99,7 +99,7 @@ module _ (s : Rows) (d : Dialect) (max : ℕ) (bytes : List ℕ) (ended : Bool) 
           (subst (λ (n : ℕ). StandsThere (is_last (after_of s)) s.rules.dialect n s.row (rest_of s.source) len r.row) h.max_is r.stands)
 
   -- nothing is complete
-  pub done : NextGives (after_of s) s.rules.dialect s.max_rows s.row (rest_of s.source) (Ok next.Waits) → HasGiven d max bytes ended given × NoStop d max bytes ended
+  pub done : NextGives (after_of s) s.rules.dialect s.max_rows s.row (rest_of s.source) (Ok next.Waits) → HasGiven d max bytes ended given × NoStop d max bytes ended × (ended ≡ true → IsWhole d max bytes)
   done (text, goes, none, last) =
       let a = after_text (is_bad_of s.source) s.ended (not (length (pending_of s.source) == 0)) text in
       let at_end : ended ≡ true → (is_text bytes ≡ true) × (rest_of s.source ≡ []) =
@@ -109,7 +109,7 @@ module _ (s : Rows) (d : Dialect) (max : ℕ) (bytes : List ℕ) (ended : Bool) 
       (subst (λ (n : ℕ). NoRow d max n (rest_of s.source)) h.row_is (subst (λ (n : ℕ). NoRow d n s.row (rest_of s.source)) h.max_is (subst (λ (x : Dialect). NoRow x s.max_rows s.row (rest_of s.source)) h.dialect none)))
       at_end
       (λ t. (open_of t at_end, sym h.decodes.bad ∙ a.0)) in
-      (record { front = h.rows; is_front = r.is_front; all = h.given_is }, r.none)
+      (record { front = h.rows; is_front = r.is_front; all = h.given_is }, r.none, r.whole)
     where
       by_ended : (b : Bool) → ended ≡ b → is_text bytes ≡ false → (ended ≡ true → (is_text bytes ≡ true) × (rest_of s.source ≡ [])) → b ≡ false
       by_ended false e t f = refl
@@ -222,7 +222,7 @@ note_stays s t len fields p kept r none d max bytes ended given h =
 
 -- a row that is given
 pub row_gives : (s t : Rows) (len : ℕ) (values : List (List ℕ)) → Passes s t len → t.remained ≡ s.remained + 1 → TakesRow (is_last (after_of s)) s.rules.dialect s.max_rows s.row (rest_of s.source) len (Some (map (trimmed s.rules.dialect.trim) values))
-    → t.fields.items ≡ map (λ x. encode_utf8_all (trimmed s.rules.dialect.trim x)) values → (s.rules.dialect.skip_blank_rows && list_all is_empty (map (trimmed s.rules.dialect.trim) values)) ≡ false → RowGives s t (last_of t)
+    → fields_of t ≡ map (λ x. encode_utf8_all (trimmed s.rules.dialect.trim x)) values → (s.rules.dialect.skip_blank_rows && list_all is_empty (map (trimmed s.rules.dialect.trim) values)) ≡ false → RowGives s t (last_of t)
 row_gives s t len values p more r texts full d max bytes ended given h =
     let fields = map (trimmed s.rules.dialect.trim) values in
     let n = 1 + length h.rows in
@@ -231,14 +231,14 @@ row_gives s t len values p more r texts full d max bytes ended given h =
     let source : n ≡ t.row = (let e = h.row_is in let f = p.row in omega (arith, e, f)) in
     let rules : t.rules.dialect ≡ d = ap (λ x. x.dialect) p.rules ∙ h.dialect in
     let count : length (remaining d 1 h.rows) + 1 ≡ t.remained = (let e = h.remained_is in omega (arith, e, more)) in
-    let shown : map encode_utf8_all (drop d.skip_columns fields) ≡ drop t.rules.dialect.skip_columns t.fields.items =
-    sym (texts_of s.rules.dialect.trim d.skip_columns values) ∙ ap (drop d.skip_columns) (sym texts) ∙ ap (λ (x : Dialect). drop x.skip_columns t.fields.items) (sym rules) in
+    let shown : map encode_utf8_all (drop d.skip_columns fields) ≡ drop t.rules.dialect.skip_columns (fields_of t) =
+    sym (texts_of s.rules.dialect.trim d.skip_columns values) ∙ ap (drop d.skip_columns) (sym texts) ∙ ap (λ (x : Dialect). drop x.skip_columns (fields_of t)) (sym rules) in
     let number : (length (remaining d 1 h.rows) + 1) - d.header_row_count ≡ t.remained - t.rules.dialect.header_row_count =
     ap (λ (k : ℕ). k - d.header_row_count) count ∙ ap (λ (x : Dialect). t.remained - x.header_row_count) (sym rules) in
     let same : given_row d (length (remaining d 1 h.rows), (n, fields)) ≡ last_of t =
     ap (λ (l : List (List ℕ)). record { fields = l; source = n; number = (length (remaining d 1 h.rows) + 1) - d.header_row_count }) shown
-    ∙ ap (λ (k : ℕ). record { fields = drop t.rules.dialect.skip_columns t.fields.items; source = k; number = (length (remaining d 1 h.rows) + 1) - d.header_row_count }) source
-    ∙ ap (λ (k : ℕ). record { fields = drop t.rules.dialect.skip_columns t.fields.items; source = t.row; number = k }) number in
+    ∙ ap (λ (k : ℕ). record { fields = drop t.rules.dialect.skip_columns (fields_of t); source = k; number = (length (remaining d 1 h.rows) + 1) - d.header_row_count }) source
+    ∙ ap (λ (k : ℕ). record { fields = drop t.rules.dialect.skip_columns (fields_of t); source = t.row; number = k }) number in
     passed s d max bytes ended given h t len (Some fields) p r (given ++ last_of t ∷ []) (sym (body.1 ∙ count))
     (ap (λ l. l ++ last_of t ∷ []) h.given_is ∙ ap (λ g. Body d h.rows ++ g ∷ []) (sym same) ∙ sym body.0)
 

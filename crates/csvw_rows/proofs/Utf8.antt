@@ -61,7 +61,7 @@ take_past : (front rest : List ℕ) (n : ℕ) → take (length front + n) (front
 take_past [] rest n = ap (λ k. take k rest) (let e : length (let e : List ℕ = [] in e) + n ≡ n = omega arith in e)
 take_past (x ∷ xs) rest n = ap (λ k. take k (x ∷ xs ++ rest)) (let e : length (x ∷ xs) + n ≡ suc (length xs + n) = omega arith in e) ∙ ap (λ l. x ∷ l) (take_past xs rest n)
 
-drop_past : (front rest : List ℕ) (n : ℕ) → drop (length front + n) (front ++ rest) ≡ drop n rest
+pub drop_past : (front rest : List ℕ) (n : ℕ) → drop (length front + n) (front ++ rest) ≡ drop n rest
 drop_past [] rest n = ap (λ k. drop k rest) (let e : length (let e : List ℕ = [] in e) + n ≡ n = omega arith in e)
 drop_past (x ∷ xs) rest n = ap (λ k. drop k (x ∷ xs ++ rest)) (let e : length (x ∷ xs) + n ≡ suc (length xs + n) = omega arith in e) ∙ drop_past xs rest n
 

@@ -84,6 +84,10 @@ pub record File (d : Dialect) (max : ℕ) (bytes : List ℕ) (rows : List Row) :
   pub are_rows : AreAllRows d (content bytes) rows
   pub limits : KeepsLimits max rows
 
+-- the bytes are a file of some rows
+abbrev pub IsWhole : Dialect → ℕ → List ℕ → Type 0
+IsWhole d max bytes = (rows : List Row) × File d max bytes rows
+
 -- the text begins with these rows, each with its terminator
 pub record BeginsWithRows (d : Dialect) (max : ℕ) (text : List ℕ) (rows : List Row) : Type 0 where
   pub rest : List ℕ

@@ -1,5 +1,5 @@
 -- Laws that bind the definitions.
-use Rattle.std.specs.Prelude.{◌≡◌, ℕ, ◌<◌, ◌≤◌, Bool, true, false, List, [], ◌++◌, length, take}
+use Rattle.std.specs.Prelude.{◌≡◌, ℕ, ◌<◌, ◌≤◌, Bool, false, List, [], ◌++◌, take}
 use Rattle.csvw_rows.specs.declared.dialect.Dialect.{Dialect}
 use Rattle.csvw_rows.specs.declared.rows.Rows.{Rows}
 use Rattle.csvw_rows.specs.Lawful.{IsLawful}
@@ -25,6 +25,11 @@ StopsPart = (d : Dialect) (max : ℕ) (text : List ℕ) (n : ℕ) → StopsAt d 
 abbrev pub GivenBegin : Type 0
 GivenBegin = (s : Rows) (d : Dialect) (max : ℕ) (bytes : List ℕ) (ended : Bool) (given : List Given) (front : List Row) → Holds s d max bytes ended given → Front d max bytes ended front
     → (rest : List Given) × (Body d front ≡ given ++ rest)
+
+-- the same of all that bytes go on to which haven't ended
+abbrev pub GivenBeginLater : Type 0
+GivenBeginLater = (s : Rows) (d : Dialect) (max : ℕ) (bytes more : List ℕ) (ended : Bool) (given : List Given) (later : List Row) → Holds s d max bytes false given → Front d max (bytes ++ more) ended later
+    → (rest : List Given) × (Body d later ≡ given ++ rest)
 
 -- of nothing read nothing was given
 abbrev pub NothingGiven : Type 0

@@ -1,3 +1,5 @@
+pub mod Bounds
+pub mod Cuts
 pub mod Grammar
 pub mod Scan
 pub mod Outcomes

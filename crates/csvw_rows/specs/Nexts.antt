@@ -58,3 +58,8 @@ abbrev pub NextGives : After → Dialect → ℕ → ℕ → List ℕ → Result
 NextGives after d max i text (Ok (next.Row len values)) = TakesRow (is_last after) d max i text len (option_map (λ v. map (trimmed d.trim) v.items) values)
 NextGives after d max i text (Ok next.Waits) = (after ≢ NoText) × Goes d max i text × NoRow d max i text × (after ≡ Nothing → text ≡ [])
 NextGives after d max i text (Err stop) = StopGives after d max i text stop
+
+-- a row is complete at the front
+abbrev pub IsRowThere : Dialect → ℕ → ℕ → List ℕ → Next → Type 0
+IsRowThere d max i text (next.Row len values) = TakesRow false d max i text len (option_map (λ v. map (trimmed d.trim) v.items) values)
+IsRowThere d max i text next.Waits = ⊥

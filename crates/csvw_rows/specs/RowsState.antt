@@ -1,5 +1,5 @@
 -- What a reader of rows stands for: all bytes so far, whether they ended, and the rows given.
-use Rattle.std.specs.Prelude.{◌≡◌, ◌≢◌, ◌⊎◌, ℕ, ◌+◌, ◌-◌, ◌<◌, Bool, true, false, not, ◌&&◌, ◌||◌, ◌==◌, if◌then◌else◌, List, [], ◌∷◌, ◌++◌, drop, length, Option, Some, None, Result, Ok, Err}
+use Rattle.std.specs.Prelude.{◌≡◌, ◌≢◌, ◌⊎◌, ℕ, ◌+◌, ◌-◌, ◌<◌, ◌≤◌, Bool, true, false, not, ◌&&◌, ◌||◌, ◌==◌, if◌then◌else◌, List, [], ◌∷◌, ◌++◌, drop, length, map, chars, encode_utf8_all, Option, Some, None, Result, Ok, Err}
 use Rattle.csvw_rows.specs.declared.dialect.Dialect.{Dialect}
 use Rattle.csvw_rows.specs.declared.rows.Rows.{Rows}
 use Rattle.csvw_rows.specs.declared.stop.RowStop.{RowStop}
@@ -8,10 +8,14 @@ use Rattle.csvw_rows.specs.declared.next.After.{After}
 use Rattle.csvw_rows.specs.declared.next.After.TheVariants.{More, Nothing, NoText}
 use Rattle.csvw_rows.specs.declared.next.Turn.{Turn}
 use Rattle.csvw_rows.specs.declared.next.Turn.TheVariants as turn
-use Rattle.csvw_rows.specs.Files.{Row, AreRows, EndsOpen, KeepsLimits, Front, Body, content, is_text, remaining}
+use Rattle.csvw_rows.specs.Bounds.{fields_at}
+use Rattle.csvw_rows.specs.Files.{Row, AreRows, EndsOpen, KeepsLimits, IsWhole, Front, Body, content, is_text, remaining}
 use Rattle.csvw_rows.specs.RowValue.{Given}
-use Rattle.csvw_rows.specs.SourceState.{rest_of, is_bad_of, pending_of, begun_of, Decodes}
+use Rattle.csvw_rows.specs.SourceState.{text_items, rest_bytes, rest_of, is_bad_of, pending_of, begun_of, Decodes}
+use Rattle.csvw_rows.specs.Grammar.{trimmed}
+use Rattle.csvw_rows.specs.Nexts.{TakesRow, is_last}
 use Rattle.csvw_rows.specs.Stops.{Begins, StopOf}
+use Rattle.std.specs.Str.{is_utf8}
 
 -- whether the text has ended
 abbrev pub is_ended_of : Rows → Bool
@@ -52,9 +56,13 @@ pub record Holds (s : Rows) (d : Dialect) (max : ℕ) (bytes : List ℕ) (ended 
   pub remained_is : s.remained ≡ length (remaining d 1 rows)
   pub given_is : given ≡ Body d rows
 
+-- the texts of the fields that were read last
+abbrev pub fields_of : Rows → List (List ℕ)
+fields_of s = fields_at (text_items s.source) s.spare.items s.fields.items
+
 -- the row that was read last
 abbrev pub last_of : Rows → Given
-last_of s = record { fields = drop s.rules.dialect.skip_columns s.fields.items; source = s.row; number = s.remained - s.rules.dialect.header_row_count }
+last_of s = record { fields = drop s.rules.dialect.skip_columns (fields_of s); source = s.row; number = s.remained - s.rules.dialect.header_row_count }
 
 -- all rows of the front were given
 pub record HasGiven (d : Dialect) (max : ℕ) (bytes : List ℕ) (ended : Bool) (given : List Given) : Type 0 where
@@ -73,10 +81,10 @@ Stays old new = (d : Dialect) (max : ℕ) (bytes : List ℕ) (ended : Bool) (giv
 abbrev pub Gives : Rows → Rows → Given → Type 0
 Gives old new row = (d : Dialect) (max : ℕ) (bytes : List ℕ) (ended : Bool) (given : List Given) → Holds old d max bytes ended given → Holds new d max bytes ended (given ++ row ∷ [])
 
--- all rows were given, and no stop stands
+-- all rows were given, no stop stands, and at the end the bytes are a file
 abbrev pub IsDone : Rows → Type 0
 IsDone old = (d : Dialect) (max : ℕ) (bytes : List ℕ) (ended : Bool) (given : List Given) → Holds old d max bytes ended given
-    → HasGiven d max bytes ended given × NoStop d max bytes ended
+    → HasGiven d max bytes ended given × NoStop d max bytes ended × (ended ≡ true → IsWhole d max bytes)
 
 -- all rows were given, and the stop stands behind them
 abbrev pub IsStopped : Rows → RowStop → ℕ → Type 0
@@ -111,7 +119,7 @@ Turns old new (Ok turn.Passed) = (is_ended_of new ≡ is_ended_of old) × (unrea
 Turns old new (Ok turn.Waits) = (is_ended_of new ≡ is_ended_of old) × Stays old new × IsDone old
 Turns old new (Err e) = (is_ended_of new ≡ is_ended_of old) × IsStopped old e (reading_of new)
 
--- some characters were taken, which are a row
+-- all but the text that isn't taken, the fields and how many rows remained stays, and one more row is read
 pub record Passes (old new : Rows) (len : ℕ) : Type 0 where
   pub rules : new.rules ≡ old.rules
   pub max_rows : new.max_rows ≡ old.max_rows
@@ -122,3 +130,31 @@ pub record Passes (old new : Rows) (len : ℕ) : Type 0 where
   pub pending : pending_of new.source ≡ pending_of old.source
   pub bad : is_bad_of new.source ≡ is_bad_of old.source
   pub row : new.row ≡ old.row + 1
+
+-- so many bytes are so many characters at the front
+pub record AreFront (s : Rows) (bytes len : ℕ) : Type 0 where
+  pub within : bytes ≤ length (rest_bytes s.source)
+  pub is_text : is_utf8 (drop bytes (rest_bytes s.source)) ≡ true
+  pub same : chars (drop bytes (rest_bytes s.source)) ≡ drop len (rest_of s.source)
+
+-- a row of so many bytes stands at the front, with these fields
+pub record HasRow (s : Rows) (bytes : ℕ) (fields : Option (List (List ℕ))) : Type 0 where
+  pub len : ℕ
+  pub front : AreFront s bytes len
+  pub takes : TakesRow (is_last (after_of s)) s.rules.dialect s.max_rows s.row (rest_of s.source) len fields
+
+-- the fields of a row at the front were found
+pub record HasFields (s : Rows) (bytes : ℕ) : Type 0 where
+  pub values : List (List ℕ)
+  pub row : HasRow s bytes (Some (map (trimmed s.rules.dialect.trim) values))
+  pub texts : fields_of s ≡ map (λ x. encode_utf8_all (trimmed s.rules.dialect.trim x)) values
+
+-- all but the fields stays
+pub record Refills (old new : Rows) : Type 0 where
+  pub rules : new.rules ≡ old.rules
+  pub max_rows : new.max_rows ≡ old.max_rows
+  pub ended : new.ended ≡ old.ended
+  pub stop : new.stop ≡ old.stop
+  pub source : new.source ≡ old.source
+  pub row : new.row ≡ old.row
+  pub remained : new.remained ≡ old.remained

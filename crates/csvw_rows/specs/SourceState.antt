@@ -1,12 +1,24 @@
--- What a source of characters holds.
-use Rattle.std.specs.Prelude.{◌≡◌, ℕ, Bool, not, List, ◌++◌, drop, is_some}
+-- What a source of text holds.
+use Rattle.std.specs.Prelude.{◌≡◌, ℕ, Bool, not, List, ◌++◌, drop, is_some, chars}
 use Rattle.std.specs.Str.Lossy.{utf8_valid_len, utf8_error_len}
 use Rattle.csvw_rows.specs.declared.source.Source.{Source}
 use Rattle.csvw_rows.specs.Files.{text_of, content, is_empty}
 
+-- the bytes that it keeps
+abbrev pub text_items : Source → List ℕ
+text_items s = s.text.items
+
+-- how many of them were taken
+abbrev pub taken_of : Source → ℕ
+taken_of s = s.taken
+
+-- the bytes that aren't taken
+abbrev pub rest_bytes : Source → List ℕ
+rest_bytes s = drop s.taken s.text.items
+
 -- the characters that aren't taken
 abbrev pub rest_of : Source → List ℕ
-rest_of s = drop s.taken s.text.items
+rest_of s = chars (rest_bytes s)
 
 -- whether the bytes are no UTF-8, whatever follows
 abbrev pub is_bad_of : Source → Bool

@@ -1,5 +1,6 @@
 //! The characters of bytes that come in pieces.
-ghost use Rattle.std.specs.Prelude.{◌≡◌, ◌≤◌, ◌+◌, length, take, drop, IfOk, chars, is_some};
+ghost use Rattle.std.specs.Prelude.{◌≡◌, ◌≤◌, true, length, take, drop, IfOk, chars, is_some};
+ghost use Rattle.std.specs.Str.{is_utf8};
 ghost use Rattle.std.specs.Str.Lossy.{utf8_valid_len, utf8_error_len};
 
 use std::alloc::{AllocError, Global};
@@ -24,4 +25,17 @@ pub fn chars_of(alloc: Global, text: &str) -> Result<Vec<char>, AllocError>
     ensures { IfOk result (λ v. v.items ≡ chars text.now) }
 {
     text.chars().collect(alloc)
+}
+
+/// How many bytes the first characters take.
+pub fn front_len(text: &str, count: usize) -> usize
+    ensures within { result ≤ length text.now }
+    ensures text { is_utf8 (drop result text.now) ≡ true }
+    ensures rest { chars (drop result text.now) ≡ drop count (chars text.now) }
+{
+    let mut rest = text.chars();
+    for i in 0..count {
+        let _ = rest.next();
+    }
+    text.len() - rest.as_str().len()
 }

@@ -1,8 +1,10 @@
 //! The text of a field, from its value.
-ghost use Rattle.std.specs.Prelude.{◌≡◌, ◌==◌, IfOk, length, map, encode_utf8_all, string_bytes};
+ghost use Rattle.std.specs.Prelude.{◌≡◌, ◌==◌, true, [], ◌∷◌, ◌++◌, IfOk, OnOk, length, map, encode_utf8_all, string_bytes};
 ghost use Rattle.std.specs.List.{list_all};
+ghost use Rattle.csvw_rows.specs.Bounds.{apart_all, texts_apart};
 ghost use Rattle.csvw_rows.specs.Grammar.{strip_start, strip_end, trimmed};
 
+use crate::bound::Bound;
 use crate::dialect::Trim;
 use csvw_text::{Seq, Text, is_white};
 use std::alloc::{AllocError, Global};
@@ -54,20 +56,47 @@ fn encoded(alloc: Global, chars: &[char]) -> Result<Text, AllocError>
     Ok(Text::of(text))
 }
 
-/// The texts of a row's fields, from their values; `AllocError` where there is no memory.
-pub fn field_texts(alloc: Global, trim: Trim, values: &[Seq<char>]) -> Result<Vec<Text>, AllocError>
-    ensures { IfOk result (λ v. v.items ≡ map (λ x. encode_utf8_all (trimmed trim x)) values.now) }
+/// Writes a text behind those of a buffer. It isn't empty of bounds where there is no memory.
+fn write_text(text: &str, bounds: &mut Vec<Bound>, spare: &mut Vec<u8>) -> Result<(), AllocError>
+    requires { apart_all spare.old.items bounds.old.items ≡ true }
+    ensures bounded { apart_all spare.new.items bounds.new.items ≡ true }
+    ensures texts { OnOk result (texts_apart spare.new.items bounds.new.items ≡ texts_apart spare.old.items bounds.old.items ++ text.now ∷ []) }
 {
-    let mut texts = Vec::new(alloc);
-    for value in values {
-        texts.push(encoded(alloc, trimmed(trim, value.as_slice()))?)?;
-    }
-    Ok(texts)
+    let from = spare.len();
+    spare.extend_from_slice(text.as_bytes())?;
+    let to = spare.len();
+    bounds.push(Bound {
+        from,
+        to,
+        apart: true,
+    })?;
+    Ok(())
 }
 
-/// Whether all texts are empty.
-pub fn all_empty(texts: &[Text]) -> bool
-    ensures { result ≡ list_all (λ x. length x == 0) texts.now }
+/// Writes the texts of a row's fields, from their values, into a buffer; `AllocError` where there is no
+/// memory.
+pub fn write_fields(
+    alloc: Global,
+    trim: Trim,
+    values: &[Seq<char>],
+    bounds: &mut Vec<Bound>,
+    spare: &mut Vec<u8>,
+) -> Result<(), AllocError>
+    ensures bounded { apart_all spare.new.items bounds.new.items ≡ true }
+    ensures texts { OnOk result (texts_apart spare.new.items bounds.new.items ≡ map (λ x. encode_utf8_all (trimmed trim x)) values.now) }
 {
-    texts.iter().all(|text| text.is_empty())
+    bounds.clear();
+    spare.clear();
+    for value in values {
+        let text = encoded(alloc, trimmed(trim, value.as_slice()))?;
+        write_text(text.as_str(), bounds, spare)?;
+    }
+    Ok(())
+}
+
+/// Whether no field has a text.
+pub fn all_empty(bounds: &[Bound]) -> bool
+    ensures { result ≡ list_all (λ b. b.from == b.to) bounds.now }
+{
+    bounds.iter().all(|bound| bound.from == bound.to)
 }

@@ -1,5 +1,5 @@
 //! Laws that bind the definitions by which the contracts speak. The calls do nothing.
-ghost use Rattle.csvw_rows.specs.Laws.{HaveOneList, FrontsGrow, StopsPart, GivenBegin, NothingGiven};
+ghost use Rattle.csvw_rows.specs.Laws.{HaveOneList, FrontsGrow, StopsPart, GivenBegin, GivenBeginLater, NothingGiven};
 
 /// Bytes are a file of at most one list of rows.
 pub fn have_one_list()
@@ -20,6 +20,12 @@ pub fn stops_part()
 /// The rows that a reader gave begin the rows of its front.
 pub fn given_begin()
     ensures { GivenBegin }
+{}
+
+/// The rows that a reader gave of bytes that haven't ended begin the rows of the front of all that they
+/// go on to.
+pub fn given_begin_later()
+    ensures { GivenBeginLater }
 {}
 
 /// Of nothing read nothing was given.

@@ -1,6 +1,8 @@
 //! The rows of a CSV text, in whatever pieces it comes, by a dialect.
 #![tactic(auto)]
 
+mod bound;
+mod cut;
 mod decode;
 mod dialect;
 mod field;
@@ -13,6 +15,7 @@ mod rules;
 mod scan;
 mod source;
 mod stop;
+mod window;
 
 pub use dialect::{BadDialect, Dialect, LineTerminators, Trim};
 pub use raw_row::RawRow;

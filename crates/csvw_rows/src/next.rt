@@ -10,7 +10,8 @@ use crate::stop::RowStop;
 use csvw_text::Seq;
 use std::alloc::Global;
 
-const ROW_LIMIT: usize = 1_048_576;
+/// The most bytes of a row without its terminator.
+pub const ROW_LIMIT: usize = 1_048_576;
 
 /// What comes behind the characters that there are.
 #[derive(Clone, Copy, Debug, PartialEq, Eq)]

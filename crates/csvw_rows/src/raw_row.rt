@@ -1,27 +1,40 @@
 //! A row that a reader lends.
-ghost use Rattle.std.specs.Prelude.{◌≡◌, ◌<◌, length, Some, slice_get};
+ghost use Rattle.std.specs.Prelude.{◌≡◌, ◌<◌, true, length, Some, slice_get};
+ghost use Rattle.csvw_rows.specs.Bounds.{are_bounds, fields_at};
 
-use csvw_text::Text;
+use crate::bound::{Bound, text_at};
 
 /// A header row or a data row.
 #[derive(Clone, Copy)]
 pub struct RawRow<'a> {
-    fields: &'a [Text],
+    text: &'a [u8],
+    spare: &'a [u8],
+    bounds: &'a [Bound],
     source: u64,
     number: u64,
+    ghost bounded: { are_bounds text.now spare.now bounds.now ≡ true },
 }
 
 impl<'a> RawRow<'a> {
     ghost use Rattle.csvw_rows.specs.RowValue.{row_of};
 
-    /// A row of these fields, with its two numbers.
-    pub(crate) fn new(fields: &'a [Text], source: u64, number: u64) -> RawRow<'a>
-        ensures fields { (row_of result).fields ≡ fields.now }
+    /// A row of the fields that lie there, with its two numbers.
+    pub(crate) fn new(
+        text: &'a [u8],
+        spare: &'a [u8],
+        bounds: &'a [Bound],
+        source: u64,
+        number: u64,
+    ) -> RawRow<'a>
+        requires { are_bounds text.now spare.now bounds.now ≡ true }
+        ensures fields { (row_of result).fields ≡ fields_at text.now spare.now bounds.now }
         ensures source { (row_of result).source ≡ source }
         ensures number { (row_of result).number ≡ number }
     {
         RawRow {
-            fields,
+            text,
+            spare,
+            bounds,
             source,
             number,
         }
@@ -31,7 +44,7 @@ impl<'a> RawRow<'a> {
     pub fn len(&self) -> usize
         ensures { result ≡ length (row_of self.now).fields }
     {
-        self.fields.len()
+        self.bounds.len()
     }
 
     /// The text of a field, from 0: what its escapes stand for, trimmed by the dialect.
@@ -39,7 +52,7 @@ impl<'a> RawRow<'a> {
         requires { i < length (row_of self.now).fields }
         ensures { slice_get (row_of self.now).fields i ≡ Some result.now }
     {
-        self.fields[i].as_str()
+        text_at(self.text, self.spare, self.bounds[i])
     }
 
     /// Its source number, from 1: skipped, comment, blank and header rows count.

@@ -1,16 +1,22 @@
 //! A reader of rows.
-ghost use Rattle.std.specs.Prelude.{◌≡◌, ◌≤◌, ◌<◌, ◌-◌, ◌+◌, ◌^◌, true, false, [], length, map, IfOk, Some};
+ghost use Rattle.std.specs.Prelude.{◌≡◌, ◌≤◌, ◌<◌, ◌-◌, ◌+◌, ◌^◌, ℕ, true, false, [], length, drop, map, encode_utf8_all, IfOk, OnOk, IfSome, Some, Ok};
+ghost use Rattle.std.specs.Str.{is_utf8};
 ghost use Rattle.std.specs.Borrow.{sem};
+ghost use Rattle.csvw_rows.specs.Bounds.{are_bounds};
 ghost use Rattle.csvw_rows.specs.Lawful.{IsLawful};
 
+use crate::bound::Bound;
+use crate::cut::{cut_row, row_len};
+use crate::decode::front_len;
 use crate::dialect::Dialect;
-use crate::field::{all_empty, field_texts};
-use crate::next::{After, Next, Turn, next_row};
+use crate::field::{all_empty, write_fields};
+use crate::next::{After, Next, Turn};
 use crate::raw_row::RawRow;
 use crate::rules::Rules;
 use crate::source::Source;
 use crate::stop::RowStop;
-use csvw_text::{Seq, Text};
+use crate::window::next_in;
+use csvw_text::Seq;
 use std::alloc::{AllocError, Global};
 
 /// A reader of the rows of a text that comes in pieces of bytes.
@@ -23,17 +29,19 @@ pub struct Rows {
     ended: bool,
     row: u64,
     remained: u64,
-    fields: Vec<Text>,
+    fields: Vec<Bound>,
+    spare: Vec<u8>,
     stop: Option<RowStop>,
     ghost few: { max_rows < 2 ^ 64 - 1 },
     ghost counted: { row ≤ max_rows },
     ghost remained_few: { remained ≤ row },
+    ghost bounded: { are_bounds source.text.items spare.items fields.items ≡ true },
 }
 
 impl Rows {
-    ghost use Rattle.csvw_rows.specs.RowsState.{is_ended_of, unread, reading_of, stop_of, after_of, last_of, Holds, Passes, Feeds, Closes, Advances, Turns, KeepsStop};
+    ghost use Rattle.csvw_rows.specs.RowsState.{is_ended_of, fields_of, unread, reading_of, stop_of, after_of, last_of, Holds, Passes, AreFront, HasFields, Refills, Feeds, Closes, Advances, Turns, KeepsStop};
     ghost use Rattle.csvw_rows.specs.RowsLending.{RestsAdvanced};
-    ghost use Rattle.csvw_rows.specs.SourceState.{rest_of};
+    ghost use Rattle.csvw_rows.specs.SourceState.{rest_bytes, rest_of};
     ghost use Rattle.csvw_rows.specs.RowValue.{row_of};
     ghost use Rattle.csvw_rows.specs.Nexts.{NextGives, TakesRow, is_last};
     ghost use Rattle.csvw_rows.specs.Grammar.{trimmed};
@@ -55,6 +63,7 @@ impl Rows {
             row: 0,
             remained: 0,
             fields: Vec::new(alloc),
+            spare: Vec::new(alloc),
             stop: None,
         })
     }
@@ -83,6 +92,7 @@ impl Rows {
         if let Some(stop) = self.stop {
             return Err(stop);
         }
+        self.fields.clear();
         match self.source.push(piece) {
             Ok(()) => Ok(()),
             Err(_) => {
@@ -122,12 +132,18 @@ impl Rows {
         ensures { row_of result ≡ last_of self.now }
     {
         let columns = self.rules.dialect.skip_columns as usize;
-        let (_, fields) = self
+        let (_, bounds) = self
             .fields
             .as_slice()
             .split_at(columns.min(self.fields.len()));
         let headers = u64::from(self.rules.dialect.header_row_count);
-        RawRow::new(fields, self.row, self.remained.saturating_sub(headers))
+        RawRow::new(
+            self.source.items(),
+            self.spare.as_slice(),
+            bounds,
+            self.row,
+            self.remained.saturating_sub(headers),
+        )
     }
 
     /// Reads on to the next row that is given.
@@ -178,15 +194,35 @@ impl Rows {
     fn next_line(&self) -> Result<Next, RowStop>
         ensures { NextGives (after_of self.now) self.now.rules.dialect self.now.max_rows self.now.row (rest_of self.now.source) result }
     {
-        let text = self.source.rest();
-        next_row(
+        next_in(
             self.alloc,
             &self.rules,
             self.max_rows,
             self.row,
-            text,
+            self.source.rest(),
             self.after(),
         )
+    }
+
+    /// Finds the fields of the row at the front among its bytes, where that is possible, and how many
+    /// bytes it has with its terminator.
+    fn cut(&mut self) -> Result<Option<usize>, AllocError>
+        ensures refills { Refills self.old self.new }
+        ensures row { IfOk result (λ o. IfSome o (HasFields self.new)) }
+    {
+        let Some(symbols) = self.rules.symbols else {
+            return Ok(None);
+        };
+        let rest = self.source.rest();
+        if self.row >= self.max_rows || self.rules.may_be_skipped(self.row, rest) {
+            return Ok(None);
+        }
+        let text = self.source.items();
+        let start = self.source.taken();
+        let Some(at) = cut_row(&self.rules, symbols, text, start, &mut self.fields)? else {
+            return Ok(None);
+        };
+        Ok(row_len(&self.rules, text, start, at))
     }
 
     /// Reads one row on.
@@ -194,12 +230,24 @@ impl Rows {
         ensures turns { Turns self.old self.new result }
         ensures stop { stop_of self.new ≡ stop_of self.old }
     {
+        if let Some(len) = self.cut()? {
+            return Ok(self.pass_fields(len));
+        }
+        self.read_turn()
+    }
+
+    /// Reads one row on, by the characters.
+    fn read_turn(&mut self) -> Result<Turn, RowStop>
+        ensures turns { Turns self.old self.new result }
+        ensures stop { stop_of self.new ≡ stop_of self.old }
+    {
         match self.next_line() {
-            Ok(Next::Row(len, None)) => {
+            Ok(Next::Row(count, None)) => {
+                let len = front_len(self.source.rest(), count);
                 self.pass(len);
                 Ok(Turn::Passed)
             }
-            Ok(Next::Row(len, Some(values))) => self.take_fields(len, values.as_slice()),
+            Ok(Next::Row(count, Some(values))) => self.take_fields(count, values.as_slice()),
             Ok(Next::Waits) => Ok(Turn::Waits),
             Err(stop) => Err(stop),
         }
@@ -207,32 +255,56 @@ impl Rows {
 
     /// Goes behind a row and its terminator.
     fn pass(&mut self, len: usize)
-        requires some { 0 < len }
-        requires within { len ≤ length (rest_of self.old.source) }
+        requires within { len ≤ length (rest_bytes self.old.source) }
+        requires text { is_utf8 (drop len (rest_bytes self.old.source)) ≡ true }
         requires few { self.old.row < self.old.max_rows }
-        ensures passes { Passes self.old self.new len }
-        ensures unread { unread self.new < unread self.old }
+        ensures passes { (count : ℕ) → AreFront self.old len count → Passes self.old self.new count }
         ensures remained { self.new.remained ≡ self.old.remained }
-        ensures fields { self.new.fields ≡ self.old.fields }
+        ensures fields { fields_of self.new ≡ fields_of self.old }
+        ensures bounds { self.new.fields ≡ self.old.fields }
     {
         self.source.take(len);
         self.row += 1;
     }
 
-    /// Goes behind a row with these fields, which is given unless it is blank.
-    fn take_fields(&mut self, len: usize, values: &[Seq<char>]) -> Result<Turn, RowStop>
-        requires { TakesRow (is_last (after_of self.old)) self.old.rules.dialect self.old.max_rows self.old.row (rest_of self.old.source) len
+    /// Goes behind a row whose fields were found, which is given unless it is blank.
+    fn pass_fields(&mut self, len: usize) -> Turn
+        requires { HasFields self.old len }
+        ensures turns { Turns self.old self.new (Ok result) }
+        ensures stop { stop_of self.new ≡ stop_of self.old }
+    {
+        self.pass(len);
+        if self.rules.dialect.skip_blank_rows && all_empty(self.fields.as_slice()) {
+            return Turn::Passed;
+        }
+        self.remained += 1;
+        Turn::Given
+    }
+
+    /// Goes behind a row of so many characters with these fields.
+    fn take_fields(&mut self, count: usize, values: &[Seq<char>]) -> Result<Turn, RowStop>
+        requires { TakesRow (is_last (after_of self.old)) self.old.rules.dialect self.old.max_rows self.old.row (rest_of self.old.source) count
             (Some (map (trimmed self.old.rules.dialect.trim) values.now)) }
         ensures turns { Turns self.old self.new result }
         ensures stop { stop_of self.new ≡ stop_of self.old }
     {
-        self.fields = field_texts(self.alloc, self.rules.dialect.trim, values)?;
-        self.pass(len);
-        if self.rules.dialect.skip_blank_rows && all_empty(self.fields.as_slice()) {
-            return Ok(Turn::Passed);
-        }
-        self.remained += 1;
-        Ok(Turn::Given)
+        let len = front_len(self.source.rest(), count);
+        self.fill(values)?;
+        Ok(self.pass_fields(len))
+    }
+
+    /// Writes the texts of these fields.
+    fn fill(&mut self, values: &[Seq<char>]) -> Result<(), AllocError>
+        ensures refills { Refills self.old self.new }
+        ensures texts { OnOk result (fields_of self.new ≡ map (λ x. encode_utf8_all (trimmed self.old.rules.dialect.trim x)) values.now) }
+    {
+        write_fields(
+            self.alloc,
+            self.rules.dialect.trim,
+            values,
+            &mut self.fields,
+            &mut self.spare,
+        )
     }
 }
 

@@ -1,10 +1,13 @@
 //! A dialect with its comment prefix as characters.
-ghost use Rattle.std.specs.Prelude.{◌≡◌, ◌≤◌, length, IfOk};
+ghost use Rattle.std.specs.Prelude.{◌≡◌, ◌≤◌, false, Some, length, IfOk, chars};
+ghost use Rattle.csvw_rows.specs.Cuts.{IsSymbols};
+ghost use Rattle.csvw_rows.specs.declared.cut.Symbols.{Symbols};
 ghost use Rattle.csvw_rows.specs.Files.{prefix_of, is_note};
 ghost use Rattle.csvw_rows.specs.Lawful.{IsLawful};
 ghost use Rattle.csvw_rows.specs.Looks.{may_be_note};
 ghost use Rattle.csvw_rows.specs.Lines.{IsCommon, IsPrefixLen};
 
+use crate::cut::Symbols;
 use crate::decode::chars_of;
 use crate::dialect::Dialect;
 use csvw_text::Seq;
@@ -15,8 +18,10 @@ use std::alloc::{AllocError, Global};
 pub struct Rules {
     pub dialect: Dialect,
     pub prefix: Option<Seq<char>>,
+    pub symbols: Option<Symbols>,
     ghost same_prefix: { prefix ≡ prefix_of dialect },
     ghost lawful: { IsLawful dialect },
+    ghost same_symbols: { (s : Symbols) → symbols ≡ Some s → IsSymbols dialect s },
 }
 
 impl Rules {
@@ -29,7 +34,12 @@ impl Rules {
             Some(text) => Some(Seq::of(chars_of(alloc, text.as_str())?)),
             None => None,
         };
-        Ok(Rules { dialect, prefix })
+        let symbols = Symbols::of(&dialect);
+        Ok(Rules {
+            dialect,
+            prefix,
+            symbols,
+        })
     }
 
     /// Whether the row at this place, from 0, is skipped or a comment.
@@ -38,6 +48,17 @@ impl Rules {
     {
         let comment = match &self.prefix {
             Some(prefix) => text.starts_with(prefix.as_slice()),
+            None => false,
+        };
+        place < self.dialect.skip_rows || comment
+    }
+
+    /// Whether a row that begins with these bytes may be skipped or a comment.
+    pub fn may_be_skipped(&self, place: u64, rest: &str) -> bool
+        ensures { result ≡ false → is_note self.now.dialect place (chars rest.now) ≡ false }
+    {
+        let comment = match &self.dialect.comment_prefix {
+            Some(prefix) => rest.as_bytes().starts_with(prefix.as_str().as_bytes()),
             None => false,
         };
         place < self.dialect.skip_rows || comment

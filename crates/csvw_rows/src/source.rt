@@ -1,28 +1,30 @@
-//! The characters of bytes that come in pieces, up to where they are no UTF-8.
-ghost use Rattle.std.specs.Prelude.{◌≡◌, ◌≤◌, ◌+◌, ◌==◌, ◌++◌, not, true, false, [], if◌then◌else◌, length, drop, vec_len, IfOk, OnOk};
+//! The text of bytes that come in pieces, up to where they are no UTF-8.
+ghost use Rattle.std.specs.Prelude.{◌≡◌, ◌≤◌, ◌+◌, ◌==◌, ◌++◌, not, true, false, [], if◌then◌else◌, length, drop, vec_len, IfOk, OnOk, OnErr, IsUtf8, chars};
+ghost use Rattle.std.specs.Str.{is_utf8};
 ghost use Rattle.csvw_rows.specs.Files.{without_mark};
 
-use crate::decode::{chars_of, valid_front};
+use crate::decode::valid_front;
 use std::alloc::{AllocError, Global};
 
 const BYTE_ORDER_MARK: char = '\u{FEFF}';
 
-/// The characters that were decoded and not yet taken. A byte order mark at the start isn't among them.
+/// The text that was not yet taken. A byte order mark at the start isn't in it.
 #[derive(Drop)]
 pub struct Source {
     alloc: Global,
-    text: Vec<char>,
+    text: Vec<u8>,
     taken: usize,
     pending: Vec<u8>,
     begun: bool,
     is_bad: bool,
     ghost within: { taken ≤ vec_len text },
+    ghost is_text: { is_utf8 (drop taken text.items) ≡ true },
 }
 
 impl Source {
-    ghost use Rattle.csvw_rows.specs.SourceState.{rest_of, is_bad_of, pending_of, begun_of, Pushes};
+    ghost use Rattle.csvw_rows.specs.SourceState.{text_items, taken_of, rest_bytes, rest_of, is_bad_of, pending_of, begun_of, Pushes};
 
-    /// No characters yet.
+    /// No text yet.
     pub fn new(alloc: Global) -> Source
         ensures rest { rest_of result ≡ [] }
         ensures begun { begun_of result ≡ false }
@@ -39,44 +41,67 @@ impl Source {
         }
     }
 
-    /// Decodes some more bytes; `AllocError` where there is no memory.
+    /// Adds some more bytes; `AllocError` where there is no memory.
     pub fn push(&mut self, piece: &[u8]) -> Result<(), AllocError>
         ensures { OnOk result (Pushes self.old self.new piece.now) }
     {
-        let bytes = joined_bytes(self.alloc, self.pending.as_slice(), piece)?;
+        let bytes = joined(self.alloc, self.pending.as_slice(), piece)?;
         let (text, is_bad) = valid_front(bytes.as_slice());
-        let chars = chars_of(self.alloc, text)?;
-        let unread = joined_chars(
-            self.alloc,
-            self.rest(),
-            unmarked(self.begun, chars.as_slice()),
-        )?;
         let pending = tail(self.alloc, bytes.as_slice(), text.len())?;
-        self.begun = has_begun(self.begun, chars.as_slice());
-        self.text = unread;
-        self.taken = 0;
+        self.add(text)?;
+        self.begun = has_begun(self.begun, text);
         self.pending = pending;
         self.is_bad = is_bad;
         Ok(())
     }
 
-    /// The characters that aren't taken.
-    pub fn rest(&self) -> &[char]
-        ensures { result.now ≡ rest_of self.now }
-    {
-        let (_, rest) = self.text.as_slice().split_at(self.taken);
-        rest
-    }
-
-    /// Takes some characters.
-    pub fn take(&mut self, count: usize)
-        requires { count ≤ length (rest_of self.old) }
-        ensures rest { rest_of self.new ≡ drop count (rest_of self.old) }
+    /// Adds some text in the place of what was taken.
+    fn add(&mut self, text: &str) -> Result<(), AllocError>
+        ensures rest { OnOk result (rest_of self.new ≡ rest_of self.old ++ (if begun_of self.old then chars text.now else without_mark (chars text.now))) }
         ensures bad { is_bad_of self.new ≡ is_bad_of self.old }
         ensures pending { pending_of self.new ≡ pending_of self.old }
         ensures begun { begun_of self.new ≡ begun_of self.old }
     {
-        self.taken += count;
+        drop_front(&mut self.text, self.taken);
+        self.taken = 0;
+        self.text
+            .extend_from_slice(unmarked(self.begun, text).as_bytes())
+    }
+
+    /// The text that isn't taken.
+    pub fn rest(&self) -> &str
+        ensures value { result.now ≡ rest_bytes self.now }
+        ensures chars { chars result.now ≡ rest_of self.now }
+    {
+        let (_, rest) = self.text.as_slice().split_at(self.taken);
+        unsafe { str::from_utf8_unchecked(rest) }
+    }
+
+    /// The bytes that are kept, those that were taken among them.
+    pub fn items(&self) -> &[u8]
+        ensures { result.now ≡ text_items self.now }
+    {
+        self.text.as_slice()
+    }
+
+    /// How many of the bytes that are kept were taken.
+    pub fn taken(&self) -> usize
+        ensures { result ≡ taken_of self.now }
+    {
+        self.taken
+    }
+
+    /// Takes some bytes, which are text.
+    pub fn take(&mut self, len: usize)
+        requires within { len ≤ length (rest_bytes self.old) }
+        requires text { is_utf8 (drop len (rest_bytes self.old)) ≡ true }
+        ensures rest { rest_bytes self.new ≡ drop len (rest_bytes self.old) }
+        ensures items { text_items self.new ≡ text_items self.old }
+        ensures bad { is_bad_of self.new ≡ is_bad_of self.old }
+        ensures pending { pending_of self.new ≡ pending_of self.old }
+        ensures begun { begun_of self.new ≡ begun_of self.old }
+    {
+        self.taken += len;
     }
 
     /// Whether the bytes are no UTF-8, whatever follows.
@@ -94,32 +119,28 @@ impl Source {
     }
 }
 
-/// The characters without a byte order mark at the start of the text.
-fn unmarked(begun: bool, chars: &[char]) -> &[char]
-    ensures { result.now ≡ (if begun then chars.now else without_mark chars.now) }
+/// The text without a byte order mark at its start.
+fn unmarked(begun: bool, text: &str) -> &str
+    ensures { chars result.now ≡ (if begun then chars text.now else without_mark (chars text.now)) }
 {
-    match chars {
-        [BYTE_ORDER_MARK, rest @ ..] if !begun => rest,
-        _ => chars,
+    if begun {
+        return text;
+    }
+    let mut rest = text.chars();
+    match rest.next() {
+        Some(BYTE_ORDER_MARK) => rest.as_str(),
+        _ => text,
     }
 }
 
 /// Whether there was a character, these among them.
-fn has_begun(begun: bool, chars: &[char]) -> bool
-    ensures { result ≡ (if begun then true else not (length chars.now == 0)) }
+fn has_begun(begun: bool, text: &str) -> bool
+    ensures { result ≡ (if begun then true else not (length (chars text.now) == 0)) }
 {
-    begun || !chars.is_empty()
+    begun || !text.is_empty()
 }
 
-fn joined_bytes(alloc: Global, a: &[u8], b: &[u8]) -> Result<Vec<u8>, AllocError>
-    ensures { IfOk result (λ v. v.items ≡ a.now ++ b.now) }
-{
-    let mut all = Vec::from_slice(alloc, a)?;
-    all.extend_from_slice(b)?;
-    Ok(all)
-}
-
-fn joined_chars(alloc: Global, a: &[char], b: &[char]) -> Result<Vec<char>, AllocError>
+fn joined(alloc: Global, a: &[u8], b: &[u8]) -> Result<Vec<u8>, AllocError>
     ensures { IfOk result (λ v. v.items ≡ a.now ++ b.now) }
 {
     let mut all = Vec::from_slice(alloc, a)?;
@@ -134,4 +155,14 @@ fn tail(alloc: Global, bytes: &[u8], count: usize) -> Result<Vec<u8>, AllocError
 {
     let (_, rest) = bytes.split_at(count);
     Vec::from_slice(alloc, rest)
+}
+
+/// Moves the bytes behind the first of them to the front.
+fn drop_front(bytes: &mut Vec<u8>, count: usize)
+    requires { count ≤ vec_len bytes.old }
+    ensures { bytes.new.items ≡ drop count bytes.old.items }
+{
+    let rest = bytes.len() - count;
+    bytes.copy_within(count.., 0);
+    bytes.truncate(rest);
 }

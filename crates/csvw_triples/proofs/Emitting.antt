@@ -10,7 +10,7 @@ use Rattle.csvw_triples.specs.declared.sink.SinkFault.{SinkFault}
 use Rattle.csvw_triples.specs.declared.sink.SinkFault.TheVariants.{Memory, Device, Closed}
 use Rattle.csvw_triples.specs.declared.term.Triple.{Triple}
 use Rattle.csvw_triples.specs.RowTriples.{cell_triples, cells_triples}
-use Rattle.csvw_triples.specs.Taking.{FrontOf, IsReady, Ends}
+use Rattle.csvw_triples.specs.Taking.{FrontOf, Ends}
 
 -- a column and its cell
 abbrev pub pair_triples : ℕ → ℕ → Column × AnnCell → List Triple
@@ -75,8 +75,7 @@ module _ {S : Type 0} (gains : S → List Triple → S → Type 0) (is_open : S 
       }
 
   -- how the sink stands after an error in a later call
-  pub ends_later : (old mid new : S) (e : SinkFault) → (IsReady is_open failed old → IsReady is_open failed mid) → failed mid ≡ failed old → is_open mid ≡ is_open old
-      → Ends is_open failed mid new (Err e) → Ends is_open failed old new (Err e)
-  ends_later old mid new Memory r f o h = (λ q. h.0 (r q), h.1 ∙ f)
-  ends_later old mid new Device r f o h = λ q. h (r q) ∙ ap (λ n. n + 1) f
-  ends_later old mid new Closed r f o h = sym o ∙ h
+  pub ends_later : (old mid new : S) (e : SinkFault) → failed mid ≡ failed old → is_open mid ≡ is_open old → Ends is_open failed mid new (Err e) → Ends is_open failed old new (Err e)
+  ends_later old mid new Memory f o h = (h.0 ∙ o, h.1 ∙ f)
+  ends_later old mid new Device f o h = λ q. h (rw f q) ∙ ap (λ n. n + 1) f
+  ends_later old mid new Closed f o h = sym o ∙ h

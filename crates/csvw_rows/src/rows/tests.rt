@@ -2,8 +2,11 @@
 ghost use Rattle.std.specs.Prelude.{◌≡◌, ◌<◌, ◌-◌, ◌^◌, true, false, IfOk};
 ghost use Rattle.csvw_rows.specs.Lawful.{IsLawful};
 
+mod compared;
+
 use super::*;
 use crate::dialect::{BadDialect, LineTerminators, Trim};
+use csvw_text::Text;
 use std::fmt::Write;
 use std::process::Abort;
 use std::test::Fail;
@@ -345,20 +348,22 @@ const QUOTE_PREFIXES: [(&[u8], &str); 4] = [
 
 const LIMIT: usize = 1_048_576;
 
-fn letters(alloc: Global, count: usize) -> Result<Vec<u8>, Fail> {
-    let mut text = Vec::new(alloc);
-    for _ in 0..count {
-        text.push(b'a')?;
+/// A row of so many bytes: letters, alone or between quotes.
+fn row_of(alloc: Global, len: usize, quoted: bool) -> Result<Vec<u8>, Fail> {
+    let mut row = Vec::new(alloc);
+    for i in 0..len {
+        let at_quote = quoted && (i == 0 || i == len - 1);
+        row.push(if at_quote { b'"' } else { b'a' })?;
     }
-    Ok(text)
+    Ok(row)
 }
 
-/// What a row of the longest length gives with CR behind it, and then these bytes.
-fn longest(alloc: Global, behind: &[u8]) -> Result<String, Fail> {
+/// What these pieces give, the row with CR behind it.
+fn fed(alloc: Global, front: &[u8], row: &[u8], behind: &[u8]) -> Result<String, Fail> {
     let mut text = String::new(alloc);
     let mut rows = open(alloc, Dialect::new(alloc)?, 9)?;
-    let row = letters(alloc, LIMIT)?;
-    feed(&mut rows, row.as_slice());
+    feed(&mut rows, front);
+    feed(&mut rows, row);
     feed(&mut rows, b"\r");
     write_rows(&mut text, &mut rows)?;
     feed(&mut rows, behind);
@@ -367,12 +372,90 @@ fn longest(alloc: Global, behind: &[u8]) -> Result<String, Fail> {
     Ok(text)
 }
 
+const LONG: [(&[u8], usize, &[u8], &str); 4] = [
+    (b"", LIMIT, b"x", "RowTooLong 1; "),
+    (b"", LIMIT, b"", "RowTooLong 1; "),
+    (b"\xEF\xBB\xBF", LIMIT, b"x", "RowTooLong 1; "),
+    (
+        b"\xEF\xBB\xBF\xEF\xBB\xBF",
+        LIMIT - 3,
+        b"x",
+        "RowTooLong 1; ",
+    ),
+];
+
+#[test]
+fn too_long(rt: HostRuntime) -> Result<(), Fail> {
+    let alloc = rt.alloc();
+    for (front, len, behind, want) in LONG {
+        let row = row_of(alloc, len, false)?;
+        assert_eq!(rt;
+            fed(alloc, front, row.as_slice(), behind)?.as_str(),
+            want,
+            "{len}"
+        );
+    }
+    Ok(())
+}
+
+const LONG_QUOTED: [(usize, &[u8], &str); 5] = [
+    (LIMIT, b"x", "RowTooLong 1; "),
+    (LIMIT, b"", "RowTooLong 1; "),
+    (LIMIT - 1, b"x", "RowTooLong 1; "),
+    (LIMIT - 1, b"", "TextAfterQuote 1; "),
+    (LIMIT - 2, b"x", "TextAfterQuote 1; "),
+];
+
+#[test]
+fn too_long_behind_a_quote(rt: HostRuntime) -> Result<(), Fail> {
+    let alloc = rt.alloc();
+    for (len, behind, want) in LONG_QUOTED {
+        let row = row_of(alloc, len, true)?;
+        assert_eq!(rt;
+            fed(alloc, b"", row.as_slice(), behind)?.as_str(),
+            want,
+            "{len}"
+        );
+    }
+    Ok(())
+}
+
+/// How many letters a row gives with CR LF behind it.
+fn letters(alloc: Global, front: &[u8], row: &[u8]) -> Result<usize, Fail> {
+    let text = fed(alloc, front, row, b"\n")?;
+    Ok(text.len().saturating_sub("1/0 \"\"; ".len()))
+}
+
 #[test]
 fn the_longest_row(rt: HostRuntime) -> Result<(), Fail> {
     let alloc = rt.alloc();
-    assert_eq!(rt; longest(alloc, b"x")?.as_str(), "RowTooLong 1; ");
-    assert_eq!(rt; longest(alloc, b"")?.as_str(), "RowTooLong 1; ");
-    let text = longest(alloc, b"\n")?;
-    assert_eq!(rt; text.len(), "1/0 \"\"; ".len() + LIMIT);
+    let row = row_of(alloc, LIMIT, false)?;
+    assert_eq!(rt; letters(alloc, b"", row.as_slice())?, LIMIT);
+    assert_eq!(rt; letters(alloc, b"\xEF\xBB\xBF", row.as_slice())?, LIMIT);
+    let row = row_of(alloc, LIMIT, true)?;
+    assert_eq!(rt; letters(alloc, b"", row.as_slice())?, LIMIT - 2);
     Ok(())
 }
+
+#[test]
+fn white_space(rt: HostRuntime) -> Result<(), Fail> {
+    let alloc = rt.alloc();
+    let mut d = Dialect::new(alloc)?;
+    d.trim = Trim::Both;
+    table(&rt, alloc, &d, &TRIMMED)?;
+    d.trim = Trim::Start;
+    cuts(&rt, alloc, &d, 9, SPACES, "1/0 \"x \\t\\r\\n\"; ")?;
+    d.trim = Trim::End;
+    cuts(&rt, alloc, &d, 9, SPACES, "1/0 \" \\t\\r\\nx\"; ")
+}
+
+const SPACES: &[u8] = b"\" \t\r\nx \t\r\n\"";
+
+const TRIMMED: [(&[u8], &str); 3] = [
+    (SPACES, "1/0 \"x\"; "),
+    (b" \ty\r\t , \t\r,z \t\n", "1/0 \"y\" \"\" \"z\"; "),
+    (
+        b"\x0Bx\x0C,\xC2\xA0y\xE3\x80\x80\n",
+        "1/0 \"\\u{b}x\\u{c}\" \"\\u{a0}y\\u{3000}\"; ",
+    ),
+];

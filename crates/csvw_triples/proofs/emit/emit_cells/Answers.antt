@@ -5,7 +5,7 @@ use Rattle.csvw_triples.proofs.Emitting.{takes_more, takes_all, takes_front}
 use Rattle.csvw_triples.proofs.emit.emit_cells.Goals as goal
 
 pub loop-i-init : goal.loop-i-init
-loop-i-init g c = record { taken = g.met.S.TripleSink.stays c.args.sink.now; ready = λ r. r; failures = refl; same = refl }
+loop-i-init g c = record { taken = g.met.S.TripleSink.stays c.args.sink.now; failures = refl; same = refl }
 
 pub returns-in_err-emit_cell-clause-err : goal.returns-in_err-emit_cell-clause-err
 returns-in_err-emit_cell-clause-err g c =
@@ -23,9 +23,8 @@ loop-i-preserved g c =
       taken = takes_more s.gains s.is_open s.failed g.met.S.TripleSink.goes_on c.args.t c.args.number c.args.columns.now c.args.cells.now c.loop-i.i
           c.index-columns-i.result c.index-cells-i.result c.args.sink.now c.loop-i.sink c.emit_cell.new.sink
           (omega arith) (omega arith) c.index-columns-i.is c.index-cells-i.is i.taken k.ok;
-      ready = λ r. k.sink.0 (i.ready r);
       failures = k.sink.1 ∙ i.failures;
-      same = k.sink.2 ∙ i.same;
+      same = k.sink.0 ∙ i.same;
     }
 
 pub returns-clause-ok : goal.returns-clause-ok

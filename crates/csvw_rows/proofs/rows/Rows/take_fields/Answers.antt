@@ -1,37 +1,28 @@
-use Rattle.std.proofs.Common.{◌≡◌, ◌+◌, ◌∙◌, sym, ap, refl, Bool, true, false, ◌&&◌, Some, List, ℕ, map}
-use Rattle.std.specs.List.{list_all}
-use Rattle.csvw_rows.specs.Files.{is_empty}
+use Rattle.std.proofs.Common.{◌≡◌, ◌∙◌, ℕ, List, map, refl, sym, ap, subst, Some, Ok, Option}
+use Rattle.std.specs.Prelude.{encode_utf8_all}
 use Rattle.csvw_rows.specs.Grammar.{trimmed}
-use Rattle.csvw_rows.proofs.Bodies.{blank_none, blank_texts}
-use Rattle.csvw_rows.proofs.States.{note_stays, row_gives, passes_from, passes_to, and_true, and_left, and_right}
+use Rattle.csvw_rows.specs.RowsState.{HasRow}
+use Rattle.csvw_rows.proofs.RowSteps.{turns_from, row_refilled, front_of}
 use Rattle.csvw_rows.proofs.rows.Rows.take_fields.Goals as goal
-use Rattle.csvw_rows.proofs.rows.Rows.take_fields.Goals.{else-self-via-then-self+else-all_empty, else-self-via-else-self}
 
-pub returns-then-all_empty-clause-turns : goal.returns-then-all_empty-clause-turns
-returns-then-all_empty-clause-turns c =
+pub pass_fields-requires : goal.pass_fields-requires
+pass_fields-requires c =
     let s = c.args.self.now in
-    let t = c.pass.new.self in
-    let d = s.rules.dialect in
-    let p = passes_from s _ t c.args.len refl refl refl refl refl refl c.pass.ensures.passes in
-    let texts = c.as_slice.ensures.value ∙ ap (λ f. f.items) c.pass.ensures.fields ∙ c.in_ok-self.ensures in
-    let blank = sym (blank_texts d.trim c.args.values.now) ∙ ap (list_all _) (sym texts) ∙ sym c.all_empty.ensures ∙ c.if-all_empty.true in
-    let skips = ap (λ r. r.dialect.skip_blank_rows) (sym p.rules) ∙ c.if-self.true in (
-      p.ended,
-      c.pass.ensures.unread,
-      note_stays s t c.args.len (Some (map (trimmed d.trim) c.args.values.now)) p c.pass.ensures.remained c.requires
-          (λ n. blank_none d n (map (trimmed d.trim) c.args.values.now) (and_true _ _ skips blank)),
-    )
+    let t = c.fill.new.self in
+    let len = c.front_len-len.result in
+    let values : List (List ℕ) = c.args.values.now in
+    let f = c.front_len-len.ensures in
+    let r = c.in_ok-fill.ensures.refills in
+    let row : HasRow s len (Some (map (trimmed s.rules.dialect.trim) values)) = record {
+      len = c.args.count;
+      front = front_of s len c.args.count c.rest.result.now c.rest.ensures.value f.within f.text f.rest;
+      takes = c.requires;
+    } in
+    record {
+      values = values;
+      row = subst (HasRow t len) (ap (λ x. Some (map (trimmed x.dialect.trim) values)) (sym r.rules)) (row_refilled s t len _ r row);
+      texts = c.in_ok-fill.ensures.texts ∙ ap (λ x. map (λ v. encode_utf8_all (trimmed x.dialect.trim v)) values) (sym r.rules);
+    }
 
 pub returns-clause-turns : goal.returns-clause-turns
-returns-clause-turns c =
-    let s = c.args.self.now in
-    let t = c.pass.new.self in
-    let d = s.rules.dialect in
-    let values = c.args.values.now in
-    let p = passes_from s _ t c.args.len refl refl refl refl refl refl c.pass.ensures.passes in
-    let texts = ap (λ f. f.items) c.pass.ensures.fields ∙ c.in_ok-self.ensures in
-    let full : (d.skip_blank_rows && list_all is_empty (map (trimmed d.trim) values)) ≡ false = elim c.else-self.branch [
-      | else-self-via-then-self+else-all_empty w ↦ and_right d.skip_blank_rows _ (sym (blank_texts d.trim values) ∙ ap (list_all _) (sym (w.as_slice.ensures.value ∙ texts)) ∙ sym w.all_empty.ensures ∙ w.if-all_empty.false)
-      | else-self-via-else-self w ↦ and_left d.skip_blank_rows _ (ap (λ r. r.dialect.skip_blank_rows) (sym p.rules) ∙ w.if-self.false)
-    ] in
-    (p.ended, c.pass.ensures.unread, row_gives s _ c.args.len values (passes_to s t _ c.args.len refl refl refl refl refl refl p) (ap (λ n. n + 1) c.pass.ensures.remained) c.requires texts full)
+returns-clause-turns c = turns_from c.args.self.now c.fill.new.self c.pass_fields.new.self (Ok c.pass_fields.result) c.in_ok-fill.ensures.refills c.pass_fields.ensures.turns

@@ -1,15 +1,9 @@
-use Rattle.std.proofs.Common.{◌≡◌, None, refl, sym, ap}
-use Rattle.csvw_rows.proofs.States.{note_stays, is_done, is_stopped}
+use Rattle.std.proofs.Common.{Ok}
+use Rattle.csvw_rows.proofs.RowSteps.{turns_from}
 use Rattle.csvw_rows.proofs.rows.Rows.turn.Goals as goal
 
-pub returns-in-Ok-Row-default-None-clause-turns : goal.returns-in-Ok-Row-default-None-clause-turns
-returns-in-Ok-Row-default-None-clause-turns c =
-    let p = c.pass.ensures.passes in
-    let g = rw (c.in-Ok-Row-default-None.field-0-is, c.in-Ok-Row-default-None.field-0-1-is) at c.in-Ok-Row-default-None.ensures in
-    (p.ended, c.pass.ensures.unread, note_stays c.args.self.now c.pass.new.self c.in-Ok-Row-default-None.len None p c.pass.ensures.remained g (λ n. refl))
+pub returns-in-Some-clause-turns : goal.returns-in-Some-clause-turns
+returns-in-Some-clause-turns c = turns_from c.args.self.now c.cut.new.self c.pass_fields.new.self (Ok c.pass_fields.result) c.cut.ensures.refills c.pass_fields.ensures.turns
 
-pub returns-in-Ok-Waits-clause-turns : goal.returns-in-Ok-Waits-clause-turns
-returns-in-Ok-Waits-clause-turns c = (refl, (λ d max bytes ended given h. h), is_done c.args.self.now (rw c.in-Ok-Waits.field-0-is at c.in-Ok-Waits.ensures))
-
-pub returns-in-Err-clause-turns : goal.returns-in-Err-clause-turns
-returns-in-Err-clause-turns c = (refl, is_stopped c.args.self.now _ c.in-Err.ensures)
+pub returns-clause-turns : goal.returns-clause-turns
+returns-clause-turns c = turns_from c.args.self.now c.cut.new.self c.read_turn.new.self c.read_turn.result c.cut.ensures.refills c.read_turn.ensures.turns

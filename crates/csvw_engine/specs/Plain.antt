@@ -1,0 +1,207 @@
+-- What a run over one table without a schema leaves (Generating RDF from Tabular Data on the Web, section 4.2, minimal mode).
+use Rattle.std.specs.Prelude.{◌≡◌, ◌⊎◌, ◌<◌, ◌≤◌, ◌+◌, ◌-◌, ◌^◌, ℕ, Bool, true, false, List, [], ◌∷◌, ◌++◌, codes, length, take, Option, None, Result, Ok, Err}
+use Rattle.std.specs.Io.KnownBytes.{Appends, Consumes, IsAtEnd}
+use Rattle.url.specs.Parts.{Parts}
+use Rattle.csvw_text.specs.declared.counted.Counted.{Counted}
+use Rattle.csvw_text.specs.Count.{one_more}
+use Rattle.csvw_text.specs.Counted.{inner_of, failures_of}
+use Rattle.csvw_iri.specs.Link.{Refusal, too_long, bad, base_of, iri_of}
+use Rattle.csvw_rows.specs.declared.dialect.Dialect.{Dialect}
+use Rattle.csvw_rows.specs.declared.stop.RowStop.{RowStop}
+use Rattle.csvw_rows.specs.Files.{Row as FileRow, Front, Body}
+use Rattle.csvw_rows.specs.Lawful.{IsDefault}
+use Rattle.csvw_rows.specs.RowValue.{Given}
+use Rattle.csvw_rows.specs.Stops.{StopOf}
+use Rattle.csvw_columns.specs.declared.column.Columns.{Columns}
+use Rattle.csvw_columns.specs.declared.table_stop.TableStop.{TableStop}
+use Rattle.csvw_annotate.specs.Tables.{IsAnnotated}
+use Rattle.csvw_annotate.specs.declared.row.Row.{Row}
+use Rattle.csvw_triples.specs.declared.term.Triple.{Triple}
+use Rattle.csvw_triples.specs.Graph.{Minimal}
+use Rattle.csvw_ntriples.specs.declared.term.NtTriple.{NtTriple}
+use Rattle.csvw_ntriples.specs.Grammar.{Denotes}
+use Rattle.csvw_ntriples.specs.SameUpTo.{SameUpTo}
+use Rattle.csvw_ntriples.specs.Written.{written}
+use Rattle.csvw_engine.specs.Tables.{max_rows, HasAll, BeginsWith, IsRefused, table_triples}
+use Rattle.csvw_engine.specs.declared.meta_fault.MetaCode.{MetaCode}
+use Rattle.csvw_engine.specs.declared.meta_fault.MetaCode.TheVariants as code
+use Rattle.csvw_engine.specs.declared.meta_fault.MetaFault.{MetaFault}
+use Rattle.csvw_engine.specs.declared.stop.Stop.{Stop}
+use Rattle.csvw_engine.specs.declared.stop.Stop.TheVariants as stop
+
+-- What a run began with and what it left: the bytes that the reader has still to give and those that the writer holds, where
+-- they tell them, and how often each of them failed.
+pub record Run : Type 0 where
+  pub unread : Option (List ℕ)
+  pub left : Option (List ℕ)
+  pub input_failures : ℕ
+  pub input_failed : ℕ
+  pub held : Option (List ℕ)
+  pub holds : Option (List ℕ)
+  pub out_failures : ℕ
+  pub out_failed : ℕ
+
+abbrev pub run_of : {R W : Type 0} → (R → Option (List ℕ)) → (W → Option (List ℕ)) → Counted R → Counted R → Counted W → Counted W → Run
+run_of remaining contents input read out wrote = record {
+  unread = remaining (inner_of input);
+  left = remaining (inner_of read);
+  input_failures = failures_of input;
+  input_failed = failures_of read;
+  held = contents (inner_of out);
+  holds = contents (inner_of wrote);
+  out_failures = failures_of out;
+  out_failed = failures_of wrote;
+}
+
+-- a count of failures rose by one, where it had room
+abbrev pub Rose : ℕ → ℕ → Type 0
+Rose old new = old < 2 ^ 64 - 1 → new ≡ old + 1
+
+-- a count of failures stays
+abbrev pub StaysAt : ℕ → ℕ → Type 0
+StaysAt old new = old < 2 ^ 64 - 1 → new ≡ old
+
+-- the bytes that the writer gained denote the graph of these rows, with a name of its own for each blank node
+pub record WroteGraph (run : Run) (columns : Option Columns) (rows : List Row) : Type 0 where
+  pub added : List ℕ
+  pub appended : Appends run.held run.holds added
+  pub triples : List NtTriple
+  pub denotes : Denotes added triples
+  pub same : SameUpTo (Minimal 1 columns rows) triples
+
+-- the bytes that the reader gave, by the default dialect
+pub record HasRead (run : Run) (d : Dialect) (bytes : List ℕ) (ended : Bool) : Type 0 where
+  pub is_default : IsDefault d
+  pub consumed : Consumes run.unread run.left bytes
+  pub at_end : ended ≡ true → IsAtEnd run.left
+
+-- all bytes of the reader are a table at this URL, and its graph was written
+pub record Converts (base : Parts) (run : Run) : Type 0 where
+  pub dialect : Dialect
+  pub bytes : List ℕ
+  pub read : HasRead run dialect bytes true
+  pub columns : Option Columns
+  pub rows : List Row
+  pub annotated : IsAnnotated dialect max_rows (iri_of base) bytes columns rows
+  pub wrote : WroteGraph run columns rows
+
+-- the graph of these rows was written, and there is a reason to stop behind them
+pub record StopsBehind (run : Run) (Reason : Dialect → List ℕ → Bool → Option Columns → List Row → Type 0) : Type 0 where
+  pub dialect : Dialect
+  pub bytes : List ℕ
+  pub ended : Bool
+  pub read : HasRead run dialect bytes ended
+  pub columns : Option Columns
+  pub rows : List Row
+  pub reason : Reason dialect bytes ended columns rows
+  pub wrote : WroteGraph run columns rows
+  pub no_failure : StaysAt run.out_failures run.out_failed
+
+-- these rows of the source come first in the text so far
+abbrev pub AreFirst : Dialect → List ℕ → Bool → List Given → Type 0
+AreFirst d bytes ended given = (front : List FileRow) → Front d max_rows bytes ended front → (rest : List Given) × (Body d front ≡ given ++ rest)
+
+-- all rows of the text so far are there, and the stop of the records stands behind them
+abbrev pub IsStoppedAt : Parts → ℕ → RowStop → Dialect → List ℕ → Bool → Option Columns → List Row → Type 0
+IsStoppedAt base row reason d bytes ended columns rows = HasAll d base columns bytes ended rows × StopOf d max_rows bytes ended reason row
+
+-- a row of the text so far is refused, and those in front of it are there
+pub record IsRefusedAt (base : Parts) (row : ℕ) (reason : TableStop) (d : Dialect) (bytes : List ℕ) (ended : Bool) (columns : Option Columns) (rows : List Row) : Type 0 where
+  pub refused : IsRefused d base columns bytes ended rows row reason
+  pub first : AreFirst d bytes ended (refused.given ++ (refused.raw ∷ []))
+
+-- a reader failed, or many bytes were read; all rows of the bytes so far are there
+pub record IsCutShort (base : Parts) (run : Run) (d : Dialect) (bytes : List ℕ) (ended : Bool) (columns : Option Columns) (rows : List Row) : Type 0 where
+  pub not_ended : ended ≡ false
+  pub blame : (run.input_failed ≡ one_more run.input_failures) ⊎ (2 ^ 40 ≤ length bytes)
+  pub whole : ((bytes ≡ []) × (columns ≡ None) × (rows ≡ [])) ⊎ HasAll d base columns bytes false rows
+
+-- whole lines: a front of the triples of the rows so far; and more bytes
+pub record StopsWithin (base : Parts) (run : Run) (more : List ℕ) : Type 0 where
+  pub dialect : Dialect
+  pub bytes : List ℕ
+  pub ended : Bool
+  pub read : HasRead run dialect bytes ended
+  pub columns : Option Columns
+  pub rows : List Row
+  pub begins : BeginsWith dialect base columns bytes ended rows
+  pub first : AreFirst dialect bytes ended begins.given
+  pub front : List Triple
+  pub rest : List Triple
+  pub parts : table_triples 1 columns rows ≡ front ++ rest
+  pub appended : Appends run.held run.holds (written front ++ more)
+
+-- a front of a line, and not the whole
+abbrev pub IsCutLine : List ℕ → Type 0
+IsCutLine more = (more ≡ []) ⊎ ((triple : Triple) × (n : ℕ) × (n < length (written (triple ∷ []))) × (more ≡ take n (written (triple ∷ []))))
+
+-- nothing was read, and nothing written
+pub record IsUntouched (run : Run) : Type 0 where
+  pub input : run.left ≡ run.unread
+  pub out : run.holds ≡ run.held
+  pub no_failure : run.out_failed ≡ run.out_failures
+
+-- why a run over the table at this URL stops
+abbrev pub StopsSo : Parts → Run → Stop → Type 0
+StopsSo base run stop.Memory = IsUntouched run ⊎ (StopsWithin base run [] × StaysAt run.out_failures run.out_failed)
+StopsSo base run stop.Read = StopsBehind run (IsCutShort base run)
+StopsSo base run stop.Write = (more : List ℕ) × IsCutLine more × StopsWithin base run more × Rose run.out_failures run.out_failed
+StopsSo base run (stop.Rows t row reason) = (t ≡ 1) × StopsBehind run (IsStoppedAt base row reason)
+StopsSo base run (stop.Table t row reason) = (t ≡ 1) × StopsBehind run (IsRefusedAt base row reason)
+StopsSo base run (stop.Meta fault) = ⊥
+StopsSo base run stop.TableCount = ⊥
+StopsSo base run stop.UnknownTable = ⊥
+StopsSo base run stop.AfterEnd = ⊥
+StopsSo base run stop.NotEnded = ⊥
+StopsSo base run stop.Failed = ⊥
+
+-- after a run over the table at this URL, up to the flushes
+abbrev pub Runs : Parts → Run → Result Unit Stop → Type 0
+Runs base run (Ok u) = Converts base run × StaysAt run.out_failures run.out_failed
+Runs base run (Err reason) = StopsSo base run reason
+
+-- the fault of a URL that is refused
+abbrev pub url_fault : Refusal → MetaFault
+url_fault too_long = record { code = code.UrlTooLong; pointer = codes "/url" }
+url_fault bad = record { code = code.BadUrl; pointer = codes "/url" }
+
+-- there is no memory, or a fault of this code at the URL
+abbrev pub TellsCode : MetaCode → Stop → Type 0
+TellsCode c stop.Memory = Unit {0}
+TellsCode c (stop.Meta fault) = fault ≡ record { code = c; pointer = codes "/url" }
+TellsCode c stop.Read = ⊥
+TellsCode c stop.Write = ⊥
+TellsCode c (stop.Rows t row reason) = ⊥
+TellsCode c (stop.Table t row reason) = ⊥
+TellsCode c stop.TableCount = ⊥
+TellsCode c stop.UnknownTable = ⊥
+TellsCode c stop.AfterEnd = ⊥
+TellsCode c stop.NotEnded = ⊥
+TellsCode c stop.Failed = ⊥
+
+-- there is no memory, or the URL is refused with its fault
+abbrev pub IsUrlStop : Result Parts Refusal → Stop → Type 0
+IsUrlStop url stop.Memory = Unit {0}
+IsUrlStop url (stop.Meta fault) = (refusal : Refusal) × (url ≡ Err refusal) × (fault ≡ url_fault refusal)
+IsUrlStop url stop.Read = ⊥
+IsUrlStop url stop.Write = ⊥
+IsUrlStop url (stop.Rows t row reason) = ⊥
+IsUrlStop url (stop.Table t row reason) = ⊥
+IsUrlStop url stop.TableCount = ⊥
+IsUrlStop url stop.UnknownTable = ⊥
+IsUrlStop url stop.AfterEnd = ⊥
+IsUrlStop url stop.NotEnded = ⊥
+IsUrlStop url stop.Failed = ⊥
+
+-- the text is a URL, of which this holds
+abbrev pub AtUrl : List ℕ → (Parts → Type 0) → Type 0
+AtUrl url P = (base : Parts) × (base_of None url ≡ Ok base) × P base
+
+-- a flush failed, behind the whole graph
+abbrev pub FlushFails : Run → ℕ → ℕ → Stop → Parts → Type 0
+FlushFails run reports reported reason base = (reason ≡ stop.Write) × Converts base run × (Rose run.out_failures run.out_failed ⊎ Rose reports reported)
+
+-- Why a run stops: the URL is refused, which comes before all else; the table is cut short; or a flush failed.
+abbrev pub PlainStops : List ℕ → Run → ℕ → ℕ → Stop → Type 0
+PlainStops url run reports reported reason =
+    (IsUntouched run × IsUrlStop (base_of None url) reason) ⊎ (AtUrl url (λ base. StopsSo base run reason) ⊎ AtUrl url (FlushFails run reports reported reason))

@@ -1,0 +1,128 @@
+-- A row whose fields were cut out of the bytes is a row that is taken.
+use Rattle.std.proofs.Common.{◌≡◌, ◌∙◌, ℕ, zero, suc, ◌+◌, ◌-◌, ◌<◌, ◌≤◌, Bool, true, false, List, [], ◌∷◌, ◌++◌, map, length, take, drop, Option, Some, None, refl, sym, ap, subst, arith, append_assoc, length-append, length-drop, ◌⊎◌, inl, inr, chars, nat_eq, nat_lt, ◌||◌}
+use Rattle.std.specs.Prelude.{IsUtf8, encode_utf8_all}
+use Rattle.std.specs.Str.{is_utf8}
+use Rattle.std.specs.List.{starts_with}
+use Rattle.std.proofs.lemmas.Bool.Decides.{nat_tests}
+use Rattle.std.proofs.lemmas.Grind.{common_steps}
+use Rattle.std.proofs.lemmas.List.{drop-drop}
+use Rattle.std.proofs.lemmas.Str.{IsUtf8-from_is_utf8, is_utf8-from_IsUtf8, encodes-chars, encodes-append}
+use Rattle.csvw_rows.specs.declared.dialect.Dialect.{Dialect}
+use Rattle.csvw_rows.specs.declared.bound.Bound.{Bound}
+use Rattle.csvw_rows.specs.declared.dialect.Trim.TheVariants.{No}
+use Rattle.csvw_rows.specs.declared.rows.Rows.{Rows}
+use Rattle.csvw_rows.specs.Cuts.{IsCutRow, IsRowLen}
+use Rattle.csvw_rows.specs.Files.{Row, IsRow, is_note, begins_with, prefix_of}
+use Rattle.csvw_rows.specs.Grammar.{terminator_len, trimmed, RowText}
+use Rattle.csvw_rows.specs.Lawful.{IsLawful}
+use Rattle.csvw_rows.specs.Lengths.{byte_len, row_limit}
+use Rattle.csvw_rows.specs.Nexts.{TakesRow, is_last}
+use Rattle.csvw_rows.specs.RowsState.{HasFields, after_of}
+use Rattle.csvw_rows.specs.SourceState.{text_items, taken_of, rest_of}
+use Rattle.csvw_rows.proofs.Continue.{starts_split, starts_itself}
+use Rattle.csvw_rows.proofs.Notes.{note_same, ends_break, starts_stays}
+use Rattle.csvw_rows.proofs.Ascii.{term_chars, term_text}
+use Rattle.csvw_rows.proofs.Lookahead.{term_within}
+use Rattle.csvw_rows.proofs.Utf8.{drop_past}
+
+module _ (d : Dialect) (text : List ℕ) (start at : ℕ) (bounds : List Bound) (ut : is_utf8 (drop start text) ≡ true) (k : IsCutRow d text start at bounds) where
+  row_bytes : byte_len k.row ≡ at - start
+  row_bytes =
+      let rest = drop at text in
+      let whole : drop start text ≡ encode_utf8_all k.row ++ rest =
+      sym (encodes-chars (drop start text) (IsUtf8-from_is_utf8 (drop start text) ut)) ∙ ap encode_utf8_all k.spelled ∙ encodes-append k.row (chars rest)
+      ∙ ap (λ l. encode_utf8_all k.row ++ l) (encodes-chars rest (IsUtf8-from_is_utf8 rest k.rest_text)) in
+      let f = k.from_start in
+      let w = k.within in
+      omega (arith, f, w, ap length whole, length-append (encode_utf8_all k.row) rest, length-drop start text, length-drop at text)
+
+  pub cut_takes : (whole : Bool) (max i : ℕ) → IsLawful d → i < max → is_note d i (chars (drop start text)) ≡ false → at - start ≤ row_limit
+      → TakesRow whole d max i (chars (drop start text)) (length k.row + terminator_len d (drop at text)) (Some (map (trimmed d.trim) k.values))
+  cut_takes whole max i w few note short =
+      let after = chars (drop at text) in
+      let t = term_chars d (drop at text) k.ends in
+      let e = k.ends in
+      let same = t.same in
+      let ends : 0 < terminator_len d after = omega (arith, e, same) in
+      let long = term_within d after ends in
+      let s = k.spelled in
+      let mine : is_note d i k.row ≡ false = sym (note_same d i k.row after w (ends_break false d after (inl ends))) ∙ ap (is_note d i) (sym s) ∙ note in
+      record {
+        some = omega (arith, e);
+        within = omega (arith, long, same, ap length s, length-append k.row after);
+        few = few;
+        row = record { text = k.row; fields = Some (map (trimmed d.trim) k.values) };
+        fields_are = refl;
+        short = omega (arith, short, row_bytes);
+        stands = inl (
+          after,
+          s,
+          (rw mine (map (trimmed d.trim) k.values, refl, (k.values, k.fields, refl))),
+          ends,
+          ap (drop (length k.row + terminator_len d (drop at text))) s ∙ drop_past k.row after (terminator_len d (drop at text)) ∙ ap (λ n. drop n after) (sym same),
+        );
+      }
+
+  -- its bytes
+  pub cut_rest : drop ((at - start) + terminator_len d (drop at text)) (drop start text) ≡ drop (terminator_len d (drop at text)) (drop at text)
+  cut_rest =
+      let t = terminator_len d (drop at text) in
+      let f = k.from_start in
+      drop-drop ((at - start) + t) start text ∙ ap (λ n. drop n text) (let e : start + ((at - start) + t) ≡ at + t = omega (arith, f) in e) ∙ sym (drop-drop t at text)
+
+  pub cut_text : is_utf8 (drop ((at - start) + terminator_len d (drop at text)) (drop start text)) ≡ true
+  cut_text =
+      let rest = drop at text in
+      ap is_utf8 cut_rest ∙ is_utf8-from_IsUtf8 (drop (terminator_len d rest) rest) (term_text d rest k.ends (IsUtf8-from_is_utf8 rest k.rest_text))
+
+  pub cut_same : chars (drop ((at - start) + terminator_len d (drop at text)) (drop start text)) ≡ drop (length k.row + terminator_len d (drop at text)) (chars (drop start text))
+  cut_same =
+      let after = chars (drop at text) in
+      let t = term_chars d (drop at text) k.ends in
+      ap chars cut_rest ∙ t.behind ∙ sym (ap (drop (length k.row + terminator_len d (drop at text))) k.spelled ∙ drop_past k.row after (terminator_len d (drop at text)))
+
+  pub cut_within : terminator_len d (drop at text) ≤ length (drop at text) → (at - start) + terminator_len d (drop at text) ≤ length (drop start text)
+  cut_within h = let f = k.from_start in let w = k.within in omega (arith, h, f, w, length-drop at text, length-drop start text)
+
+-- a text that doesn't begin with the bytes of the prefix doesn't begin with its characters
+pub no_prefix : (rest prefix : List ℕ) → IsUtf8 rest → IsUtf8 prefix → starts_with nat_eq rest prefix ≡ false → starts_with nat_eq (chars rest) (chars prefix) ≡ false
+no_prefix rest prefix u v e = by_test (starts_with nat_eq (chars rest) (chars prefix)) refl
+  where
+    by_test : (b : Bool) → starts_with nat_eq (chars rest) (chars prefix) ≡ b → b ≡ false
+    by_test false t = refl
+    by_test true t =
+        let s = starts_split (chars rest) (chars prefix) t in
+        let spelled : rest ≡ prefix ++ encode_utf8_all s.0 =
+        sym (encodes-chars rest u) ∙ ap encode_utf8_all s.1 ∙ encodes-append (chars prefix) s.0 ∙ ap (λ l. l ++ encode_utf8_all s.0) (encodes-chars prefix v) in
+        sym (starts_stays prefix prefix (encode_utf8_all s.0) (starts_itself prefix)) ∙ ap (λ l. starts_with nat_eq l prefix) (sym spelled) ∙ e
+
+pub no_note : (d : Dialect) (i : ℕ) (rest : List ℕ) → d.skip_rows ≤ i → begins_with (chars rest) (prefix_of d) ≡ false → is_note d i (chars rest) ≡ false
+no_note d i rest h e = neither (nat_lt i d.skip_rows) (begins_with (chars rest) (prefix_of d)) low e
+  where
+    low : nat_lt i d.skip_rows ≡ false
+    low = grind (arith, nat_tests)
+
+    neither : (a b : Bool) → a ≡ false → b ≡ false → (a || b) ≡ false
+    neither a b f g = rw (f, g) refl
+
+-- the fields of the row at the front of a reader's text were cut
+pub cut_has : (t : Rows) (at n : ℕ) → t.rules.dialect.trim ≡ No → t.row < t.max_rows → is_note t.rules.dialect t.row (rest_of t.source) ≡ false
+    → IsCutRow t.rules.dialect (text_items t.source) (taken_of t.source) at t.fields.items → IsRowLen t.rules.dialect (text_items t.source) (taken_of t.source) at n → HasFields t n
+cut_has t at n trim few note k l =
+    let d = t.rules.dialect in
+    let text = text_items t.source in
+    let start = taken_of t.source in
+    let ut = t.source.is_text in
+    record {
+      values = k.values;
+      row = record {
+        len = length k.row + terminator_len d (drop at text);
+        front = record {
+          within = (let h = cut_within d text start at t.fields.items ut k l.within in let v = l.value in omega (arith, h, v));
+          is_text = ap (λ m. is_utf8 (drop m (drop start text))) l.value ∙ cut_text d text start at t.fields.items ut k;
+          same = ap (λ m. chars (drop m (drop start text))) l.value ∙ cut_same d text start at t.fields.items ut k;
+        };
+        takes = cut_takes d text start at t.fields.items ut k (is_last (after_of t)) t.max_rows t.row t.rules.lawful few note l.short;
+      };
+      texts = k.texts t.spare.items ∙ sym (ap (λ x. map (λ v. encode_utf8_all (trimmed x v)) k.values) trim);
+    }

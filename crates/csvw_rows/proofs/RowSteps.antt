@@ -1,0 +1,74 @@
+-- A reader whose fields were filled anew.
+use Rattle.std.proofs.Common.{◌≡◌, ◌∙◌, ℕ, ◌+◌, ◌-◌, ◌<◌, ◌≤◌, Bool, true, false, List, [], ◌∷◌, ◌++◌, map, length, take, drop, Option, Some, None, Result, Ok, Err, refl, sym, ap, subst, arith, length-drop, chars}
+use Rattle.std.specs.Str.{is_utf8}
+use Rattle.csvw_rows.specs.declared.dialect.Dialect.{Dialect}
+use Rattle.csvw_rows.specs.declared.rows.Rows.{Rows}
+use Rattle.csvw_rows.specs.declared.stop.RowStop.{RowStop}
+use Rattle.csvw_rows.specs.declared.next.Turn.{Turn}
+use Rattle.csvw_rows.specs.declared.next.Turn.TheVariants as turn
+use Rattle.csvw_rows.specs.Nexts.{TakesRow, is_last}
+use Rattle.csvw_rows.specs.RowValue.{Given}
+use Rattle.csvw_rows.specs.SourceState.{rest_bytes, rest_of, is_bad_of, pending_of, Decodes}
+use Rattle.csvw_rows.specs.RowsState.{Holds, HasRead, Stays, Turns, Refills, HasRow, AreFront, after_of, is_ended_of, unread, stop_of, Passes}
+
+pub refills_stay : (s t : Rows) → Refills s t → Stays s t
+refills_stay s t r d max bytes ended given h = record {
+  dialect = ap (λ x. x.dialect) r.rules ∙ h.dialect;
+  max_is = r.max_rows ∙ h.max_is;
+  ended_is = r.ended ∙ h.ended_is;
+  no_stop = r.stop ∙ h.no_stop;
+  decodes = subst (λ x. Decodes x bytes) (sym r.source) h.decodes;
+  rows = h.rows;
+  read = subst (λ x. HasRead d max bytes ended (rest_of x) h.rows) (sym r.source) h.read;
+  row_is = r.row ∙ h.row_is;
+  remained_is = r.remained ∙ h.remained_is;
+  given_is = h.given_is;
+}
+
+refills_unread : (s t : Rows) → Refills s t → unread t ≡ unread s
+refills_unread s t r = ap (λ x. length (rest_of x)) r.source
+
+-- a turn from there is one from where it was
+pub turns_from : (s t u : Rows) (x : Result Turn RowStop) → Refills s t → Turns t u x → Turns s u x
+turns_from s t u (Ok turn.Given) r (ended, less, gives) =
+    (ended ∙ r.ended, (let e = refills_unread s t r in omega (arith, less, e)), (λ d max bytes ended given h. gives d max bytes ended given (refills_stay s t r d max bytes ended given h)))
+turns_from s t u (Ok turn.Passed) r (ended, less, stays) =
+    (ended ∙ r.ended, (let e = refills_unread s t r in omega (arith, less, e)), (λ d max bytes ended given h. stays d max bytes ended given (refills_stay s t r d max bytes ended given h)))
+turns_from s t u (Ok turn.Waits) r (ended, stays, done) =
+    (ended ∙ r.ended, (λ d max bytes ended given h. stays d max bytes ended given (refills_stay s t r d max bytes ended given h)), (λ d max bytes ended given h. done d max bytes ended given (refills_stay s t r d max bytes ended given h)))
+turns_from s t u (Err e) r (ended, stopped) =
+    (ended ∙ r.ended, (λ n d max bytes ended given h. stopped n d max bytes ended given (refills_stay s t r d max bytes ended given h)))
+
+-- and so is the row at the front
+pub row_refilled : (s t : Rows) (bytes : ℕ) (fields : Option (List (List ℕ))) → Refills s t → HasRow s bytes fields → HasRow t bytes fields
+row_refilled s t bytes fields r h = record {
+  len = h.len;
+  front = front_refilled r h.front;
+  takes = subst (λ (b : Bool). TakesRow b t.rules.dialect t.max_rows t.row (rest_of t.source) h.len fields) (sym after)
+      (subst (λ (x : Dialect). TakesRow (is_last (after_of s)) x t.max_rows t.row (rest_of t.source) h.len fields) (sym (ap (λ x. x.dialect) r.rules))
+      (subst (λ (n : ℕ). TakesRow (is_last (after_of s)) s.rules.dialect n t.row (rest_of t.source) h.len fields) (sym r.max_rows)
+      (subst (λ (n : ℕ). TakesRow (is_last (after_of s)) s.rules.dialect s.max_rows n (rest_of t.source) h.len fields) (sym r.row)
+      (subst (λ x. TakesRow (is_last (after_of s)) s.rules.dialect s.max_rows s.row (rest_of x) h.len fields) (sym r.source) h.takes))));
+}
+  where
+    after : is_last (after_of t) ≡ is_last (after_of s)
+    after = rw (r.source, r.ended) refl
+
+    front_refilled : Refills s t → AreFront s bytes h.len → AreFront t bytes h.len
+    front_refilled r f = record {
+      within = subst (λ x. bytes ≤ length (rest_bytes x)) (sym r.source) f.within;
+      is_text = subst (λ x. is_utf8 (drop bytes (rest_bytes x)) ≡ true) (sym r.source) f.is_text;
+      same = subst (λ x. chars (drop bytes (rest_bytes x)) ≡ drop h.len (rest_of x)) (sym r.source) f.same;
+    }
+
+-- a row that is taken leaves less
+pub less_unread : (s t : Rows) (len : ℕ) → Passes s t len → 0 < len → len ≤ length (rest_of s.source) → unread t < unread s
+less_unread s t len p some within = let e = ap length p.rest in omega (arith, e, some, within, length-drop len (rest_of s.source))
+
+-- characters at the front, by the text that isn't taken
+pub front_of : (s : Rows) (bytes len : ℕ) (rest : List ℕ) → rest ≡ rest_bytes s.source → bytes ≤ length rest → is_utf8 (drop bytes rest) ≡ true → chars (drop bytes rest) ≡ drop len (chars rest) → AreFront s bytes len
+front_of s bytes len rest e within text same = record {
+  within = subst (λ (l : List ℕ). bytes ≤ length l) e within;
+  is_text = subst (λ (l : List ℕ). is_utf8 (drop bytes l) ≡ true) e text;
+  same = subst (λ (l : List ℕ). chars (drop bytes l) ≡ drop len (chars l)) e same;
+}
