@@ -5,8 +5,9 @@
 The documents are small and the same at each run: each spelling of a triple, and lines with one character dropped,
 doubled, replaced or put in. The grammar is that of RDF 1.1 N-Triples, section 7, written here once more, as regular
 expressions. Printed are the differences of serdi and rapper from it by their kinds, each with how many documents have it
-and the shortest of them. A kind is a change of the grammar that accounts for the difference. Exit status 1 where our
-reader differs from the grammar, or a difference is of no kind.
+and the shortest of them. A kind is a change of the grammar that accounts for the difference. Where both take a document, our
+triples are compared with serdi's. Exit status 1 where our reader differs from the grammar, or reads other triples than
+serdi, or a difference is of no kind.
 """
 
 import os
@@ -284,17 +285,34 @@ def show(reader, taken, found):
     return None not in kinds
 
 
+def output(command, document):
+    """What the command writes, or None where it refuses the document."""
+    run = subprocess.run(command, input=document, stdout=subprocess.PIPE, stderr=subprocess.DEVNULL)
+    return run.stdout if run.returncode == 0 else None
+
+
+def compared(document):
+    """Whether serdi's triples are ours, both in our spelling; None where one of us doesn't write them."""
+    ours = output([PROGRAM, "write", "1"], document)
+    theirs = output(READERS["serdi"], document)
+    if ours is None or theirs is None:
+        return None
+    return output([PROGRAM, "write", "1"], theirs) == ours
+
+
 def main():
     subprocess.run(["rt", "run", "--", "count"], cwd=CRATE, stdin=subprocess.DEVNULL, stdout=subprocess.DEVNULL, check=True)
     every = documents()
     with ThreadPoolExecutor(max_workers=3) as pool:
         answers = list(pool.map(verdicts, every))
-    grammar = Grammar()
-    wanted = [grammar.has(document) for document in every]
+        grammar = Grammar()
+        wanted = [grammar.has(document) for document in every]
+        same = list(pool.map(compared, (d for d, w in zip(every, wanted) if w)))
     print(f"{len(every)} documents, of which the grammar has {sum(wanted)}")
     wrong = [d for d, w, a in zip(every, wanted, answers) if a["ours"] != w]
     print(f"ours differs at {len(wrong)}", *map(repr, wrong))
-    named = not wrong
+    print(f"serdi's triples are ours in {same.count(True)} of them and others in {same.count(False)}")
+    named = not wrong and False not in same
     for reader in ("serdi", "rapper"):
         for taken in (True, False):
             found = [d for d, w, a in zip(every, wanted, answers) if a[reader] != w and w != taken]

@@ -137,13 +137,10 @@ impl Rows {
             .as_slice()
             .split_at(columns.min(self.fields.len()));
         let headers = u64::from(self.rules.dialect.header_row_count);
-        RawRow::new(
-            self.source.items(),
-            self.spare.as_slice(),
-            bounds,
-            self.row,
-            self.remained.saturating_sub(headers),
-        )
+        let source = self.row;
+        let number = self.remained.saturating_sub(headers);
+        let text = self.source.items();
+        RawRow::new(text, self.spare.as_slice(), bounds, source, number)
     }
 
     /// Reads on to the next row that is given.

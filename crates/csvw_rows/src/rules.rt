@@ -57,11 +57,11 @@ impl Rules {
     pub fn may_be_skipped(&self, place: u64, rest: &str) -> bool
         ensures { result ≡ false → is_note self.now.dialect place (chars rest.now) ≡ false }
     {
-        let comment = match &self.dialect.comment_prefix {
+        let begins = match &self.dialect.comment_prefix {
             Some(prefix) => rest.as_bytes().starts_with(prefix.as_str().as_bytes()),
             None => false,
         };
-        place < self.dialect.skip_rows || comment
+        place < self.dialect.skip_rows || begins
     }
 
     /// How many characters at the front of the text the prefix has too.

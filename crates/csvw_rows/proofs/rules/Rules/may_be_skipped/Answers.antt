@@ -13,7 +13,7 @@ returns-else-place-self c =
       | in-Some w ↦ λ e.
           let prefix : List ℕ = w.as_str.result.now in
           let bytes : starts_with nat_eq rest prefix ≡ false = ap (λ (l : List ℕ). starts_with nat_eq l prefix) (sym w.as_bytes.ensures.value) ∙ ap (starts_with nat_eq w.as_bytes.result.now) (sym w.as_bytes-in-Some.ensures.value)
-          ∙ sym w.starts_with-comment.ensures.value ∙ sym w.comment-is ∙ e in
+          ∙ sym w.starts_with-begins.ensures.value ∙ sym w.begins-is ∙ e in
           no_note d c.args.place rest c.if-place-self.false
           (ap (λ (o : Option (List ℕ)). begins_with (chars rest) (option_map chars o)) w.in-Some.is ∙ ap (λ (l : List ℕ). starts_with nat_eq (chars rest) (chars l)) (sym w.as_str.ensures) ∙ no_prefix rest prefix c.utf8.rest w.as_str.utf8 bytes)
       | in-None w ↦ λ e. no_note d c.args.place rest c.if-place-self.false (ap (λ (o : Option (List ℕ)). begins_with (chars rest) (option_map chars o)) w.in-None.is)
