@@ -1,7 +1,8 @@
 //! What one run of the program does, over any reader and writers.
 ghost use Rattle.std.specs.Prelude.{◌≡◌, ◌≢◌, IfOk, IfErr, OnOk, IfSome, Err};
 ghost use Rattle.csvw_text.specs.Counted.{inner_of};
-ghost use Rattle.csvw_ntriples_bench.specs.Runs.{HasCount, IsRead, IsRefused, IsWritten};
+ghost use Rattle.csvw_ntriples_bench.specs.Runs.{HasCount, IsDone, IsRead, IsRefused, IsWritten, count_line};
+ghost use Rattle.std.specs.Io.KnownBytes.{Appends};
 ghost use Rattle.csvw_ntriples_bench.specs.declared.halt.Halt.TheVariants as halt;
 
 use crate::convert::triples;
@@ -52,7 +53,8 @@ fn write<W: Write>(
 }
 
 fn send<W: Write>(w: &mut Counted<W>, text: &str) -> Result<(), Halt>
-    ensures { IfErr result (λ h. h ≢ halt.Syntax) }
+    ensures sent { OnOk result (Appends (W.contents (inner_of w.old)) (W.contents (inner_of w.new)) text.now) }
+    ensures err { IfErr result (λ h. h ≢ halt.Syntax) }
 {
     match write_out(w, text.as_bytes()) {
         Ok(()) => Ok(()),
@@ -61,7 +63,8 @@ fn send<W: Write>(w: &mut Counted<W>, text: &str) -> Result<(), Halt>
 }
 
 fn tell_count<W: Write>(alloc: Global, count: usize, out: &mut Counted<W>) -> Result<(), Halt>
-    ensures { IfErr result (λ h. h ≢ halt.Syntax) }
+    ensures told { OnOk result (Appends (W.contents (inner_of out.old)) (W.contents (inner_of out.new)) (count_line count)) }
+    ensures err { IfErr result (λ h. h ≢ halt.Syntax) }
 {
     let Ok(line) = format!(in alloc; "{count} triples\n") else {
         return Err(Halt::Memory);
@@ -85,6 +88,7 @@ fn perform<W: Write>(
     document: &[u8],
     out: &mut Counted<W>,
 ) -> Result<(), Halt>
+    ensures done { OnOk result (IsDone task document.now (W.contents (inner_of out.old)) (W.contents (inner_of out.new))) }
     ensures read { OnOk result (IsRead document.now) }
     ensures refused { result ≡ Err halt.Syntax → IsRefused document.now }
 {
