@@ -10,7 +10,7 @@ use memchr::memchr;
 use std::alloc::{AllocError, Global};
 
 /// How many bytes are looked at first.
-const FIRST_WINDOW: usize = 256;
+const FIRST_WINDOW: usize = 16;
 
 /// The text up to the first line feed behind so many bytes, that among it.
 fn window(text: &str, size: usize) -> &str
@@ -63,7 +63,7 @@ pub fn next_in(
         if let Some(next) = row_there(alloc, rules, max_rows, place, front)? {
             return Ok(next);
         }
-        size = size.saturating_mul(4);
+        size = size.max(front.len()).saturating_mul(2);
     }
     let chars = chars_of(alloc, text)?;
     next_row(alloc, rules, max_rows, place, chars.as_slice(), after)
