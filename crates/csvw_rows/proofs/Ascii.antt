@@ -87,7 +87,7 @@ abbrev pub Fails : (ℕ → Bool) → List ℕ → Type 0
 Fails p [] = Unit {0}
 Fails p (c ∷ cs) = (p c ≡ false) × Fails p cs
 
-fails_right : (p : ℕ → Bool) (xs ys : List ℕ) → Fails p (xs ++ ys) → Fails p ys
+pub fails_right : (p : ℕ → Bool) (xs ys : List ℕ) → Fails p (xs ++ ys) → Fails p ys
 fails_right p [] ys a = a
 fails_right p (x ∷ xs) ys a = fails_right p xs ys a.1
 

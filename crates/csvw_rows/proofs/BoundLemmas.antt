@@ -1,15 +1,15 @@
 -- What a bound that holds says.
-use Rattle.std.proofs.Common.{◌≡◌, ◌∙◌, ℕ, zero, suc, ◌+◌, ◌-◌, ◌<◌, ◌≤◌, Bool, true, false, ◌&&◌, ◌==◌, if◌then◌else◌, List, [], ◌∷◌, ◌++◌, length, take, drop, map, refl, sym, ap, subst, arith, append_assoc, append-nil, length-append, length-take, length-drop, nat_eq, Ok, Err}
+use Rattle.std.proofs.Common.{◌≡◌, ◌∙◌, ℕ, zero, suc, ◌+◌, ◌-◌, ◌≤◌, Bool, true, false, ◌&&◌, ◌==◌, if◌then◌else◌, List, [], ◌∷◌, ◌++◌, length, take, drop, refl, sym, ap, subst, arith, length-append, length-take, length-drop, Ok, Err}
 use Rattle.std.specs.Prelude.{IsUtf8, slice_range, nat_le, Result, OnOk}
 use Rattle.std.specs.List.{list_all}
 use Rattle.std.specs.Str.{is_utf8}
 use Rattle.std.proofs.lemmas.Grind.{common_steps}
 use Rattle.std.proofs.lemmas.Bool.Decides.{nat_tests}
-use Rattle.std.proofs.lemmas.List.{map-append}
+use Rattle.std.proofs.lemmas.List.{map-append, drop-drop}
 use Rattle.std.proofs.lemmas.List.Folds.{list_all-append}
 use Rattle.std.proofs.lemmas.Str.{IsUtf8-from_is_utf8, is_utf8-from_IsUtf8}
 use Rattle.csvw_rows.specs.declared.bound.Bound.{Bound}
-use Rattle.csvw_rows.specs.Bounds.{home_of, bytes_at, is_bound, are_bounds, fields_at, is_apart, apart_all, texts_apart}
+use Rattle.csvw_rows.specs.Bounds.{home_of, bytes_at, is_bound, are_bounds, fields_at, lent_bound, moved, is_apart, apart_all, texts_apart}
 
 and_three : (a b c : Bool) → (a && (b && c)) ≡ true → (a ≡ true) × (b ≡ true) × (c ≡ true)
 and_three a b c e = (grind arith, grind arith, grind arith)
@@ -48,11 +48,21 @@ empty_bounds text spare (b ∷ bs) e =
     both : (a c : Bool) → (a && c) ≡ true → (a ≡ true) × (c ≡ true)
     both a c h = (grind arith, grind arith)
 
+-- a bound where it lies within text
+three_true : (a b c : Bool) → a ≡ true → b ≡ true → c ≡ true → (a && (b && c)) ≡ true
+three_true a b c e f g = rw (e, f, g) refl
+
+within_true : (l : List ℕ) (from to : ℕ) → from ≤ to → to ≤ length l → is_utf8 (slice_range l from to) ≡ true → (nat_le from to && (nat_le to (length l) && is_utf8 (slice_range l from to))) ≡ true
+within_true l from to o w u = three_true _ _ _ (grind (arith, nat_tests)) (grind (arith, nat_tests)) u
+
+pub lent_is : (text spare : List ℕ) (from to : ℕ) → from ≤ to → to ≤ length text → is_utf8 (slice_range text from to) ≡ true → is_bound text spare (lent_bound from to) ≡ true
+lent_is text spare from to o w u = within_true text from to o w u
+
 -- texts that lie in the second buffer
 and_four : (a b c d : Bool) → (a && (b && (c && d))) ≡ true → (a ≡ true) × (b ≡ true) × (c ≡ true) × (d ≡ true)
 and_four a b c d e = (grind arith, grind arith, grind arith, grind arith)
 
-apart_bound : (text spare : List ℕ) (b : Bound) → is_apart spare b ≡ true → (is_bound text spare b ≡ true) × (bytes_at text spare b ≡ slice_range spare b.from b.to)
+pub apart_bound : (text spare : List ℕ) (b : Bound) → is_apart spare b ≡ true → (is_bound text spare b ≡ true) × (bytes_at text spare b ≡ slice_range spare b.from b.to)
 apart_bound text spare b e =
     let t = and_four b.apart (nat_le b.from b.to) (nat_le b.to (length spare)) (is_utf8 (slice_range spare b.from b.to)) e in
     let home : home_of text spare b ≡ spare = ap (λ (x : Bool). if x then spare else text) t.0 in
@@ -104,6 +114,42 @@ all_more spare more (b ∷ bs) e =
     two : (a c : Bool) → a ≡ true → c ≡ true → (a && c) ≡ true
     two a c e f = rw (e, f) refl
 
+-- bounds in either buffer, as the second grows
+bound_more : (text spare more : List ℕ) (b : Bound) → is_bound text spare b ≡ true → (is_bound text (spare ++ more) b ≡ true) × (bytes_at text (spare ++ more) b ≡ bytes_at text spare b)
+bound_more text spare more b e = by_apart b.apart refl
+  where
+    by_apart : (x : Bool) → b.apart ≡ x → (is_bound text (spare ++ more) b ≡ true) × (bytes_at text (spare ++ more) b ≡ bytes_at text spare b)
+    by_apart false a =
+        let home : home_of text (spare ++ more) b ≡ home_of text spare b = ap (λ (x : Bool). if x then spare ++ more else text) a ∙ sym (ap (λ (x : Bool). if x then spare else text) a) in
+        (ap (λ l. nat_le b.from b.to && (nat_le b.to (length l) && is_utf8 (slice_range l b.from b.to))) home ∙ e, ap (λ l. slice_range l b.from b.to) home)
+    by_apart true a =
+        let old : home_of text spare b ≡ spare = ap (λ (x : Bool). if x then spare else text) a in
+        let new : home_of text (spare ++ more) b ≡ spare ++ more = ap (λ (x : Bool). if x then spare ++ more else text) a in
+        let t = bounded text spare b e in
+        let o = t.ordered in
+        let w : b.to ≤ length spare = subst (λ (l : List ℕ). b.to ≤ length l) old t.within in
+        let same = range_more spare more b.from b.to o w in
+        let far : b.to ≤ length (spare ++ more) = omega (arith, w, length-append spare more) in (
+          ap (λ l. nat_le b.from b.to && (nat_le b.to (length l) && is_utf8 (slice_range l b.from b.to))) new
+              ∙ within_true (spare ++ more) b.from b.to o far (ap is_utf8 (same ∙ sym (ap (λ l. slice_range l b.from b.to) old)) ∙ is_utf8-from_IsUtf8 (bytes_at text spare b) t.is_text),
+          ap (λ l. slice_range l b.from b.to) new ∙ same ∙ sym (ap (λ l. slice_range l b.from b.to) old),
+        )
+
+pub bounds_more : (text spare more : List ℕ) (bounds : List Bound) → are_bounds text spare bounds ≡ true
+    → (are_bounds text (spare ++ more) bounds ≡ true) × (fields_at text (spare ++ more) bounds ≡ fields_at text spare bounds)
+bounds_more text spare more [] e = (refl, refl)
+bounds_more text spare more (b ∷ bs) e =
+    let t = both (is_bound text spare b) (are_bounds text spare bs) e in
+    let h = bound_more text spare more b t.0 in
+    let r = bounds_more text spare more bs t.1 in
+    (two _ _ h.0 r.0, ap (λ x. x ∷ fields_at text (spare ++ more) bs) h.1 ∙ ap (λ l. bytes_at text spare b ∷ l) r.1)
+  where
+    both : (a c : Bool) → (a && c) ≡ true → (a ≡ true) × (c ≡ true)
+    both a c h = (grind arith, grind arith)
+
+    two : (a c : Bool) → a ≡ true → c ≡ true → (a && c) ≡ true
+    two a c e f = rw (e, f) refl
+
 -- one more text
 last_range : (spare text : List ℕ) (from to : ℕ) → from ≡ length spare → to ≡ length (spare ++ text) → slice_range (spare ++ text) from to ≡ text
 last_range spare text from to e f = grind (arith, common_steps)
@@ -121,6 +167,37 @@ one_more spare text bounds b e u a f t =
   where
     all : (p a b c d : Bool) → p ≡ true → a ≡ true → b ≡ true → c ≡ true → d ≡ true → (p && ((a && (b && (c && d))) && true)) ≡ true
     all p a b c d x e f g h = rw (x, e, f, g, h) refl
+
+-- a text at the end of the second buffer
+pub apart_is : (text spare more : List ℕ) (from to : ℕ) → from ≡ length spare → to ≡ length (spare ++ more) → is_utf8 more ≡ true
+    → (is_bound text (spare ++ more) (record { from = from; to = to; apart = true }) ≡ true) × (slice_range (spare ++ more) from to ≡ more)
+apart_is text spare more from to e f u =
+    let here = last_range spare more from to e f in
+    (within_true (spare ++ more) from to (omega (arith, e, f, length-append spare more)) (omega (arith, f)) (ap is_utf8 here ∙ u), here)
+
+-- a bound of the bytes behind a place, among all of them
+pub moved_is : (text spare : List ℕ) (at : ℕ) (b : Bound) → at ≤ length text → is_bound (drop at text) spare b ≡ true
+    → (is_bound text spare (moved at b) ≡ true) × (bytes_at text spare (moved at b) ≡ bytes_at (drop at text) spare b)
+moved_is text spare at b h e = by_apart b.apart refl
+  where
+    by_apart : (x : Bool) → b.apart ≡ x → (is_bound text spare (moved at b) ≡ true) × (bytes_at text spare (moved at b) ≡ bytes_at (drop at text) spare b)
+    by_apart true a =
+        let same : moved at b ≡ b = ap (λ (x : Bool). if x then b else lent_bound (at + b.from) (at + b.to)) a in
+        let home : home_of text spare b ≡ home_of (drop at text) spare b = ap (λ (x : Bool). if x then spare else text) a ∙ sym (ap (λ (x : Bool). if x then spare else drop at text) a) in (
+          ap (is_bound text spare) same ∙ ap (λ l. nat_le b.from b.to && (nat_le b.to (length l) && is_utf8 (slice_range l b.from b.to))) home ∙ e,
+          ap (bytes_at text spare) same ∙ ap (λ l. slice_range l b.from b.to) home,
+        )
+    by_apart false a =
+        let same : moved at b ≡ lent_bound (at + b.from) (at + b.to) = ap (λ (x : Bool). if x then b else lent_bound (at + b.from) (at + b.to)) a in
+        let home : home_of (drop at text) spare b ≡ drop at text = ap (λ (x : Bool). if x then spare else drop at text) a in
+        let t = bounded (drop at text) spare b e in
+        let o = t.ordered in
+        let w : b.to ≤ length (drop at text) = subst (λ (l : List ℕ). b.to ≤ length l) home t.within in
+        let here : slice_range text (at + b.from) (at + b.to) ≡ bytes_at (drop at text) spare b =
+        ap (λ n. take n (drop (at + b.from) text)) (let e : (at + b.to) - (at + b.from) ≡ b.to - b.from = omega arith in e) ∙ ap (take (b.to - b.from)) (sym (drop-drop b.from at text)) ∙ sym (ap (λ l. slice_range l b.from b.to) home) in (
+          ap (is_bound text spare) same ∙ lent_is text spare (at + b.from) (at + b.to) (omega (arith, o)) (omega (arith, w, h, length-drop at text)) (ap is_utf8 here ∙ is_utf8-from_IsUtf8 (bytes_at (drop at text) spare b) t.is_text),
+          ap (bytes_at text spare) same ∙ here,
+        )
 
 -- the bounds behind the first
 pub are_dropped : (text spare : List ℕ) (n : ℕ) (bounds : List Bound) → are_bounds text spare bounds ≡ true → are_bounds text spare (drop n bounds) ≡ true

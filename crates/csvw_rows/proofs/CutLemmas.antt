@@ -1,21 +1,24 @@
 -- Fields that are cut out of the bytes are fields of the grammar.
-use Rattle.std.proofs.Common.{◌≡◌, ◌≢◌, ◌∙◌, ℕ, zero, suc, ◌+◌, ◌-◌, ◌<◌, ◌≤◌, Bool, true, false, ◌&&◌, ◌||◌, ◌==◌, if◌then◌else◌, List, [], ◌∷◌, ◌++◌, length, take, drop, get_or, refl, sym, ap, subst, arith, append_assoc, append-nil, length-append, length-take, length-drop, ◌⊎◌, inl, inr, chars, nat_eq, Some, None, Option, IsTrue}
+use Rattle.std.proofs.Common.{◌≡◌, ◌≢◌, ◌∙◌, ℕ, ◌+◌, ◌-◌, ◌<◌, ◌≤◌, Bool, true, false, ◌&&◌, ◌||◌, ◌==◌, if◌then◌else◌, List, [], ◌∷◌, ◌++◌, length, take, drop, get_or, refl, sym, ap, subst, arith, append_assoc, length-take, length-drop, ◌⊎◌, inl, inr, chars, nat_eq, Some, None, Option}
 use Rattle.std.specs.Prelude.{IsUtf8, encode_utf8_all, slice_range, slice_index, IfSome}
 use Rattle.std.specs.Str.{is_utf8}
 use Rattle.std.proofs.lemmas.Grind.{common_steps}
 use Rattle.std.proofs.lemmas.Bool.Decides.{nat_tests}
-use Rattle.std.proofs.lemmas.List.{take-append-drop, get_or-take, get_or-drop, drop-drop}
+use Rattle.std.proofs.lemmas.List.{get_or-take, drop-drop}
 use Rattle.std.proofs.lemmas.Str.{IsUtf8-from_is_utf8, is_utf8-from_IsUtf8, encodes-chars}
 use Rattle.memchr.specs.Find.{is_byte3, is_byte}
 use Rattle.csvw_rows.specs.declared.dialect.Dialect.{Dialect}
+use Rattle.csvw_rows.specs.declared.bound.Bound.{Bound}
 use Rattle.csvw_rows.specs.declared.cut.Cut.{Cut}
 use Rattle.csvw_rows.specs.declared.cut.Symbols.{Symbols}
+use Rattle.csvw_rows.specs.Bounds.{bytes_at, is_bound, lent_bound}
 use Rattle.csvw_rows.specs.Cuts.{IsSymbols, IsBehind, IsCut, NoneBefore}
-use Rattle.csvw_rows.specs.Grammar.{terminator_len, IsPlain, IsField, IsQuoted, IsOpened, AreUnits, escape_char}
+use Rattle.csvw_rows.specs.Grammar.{terminator_len, IsPlain, AreUnits, escape_char}
 use Rattle.csvw_rows.specs.Lawful.{IsLawful}
 use Rattle.csvw_rows.specs.Looks.{unsettled}
 use Rattle.csvw_rows.proofs.Lookahead.{crlf_again}
-use Rattle.csvw_rows.proofs.Ascii.{Fails, fails_at, AsciiAt, ascii_at, split_chars, none_pass, no_cr}
+use Rattle.csvw_rows.proofs.BoundLemmas.{lent_is}
+use Rattle.csvw_rows.proofs.Ascii.{Fails, fails_at, AsciiAt, ascii_at, none_pass, no_cr}
 
 -- the tests
 or_three : (a b c : Bool) → (a || b || c) ≡ false → (a ≡ false) × (b ≡ false) × (c ≡ false)
@@ -47,7 +50,7 @@ term_tests crlf lf a b x e f = grind arith
 flip_false : (a b : ℕ) → a ≢ b → nat_eq b a ≡ false
 flip_false a b n = grind (arith, nat_tests)
 
-no_term : (d : Dialect) (c x : ℕ) (rest : List ℕ) → c ≢ 10 → (x ≢ 10) ⊎ ((d.line_terminators.crlf && (c == 13)) ≡ false) → terminator_len d (c ∷ x ∷ rest) ≡ 0
+pub no_term : (d : Dialect) (c x : ℕ) (rest : List ℕ) → c ≢ 10 → (x ≢ 10) ⊎ ((d.line_terminators.crlf && (c == 13)) ≡ false) → terminator_len d (c ∷ x ∷ rest) ≡ 0
 no_term d c x rest n why = term_tests d.line_terminators.crlf d.line_terminators.lf (nat_eq 13 c) (nat_eq 10 c) (nat_eq 10 x) (by_why why) (flip_false c 10 n)
   where
     last_false : (crlf a : Bool) → (crlf && (a && (false && true))) ≡ false
@@ -70,7 +73,7 @@ no_quote_char d s c y n e = by_quoted s.quoted (e ∙ y.quote)
     by_quoted true h = n (let z : c ≡ s.quote = grind arith in z)
     by_quoted false h = absurd cc
 
-unsettled_last : (d : Dialect) (c : ℕ) → unsettled d (c ∷ []) ≡ [] → (d.line_terminators.crlf && (c == 13)) ≡ false
+pub unsettled_last : (d : Dialect) (c : ℕ) → unsettled d (c ∷ []) ≡ [] → (d.line_terminators.crlf && (c == 13)) ≡ false
 unsettled_last d c e = by_test (d.line_terminators.crlf && (c == 13)) e
   where
     by_test : (b : Bool) → (if b then c ∷ [] else []) ≡ [] → b ≡ false
@@ -109,10 +112,10 @@ range_from_zero : (r : List ℕ) (n : ℕ) → slice_range r 0 n ≡ take n r
 range_from_zero r n = grind (arith, common_steps)
 
 -- what comes behind a field
-behind_here : (d : Dialect) (s : Symbols) (r : List ℕ) (from to at : ℕ) (cut : Cut) → IsUtf8 r → IsSymbols d s → IsUtf8 (drop at r) → at ≤ length r → IsBehind d s r from to at cut
+behind_here : (d : Dialect) (s : Symbols) (r : List ℕ) (bound : Bound) (at : ℕ) (cut : Cut) → IsUtf8 r → IsSymbols d s → IsUtf8 (drop at r) → at ≤ length r → IsBehind d s r bound at cut
     → (cut.next ≤ length r) × (at ≤ cut.next) × (is_utf8 (drop cut.next r) ≡ true) × (cut.ends ≡ false → (0 < cut.next) × (chars (drop at r) ≡ d.delimiter ∷ chars (drop cut.next r)))
     × (cut.ends ≡ true → (0 < terminator_len d (drop cut.next r)) × (chars (drop at r) ≡ chars (drop cut.next r)))
-behind_here d s r from to at cut u y ua within b = by_ends cut.ends refl
+behind_here d s r bound at cut u y ua within b = by_ends cut.ends refl
   where
     by_ends : (e : Bool) → cut.ends ≡ e → (cut.next ≤ length r) × (at ≤ cut.next) × (is_utf8 (drop cut.next r) ≡ true) × (cut.ends ≡ false → (0 < cut.next) × (chars (drop at r) ≡ d.delimiter ∷ chars (drop cut.next r)))
         × (cut.ends ≡ true → (0 < terminator_len d (drop cut.next r)) × (chars (drop at r) ≡ chars (drop cut.next r)))
@@ -137,18 +140,18 @@ behind_here d s r from to at cut u y ua within b = by_ends cut.ends refl
         )
 
 -- a field without quotes
-pub plain_cut : (d : Dialect) (s : Symbols) (r : List ℕ) (at : ℕ) (cut : Cut) → IsLawful d → IsSymbols d s → is_utf8 r ≡ true → at < length r
+pub plain_cut : (d : Dialect) (s : Symbols) (r spare : List ℕ) (at : ℕ) (cut : Cut) → IsLawful d → IsSymbols d s → is_utf8 r ≡ true → at < length r
     → (slice_index r at ≡ 10) ⊎ (slice_index r at ≡ s.delimiter) → NoneBefore s r at
-    → (d.line_terminators.crlf ≡ true → 0 < at → slice_index r at ≡ 10 → slice_index r (at - 1) ≡ 13 → ⊥) → IsBehind d s r 0 at at cut → IsCut d r cut
-plain_cut d s r at cut w y ur within stands none no_crlf b = by_stands stands
+    → (d.line_terminators.crlf ≡ true → 0 < at → slice_index r at ≡ 10 → slice_index r (at - 1) ≡ 13 → ⊥) → IsBehind d s r (lent_bound 0 at) at cut → IsCut d r spare cut
+plain_cut d s r spare at cut w y ur within stands none no_crlf b = by_stands stands
   where
     u : IsUtf8 r
     u = IsUtf8-from_is_utf8 r ur
 
-    with_symbol : (x : ℕ) → slice_index r at ≡ x → x < 128 → (x ≢ 10) ⊎ (x ≡ 10) → IsCut d r cut
+    with_symbol : (x : ℕ) → slice_index r at ≡ x → x < 128 → (x ≢ 10) ⊎ (x ≡ 10) → IsCut d r spare cut
     with_symbol x e low which =
         let a = ascii_at r at x u within e low in
-        let h = behind_here d s r 0 at at cut u y a.at (omega (arith, within)) b in
+        let h = behind_here d s r (lent_bound 0 at) at cut u y a.at (omega (arith, within)) b in
         let cs = chars (take at r) in
         let len : length (take at r) ≡ at = grind (arith, common_steps) in
         let why : (x ≢ 10) ⊎ (unsettled d cs ≡ []) = elim which [
@@ -157,32 +160,30 @@ plain_cut d s r at cut w y ur within stands none no_crlf b = by_stands stands
               no_crlf crlf k (e ∙ t) (sym (get_or-take at r (at - 1) 0 (omega (arith, k))) ∙ ap (λ n. get_or (take at r) (n - 1) 0) (sym len) ∙ cr))))
         ] in
         let plain = plain_of d s cs x (chars (drop (at + 1) r)) y (none_before d s r at at y a.front (omega arith) none) why in
-        let text : slice_range r cut.from cut.to ≡ take at r = ap (λ n. slice_range r n cut.to) b.from_is ∙ ap (slice_range r 0) b.to_is ∙ range_from_zero r at in
+        let text = range_from_zero r at in
         record {
           source = cs;
           value = cs;
           after = chars (drop at r);
           spelled = a.spelled;
           field = inl (subst (IsPlain d cs) (sym a.here_chars) plain, refl);
-          text = encodes-chars (take at r) a.front ∙ sym text;
-          ordered = (let f = b.from_is in let t = b.to_is in omega (arith, f, t));
-          within = (let t = b.to_is in let k = h.1 in omega (arith, t, k));
+          text = encodes-chars (take at r) a.front ∙ sym (ap (bytes_at r spare) b.bound_is ∙ text);
+          bounded = ap (is_bound r spare) b.bound_is ∙ lent_is r spare 0 at (omega arith) (omega (arith, within)) (ap is_utf8 text ∙ is_utf8-from_IsUtf8 (take at r) a.front);
           inside = h.0;
-          is_text = ap is_utf8 text ∙ is_utf8-from_IsUtf8 (take at r) a.front;
           rest_text = h.2;
           goes_on = h.3;
           ends = h.4;
         }
 
-    by_stands : (slice_index r at ≡ 10) ⊎ (slice_index r at ≡ s.delimiter) → IsCut d r cut
+    by_stands : (slice_index r at ≡ 10) ⊎ (slice_index r at ≡ s.delimiter) → IsCut d r spare cut
     by_stands (inl e) = with_symbol 10 e (omega arith) (inr refl)
     by_stands (inr e) = with_symbol s.delimiter e y.ascii (inl (λ h. w.delimiter_lf (y.delimiter ∙ h)))
 
 -- a field without quotes, before CR LF
-pub crlf_cut : (d : Dialect) (s : Symbols) (r : List ℕ) (at : ℕ) (cut : Cut) → IsLawful d → IsSymbols d s → is_utf8 r ≡ true → at < length r
+pub crlf_cut : (d : Dialect) (s : Symbols) (r spare : List ℕ) (at : ℕ) (cut : Cut) → IsLawful d → IsSymbols d s → is_utf8 r ≡ true → at < length r
     → NoneBefore s r at → d.line_terminators.crlf ≡ true → 0 < at → slice_index r at ≡ 10 → slice_index r (at - 1) ≡ 13
-    → cut.from ≡ 0 → cut.to ≡ at - 1 → cut.next ≡ at - 1 → cut.ends ≡ true → IsCut d r cut
-crlf_cut d s r at cut w y ur within none crlf some lf cr from to next ends =
+    → cut.bound ≡ lent_bound 0 (at - 1) → cut.next ≡ at - 1 → cut.ends ≡ true → IsCut d r spare cut
+crlf_cut d s r spare at cut w y ur within none crlf some lf cr bound next ends =
     let u = IsUtf8-from_is_utf8 r ur in
     let n = at - 1 in
     let a = ascii_at r n 13 u (omega (arith, within)) cr (omega arith) in
@@ -191,7 +192,7 @@ crlf_cut d s r at cut w y ur within none crlf some lf cr from to next ends =
     let two : drop n r ≡ 13 ∷ 10 ∷ drop (at + 1) r = a.here ∙ ap (λ k. 13 ∷ drop k r) here ∙ ap (λ l. 13 ∷ l) b.here in
     let cs = chars (take n r) in
     let plain = plain_of d s cs 13 (chars (drop (n + 1) r)) y (none_before d s r at n y a.front (omega arith) none) (inl (λ h. omega (arith, h))) in
-    let text : slice_range r cut.from cut.to ≡ take n r = ap (λ k. slice_range r k cut.to) from ∙ ap (slice_range r 0) to ∙ range_from_zero r n in
+    let text = range_from_zero r n in
     let term : terminator_len d (drop cut.next r) ≡ 2 = ap (λ k. terminator_len d (drop k r)) next ∙ ap (terminator_len d) two ∙ crlf_again d (drop (at + 1) r) crlf in
     record {
       source = cs;
@@ -199,66 +200,78 @@ crlf_cut d s r at cut w y ur within none crlf some lf cr from to next ends =
       after = chars (drop n r);
       spelled = a.spelled;
       field = inl (subst (IsPlain d cs) (sym a.here_chars) plain, refl);
-      text = encodes-chars (take n r) a.front ∙ sym text;
-      ordered = omega (arith, from, to);
-      within = omega (arith, to, next);
+      text = encodes-chars (take n r) a.front ∙ sym (ap (bytes_at r spare) bound ∙ text);
+      bounded = ap (is_bound r spare) bound ∙ lent_is r spare 0 n (omega arith) (omega (arith, within)) (ap is_utf8 text ∙ is_utf8-from_IsUtf8 (take n r) a.front);
       inside = omega (arith, next, within);
-      is_text = ap is_utf8 text ∙ is_utf8-from_IsUtf8 (take n r) a.front;
       rest_text = ap (λ k. is_utf8 (drop k r)) next ∙ is_utf8-from_IsUtf8 (drop n r) a.at;
       goes_on = λ f. absurd (let z = sym ends ∙ f in cc);
       ends = λ f. (omega (arith, term), ap (λ k. chars (drop k r)) (sym next));
     }
 
 -- characters in quotes that are no quotes
-units_of : (d : Dialect) (q : ℕ) (cs : List ℕ) → d.double_quote ≡ true → Fails (is_byte q) cs → AreUnits d q cs cs
+pub units_of : (d : Dialect) (q : ℕ) (cs : List ℕ) → d.double_quote ≡ true → Fails (is_byte q) cs → AreUnits d q cs cs
 units_of d q [] e a = refl
 units_of d q (c ∷ cs) e a =
     let n : c ≢ q = other_of c q a.0 in
     let m : c ≢ escape_char d q = λ h. n (h ∙ ap (λ (b : Bool). if b then q else 92) e) in
     (c ∷ [], cs, inl (refl, n, m), refl, units_of d q cs e a.1)
 
-byte_low : (q : ℕ) → q < 128 → (c : ℕ) → is_byte q c ≡ true → c < 128
+pub byte_low : (q : ℕ) → q < 128 → (c : ℕ) → is_byte q c ≡ true → c < 128
 byte_low q h c e = omega (arith, h, same_of c q e)
 
 range_from_one : (r : List ℕ) (m : ℕ) → slice_range r 1 (m + 1) ≡ take m (drop 1 r)
 range_from_one r m = ap (λ k. take k (drop 1 r)) (let e : m + 1 - 1 ≡ m = omega arith in e)
 
 -- a field in quotes, the closing one so far behind the opening one
-pub quoted_cut : (d : Dialect) (s : Symbols) (r : List ℕ) (m : ℕ) (cut : Cut) → IsLawful d → IsSymbols d s → is_utf8 r ≡ true → 0 < length r → s.quoted ≡ true → slice_index r 0 ≡ s.quote
-    → m < length (drop 1 r) → slice_index (drop 1 r) m ≡ s.quote → ((k : ℕ) → k < m → is_byte s.quote (slice_index (drop 1 r) k) ≡ false)
-    → IsBehind d s r 1 (m + 1) (m + 1 + 1) cut → IsCut d r cut
-quoted_cut d s r m cut w y ur some quoted opens within closes none b =
-    let u = IsUtf8-from_is_utf8 r ur in
-    let q = s.quote in
-    let o = ascii_at r 0 q u some opens y.quote_ascii in
-    let inside = drop 1 r in
-    let ui : IsUtf8 inside = o.back in
-    let e = ascii_at inside m q ui within closes y.quote_ascii in
-    let cs = chars (take m inside) in
-    let same : drop (m + 1) inside ≡ drop (m + 1 + 1) r = drop-drop (m + 1) 1 r ∙ ap (λ n. drop n r) (let z : 1 + (m + 1) ≡ m + 1 + 1 = omega arith in z) in
-    let long : length inside ≡ length r - 1 = length-drop 1 r in
-    let h = behind_here d s r 1 (m + 1) (m + 1 + 1) cut u y (subst IsUtf8 same e.back) (omega (arith, within, long)) b in
-    let units = units_of d q cs y.double (none_pass (is_byte q) (byte_low q y.quote_ascii) (take m inside) e.front
-    (fails_at (is_byte q) (take m inside) (λ i k. let l : i < m = omega (arith, k, length-take m inside) in ap (is_byte q) (get_or-take m inside i 0 l) ∙ none i l))) in
-    let text : slice_range r cut.from cut.to ≡ take m inside = ap (λ n. slice_range r n cut.to) b.from_is ∙ ap (slice_range r 1) b.to_is ∙ range_from_one r m in
-    let whole : chars r ≡ q ∷ cs ++ q ∷ [] ++ chars (drop (m + 1 + 1) r) =
-    o.here_chars ∙ ap (λ l. q ∷ l) (e.spelled ∙ ap (λ l. cs ++ l) (e.here_chars ∙ ap (λ l. q ∷ chars l) same)) ∙ sym (append_assoc (q ∷ cs) (q ∷ []) (chars (drop (m + 1 + 1) r))) in
-    let is_quote : d.quote_char ≡ Some q = y.quote ∙ ap (λ (b : Bool). if b then Some q else None) quoted in
-    record {
-      source = q ∷ cs ++ q ∷ [];
-      value = cs;
-      after = chars (drop (m + 1 + 1) r);
-      spelled = whole;
-      field = inr (q ∷ cs, record { spaces = []; quote = q; inside = cs; is_quote = is_quote; skipped = tt; units = units; spelled = refl }, refl);
-      text = encodes-chars (take m inside) e.front ∙ sym text;
-      ordered = (let f = b.from_is in let t = b.to_is in omega (arith, f, t));
-      within = (let t = b.to_is in let k = h.1 in omega (arith, t, k));
-      inside = h.0;
-      is_text = ap is_utf8 text ∙ is_utf8-from_IsUtf8 (take m inside) e.front;
-      rest_text = h.2;
-      goes_on = h.3;
-      ends = h.4;
-    }
+module _ (d : Dialect) (s : Symbols) (r spare : List ℕ) (m : ℕ) (cut : Cut) (y : IsSymbols d s) (ur : is_utf8 r ≡ true) (some : 0 < length r) (quoted : s.quoted ≡ true) (opens : slice_index r 0 ≡ s.quote)
+    (within : m < length (drop 1 r)) (closes : slice_index (drop 1 r) m ≡ s.quote) where
+  opened : AsciiAt r 0 s.quote
+  opened = ascii_at r 0 s.quote (IsUtf8-from_is_utf8 r ur) some opens y.quote_ascii
+
+  closed : AsciiAt (drop 1 r) m s.quote
+  closed = ascii_at (drop 1 r) m s.quote opened.back within closes y.quote_ascii
+
+  far : m + 1 < length r
+  far = omega (arith, within, length-drop 1 r)
+
+  pub quoted_is : (bound : Bound) (value : List ℕ) → AreUnits d s.quote (chars (take m (drop 1 r))) value → encode_utf8_all value ≡ bytes_at r spare bound → is_bound r spare bound ≡ true
+      → IsBehind d s r bound (m + 2) cut → IsCut d r spare cut
+  quoted_is bound value units text bounded b =
+      let u = IsUtf8-from_is_utf8 r ur in
+      let q = s.quote in
+      let inside = drop 1 r in
+      let cs = chars (take m inside) in
+      let same : drop (m + 1) inside ≡ drop (m + 2) r = drop-drop (m + 1) 1 r ∙ ap (λ n. drop n r) (let z : 1 + (m + 1) ≡ m + 2 = omega arith in z) in
+      let k = far in
+      let h = behind_here d s r bound (m + 2) cut u y (subst IsUtf8 same closed.back) (omega (arith, k)) b in
+      let whole : chars r ≡ q ∷ cs ++ q ∷ [] ++ chars (drop (m + 2) r) =
+      opened.here_chars ∙ ap (λ l. q ∷ l) (closed.spelled ∙ ap (λ l. cs ++ l) (closed.here_chars ∙ ap (λ l. q ∷ chars l) same)) ∙ sym (append_assoc (q ∷ cs) (q ∷ []) (chars (drop (m + 2) r))) in
+      let is_quote : d.quote_char ≡ Some q = y.quote ∙ ap (λ (b : Bool). if b then Some q else None) quoted in
+      record {
+        source = q ∷ cs ++ q ∷ [];
+        value = value;
+        after = chars (drop (m + 2) r);
+        spelled = whole;
+        field = inr (q ∷ cs, record { spaces = []; quote = q; inside = cs; is_quote = is_quote; skipped = tt; units = units; spelled = refl }, refl);
+        text = text ∙ sym (ap (bytes_at r spare) b.bound_is);
+        bounded = ap (is_bound r spare) b.bound_is ∙ bounded;
+        inside = h.0;
+        rest_text = h.2;
+        goes_on = h.3;
+        ends = h.4;
+      }
+
+  -- no quote stands inside
+  pub quoted_cut : ((k : ℕ) → k < m → is_byte s.quote (slice_index (drop 1 r) k) ≡ false) → IsBehind d s r (lent_bound 1 (m + 1)) (m + 2) cut → IsCut d r spare cut
+  quoted_cut none b =
+      let inside = drop 1 r in
+      let q = s.quote in
+      let k = far in
+      let units = units_of d q (chars (take m inside)) y.double (none_pass (is_byte q) (byte_low q y.quote_ascii) (take m inside) closed.front
+      (fails_at (is_byte q) (take m inside) (λ i k. let l : i < m = omega (arith, k, length-take m inside) in ap (is_byte q) (get_or-take m inside i 0 l) ∙ none i l))) in
+      let text = range_from_one r m in
+      quoted_is (lent_bound 1 (m + 1)) (chars (take m inside)) units (encodes-chars (take m inside) closed.front ∙ sym text)
+      (lent_is r spare 1 (m + 1) (omega arith) (omega (arith, k)) (ap is_utf8 text ∙ is_utf8-from_IsUtf8 (take m inside) closed.front)) b
 
 pub some_gives : {X : Type 0} (P Q : X → Type 0) (r : Option X) → ((x : X) → P x → Q x) → IfSome r P → IfSome r Q
 some_gives P Q None f h = tt

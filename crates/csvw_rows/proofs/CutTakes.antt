@@ -1,10 +1,9 @@
 -- A row whose fields were cut out of the bytes is a row that is taken.
-use Rattle.std.proofs.Common.{◌≡◌, ◌∙◌, ℕ, zero, suc, ◌+◌, ◌-◌, ◌<◌, ◌≤◌, Bool, true, false, List, [], ◌∷◌, ◌++◌, map, length, take, drop, Option, Some, None, refl, sym, ap, subst, arith, append_assoc, length-append, length-drop, ◌⊎◌, inl, inr, chars, nat_eq, nat_lt, ◌||◌}
+use Rattle.std.proofs.Common.{◌≡◌, ◌∙◌, ℕ, ◌+◌, ◌-◌, ◌<◌, ◌≤◌, Bool, true, false, List, ◌++◌, map, length, drop, Some, refl, sym, ap, arith, length-append, length-drop, inl, chars, nat_eq, nat_lt, ◌||◌}
 use Rattle.std.specs.Prelude.{IsUtf8, encode_utf8_all}
 use Rattle.std.specs.Str.{is_utf8}
 use Rattle.std.specs.List.{starts_with}
 use Rattle.std.proofs.lemmas.Bool.Decides.{nat_tests}
-use Rattle.std.proofs.lemmas.Grind.{common_steps}
 use Rattle.std.proofs.lemmas.List.{drop-drop}
 use Rattle.std.proofs.lemmas.Str.{IsUtf8-from_is_utf8, is_utf8-from_IsUtf8, encodes-chars, encodes-append}
 use Rattle.csvw_rows.specs.declared.dialect.Dialect.{Dialect}
@@ -12,8 +11,8 @@ use Rattle.csvw_rows.specs.declared.bound.Bound.{Bound}
 use Rattle.csvw_rows.specs.declared.dialect.Trim.TheVariants.{No}
 use Rattle.csvw_rows.specs.declared.rows.Rows.{Rows}
 use Rattle.csvw_rows.specs.Cuts.{IsCutRow, IsRowLen}
-use Rattle.csvw_rows.specs.Files.{Row, IsRow, is_note, begins_with, prefix_of}
-use Rattle.csvw_rows.specs.Grammar.{terminator_len, trimmed, RowText}
+use Rattle.csvw_rows.specs.Files.{is_note, begins_with, prefix_of}
+use Rattle.csvw_rows.specs.Grammar.{terminator_len, trimmed}
 use Rattle.csvw_rows.specs.Lawful.{IsLawful}
 use Rattle.csvw_rows.specs.Lengths.{byte_len, row_limit}
 use Rattle.csvw_rows.specs.Nexts.{TakesRow, is_last}
@@ -25,7 +24,7 @@ use Rattle.csvw_rows.proofs.Ascii.{term_chars, term_text}
 use Rattle.csvw_rows.proofs.Lookahead.{term_within}
 use Rattle.csvw_rows.proofs.Utf8.{drop_past}
 
-module _ (d : Dialect) (text : List ℕ) (start at : ℕ) (bounds : List Bound) (ut : is_utf8 (drop start text) ≡ true) (k : IsCutRow d text start at bounds) where
+module _ (d : Dialect) (text : List ℕ) (start at : ℕ) (spare : List ℕ) (bounds : List Bound) (ut : is_utf8 (drop start text) ≡ true) (k : IsCutRow d text start at spare bounds) where
   row_bytes : byte_len k.row ≡ at - start
   row_bytes =
       let rest = drop at text in
@@ -107,7 +106,7 @@ no_note d i rest h e = neither (nat_lt i d.skip_rows) (begins_with (chars rest) 
 
 -- the fields of the row at the front of a reader's text were cut
 pub cut_has : (t : Rows) (at n : ℕ) → t.rules.dialect.trim ≡ No → t.row < t.max_rows → is_note t.rules.dialect t.row (rest_of t.source) ≡ false
-    → IsCutRow t.rules.dialect (text_items t.source) (taken_of t.source) at t.fields.items → IsRowLen t.rules.dialect (text_items t.source) (taken_of t.source) at n → HasFields t n
+    → IsCutRow t.rules.dialect (text_items t.source) (taken_of t.source) at t.spare.items t.fields.items → IsRowLen t.rules.dialect (text_items t.source) (taken_of t.source) at n → HasFields t n
 cut_has t at n trim few note k l =
     let d = t.rules.dialect in
     let text = text_items t.source in
@@ -118,11 +117,11 @@ cut_has t at n trim few note k l =
       row = record {
         len = length k.row + terminator_len d (drop at text);
         front = record {
-          within = (let h = cut_within d text start at t.fields.items ut k l.within in let v = l.value in omega (arith, h, v));
-          is_text = ap (λ m. is_utf8 (drop m (drop start text))) l.value ∙ cut_text d text start at t.fields.items ut k;
-          same = ap (λ m. chars (drop m (drop start text))) l.value ∙ cut_same d text start at t.fields.items ut k;
+          within = (let h = cut_within d text start at t.spare.items t.fields.items ut k l.within in let v = l.value in omega (arith, h, v));
+          is_text = ap (λ m. is_utf8 (drop m (drop start text))) l.value ∙ cut_text d text start at t.spare.items t.fields.items ut k;
+          same = ap (λ m. chars (drop m (drop start text))) l.value ∙ cut_same d text start at t.spare.items t.fields.items ut k;
         };
-        takes = cut_takes d text start at t.fields.items ut k (is_last (after_of t)) t.max_rows t.row t.rules.lawful few note l.short;
+        takes = cut_takes d text start at t.spare.items t.fields.items ut k (is_last (after_of t)) t.max_rows t.row t.rules.lawful few note l.short;
       };
-      texts = k.texts t.spare.items ∙ sym (ap (λ x. map (λ v. encode_utf8_all (trimmed x v)) k.values) trim);
+      texts = k.texts ∙ sym (ap (λ x. map (λ v. encode_utf8_all (trimmed x v)) k.values) trim);
     }

@@ -1,56 +1,44 @@
 -- The fields of a row, one cut after another.
-use Rattle.std.proofs.Common.{◌≡◌, ◌∙◌, ℕ, ◌+◌, ◌-◌, ◌<◌, ◌≤◌, Bool, true, false, ◌&&◌, List, [], ◌∷◌, ◌++◌, length, take, drop, map, refl, sym, ap, subst, arith, append_assoc, append-nil, length-drop, chars, ◌⊎◌, inl, inr}
-use Rattle.std.specs.Prelude.{encode_utf8_all, slice_range, nat_le}
-use Rattle.std.specs.List.{list_all}
+use Rattle.std.proofs.Common.{◌≡◌, ◌∙◌, ℕ, ◌+◌, ◌-◌, ◌<◌, ◌≤◌, Bool, true, false, ◌&&◌, List, [], ◌∷◌, ◌++◌, length, drop, map, refl, sym, ap, subst, arith, append_assoc, length-drop, chars}
+use Rattle.std.specs.Prelude.{encode_utf8_all}
 use Rattle.std.specs.Str.{is_utf8}
-use Rattle.std.proofs.lemmas.Grind.{common_steps}
-use Rattle.std.proofs.lemmas.Bool.Decides.{nat_tests}
 use Rattle.std.proofs.lemmas.List.{drop-drop, map-append}
 use Rattle.std.proofs.lemmas.List.Folds.{list_all-append}
 use Rattle.csvw_rows.specs.declared.dialect.Dialect.{Dialect}
 use Rattle.csvw_rows.specs.declared.bound.Bound.{Bound}
 use Rattle.csvw_rows.specs.declared.cut.Cut.{Cut}
-use Rattle.csvw_rows.specs.Bounds.{bytes_at, is_bound, are_bounds, fields_at}
-use Rattle.csvw_rows.specs.Cuts.{IsCut, IsCutRow, IsCutTo, AreInText}
+use Rattle.csvw_rows.specs.Bounds.{bytes_at, is_bound, are_bounds, fields_at, moved}
+use Rattle.csvw_rows.specs.Cuts.{IsCut, IsCutRow, IsCutTo, Grows}
 use Rattle.csvw_rows.specs.Grammar.{terminator_len, IsField, AreFields}
+use Rattle.csvw_rows.proofs.BoundLemmas.{bounds_more, moved_is}
 
 -- nothing is cut yet
-pub cut_none : (d : Dialect) (text : List ℕ) (start : ℕ) → IsCutTo d text start start []
-cut_none d text start = record { values = []; texts = λ spare. refl; goes_on = λ row more after e a. (row, e, a) }
+pub cut_none : (d : Dialect) (text spare : List ℕ) (start : ℕ) → IsCutTo d text start start spare []
+cut_none d text spare start = record { values = []; texts = refl; goes_on = λ row more after e a. (row, e, a) }
+
+-- the second buffer grows
+pub cut_grows : (d : Dialect) (text old new : List ℕ) (start at : ℕ) (bounds : List Bound) → Grows old new → are_bounds text old bounds ≡ true → IsCutTo d text start at old bounds
+    → (are_bounds text new bounds ≡ true) × IsCutTo d text start at new bounds
+cut_grows d text old new start at bounds (more, e) a c =
+    let h = bounds_more text old more bounds a in (
+      ap (λ l. are_bounds text l bounds) e ∙ h.0,
+      record { values = c.values; texts = ap (λ l. fields_at text l bounds) e ∙ h.1 ∙ c.texts; goes_on = c.goes_on },
+    )
 
 -- where a field of the rest lies in the whole
-module _ (d : Dialect) (text : List ℕ) (at : ℕ) (cut : Cut) (within : at ≤ length text) (k : IsCut d (drop at text) cut) where
-  in_rest : (spare : List ℕ) → bytes_at text spare (record { from = at + cut.from; to = at + cut.to; apart = false }) ≡ slice_range (drop at text) cut.from cut.to
-  in_rest spare =
-      ap (λ n. take n (drop (at + cut.from) text)) (let e : (at + cut.to) - (at + cut.from) ≡ cut.to - cut.from = omega arith in e) ∙ ap (take (cut.to - cut.from)) (sym (drop-drop cut.from at text))
-
-  pub bound_is : (spare : List ℕ) → is_bound text spare (record { from = at + cut.from; to = at + cut.to; apart = false }) ≡ true
-  bound_is spare =
-      let o = k.ordered in
-      let w = k.within in
-      let i = k.inside in
-      let low : nat_le (at + cut.from) (at + cut.to) ≡ true = (let h : at + cut.from ≤ at + cut.to = omega (arith, o) in grind (arith, nat_tests)) in
-      let high : nat_le (at + cut.to) (length text) ≡ true = (let h : at + cut.to ≤ length text = omega (arith, w, i, within, length-drop at text) in grind (arith, nat_tests)) in
-      three _ _ _ low high (ap is_utf8 (in_rest spare) ∙ k.is_text)
+module _ (d : Dialect) (text spare : List ℕ) (at : ℕ) (cut : Cut) (within : at ≤ length text) (k : IsCut d (drop at text) spare cut) where
+  pub bounds_one : (bounds : List Bound) → are_bounds text spare bounds ≡ true → are_bounds text spare (bounds ++ moved at cut.bound ∷ []) ≡ true
+  bounds_one bounds h = list_all-append (λ b. is_bound text spare b) bounds (moved at cut.bound ∷ []) ∙ both _ _ h (moved_is text spare at cut.bound within k.bounded).0
     where
-      three : (a b c : Bool) → a ≡ true → b ≡ true → c ≡ true → (a && (b && c)) ≡ true
-      three a b c e f g = rw (e, f, g) refl
-
-  pub in_text : (bounds : List Bound) → AreInText text bounds → AreInText text (bounds ++ record { from = at + cut.from; to = at + cut.to; apart = false } ∷ [])
-  in_text bounds h spare = list_all-append (λ b. is_bound text spare b) bounds (record { from = at + cut.from; to = at + cut.to; apart = false } ∷ []) ∙ both _ _ (h spare) (one _ (bound_is spare))
-    where
-      both : (a b : Bool) → a ≡ true → b ≡ true → (a && b) ≡ true
+      both : (a b : Bool) → a ≡ true → b ≡ true → (a && (b && true)) ≡ true
       both a b e f = rw (e, f) refl
 
-      one : (a : Bool) → a ≡ true → (a && true) ≡ true
-      one a e = rw e refl
-
-  texts_more : (values : List (List ℕ)) (bounds : List Bound) → ((spare : List ℕ) → fields_at text spare bounds ≡ map encode_utf8_all values)
-      → (spare : List ℕ) → fields_at text spare (bounds ++ record { from = at + cut.from; to = at + cut.to; apart = false } ∷ []) ≡ map encode_utf8_all (values ++ k.value ∷ [])
-  texts_more values bounds h spare =
-      map-append (λ b. bytes_at text spare b) bounds (record { from = at + cut.from; to = at + cut.to; apart = false } ∷ [])
-      ∙ ap (λ l. l ++ bytes_at text spare (record { from = at + cut.from; to = at + cut.to; apart = false }) ∷ []) (h spare)
-      ∙ ap (λ x. map encode_utf8_all values ++ x ∷ []) (in_rest spare ∙ sym k.text)
+  texts_more : (values : List (List ℕ)) (bounds : List Bound) → fields_at text spare bounds ≡ map encode_utf8_all values
+      → fields_at text spare (bounds ++ moved at cut.bound ∷ []) ≡ map encode_utf8_all (values ++ k.value ∷ [])
+  texts_more values bounds h =
+      map-append (λ b. bytes_at text spare b) bounds (moved at cut.bound ∷ [])
+      ∙ ap (λ l. l ++ bytes_at text spare (moved at cut.bound) ∷ []) h
+      ∙ ap (λ x. map encode_utf8_all values ++ x ∷ []) ((moved_is text spare at cut.bound within k.bounded).1 ∙ sym k.text)
       ∙ sym (map-append encode_utf8_all values (k.value ∷ []))
 
   next_rest : drop cut.next (drop at text) ≡ drop (at + cut.next) text
@@ -63,7 +51,7 @@ module _ (d : Dialect) (text : List ℕ) (at : ℕ) (cut : Cut) (within : at ≤
   next_within = let i = k.inside in omega (arith, i, within, length-drop at text)
 
   -- a field with a delimiter behind it
-  pub cut_more : (start : ℕ) (bounds : List Bound) → cut.ends ≡ false → IsCutTo d text start at bounds → IsCutTo d text start (at + cut.next) (bounds ++ record { from = at + cut.from; to = at + cut.to; apart = false } ∷ [])
+  pub cut_more : (start : ℕ) (bounds : List Bound) → cut.ends ≡ false → IsCutTo d text start at spare bounds → IsCutTo d text start (at + cut.next) spare (bounds ++ moved at cut.bound ∷ [])
   cut_more start bounds e c = record { values = c.values ++ k.value ∷ []; texts = texts_more c.values bounds c.texts; goes_on = goes }
     where
       behind : k.after ≡ d.delimiter ∷ chars (drop (at + cut.next) text)
@@ -80,8 +68,8 @@ module _ (d : Dialect) (text : List ℕ) (at : ℕ) (cut : Cut) (within : at ≤
           (w.0, w.1, subst (λ l. AreFields d w.0 l after) (sym (append_assoc c.values (k.value ∷ []) (v ∷ vs))) w.2)
 
   -- the last field
-  pub cut_last : (start : ℕ) (bounds : List Bound) → cut.ends ≡ true → start ≤ at → IsCutTo d text start at bounds
-      → IsCutRow d text start (at + cut.next) (bounds ++ record { from = at + cut.from; to = at + cut.to; apart = false } ∷ [])
+  pub cut_last : (start : ℕ) (bounds : List Bound) → cut.ends ≡ true → start ≤ at → IsCutTo d text start at spare bounds
+      → IsCutRow d text start (at + cut.next) spare (bounds ++ moved at cut.bound ∷ [])
   cut_last start bounds e s c =
       let h = k.ends e in
       let here : k.after ≡ chars (drop (at + cut.next) text) = h.1 ∙ ap chars next_rest in

@@ -6,7 +6,9 @@ use Rattle.csvw_rows.specs.declared.rows.Rows.{Rows}
 use Rattle.csvw_rows.specs.declared.stop.RowStop.{RowStop}
 use Rattle.csvw_rows.specs.declared.next.Turn.{Turn}
 use Rattle.csvw_rows.specs.declared.next.Turn.TheVariants as turn
-use Rattle.csvw_rows.specs.Nexts.{TakesRow, is_last}
+use Rattle.csvw_rows.specs.declared.next.Next.TheVariants as next
+use Rattle.csvw_rows.specs.Nexts.{NextGives, TakesRow, is_last}
+use Rattle.csvw_rows.proofs.States.{is_done}
 use Rattle.csvw_rows.specs.RowValue.{Given}
 use Rattle.csvw_rows.specs.SourceState.{rest_bytes, rest_of, is_bad_of, pending_of, Decodes}
 use Rattle.csvw_rows.specs.RowsState.{Holds, HasRead, Stays, Turns, Refills, HasRow, AreFront, after_of, is_ended_of, unread, stop_of, Passes}
@@ -72,3 +74,18 @@ front_of s bytes len rest e within text same = record {
   is_text = subst (λ (l : List ℕ). is_utf8 (drop bytes l) ≡ true) e text;
   same = subst (λ (l : List ℕ). chars (drop bytes l) ≡ drop len (chars l)) e same;
 }
+
+pub refills_again : (s t u : Rows) → Refills s t → Refills t u → Refills s u
+refills_again s t u r q = record {
+  rules = q.rules ∙ r.rules;
+  max_rows = q.max_rows ∙ r.max_rows;
+  ended = q.ended ∙ r.ended;
+  stop = q.stop ∙ r.stop;
+  source = q.source ∙ r.source;
+  row = q.row ∙ r.row;
+  remained = q.remained ∙ r.remained;
+}
+
+-- no row is complete where it was
+pub waits_turns : (s t : Rows) → Refills s t → NextGives (after_of t) t.rules.dialect t.max_rows t.row (rest_of t.source) (Ok next.Waits) → Turns s t (Ok turn.Waits)
+waits_turns s t r g = turns_from s t t (Ok turn.Waits) r (refl, (λ d max bytes ended given h. h), is_done t g)

@@ -1,5 +1,5 @@
 -- The texts of fields, by where they lie.
-use Rattle.std.specs.Prelude.{◌≡◌, ℕ, ◌<◌, ◌≤◌, Bool, true, false, ◌&&◌, nat_le, if◌then◌else◌, List, length, map, slice_range}
+use Rattle.std.specs.Prelude.{ℕ, ◌+◌, Bool, false, ◌&&◌, nat_le, if◌then◌else◌, List, length, map, slice_range}
 use Rattle.std.specs.List.{list_all}
 use Rattle.std.specs.Str.{is_utf8}
 use Rattle.csvw_rows.specs.declared.bound.Bound.{Bound}
@@ -20,6 +20,14 @@ are_bounds text spare bounds = list_all (λ b. is_bound text spare b) bounds
 
 abbrev pub fields_at : List ℕ → List ℕ → List Bound → List (List ℕ)
 fields_at text spare bounds = map (λ b. bytes_at text spare b) bounds
+
+-- a text that lies among the bytes that were read
+abbrev pub lent_bound : ℕ → ℕ → Bound
+lent_bound from to = record { from = from; to = to; apart = false }
+
+-- a bound of the bytes behind a place, as one of all the bytes
+abbrev pub moved : ℕ → Bound → Bound
+moved at b = if b.apart then b else lent_bound (at + b.from) (at + b.to)
 
 -- those that lie in the second buffer
 abbrev pub is_apart : List ℕ → Bound → Bool

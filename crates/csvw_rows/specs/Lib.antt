@@ -10,8 +10,11 @@ pub mod Stops
 pub mod Parts
 pub mod Lawful
 pub mod Lengths
+pub mod Marked
 pub mod Nexts
 pub mod RowValue
+pub mod Clean
+pub mod Drafts
 pub mod SourceState
 pub mod RowsState
 pub mod RowsLending

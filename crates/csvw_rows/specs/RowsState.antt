@@ -9,11 +9,16 @@ use Rattle.csvw_rows.specs.declared.next.After.TheVariants.{More, Nothing, NoTex
 use Rattle.csvw_rows.specs.declared.next.Turn.{Turn}
 use Rattle.csvw_rows.specs.declared.next.Turn.TheVariants as turn
 use Rattle.csvw_rows.specs.Bounds.{fields_at}
-use Rattle.csvw_rows.specs.Files.{Row, AreRows, EndsOpen, KeepsLimits, IsWhole, Front, Body, content, is_text, remaining}
+use Rattle.csvw_rows.specs.Files.{is_note, Row, AreRows, EndsOpen, KeepsLimits, IsWhole, Front, Body, content, is_text, remaining}
 use Rattle.csvw_rows.specs.RowValue.{Given}
 use Rattle.csvw_rows.specs.SourceState.{text_items, rest_bytes, rest_of, is_bad_of, pending_of, begun_of, Decodes}
 use Rattle.csvw_rows.specs.Grammar.{trimmed}
-use Rattle.csvw_rows.specs.Nexts.{TakesRow, is_last}
+use Rattle.csvw_rows.specs.Nexts.{NextGives, TakesRow, is_last}
+use Rattle.csvw_rows.specs.Scan.{Found, run}
+use Rattle.csvw_rows.specs.declared.next.Known.{Known}
+use Rattle.csvw_rows.specs.declared.next.Known.TheVariants as known
+use Rattle.csvw_rows.specs.declared.next.Next.TheVariants as next
+use Rattle.csvw_rows.specs.declared.scan.State.TheVariants.{Start}
 use Rattle.csvw_rows.specs.Stops.{Begins, StopOf}
 use Rattle.std.specs.Str.{is_utf8}
 
@@ -158,3 +163,22 @@ pub record Refills (old new : Rows) : Type 0 where
   pub source : new.source ≡ old.source
   pub row : new.row ≡ old.row
   pub remained : new.remained ≡ old.remained
+
+-- the row at the front has fields, and isn't one too many
+pub record IsReadable (s : Rows) : Type 0 where
+  pub few : s.row < s.max_rows
+  pub note : is_note s.rules.dialect s.row (rest_of s.source) ≡ false
+
+-- the row at the front ends behind so many bytes, and its fields were found
+pub record IsReadRow (s : Rows) (len : ℕ) : Type 0 where
+  pub values : List (List ℕ)
+  pub within : len ≤ length (rest_bytes s.source)
+  pub back : is_utf8 (drop len (rest_bytes s.source)) ≡ true
+  pub found : run s.rules.dialect Start [] [] (rest_of s.source) ≡ Found values (chars (drop len (rest_bytes s.source)))
+  pub texts : fields_of s ≡ map (λ x. encode_utf8_all (trimmed s.rules.dialect.trim x)) values
+
+-- what the bytes at the front are known to be
+abbrev pub IsKnown : Rows → Known → Type 0
+IsKnown s (known.Row len) = HasFields s len
+IsKnown s known.Waits = NextGives (after_of s) s.rules.dialect s.max_rows s.row (rest_of s.source) (Ok next.Waits)
+IsKnown s known.Unknown = Unit {0}

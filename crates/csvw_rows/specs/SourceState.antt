@@ -41,3 +41,7 @@ pub record Decodes (s : Source) (bytes : List ℕ) : Type 0 where
 abbrev pub Pushes : Source → Source → List ℕ → Type 0
 Pushes old new piece = (bytes : List ℕ) → Decodes old bytes → Decodes new (bytes ++ piece)
     × ((more : List ℕ) × (rest_of new ≡ rest_of old ++ more) × (content (bytes ++ piece) ≡ content bytes ++ more))
+
+-- there are more characters behind those that aren't taken
+abbrev pub Grows : Source → Source → Type 0
+Grows old new = (more : List ℕ) × (rest_of new ≡ rest_of old ++ more)

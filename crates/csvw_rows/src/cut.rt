@@ -1,16 +1,19 @@
 //! The fields of a row, found among its bytes. Symbols that are ASCII are their own bytes, and no byte of
 //! another character is below 128.
-ghost use Rattle.std.specs.Prelude.{◌≡◌, ◌≤◌, ◌<◌, ◌⊎◌, true, length, drop, IfOk, IfSome, slice_index};
+ghost use Rattle.std.specs.Prelude.{◌≡◌, ◌≤◌, ◌<◌, ◌+◌, ◌^◌, ◌⊎◌, true, false, length, drop, IfOk, IfSome, slice_index};
 ghost use Rattle.std.specs.Str.{is_utf8};
-ghost use Rattle.csvw_rows.specs.Cuts.{IsSymbols, NoneBefore, IsBehind, IsCut, IsCutRow, IsRowLen, AreInText};
+ghost use Rattle.csvw_rows.specs.Bounds.{are_bounds, lent_bound, moved};
+ghost use Rattle.csvw_rows.specs.Cuts.{IsSymbols, NoneBefore, IsBehind, IsCut, IsLent, IsUnescaped, Grows, IsCutRow, IsRowLen};
 ghost use Rattle.csvw_rows.specs.Grammar.{terminator_len};
 ghost use Rattle.csvw_rows.specs.Lawful.{IsLawful};
+ghost use Rattle.csvw_rows.specs.Marked.{is_symbol};
 
 use crate::bound::Bound;
 use crate::dialect::{Dialect, Trim};
+use crate::marks::{Marks, next_symbol};
 use crate::next::ROW_LIMIT;
 use crate::rules::Rules;
-use memchr::{memchr, memchr3};
+use memchr::memchr;
 use std::alloc::AllocError;
 
 /// The symbols of a dialect as bytes. The quote is one only where fields may be `quoted`.
@@ -51,12 +54,11 @@ fn ascii(c: char) -> Option<u8>
     if c.is_ascii() { Some(c as u8) } else { None }
 }
 
-/// A field that was found, as places behind its first byte: where its text lies, and the place of what
+/// A field that was found, by places behind its first byte: where its text lies, and the place of what
 /// comes behind it, which is the next field or, where it `ends` the row, the terminator.
 #[derive(Clone, Copy, Debug, PartialEq, Eq)]
 pub struct Cut {
-    pub from: usize,
-    pub to: usize,
+    pub bound: Bound,
     pub next: usize,
     pub ends: bool,
 }
@@ -73,31 +75,33 @@ pub fn terminator_at(d: &Dialect, rest: &[u8]) -> usize
     }
 }
 
+/// A text that lies there.
+fn lent(from: usize, to: usize) -> Bound
+    ensures { result ≡ lent_bound from to }
+{
+    Bound {
+        from,
+        to,
+        apart: false,
+    }
+}
+
 /// A field whose text lies there, where what comes behind it stands at this place.
-fn behind(
-    d: &Dialect,
-    symbols: Symbols,
-    rest: &[u8],
-    from: usize,
-    to: usize,
-    at: usize,
-) -> Option<Cut>
+fn behind(d: &Dialect, symbols: Symbols, rest: &[u8], bound: Bound, at: usize) -> Option<Cut>
     requires { at ≤ length rest.now }
-    ensures { IfSome result (IsBehind d.now symbols rest.now from to at) }
+    ensures { IfSome result (IsBehind d.now symbols rest.now bound at) }
 {
     let (_, after) = rest.split_at(at);
     if 0 < terminator_at(d, after) {
         return Some(Cut {
-            from,
-            to,
+            bound,
             next: at,
             ends: true,
         });
     }
     if at < rest.len() && rest[at] == symbols.delimiter {
         return Some(Cut {
-            from,
-            to,
+            bound,
             next: at + 1,
             ends: false,
         });
@@ -113,11 +117,68 @@ fn cut_quoted(d: &Dialect, symbols: Symbols, rest: &[u8]) -> Option<Cut>
     requires some { 0 < length rest.now }
     requires quoted { symbols.quoted ≡ true }
     requires quote { slice_index rest.now 0 ≡ symbols.quote }
-    ensures { IfSome result (IsCut d.now rest.now) }
+    ensures { IfSome result (IsLent d.now rest.now) }
 {
     let (_, inside) = rest.split_at(1);
-    let close = memchr(symbols.quote, inside)? + 1;
-    behind(d, symbols, rest, 1, close, close + 1)
+    let close = memchr(symbols.quote, inside)?;
+    behind(d, symbols, rest, lent(1, close + 1), close + 2)
+}
+
+/// Writes what these characters inside quotes stand for behind the texts of a buffer, up to the quote that
+/// closes them, and answers its place.
+fn unescape(quote: u8, inside: &[u8], spare: &mut Vec<u8>) -> Result<Option<usize>, AllocError>
+    requires ascii { quote < 128 }
+    requires text { is_utf8 inside.now ≡ true }
+    ensures grows { Grows spare.old.items spare.new.items }
+    ensures value { IfOk result (λ o. IfSome o (IsUnescaped quote inside.now spare.old.items spare.new.items)) }
+{
+    let mut at = 0;
+    while at < inside.len() {
+        let (_, rest) = inside.split_at(at);
+        let Some(found) = memchr(quote, rest) else {
+            return Ok(None);
+        };
+        if found + 1 < rest.len() && rest[found + 1] == quote {
+            let (chunk, _) = rest.split_at(found + 1);
+            spare.extend_from_slice(chunk)?;
+            at += found + 2;
+        } else {
+            let (chunk, _) = rest.split_at(found);
+            spare.extend_from_slice(chunk)?;
+            return Ok(Some(at + found));
+        }
+    }
+    Ok(None)
+}
+
+/// A field in quotes, whose text is written behind those of the second buffer.
+fn cut_escaped(
+    d: &Dialect,
+    symbols: Symbols,
+    rest: &[u8],
+    spare: &mut Vec<u8>,
+) -> Result<Option<Cut>, AllocError>
+    requires lawful { IsLawful d.now }
+    requires symbols { IsSymbols d.now symbols }
+    requires text { is_utf8 rest.now ≡ true }
+    requires some { 0 < length rest.now }
+    requires quoted { symbols.quoted ≡ true }
+    requires quote { slice_index rest.now 0 ≡ symbols.quote }
+    ensures grows { Grows spare.old.items spare.new.items }
+    ensures cut { IfOk result (λ o. IfSome o (IsCut d.now rest.now spare.new.items)) }
+{
+    let from = spare.len();
+    let (_, inside) = rest.split_at(1);
+    let Some(close) = unescape(symbols.quote, inside, spare)? else {
+        return Ok(None);
+    };
+    let to = spare.len();
+    let bound = Bound {
+        from,
+        to,
+        apart: true,
+    };
+    Ok(behind(d, symbols, rest, bound, close + 2))
 }
 
 /// A field without quotes, where the first symbol stands at this place.
@@ -128,35 +189,60 @@ fn cut_plain(d: &Dialect, symbols: Symbols, rest: &[u8], at: usize) -> Option<Cu
     requires within { at < length rest.now }
     requires stands { (slice_index rest.now at ≡ 10) ⊎ (slice_index rest.now at ≡ symbols.delimiter) }
     requires first { NoneBefore symbols rest.now at }
-    ensures { IfSome result (IsCut d.now rest.now) }
+    ensures { IfSome result (IsLent d.now rest.now) }
 {
     if d.line_terminators.crlf && 0 < at && rest[at] == b'\n' && rest[at - 1] == b'\r' {
         return Some(Cut {
-            from: 0,
-            to: at - 1,
+            bound: lent(0, at - 1),
             next: at - 1,
             ends: true,
         });
     }
-    behind(d, symbols, rest, 0, at, at)
+    behind(d, symbols, rest, lent(0, at), at)
 }
 
-/// The field that begins here, where it is found without a look at each of its characters.
-fn cut_field(d: &Dialect, symbols: Symbols, rest: &[u8]) -> Option<Cut>
+/// The field that begins here, whose first symbol stands at this place, where it is found without a look
+/// at each of its characters. Its text is lent from the bytes or, where a quote is doubled, written behind
+/// those of the second buffer.
+fn cut_field(
+    d: &Dialect,
+    symbols: Symbols,
+    rest: &[u8],
+    at: usize,
+    spare: &mut Vec<u8>,
+) -> Result<Option<Cut>, AllocError>
     requires lawful { IsLawful d.now }
     requires symbols { IsSymbols d.now symbols }
     requires text { is_utf8 rest.now ≡ true }
-    ensures { IfSome result (IsCut d.now rest.now) }
+    requires within { at < length rest.now }
+    requires stands { is_symbol symbols (slice_index rest.now at) ≡ true }
+    requires first { NoneBefore symbols rest.now at }
+    ensures grows { Grows spare.old.items spare.new.items }
+    ensures cut { IfOk result (λ o. IfSome o (IsCut d.now rest.now spare.new.items)) }
 {
-    let at = memchr3(symbols.delimiter, symbols.quote, b'\n', rest)?;
-    if symbols.quoted && rest[at] == symbols.quote {
-        if at == 0 {
-            cut_quoted(d, symbols, rest)
-        } else {
-            None
+    if !symbols.quoted || rest[at] != symbols.quote {
+        return Ok(cut_plain(d, symbols, rest, at));
+    }
+    if 0 < at {
+        return Ok(None);
+    }
+    if let Some(cut) = cut_quoted(d, symbols, rest) {
+        return Ok(Some(cut));
+    }
+    cut_escaped(d, symbols, rest, spare)
+}
+
+impl Cut {
+    /// Where the text of a field lies that begins at this place.
+    fn bound_at(self, at: usize) -> Bound
+        requires ordered { self.bound.from ≤ self.bound.to }
+        requires within { self.bound.apart ≡ false → at + self.bound.to < 2 ^ 64 }
+        ensures { result ≡ moved at self.bound }
+    {
+        if self.bound.apart {
+            return self.bound;
         }
-    } else {
-        cut_plain(d, symbols, rest, at)
+        lent(at + self.bound.from, at + self.bound.to)
     }
 }
 
@@ -167,25 +253,27 @@ pub fn cut_row(
     text: &[u8],
     start: usize,
     bounds: &mut Vec<Bound>,
+    spare: &mut Vec<u8>,
 ) -> Result<Option<usize>, AllocError>
     requires symbols { IsSymbols rules.now.dialect symbols }
     requires within { start ≤ length text.now }
     requires text { is_utf8 (drop start text.now) ≡ true }
-    ensures bounded { AreInText text.now bounds.new.items }
-    ensures row { IfOk result (λ o. IfSome o (λ at. IsCutRow rules.now.dialect text.now start at bounds.new.items)) }
+    ensures bounded { are_bounds text.now spare.new.items bounds.new.items ≡ true }
+    ensures row { IfOk result (λ o. IfSome o (λ at. IsCutRow rules.now.dialect text.now start at spare.new.items bounds.new.items)) }
 {
     bounds.clear();
+    spare.clear();
+    let mut marks = Marks::none();
     let mut at = start;
     while at < text.len() {
-        let (_, rest) = text.split_at(at);
-        let Some(cut) = cut_field(&rules.dialect, symbols, rest) else {
+        let Some(len) = next_symbol(symbols, text, at, &mut marks) else {
             return Ok(None);
         };
-        bounds.push(Bound {
-            from: at + cut.from,
-            to: at + cut.to,
-            apart: false,
-        })?;
+        let (_, rest) = text.split_at(at);
+        let Some(cut) = cut_field(&rules.dialect, symbols, rest, len, spare)? else {
+            return Ok(None);
+        };
+        bounds.push(cut.bound_at(at))?;
         at += cut.next;
         if cut.ends {
             return Ok(Some(at));

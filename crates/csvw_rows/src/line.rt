@@ -104,7 +104,8 @@ fn shown_len(rules: &Rules, text: &[char], at: usize) -> usize
     }
 }
 
-fn is_quoted(state: State) -> bool
+/// Whether a state is inside quotes.
+pub fn is_quoted(state: State) -> bool
     ensures { result ≡ is_quoted state }
 {
     match state {

@@ -45,6 +45,17 @@ pub enum Turn {
     Waits,
 }
 
+/// What the bytes at the front are known to be.
+#[derive(Clone, Copy, Debug, PartialEq, Eq)]
+pub enum Known {
+    /// A row of so many bytes, its terminator among them, whose fields were found.
+    Row(usize),
+    /// No row is complete.
+    Waits,
+    /// Nothing is known.
+    Unknown,
+}
+
 /// Whether the characters take more bytes than a row may have.
 #[tactic(auto, using(crate::proofs::ByteLens::byte_len_more, crate::proofs::ByteLens::byte_len_past))]
 fn is_too_long(text: &[char]) -> bool

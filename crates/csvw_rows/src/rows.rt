@@ -1,16 +1,20 @@
 //! A reader of rows.
-ghost use Rattle.std.specs.Prelude.{◌≡◌, ◌≤◌, ◌<◌, ◌-◌, ◌+◌, ◌^◌, ℕ, true, false, [], length, drop, map, encode_utf8_all, IfOk, OnOk, IfSome, Some, Ok};
+ghost use Rattle.std.specs.Prelude.{◌≡◌, ◌≤◌, ◌<◌, ◌-◌, ◌+◌, ◌^◌, ℕ, if◌then◌else◌, true, false, [], length, drop, map, encode_utf8_all, IfOk, OnOk, IfSome, Some, Ok};
 ghost use Rattle.std.specs.Str.{is_utf8};
 ghost use Rattle.std.specs.Borrow.{sem};
 ghost use Rattle.csvw_rows.specs.Bounds.{are_bounds};
 ghost use Rattle.csvw_rows.specs.Lawful.{IsLawful};
+ghost use Rattle.csvw_rows.specs.Drafts.{IsDraft};
+ghost use Rattle.csvw_rows.specs.SourceState.{rest_bytes};
 
 use crate::bound::Bound;
-use crate::cut::{cut_row, row_len};
+use crate::cut::{cut_row, row_len, terminator_at};
 use crate::decode::front_len;
 use crate::dialect::Dialect;
+use crate::draft::{Draft, Reading};
 use crate::field::{all_empty, write_fields};
-use crate::next::{After, Next, Turn};
+use crate::line::is_quoted;
+use crate::next::{After, Known, Next, ROW_LIMIT, Turn};
 use crate::raw_row::RawRow;
 use crate::rules::Rules;
 use crate::source::Source;
@@ -31,17 +35,22 @@ pub struct Rows {
     remained: u64,
     fields: Vec<Bound>,
     spare: Vec<u8>,
+    draft: Draft,
     stop: Option<RowStop>,
     ghost few: { max_rows < 2 ^ 64 - 1 },
     ghost counted: { row ≤ max_rows },
     ghost remained_few: { remained ≤ row },
     ghost bounded: { are_bounds source.text.items spare.items fields.items ≡ true },
+    ghost drafted: { IsDraft rules.dialect draft (rest_bytes source) },
 }
 
 impl Rows {
-    ghost use Rattle.csvw_rows.specs.RowsState.{is_ended_of, fields_of, unread, reading_of, stop_of, after_of, last_of, Holds, Passes, AreFront, HasFields, Refills, Feeds, Closes, Advances, Turns, KeepsStop};
+    ghost use Rattle.csvw_rows.specs.RowsState.{is_ended_of, fields_of, unread, reading_of, stop_of, after_of, last_of, Holds, Passes, AreFront, HasFields, Refills, Feeds, Closes, Advances, Turns, KeepsStop, IsReadable, IsReadRow, IsKnown};
+    ghost use Rattle.csvw_rows.specs.Drafts.{read_of, state_of, IsOpen};
+    ghost use Rattle.csvw_rows.specs.Scan.{is_quoted};
+    ghost use Rattle.csvw_rows.specs.declared.next.After.TheVariants.{More};
     ghost use Rattle.csvw_rows.specs.RowsLending.{RestsAdvanced};
-    ghost use Rattle.csvw_rows.specs.SourceState.{rest_bytes, rest_of};
+    ghost use Rattle.csvw_rows.specs.SourceState.{rest_of};
     ghost use Rattle.csvw_rows.specs.RowValue.{row_of};
     ghost use Rattle.csvw_rows.specs.Nexts.{NextGives, TakesRow, is_last};
     ghost use Rattle.csvw_rows.specs.Grammar.{trimmed};
@@ -64,6 +73,7 @@ impl Rows {
             remained: 0,
             fields: Vec::new(alloc),
             spare: Vec::new(alloc),
+            draft: Draft::new(alloc),
             stop: None,
         })
     }
@@ -96,6 +106,7 @@ impl Rows {
         match self.source.push(piece) {
             Ok(()) => Ok(()),
             Err(_) => {
+                self.draft.clear();
                 self.stop = Some(RowStop::Memory);
                 Err(RowStop::Memory)
             }
@@ -211,12 +222,23 @@ impl Rows {
             return Ok(None);
         };
         let rest = self.source.rest();
-        if self.row >= self.max_rows || self.rules.may_be_skipped(self.row, rest) {
+        if 0 < self.draft.read_len()
+            || self.row >= self.max_rows
+            || self.rules.may_be_skipped(self.row, rest)
+        {
             return Ok(None);
         }
         let text = self.source.items();
         let start = self.source.taken();
-        let Some(at) = cut_row(&self.rules, symbols, text, start, &mut self.fields)? else {
+        let Some(at) = cut_row(
+            &self.rules,
+            symbols,
+            text,
+            start,
+            &mut self.fields,
+            &mut self.spare,
+        )?
+        else {
             return Ok(None);
         };
         Ok(row_len(&self.rules, text, start, at))
@@ -230,7 +252,91 @@ impl Rows {
         if let Some(len) = self.cut()? {
             return Ok(self.pass_fields(len));
         }
-        self.read_turn()
+        match self.read_draft()? {
+            Known::Row(len) => Ok(self.pass_fields(len)),
+            Known::Waits => Ok(Turn::Waits),
+            Known::Unknown => self.read_turn(),
+        }
+    }
+
+    /// Reads the row at the front on from where it was left.
+    fn read_draft(&mut self) -> Result<Known, AllocError>
+        ensures refills { Refills self.old self.new }
+        ensures known { IfOk result (IsKnown self.new) }
+    {
+        if !self.may_be_read() {
+            return Ok(Known::Unknown);
+        }
+        match self.draft.go_on(&self.rules, self.source.rest()) {
+            Ok(Reading::Unfinished) => Ok(self.open_row()),
+            Ok(Reading::Ended) => {
+                let len = self.draft.read_len();
+                let trim = self.rules.dialect.trim;
+                self.draft
+                    .take_fields(trim, &mut self.fields, &mut self.spare)?;
+                Ok(self.ended_row(len))
+            }
+            Ok(Reading::Broken) => {
+                self.draft.clear();
+                Ok(Known::Unknown)
+            }
+            Err(e) => {
+                self.draft.clear();
+                Err(e)
+            }
+        }
+    }
+
+    /// Whether the row at the front has fields, and isn't one too many.
+    fn may_be_read(&self) -> bool
+        ensures { result ≡ true → IsReadable self.now }
+    {
+        self.row < self.max_rows && !self.rules.may_be_skipped(self.row, self.source.rest())
+    }
+
+    /// What stands at the front where all of it was read and no row is complete.
+    fn open_row(&self) -> Known
+        requires readable { IsReadable self.now }
+        requires open { IsOpen self.now.rules.dialect self.now.draft (rest_bytes self.now.source) }
+        ensures { IsKnown self.now result }
+    {
+        let rest = self.source.rest();
+        if self.may_go_on() && self.sure_len() <= ROW_LIMIT && !self.rules.may_begin_comment(rest) {
+            Known::Waits
+        } else {
+            Known::Unknown
+        }
+    }
+
+    /// Whether more characters may come.
+    fn may_go_on(&self) -> bool
+        ensures { result ≡ true → after_of self.now ≡ More }
+    {
+        !self.ended && !self.source.is_bad()
+    }
+
+    /// How many bytes are sure to be the row's where it is unfinished: a CR may begin its terminator.
+    fn sure_len(&self) -> usize
+        ensures { result ≡ (if is_quoted (state_of self.now.draft) then length (rest_bytes self.now.source) else read_of self.now.draft) }
+    {
+        if is_quoted(self.draft.state()) {
+            self.source.rest().len()
+        } else {
+            self.draft.read_len()
+        }
+    }
+
+    /// The row at the front, which ends behind so many bytes and whose fields were found.
+    fn ended_row(&self, len: usize) -> Known
+        requires readable { IsReadable self.now }
+        requires read { IsReadRow self.now len }
+        ensures { IsKnown self.now result }
+    {
+        if len > ROW_LIMIT {
+            return Known::Unknown;
+        }
+        let (_, behind) = self.source.rest().as_bytes().split_at(len);
+        Known::Row(len + terminator_at(&self.rules.dialect, behind))
     }
 
     /// Reads one row on, by the characters.
@@ -261,6 +367,7 @@ impl Rows {
         ensures bounds { self.new.fields ≡ self.old.fields }
     {
         self.source.take(len);
+        self.draft.clear();
         self.row += 1;
     }
 

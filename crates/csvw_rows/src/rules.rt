@@ -1,5 +1,6 @@
 //! A dialect with its comment prefix as characters.
 ghost use Rattle.std.specs.Prelude.{◌≡◌, ◌≤◌, false, Some, length, IfOk, chars};
+ghost use Rattle.csvw_rows.specs.Clean.{IsLeads};
 ghost use Rattle.csvw_rows.specs.Cuts.{IsSymbols};
 ghost use Rattle.csvw_rows.specs.declared.cut.Symbols.{Symbols};
 ghost use Rattle.csvw_rows.specs.Files.{prefix_of, is_note};
@@ -10,6 +11,7 @@ ghost use Rattle.csvw_rows.specs.Lines.{IsCommon, IsPrefixLen};
 use crate::cut::Symbols;
 use crate::decode::chars_of;
 use crate::dialect::Dialect;
+use crate::leads::Leads;
 use csvw_text::Seq;
 use std::alloc::{AllocError, Global};
 
@@ -19,9 +21,11 @@ pub struct Rules {
     pub dialect: Dialect,
     pub prefix: Option<Seq<char>>,
     pub symbols: Option<Symbols>,
+    pub leads: Leads,
     ghost same_prefix: { prefix ≡ prefix_of dialect },
     ghost lawful: { IsLawful dialect },
     ghost same_symbols: { (s : Symbols) → symbols ≡ Some s → IsSymbols dialect s },
+    ghost same_leads: { IsLeads dialect leads },
 }
 
 impl Rules {
@@ -35,10 +39,12 @@ impl Rules {
             None => None,
         };
         let symbols = Symbols::of(&dialect);
+        let leads = Leads::of(&dialect);
         Ok(Rules {
             dialect,
             prefix,
             symbols,
+            leads,
         })
     }
 
@@ -62,6 +68,16 @@ impl Rules {
             None => false,
         };
         place < self.dialect.skip_rows || begins
+    }
+
+    /// Whether a row that begins with these bytes may still become a comment.
+    pub fn may_begin_comment(&self, rest: &str) -> bool
+        ensures { result ≡ false → may_be_note self.now.dialect (chars rest.now) ≡ false }
+    {
+        match &self.dialect.comment_prefix {
+            Some(prefix) => prefix.as_str().as_bytes().starts_with(rest.as_bytes()),
+            None => false,
+        }
     }
 
     /// How many characters at the front of the text the prefix has too.

@@ -62,7 +62,7 @@ fn is_quote(d: &Dialect, c: char) -> bool
     }
 }
 
-fn next_step(d: &Dialect, state: State, c: char, ends: bool) -> Step
+pub fn next_step(d: &Dialect, state: State, c: char, ends: bool) -> Step
     ensures { result ≡ step_of d.now state c ends }
 {
     match state {

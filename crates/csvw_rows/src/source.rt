@@ -22,7 +22,7 @@ pub struct Source {
 }
 
 impl Source {
-    ghost use Rattle.csvw_rows.specs.SourceState.{text_items, taken_of, rest_bytes, rest_of, is_bad_of, pending_of, begun_of, Pushes};
+    ghost use Rattle.csvw_rows.specs.SourceState.{text_items, taken_of, rest_bytes, rest_of, is_bad_of, pending_of, begun_of, Pushes, Grows};
 
     /// No text yet.
     pub fn new(alloc: Global) -> Source
@@ -43,7 +43,8 @@ impl Source {
 
     /// Adds some more bytes; `AllocError` where there is no memory.
     pub fn push(&mut self, piece: &[u8]) -> Result<(), AllocError>
-        ensures { OnOk result (Pushes self.old self.new piece.now) }
+        ensures pushes { OnOk result (Pushes self.old self.new piece.now) }
+        ensures grows { OnOk result (Grows self.old self.new) }
     {
         let bytes = joined(self.alloc, self.pending.as_slice(), piece)?;
         let (text, is_bad) = valid_front(bytes.as_slice());
@@ -162,6 +163,9 @@ fn drop_front(bytes: &mut Vec<u8>, count: usize)
     requires { count ≤ vec_len bytes.old }
     ensures { bytes.new.items ≡ drop count bytes.old.items }
 {
+    if count == 0 {
+        return;
+    }
     let rest = bytes.len() - count;
     bytes.copy_within(count.., 0);
     bytes.truncate(rest);

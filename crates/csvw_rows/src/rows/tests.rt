@@ -2,6 +2,7 @@
 ghost use Rattle.std.specs.Prelude.{◌≡◌, ◌<◌, ◌-◌, ◌^◌, true, false, IfOk};
 ghost use Rattle.csvw_rows.specs.Lawful.{IsLawful};
 
+mod both;
 mod compared;
 
 use super::*;

@@ -1,7 +1,7 @@
-use Rattle.std.proofs.Common.{◌≡◌, ◌∙◌, ◌<◌, ℕ, List, chars, false, refl, sym, ap, subst, arith, Some, Ok}
+use Rattle.std.proofs.Common.{◌≡◌, ◌∙◌, ◌<◌, ℕ, List, chars, false, sym, ap, subst, arith}
 use Rattle.csvw_rows.specs.Cuts.{IsCutRow, IsRowLen}
 use Rattle.csvw_rows.specs.Files.{is_note}
-use Rattle.csvw_rows.specs.SourceState.{text_items, taken_of}
+use Rattle.csvw_rows.specs.SourceState.{taken_of}
 use Rattle.csvw_rows.proofs.CutLemmas.{some_gives}
 use Rattle.csvw_rows.proofs.CutTakes.{cut_has}
 use Rattle.csvw_rows.proofs.rows.Rows.cut.Goals as goal
@@ -14,12 +14,13 @@ returns-clause-row c =
     let s = c.args.self.now in
     let d = s.rules.dialect in
     let at = c.in-Some-2.at in
+    let spare = c.cut_row.new.spare.items in
     let bounds = c.cut_row.new.bounds.items in
     let y = s.rules.same_symbols c.in-Some.symbols c.in-Some.is in
     let few : s.row < s.max_rows = (let h = c.if-self.false in omega (arith, h)) in
     let note : is_note d s.row (chars c.rest-rest.result.now) ≡ false = c.may_be_skipped.ensures c.if-may_be_skipped.false in
     let k = rw c.in-Some-2.is at c.in_ok-at.ensures.row in
-    let here = subst (λ (l : List ℕ). IsCutRow d l (taken_of s.source) at bounds) c.items-text.ensures (subst (λ (n : ℕ). IsCutRow d c.items-text.result.now n at bounds) c.taken-start.ensures k) in
+    let here = subst (λ (l : List ℕ). IsCutRow d l (taken_of s.source) at spare bounds) c.items-text.ensures (subst (λ (n : ℕ). IsCutRow d c.items-text.result.now n at spare bounds) c.taken-start.ensures k) in
     some_gives (IsRowLen d c.items-text.result.now c.taken-start.result at) _ c.row_len.result
     (λ n l. cut_has _ at n y.trim few (ap (is_note d s.row) (sym c.rest-rest.ensures.chars) ∙ note) here
     (subst (λ (l : List ℕ). IsRowLen d l (taken_of s.source) at n) c.items-text.ensures (subst (λ (m : ℕ). IsRowLen d c.items-text.result.now m at n) c.taken-start.ensures l)))

@@ -6,8 +6,11 @@ use Rattle.csvw_rows.specs.SourceState.{rest_of}
 use Rattle.csvw_rows.proofs.Utf8.{pushes}
 use Rattle.csvw_rows.proofs.source.Source.push.Goals as goal
 
-pub returns : goal.returns
-returns c = λ bytes h.
+pub returns-clause-grows : goal.returns-clause-grows
+returns-clause-grows c = (_, c.in_ok-add.ensures.rest)
+
+pub returns-clause-pushes : goal.returns-clause-pushes
+returns-clause-pushes c = λ bytes h.
     let s = c.args.self.now in
     let text = c.valid_front-is_bad.result.0.now in
     let all = c.in_ok-bytes.ensures ∙ ap (λ (l : List ℕ). l ++ c.args.piece.now) c.as_slice.ensures.value in

@@ -1,0 +1,19 @@
+use Rattle.std.proofs.Common.{arith}
+use Rattle.std.proofs.lemmas.Simd.{zip2_splat, zip2_of_maps, length-chunk}
+use lib.Lanes.{chunk}
+use Rattle.csvw_rows.proofs.MarkLemmas.{marks_are}
+use Rattle.csvw_rows.proofs.marks.marks_from.Goals as goal
+
+pub returns-clause-marks : goal.returns-clause-marks
+returns-clause-marks c =
+    let s = c.args.symbols in
+    let from = c.args.from in
+    let text = c.args.text.now in
+    let v = chunk from 64 text in
+    let long = length-chunk from 64 text c.requires in
+    record {
+      ordered = omega arith;
+      few = omega arith;
+      within = c.requires;
+      mask = marks_are s text from _ c.requires (zip2_of_maps _ _ _ v (zip2_of_maps _ _ _ v (zip2_splat _ v 64 s.delimiter long) (zip2_splat _ v 64 s.quote long)) (zip2_splat _ v 64 10 long));
+    }

@@ -1,0 +1,13 @@
+use Rattle.std.proofs.Common.{◌∙◌, ap}
+use Rattle.csvw_rows.specs.Bounds.{are_bounds}
+use Rattle.csvw_rows.proofs.DraftRuns.{fresh_draft}
+use Rattle.csvw_rows.specs.SourceState.{rest_bytes}
+use Rattle.csvw_rows.proofs.rows.Rows.pass.Goals as goal
+
+pub invariant_of-self-clause-drafted : goal.invariant_of-self-clause-drafted
+invariant_of-self-clause-drafted c = fresh_draft c.args.self.now.rules.dialect c.clear.new.self (rest_bytes c.take.new.self) c.clear.ensures c.take.new.self.is_text
+
+pub invariant_of-self-clause-bounded : goal.invariant_of-self-clause-bounded
+invariant_of-self-clause-bounded c =
+    let s = c.args.self.now in
+    ap (λ l. are_bounds l s.spare.items s.fields.items) c.take.ensures.items ∙ s.bounded

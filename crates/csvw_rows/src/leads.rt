@@ -1,0 +1,85 @@
+//! The bytes that a dialect's symbols begin with in UTF-8. A text without such a byte has no such symbol.
+ghost use Rattle.std.specs.Prelude.{◌≡◌, ◌≢◌, ◌≤◌, ◌<◌, ◌-◌, [], ◌∷◌, length, take, chars, encode_utf8, slice_index};
+ghost use Rattle.std.specs.Str.{IsCharBoundary};
+ghost use Rattle.csvw_rows.specs.Clean.{IsLeads, IsClean};
+ghost use Rattle.csvw_rows.specs.declared.scan.State.TheVariants.{Plain, Inside};
+
+use crate::dialect::Dialect;
+use crate::scan::State;
+use memchr::{memchr2, memchr3};
+
+/// The first bytes of the delimiter, of the quote, and of what begins an escape. Where no field is quoted,
+/// the delimiter's stands for the quote's, and where quotes are doubled, the quote's for the escape's.
+#[derive(Clone, Copy, Debug, PartialEq, Eq)]
+pub struct Leads {
+    delimiter: u8,
+    quote: u8,
+    escape: u8,
+}
+
+/// The first byte of a character.
+fn lead(c: char) -> u8
+    ensures { take 1 (encode_utf8 c) ≡ result ∷ [] }
+{
+    let mut bytes = [0; 4];
+    c.encode_utf8(&mut bytes).as_bytes()[0]
+}
+
+impl Leads {
+    /// The first bytes of a dialect's symbols.
+    pub fn of(d: &Dialect) -> Leads
+        ensures { IsLeads d.now result }
+    {
+        let delimiter = lead(d.delimiter);
+        let quote = match d.quote_char {
+            Some(quote) => lead(quote),
+            None => delimiter,
+        };
+        let escape = if d.double_quote { quote } else { b'\\' };
+        Leads {
+            delimiter,
+            quote,
+            escape,
+        }
+    }
+
+    /// How many bytes at the front are sure to be the text of a field that is left in this state.
+    pub fn clean_len(self, d: &Dialect, state: State, text: &str) -> usize
+        requires { IsLeads d.now self }
+        ensures boundary { IsCharBoundary text.now result }
+        ensures clean { IsClean d.now state (chars (take result text.now)) }
+    {
+        let bytes = text.as_bytes();
+        match state {
+            State::Plain => {
+                let found = memchr3(self.delimiter, self.quote, b'\n', bytes);
+                place_before(text, found.unwrap_or(bytes.len()))
+            }
+            State::Inside => {
+                let found = memchr2(self.quote, self.escape, bytes);
+                place_before(text, found.unwrap_or(bytes.len()))
+            }
+            State::Start | State::Escaped | State::Closed => 0,
+        }
+    }
+}
+
+/// A place up to this one between two characters, behind none that is a CR.
+fn place_before(text: &str, at: usize) -> usize
+    requires { at ≤ length text.now }
+    ensures within { result ≤ at }
+    ensures boundary { IsCharBoundary text.now result }
+    ensures settled { 0 < result → slice_index text.now (result - 1) ≢ 13 }
+{
+    let bytes = text.as_bytes();
+    let end = if 0 < at && bytes[at - 1] == b'\r' {
+        at - 1
+    } else {
+        at
+    };
+    if 0 < end && bytes[end - 1] != b'\r' && text.is_char_boundary(end) {
+        end
+    } else {
+        0
+    }
+}

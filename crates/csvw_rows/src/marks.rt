@@ -1,0 +1,101 @@
+//! Where the symbols of a row stand among its bytes: many of them are looked at together.
+ghost use Rattle.std.specs.Prelude.{◌≡◌, ℕ, List, Bool, ◌+◌, ◌<◌, ◌≤◌, length};
+ghost use Rattle.csvw_rows.specs.Marked.{is_symbol, AreMarks, IsAhead};
+
+use crate::cut::Symbols;
+use memchr::memchr3;
+use std::simd::prelude::*;
+
+/// How many bytes are looked at together.
+const LANES: usize = 64;
+
+/// Which bytes of a part of a text are symbols: a bit of the mask for each, the lowest for the first.
+#[derive(Clone, Copy, Debug, PartialEq, Eq)]
+pub struct Marks {
+    from: usize,
+    to: usize,
+    mask: u64,
+}
+
+impl Marks {
+    /// No byte was looked at yet.
+    pub fn none() -> Marks
+        ensures { (test : ℕ → Bool) (text : List ℕ) → AreMarks test text result }
+    {
+        Marks {
+            from: 0,
+            to: 0,
+            mask: 0,
+        }
+    }
+
+    /// How many bytes of the part come before its first symbol from this place on.
+    fn ahead(self, at: usize) -> Option<usize>
+        requires low { self.from ≤ at }
+        requires high { at < self.to }
+        requires few { self.to ≤ self.from + LANES }
+        ensures { (test : ℕ → Bool) (text : List ℕ) → AreMarks test text self → IsAhead test text at self.to result }
+    {
+        let mask = self.mask >> (at - self.from);
+        if mask == 0 {
+            return None;
+        }
+        Some(mask.trailing_zeros() as usize)
+    }
+}
+
+/// The marks of the bytes from this place on.
+fn marks_from(symbols: Symbols, text: &[u8], from: usize) -> Marks
+    requires { from + LANES ≤ length text.now }
+    ensures marks { AreMarks (is_symbol symbols) text.now result }
+    ensures from { result.from ≡ from }
+    ensures to { result.to ≡ from + LANES }
+{
+    let bytes = u8x64::from_slice(&text[from..]);
+    let found = bytes.simd_eq(u8x64::splat(symbols.delimiter))
+        | bytes.simd_eq(u8x64::splat(symbols.quote))
+        | bytes.simd_eq(u8x64::splat(b'\n'));
+    Marks {
+        from,
+        to: from + LANES,
+        mask: found.to_bitmask(),
+    }
+}
+
+/// How many bytes from this place on come before the first symbol, if one follows.
+fn look_on(symbols: Symbols, text: &[u8], at: usize, marks: &mut Marks) -> Option<usize>
+    requires marks { AreMarks (is_symbol symbols) text.now marks.old }
+    requires within { at ≤ length text.now }
+    ensures marks { AreMarks (is_symbol symbols) text.now marks.new }
+    ensures ahead { IsAhead (is_symbol symbols) text.now at (length text.now) result }
+{
+    if text.len() - at < LANES {
+        let (_, rest) = text.split_at(at);
+        return memchr3(symbols.delimiter, symbols.quote, b'\n', rest);
+    }
+    *marks = marks_from(symbols, text, at);
+    if let Some(len) = marks.ahead(at) {
+        return Some(len);
+    }
+    let (_, rest) = text.split_at(at + LANES);
+    let len = memchr3(symbols.delimiter, symbols.quote, b'\n', rest)?;
+    Some(LANES + len)
+}
+
+/// How many bytes from this place on come before the first symbol, if one follows.
+pub fn next_symbol(symbols: Symbols, text: &[u8], at: usize, marks: &mut Marks) -> Option<usize>
+    requires marks { AreMarks (is_symbol symbols) text.now marks.old }
+    requires within { at ≤ length text.now }
+    ensures marks { AreMarks (is_symbol symbols) text.now marks.new }
+    ensures ahead { IsAhead (is_symbol symbols) text.now at (length text.now) result }
+{
+    if at < marks.from || marks.to <= at {
+        return look_on(symbols, text, at, marks);
+    }
+    if let Some(len) = marks.ahead(at) {
+        return Some(len);
+    }
+    let seen = marks.to - at;
+    let len = look_on(symbols, text, at + seen, marks)?;
+    Some(seen + len)
+}

@@ -1,0 +1,102 @@
+//! White space that a dialect strips from the texts of fields (tab, line feed, carriage return, space).
+ghost use Rattle.std.specs.Prelude.{◌≡◌, ◌≤◌, ◌+◌, ◌-◌, true, length, take, drop, map, chars, encode_utf8_all, slice_range, OnOk};
+ghost use Rattle.std.specs.Str.{is_utf8};
+ghost use Rattle.csvw_rows.specs.Bounds.{is_apart, apart_all, texts_apart};
+ghost use Rattle.csvw_rows.specs.Grammar.{strip_start, strip_end, trimmed};
+
+use crate::bound::{Bound, text_at};
+use crate::dialect::Trim;
+use csvw_text::is_white;
+use std::alloc::AllocError;
+
+/// Without white space at the start.
+fn without_start(text: &str) -> &str
+    ensures within { length result.now ≤ length text.now }
+    ensures value { result.now ≡ drop (length text.now - length result.now) text.now }
+    ensures chars { chars result.now ≡ strip_start (chars text.now) }
+{
+    let mut rest = text;
+    loop {
+        let mut behind = rest.chars();
+        let Some(c) = behind.next() else {
+            return rest;
+        };
+        if !is_white(c) {
+            return rest;
+        }
+        rest = behind.as_str();
+    }
+}
+
+/// Without white space at the end.
+fn without_end(text: &str) -> &str
+    ensures within { length result.now ≤ length text.now }
+    ensures value { result.now ≡ take (length result.now) text.now }
+    ensures chars { chars result.now ≡ strip_end (chars text.now) }
+{
+    let mut rest = text;
+    loop {
+        let mut before = rest.chars();
+        let Some(c) = before.next_back() else {
+            return rest;
+        };
+        let front = before.as_str();
+        if !is_white(c) {
+            return rest;
+        }
+        rest = front;
+    }
+}
+
+/// How many bytes are stripped at the start of a text, and how many remain behind them.
+fn kept(trim: Trim, text: &str) -> (usize, usize)
+    ensures within { result.0 + result.1 ≤ length text.now }
+    ensures text { is_utf8 (take result.1 (drop result.0 text.now)) ≡ true }
+    ensures value { take result.1 (drop result.0 text.now) ≡ encode_utf8_all (trimmed trim (chars text.now)) }
+{
+    match trim {
+        Trim::No => (0, text.len()),
+        Trim::Start => {
+            let rest = without_start(text);
+            (text.len() - rest.len(), rest.len())
+        }
+        Trim::End => (0, without_end(text).len()),
+        Trim::Both => {
+            let rest = without_start(text);
+            (text.len() - rest.len(), without_end(rest).len())
+        }
+    }
+}
+
+/// Where the text of a field lies that is stripped.
+fn trimmed_bound(trim: Trim, texts: &[u8], bound: Bound) -> Bound
+    requires { is_apart texts.now bound ≡ true }
+    ensures apart { is_apart texts.now result ≡ true }
+    ensures text { slice_range texts.now result.from result.to ≡ encode_utf8_all (trimmed trim (chars (slice_range texts.now bound.from bound.to))) }
+{
+    let (start, len) = kept(trim, text_at(texts, texts, bound));
+    let from = bound.from + start;
+    Bound {
+        from,
+        to: from + len,
+        apart: true,
+    }
+}
+
+/// Where the texts of fields lie that are stripped; `AllocError` where there is no memory.
+pub fn trim_fields(
+    trim: Trim,
+    texts: &[u8],
+    bounds: &[Bound],
+    fields: &mut Vec<Bound>,
+) -> Result<(), AllocError>
+    requires { apart_all texts.now bounds.now ≡ true }
+    ensures bounded { apart_all texts.now fields.new.items ≡ true }
+    ensures texts { OnOk result (texts_apart texts.now fields.new.items ≡ map (λ x. encode_utf8_all (trimmed trim (chars x))) (texts_apart texts.now bounds.now)) }
+{
+    fields.clear();
+    for bound in bounds {
+        fields.push(trimmed_bound(trim, texts, *bound))?;
+    }
+    Ok(())
+}
