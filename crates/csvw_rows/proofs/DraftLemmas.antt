@@ -161,7 +161,7 @@ two_codes d c e cs k =
     let P : List ℕ → Type 0 = λ l. 0 < terminator_len d (encode_utf8_all l) in
     subst P (sym both) (omega (arith, ap (terminator_len d) spelled, crlf_again d (encode_utf8_all cs) p.0))
 
-term_codes : (d : Dialect) (cs : List ℕ) → 0 < terminator_len d cs → 0 < terminator_len d (encode_utf8_all cs)
+pub term_codes : (d : Dialect) (cs : List ℕ) → 0 < terminator_len d cs → 0 < terminator_len d (encode_utf8_all cs)
 term_codes d [] h = absurd (nothing_ends d h)
 term_codes d (c ∷ []) h = one_code d c [] (one_end d.line_terminators.crlf d.line_terminators.lf (nat_eq 13 c) (nat_eq 10 c) false false h (none d.line_terminators.crlf (nat_eq 13 c)))
   where

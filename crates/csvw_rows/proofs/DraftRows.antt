@@ -1,5 +1,5 @@
 -- A row that was read on to its end is a row that is taken; one that is left unfinished is waited for.
-use Rattle.std.proofs.Common.{◌≡◌, ◌≢◌, ◌∙◌, ℕ, ◌+◌, ◌-◌, ◌<◌, ◌≤◌, Bool, true, false, ◌&&◌, ◌||◌, not, if◌then◌else◌, List, [], ◌∷◌, ◌++◌, map, length, take, drop, Option, Some, None, Ok, refl, sym, ap, subst, arith, append-nil, length-append, length-drop, length-take, ◌⊎◌, inl, inr, chars, ◌==◌}
+use Rattle.std.proofs.Common.{◌≡◌, ◌≢◌, ◌∙◌, ℕ, ◌+◌, ◌-◌, ◌<◌, ◌≤◌, Bool, true, false, ◌&&◌, ◌||◌, not, if◌then◌else◌, List, [], ◌∷◌, ◌++◌, map, length, take, drop, Option, Some, None, option_map, Ok, refl, sym, ap, subst, arith, append-nil, length-append, length-drop, length-take, ◌⊎◌, inl, inr, chars, ◌==◌}
 use Rattle.std.specs.Prelude.{IsUtf8, encode_utf8_all}
 use Rattle.std.specs.Str.{is_utf8}
 use Rattle.std.proofs.lemmas.List.{drop-drop, append_cancel_right}
@@ -16,41 +16,37 @@ use Rattle.csvw_rows.specs.Grammar.{terminator_len, trimmed}
 use Rattle.csvw_rows.specs.Lawful.{IsLawful}
 use Rattle.csvw_rows.specs.Lengths.{byte_len, row_limit}
 use Rattle.csvw_rows.specs.Looks.{settled, unsettled, next_row, found_row, may_be_note}
+use Rattle.csvw_rows.specs.Notes.{IsLineEnd}
 use Rattle.csvw_rows.specs.Nexts.{TakesRow, NextGives, is_last}
 use Rattle.csvw_rows.specs.Parts.{Continues}
-use Rattle.csvw_rows.specs.RowsState.{HasFields, IsReadable, IsReadRow, after_of}
+use Rattle.csvw_rows.specs.RowsState.{HasRow, HasFields, IsReadable, IsReadRow, IsNoteNext, IsNoteRead, IsNoteOpen, EndsNote, after_of}
 use Rattle.csvw_rows.specs.Scan.{Found, Unfinished, run, finish, is_quoted}
 use Rattle.csvw_rows.specs.SourceState.{rest_bytes, rest_of}
 use Rattle.csvw_rows.proofs.Ascii.{split_chars, term_chars, term_text}
-use Rattle.csvw_rows.proofs.Continue.{fields_next, found_is_row, take_front}
+use Rattle.csvw_rows.proofs.Continue.{fields_next, note_next, continues_note, found_is_row, take_front}
 use Rattle.csvw_rows.proofs.DraftLemmas.{front_text, term_same}
 use Rattle.csvw_rows.proofs.Joins.{settled_all}
 use Rattle.csvw_rows.proofs.Lookahead.{term_within}
 use Rattle.std.proofs.lemmas.Grind.{common_steps}
 use Rattle.csvw_rows.proofs.NextLemmas.{open_waits, waits_gives}
+use Rattle.csvw_rows.proofs.NoteLemmas.{ends_text, line_here, line_open, none_before}
 use Rattle.csvw_rows.proofs.RowLaws.{row_sound}
 use Rattle.csvw_rows.proofs.Sees.{continues_quoted, continues_unquoted}
 use Rattle.csvw_rows.proofs.Utf8.{drop_past}
 
-module _ (d : Dialect) (max i : ℕ) (rest : List ℕ) (len : ℕ) (values : List (List ℕ)) (w : IsLawful d) (u : IsUtf8 rest) (within : len ≤ length rest) (back : is_utf8 (drop len rest) ≡ true)
-    (note : is_note d i (chars rest) ≡ false) (found : run d Start [] [] (chars rest) ≡ Found values (chars (drop len rest))) where
+module _ (d : Dialect) (max i : ℕ) (rest : List ℕ) (len : ℕ) (fields : Option (List (List ℕ))) (w : IsLawful d) (u : IsUtf8 rest) (within : len ≤ length rest) (back : is_utf8 (drop len rest) ≡ true)
+    (next_is : next_row false d i (chars rest) ≡ Some (fields, chars (drop len rest))) where
   abbrev front : List ℕ
   front = chars (take len rest)
 
   abbrev after : List ℕ
   after = chars (drop len rest)
 
-  abbrev fields : Option (List (List ℕ))
-  fields = Some (map (trimmed d.trim) values)
-
   abbrev term : ℕ
   term = terminator_len d (drop len rest)
 
   spelled : chars rest ≡ front ++ after
   spelled = split_chars rest len (front_text rest len u within back)
-
-  next_is : next_row false d i (chars rest) ≡ Some (fields, after)
-  next_is = fields_next false d i (chars rest) note ∙ ap (λ o. found_row d (finish o false)) found
 
   is_row : IsRow d i (record { text = front; fields = fields }) after
   is_row = found_is_row d i front after fields w (ap (next_row false d i) (sym spelled) ∙ next_is)
@@ -98,26 +94,66 @@ module _ (d : Dialect) (max i : ℕ) (rest : List ℕ) (len : ℕ) (values : Lis
   chars_behind = ap chars rest_behind ∙ (term_chars d (drop len rest) some).behind ∙ sym (ap (drop (length front + term)) spelled ∙ drop_past front after term)
 
 -- the row is at the front of a reader's text
-pub read_has : (t : Rows) (len n : ℕ) → IsReadable t → IsReadRow t len → len ≤ row_limit → n ≡ len + terminator_len t.rules.dialect (drop len (rest_bytes t.source))
-    → terminator_len t.rules.dialect (drop len (rest_bytes t.source)) ≤ length (drop len (rest_bytes t.source)) → HasFields t n
-read_has t len n k r short value inside =
+row_has : (t : Rows) (len n : ℕ) (fields : Option (List (List ℕ))) → t.row < t.max_rows → len ≤ length (rest_bytes t.source) → is_utf8 (drop len (rest_bytes t.source)) ≡ true
+    → next_row false t.rules.dialect t.row (rest_of t.source) ≡ Some (fields, chars (drop len (rest_bytes t.source))) → len ≤ row_limit
+    → n ≡ len + terminator_len t.rules.dialect (drop len (rest_bytes t.source)) → terminator_len t.rules.dialect (drop len (rest_bytes t.source)) ≤ length (drop len (rest_bytes t.source)) → HasRow t n fields
+row_has t len n fields few within back next_is short value inside =
     let d = t.rules.dialect in
     let rest = rest_bytes t.source in
     let u = IsUtf8-from_is_utf8 rest t.source.is_text in
     let term = terminator_len d (drop len rest) in
     record {
-      values = r.values;
-      row = record {
-        len = length (chars (take len rest)) + term;
-        front = record {
-          within = (let w = r.within in omega (arith, inside, value, w, length-drop len rest));
-          is_text = ap (λ m. is_utf8 (drop m rest)) value ∙ text_behind d t.max_rows t.row rest len r.values t.rules.lawful u r.within r.back k.note r.found;
-          same = ap (λ m. chars (drop m rest)) value ∙ chars_behind d t.max_rows t.row rest len r.values t.rules.lawful u r.within r.back k.note r.found;
-        };
-        takes = read_takes d t.max_rows t.row rest len r.values t.rules.lawful u r.within r.back k.note r.found (is_last (after_of t)) k.few short inside;
+      len = length (chars (take len rest)) + term;
+      front = record {
+        within = omega (arith, inside, value, within, length-drop len rest);
+        is_text = ap (λ m. is_utf8 (drop m rest)) value ∙ text_behind d t.max_rows t.row rest len fields t.rules.lawful u within back next_is;
+        same = ap (λ m. chars (drop m rest)) value ∙ chars_behind d t.max_rows t.row rest len fields t.rules.lawful u within back next_is;
       };
+      takes = read_takes d t.max_rows t.row rest len fields t.rules.lawful u within back next_is (is_last (after_of t)) few short inside;
+    }
+
+pub read_has : (t : Rows) (len n : ℕ) → IsReadable t → IsReadRow t len → len ≤ row_limit → n ≡ len + terminator_len t.rules.dialect (drop len (rest_bytes t.source))
+    → terminator_len t.rules.dialect (drop len (rest_bytes t.source)) ≤ length (drop len (rest_bytes t.source)) → HasFields t n
+read_has t len n k r short value inside =
+    let d = t.rules.dialect in
+    record {
+      values = r.values;
+      row = row_has t len n (Some (map (trimmed d.trim) r.values)) k.few r.within r.back (fields_next false d t.row (rest_of t.source) k.note ∙ ap (λ o. found_row d (finish o false)) r.found) short value inside;
       texts = r.texts;
     }
+
+-- and so is one without fields
+pub note_has : (t : Rows) (len n : ℕ) → IsNoteNext t → IsNoteRead t len → len ≤ row_limit → n ≡ len + terminator_len t.rules.dialect (drop len (rest_bytes t.source))
+    → terminator_len t.rules.dialect (drop len (rest_bytes t.source)) ≤ length (drop len (rest_bytes t.source)) → HasRow t n None
+note_has t len n k r short value inside =
+    let d = t.rules.dialect in
+    let rest = rest_bytes t.source in
+    let u = IsUtf8-from_is_utf8 rest t.source.is_text in
+    let within : len ≤ length rest = (let h = r.within in omega (arith, h)) in
+    let back = ends_text d rest len u r.within r.ends in
+    let ends : 0 < terminator_len d (chars (drop len rest)) = (let h = r.ends in omega (arith, h, term_same d (drop len rest) (IsUtf8-from_is_utf8 (drop len rest) back))) in
+    row_has t len n None k.few within back (note_next d t.row (rest_of t.source) k.note ∙ ap (option_map (λ l. (None, l))) (line_here d rest len u within back r.before ends)) short value inside
+
+pub line_ends : (t : Rows) (o : Option ℕ) → IsLineEnd t.rules.dialect (rest_bytes t.source) t.note o → EndsNote t o
+line_ends t (Some len) e = record { within = e.0; ends = e.1; before = none_before t.rules.dialect (rest_bytes t.source) t.note len t.noted e.2 }
+line_ends t None e = none_before t.rules.dialect (rest_bytes t.source) t.note (length (rest_bytes t.source)) t.noted e
+
+-- a skipped row or a comment that goes on
+pub open_note_gives : (t : Rows) → IsNoteNext t → IsNoteOpen t → t.note ≤ row_limit → after_of t ≡ More → NextGives (after_of t) t.rules.dialect t.max_rows t.row (rest_of t.source) (Ok next.Waits)
+open_note_gives t k o short more =
+    let d = t.rules.dialect in
+    let rest = rest_bytes t.source in
+    let text = rest_of t.source in
+    let s = settled d text in
+    let u = IsUtf8-from_is_utf8 rest t.source.is_text in
+    let c = continues_note d t.row text t.rules.lawful k.note (line_open d rest u o.none) in
+    let front : take (length s) text ≡ s = ap (take (length s)) (sym (settled_all d text)) ∙ take_front s (unsettled d text) in
+    let bytes : byte_len (take (length s) text) ≡ length (take t.note rest) = ap byte_len (front ∙ sym o.settled.chars) ∙ ap length (encodes-chars (take t.note rest) (IsUtf8-from_is_utf8 (take t.note rest) o.settled.text)) in
+    let g = open_waits d t.max_rows t.row text (length s) t.rules.lawful k.few c (omega (arith, short, bytes, take_short t.note rest)) in
+    subst (λ a. NextGives a d t.max_rows t.row text (Ok next.Waits)) (sym more) (waits_gives More d t.max_rows t.row text g.0 g.1 (λ e. absurd cc))
+  where
+    take_short : (n : ℕ) (l : List ℕ) → length (take n l) ≤ n
+    take_short n l = grind (arith, common_steps)
 
 -- a row that goes on
 pub open_gives : (t : Rows) (s : Draft) (len : ℕ) → IsReadable t → IsOpen t.rules.dialect s (rest_bytes t.source) → len ≡ (if is_quoted (state_of s) then length (rest_bytes t.source) else read_of s)

@@ -48,7 +48,7 @@ clear_of : (d : Dialect) (text after : List ℕ) → NoneArises d text after →
 clear_of d [] after h = tt
 clear_of d (c ∷ cs) after h = (h 0 (omega arith), clear_of d cs after (λ k l. h (suc k) (omega (arith, l))))
 
-clear_at : (d : Dialect) (text after : List ℕ) → Clear d text after → NoneArises d text after
+pub clear_at : (d : Dialect) (text after : List ℕ) → Clear d text after → NoneArises d text after
 clear_at d [] after h k l = absurd (omega (arith, l))
 clear_at d (c ∷ cs) after h zero l = h.0
 clear_at d (c ∷ cs) after h (suc k) l = clear_at d cs after h.1 k (omega (arith, l))
@@ -91,7 +91,7 @@ fresh_draft d s rest f u = record {
     none = ap (λ n. chars (take n rest)) f.read ∙ chars-nil
 
 -- more bytes come
-drop_more : (n : ℕ) (a b : List ℕ) → n ≤ length a → drop n (a ++ b) ≡ drop n a ++ b
+pub drop_more : (n : ℕ) (a b : List ℕ) → n ≤ length a → drop n (a ++ b) ≡ drop n a ++ b
 drop_more n a b h = grind (arith, common_steps)
 
 take_more : (n : ℕ) (a b : List ℕ) → n ≤ length a → take n (a ++ b) ≡ take n a

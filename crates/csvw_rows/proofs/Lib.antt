@@ -25,6 +25,7 @@ pub mod DraftLemmas
 pub mod CleanLemmas
 pub mod DraftRuns
 pub mod TrimLemmas
+pub mod NoteLemmas
 pub mod DraftRows
 pub mod DecodeSteps
 pub mod SourceSteps

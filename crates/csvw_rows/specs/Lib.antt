@@ -15,6 +15,7 @@ pub mod Nexts
 pub mod RowValue
 pub mod Clean
 pub mod Drafts
+pub mod Notes
 pub mod SourceState
 pub mod RowsState
 pub mod RowsLending

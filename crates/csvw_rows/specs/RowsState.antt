@@ -1,5 +1,5 @@
 -- What a reader of rows stands for: all bytes so far, whether they ended, and the rows given.
-use Rattle.std.specs.Prelude.{◌≡◌, ◌≢◌, ◌⊎◌, ℕ, ◌+◌, ◌-◌, ◌<◌, ◌≤◌, Bool, true, false, not, ◌&&◌, ◌||◌, ◌==◌, if◌then◌else◌, List, [], ◌∷◌, ◌++◌, drop, length, map, chars, encode_utf8_all, Option, Some, None, Result, Ok, Err}
+use Rattle.std.specs.Prelude.{◌≡◌, ◌≢◌, ◌⊎◌, ℕ, ◌+◌, ◌-◌, ◌<◌, ◌≤◌, Bool, true, false, not, ◌&&◌, ◌||◌, ◌==◌, if◌then◌else◌, List, [], ◌∷◌, ◌++◌, take, drop, length, map, chars, encode_utf8_all, Option, Some, None, Result, Ok, Err}
 use Rattle.csvw_rows.specs.declared.dialect.Dialect.{Dialect}
 use Rattle.csvw_rows.specs.declared.rows.Rows.{Rows}
 use Rattle.csvw_rows.specs.declared.stop.RowStop.{RowStop}
@@ -12,7 +12,9 @@ use Rattle.csvw_rows.specs.Bounds.{fields_at}
 use Rattle.csvw_rows.specs.Files.{is_note, Row, AreRows, EndsOpen, KeepsLimits, IsWhole, Front, Body, content, is_text, remaining}
 use Rattle.csvw_rows.specs.RowValue.{Given}
 use Rattle.csvw_rows.specs.SourceState.{text_items, rest_bytes, rest_of, is_bad_of, pending_of, begun_of, Decodes}
-use Rattle.csvw_rows.specs.Grammar.{trimmed}
+use Rattle.csvw_rows.specs.Grammar.{terminator_len, trimmed}
+use Rattle.csvw_rows.specs.Looks.{settled}
+use Rattle.csvw_rows.specs.Notes.{NoneBegins}
 use Rattle.csvw_rows.specs.Nexts.{NextGives, TakesRow, is_last}
 use Rattle.csvw_rows.specs.Scan.{Found, run}
 use Rattle.csvw_rows.specs.declared.next.Known.{Known}
@@ -177,8 +179,39 @@ pub record IsReadRow (s : Rows) (len : ℕ) : Type 0 where
   pub found : run s.rules.dialect Start [] [] (rest_of s.source) ≡ Found values (chars (drop len (rest_bytes s.source)))
   pub texts : fields_of s ≡ map (λ x. encode_utf8_all (trimmed s.rules.dialect.trim x)) values
 
+-- a skipped row or a comment is at the front, which isn't one too many
+pub record IsNoteNext (s : Rows) : Type 0 where
+  pub few : s.row < s.max_rows
+  pub note : is_note s.rules.dialect s.row (rest_of s.source) ≡ true
+
+-- its terminator stands behind so many bytes
+pub record IsNoteRead (s : Rows) (len : ℕ) : Type 0 where
+  pub within : len < length (rest_bytes s.source)
+  pub ends : 0 < terminator_len s.rules.dialect (drop len (rest_bytes s.source))
+  pub before : NoneBegins s.rules.dialect (rest_bytes s.source) 0 len
+
+-- no terminator stands there
+abbrev pub HasNoEnd : Rows → Type 0
+HasNoEnd s = NoneBegins s.rules.dialect (rest_bytes s.source) 0 (length (rest_bytes s.source))
+
+abbrev pub EndsNote : Rows → Option ℕ → Type 0
+EndsNote s (Some len) = IsNoteRead s len
+EndsNote s None = HasNoEnd s
+
+-- so many bytes are all but a CR at the end that may begin a terminator
+pub record IsSettledLen (s : Rows) (len : ℕ) : Type 0 where
+  pub bytes : len ≡ length (settled s.rules.dialect (rest_bytes s.source))
+  pub chars : chars (take len (rest_bytes s.source)) ≡ settled s.rules.dialect (rest_of s.source)
+  pub text : is_utf8 (take len (rest_bytes s.source)) ≡ true
+
+-- no terminator stands there yet, and all that is settled was read
+pub record IsNoteOpen (s : Rows) : Type 0 where
+  pub none : HasNoEnd s
+  pub settled : IsSettledLen s s.note
+
 -- what the bytes at the front are known to be
 abbrev pub IsKnown : Rows → Known → Type 0
 IsKnown s (known.Row len) = HasFields s len
+IsKnown s (known.Note len) = HasRow s len None
 IsKnown s known.Waits = NextGives (after_of s) s.rules.dialect s.max_rows s.row (rest_of s.source) (Ok next.Waits)
 IsKnown s known.Unknown = Unit {0}

@@ -237,6 +237,7 @@ impl Draft {
 pub fn settled<'a>(d: &Dialect, text: &'a str) -> &'a str
     ensures front { result.now ≡ take (length result.now) text.now }
     ensures chars { chars result.now ≡ settled d.now (chars text.now) }
+    ensures bytes { result.now ≡ settled d.now text.now }
 {
     let len = text.len();
     if d.line_terminators.crlf && 0 < len && text.as_bytes()[len - 1] == b'\r' {

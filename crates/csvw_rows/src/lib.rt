@@ -12,6 +12,7 @@ mod leads;
 mod line;
 mod marks;
 mod next;
+mod note;
 mod raw_row;
 mod rows;
 mod rules;

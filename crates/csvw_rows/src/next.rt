@@ -50,6 +50,8 @@ pub enum Turn {
 pub enum Known {
     /// A row of so many bytes, its terminator among them, whose fields were found.
     Row(usize),
+    /// A row of so many bytes, its terminator among them, that is skipped or a comment.
+    Note(usize),
     /// No row is complete.
     Waits,
     /// Nothing is known.

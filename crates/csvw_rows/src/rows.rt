@@ -5,16 +5,18 @@ ghost use Rattle.std.specs.Borrow.{sem};
 ghost use Rattle.csvw_rows.specs.Bounds.{are_bounds};
 ghost use Rattle.csvw_rows.specs.Lawful.{IsLawful};
 ghost use Rattle.csvw_rows.specs.Drafts.{IsDraft};
+ghost use Rattle.csvw_rows.specs.Notes.{IsNoted};
 ghost use Rattle.csvw_rows.specs.SourceState.{rest_bytes};
 
 use crate::bound::Bound;
 use crate::cut::{cut_row, row_len, terminator_at};
 use crate::decode::front_len;
 use crate::dialect::Dialect;
-use crate::draft::{Draft, Reading};
+use crate::draft::{Draft, Reading, settled};
 use crate::field::{all_empty, write_fields};
 use crate::line::is_quoted;
 use crate::next::{After, Known, Next, ROW_LIMIT, Turn};
+use crate::note::line_end;
 use crate::raw_row::RawRow;
 use crate::rules::Rules;
 use crate::source::Source;
@@ -36,16 +38,18 @@ pub struct Rows {
     fields: Vec<Bound>,
     spare: Vec<u8>,
     draft: Draft,
+    note: usize,
     stop: Option<RowStop>,
     ghost few: { max_rows < 2 ^ 64 - 1 },
     ghost counted: { row ≤ max_rows },
     ghost remained_few: { remained ≤ row },
     ghost bounded: { are_bounds source.text.items spare.items fields.items ≡ true },
     ghost drafted: { IsDraft rules.dialect draft (rest_bytes source) },
+    ghost noted: { IsNoted rules.dialect note (rest_bytes source) },
 }
 
 impl Rows {
-    ghost use Rattle.csvw_rows.specs.RowsState.{is_ended_of, fields_of, unread, reading_of, stop_of, after_of, last_of, Holds, Passes, AreFront, HasFields, Refills, Feeds, Closes, Advances, Turns, KeepsStop, IsReadable, IsReadRow, IsKnown};
+    ghost use Rattle.csvw_rows.specs.RowsState.{is_ended_of, fields_of, unread, reading_of, stop_of, after_of, last_of, Holds, Passes, AreFront, HasFields, Refills, Feeds, Closes, Advances, Turns, KeepsStop, IsReadable, IsReadRow, IsNoteNext, IsNoteRead, IsNoteOpen, IsSettledLen, EndsNote, IsKnown};
     ghost use Rattle.csvw_rows.specs.Drafts.{read_of, state_of, IsOpen};
     ghost use Rattle.csvw_rows.specs.Scan.{is_quoted};
     ghost use Rattle.csvw_rows.specs.declared.next.After.TheVariants.{More};
@@ -74,6 +78,7 @@ impl Rows {
             fields: Vec::new(alloc),
             spare: Vec::new(alloc),
             draft: Draft::new(alloc),
+            note: 0,
             stop: None,
         })
     }
@@ -107,6 +112,7 @@ impl Rows {
             Ok(()) => Ok(()),
             Err(_) => {
                 self.draft.clear();
+                self.note = 0;
                 self.stop = Some(RowStop::Memory);
                 Err(RowStop::Memory)
             }
@@ -224,7 +230,7 @@ impl Rows {
         let rest = self.source.rest();
         if 0 < self.draft.read_len()
             || self.row >= self.max_rows
-            || self.rules.may_be_skipped(self.row, rest)
+            || self.rules.is_skipped(self.row, rest)
         {
             return Ok(None);
         }
@@ -252,21 +258,93 @@ impl Rows {
         if let Some(len) = self.cut()? {
             return Ok(self.pass_fields(len));
         }
-        match self.read_draft()? {
+        match self.read_front()? {
             Known::Row(len) => Ok(self.pass_fields(len)),
+            Known::Note(len) => {
+                self.pass(len);
+                Ok(Turn::Passed)
+            }
             Known::Waits => Ok(Turn::Waits),
             Known::Unknown => self.read_turn(),
         }
     }
 
-    /// Reads the row at the front on from where it was left.
-    fn read_draft(&mut self) -> Result<Known, AllocError>
+    /// Reads what stands at the front on from where it was left.
+    fn read_front(&mut self) -> Result<Known, AllocError>
         ensures refills { Refills self.old self.new }
         ensures known { IfOk result (IsKnown self.new) }
     {
-        if !self.may_be_read() {
+        if self.row >= self.max_rows {
             return Ok(Known::Unknown);
         }
+        if self.rules.is_skipped(self.row, self.source.rest()) {
+            return Ok(self.read_note());
+        }
+        self.read_draft()
+    }
+
+    /// Reads the skipped row or comment at the front on from where it was left.
+    fn read_note(&mut self) -> Known
+        requires { IsNoteNext self.old }
+        ensures refills { Refills self.old self.new }
+        ensures known { IsKnown self.new result }
+    {
+        match self.note_end() {
+            Some(len) => self.ended_note(len),
+            None => {
+                self.note = self.settled_len();
+                self.open_note()
+            }
+        }
+    }
+
+    /// Behind how many bytes the skipped row or comment at the front ends.
+    fn note_end(&self) -> Option<usize>
+        ensures { EndsNote self.now result }
+    {
+        let rest = self.source.rest();
+        line_end(&self.rules.dialect, rest.as_bytes(), self.note)
+    }
+
+    /// How many bytes there are without a CR at the end that may begin a terminator.
+    fn settled_len(&self) -> usize
+        ensures { IsSettledLen self.now result }
+    {
+        settled(&self.rules.dialect, self.source.rest()).len()
+    }
+
+    /// The skipped row or comment at the front, which ends behind so many bytes.
+    fn ended_note(&self, len: usize) -> Known
+        requires next { IsNoteNext self.now }
+        requires read { IsNoteRead self.now len }
+        ensures { IsKnown self.now result }
+    {
+        if len > ROW_LIMIT {
+            return Known::Unknown;
+        }
+        let (_, behind) = self.source.rest().as_bytes().split_at(len);
+        Known::Note(len + terminator_at(&self.rules.dialect, behind))
+    }
+
+    /// What stands at the front where no skipped row or comment is complete.
+    fn open_note(&self) -> Known
+        requires next { IsNoteNext self.now }
+        requires open { IsNoteOpen self.now }
+        ensures { IsKnown self.now result }
+    {
+        if self.may_go_on() && self.note <= ROW_LIMIT {
+            Known::Waits
+        } else {
+            Known::Unknown
+        }
+    }
+
+    /// Reads the row with fields at the front on from where it was left.
+    fn read_draft(&mut self) -> Result<Known, AllocError>
+        requires { IsReadable self.old }
+        ensures refills { Refills self.old self.new }
+        ensures known { IfOk result (IsKnown self.new) }
+    {
         match self.draft.go_on(&self.rules, self.source.rest()) {
             Ok(Reading::Unfinished) => Ok(self.open_row()),
             Ok(Reading::Ended) => {
@@ -285,13 +363,6 @@ impl Rows {
                 Err(e)
             }
         }
-    }
-
-    /// Whether the row at the front has fields, and isn't one too many.
-    fn may_be_read(&self) -> bool
-        ensures { result ≡ true → IsReadable self.now }
-    {
-        self.row < self.max_rows && !self.rules.may_be_skipped(self.row, self.source.rest())
     }
 
     /// What stands at the front where all of it was read and no row is complete.
@@ -368,6 +439,7 @@ impl Rows {
     {
         self.source.take(len);
         self.draft.clear();
+        self.note = 0;
         self.row += 1;
     }
 

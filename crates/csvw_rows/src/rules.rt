@@ -3,7 +3,7 @@ ghost use Rattle.std.specs.Prelude.{◌≡◌, ◌≤◌, false, Some, length, I
 ghost use Rattle.csvw_rows.specs.Clean.{IsLeads};
 ghost use Rattle.csvw_rows.specs.Cuts.{IsSymbols};
 ghost use Rattle.csvw_rows.specs.declared.cut.Symbols.{Symbols};
-ghost use Rattle.csvw_rows.specs.Files.{prefix_of, is_note};
+ghost use Rattle.csvw_rows.specs.Files.{prefix_of, begins_with, is_note};
 ghost use Rattle.csvw_rows.specs.Lawful.{IsLawful};
 ghost use Rattle.csvw_rows.specs.Looks.{may_be_note};
 ghost use Rattle.csvw_rows.specs.Lines.{IsCommon, IsPrefixLen};
@@ -59,15 +59,20 @@ impl Rules {
         place < self.dialect.skip_rows || comment
     }
 
-    /// Whether a row that begins with these bytes may be skipped or a comment.
-    pub fn may_be_skipped(&self, place: u64, rest: &str) -> bool
-        ensures { result ≡ false → is_note self.now.dialect place (chars rest.now) ≡ false }
+    /// Whether a row that begins with these bytes, at this place from 0, is skipped or a comment.
+    pub fn is_skipped(&self, place: u64, rest: &str) -> bool
+        ensures { result ≡ is_note self.now.dialect place (chars rest.now) }
     {
-        let begins = match &self.dialect.comment_prefix {
+        place < self.dialect.skip_rows || self.begins_comment(rest)
+    }
+
+    fn begins_comment(&self, rest: &str) -> bool
+        ensures { result ≡ begins_with (chars rest.now) (prefix_of self.now.dialect) }
+    {
+        match &self.dialect.comment_prefix {
             Some(prefix) => rest.as_bytes().starts_with(prefix.as_str().as_bytes()),
             None => false,
-        };
-        place < self.dialect.skip_rows || begins
+        }
     }
 
     /// Whether a row that begins with these bytes may still become a comment.

@@ -18,7 +18,7 @@ returns-clause-row c =
     let bounds = c.cut_row.new.bounds.items in
     let y = s.rules.same_symbols c.in-Some.symbols c.in-Some.is in
     let few : s.row < s.max_rows = (let h = c.if-self.false in omega (arith, h)) in
-    let note : is_note d s.row (chars c.rest-rest.result.now) ≡ false = c.may_be_skipped.ensures c.if-may_be_skipped.false in
+    let note : is_note d s.row (chars c.rest-rest.result.now) ≡ false = sym c.is_skipped.ensures ∙ c.if-is_skipped.false in
     let k = rw c.in-Some-2.is at c.in_ok-at.ensures.row in
     let here = subst (λ (l : List ℕ). IsCutRow d l (taken_of s.source) at spare bounds) c.items-text.ensures (subst (λ (n : ℕ). IsCutRow d c.items-text.result.now n at spare bounds) c.taken-start.ensures k) in
     some_gives (IsRowLen d c.items-text.result.now c.taken-start.result at) _ c.row_len.result

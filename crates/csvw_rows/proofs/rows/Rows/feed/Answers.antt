@@ -4,6 +4,8 @@ use Rattle.csvw_rows.specs.Drafts.{IsDraft}
 use Rattle.csvw_rows.specs.SourceState.{rest_bytes}
 use Rattle.csvw_rows.proofs.DraftRuns.{fresh_draft, draft_grows, bytes_more}
 use Rattle.csvw_rows.proofs.States.{feed_holds}
+use Rattle.csvw_rows.specs.Notes.{IsNoted}
+use Rattle.csvw_rows.proofs.NoteLemmas.{noted_grows}
 use Rattle.csvw_rows.proofs.rows.Rows.feed.Goals as goal
 
 pub invariant_of-self-clause-drafted : goal.invariant_of-self-clause-drafted
@@ -12,6 +14,13 @@ invariant_of-self-clause-drafted c =
     let g = c.in-Ok.ensures.grows in
     let b = bytes_more (rest_bytes s.source) (rest_bytes c.push.new.self) g.0 s.source.is_text c.push.new.self.is_text g.1 in
     subst (IsDraft s.rules.dialect s.draft) (sym b.0) (draft_grows s.rules.dialect s.draft (rest_bytes s.source) (encode_utf8_all g.0) s.drafted b.1)
+
+pub invariant_of-self-clause-noted : goal.invariant_of-self-clause-noted
+invariant_of-self-clause-noted c =
+    let s = c.args.self.now in
+    let g = c.in-Ok.ensures.grows in
+    let b = bytes_more (rest_bytes s.source) (rest_bytes c.push.new.self) g.0 s.source.is_text c.push.new.self.is_text g.1 in
+    subst (IsNoted s.rules.dialect s.note) (sym b.0) (noted_grows s.rules.dialect s.note (rest_bytes s.source) (encode_utf8_all g.0) s.noted)
 
 pub invariant_of-self-in-Err-clause-drafted : goal.invariant_of-self-in-Err-clause-drafted
 invariant_of-self-in-Err-clause-drafted c = fresh_draft c.args.self.now.rules.dialect c.clear-in-Err.new.self (rest_bytes c.push.new.self) c.clear-in-Err.ensures c.push.new.self.is_text

@@ -1,5 +1,8 @@
-use Rattle.std.proofs.Common.{◌∙◌, Ok, Err}
-use Rattle.csvw_rows.proofs.RowSteps.{turns_from, refills_again, waits_turns}
+use Rattle.std.proofs.Common.{◌∙◌, None, Ok, Err, refl}
+use Rattle.csvw_rows.proofs.RowSteps.{turns_from, refills_again, waits_turns, less_unread}
+use Rattle.csvw_rows.proofs.States.{note_stays}
+use Rattle.csvw_rows.specs.declared.next.Turn.TheVariants as turn
+use Rattle.csvw_rows.specs.RowsState.{HasRow}
 use Rattle.csvw_rows.proofs.rows.Rows.turn.Goals as goal
 
 pub returns-in-Some-clause-turns : goal.returns-in-Some-clause-turns
@@ -7,15 +10,25 @@ returns-in-Some-clause-turns c = turns_from c.args.self.now c.cut.new.self c.pas
 
 pub returns-in-Row-clause-turns : goal.returns-in-Row-clause-turns
 returns-in-Row-clause-turns c =
-    turns_from c.args.self.now c.read_draft.new.self c.pass_fields-in-Row.new.self (Ok c.pass_fields-in-Row.result)
-    (refills_again c.args.self.now c.cut.new.self c.read_draft.new.self c.cut.ensures.refills c.read_draft.ensures.refills) c.pass_fields-in-Row.ensures.turns
+    turns_from c.args.self.now c.read_front.new.self c.pass_fields-in-Row.new.self (Ok c.pass_fields-in-Row.result)
+    (refills_again c.args.self.now c.cut.new.self c.read_front.new.self c.cut.ensures.refills c.read_front.ensures.refills) c.pass_fields-in-Row.ensures.turns
 
 pub returns-in-Waits-clause-turns : goal.returns-in-Waits-clause-turns
 returns-in-Waits-clause-turns c =
-    waits_turns c.args.self.now c.read_draft.new.self
-    (refills_again c.args.self.now c.cut.new.self c.read_draft.new.self c.cut.ensures.refills c.read_draft.ensures.refills) (rw c.in-Waits.is at c.in_ok-len-2.ensures.known)
+    waits_turns c.args.self.now c.read_front.new.self
+    (refills_again c.args.self.now c.cut.new.self c.read_front.new.self c.cut.ensures.refills c.read_front.ensures.refills) (rw c.in-Waits.is at c.in_ok-len-2.ensures.known)
 
 pub returns-in-Unknown-clause-turns : goal.returns-in-Unknown-clause-turns
 returns-in-Unknown-clause-turns c =
-    turns_from c.args.self.now c.read_draft.new.self c.read_turn.new.self c.read_turn.result
-    (refills_again c.args.self.now c.cut.new.self c.read_draft.new.self c.cut.ensures.refills c.read_draft.ensures.refills) c.read_turn.ensures.turns
+    turns_from c.args.self.now c.read_front.new.self c.read_turn.new.self c.read_turn.result
+    (refills_again c.args.self.now c.cut.new.self c.read_front.new.self c.cut.ensures.refills c.read_front.ensures.refills) c.read_turn.ensures.turns
+
+pub returns-in-Note-clause-turns : goal.returns-in-Note-clause-turns
+returns-in-Note-clause-turns c =
+    let s = c.args.self.now in
+    let u = c.read_front.new.self in
+    let t = c.pass.new.self in
+    let k : HasRow u c.in-Note.len None = rw c.in-Note.is at c.in_ok-len-2.ensures.known in
+    let p = c.pass.ensures.passes k.len k.front in
+    turns_from s u t (Ok turn.Passed) (refills_again s c.cut.new.self u c.cut.ensures.refills c.read_front.ensures.refills)
+    (p.ended, less_unread u t k.len p k.takes.some k.takes.within, note_stays u t k.len None p c.pass.ensures.remained k.takes (λ n. refl))

@@ -1,0 +1,5 @@
+use Rattle.csvw_rows.specs.Notes.{NoneBegins}
+use Rattle.csvw_rows.proofs.note.line_end.Given as goal
+
+abbrev pub invariant-loop-i : goal.invariant-loop-i
+invariant-loop-i l = NoneBegins l.d l.text l.from l.i

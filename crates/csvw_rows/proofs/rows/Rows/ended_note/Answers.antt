@@ -1,0 +1,15 @@
+use Rattle.std.proofs.Common.{◌≡◌, ◌∙◌, ◌+◌, ◌≤◌, List, ℕ, length, drop, arith, sym, ap, subst}
+use Rattle.csvw_rows.specs.Grammar.{terminator_len}
+use Rattle.csvw_rows.specs.SourceState.{rest_bytes}
+use Rattle.csvw_rows.proofs.DraftRows.{note_has}
+use Rattle.csvw_rows.proofs.rows.Rows.ended_note.Goals as goal
+
+pub returns : goal.returns
+returns c =
+    let s = c.args.self.now in
+    let len = c.args.len in
+    let behind : c.split_at.result.1.now ≡ drop len (rest_bytes s.source) = c.split_at.ensures.back ∙ ap (drop len) (c.as_bytes.ensures.value ∙ c.rest.ensures.value) in
+    let past = c.if-len-gt-ROW_LIMIT.false in
+    note_has s len _ c.requires.next c.requires.read (omega (arith, past))
+    (ap (λ n. len + n) (c.terminator_at.ensures.value ∙ ap (terminator_len s.rules.dialect) behind))
+    (omega (arith, c.terminator_at.ensures.value ∙ ap (terminator_len s.rules.dialect) behind, c.terminator_at.ensures.within, ap length behind))

@@ -1,0 +1,9 @@
+use Rattle.std.proofs.Common.{◌≡◌, ◌∙◌, List}
+use Rattle.csvw_rows.specs.SourceState.{rest_bytes}
+use Rattle.csvw_rows.proofs.NoteLemmas.{settled_noted}
+use Rattle.csvw_rows.proofs.rows.Rows.read_note.Goals as goal
+
+pub invariant_of-self-clause-noted : goal.invariant_of-self-clause-noted
+invariant_of-self-clause-noted c =
+    let s = c.args.self.now in
+    settled_noted s.rules.dialect (rest_bytes s.source) c.settled_len-self.result c.settled_len-self.ensures.bytes c.in-None.ensures
