@@ -14,11 +14,12 @@ use Rattle.csvw_rows.specs.declared.scan.State.TheVariants.{Start}
 use Rattle.csvw_rows.specs.Drafts.{read_of, state_of, values_of, current_of, runs_on, NoneArises, IsFresh, IsDraft, IsEnded, IsOpen, IsRowRead, Reads, GoesOn}
 use Rattle.csvw_rows.specs.Grammar.{terminator_len}
 use Rattle.csvw_rows.specs.Looks.{settled, unsettled}
-use Rattle.csvw_rows.specs.Scan.{Found, Unfinished, run}
+use Rattle.csvw_rows.specs.Scan.{Found, Unfinished, run, finish, is_quoted}
 use Rattle.csvw_rows.proofs.Ascii.{split_chars}
 use Rattle.csvw_rows.proofs.Continue.{unsettled_is}
-use Rattle.csvw_rows.proofs.DraftLemmas.{front_text}
+use Rattle.csvw_rows.proofs.DraftLemmas.{front_text, text_gone}
 use Rattle.csvw_rows.proofs.Joins.{Clear, goes_on, run_join, settled_all, settled_clear}
+use Rattle.csvw_rows.proofs.LineLemmas.{unquoted_ends}
 use Rattle.csvw_rows.proofs.Lookahead.{crlf_again}
 
 -- a terminator is known by the next character
@@ -205,7 +206,7 @@ module _ (d : Dialect) (s : Draft) (rest text : List ℕ) (ur : IsUtf8 rest) (ut
       none : (k : ℕ) (l : List ℕ) → k ≡ length l → drop k l ≡ []
       none k l e = grind (arith, common_steps)
 
-  pub reads_row : (t : Draft) (len : ℕ) → IsEnded d s t text len → IsRowRead d t rest
+  pub reads_row : (t : Draft) (len : ℕ) → IsEnded d s t text len → IsRowRead d false t rest
   reads_row t len k =
       let w = k.within in
       let gone : drop (read_of t) rest ≡ drop len text ++ tail = ap (λ k. drop k rest) k.read ∙ further len w in
@@ -213,17 +214,55 @@ module _ (d : Dialect) (s : Draft) (rest text : List ℕ) (ur : IsUtf8 rest) (ut
       record {
         within = (let r = k.read in let l = long.1 in omega (arith, r, l, w));
         back = ap is_utf8 gone ∙ is_utf8-from_IsUtf8 (drop len text ++ tail) (IsUtf8-append (drop len text) tail uk utail);
-        found = ap (run d Start [] []) (split ∙ ap (λ l. before ++ l) (ap chars whole ∙ chars-append text tail ut))
+        found = ap (λ o. finish o false) (ap (run d Start [] []) (split ∙ ap (λ l. before ++ l) (ap chars whole ∙ chars-append text tail ut))
             ∙ run_join d Start [] [] before (chars text ++ chars tail) (subst (λ (l : List ℕ). Clear d before (chars text ++ l)) (append-nil (unsettled d (chars behind)) ∙ sym left) (clears []))
             ∙ ap (λ o. goes_on d o (chars text ++ chars tail)) i.runs
             ∙ run_join d (state_of s) (values_of s) (current_of s) (chars text) (chars tail) (subst (Clear d (chars text)) (append-nil (unsettled d (chars behind)) ∙ sym left) (clear_tail []))
             ∙ ap (λ o. goes_on d o (chars tail)) k.found
-            ∙ ap (Found (values_of t)) (sym (ap chars gone ∙ chars-append (drop len text) tail uk));
+            ∙ ap (Found (values_of t)) (sym (ap chars gone ∙ chars-append (drop len text) tail uk)));
       }
 
 pub reads_goes : {E : Type 0} (d : Dialect) (s t : Draft) (rest text : List ℕ) (r : Result Reading E) → IsUtf8 rest → IsUtf8 text → IsDraft d s rest → text ≡ take (length text) (drop (read_of s) rest)
-    → chars text ≡ settled d (chars (drop (read_of s) rest)) → IfOk r (Reads d s t text) → IfOk r (GoesOn d t rest)
-reads_goes d s t rest text (Ok reading.Unfinished) ur ut i front same e = reads_open d s rest text ur ut i front same t e.0 e.1
+    → chars text ≡ settled d (chars (drop (read_of s) rest)) → IfOk r (Reads d s t text) → IfOk r (GoesOn d false t rest)
+reads_goes d s t rest text (Ok reading.Unfinished) ur ut i front same e = (refl, reads_open d s rest text ur ut i front same t e.0 e.1)
 reads_goes d s t rest text (Ok reading.Ended) ur ut i front same e = reads_row d s rest text ur ut i front same t e.0 e.1
 reads_goes d s t rest text (Ok reading.Broken) ur ut i front same e = tt
 reads_goes d s t rest text (Err x) ur ut i front same e = e
+
+-- the last text, of which all was read
+module _ (d : Dialect) (s : Draft) (rest : List ℕ) (ur : IsUtf8 rest) (i : IsDraft d s rest) where
+  abbrev all_behind : List ℕ
+  all_behind = drop (read_of s) rest
+
+  runs_all : run d Start [] [] (chars rest) ≡ runs_on d s (chars all_behind)
+  runs_all =
+      let read = chars (take (read_of s) rest) in
+      ap (run d Start [] []) (split_chars rest (read_of s) (front_text rest (read_of s) ur i.within i.back))
+      ∙ run_join d Start [] [] read (chars all_behind) (subst (λ (l : List ℕ). Clear d read l) (append-nil (chars all_behind)) (clear_of d read (chars all_behind ++ []) (i.clear [])))
+      ∙ ap (λ o. goes_on d o (chars all_behind)) i.runs
+
+  all_long : read_of s + length all_behind ≡ length rest
+  all_long = let w = i.within in omega (arith, w, length-drop (read_of s) rest)
+
+  pub last_ended : (t : Draft) (len : ℕ) → IsEnded d s t all_behind len → IsRowRead d true t rest
+  last_ended t len k =
+      let gone : drop (read_of t) rest ≡ drop len all_behind = ap (λ n. drop n rest) k.read ∙ sym (drop-drop len (read_of s) rest) in
+      record {
+        within = (let r = k.read in let w = k.within in let l = all_long in omega (arith, r, w, l));
+        back = ap is_utf8 gone ∙ k.back;
+        found = ap (λ o. finish o true) (runs_all ∙ k.found ∙ ap (λ l. Found (values_of t) (chars l)) (sym gone));
+      }
+
+  pub last_open : (t u : Draft) → read_of t ≡ read_of s + length all_behind → runs_on d s (chars all_behind) ≡ Unfinished (state_of t) (values_of t) (current_of t) → is_quoted (state_of t) ≡ false
+      → read_of u ≡ read_of t → values_of u ≡ values_of t ++ current_of t ∷ [] → IsRowRead d true u rest
+  last_open t u r e q ru vu =
+      let all : read_of u ≡ length rest = (let l = all_long in omega (arith, r, ru, l)) in
+      record {
+        within = omega (arith, all);
+        back = text_gone rest (read_of u) all;
+        found = ap (λ o. finish o true) (runs_all ∙ e) ∙ unquoted_ends (state_of t) (values_of t) (current_of t) q ∙ ap (λ l. Found l []) (sym vu)
+            ∙ ap (Found (values_of u)) (sym (ap chars (none rest (read_of u) all) ∙ chars-nil));
+      }
+    where
+      none : (l : List ℕ) (n : ℕ) → n ≡ length l → drop n l ≡ []
+      none l n e = grind (arith, common_steps)

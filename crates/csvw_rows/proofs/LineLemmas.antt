@@ -146,7 +146,7 @@ pub broken_part : (d : Dialect) (text : List ℕ) (stop : RowStop) (at : ℕ) �
     → run d Start [] [] text ≡ Broken stop (drop at text)
 broken_part d text stop at h e = run_whole d text ∙ ap (λ o. goes_on d o (unsettled d text)) e ∙ ap (Broken stop) (drop_settled d text at (omega (arith, h)))
 
-unquoted_ends : (st : State) (vs : List (List ℕ)) (cur : List ℕ) → is_quoted st ≡ false → finish (Unfinished st vs cur) true ≡ Found (vs ++ cur ∷ []) []
+pub unquoted_ends : (st : State) (vs : List (List ℕ)) (cur : List ℕ) → is_quoted st ≡ false → finish (Unfinished st vs cur) true ≡ Found (vs ++ cur ∷ []) []
 unquoted_ends Start vs cur q = refl
 unquoted_ends Plain vs cur q = refl
 unquoted_ends Closed vs cur q = refl

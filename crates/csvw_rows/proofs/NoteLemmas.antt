@@ -79,17 +79,27 @@ module _ (d : Dialect) (rest : List ℕ) (n : ℕ) (u : IsUtf8 rest) (within : n
       by_end (inr z) = omega (arith, z)
 
   -- the line goes on behind them
-  pub line_past : line_of false d (chars rest) ≡ line_of false d after
-  line_past = ap (line_of false d) spelled ∙ places front after none_char
+  pub line_past : (f : Bool) → line_of f d (chars rest) ≡ line_of f d after
+  line_past f = ap (line_of f d) spelled ∙ places front after none_char
     where
-      places : (front after : List ℕ) → ((k : ℕ) → k < length front → terminator_len d (drop k (front ++ after)) ≡ 0) → line_of false d (front ++ after) ≡ line_of false d after
+      places : (front after : List ℕ) → ((k : ℕ) → k < length front → terminator_len d (drop k (front ++ after)) ≡ 0) → line_of f d (front ++ after) ≡ line_of f d after
       places [] after h = refl
-      places (c ∷ cs) after h = ap (λ n. if nat_lt 0 n then Some (c ∷ cs ++ after) else line_of false d (cs ++ after)) (h 0 (omega arith)) ∙ places cs after (λ k l. h (suc k) (omega (arith, l)))
+      places (c ∷ cs) after h = ap (λ n. if nat_lt 0 n then Some (c ∷ cs ++ after) else line_of f d (cs ++ after)) (h 0 (omega arith)) ∙ places cs after (λ k l. h (suc k) (omega (arith, l)))
 
 -- the line ends there
-pub line_here : (d : Dialect) (rest : List ℕ) (n : ℕ) → IsUtf8 rest → n ≤ length rest → is_utf8 (drop n rest) ≡ true → NoneBegins d rest 0 n → 0 < terminator_len d (chars (drop n rest))
-    → line_of false d (chars rest) ≡ Some (chars (drop n rest))
-line_here d rest n u within back none ends = line_past d rest n u within back none ∙ line_complete false d [] (chars (drop n rest)) tt (inl ends)
+pub line_here : (f : Bool) (d : Dialect) (rest : List ℕ) (n : ℕ) → IsUtf8 rest → n ≤ length rest → is_utf8 (drop n rest) ≡ true → NoneBegins d rest 0 n → 0 < terminator_len d (chars (drop n rest))
+    → line_of f d (chars rest) ≡ Some (chars (drop n rest))
+line_here f d rest n u within back none ends = line_past d rest n u within back none f ∙ line_complete f d [] (chars (drop n rest)) tt (inl ends)
+
+-- or with the text
+gone : (l : List ℕ) → drop (length l) l ≡ []
+gone l = grind (arith, common_steps)
+
+pub line_whole : (f : Bool) (d : Dialect) (rest : List ℕ) → IsUtf8 rest → NoneBegins d rest 0 (length rest) → line_of f d (chars rest) ≡ line_of f d []
+line_whole f d rest u none = line_past d rest (length rest) u (omega arith) (text_gone rest (length rest) refl) none f ∙ ap (line_of f d) (ap chars (gone rest) ∙ chars-nil)
+
+pub line_last : (d : Dialect) (rest : List ℕ) → IsUtf8 rest → NoneBegins d rest 0 (length rest) → line_of true d (chars rest) ≡ Some (chars (drop (length rest) rest))
+line_last d rest u none = line_whole true d rest u none ∙ ap Some (sym (ap chars (gone rest) ∙ chars-nil))
 
 -- a terminator begins between two characters
 pub ends_text : (d : Dialect) (rest : List ℕ) (n : ℕ) → IsUtf8 rest → n < length rest → 0 < terminator_len d (drop n rest) → is_utf8 (drop n rest) ≡ true
@@ -105,16 +115,10 @@ ends_text d rest n u h ends =
 pub line_open : (d : Dialect) (rest : List ℕ) → IsUtf8 rest → NoneBegins d rest 0 (length rest) → line_of false d (settled d (chars rest)) ≡ None
 line_open d rest u none = by_line (line_of false d (settled d (chars rest))) refl
   where
-    whole : line_of false d (chars rest) ≡ None
-    whole = line_past d rest (length rest) u (omega arith) (text_gone rest (length rest) refl) none ∙ ap (line_of false d) (ap chars (gone rest) ∙ chars-nil)
-      where
-        gone : (l : List ℕ) → drop (length l) l ≡ []
-        gone l = grind (arith, common_steps)
-
     by_line : (o : Option (List ℕ)) → line_of false d (settled d (chars rest)) ≡ o → o ≡ None
     by_line None e = refl
     by_line (Some after) e =
-        let z = sym whole ∙ ap (line_of false d) (sym (settled_all d (chars rest))) ∙ line_joins d false (settled d (chars rest)) (unsettled d (chars rest)) after (clear_all d (chars rest)) e in
+        let z = sym (line_whole false d rest u none) ∙ ap (line_of false d) (sym (settled_all d (chars rest))) ∙ line_joins d false (settled d (chars rest)) (unsettled d (chars rest)) after (clear_all d (chars rest)) e in
         absurd cc
 
 -- nothing that follows makes a terminator of what is settled

@@ -10,7 +10,7 @@ use Rattle.csvw_rows.specs.declared.scan.State.TheVariants.{Start}
 use Rattle.csvw_rows.specs.Bounds.{texts_apart}
 use Rattle.csvw_rows.specs.Grammar.{terminator_len}
 use Rattle.csvw_rows.specs.Looks.{settled}
-use Rattle.csvw_rows.specs.Scan.{Outcome, Found, Unfinished, run}
+use Rattle.csvw_rows.specs.Scan.{Outcome, Found, Unfinished, run, pass}
 
 -- how many bytes of the row were read
 abbrev pub read_of : Draft → ℕ
@@ -81,14 +81,14 @@ pub record IsOpen (d : Dialect) (s : Draft) (rest : List ℕ) : Type 0 where
   pub draft : IsDraft d s rest
   pub all : chars (take (read_of s) rest) ≡ settled d (chars rest)
 
--- a row was read off these bytes, up to its terminator
-pub record IsRowRead (d : Dialect) (s : Draft) (rest : List ℕ) : Type 0 where
+-- a row was read off these bytes, up to its terminator or the end of the last text
+pub record IsRowRead (d : Dialect) (is_last : Bool) (s : Draft) (rest : List ℕ) : Type 0 where
   pub within : read_of s ≤ length rest
   pub back : is_utf8 (drop (read_of s) rest) ≡ true
-  pub found : run d Start [] [] (chars rest) ≡ Found (values_of s) (chars (drop (read_of s) rest))
+  pub found : pass is_last d Start [] [] (chars rest) ≡ Found (values_of s) (chars (drop (read_of s) rest))
 
 -- after these bytes, whose front was read before
-abbrev pub GoesOn : Dialect → Draft → List ℕ → Reading → Type 0
-GoesOn d s rest reading.Unfinished = IsOpen d s rest
-GoesOn d s rest reading.Ended = IsRowRead d s rest
-GoesOn d s rest reading.Broken = Unit {0}
+abbrev pub GoesOn : Dialect → Bool → Draft → List ℕ → Reading → Type 0
+GoesOn d is_last s rest reading.Unfinished = (is_last ≡ false) × IsOpen d s rest
+GoesOn d is_last s rest reading.Ended = IsRowRead d is_last s rest
+GoesOn d is_last s rest reading.Broken = Unit {0}

@@ -12,11 +12,11 @@ use Rattle.csvw_rows.specs.Bounds.{fields_at}
 use Rattle.csvw_rows.specs.Files.{is_note, Row, AreRows, EndsOpen, KeepsLimits, IsWhole, Front, Body, content, is_text, remaining}
 use Rattle.csvw_rows.specs.RowValue.{Given}
 use Rattle.csvw_rows.specs.SourceState.{text_items, rest_bytes, rest_of, is_bad_of, pending_of, begun_of, Decodes}
-use Rattle.csvw_rows.specs.Grammar.{terminator_len, trimmed}
-use Rattle.csvw_rows.specs.Looks.{settled}
+use Rattle.csvw_rows.specs.Grammar.{trimmed}
+use Rattle.csvw_rows.specs.Looks.{settled, line_of}
 use Rattle.csvw_rows.specs.Notes.{NoneBegins}
 use Rattle.csvw_rows.specs.Nexts.{NextGives, TakesRow, is_last}
-use Rattle.csvw_rows.specs.Scan.{Found, run}
+use Rattle.csvw_rows.specs.Scan.{Found, pass}
 use Rattle.csvw_rows.specs.declared.next.Known.{Known}
 use Rattle.csvw_rows.specs.declared.next.Known.TheVariants as known
 use Rattle.csvw_rows.specs.declared.next.Next.TheVariants as next
@@ -168,6 +168,7 @@ pub record Refills (old new : Rows) : Type 0 where
 
 -- the row at the front has fields, and isn't one too many
 pub record IsReadable (s : Rows) : Type 0 where
+  pub some : rest_of s.source ≢ []
   pub few : s.row < s.max_rows
   pub note : is_note s.rules.dialect s.row (rest_of s.source) ≡ false
 
@@ -176,19 +177,20 @@ pub record IsReadRow (s : Rows) (len : ℕ) : Type 0 where
   pub values : List (List ℕ)
   pub within : len ≤ length (rest_bytes s.source)
   pub back : is_utf8 (drop len (rest_bytes s.source)) ≡ true
-  pub found : run s.rules.dialect Start [] [] (rest_of s.source) ≡ Found values (chars (drop len (rest_bytes s.source)))
+  pub found : pass (is_last (after_of s)) s.rules.dialect Start [] [] (rest_of s.source) ≡ Found values (chars (drop len (rest_bytes s.source)))
   pub texts : fields_of s ≡ map (λ x. encode_utf8_all (trimmed s.rules.dialect.trim x)) values
 
 -- a skipped row or a comment is at the front, which isn't one too many
 pub record IsNoteNext (s : Rows) : Type 0 where
+  pub some : rest_of s.source ≢ []
   pub few : s.row < s.max_rows
   pub note : is_note s.rules.dialect s.row (rest_of s.source) ≡ true
 
--- its terminator stands behind so many bytes
+-- it ends behind so many bytes
 pub record IsNoteRead (s : Rows) (len : ℕ) : Type 0 where
-  pub within : len < length (rest_bytes s.source)
-  pub ends : 0 < terminator_len s.rules.dialect (drop len (rest_bytes s.source))
-  pub before : NoneBegins s.rules.dialect (rest_bytes s.source) 0 len
+  pub within : len ≤ length (rest_bytes s.source)
+  pub back : is_utf8 (drop len (rest_bytes s.source)) ≡ true
+  pub line : line_of (is_last (after_of s)) s.rules.dialect (rest_of s.source) ≡ Some (chars (drop len (rest_bytes s.source)))
 
 -- no terminator stands there
 abbrev pub HasNoEnd : Rows → Type 0
@@ -196,7 +198,7 @@ HasNoEnd s = NoneBegins s.rules.dialect (rest_bytes s.source) 0 (length (rest_by
 
 abbrev pub EndsNote : Rows → Option ℕ → Type 0
 EndsNote s (Some len) = IsNoteRead s len
-EndsNote s None = HasNoEnd s
+EndsNote s None = HasNoEnd s × (is_last (after_of s) ≡ false)
 
 -- so many bytes are all but a CR at the end that may begin a terminator
 pub record IsSettledLen (s : Rows) (len : ℕ) : Type 0 where

@@ -1,5 +1,5 @@
 //! The front of a row whose end wasn't read yet, and what reads it on.
-ghost use Rattle.std.specs.Prelude.{◌≡◌, ◌≤◌, ◌+◌, true, [], ◌∷◌, ◌++◌, length, take, drop, chars, map, encode_utf8_all, IfOk, OnOk};
+ghost use Rattle.std.specs.Prelude.{◌≡◌, ◌≤◌, ◌+◌, true, false, [], ◌∷◌, ◌++◌, length, take, drop, chars, map, encode_utf8_all, IfOk, OnOk};
 ghost use Rattle.std.specs.Str.{is_utf8};
 ghost use Rattle.csvw_rows.specs.Bounds.{apart_all, texts_apart};
 ghost use Rattle.csvw_rows.specs.Grammar.{trimmed};
@@ -9,6 +9,7 @@ ghost use Rattle.csvw_rows.specs.declared.scan.State.TheVariants.{Start, Inside}
 use crate::bound::Bound;
 use crate::cut::terminator_at;
 use crate::dialect::{Dialect, Trim};
+use crate::line::is_quoted;
 use crate::rules::Rules;
 use crate::scan::{State, Step, next_step};
 use crate::trim::trim_fields;
@@ -178,10 +179,42 @@ impl Draft {
         }
     }
 
-    /// Reads the row on, of which this text is what there is, with what was read before.
-    pub fn go_on(&mut self, rules: &Rules, rest: &str) -> Result<Reading, AllocError>
+    /// Reads the row on, of which this text is what there is, with what was read before. The end of the
+    /// last text ends its row.
+    pub fn go_on(&mut self, rules: &Rules, rest: &str, is_last: bool) -> Result<Reading, AllocError>
         requires { IsDraft rules.now.dialect self.old rest.now }
-        ensures { IfOk result (GoesOn rules.now.dialect self.new rest.now) }
+        ensures { IfOk result (GoesOn rules.now.dialect is_last self.new rest.now) }
+    {
+        if is_last {
+            self.finish(rules, rest)
+        } else {
+            self.read_settled(rules, rest)
+        }
+    }
+
+    /// Reads the row on to its end or to the end of the text.
+    fn finish(&mut self, rules: &Rules, rest: &str) -> Result<Reading, AllocError>
+        requires { IsDraft rules.now.dialect self.old rest.now }
+        ensures { IfOk result (GoesOn rules.now.dialect true self.new rest.now) }
+    {
+        let (_, behind) = rest.split_at(self.read);
+        match self.read(rules, behind, rest.len())? {
+            Reading::Unfinished => {
+                if is_quoted(self.state) {
+                    return Ok(Reading::Broken);
+                }
+                self.close_field()?;
+                Ok(Reading::Ended)
+            }
+            Reading::Ended => Ok(Reading::Ended),
+            Reading::Broken => Ok(Reading::Broken),
+        }
+    }
+
+    /// Reads the row on, as far as it is settled.
+    fn read_settled(&mut self, rules: &Rules, rest: &str) -> Result<Reading, AllocError>
+        requires { IsDraft rules.now.dialect self.old rest.now }
+        ensures { IfOk result (GoesOn rules.now.dialect false self.new rest.now) }
     {
         let (_, behind) = rest.split_at(self.read);
         let text = settled(&rules.dialect, behind);

@@ -54,7 +54,7 @@ pub enum Known {
     Note(usize),
     /// No row is complete.
     Waits,
-    /// Nothing is known.
+    /// Nothing is known, since a stop stands there.
     Unknown,
 }
 
@@ -85,7 +85,7 @@ fn waits(after: After) -> Result<Next, RowStop>
 }
 
 /// Whether the text has ended.
-fn is_last(after: After) -> bool
+pub fn is_last(after: After) -> bool
     ensures { result ≡ is_last after }
 {
     match after {

@@ -1,5 +1,5 @@
 //! A reader of rows.
-ghost use Rattle.std.specs.Prelude.{◌≡◌, ◌≤◌, ◌<◌, ◌-◌, ◌+◌, ◌^◌, ℕ, if◌then◌else◌, true, false, [], length, drop, map, encode_utf8_all, IfOk, OnOk, IfSome, Some, Ok};
+ghost use Rattle.std.specs.Prelude.{◌≡◌, ◌≤◌, ◌<◌, ◌-◌, ◌+◌, ◌^◌, ◌||◌, ℕ, if◌then◌else◌, true, false, [], length, drop, map, encode_utf8_all, IfOk, OnOk, IfSome, Some, Ok};
 ghost use Rattle.std.specs.Str.{is_utf8};
 ghost use Rattle.std.specs.Borrow.{sem};
 ghost use Rattle.csvw_rows.specs.Bounds.{are_bounds};
@@ -15,7 +15,7 @@ use crate::dialect::Dialect;
 use crate::draft::{Draft, Reading, settled};
 use crate::field::{all_empty, write_fields};
 use crate::line::is_quoted;
-use crate::next::{After, Known, Next, ROW_LIMIT, Turn};
+use crate::next::{After, Known, Next, ROW_LIMIT, Turn, is_last};
 use crate::note::line_end;
 use crate::raw_row::RawRow;
 use crate::rules::Rules;
@@ -58,6 +58,7 @@ impl Rows {
     ghost use Rattle.csvw_rows.specs.RowValue.{row_of};
     ghost use Rattle.csvw_rows.specs.Nexts.{NextGives, TakesRow, is_last};
     ghost use Rattle.csvw_rows.specs.Grammar.{trimmed};
+    ghost use Rattle.csvw_rows.specs.Looks.{may_be_note};
 
     /// A reader of no bytes yet, which takes at most so many rows of all kinds; `AllocError` where there is
     /// no memory. The dialect has to pass `check`.
@@ -274,6 +275,9 @@ impl Rows {
         ensures refills { Refills self.old self.new }
         ensures known { IfOk result (IsKnown self.new) }
     {
+        if self.source.rest().is_empty() {
+            return Ok(self.empty_front());
+        }
         if self.row >= self.max_rows {
             return Ok(Known::Unknown);
         }
@@ -281,6 +285,25 @@ impl Rows {
             return Ok(self.read_note());
         }
         self.read_draft()
+    }
+
+    /// What stands at the front where no character is left.
+    fn empty_front(&self) -> Known
+        requires { rest_of self.now.source ≡ [] }
+        ensures { IsKnown self.now result }
+    {
+        match self.after() {
+            After::More => Known::Waits,
+            After::Nothing => Known::Waits,
+            After::NoText => Known::Unknown,
+        }
+    }
+
+    /// Whether the text has ended, all of it being characters.
+    fn is_last(&self) -> bool
+        ensures { result ≡ is_last (after_of self.now) }
+    {
+        is_last(self.after())
     }
 
     /// Reads the skipped row or comment at the front on from where it was left.
@@ -303,7 +326,11 @@ impl Rows {
         ensures { EndsNote self.now result }
     {
         let rest = self.source.rest();
-        line_end(&self.rules.dialect, rest.as_bytes(), self.note)
+        match line_end(&self.rules.dialect, rest.as_bytes(), self.note) {
+            Some(len) => Some(len),
+            None if self.is_last() => Some(rest.len()),
+            None => None,
+        }
     }
 
     /// How many bytes there are without a CR at the end that may begin a terminator.
@@ -345,7 +372,8 @@ impl Rows {
         ensures refills { Refills self.old self.new }
         ensures known { IfOk result (IsKnown self.new) }
     {
-        match self.draft.go_on(&self.rules, self.source.rest()) {
+        let is_last = self.is_last();
+        match self.draft.go_on(&self.rules, self.source.rest(), is_last) {
             Ok(Reading::Unfinished) => Ok(self.open_row()),
             Ok(Reading::Ended) => {
                 let len = self.draft.read_len();
@@ -371,8 +399,7 @@ impl Rows {
         requires open { IsOpen self.now.rules.dialect self.now.draft (rest_bytes self.now.source) }
         ensures { IsKnown self.now result }
     {
-        let rest = self.source.rest();
-        if self.may_go_on() && self.sure_len() <= ROW_LIMIT && !self.rules.may_begin_comment(rest) {
+        if self.may_go_on() && self.sure_len() <= ROW_LIMIT {
             Known::Waits
         } else {
             Known::Unknown
@@ -386,12 +413,14 @@ impl Rows {
         !self.ended && !self.source.is_bad()
     }
 
-    /// How many bytes are sure to be the row's where it is unfinished: a CR may begin its terminator.
+    /// How many bytes are sure to be the row's where it is unfinished: a CR may begin its terminator, but
+    /// neither within quotes nor behind the front of a comment prefix.
     fn sure_len(&self) -> usize
-        ensures { result ≡ (if is_quoted (state_of self.now.draft) then length (rest_bytes self.now.source) else read_of self.now.draft) }
+        ensures { result ≡ (if is_quoted (state_of self.now.draft) || may_be_note self.now.rules.dialect (rest_of self.now.source) then length (rest_bytes self.now.source) else read_of self.now.draft) }
     {
-        if is_quoted(self.draft.state()) {
-            self.source.rest().len()
+        let rest = self.source.rest();
+        if is_quoted(self.draft.state()) || self.rules.may_begin_comment(rest) {
+            rest.len()
         } else {
             self.draft.read_len()
         }

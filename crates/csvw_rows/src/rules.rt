@@ -77,7 +77,7 @@ impl Rules {
 
     /// Whether a row that begins with these bytes may still become a comment.
     pub fn may_begin_comment(&self, rest: &str) -> bool
-        ensures { result ≡ false → may_be_note self.now.dialect (chars rest.now) ≡ false }
+        ensures { result ≡ may_be_note self.now.dialect (chars rest.now) }
     {
         match &self.dialect.comment_prefix {
             Some(prefix) => prefix.as_str().as_bytes().starts_with(rest.as_bytes()),

@@ -1,7 +1,9 @@
-use Rattle.std.proofs.Common.{◌≡◌, ◌∙◌, ◌≤◌, List, ℕ, length, drop, chars, true, refl, sym, ap, subst}
+use Rattle.std.proofs.Common.{Bool, ◌≡◌, ◌∙◌, ◌≤◌, List, ℕ, length, drop, chars, true, refl, sym, ap, subst}
 use Rattle.std.specs.Str.{is_utf8}
 use Rattle.csvw_rows.specs.Drafts.{values_of, IsRowRead}
 use Rattle.csvw_rows.specs.SourceState.{rest_bytes, text_items}
+use Rattle.csvw_rows.specs.Nexts.{is_last}
+use Rattle.csvw_rows.specs.RowsState.{after_of}
 use Rattle.csvw_rows.specs.Scan.{Found}
 use Rattle.csvw_rows.proofs.BoundLemmas.{apart_bounds}
 use Rattle.csvw_rows.proofs.DraftRuns.{fresh_draft}
@@ -21,8 +23,9 @@ ended_row-requires-clause-read c =
     let s = c.args.self.now in
     let d = s.rules.dialect in
     let t = c.go_on.new.self in
-    let g : IsRowRead d t c.rest.result.now = rw c.in-Ok-Ended.field-0-is at c.in-Ok-Ended.ensures in
-    let r : IsRowRead d t (rest_bytes s.source) = subst (λ (l : List ℕ). IsRowRead d t l) c.rest.ensures.value g in
+    let g : IsRowRead d c.is_last-is_last.result t c.rest.result.now = rw c.in-Ok-Ended.field-0-is at c.in-Ok-Ended.ensures in
+    let r : IsRowRead d (is_last (after_of s)) t (rest_bytes s.source) =
+    subst (λ (b : Bool). IsRowRead d b t (rest_bytes s.source)) c.is_last-is_last.ensures (subst (λ (l : List ℕ). IsRowRead d c.is_last-is_last.result t l) c.rest.ensures.value g) in
     let e = c.read_len-len.ensures in
     record {
       values = values_of t;

@@ -6,4 +6,4 @@ use Rattle.csvw_rows.proofs.rows.Rows.read_note.Goals as goal
 pub invariant_of-self-clause-noted : goal.invariant_of-self-clause-noted
 invariant_of-self-clause-noted c =
     let s = c.args.self.now in
-    settled_noted s.rules.dialect (rest_bytes s.source) c.settled_len-self.result c.settled_len-self.ensures.bytes c.in-None.ensures
+    settled_noted s.rules.dialect (rest_bytes s.source) c.settled_len-self.result c.settled_len-self.ensures.bytes c.in-None.ensures.0

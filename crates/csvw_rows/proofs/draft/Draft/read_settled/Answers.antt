@@ -3,7 +3,7 @@ use Rattle.csvw_rows.specs.Drafts.{read_of}
 use Rattle.std.proofs.lemmas.Str.{IsUtf8-from_is_utf8, IsCharBoundary-from_drop}
 use Rattle.csvw_rows.specs.Looks.{settled}
 use Rattle.csvw_rows.proofs.DraftRuns.{reads_goes}
-use Rattle.csvw_rows.proofs.draft.Draft.go_on.Goals as goal
+use Rattle.csvw_rows.proofs.draft.Draft.read_settled.Goals as goal
 
 pub split_at-requires : goal.split_at-requires
 split_at-requires c =
