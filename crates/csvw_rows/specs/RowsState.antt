@@ -13,10 +13,11 @@ use Rattle.csvw_rows.specs.Files.{is_note, Row, AreRows, EndsOpen, KeepsLimits, 
 use Rattle.csvw_rows.specs.RowValue.{Given}
 use Rattle.csvw_rows.specs.SourceState.{text_items, rest_bytes, rest_of, is_bad_of, pending_of, begun_of, Decodes}
 use Rattle.csvw_rows.specs.Grammar.{trimmed}
-use Rattle.csvw_rows.specs.Looks.{settled, line_of}
+use Rattle.csvw_rows.specs.Looks.{settled, line_of, may_be_note}
 use Rattle.csvw_rows.specs.Notes.{NoneBegins}
 use Rattle.csvw_rows.specs.Nexts.{NextGives, TakesRow, is_last}
-use Rattle.csvw_rows.specs.Scan.{Found, pass}
+use Rattle.csvw_rows.specs.Scan.{Found, pass, is_quoted}
+use Rattle.csvw_rows.specs.Drafts.{read_of, state_of}
 use Rattle.csvw_rows.specs.declared.next.Known.{Known}
 use Rattle.csvw_rows.specs.declared.next.Known.TheVariants as known
 use Rattle.csvw_rows.specs.declared.next.Next.TheVariants as next
@@ -210,6 +211,10 @@ pub record IsSettledLen (s : Rows) (len : ℕ) : Type 0 where
 pub record IsNoteOpen (s : Rows) : Type 0 where
   pub none : HasNoEnd s
   pub settled : IsSettledLen s s.note
+
+-- how many bytes are sure to be the row's where it is unfinished
+abbrev pub sure_of : Rows → ℕ
+sure_of s = if is_quoted (state_of s.draft) || may_be_note s.rules.dialect (rest_of s.source) then length (rest_bytes s.source) else read_of s.draft
 
 -- what the bytes at the front are known to be
 abbrev pub IsKnown : Rows → Known → Type 0

@@ -1,5 +1,5 @@
 //! A reader of rows.
-ghost use Rattle.std.specs.Prelude.{◌≡◌, ◌≤◌, ◌<◌, ◌-◌, ◌+◌, ◌^◌, ◌||◌, ℕ, if◌then◌else◌, true, false, [], length, drop, map, encode_utf8_all, IfOk, OnOk, IfSome, Some, Ok};
+ghost use Rattle.std.specs.Prelude.{◌≡◌, ◌≤◌, ◌<◌, ◌-◌, ◌+◌, ◌^◌, ℕ, true, false, [], length, drop, map, encode_utf8_all, IfOk, OnOk, IfSome, Some, Ok};
 ghost use Rattle.std.specs.Str.{is_utf8};
 ghost use Rattle.std.specs.Borrow.{sem};
 ghost use Rattle.csvw_rows.specs.Bounds.{are_bounds};
@@ -49,16 +49,14 @@ pub struct Rows {
 }
 
 impl Rows {
-    ghost use Rattle.csvw_rows.specs.RowsState.{is_ended_of, fields_of, unread, reading_of, stop_of, after_of, last_of, Holds, Passes, AreFront, HasFields, Refills, Feeds, Closes, Advances, Turns, KeepsStop, IsReadable, IsReadRow, IsNoteNext, IsNoteRead, IsNoteOpen, IsSettledLen, EndsNote, IsKnown};
-    ghost use Rattle.csvw_rows.specs.Drafts.{read_of, state_of, IsOpen};
-    ghost use Rattle.csvw_rows.specs.Scan.{is_quoted};
+    ghost use Rattle.csvw_rows.specs.RowsState.{is_ended_of, fields_of, unread, reading_of, stop_of, after_of, last_of, Holds, Passes, AreFront, HasFields, Refills, Feeds, Closes, Advances, Turns, KeepsStop, IsReadable, IsReadRow, IsNoteNext, IsNoteRead, IsNoteOpen, IsSettledLen, EndsNote, sure_of, IsKnown};
+    ghost use Rattle.csvw_rows.specs.Drafts.{IsOpen};
     ghost use Rattle.csvw_rows.specs.declared.next.After.TheVariants.{More};
     ghost use Rattle.csvw_rows.specs.RowsLending.{RestsAdvanced};
     ghost use Rattle.csvw_rows.specs.SourceState.{rest_of};
     ghost use Rattle.csvw_rows.specs.RowValue.{row_of};
     ghost use Rattle.csvw_rows.specs.Nexts.{NextGives, TakesRow, is_last};
     ghost use Rattle.csvw_rows.specs.Grammar.{trimmed};
-    ghost use Rattle.csvw_rows.specs.Looks.{may_be_note};
 
     /// A reader of no bytes yet, which takes at most so many rows of all kinds; `AllocError` where there is
     /// no memory. The dialect has to pass `check`.
@@ -416,7 +414,7 @@ impl Rows {
     /// How many bytes are sure to be the row's where it is unfinished: a CR may begin its terminator, but
     /// neither within quotes nor behind the front of a comment prefix.
     fn sure_len(&self) -> usize
-        ensures { result ≡ (if is_quoted (state_of self.now.draft) || may_be_note self.now.rules.dialect (rest_of self.now.source) then length (rest_bytes self.now.source) else read_of self.now.draft) }
+        ensures { result ≡ sure_of self.now }
     {
         let rest = self.source.rest();
         if is_quoted(self.draft.state()) || self.rules.may_begin_comment(rest) {
