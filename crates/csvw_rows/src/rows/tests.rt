@@ -4,6 +4,7 @@ ghost use Rattle.csvw_rows.specs.Lawful.{IsLawful};
 
 mod both;
 mod compared;
+mod numbers;
 
 use super::*;
 use crate::dialect::{BadDialect, LineTerminators, Trim};
@@ -50,10 +51,14 @@ fn end(rows: &mut Rows) -> bool {
     rows.end().is_ok()
 }
 
+fn write_field(text: &mut String, field: &str) -> Result<(), Fail> {
+    Ok(write!(text, " {field:?}")?)
+}
+
 fn write_row(text: &mut String, row: RawRow<'_>) -> Result<(), Fail> {
     write!(text, "{}/{}", row.source(), row.number())?;
     for i in 0..row.len() {
-        write!(text, " {:?}", row.field(i))?;
+        write_field(text, row.field(i))?;
     }
     Ok(text.push_str("; ")?)
 }
@@ -85,6 +90,30 @@ fn write_rows(text: &mut String, rows: &mut Rows) -> Result<(), Fail> {
         }
     }
     Ok(())
+}
+
+/// What a text gives in pieces of so many bytes, up to its end or the first stop.
+fn pieces(
+    alloc: Global,
+    dialect: Dialect,
+    max: u32,
+    bytes: &[u8],
+    len: usize,
+) -> Result<String, Fail>
+    requires { 0 < len }
+{
+    let mut rows = open(alloc, dialect, max)?;
+    let mut text = String::new(alloc);
+    for piece in bytes.chunks(len) {
+        if !feed(&mut rows, piece) {
+            break;
+        }
+        write_rows(&mut text, &mut rows)?;
+    }
+    if end(&mut rows) {
+        write_rows(&mut text, &mut rows)?;
+    }
+    Ok(text)
 }
 
 /// What the pieces give, a bar behind what was there after each of them.

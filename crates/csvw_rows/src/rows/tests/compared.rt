@@ -1,32 +1,8 @@
 //! The rows of generated texts, beside those that the crate `csv` reads of them.
-ghost use Rattle.std.specs.Prelude.{◌<◌, length};
 
+use super::numbers::Numbers;
 use super::*;
 use csv::{Reader, ReaderBuilder, StringRecord};
-
-/// A linear congruential generator.
-#[derive(Drop)]
-struct Numbers(u64);
-
-impl Numbers {
-    /// A number below n.
-    fn below(&mut self, n: u64) -> u64
-        requires { 0 < n }
-        ensures { result < n }
-    {
-        self.0 = self
-            .0
-            .wrapping_mul(6_364_136_223_846_793_005)
-            .wrapping_add(1_442_695_040_888_963_407);
-        (self.0 >> 33) % n
-    }
-
-    fn pick(&mut self, texts: &[&'static str]) -> &'static str
-        requires { 0 < length texts.now }
-    {
-        texts[self.below(texts.len() as u64) as usize]
-    }
-}
 
 /// What may stand in a cell without quotes, at its start too.
 const PLAIN: [&str; 9] = [
@@ -104,7 +80,7 @@ fn generated(alloc: Global, numbers: &mut Numbers) -> Result<String, Fail> {
 fn write_record(text: &mut String, record: &StringRecord, source: u64) -> Result<(), Fail> {
     write!(text, "{source}/{}", source.saturating_sub(1))?;
     for field in record.iter() {
-        write!(text, " {field:?}")?;
+        write_field(text, field)?;
     }
     Ok(text.push_str("; ")?)
 }
@@ -133,21 +109,6 @@ fn records(alloc: Global, bytes: &[u8]) -> Result<String, Fail> {
     Ok(text)
 }
 
-/// What `Rows` gives in pieces of so many bytes.
-fn pieces(alloc: Global, bytes: &[u8], len: usize) -> Result<String, Fail>
-    requires { 0 < len }
-{
-    let mut rows = open(alloc, Dialect::new(alloc)?, 1000)?;
-    let mut text = String::new(alloc);
-    for piece in bytes.chunks(len) {
-        feed(&mut rows, piece);
-        write_rows(&mut text, &mut rows)?;
-    }
-    end(&mut rows);
-    write_rows(&mut text, &mut rows)?;
-    Ok(text)
-}
-
 const TEXTS: u32 = 1000;
 
 #[test]
@@ -159,7 +120,7 @@ fn as_the_crate_csv(rt: HostRuntime) -> Result<(), Fail> {
         let want = records(alloc, text.as_bytes())?;
         for len in [1, 2, 3, 7, 1000] {
             assert_eq!(rt;
-                pieces(alloc, text.as_bytes(), len)?.as_str(),
+                pieces(alloc, Dialect::new(alloc)?, 1000, text.as_bytes(), len)?.as_str(),
                 want.as_str(),
                 "{text:?} by {len}"
             );

@@ -1,0 +1,4 @@
+mod Totals
+mod Rows
+mod Lists
+mod Records
