@@ -1,5 +1,5 @@
 -- Which rule a pass finds broken: how the text before it was read.
-use Rattle.std.proofs.Common.{◌≡◌, ◌≢◌, ℕ, ◌+◌, ◌<◌, Bool, true, false, cond, ◌&&◌, ◌||◌, ◌==◌, not, if◌then◌else◌, List, [], ◌∷◌, ◌++◌, length, nat_lt, Option, Some, None, refl, sym, ap, ◌∙◌, subst, arith, append_assoc, append-nil, ◌⊎◌, inl, inr, IsTrue}
+use Rattle.std.proofs.Common.{◌≡◌, ◌≢◌, ℕ, Bool, true, false, ◌&&◌, ◌==◌, not, if◌then◌else◌, List, [], ◌∷◌, ◌++◌, Some, refl, sym, ap, ◌∙◌, subst, arith, append_assoc, append-nil, inl, inr, IsTrue}
 use Rattle.csvw_rows.specs.declared.dialect.Dialect.{Dialect}
 use Rattle.csvw_rows.specs.declared.stop.RowStop.{RowStop}
 use Rattle.csvw_rows.specs.declared.stop.RowStop.TheVariants.{Memory, NotUtf8, RowTooLong, BadQuote, TextAfterQuote, UnclosedQuote, TooManyRows}
@@ -7,8 +7,8 @@ use Rattle.csvw_rows.specs.declared.scan.State.{State}
 use Rattle.csvw_rows.specs.declared.scan.State.TheVariants.{Start, Plain, Inside, Escaped, Closed}
 use Rattle.csvw_rows.specs.declared.scan.Step.{Step}
 use Rattle.csvw_rows.specs.declared.scan.Step.TheVariants.{Keep, Skip, Open, Next, End, Stop}
-use Rattle.csvw_rows.specs.Grammar.{terminator_len, IsPlain, AreSkipped, AreUnits, IsUnit, escape_char, IsOpened, IsQuoted, IsField}
-use Rattle.csvw_rows.specs.Stops.{AfterFields, HasBadQuote, HasTextAfter, IsLeftOpen}
+use Rattle.csvw_rows.specs.Grammar.{terminator_len, IsPlain, AreSkipped, AreUnits, IsUnit, IsOpened, IsQuoted, IsField}
+use Rattle.csvw_rows.specs.Stops.{AfterFields, HasBadQuote, HasTextAfter}
 use Rattle.csvw_rows.specs.Scan.{Outcome, Found, Broken, Unfinished, quote_is, step_of, run}
 use Rattle.csvw_rows.proofs.RunSteps.{ends_at, act_run}
 use Rattle.csvw_rows.proofs.Sound.{start_view, plain_view, inside_view, closed_view, no_ends_is, is_same, not_same, no_quote_is, quote_here, no_quote_here, and_both, not_true, keep_unit, escape_unit, double_unit, same_quote}

@@ -1,17 +1,14 @@
 -- A row that is spelled so is read so.
-use Rattle.std.proofs.Common.{◌≡◌, ◌≢◌, ℕ, ◌+◌, ◌<◌, Bool, true, false, cond, ◌&&◌, ◌||◌, ◌==◌, not, if◌then◌else◌, List, [], ◌∷◌, ◌++◌, length, nat_lt, Option, Some, None, refl, sym, ap, ◌∙◌, subst, arith, append_assoc, append-nil, ◌⊎◌, inl, inr, ltb, eqb, IsTrue, nat_eq}
+use Rattle.std.proofs.Common.{◌≡◌, ◌≢◌, ℕ, ◌<◌, Bool, true, false, ◌&&◌, ◌==◌, not, if◌then◌else◌, List, [], ◌∷◌, ◌++◌, Some, refl, sym, ap, ◌∙◌, subst, arith, append_assoc, append-nil, ◌⊎◌, inl, inr, IsTrue}
 use Rattle.csvw_rows.specs.declared.dialect.Dialect.{Dialect}
-use Rattle.csvw_rows.specs.declared.stop.RowStop.{RowStop}
-use Rattle.csvw_rows.specs.declared.stop.RowStop.TheVariants.{BadQuote, TextAfterQuote, UnclosedQuote}
-use Rattle.csvw_rows.specs.declared.scan.State.{State}
+use Rattle.csvw_rows.specs.declared.stop.RowStop.TheVariants.{BadQuote, TextAfterQuote}
 use Rattle.csvw_rows.specs.declared.scan.State.TheVariants.{Start, Plain, Inside, Escaped, Closed}
-use Rattle.csvw_rows.specs.declared.scan.Step.{Step}
 use Rattle.csvw_rows.specs.declared.scan.Step.TheVariants.{Keep, Skip, Open, Next, End, Stop}
-use Rattle.csvw_rows.specs.Grammar.{terminator_len, IsPlain, AreSkipped, AreUnits, IsUnit, escape_char, IsOpened, IsQuoted, IsField, AreFields}
+use Rattle.csvw_rows.specs.Grammar.{terminator_len, IsPlain, AreSkipped, AreUnits, escape_char, IsQuoted, IsField, AreFields}
 use Rattle.csvw_rows.specs.Lawful.{IsLawful}
 use Rattle.csvw_rows.specs.Files.{EndsRow}
-use Rattle.csvw_rows.specs.Scan.{Outcome, Found, Broken, Unfinished, quote_is, step_of, run, pass, finish}
-use Rattle.csvw_rows.proofs.RunSteps.{ends_at, act, run_by, differs, no_quote, no_end, run_plain}
+use Rattle.csvw_rows.specs.Scan.{Found, quote_is, pass}
+use Rattle.csvw_rows.proofs.RunSteps.{ends_at, run_by, differs, no_quote, no_end, run_plain}
 use Rattle.std.proofs.lemmas.Bool.Decides.{nat_tests}
 
 -- a delimiter or a terminator comes after the field

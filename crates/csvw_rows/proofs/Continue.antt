@@ -1,27 +1,24 @@
 -- A part of a row goes on to a row, or breaks a rule, or a row is complete in it.
-use Rattle.std.proofs.Common.{◌≡◌, ◌≢◌, ℕ, ◌+◌, ◌-◌, ◌<◌, ◌≤◌, Bool, true, false, ◌&&◌, ◌||◌, ◌==◌, not, if◌then◌else◌, List, [], ◌∷◌, ◌++◌, map, length, take, drop, Option, Some, None, option_map, refl, sym, ap, ◌∙◌, subst, arith, append_assoc, append-nil, length-append, ◌⊎◌, inl, inr, nat_lt, nat_eq, IsTrue}
+use Rattle.std.proofs.Common.{◌≡◌, ℕ, ◌+◌, ◌<◌, ◌≤◌, Bool, true, false, ◌&&◌, ◌||◌, ◌==◌, if◌then◌else◌, List, [], ◌∷◌, ◌++◌, length, take, Option, Some, None, option_map, refl, sym, ap, ◌∙◌, subst, arith, append_assoc, append-nil, length-append, ◌⊎◌, inl, inr, nat_lt, nat_eq}
 use Rattle.std.specs.List.{starts_with}
 use Rattle.std.proofs.lemmas.Bool.Decides.{nat_tests}
 use Rattle.std.proofs.lemmas.Grind.{common_steps}
 use Rattle.std.proofs.lemmas.List.{append_cancel_right}
 use Rattle.csvw_rows.specs.declared.dialect.Dialect.{Dialect}
-use Rattle.csvw_rows.specs.declared.stop.RowStop.{RowStop}
 use Rattle.csvw_rows.specs.declared.scan.State.{State}
-use Rattle.csvw_rows.specs.declared.scan.State.TheVariants.{Start, Plain, Inside, Escaped, Closed}
-use Rattle.csvw_rows.specs.declared.scan.Step.TheVariants.{Keep, Skip, Open, Next, End, Stop}
-use Rattle.csvw_rows.specs.Grammar.{terminator_len, trimmed, IsOpened}
+use Rattle.csvw_rows.specs.declared.scan.State.TheVariants.{Start}
+use Rattle.csvw_rows.specs.Grammar.{terminator_len}
 use Rattle.csvw_rows.specs.Lawful.{IsLawful, has_break, prefix_breaks}
 use Rattle.csvw_rows.specs.Files.{Row, IsRow, EndsRow, is_note, begins_with, prefix_of}
-use Rattle.csvw_rows.specs.Scan.{Outcome, Found, Broken, Unfinished, quote_is, step_of, run, pass, finish}
+use Rattle.csvw_rows.specs.Scan.{Outcome, Found, Broken, Unfinished, run, pass, finish}
 use Rattle.csvw_rows.specs.Looks.{settled, unsettled, line_of, found_row, next_row, terminator_of, may_be_note, begins_prefix}
-use Rattle.csvw_rows.specs.Parts.{Continues, Breaks, HasRow}
-use Rattle.csvw_rows.proofs.RunSteps.{ends_at, act_run, run_by, no_end, differs}
-use Rattle.csvw_rows.proofs.Joins.{Clear, goes_on, run_join, line_join, line_joins, settled_all, settled_clear}
-use Rattle.csvw_rows.proofs.Notes.{is_break, BeginsBreak, note_same, note_stays, note_never, terminator_breaks, ends_break}
-use Rattle.csvw_rows.proofs.RowLaws.{ReadsRow, ReadsLine, row_sound, row_complete, line_sound, line_complete, line_some, found_sound}
-use Rattle.csvw_rows.proofs.Complete.{has_end, start_after, closed_after, nothing_ends}
-use Rattle.csvw_rows.proofs.Sound.{Reads, sound}
-use Rattle.csvw_rows.proofs.Broken.{run_tells, Tells, IsReading}
+use Rattle.csvw_rows.specs.Parts.{Continues}
+use Rattle.csvw_rows.proofs.RunSteps.{no_end}
+use Rattle.csvw_rows.proofs.Joins.{Clear, line_join, settled_all, settled_clear}
+use Rattle.csvw_rows.proofs.Notes.{is_break, BeginsBreak, note_same, note_stays, terminator_breaks}
+use Rattle.csvw_rows.proofs.RowLaws.{row_sound, row_complete, line_sound, line_complete, line_some}
+use Rattle.csvw_rows.proofs.Complete.{nothing_ends}
+use Rattle.csvw_rows.proofs.Sound.{sound}
 
 -- the terminator
 term_crlf : (d : Dialect) → d.line_terminators.crlf ≡ true → (terminator_of d ≡ 13 ∷ 10 ∷ []) × (terminator_len d (terminator_of d) ≡ 2)

@@ -1,5 +1,5 @@
 -- Where the text of some bytes ends.
-use Rattle.std.proofs.Common.{◌≡◌, ℕ, List, [], take, drop, length, refl, sym, ap, ◌∙◌, arith, true, false}
+use Rattle.std.proofs.Common.{◌≡◌, ℕ, List, [], take, drop, length, refl, sym, ap, ◌∙◌, arith, false}
 use Rattle.std.proofs.lemmas.Grind.{common_steps}
 use Rattle.std.proofs.lemmas.Str.{utf8_valid_len-IsUtf8}
 use Rattle.std.specs.Prelude.{IsUtf8, is_some}

@@ -1,5 +1,5 @@
 -- The front of a row that was read, and what reading it on does.
-use Rattle.std.proofs.Common.{◌≡◌, ◌≢◌, ◌∙◌, ℕ, zero, suc, ◌+◌, ◌-◌, ◌<◌, ◌≤◌, Bool, true, false, ◌&&◌, ◌==◌, if◌then◌else◌, List, [], ◌∷◌, ◌++◌, map, length, take, drop, Option, Some, None, refl, sym, ap, subst, arith, append_assoc, append-nil, length-append, length-drop, ◌⊎◌, inl, inr, chars, nat_lt, nat_eq}
+use Rattle.std.proofs.Common.{◌≡◌, ◌∙◌, ℕ, zero, suc, ◌+◌, ◌-◌, ◌<◌, ◌≤◌, Bool, true, false, ◌&&◌, if◌then◌else◌, List, [], ◌∷◌, ◌++◌, map, length, take, drop, refl, sym, ap, subst, arith, append-nil, length-append, ◌⊎◌, inl, inr, chars, nat_lt, nat_eq}
 use Rattle.std.specs.Prelude.{IsUtf8, encode_utf8, encode_utf8_all, slice_range, slice_index, nat_le, Result, Ok, Err, is_ok, OnOk}
 use Rattle.std.specs.Str.{is_utf8}
 use Rattle.std.proofs.lemmas.Grind.{common_steps}
@@ -13,7 +13,7 @@ use Rattle.csvw_rows.specs.declared.draft.Draft.{Draft}
 use Rattle.csvw_rows.specs.declared.scan.State.{State}
 use Rattle.csvw_rows.specs.declared.scan.State.TheVariants.{Start, Inside}
 use Rattle.csvw_rows.specs.declared.scan.Step.TheVariants.{Open}
-use Rattle.csvw_rows.specs.Scan.{Found, Unfinished, step_of, run}
+use Rattle.csvw_rows.specs.Scan.{step_of, run}
 use Rattle.csvw_rows.proofs.RunSteps.{act_run}
 use Rattle.csvw_rows.specs.Looks.{settled}
 use Rattle.csvw_rows.proofs.Joins.{settled_all}
@@ -22,7 +22,7 @@ use Rattle.csvw_rows.proofs.Complete.{nothing_ends}
 use Rattle.csvw_rows.proofs.Lookahead.{and_three, is_char, one_end, lf_again, crlf_again}
 use Rattle.std.proofs.lemmas.Bool.{cases_lt}
 use Rattle.csvw_rows.specs.Bounds.{apart_all, texts_apart, is_apart}
-use Rattle.csvw_rows.specs.Drafts.{read_of, state_of, values_of, current_of, IsFresh, IsDraft, runs_on}
+use Rattle.csvw_rows.specs.Drafts.{IsFresh}
 use Rattle.csvw_rows.specs.Grammar.{terminator_len}
 use Rattle.csvw_rows.proofs.BoundLemmas.{all_more}
 

@@ -1,6 +1,6 @@
 -- A row that was read on to its end is a row that is taken; one that is left unfinished is waited for.
-use Rattle.std.proofs.Common.{◌≡◌, ◌≢◌, ◌∙◌, ℕ, ◌+◌, ◌-◌, ◌<◌, ◌≤◌, Bool, true, false, ◌&&◌, ◌||◌, not, if◌then◌else◌, List, [], ◌∷◌, ◌++◌, map, length, take, drop, Option, Some, None, option_map, Ok, refl, sym, ap, subst, arith, append-nil, length-append, length-drop, length-take, ◌⊎◌, inl, inr, chars, ◌==◌}
-use Rattle.std.specs.Prelude.{IsUtf8, encode_utf8_all}
+use Rattle.std.proofs.Common.{◌≡◌, ◌≢◌, ◌∙◌, ℕ, ◌+◌, ◌<◌, ◌≤◌, Bool, true, false, ◌||◌, if◌then◌else◌, List, [], ◌++◌, map, length, take, drop, Option, Some, None, option_map, Ok, refl, sym, ap, subst, arith, length-append, length-drop, length-take, ◌⊎◌, inl, inr, chars}
+use Rattle.std.specs.Prelude.{IsUtf8}
 use Rattle.std.specs.Str.{is_utf8}
 use Rattle.std.proofs.lemmas.Bool.{cases_lt}
 use Rattle.std.proofs.lemmas.Grind.{common_steps}

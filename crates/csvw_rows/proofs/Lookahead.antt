@@ -1,10 +1,10 @@
 -- A row doesn't depend on what comes behind its terminator.
-use Rattle.std.proofs.Common.{◌≡◌, ◌≢◌, ℕ, ◌+◌, ◌-◌, ◌<◌, ◌≤◌, Bool, true, false, cond, ◌&&◌, ◌||◌, ◌==◌, if◌then◌else◌, List, [], ◌∷◌, ◌++◌, map, length, take, drop, Option, Some, None, refl, sym, ap, ◌∙◌, subst, arith, append_assoc, append-nil, length-append, ◌⊎◌, inl, inr, nat_lt, nat_eq, IsTrue, MatchBool}
+use Rattle.std.proofs.Common.{◌≡◌, ℕ, ◌+◌, ◌<◌, ◌≤◌, Bool, true, false, ◌&&◌, if◌then◌else◌, List, [], ◌∷◌, ◌++◌, length, drop, Some, None, refl, sym, ap, ◌∙◌, subst, arith, append_assoc, length-append, inl, inr, nat_eq, MatchBool}
 use Rattle.std.proofs.lemmas.Bool.Decides.{nat_tests}
 use Rattle.std.proofs.Math.Seq.{drop-append_seam}
 use Rattle.csvw_rows.specs.declared.dialect.Dialect.{Dialect}
 use Rattle.csvw_rows.specs.Grammar.{terminator_len, IsPlain, IsField, AreFields, RowText}
-use Rattle.csvw_rows.specs.Files.{Row, IsRow, AreRows, EndsRow, HasNoTerminator, is_note}
+use Rattle.csvw_rows.specs.Files.{Row, IsRow, AreRows, HasNoTerminator, is_note}
 use Rattle.csvw_rows.proofs.Complete.{nothing_ends}
 
 plain_again : (d : Dialect) (source : List ℕ) (x : ℕ) (r q : List ℕ) → IsPlain d source (x ∷ r) → IsPlain d source (x ∷ q)

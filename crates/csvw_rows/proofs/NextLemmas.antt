@@ -1,5 +1,5 @@
 -- What stands at the front, from the line there.
-use Rattle.std.proofs.Common.{◌≡◌, ◌≢◌, ℕ, zero, suc, ◌+◌, ◌-◌, ◌<◌, ◌≤◌, Bool, true, false, List, [], ◌∷◌, ◌++◌, map, length, take, drop, Option, Some, None, option_map, refl, sym, ap, ◌∙◌, subst, arith, append_assoc, append-nil, length-append, length-drop, length-take, ◌⊎◌, inl, inr, IsTrue, ◌==◌}
+use Rattle.std.proofs.Common.{◌≡◌, ◌≢◌, ℕ, zero, suc, ◌+◌, ◌<◌, ◌≤◌, Bool, true, false, List, [], ◌∷◌, ◌++◌, map, length, take, drop, Option, Some, None, refl, sym, ap, ◌∙◌, subst, arith, append_assoc, append-nil, length-append, length-drop, ◌⊎◌, inl, inr, ◌==◌}
 use Rattle.std.proofs.lemmas.Grind.{common_steps}
 use Rattle.std.proofs.lemmas.Bool.Decides.{nat_tests}
 use Rattle.std.proofs.lemmas.Bool.{cases_lt}
@@ -16,19 +16,19 @@ use Rattle.csvw_rows.specs.Grammar.{terminator_len, trimmed}
 use Rattle.csvw_rows.specs.Lawful.{IsLawful}
 use Rattle.csvw_rows.specs.Lengths.{byte_len, row_limit}
 use Rattle.csvw_rows.specs.Files.{Row, IsRow, EndsRow, is_note}
-use Rattle.csvw_rows.specs.Scan.{Outcome, Found, Broken, Unfinished, run, finish}
+use Rattle.csvw_rows.specs.Scan.{run, finish}
 use Rattle.csvw_rows.specs.Looks.{settled, unsettled, next_row, found_row, terminator_of}
-use Rattle.csvw_rows.specs.Parts.{Continues, Breaks, HasRow, Fits, Goes, Ends, NoRow, NoLast, FirstEnd}
+use Rattle.csvw_rows.specs.Parts.{Continues, Breaks, HasRow, Goes, Ends, NoRow, NoLast, FirstEnd}
 use Rattle.csvw_rows.specs.Stops.{IsBroken, IsNamed}
 use Rattle.csvw_rows.specs.Lines.{IsFound, IsWrong, IsLine, line_chars}
-use Rattle.csvw_rows.specs.Nexts.{StandsThere, TakesRow, StopsHere, StopGives, NextGives, waits_of, is_last}
+use Rattle.csvw_rows.specs.Nexts.{TakesRow, StopsHere, StopGives, NextGives, waits_of, is_last}
 use Rattle.csvw_rows.proofs.Joins.{goes_on}
 use Rattle.csvw_rows.proofs.Notes.{note_never}
-use Rattle.csvw_rows.proofs.RowLaws.{ReadsRow, row_sound, row_complete, row_unique, SameRow}
+use Rattle.csvw_rows.proofs.RowLaws.{row_sound, row_complete, row_unique}
 use Rattle.csvw_rows.proofs.Broken.{run_tells, Tells, IsRule}
 use Rattle.csvw_rows.proofs.Continue.{fields_next, term_some}
 use Rattle.csvw_rows.proofs.Sees.{sees, run_on, Sees}
-use Rattle.csvw_rows.proofs.Lookahead.{row_stays, term_stays, term_within}
+use Rattle.csvw_rows.proofs.Lookahead.{row_stays, term_stays}
 use Rattle.csvw_rows.proofs.Texts.{byte_len_take, byte_len_less, same_front, breaks_none, decide_part, not_both, first_end}
 use Rattle.csvw_rows.proofs.LineLemmas.{run_whole}
 use Rattle.csvw_rows.proofs.Complete.{nothing_ends}

@@ -1,5 +1,5 @@
 -- A line among the bytes and among the characters.
-use Rattle.std.proofs.Common.{◌≡◌, ◌∙◌, ℕ, zero, suc, ◌+◌, ◌-◌, ◌<◌, ◌≤◌, if◌then◌else◌, Bool, false, true, List, [], ◌∷◌, ◌++◌, length, take, drop, get_or, Option, Some, None, refl, sym, ap, subst, arith, append_assoc, append-nil, length-append, drop-cons, ◌⊎◌, inl, inr, chars, nat_lt, nat_eq}
+use Rattle.std.proofs.Common.{◌≡◌, ◌∙◌, ℕ, suc, ◌<◌, ◌≤◌, if◌then◌else◌, Bool, false, true, List, [], ◌∷◌, ◌++◌, length, take, drop, get_or, Option, Some, None, refl, sym, ap, subst, arith, append_assoc, append-nil, length-append, drop-cons, ◌⊎◌, inl, inr, chars, nat_lt, nat_eq}
 use Rattle.std.specs.Prelude.{IsUtf8, encode_utf8_all}
 use Rattle.std.specs.List.{starts_with}
 use Rattle.std.specs.Str.{is_utf8}
@@ -8,7 +8,7 @@ use Rattle.std.proofs.lemmas.Bool.{cases_lt}
 use Rattle.std.proofs.lemmas.Bool.Decides.{nat_tests}
 use Rattle.std.proofs.lemmas.Grind.{common_steps}
 use Rattle.std.proofs.lemmas.List.{take-append-drop}
-use Rattle.std.proofs.lemmas.Str.{IsUtf8-from_is_utf8, is_utf8-from_IsUtf8, IsUtf8-drop, IsCharBoundary-before_ascii, chars-append, chars-nil, encodes-chars, encodes-append}
+use Rattle.std.proofs.lemmas.Str.{is_utf8-from_IsUtf8, IsUtf8-drop, IsCharBoundary-before_ascii, chars-append, chars-nil, encodes-chars, encodes-append}
 use Rattle.csvw_rows.specs.declared.dialect.Dialect.{Dialect}
 use Rattle.csvw_rows.specs.Grammar.{terminator_len}
 use Rattle.csvw_rows.specs.Lengths.{byte_len}
@@ -21,7 +21,7 @@ use Rattle.csvw_rows.proofs.CutTakes.{no_prefix}
 use Rattle.csvw_rows.proofs.Continue.{starts_split, starts_itself}
 use Rattle.csvw_rows.proofs.DraftLemmas.{front_text, term_codes, text_gone}
 use Rattle.csvw_rows.proofs.DraftRuns.{clear_at, drop_more}
-use Rattle.csvw_rows.proofs.Joins.{Clear, settled_all, settled_clear, line_joins}
+use Rattle.csvw_rows.proofs.Joins.{settled_all, settled_clear, line_joins}
 use Rattle.csvw_rows.proofs.Notes.{starts_stays, is_break, BeginsBreak, terminator_breaks}
 use Rattle.csvw_rows.proofs.RowLaws.{line_complete}
 

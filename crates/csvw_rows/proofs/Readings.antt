@@ -1,23 +1,17 @@
 -- What a reader's next step says of all bytes so far.
-use Rattle.std.proofs.Common.{◌≡◌, ◌≢◌, ℕ, zero, suc, ◌+◌, ◌-◌, ◌<◌, ◌≤◌, Bool, true, false, not, ◌&&◌, ◌||◌, ◌==◌, if◌then◌else◌, List, [], ◌∷◌, ◌++◌, length, take, drop, Option, Some, None, refl, sym, ap, ◌∙◌, subst, arith, append_assoc, append-nil, length-append, length-drop, ◌⊎◌, inl, inr, IsTrue, zero-add, Ok, Err}
+use Rattle.std.proofs.Common.{◌≡◌, ℕ, ◌+◌, ◌<◌, ◌≤◌, Bool, true, false, List, [], ◌∷◌, ◌++◌, length, take, drop, Option, Some, None, refl, sym, ap, ◌∙◌, subst, arith, length-append, ◌⊎◌, inl, inr, IsTrue, zero-add}
 use Rattle.std.specs.Prelude.{is_some, IsSome}
-use Rattle.std.specs.List.{All}
 use Rattle.std.specs.Str.Lossy.{utf8_valid_len, utf8_error_len}
-use Rattle.std.proofs.lemmas.Grind.{common_steps}
-use Rattle.std.proofs.lemmas.Bool.Decides.{nat_tests}
 use Rattle.std.proofs.lemmas.List.Elements.{All-push}
 use Rattle.csvw_rows.specs.declared.dialect.Dialect.{Dialect}
 use Rattle.csvw_rows.specs.declared.stop.RowStop.{RowStop}
-use Rattle.csvw_rows.specs.declared.stop.RowStop.TheVariants.{Memory, NotUtf8, RowTooLong, BadQuote, TextAfterQuote, UnclosedQuote, TooManyRows}
-use Rattle.csvw_rows.specs.declared.next.After.{After}
-use Rattle.csvw_rows.specs.declared.next.After.TheVariants.{More, Nothing, NoText}
+use Rattle.csvw_rows.specs.declared.stop.RowStop.TheVariants.{NotUtf8}
 use Rattle.csvw_rows.specs.Grammar.{terminator_len}
 use Rattle.csvw_rows.specs.Lawful.{IsLawful}
-use Rattle.csvw_rows.specs.Lengths.{byte_len, row_limit}
 use Rattle.csvw_rows.specs.Files.{Row, IsRow, AreRows, AreAllRows, EndsOpen, KeepsLimits, File, IsWhole, Front, content, is_text}
-use Rattle.csvw_rows.specs.Parts.{Goes, NoRow, NoLast, FirstEnd}
+use Rattle.csvw_rows.specs.Parts.{Goes, NoRow, FirstEnd}
 use Rattle.csvw_rows.specs.Stops.{Begins, StopOf, StopsInText, StopsInBytes, StopsAtEnd, IsNamed}
-use Rattle.csvw_rows.specs.Nexts.{is_last, TakesRow, StandsThere, StopsHere, StopGives}
+use Rattle.csvw_rows.specs.Nexts.{TakesRow, StandsThere, StopsHere}
 use Rattle.csvw_rows.specs.RowsState.{HasRead}
 use Rattle.csvw_rows.proofs.Texts.{IsShort}
 use Rattle.csvw_rows.proofs.Lookahead.{Again, rows_again}

@@ -1,5 +1,5 @@
 -- A text begins with at most one row, and with at most one list of rows of a length.
-use Rattle.std.proofs.Common.{◌≡◌, ◌≢◌, ℕ, ◌+◌, ◌<◌, ◌≤◌, Bool, true, false, cond, if◌then◌else◌, List, [], ◌∷◌, ◌++◌, map, length, nat_lt, Option, Some, None, option_map, refl, sym, ap, ◌∙◌, subst, arith, append_assoc, append-nil, length-append, ◌⊎◌, inl, inr, IsTrue, MatchBool, take, drop, add-zero, unwrap_or}
+use Rattle.std.proofs.Common.{◌≡◌, ℕ, ◌+◌, ◌≤◌, Bool, true, false, if◌then◌else◌, List, [], ◌∷◌, ◌++◌, map, length, Option, Some, None, option_map, refl, sym, ap, ◌∙◌, subst, arith, inl, inr, MatchBool, drop, add-zero, unwrap_or}
 use Rattle.csvw_rows.specs.declared.dialect.Dialect.{Dialect}
 use Rattle.csvw_rows.specs.declared.scan.State.TheVariants.{Start}
 use Rattle.csvw_rows.specs.Grammar.{terminator_len, trimmed, AreFields, RowText}
@@ -11,7 +11,7 @@ use Rattle.std.proofs.lemmas.List.{append_cancel_right}
 use Rattle.csvw_rows.proofs.Notes.{note_same, ends_break}
 use Rattle.csvw_rows.proofs.RunSteps.{ends_at, no_end}
 use Rattle.csvw_rows.proofs.Complete.{run_fields, has_end, nothing_ends}
-use Rattle.csvw_rows.proofs.Sound.{Reads, sound, start_is_fields, ends_is, no_ends_is}
+use Rattle.csvw_rows.proofs.Sound.{sound, start_is_fields, ends_is, no_ends_is}
 
 -- a skipped row or a comment
 pub line_complete : (f : Bool) (d : Dialect) (text after : List ℕ) → HasNoTerminator d text after → EndsRow f d after → line_of f d (text ++ after) ≡ Some after

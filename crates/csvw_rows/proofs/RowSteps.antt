@@ -1,5 +1,5 @@
 -- A reader whose fields were filled anew.
-use Rattle.std.proofs.Common.{◌≡◌, ◌∙◌, ℕ, ◌+◌, ◌-◌, ◌<◌, ◌≤◌, Bool, true, false, List, [], ◌∷◌, ◌++◌, map, length, take, drop, Option, Some, None, Result, Ok, Err, refl, sym, ap, subst, arith, length-drop, chars}
+use Rattle.std.proofs.Common.{◌≡◌, ◌∙◌, ℕ, ◌<◌, ◌≤◌, Bool, true, List, length, drop, Option, Result, Ok, Err, refl, sym, ap, subst, arith, length-drop, chars}
 use Rattle.std.specs.Str.{is_utf8}
 use Rattle.csvw_rows.specs.declared.dialect.Dialect.{Dialect}
 use Rattle.csvw_rows.specs.declared.rows.Rows.{Rows}
@@ -9,9 +9,8 @@ use Rattle.csvw_rows.specs.declared.next.Turn.TheVariants as turn
 use Rattle.csvw_rows.specs.declared.next.Next.TheVariants as next
 use Rattle.csvw_rows.specs.Nexts.{NextGives, TakesRow, is_last}
 use Rattle.csvw_rows.proofs.States.{is_done}
-use Rattle.csvw_rows.specs.RowValue.{Given}
-use Rattle.csvw_rows.specs.SourceState.{rest_bytes, rest_of, is_bad_of, pending_of, Decodes}
-use Rattle.csvw_rows.specs.RowsState.{Holds, HasRead, Stays, Turns, Refills, HasRow, AreFront, after_of, is_ended_of, unread, stop_of, Passes}
+use Rattle.csvw_rows.specs.SourceState.{rest_bytes, rest_of, Decodes}
+use Rattle.csvw_rows.specs.RowsState.{HasRead, Stays, Turns, Refills, HasRow, AreFront, after_of, unread, Passes}
 
 pub refills_stay : (s t : Rows) → Refills s t → Stays s t
 refills_stay s t r d max bytes ended given h = record {

@@ -1,15 +1,13 @@
 -- One step of the pass, by what the step is.
-use Rattle.std.proofs.Common.{◌≡◌, ◌≢◌, ℕ, ◌+◌, ◌<◌, Bool, true, false, cond, ◌&&◌, ◌==◌, not, if◌then◌else◌, List, [], ◌∷◌, ◌++◌, length, nat_lt, Option, Some, None, refl, sym, ap, ◌∙◌, subst, arith, append_assoc, append-nil, ◌⊎◌, inl, inr, ltb, eqb}
+use Rattle.std.proofs.Common.{◌≡◌, ◌≢◌, ℕ, Bool, false, ◌==◌, if◌then◌else◌, List, [], ◌∷◌, ◌++◌, nat_lt, Option, Some, None, refl, sym, ap, ◌∙◌, arith, append_assoc, append-nil}
 use Rattle.csvw_rows.specs.declared.dialect.Dialect.{Dialect}
-use Rattle.csvw_rows.specs.declared.stop.RowStop.{RowStop}
-use Rattle.csvw_rows.specs.declared.stop.RowStop.TheVariants.{BadQuote, TextAfterQuote, UnclosedQuote}
+use Rattle.csvw_rows.specs.declared.stop.RowStop.TheVariants.{BadQuote}
 use Rattle.csvw_rows.specs.declared.scan.State.{State}
-use Rattle.csvw_rows.specs.declared.scan.State.TheVariants.{Start, Plain, Inside, Escaped, Closed}
+use Rattle.csvw_rows.specs.declared.scan.State.TheVariants.{Start, Plain, Inside}
 use Rattle.csvw_rows.specs.declared.scan.Step.{Step}
 use Rattle.csvw_rows.specs.declared.scan.Step.TheVariants.{Keep, Skip, Open, Next, End, Stop}
 use Rattle.csvw_rows.specs.Grammar.{terminator_len, IsPlain}
-use Rattle.csvw_rows.specs.Scan.{Outcome, Found, Broken, Unfinished, quote_is, step_of, run, pass, finish}
-use Rattle.std.proofs.lemmas.Grind.{common_steps}
+use Rattle.csvw_rows.specs.Scan.{Outcome, Found, Broken, quote_is, step_of, run, pass, finish}
 use Rattle.std.proofs.lemmas.Bool.Decides.{nat_tests}
 
 -- whether a terminator stands at the front

@@ -1,23 +1,22 @@
 -- Each part of a text goes on to a row, or breaks a rule, or has a row in it.
-use Rattle.std.proofs.Common.{◌≡◌, ◌≢◌, ℕ, ◌+◌, ◌-◌, ◌<◌, ◌≤◌, Bool, true, false, ◌&&◌, ◌||◌, ◌==◌, not, if◌then◌else◌, List, [], ◌∷◌, ◌++◌, map, length, take, drop, Option, Some, None, option_map, refl, sym, ap, ◌∙◌, subst, arith, append_assoc, append-nil, length-append, ◌⊎◌, inl, inr, nat_lt, nat_eq, IsTrue, unwrap_or}
-use Rattle.std.proofs.lemmas.Bool.Decides.{nat_tests}
+use Rattle.std.proofs.Common.{◌≡◌, ℕ, ◌<◌, ◌≤◌, Bool, true, false, ◌&&◌, ◌==◌, not, if◌then◌else◌, List, [], ◌∷◌, ◌++◌, map, length, Option, Some, None, option_map, refl, sym, ap, ◌∙◌, subst, arith, append_assoc, append-nil, ◌⊎◌, inl, inr, unwrap_or}
 use Rattle.csvw_rows.specs.declared.dialect.Dialect.{Dialect}
 use Rattle.csvw_rows.specs.declared.stop.RowStop.{RowStop}
 use Rattle.csvw_rows.specs.declared.scan.State.{State}
 use Rattle.csvw_rows.specs.declared.scan.State.TheVariants.{Start, Plain, Inside, Escaped, Closed}
-use Rattle.csvw_rows.specs.declared.scan.Step.TheVariants.{Keep, Skip, Open, Next, End, Stop}
-use Rattle.csvw_rows.specs.Grammar.{terminator_len, trimmed, IsOpened}
+use Rattle.csvw_rows.specs.declared.scan.Step.TheVariants.{Keep, Skip}
+use Rattle.csvw_rows.specs.Grammar.{terminator_len, trimmed}
 use Rattle.csvw_rows.specs.Lawful.{IsLawful}
 use Rattle.csvw_rows.specs.Files.{Row, IsRow, EndsRow, is_note}
-use Rattle.csvw_rows.specs.Scan.{Outcome, Found, Broken, Unfinished, quote_is, is_quoted, step_of, run, pass, finish}
+use Rattle.csvw_rows.specs.Scan.{Outcome, Found, Broken, Unfinished, quote_is, is_quoted, step_of, run, finish}
 use Rattle.csvw_rows.specs.Looks.{settled, unsettled, line_of, found_row, next_row, terminator_of, may_be_note}
 use Rattle.csvw_rows.specs.Parts.{Continues, Breaks, HasRow}
 use Rattle.csvw_rows.proofs.RunSteps.{ends_at, act_run, differs}
-use Rattle.csvw_rows.proofs.Joins.{Clear, goes_on, run_join, line_joins, settled_all, settled_clear}
+use Rattle.csvw_rows.proofs.Joins.{goes_on, run_join, line_joins, settled_all, settled_clear}
 use Rattle.csvw_rows.proofs.Notes.{note_never}
-use Rattle.csvw_rows.proofs.RowLaws.{ReadsRow, row_sound, found_sound}
-use Rattle.csvw_rows.proofs.Complete.{start_after, closed_after, plain_found, closed_keep, same_test, quote_no_end, quote_no_delimiter}
-use Rattle.csvw_rows.proofs.Broken.{run_tells, Tells, IsReading}
+use Rattle.csvw_rows.proofs.RowLaws.{row_sound}
+use Rattle.csvw_rows.proofs.Complete.{start_after, closed_after, plain_found, same_test}
+use Rattle.csvw_rows.proofs.Broken.{run_tells, Tells}
 use Rattle.csvw_rows.proofs.Continue.{term_some, unsettled_is, closing, found_within, not_in_unsettled, row_reaches, regroup, settled_len, settled_fits, found_is_row, other_found, fields_next, note_next, take_front, take_long, clear_all, continues_note, continues_maybe}
 
 -- outside quotes the terminator ends the row

@@ -1,5 +1,5 @@
 -- How many characters show that a rule is broken.
-use Rattle.std.proofs.Common.{◌≡◌, ◌≢◌, ℕ, zero, suc, ◌+◌, ◌-◌, ◌<◌, ◌≤◌, Bool, true, false, ◌&&◌, ◌||◌, ◌==◌, List, [], ◌∷◌, ◌++◌, length, take, drop, get_or, Option, Some, None, refl, sym, ap, ◌∙◌, subst, arith, append_assoc, append-nil, length-append, length-drop, length-take, ◌⊎◌, inl, inr, nat_eq, IsTrue}
+use Rattle.std.proofs.Common.{◌≡◌, ℕ, zero, suc, ◌+◌, ◌-◌, ◌<◌, ◌≤◌, Bool, true, false, ◌&&◌, List, [], ◌∷◌, ◌++◌, length, take, drop, get_or, Option, Some, None, refl, sym, ap, ◌∙◌, subst, arith, append-nil, length-append, length-drop, ◌⊎◌, inl, inr, nat_eq}
 use Rattle.std.specs.List.{starts_with}
 use Rattle.std.proofs.lemmas.Bool.{cases_lt}
 use Rattle.std.proofs.lemmas.Grind.{common_steps}
@@ -9,19 +9,18 @@ use Rattle.csvw_rows.specs.declared.stop.RowStop.{RowStop}
 use Rattle.csvw_rows.specs.declared.stop.RowStop.TheVariants.{Memory, NotUtf8, RowTooLong, BadQuote, TextAfterQuote, UnclosedQuote, TooManyRows}
 use Rattle.csvw_rows.specs.declared.scan.State.{State}
 use Rattle.csvw_rows.specs.declared.scan.State.TheVariants.{Start, Plain, Inside, Escaped, Closed}
-use Rattle.csvw_rows.specs.Lawful.{IsLawful}
 use Rattle.csvw_rows.specs.Files.{is_note, prefix_of}
-use Rattle.csvw_rows.specs.Scan.{Outcome, Found, Broken, Unfinished, is_quoted, run, pass, finish}
+use Rattle.csvw_rows.specs.Scan.{Outcome, Found, Broken, Unfinished, is_quoted, run, finish}
 use Rattle.csvw_rows.specs.Looks.{settled, unsettled, found_row, next_row, may_be_note, begins_prefix}
 use Rattle.csvw_rows.specs.Parts.{Breaks}
 use Rattle.csvw_rows.specs.Stops.{AfterFields, IsBroken, IsLeftOpen}
 use Rattle.csvw_rows.specs.Lines.{IsCommon, IsPrefixLen, IsCr, IsShown, IsWrong}
 use Rattle.csvw_rows.proofs.Joins.{goes_on, settled_all}
 use Rattle.csvw_rows.proofs.Notes.{note_stays}
-use Rattle.csvw_rows.proofs.Broken.{run_tells, Tells, IsRule, IsReading}
+use Rattle.csvw_rows.proofs.Broken.{run_tells, Tells, IsRule}
 use Rattle.csvw_rows.proofs.Continue.{unsettled_is, settled_len, fields_next, starts_split}
 use Rattle.csvw_rows.proofs.Sees.{run_on}
-use Rattle.csvw_rows.proofs.LineLemmas.{settled_last, broken_within, run_whole}
+use Rattle.csvw_rows.proofs.LineLemmas.{settled_last, broken_within}
 
 take_len : (n : ℕ) (l : List ℕ) → n ≤ length l → length (take n l) ≡ n
 take_len n l h = grind (arith, common_steps)

@@ -1,16 +1,15 @@
 -- What is read as a row is a row.
-use Rattle.std.proofs.Common.{◌≡◌, ◌≢◌, ℕ, ◌+◌, ◌<◌, Bool, true, false, cond, ◌&&◌, ◌||◌, ◌==◌, not, if◌then◌else◌, List, [], ◌∷◌, ◌++◌, length, nat_lt, Option, Some, None, refl, sym, ap, ◌∙◌, subst, arith, append_assoc, append-nil, ◌⊎◌, inl, inr, ltb, eqb, IsTrue, nat_eq}
+use Rattle.std.proofs.Common.{◌≡◌, ◌≢◌, ℕ, ◌<◌, Bool, true, false, ◌&&◌, ◌==◌, not, if◌then◌else◌, List, [], ◌∷◌, ◌++◌, Option, Some, None, refl, sym, ap, ◌∙◌, subst, arith, append_assoc, append-nil, ◌⊎◌, inl, inr}
 use Rattle.csvw_rows.specs.declared.dialect.Dialect.{Dialect}
-use Rattle.csvw_rows.specs.declared.stop.RowStop.{RowStop}
-use Rattle.csvw_rows.specs.declared.stop.RowStop.TheVariants.{BadQuote, TextAfterQuote, UnclosedQuote}
+use Rattle.csvw_rows.specs.declared.stop.RowStop.TheVariants.{BadQuote, TextAfterQuote}
 use Rattle.csvw_rows.specs.declared.scan.State.{State}
 use Rattle.csvw_rows.specs.declared.scan.State.TheVariants.{Start, Plain, Inside, Escaped, Closed}
 use Rattle.csvw_rows.specs.declared.scan.Step.{Step}
 use Rattle.csvw_rows.specs.declared.scan.Step.TheVariants.{Keep, Skip, Open, Next, End, Stop}
-use Rattle.csvw_rows.specs.Grammar.{terminator_len, IsPlain, AreSkipped, AreUnits, IsUnit, escape_char, IsOpened, IsQuoted, IsField, AreFields}
+use Rattle.csvw_rows.specs.Grammar.{terminator_len, IsPlain, AreSkipped, AreUnits, IsUnit, IsOpened, IsField, AreFields}
 use Rattle.csvw_rows.specs.Files.{EndsRow}
-use Rattle.csvw_rows.specs.Scan.{Outcome, Found, Broken, Unfinished, quote_is, step_of, run, pass, finish}
-use Rattle.csvw_rows.proofs.RunSteps.{ends_at, act, run_by}
+use Rattle.csvw_rows.specs.Scan.{Found, Broken, quote_is, pass}
+use Rattle.csvw_rows.proofs.RunSteps.{ends_at, run_by}
 use Rattle.std.proofs.lemmas.Bool.Decides.{nat_tests}
 
 -- inside quotes: what is left of the field, its closing quote included

@@ -1,5 +1,5 @@
 -- Text that is added behind what is there.
-use Rattle.std.proofs.Common.{◌≡◌, ◌∙◌, ℕ, Bool, true, List, ◌++◌, if◌then◌else◌, drop, refl, sym, ap, subst, chars, Ok, Err}
+use Rattle.std.proofs.Common.{◌≡◌, ◌∙◌, ℕ, true, List, ◌++◌, if◌then◌else◌, ap, chars, Ok, Err}
 use Rattle.std.specs.Prelude.{IsUtf8, Result, is_ok, OnOk}
 use Rattle.std.specs.Str.{is_utf8}
 use Rattle.std.proofs.lemmas.Str.{IsUtf8-from_is_utf8, is_utf8-from_IsUtf8, IsUtf8-append, chars-append}

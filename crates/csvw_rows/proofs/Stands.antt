@@ -1,22 +1,22 @@
 -- Front and the place of a stop, by the row at which the rows of a text end.
-use Rattle.std.proofs.Common.{◌≡◌, ◌≢◌, ℕ, zero, suc, ◌+◌, ◌-◌, ◌<◌, ◌≤◌, Bool, true, false, List, [], ◌∷◌, ◌++◌, length, take, drop, Option, Some, None, refl, sym, ap, ◌∙◌, subst, arith, append_assoc, append-nil, length-append, length-drop, length-take, ◌⊎◌, inl, inr, IsTrue, zero-add}
+use Rattle.std.proofs.Common.{◌≡◌, ◌≢◌, ℕ, suc, ◌+◌, ◌-◌, ◌<◌, ◌≤◌, true, List, [], ◌∷◌, ◌++◌, length, take, drop, refl, sym, ap, ◌∙◌, subst, arith, append_assoc, append-nil, length-append, ◌⊎◌, inl, inr, zero-add}
 use Rattle.std.proofs.lemmas.Grind.{common_steps}
 use Rattle.std.proofs.lemmas.Bool.{cases_lt}
-use Rattle.std.proofs.lemmas.List.{take-append-le, take-append-drop, append_cancel_left}
+use Rattle.std.proofs.lemmas.List.{take-append-le, take-append-drop}
 use Rattle.std.proofs.lemmas.List.Elements.{All-head, All-tail, All-nil, All-cons}
 use Rattle.std.specs.List.{All}
 use Rattle.csvw_rows.specs.declared.dialect.Dialect.{Dialect}
 use Rattle.csvw_rows.specs.Grammar.{terminator_len}
 use Rattle.csvw_rows.specs.Lawful.{IsLawful}
 use Rattle.csvw_rows.specs.Lengths.{byte_len, row_limit}
-use Rattle.csvw_rows.specs.Files.{Row, IsRow, AreRows, AreAllRows, EndsOpen, KeepsLimits, BeginsWithRows, IsLongest}
+use Rattle.csvw_rows.specs.Files.{Row, IsRow, AreRows, AreAllRows, KeepsLimits, BeginsWithRows, IsLongest}
 use Rattle.csvw_rows.specs.Looks.{terminator_of}
-use Rattle.csvw_rows.specs.Parts.{Fits, Goes, Ends, NoRow, NoLast, FirstEnd}
+use Rattle.csvw_rows.specs.Parts.{Goes, Ends, NoRow, NoLast, FirstEnd}
 use Rattle.csvw_rows.specs.Stops.{AreRowsWithin, Begins, StopsAt}
-use Rattle.csvw_rows.proofs.RowLaws.{row_unique, rows_prefix, SameRow}
+use Rattle.csvw_rows.proofs.RowLaws.{row_unique, rows_prefix}
 use Rattle.csvw_rows.proofs.Continue.{term_some, term_len}
-use Rattle.csvw_rows.proofs.Lookahead.{Again, rows_again}
-use Rattle.csvw_rows.proofs.Texts.{IsShort, within_of, within_less, within_are, within_behind, rows_len}
+use Rattle.csvw_rows.proofs.Lookahead.{Again}
+use Rattle.csvw_rows.proofs.Texts.{IsShort, within_of, within_less, within_are, within_behind}
 use Rattle.csvw_rows.proofs.Complete.{nothing_ends}
 
 nil_none : (n : ℕ) (l : List ℕ) → n ≡ length l → drop n l ≡ []

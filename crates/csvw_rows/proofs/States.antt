@@ -1,5 +1,5 @@
 -- What a reader stands for after its steps.
-use Rattle.std.proofs.Common.{◌≡◌, ◌≢◌, ℕ, zero, suc, ◌+◌, ◌-◌, ◌<◌, ◌≤◌, ◌==◌, Bool, true, false, not, ◌&&◌, ◌||◌, if◌then◌else◌, List, [], ◌∷◌, ◌++◌, map, length, drop, Option, Some, None, refl, sym, ap, ◌∙◌, subst, arith, append_assoc, append-nil, length-append, ◌⊎◌, inl, inr, Ok, Err, encode_utf8_all}
+use Rattle.std.proofs.Common.{◌≡◌, ◌≢◌, ℕ, ◌+◌, ◌-◌, ◌<◌, ◌≤◌, ◌==◌, Bool, true, false, not, ◌&&◌, ◌||◌, if◌then◌else◌, List, [], ◌∷◌, ◌++◌, map, length, drop, Option, Some, None, refl, sym, ap, ◌∙◌, subst, arith, append_assoc, length-append, ◌⊎◌, inl, inr, Ok, encode_utf8_all}
 use Rattle.std.specs.Prelude.{is_some}
 use Rattle.std.specs.List.{list_all}
 use Rattle.std.specs.Str.Lossy.{utf8_valid_len, utf8_error_len}
@@ -10,11 +10,10 @@ use Rattle.csvw_rows.specs.declared.rows.Rows.{Rows}
 use Rattle.csvw_rows.specs.declared.source.Source.{Source}
 use Rattle.csvw_rows.specs.declared.stop.RowStop.{RowStop}
 use Rattle.csvw_rows.specs.declared.stop.RowStop.TheVariants.{Memory, NotUtf8, RowTooLong, BadQuote, TextAfterQuote, UnclosedQuote, TooManyRows}
-use Rattle.csvw_rows.specs.declared.next.After.{After}
 use Rattle.csvw_rows.specs.declared.next.After.TheVariants.{More, Nothing, NoText}
 use Rattle.csvw_rows.specs.declared.next.Next.TheVariants as next
 use Rattle.csvw_rows.specs.Lawful.{IsLawful}
-use Rattle.csvw_rows.specs.Files.{Row, AreRows, EndsOpen, IsWhole, content, is_text, Body, remaining, remaining_fields, text_of, without_mark, is_empty, given as given_row}
+use Rattle.csvw_rows.specs.Files.{AreRows, EndsOpen, IsWhole, content, is_text, Body, remaining, remaining_fields, without_mark, is_empty, given as given_row}
 use Rattle.csvw_rows.specs.RowValue.{Given}
 use Rattle.csvw_rows.specs.Parts.{Goes, NoRow}
 use Rattle.csvw_rows.specs.Stops.{StopOf, Begins}

@@ -1,5 +1,5 @@
 -- Where a text stops to begin a file, by the row at which its rows end.
-use Rattle.std.proofs.Common.{◌≡◌, ◌≢◌, ℕ, zero, suc, ◌+◌, ◌-◌, ◌<◌, ◌≤◌, Bool, true, false, List, [], ◌∷◌, ◌++◌, length, take, drop, Option, Some, None, refl, sym, ap, ◌∙◌, subst, arith, append_assoc, append-nil, length-append, length-drop, length-take, ◌⊎◌, inl, inr, IsTrue, zero-add, encode_utf8_all}
+use Rattle.std.proofs.Common.{◌≡◌, ◌≢◌, ℕ, zero, suc, ◌+◌, ◌-◌, ◌<◌, ◌≤◌, false, List, [], ◌∷◌, ◌++◌, length, take, drop, refl, sym, ap, ◌∙◌, subst, arith, append_assoc, length-append, length-drop, ◌⊎◌, inl, inr, encode_utf8_all}
 use Rattle.std.proofs.lemmas.Grind.{common_steps}
 use Rattle.std.proofs.lemmas.Bool.{cases_lt}
 use Rattle.std.proofs.lemmas.Str.{encodes-append}
@@ -8,22 +8,20 @@ use Rattle.std.proofs.lemmas.List.Elements.{All-head, All-tail}
 use Rattle.std.specs.List.{All}
 use Rattle.csvw_rows.specs.declared.dialect.Dialect.{Dialect}
 use Rattle.csvw_rows.specs.declared.stop.RowStop.{RowStop}
-use Rattle.csvw_rows.specs.declared.scan.State.TheVariants.{Start}
 use Rattle.csvw_rows.specs.Grammar.{terminator_len}
 use Rattle.csvw_rows.specs.Lawful.{IsLawful}
 use Rattle.csvw_rows.specs.Lengths.{byte_len, row_limit}
-use Rattle.csvw_rows.specs.Files.{Row, IsRow, AreRows, KeepsLimits, BeginsWithRows, IsLongest}
-use Rattle.csvw_rows.specs.Scan.{Outcome, Found, Broken, Unfinished, run, finish}
-use Rattle.csvw_rows.specs.Looks.{unsettled, settled, terminator_of, next_row, found_row}
-use Rattle.csvw_rows.specs.Parts.{Continues, Breaks, HasRow, Fits, Goes, Ends, NoRow, FirstEnd}
-use Rattle.csvw_rows.specs.Stops.{AreRowsWithin, Begins, StopsAt}
+use Rattle.csvw_rows.specs.Files.{Row, IsRow, AreRows}
+use Rattle.csvw_rows.specs.Scan.{finish}
+use Rattle.csvw_rows.specs.Looks.{unsettled, terminator_of, found_row}
+use Rattle.csvw_rows.specs.Parts.{Continues, Breaks, HasRow, Goes, Ends, NoRow, FirstEnd}
+use Rattle.csvw_rows.specs.Stops.{AreRowsWithin}
 use Rattle.csvw_rows.proofs.Joins.{goes_on}
 use Rattle.csvw_rows.proofs.Notes.{note_never}
-use Rattle.csvw_rows.proofs.RowLaws.{row_unique, rows_prefix, SameRow}
-use Rattle.csvw_rows.proofs.Continue.{term_some, term_len, other_found, fields_next}
+use Rattle.csvw_rows.proofs.RowLaws.{row_unique}
+use Rattle.csvw_rows.proofs.Continue.{term_some, other_found, fields_next}
 use Rattle.csvw_rows.proofs.Sees.{sees, run_on}
-use Rattle.csvw_rows.proofs.Lookahead.{Term, term_view, term_within, row_stays, term_stays, Again, rows_again, behind_front}
-use Rattle.csvw_rows.proofs.Complete.{nothing_ends}
+use Rattle.csvw_rows.proofs.Lookahead.{term_within, row_stays, term_stays, rows_again}
 
 -- lengths in bytes
 byte_len_append : (a b : List ℕ) → byte_len (a ++ b) ≡ byte_len a + byte_len b

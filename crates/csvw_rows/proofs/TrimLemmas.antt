@@ -1,14 +1,14 @@
 -- Texts without the white space at their start and end.
-use Rattle.std.proofs.Common.{◌≡◌, ◌∙◌, ℕ, zero, suc, ◌+◌, ◌-◌, ◌<◌, ◌≤◌, Bool, true, false, ◌&&◌, if◌then◌else◌, List, [], ◌∷◌, ◌++◌, length, take, drop, reverse, refl, sym, ap, subst, arith, append-nil, length-append, length-drop, length-take, chars}
+use Rattle.std.proofs.Common.{◌≡◌, ◌∙◌, ℕ, ◌+◌, ◌-◌, ◌≤◌, Bool, true, false, ◌&&◌, List, [], ◌∷◌, ◌++◌, length, take, drop, reverse, refl, sym, ap, subst, arith, length-append, chars}
 use Rattle.std.specs.Prelude.{IsUtf8, encode_utf8, encode_utf8_all, slice_range, nat_le}
 use Rattle.std.specs.Str.{is_utf8}
 use Rattle.std.proofs.lemmas.Grind.{common_steps}
 use Rattle.std.proofs.lemmas.Bool.Decides.{nat_tests}
 use Rattle.std.proofs.lemmas.List.{drop-drop, drop-take}
-use Rattle.std.proofs.lemmas.Str.{IsUtf8-from_is_utf8, IsUtf8-drop, IsCharBoundary-from_take, chars-append, encodes-chars}
+use Rattle.std.proofs.lemmas.Str.{IsUtf8-drop, IsCharBoundary-from_take, chars-append, encodes-chars}
 use Rattle.csvw_text.specs.Class.{is_white_char}
 use Rattle.csvw_rows.specs.declared.bound.Bound.{Bound}
-use Rattle.csvw_rows.specs.Bounds.{is_apart, apart_all}
+use Rattle.csvw_rows.specs.Bounds.{is_apart}
 use Rattle.csvw_rows.specs.Grammar.{strip_start, strip_end}
 use Rattle.csvw_rows.proofs.DraftLemmas.{one_char}
 

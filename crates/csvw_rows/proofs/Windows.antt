@@ -1,6 +1,5 @@
 -- A row at the front of a part of a text is one at the front of the text.
-use Rattle.std.proofs.Common.{◌≡◌, ◌∙◌, ℕ, ◌+◌, ◌-◌, ◌<◌, ◌≤◌, Bool, true, false, List, [], ◌∷◌, ◌++◌, map, length, take, drop, Option, Some, None, option_map, Ok, refl, sym, ap, subst, arith, append_assoc, length-append, ◌⊎◌, inl, inr}
-use Rattle.std.specs.Prelude.{IfSome}
+use Rattle.std.proofs.Common.{◌≡◌, ◌∙◌, ℕ, ◌≤◌, Bool, false, List, ◌++◌, map, length, drop, Option, option_map, Ok, sym, ap, arith, append_assoc, length-append, inl, inr}
 use Rattle.std.proofs.lemmas.Grind.{common_steps}
 use Rattle.csvw_rows.specs.declared.dialect.Dialect.{Dialect}
 use Rattle.csvw_rows.specs.declared.next.After.{After}

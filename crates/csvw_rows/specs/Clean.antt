@@ -1,5 +1,5 @@
 -- Text in which a pass over a field goes on as it was.
-use Rattle.std.specs.Prelude.{◌≡◌, ◌≢◌, ℕ, Bool, true, false, List, [], ◌∷◌, take, Option, Some, encode_utf8}
+use Rattle.std.specs.Prelude.{◌≡◌, ◌≢◌, ℕ, false, List, [], ◌∷◌, take, Some, encode_utf8}
 use Rattle.csvw_rows.specs.declared.dialect.Dialect.{Dialect}
 use Rattle.csvw_rows.specs.declared.leads.Leads.{Leads}
 use Rattle.csvw_rows.specs.declared.scan.State.{State}

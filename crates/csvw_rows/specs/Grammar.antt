@@ -1,5 +1,5 @@
 -- RowText: rows and fields by the dialect. A text is a list of characters.
-use Rattle.std.specs.Prelude.{◌≡◌, ◌≢◌, ◌⊎◌, ℕ, ◌+◌, ◌<◌, Bool, true, false, ◌&&◌, ◌||◌, ◌==◌, nat_eq, nat_lt, if◌then◌else◌, IsTrue, List, [], ◌∷◌, ◌++◌, map, reverse, length, drop, All, Option, Some, None, IfSome, MatchOption}
+use Rattle.std.specs.Prelude.{◌≡◌, ◌≢◌, ◌⊎◌, ℕ, ◌&&◌, nat_eq, if◌then◌else◌, IsTrue, List, [], ◌∷◌, ◌++◌, map, reverse, Some}
 use Rattle.std.specs.List.{starts_with}
 use Rattle.csvw_text.specs.Class.{is_white_char}
 use Rattle.csvw_rows.specs.declared.dialect.Dialect.{Dialect}

@@ -1,5 +1,5 @@
 -- The dialects by which texts can be read, and the defaults (Metadata Vocabulary for Tabular Data, section 5.9).
-use Rattle.std.specs.Prelude.{◌≡◌, ◌≢◌, ℕ, ◌==◌, ◌||◌, ◌&&◌, not, Bool, true, false, List, [], ◌∷◌, Option, Some, None, IsTrue}
+use Rattle.std.specs.Prelude.{◌≡◌, ◌≢◌, ℕ, ◌==◌, ◌||◌, ◌&&◌, not, Bool, true, false, List, [], ◌∷◌, Option, Some, None}
 use Rattle.std.specs.List.{list_any}
 use Rattle.csvw_rows.specs.declared.dialect.Dialect.{Dialect}
 use Rattle.csvw_rows.specs.declared.dialect.Trim.TheVariants.{No}

@@ -1,11 +1,11 @@
 -- What stands at the front of the characters that no row has yet.
-use Rattle.std.specs.Prelude.{◌≡◌, ◌≢◌, ◌⊎◌, ℕ, ◌+◌, ◌<◌, ◌≤◌, Bool, true, false, IsTrue, List, length, take, drop, map, Option, Some, None, slice_index}
+use Rattle.std.specs.Prelude.{◌≡◌, ◌≢◌, ◌⊎◌, ℕ, ◌+◌, ◌<◌, ◌≤◌, Bool, true, false, List, length, take, drop, map, Option, Some, None, slice_index}
 use Rattle.csvw_rows.specs.declared.dialect.Dialect.{Dialect}
 use Rattle.csvw_rows.specs.declared.stop.RowStop.{RowStop}
 use Rattle.csvw_rows.specs.declared.line.Line.{Line}
 use Rattle.csvw_rows.specs.declared.line.Line.TheVariants as line
-use Rattle.csvw_rows.specs.Grammar.{terminator_len, trimmed}
-use Rattle.csvw_rows.specs.Files.{is_note, prefix_of}
+use Rattle.csvw_rows.specs.Grammar.{trimmed}
+use Rattle.csvw_rows.specs.Files.{prefix_of}
 use Rattle.csvw_rows.specs.Looks.{next_row}
 use Rattle.csvw_rows.specs.Parts.{Continues, Breaks}
 use Rattle.csvw_rows.specs.Stops.{IsBroken}

@@ -1,5 +1,5 @@
 -- The row at the front of a text by a pass over it: what the code computes. The laws in proofs/ tie it to IsRow.
-use Rattle.std.specs.Prelude.{◌≡◌, ℕ, ◌+◌, Bool, true, false, ◌&&◌, ◌==◌, nat_eq, if◌then◌else◌, List, [], ◌∷◌, ◌++◌, map, nat_lt, Option, Some, None, option_map}
+use Rattle.std.specs.Prelude.{ℕ, Bool, false, ◌&&◌, ◌==◌, nat_eq, if◌then◌else◌, List, [], ◌∷◌, map, nat_lt, Option, Some, None, option_map}
 use Rattle.std.specs.List.{starts_with}
 use Rattle.csvw_rows.specs.declared.dialect.Dialect.{Dialect}
 use Rattle.csvw_rows.specs.declared.scan.State.TheVariants.{Start}

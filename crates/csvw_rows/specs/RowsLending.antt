@@ -1,5 +1,5 @@
 -- What a reader is once the row that it lent is let go, and what the row shows.
-use Rattle.std.specs.Prelude.{◌≡◌, ◌<◌, ℕ, Bool, true, false, ⊤, Option, Result, Ok, Err, Some, None}
+use Rattle.std.specs.Prelude.{◌≡◌, ◌<◌, ⊤, Option, Result, Ok, Err, Some, None}
 use Rattle.std.specs.Borrow.{follows_so, MutBor, Fml}
 use Rattle.csvw_rows.specs.declared.rows.Rows.{Rows}
 use Rattle.csvw_rows.specs.declared.raw_row.RawRow.{RawRow}

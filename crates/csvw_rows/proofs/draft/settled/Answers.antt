@@ -1,4 +1,4 @@
-use Rattle.std.proofs.Common.{rules, ◌≡◌, ◌∙◌, ◌-◌, ◌<◌, List, ℕ, length, chars, true, refl, arith, sym, ap, subst}
+use Rattle.std.proofs.Common.{◌≡◌, ◌∙◌, ◌-◌, List, ℕ, length, chars, arith, sym, ap, subst}
 use Rattle.std.specs.Prelude.{slice_index}
 use Rattle.csvw_rows.proofs.DraftLemmas.{settled_cut, settled_none}
 use Rattle.csvw_rows.proofs.LineLemmas.{settled_last, settled_same}

@@ -1,4 +1,4 @@
-use Rattle.std.proofs.Common.{◌≡◌, sym, ◌∙◌, true}
+use Rattle.std.proofs.Common.{sym, ◌∙◌}
 use Rattle.csvw_rows.proofs.Shown.{wrong_whole, left_open}
 use Rattle.csvw_rows.proofs.line.last_line.Goals as goal
 

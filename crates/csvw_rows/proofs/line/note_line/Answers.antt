@@ -1,5 +1,5 @@
-use Rattle.std.proofs.Common.{◌≡◌, ◌≤◌, ◌<◌, List, ℕ, length, drop, ap, sym, ◌∙◌, arith, true, Some, subst, refl}
-use Rattle.csvw_rows.specs.Looks.{settled, line_of}
+use Rattle.std.proofs.Common.{◌≡◌, ◌≤◌, ◌<◌, List, ℕ, length, drop, ap, sym, arith, true, Some, subst, refl}
+use Rattle.csvw_rows.specs.Looks.{line_of}
 use Rattle.csvw_rows.proofs.LineLemmas.{note_part, note_open}
 use Rattle.csvw_rows.specs.Parts.{Continues}
 use Rattle.csvw_rows.proofs.Continue.{settled_len}

@@ -1,4 +1,4 @@
-use Rattle.std.proofs.Common.{◌≡◌, ◌≤◌, ◌<◌, List, ℕ, [], length, drop, ap, sym, ◌∙◌, arith, true, subst, refl}
+use Rattle.std.proofs.Common.{◌≡◌, ◌≤◌, ◌<◌, List, ℕ, [], length, drop, ap, sym, ◌∙◌, arith, subst, refl}
 use Rattle.csvw_rows.specs.Scan.{Found, Broken, run}
 use Rattle.csvw_rows.specs.declared.scan.State.TheVariants.{Start}
 use Rattle.csvw_rows.proofs.LineLemmas.{found_part, broken_part}

@@ -1,4 +1,4 @@
-use Rattle.std.proofs.Common.{refl, sym, ◌∙◌}
+use Rattle.std.proofs.Common.{sym, ◌∙◌}
 use Rattle.csvw_rows.proofs.Continue.{continues_maybe}
 use Rattle.csvw_rows.proofs.line.read_line.Goals as goal
 

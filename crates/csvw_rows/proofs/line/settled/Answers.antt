@@ -1,4 +1,4 @@
-use Rattle.std.proofs.Common.{◌≡◌, ◌<◌, ◌-◌, length, ◌∙◌, sym, ap, arith, true, false}
+use Rattle.std.proofs.Common.{◌<◌, ◌-◌, length, ◌∙◌, sym, arith}
 use Rattle.csvw_rows.proofs.LineLemmas.{settled_last, settled_same, get_any}
 use Rattle.csvw_rows.proofs.line.settled.Goals as goal
 use Rattle.csvw_rows.proofs.line.settled.Goals.{else-rules-via-then-rules+then-len-gt0+else-text-len-eq13, else-rules-via-then-rules+else-len-gt0, else-rules-via-else-rules}

@@ -1,10 +1,9 @@
-use Rattle.std.proofs.Common.{◌≡◌, ◌≤◌, ◌<◌, ◌+◌, ℕ, List, [], Bool, true, false, Some, None, length, take, drop, sym, ap, ◌∙◌, arith, subst, inl, inr, map, ◌==◌, refl}
-use Rattle.std.proofs.lemmas.Bool.Decides.{nat_tests}
+use Rattle.std.proofs.Common.{◌≡◌, ◌≤◌, ◌<◌, ◌+◌, ℕ, List, Bool, Some, None, length, take, sym, ap, ◌∙◌, arith, subst, map}
 use Rattle.csvw_rows.specs.Lengths.{byte_len, row_limit}
 use Rattle.csvw_rows.specs.Grammar.{trimmed}
 use Rattle.csvw_rows.specs.Lines.{IsLine, IsFound, IsWrong, line_chars}
 use Rattle.csvw_rows.specs.Nexts.{NextGives, TakesRow, is_last}
-use Rattle.csvw_rows.proofs.NextLemmas.{many_stops, line_stops, found_takes, open_waits, waits_gives, empty_waits, wrong_stops, wrong_gives, empty_of, some_of, not_nothing}
+use Rattle.csvw_rows.proofs.NextLemmas.{many_stops, line_stops, found_takes, open_waits, waits_gives, empty_waits, wrong_gives, empty_of, some_of, not_nothing}
 use Rattle.csvw_rows.proofs.next.next_row.Goals as goal
 
 pub returns-then-is_empty : goal.returns-then-is_empty

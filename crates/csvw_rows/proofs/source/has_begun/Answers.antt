@@ -1,4 +1,4 @@
-use Rattle.std.proofs.Common.{◌≡◌, not, if◌then◌else◌, Bool, true, sym, ap, ◌∙◌, ◌==◌, length, chars}
+use Rattle.std.proofs.Common.{not, if◌then◌else◌, Bool, true, sym, ap, ◌∙◌, ◌==◌, length, chars}
 use Rattle.csvw_rows.proofs.Ascii.{text_empty}
 use Rattle.csvw_rows.proofs.source.has_begun.Goals as goal
 

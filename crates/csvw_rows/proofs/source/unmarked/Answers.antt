@@ -1,4 +1,4 @@
-use Rattle.std.proofs.Common.{◌≡◌, ◌++◌, ◌∷◌, ◌∙◌, ◌==◌, ℕ, List, Bool, sym, ap, subst, chars, if◌then◌else◌}
+use Rattle.std.proofs.Common.{◌≡◌, ◌∷◌, ◌∙◌, ℕ, List, Bool, sym, ap, chars, if◌then◌else◌}
 use Rattle.std.proofs.lemmas.Str.{chars_past_char}
 use Rattle.csvw_rows.specs.Files.{without_mark}
 use Rattle.csvw_rows.proofs.source.unmarked.Goals as goal

@@ -1,8 +1,8 @@
-use Rattle.std.proofs.Common.{◌≡◌, ◌∙◌, ◌-◌, List, ℕ, length, take, drop, chars, sym, ap}
+use Rattle.std.proofs.Common.{◌∙◌, List, ℕ, length, take, chars, sym, ap}
 use Rattle.std.specs.Prelude.{encode_utf8_all}
 use Rattle.std.specs.Str.{is_utf8}
 use Rattle.std.proofs.lemmas.Str.{is_utf8-from_IsUtf8}
-use Rattle.csvw_rows.specs.Grammar.{strip_start, strip_end, trimmed}
+use Rattle.csvw_rows.specs.Grammar.{strip_end, trimmed}
 use Rattle.csvw_rows.proofs.DraftLemmas.{take_whole}
 use Rattle.csvw_rows.proofs.TrimLemmas.{text_itself}
 use Rattle.csvw_rows.proofs.trim.kept.Goals as goal

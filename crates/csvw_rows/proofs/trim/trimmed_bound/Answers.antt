@@ -2,9 +2,8 @@ use Rattle.std.proofs.Common.{◌≡◌, ◌∙◌, ◌+◌, ◌≤◌, List, �
 use Rattle.std.specs.Prelude.{encode_utf8_all, slice_range}
 use Rattle.std.specs.Str.{is_utf8}
 use Rattle.csvw_rows.specs.declared.bound.Bound.{Bound}
-use Rattle.csvw_rows.specs.Bounds.{bytes_at}
 use Rattle.csvw_rows.specs.Grammar.{trimmed}
-use Rattle.csvw_rows.proofs.TrimLemmas.{kept_range, Lies, lies}
+use Rattle.csvw_rows.proofs.TrimLemmas.{kept_range}
 use Rattle.csvw_rows.proofs.BoundLemmas.{apart_bound}
 use Rattle.csvw_rows.proofs.trim.trimmed_bound.Goals as goal
 

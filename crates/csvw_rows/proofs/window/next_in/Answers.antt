@@ -1,6 +1,5 @@
-use Rattle.std.proofs.Common.{◌≡◌, ◌++◌, ◌∙◌, ℕ, List, chars, sym, ap, subst, Some, Ok}
-use Rattle.std.specs.Prelude.{IfSome}
-use Rattle.csvw_rows.specs.Nexts.{NextGives, IsRowThere}
+use Rattle.std.proofs.Common.{ℕ, List, chars, sym, subst, Ok}
+use Rattle.csvw_rows.specs.Nexts.{NextGives}
 use Rattle.csvw_rows.proofs.Windows.{there_gives}
 use Rattle.csvw_rows.proofs.window.next_in.Goals as goal
 

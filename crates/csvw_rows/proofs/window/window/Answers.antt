@@ -1,5 +1,4 @@
-use Rattle.std.proofs.Common.{◌≡◌, ◌++◌, ◌+◌, ◌≤◌, ℕ, List, length, take, drop, sym, ap, ◌∙◌, subst, arith, chars}
-use Rattle.std.specs.Prelude.{IsUtf8}
+use Rattle.std.proofs.Common.{◌++◌, ◌+◌, ℕ, List, drop, sym, ap, ◌∙◌, subst, chars}
 use Rattle.std.proofs.lemmas.Str.{IsUtf8-take}
 use Rattle.memchr.specs.Find.{is_byte, IsFirstByte}
 use Rattle.csvw_rows.proofs.Ascii.{after_lf, split_chars}

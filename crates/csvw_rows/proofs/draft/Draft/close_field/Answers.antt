@@ -1,4 +1,4 @@
-use Rattle.std.proofs.Common.{rules, ◌≡◌, ◌∙◌, List, ℕ, length, true, Ok, refl, sym, ap}
+use Rattle.std.proofs.Common.{rules, ◌≡◌, length, true, Ok, refl}
 use Rattle.csvw_rows.specs.declared.bound.Bound.{Bound}
 use Rattle.csvw_rows.proofs.DraftLemmas.{closed_apart, closed_values, closed_current, text_gone}
 use Rattle.csvw_rows.proofs.draft.Draft.close_field.Goals as goal

@@ -1,4 +1,4 @@
-use Rattle.std.proofs.Common.{◌≡◌, ◌∙◌, ◌+◌, List, ℕ, length, drop, chars, sym, ap, subst}
+use Rattle.std.proofs.Common.{◌∙◌, List, ℕ, drop, sym, subst}
 use Rattle.std.proofs.lemmas.Str.{IsUtf8-from_is_utf8, IsCharBoundary-from_drop}
 use Rattle.csvw_rows.specs.declared.draft.Reading.TheVariants as reading
 use Rattle.csvw_rows.specs.Drafts.{Reads, read_of}

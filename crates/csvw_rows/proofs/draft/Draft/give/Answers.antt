@@ -1,4 +1,4 @@
-use Rattle.std.proofs.Common.{rules, ◌≡◌, ◌∙◌, List, ℕ, map, chars, refl, sym, ap}
+use Rattle.std.proofs.Common.{rules, ◌≡◌, ◌∙◌, List, ℕ, map, chars, sym, ap}
 use Rattle.std.specs.Prelude.{encode_utf8_all}
 use Rattle.csvw_rows.specs.Bounds.{apart_all, texts_apart}
 use Rattle.csvw_rows.specs.Grammar.{trimmed}

@@ -1,5 +1,4 @@
-use Rattle.std.proofs.Common.{rules, ◌≡◌, ◌∙◌, ℕ, List, [], ◌∷◌, ◌++◌, if◌then◌else◌, refl, sym, ap, chars, map}
-use Rattle.std.specs.Prelude.{is_ok}
+use Rattle.std.proofs.Common.{rules, ◌∙◌, ℕ, List, ap, chars, map}
 use Rattle.csvw_rows.proofs.DraftLemmas.{kept_text, kept_apart, kept_current, one_char}
 use Rattle.csvw_rows.proofs.draft.Draft.keep.Goals as goal
 

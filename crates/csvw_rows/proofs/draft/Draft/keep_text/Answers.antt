@@ -1,4 +1,4 @@
-use Rattle.std.proofs.Common.{rules, ◌≡◌, ◌∙◌, ◌+◌, ◌-◌, ◌≤◌, List, ℕ, ◌++◌, length, take, drop, map, chars, arith, sym, ap, subst, Ok}
+use Rattle.std.proofs.Common.{rules, ◌≡◌, ◌∙◌, ◌-◌, List, ℕ, ◌++◌, length, take, drop, map, chars, arith, sym, ap, Ok}
 use Rattle.std.proofs.lemmas.Str.{IsUtf8-take, IsUtf8-drop, is_utf8-from_IsUtf8}
 use Rattle.std.specs.Str.{is_utf8}
 use Rattle.csvw_rows.specs.Bounds.{texts_apart}

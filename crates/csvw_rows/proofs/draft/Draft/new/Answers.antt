@@ -1,4 +1,4 @@
-use Rattle.std.proofs.Common.{rules, ◌≡◌, ◌∙◌, refl, ap}
+use Rattle.std.proofs.Common.{rules, refl, ap}
 use Rattle.csvw_rows.specs.Bounds.{apart_all}
 use Rattle.csvw_rows.proofs.DraftLemmas.{fresh_of, text_nil}
 use Rattle.csvw_rows.proofs.draft.Draft.new.Goals as goal

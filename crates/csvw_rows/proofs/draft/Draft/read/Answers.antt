@@ -1,9 +1,9 @@
-use Rattle.std.proofs.Common.{rules, ◌≡◌, ◌∙◌, ◌+◌, ◌-◌, ◌<◌, ◌∷◌, ◌++◌, List, ℕ, Bool, true, length, drop, chars, nat_lt, arith, refl, sym, ap, subst}
+use Rattle.std.proofs.Common.{◌≡◌, ◌∙◌, ◌-◌, ◌∷◌, ◌++◌, List, ℕ, length, drop, chars, nat_lt, arith, refl, sym, ap}
 use Rattle.std.specs.Prelude.{encode_utf8}
 use Rattle.std.specs.Str.{is_utf8}
 use Rattle.std.proofs.lemmas.Str.{IsUtf8-from_is_utf8, is_utf8-from_IsUtf8, chars_past_char}
 use Rattle.csvw_rows.specs.Grammar.{terminator_len}
-use Rattle.csvw_rows.specs.Drafts.{read_of, values_of, runs_on}
+use Rattle.csvw_rows.specs.Drafts.{values_of, runs_on}
 use Rattle.csvw_rows.specs.Scan.{Found}
 use Rattle.csvw_rows.proofs.DraftLemmas.{term_same, back_more, back_kept, no_chars}
 use Rattle.csvw_rows.proofs.draft.Draft.read.Goals as goal

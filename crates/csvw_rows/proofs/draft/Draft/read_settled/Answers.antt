@@ -1,5 +1,4 @@
-use Rattle.std.proofs.Common.{rules, ◌≡◌, ◌∙◌, ◌+◌, ◌-◌, List, ℕ, length, take, drop, chars, arith, refl, sym, ap, subst, Ok, Err}
-use Rattle.csvw_rows.specs.Drafts.{read_of}
+use Rattle.std.proofs.Common.{◌∙◌, List, ℕ, length, take, drop, chars, ap}
 use Rattle.std.proofs.lemmas.Str.{IsUtf8-from_is_utf8, IsCharBoundary-from_drop}
 use Rattle.csvw_rows.specs.Looks.{settled}
 use Rattle.csvw_rows.proofs.DraftRuns.{reads_goes}

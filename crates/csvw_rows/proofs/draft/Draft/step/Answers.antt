@@ -1,4 +1,4 @@
-use Rattle.std.proofs.Common.{rules, ◌≡◌, ◌∙◌, List, ℕ, length, Ok, refl, sym, ap}
+use Rattle.std.proofs.Common.{rules, ◌≡◌, ◌∙◌, length, Ok, sym}
 use Rattle.csvw_rows.specs.Drafts.{state_of, values_of, current_of}
 use Rattle.csvw_rows.proofs.DraftLemmas.{closed_current, text_gone, open_runs}
 use Rattle.csvw_rows.proofs.draft.Draft.step.Goals as goal

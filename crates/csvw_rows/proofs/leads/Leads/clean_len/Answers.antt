@@ -1,4 +1,4 @@
-use Rattle.std.proofs.Common.{◌≡◌, ◌≤◌, ◌∙◌, List, [], ℕ, length, take, chars, sym, ap, subst}
+use Rattle.std.proofs.Common.{◌≤◌, ◌∙◌, List, [], ℕ, length, take, chars, sym, ap, subst}
 use Rattle.std.specs.Prelude.{unwrap_or}
 use Rattle.std.proofs.lemmas.Str.{IsCharBoundary-start, IsUtf8-take, chars-nil}
 use Rattle.memchr.specs.Find.{IsFirstByte, is_byte2, is_byte3}

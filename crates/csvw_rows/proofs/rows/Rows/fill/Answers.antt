@@ -1,8 +1,5 @@
-use Rattle.std.proofs.Common.{◌≡◌, ◌∙◌, ℕ, List, map, sym, ap}
-use Rattle.std.specs.Prelude.{encode_utf8_all}
-use Rattle.csvw_rows.specs.Grammar.{trimmed}
+use Rattle.std.proofs.Common.{◌∙◌}
 use Rattle.csvw_rows.specs.SourceState.{text_items}
-use Rattle.csvw_rows.specs.Bounds.{fields_at, texts_apart}
 use Rattle.csvw_rows.proofs.BoundLemmas.{apart_bounds, on_ok}
 use Rattle.csvw_rows.proofs.rows.Rows.fill.Goals as goal
 

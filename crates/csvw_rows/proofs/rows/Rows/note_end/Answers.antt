@@ -1,4 +1,4 @@
-use Rattle.std.proofs.Common.{◌≡◌, ◌∙◌, List, ℕ, None, Some, length, sym, ap, subst}
+use Rattle.std.proofs.Common.{◌∙◌, List, ℕ, None, Some, length, sym, ap, subst}
 use Rattle.csvw_rows.specs.Notes.{IsLineEnd}
 use Rattle.csvw_rows.specs.SourceState.{rest_bytes}
 use Rattle.csvw_rows.proofs.DraftRows.{line_ends, none_ends, last_ends}

@@ -1,4 +1,4 @@
-use Rattle.std.proofs.Common.{◌≡◌, ◌+◌, ◌∙◌, sym, ap, refl, Bool, true, false, ◌&&◌, ◌==◌, Some, List, ℕ, map, length}
+use Rattle.std.proofs.Common.{◌≡◌, ◌+◌, ◌∙◌, sym, ap, refl, false, ◌&&◌, ◌==◌, Some, map, length}
 use Rattle.std.specs.List.{list_all}
 use Rattle.csvw_rows.specs.Files.{is_empty}
 use Rattle.csvw_rows.specs.Grammar.{trimmed}

@@ -1,4 +1,4 @@
-use Rattle.std.proofs.Common.{Bool, ◌≡◌, ◌∙◌, ◌≤◌, List, ℕ, length, drop, chars, true, refl, sym, ap, subst}
+use Rattle.std.proofs.Common.{Bool, ◌∙◌, ◌≤◌, List, ℕ, length, drop, chars, sym, ap, subst}
 use Rattle.std.specs.Str.{is_utf8}
 use Rattle.csvw_rows.specs.Drafts.{values_of, IsRowRead}
 use Rattle.csvw_rows.specs.SourceState.{rest_bytes, text_items}

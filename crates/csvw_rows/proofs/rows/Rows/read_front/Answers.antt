@@ -1,4 +1,4 @@
-use Rattle.std.proofs.Common.{◌≡◌, ◌≢◌, ◌∙◌, ◌<◌, ◌==◌, Bool, List, ℕ, [], length, chars, arith, sym, ap}
+use Rattle.std.proofs.Common.{◌∙◌, ◌==◌, List, ℕ, length, arith, sym, ap}
 use Rattle.std.proofs.lemmas.Str.{IsUtf8-from_is_utf8}
 use Rattle.csvw_rows.specs.Files.{is_note}
 use Rattle.csvw_rows.specs.SourceState.{rest_of, rest_bytes}

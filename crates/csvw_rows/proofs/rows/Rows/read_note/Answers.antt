@@ -1,4 +1,3 @@
-use Rattle.std.proofs.Common.{◌≡◌, ◌∙◌, List}
 use Rattle.csvw_rows.specs.SourceState.{rest_bytes}
 use Rattle.csvw_rows.proofs.NoteLemmas.{settled_noted}
 use Rattle.csvw_rows.proofs.rows.Rows.read_note.Goals as goal

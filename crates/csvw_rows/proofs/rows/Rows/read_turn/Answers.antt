@@ -1,6 +1,4 @@
-use Rattle.std.proofs.Common.{◌≡◌, ◌∙◌, ℕ, List, length, drop, chars, true, None, refl, sym, ap, subst}
-use Rattle.std.specs.Str.{is_utf8}
-use Rattle.csvw_rows.specs.RowsState.{AreFront}
+use Rattle.std.proofs.Common.{None, refl}
 use Rattle.csvw_rows.proofs.RowSteps.{less_unread, front_of}
 use Rattle.csvw_rows.proofs.States.{note_stays, is_done, is_stopped}
 use Rattle.csvw_rows.proofs.rows.Rows.read_turn.Goals as goal

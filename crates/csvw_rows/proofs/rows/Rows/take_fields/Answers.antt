@@ -1,4 +1,4 @@
-use Rattle.std.proofs.Common.{◌≡◌, ◌∙◌, ℕ, List, map, refl, sym, ap, subst, Some, Ok, Option}
+use Rattle.std.proofs.Common.{◌∙◌, ℕ, List, map, sym, ap, subst, Some, Ok}
 use Rattle.std.specs.Prelude.{encode_utf8_all}
 use Rattle.csvw_rows.specs.Grammar.{trimmed}
 use Rattle.csvw_rows.specs.RowsState.{HasRow}

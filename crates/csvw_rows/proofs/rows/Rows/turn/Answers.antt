@@ -1,4 +1,4 @@
-use Rattle.std.proofs.Common.{◌∙◌, None, Ok, Err, refl}
+use Rattle.std.proofs.Common.{None, Ok, refl}
 use Rattle.csvw_rows.proofs.RowSteps.{turns_from, refills_again, waits_turns, less_unread}
 use Rattle.csvw_rows.proofs.States.{note_stays}
 use Rattle.csvw_rows.specs.declared.next.Turn.TheVariants as turn

@@ -1,4 +1,4 @@
-use Rattle.std.proofs.Common.{◌≡◌, ◌∙◌, ℕ, List, Option, option_map, chars, nat_eq, sym, ap}
+use Rattle.std.proofs.Common.{◌∙◌, ℕ, List, Option, option_map, chars, nat_eq, sym, ap}
 use Rattle.std.specs.List.{starts_with}
 use Rattle.csvw_rows.specs.Looks.{begins_prefix}
 use Rattle.csvw_rows.proofs.NoteLemmas.{same_start}

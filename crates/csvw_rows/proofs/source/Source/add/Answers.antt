@@ -1,6 +1,5 @@
-use Rattle.std.proofs.Common.{rules, ◌≡◌, ◌++◌, ◌∙◌, Bool, true, ℕ, List, drop, chars, sym, ap, subst, if◌then◌else◌}
+use Rattle.std.proofs.Common.{rules, ◌++◌, ◌∙◌, ℕ, List, drop, ap, if◌then◌else◌}
 use Rattle.std.specs.Prelude.{is_ok}
-use Rattle.csvw_rows.specs.Files.{without_mark}
 use Rattle.csvw_rows.proofs.SourceSteps.{added_text, added_rest}
 use Rattle.csvw_rows.proofs.source.Source.add.Goals as goal
 

@@ -1,4 +1,4 @@
-use Rattle.std.proofs.Common.{rules, ◌≡◌, ◌∙◌, ℕ, List, [], ap, chars}
+use Rattle.std.proofs.Common.{rules, ◌∙◌, [], ap, chars}
 use Rattle.std.specs.Str.{is_utf8}
 use Rattle.std.proofs.lemmas.Str.{chars-nil, is_utf8-from_IsUtf8, IsUtf8-nil}
 use Rattle.csvw_rows.proofs.source.Source.new.Goals as goal

@@ -1,8 +1,6 @@
-use Rattle.std.proofs.Common.{◌≡◌, ◌∙◌, sym, ap, refl, Bool, true, not, ◌==◌, List, ℕ, length, drop, take, ◌++◌, if◌then◌else◌, chars}
+use Rattle.std.proofs.Common.{◌∙◌, ap, Bool, true, not, ◌==◌, List, ℕ, length, drop, take, ◌++◌, if◌then◌else◌, chars}
 use Rattle.std.specs.Prelude.{is_some}
 use Rattle.std.specs.Str.Lossy.{utf8_valid_len, utf8_error_len}
-use Rattle.csvw_rows.specs.Files.{without_mark}
-use Rattle.csvw_rows.specs.SourceState.{rest_of}
 use Rattle.csvw_rows.proofs.Utf8.{pushes}
 use Rattle.csvw_rows.proofs.source.Source.push.Goals as goal
 

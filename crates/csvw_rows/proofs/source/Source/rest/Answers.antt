@@ -1,4 +1,4 @@
-use Rattle.std.proofs.Common.{◌≡◌, ◌∙◌, ℕ, List, drop, sym, ap, subst}
+use Rattle.std.proofs.Common.{◌∙◌, drop, sym, ap, subst}
 use Rattle.std.specs.Prelude.{IsUtf8}
 use Rattle.std.proofs.lemmas.Str.{IsUtf8-from_is_utf8}
 use Rattle.csvw_rows.proofs.source.Source.rest.Goals as goal
