@@ -51,11 +51,7 @@ fn fill_cells(alloc: Global, row: &RawRow, cells: &mut [AnnCell]) -> Result<(), 
 }
 
 /// The cells of the row's fields, in the memory of others.
-fn refilled(
-    alloc: Global,
-    row: &RawRow,
-    cells: Vec<AnnCell>,
-) -> Result<Vec<AnnCell>, AllocError>
+fn refilled(alloc: Global, row: &RawRow, cells: Vec<AnnCell>) -> Result<Vec<AnnCell>, AllocError>
     ensures { IfOk result (λ v. v.items ≡ map cell_of (row_of row.now).fields) }
 {
     let mut cells = resized(cells, row.len())?;

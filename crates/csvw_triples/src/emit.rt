@@ -236,7 +236,11 @@ mod tests {
         for name in ["Annabel", "Bo"] {
             let row = row(alloc, &[name])?;
             assert_eq!(rt; row.cells.len(), columns.columns.len());
-            assert!(rt; emitter.emit_row(&columns, Mode::Minimal, 1, &row, &mut sink).is_ok());
+            assert!(rt;
+                emitter
+                    .emit_row(&columns, Mode::Minimal, 1, &row, &mut sink)
+                    .is_ok()
+            );
         }
         let triples = sink.triples();
         assert_eq!(rt; triples.len(), 2);
