@@ -127,7 +127,7 @@ fn give<S: TripleSink>(
     }
 }
 
-/// Gives each row that is complete. The rows share the memory of one row and of one triple.
+/// Gives each row that is complete. The rows share the memory of one row and of one literal.
 fn drain<S: TripleSink>(alloc: Global, table: &mut Table, sink: &mut S) -> Result<(), Halt>
     ensures same { IsSameTable table.old table.new }
     ensures ended { is_ended_of table.new.rows ≡ is_ended_of table.old.rows }
