@@ -1,7 +1,6 @@
 -- The cells of a row, one after the other.
 use Rattle.std.proofs.Common.{◌≡◌, ℕ, ◌+◌, zero, suc, List, [], ◌∷◌, ◌++◌, refl, ap, take, map, add-one, Some}
-use Rattle.std.specs.Prelude.{slice_get, Option}
-use Rattle.csvw_annotate.specs.declared.row.AnnCell.{AnnCell}
+use Rattle.std.specs.Prelude.{slice_get}
 
 take-suc-get : {X : Type 0} (xs : List X) (i : ℕ) (x : X) → slice_get xs i ≡ Some x → take (suc i) xs ≡ take i xs ++ x ∷ []
 take-suc-get [] i x h = cc
@@ -15,7 +14,3 @@ map-append f (x ∷ xs) ys = ap (λ zs. f x ∷ zs) (map-append f xs ys)
 -- one more cell
 pub map-more : {X Y : Type 0} (f : X → Y) (xs : List X) (i : ℕ) (x : X) (ys zs : List Y) → slice_get xs i ≡ Some x → ys ≡ map f (take i xs) → zs ≡ ys ++ f x ∷ [] → zs ≡ map f (take (i + 1) xs)
 map-more f xs i x ys zs h e g = rw (add-one, take-suc-get xs i x h, map-append f (take i xs) (x ∷ []), g, e) refl
-
--- the cell of a value
-abbrev pub cell_with : Option (List ℕ) → AnnCell
-cell_with value = record { value = value }

@@ -4,5 +4,5 @@
 mod annotating;
 mod row;
 
-pub use annotating::annotate;
+pub use annotating::{annotate, annotate_into};
 pub use row::{AnnCell, Row};

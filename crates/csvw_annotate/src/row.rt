@@ -1,6 +1,8 @@
 //! Annotated rows.
+ghost use Rattle.std.specs.Prelude.{◌≡◌, []};
 
 use csvw_text::{Seq, Text};
+use std::alloc::Global;
 
 /// A cell of a row (Model for Tabular Data, section 4.5).
 #[derive(Debug, Drop)]
@@ -18,4 +20,17 @@ pub struct Row {
     pub source: u64,
     /// Its cells, one for each column.
     pub cells: Seq<AnnCell>,
+}
+
+impl Row {
+    /// A row without cells. It takes no memory.
+    pub fn new(alloc: Global) -> Row
+        ensures { (result.number ≡ 0) × (result.source ≡ 0) × (result.cells ≡ []) }
+    {
+        Row {
+            number: 0,
+            source: 0,
+            cells: Seq::new(alloc),
+        }
+    }
 }

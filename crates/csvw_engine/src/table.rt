@@ -11,12 +11,12 @@ ghost use Rattle.csvw_rows.specs.RowsState.{is_ended_of};
 ghost use Rattle.csvw_engine.specs.Tables.{TableHolds, Steps, RowFits, IsSameTable, table_triples, GivesRow, Stands, Drains};
 
 use crate::halt::Halt;
-use csvw_annotate::{Row, annotate};
+use csvw_annotate::{Row, annotate_into};
 use csvw_columns::{Columns, HeaderRow, match_header};
 use csvw_iri::Base;
 use csvw_rows::{Dialect, RawRow, RowStop, Rows};
 use csvw_text::{Seq, Text};
-use csvw_triples::{Mode, TripleSink, emit_row};
+use csvw_triples::{Emitter, Mode, TripleSink};
 use std::alloc::{AllocError, Global};
 
 /// How many rows of all kinds a table has at most.
@@ -79,19 +79,20 @@ fn columns_of(alloc: Global, url: &Base, raw: &RawRow) -> Result<Columns, Halt>
     }
 }
 
-fn row_of(alloc: Global, columns: &Columns, raw: &RawRow) -> Result<Row, Halt>
+fn row_of(alloc: Global, columns: &Columns, raw: &RawRow, spare: Row) -> Result<Row, Halt>
     ensures row { IfOk result (λ row. annotated columns.now (row_of raw.now) ≡ Ok row) }
     ensures fits { IfOk result (λ row. RowFits (Some columns.now) row) }
     ensures halt { IfErr result (λ halt. HaltsAt (annotated columns.now (row_of raw.now)) (row_of raw.now).source halt) }
 {
-    match annotate(alloc, columns, raw) {
+    match annotate_into(alloc, columns, raw, spare) {
         Ok(row) => Ok(row),
         Err(stop) => Err(Halt::of_table_stop(raw.source(), stop)),
     }
 }
 
-/// Reads the next row of a table and annotates it. The loan of the reader ends here.
-pub(crate) fn next_row(alloc: Global, table: &mut Table) -> Result<Step, Halt>
+/// Reads the next row of a table and annotates it in the memory of a row that is no longer needed. The
+/// loan of the reader ends here.
+pub(crate) fn next_row(alloc: Global, table: &mut Table, spare: Row) -> Result<Step, Halt>
     ensures { Steps table.old table.new result }
 {
     match table.rows.next() {
@@ -100,7 +101,7 @@ pub(crate) fn next_row(alloc: Global, table: &mut Table) -> Result<Step, Halt>
                 table.columns = Some(columns_of(alloc, &table.url, &raw)?);
                 Ok(Step::Header)
             }
-            Some(columns) => Ok(Step::Row(row_of(alloc, columns, &raw)?)),
+            Some(columns) => Ok(Step::Row(row_of(alloc, columns, &raw, spare)?)),
         },
         Ok(None) => Ok(Step::Nothing),
         Err(stop) => Err(Halt::of_row_stop(table.rows.row(), stop)),
@@ -108,29 +109,39 @@ pub(crate) fn next_row(alloc: Global, table: &mut Table) -> Result<Step, Halt>
 }
 
 /// Puts the triples of a row.
-fn give<S: TripleSink>(alloc: Global, table: &Table, row: &Row, sink: &mut S) -> Result<(), Halt>
+fn give<S: TripleSink>(
+    emitter: &mut Emitter,
+    table: &Table,
+    row: &Row,
+    sink: &mut S,
+) -> Result<(), Halt>
     requires { RowFits table.now.columns row.now }
     ensures { GivesRow S.gains S.is_open S.failed (table_triples table.now.number table.now.columns (row.now ∷ [])) sink.old sink.new result }
 {
     match &table.columns {
         Some(columns) => {
-            emit_row(alloc, columns, Mode::Minimal, table.number, row, sink)?;
+            emitter.emit_row(columns, Mode::Minimal, table.number, row, sink)?;
             Ok(())
         }
         None => unreachable!(),
     }
 }
 
-/// Gives each row that is complete.
+/// Gives each row that is complete. The rows share the memory of one row and of one literal.
 fn drain<S: TripleSink>(alloc: Global, table: &mut Table, sink: &mut S) -> Result<(), Halt>
     ensures same { IsSameTable table.old table.new }
     ensures ended { is_ended_of table.new.rows ≡ is_ended_of table.old.rows }
     ensures drains { (d : TheDialect) (bytes : List ℕ) (ended : Bool) (start : S) → Stands S.gains S.is_open S.failed d start table.old bytes ended sink.old → Drains S.gains S.is_open S.failed d bytes ended start table.new sink.new result }
 {
+    let mut emitter = Emitter::new(alloc);
+    let mut spare = Row::new(alloc);
     loop {
-        match next_row(alloc, table)? {
-            Step::Row(row) => give(alloc, table, &row, sink)?,
-            Step::Header => {}
+        match next_row(alloc, table, spare)? {
+            Step::Row(row) => {
+                give(&mut emitter, table, &row, sink)?;
+                spare = row;
+            }
+            Step::Header => spare = Row::new(alloc),
             Step::Nothing => return Ok(()),
         }
     }

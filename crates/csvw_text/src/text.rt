@@ -74,6 +74,15 @@ impl Text {
         self.inner.push_str(text)
     }
 
+    /// Becomes a copy of a text, and keeps its memory; empty where there is none for the text.
+    pub fn refill(&mut self, text: &str) -> Result<(), AllocError>
+        ensures ok { OnOk result (self.new ≡ text.now) }
+        ensures err { OnErr result (self.new ≡ []) }
+    {
+        self.inner.clear();
+        self.push_str(text)
+    }
+
     /// The string that it holds. It takes no memory.
     pub fn into_string(self) -> String
         ensures { string_bytes result ≡ self }

@@ -8,17 +8,17 @@ use csvw_annotate::{AnnCell, Row};
 use csvw_columns::{Column, Columns};
 use csvw_text::Text;
 use std::alloc::{AllocError, Global};
+use std::mem;
 
 fn value_triple(
     alloc: Global,
     column: &Column,
     t: u32,
     number: u64,
-    value: &Text,
+    text: Text,
 ) -> Result<Triple, AllocError>
-    ensures { IfOk result (λ x. x ≡ value_triple t number column.now value.now) }
+    ensures { IfOk result (λ x. x ≡ value_triple t number column.now text) }
 {
-    let text = value.clone(alloc)?;
     let datatype = column.datatype.clone(alloc)?;
     Ok(Triple {
         s: Node::Blank(Origin::Subject(t, number)),
@@ -27,20 +27,35 @@ fn value_triple(
     })
 }
 
+/// The text of a triple's literal, whose memory can be used again.
+fn text_of(alloc: Global, triple: Triple) -> Text {
+    let Triple { s: _, p: _, o } = triple;
+    match o {
+        Term::Literal(lit) => lit.into_text(),
+        Term::Named(_) | Term::Blank(_) => Text::new(alloc),
+    }
+}
+
+/// Puts the triple of a value, whose text stands in the spare one meanwhile.
 fn emit_value<S: TripleSink>(
     alloc: Global,
     column: &Column,
     t: u32,
     number: u64,
     value: &Text,
+    spare: &mut Text,
     sink: &mut S,
 ) -> Result<(), SinkFault>
     ensures ok { OnOk result (S.gains sink.old (value_triple t number column.now value.now ∷ []) sink.new) }
     ensures err { OnErr result (S.gains sink.old [] sink.new) }
     ensures sink { Ends S.is_open S.failed sink.old sink.new result }
 {
-    let triple = value_triple(alloc, column, t, number, value)?;
-    sink.put(&triple)
+    let mut text = mem::replace(spare, Text::new(alloc));
+    text.refill(value.as_str())?;
+    let triple = value_triple(alloc, column, t, number, text)?;
+    let put = sink.put(&triple);
+    *spare = text_of(alloc, triple);
+    put
 }
 
 fn emit_cell<S: TripleSink>(
@@ -49,6 +64,7 @@ fn emit_cell<S: TripleSink>(
     t: u32,
     number: u64,
     cell: &AnnCell,
+    spare: &mut Text,
     sink: &mut S,
 ) -> Result<(), SinkFault>
     ensures ok { OnOk result (S.gains sink.old (cell_triples t number column.now cell.now) sink.new) }
@@ -56,7 +72,7 @@ fn emit_cell<S: TripleSink>(
     ensures sink { Ends S.is_open S.failed sink.old sink.new result }
 {
     match &cell.value {
-        Some(value) => emit_value(alloc, column, t, number, value, sink),
+        Some(value) => emit_value(alloc, column, t, number, value, spare, sink),
         None => Ok(()),
     }
 }
@@ -67,6 +83,7 @@ fn emit_cells<S: TripleSink>(
     t: u32,
     number: u64,
     cells: &[AnnCell],
+    spare: &mut Text,
     sink: &mut S,
 ) -> Result<(), SinkFault>
     requires { length cells.now ≡ length columns.now }
@@ -75,14 +92,59 @@ fn emit_cells<S: TripleSink>(
     ensures sink { Ends S.is_open S.failed sink.old sink.new result }
 {
     for i in 0..cells.len() {
-        emit_cell(alloc, &columns[i], t, number, &cells[i], sink)?;
+        emit_cell(alloc, &columns[i], t, number, &cells[i], spare, sink)?;
     }
     Ok(())
 }
 
-/// Puts the triples of a row of table `t`, numbered from 1, in the order of its cells (csv2rdf, section
-/// 4.2); in mode `Validate` none. After an error a front of them was taken, and the fault is one that
-/// the sink answered in this call, or `Memory`.
+/// Puts the triples of rows into sinks, and keeps the memory of one literal from row to row.
+#[derive(Drop)]
+pub struct Emitter {
+    alloc: Global,
+    spare: Text,
+}
+
+impl Emitter {
+    /// An emitter that keeps nothing yet. It takes no memory.
+    pub fn new(alloc: Global) -> Emitter {
+        Emitter {
+            alloc,
+            spare: Text::new(alloc),
+        }
+    }
+
+    /// Puts the triples of a row of table `t`, numbered from 1, in the order of its cells (csv2rdf,
+    /// section 4.2); in mode `Validate` none. After an error a front of them was taken, and the fault
+    /// is one that the sink answered in this call, or `Memory`.
+    pub fn emit_row<S: TripleSink>(
+        &mut self,
+        columns: &Columns,
+        mode: Mode,
+        t: u32,
+        row: &Row,
+        sink: &mut S,
+    ) -> Result<(), SinkFault>
+        requires { length row.now.cells ≡ length columns.now.columns }
+        ensures ok { OnOk result (S.gains sink.old (row_triples mode t columns.now row.now) sink.new) }
+        ensures err { OnErr result (FrontOf S.gains sink.old (row_triples mode t columns.now row.now) sink.new) }
+        ensures sink { Ends S.is_open S.failed sink.old sink.new result }
+    {
+        match mode {
+            Mode::Validate => Ok(()),
+            Mode::Minimal => emit_cells(
+                self.alloc,
+                columns.columns.as_slice(),
+                t,
+                row.number,
+                row.cells.as_slice(),
+                &mut self.spare,
+                sink,
+            ),
+        }
+    }
+}
+
+/// Puts the triples of one row, as `Emitter::emit_row` does.
 pub fn emit_row<S: TripleSink>(
     alloc: Global,
     columns: &Columns,
@@ -96,17 +158,7 @@ pub fn emit_row<S: TripleSink>(
     ensures err { OnErr result (FrontOf S.gains sink.old (row_triples mode t columns.now row.now) sink.new) }
     ensures sink { Ends S.is_open S.failed sink.old sink.new result }
 {
-    match mode {
-        Mode::Validate => Ok(()),
-        Mode::Minimal => emit_cells(
-            alloc,
-            columns.columns.as_slice(),
-            t,
-            row.number,
-            row.cells.as_slice(),
-            sink,
-        ),
-    }
+    Emitter::new(alloc).emit_row(columns, mode, t, row, sink)
 }
 
 #[cfg(test)]
@@ -172,6 +224,28 @@ mod tests {
         assert!(rt; emit_row(alloc, &columns, Mode::Validate, 1, &row, &mut sink).is_ok());
         assert_eq!(rt; sink.triples().len(), 2);
         assert!(rt; triple_copies(alloc, sink.triples())?);
+        Ok(())
+    }
+
+    #[test]
+    fn an_emitter_keeps_no_text_of_an_earlier_row(rt: HostRuntime) -> Result<(), Fail> {
+        let alloc = rt.alloc();
+        let columns = columns(alloc, &["name"])?;
+        let mut sink = VecSink::new(alloc);
+        let mut emitter = Emitter::new(alloc);
+        for name in ["Annabel", "Bo"] {
+            let row = row(alloc, &[name])?;
+            assert_eq!(rt; row.cells.len(), columns.columns.len());
+            assert!(rt;
+                emitter
+                    .emit_row(&columns, Mode::Minimal, 1, &row, &mut sink)
+                    .is_ok()
+            );
+        }
+        let triples = sink.triples();
+        assert_eq!(rt; triples.len(), 2);
+        assert!(rt; matches!(&triples[0].o, Term::Literal(lit) if lit.text.as_str() == "Annabel"));
+        assert!(rt; matches!(&triples[1].o, Term::Literal(lit) if lit.text.as_str() == "Bo"));
         Ok(())
     }
 

@@ -9,7 +9,7 @@ mod sink;
 mod term;
 mod vec_sink;
 
-pub use emit::emit_row;
+pub use emit::{Emitter, emit_row};
 pub use laws::{row_triples_are_row_graph, rows_triples_are_minimal};
 pub use mode::Mode;
 pub use origin::Origin;

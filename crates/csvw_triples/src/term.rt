@@ -65,6 +65,18 @@ impl Lit {
         }
     }
 
+    /// Its text. It takes no memory.
+    pub fn into_text(self) -> Text
+        ensures { result ≡ self.text }
+    {
+        let Lit {
+            text,
+            datatype: _,
+            lang: _,
+        } = self;
+        text
+    }
+
     /// An equal literal; `AllocError` where there is no memory.
     pub fn clone(&self, alloc: Global) -> Result<Lit, AllocError>
         ensures { IfOk result (λ l. l ≡ self.now) }
