@@ -1,6 +1,6 @@
 -- What clap's matches say of the words.
-use Rattle.std.proofs.Common.{◌≡◌, ◌∙◌, ℕ, List, [], refl, sym, ap, ap₂, codes, true, subst, Option, Some, None, Result, option_map, unwrap_or}
-use Rattle.clap.specs.Words.{App, FailsBy, HasMatchesOf, Row, Text, fault_of, first_of, first_value, found_of, is_simple, is_simple_and_free, rows_of, subcommand_name_of, subcommand_of, subcommand_rows_of}
+use Rattle.std.proofs.Common.{◌≡◌, ◌∙◌, List, [], refl, sym, ap, ap₂, codes, true, subst, Option, Some, None, Result, option_map, unwrap_or}
+use Rattle.clap.specs.Words.{App, FailsBy, HasMatchesOf, Row, Text, fault_of, first_value, found_of, is_simple, is_simple_and_free, rows_of, subcommand_name_of, subcommand_of, subcommand_rows_of}
 use Rattle.clap.specs.declared.error.Error.{Error}
 use Rattle.clap.specs.declared.parser.matches.ArgMatches.{ArgMatches}
 use Rattle.clap.proofs.OnLiterals.{clap_on_literals}

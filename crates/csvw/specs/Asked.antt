@@ -1,5 +1,5 @@
 -- What the words of a command line ask for, by clap's account of them.
-use Rattle.std.specs.Prelude.{◌≡◌, ℕ, List, [], Some, true, codes}
+use Rattle.std.specs.Prelude.{◌≡◌, List, [], Some, true, codes}
 use Rattle.clap.specs.Words.{App, Row, Rule, Text, fault_of, first_of, new_app, new_rule, subcommand_of, with_rule, with_subcommand}
 use Rattle.clap.specs.Simple.{new_shape}
 use Rattle.csvw.specs.declared.words.Request.{Request}

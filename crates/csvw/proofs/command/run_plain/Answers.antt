@@ -1,5 +1,5 @@
 -- The reader is that of the file, and what `plain` says of it holds.
-use Rattle.std.proofs.Common.{◌≡◌, Some, subst}
+use Rattle.std.proofs.Common.{Some}
 use Rattle.csvw.proofs.Running.{runs_early, runs_well}
 use Rattle.csvw.proofs.command.run_plain.Goals as goal
 

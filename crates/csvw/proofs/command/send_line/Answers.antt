@@ -1,5 +1,5 @@
 -- The line and its end, or a front of both.
-use Rattle.std.proofs.Common.{List, [], ◌∷◌, inr}
+use Rattle.std.proofs.Common.{[], ◌∷◌, inr}
 use Rattle.csvw_text.specs.Counted.{inner_of, failures_of}
 use Rattle.csvw.proofs.Sending.{cut_first, tells_second}
 use Rattle.csvw.proofs.command.send_line.Goals as goal

@@ -1,7 +1,7 @@
 -- The request, or the answer, is the one that clap's account of the words gives.
 use Rattle.std.proofs.Common.{rules, ap, codes, map, string_bytes, subst, sym, ◌≡◌, ◌∙◌, Some, Err}
 use Rattle.std.proofs.lemmas.Result.{err_from_is_err_and}
-use Rattle.clap.specs.Words.{FailsBy, app_of, fault_of, rows_of, found_of, subcommand_name_of}
+use Rattle.clap.specs.Words.{FailsBy, app_of, fault_of, subcommand_name_of}
 use Rattle.csvw.specs.Asked.{program_app}
 use Rattle.csvw.proofs.Asking.{asks_plain, known_kinds, known_rows}
 use Rattle.csvw.proofs.words.requested.Goals as goal
