@@ -1,6 +1,10 @@
 //! What one run of the program does, over any files and writers.
-ghost use Rattle.std.specs.Prelude.{◌≡◌, ◌≤◌};
+ghost use Rattle.std.specs.Prelude.{◌≡◌, ◌≤◌, ◌++◌, ◌∷◌, [], true, false, map, string_bytes};
+ghost use Rattle.clap.specs.Words.{kind_of};
+ghost use Rattle.csvw.specs.Answers.{Answers, GivesHelp, TellsStop};
+ghost use Rattle.csvw.specs.Commands.{Commands, RunsPlain};
 ghost use Rattle.csvw.specs.Status.{stop_status, outcome_status};
+ghost use Rattle.csvw.specs.Streams.{IsCut, Sends, Tells, stream_of};
 
 use crate::names::stop_line;
 use crate::opener::Opener;
@@ -23,8 +27,22 @@ const REFUSED: u8 = 3;
 /// A file or a stream failed, or there was no memory.
 const DEVICE: u8 = 4;
 
-fn send<W: Write>(w: &mut Counted<W>, text: &str) -> bool {
-    write_out(w, text.as_bytes()).is_ok() && w.flush().is_ok()
+/// Sends a text, and answers whether all of it went out.
+fn send<W: Write>(w: &mut Counted<W>, text: &str) -> bool
+    ensures sent { result ≡ true → Sends (stream_of W.contents w.old w.new) text.now }
+    ensures cut { result ≡ false → IsCut (stream_of W.contents w.old w.new) text.now }
+{
+    let Ok(()) = write_out(w, text.as_bytes()) else {
+        return false;
+    };
+    w.flush().is_ok()
+}
+
+/// Sends a line and its end, as far as the stream takes them.
+fn send_line<W: Write>(w: &mut Counted<W>, line: &str)
+    ensures { Tells (stream_of W.contents w.old w.new) (line.now ++ (10 ∷ [])) }
+{
+    let _ = send(w, line) && send(w, "\n");
 }
 
 fn stop_status(stop: &Stop) -> u8
@@ -38,13 +56,37 @@ fn stop_status(stop: &Stop) -> u8
 
 /// Tells a stop in one line. Where that fails, the status is all that is told.
 fn tell_stop<V: Write>(alloc: Global, stop: &Stop, err: &mut Counted<V>) -> u8
-    ensures { result ≡ stop_status stop.now }
+    ensures { TellsStop stop.now (stream_of V.contents err.old err.new) result }
 {
-    let _ = match stop_line(alloc, stop) {
-        Ok(line) => send(err, line.as_str()) && send(err, "\n"),
-        Err(_) => send(err, "csvw: Memory\n"),
-    };
+    match stop_line(alloc, stop) {
+        Ok(line) => send_line(err, line.as_str()),
+        Err(_) => send_line(err, "csvw: Memory"),
+    }
     stop_status(stop)
+}
+
+fn give_help<W: Write, V: Write>(
+    alloc: Global,
+    text: &str,
+    out: &mut Counted<W>,
+    err: &mut Counted<V>,
+) -> u8
+    ensures given { GivesHelp (stream_of W.contents out.old out.new) (stream_of V.contents err.old err.new) result }
+    ensures bound { result ≤ 4 }
+{
+    if send(out, text) {
+        SUCCESS
+    } else {
+        tell_stop(alloc, &Stop::Write, err)
+    }
+}
+
+fn tell_mistake<V: Write>(text: &str, err: &mut Counted<V>) -> u8
+    ensures told { Tells (stream_of V.contents err.old err.new) text.now }
+    ensures status { result ≡ 2 }
+{
+    let _ = send(err, text);
+    USAGE
 }
 
 /// Tells what `clap` answers in place of a request: help on `out`, a mistake on `err`.
@@ -54,22 +96,21 @@ fn tell_words<W: Write, V: Write>(
     out: &mut Counted<W>,
     err: &mut Counted<V>,
 ) -> u8
-    ensures { result ≤ 4 }
+    ensures answers { Answers (kind_of answer.now) (stream_of W.contents out.old out.new) (stream_of V.contents err.old err.new) result }
+    ensures bound { result ≤ 4 }
 {
-    if answer.kind() == ErrorKind::OutOfMemory {
-        return tell_stop(alloc, &Stop::Memory, err);
-    }
     let Ok(text) = answer.to_string(alloc) else {
         return tell_stop(alloc, &Stop::Memory, err);
     };
-    if answer.use_stderr() {
-        let _ = send(err, text.as_str());
-        return USAGE;
-    }
-    if send(out, text.as_str()) {
-        SUCCESS
-    } else {
-        tell_stop(alloc, &Stop::Write, err)
+    match answer.kind() {
+        ErrorKind::OutOfMemory => tell_stop(alloc, &Stop::Memory, err),
+        ErrorKind::DisplayHelp | ErrorKind::DisplayVersion => give_help(
+            alloc,
+            text.as_str(),
+            out,
+            err,
+        ),
+        _ => tell_mistake(text.as_str(), err),
     }
 }
 
@@ -87,7 +128,8 @@ fn run_plain<O: Opener, W: Write, V: Write>(
     out: &mut Counted<W>,
     err: &mut Counted<V>,
 ) -> u8
-    ensures { result ≤ 4 }
+    ensures runs { RunsPlain O.opens O.Reader.remaining url.now file.now opener.old opener.new (stream_of W.contents out.old out.new) (stream_of V.contents err.old err.new) result }
+    ensures bound { result ≤ 4 }
 {
     let Some(reader) = opener.open(file) else {
         return tell_stop(alloc, &Stop::Read, err);
@@ -110,7 +152,8 @@ pub fn command<O: Opener, W: Write, V: Write>(
     out: &mut Counted<W>,
     err: &mut Counted<V>,
 ) -> u8
-    ensures { result ≤ 4 }
+    ensures commands { Commands O.opens O.Reader.remaining (map string_bytes words.now) opener.old opener.new (stream_of W.contents out.old out.new) (stream_of V.contents err.old err.new) result }
+    ensures bound { result ≤ 4 }
 {
     match requested(alloc, words) {
         Ok(Request::Plain { url, file }) => run_plain(alloc, url, file, opener, out, err),

@@ -1,5 +1,5 @@
 //! Where the program's files come from.
-ghost use Rattle.std.specs.Prelude.{◌≡◌};
+ghost use Rattle.std.specs.Prelude.{◌≡◌, ℕ, List, Option};
 
 use std::fs;
 use std::io::Read;
@@ -9,8 +9,12 @@ use std::rt::Files;
 pub trait Opener {
     type Reader: Read + Drop;
 
+    // What a path gives, and what it leaves.
+    ghost opens: { Self → List ℕ → Option Self.Reader → Self → Type 0 };
+
     /// The file of this path, or `None` where it can't be opened.
-    fn open(&mut self, path: &str) -> Option<Self::Reader>;
+    fn open(&mut self, path: &str) -> Option<Self::Reader>
+        ensures { opens self.old path.now result self.new };
 }
 
 /// Opens the files of a file system.
@@ -30,6 +34,9 @@ impl<'a, R: Files> FileOpener<'a, R> {
 
 impl<'a, R: Files> Opener for FileOpener<'a, R> {
     type Reader = R::File;
+
+    // `fs::open` says nothing of the file that a path gives.
+    ghost opens = { λ old _ _ new. new.rt ≡ old.rt };
 
     fn open(&mut self, path: &str) -> Option<R::File> {
         fs::open(self.rt, path).ok()

@@ -1,4 +1,5 @@
 //! Runs of the program over files in memory.
+ghost use Rattle.std.specs.Prelude.{◌≡◌, IfSome};
 
 use crate::command::command;
 use crate::opener::Opener;
@@ -14,6 +15,8 @@ struct OneFile<'a> {
 
 impl<'a> Opener for OneFile<'a> {
     type Reader = &'a [u8];
+
+    ghost opens = { λ old _ opened _. IfSome opened (λ reader. reader ≡ old.bytes) };
 
     fn open(&mut self, path: &str) -> Option<&'a [u8]> {
         if path == "missing.csv" {

@@ -1,0 +1,78 @@
+-- What one run of the program does.
+use Rattle.std.specs.Prelude.{◌≡◌, ◌⊎◌, ℕ, List, [], Option, None, Some}
+use Rattle.std.specs.Io.KnownBytes.{Keeps}
+use Rattle.clap.specs.Words.{HasKind, Text, fault_of, kind_of}
+use Rattle.clap.specs.declared.error.Error.{Error}
+use Rattle.csvw_engine.specs.declared.outcome.Outcome.{Outcome}
+use Rattle.csvw_engine.specs.declared.stop.Stop.{Stop}
+use Rattle.csvw_engine.specs.declared.stop.Stop.TheVariants as stop
+use Rattle.csvw_engine.specs.Plain.{Run, AtUrl, Converts, PlainStops}
+use Rattle.csvw.specs.Answers.{Answers, TellsStop}
+use Rattle.csvw.specs.Asked.{AsksPlain, program_app}
+use Rattle.csvw.specs.Status.{outcome_status}
+use Rattle.csvw.specs.Streams.{Stream, IsIdle}
+
+-- the table at this URL was converted, and nothing told
+pub record EndsWell (url : Text) (run : Run) (err : Stream) (status : ℕ) : Type 0 where
+  pub outcome : Outcome
+  pub no_faults : outcome.faults ≡ []
+  pub converts : AtUrl url (λ base. Converts base run)
+  pub told_nothing : Keeps err.held err.holds
+  pub status_is : status ≡ outcome_status outcome
+
+-- the run stopped, and what `err` held and how often it had failed by then; the stop was told behind that
+pub record EndsEarly (url : Text) (run : Run) (err : Stream) (status : ℕ) : Type 0 where
+  pub reason : Stop
+  pub held : Option (List ℕ)
+  pub failures : ℕ
+  pub told_nothing : Keeps err.held held
+  pub stops : PlainStops url run err.failures failures reason
+  pub told : TellsStop reason (record err { held = held; failures = failures }) status
+
+-- a run that begins with these bytes to read, at a reader that hasn't failed
+abbrev pub run_from : Option (List ℕ) → Option (List ℕ) → ℕ → Stream → Run
+run_from unread left failed out = record {
+  unread = unread;
+  left = left;
+  input_failures = 0;
+  input_failed = failed;
+  held = out.held;
+  holds = out.holds;
+  out_failures = out.failures;
+  out_failed = out.failed;
+}
+
+pub record RunsOver (url : Text) (unread : Option (List ℕ)) (out err : Stream) (status : ℕ) : Type 0 where
+  pub left : Option (List ℕ)
+  pub failed : ℕ
+  pub ends : EndsWell url (run_from unread left failed out) err status ⊎ EndsEarly url (run_from unread left failed out) err status
+
+-- what follows from the reader that a file's path gave
+abbrev pub RunsOn : {R : Type 0} → (R → Option (List ℕ)) → Text → Stream → Stream → ℕ → Option R → Type 0
+RunsOn remaining url out err status None = IsIdle out × TellsStop stop.Read err status
+RunsOn remaining url out err status (Some reader) = RunsOver url (remaining reader) out err status
+
+-- the file is opened, once, and its reader read as the table at this URL
+pub record RunsPlain {O R : Type 0} (opens : O → Text → Option R → O → Type 0) (remaining : R → Option (List ℕ)) (url file : Text) (old new : O) (out err : Stream) (status : ℕ) : Type 0 where
+  pub opened : Option R
+  pub is_opened : opens old file opened new
+  pub runs : RunsOn remaining url out err status opened
+
+-- the words ask for a run of `plain`, and it is done
+pub record RunsAsked {O R : Type 0} (opens : O → Text → Option R → O → Type 0) (remaining : R → Option (List ℕ)) (words : List Text) (old new : O) (out err : Stream) (status : ℕ) : Type 0 where
+  pub url : Text
+  pub file : Text
+  pub asks : AsksPlain words url file
+  pub runs : RunsPlain opens remaining url file old new out err status
+
+-- the words ask for no run, and they are answered; no file is opened
+pub record AnswersWords {O : Type 0} (words : List Text) (old new : O) (out err : Stream) (status : ℕ) : Type 0 where
+  pub answer : Error
+  pub has_kind : HasKind (fault_of program_app words) answer
+  pub opens_none : new ≡ old
+  pub answers : Answers (kind_of answer) out err status
+
+-- What one run does with its words, its files and its two streams, and the status that it ends with.
+abbrev pub Commands : {O R : Type 0} → (O → Text → Option R → O → Type 0) → (R → Option (List ℕ)) → List Text → O → O → Stream → Stream → ℕ → Type 0
+Commands opens remaining words old new out err status =
+    RunsAsked opens remaining words old new out err status ⊎ AnswersWords words old new out err status
