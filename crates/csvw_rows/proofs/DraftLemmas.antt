@@ -203,6 +203,10 @@ pub no_chars : (l : List ℕ) → length l ≡ 0 → chars l ≡ []
 no_chars [] e = chars-nil
 no_chars (x ∷ xs) e = absurd (omega (arith, e))
 
+pub some_bytes : (l : List ℕ) → 0 < length (chars l) → 0 < length l
+some_bytes [] h = absurd (omega (arith, h, ap length chars-nil))
+some_bytes (x ∷ xs) h = omega arith
+
 pub take_whole : (l : List ℕ) → take (length l) l ≡ l
 take_whole l = grind (arith, common_steps)
 

@@ -1,5 +1,5 @@
 -- A text that is read on from where it was left.
-use Rattle.std.proofs.Common.{◌≡◌, ◌∙◌, ℕ, zero, suc, ◌+◌, ◌≤◌, Bool, true, false, ◌&&◌, if◌then◌else◌, List, [], ◌∷◌, ◌++◌, length, take, drop, refl, sym, ap, subst, arith, append_assoc, append-nil, length-append, length-drop, length-take, inl, inr, chars}
+use Rattle.std.proofs.Common.{◌≡◌, ◌∙◌, ℕ, zero, suc, ◌+◌, ◌<◌, ◌≤◌, Bool, true, false, ◌&&◌, if◌then◌else◌, List, [], ◌∷◌, ◌++◌, length, take, drop, refl, sym, ap, subst, arith, append_assoc, append-nil, length-append, length-drop, length-take, inl, inr, chars}
 use Rattle.std.specs.Prelude.{IsUtf8, encode_utf8_all, Result, Ok, Err, IfOk}
 use Rattle.std.specs.Str.{is_utf8}
 use Rattle.std.proofs.lemmas.Grind.{common_steps}
@@ -11,15 +11,17 @@ use Rattle.csvw_rows.specs.declared.draft.Draft.{Draft}
 use Rattle.csvw_rows.specs.declared.draft.Reading.{Reading}
 use Rattle.csvw_rows.specs.declared.draft.Reading.TheVariants as reading
 use Rattle.csvw_rows.specs.declared.scan.State.TheVariants.{Start}
-use Rattle.csvw_rows.specs.Drafts.{read_of, state_of, values_of, current_of, runs_on, NoneArises, IsFresh, IsDraft, IsEnded, IsOpen, IsRowRead, Reads, GoesOn}
+use Rattle.csvw_rows.specs.declared.stop.RowStop.{RowStop}
+use Rattle.csvw_rows.specs.declared.stop.RowStop.TheVariants.{UnclosedQuote}
+use Rattle.csvw_rows.specs.Drafts.{read_of, state_of, values_of, current_of, runs_on, NoneArises, IsFresh, IsDraft, IsEnded, IsBrokenOff, IsOpen, IsRowRead, IsBrokenThere, IsLeftOpen, Reads, GoesOn}
 use Rattle.csvw_rows.specs.Grammar.{terminator_len}
 use Rattle.csvw_rows.specs.Looks.{settled, unsettled}
-use Rattle.csvw_rows.specs.Scan.{Found, Unfinished, run, finish, is_quoted}
+use Rattle.csvw_rows.specs.Scan.{Found, Broken, Unfinished, run, finish, is_quoted}
 use Rattle.csvw_rows.proofs.Ascii.{split_chars}
 use Rattle.csvw_rows.proofs.Continue.{unsettled_is}
-use Rattle.csvw_rows.proofs.DraftLemmas.{front_text, text_gone}
+use Rattle.csvw_rows.proofs.DraftLemmas.{front_text, text_gone, some_bytes}
 use Rattle.csvw_rows.proofs.Joins.{Clear, goes_on, run_join, settled_all, settled_clear}
-use Rattle.csvw_rows.proofs.LineLemmas.{unquoted_ends}
+use Rattle.csvw_rows.proofs.LineLemmas.{unquoted_ends, broken_within}
 use Rattle.csvw_rows.proofs.Lookahead.{crlf_again}
 
 -- a terminator is known by the next character
@@ -187,6 +189,12 @@ module _ (d : Dialect) (s : Draft) (rest text : List ℕ) (ur : IsUtf8 rest) (ut
   taken : chars (take (n + length text) rest) ≡ before ++ chars text
   taken = ap chars (pieces n (length text) rest i.within) ∙ chars-append (take n rest) (take (length text) behind) (front_text rest n ur i.within i.back) ∙ ap (λ l. before ++ chars l) (sym front)
 
+  all_settled : before ++ chars text ≡ settled d (chars rest)
+  all_settled = ap (λ l. before ++ l) same ∙ sym (settled_behind d before (chars behind) (λ more. clear_of d before (chars behind ++ more) (i.clear more))) ∙ ap (settled d) (sym split)
+
+  pieces_all : chars rest ≡ before ++ (chars text ++ chars tail)
+  pieces_all = split ∙ ap (λ l. before ++ l) (ap chars whole ∙ chars-append text tail ut)
+
   pub reads_open : (t : Draft) → read_of t ≡ n + length text → runs_on d s (chars text) ≡ Unfinished (state_of t) (values_of t) (current_of t) → IsOpen d t rest
   reads_open t r e =
       let gone : drop (read_of t) rest ≡ tail = ap (λ k. drop k rest) r ∙ further (length text) (omega arith) ∙ ap (λ l. l ++ tail) (none (length text) text refl) in
@@ -200,7 +208,7 @@ module _ (d : Dialect) (s : Draft) (rest text : List ℕ) (ur : IsUtf8 rest) (ut
               (clear_join d before (chars text) (unsettled d (chars behind) ++ more) (clears more) clear_text (clear_tail more))));
           runs = ap (run d Start [] []) here ∙ run_join d Start [] [] before (chars text) clear_text ∙ ap (λ o. goes_on d o (chars text)) i.runs ∙ e;
         };
-        all = here ∙ ap (λ l. before ++ l) same ∙ sym (settled_behind d before (chars behind) (λ more. clear_of d before (chars behind ++ more) (i.clear more))) ∙ ap (settled d) (sym split);
+        all = here ∙ all_settled;
       }
     where
       none : (k : ℕ) (l : List ℕ) → k ≡ length l → drop k l ≡ []
@@ -214,7 +222,7 @@ module _ (d : Dialect) (s : Draft) (rest text : List ℕ) (ur : IsUtf8 rest) (ut
       record {
         within = (let r = k.read in let l = long.1 in omega (arith, r, l, w));
         back = ap is_utf8 gone ∙ is_utf8-from_IsUtf8 (drop len text ++ tail) (IsUtf8-append (drop len text) tail uk utail);
-        found = ap (λ o. finish o false) (ap (run d Start [] []) (split ∙ ap (λ l. before ++ l) (ap chars whole ∙ chars-append text tail ut))
+        found = ap (λ o. finish o false) (ap (run d Start [] []) pieces_all
             ∙ run_join d Start [] [] before (chars text ++ chars tail) (subst (λ (l : List ℕ). Clear d before (chars text ++ l)) (append-nil (unsettled d (chars behind)) ∙ sym left) (clears []))
             ∙ ap (λ o. goes_on d o (chars text ++ chars tail)) i.runs
             ∙ run_join d (state_of s) (values_of s) (current_of s) (chars text) (chars tail) (subst (Clear d (chars text)) (append-nil (unsettled d (chars behind)) ∙ sym left) (clear_tail []))
@@ -222,11 +230,39 @@ module _ (d : Dialect) (s : Draft) (rest text : List ℕ) (ur : IsUtf8 rest) (ut
             ∙ ap (Found (values_of t)) (sym (ap chars gone ∙ chars-append (drop len text) tail uk)));
       }
 
+  pub reads_broken : (t : Draft) (stop : RowStop) (len : ℕ) → IsBrokenOff d s t text stop len → IsBrokenThere d false t rest stop
+  reads_broken t stop len k =
+      let w = k.within in
+      let r = k.read in
+      let l = long.1 in
+      let gone : drop (read_of t) rest ≡ drop len text ++ tail = ap (λ k. drop k rest) k.read ∙ further len w in
+      let uk = IsUtf8-from_is_utf8 (drop len text) k.back in
+      let left_chars : chars (drop (read_of t) rest) ≡ chars (drop len text) ++ chars tail = ap chars gone ∙ chars-append (drop len text) tail uk in
+      let some = (broken_within d (state_of s) (values_of s) (current_of s) (chars text) stop (chars (drop len text)) k.broken).1 in
+      let more = some_bytes (drop len text) some in
+      let there = is_utf8-from_IsUtf8 (drop len text ++ tail) (IsUtf8-append (drop len text) tail uk utail) in
+      let back : is_utf8 (drop (read_of t) rest) ≡ true = ap is_utf8 gone ∙ there in
+      let inside : read_of t < length rest = omega (arith, more, w, r, l, length-drop len text) in
+      let taken_chars : chars rest ≡ chars (take (read_of t) rest) ++ chars (drop (read_of t) rest) = split_chars rest (read_of t) (front_text rest (read_of t) ur (omega (arith, inside)) back) in
+      record {
+        within = inside;
+        back = back;
+        broken = ap (run d Start [] []) pieces_all
+            ∙ run_join d Start [] [] before (chars text ++ chars tail) (subst (λ (l : List ℕ). Clear d before (chars text ++ l)) (append-nil (unsettled d (chars behind)) ∙ sym left) (clears []))
+            ∙ ap (λ o. goes_on d o (chars text ++ chars tail)) i.runs
+            ∙ run_join d (state_of s) (values_of s) (current_of s) (chars text) (chars tail) (subst (Clear d (chars text)) (append-nil (unsettled d (chars behind)) ∙ sym left) (clear_tail []))
+            ∙ ap (λ o. goes_on d o (chars tail)) k.broken
+            ∙ ap (Broken stop) (sym left_chars);
+        settled = λ e.
+            omega (arith, some, ap length taken_chars, length-append (chars (take (read_of t) rest)) (chars (drop (read_of t) rest)), ap length left_chars, length-append (chars (drop len text)) (chars tail),
+            ap length pieces_all, length-append before (chars text ++ chars tail), length-append (chars text) (chars tail), ap length all_settled, length-append before (chars text));
+      }
+
 pub reads_goes : {E : Type 0} (d : Dialect) (s t : Draft) (rest text : List ℕ) (r : Result Reading E) → IsUtf8 rest → IsUtf8 text → IsDraft d s rest → text ≡ take (length text) (drop (read_of s) rest)
     → chars text ≡ settled d (chars (drop (read_of s) rest)) → IfOk r (Reads d s t text) → IfOk r (GoesOn d false t rest)
 reads_goes d s t rest text (Ok reading.Unfinished) ur ut i front same e = (refl, reads_open d s rest text ur ut i front same t e.0 e.1)
 reads_goes d s t rest text (Ok reading.Ended) ur ut i front same e = reads_row d s rest text ur ut i front same t e.0 e.1
-reads_goes d s t rest text (Ok reading.Broken) ur ut i front same e = tt
+reads_goes d s t rest text (Ok (reading.Broken stop)) ur ut i front same e = inl (reads_broken d s rest text ur ut i front same t stop e.0 e.1)
 reads_goes d s t rest text (Err x) ur ut i front same e = e
 
 -- the last text, of which all was read
@@ -266,3 +302,18 @@ module _ (d : Dialect) (s : Draft) (rest : List ℕ) (ur : IsUtf8 rest) (i : IsD
     where
       none : (l : List ℕ) (n : ℕ) → n ≡ length l → drop n l ≡ []
       none l n e = grind (arith, common_steps)
+
+  pub last_broken : (t : Draft) (stop : RowStop) (len : ℕ) → IsBrokenOff d s t all_behind stop len → IsBrokenThere d true t rest stop
+  last_broken t stop len k =
+      let gone : drop (read_of t) rest ≡ drop len all_behind = ap (λ n. drop n rest) k.read ∙ sym (drop-drop len (read_of s) rest) in
+      let more = some_bytes (drop len all_behind) ((broken_within d (state_of s) (values_of s) (current_of s) (chars all_behind) stop (chars (drop len all_behind)) k.broken).1) in
+      record {
+        within = (let r = k.read in let w = k.within in let l = all_long in omega (arith, r, w, l, more, length-drop len all_behind));
+        back = ap is_utf8 gone ∙ k.back;
+        broken = runs_all ∙ k.broken ∙ ap (λ l. Broken stop (chars l)) (sym gone);
+        settled = λ e. absurd cc;
+      }
+
+  pub last_left : (t : Draft) → read_of t ≡ read_of s + length all_behind → runs_on d s (chars all_behind) ≡ Unfinished (state_of t) (values_of t) (current_of t) → is_quoted (state_of t) ≡ true
+      → IsLeftOpen d true t rest UnclosedQuote
+  last_left t r e q = record { ended = refl; all = (let l = all_long in omega (arith, r, l)); name = refl; runs = runs_all ∙ e; quoted = q }

@@ -27,6 +27,9 @@ pub mod DraftRuns
 pub mod TrimLemmas
 pub mod NoteLemmas
 pub mod DraftRows
+pub mod ShownBytes
+pub mod OpenFronts
+pub mod Starts
 pub mod DecodeSteps
 pub mod SourceSteps
 pub mod Windows

@@ -6,9 +6,8 @@ use Rattle.csvw_rows.specs.declared.rows.Rows.{Rows}
 use Rattle.csvw_rows.specs.declared.stop.RowStop.{RowStop}
 use Rattle.csvw_rows.specs.declared.next.Turn.{Turn}
 use Rattle.csvw_rows.specs.declared.next.Turn.TheVariants as turn
-use Rattle.csvw_rows.specs.declared.next.Next.TheVariants as next
-use Rattle.csvw_rows.specs.Nexts.{NextGives, TakesRow, is_last}
-use Rattle.csvw_rows.proofs.States.{is_done}
+use Rattle.csvw_rows.specs.Nexts.{Waits, StopGives, TakesRow, is_last}
+use Rattle.csvw_rows.proofs.States.{is_done, is_stopped}
 use Rattle.csvw_rows.specs.SourceState.{rest_bytes, rest_of, Decodes}
 use Rattle.csvw_rows.specs.RowsState.{HasRead, Stays, Turns, Refills, HasRow, AreFront, after_of, unread, Passes}
 
@@ -86,5 +85,9 @@ refills_again s t u r q = record {
 }
 
 -- no row is complete where it was
-pub waits_turns : (s t : Rows) → Refills s t → NextGives (after_of t) t.rules.dialect t.max_rows t.row (rest_of t.source) (Ok next.Waits) → Turns s t (Ok turn.Waits)
+pub waits_turns : (s t : Rows) → Refills s t → Waits (after_of t) t.rules.dialect t.max_rows t.row (rest_of t.source) → Turns s t (Ok turn.Waits)
 waits_turns s t r g = turns_from s t t (Ok turn.Waits) r (refl, (λ d max bytes ended given h. h), is_done t g)
+
+-- a stop stands where it was
+pub stop_turns : (s t : Rows) (stop : RowStop) → Refills s t → StopGives (after_of t) t.rules.dialect t.max_rows t.row (rest_of t.source) stop → Turns s t (Err stop)
+stop_turns s t stop r g = turns_from s t t (Err stop) r (refl, is_stopped t stop g)

@@ -11,13 +11,12 @@ use Rattle.csvw_rows.specs.declared.source.Source.{Source}
 use Rattle.csvw_rows.specs.declared.stop.RowStop.{RowStop}
 use Rattle.csvw_rows.specs.declared.stop.RowStop.TheVariants.{Memory, NotUtf8, RowTooLong, BadQuote, TextAfterQuote, UnclosedQuote, TooManyRows}
 use Rattle.csvw_rows.specs.declared.next.After.TheVariants.{More, Nothing, NoText}
-use Rattle.csvw_rows.specs.declared.next.Next.TheVariants as next
 use Rattle.csvw_rows.specs.Lawful.{IsLawful}
 use Rattle.csvw_rows.specs.Files.{AreRows, EndsOpen, IsWhole, content, is_text, Body, remaining, remaining_fields, without_mark, is_empty, given as given_row}
 use Rattle.csvw_rows.specs.RowValue.{Given}
 use Rattle.csvw_rows.specs.Parts.{Goes, NoRow}
 use Rattle.csvw_rows.specs.Stops.{StopOf, Begins}
-use Rattle.csvw_rows.specs.Nexts.{is_last, StandsThere, TakesRow, StopsHere, StopGives, NextGives}
+use Rattle.csvw_rows.specs.Nexts.{is_last, StandsThere, TakesRow, StopsHere, StopGives, Waits}
 use Rattle.csvw_rows.specs.SourceState.{Decodes, rest_of, is_bad_of, pending_of, begun_of, Pushes}
 use Rattle.csvw_rows.specs.RowsState.{fields_of, Holds, HasRead, HasGiven, NoStop, Stays, IsDone, IsStopped, Passes, after_of, reading_of, last_of, Gives as RowGives}
 use Rattle.csvw_rows.specs.Grammar.{trimmed}
@@ -98,7 +97,7 @@ module _ (s : Rows) (d : Dialect) (max : ℕ) (bytes : List ℕ) (ended : Bool) 
           (subst (λ (n : ℕ). StandsThere (is_last (after_of s)) s.rules.dialect n s.row (rest_of s.source) len r.row) h.max_is r.stands)
 
   -- nothing is complete
-  pub done : NextGives (after_of s) s.rules.dialect s.max_rows s.row (rest_of s.source) (Ok next.Waits) → HasGiven d max bytes ended given × NoStop d max bytes ended × (ended ≡ true → IsWhole d max bytes)
+  pub done : Waits (after_of s) s.rules.dialect s.max_rows s.row (rest_of s.source) → HasGiven d max bytes ended given × NoStop d max bytes ended × (ended ≡ true → IsWhole d max bytes)
   done (text, goes, none, last) =
       let a = after_text (is_bad_of s.source) s.ended (not (length (pending_of s.source) == 0)) text in
       let at_end : ended ≡ true → (is_text bytes ≡ true) × (rest_of s.source ≡ []) =
@@ -241,7 +240,7 @@ row_gives s t len values p more r texts full d max bytes ended given h =
     passed s d max bytes ended given h t len (Some fields) p r (given ++ last_of t ∷ []) (sym (body.1 ∙ count))
     (ap (λ l. l ++ last_of t ∷ []) h.given_is ∙ ap (λ g. Body d h.rows ++ g ∷ []) (sym same) ∙ sym body.0)
 
-pub is_done : (s : Rows) → NextGives (after_of s) s.rules.dialect s.max_rows s.row (rest_of s.source) (Ok next.Waits) → IsDone s
+pub is_done : (s : Rows) → Waits (after_of s) s.rules.dialect s.max_rows s.row (rest_of s.source) → IsDone s
 is_done s n d max bytes ended given h = done s d max bytes ended given h n
 
 pub is_stopped : (s : Rows) (e : RowStop) → StopGives (after_of s) s.rules.dialect s.max_rows s.row (rest_of s.source) e → IsStopped s e (reading_of s)

@@ -1,11 +1,12 @@
 -- What stands at the front of the characters that no row has yet.
-use Rattle.std.specs.Prelude.{◌≡◌, ◌≢◌, ◌⊎◌, ℕ, ◌+◌, ◌<◌, ◌≤◌, Bool, true, false, List, length, take, drop, map, Option, Some, None, slice_index}
+use Rattle.std.specs.Prelude.{◌≡◌, ◌≢◌, ◌⊎◌, ℕ, ◌+◌, ◌<◌, ◌≤◌, Bool, true, false, List, length, take, drop, map, Option, Some, None, slice_index, chars}
 use Rattle.csvw_rows.specs.declared.dialect.Dialect.{Dialect}
 use Rattle.csvw_rows.specs.declared.stop.RowStop.{RowStop}
 use Rattle.csvw_rows.specs.declared.line.Line.{Line}
 use Rattle.csvw_rows.specs.declared.line.Line.TheVariants as line
 use Rattle.csvw_rows.specs.Grammar.{trimmed}
 use Rattle.csvw_rows.specs.Files.{prefix_of}
+use Rattle.csvw_rows.specs.Lengths.{byte_len}
 use Rattle.csvw_rows.specs.Looks.{next_row}
 use Rattle.csvw_rows.specs.Parts.{Continues, Breaks}
 use Rattle.csvw_rows.specs.Stops.{IsBroken}
@@ -32,17 +33,27 @@ IsPrefixLen (Some prefix) text len = IsCommon prefix text len
 abbrev pub IsCr : Dialect → List ℕ → ℕ → Type 0
 IsCr d text at = (d.line_terminators.crlf ≡ true) × (slice_index text at ≡ 13)
 
+-- the last character that it takes to see what stands at a place: the next one where it is a CR
+abbrev pub IsShownAt : Dialect → List ℕ → ℕ → ℕ → Type 0
+IsShownAt d text at here = ((here ≡ at + 1) × IsCr d text at) ⊎ ((here ≡ at) × (IsCr d text at → ⊥))
+
 -- how many characters show that a rule is broken at a place: that character, the next where it is a CR, and those by which
 -- the row is no comment
 pub record IsShown (d : Dialect) (text : List ℕ) (at len : ℕ) : Type 0 where
   pub here : ℕ
   pub common : ℕ
-  pub is_here : ((here ≡ at + 1) × IsCr d text at) ⊎ ((here ≡ at) × (IsCr d text at → ⊥))
+  pub is_here : IsShownAt d text at here
   pub is_common : IsPrefixLen (prefix_of d) text common
   pub within : len ≤ length text
   pub past_here : (here < len) ⊎ (len ≡ length text)
   pub past_common : (common < len) ⊎ (len ≡ length text)
   pub least : (len ≤ here + 1) ⊎ (len ≤ common + 1)
+
+-- so many bytes of the text show that a rule is broken at a byte of it
+pub record IsShownLen (d : Dialect) (rest : List ℕ) (at len : ℕ) : Type 0 where
+  pub count : ℕ
+  pub shown : IsShown d (chars rest) (length (chars (take at rest))) count
+  pub bytes : byte_len (take count (chars rest)) ≡ len
 
 -- a row of so many characters is found
 pub record IsFound (whole : Bool) (d : Dialect) (i : ℕ) (text : List ℕ) (len : ℕ) (fields : Option (List (List ℕ))) : Type 0 where

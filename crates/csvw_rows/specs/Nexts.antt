@@ -54,9 +54,13 @@ StopGives after d max i text TextAfterQuote = StopsHere (is_last after) d max i 
 StopGives after d max i text UnclosedQuote = StopsHere (is_last after) d max i text UnclosedQuote
 StopGives after d max i text TooManyRows = StopsHere (is_last after) d max i text TooManyRows
 
+-- no row is complete
+abbrev pub Waits : After → Dialect → ℕ → ℕ → List ℕ → Type 0
+Waits after d max i text = (after ≢ NoText) × Goes d max i text × NoRow d max i text × (after ≡ Nothing → text ≡ [])
+
 abbrev pub NextGives : After → Dialect → ℕ → ℕ → List ℕ → Result Next RowStop → Type 0
 NextGives after d max i text (Ok (next.Row len values)) = TakesRow (is_last after) d max i text len (option_map (λ v. map (trimmed d.trim) v.items) values)
-NextGives after d max i text (Ok next.Waits) = (after ≢ NoText) × Goes d max i text × NoRow d max i text × (after ≡ Nothing → text ≡ [])
+NextGives after d max i text (Ok next.Waits) = Waits after d max i text
 NextGives after d max i text (Err stop) = StopGives after d max i text stop
 
 -- a row is complete at the front

@@ -15,12 +15,14 @@ use Rattle.csvw_rows.specs.SourceState.{text_items, rest_bytes, rest_of, is_bad_
 use Rattle.csvw_rows.specs.Grammar.{trimmed}
 use Rattle.csvw_rows.specs.Looks.{settled, line_of, may_be_note}
 use Rattle.csvw_rows.specs.Notes.{NoneBegins}
-use Rattle.csvw_rows.specs.Nexts.{NextGives, TakesRow, is_last}
+use Rattle.csvw_rows.specs.Nexts.{Waits, StopGives, TakesRow, is_last}
+use Rattle.csvw_rows.specs.Lengths.{byte_len}
+use Rattle.csvw_rows.specs.Lines.{IsWrong}
+use Rattle.csvw_rows.specs.Parts.{Continues, Goes, NoRow}
 use Rattle.csvw_rows.specs.Scan.{Found, pass, is_quoted}
 use Rattle.csvw_rows.specs.Drafts.{read_of, state_of}
 use Rattle.csvw_rows.specs.declared.next.Known.{Known}
 use Rattle.csvw_rows.specs.declared.next.Known.TheVariants as known
-use Rattle.csvw_rows.specs.declared.next.Next.TheVariants as next
 use Rattle.csvw_rows.specs.declared.scan.State.TheVariants.{Start}
 use Rattle.csvw_rows.specs.Stops.{Begins, StopOf}
 use Rattle.std.specs.Str.{is_utf8}
@@ -172,6 +174,7 @@ pub record IsReadable (s : Rows) : Type 0 where
   pub some : rest_of s.source ≢ []
   pub few : s.row < s.max_rows
   pub note : is_note s.rules.dialect s.row (rest_of s.source) ≡ false
+  pub may_not : is_last (after_of s) ≡ false → may_be_note s.rules.dialect (rest_of s.source) ≡ false
 
 -- the row at the front ends behind so many bytes, and its fields were found
 pub record IsReadRow (s : Rows) (len : ℕ) : Type 0 where
@@ -180,6 +183,29 @@ pub record IsReadRow (s : Rows) (len : ℕ) : Type 0 where
   pub back : is_utf8 (drop len (rest_bytes s.source)) ≡ true
   pub found : pass (is_last (after_of s)) s.rules.dialect Start [] [] (rest_of s.source) ≡ Found values (chars (drop len (rest_bytes s.source)))
   pub texts : fields_of s ≡ map (λ x. encode_utf8_all (trimmed s.rules.dialect.trim x)) values
+
+-- a rule is broken in the row at the front, as so many bytes show
+pub record IsWrongRow (s : Rows) (len : ℕ) (stop : RowStop) : Type 0 where
+  pub count : ℕ
+  pub wrong : IsWrong (is_last (after_of s)) s.rules.dialect s.row (rest_of s.source) count stop
+  pub bytes : byte_len (take count (rest_of s.source)) ≡ len
+
+-- no row is complete at the front, and what is there may go on to one
+abbrev pub WaitsThere : Rows → Type 0
+WaitsThere s = Goes s.rules.dialect s.max_rows s.row (rest_of s.source) × NoRow s.rules.dialect s.max_rows s.row (rest_of s.source) × (after_of s ≡ Nothing → rest_of s.source ≡ [])
+
+-- no row is complete at the front, and so many bytes are sure to be the next one's
+pub record IsOpenFront (s : Rows) (len : ℕ) : Type 0 where
+  pub some : rest_of s.source ≢ []
+  pub few : s.row < s.max_rows
+  pub goes_on : is_last (after_of s) ≡ false
+  pub count : ℕ
+  pub continues : Continues s.rules.dialect s.row (rest_of s.source) count
+  pub bytes : byte_len (take count (rest_of s.source)) ≡ len
+
+-- the row at the front, which isn't known to be a comment, may become one
+abbrev pub may_go_on_to_note : Rows → Bool
+may_go_on_to_note s = not (is_last (after_of s)) && may_be_note s.rules.dialect (rest_of s.source)
 
 -- a skipped row or a comment is at the front, which isn't one too many
 pub record IsNoteNext (s : Rows) : Type 0 where
@@ -207,18 +233,13 @@ pub record IsSettledLen (s : Rows) (len : ℕ) : Type 0 where
   pub chars : chars (take len (rest_bytes s.source)) ≡ settled s.rules.dialect (rest_of s.source)
   pub text : is_utf8 (take len (rest_bytes s.source)) ≡ true
 
--- no terminator stands there yet, and all that is settled was read
-pub record IsNoteOpen (s : Rows) : Type 0 where
-  pub none : HasNoEnd s
-  pub settled : IsSettledLen s s.note
-
 -- how many bytes are sure to be the row's where it is unfinished
 abbrev pub sure_of : Rows → ℕ
-sure_of s = if is_quoted (state_of s.draft) || may_be_note s.rules.dialect (rest_of s.source) then length (rest_bytes s.source) else read_of s.draft
+sure_of s = if is_quoted (state_of s.draft) then length (rest_bytes s.source) else read_of s.draft
 
 -- what the bytes at the front are known to be
 abbrev pub IsKnown : Rows → Known → Type 0
 IsKnown s (known.Row len) = HasFields s len
 IsKnown s (known.Note len) = HasRow s len None
-IsKnown s known.Waits = NextGives (after_of s) s.rules.dialect s.max_rows s.row (rest_of s.source) (Ok next.Waits)
-IsKnown s known.Unknown = Unit {0}
+IsKnown s known.Waits = Waits (after_of s) s.rules.dialect s.max_rows s.row (rest_of s.source)
+IsKnown s (known.Stop stop) = StopGives (after_of s) s.rules.dialect s.max_rows s.row (rest_of s.source) stop

@@ -28,6 +28,14 @@ pub fn chars_of(alloc: Global, text: &str) -> Result<Vec<char>, AllocError>
     text.chars().collect(alloc)
 }
 
+/// How many characters a text has.
+pub fn char_count(text: &str) -> usize
+    ensures value { result ≡ length (chars text.now) }
+    ensures within { result ≤ length text.now }
+{
+    text.chars().count()
+}
+
 /// How many bytes the first characters take.
 pub fn front_len(text: &str, count: usize) -> usize
     ensures within { result ≤ length text.now }

@@ -9,9 +9,9 @@ ghost use Rattle.csvw_rows.specs.declared.scan.State.TheVariants.{Start, Inside}
 use crate::bound::Bound;
 use crate::cut::terminator_at;
 use crate::dialect::{Dialect, Trim};
-use crate::line::is_quoted;
 use crate::rules::Rules;
-use crate::scan::{State, Step, next_step};
+use crate::scan::{State, Step, is_quoted, next_step};
+use crate::stop::RowStop;
 use crate::trim::trim_fields;
 use std::alloc::{AllocError, Global};
 use std::mem::swap;
@@ -23,8 +23,8 @@ pub enum Reading {
     Unfinished,
     /// A terminator stands behind the row.
     Ended,
-    /// A rule is broken.
-    Broken,
+    /// The next character breaks a rule, or the last text ended within quotes.
+    Broken(RowStop),
 }
 
 /// The front of a row: where in a field it ends, and the values of the fields. The last of them isn't whole.
@@ -139,7 +139,7 @@ impl Draft {
                 self.close_field()?;
                 Ok(Reading::Ended)
             }
-            Step::Stop(_) => Ok(Reading::Broken),
+            Step::Stop(stop) => Ok(Reading::Broken(stop)),
         }
     }
 
@@ -167,14 +167,18 @@ impl Draft {
                 self.read = end;
                 return Ok(Reading::Unfinished);
             };
+            let at = end - left.len();
             let ends = 0 < terminator_at(&rules.dialect, left.as_bytes());
             match self.step(&rules.dialect, c, ends)? {
                 Reading::Unfinished => rest = behind.as_str(),
                 Reading::Ended => {
-                    self.read = end - left.len();
+                    self.read = at;
                     return Ok(Reading::Ended);
                 }
-                Reading::Broken => return Ok(Reading::Broken),
+                Reading::Broken(stop) => {
+                    self.read = at;
+                    return Ok(Reading::Broken(stop));
+                }
             }
         }
     }
@@ -201,13 +205,13 @@ impl Draft {
         match self.read(rules, behind, rest.len())? {
             Reading::Unfinished => {
                 if is_quoted(self.state) {
-                    return Ok(Reading::Broken);
+                    return Ok(Reading::Broken(RowStop::UnclosedQuote));
                 }
                 self.close_field()?;
                 Ok(Reading::Ended)
             }
             Reading::Ended => Ok(Reading::Ended),
-            Reading::Broken => Ok(Reading::Broken),
+            Reading::Broken(stop) => Ok(Reading::Broken(stop)),
         }
     }
 

@@ -2,6 +2,7 @@
 #![tactic(auto)]
 
 mod bound;
+mod breach;
 mod cut;
 mod decode;
 mod dialect;

@@ -1,13 +1,12 @@
 //! What stands at the front of the characters that no row has yet.
 ghost use Rattle.std.specs.Prelude.{◌≡◌, ◌≤◌, ◌<◌, length, drop, IfOk, Some, true, false};
 ghost use Rattle.csvw_rows.specs.Lawful.{IsLawful};
-ghost use Rattle.csvw_rows.specs.Scan.{is_quoted};
 ghost use Rattle.csvw_rows.specs.Files.{is_note};
 ghost use Rattle.csvw_rows.specs.Looks.{settled, line_of, may_be_note};
 ghost use Rattle.csvw_rows.specs.Lines.{line_chars, IsLine, IsShown};
 
 use crate::rules::Rules;
-use crate::scan::{Read, State, read_fields, terminator};
+use crate::scan::{Read, is_quoted, read_fields, terminator};
 use crate::stop::RowStop;
 use csvw_text::Seq;
 use std::alloc::{AllocError, Global};
@@ -101,16 +100,6 @@ fn shown_len(rules: &Rules, text: &[char], at: usize) -> usize
         place + 1
     } else {
         text.len()
-    }
-}
-
-/// Whether a state is inside quotes.
-pub fn is_quoted(state: State) -> bool
-    ensures { result ≡ is_quoted state }
-{
-    match state {
-        State::Inside | State::Escaped => true,
-        State::Start | State::Plain | State::Closed => false,
     }
 }
 

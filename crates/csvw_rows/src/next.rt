@@ -54,8 +54,8 @@ pub enum Known {
     Note(usize),
     /// No row is complete.
     Waits,
-    /// Nothing is known, since a stop stands there.
-    Unknown,
+    /// A stop.
+    Stop(RowStop),
 }
 
 /// Whether the characters take more bytes than a row may have.

@@ -9,26 +9,23 @@ ghost use Rattle.csvw_rows.specs.Notes.{IsNoted};
 ghost use Rattle.csvw_rows.specs.SourceState.{rest_bytes};
 
 use crate::bound::Bound;
+use crate::breach::shown_len;
 use crate::cut::{cut_row, row_len, terminator_at};
-use crate::decode::front_len;
 use crate::dialect::Dialect;
 use crate::draft::{Draft, Reading, settled};
-use crate::field::{all_empty, write_fields};
-use crate::line::is_quoted;
-use crate::next::{After, Known, Next, ROW_LIMIT, Turn, is_last};
+use crate::field::all_empty;
+use crate::next::{After, Known, ROW_LIMIT, Turn, is_last};
 use crate::note::line_end;
 use crate::raw_row::RawRow;
 use crate::rules::Rules;
+use crate::scan::is_quoted;
 use crate::source::Source;
 use crate::stop::RowStop;
-use crate::window::next_in;
-use csvw_text::Seq;
 use std::alloc::{AllocError, Global};
 
 /// A reader of the rows of a text that comes in pieces of bytes.
 #[derive(Drop)]
 pub struct Rows {
-    alloc: Global,
     rules: Rules,
     max_rows: u64,
     source: Source,
@@ -49,14 +46,11 @@ pub struct Rows {
 }
 
 impl Rows {
-    ghost use Rattle.csvw_rows.specs.RowsState.{is_ended_of, fields_of, unread, reading_of, stop_of, after_of, last_of, Holds, Passes, AreFront, HasFields, Refills, Feeds, Closes, Advances, Turns, KeepsStop, IsReadable, IsReadRow, IsNoteNext, IsNoteRead, IsNoteOpen, IsSettledLen, EndsNote, sure_of, IsKnown};
-    ghost use Rattle.csvw_rows.specs.Drafts.{IsOpen};
-    ghost use Rattle.csvw_rows.specs.declared.next.After.TheVariants.{More};
+    ghost use Rattle.csvw_rows.specs.RowsState.{is_ended_of, fields_of, unread, reading_of, stop_of, after_of, last_of, Holds, Passes, AreFront, HasFields, Refills, Feeds, Closes, Advances, Turns, KeepsStop, WaitsThere, IsReadable, IsReadRow, IsWrongRow, IsNoteNext, IsNoteRead, IsOpenFront, IsSettledLen, EndsNote, may_go_on_to_note, sure_of, IsKnown};
     ghost use Rattle.csvw_rows.specs.RowsLending.{RestsAdvanced};
     ghost use Rattle.csvw_rows.specs.SourceState.{rest_of};
     ghost use Rattle.csvw_rows.specs.RowValue.{row_of};
-    ghost use Rattle.csvw_rows.specs.Nexts.{NextGives, TakesRow, is_last};
-    ghost use Rattle.csvw_rows.specs.Grammar.{trimmed};
+    ghost use Rattle.csvw_rows.specs.Nexts.{is_last};
 
     /// A reader of no bytes yet, which takes at most so many rows of all kinds; `AllocError` where there is
     /// no memory. The dialect has to pass `check`.
@@ -67,7 +61,6 @@ impl Rows {
         ensures holds { IfOk result (λ r. Holds r dialect max_rows [] false []) }
     {
         Ok(Rows {
-            alloc,
             rules: Rules::new(alloc, dialect)?,
             max_rows,
             source: Source::new(alloc),
@@ -203,20 +196,6 @@ impl Rows {
         }
     }
 
-    /// What stands at the front of the characters that aren't read.
-    fn next_line(&self) -> Result<Next, RowStop>
-        ensures { NextGives (after_of self.now) self.now.rules.dialect self.now.max_rows self.now.row (rest_of self.now.source) result }
-    {
-        next_in(
-            self.alloc,
-            &self.rules,
-            self.max_rows,
-            self.row,
-            self.source.rest(),
-            self.after(),
-        )
-    }
-
     /// Finds the fields of the row at the front among its bytes, where that is possible, and how many
     /// bytes it has with its terminator.
     fn cut(&mut self) -> Result<Option<usize>, AllocError>
@@ -264,7 +243,7 @@ impl Rows {
                 Ok(Turn::Passed)
             }
             Known::Waits => Ok(Turn::Waits),
-            Known::Unknown => self.read_turn(),
+            Known::Stop(stop) => Err(stop),
         }
     }
 
@@ -274,26 +253,29 @@ impl Rows {
         ensures known { IfOk result (IsKnown self.new) }
     {
         if self.source.rest().is_empty() {
-            return Ok(self.empty_front());
+            return Ok(self.waits());
         }
         if self.row >= self.max_rows {
-            return Ok(Known::Unknown);
+            return Ok(Known::Stop(RowStop::TooManyRows));
         }
         if self.rules.is_skipped(self.row, self.source.rest()) {
             return Ok(self.read_note());
         }
+        if self.may_become_comment() {
+            return Ok(self.open_front(self.source.rest().len()));
+        }
         self.read_draft()
     }
 
-    /// What stands at the front where no character is left.
-    fn empty_front(&self) -> Known
-        requires { rest_of self.now.source ≡ [] }
+    /// What stands at the front where no row is complete, nor one too long or against a rule.
+    fn waits(&self) -> Known
+        requires { WaitsThere self.now }
         ensures { IsKnown self.now result }
     {
         match self.after() {
             After::More => Known::Waits,
             After::Nothing => Known::Waits,
-            After::NoText => Known::Unknown,
+            After::NoText => Known::Stop(RowStop::NotUtf8),
         }
     }
 
@@ -302,6 +284,13 @@ impl Rows {
         ensures { result ≡ is_last (after_of self.now) }
     {
         is_last(self.after())
+    }
+
+    /// Whether the row at the front isn't known to be a comment, but may become one.
+    fn may_become_comment(&self) -> bool
+        ensures { result ≡ may_go_on_to_note self.now }
+    {
+        !self.is_last() && self.rules.may_begin_comment(self.source.rest())
     }
 
     /// Reads the skipped row or comment at the front on from where it was left.
@@ -314,7 +303,7 @@ impl Rows {
             Some(len) => self.ended_note(len),
             None => {
                 self.note = self.settled_len();
-                self.open_note()
+                self.open_front(self.note)
             }
         }
     }
@@ -345,23 +334,22 @@ impl Rows {
         ensures { IsKnown self.now result }
     {
         if len > ROW_LIMIT {
-            return Known::Unknown;
+            return Known::Stop(RowStop::RowTooLong);
         }
         let (_, behind) = self.source.rest().as_bytes().split_at(len);
         Known::Note(len + terminator_at(&self.rules.dialect, behind))
     }
 
-    /// What stands at the front where no skipped row or comment is complete.
-    fn open_note(&self) -> Known
-        requires next { IsNoteNext self.now }
-        requires open { IsNoteOpen self.now }
+    /// What stands at the front where no row is complete, of which so many bytes are sure to be the next
+    /// one's.
+    fn open_front(&self, len: usize) -> Known
+        requires { IsOpenFront self.now len }
         ensures { IsKnown self.now result }
     {
-        if self.may_go_on() && self.note <= ROW_LIMIT {
-            Known::Waits
-        } else {
-            Known::Unknown
+        if len > ROW_LIMIT {
+            return Known::Stop(RowStop::RowTooLong);
         }
+        self.waits()
     }
 
     /// Reads the row with fields at the front on from where it was left.
@@ -372,7 +360,7 @@ impl Rows {
     {
         let is_last = self.is_last();
         match self.draft.go_on(&self.rules, self.source.rest(), is_last) {
-            Ok(Reading::Unfinished) => Ok(self.open_row()),
+            Ok(Reading::Unfinished) => Ok(self.open_front(self.sure_len())),
             Ok(Reading::Ended) => {
                 let len = self.draft.read_len();
                 let trim = self.rules.dialect.trim;
@@ -380,9 +368,11 @@ impl Rows {
                     .take_fields(trim, &mut self.fields, &mut self.spare)?;
                 Ok(self.ended_row(len))
             }
-            Ok(Reading::Broken) => {
+            Ok(Reading::Broken(stop)) => {
+                let at = self.draft.read_len();
+                let len = shown_len(&self.rules, self.source.rest(), at);
                 self.draft.clear();
-                Ok(Known::Unknown)
+                Ok(self.broken_row(len, stop))
             }
             Err(e) => {
                 self.draft.clear();
@@ -391,34 +381,25 @@ impl Rows {
         }
     }
 
-    /// What stands at the front where all of it was read and no row is complete.
-    fn open_row(&self) -> Known
+    /// The row at the front, in which a rule is broken, as so many bytes show.
+    fn broken_row(&self, len: usize, stop: RowStop) -> Known
         requires readable { IsReadable self.now }
-        requires open { IsOpen self.now.rules.dialect self.now.draft (rest_bytes self.now.source) }
+        requires wrong { IsWrongRow self.now len stop }
         ensures { IsKnown self.now result }
     {
-        if self.may_go_on() && self.sure_len() <= ROW_LIMIT {
-            Known::Waits
-        } else {
-            Known::Unknown
+        if len > ROW_LIMIT {
+            return Known::Stop(RowStop::RowTooLong);
         }
-    }
-
-    /// Whether more characters may come.
-    fn may_go_on(&self) -> bool
-        ensures { result ≡ true → after_of self.now ≡ More }
-    {
-        !self.ended && !self.source.is_bad()
+        Known::Stop(stop)
     }
 
     /// How many bytes are sure to be the row's where it is unfinished: a CR may begin its terminator, but
-    /// neither within quotes nor behind the front of a comment prefix.
+    /// not within quotes.
     fn sure_len(&self) -> usize
         ensures { result ≡ sure_of self.now }
     {
-        let rest = self.source.rest();
-        if is_quoted(self.draft.state()) || self.rules.may_begin_comment(rest) {
-            rest.len()
+        if is_quoted(self.draft.state()) {
+            self.source.rest().len()
         } else {
             self.draft.read_len()
         }
@@ -431,27 +412,10 @@ impl Rows {
         ensures { IsKnown self.now result }
     {
         if len > ROW_LIMIT {
-            return Known::Unknown;
+            return Known::Stop(RowStop::RowTooLong);
         }
         let (_, behind) = self.source.rest().as_bytes().split_at(len);
         Known::Row(len + terminator_at(&self.rules.dialect, behind))
-    }
-
-    /// Reads one row on, by the characters.
-    fn read_turn(&mut self) -> Result<Turn, RowStop>
-        ensures turns { Turns self.old self.new result }
-        ensures stop { stop_of self.new ≡ stop_of self.old }
-    {
-        match self.next_line() {
-            Ok(Next::Row(count, None)) => {
-                let len = front_len(self.source.rest(), count);
-                self.pass(len);
-                Ok(Turn::Passed)
-            }
-            Ok(Next::Row(count, Some(values))) => self.take_fields(count, values.as_slice()),
-            Ok(Next::Waits) => Ok(Turn::Waits),
-            Err(stop) => Err(stop),
-        }
     }
 
     /// Goes behind a row and its terminator.
@@ -482,32 +446,6 @@ impl Rows {
         }
         self.remained += 1;
         Turn::Given
-    }
-
-    /// Goes behind a row of so many characters with these fields.
-    fn take_fields(&mut self, count: usize, values: &[Seq<char>]) -> Result<Turn, RowStop>
-        requires { TakesRow (is_last (after_of self.old)) self.old.rules.dialect self.old.max_rows self.old.row (rest_of self.old.source) count
-            (Some (map (trimmed self.old.rules.dialect.trim) values.now)) }
-        ensures turns { Turns self.old self.new result }
-        ensures stop { stop_of self.new ≡ stop_of self.old }
-    {
-        let len = front_len(self.source.rest(), count);
-        self.fill(values)?;
-        Ok(self.pass_fields(len))
-    }
-
-    /// Writes the texts of these fields.
-    fn fill(&mut self, values: &[Seq<char>]) -> Result<(), AllocError>
-        ensures refills { Refills self.old self.new }
-        ensures texts { OnOk result (fields_of self.new ≡ map (λ x. encode_utf8_all (trimmed self.old.rules.dialect.trim x)) values.now) }
-    {
-        write_fields(
-            self.alloc,
-            self.rules.dialect.trim,
-            values,
-            &mut self.fields,
-            &mut self.spare,
-        )
     }
 }
 

@@ -85,6 +85,16 @@ impl Rules {
         }
     }
 
+    /// How many characters at the front of the text the comment prefix has too.
+    pub fn common_len(&self, rest: &str) -> usize
+        ensures { IsPrefixLen (prefix_of self.now.dialect) (chars rest.now) result }
+    {
+        match &self.prefix {
+            Some(prefix) => same_len(prefix.as_slice(), rest),
+            None => 0,
+        }
+    }
+
     /// How many characters at the front of the text the prefix has too.
     pub fn prefix_len(&self, text: &[char]) -> usize
         ensures within { result ≤ length text.now }
@@ -116,4 +126,20 @@ fn common_len(a: &[char], b: &[char]) -> usize
         }
     }
     b.len()
+}
+
+/// How many characters at the front are the same.
+fn same_len(a: &[char], b: &str) -> usize
+    ensures { IsCommon a.now (chars b.now) result }
+{
+    let mut rest = b.chars();
+    for (i, c) in a.iter().enumerate() {
+        let Some(next) = rest.next() else {
+            return i;
+        };
+        if next != *c {
+            return i;
+        }
+    }
+    a.len()
 }

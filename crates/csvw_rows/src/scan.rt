@@ -1,7 +1,7 @@
 //! One pass over the characters of a row, which reads its fields.
 ghost use Rattle.std.specs.Prelude.{◌≡◌, ◌≤◌, [], length, IfOk};
 ghost use Rattle.csvw_rows.specs.Grammar.{terminator_len};
-ghost use Rattle.csvw_rows.specs.Scan.{quote_is, step_of, run};
+ghost use Rattle.csvw_rows.specs.Scan.{quote_is, is_quoted, step_of, run};
 ghost use Rattle.csvw_rows.specs.Outcomes.{Gives};
 
 use crate::dialect::Dialect;
@@ -22,6 +22,16 @@ pub enum State {
     Escaped,
     /// Behind a quote that closes it, or begins an escape.
     Closed,
+}
+
+/// Whether a state is inside quotes.
+pub fn is_quoted(state: State) -> bool
+    ensures { result ≡ is_quoted state }
+{
+    match state {
+        State::Inside | State::Escaped => true,
+        State::Start | State::Plain | State::Closed => false,
+    }
 }
 
 /// What a character does.

@@ -1,7 +1,7 @@
 use Rattle.std.proofs.Common.{◌≡◌, ◌∙◌, ◌+◌, length, drop, arith, ap}
 use Rattle.csvw_rows.specs.Grammar.{terminator_len}
 use Rattle.csvw_rows.specs.SourceState.{rest_bytes}
-use Rattle.csvw_rows.proofs.DraftRows.{read_has}
+use Rattle.csvw_rows.proofs.DraftRows.{read_has, read_stops}
 use Rattle.csvw_rows.proofs.rows.Rows.ended_row.Goals as goal
 
 pub returns : goal.returns
@@ -13,3 +13,6 @@ returns c =
     read_has s len _ c.requires.readable c.requires.read (omega (arith, past))
     (ap (λ n. len + n) (c.terminator_at.ensures.value ∙ ap (terminator_len s.rules.dialect) behind))
     (omega (arith, c.terminator_at.ensures.value ∙ ap (terminator_len s.rules.dialect) behind, c.terminator_at.ensures.within, ap length behind))
+
+pub returns-then-len-gt-ROW_LIMIT : goal.returns-then-len-gt-ROW_LIMIT
+returns-then-len-gt-ROW_LIMIT c = read_stops c.args.self.now c.args.len c.requires.readable c.requires.read c.if-len-gt-ROW_LIMIT.true

@@ -1,5 +1,5 @@
 use Rattle.std.proofs.Common.{None, Ok, refl}
-use Rattle.csvw_rows.proofs.RowSteps.{turns_from, refills_again, waits_turns, less_unread}
+use Rattle.csvw_rows.proofs.RowSteps.{turns_from, refills_again, waits_turns, stop_turns, less_unread}
 use Rattle.csvw_rows.proofs.States.{note_stays}
 use Rattle.csvw_rows.specs.declared.next.Turn.TheVariants as turn
 use Rattle.csvw_rows.specs.RowsState.{HasRow}
@@ -18,10 +18,10 @@ returns-in-Waits-clause-turns c =
     waits_turns c.args.self.now c.read_front.new.self
     (refills_again c.args.self.now c.cut.new.self c.read_front.new.self c.cut.ensures.refills c.read_front.ensures.refills) (rw c.in-Waits.is at c.in_ok-len-2.ensures.known)
 
-pub returns-in-Unknown-clause-turns : goal.returns-in-Unknown-clause-turns
-returns-in-Unknown-clause-turns c =
-    turns_from c.args.self.now c.read_front.new.self c.read_turn.new.self c.read_turn.result
-    (refills_again c.args.self.now c.cut.new.self c.read_front.new.self c.cut.ensures.refills c.read_front.ensures.refills) c.read_turn.ensures.turns
+pub returns-in-Stop-clause-turns : goal.returns-in-Stop-clause-turns
+returns-in-Stop-clause-turns c =
+    stop_turns c.args.self.now c.read_front.new.self c.in-Stop.stop
+    (refills_again c.args.self.now c.cut.new.self c.read_front.new.self c.cut.ensures.refills c.read_front.ensures.refills) (rw c.in-Stop.is at c.in_ok-len-2.ensures.known)
 
 pub returns-in-Note-clause-turns : goal.returns-in-Note-clause-turns
 returns-in-Note-clause-turns c =
