@@ -238,7 +238,7 @@ module _ (whole : Bool) (d : Dialect) (max i : ℕ) (text : List ℕ) (len : ℕ
       let f = first_end d max i text (length text) w none e in
       (f, elim (end_named d max i text f.at w few none f.ends) [ inl h ↦ h | inr b ↦ breaks f.at b.0 (let h = f.within in omega (arith, h)) b.1 ])
 
-  found_stops : (fields : Option (List (List ℕ))) → Seen whole d i text len fields → IsFound whole d i text len fields → StopsHere whole d max i text RowTooLong
+  pub found_stops : (fields : Option (List (List ℕ))) → Seen whole d i text len fields → IsFound whole d i text len fields → StopsHere whole d max i text RowTooLong
   unfolding InText
   found_stops fields s f = record { some = some; no_row = none; no_last = λ t. last; stands = by_end (whole_goes d max i text w none) }
     where
@@ -268,7 +268,7 @@ module _ (whole : Bool) (d : Dialect) (max i : ℕ) (text : List ℕ) (len : ℕ
       by_end (inl g) = let r = by_rest g s.ends in inr (r.0, g, r.1)
       by_end (inr e) = inl (long_text none breaks e)
 
-  open_stops : whole ≡ false → Continues d i text len → StopsHere whole d max i text RowTooLong
+  pub open_stops : whole ≡ false → Continues d i text len → StopsHere whole d max i text RowTooLong
   unfolding InText
   open_stops o c = record { some = some; no_row = none; no_last = λ t. absurd cc; stands = by_end (whole_goes d max i text w none) }
     where
@@ -292,7 +292,7 @@ module _ (whole : Bool) (d : Dialect) (max i : ℕ) (text : List ℕ) (len : ℕ
       by_end (inl g) = absurd (too_long g)
       by_end (inr e) = inl (long_text none breaks e)
 
-  wrong_long : (stop : RowStop) → IsWrong whole d i text len stop → StopsHere whole d max i text RowTooLong
+  pub wrong_long : (stop : RowStop) → IsWrong whole d i text len stop → StopsHere whole d max i text RowTooLong
   unfolding InText
   wrong_long stop g = record { some = some; no_row = none; no_last = λ t. none_last d max i text w (ap (λ b. next_row b d i text) (sym t) ∙ g.no_row.0); stands = by_end (whole_goes d max i text w none) }
     where
