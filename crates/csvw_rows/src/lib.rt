@@ -17,6 +17,8 @@ mod raw_row;
 mod rows;
 mod rules;
 mod scan;
+#[cfg(test)]
+mod slow;
 mod source;
 mod stop;
 mod trim;
