@@ -1,9 +1,9 @@
-//! The rows of generated texts, beside those that `next_row` finds in all characters of a text at once.
+//! The rows of generated texts, beside those that the slow reader finds.
 
 use super::numbers::Numbers;
 use super::*;
 use crate::decode::{chars_of, valid_front};
-use crate::next::next_row;
+use crate::slow::next_row;
 use csvw_text::is_white;
 
 /// How many rows of all kinds are taken.
@@ -53,18 +53,18 @@ fn plain_rows(alloc: Global, rules: &Rules, text: &[char], after: After) -> Resu
     for place in 0..=MAX_ROWS {
         let place = u64::from(place);
         match next_row(alloc, rules, u64::from(MAX_ROWS), place, rest, after) {
-            Ok(Next::Row(len, values)) => {
-                rest = rest.split_at(len.min(rest.len())).1;
+            Ok(Some(row)) => {
+                rest = rest.split_at(row.len.min(rest.len())).1;
                 remained = write_plain(
                     &mut found,
                     alloc,
                     &rules.dialect,
                     place + 1,
                     remained,
-                    values,
+                    row.values,
                 )?;
             }
-            Ok(Next::Waits) => break,
+            Ok(None) => break,
             Err(stop) => {
                 write_stop(&mut found, stop, place + 1)?;
                 break;
