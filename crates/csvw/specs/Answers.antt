@@ -24,10 +24,13 @@ TellsStop reason err status = TellsLine reason err × (status ≡ stop_status re
 abbrev pub LacksMemory : Stream → Stream → ℕ → Type 0
 LacksMemory out err status = IsIdle out × TellsStop stop.Memory err status
 
--- a text goes to `out`; where that fails, the run stops
+-- this text goes to `out`; where that fails, the run stops
+abbrev pub GivesText : List ℕ → Stream → Stream → ℕ → Type 0
+GivesText text out err status = (Sends out text × IsIdle err × (status ≡ 0)) ⊎ (IsCut out text × TellsStop stop.Write err status)
+
+-- a text is given, of which `clap` says nothing more
 abbrev pub GivesHelp : Stream → Stream → ℕ → Type 0
-GivesHelp out err status =
-    (text : List ℕ) × ((Sends out text × IsIdle err × (status ≡ 0)) ⊎ (IsCut out text × TellsStop stop.Write err status))
+GivesHelp out err status = (text : List ℕ) × GivesText text out err status
 
 -- a text goes to `err`
 abbrev pub TellsMistake : Stream → Stream → ℕ → Type 0

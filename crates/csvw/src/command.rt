@@ -1,7 +1,7 @@
 //! What one run of the program does, over any files and writers.
 ghost use Rattle.std.specs.Prelude.{◌≡◌, ◌≤◌, ◌++◌, ◌∷◌, [], true, false, map, string_bytes};
 ghost use Rattle.clap.specs.Words.{kind_of};
-ghost use Rattle.csvw.specs.Answers.{Answers, GivesHelp, TellsStop};
+ghost use Rattle.csvw.specs.Answers.{Answers, GivesText, TellsStop};
 ghost use Rattle.csvw.specs.Commands.{Commands, RunsPlain};
 ghost use Rattle.csvw.specs.Status.{stop_status, outcome_status};
 ghost use Rattle.csvw.specs.Streams.{IsCut, Sends, Tells, stream_of};
@@ -71,7 +71,7 @@ fn give_help<W: Write, V: Write>(
     out: &mut Counted<W>,
     err: &mut Counted<V>,
 ) -> u8
-    ensures given { GivesHelp (stream_of W.contents out.old out.new) (stream_of V.contents err.old err.new) result }
+    ensures given { GivesText text.now (stream_of W.contents out.old out.new) (stream_of V.contents err.old err.new) result }
     ensures bound { result ≤ 4 }
 {
     if send(out, text) {
