@@ -1,9 +1,8 @@
 -- Bytes and characters at a symbol that is ASCII.
-use Rattle.std.proofs.Common.{◌≡◌, ◌∙◌, ℕ, zero, suc, ◌+◌, ◌-◌, ◌<◌, ◌≤◌, Bool, true, false, ◌&&◌, ◌==◌, if◌then◌else◌, List, [], ◌∷◌, ◌++◌, length, take, drop, get_or, refl, sym, ap, subst, arith, length-append, length-drop, drop-cons, add-one, ◌⊎◌, inl, inr, chars, nat_eq}
+use Rattle.std.proofs.Common.{◌≡◌, ◌∙◌, ℕ, zero, suc, ◌+◌, ◌-◌, ◌<◌, Bool, true, false, ◌&&◌, ◌==◌, if◌then◌else◌, List, [], ◌∷◌, ◌++◌, length, take, drop, get_or, refl, sym, ap, subst, arith, length-append, drop-cons, add-one, ◌⊎◌, inl, inr, chars, nat_eq}
 use Rattle.std.specs.Prelude.{IsUtf8, encode_utf8_all}
-use Rattle.std.specs.Str.{IsCharBoundary}
 use Rattle.std.proofs.lemmas.Bool.Decides.{nat_tests}
-use Rattle.std.proofs.lemmas.List.{take-append-drop, get_or-drop}
+use Rattle.std.proofs.lemmas.List.{take-append-drop}
 use Rattle.std.proofs.Math.Seq.{get_or-append_seam}
 use Rattle.std.proofs.lemmas.Str.{IsUtf8-take, IsUtf8-drop, IsUtf8-from_ascii, IsCharBoundary-before_ascii, IsCharBoundary-after_ascii, chars-append, chars-IsAscii, chars-nil, encodes-chars, encodes-append, encode_ascii}
 use Rattle.csvw_rows.specs.declared.dialect.Dialect.{Dialect}
@@ -151,10 +150,6 @@ text_empty (b ∷ bs) u = by_chars (chars (b ∷ bs)) (encodes-chars (b ∷ bs) 
     by_chars : (cs : List ℕ) → encode_utf8_all cs ≡ b ∷ bs → (length (b ∷ bs) == 0) ≡ (length cs == 0)
     by_chars [] e = absurd cc
     by_chars (c ∷ cs) e = some b bs ∙ sym (some c cs)
-
--- behind a line feed
-pub after_lf : (text : List ℕ) (size at : ℕ) → IsUtf8 text → size ≤ length text → at < length (drop size text) → get_or (drop size text) at 0 ≡ 10 → IsCharBoundary text (size + at + 1)
-after_lf text size at u within h e = IsCharBoundary-after_ascii text (size + at) u (omega (arith, h, within, length-drop size text)) (let z = sym (get_or-drop size text at 0) ∙ e in omega (arith, z))
 
 -- text behind a terminator
 text_behind : (r : List ℕ) (n b : ℕ) → IsUtf8 r → n < length r → get_or r n 0 ≡ b → b < 128 → (m : ℕ) → m ≡ n + 1 → IsUtf8 (drop m r)

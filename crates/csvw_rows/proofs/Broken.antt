@@ -82,12 +82,6 @@ closed_stops false true q h = absurd cc
 closed_stops false false true h = absurd cc
 closed_stops false false false h = (refl, refl, refl)
 
-closed_opens : (e b q : Bool) → (if e then End else (if b then Next else (if q then Keep Inside else Stop TextAfterQuote))) ≡ Keep Inside → (e ≡ false) × (b ≡ false) × (q ≡ true)
-closed_opens true b q h = absurd cc
-closed_opens false true q h = absurd cc
-closed_opens false false true h = (refl, refl, refl)
-closed_opens false false false h = absurd cc
-
 -- the text behind what was read of the field
 abbrev Ih : Dialect → List ℕ → List ℕ → Type 0
 Ih d text cs = (st : State) (vs : List (List ℕ)) (cur : List ℕ) (values : List (List ℕ)) (src : List ℕ) → AfterFields d text values (src ++ cs) → IsReading d st src cur cs → Tells d text (run d st vs cur cs)

@@ -1,6 +1,5 @@
 -- How many bytes characters take.
 use Rattle.std.proofs.Common.{◌≡◌, ℕ, ◌+◌, ◌<◌, ◌≤◌, List, [], ◌∷◌, ◌++◌, length, take, get_or, sym, ap, ◌∙◌, arith, append-nil, length-append, encode_utf8_all, drop, ◌-◌}
-use Rattle.std.proofs.Math.Seq.{take-add}
 use Rattle.std.proofs.Common.{length-drop}
 use Rattle.std.proofs.lemmas.Grind.{common_steps}
 use Rattle.std.proofs.lemmas.Str.{encodes-append, length-encode}
@@ -20,12 +19,6 @@ take_all l = grind (arith, common_steps)
 
 rest_whole : (l : List ℕ) (s : ℕ) → take (length l - s) (drop s l) ≡ drop s l
 rest_whole l s = ap (λ n. take n (drop s l)) (sym (length-drop s l)) ∙ take_all (drop s l)
-
-pub take_two : (l : List ℕ) (s n : ℕ) → s ≤ length l → n ≤ length (take (length l - s) (drop s l)) → take s l ++ take n (take (length l - s) (drop s l)) ≡ take (s + n) l
-take_two l s n h k = sym (take-add s n l ∙ ap (λ x. take s l ++ take n x) (sym (rest_whole l s)))
-
-pub within_two : (l : List ℕ) (s n : ℕ) → s ≤ length l → n ≤ length (take (length l - s) (drop s l)) → s + n ≤ length l
-within_two l s n h k = grind (arith, common_steps)
 
 byte_len_append : (a b : List ℕ) → byte_len (a ++ b) ≡ byte_len a + byte_len b
 byte_len_append a b = ap length (encodes-append a b) ∙ length-append (encode_utf8_all a) (encode_utf8_all b)

@@ -51,10 +51,6 @@ kept_text (Ok x) from old piece new h u v e =
     ap (λ l. is_utf8 (drop from l)) e ∙ ap is_utf8 (drop_front from old piece h) ∙ is_utf8-from_IsUtf8 (drop from old ++ piece) (IsUtf8-append (drop from old) piece (IsUtf8-from_is_utf8 (drop from old) u) v)
 kept_text (Err x) from old piece new h u v e = ap (λ l. is_utf8 (drop from l)) e ∙ u
 
-pub kept_within : {T E : Type 0} (r : Result T E) (from : ℕ) (old piece new : List ℕ) → from ≤ length old → new ≡ (if is_ok r then old ++ piece else old) → from ≤ length new
-kept_within (Ok x) from old piece new h e = omega (arith, h, ap length e, length-append old piece)
-kept_within (Err x) from old piece new h e = omega (arith, h, ap length e)
-
 pub kept_apart : {T E : Type 0} (r : Result T E) (old piece new : List ℕ) (bounds : List Bound) → apart_all old bounds ≡ true → new ≡ (if is_ok r then old ++ piece else old)
     → (apart_all new bounds ≡ true) × (texts_apart new bounds ≡ texts_apart old bounds)
 kept_apart (Ok x) old piece new bounds a e = let m = all_more old piece bounds a in (ap (λ l. apart_all l bounds) e ∙ m.0, ap (λ l. texts_apart l bounds) e ∙ m.1)

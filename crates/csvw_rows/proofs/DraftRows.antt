@@ -1,5 +1,5 @@
 -- A row at the front that was read on to its end is a row that is taken, or one that is too long.
-use Rattle.std.proofs.Common.{◌≡◌, ◌≢◌, ◌∙◌, ℕ, ◌+◌, ◌<◌, ◌≤◌, Bool, true, false, if◌then◌else◌, List, [], ◌++◌, map, length, take, drop, Option, Some, None, option_map, refl, sym, ap, subst, arith, length-append, length-drop, length-take, ◌⊎◌, inl, inr, chars}
+use Rattle.std.proofs.Common.{◌≡◌, ◌≢◌, ◌∙◌, ℕ, ◌+◌, ◌<◌, ◌≤◌, Bool, true, if◌then◌else◌, List, [], ◌++◌, map, length, take, drop, Option, Some, None, option_map, sym, ap, arith, length-append, length-drop, length-take, ◌⊎◌, inl, inr, chars}
 use Rattle.std.specs.Prelude.{IsUtf8}
 use Rattle.std.specs.Str.{is_utf8}
 use Rattle.std.proofs.lemmas.Bool.{cases_lt}

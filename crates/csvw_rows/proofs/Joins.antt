@@ -81,9 +81,6 @@ one_clear : (d : Dialect) (c : ℕ) (more : List ℕ) → (d.line_terminators.cr
 one_clear d c more e =
     elim (last_tests d.line_terminators.crlf d.line_terminators.lf (c == 13) (nat_eq 13 c) _ _ _ true e) [ inl h ↦ h | inr n ↦ absurd (n (same_order c 13)) ]
 
-cr_tests : (crlf lf a z x : Bool) → ◌≡◌ {A = ℕ} (if crlf && (a && false) then 2 else (if lf && (z && true) then 1 else 0)) (if crlf && (a && false) then 2 else (if lf && (z && true) then 1 else 0))
-cr_tests crlf lf a z x = refl
-
 cr_next : (d : Dialect) (c : ℕ) (more : List ℕ) → terminator_len d (c ∷ 13 ∷ more) ≡ terminator_len d (c ∷ [])
 cr_next d c more = refl
 

@@ -32,12 +32,10 @@ pub mod OpenFronts
 pub mod Starts
 pub mod DecodeSteps
 pub mod SourceSteps
-pub mod Windows
 pub mod RowSteps
 pub mod MarkLemmas
 pub mod CutLemmas
 pub mod Escapes
 pub mod CutTakes
 pub mod RowCuts
-pub mod FieldLemmas
 pub mod DecodeLemmas

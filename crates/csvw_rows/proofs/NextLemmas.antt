@@ -1,5 +1,5 @@
 -- What stands at the front, from the line there.
-use Rattle.std.proofs.Common.{◌≡◌, ◌≢◌, ℕ, zero, suc, ◌+◌, ◌<◌, ◌≤◌, Bool, true, false, List, [], ◌∷◌, ◌++◌, map, length, take, drop, Option, Some, None, refl, sym, ap, ◌∙◌, subst, arith, append_assoc, append-nil, length-append, length-drop, ◌⊎◌, inl, inr, ◌==◌}
+use Rattle.std.proofs.Common.{◌≡◌, ◌≢◌, ℕ, zero, suc, ◌+◌, ◌<◌, ◌≤◌, Bool, true, false, List, [], ◌∷◌, ◌++◌, length, take, drop, Option, Some, None, refl, sym, ap, ◌∙◌, subst, arith, append_assoc, append-nil, length-append, length-drop, ◌⊎◌, inl, inr, ◌==◌}
 use Rattle.std.proofs.lemmas.Grind.{common_steps}
 use Rattle.std.proofs.lemmas.Bool.Decides.{nat_tests}
 use Rattle.std.proofs.lemmas.Bool.{cases_lt}
@@ -10,9 +10,7 @@ use Rattle.csvw_rows.specs.declared.stop.RowStop.TheVariants.{Memory, NotUtf8, R
 use Rattle.csvw_rows.specs.declared.scan.State.TheVariants.{Start}
 use Rattle.csvw_rows.specs.declared.next.After.{After}
 use Rattle.csvw_rows.specs.declared.next.After.TheVariants.{More, Nothing, NoText}
-use Rattle.csvw_rows.specs.declared.line.Line.{Line}
-use Rattle.csvw_rows.specs.declared.line.Line.TheVariants as line
-use Rattle.csvw_rows.specs.Grammar.{terminator_len, trimmed}
+use Rattle.csvw_rows.specs.Grammar.{terminator_len}
 use Rattle.csvw_rows.specs.Lawful.{IsLawful}
 use Rattle.csvw_rows.specs.Lengths.{byte_len, row_limit}
 use Rattle.csvw_rows.specs.Files.{Row, IsRow, EndsRow, is_note}
@@ -20,8 +18,8 @@ use Rattle.csvw_rows.specs.Scan.{run, finish}
 use Rattle.csvw_rows.specs.Looks.{settled, unsettled, next_row, found_row, terminator_of}
 use Rattle.csvw_rows.specs.Parts.{Continues, Breaks, HasRow, Goes, Ends, NoRow, NoLast, FirstEnd}
 use Rattle.csvw_rows.specs.Stops.{IsBroken, IsNamed}
-use Rattle.csvw_rows.specs.Lines.{IsFound, IsWrong, IsLine, line_chars}
-use Rattle.csvw_rows.specs.Nexts.{TakesRow, StopsHere, StopGives, NextGives, waits_of, is_last}
+use Rattle.csvw_rows.specs.Lines.{IsFound, IsWrong}
+use Rattle.csvw_rows.specs.Nexts.{TakesRow, StopsHere, StopGives, is_last}
 use Rattle.csvw_rows.proofs.Joins.{goes_on}
 use Rattle.csvw_rows.proofs.Notes.{note_never}
 use Rattle.csvw_rows.proofs.RowLaws.{row_sound, row_complete, row_unique}
@@ -312,14 +310,6 @@ module _ (whole : Bool) (d : Dialect) (max i : ℕ) (text : List ℕ) (len : ℕ
       by_end (inl goes) = let r = by_stands goes g.stands in inr (r.0, goes, r.1)
       by_end (inr e) = inl (long_text none breaks e)
 
-  pub line_stops : (l : Line) → line_chars l ≡ len → IsLine whole d i text l → StopsHere whole d max i text RowTooLong
-  line_stops (line.Note n) e f = let g : IsFound whole d i text len None = subst (λ n. IsFound whole d i text n None) e f in found_stops None (seen_of whole d i text len None w g) g
-  line_stops (line.Fields n values) e f =
-      let g : IsFound whole d i text len (Some (map (trimmed d.trim) values.items)) = subst (λ n. IsFound whole d i text n (Some (map (trimmed d.trim) values.items))) e f in
-      found_stops (Some (map (trimmed d.trim) values.items)) (seen_of whole d i text len (Some (map (trimmed d.trim) values.items)) w g) g
-  line_stops (line.Open n) e (o, c) = open_stops o (subst (Continues d i text) e c)
-  line_stops (line.Broken n stop) e g = wrong_long stop (subst (λ n. IsWrong whole d i text n stop) e g)
-
 -- a row that is taken
 pub found_takes : (whole : Bool) (d : Dialect) (max i : ℕ) (text behind : List ℕ) (len t : ℕ) (fields : Option (List (List ℕ))) → IsLawful d → i < max → text ≢ [] → IsFound whole d i text len fields
     → byte_len (take len text) ≤ row_limit → behind ≡ drop len text → t ≡ terminator_len d behind → t ≤ length behind → TakesRow whole d max i text (length (take len text) + t) fields
@@ -405,14 +395,6 @@ nothing_complete d max i text e few row after spelled r h short = nothing_ends d
     back : (a b : List ℕ) → [] ≡ a ++ b → b ≡ []
     back [] b e = sym e
     back (c ∷ cs) b e = absurd cc
-
-pub waits_gives : (after : After) (d : Dialect) (max i : ℕ) (text : List ℕ) → Goes d max i text → NoRow d max i text → (after ≡ Nothing → text ≡ []) → NextGives after d max i text (waits_of after)
-waits_gives More d max i text g n e = ((λ h. absurd cc), g, n, e)
-waits_gives Nothing d max i text g n e = ((λ h. absurd cc), g, n, e)
-waits_gives NoText d max i text g n e = (refl, g, n)
-
-pub empty_waits : (after : After) (d : Dialect) (max i : ℕ) (text : List ℕ) → text ≡ [] → NextGives after d max i text (waits_of after)
-empty_waits after d max i text e = waits_gives after d max i text (inl e) (nothing_complete d max i text e) (λ h. e)
 
 stop_gives : (after : After) (d : Dialect) (max i : ℕ) (text : List ℕ) (stop : RowStop) → ((stop ≡ NotUtf8) → ⊥) → StopsHere (is_last after) d max i text stop → StopGives after d max i text stop
 stop_gives after d max i text Memory n s = tt

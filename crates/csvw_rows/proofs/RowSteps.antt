@@ -1,15 +1,13 @@
 -- A reader whose fields were filled anew.
-use Rattle.std.proofs.Common.{◌≡◌, ◌∙◌, ℕ, ◌<◌, ◌≤◌, Bool, true, List, length, drop, Option, Result, Ok, Err, refl, sym, ap, subst, arith, length-drop, chars}
-use Rattle.std.specs.Str.{is_utf8}
-use Rattle.csvw_rows.specs.declared.dialect.Dialect.{Dialect}
+use Rattle.std.proofs.Common.{◌≡◌, ◌∙◌, ℕ, ◌<◌, ◌≤◌, length, Result, Ok, Err, refl, sym, ap, subst, arith, length-drop}
 use Rattle.csvw_rows.specs.declared.rows.Rows.{Rows}
 use Rattle.csvw_rows.specs.declared.stop.RowStop.{RowStop}
 use Rattle.csvw_rows.specs.declared.next.Turn.{Turn}
 use Rattle.csvw_rows.specs.declared.next.Turn.TheVariants as turn
-use Rattle.csvw_rows.specs.Nexts.{Waits, StopGives, TakesRow, is_last}
+use Rattle.csvw_rows.specs.Nexts.{Waits, StopGives}
 use Rattle.csvw_rows.proofs.States.{is_done, is_stopped}
-use Rattle.csvw_rows.specs.SourceState.{rest_bytes, rest_of, Decodes}
-use Rattle.csvw_rows.specs.RowsState.{HasRead, Stays, Turns, Refills, HasRow, AreFront, after_of, unread, Passes}
+use Rattle.csvw_rows.specs.SourceState.{rest_of, Decodes}
+use Rattle.csvw_rows.specs.RowsState.{HasRead, Stays, Turns, Refills, after_of, unread, Passes}
 
 pub refills_stay : (s t : Rows) → Refills s t → Stays s t
 refills_stay s t r d max bytes ended given h = record {
@@ -39,39 +37,9 @@ turns_from s t u (Ok turn.Waits) r (ended, stays, done) =
 turns_from s t u (Err e) r (ended, stopped) =
     (ended ∙ r.ended, (λ n d max bytes ended given h. stopped n d max bytes ended given (refills_stay s t r d max bytes ended given h)))
 
--- and so is the row at the front
-pub row_refilled : (s t : Rows) (bytes : ℕ) (fields : Option (List (List ℕ))) → Refills s t → HasRow s bytes fields → HasRow t bytes fields
-row_refilled s t bytes fields r h = record {
-  len = h.len;
-  front = front_refilled r h.front;
-  takes = subst (λ (b : Bool). TakesRow b t.rules.dialect t.max_rows t.row (rest_of t.source) h.len fields) (sym after)
-      (subst (λ (x : Dialect). TakesRow (is_last (after_of s)) x t.max_rows t.row (rest_of t.source) h.len fields) (sym (ap (λ x. x.dialect) r.rules))
-      (subst (λ (n : ℕ). TakesRow (is_last (after_of s)) s.rules.dialect n t.row (rest_of t.source) h.len fields) (sym r.max_rows)
-      (subst (λ (n : ℕ). TakesRow (is_last (after_of s)) s.rules.dialect s.max_rows n (rest_of t.source) h.len fields) (sym r.row)
-      (subst (λ x. TakesRow (is_last (after_of s)) s.rules.dialect s.max_rows s.row (rest_of x) h.len fields) (sym r.source) h.takes))));
-}
-  where
-    after : is_last (after_of t) ≡ is_last (after_of s)
-    after = rw (r.source, r.ended) refl
-
-    front_refilled : Refills s t → AreFront s bytes h.len → AreFront t bytes h.len
-    front_refilled r f = record {
-      within = subst (λ x. bytes ≤ length (rest_bytes x)) (sym r.source) f.within;
-      is_text = subst (λ x. is_utf8 (drop bytes (rest_bytes x)) ≡ true) (sym r.source) f.is_text;
-      same = subst (λ x. chars (drop bytes (rest_bytes x)) ≡ drop h.len (rest_of x)) (sym r.source) f.same;
-    }
-
 -- a row that is taken leaves less
 pub less_unread : (s t : Rows) (len : ℕ) → Passes s t len → 0 < len → len ≤ length (rest_of s.source) → unread t < unread s
 less_unread s t len p some within = let e = ap length p.rest in omega (arith, e, some, within, length-drop len (rest_of s.source))
-
--- characters at the front, by the text that isn't taken
-pub front_of : (s : Rows) (bytes len : ℕ) (rest : List ℕ) → rest ≡ rest_bytes s.source → bytes ≤ length rest → is_utf8 (drop bytes rest) ≡ true → chars (drop bytes rest) ≡ drop len (chars rest) → AreFront s bytes len
-front_of s bytes len rest e within text same = record {
-  within = subst (λ (l : List ℕ). bytes ≤ length l) e within;
-  is_text = subst (λ (l : List ℕ). is_utf8 (drop bytes l) ≡ true) e text;
-  same = subst (λ (l : List ℕ). chars (drop bytes l) ≡ drop len (chars l)) e same;
-}
 
 pub refills_again : (s t u : Rows) → Refills s t → Refills t u → Refills s u
 refills_again s t u r q = record {

@@ -1,5 +1,5 @@
 -- What a reader stands for after its steps.
-use Rattle.std.proofs.Common.{◌≡◌, ◌≢◌, ℕ, ◌+◌, ◌-◌, ◌<◌, ◌≤◌, ◌==◌, Bool, true, false, not, ◌&&◌, ◌||◌, if◌then◌else◌, List, [], ◌∷◌, ◌++◌, map, length, drop, Option, Some, None, refl, sym, ap, ◌∙◌, subst, arith, append_assoc, length-append, ◌⊎◌, inl, inr, Ok, encode_utf8_all}
+use Rattle.std.proofs.Common.{◌≡◌, ◌≢◌, ℕ, ◌+◌, ◌-◌, ◌<◌, ◌≤◌, ◌==◌, Bool, true, false, not, ◌&&◌, ◌||◌, if◌then◌else◌, List, [], ◌∷◌, ◌++◌, map, length, drop, Option, Some, None, refl, sym, ap, ◌∙◌, subst, arith, append_assoc, length-append, ◌⊎◌, inl, inr, encode_utf8_all}
 use Rattle.std.specs.Prelude.{is_some}
 use Rattle.std.specs.List.{list_all}
 use Rattle.std.specs.Str.Lossy.{utf8_valid_len, utf8_error_len}
@@ -189,27 +189,6 @@ feed_holds s t d max bytes piece given h r m n k row remained p = by_more (p byt
         by_reached (inl are) = inl (longer are)
         by_reached (inr (e, x, y, z, u)) = absurd cc
 
--- the end
-pub end_holds : (s t : Rows) (d : Dialect) (max : ℕ) (bytes : List ℕ) (given : List Given) → Holds s d max bytes false given → t.rules ≡ s.rules → t.max_rows ≡ s.max_rows → t.ended ≡ true → t.stop ≡ s.stop
-    → t.row ≡ s.row → t.remained ≡ s.remained → t.source ≡ s.source → Holds t d max bytes true given
-end_holds s t d max bytes given h r m n k row remained source = record {
-  dialect = ap (λ x. x.dialect) r ∙ h.dialect;
-  max_is = m ∙ h.max_is;
-  ended_is = n;
-  no_stop = k ∙ h.no_stop;
-  decodes = subst (λ x. Decodes x bytes) (sym source) h.decodes;
-  rows = h.rows;
-  read = record { limits = h.read.limits; reached = by_reached h.read.reached };
-  row_is = row ∙ h.row_is;
-  remained_is = remained ∙ h.remained_is;
-  given_is = h.given_is;
-}
-  where
-    by_reached : AreRows d 0 (content bytes) h.rows (rest_of s.source) ⊎ ((false ≡ true) × (is_text bytes ≡ true) × EndsOpen d (content bytes) h.rows × (rest_of s.source ≡ []) × Begins d max (content bytes))
-        → AreRows d 0 (content bytes) h.rows (rest_of t.source) ⊎ ((true ≡ true) × (is_text bytes ≡ true) × EndsOpen d (content bytes) h.rows × (rest_of t.source ≡ []) × Begins d max (content bytes))
-    by_reached (inl are) = inl (subst (λ x. AreRows d 0 (content bytes) h.rows (rest_of x)) (sym source) are)
-    by_reached (inr (e, a, b, c, f)) = absurd cc
-
 -- a row that gives nothing
 pub note_stays : (s t : Rows) (len : ℕ) (fields : Option (List (List ℕ))) → Passes s t len → t.remained ≡ s.remained → TakesRow (is_last (after_of s)) s.rules.dialect s.max_rows s.row (rest_of s.source) len fields
     → ((n : ℕ) → remaining_fields s.rules.dialect n fields ≡ None) → Stays s t
@@ -245,20 +224,6 @@ is_done s n d max bytes ended given h = done s d max bytes ended given h n
 
 pub is_stopped : (s : Rows) (e : RowStop) → StopGives (after_of s) s.rules.dialect s.max_rows s.row (rest_of s.source) e → IsStopped s e (reading_of s)
 is_stopped s e g n d max bytes ended given h = stopped s d max bytes ended given h e n g
-
--- a step from a state that differs in its fields alone
-pub passes_from : (s u t : Rows) (len : ℕ) → u.rules ≡ s.rules → u.max_rows ≡ s.max_rows → u.ended ≡ s.ended → u.stop ≡ s.stop → u.source ≡ s.source → u.row ≡ s.row → Passes u t len → Passes s t len
-passes_from s u t len r m e k source row p = record {
-  rules = p.rules ∙ r;
-  max_rows = p.max_rows ∙ m;
-  ended = p.ended ∙ e;
-  stop = p.stop ∙ k;
-  rest = p.rest ∙ ap (λ x. drop len (rest_of x)) source;
-  begun = p.begun ∙ ap begun_of source;
-  pending = p.pending ∙ ap pending_of source;
-  bad = p.bad ∙ ap is_bad_of source;
-  row = p.row ∙ ap (λ n. n + 1) row;
-}
 
 pub passes_to : (s t u : Rows) (len : ℕ) → u.rules ≡ t.rules → u.max_rows ≡ t.max_rows → u.ended ≡ t.ended → u.stop ≡ t.stop → u.source ≡ t.source → u.row ≡ t.row → Passes s t len → Passes s u len
 passes_to s t u len r m e k source row p = record {

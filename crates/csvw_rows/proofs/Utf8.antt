@@ -108,10 +108,6 @@ text_more bytes piece =
     ap chars (ap (λ n. take n (bytes ++ piece)) (valid_on bytes piece) ∙ ap (take (length front + utf8_valid_len rest)) (split bytes piece) ∙ take_past front rest (utf8_valid_len rest))
     ∙ chars-append front (take (utf8_valid_len rest) rest) (front_valid bytes)
 
--- without the mark
-unmarked_of : Bool → List ℕ → List ℕ
-unmarked_of begun text = if begun then text else without_mark text
-
 by_begun : (t c : List ℕ) → without_mark (t ++ c) ≡ without_mark t ++ (if not (is_empty t) then c else without_mark c)
 by_begun [] c = refl
 by_begun (x ∷ xs) c = by_test (x == 65279)

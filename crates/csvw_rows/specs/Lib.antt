@@ -2,7 +2,6 @@ pub mod Bounds
 pub mod Cuts
 pub mod Grammar
 pub mod Scan
-pub mod Outcomes
 pub mod Lines
 pub mod Files
 pub mod Looks

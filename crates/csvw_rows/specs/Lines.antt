@@ -1,22 +1,12 @@
 -- What stands at the front of the characters that no row has yet.
-use Rattle.std.specs.Prelude.{◌≡◌, ◌≢◌, ◌⊎◌, ℕ, ◌+◌, ◌<◌, ◌≤◌, Bool, true, false, List, length, take, drop, map, Option, Some, None, slice_index, chars}
+use Rattle.std.specs.Prelude.{◌≡◌, ◌≢◌, ◌⊎◌, ℕ, ◌+◌, ◌<◌, ◌≤◌, Bool, true, false, List, length, take, drop, Option, Some, None, slice_index, chars}
 use Rattle.csvw_rows.specs.declared.dialect.Dialect.{Dialect}
 use Rattle.csvw_rows.specs.declared.stop.RowStop.{RowStop}
-use Rattle.csvw_rows.specs.declared.line.Line.{Line}
-use Rattle.csvw_rows.specs.declared.line.Line.TheVariants as line
-use Rattle.csvw_rows.specs.Grammar.{trimmed}
 use Rattle.csvw_rows.specs.Files.{prefix_of}
 use Rattle.csvw_rows.specs.Lengths.{byte_len}
 use Rattle.csvw_rows.specs.Looks.{next_row}
-use Rattle.csvw_rows.specs.Parts.{Continues, Breaks}
+use Rattle.csvw_rows.specs.Parts.{Breaks}
 use Rattle.csvw_rows.specs.Stops.{IsBroken}
-
--- how many characters it has
-abbrev pub line_chars : Line → ℕ
-line_chars (line.Note len) = len
-line_chars (line.Fields len values) = len
-line_chars (line.Open len) = len
-line_chars (line.Broken len stop) = len
 
 -- so many characters stand at the front of both
 pub record IsCommon (prefix text : List ℕ) (len : ℕ) : Type 0 where
@@ -67,9 +57,3 @@ pub record IsWrong (whole : Bool) (d : Dialect) (i : ℕ) (text : List ℕ) (len
   pub first : (k : ℕ) (other : RowStop) → k ≤ length text → Breaks d i (take k text) other → (len ≤ k) × (other ≡ stop)
   pub no_row : (next_row whole d i text ≡ None) × (next_row false d i text ≡ None)
   pub is_broken : whole ≡ true → IsBroken d i text true stop
-
-abbrev pub IsLine : Bool → Dialect → ℕ → List ℕ → Line → Type 0
-IsLine whole d i text (line.Note len) = IsFound whole d i text len None
-IsLine whole d i text (line.Fields len values) = IsFound whole d i text len (Some (map (trimmed d.trim) values.items))
-IsLine whole d i text (line.Open len) = (whole ≡ false) × Continues d i text len
-IsLine whole d i text (line.Broken len stop) = IsWrong whole d i text len stop

@@ -1,24 +1,17 @@
 -- What stands at the front, behind so many rows.
-use Rattle.std.specs.Prelude.{◌≡◌, ◌≢◌, ◌⊎◌, ℕ, ◌<◌, ◌≤◌, Bool, true, false, List, [], ◌++◌, length, take, drop, map, Option, option_map, Result, Ok, Err}
+use Rattle.std.specs.Prelude.{◌≡◌, ◌≢◌, ◌⊎◌, ℕ, ◌<◌, ◌≤◌, Bool, true, false, List, [], ◌++◌, length, take, drop, Option}
 use Rattle.csvw_rows.specs.declared.dialect.Dialect.{Dialect}
 use Rattle.csvw_rows.specs.declared.stop.RowStop.{RowStop}
 use Rattle.csvw_rows.specs.declared.stop.RowStop.TheVariants.{Memory, NotUtf8, RowTooLong, BadQuote, TextAfterQuote, UnclosedQuote, TooManyRows}
 use Rattle.csvw_rows.specs.declared.next.After.{After}
 use Rattle.csvw_rows.specs.declared.next.After.TheVariants.{More, Nothing, NoText}
-use Rattle.csvw_rows.specs.declared.next.Next.{Next}
-use Rattle.csvw_rows.specs.declared.next.Next.TheVariants as next
-use Rattle.csvw_rows.specs.Grammar.{terminator_len, trimmed}
+use Rattle.csvw_rows.specs.Grammar.{terminator_len}
 use Rattle.csvw_rows.specs.Files.{Row, IsRow}
 use Rattle.csvw_rows.specs.Lengths.{byte_len, row_limit}
 use Rattle.csvw_rows.specs.Parts.{Goes, NoRow, NoLast, FirstEnd}
 use Rattle.csvw_rows.specs.Stops.{IsNamed}
 
--- what there is where no row is complete
-abbrev pub waits_of : After → Result Next RowStop
-waits_of More = Ok next.Waits
-waits_of Nothing = Ok next.Waits
-waits_of NoText = Err NotUtf8
-
+-- whether the text has ended, all of it being characters
 abbrev pub is_last : After → Bool
 is_last More = false
 is_last Nothing = true
@@ -57,13 +50,3 @@ StopGives after d max i text TooManyRows = StopsHere (is_last after) d max i tex
 -- no row is complete
 abbrev pub Waits : After → Dialect → ℕ → ℕ → List ℕ → Type 0
 Waits after d max i text = (after ≢ NoText) × Goes d max i text × NoRow d max i text × (after ≡ Nothing → text ≡ [])
-
-abbrev pub NextGives : After → Dialect → ℕ → ℕ → List ℕ → Result Next RowStop → Type 0
-NextGives after d max i text (Ok (next.Row len values)) = TakesRow (is_last after) d max i text len (option_map (λ v. map (trimmed d.trim) v.items) values)
-NextGives after d max i text (Ok next.Waits) = Waits after d max i text
-NextGives after d max i text (Err stop) = StopGives after d max i text stop
-
--- a row is complete at the front
-abbrev pub IsRowThere : Dialect → ℕ → ℕ → List ℕ → Next → Type 0
-IsRowThere d max i text (next.Row len values) = TakesRow false d max i text len (option_map (λ v. map (trimmed d.trim) v.items) values)
-IsRowThere d max i text next.Waits = ⊥

@@ -10,7 +10,6 @@ mod draft;
 mod field;
 pub mod laws;
 mod leads;
-mod line;
 mod marks;
 mod next;
 mod note;
@@ -23,7 +22,6 @@ mod slow;
 mod source;
 mod stop;
 mod trim;
-mod window;
 
 pub use dialect::{BadDialect, Dialect, LineTerminators, Trim};
 pub use raw_row::RawRow;

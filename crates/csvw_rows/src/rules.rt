@@ -48,17 +48,6 @@ impl Rules {
         })
     }
 
-    /// Whether the row at this place, from 0, is skipped or a comment.
-    pub fn is_note(&self, place: u64, text: &[char]) -> bool
-        ensures { result ≡ is_note self.now.dialect place text.now }
-    {
-        let comment = match &self.prefix {
-            Some(prefix) => text.starts_with(prefix.as_slice()),
-            None => false,
-        };
-        place < self.dialect.skip_rows || comment
-    }
-
     /// Whether a row that begins with these bytes, at this place from 0, is skipped or a comment.
     pub fn is_skipped(&self, place: u64, rest: &str) -> bool
         ensures { result ≡ is_note self.now.dialect place (chars rest.now) }
@@ -94,38 +83,6 @@ impl Rules {
             None => 0,
         }
     }
-
-    /// How many characters at the front of the text the prefix has too.
-    pub fn prefix_len(&self, text: &[char]) -> usize
-        ensures within { result ≤ length text.now }
-        ensures value { IsPrefixLen (prefix_of self.now.dialect) text.now result }
-    {
-        match &self.prefix {
-            Some(prefix) => common_len(prefix.as_slice(), text),
-            None => 0,
-        }
-    }
-
-    /// Whether the row that begins so may still become a comment.
-    pub fn may_be_note(&self, text: &[char]) -> bool
-        ensures { result ≡ may_be_note self.now.dialect text.now }
-    {
-        match &self.prefix {
-            Some(prefix) => prefix.as_slice().starts_with(text),
-            None => false,
-        }
-    }
-}
-
-fn common_len(a: &[char], b: &[char]) -> usize
-    ensures { IsCommon a.now b.now result }
-{
-    for (i, c) in b.iter().enumerate() {
-        if i >= a.len() || a[i] != *c {
-            return i;
-        }
-    }
-    b.len()
 }
 
 /// How many characters at the front are the same.

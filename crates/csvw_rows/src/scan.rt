@@ -1,13 +1,9 @@
-//! One pass over the characters of a row, which reads its fields.
-ghost use Rattle.std.specs.Prelude.{◌≡◌, ◌≤◌, [], length, IfOk};
-ghost use Rattle.csvw_rows.specs.Grammar.{terminator_len};
-ghost use Rattle.csvw_rows.specs.Scan.{quote_is, is_quoted, step_of, run};
-ghost use Rattle.csvw_rows.specs.Outcomes.{Gives};
+//! What a character does in a row.
+ghost use Rattle.std.specs.Prelude.{◌≡◌};
+ghost use Rattle.csvw_rows.specs.Scan.{quote_is, is_quoted, step_of};
 
 use crate::dialect::Dialect;
 use crate::stop::RowStop;
-use csvw_text::Seq;
-use std::alloc::{AllocError, Global};
 
 /// Where in a field a character stands.
 #[derive(Clone, Copy, Debug, PartialEq, Eq)]
@@ -49,18 +45,6 @@ pub enum Step {
     End,
     /// It breaks a rule.
     Stop(RowStop),
-}
-
-/// How many characters at the front are a terminator.
-pub fn terminator(d: &Dialect, text: &[char]) -> usize
-    ensures value { result ≡ terminator_len d.now text.now }
-    ensures within { result ≤ length text.now }
-{
-    match text {
-        ['\r', '\n', ..] if d.line_terminators.crlf => 2,
-        ['\n', ..] if d.line_terminators.lf => 1,
-        _ => 0,
-    }
 }
 
 fn is_quote(d: &Dialect, c: char) -> bool
@@ -114,49 +98,4 @@ pub fn next_step(d: &Dialect, state: State, c: char, ends: bool) -> Step
             }
         }
     }
-}
-
-/// What a pass over a text gives.
-#[derive(Drop)]
-pub enum Read {
-    /// The values of a row's fields, and how many characters it has before its terminator.
-    Found(Vec<Seq<char>>, usize),
-    /// A rule is broken at the character of this index.
-    Broken(RowStop, usize),
-    /// The text ended: where in a field, the values before, and what there is of the next.
-    Unfinished(State, Vec<Seq<char>>, Seq<char>),
-}
-
-/// Reads the fields of the row at the front of the text.
-pub fn read_fields(alloc: Global, d: &Dialect, text: &[char]) -> Result<Read, AllocError>
-    ensures { IfOk result (λ r. Gives text.now r (run d.now State.Start [] [] text.now)) }
-{
-    let mut state = State::Start;
-    let mut values = Vec::new(alloc);
-    let mut current = Seq::new(alloc);
-    for (i, c) in text.iter().enumerate() {
-        let ends = 0 < terminator(d, &text[i..]);
-        match next_step(d, state, *c, ends) {
-            Step::Keep(next) => {
-                current.push(*c)?;
-                state = next;
-            }
-            Step::Skip(next) => state = next,
-            Step::Open => {
-                current = Seq::new(alloc);
-                state = State::Inside;
-            }
-            Step::Next => {
-                values.push(current)?;
-                current = Seq::new(alloc);
-                state = State::Start;
-            }
-            Step::End => {
-                values.push(current)?;
-                return Ok(Read::Found(values, i));
-            }
-            Step::Stop(stop) => return Ok(Read::Broken(stop, i)),
-        }
-    }
-    Ok(Read::Unfinished(state, values, current))
 }

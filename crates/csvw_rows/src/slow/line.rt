@@ -6,12 +6,11 @@ ghost use Rattle.csvw_rows.specs.Grammar.{trimmed};
 ghost use Rattle.csvw_rows.specs.Lines.{IsFound, IsWrong, IsShown};
 ghost use Rattle.csvw_rows.specs.Looks.{settled, line_of, may_be_note};
 ghost use Rattle.csvw_rows.specs.Parts.{Continues};
-ghost use Rattle.csvw_rows.specs.Scan.{is_quoted};
 
 use super::fields::{Read, read_fields, terminator};
 use super::notes::{is_note, may_be_note, prefix_len};
 use crate::rules::Rules;
-use crate::scan::State;
+use crate::scan::is_quoted;
 use crate::stop::RowStop;
 use csvw_text::Seq;
 use std::alloc::{AllocError, Global};
@@ -99,16 +98,6 @@ fn shown_len(rules: &Rules, text: &[char], at: usize) -> usize
         place + 1
     } else {
         text.len()
-    }
-}
-
-/// Whether a state is inside quotes.
-fn is_quoted(state: State) -> bool
-    ensures { result ≡ is_quoted state }
-{
-    match state {
-        State::Inside | State::Escaped => true,
-        State::Start | State::Plain | State::Closed => false,
     }
 }
 

@@ -4,7 +4,7 @@ use super::numbers::Numbers;
 use super::*;
 use crate::decode::{chars_of, valid_front};
 use crate::slow::next_row;
-use csvw_text::is_white;
+use csvw_text::{Seq, is_white};
 
 /// How many rows of all kinds are taken.
 const MAX_ROWS: u32 = 40;

@@ -1,4 +1,4 @@
-use Rattle.std.proofs.Common.{◌≡◌, ◌≢◌, ◌∙◌, ◌==◌, ◌<◌, List, ℕ, [], length, arith, sym, ap, subst}
+use Rattle.std.proofs.Common.{◌∙◌, ◌==◌, ◌<◌, List, ℕ, length, arith, sym, ap, subst}
 use Rattle.std.proofs.lemmas.Str.{IsUtf8-from_is_utf8}
 use Rattle.csvw_rows.specs.Files.{is_note}
 use Rattle.csvw_rows.specs.Nexts.{is_last}
