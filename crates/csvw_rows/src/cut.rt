@@ -191,14 +191,28 @@ fn cut_plain(d: &Dialect, symbols: Symbols, rest: &[u8], at: usize) -> Option<Cu
     requires first { NoneBefore symbols rest.now at }
     ensures { IfSome result (IsLent d.now rest.now) }
 {
-    if d.line_terminators.crlf && 0 < at && rest[at] == b'\n' && rest[at - 1] == b'\r' {
+    if rest[at] == symbols.delimiter {
+        return Some(Cut {
+            bound: lent(0, at),
+            next: at + 1,
+            ends: false,
+        });
+    }
+    if d.line_terminators.crlf && 0 < at && rest[at - 1] == b'\r' {
         return Some(Cut {
             bound: lent(0, at - 1),
             next: at - 1,
             ends: true,
         });
     }
-    behind(d, symbols, rest, lent(0, at), at)
+    if d.line_terminators.lf {
+        return Some(Cut {
+            bound: lent(0, at),
+            next: at,
+            ends: true,
+        });
+    }
+    None
 }
 
 /// The field that begins here, whose first symbol stands at this place, where it is found without a look
@@ -220,7 +234,7 @@ fn cut_field(
     ensures grows { Grows spare.old.items spare.new.items }
     ensures cut { IfOk result (λ o. IfSome o (IsCut d.now rest.now spare.new.items)) }
 {
-    if !symbols.quoted || rest[at] != symbols.quote {
+    if rest[at] == symbols.delimiter || rest[at] == b'\n' {
         return Ok(cut_plain(d, symbols, rest, at));
     }
     if 0 < at {
@@ -265,10 +279,7 @@ pub fn cut_row(
     spare.clear();
     let mut marks = Marks::none();
     let mut at = start;
-    while at < text.len() {
-        let Some(len) = next_symbol(symbols, text, at, &mut marks) else {
-            return Ok(None);
-        };
+    while let Some(len) = next_symbol(symbols, text, at, &mut marks) {
         let (_, rest) = text.split_at(at);
         let Some(cut) = cut_field(&rules.dialect, symbols, rest, len, spare)? else {
             return Ok(None);

@@ -1,28 +1,30 @@
-use Rattle.std.proofs.Common.{◌≡◌, ◌<◌, ◌-◌, true, refl, sym, ◌∙◌, arith, subst}
+use Rattle.std.proofs.Common.{◌≡◌, ◌<◌, ◌-◌, inl, inr, true, refl, sym, ◌∙◌, arith}
 use Rattle.std.specs.Prelude.{slice_index}
-use Rattle.csvw_rows.specs.Cuts.{IsBehind, IsLent}
-use Rattle.csvw_rows.proofs.CutLemmas.{plain_cut, crlf_cut, some_gives}
+use Rattle.csvw_rows.proofs.CutLemmas.{inner_cut, crlf_cut, lf_cut}
 use Rattle.csvw_rows.proofs.cut.cut_plain.Goals as goal
-use Rattle.csvw_rows.proofs.cut.cut_plain.Goals.{else-d-via-then-d+then-at-gt0+then-rest-at-eq10+else-rest-at-eq13, else-d-via-then-d+then-at-gt0+else-rest-at-eq10, else-d-via-then-d+else-at-gt0, else-d-via-else-d}
+use Rattle.csvw_rows.proofs.cut.cut_plain.Goals.{else-d-via-then-d+then-at-gt0+else-rest-at-eq13, else-d-via-then-d+else-at-gt0, else-d-via-else-d}
+
+pub returns-then-rest-at : goal.returns-then-rest-at
+returns-then-rest-at c spare =
+    let q = c.requires in
+    inner_cut c.args.d.now c.args.symbols c.args.rest.now spare c.args.at _ q.lawful q.symbols q.text q.within q.first c.if-rest-at.true c.lent.ensures refl refl
 
 pub returns-then-rest-at-eq13 : goal.returns-then-rest-at-eq13
 returns-then-rest-at-eq13 c spare =
     let q = c.requires in
-    crlf_cut c.args.d.now c.args.symbols c.args.rest.now spare c.args.at _ q.lawful q.symbols q.text q.within q.first c.if-d.true c.if-at-gt0.true c.if-rest-at-eq10.true c.if-rest-at-eq13.true c.lent.ensures refl refl
+    let lf : slice_index c.args.rest.now c.args.at ≡ 10 = elim q.stands [ inl h ↦ h | inr h ↦ absurd (c.if-rest-at.false h) ] in
+    crlf_cut c.args.d.now c.args.symbols c.args.rest.now spare c.args.at _ q.lawful q.symbols q.text q.within q.first c.if-d.true c.if-at-gt0.true lf c.if-rest-at-eq13.true c.lent-then-rest-at-eq13.ensures refl refl
 
-pub returns : goal.returns
-returns c =
+pub returns-then-d-2 : goal.returns-then-d-2
+returns-then-d-2 c spare =
     let q = c.requires in
     let d = c.args.d.now in
-    let s = c.args.symbols in
     let r = c.args.rest.now in
     let at = c.args.at in
-    let none : d.line_terminators.crlf ≡ true → 0 < at → slice_index r at ≡ 10 → slice_index r (at - 1) ≡ 13 → ⊥ = λ crlf some lf cr. elim c.else-d.branch [
-      | else-d-via-then-d+then-at-gt0+then-rest-at-eq10+else-rest-at-eq13 w ↦ w.if-rest-at-eq13.false cr
-      | else-d-via-then-d+then-at-gt0+else-rest-at-eq10 w ↦ w.if-rest-at-eq10.false lf
+    let lf : slice_index r at ≡ 10 = elim q.stands [ inl h ↦ h | inr h ↦ absurd (c.if-rest-at.false h) ] in
+    let none : d.line_terminators.crlf ≡ true → 0 < at → slice_index r (at - 1) ≡ 13 → ⊥ = λ crlf some cr. elim c.else-d.branch [
+      | else-d-via-then-d+then-at-gt0+else-rest-at-eq13 w ↦ w.if-rest-at-eq13.false cr
       | else-d-via-then-d+else-at-gt0 w ↦ (let h = w.if-at-gt0.false in omega (arith, h, some))
       | else-d-via-else-d w ↦ (let z = sym w.if-d.false ∙ crlf in cc)
     ] in
-    some_gives (IsBehind d s r c.lent-2.result at) (IsLent d r) c.behind.result
-    (λ cut b spare. plain_cut d s r spare at cut q.lawful q.symbols q.text q.within q.stands q.first none (subst (λ x. IsBehind d s r x at cut) c.lent-2.ensures b))
-    c.behind.ensures
+    lf_cut d c.args.symbols r spare at _ q.lawful q.symbols q.text q.within q.first lf none c.if-d-2.true c.lent-then-d-2.ensures refl refl

@@ -5,8 +5,8 @@ use Rattle.csvw_rows.specs.Cuts.{IsCut, IsCutRow, IsCutTo}
 use Rattle.csvw_rows.proofs.RowCuts.{cut_none, cut_grows, bounds_one, next_text, next_within, cut_more, cut_last}
 use Rattle.csvw_rows.proofs.cut.cut_row.Goals as goal
 
-pub loop-at-init : goal.loop-at-init
-loop-at-init c =
+pub loop-len-init : goal.loop-len-init
+loop-len-init c =
     let d = c.args.rules.now.dialect in
     let text : List ℕ = c.args.text.now in
     let spare : List ℕ = c.clear-2.new.self.items in
@@ -22,31 +22,31 @@ loop-at-init c =
 
 pub returns-in_err-cut-clause-bounded : goal.returns-in_err-cut-clause-bounded
 returns-in_err-cut-clause-bounded c =
-    let i = c.loop-at.invariant in
-    (cut_grows c.args.rules.now.dialect c.args.text.now c.loop-at.spare.items c.cut_field.new.spare.items c.args.start c.loop-at.at c.loop-at.bounds.items c.in_err-cut.ensures.grows i.bounded i.cut_to).0
+    let i = c.loop-len.invariant in
+    (cut_grows c.args.rules.now.dialect c.args.text.now c.loop-len.spare.items c.cut_field.new.spare.items c.args.start c.loop-len.at c.loop-len.bounds.items c.in_err-cut.ensures.grows i.bounded i.cut_to).0
 
 pub returns-in_default-2-clause-bounded : goal.returns-in_default-2-clause-bounded
 returns-in_default-2-clause-bounded c =
-    let i = c.loop-at.invariant in
-    (cut_grows c.args.rules.now.dialect c.args.text.now c.loop-at.spare.items c.cut_field.new.spare.items c.args.start c.loop-at.at c.loop-at.bounds.items c.in_ok-cut.ensures.grows i.bounded i.cut_to).0
+    let i = c.loop-len.invariant in
+    (cut_grows c.args.rules.now.dialect c.args.text.now c.loop-len.spare.items c.cut_field.new.spare.items c.args.start c.loop-len.at c.loop-len.bounds.items c.in_ok-cut.ensures.grows i.bounded i.cut_to).0
 
 pub returns-in_err-push-clause-bounded : goal.returns-in_err-push-clause-bounded
 returns-in_err-push-clause-bounded c =
-    let i = c.loop-at.invariant in
+    let i = c.loop-len.invariant in
     ap (are_bounds c.args.text.now c.cut_field.new.spare.items) c.in_err-push.ensures.items
-    ∙ (cut_grows c.args.rules.now.dialect c.args.text.now c.loop-at.spare.items c.cut_field.new.spare.items c.args.start c.loop-at.at c.loop-at.bounds.items c.in_ok-cut.ensures.grows i.bounded i.cut_to).0
+    ∙ (cut_grows c.args.rules.now.dialect c.args.text.now c.loop-len.spare.items c.cut_field.new.spare.items c.args.start c.loop-len.at c.loop-len.bounds.items c.in_ok-cut.ensures.grows i.bounded i.cut_to).0
 
 pub returns-then-cut-clause-bounded : goal.returns-then-cut-clause-bounded
 returns-then-cut-clause-bounded c =
     let d = c.args.rules.now.dialect in
     let text : List ℕ = c.args.text.now in
-    let at = c.loop-at.at in
+    let at = c.loop-len.at in
     let cut = c.in-Some-2.cut in
-    let i = c.loop-at.invariant in
+    let i = c.loop-len.invariant in
     let new : List ℕ = c.cut_field.new.spare.items in
-    let bounds = c.loop-at.bounds.items in
+    let bounds = c.loop-len.bounds.items in
     let k = subst (λ (l : List ℕ). IsCut d l new cut) c.split_at.ensures.back (rw c.in-Some-2.is at c.in_ok-cut.ensures.cut) in
-    let g = cut_grows d text c.loop-at.spare.items new c.args.start at bounds c.in_ok-cut.ensures.grows i.bounded i.cut_to in
+    let g = cut_grows d text c.loop-len.spare.items new c.args.start at bounds c.in_ok-cut.ensures.grows i.bounded i.cut_to in
     let items : c.push.new.self.items ≡ bounds ++ moved at cut.bound ∷ [] = c.in_ok-push.ensures.items ∙ ap (λ b. bounds ++ b ∷ []) c.bound_at.ensures in
     ap (are_bounds text new) items ∙ bounds_one d text new at cut i.within k bounds g.0
 
@@ -54,27 +54,27 @@ pub returns-then-cut-clause-row : goal.returns-then-cut-clause-row
 returns-then-cut-clause-row c =
     let d = c.args.rules.now.dialect in
     let text : List ℕ = c.args.text.now in
-    let at = c.loop-at.at in
+    let at = c.loop-len.at in
     let cut = c.in-Some-2.cut in
-    let i = c.loop-at.invariant in
+    let i = c.loop-len.invariant in
     let new : List ℕ = c.cut_field.new.spare.items in
-    let bounds = c.loop-at.bounds.items in
+    let bounds = c.loop-len.bounds.items in
     let k = subst (λ (l : List ℕ). IsCut d l new cut) c.split_at.ensures.back (rw c.in-Some-2.is at c.in_ok-cut.ensures.cut) in
-    let g = cut_grows d text c.loop-at.spare.items new c.args.start at bounds c.in_ok-cut.ensures.grows i.bounded i.cut_to in
+    let g = cut_grows d text c.loop-len.spare.items new c.args.start at bounds c.in_ok-cut.ensures.grows i.bounded i.cut_to in
     let items : c.push.new.self.items ≡ bounds ++ moved at cut.bound ∷ [] = c.in_ok-push.ensures.items ∙ ap (λ b. bounds ++ b ∷ []) c.bound_at.ensures in
     subst (λ (l : List Bound). IsCutRow d text c.args.start (at + cut.next) new l) (sym items) (cut_last d text new at cut i.within k c.args.start bounds c.if-cut.true i.from_start g.1)
 
-pub loop-at-preserved : goal.loop-at-preserved
-loop-at-preserved c =
+pub loop-len-preserved : goal.loop-len-preserved
+loop-len-preserved c =
     let d = c.args.rules.now.dialect in
     let text : List ℕ = c.args.text.now in
-    let at = c.loop-at.at in
+    let at = c.loop-len.at in
     let cut = c.in-Some-2.cut in
-    let i = c.loop-at.invariant in
+    let i = c.loop-len.invariant in
     let new : List ℕ = c.cut_field.new.spare.items in
-    let bounds = c.loop-at.bounds.items in
+    let bounds = c.loop-len.bounds.items in
     let k = subst (λ (l : List ℕ). IsCut d l new cut) c.split_at.ensures.back (rw c.in-Some-2.is at c.in_ok-cut.ensures.cut) in
-    let g = cut_grows d text c.loop-at.spare.items new c.args.start at bounds c.in_ok-cut.ensures.grows i.bounded i.cut_to in
+    let g = cut_grows d text c.loop-len.spare.items new c.args.start at bounds c.in_ok-cut.ensures.grows i.bounded i.cut_to in
     let items : c.push.new.self.items ≡ bounds ++ moved at cut.bound ∷ [] = c.in_ok-push.ensures.items ∙ ap (λ b. bounds ++ b ∷ []) c.bound_at.ensures in
     let from = i.from_start in
     record {
