@@ -6,7 +6,7 @@ ghost use Rattle.csvw_rows.specs.Bounds.{are_bounds, lent_bound, moved};
 ghost use Rattle.csvw_rows.specs.Cuts.{IsSymbols, NoneBefore, IsBehind, IsCut, IsLent, IsUnescaped, Grows, IsCutRow, IsRowLen};
 ghost use Rattle.csvw_rows.specs.Grammar.{terminator_len};
 ghost use Rattle.csvw_rows.specs.Lawful.{IsLawful};
-ghost use Rattle.csvw_rows.specs.Marked.{is_symbol};
+ghost use Rattle.csvw_rows.specs.Marked.{is_symbol, AreMarks};
 
 use crate::bound::Bound;
 use crate::dialect::{Dialect, Trim};
@@ -260,26 +260,29 @@ impl Cut {
     }
 }
 
-/// The fields of the row that begins at this place, and where its terminator stands.
+/// The fields of the row that begins at this place, and where its terminator stands. The marks serve the
+/// rows behind it, too.
 pub fn cut_row(
     rules: &Rules,
     symbols: Symbols,
     text: &[u8],
     start: usize,
+    marks: &mut Marks,
     bounds: &mut Vec<Bound>,
     spare: &mut Vec<u8>,
 ) -> Result<Option<usize>, AllocError>
     requires symbols { IsSymbols rules.now.dialect symbols }
+    requires marks { AreMarks (is_symbol symbols) text.now marks.old }
     requires within { start ≤ length text.now }
     requires text { is_utf8 (drop start text.now) ≡ true }
+    ensures marks { AreMarks (is_symbol symbols) text.now marks.new }
     ensures bounded { are_bounds text.now spare.new.items bounds.new.items ≡ true }
     ensures row { IfOk result (λ o. IfSome o (λ at. IsCutRow rules.now.dialect text.now start at spare.new.items bounds.new.items)) }
 {
     bounds.clear();
     spare.clear();
-    let mut marks = Marks::none();
     let mut at = start;
-    while let Some(len) = next_symbol(symbols, text, at, &mut marks) {
+    while let Some(len) = next_symbol(symbols, text, at, marks) {
         let (_, rest) = text.split_at(at);
         let Some(cut) = cut_field(&rules.dialect, symbols, rest, len, spare)? else {
             return Ok(None);

@@ -16,7 +16,7 @@ loop-len-init c =
       within = c.requires.within;
       is_text = c.requires.text;
       bounded = ap (are_bounds text spare) none;
-      marks = c.none-marks.ensures _ _;
+      marks = c.requires.marks;
       cut_to = subst (λ (l : List Bound). IsCutTo d text c.args.start c.args.start spare l) (sym none) (cut_none d text spare c.args.start);
     }
 
