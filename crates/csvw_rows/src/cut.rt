@@ -1,6 +1,6 @@
 //! The fields of a row, found among its bytes. Symbols that are ASCII are their own bytes, and no byte of
 //! another character is below 128.
-ghost use Rattle.std.specs.Prelude.{◌≡◌, ◌≤◌, ◌<◌, ◌+◌, ◌^◌, ◌⊎◌, true, false, length, drop, IfOk, IfSome, slice_index};
+ghost use Rattle.std.specs.Prelude.{◌≡◌, ◌≢◌, ◌≤◌, ◌<◌, ◌+◌, ◌^◌, true, false, length, drop, IfOk, IfSome, slice_index};
 ghost use Rattle.std.specs.Str.{is_utf8};
 ghost use Rattle.csvw_rows.specs.Bounds.{are_bounds, lent_bound, moved};
 ghost use Rattle.csvw_rows.specs.Cuts.{IsSymbols, NoneBefore, IsBehind, IsCut, IsLent, IsUnescaped, Grows, IsCutRow, IsRowLen};
@@ -181,23 +181,16 @@ fn cut_escaped(
     Ok(behind(d, symbols, rest, bound, close + 2))
 }
 
-/// A field without quotes, where the first symbol stands at this place.
-fn cut_plain(d: &Dialect, symbols: Symbols, rest: &[u8], at: usize) -> Option<Cut>
+/// The last field of a row, without quotes, where the first symbol is a line feed at this place.
+fn cut_last(d: &Dialect, symbols: Symbols, rest: &[u8], at: usize) -> Option<Cut>
     requires lawful { IsLawful d.now }
     requires symbols { IsSymbols d.now symbols }
     requires text { is_utf8 rest.now ≡ true }
     requires within { at < length rest.now }
-    requires stands { (slice_index rest.now at ≡ 10) ⊎ (slice_index rest.now at ≡ symbols.delimiter) }
+    requires stands { slice_index rest.now at ≡ 10 }
     requires first { NoneBefore symbols rest.now at }
     ensures { IfSome result (IsLent d.now rest.now) }
 {
-    if rest[at] == symbols.delimiter {
-        return Some(Cut {
-            bound: lent(0, at),
-            next: at + 1,
-            ends: false,
-        });
-    }
     if d.line_terminators.crlf && 0 < at && rest[at - 1] == b'\r' {
         return Some(Cut {
             bound: lent(0, at - 1),
@@ -215,8 +208,8 @@ fn cut_plain(d: &Dialect, symbols: Symbols, rest: &[u8], at: usize) -> Option<Cu
     None
 }
 
-/// The field that begins here, whose first symbol stands at this place, where it is found without a look
-/// at each of its characters. Its text is lent from the bytes or, where a quote is doubled, written behind
+/// The field that begins here, whose first symbol stands at this place and is no delimiter, where it is
+/// found without a look at each of its characters. Its text is lent from the bytes or, where a quote is doubled, written behind
 /// those of the second buffer.
 fn cut_field(
     d: &Dialect,
@@ -230,12 +223,13 @@ fn cut_field(
     requires text { is_utf8 rest.now ≡ true }
     requires within { at < length rest.now }
     requires stands { is_symbol symbols (slice_index rest.now at) ≡ true }
+    requires other { slice_index rest.now at ≢ symbols.delimiter }
     requires first { NoneBefore symbols rest.now at }
     ensures grows { Grows spare.old.items spare.new.items }
     ensures cut { IfOk result (λ o. IfSome o (IsCut d.now rest.now spare.new.items)) }
 {
-    if rest[at] == symbols.delimiter || rest[at] == b'\n' {
-        return Ok(cut_plain(d, symbols, rest, at));
+    if rest[at] == b'\n' {
+        return Ok(cut_last(d, symbols, rest, at));
     }
     if 0 < at {
         return Ok(None);
@@ -284,6 +278,11 @@ pub fn cut_row(
     let mut at = start;
     while let Some(len) = next_symbol(symbols, text, at, marks) {
         let (_, rest) = text.split_at(at);
+        if rest[len] == symbols.delimiter {
+            bounds.push(lent(at, at + len))?;
+            at += len + 1;
+            continue;
+        }
         let Some(cut) = cut_field(&rules.dialect, symbols, rest, len, spare)? else {
             return Ok(None);
         };
