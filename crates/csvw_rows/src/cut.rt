@@ -209,8 +209,8 @@ fn cut_last(d: &Dialect, symbols: Symbols, rest: &[u8], at: usize) -> Option<Cut
 }
 
 /// The field that begins here, whose first symbol stands at this place and is no delimiter, where it is
-/// found without a look at each of its characters. Its text is lent from the bytes or, where a quote is doubled, written behind
-/// those of the second buffer.
+/// found without a look at each of its characters. Its text is lent from the bytes or, where a quote is
+/// doubled, written behind those of the second buffer.
 fn cut_field(
     d: &Dialect,
     symbols: Symbols,
