@@ -16,7 +16,7 @@ use Rattle.csvw_rows.specs.Cuts.{IsSymbols, IsBehind, IsCut, NoneBefore}
 use Rattle.csvw_rows.specs.Grammar.{terminator_len, IsPlain, AreUnits, escape_char}
 use Rattle.csvw_rows.specs.Lawful.{IsLawful}
 use Rattle.csvw_rows.specs.Looks.{unsettled}
-use Rattle.csvw_rows.proofs.Lookahead.{crlf_again}
+use Rattle.csvw_rows.proofs.Lookahead.{crlf_again, lf_again}
 use Rattle.csvw_rows.proofs.BoundLemmas.{lent_is}
 use Rattle.csvw_rows.proofs.Ascii.{Fails, fails_at, AsciiAt, ascii_at, none_pass, no_cr}
 
@@ -178,6 +178,23 @@ plain_cut d s r spare at cut w y ur within stands none no_crlf b = by_stands sta
     by_stands : (slice_index r at ≡ 10) ⊎ (slice_index r at ≡ s.delimiter) → IsCut d r spare cut
     by_stands (inl e) = with_symbol 10 e (omega arith) (inr refl)
     by_stands (inr e) = with_symbol s.delimiter e y.ascii (inl (λ h. w.delimiter_lf (y.delimiter ∙ h)))
+
+-- before a delimiter
+pub inner_cut : (d : Dialect) (s : Symbols) (r spare : List ℕ) (at : ℕ) (cut : Cut) → IsLawful d → IsSymbols d s → is_utf8 r ≡ true → at < length r
+    → NoneBefore s r at → slice_index r at ≡ s.delimiter → cut.bound ≡ lent_bound 0 at → cut.next ≡ at + 1 → cut.ends ≡ false → IsCut d r spare cut
+inner_cut d s r spare at cut w y ur within none stands bound next ends =
+    plain_cut d s r spare at cut w y ur within (inr stands) none (λ crlf some lf cr. w.delimiter_lf (y.delimiter ∙ sym stands ∙ lf))
+    (record { bound_is = bound; ends = λ f. absurd (let z = sym ends ∙ f in cc); goes_on = λ f. (next, within, stands) })
+
+-- before LF
+pub lf_cut : (d : Dialect) (s : Symbols) (r spare : List ℕ) (at : ℕ) (cut : Cut) → IsLawful d → IsSymbols d s → is_utf8 r ≡ true → at < length r
+    → NoneBefore s r at → slice_index r at ≡ 10 → (d.line_terminators.crlf ≡ true → 0 < at → slice_index r (at - 1) ≡ 13 → ⊥) → d.line_terminators.lf ≡ true
+    → cut.bound ≡ lent_bound 0 at → cut.next ≡ at → cut.ends ≡ true → IsCut d r spare cut
+lf_cut d s r spare at cut w y ur within none stands no_cr lf bound next ends =
+    let a = ascii_at r at 10 (IsUtf8-from_is_utf8 r ur) within stands (omega arith) in
+    let term : terminator_len d (drop at r) ≡ 1 = ap (terminator_len d) a.here ∙ lf_again d (drop (at + 1) r) lf in
+    plain_cut d s r spare at cut w y ur within (inl stands) none (λ crlf some h cr. no_cr crlf some cr)
+    (record { bound_is = bound; ends = λ f. (next, omega (arith, term)); goes_on = λ f. absurd (let z = sym ends ∙ f in cc) })
 
 -- a field without quotes, before CR LF
 pub crlf_cut : (d : Dialect) (s : Symbols) (r spare : List ℕ) (at : ℕ) (cut : Cut) → IsLawful d → IsSymbols d s → is_utf8 r ≡ true → at < length r

@@ -1,15 +1,20 @@
 -- The fields of a row, one cut after another.
 use Rattle.std.proofs.Common.{◌≡◌, ◌∙◌, ℕ, ◌+◌, ◌<◌, ◌≤◌, Bool, true, false, ◌&&◌, List, [], ◌∷◌, ◌++◌, length, drop, map, refl, sym, ap, subst, arith, append_assoc, length-drop, chars}
-use Rattle.std.specs.Prelude.{encode_utf8_all}
+use Rattle.std.specs.Prelude.{encode_utf8_all, slice_index}
 use Rattle.std.specs.Str.{is_utf8}
-use Rattle.std.proofs.lemmas.List.{drop-drop, map-append}
+use Rattle.std.proofs.lemmas.List.{drop-drop, get_or-drop, map-append}
 use Rattle.std.proofs.lemmas.List.Folds.{list_all-append}
 use Rattle.csvw_rows.specs.declared.dialect.Dialect.{Dialect}
 use Rattle.csvw_rows.specs.declared.bound.Bound.{Bound}
 use Rattle.csvw_rows.specs.declared.cut.Cut.{Cut}
-use Rattle.csvw_rows.specs.Bounds.{bytes_at, is_bound, are_bounds, fields_at, moved}
-use Rattle.csvw_rows.specs.Cuts.{IsCut, IsCutRow, IsCutTo, Grows}
+use Rattle.csvw_rows.specs.Bounds.{bytes_at, is_bound, are_bounds, fields_at, moved, lent_bound}
+use Rattle.csvw_rows.specs.Cuts.{IsSymbols, IsCut, IsCutRow, IsCutTo, Grows}
 use Rattle.csvw_rows.specs.Grammar.{terminator_len, IsField, AreFields}
+use Rattle.memchr.specs.Find.{NoneBefore, Passes}
+use Rattle.csvw_rows.specs.declared.cut.Symbols.{Symbols}
+use Rattle.csvw_rows.specs.Lawful.{IsLawful}
+use Rattle.csvw_rows.specs.Marked.{is_symbol}
+use Rattle.csvw_rows.proofs.CutLemmas.{inner_cut, not_true}
 use Rattle.csvw_rows.proofs.BoundLemmas.{bounds_more, moved_is}
 
 -- nothing is cut yet
@@ -24,6 +29,21 @@ cut_grows d text old new start at bounds (more, e) a c =
       ap (λ l. are_bounds text l bounds) e ∙ h.0,
       record { values = c.values; texts = ap (λ l. fields_at text l bounds) e ∙ h.1 ∙ c.texts; goes_on = c.goes_on },
     )
+
+-- a field without quotes before a delimiter, which is the first symbol behind its start
+abbrev pub before_delimiter : ℕ → Cut
+before_delimiter n = record { bound = lent_bound 0 n; next = n + 1; ends = false }
+
+pub moved_before : (at n : ℕ) → lent_bound at (at + n) ≡ moved at (before_delimiter n).bound
+moved_before at n = ap (λ k. lent_bound k (at + n)) (let z : at ≡ at + 0 = omega arith in z)
+
+pub cut_before : (d : Dialect) (s : Symbols) (text spare : List ℕ) (at n : ℕ) → IsLawful d → IsSymbols d s → is_utf8 (drop at text) ≡ true → at ≤ length text
+    → NoneBefore (Passes (is_symbol s) text) at (length text) (at + n) × Passes (is_symbol s) text (at + n) → slice_index (drop at text) n ≡ s.delimiter
+    → IsCut d (drop at text) spare (before_delimiter n)
+cut_before d s text spare at n w y u within a stands =
+    let high = a.0.high in
+    inner_cut d s (drop at text) spare n (before_delimiter n) w y u (omega (arith, high, length-drop at text))
+    (λ k h. not_true _ (λ e. a.0.before (at + k) (omega arith) (omega (arith, h)) (ap (is_symbol s) (sym (get_or-drop at text k 0)) ∙ e))) stands refl refl refl
 
 -- where a field of the rest lies in the whole
 module _ (d : Dialect) (text spare : List ℕ) (at : ℕ) (cut : Cut) (within : at ≤ length text) (k : IsCut d (drop at text) spare cut) where

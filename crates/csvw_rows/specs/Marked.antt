@@ -1,5 +1,5 @@
 -- Which bytes of a part of a text are symbols.
-use Rattle.std.specs.Prelude.{◌≡◌, ℕ, ◌+◌, ◌-◌, ◌≤◌, Bool, List, length, map, Option, MatchOption}
+use Rattle.std.specs.Prelude.{◌≡◌, ℕ, ◌+◌, ◌≤◌, Bool, List, length, map, Option, Some, MatchOption}
 use lib.Lanes.{chunk, mask_l}
 use Rattle.memchr.specs.Find.{is_byte3, Nowhere, NoneBefore, Passes}
 use Rattle.csvw_rows.specs.declared.cut.Symbols.{Symbols}
@@ -11,10 +11,13 @@ is_symbol s c = is_byte3 s.delimiter s.quote 10 c
 
 -- a bit is set for each byte of the part that passes the test, the lowest for the first
 pub record AreMarks (test : ℕ → Bool) (text : List ℕ) (m : Marks) : Type 0 where
-  pub ordered : m.from ≤ m.to
-  pub few : m.to ≤ m.from + 64
-  pub within : m.to ≤ length text
-  pub mask : m.mask ≡ mask_l (map test (chunk m.from (m.to - m.from) text))
+  pub few : m.len ≤ 64
+  pub within : m.from + m.len ≤ length text
+  pub mask : m.mask ≡ mask_l (map test (chunk m.from m.len text))
+
+-- they are the marks of these symbols, where there are some
+abbrev pub Marked : Option Symbols → List ℕ → Marks → Type 0
+Marked symbols text m = (s : Symbols) → symbols ≡ Some s → AreMarks (is_symbol s) text m
 
 -- so many bytes come before the first that passes the test, of those from one place up to another
 abbrev pub IsAhead : (ℕ → Bool) → List ℕ → ℕ → ℕ → Option ℕ → Type 0

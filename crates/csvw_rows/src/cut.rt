@@ -1,12 +1,12 @@
 //! The fields of a row, found among its bytes. Symbols that are ASCII are their own bytes, and no byte of
 //! another character is below 128.
-ghost use Rattle.std.specs.Prelude.{◌≡◌, ◌≤◌, ◌<◌, ◌+◌, ◌^◌, ◌⊎◌, true, false, length, drop, IfOk, IfSome, slice_index};
+ghost use Rattle.std.specs.Prelude.{◌≡◌, ◌≢◌, ◌≤◌, ◌<◌, ◌+◌, ◌^◌, true, false, length, drop, IfOk, IfSome, slice_index};
 ghost use Rattle.std.specs.Str.{is_utf8};
 ghost use Rattle.csvw_rows.specs.Bounds.{are_bounds, lent_bound, moved};
 ghost use Rattle.csvw_rows.specs.Cuts.{IsSymbols, NoneBefore, IsBehind, IsCut, IsLent, IsUnescaped, Grows, IsCutRow, IsRowLen};
 ghost use Rattle.csvw_rows.specs.Grammar.{terminator_len};
 ghost use Rattle.csvw_rows.specs.Lawful.{IsLawful};
-ghost use Rattle.csvw_rows.specs.Marked.{is_symbol};
+ghost use Rattle.csvw_rows.specs.Marked.{is_symbol, AreMarks};
 
 use crate::bound::Bound;
 use crate::dialect::{Dialect, Trim};
@@ -181,29 +181,36 @@ fn cut_escaped(
     Ok(behind(d, symbols, rest, bound, close + 2))
 }
 
-/// A field without quotes, where the first symbol stands at this place.
-fn cut_plain(d: &Dialect, symbols: Symbols, rest: &[u8], at: usize) -> Option<Cut>
+/// The last field of a row, without quotes, where the first symbol is a line feed at this place.
+fn cut_last(d: &Dialect, symbols: Symbols, rest: &[u8], at: usize) -> Option<Cut>
     requires lawful { IsLawful d.now }
     requires symbols { IsSymbols d.now symbols }
     requires text { is_utf8 rest.now ≡ true }
     requires within { at < length rest.now }
-    requires stands { (slice_index rest.now at ≡ 10) ⊎ (slice_index rest.now at ≡ symbols.delimiter) }
+    requires stands { slice_index rest.now at ≡ 10 }
     requires first { NoneBefore symbols rest.now at }
     ensures { IfSome result (IsLent d.now rest.now) }
 {
-    if d.line_terminators.crlf && 0 < at && rest[at] == b'\n' && rest[at - 1] == b'\r' {
+    if d.line_terminators.crlf && 0 < at && rest[at - 1] == b'\r' {
         return Some(Cut {
             bound: lent(0, at - 1),
             next: at - 1,
             ends: true,
         });
     }
-    behind(d, symbols, rest, lent(0, at), at)
+    if d.line_terminators.lf {
+        return Some(Cut {
+            bound: lent(0, at),
+            next: at,
+            ends: true,
+        });
+    }
+    None
 }
 
-/// The field that begins here, whose first symbol stands at this place, where it is found without a look
-/// at each of its characters. Its text is lent from the bytes or, where a quote is doubled, written behind
-/// those of the second buffer.
+/// The field that begins here, whose first symbol stands at this place and is no delimiter, where it is
+/// found without a look at each of its characters. Its text is lent from the bytes or, where a quote is
+/// doubled, written behind those of the second buffer.
 fn cut_field(
     d: &Dialect,
     symbols: Symbols,
@@ -216,12 +223,13 @@ fn cut_field(
     requires text { is_utf8 rest.now ≡ true }
     requires within { at < length rest.now }
     requires stands { is_symbol symbols (slice_index rest.now at) ≡ true }
+    requires other { slice_index rest.now at ≢ symbols.delimiter }
     requires first { NoneBefore symbols rest.now at }
     ensures grows { Grows spare.old.items spare.new.items }
     ensures cut { IfOk result (λ o. IfSome o (IsCut d.now rest.now spare.new.items)) }
 {
-    if !symbols.quoted || rest[at] != symbols.quote {
-        return Ok(cut_plain(d, symbols, rest, at));
+    if rest[at] == b'\n' {
+        return Ok(cut_last(d, symbols, rest, at));
     }
     if 0 < at {
         return Ok(None);
@@ -246,30 +254,35 @@ impl Cut {
     }
 }
 
-/// The fields of the row that begins at this place, and where its terminator stands.
+/// The fields of the row that begins at this place, and where its terminator stands. The marks serve the
+/// rows behind it, too.
 pub fn cut_row(
     rules: &Rules,
     symbols: Symbols,
     text: &[u8],
     start: usize,
+    marks: &mut Marks,
     bounds: &mut Vec<Bound>,
     spare: &mut Vec<u8>,
 ) -> Result<Option<usize>, AllocError>
     requires symbols { IsSymbols rules.now.dialect symbols }
+    requires marks { AreMarks (is_symbol symbols) text.now marks.old }
     requires within { start ≤ length text.now }
     requires text { is_utf8 (drop start text.now) ≡ true }
+    ensures marks { AreMarks (is_symbol symbols) text.now marks.new }
     ensures bounded { are_bounds text.now spare.new.items bounds.new.items ≡ true }
     ensures row { IfOk result (λ o. IfSome o (λ at. IsCutRow rules.now.dialect text.now start at spare.new.items bounds.new.items)) }
 {
     bounds.clear();
     spare.clear();
-    let mut marks = Marks::none();
     let mut at = start;
-    while at < text.len() {
-        let Some(len) = next_symbol(symbols, text, at, &mut marks) else {
-            return Ok(None);
-        };
+    while let Some(len) = next_symbol(symbols, text, at, marks) {
         let (_, rest) = text.split_at(at);
+        if rest[len] == symbols.delimiter {
+            bounds.push(lent(at, at + len))?;
+            at += len + 1;
+            continue;
+        }
         let Some(cut) = cut_field(&rules.dialect, symbols, rest, len, spare)? else {
             return Ok(None);
         };

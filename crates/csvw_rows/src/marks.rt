@@ -1,5 +1,5 @@
 //! Where the symbols of a row stand among its bytes: many of them are looked at together.
-ghost use Rattle.std.specs.Prelude.{◌≡◌, ℕ, List, Bool, ◌+◌, ◌<◌, ◌≤◌, length};
+ghost use Rattle.std.specs.Prelude.{◌≡◌, ℕ, List, Bool, true, ◌+◌, ◌^◌, ◌<◌, ◌≤◌, length};
 ghost use Rattle.csvw_rows.specs.Marked.{is_symbol, AreMarks, IsAhead};
 
 use crate::cut::Symbols;
@@ -13,7 +13,7 @@ const LANES: usize = 64;
 #[derive(Clone, Copy, Debug, PartialEq, Eq)]
 pub struct Marks {
     from: usize,
-    to: usize,
+    len: usize,
     mask: u64,
 }
 
@@ -24,17 +24,26 @@ impl Marks {
     {
         Marks {
             from: 0,
-            to: 0,
+            len: 0,
             mask: 0,
         }
+    }
+
+    /// Whether this place is in the part.
+    fn has(self, at: usize) -> bool
+        requires { self.from + self.len < 2 ^ 64 }
+        ensures { result ≡ true → (self.from ≤ at) × (at < self.from + self.len) }
+    {
+        // A place before the part wraps to one behind it.
+        at.wrapping_sub(self.from) < self.len
     }
 
     /// How many bytes of the part come before its first symbol from this place on.
     fn ahead(self, at: usize) -> Option<usize>
         requires low { self.from ≤ at }
-        requires high { at < self.to }
-        requires few { self.to ≤ self.from + LANES }
-        ensures { (test : ℕ → Bool) (text : List ℕ) → AreMarks test text self → IsAhead test text at self.to result }
+        requires high { at < self.from + self.len }
+        requires few { self.len ≤ LANES }
+        ensures { (test : ℕ → Bool) (text : List ℕ) → AreMarks test text self → IsAhead test text at (self.from + self.len) result }
     {
         let mask = self.mask >> (at - self.from);
         if mask == 0 {
@@ -49,7 +58,7 @@ fn marks_from(symbols: Symbols, text: &[u8], from: usize) -> Marks
     requires { from + LANES ≤ length text.now }
     ensures marks { AreMarks (is_symbol symbols) text.now result }
     ensures from { result.from ≡ from }
-    ensures to { result.to ≡ from + LANES }
+    ensures len { result.len ≡ LANES }
 {
     let bytes = u8x64::from_slice(&text[from..]);
     let found = bytes.simd_eq(u8x64::splat(symbols.delimiter))
@@ -57,7 +66,7 @@ fn marks_from(symbols: Symbols, text: &[u8], from: usize) -> Marks
         | bytes.simd_eq(u8x64::splat(b'\n'));
     Marks {
         from,
-        to: from + LANES,
+        len: LANES,
         mask: found.to_bitmask(),
     }
 }
@@ -89,13 +98,13 @@ pub fn next_symbol(symbols: Symbols, text: &[u8], at: usize, marks: &mut Marks) 
     ensures marks { AreMarks (is_symbol symbols) text.now marks.new }
     ensures ahead { IsAhead (is_symbol symbols) text.now at (length text.now) result }
 {
-    if at < marks.from || marks.to <= at {
+    if !marks.has(at) {
         return look_on(symbols, text, at, marks);
     }
     if let Some(len) = marks.ahead(at) {
         return Some(len);
     }
-    let seen = marks.to - at;
+    let seen = marks.from + marks.len - at;
     let len = look_on(symbols, text, at + seen, marks)?;
     Some(seen + len)
 }

@@ -5,6 +5,7 @@ ghost use Rattle.std.specs.Borrow.{sem};
 ghost use Rattle.csvw_rows.specs.Bounds.{are_bounds};
 ghost use Rattle.csvw_rows.specs.Lawful.{IsLawful};
 ghost use Rattle.csvw_rows.specs.Drafts.{IsDraft};
+ghost use Rattle.csvw_rows.specs.Marked.{Marked};
 ghost use Rattle.csvw_rows.specs.Notes.{IsNoted};
 ghost use Rattle.csvw_rows.specs.SourceState.{rest_bytes};
 
@@ -14,6 +15,7 @@ use crate::cut::{cut_row, row_len, terminator_at};
 use crate::dialect::Dialect;
 use crate::draft::{Draft, Reading, settled};
 use crate::field::all_empty;
+use crate::marks::Marks;
 use crate::next::{After, Known, ROW_LIMIT, Turn, is_last};
 use crate::note::line_end;
 use crate::raw_row::RawRow;
@@ -32,6 +34,7 @@ pub struct Rows {
     ended: bool,
     row: u64,
     remained: u64,
+    marks: Marks,
     fields: Vec<Bound>,
     spare: Vec<u8>,
     draft: Draft,
@@ -40,6 +43,7 @@ pub struct Rows {
     ghost few: { max_rows < 2 ^ 64 - 1 },
     ghost counted: { row ≤ max_rows },
     ghost remained_few: { remained ≤ row },
+    ghost marked: { Marked rules.symbols source.text.items marks },
     ghost bounded: { are_bounds source.text.items spare.items fields.items ≡ true },
     ghost drafted: { IsDraft rules.dialect draft (rest_bytes source) },
     ghost noted: { IsNoted rules.dialect note (rest_bytes source) },
@@ -67,6 +71,7 @@ impl Rows {
             ended: false,
             row: 0,
             remained: 0,
+            marks: Marks::none(),
             fields: Vec::new(alloc),
             spare: Vec::new(alloc),
             draft: Draft::new(alloc),
@@ -100,6 +105,7 @@ impl Rows {
             return Err(stop);
         }
         self.fields.clear();
+        self.marks = Marks::none();
         match self.source.push(piece) {
             Ok(()) => Ok(()),
             Err(_) => {
@@ -219,6 +225,7 @@ impl Rows {
             symbols,
             text,
             start,
+            &mut self.marks,
             &mut self.fields,
             &mut self.spare,
         )?

@@ -1,5 +1,6 @@
 //! A dialect with its comment prefix as characters.
-ghost use Rattle.std.specs.Prelude.{◌≡◌, ◌≤◌, false, Some, length, IfOk, chars};
+ghost use Rattle.std.specs.Prelude.{◌≡◌, ◌≤◌, nat_eq, false, Some, length, IfOk, chars};
+ghost use Rattle.std.specs.List.{starts_with};
 ghost use Rattle.csvw_rows.specs.Clean.{IsLeads};
 ghost use Rattle.csvw_rows.specs.Cuts.{IsSymbols};
 ghost use Rattle.csvw_rows.specs.declared.cut.Symbols.{Symbols};
@@ -59,7 +60,7 @@ impl Rules {
         ensures { result ≡ begins_with (chars rest.now) (prefix_of self.now.dialect) }
     {
         match &self.dialect.comment_prefix {
-            Some(prefix) => rest.as_bytes().starts_with(prefix.as_str().as_bytes()),
+            Some(prefix) => begins_with(rest.as_bytes(), prefix.as_str().as_bytes()),
             None => false,
         }
     }
@@ -83,6 +84,16 @@ impl Rules {
             None => 0,
         }
     }
+}
+
+/// Whether the bytes begin with the prefix: mostly their first one tells.
+fn begins_with(bytes: &[u8], prefix: &[u8]) -> bool
+    ensures { result ≡ starts_with nat_eq bytes.now prefix.now }
+{
+    if !bytes.is_empty() && !prefix.is_empty() && bytes[0] != prefix[0] {
+        return false;
+    }
+    bytes.starts_with(prefix)
 }
 
 /// How many characters at the front are the same.

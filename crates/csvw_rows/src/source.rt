@@ -1,5 +1,5 @@
 //! The text of bytes that come in pieces, up to where they are no UTF-8.
-ghost use Rattle.std.specs.Prelude.{◌≡◌, ◌≤◌, ◌+◌, ◌==◌, ◌++◌, not, true, false, [], if◌then◌else◌, length, drop, vec_len, IfOk, OnOk, OnErr, IsUtf8, chars};
+ghost use Rattle.std.specs.Prelude.{◌≡◌, ◌≤◌, ◌+◌, ℕ, List, ◌==◌, ◌++◌, not, true, false, [], if◌then◌else◌, length, drop, vec_len, IfOk, OnOk, OnErr, IsUtf8, chars};
 ghost use Rattle.std.specs.Str.{is_utf8};
 ghost use Rattle.csvw_rows.specs.Files.{without_mark};
 
@@ -46,9 +46,20 @@ impl Source {
         ensures pushes { OnOk result (Pushes self.old self.new piece.now) }
         ensures grows { OnOk result (Grows self.old self.new) }
     {
+        if self.pending.is_empty() {
+            return self.decode(piece);
+        }
         let bytes = joined(self.alloc, self.pending.as_slice(), piece)?;
-        let (text, is_bad) = valid_front(bytes.as_slice());
-        let pending = tail(self.alloc, bytes.as_slice(), text.len())?;
+        self.decode(bytes.as_slice())
+    }
+
+    /// Adds the text of these bytes, the pending ones first.
+    fn decode(&mut self, bytes: &[u8]) -> Result<(), AllocError>
+        ensures pushes { (piece : List ℕ) → bytes.now ≡ pending_of self.old ++ piece → OnOk result (Pushes self.old self.new piece) }
+        ensures grows { OnOk result (Grows self.old self.new) }
+    {
+        let (text, is_bad) = valid_front(bytes);
+        let pending = tail(self.alloc, bytes, text.len())?;
         self.add(text)?;
         self.begun = has_begun(self.begun, text);
         self.pending = pending;

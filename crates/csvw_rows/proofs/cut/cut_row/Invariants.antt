@@ -5,8 +5,8 @@ use Rattle.csvw_rows.specs.Cuts.{IsCutTo}
 use Rattle.csvw_rows.specs.Marked.{is_symbol, AreMarks}
 use Rattle.csvw_rows.proofs.cut.cut_row.Given as goal
 
-abbrev pub invariant-loop-at : goal.invariant-loop-at
-invariant-loop-at l = record {
+abbrev pub invariant-loop-len : goal.invariant-loop-len
+invariant-loop-len l = record {
   from_start : l.start ≤ l.at;
   within : l.at ≤ length l.text;
   is_text : is_utf8 (drop l.at l.text) ≡ true;
@@ -15,5 +15,5 @@ invariant-loop-at l = record {
   cut_to : IsCutTo l.rules.dialect l.text l.start l.at l.spare.items l.bounds.items;
 }
 
-abbrev pub decreases-loop-at : goal.decreases-loop-at
-decreases-loop-at l = length l.text - l.at
+abbrev pub decreases-loop-len : goal.decreases-loop-len
+decreases-loop-len l = length l.text - l.at

@@ -12,7 +12,6 @@ returns-clause-marks c =
     let v = chunk from 64 text in
     let long = length-chunk from 64 text c.requires in
     record {
-      ordered = omega arith;
       few = omega arith;
       within = c.requires;
       mask = marks_are s text from _ c.requires (zip2_of_maps _ _ _ v (zip2_of_maps _ _ _ v (zip2_splat _ v 64 s.delimiter long) (zip2_splat _ v 64 s.quote long)) (zip2_splat _ v 64 10 long));

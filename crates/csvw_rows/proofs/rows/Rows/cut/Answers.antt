@@ -1,6 +1,7 @@
 use Rattle.std.proofs.Common.{◌≡◌, ◌∙◌, ◌<◌, ℕ, List, chars, false, sym, ap, subst, arith}
 use Rattle.csvw_rows.specs.Cuts.{IsCutRow, IsRowLen}
 use Rattle.csvw_rows.specs.Files.{is_note}
+use Rattle.csvw_rows.specs.Marked.{is_symbol, AreMarks}
 use Rattle.csvw_rows.specs.SourceState.{taken_of}
 use Rattle.csvw_rows.proofs.CutLemmas.{some_gives}
 use Rattle.csvw_rows.proofs.CutTakes.{cut_has}
@@ -25,3 +26,8 @@ returns-clause-row c =
     (λ n l. cut_has _ at n y.trim few (ap (is_note d s.row) (sym c.rest-rest.ensures.chars) ∙ note) here
     (subst (λ (l : List ℕ). IsRowLen d l (taken_of s.source) at n) c.items-text.ensures (subst (λ (m : ℕ). IsRowLen d c.items-text.result.now m at n) c.taken-start.ensures l)))
     c.row_len.ensures
+
+pub cut_row-requires-clause-marks : goal.cut_row-requires-clause-marks
+cut_row-requires-clause-marks c =
+    let s = c.args.self.now in
+    subst (λ (l : List ℕ). AreMarks (is_symbol c.in-Some.symbols) l s.marks) (sym c.items-text.ensures) (s.marked c.in-Some.symbols c.in-Some.is)

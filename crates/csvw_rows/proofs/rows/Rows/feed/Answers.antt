@@ -28,3 +28,9 @@ invariant_of-self-in-Err-clause-drafted c = fresh_draft c.args.self.now.rules.di
 pub returns-in-Ok-clause-feeds : goal.returns-in-Ok-clause-feeds
 returns-in-Ok-clause-feeds c = λ d max bytes given h.
     feed_holds c.args.self.now _ d max bytes c.args.piece.now given h refl refl refl refl refl refl c.in-Ok.ensures.pushes
+
+pub invariant_of-self-clause-marked : goal.invariant_of-self-clause-marked
+invariant_of-self-clause-marked c s is = c.none-self.ensures _ _
+
+pub invariant_of-self-in-Err-clause-marked : goal.invariant_of-self-in-Err-clause-marked
+invariant_of-self-in-Err-clause-marked c s is = c.none-self.ensures _ _

@@ -10,3 +10,6 @@ returns-clause-holds c =
 
 pub invariant_of-result-clause-drafted : goal.invariant_of-result-clause-drafted
 invariant_of-result-clause-drafted c = fresh_draft c.in_ok-new.field-0.dialect c.new-5.result (rest_bytes c.new-2.result) c.new-5.ensures c.new-2.result.is_text
+
+pub invariant_of-result-clause-marked : goal.invariant_of-result-clause-marked
+invariant_of-result-clause-marked c s is = c.none.ensures _ _

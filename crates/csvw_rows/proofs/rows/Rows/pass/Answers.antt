@@ -1,7 +1,8 @@
-use Rattle.std.proofs.Common.{◌∙◌, ap}
+use Rattle.std.proofs.Common.{◌∙◌, ℕ, List, sym, ap, subst}
 use Rattle.csvw_rows.specs.Bounds.{are_bounds}
 use Rattle.csvw_rows.proofs.DraftRuns.{fresh_draft}
 use Rattle.csvw_rows.specs.SourceState.{rest_bytes}
+use Rattle.csvw_rows.specs.Marked.{is_symbol, AreMarks}
 use Rattle.csvw_rows.proofs.rows.Rows.pass.Goals as goal
 
 pub invariant_of-self-clause-drafted : goal.invariant_of-self-clause-drafted
@@ -11,3 +12,8 @@ pub invariant_of-self-clause-bounded : goal.invariant_of-self-clause-bounded
 invariant_of-self-clause-bounded c =
     let s = c.args.self.now in
     ap (λ l. are_bounds l s.spare.items s.fields.items) c.take.ensures.items ∙ s.bounded
+
+pub invariant_of-self-clause-marked : goal.invariant_of-self-clause-marked
+invariant_of-self-clause-marked c s is =
+    let r = c.args.self.now in
+    subst (λ (l : List ℕ). AreMarks (is_symbol s) l r.marks) (sym c.take.ensures.items) (r.marked s is)
