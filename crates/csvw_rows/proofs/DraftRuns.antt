@@ -254,8 +254,19 @@ module _ (d : Dialect) (s : Draft) (rest text : List ℕ) (ur : IsUtf8 rest) (ut
             ∙ ap (λ o. goes_on d o (chars tail)) k.broken
             ∙ ap (Broken stop) (sym left_chars);
         settled = λ e.
-            omega (arith, some, ap length taken_chars, length-append (chars (take (read_of t) rest)) (chars (drop (read_of t) rest)), ap length left_chars, length-append (chars (drop len text)) (chars tail),
-            ap length pieces_all, length-append before (chars text ++ chars tail), length-append (chars text) (chars tail), ap length all_settled, length-append before (chars text));
+            omega (
+              arith,
+              some,
+              ap length taken_chars,
+              length-append (chars (take (read_of t) rest)) (chars (drop (read_of t) rest)),
+              ap length left_chars,
+              length-append (chars (drop len text)) (chars tail),
+              ap length pieces_all,
+              length-append before (chars text ++ chars tail),
+              length-append (chars text) (chars tail),
+              ap length all_settled,
+              length-append before (chars text),
+            );
       }
 
 pub reads_goes : {E : Type 0} (d : Dialect) (s t : Draft) (rest text : List ℕ) (r : Result Reading E) → IsUtf8 rest → IsUtf8 text → IsDraft d s rest → text ≡ take (length text) (drop (read_of s) rest)

@@ -87,7 +87,7 @@ module _ (d : Dialect) (rest : List ℕ) (at here common place : ℕ) (u : IsUtf
   shows_front len inside back left =
       let front = take (place + 1) text in
       let same : chars (take len rest) ≡ front = append_cancel_right (chars (take len rest)) front (drop (place + 1) text)
-          (ap (λ l. chars (take len rest) ++ l) (sym left) ∙ sym (split_chars rest len (front_text rest len u inside back)) ∙ sym (take-append-drop (place + 1) text)) in
+      (ap (λ l. chars (take len rest) ++ l) (sym left) ∙ sym (split_chars rest len (front_text rest len u inside back)) ∙ sym (take-append-drop (place + 1) text)) in
       let count = length-take (place + 1) text in
       record {
         count = length front;
