@@ -146,8 +146,8 @@ pub note_stops : (t : Rows) (len : ℕ) → IsNoteNext t → IsNoteRead t len �
 note_stops t len k r long = row_stops t len None k.few k.some r.within r.back (note_next_is t len k r) long
 
 -- the line at the front ends there
-pub line_ends : (t : Rows) (at : ℕ) → (at < length (rest_bytes t.source)) × (0 < terminator_len t.rules.dialect (drop at (rest_bytes t.source))) × NoneBegins t.rules.dialect (rest_bytes t.source) t.note at → IsNoteRead t at
-line_ends t at (within, ends, none) =
+pub line_ends : (t : Rows) (at : ℕ) → (t.note ≤ at) × (at < length (rest_bytes t.source)) × (0 < terminator_len t.rules.dialect (drop at (rest_bytes t.source))) × NoneBegins t.rules.dialect (rest_bytes t.source) t.note at → IsNoteRead t at
+line_ends t at (_, within, ends, none) =
     let d = t.rules.dialect in
     let rest = rest_bytes t.source in
     let u = IsUtf8-from_is_utf8 rest t.source.is_text in

@@ -13,7 +13,7 @@ use Rattle.csvw_rows.specs.declared.draft.Reading.TheVariants as reading
 use Rattle.csvw_rows.specs.declared.scan.State.TheVariants.{Start}
 use Rattle.csvw_rows.specs.declared.stop.RowStop.{RowStop}
 use Rattle.csvw_rows.specs.declared.stop.RowStop.TheVariants.{UnclosedQuote}
-use Rattle.csvw_rows.specs.Drafts.{read_of, state_of, values_of, current_of, runs_on, NoneArises, IsFresh, IsDraft, IsEnded, IsBrokenOff, IsOpen, IsRowRead, IsBrokenThere, IsLeftOpen, Reads, GoesOn}
+use Rattle.csvw_rows.specs.Drafts.{read_of, state_of, values_of, current_of, runs_on, NoneArises, IsFresh, IsDraft, IsEnded, IsBrokenOff, IsOpen, IsRowRead, IsBrokenThere, IsLeftInQuotes, Reads, GoesOn}
 use Rattle.csvw_rows.specs.Grammar.{terminator_len}
 use Rattle.csvw_rows.specs.Looks.{settled, unsettled}
 use Rattle.csvw_rows.specs.Scan.{Found, Broken, Unfinished, run, finish, is_quoted}
@@ -326,5 +326,5 @@ module _ (d : Dialect) (s : Draft) (rest : List ℕ) (ur : IsUtf8 rest) (i : IsD
       }
 
   pub last_left : (t : Draft) → read_of t ≡ read_of s + length all_behind → runs_on d s (chars all_behind) ≡ Unfinished (state_of t) (values_of t) (current_of t) → is_quoted (state_of t) ≡ true
-      → IsLeftOpen d true t rest UnclosedQuote
+      → IsLeftInQuotes d true t rest UnclosedQuote
   last_left t r e q = record { ended = refl; all = (let l = all_long in omega (arith, r, l)); name = refl; runs = runs_all ∙ e; quoted = q }

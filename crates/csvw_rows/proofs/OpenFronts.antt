@@ -9,7 +9,7 @@ use Rattle.csvw_rows.specs.declared.rows.Rows.{Rows}
 use Rattle.csvw_rows.specs.declared.scan.State.TheVariants.{Start}
 use Rattle.csvw_rows.specs.declared.stop.RowStop.{RowStop}
 use Rattle.csvw_rows.specs.declared.stop.RowStop.TheVariants.{RowTooLong}
-use Rattle.csvw_rows.specs.Drafts.{read_of, state_of, values_of, current_of, IsOpen, IsBrokenThere, IsLeftOpen}
+use Rattle.csvw_rows.specs.Drafts.{read_of, state_of, values_of, current_of, IsOpen, IsBrokenThere, IsLeftInQuotes}
 use Rattle.csvw_rows.specs.Files.{is_note}
 use Rattle.csvw_rows.specs.Lengths.{byte_len, row_limit}
 use Rattle.csvw_rows.specs.Lines.{IsWrong, IsShownLen}
@@ -156,7 +156,7 @@ broken_wrong t s len stop k b n = record { count = n.count; wrong = by_last (is_
     by_last false e = subst (λ (w : Bool). IsWrong w d t.row text n.count stop) (sym e) (wrong_part d t.row text stop at k.note broken inside n.count n.shown (k.may_not e) (b.settled e))
 
 -- or a quote is open at the end
-left_wrong : (t : Rows) (s : Draft) (len : ℕ) (stop : RowStop) → IsReadable t → IsLeftOpen t.rules.dialect (is_last (after_of t)) s (rest_bytes t.source) stop → len ≡ length (rest_bytes t.source) → IsWrongRow t len stop
+left_wrong : (t : Rows) (s : Draft) (len : ℕ) (stop : RowStop) → IsReadable t → IsLeftInQuotes t.rules.dialect (is_last (after_of t)) s (rest_bytes t.source) stop → len ≡ length (rest_bytes t.source) → IsWrongRow t len stop
 left_wrong t s len stop k o e = record {
   count = length (rest_of t.source);
   wrong = subst (λ (w : Bool). IsWrong w t.rules.dialect t.row (rest_of t.source) (length (rest_of t.source)) stop) (sym o.ended)
@@ -165,14 +165,14 @@ left_wrong t s len stop k o e = record {
 }
 
 pub stopped_wrong : (t : Rows) (s : Draft) (len : ℕ) (stop : RowStop) → IsReadable t
-    → IsBrokenThere t.rules.dialect (is_last (after_of t)) s (rest_bytes t.source) stop ⊎ IsLeftOpen t.rules.dialect (is_last (after_of t)) s (rest_bytes t.source) stop
+    → IsBrokenThere t.rules.dialect (is_last (after_of t)) s (rest_bytes t.source) stop ⊎ IsLeftInQuotes t.rules.dialect (is_last (after_of t)) s (rest_bytes t.source) stop
     → IsShownLen t.rules.dialect (rest_bytes t.source) (read_of s) len → IsWrongRow t len stop
 stopped_wrong t s len stop k (inl b) n = broken_wrong t s len stop k b n
 stopped_wrong t s len stop k (inr o) n =
     left_wrong t s len stop k o (shown_whole t.rules.dialect (rest_bytes t.source) (read_of s) len (IsUtf8-from_is_utf8 (rest_bytes t.source) t.source.is_text) o.all n)
 
 -- where reading stopped
-pub goes_back : (d : Dialect) (last : Bool) (s : Draft) (rest : List ℕ) (stop : RowStop) → IsBrokenThere d last s rest stop ⊎ IsLeftOpen d last s rest stop → (read_of s ≤ length rest) × (is_utf8 (drop (read_of s) rest) ≡ true)
+pub goes_back : (d : Dialect) (last : Bool) (s : Draft) (rest : List ℕ) (stop : RowStop) → IsBrokenThere d last s rest stop ⊎ IsLeftInQuotes d last s rest stop → (read_of s ≤ length rest) × (is_utf8 (drop (read_of s) rest) ≡ true)
 goes_back d last s rest stop (inl b) = ((let w = b.within in omega (arith, w)), b.back)
 goes_back d last s rest stop (inr o) = ((let e = o.all in omega (arith, e)), text_gone rest (read_of s) o.all)
 

@@ -104,7 +104,7 @@ pub record IsBrokenThere (d : Dialect) (is_last : Bool) (s : Draft) (rest : List
   pub settled : is_last ≡ false → length (chars (take (read_of s) rest)) < length (settled d (chars rest))
 
 -- all of the last text was read, and a quote is open
-pub record IsLeftOpen (d : Dialect) (is_last : Bool) (s : Draft) (rest : List ℕ) (stop : RowStop) : Type 0 where
+pub record IsLeftInQuotes (d : Dialect) (is_last : Bool) (s : Draft) (rest : List ℕ) (stop : RowStop) : Type 0 where
   pub ended : is_last ≡ true
   pub all : read_of s ≡ length rest
   pub name : stop ≡ UnclosedQuote
@@ -115,4 +115,4 @@ pub record IsLeftOpen (d : Dialect) (is_last : Bool) (s : Draft) (rest : List �
 abbrev pub GoesOn : Dialect → Bool → Draft → List ℕ → Reading → Type 0
 GoesOn d is_last s rest reading.Unfinished = (is_last ≡ false) × IsOpen d s rest
 GoesOn d is_last s rest reading.Ended = IsRowRead d is_last s rest
-GoesOn d is_last s rest (reading.Broken stop) = IsBrokenThere d is_last s rest stop ⊎ IsLeftOpen d is_last s rest stop
+GoesOn d is_last s rest (reading.Broken stop) = IsBrokenThere d is_last s rest stop ⊎ IsLeftInQuotes d is_last s rest stop

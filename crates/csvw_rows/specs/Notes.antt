@@ -9,7 +9,7 @@ NoneBegins d text from to = (k : ℕ) → from ≤ k → k < to → terminator_l
 
 -- the first terminator from a place on
 abbrev pub IsLineEnd : Dialect → List ℕ → ℕ → Option ℕ → Type 0
-IsLineEnd d text from (Some at) = (at < length text) × (0 < terminator_len d (drop at text)) × NoneBegins d text from at
+IsLineEnd d text from (Some at) = (from ≤ at) × (at < length text) × (0 < terminator_len d (drop at text)) × NoneBegins d text from at
 IsLineEnd d text from None = NoneBegins d text from (length text)
 
 -- no terminator begins within so many bytes at the front, whatever follows

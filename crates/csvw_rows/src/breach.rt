@@ -7,7 +7,8 @@ use crate::decode::{char_count, front_len};
 use crate::dialect::Dialect;
 use crate::rules::Rules;
 
-/// Whether this character may begin a terminator without ending the row.
+/// Whether this is a CR in a dialect where LF may follow to make it a terminator, and any other character
+/// makes it text.
 fn is_cr(d: &Dialect, c: char) -> bool
     ensures { result ≡ (d.now.line_terminators.crlf && (c == 13)) }
 {

@@ -50,7 +50,11 @@ pub struct Rows {
 }
 
 impl Rows {
-    ghost use Rattle.csvw_rows.specs.RowsState.{is_ended_of, fields_of, unread, reading_of, stop_of, after_of, last_of, Holds, Passes, AreFront, HasFields, Refills, Feeds, Closes, Advances, Turns, KeepsStop, WaitsThere, IsReadable, IsReadRow, IsWrongRow, IsNoteNext, IsNoteRead, IsOpenFront, IsSettledLen, EndsNote, may_go_on_to_note, sure_of, IsKnown};
+    ghost use Rattle.csvw_rows.specs.RowsState.{is_ended_of, fields_of, unread, reading_of, stop_of, after_of, last_of};
+    ghost use Rattle.csvw_rows.specs.RowsState.{Holds, Passes, AreFront, HasFields, Refills, Feeds, Closes, Advances};
+    ghost use Rattle.csvw_rows.specs.RowsState.{Turns, KeepsStop, WaitsThere, IsReadable, IsReadRow, IsWrongRow};
+    ghost use Rattle.csvw_rows.specs.RowsState.{IsNoteNext, IsNoteRead, IsOpenFront, IsSettledLen, EndsNote};
+    ghost use Rattle.csvw_rows.specs.RowsState.{may_go_on_to_note, sure_of, IsKnown};
     ghost use Rattle.csvw_rows.specs.RowsLending.{RestsAdvanced};
     ghost use Rattle.csvw_rows.specs.SourceState.{rest_of};
     ghost use Rattle.csvw_rows.specs.RowValue.{row_of};
@@ -280,8 +284,7 @@ impl Rows {
         ensures { IsKnown self.now result }
     {
         match self.after() {
-            After::More => Known::Waits,
-            After::Nothing => Known::Waits,
+            After::More | After::Nothing => Known::Waits,
             After::NoText => Known::Stop(RowStop::NotUtf8),
         }
     }

@@ -56,6 +56,7 @@ fn is_quote(d: &Dialect, c: char) -> bool
     }
 }
 
+/// What a character does in a state, where a terminator begins with it or not.
 pub fn next_step(d: &Dialect, state: State, c: char, ends: bool) -> Step
     ensures { result ≡ step_of d.now state c ends }
 {

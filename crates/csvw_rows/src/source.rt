@@ -1,5 +1,6 @@
 //! The text of bytes that come in pieces, up to where they are no UTF-8.
-ghost use Rattle.std.specs.Prelude.{◌≡◌, ◌≤◌, ◌+◌, ℕ, List, ◌==◌, ◌++◌, not, true, false, [], if◌then◌else◌, length, drop, vec_len, IfOk, OnOk, OnErr, IsUtf8, chars};
+ghost use Rattle.std.specs.Prelude.{◌≡◌, ◌≤◌, ◌+◌, ℕ, List, ◌==◌, ◌++◌, not, true, false, [], if◌then◌else◌};
+ghost use Rattle.std.specs.Prelude.{length, drop, vec_len, IfOk, OnOk, OnErr, IsUtf8, chars};
 ghost use Rattle.std.specs.Str.{is_utf8};
 ghost use Rattle.csvw_rows.specs.Files.{without_mark};
 
