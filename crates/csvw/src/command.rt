@@ -128,7 +128,8 @@ fn run_plain<O: Opener, W: Write, V: Write>(
     out: &mut Counted<W>,
     err: &mut Counted<V>,
 ) -> u8
-    ensures runs { RunsPlain O.opens O.Reader.remaining url.now file.now opener.old opener.new (stream_of W.contents out.old out.new) (stream_of V.contents err.old err.new) result }
+    ensures runs { RunsPlain O.opens O.Reader.remaining url.now file.now opener.old opener.new
+        (stream_of W.contents out.old out.new) (stream_of V.contents err.old err.new) result }
     ensures bound { result ≤ 4 }
 {
     let Some(reader) = opener.open(file) else {
@@ -152,7 +153,8 @@ pub fn command<O: Opener, W: Write, V: Write>(
     out: &mut Counted<W>,
     err: &mut Counted<V>,
 ) -> u8
-    ensures commands { Commands O.opens O.Reader.remaining (map string_bytes words.now) opener.old opener.new (stream_of W.contents out.old out.new) (stream_of V.contents err.old err.new) result }
+    ensures commands { Commands O.opens O.Reader.remaining (map string_bytes words.now) opener.old opener.new
+        (stream_of W.contents out.old out.new) (stream_of V.contents err.old err.new) result }
     ensures bound { result ≤ 4 }
 {
     match requested(alloc, words) {

@@ -3,7 +3,8 @@ ghost use Rattle.std.specs.Prelude.{◌≡◌, ◌↔◌, ◌<◌, ◌^◌, ◌%
 ghost use Rattle.csvw_datatype_core.specs.LexicalDates.{IsDayNumber, IsMomentNumber};
 ghost use Rattle.csvw_datatype.specs.Breaks.{is_below, fails};
 ghost use Rattle.csvw_datatype.specs.Formats.{IsFormatOf};
-ghost use Rattle.csvw_datatype.specs.Sound.{IsSound, IsBoundOf, AreBoundsOf, IsNumberSize, IsWholeNumber, is_text, lengths_apply, lengths_agree, side_agrees, sides_agree, first_of, bounds_agree};
+ghost use Rattle.csvw_datatype.specs.Sound.{IsSound, IsBoundOf, AreBoundsOf, IsNumberSize, IsWholeNumber, is_text};
+ghost use Rattle.csvw_datatype.specs.Sound.{lengths_apply, lengths_agree, side_agrees, sides_agree, first_of, bounds_agree};
 
 use crate::datatype::{Datatype, Facets};
 use crate::facets::{has_lengths, is_below, is_less, is_not_under, is_over};

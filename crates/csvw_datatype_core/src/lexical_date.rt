@@ -2,7 +2,8 @@
 ghost use Rattle.std.specs.Prelude.{◌≡◌, ◌≤◌, ◌+◌, ◌*◌, ◌<◌, ◌++◌, [], ◌∷◌, IfOk, OnOk, string_bytes, ℤ, pos, ◌+ℤ◌, ◌*ℤ◌};
 ghost use Rattle.csvw_datatype_core.specs.Dates.{IsDay, day_number, ReadsDate};
 ghost use Rattle.csvw_datatype_core.specs.Moments.{ReadsMoment};
-ghost use Rattle.csvw_datatype_core.specs.LexicalDates.{IsDayNumber, IsMomentNumber, AppendsDate, AppendsTime, IsFields, IsDayAndSecond, two_digits, four_digits, date_digits, time_digits};
+ghost use Rattle.csvw_datatype_core.specs.LexicalDates.{IsDayNumber, IsMomentNumber, AppendsDate, AppendsTime};
+ghost use Rattle.csvw_datatype_core.specs.LexicalDates.{IsFields, IsDayAndSecond, two_digits, four_digits, date_digits, time_digits};
 
 use crate::date::DateFormat;
 use crate::moment::MomentFormat;

@@ -33,7 +33,9 @@ pub(crate) fn read_table<R: Read, S: TripleSink>(
 ) -> Result<(), Halt>
     requires { is_ended_of table.old.rows ≡ false }
     ensures same { IsSameTable table.old table.new }
-    ensures reads { (d : TheDialect) (start : S) → Stands S.gains S.is_open S.failed d start table.old [] false sink.old → Reads S.gains S.is_open S.failed d (R.remaining (inner_of input.old)) (R.remaining (inner_of input.new)) (failures_of input.old) (failures_of input.new) start table.new sink.new result }
+    ensures reads { (d : TheDialect) (start : S) → Stands S.gains S.is_open S.failed d start table.old [] false sink.old
+        → Reads S.gains S.is_open S.failed d (R.remaining (inner_of input.old)) (R.remaining (inner_of input.new))
+        (failures_of input.old) (failures_of input.new) start table.new sink.new result }
 {
     let mut buffer = buffer_of(alloc, PIECE)?;
     let piece = buffer.as_mut_slice();

@@ -94,9 +94,12 @@ pub fn plain<R: Read, W: Write, V: Write>(
     out: &mut Counted<W>,
     report: &mut Counted<V>,
 ) -> Result<Outcome, Stop>
-    ensures converts { IfOk result (λ outcome. AtUrl url.now (λ base. Converts base (run_of R.remaining W.contents input.old input.new out.old out.new))) }
+    ensures converts { IfOk result (λ outcome. AtUrl url.now (λ base.
+        Converts base (run_of R.remaining W.contents input.old input.new out.old out.new))) }
     ensures faults { IfOk result (λ outcome. outcome.faults ≡ []) }
-    ensures stops { IfErr result (λ reason. PlainStops url.now (run_of R.remaining W.contents input.old input.new out.old out.new) (failures_of report.old) (failures_of report.new) reason) }
+    ensures stops { IfErr result (λ reason.
+        PlainStops url.now (run_of R.remaining W.contents input.old input.new out.old out.new)
+        (failures_of report.old) (failures_of report.new) reason) }
     ensures report { Keeps (V.contents (inner_of report.old)) (V.contents (inner_of report.new)) }
 {
     let url = table_url(alloc, url)?;

@@ -131,7 +131,9 @@ fn give<S: TripleSink>(
 fn drain<S: TripleSink>(alloc: Global, table: &mut Table, sink: &mut S) -> Result<(), Halt>
     ensures same { IsSameTable table.old table.new }
     ensures ended { is_ended_of table.new.rows ≡ is_ended_of table.old.rows }
-    ensures drains { (d : TheDialect) (bytes : List ℕ) (ended : Bool) (start : S) → Stands S.gains S.is_open S.failed d start table.old bytes ended sink.old → Drains S.gains S.is_open S.failed d bytes ended start table.new sink.new result }
+    ensures drains { (d : TheDialect) (bytes : List ℕ) (ended : Bool) (start : S)
+        → Stands S.gains S.is_open S.failed d start table.old bytes ended sink.old
+        → Drains S.gains S.is_open S.failed d bytes ended start table.new sink.new result }
 {
     let mut emitter = Emitter::new(alloc);
     let mut spare = Row::new(alloc);
@@ -157,7 +159,9 @@ pub(crate) fn feed_table<S: TripleSink>(
     requires { is_ended_of table.old.rows ≡ false }
     ensures same { IsSameTable table.old table.new }
     ensures ended { is_ended_of table.new.rows ≡ false }
-    ensures drains { (d : TheDialect) (bytes : List ℕ) (start : S) → Stands S.gains S.is_open S.failed d start table.old bytes false sink.old → Drains S.gains S.is_open S.failed d (bytes ++ piece.now) false start table.new sink.new result }
+    ensures drains { (d : TheDialect) (bytes : List ℕ) (start : S)
+        → Stands S.gains S.is_open S.failed d start table.old bytes false sink.old
+        → Drains S.gains S.is_open S.failed d (bytes ++ piece.now) false start table.new sink.new result }
 {
     match table.rows.feed(piece) {
         Ok(()) => drain(alloc, table, sink),
@@ -173,7 +177,9 @@ pub(crate) fn end_table<S: TripleSink>(
 ) -> Result<(), Halt>
     requires { is_ended_of table.old.rows ≡ false }
     ensures same { IsSameTable table.old table.new }
-    ensures drains { (d : TheDialect) (bytes : List ℕ) (start : S) → Stands S.gains S.is_open S.failed d start table.old bytes false sink.old → Drains S.gains S.is_open S.failed d bytes true start table.new sink.new result }
+    ensures drains { (d : TheDialect) (bytes : List ℕ) (start : S)
+        → Stands S.gains S.is_open S.failed d start table.old bytes false sink.old
+        → Drains S.gains S.is_open S.failed d bytes true start table.new sink.new result }
 {
     match table.rows.end() {
         Ok(()) => drain(alloc, table, sink),

@@ -54,7 +54,10 @@ impl<'a, W: Write> TripleSink for NtSink<'a, W> {
     ghost use Rattle.csvw_text.specs.Counted.{inner_of, failures_of};
     ghost use Rattle.csvw_ntriples.specs.NtSink.{sink_out, sink_is_open};
 
-    ghost gains = { λ a ts b. ((sink_out b).ghost_name ≡ (sink_out a).ghost_name) × AllByRecursion TripleFits ts × Sends (W.contents (inner_of (sink_out a).now)) (sink_is_open a) ts (W.contents (inner_of (sink_out b).now)) (sink_is_open b) };
+    ghost gains = { λ a ts b.
+        ((sink_out b).ghost_name ≡ (sink_out a).ghost_name) × AllByRecursion TripleFits ts
+        × Sends (W.contents (inner_of (sink_out a).now)) (sink_is_open a) ts
+        (W.contents (inner_of (sink_out b).now)) (sink_is_open b) };
 
     ghost is_open = { λ s. sink_is_open s };
 
@@ -83,5 +86,10 @@ impl<'a, W: Write> TripleSink for NtSink<'a, W> {
 
     ghost stays = { λ s. (refl, tt, sends_nothing (W.contents (inner_of (sink_out s).now)) (sink_is_open s)) };
 
-    ghost goes_on = { λ a b c xs ys p q. (q.0 ∙ p.0, all_fit xs ys p.1 q.1, sends_on (W.contents (inner_of (sink_out a).now)) (W.contents (inner_of (sink_out b).now)) (W.contents (inner_of (sink_out c).now)) (sink_is_open a) (sink_is_open b) (sink_is_open c) xs ys p.2 q.2) };
+    ghost goes_on = { λ a b c xs ys p q. (
+      q.0 ∙ p.0,
+      all_fit xs ys p.1 q.1,
+      sends_on (W.contents (inner_of (sink_out a).now)) (W.contents (inner_of (sink_out b).now))
+          (W.contents (inner_of (sink_out c).now)) (sink_is_open a) (sink_is_open b) (sink_is_open c) xs ys p.2 q.2,
+    ) };
 }

@@ -1,7 +1,8 @@
 //! The line of a triple.
 ghost use Rattle.std.specs.Prelude.{◌≡◌, ◌∷◌, [], ◌++◌, true, OnOk, flat_map, codes, decimal, Bool};
 ghost use Rattle.std.specs.List.{list_any};
-ghost use Rattle.csvw_ntriples.specs.Written.{label, escaped, iri_text, blank_text, string_text, node_text, datatype_text, suffix_text, is_string_type, lit_text, term_text, line_text};
+ghost use Rattle.csvw_ntriples.specs.Written.{label, escaped, iri_text, blank_text, string_text, node_text};
+ghost use Rattle.csvw_ntriples.specs.Written.{datatype_text, suffix_text, is_string_type, lit_text, term_text, line_text};
 ghost use Rattle.csvw_ntriples.specs.Escape.{needs_escape};
 ghost use Rattle.csvw_ntriples.specs.LabelLaw.{IsOrigin};
 ghost use Rattle.csvw_ntriples.specs.Writable.{IriFits, NodeFits, SuffixFits, LitFits, TermFits, TripleFits};

@@ -92,7 +92,8 @@ pub fn trim_fields(
 ) -> Result<(), AllocError>
     requires { apart_all texts.now bounds.now ≡ true }
     ensures bounded { apart_all texts.now fields.new.items ≡ true }
-    ensures texts { OnOk result (texts_apart texts.now fields.new.items ≡ map (λ x. encode_utf8_all (trimmed trim (chars x))) (texts_apart texts.now bounds.now)) }
+    ensures texts { OnOk result (texts_apart texts.now fields.new.items
+        ≡ map (λ x. encode_utf8_all (trimmed trim (chars x))) (texts_apart texts.now bounds.now)) }
 {
     fields.clear();
     for bound in bounds {

@@ -9,10 +9,12 @@ ghost use Rattle.csvw_triples.specs.RowTriples.{row_triples};
 
 /// The triples that a row gives are its graph (csv2rdf, section 4.2).
 pub fn row_triples_are_row_graph()
-    ensures { (t : ℕ) (columns : TheColumns) (row : TheRow) (x : TheTriple) → Contains (row_triples mode.Minimal t columns row) x ↔ RowGraph t columns row x }
+    ensures { (t : ℕ) (columns : TheColumns) (row : TheRow) (x : TheTriple)
+        → Contains (row_triples mode.Minimal t columns row) x ↔ RowGraph t columns row x }
 {}
 
 /// The triples that all rows of a table give are the graph of the table (csv2rdf, section 4.2).
 pub fn rows_triples_are_minimal()
-    ensures { (t : ℕ) (columns : TheColumns) (rows : List TheRow) (x : TheTriple) → Contains (flat_map (row_triples mode.Minimal t columns) rows) x ↔ Minimal t (Some columns) rows x }
+    ensures { (t : ℕ) (columns : TheColumns) (rows : List TheRow) (x : TheTriple)
+        → Contains (flat_map (row_triples mode.Minimal t columns) rows) x ↔ Minimal t (Some columns) rows x }
 {}
