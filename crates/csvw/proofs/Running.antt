@@ -9,7 +9,7 @@ use Rattle.csvw_engine.specs.Plain.{Run, AtUrl, Converts, PlainStops, run_of}
 use Rattle.csvw.specs.Answers.{TellsStop}
 use Rattle.csvw.specs.Commands.{RunsOver, run_from}
 use Rattle.csvw.specs.Status.{outcome_status}
-use Rattle.csvw.specs.Streams.{Stream, stream_of}
+use Rattle.csvw_text.specs.Streams.{Stream, stream_of}
 
 abbrev run_at : Option (List ℕ) → ℕ → Option (List ℕ) → ℕ → Stream → Run
 run_at unread failures left failed out = record (run_from unread left failed out) { input_failures = failures }

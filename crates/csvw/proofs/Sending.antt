@@ -3,7 +3,7 @@ use Rattle.std.proofs.Common.{◌≡◌, ◌∙◌, ℕ, List, [], ◌++◌, tak
 use Rattle.std.proofs.KnownBytes.{Appends-kept, Appends-trans}
 use Rattle.std.specs.Io.KnownBytes.{Appends, Keeps}
 use Rattle.csvw_text.specs.Count.{after_call, one_more}
-use Rattle.csvw.specs.Streams.{Stream, IsCut, Sends, Tells}
+use Rattle.csvw_text.specs.Streams.{Stream, IsCut, Sends, Tells}
 
 -- the same stream, up to and from a moment between
 abbrev pub stream : Option (List ℕ) → Option (List ℕ) → ℕ → ℕ → Stream

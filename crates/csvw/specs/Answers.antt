@@ -6,7 +6,7 @@ use Rattle.csvw_engine.specs.declared.stop.Stop.{Stop}
 use Rattle.csvw_engine.specs.declared.stop.Stop.TheVariants as stop
 use Rattle.csvw.specs.Lines.{line_of}
 use Rattle.csvw.specs.Status.{stop_status}
-use Rattle.csvw.specs.Streams.{Stream, IsCut, IsIdle, Sends, Tells}
+use Rattle.csvw_text.specs.Streams.{Stream, IsCut, IsIdle, Sends, Tells}
 
 -- the line of a stop, with its end
 abbrev pub ended_line : Stop → List ℕ

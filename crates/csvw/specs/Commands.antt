@@ -10,7 +10,7 @@ use Rattle.csvw_engine.specs.Plain.{Run, AtUrl, Converts, PlainStops}
 use Rattle.csvw.specs.Answers.{Answers, TellsStop}
 use Rattle.csvw.specs.Asked.{AsksPlain, program_app}
 use Rattle.csvw.specs.Status.{outcome_status}
-use Rattle.csvw.specs.Streams.{Stream, IsIdle}
+use Rattle.csvw_text.specs.Streams.{Stream, IsIdle}
 
 -- the table at this URL was converted, and nothing told
 pub record EndsWell (url : Text) (run : Run) (err : Stream) (status : ℕ) : Type 0 where

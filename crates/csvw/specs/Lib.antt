@@ -5,4 +5,3 @@ pub mod Lines
 pub mod MetaNames
 pub mod Names
 pub mod Status
-pub mod Streams

@@ -4,7 +4,7 @@ ghost use Rattle.clap.specs.Words.{kind_of};
 ghost use Rattle.csvw.specs.Answers.{Answers, GivesText, TellsStop};
 ghost use Rattle.csvw.specs.Commands.{Commands, RunsPlain};
 ghost use Rattle.csvw.specs.Status.{stop_status, outcome_status};
-ghost use Rattle.csvw.specs.Streams.{IsCut, Sends, Tells, stream_of};
+ghost use Rattle.csvw_text.specs.Streams.{IsCut, Sends, Tells, stream_of};
 
 use crate::names::stop_line;
 use crate::opener::Opener;

@@ -5,3 +5,4 @@ pub mod Count
 pub mod Counted
 pub mod Language
 pub mod Spaces
+pub mod Streams

@@ -1,7 +1,7 @@
 -- The stop's line, or that there is no memory for it.
 use Rattle.std.proofs.Common.{rules, [], ◌∷◌, ◌++◌, ◌≡◌, inl, inr, subst}
 use Rattle.csvw.specs.Lines.{line_of}
-use Rattle.csvw.specs.Streams.{Tells, stream_of}
+use Rattle.csvw_text.specs.Streams.{Tells, stream_of}
 use Rattle.csvw.proofs.command.tell_stop.Goals.{in-Ok, in-Err}
 use Rattle.csvw.proofs.command.tell_stop.Goals as goal
 

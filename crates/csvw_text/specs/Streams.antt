@@ -1,4 +1,4 @@
--- What a run sends to a stream.
+-- What is sent to a stream.
 use Rattle.std.specs.Prelude.{◌≡◌, ◌⊎◌, ℕ, List, ◌++◌, Option}
 use Rattle.std.specs.Io.KnownBytes.{Appends}
 use Rattle.csvw_text.specs.declared.counted.Counted.{Counted}
