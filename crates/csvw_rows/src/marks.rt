@@ -1,6 +1,6 @@
 //! Where the symbols of a row stand among its bytes: many of them are looked at together.
 ghost use Rattle.std.specs.Prelude.{◌≡◌, ℕ, List, Bool, true, ◌+◌, ◌^◌, ◌<◌, ◌≤◌, length};
-ghost use Rattle.csvw_rows.specs.Marked.{is_symbol, AreMarks, IsAhead};
+ghost use Rattle.csvw_rows.specs.Marked.{is_symbol, is_quote, AreMarks, IsAhead};
 
 use crate::cut::Symbols;
 use memchr::memchr3;
@@ -72,6 +72,7 @@ fn marks_from(symbols: Symbols, text: &[u8], from: usize) -> Marks
 }
 
 /// How many bytes from this place on come before the first symbol, if one follows.
+#[inline(never)]
 fn look_on(symbols: Symbols, text: &[u8], at: usize, marks: &mut Marks) -> Option<usize>
     requires marks { AreMarks (is_symbol symbols) text.now marks.old }
     requires within { at ≤ length text.now }
@@ -92,19 +93,36 @@ fn look_on(symbols: Symbols, text: &[u8], at: usize, marks: &mut Marks) -> Optio
 }
 
 /// How many bytes from this place on come before the first symbol, if one follows.
+#[inline(always)]
 pub fn next_symbol(symbols: Symbols, text: &[u8], at: usize, marks: &mut Marks) -> Option<usize>
     requires marks { AreMarks (is_symbol symbols) text.now marks.old }
     requires within { at ≤ length text.now }
     ensures marks { AreMarks (is_symbol symbols) text.now marks.new }
     ensures ahead { IsAhead (is_symbol symbols) text.now at (length text.now) result }
 {
-    if !marks.has(at) {
-        return look_on(symbols, text, at, marks);
+    if marks.has(at) {
+        if let Some(len) = marks.ahead(at) {
+            return Some(len);
+        }
     }
-    if let Some(len) = marks.ahead(at) {
-        return Some(len);
+    look_on(symbols, text, at, marks)
+}
+
+/// How many bytes from this place on come before the first quote, if one follows.
+#[inline(always)]
+pub fn next_quote(symbols: Symbols, text: &[u8], at: usize, marks: &mut Marks) -> Option<usize>
+    requires marks { AreMarks (is_symbol symbols) text.now marks.old }
+    requires within { at ≤ length text.now }
+    ensures marks { AreMarks (is_symbol symbols) text.now marks.new }
+    ensures ahead { IsAhead (is_quote symbols) text.now at (length text.now) result }
+{
+    let mut seen = 0;
+    while let Some(len) = next_symbol(symbols, text, at + seen, marks) {
+        seen += len;
+        if text[at + seen] == symbols.quote {
+            return Some(seen);
+        }
+        seen += 1;
     }
-    let seen = marks.from + marks.len - at;
-    let len = look_on(symbols, text, at + seen, marks)?;
-    Some(seen + len)
+    None
 }
