@@ -27,6 +27,6 @@ Marked symbols text m = (s : Symbols) → symbols ≡ Some s → AreMarks (is_sy
 abbrev pub StandsAhead : (ℕ → Bool) → List ℕ → ℕ → ℕ → ℕ → Type 0
 StandsAhead test text from to len = NoneBefore (Passes test text) from to (from + len) × Passes test text (from + len)
 
--- so it is, or none passes it
+-- so many come before it, or none passes the test
 abbrev pub IsAhead : (ℕ → Bool) → List ℕ → ℕ → ℕ → Option ℕ → Type 0
 IsAhead test text from to len = MatchOption len (Nowhere (Passes test text) from to) (StandsAhead test text from to)

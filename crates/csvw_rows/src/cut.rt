@@ -108,6 +108,13 @@ fn behind(d: &Dialect, symbols: Symbols, rest: &[u8], bound: Bound, at: usize) -
     None
 }
 
+/// Whether a quote stands at this place.
+fn has_quote(symbols: Symbols, text: &[u8], at: usize) -> bool
+    ensures { result ≡ true → (at < length text.now) × (slice_index text.now at ≡ symbols.quote) }
+{
+    at < text.len() && text[at] == symbols.quote
+}
+
 /// Writes what the characters inside quotes stand for behind the texts of a buffer. They begin at this place,
 /// and so many bytes come before the first quote. Answers how many come before the quote that closes them.
 fn unescape(
@@ -127,25 +134,20 @@ fn unescape(
     ensures grows { Grows spare.old.items spare.new.items }
     ensures value { IfOk result (λ o. IfSome o (IsUnescaped symbols.quote (drop start text.now) spare.old.items spare.new.items)) }
 {
-    let (_, inside) = text.split_at(start);
-    let mut at = 0;
+    let mut at = start;
     let mut len = first;
-    while at + len + 1 < inside.len() && inside[at + len + 1] == symbols.quote {
-        let (_, rest) = inside.split_at(at);
-        let (chunk, _) = rest.split_at(len + 1);
-        spare.extend_from_slice(chunk)?;
+    while has_quote(symbols, text, at + len + 1) {
+        spare.extend_from_slice(&text[at..at + len + 1])?;
         at += len + 2;
-        let Some(next) = next_quote(symbols, text, start + at, marks) else {
+        let Some(next) = next_quote(symbols, text, at, marks) else {
             return Ok(None);
         };
         len = next;
     }
-    if 0 < len {
-        let (_, rest) = inside.split_at(at);
-        let (chunk, _) = rest.split_at(len);
-        spare.extend_from_slice(chunk)?;
+    if len > 0 {
+        spare.extend_from_slice(&text[at..at + len])?;
     }
-    Ok(Some(at + len))
+    Ok(Some(at + len - start))
 }
 
 /// A field in quotes with an escape, where so many bytes come before the first quote inside. Its text is
@@ -207,11 +209,11 @@ fn cut_quoted(
     let Some(first) = next_quote(symbols, text, start + 1, marks) else {
         return Ok(None);
     };
-    let (_, rest) = text.split_at(start);
-    if let Some(cut) = behind(d, symbols, rest, lent(1, first + 1), first + 2) {
-        return Ok(Some(cut));
+    if has_quote(symbols, text, start + first + 2) {
+        return cut_escaped(d, symbols, text, start, first, marks, spare);
     }
-    cut_escaped(d, symbols, text, start, first, marks, spare)
+    let (_, rest) = text.split_at(start);
+    Ok(behind(d, symbols, rest, lent(1, first + 1), first + 2))
 }
 
 /// The last field of a row, without quotes, where the first symbol is a line feed at this place.
