@@ -110,7 +110,8 @@ fn behind(d: &Dialect, symbols: Symbols, rest: &[u8], bound: Bound, at: usize) -
 
 /// Whether a quote stands at this place.
 fn has_quote(symbols: Symbols, text: &[u8], at: usize) -> bool
-    ensures { result ≡ true → (at < length text.now) × (slice_index text.now at ≡ symbols.quote) }
+    ensures stands { result ≡ true → (at < length text.now) × (slice_index text.now at ≡ symbols.quote) }
+    ensures other { result ≡ false → at < length text.now → slice_index text.now at ≢ symbols.quote }
 {
     at < text.len() && text[at] == symbols.quote
 }
