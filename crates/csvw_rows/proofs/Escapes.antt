@@ -6,6 +6,7 @@ use Rattle.std.proofs.Math.Seq.{take-add}
 use Rattle.std.proofs.lemmas.List.{take_more, get_or-take, get_or-drop, drop-drop}
 use Rattle.std.proofs.lemmas.Str.{IsUtf8-from_is_utf8, is_utf8-from_IsUtf8, IsUtf8-append, IsUtf8-nil, IsUtf8-from_ascii, chars-append, encodes-chars, chars-nil}
 use Rattle.memchr.specs.Find.{is_byte}
+use Rattle.csvw_rows.specs.Marked.{is_quote, StandsAhead}
 use Rattle.csvw_rows.specs.declared.dialect.Dialect.{Dialect}
 use Rattle.csvw_rows.specs.declared.bound.Bound.{Bound}
 use Rattle.csvw_rows.specs.declared.cut.Cut.{Cut}
@@ -15,7 +16,7 @@ use Rattle.csvw_rows.specs.Cuts.{IsSymbols, IsBehind, IsCut, Unescapes, IsUnesca
 use Rattle.csvw_rows.specs.Grammar.{AreUnits}
 use Rattle.csvw_rows.proofs.Ascii.{AsciiAt, ascii_at, chars_ascii, fails_at, none_pass}
 use Rattle.csvw_rows.proofs.BoundLemmas.{apart_is}
-use Rattle.csvw_rows.proofs.CutLemmas.{units_of, byte_low, quoted_is}
+use Rattle.csvw_rows.proofs.CutLemmas.{units_of, byte_low, quoted_is, same_of, not_true}
 
 units_join : (d : Dialect) (q : ℕ) (a v b w : List ℕ) → AreUnits d q a v → AreUnits d q b w → AreUnits d q (a ++ b) (v ++ w)
 units_join d q a [] b w e h = subst (λ l. AreUnits d q l w) (sym (ap (λ l. l ++ b) e)) h
@@ -28,6 +29,24 @@ one_text q h = IsUtf8-from_ascii (q ∷ []) low
     low : (i : ℕ) → get_or (q ∷ []) i 0 < 128
     low zero = h
     low (suc i) = omega arith
+
+-- so many bytes come before the first quote
+abbrev pub IsFirstQuote : ℕ → List ℕ → ℕ → Type 0
+IsFirstQuote q rest len = (len < length rest) × (slice_index rest len ≡ q) × ((k : ℕ) → k < len → is_byte q (slice_index rest k) ≡ false)
+
+pub quote_ahead : (s : Symbols) (text : List ℕ) (start at len : ℕ) → start + at ≤ length text → StandsAhead (is_quote s) text (start + at) (length text) len → IsFirstQuote s.quote (drop at (drop start text)) len
+quote_ahead s text start at len within a = subst (λ l. IsFirstQuote s.quote l len) (sym (drop-drop at start text)) (
+  (let h = a.0.high in omega (arith, h, length-drop (start + at) text)),
+  get_or-drop (start + at) text len 0 ∙ same_of _ s.quote a.1,
+  (λ k h. not_true _ (λ e. a.0.before (start + at + k) (omega arith) (omega (arith, h)) (ap (is_quote s) (sym (get_or-drop (start + at) text k 0)) ∙ e))),
+)
+
+-- what begins at a place stands at the front of what is left
+pub left_some : (text : List ℕ) (start : ℕ) → start < length text → 0 < length (drop start text)
+left_some text start h = omega (arith, h, length-drop start text)
+
+pub left_first : (text : List ℕ) (start x : ℕ) → slice_index text start ≡ x → slice_index (drop start text) 0 ≡ x
+left_first text start x e = get_or-drop start text 0 0 ∙ ap (slice_index text) (let z : start + 0 ≡ start = omega arith in z) ∙ e
 
 -- nothing is read yet
 pub none_written : (q : ℕ) (inside old : List ℕ) → Unescapes q (take 0 inside) old old

@@ -10,10 +10,9 @@ use Rattle.std.proofs.lemmas.Simd.{map-map, mask_l-mod, length-chunk, trailing_m
 use Rattle.std.proofs.Math.Nat.{div-one, zero-div}
 use lib.Lanes.{chunk, mask_l, top}
 use lib.Count.{count_trailing_zeros}
-use Rattle.memchr.specs.Find.{Nowhere, NoneBefore, Passes}
-use Rattle.csvw_rows.specs.declared.cut.Symbols.{Symbols}
+use Rattle.memchr.specs.Find.{is_byte3, Nowhere, NoneBefore, Passes}
 use Rattle.csvw_rows.specs.declared.marks.Marks.{Marks}
-use Rattle.csvw_rows.specs.Marked.{is_symbol, AreMarks}
+use Rattle.csvw_rows.specs.Marked.{AreMarks}
 
 -- a mask without its lowest bits
 zero_shr : (s : ℕ) → 0 / 2 ^ s ≡ 0
@@ -103,8 +102,8 @@ far_ahead test text at mid n k le e none first here = (
 )
 
 -- the lanes that are compared
-abbrev pub lane : Symbols → ℕ → ℕ
-lane s x = bit_or (bit_or (cond (eqb x s.delimiter) 255 0) (cond (eqb x s.quote) 255 0)) (cond (eqb x 10) 255 0)
+abbrev pub lane : ℕ → ℕ → ℕ → ℕ
+lane delimiter quote x = bit_or (bit_or (cond (eqb x delimiter) 255 0) (cond (eqb x quote) 255 0)) (cond (eqb x 10) 255 0)
 
 top_lane : (a b c : Bool) → top 7 (bit_or (bit_or (cond a 255 0) (cond b 255 0)) (cond c 255 0)) ≡ (a || b || c)
 top_lane true true true = refl
@@ -120,11 +119,11 @@ map_same : (f g : ℕ → Bool) → ((x : ℕ) → f x ≡ g x) → (xs : List �
 map_same f g e [] = refl
 map_same f g e (x ∷ xs) = ap (λ b. b ∷ map f xs) (e x) ∙ ap (λ l. g x ∷ l) (map_same f g e xs)
 
-pub marks_are : (s : Symbols) (text : List ℕ) (from : ℕ) (z : List ℕ) → from + 64 ≤ length text → z ≡ map (lane s) (chunk from 64 text)
-    → mask_l (map (top 7) z) % 2 ^ 64 ≡ mask_l (map (is_symbol s) (chunk from 64 text))
-marks_are s text from z inside e =
+pub marks_are : (delimiter quote : ℕ) (text : List ℕ) (from : ℕ) (z : List ℕ) → from + 64 ≤ length text → z ≡ map (lane delimiter quote) (chunk from 64 text)
+    → mask_l (map (top 7) z) % 2 ^ 64 ≡ mask_l (map (is_byte3 delimiter quote 10) (chunk from 64 text))
+marks_are delimiter quote text from z inside e =
     let v = chunk from 64 text in
-    let p = λ (x : ℕ). top 7 (lane s x) in
+    let p = λ (x : ℕ). top 7 (lane delimiter quote x) in
     let long : length v ≡ 64 = length-chunk from 64 text inside in
-    ap (λ l. mask_l l % 2 ^ 64) (ap (map (top 7)) e ∙ map-map (top 7) (lane s) v) ∙ mask_l-mod (map p v) 64 (omega (arith, length-map v p, long))
-    ∙ ap mask_l (map_same p (is_symbol s) (λ x. top_lane (eqb x s.delimiter) (eqb x s.quote) (eqb x 10)) v)
+    ap (λ l. mask_l l % 2 ^ 64) (ap (map (top 7)) e ∙ map-map (top 7) (lane delimiter quote) v) ∙ mask_l-mod (map p v) 64 (omega (arith, length-map v p, long))
+    ∙ ap mask_l (map_same p (is_byte3 delimiter quote 10) (λ x. top_lane (eqb x delimiter) (eqb x quote) (eqb x 10)) v)

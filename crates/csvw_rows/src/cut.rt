@@ -6,14 +6,13 @@ ghost use Rattle.csvw_rows.specs.Bounds.{are_bounds, lent_bound, moved};
 ghost use Rattle.csvw_rows.specs.Cuts.{IsSymbols, NoneBefore, IsBehind, IsCut, IsLent, IsUnescaped, Grows, IsCutRow, IsRowLen};
 ghost use Rattle.csvw_rows.specs.Grammar.{terminator_len};
 ghost use Rattle.csvw_rows.specs.Lawful.{IsLawful};
-ghost use Rattle.csvw_rows.specs.Marked.{is_symbol, AreMarks};
+ghost use Rattle.csvw_rows.specs.Marked.{is_symbol, is_quote, AreMarks, StandsAhead};
 
 use crate::bound::Bound;
 use crate::dialect::{Dialect, Trim};
-use crate::marks::{Marks, next_symbol};
+use crate::marks::{Marks, next_quote, next_symbol};
 use crate::next::ROW_LIMIT;
 use crate::rules::Rules;
-use memchr::memchr;
 use std::alloc::AllocError;
 
 /// The symbols of a dialect as bytes. The quote is one only where fields may be `quoted`.
@@ -109,67 +108,73 @@ fn behind(d: &Dialect, symbols: Symbols, rest: &[u8], bound: Bound, at: usize) -
     None
 }
 
-/// A field in quotes that has no escape.
-fn cut_quoted(d: &Dialect, symbols: Symbols, rest: &[u8]) -> Option<Cut>
-    requires lawful { IsLawful d.now }
-    requires symbols { IsSymbols d.now symbols }
-    requires text { is_utf8 rest.now ≡ true }
-    requires some { 0 < length rest.now }
-    requires quoted { symbols.quoted ≡ true }
-    requires quote { slice_index rest.now 0 ≡ symbols.quote }
-    ensures { IfSome result (IsLent d.now rest.now) }
+/// Whether a quote stands at this place.
+fn has_quote(symbols: Symbols, text: &[u8], at: usize) -> bool
+    ensures stands { result ≡ true → (at < length text.now) × (slice_index text.now at ≡ symbols.quote) }
+    ensures other { result ≡ false → at < length text.now → slice_index text.now at ≢ symbols.quote }
 {
-    let (_, inside) = rest.split_at(1);
-    let close = memchr(symbols.quote, inside)?;
-    behind(d, symbols, rest, lent(1, close + 1), close + 2)
+    at < text.len() && text[at] == symbols.quote
 }
 
-/// Writes what these characters inside quotes stand for behind the texts of a buffer, up to the quote that
-/// closes them, and answers its place.
-fn unescape(quote: u8, inside: &[u8], spare: &mut Vec<u8>) -> Result<Option<usize>, AllocError>
-    requires ascii { quote < 128 }
-    requires text { is_utf8 inside.now ≡ true }
+/// Writes what the characters inside quotes stand for behind the texts of a buffer. They begin at this place,
+/// and so many bytes come before the first quote. Answers how many come before the quote that closes them.
+fn unescape(
+    symbols: Symbols,
+    text: &[u8],
+    start: usize,
+    first: usize,
+    marks: &mut Marks,
+    spare: &mut Vec<u8>,
+) -> Result<Option<usize>, AllocError>
+    requires ascii { symbols.quote < 128 }
+    requires marks { AreMarks (is_symbol symbols) text.now marks.old }
+    requires within { start ≤ length text.now }
+    requires text { is_utf8 (drop start text.now) ≡ true }
+    requires first { StandsAhead (is_quote symbols) text.now start (length text.now) first }
+    ensures marks { AreMarks (is_symbol symbols) text.now marks.new }
     ensures grows { Grows spare.old.items spare.new.items }
-    ensures value { IfOk result (λ o. IfSome o (IsUnescaped quote inside.now spare.old.items spare.new.items)) }
+    ensures value { IfOk result (λ o. IfSome o (IsUnescaped symbols.quote (drop start text.now) spare.old.items spare.new.items)) }
 {
-    let mut at = 0;
-    while at < inside.len() {
-        let (_, rest) = inside.split_at(at);
-        let Some(found) = memchr(quote, rest) else {
+    let mut at = start;
+    let mut len = first;
+    while has_quote(symbols, text, at + len + 1) {
+        spare.extend_from_slice(&text[at..at + len + 1])?;
+        at += len + 2;
+        let Some(next) = next_quote(symbols, text, at, marks) else {
             return Ok(None);
         };
-        if found + 1 < rest.len() && rest[found + 1] == quote {
-            let (chunk, _) = rest.split_at(found + 1);
-            spare.extend_from_slice(chunk)?;
-            at += found + 2;
-        } else {
-            let (chunk, _) = rest.split_at(found);
-            spare.extend_from_slice(chunk)?;
-            return Ok(Some(at + found));
-        }
+        len = next;
     }
-    Ok(None)
+    if len > 0 {
+        spare.extend_from_slice(&text[at..at + len])?;
+    }
+    Ok(Some(at + len - start))
 }
 
-/// A field in quotes, whose text is written behind those of the second buffer.
+/// A field in quotes with an escape, where so many bytes come before the first quote inside. Its text is
+/// written behind those of the second buffer.
 fn cut_escaped(
     d: &Dialect,
     symbols: Symbols,
-    rest: &[u8],
+    text: &[u8],
+    start: usize,
+    first: usize,
+    marks: &mut Marks,
     spare: &mut Vec<u8>,
 ) -> Result<Option<Cut>, AllocError>
-    requires lawful { IsLawful d.now }
     requires symbols { IsSymbols d.now symbols }
-    requires text { is_utf8 rest.now ≡ true }
-    requires some { 0 < length rest.now }
+    requires marks { AreMarks (is_symbol symbols) text.now marks.old }
+    requires within { start < length text.now }
+    requires text { is_utf8 (drop start text.now) ≡ true }
     requires quoted { symbols.quoted ≡ true }
-    requires quote { slice_index rest.now 0 ≡ symbols.quote }
+    requires quote { slice_index text.now start ≡ symbols.quote }
+    requires first { StandsAhead (is_quote symbols) text.now (start + 1) (length text.now) first }
+    ensures marks { AreMarks (is_symbol symbols) text.now marks.new }
     ensures grows { Grows spare.old.items spare.new.items }
-    ensures cut { IfOk result (λ o. IfSome o (IsCut d.now rest.now spare.new.items)) }
+    ensures cut { IfOk result (λ o. IfSome o (IsCut d.now (drop start text.now) spare.new.items)) }
 {
     let from = spare.len();
-    let (_, inside) = rest.split_at(1);
-    let Some(close) = unescape(symbols.quote, inside, spare)? else {
+    let Some(close) = unescape(symbols, text, start + 1, first, marks, spare)? else {
         return Ok(None);
     };
     let to = spare.len();
@@ -178,7 +183,38 @@ fn cut_escaped(
         to,
         apart: true,
     };
+    let (_, rest) = text.split_at(start);
     Ok(behind(d, symbols, rest, bound, close + 2))
+}
+
+/// A field in quotes. Its text is lent from the bytes or, where a quote is doubled, written behind those of
+/// the second buffer.
+fn cut_quoted(
+    d: &Dialect,
+    symbols: Symbols,
+    text: &[u8],
+    start: usize,
+    marks: &mut Marks,
+    spare: &mut Vec<u8>,
+) -> Result<Option<Cut>, AllocError>
+    requires symbols { IsSymbols d.now symbols }
+    requires marks { AreMarks (is_symbol symbols) text.now marks.old }
+    requires within { start < length text.now }
+    requires text { is_utf8 (drop start text.now) ≡ true }
+    requires quoted { symbols.quoted ≡ true }
+    requires quote { slice_index text.now start ≡ symbols.quote }
+    ensures marks { AreMarks (is_symbol symbols) text.now marks.new }
+    ensures grows { Grows spare.old.items spare.new.items }
+    ensures cut { IfOk result (λ o. IfSome o (IsCut d.now (drop start text.now) spare.new.items)) }
+{
+    let Some(first) = next_quote(symbols, text, start + 1, marks) else {
+        return Ok(None);
+    };
+    if has_quote(symbols, text, start + first + 2) {
+        return cut_escaped(d, symbols, text, start, first, marks, spare);
+    }
+    let (_, rest) = text.split_at(start);
+    Ok(behind(d, symbols, rest, lent(1, first + 1), first + 2))
 }
 
 /// The last field of a row, without quotes, where the first symbol is a line feed at this place.
@@ -208,36 +244,37 @@ fn cut_last(d: &Dialect, symbols: Symbols, rest: &[u8], at: usize) -> Option<Cut
     None
 }
 
-/// The field that begins here, whose first symbol stands at this place and is no delimiter, where it is
-/// found without a look at each of its characters. Its text is lent from the bytes or, where a quote is
-/// doubled, written behind those of the second buffer.
+/// The field that begins at this place, where so many bytes come before its first symbol, which is no
+/// delimiter, if it is found without a look at each of its characters. Its text is lent from the bytes or,
+/// where a quote is doubled, written behind those of the second buffer.
 fn cut_field(
     d: &Dialect,
     symbols: Symbols,
-    rest: &[u8],
-    at: usize,
+    text: &[u8],
+    start: usize,
+    len: usize,
+    marks: &mut Marks,
     spare: &mut Vec<u8>,
 ) -> Result<Option<Cut>, AllocError>
     requires lawful { IsLawful d.now }
     requires symbols { IsSymbols d.now symbols }
-    requires text { is_utf8 rest.now ≡ true }
-    requires within { at < length rest.now }
-    requires stands { is_symbol symbols (slice_index rest.now at) ≡ true }
-    requires other { slice_index rest.now at ≢ symbols.delimiter }
-    requires first { NoneBefore symbols rest.now at }
+    requires marks { AreMarks (is_symbol symbols) text.now marks.old }
+    requires within { start ≤ length text.now }
+    requires text { is_utf8 (drop start text.now) ≡ true }
+    requires first { StandsAhead (is_symbol symbols) text.now start (length text.now) len }
+    requires other { slice_index text.now (start + len) ≢ symbols.delimiter }
+    ensures marks { AreMarks (is_symbol symbols) text.now marks.new }
     ensures grows { Grows spare.old.items spare.new.items }
-    ensures cut { IfOk result (λ o. IfSome o (IsCut d.now rest.now spare.new.items)) }
+    ensures cut { IfOk result (λ o. IfSome o (IsCut d.now (drop start text.now) spare.new.items)) }
 {
-    if rest[at] == b'\n' {
-        return Ok(cut_last(d, symbols, rest, at));
+    if text[start + len] == b'\n' {
+        let (_, rest) = text.split_at(start);
+        return Ok(cut_last(d, symbols, rest, len));
     }
-    if 0 < at {
+    if 0 < len {
         return Ok(None);
     }
-    if let Some(cut) = cut_quoted(d, symbols, rest) {
-        return Ok(Some(cut));
-    }
-    cut_escaped(d, symbols, rest, spare)
+    cut_quoted(d, symbols, text, start, marks, spare)
 }
 
 impl Cut {
@@ -277,13 +314,12 @@ pub fn cut_row(
     spare.clear();
     let mut at = start;
     while let Some(len) = next_symbol(symbols, text, at, marks) {
-        let (_, rest) = text.split_at(at);
-        if rest[len] == symbols.delimiter {
+        if text[at + len] == symbols.delimiter {
             bounds.push(lent(at, at + len))?;
             at += len + 1;
             continue;
         }
-        let Some(cut) = cut_field(&rules.dialect, symbols, rest, len, spare)? else {
+        let Some(cut) = cut_field(&rules.dialect, symbols, text, at, len, marks, spare)? else {
             return Ok(None);
         };
         bounds.push(cut.bound_at(at))?;

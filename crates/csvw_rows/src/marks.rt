@@ -1,6 +1,7 @@
 //! Where the symbols of a row stand among its bytes: many of them are looked at together.
 ghost use Rattle.std.specs.Prelude.{◌≡◌, ℕ, List, Bool, true, ◌+◌, ◌^◌, ◌<◌, ◌≤◌, length};
-ghost use Rattle.csvw_rows.specs.Marked.{is_symbol, AreMarks, IsAhead};
+ghost use Rattle.memchr.specs.Find.{is_byte3};
+ghost use Rattle.csvw_rows.specs.Marked.{is_symbol, is_quote, AreMarks, IsAhead};
 
 use crate::cut::Symbols;
 use memchr::memchr3;
@@ -54,15 +55,15 @@ impl Marks {
 }
 
 /// The marks of the bytes from this place on.
-fn marks_from(symbols: Symbols, text: &[u8], from: usize) -> Marks
+fn marks_from(delimiter: u8, quote: u8, text: &[u8], from: usize) -> Marks
     requires { from + LANES ≤ length text.now }
-    ensures marks { AreMarks (is_symbol symbols) text.now result }
+    ensures marks { AreMarks (is_byte3 delimiter quote 10) text.now result }
     ensures from { result.from ≡ from }
     ensures len { result.len ≡ LANES }
 {
     let bytes = u8x64::from_slice(&text[from..]);
-    let found = bytes.simd_eq(u8x64::splat(symbols.delimiter))
-        | bytes.simd_eq(u8x64::splat(symbols.quote))
+    let found = bytes.simd_eq(u8x64::splat(delimiter))
+        | bytes.simd_eq(u8x64::splat(quote))
         | bytes.simd_eq(u8x64::splat(b'\n'));
     Marks {
         from,
@@ -71,40 +72,58 @@ fn marks_from(symbols: Symbols, text: &[u8], from: usize) -> Marks
     }
 }
 
-/// How many bytes from this place on come before the first symbol, if one follows.
-fn look_on(symbols: Symbols, text: &[u8], at: usize, marks: &mut Marks) -> Option<usize>
-    requires marks { AreMarks (is_symbol symbols) text.now marks.old }
+/// How many bytes from this place on come before the first symbol, if one follows. The marks are made anew.
+/// It takes two bytes and no `Symbols`, which each of its many callers would have to write to memory.
+#[inline(never)]
+fn look_on(delimiter: u8, quote: u8, text: &[u8], at: usize, marks: &mut Marks) -> Option<usize>
+    requires marks { AreMarks (is_byte3 delimiter quote 10) text.now marks.old }
     requires within { at ≤ length text.now }
-    ensures marks { AreMarks (is_symbol symbols) text.now marks.new }
-    ensures ahead { IsAhead (is_symbol symbols) text.now at (length text.now) result }
+    ensures marks { AreMarks (is_byte3 delimiter quote 10) text.now marks.new }
+    ensures ahead { IsAhead (is_byte3 delimiter quote 10) text.now at (length text.now) result }
 {
     if text.len() - at < LANES {
         let (_, rest) = text.split_at(at);
-        return memchr3(symbols.delimiter, symbols.quote, b'\n', rest);
+        return memchr3(delimiter, quote, b'\n', rest);
     }
-    *marks = marks_from(symbols, text, at);
+    *marks = marks_from(delimiter, quote, text, at);
     if let Some(len) = marks.ahead(at) {
         return Some(len);
     }
     let (_, rest) = text.split_at(at + LANES);
-    let len = memchr3(symbols.delimiter, symbols.quote, b'\n', rest)?;
+    let len = memchr3(delimiter, quote, b'\n', rest)?;
     Some(LANES + len)
 }
 
 /// How many bytes from this place on come before the first symbol, if one follows.
+#[inline(always)]
 pub fn next_symbol(symbols: Symbols, text: &[u8], at: usize, marks: &mut Marks) -> Option<usize>
     requires marks { AreMarks (is_symbol symbols) text.now marks.old }
     requires within { at ≤ length text.now }
     ensures marks { AreMarks (is_symbol symbols) text.now marks.new }
     ensures ahead { IsAhead (is_symbol symbols) text.now at (length text.now) result }
 {
-    if !marks.has(at) {
-        return look_on(symbols, text, at, marks);
+    if marks.has(at) {
+        if let Some(len) = marks.ahead(at) {
+            return Some(len);
+        }
     }
-    if let Some(len) = marks.ahead(at) {
-        return Some(len);
+    look_on(symbols.delimiter, symbols.quote, text, at, marks)
+}
+
+/// How many bytes from this place on come before the first quote, if one follows.
+#[inline(always)]
+pub fn next_quote(symbols: Symbols, text: &[u8], at: usize, marks: &mut Marks) -> Option<usize>
+    requires marks { AreMarks (is_symbol symbols) text.now marks.old }
+    requires within { at ≤ length text.now }
+    ensures marks { AreMarks (is_symbol symbols) text.now marks.new }
+    ensures ahead { IsAhead (is_quote symbols) text.now at (length text.now) result }
+{
+    let mut from = at;
+    while let Some(len) = next_symbol(symbols, text, from, marks) {
+        if text[from + len] == symbols.quote {
+            return Some(from + len - at);
+        }
+        from += len + 1;
     }
-    let seen = marks.from + marks.len - at;
-    let len = look_on(symbols, text, at + seen, marks)?;
-    Some(seen + len)
+    None
 }

@@ -1,8 +1,8 @@
 use Rattle.std.proofs.Common.{◌≡◌, ◌+◌, ◌++◌, ◌∷◌, [], ℕ, List, refl, sym, ap, ◌∙◌, subst, arith}
-use Rattle.std.specs.Prelude.{slice_index}
+use Rattle.std.proofs.lemmas.List.{get_or-drop}
 use Rattle.csvw_rows.specs.declared.bound.Bound.{Bound}
 use Rattle.csvw_rows.specs.Bounds.{are_bounds, moved}
-use Rattle.csvw_rows.specs.Cuts.{IsCut, IsCutRow, IsCutTo}
+use Rattle.csvw_rows.specs.Cuts.{IsCutRow, IsCutTo}
 use Rattle.csvw_rows.proofs.RowCuts.{cut_none, cut_grows, bounds_one, next_text, next_within, cut_more, cut_last, before_delimiter, cut_before, moved_before}
 use Rattle.csvw_rows.proofs.cut.cut_row.Goals as goal
 
@@ -46,7 +46,7 @@ returns-then-cut-clause-bounded c =
     let i = c.loop-len.invariant in
     let new : List ℕ = c.cut_field.new.spare.items in
     let bounds = c.loop-len.bounds.items in
-    let k = subst (λ (l : List ℕ). IsCut d l new cut) c.split_at.ensures.back (rw c.in-Some-2.is at c.in_ok-cut.ensures.cut) in
+    let k = rw c.in-Some-2.is at c.in_ok-cut.ensures.cut in
     let g = cut_grows d text c.loop-len.spare.items new c.args.start at bounds c.in_ok-cut.ensures.grows i.bounded i.cut_to in
     let items : c.push-in-Some.new.self.items ≡ bounds ++ moved at cut.bound ∷ [] = c.in_ok-push-2.ensures.items ∙ ap (λ b. bounds ++ b ∷ []) c.bound_at.ensures in
     ap (are_bounds text new) items ∙ bounds_one d text new at cut i.within k bounds g.0
@@ -60,7 +60,7 @@ returns-then-cut-clause-row c =
     let i = c.loop-len.invariant in
     let new : List ℕ = c.cut_field.new.spare.items in
     let bounds = c.loop-len.bounds.items in
-    let k = subst (λ (l : List ℕ). IsCut d l new cut) c.split_at.ensures.back (rw c.in-Some-2.is at c.in_ok-cut.ensures.cut) in
+    let k = rw c.in-Some-2.is at c.in_ok-cut.ensures.cut in
     let g = cut_grows d text c.loop-len.spare.items new c.args.start at bounds c.in_ok-cut.ensures.grows i.bounded i.cut_to in
     let items : c.push-in-Some.new.self.items ≡ bounds ++ moved at cut.bound ∷ [] = c.in_ok-push-2.ensures.items ∙ ap (λ b. bounds ++ b ∷ []) c.bound_at.ensures in
     subst (λ (l : List Bound). IsCutRow d text c.args.start (at + cut.next) new l) (sym items) (cut_last d text new at cut i.within k c.args.start bounds c.if-cut.true i.from_start g.1)
@@ -74,7 +74,7 @@ loop-len-preserved c =
     let i = c.loop-len.invariant in
     let new : List ℕ = c.cut_field.new.spare.items in
     let bounds = c.loop-len.bounds.items in
-    let k = subst (λ (l : List ℕ). IsCut d l new cut) c.split_at.ensures.back (rw c.in-Some-2.is at c.in_ok-cut.ensures.cut) in
+    let k = rw c.in-Some-2.is at c.in_ok-cut.ensures.cut in
     let g = cut_grows d text c.loop-len.spare.items new c.args.start at bounds c.in_ok-cut.ensures.grows i.bounded i.cut_to in
     let items : c.push-in-Some.new.self.items ≡ bounds ++ moved at cut.bound ∷ [] = c.in_ok-push-2.ensures.items ∙ ap (λ b. bounds ++ b ∷ []) c.bound_at.ensures in
     let from = i.from_start in
@@ -83,12 +83,12 @@ loop-len-preserved c =
       within = next_within d text new at cut i.within k;
       is_text = next_text d text new at cut i.within k;
       bounded = ap (are_bounds text new) items ∙ bounds_one d text new at cut i.within k bounds g.0;
-      marks = c.next_symbol.ensures.marks;
+      marks = c.in_ok-cut.ensures.marks;
       cut_to = subst (λ (l : List Bound). IsCutTo d text c.args.start (at + cut.next) new l) (sym items) (cut_more d text new at cut i.within k c.args.start bounds c.if-cut.false g.1);
     }
 
-pub loop-len-preserved-then-rest-len : goal.loop-len-preserved-then-rest-len
-loop-len-preserved-then-rest-len c =
+pub loop-len-preserved-then-text-at : goal.loop-len-preserved-then-text-at
+loop-len-preserved-then-text-at c =
     let r = c.args.rules.now in
     let d = r.dialect in
     let text : List ℕ = c.args.text.now in
@@ -98,7 +98,7 @@ loop-len-preserved-then-rest-len c =
     let spare : List ℕ = c.loop-len.spare.items in
     let bounds = c.loop-len.bounds.items in
     let cut = before_delimiter n in
-    let stands = sym (ap (λ (l : List ℕ). slice_index l n) c.split_at.ensures.back) ∙ c.if-rest-len.true in
+    let stands = get_or-drop at text n 0 ∙ c.if-text-at.true in
     let k = cut_before d c.args.symbols text spare at n r.lawful c.requires.symbols i.is_text i.within c.in-Some.ensures.ahead stands in
     let items : c.push.new.self.items ≡ bounds ++ moved at cut.bound ∷ [] = c.in_ok-push.ensures.items ∙ ap (λ b. bounds ++ b ∷ []) (c.lent.ensures ∙ moved_before at n) in
     let from = i.from_start in

@@ -1,12 +1,11 @@
 use Rattle.std.proofs.Common.{◌≡◌, ℕ, List, ◌+◌, arith, drop, subst}
-use Rattle.memchr.specs.Find.{Nowhere, Passes, IsFirstByte}
-use Rattle.csvw_rows.specs.Marked.{is_symbol}
+use Rattle.memchr.specs.Find.{is_byte3, Nowhere, Passes, IsFirstByte}
 use Rattle.csvw_rows.proofs.MarkLemmas.{far_ahead}
 use Rattle.csvw_rows.proofs.marks.look_on.Goals as goal
 
 pub returns-clause-ahead : goal.returns-clause-ahead
 returns-clause-ahead c =
-    let test = is_symbol c.args.symbols in
+    let test = is_byte3 c.args.delimiter c.args.quote 10 in
     let text : List ℕ = c.args.text.now in
     let at = c.args.at in
     let n = c.in_ok-len.len in

@@ -6,7 +6,8 @@ use Rattle.csvw_rows.proofs.marks.marks_from.Goals as goal
 
 pub returns-clause-marks : goal.returns-clause-marks
 returns-clause-marks c =
-    let s = c.args.symbols in
+    let delimiter = c.args.delimiter in
+    let quote = c.args.quote in
     let from = c.args.from in
     let text = c.args.text.now in
     let v = chunk from 64 text in
@@ -14,5 +15,5 @@ returns-clause-marks c =
     record {
       few = omega arith;
       within = c.requires;
-      mask = marks_are s text from _ c.requires (zip2_of_maps _ _ _ v (zip2_of_maps _ _ _ v (zip2_splat _ v 64 s.delimiter long) (zip2_splat _ v 64 s.quote long)) (zip2_splat _ v 64 10 long));
+      mask = marks_are delimiter quote text from _ c.requires (zip2_of_maps _ _ _ v (zip2_of_maps _ _ _ v (zip2_splat _ v 64 delimiter long) (zip2_splat _ v 64 quote long)) (zip2_splat _ v 64 10 long));
     }
