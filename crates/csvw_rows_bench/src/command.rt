@@ -45,10 +45,8 @@ fn line(alloc: Global, counts: Counts) -> Result<String, AllocError>
 fn tell<W: Write>(alloc: Global, counts: Counts, out: &mut Counted<W>) -> Result<(), Halt>
     ensures { TellsCounts counts (stream_of W.contents out.old out.new) result }
 {
-    match line(alloc, counts) {
-        Ok(line) => send(out, line.as_str()),
-        Err(_) => Err(Halt::Memory),
-    }
+    let line = line(alloc, counts)?;
+    send(out, line.as_str())
 }
 
 /// Does the task.
@@ -60,10 +58,8 @@ fn perform<R: Read, W: Write>(
 ) -> Result<(), Halt>
     ensures { Performs task (input_of R.remaining input.old input.new) (stream_of W.contents out.old out.new) result }
 {
-    match count(alloc, task, input) {
-        Ok(counts) => tell(alloc, counts, out),
-        Err(why) => Err(why),
-    }
+    let counts = count(alloc, task, input)?;
+    tell(alloc, counts, out)
 }
 
 fn run<R: Read, W: Write>(
@@ -72,7 +68,8 @@ fn run<R: Read, W: Write>(
     input: &mut Counted<R>,
     out: &mut Counted<W>,
 ) -> Result<(), Halt>
-    ensures { Runs (map string_bytes words.now) (input_of R.remaining input.old input.new) (stream_of W.contents out.old out.new) result }
+    ensures { Runs (map string_bytes words.now) (input_of R.remaining input.old input.new)
+        (stream_of W.contents out.old out.new) result }
 {
     let Some(task) = requested(words) else {
         return Err(Halt::Usage);
@@ -109,7 +106,8 @@ pub fn command<R: Read, W: Write, V: Write>(
     out: &mut Counted<W>,
     err: &mut Counted<V>,
 ) -> u8
-    ensures { Commands (map string_bytes words.now) (input_of R.remaining input.old input.new) (stream_of W.contents out.old out.new) (stream_of V.contents err.old err.new) result }
+    ensures { Commands (map string_bytes words.now) (input_of R.remaining input.old input.new)
+        (stream_of W.contents out.old out.new) (stream_of V.contents err.old err.new) result }
 {
     match run(alloc, words, input, out) {
         Ok(()) => 0,
