@@ -1,4 +1,8 @@
-mod Totals
-mod Rows
+mod Chars
+mod Delimited
+mod Files
 mod Lists
 mod Records
+mod Rows
+mod Sending
+mod Totals

@@ -1,2 +1,9 @@
+pub mod Asked
+pub mod Commands
 pub mod Counting
+pub mod Delimiters
+pub mod Lines
 pub mod Reading
+pub mod Records
+pub mod Status
+pub mod Streams

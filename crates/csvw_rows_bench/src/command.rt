@@ -1,9 +1,10 @@
 //! What one run of the program does, over any reader and writers.
-ghost use Rattle.std.specs.Prelude.{◌≡◌, ◌≢◌, IfOk, OnOk, IfSome, string_bytes};
-ghost use Rattle.std.specs.Io.KnownBytes.{Appends};
-ghost use Rattle.csvw_text.specs.Counted.{inner_of};
+ghost use Rattle.std.specs.Prelude.{◌≡◌, IfErr, IfOk, OnErr, OnOk, map, string_bytes};
+ghost use Rattle.csvw_rows_bench.specs.Commands.{Commands, CountsTask, Performs, Runs, TellsCounts};
 ghost use Rattle.csvw_rows_bench.specs.Counting.{counts_line};
-ghost use Rattle.csvw_rows_bench.specs.Reading.{IsCounted, IsRead, IsTold};
+ghost use Rattle.csvw_rows_bench.specs.Lines.{line_of};
+ghost use Rattle.csvw_rows_bench.specs.Status.{status_of};
+ghost use Rattle.csvw_rows_bench.specs.Streams.{IsCut, Sends, input_of, stream_of};
 
 use crate::counts::Counts;
 use crate::halt::Halt;
@@ -14,8 +15,8 @@ use csvw_text::{Counted, write_out};
 use std::alloc::{AllocError, Global};
 use std::io::{Read, Write};
 
-fn count<R: Read>(alloc: Global, task: Task, input: &mut R) -> Result<Counts, Halt>
-    ensures { IfOk result (λ c. IfSome (R.remaining input.old) (λ bytes. IsCounted task bytes c)) }
+fn count<R: Read>(alloc: Global, task: Task, input: &mut Counted<R>) -> Result<Counts, Halt>
+    ensures { CountsTask task (input_of R.remaining input.old input.new) result }
 {
     match task {
         Task::Rows(delimiter, piece) => count_file(alloc, delimiter, piece, input),
@@ -24,7 +25,9 @@ fn count<R: Read>(alloc: Global, task: Task, input: &mut R) -> Result<Counts, Ha
 }
 
 fn send<W: Write>(w: &mut Counted<W>, text: &str) -> Result<(), Halt>
-    ensures { OnOk result (Appends (W.contents (inner_of w.old)) (W.contents (inner_of w.new)) text.now) }
+    ensures sent { OnOk result (Sends (stream_of W.contents w.old w.new) text.now) }
+    ensures cut { OnErr result (IsCut (stream_of W.contents w.old w.new) text.now) }
+    ensures write { IfErr result (λ why. why ≡ Halt.Write) }
 {
     match write_out(w, text.as_bytes()) {
         Ok(()) => Ok(()),
@@ -40,7 +43,7 @@ fn line(alloc: Global, counts: Counts) -> Result<String, AllocError>
 }
 
 fn tell<W: Write>(alloc: Global, counts: Counts, out: &mut Counted<W>) -> Result<(), Halt>
-    ensures { OnOk result (Appends (W.contents (inner_of out.old)) (W.contents (inner_of out.new)) (counts_line counts)) }
+    ensures { TellsCounts counts (stream_of W.contents out.old out.new) result }
 {
     let line = line(alloc, counts)?;
     send(out, line.as_str())
@@ -50,10 +53,10 @@ fn tell<W: Write>(alloc: Global, counts: Counts, out: &mut Counted<W>) -> Result
 fn perform<R: Read, W: Write>(
     alloc: Global,
     task: Task,
-    input: &mut R,
+    input: &mut Counted<R>,
     out: &mut Counted<W>,
 ) -> Result<(), Halt>
-    ensures { OnOk result (IfSome (R.remaining input.old) (λ bytes. IsTold task bytes (W.contents (inner_of out.old)) (W.contents (inner_of out.new)))) }
+    ensures { Performs task (input_of R.remaining input.old input.new) (stream_of W.contents out.old out.new) result }
 {
     let counts = count(alloc, task, input)?;
     tell(alloc, counts, out)
@@ -62,10 +65,11 @@ fn perform<R: Read, W: Write>(
 fn run<R: Read, W: Write>(
     alloc: Global,
     words: &[String],
-    input: &mut R,
+    input: &mut Counted<R>,
     out: &mut Counted<W>,
 ) -> Result<(), Halt>
-    ensures { OnOk result (IfSome (R.remaining input.old) (λ bytes. IsRead bytes (W.contents (inner_of out.old)) (W.contents (inner_of out.new)))) }
+    ensures { Runs (map string_bytes words.now) (input_of R.remaining input.old input.new)
+        (stream_of W.contents out.old out.new) result }
 {
     let Some(task) = requested(words) else {
         return Err(Halt::Usage);
@@ -75,7 +79,8 @@ fn run<R: Read, W: Write>(
 
 /// The exit status of a halt, and the line that tells it.
 fn told(why: Halt) -> (u8, &'static str)
-    ensures { result.0 ≢ 0 }
+    ensures status { result.0 ≡ status_of why }
+    ensures line { result.1.now ≡ line_of why }
 {
     match why {
         Halt::Stopped => (1, "csvw_rows_bench: Stopped\n"),
@@ -92,15 +97,17 @@ fn told(why: Halt) -> (u8, &'static str)
 
 /// Runs the program on its words, the first of which is its name, and answers its exit status: 0 where the
 /// counts of the whole file were told, 1 where its reader stopped, 2 where the words ask for nothing that
-/// there is, 3 where a count left its range, 4 where a stream failed or memory ran out.
+/// there is, 3 where a count left its range, 4 where a stream failed or memory ran out. But for 0, the line
+/// of the halt goes to `err`.
 pub fn command<R: Read, W: Write, V: Write>(
     alloc: Global,
     words: &[String],
-    input: &mut R,
+    input: &mut Counted<R>,
     out: &mut Counted<W>,
     err: &mut Counted<V>,
 ) -> u8
-    ensures { result ≡ 0 → IfSome (R.remaining input.old) (λ bytes. IsRead bytes (W.contents (inner_of out.old)) (W.contents (inner_of out.new))) }
+    ensures { Commands (map string_bytes words.now) (input_of R.remaining input.old input.new)
+        (stream_of W.contents out.old out.new) (stream_of V.contents err.old err.new) result }
 {
     match run(alloc, words, input, out) {
         Ok(()) => 0,

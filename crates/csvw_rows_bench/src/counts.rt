@@ -1,6 +1,6 @@
 //! Rows, fields and bytes, counted.
-ghost use Rattle.std.specs.Prelude.{◌≡◌, ◌++◌, ◌∷◌, [], ℕ, List, IfSome, length};
-ghost use Rattle.csvw_rows_bench.specs.Counting.{AreCounts, bytes_of};
+ghost use Rattle.std.specs.Prelude.{◌≡◌, [], ℕ, List, length};
+ghost use Rattle.csvw_rows_bench.specs.Counting.{AreCounts, CountsRow, bytes_of};
 
 /// How many rows there are, how many fields they have, and how many bytes those.
 #[derive(Clone, Copy, Debug, PartialEq, Eq)]
@@ -27,7 +27,7 @@ impl Counts {
 
     /// With one row more, of so many fields and bytes; `None` where a count leaves its range.
     pub fn with_row(self, fields: usize, bytes: u64) -> Option<Counts>
-        ensures { (rows : List (List (List ℕ))) (row : List (List ℕ)) → AreCounts rows self → fields ≡ length row → bytes ≡ bytes_of row → IfSome result (AreCounts (rows ++ row ∷ [])) }
+        ensures { (row : List (List ℕ)) → fields ≡ length row → bytes ≡ bytes_of row → CountsRow self row result }
     {
         Some(Counts {
             rows: self.rows.checked_add(1)?,

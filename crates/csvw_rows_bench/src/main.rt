@@ -20,7 +20,7 @@ const BUFFER: usize = 65_536;
 fn main(rt: HostRuntime) -> io::Result<ExitCode> {
     let alloc = rt.alloc();
     let words = env::args(&rt)?.collect::<Vec<String>>(alloc)?;
-    let mut input = BufReader::with_capacity(alloc, BUFFER, rt.stdin())?;
+    let mut input = Counted::new(BufReader::with_capacity(alloc, BUFFER, rt.stdin())?);
     let mut out = Counted::new(rt.stdout());
     let mut err = Counted::new(rt.stderr());
     let status = command(alloc, words.as_slice(), &mut input, &mut out, &mut err);

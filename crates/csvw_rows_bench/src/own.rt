@@ -1,15 +1,18 @@
 //! A file read by `Rows`.
-ghost use Rattle.std.specs.Prelude.{◌≡◌, ◌++◌, ◌∷◌, [], ℕ, List, true, false, IfOk, IfSome, length};
+ghost use Rattle.std.specs.Prelude.{◌≡◌, [], true, false, List, ℕ, IfOk, OnOk, IfErr, length};
 ghost use Rattle.csvw_rows.specs.declared.dialect.Dialect.{Dialect as TheDialect};
 ghost use Rattle.csvw_rows.specs.Lawful.{IsLawful};
 ghost use Rattle.csvw_rows.specs.RowValue.{row_of};
 ghost use Rattle.csvw_rows.specs.RowsState.{is_ended_of};
-ghost use Rattle.csvw_rows_bench.specs.Counting.{AreCounts, bytes_of};
-ghost use Rattle.csvw_rows_bench.specs.Reading.{Stands, HasAll, Steps, Drains, IsDelimited, IsFile};
+ghost use Rattle.csvw_rows_bench.specs.Counting.{AreCounts, CountsBytes, CountsRow};
+ghost use Rattle.csvw_rows_bench.specs.Delimiters.{IsSeparator, IsDelimited, IsNoReader};
+ghost use Rattle.csvw_rows_bench.specs.Reading.{Stands, Steps, Drains, Feeds, Closes, CountsFile, halt_of_stop};
+ghost use Rattle.csvw_rows_bench.specs.Streams.{input_of};
 
 use crate::counts::Counts;
 use crate::halt::Halt;
-use csvw_rows::{Dialect, RawRow, Rows};
+use csvw_rows::{Dialect, RawRow, RowStop, Rows};
+use csvw_text::Counted;
 use std::alloc::{AllocError, Global};
 use std::io::Read;
 
@@ -23,7 +26,7 @@ fn buffer_of(alloc: Global, len: usize) -> Result<Vec<u8>, AllocError>
 }
 
 fn bytes_of(row: &RawRow) -> Option<u64>
-    ensures { IfSome result (λ n. n ≡ bytes_of (row_of row.now).fields) }
+    ensures { CountsBytes (row_of row.now).fields result }
 {
     let mut bytes = 0u64;
     for i in 0..row.len() {
@@ -33,15 +36,30 @@ fn bytes_of(row: &RawRow) -> Option<u64>
 }
 
 fn with_raw(counts: Counts, row: &RawRow) -> Option<Counts>
-    ensures { (rows : List (List (List ℕ))) → AreCounts rows counts → IfSome result (AreCounts (rows ++ (row_of row.now).fields ∷ [])) }
+    ensures { CountsRow counts (row_of row.now).fields result }
 {
     let bytes = bytes_of(row)?;
     counts.with_row(row.len(), bytes)
 }
 
+/// How a stop of the rows is told.
+fn halt_of_stop(stop: RowStop) -> Halt
+    ensures { result ≡ halt_of_stop stop }
+{
+    match stop {
+        RowStop::Memory => Halt::Memory,
+        RowStop::NotUtf8
+        | RowStop::RowTooLong
+        | RowStop::BadQuote
+        | RowStop::TextAfterQuote
+        | RowStop::UnclosedQuote
+        | RowStop::TooManyRows => Halt::Stopped,
+    }
+}
+
 /// The counts with the next row, where one is complete.
 fn count_next(rows: &mut Rows, counts: Counts) -> Result<Option<Counts>, Halt>
-    ensures { IfOk result (Steps rows.old rows.new counts) }
+    ensures { Steps rows.old rows.new counts result }
 {
     match rows.next() {
         Ok(Some(row)) => match with_raw(counts, &row) {
@@ -49,13 +67,13 @@ fn count_next(rows: &mut Rows, counts: Counts) -> Result<Option<Counts>, Halt>
             None => Err(Halt::TooMany),
         },
         Ok(None) => Ok(None),
-        Err(_) => Err(Halt::Stopped),
+        Err(stop) => Err(halt_of_stop(stop)),
     }
 }
 
 /// The counts with each row that is complete.
 fn count_rows(rows: &mut Rows, counts: Counts) -> Result<Counts, Halt>
-    ensures { IfOk result (Drains rows.old rows.new counts) }
+    ensures { Drains rows.old rows.new counts result }
 {
     let mut counts = counts;
     loop {
@@ -68,22 +86,22 @@ fn count_rows(rows: &mut Rows, counts: Counts) -> Result<Counts, Halt>
 
 fn feed(rows: &mut Rows, piece: &[u8], counts: Counts) -> Result<Counts, Halt>
     requires { is_ended_of rows.old ≡ false }
-    ensures ended { IfOk result (λ _. is_ended_of rows.new ≡ false) }
-    ensures stands { IfOk result (λ c. (d : TheDialect) (bytes : List ℕ) → Stands rows.old d bytes false counts → Stands rows.new d (bytes ++ piece.now) false c) }
+    ensures ended { OnOk result (is_ended_of rows.new ≡ false) }
+    ensures feeds { Feeds rows.old rows.new piece.now counts result }
 {
     match rows.feed(piece) {
         Ok(()) => count_rows(rows, counts),
-        Err(_) => Err(Halt::Stopped),
+        Err(stop) => Err(halt_of_stop(stop)),
     }
 }
 
 fn end(rows: &mut Rows, counts: Counts) -> Result<Counts, Halt>
     requires { is_ended_of rows.old ≡ false }
-    ensures { IfOk result (λ c. (d : TheDialect) (bytes : List ℕ) → Stands rows.old d bytes false counts → HasAll d bytes true c) }
+    ensures { Closes rows.old counts result }
 {
     match rows.end() {
         Ok(()) => count_rows(rows, counts),
-        Err(_) => Err(Halt::Stopped),
+        Err(stop) => Err(halt_of_stop(stop)),
     }
 }
 
@@ -91,6 +109,8 @@ fn end(rows: &mut Rows, counts: Counts) -> Result<Counts, Halt>
 fn delimited(alloc: Global, delimiter: char) -> Result<Dialect, Halt>
     ensures lawful { IfOk result IsLawful }
     ensures delimited { IfOk result (IsDelimited delimiter) }
+    ensures separates { OnOk result (IsSeparator delimiter) }
+    ensures refused { IfErr result (IsNoReader delimiter) }
 {
     let mut dialect = Dialect::new(alloc)?;
     dialect.delimiter = delimiter;
@@ -103,6 +123,8 @@ fn delimited(alloc: Global, delimiter: char) -> Result<Dialect, Halt>
 fn reader(alloc: Global, delimiter: char) -> Result<Rows, Halt>
     ensures ended { IfOk result (λ r. is_ended_of r ≡ false) }
     ensures stands { IfOk result (λ r. (c : _) → AreCounts [] c → (d : TheDialect) × IsDelimited delimiter d × Stands r d [] false c) }
+    ensures separates { OnOk result (IsSeparator delimiter) }
+    ensures refused { IfErr result (IsNoReader delimiter) }
 {
     let dialect = delimited(alloc, delimiter)?;
     Ok(Rows::new(alloc, dialect, MAX_ROWS)?)
@@ -110,14 +132,14 @@ fn reader(alloc: Global, delimiter: char) -> Result<Rows, Halt>
 
 /// Counts the rows of a file, of which `Rows` gets at most so many bytes at once. `Usage` where that is
 /// none or no text can be read by the delimiter, `Stopped` where the file isn't one by the default dialect
-/// with that delimiter, `Read` and `Memory` where those fail.
+/// with that delimiter, `TooMany` where a count leaves its range, `Read` and `Memory` where those fail.
 pub fn count_file<R: Read>(
     alloc: Global,
     delimiter: char,
     piece: usize,
-    input: &mut R,
+    input: &mut Counted<R>,
 ) -> Result<Counts, Halt>
-    ensures { IfOk result (λ c. IfSome (R.remaining input.old) (λ bytes. IsFile delimiter bytes c)) }
+    ensures { CountsFile delimiter piece (input_of R.remaining input.old input.new) result }
 {
     if piece == 0 {
         return Err(Halt::Usage);
@@ -135,5 +157,5 @@ pub fn count_file<R: Read>(
         }
         counts = feed(&mut rows, &part[..n], counts)?;
     }
-    Err(Halt::Read)
+    Err(Halt::TooMany)
 }

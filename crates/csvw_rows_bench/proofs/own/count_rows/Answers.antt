@@ -1,13 +1,15 @@
--- One row more, and the end.
-use Rattle.std.proofs.Common.{◌∙◌}
-use Rattle.csvw_rows_bench.proofs.Rows.{has_all}
+-- One row more, the end, or why there is none.
+use Rattle.std.proofs.Common.{◌∙◌, ap, sym, subst, Err}
+use Rattle.std.proofs.lemmas.Result.{err_from_is_err_and}
+use Rattle.csvw_rows_bench.specs.Reading.{Drains}
+use Rattle.csvw_rows_bench.proofs.Rows.{halts_later, has_all}
 use Rattle.csvw_rows_bench.proofs.own.count_rows.Goals as goal
 
-pub loop-more-preserved : goal.loop-more-preserved
-loop-more-preserved c =
-    let s = rw c.in-Some.is at c.in_ok-more.ensures in
-    let i = c.loop-more.invariant in
-    record { ended = s.0 ∙ i.ended; goes = λ d bytes ended h. s.2 d bytes ended (i.goes d bytes ended h) }
+pub returns-in_err-more : goal.returns-in_err-more
+returns-in_err-more c =
+    let p = err_from_is_err_and c.from_residual.result c.from_residual.ensures.1 in
+    subst (λ r. Drains c.args.rows.now c.count_next.new.rows c.args.counts r) (sym (p.1 ∙ ap Err p.2))
+    (halts_later c.args.rows.now c.loop-more.rows c.args.counts c.loop-more.counts c.in_err-more.field-0.0 c.loop-more.invariant.goes c.in_err-more.ensures)
 
 pub returns-in-None : goal.returns-in-None
 returns-in-None c =
