@@ -7,7 +7,7 @@ use Rattle.csvw_rows.specs.declared.dialect.Dialect.{Dialect}
 use Rattle.csvw_rows.specs.declared.rows.Rows.{Rows}
 use Rattle.csvw_rows_bench.specs.Delimiters.{IsDelimited, IsLawfulTask}
 use Rattle.csvw_rows_bench.specs.Reading.{Stands, Halts, HasStop, HasTooMany, AtFront, IsFile, Closes, CountsFile}
-use Rattle.csvw_rows_bench.specs.Streams.{Input, IsSound}
+use Rattle.csvw_rows_bench.specs.Inputs.{Input, IsSound}
 use Rattle.csvw_rows_bench.specs.declared.counts.Counts.{Counts}
 use Rattle.csvw_rows_bench.specs.declared.halt.Halt.{Halt}
 use Rattle.csvw_rows_bench.specs.declared.halt.Halt.TheVariants as halt

@@ -2,7 +2,7 @@
 use Rattle.std.proofs.Common.{◌≡◌, ℕ, List, take, drop, sym, take-append-drop}
 use Rattle.std.specs.Io.KnownBytes.{Appends}
 use Rattle.csvw_text.specs.Count.{one_more}
-use Rattle.csvw_rows_bench.specs.Streams.{Stream, IsCut}
+use Rattle.csvw_text.specs.Streams.{Stream, IsCut}
 
 pub cut_write : (s : Stream) (text : List ℕ) (n : ℕ) → Appends s.held s.holds (take n text) → s.failed ≡ one_more s.failures → IsCut s text
 cut_write s text n p failed = record {

@@ -1,12 +1,13 @@
 -- What one run of the program does.
 use Rattle.std.specs.Prelude.{◌≡◌, ◌⊎◌, ℕ, List, Result, Ok, Err}
+use Rattle.csvw_text.specs.Streams.{Stream, IsIdle, Sends, IsCut, Tells}
 use Rattle.csvw_rows_bench.specs.Asked.{Asks, AsksNothing}
 use Rattle.csvw_rows_bench.specs.Counting.{counts_line}
+use Rattle.csvw_rows_bench.specs.Inputs.{Input, IsUntouched}
 use Rattle.csvw_rows_bench.specs.Lines.{line_of}
 use Rattle.csvw_rows_bench.specs.Reading.{CountsFile}
 use Rattle.csvw_rows_bench.specs.Records.{CountsRecords}
 use Rattle.csvw_rows_bench.specs.Status.{status_of}
-use Rattle.csvw_rows_bench.specs.Streams.{Input, IsUntouched, Stream, IsIdle, Sends, IsCut, Tells}
 use Rattle.csvw_rows_bench.specs.declared.counts.Counts.{Counts}
 use Rattle.csvw_rows_bench.specs.declared.halt.Halt.{Halt}
 use Rattle.csvw_rows_bench.specs.declared.halt.Halt.TheVariants as halt

@@ -10,7 +10,7 @@ use Rattle.csvw_rows.specs.RowsState.{is_ended_of, unread, Holds, HasGiven, IsDo
 use Rattle.csvw_rows.specs.Stops.{StopOf}
 use Rattle.csvw_rows_bench.specs.Counting.{AreCounts, AreTooMany}
 use Rattle.csvw_rows_bench.specs.Delimiters.{IsDelimited, IsLawfulTask}
-use Rattle.csvw_rows_bench.specs.Streams.{Input, IsUntouched, IsSound, HasFailed}
+use Rattle.csvw_rows_bench.specs.Inputs.{Input, IsUntouched, IsSound, HasFailed}
 use Rattle.csvw_rows_bench.specs.declared.counts.Counts.{Counts}
 use Rattle.csvw_rows_bench.specs.declared.halt.Halt.{Halt}
 use Rattle.csvw_rows_bench.specs.declared.halt.Halt.TheVariants as halt

@@ -1,10 +1,11 @@
 //! What one run of the program does, over any reader and writers.
 ghost use Rattle.std.specs.Prelude.{◌≡◌, IfErr, IfOk, OnErr, OnOk, map, string_bytes};
+ghost use Rattle.csvw_text.specs.Streams.{IsCut, Sends, stream_of};
 ghost use Rattle.csvw_rows_bench.specs.Commands.{Commands, CountsTask, Performs, Runs, TellsCounts};
 ghost use Rattle.csvw_rows_bench.specs.Counting.{counts_line};
+ghost use Rattle.csvw_rows_bench.specs.Inputs.{input_of};
 ghost use Rattle.csvw_rows_bench.specs.Lines.{line_of};
 ghost use Rattle.csvw_rows_bench.specs.Status.{status_of};
-ghost use Rattle.csvw_rows_bench.specs.Streams.{IsCut, Sends, input_of, stream_of};
 
 use crate::counts::Counts;
 use crate::halt::Halt;

@@ -7,7 +7,7 @@ ghost use Rattle.csvw_rows.specs.RowsState.{is_ended_of};
 ghost use Rattle.csvw_rows_bench.specs.Counting.{AreCounts, CountsBytes, CountsRow};
 ghost use Rattle.csvw_rows_bench.specs.Delimiters.{IsSeparator, IsDelimited, IsNoReader};
 ghost use Rattle.csvw_rows_bench.specs.Reading.{Stands, Steps, Drains, Feeds, Closes, CountsFile, halt_of_stop};
-ghost use Rattle.csvw_rows_bench.specs.Streams.{input_of};
+ghost use Rattle.csvw_rows_bench.specs.Inputs.{input_of};
 
 use crate::counts::Counts;
 use crate::halt::Halt;

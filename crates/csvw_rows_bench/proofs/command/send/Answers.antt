@@ -1,5 +1,5 @@
 -- A write that was cut.
-use Rattle.csvw_rows_bench.specs.Streams.{stream_of}
+use Rattle.csvw_text.specs.Streams.{stream_of}
 use Rattle.csvw_rows_bench.proofs.Sending.{cut_write}
 use Rattle.csvw_rows_bench.proofs.command.send.Goals as goal
 

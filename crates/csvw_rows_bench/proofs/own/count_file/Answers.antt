@@ -7,7 +7,7 @@ use Rattle.csvw_text.specs.Count.{one_more}
 use Rattle.csvw_text.specs.Counted.{inner_of}
 use Rattle.csvw_rows_bench.specs.Delimiters.{IsLawfulTask}
 use Rattle.csvw_rows_bench.specs.Reading.{CountsFile}
-use Rattle.csvw_rows_bench.specs.Streams.{input_of}
+use Rattle.csvw_rows_bench.specs.Inputs.{input_of}
 use Rattle.csvw_rows_bench.specs.declared.halt.Halt.TheVariants as halt
 use Rattle.csvw_rows_bench.proofs.Files.{ended, halted}
 use Rattle.csvw_rows_bench.proofs.own.count_file.Goals as goal
