@@ -26,33 +26,46 @@ check() {
   [ "$found" = "$expected" ] || { echo "rows.sh: $file: $* counts $found, not $expected" >&2; exit 1; }
 }
 
-# A cell: megabytes in a second of processor time, and the greatest resident memory in megabytes.
+# One run of a reader: its processor seconds and greatest resident memory, behind those of its runs before.
+run() {
+  local reader=$1 file=$2
+  shift 2
+  /usr/bin/time -f '%U %S %M' -a -o "$work/$reader.times" "$@" <"$file" >/dev/null
+}
+
+# A cell of the runs of a reader: megabytes in a second of the least processor time, and the greatest resident
+# memory in megabytes.
 cell() {
-  local file=$1
-  shift
-  for _ in $(seq "$runs"); do
-    /usr/bin/time -f '%U %S %M' -a -o "$work/times" "$@" <"$file" >/dev/null
-  done
+  local reader=$1 file=$2
   awk -v size="$(stat -c %s "$file")" '
     NR == 1 || $1 + $2 < least { least = $1 + $2 }
     $3 > most { most = $3 }
-    END { printf "%.0f (%.0f MB)", size / 1e6 / (least > 0 ? least : 0.01), most / 1024 }' "$work/times"
-  rm "$work/times"
+    END { printf "%.0f (%.0f MB)", size / 1e6 / (least > 0 ? least : 0.01), most / 1024 }' "$work/$reader.times"
+  rm "$work/$reader.times"
 }
 
-# The cells of a file with this delimiter. The crate csv takes only a delimiter of one byte.
+# The cells of a file with this delimiter. The crate csv takes only a delimiter of one byte. The readers run in
+# turn, since a machine's speed may change.
 row() {
   local name=$1 delimiter=$2
-  local file=$work/$name.csv counts ours kit=none hand
+  local file=$work/$name.csv counts kit=none
   counts=$("$by_hand" "$delimiter" <"$file")
   check "$file" "$counts" "$program" rows "$piece" "$delimiter"
-  ours=$(cell "$file" "$program" rows "$piece" "$delimiter")
   if [ "$delimiter" = , ]; then
     check "$file" "$counts" "$program" csv
-    kit=$(cell "$file" "$program" csv)
   fi
-  hand=$(cell "$file" "$by_hand" "$delimiter")
-  printf '| %s | %.0f MB | %s | %s | %s |\n' "$name" "$(($(stat -c %s "$file") / 1000000))" "$ours" "$kit" "$hand"
+  for _ in $(seq "$runs"); do
+    run rows "$file" "$program" rows "$piece" "$delimiter"
+    if [ "$delimiter" = , ]; then
+      run kit "$file" "$program" csv
+    fi
+    run by_hand "$file" "$by_hand" "$delimiter"
+  done
+  if [ "$delimiter" = , ]; then
+    kit=$(cell kit "$file")
+  fi
+  printf '| %s | %.0f MB | %s | %s | %s |\n' "$name" "$(($(stat -c %s "$file") / 1000000))" \
+    "$(cell rows "$file")" "$kit" "$(cell by_hand "$file")"
 }
 
 # The cells of two files in pieces of so many bytes.
@@ -60,11 +73,14 @@ pieces() {
   local size=$1
   check "$work/long.csv" "$("$by_hand" <"$work/long.csv")" "$program" rows "$size" ,
   check "$work/arrows.csv" "$("$by_hand" → <"$work/arrows.csv")" "$program" rows "$size" →
-  printf '| %s | %s | %s |\n' "$size" "$(cell "$work/long.csv" "$program" rows "$size" ,)" \
-    "$(cell "$work/arrows.csv" "$program" rows "$size" →)"
+  for _ in $(seq "$runs"); do
+    run long "$work/long.csv" "$program" rows "$size" ,
+    run arrows "$work/arrows.csv" "$program" rows "$size" →
+  done
+  printf '| %s | %s | %s |\n' "$size" "$(cell long "$work/long.csv")" "$(cell arrows "$work/arrows.csv")"
 }
 
-rm -f "$work/times"
+rm -f "$work"/*.times
 echo '| File | Size | `Rows` | crate `csv` | by hand |'
 echo '|---|---|---|---|---|'
 for name in long wide quoted escaped nonascii; do
