@@ -2,9 +2,9 @@
 use Rattle.std.specs.Prelude.{◌≡◌, ◌≢◌, ◌⊎◌, ℕ, ◌&&◌, nat_eq, if◌then◌else◌, IsTrue, List, [], ◌∷◌, ◌++◌, map, reverse, Some}
 use Rattle.std.specs.List.{starts_with}
 use Rattle.csvw_text.specs.Class.{is_white_char}
-use Rattle.csvw_rows.specs.declared.dialect.Dialect.{Dialect}
-use Rattle.csvw_rows.specs.declared.dialect.Trim.{Trim}
-use Rattle.csvw_rows.specs.declared.dialect.Trim.TheVariants.{No, Start, End, Both}
+use Rattle.csvw_dialect.specs.declared.dialect.Dialect.{Dialect}
+use Rattle.csvw_dialect.specs.declared.dialect.Trim.{Trim}
+use Rattle.csvw_dialect.specs.declared.dialect.Trim.TheVariants.{No, Start, End, Both}
 
 -- how many characters at the front of a text are a terminator: CR LF, or LF, where the dialect has it; 0 where none stands there
 abbrev pub terminator_len : Dialect → List ℕ → ℕ

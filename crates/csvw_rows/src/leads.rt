@@ -4,7 +4,7 @@ ghost use Rattle.std.specs.Str.{IsCharBoundary};
 ghost use Rattle.csvw_rows.specs.Clean.{IsLeads, IsClean};
 ghost use Rattle.csvw_rows.specs.declared.scan.State.TheVariants.{Plain, Inside};
 
-use crate::dialect::Dialect;
+use csvw_dialect::Dialect;
 use crate::scan::State;
 use memchr::{memchr2, memchr3};
 

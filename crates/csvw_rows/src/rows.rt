@@ -3,7 +3,7 @@ ghost use Rattle.std.specs.Prelude.{◌≡◌, ◌≤◌, ◌<◌, ◌-◌, ◌+
 ghost use Rattle.std.specs.Str.{is_utf8};
 ghost use Rattle.std.specs.Borrow.{sem};
 ghost use Rattle.csvw_rows.specs.Bounds.{are_bounds};
-ghost use Rattle.csvw_rows.specs.Lawful.{IsLawful};
+ghost use Rattle.csvw_dialect.specs.Lawful.{IsLawful};
 ghost use Rattle.csvw_rows.specs.Drafts.{IsDraft};
 ghost use Rattle.csvw_rows.specs.Marked.{Marked};
 ghost use Rattle.csvw_rows.specs.Notes.{IsNoted};
@@ -12,7 +12,7 @@ ghost use Rattle.csvw_rows.specs.SourceState.{rest_bytes};
 use crate::bound::Bound;
 use crate::breach::shown_len;
 use crate::cut::{cut_row, row_len, terminator_at};
-use crate::dialect::Dialect;
+use csvw_dialect::Dialect;
 use crate::draft::{Draft, Reading, settled};
 use crate::field::all_empty;
 use crate::marks::Marks;

@@ -2,7 +2,7 @@
 ghost use Rattle.std.specs.Prelude.{◌≡◌};
 ghost use Rattle.csvw_rows.specs.Scan.{quote_is, is_quoted, step_of};
 
-use crate::dialect::Dialect;
+use csvw_dialect::Dialect;
 use crate::stop::RowStop;
 
 /// Where in a field a character stands.

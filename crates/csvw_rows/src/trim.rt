@@ -5,7 +5,7 @@ ghost use Rattle.csvw_rows.specs.Bounds.{is_apart, apart_all, texts_apart};
 ghost use Rattle.csvw_rows.specs.Grammar.{strip_start, strip_end, trimmed};
 
 use crate::bound::{Bound, text_at};
-use crate::dialect::Trim;
+use csvw_dialect::Trim;
 use csvw_text::is_white;
 use std::alloc::AllocError;
 

@@ -3,8 +3,8 @@ use Rattle.std.proofs.Common.{◌≡◌, ◌∙◌, ℕ, sym, ap, subst, arith, 
 use Rattle.std.specs.Prelude.{option_map}
 use Rattle.std.specs.Str.{chars}
 use Rattle.std.proofs.lemmas.Str.{chars-IsAscii}
-use Rattle.csvw_rows.specs.declared.dialect.Dialect.{Dialect}
-use Rattle.csvw_rows.specs.Lawful.{IsLawful, prefix_breaks}
+use Rattle.csvw_dialect.specs.declared.dialect.Dialect.{Dialect}
+use Rattle.csvw_dialect.specs.Lawful.{IsLawful, prefix_breaks}
 use Rattle.csvw_rows_bench.specs.Delimiters.{IsDelimited, IsSeparator}
 
 quote_is : (o : Option ℕ) (x : ℕ) → o ≡ Some 34 → o ≡ Some x → x ≡ 34

@@ -1,7 +1,7 @@
 -- How the counts go on with a reader.
 use Rattle.std.proofs.Common.{◌≢◌, ℕ, inr, Result, Ok, Err, List, [], ◌∷◌, ◌++◌, subst, sym, true, false, Bool}
 use Rattle.std.proofs.lemmas.List.{map-append}
-use Rattle.csvw_rows.specs.declared.dialect.Dialect.{Dialect}
+use Rattle.csvw_dialect.specs.declared.dialect.Dialect.{Dialect}
 use Rattle.csvw_rows.specs.declared.rows.Rows.{Rows}
 use Rattle.csvw_rows.specs.RowValue.{Given}
 use Rattle.csvw_rows.specs.declared.stop.RowStop.{RowStop}

@@ -1,7 +1,7 @@
 -- The delimiters that may stand in the default dialect.
 use Rattle.std.specs.Prelude.{◌≡◌, ◌≢◌, ◌<◌, ℕ}
-use Rattle.csvw_rows.specs.declared.dialect.Dialect.{Dialect}
-use Rattle.csvw_rows.specs.Lawful.{IsDefault}
+use Rattle.csvw_dialect.specs.declared.dialect.Dialect.{Dialect}
+use Rattle.csvw_dialect.specs.Lawful.{IsDefault}
 use Rattle.csvw_rows_bench.specs.declared.halt.Halt.{Halt}
 use Rattle.csvw_rows_bench.specs.declared.halt.Halt.TheVariants as halt
 

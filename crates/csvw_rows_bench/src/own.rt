@@ -1,7 +1,7 @@
 //! A file read by `Rows`.
 ghost use Rattle.std.specs.Prelude.{◌≡◌, [], true, false, List, ℕ, IfOk, OnOk, IfErr, length};
-ghost use Rattle.csvw_rows.specs.declared.dialect.Dialect.{Dialect as TheDialect};
-ghost use Rattle.csvw_rows.specs.Lawful.{IsLawful};
+ghost use Rattle.csvw_dialect.specs.declared.dialect.Dialect.{Dialect as TheDialect};
+ghost use Rattle.csvw_dialect.specs.Lawful.{IsLawful};
 ghost use Rattle.csvw_rows.specs.RowValue.{row_of};
 ghost use Rattle.csvw_rows.specs.RowsState.{is_ended_of};
 ghost use Rattle.csvw_rows_bench.specs.Counting.{AreCounts, CountsBytes, CountsRow};

@@ -1,13 +1,13 @@
 //! Worked rows, each text at every cut.
 ghost use Rattle.std.specs.Prelude.{◌≡◌, ◌<◌, ◌-◌, ◌^◌, true, false, IfOk};
-ghost use Rattle.csvw_rows.specs.Lawful.{IsLawful};
+ghost use Rattle.csvw_dialect.specs.Lawful.{IsLawful};
 
 mod both;
 mod compared;
 mod numbers;
 
 use super::*;
-use crate::dialect::{BadDialect, LineTerminators, Trim};
+use csvw_dialect::{BadDialect, LineTerminators, Trim};
 use csvw_text::Text;
 use std::fmt::Write;
 use std::process::Abort;

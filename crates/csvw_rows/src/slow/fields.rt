@@ -4,7 +4,7 @@ ghost use Rattle.csvw_rows.specs.declared.slow.fields.Read.TheVariants as read;
 ghost use Rattle.csvw_rows.specs.Grammar.{terminator_len};
 ghost use Rattle.csvw_rows.specs.Scan.{Found, Broken, Unfinished, run};
 
-use crate::dialect::Dialect;
+use csvw_dialect::Dialect;
 use crate::scan::{State, Step, next_step};
 use crate::stop::RowStop;
 use csvw_text::Seq;

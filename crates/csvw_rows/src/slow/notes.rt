@@ -1,6 +1,7 @@
 //! Which rows are skipped or comments, by their characters.
 ghost use Rattle.std.specs.Prelude.{◌≡◌, ◌≤◌, length};
-ghost use Rattle.csvw_rows.specs.Files.{prefix_of, is_note};
+ghost use Rattle.csvw_rows.specs.Files.{is_note};
+ghost use Rattle.csvw_dialect.specs.Lawful.{prefix_of};
 ghost use Rattle.csvw_rows.specs.Looks.{may_be_note};
 ghost use Rattle.csvw_rows.specs.Lines.{IsCommon, IsPrefixLen};
 

@@ -1,5 +1,5 @@
 use Rattle.std.proofs.Common.{◌≡◌, ◌≤◌, ◌<◌, ℕ, Bool, true, false, List, [], ◌∷◌, ◌++◌, Some, length, drop, map, option_map, if◌then◌else◌, refl, ap, sym, ◌∙◌, arith, subst}
-use Rattle.csvw_rows.specs.declared.dialect.Dialect.{Dialect}
+use Rattle.csvw_dialect.specs.declared.dialect.Dialect.{Dialect}
 use Rattle.csvw_rows.specs.declared.slow.line.Kind.{Kind}
 use Rattle.csvw_rows.specs.declared.slow.line.Kind.TheVariants as kind
 use Rattle.csvw_rows.specs.declared.stop.RowStop.{RowStop}
@@ -8,7 +8,7 @@ use Rattle.csvw_rows.specs.declared.scan.State.{State}
 use Rattle.csvw_rows.specs.declared.scan.State.TheVariants.{Start}
 use Rattle.csvw_rows.specs.Files.{is_note}
 use Rattle.csvw_rows.specs.Grammar.{trimmed}
-use Rattle.csvw_rows.specs.Lawful.{IsLawful}
+use Rattle.csvw_dialect.specs.Lawful.{IsLawful}
 use Rattle.csvw_rows.specs.Lines.{IsFound, IsWrong, IsShown}
 use Rattle.csvw_rows.specs.Looks.{settled, may_be_note}
 use Rattle.csvw_rows.specs.Parts.{Continues}

@@ -1,5 +1,5 @@
 use Rattle.std.proofs.Common.{◌≡◌, ◌<◌, ◌-◌, ℕ, Bool, false, List, length, if◌then◌else◌, ap, ◌∙◌, sym, arith}
-use Rattle.csvw_rows.specs.declared.dialect.Dialect.{Dialect}
+use Rattle.csvw_dialect.specs.declared.dialect.Dialect.{Dialect}
 use Rattle.csvw_rows.specs.Looks.{settled}
 use Rattle.csvw_rows.proofs.LineLemmas.{settled_last, settled_same, get_any}
 use Rattle.csvw_rows.proofs.slow.line.settled.Goals as goal

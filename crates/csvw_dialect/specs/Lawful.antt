@@ -1,9 +1,12 @@
 -- The dialects by which texts can be read, and the defaults (Metadata Vocabulary for Tabular Data, section 5.9).
-use Rattle.std.specs.Prelude.{◌≡◌, ◌≢◌, ℕ, ◌==◌, ◌||◌, ◌&&◌, not, Bool, true, false, List, [], ◌∷◌, Option, Some, None}
+use Rattle.std.specs.Prelude.{◌≡◌, ◌≢◌, ℕ, ◌==◌, ◌||◌, ◌&&◌, not, Bool, true, false, List, [], ◌∷◌, Option, Some, None, option_map, chars}
 use Rattle.std.specs.List.{list_any}
-use Rattle.csvw_rows.specs.declared.dialect.Dialect.{Dialect}
-use Rattle.csvw_rows.specs.declared.dialect.Trim.TheVariants.{No}
-use Rattle.csvw_rows.specs.Files.{prefix_of}
+use Rattle.csvw_dialect.specs.declared.dialect.Dialect.{Dialect}
+use Rattle.csvw_dialect.specs.declared.dialect.Trim.TheVariants.{No}
+
+-- the characters of the comment prefix
+abbrev pub prefix_of : Dialect → Option (List ℕ)
+prefix_of d = option_map chars d.comment_prefix
 
 -- CR or LF stands in the text
 abbrev pub has_break : List ℕ → Bool

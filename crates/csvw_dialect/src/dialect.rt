@@ -1,7 +1,6 @@
 //! How a text is cut into rows and fields.
 ghost use Rattle.std.specs.Prelude.{◌≡◌, ◌||◌, ◌==◌, IfOk, OnOk, OnErr, chars};
-ghost use Rattle.csvw_rows.specs.Lawful.{IsLawful, IsDefault, has_break, prefix_breaks, delimiter_breaks, quote_breaks};
-ghost use Rattle.csvw_rows.specs.Files.{prefix_of};
+ghost use Rattle.csvw_dialect.specs.Lawful.{IsLawful, IsDefault, has_break, prefix_of, prefix_breaks, delimiter_breaks, quote_breaks};
 
 use csvw_text::{Text, copied_option};
 use std::alloc::{AllocError, Global};
