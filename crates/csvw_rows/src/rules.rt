@@ -12,8 +12,8 @@ ghost use Rattle.csvw_rows.specs.Lines.{IsCommon, IsPrefixLen};
 
 use crate::cut::Symbols;
 use crate::decode::chars_of;
-use csvw_dialect::Dialect;
 use crate::leads::Leads;
+use csvw_dialect::Dialect;
 use csvw_text::Seq;
 use std::alloc::{AllocError, Global};
 

@@ -4,9 +4,9 @@ ghost use Rattle.csvw_rows.specs.declared.slow.fields.Read.TheVariants as read;
 ghost use Rattle.csvw_rows.specs.Grammar.{terminator_len};
 ghost use Rattle.csvw_rows.specs.Scan.{Found, Broken, Unfinished, run};
 
-use csvw_dialect::Dialect;
 use crate::scan::{State, Step, next_step};
 use crate::stop::RowStop;
+use csvw_dialect::Dialect;
 use csvw_text::Seq;
 use std::alloc::{AllocError, Global};
 

@@ -1,10 +1,10 @@
 use Rattle.std.proofs.Common.{◌≡◌, ◌∙◌, ◌∷◌, [], ◌++◌, List, ℕ, length, chars, arith, refl, sym, ap}
 use Rattle.std.specs.Prelude.{encode_utf8}
 use Rattle.std.proofs.lemmas.Str.{IsUtf8-from_is_utf8, is_utf8-from_IsUtf8}
-use Rattle.csvw_rows.specs.Grammar.{strip_end}
-use Rattle.csvw_rows.proofs.DraftLemmas.{no_chars, take_whole}
-use Rattle.csvw_rows.proofs.TrimLemmas.{end_stays, end_goes, last_char, front_less}
-use Rattle.csvw_rows.proofs.trim.without_end.Goals as goal
+use Rattle.csvw_text.specs.Strip.{strip_end}
+use Rattle.csvw_text.proofs.StripLemmas.{no_chars, take_whole}
+use Rattle.csvw_text.proofs.StripLemmas.{end_stays, end_goes, last_char, front_less}
+use Rattle.csvw_text.proofs.strip.strip_end.Goals as goal
 
 pub loop-c-init : goal.loop-c-init
 loop-c-init c =

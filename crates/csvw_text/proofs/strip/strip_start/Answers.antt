@@ -1,10 +1,10 @@
 use Rattle.std.proofs.Common.{◌≡◌, ◌∙◌, ◌-◌, ◌∷◌, ◌++◌, List, ℕ, length, drop, chars, arith, refl, sym, ap}
 use Rattle.std.specs.Prelude.{encode_utf8}
 use Rattle.std.proofs.lemmas.Str.{IsUtf8-from_is_utf8, is_utf8-from_IsUtf8, chars_past_char}
-use Rattle.csvw_rows.specs.Grammar.{strip_start}
-use Rattle.csvw_rows.proofs.DraftLemmas.{back_more, no_chars}
-use Rattle.csvw_rows.proofs.TrimLemmas.{start_stays, start_goes}
-use Rattle.csvw_rows.proofs.trim.without_start.Goals as goal
+use Rattle.csvw_text.specs.Strip.{strip_start}
+use Rattle.csvw_text.proofs.StripLemmas.{back_more, no_chars}
+use Rattle.csvw_text.proofs.StripLemmas.{start_stays, start_goes}
+use Rattle.csvw_text.proofs.strip.strip_start.Goals as goal
 
 pub loop-c-init : goal.loop-c-init
 loop-c-init c =

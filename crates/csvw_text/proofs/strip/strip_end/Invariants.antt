@@ -1,7 +1,7 @@
 use Rattle.std.proofs.Common.{◌≡◌, ◌≤◌, true, length, take, chars}
 use Rattle.std.specs.Str.{is_utf8}
-use Rattle.csvw_rows.specs.Grammar.{strip_end}
-use Rattle.csvw_rows.proofs.trim.without_end.Given as goal
+use Rattle.csvw_text.specs.Strip.{strip_end}
+use Rattle.csvw_text.proofs.strip.strip_end.Given as goal
 
 abbrev pub invariant-loop-c : goal.invariant-loop-c
 invariant-loop-c l = record {
