@@ -16,8 +16,6 @@ mod raw_row;
 mod rows;
 mod rules;
 mod scan;
-#[cfg(test)]
-mod slow;
 mod source;
 mod stop;
 mod trim;

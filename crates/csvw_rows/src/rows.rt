@@ -458,6 +458,3 @@ impl Rows {
         Turn::Given
     }
 }
-
-#[cfg(test)]
-mod tests;
