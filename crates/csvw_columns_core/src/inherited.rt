@@ -1,0 +1,122 @@
+//! The properties of a column, with what it inherits.
+ghost use Rattle.std.specs.Prelude.{◌≡◌, IfOk, unwrap_or, false};
+ghost use Rattle.csvw_columns_core.specs.Inherited.{IsDefaults, first_of, inherited, inherited_or_none, properties_of};
+
+use crate::properties::{Defaults, Properties};
+use csvw_description::Inherited;
+use csvw_text::{Copied, copied_option};
+use std::alloc::{AllocError, Global};
+
+fn first_of<'a, T>(inner: &'a Option<T>, outer: &'a Option<T>) -> &'a Option<T>
+    ensures { result.now ≡ first_of inner.now outer.now }
+{
+    match inner {
+        Some(_) => inner,
+        None => outer,
+    }
+}
+
+/// The value that is found first, if there is one.
+#[tactic(auto, using(crate::proofs::InheritedLemmas::first_of_four))]
+fn found<T: Copied + Drop>(
+    alloc: Global,
+    column: &Option<T>,
+    schema: &Option<T>,
+    table: &Option<T>,
+    group: &Option<T>,
+) -> Result<Option<T>, AllocError>
+    ensures { IfOk result (λ x. x ≡ inherited_or_none column.now schema.now table.now group.now) }
+{
+    copied_option(
+        alloc,
+        first_of(column, first_of(schema, first_of(table, group))),
+    )
+}
+
+/// The truth that is found first, else false.
+fn is_set(
+    column: Option<bool>,
+    schema: Option<bool>,
+    table: Option<bool>,
+    group: Option<bool>,
+) -> bool
+    ensures { result ≡ inherited false column schema table group }
+{
+    column.or(schema).or(table).or(group).unwrap_or(false)
+}
+
+/// The value, or where there is none a copy of the default.
+fn or_default<T: Copied + Drop>(
+    alloc: Global,
+    value: Option<T>,
+    default: &T,
+) -> Result<T, AllocError>
+    ensures { IfOk result (λ x. x ≡ unwrap_or value default.now) }
+{
+    match value {
+        Some(x) => Ok(x),
+        None => default.copied(alloc),
+    }
+}
+
+impl Defaults {
+    /// The inherited properties of a column, each the first that is present in the column, its schema, its table and the
+    /// group, in this order, else its default (Metadata Vocabulary for Tabular Data, section 5.7). `AllocError` where
+    /// there is no memory.
+    pub fn inherited(
+        &self,
+        alloc: Global,
+        c: &Inherited,
+        s: &Inherited,
+        t: &Inherited,
+        g: &Inherited,
+    ) -> Result<Properties, AllocError>
+        requires { IsDefaults self.now }
+        ensures { IfOk result (λ p. p ≡ properties_of c.now s.now t.now g.now) }
+    {
+        let datatype = found(alloc, &c.datatype, &s.datatype, &t.datatype, &g.datatype)?;
+        let default = found(alloc, &c.default, &s.default, &t.default, &g.default)?;
+        let lang = found(alloc, &c.lang, &s.lang, &t.lang, &g.lang)?;
+        let null = found(alloc, &c.null, &s.null, &t.null, &g.null)?;
+        let separator = found(
+            alloc,
+            &c.separator,
+            &s.separator,
+            &t.separator,
+            &g.separator,
+        )?;
+        let about_url = found(
+            alloc,
+            &c.about_url,
+            &s.about_url,
+            &t.about_url,
+            &g.about_url,
+        )?;
+        let property_url = found(
+            alloc,
+            &c.property_url,
+            &s.property_url,
+            &t.property_url,
+            &g.property_url,
+        )?;
+        let value_url = found(
+            alloc,
+            &c.value_url,
+            &s.value_url,
+            &t.value_url,
+            &g.value_url,
+        )?;
+        Ok(Properties {
+            about_url,
+            property_url,
+            value_url,
+            datatype: or_default(alloc, datatype, &self.datatype)?,
+            default: or_default(alloc, default, &self.default)?,
+            lang: or_default(alloc, lang, &self.lang)?,
+            null: or_default(alloc, null, &self.null)?,
+            ordered: is_set(c.ordered, s.ordered, t.ordered, g.ordered),
+            required: is_set(c.required, s.required, t.required, g.required),
+            separator: separator.unwrap_or(None),
+        })
+    }
+}

@@ -1,0 +1,9 @@
+//! What a column of a table is: its name and number, and its properties with what it inherits.
+#![tactic(auto)]
+
+mod column;
+mod inherited;
+mod properties;
+
+pub use column::Column;
+pub use properties::{Defaults, Properties};

@@ -1,0 +1,79 @@
+//! The inherited properties of a column, with their defaults.
+ghost use Rattle.std.specs.Prelude.{◌≡◌, IfOk, codes};
+ghost use Rattle.csvw_columns_core.specs.Inherited.{IsDefaults};
+
+use csvw_datatype::{Datatype, Facets, Simple};
+use csvw_template::Template;
+use csvw_text::{LanguageTag, Seq, Shared, Text};
+use std::alloc::{AllocError, Global};
+
+/// The inherited properties of a column, each with its value, or with its default where no object has it (Metadata
+/// Vocabulary for Tabular Data, section 5.7).
+#[derive(Debug, Drop)]
+pub struct Properties {
+    /// `aboutUrl`: the subject of the cells' triples.
+    pub about_url: Option<Shared<Template>>,
+    /// `propertyUrl`: their predicate.
+    pub property_url: Option<Shared<Template>>,
+    /// `valueUrl`: their object.
+    pub value_url: Option<Shared<Template>>,
+    /// `datatype`: the values of cells; string by default.
+    pub datatype: Shared<Datatype>,
+    /// `default`: what stands for an empty text; the empty text by default.
+    pub default: Shared<Text>,
+    /// `lang`: the language of texts; `und` by default.
+    pub lang: Shared<LanguageTag>,
+    /// `null`: the texts that are null; the empty text alone by default.
+    pub null: Shared<Seq<Text>>,
+    /// `ordered`: whether the items of a list keep their order in the graph; false by default.
+    pub ordered: bool,
+    /// `required`: whether a null cell is a fault; false by default.
+    pub required: bool,
+    /// `separator`: what parts the items of a list; none by default: a cell is no list.
+    pub separator: Option<Shared<Text>>,
+}
+
+/// The defaults of the inherited properties that have a text or a datatype, which columns share.
+#[derive(Debug, Drop)]
+pub struct Defaults {
+    /// String, without a format or facets.
+    pub datatype: Shared<Datatype>,
+    /// The empty text.
+    pub default: Shared<Text>,
+    /// `und`.
+    pub lang: Shared<LanguageTag>,
+    /// The empty text alone.
+    pub null: Shared<Seq<Text>>,
+}
+
+impl Defaults {
+    /// The defaults; `AllocError` where there is no memory.
+    pub fn new(alloc: Global) -> Result<Defaults, AllocError>
+        ensures { IfOk result IsDefaults }
+    {
+        let datatype = Datatype {
+            simple: Simple::Text,
+            id: None,
+            format: None,
+            facets: Facets::new(),
+        };
+        let mut null = Seq::new(alloc);
+        null.push(Text::new(alloc))?;
+        Ok(Defaults {
+            datatype: Shared::new(alloc, datatype)?,
+            default: Shared::new(alloc, Text::new(alloc))?,
+            lang: Shared::new(alloc, undetermined(alloc)?)?,
+            null: Shared::new(alloc, null)?,
+        })
+    }
+}
+
+/// `und`, the tag of a language that isn't known.
+fn undetermined(alloc: Global) -> Result<LanguageTag, AllocError>
+    ensures { IfOk result (λ tag. tag ≡ codes "und") }
+{
+    match LanguageTag::of(alloc, Text::copied(alloc, "und")?)? {
+        Some(tag) => Ok(tag),
+        None => unreachable!(),
+    }
+}
