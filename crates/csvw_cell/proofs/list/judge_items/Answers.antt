@@ -1,0 +1,18 @@
+-- One more item.
+use Rattle.std.proofs.Common.{◌≡◌, ◌∙◌, ◌++◌, sym, ap, subst, List, ℕ}
+use Rattle.csvw_cell.specs.CellOf.{is_null}
+use Rattle.csvw_cell.specs.CellOf as cell
+use Rattle.csvw_datatype.specs.declared.datatype.Datatype.{Datatype}
+use Rattle.csvw_cell.proofs.ListLemmas.{one_item}
+use Rattle.csvw_cell.proofs.list.judge_items.Goals as goal
+
+pub loop-part-preserved : goal.loop-part-preserved
+loop-part-preserved c =
+    let text : List ℕ = c.item_text-text.result.now in
+    let item = c.in_ok-judged.judged.item in
+    let its = c.in_ok-judged.judged.causes in
+    let kept = ap (λ (nulls : List (List ℕ)). is_null nulls text) (sym (c.as_slice.ensures ∙ c.get.ensures)) ∙ sym c.is_null.ensures ∙ c.if-is_null.false in
+    let judged = subst (λ (d : Datatype). cell.IsItem d text item its) c.get-in-loop-part.ensures c.in_ok-judged.ensures in
+    one_item _ c.args.properties.now c.args.parts.now c.loop-part.part-index _ text item its c.loop-part.items.items _ c.loop-part.causes.items _
+    c.loop-part-test.true c.item_text-text.ensures kept judged c.in_ok-push.ensures.items
+    (c.in_ok-extend_from_slice.ensures.items ∙ ap (λ l. c.loop-part.causes.items ++ l) c.as_slice-in-loop-part.ensures) c.loop-part.invariant

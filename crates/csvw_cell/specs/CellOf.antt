@@ -1,0 +1,100 @@
+-- What the text of a cell is (Model for Tabular Data, section 6.4.2, "Parsing Cells"), in nine steps.
+use Rattle.std.specs.Prelude.{◌≡◌, ℕ, ◌==◌, Bool, true, false, MatchBool, if◌then◌else◌, List, [], ◌∷◌, ◌++◌, length, map, take, drop, filter, bytes_eq, not, Option, Some, None, chars, encode_utf8_all, flat_map}
+use Rattle.std.specs.List.{list_any}
+use Rattle.std.specs.Str.Pattern.{FindsText}
+use Rattle.csvw_text.specs.Collapse.{collapse}
+use Rattle.csvw_text.specs.Strip.{strip_start, strip_end}
+use Rattle.csvw_text.specs.declared.fault.Code.{Code}
+use Rattle.csvw_text.specs.declared.fault.Code.TheVariants.{Required}
+use Rattle.csvw_datatype.specs.declared.datatype.Datatype.{Datatype}
+use Rattle.csvw_datatype.specs.declared.value.Value.{Value}
+use Rattle.csvw_datatype.specs.declared.value.Value.TheVariants.{Text}
+use Rattle.csvw_datatype.specs.Reads.{Reads, Misread}
+use Rattle.csvw_datatype.specs.Breaks.{breaks}
+use Rattle.csvw_columns_core.specs.declared.properties.Properties.{Properties}
+use Rattle.csvw_columns_core.specs.declared.column.Column.{Column}
+use Rattle.csvw_cell.specs.declared.cell.Item.{Item}
+use Rattle.csvw_cell.specs.declared.cell.Cell.{Cell}
+use Rattle.csvw_cell.specs.declared.cell.CellValue.TheVariants.{Null, One, Many}
+use Rattle.csvw_cell.specs.Codes.{in_order, broken_codes, is_string}
+
+-- steps 1 and 2: CR, LF and tab are spaces, the ends are stripped and runs of spaces are one, unless the base is string
+abbrev pub normalized : Datatype → List ℕ → List ℕ
+normalized d text = if is_string d then text else encode_utf8_all (collapse (chars text))
+
+-- steps 3 and 6: an empty text is replaced by `default`
+abbrev pub or_default : List ℕ → List ℕ → List ℕ
+or_default default text = if length text == 0 then default else text
+
+-- the text is one of `null`
+abbrev pub is_null : List (List ℕ) → List ℕ → Bool
+is_null nulls text = list_any (λ n. bytes_eq n text) nulls
+
+-- step 5: the parts between the separators, each taken from the left; an empty separator parts nothing
+abbrev pub ArePartsBy : List ℕ → List ℕ → List (List ℕ) → Type 0
+ArePartsBy separator text [] = ⊥
+ArePartsBy separator text (part ∷ []) = FindsText separator text None × (part ≡ text)
+ArePartsBy separator text (part ∷ next ∷ parts) =
+    (i : ℕ) × (j : ℕ) × FindsText separator text (Some (i, j)) × (part ≡ take i text) × ArePartsBy separator (drop j text) (next ∷ parts)
+
+abbrev pub AreParts : List ℕ → List ℕ → List (List ℕ) → Type 0
+AreParts separator text parts = MatchBool (length separator == 0) (parts ≡ text ∷ []) (ArePartsBy separator text parts)
+
+-- an item is stripped of white space, unless the base is string
+abbrev pub stripped : Datatype → List ℕ → List ℕ
+stripped d text = if is_string d then text else encode_utf8_all (strip_end (strip_start (chars text)))
+
+-- steps 5 and 6 of one item
+abbrev pub item_text : Properties → List ℕ → List ℕ
+item_text p part = or_default p.default (stripped p.datatype part)
+
+-- step 7 of the items: those that are null are left out
+abbrev pub texts_of : Properties → List (List ℕ) → List (List ℕ)
+texts_of p parts = filter (λ text. not (is_null p.null text)) (map (item_text p) parts)
+
+-- step 8: the text is a value of the datatype, or else a text, with the code; step 9: the facets of a value that was read
+abbrev pub IsItem : Datatype → List ℕ → Item → List Code → Type 0
+IsItem d text item codes =
+    MatchBool item.was_read
+    (Reads d text item.value × (codes ≡ broken_codes (breaks item.value d.facets)))
+    ((code : Code) × Misread d text code × (item.value ≡ Text text) × (codes ≡ code ∷ []))
+
+-- the same of each text of a list
+abbrev pub AreItems : Datatype → List (List ℕ) → List Item → List Code → Type 0
+AreItems d [] items codes = (items ≡ []) × (codes ≡ [])
+AreItems d (text ∷ texts) items codes =
+    (item : Item) × (others : List Item) × (its : List Code) × (theirs : List Code)
+    × (items ≡ item ∷ others) × (codes ≡ its ++ theirs) × IsItem d text item its × AreItems d texts others theirs
+
+-- a required cell has a value
+abbrev pub missing : Properties → List Code
+missing p = if p.required then Required ∷ [] else []
+
+-- steps 7 to 9 without a separator
+abbrev pub IsSingle : Properties → List ℕ → Cell → Type 0
+IsSingle p text cell =
+    MatchBool (is_null p.null text)
+    ((cell.value ≡ Null) × (cell.faults ≡ missing p))
+    ((item : Item) × (codes : List Code) × IsItem p.datatype text item codes × (cell.value ≡ One item) × (cell.faults ≡ in_order codes))
+
+-- steps 5 to 9 of a text that isn't null
+abbrev pub IsListOf : Properties → List ℕ → List ℕ → Cell → Type 0
+IsListOf p separator text cell =
+    (parts : List (List ℕ)) × (items : List Item) × (codes : List Code) × AreParts separator text parts
+    × AreItems p.datatype (texts_of p parts) items codes × (cell.value ≡ Many items) × (cell.faults ≡ in_order codes)
+
+-- steps 4 to 9 with a separator
+abbrev pub IsList : Properties → List ℕ → List ℕ → Cell → Type 0
+IsList p separator text cell =
+    MatchBool (length text == 0)
+    ((cell.value ≡ Many []) × (cell.faults ≡ missing p))
+    (MatchBool (is_null p.null text) ((cell.value ≡ Null) × (cell.faults ≡ [])) (IsListOf p separator text cell))
+
+abbrev pub IsCellBy : Properties → Option (List ℕ) → List ℕ → Cell → Type 0
+IsCellBy p None text cell = IsSingle p text cell
+IsCellBy p (Some separator) text cell = IsList p separator text cell
+
+-- all nine steps
+abbrev pub CellOf : Column → List ℕ → Cell → Type 0
+CellOf column text cell =
+    IsCellBy column.properties column.properties.separator (or_default column.properties.default (normalized column.properties.datatype text)) cell

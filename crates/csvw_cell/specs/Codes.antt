@@ -1,0 +1,45 @@
+-- What may be wrong with a cell.
+use Rattle.std.specs.Prelude.{ℕ, Bool, true, false, List, [], ◌∷◌, ◌++◌, filter, bytes_eq, if◌then◌else◌}
+use Rattle.std.specs.List.{list_any}
+use Rattle.csvw_text.specs.declared.fault.Code.{Code}
+use Rattle.csvw_text.specs.declared.fault.Code.TheVariants.{Required, BadBoolean, BadInteger, BadDecimal, NumberTooLong, OutOfRange, BadDate, BadDateTime, WrongLength, TooShort, TooLong, BelowMinimum, AboveMaximum}
+use Rattle.csvw_text.specs.Code.{name_of}
+use Rattle.csvw_datatype.specs.declared.facets.Broken.{Broken}
+use Rattle.csvw_datatype.specs.declared.datatype.Datatype.{Datatype}
+use Rattle.csvw_datatype.specs.declared.simple.Simple.{Simple}
+use Rattle.csvw_datatype.specs.declared.simple.Simple.TheVariants.{Text, Truth, Whole, Decimal, Day, Uri, Derived, Moment}
+
+-- the base is string
+abbrev pub is_string_base : Simple → Bool
+is_string_base Text = true
+is_string_base Truth = false
+is_string_base Whole = false
+is_string_base Decimal = false
+is_string_base Day = false
+is_string_base Uri = false
+is_string_base (Derived w) = false
+is_string_base Moment = false
+
+abbrev pub is_string : Datatype → Bool
+is_string d = is_string_base d.simple
+
+-- the codes that a cell may have, in their order
+abbrev pub cell_codes : List Code
+cell_codes = Required ∷ BadBoolean ∷ BadInteger ∷ BadDecimal ∷ NumberTooLong ∷ OutOfRange ∷ BadDate ∷ BadDateTime ∷ WrongLength ∷ TooShort ∷ TooLong ∷ BelowMinimum ∷ AboveMaximum ∷ []
+
+-- the code is one of the list; codes are told apart by their names
+abbrev pub is_among : List Code → Code → Bool
+is_among causes code = list_any (λ cause. bytes_eq (name_of cause) (name_of code)) causes
+
+-- each code of a list once, in their order
+abbrev pub in_order : List Code → List Code
+in_order causes = filter (is_among causes) cell_codes
+
+abbrev pub told : Bool → Code → List Code
+told b code = if b then code ∷ [] else []
+
+-- the codes of the facets that a value breaks
+abbrev pub broken_codes : Broken → List Code
+broken_codes b =
+    (((told b.wrong_length WrongLength ++ told b.too_short TooShort) ++ told b.too_long TooLong)
+    ++ told b.below_minimum BelowMinimum) ++ told b.above_maximum AboveMaximum

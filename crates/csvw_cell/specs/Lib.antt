@@ -1,0 +1,2 @@
+pub mod CellOf
+pub mod Codes

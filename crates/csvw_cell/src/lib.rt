@@ -1,0 +1,11 @@
+//! What a cell says: its value, by the datatype and the other properties of its column, and what is wrong with it.
+#![tactic(auto)]
+
+mod cell;
+mod codes;
+mod item;
+mod list;
+mod parsing;
+
+pub use cell::{Cell, CellValue, Item};
+pub use parsing::{parse, parse_into};
