@@ -242,15 +242,24 @@ const TRIMMED: [(&[u8], &str); 3] = [
     ),
 ];
 
-#[test]
-fn at_every_cut(rt: HostRuntime) -> Result<(), Fail> {
-    let alloc = rt.alloc();
-    for table in TABLES {
-        for (text, want) in table.cases {
-            cuts(&rt, alloc, &table, text, want)?;
-        }
+/// Cuts each text of the table everywhere.
+fn cuts_of(rt: &impl Abort, alloc: Global, table: &Table) -> Result<(), Fail> {
+    for (text, want) in table.cases {
+        cuts(rt, alloc, table, text, want)?;
     }
     Ok(())
+}
+
+fn cuts_of_all(rt: &impl Abort, alloc: Global, tables: &[Table]) -> Result<(), Fail> {
+    for table in tables {
+        cuts_of(rt, alloc, table)?;
+    }
+    Ok(())
+}
+
+#[test]
+fn at_every_cut(rt: HostRuntime) -> Result<(), Fail> {
+    cuts_of_all(&rt, rt.alloc(), &TABLES)
 }
 
 /// Pieces, and what is there behind each: a row as soon as its terminator is known, and a stop that stays.
