@@ -33,9 +33,21 @@ serdi -i ntriples -o ntriples "$document" | "$program" write 1 | cmp - "$work/ou
   exit 1
 }
 
+# How many triples the document has, by our reader, by serdi and by rapper.
+count=$("$program" count <"$document")
+for other in "$(serdi -i ntriples -o ntriples "$document" | wc -l)" \
+  "$(rapper -q -i ntriples -o ntriples "$document" http://example.org/ | wc -l)"; do
+  [ "$count" = "$other triples" ] || { echo "ntriples.sh: $count, and $other by another reader" >&2; exit 1; }
+done
+
 # The writer alone: the first lines, read once and written so often that it comes to the size of the document.
 head -n 1000 "$document" >"$work/head.nt"
 rounds=$(($(wc -c <"$document") / $("$program" write 1 <"$work/head.nt" | wc -c)))
+for _ in $(seq "$rounds"); do cat "$work/head.nt"; done | "$program" write 1 |
+  cmp - <("$program" write "$rounds" <"$work/head.nt") || {
+  echo "ntriples.sh: the writer alone writes something else than the lines so often" >&2
+  exit 1
+}
 
 rm -f "$work"/*.times
 for _ in $(seq "$runs"); do
@@ -48,7 +60,7 @@ for _ in $(seq "$runs"); do
 done
 
 size=$(awk -v b="$(wc -c <"$document")" 'BEGIN { print b / 1000000 }')
-echo "$("$program" count <"$document"), $size MB; least of $runs runs; $(uptime | sed 's/.*load/load/')"
+echo "$count, $size MB; least of $runs runs; $(uptime | sed 's/.*load/load/')"
 printf '%-16s %-8s %8s %8s %9s\n' what program seconds MB/s 'peak MB'
 row read ours read
 row read rapper read_rapper

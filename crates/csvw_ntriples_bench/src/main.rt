@@ -47,23 +47,31 @@ fn write<W: Write>(
     Ok(())
 }
 
-/// Does what the words ask for with the document, and tells how many triples it has where they ask for that.
+fn tell<W: Write>(count: usize, out: &mut Counted<W>) -> Result<(), Halt> {
+    match writeln!(out, "{count} triples") {
+        Ok(()) => Ok(()),
+        Err(_) => Err(Halt::Write),
+    }
+}
+
+/// Does what the words ask for with the document.
 fn run<R: Read, W: Write>(
     alloc: Global,
     words: &[String],
     input: &mut R,
     out: &mut Counted<W>,
-) -> Result<Option<usize>, Halt> {
+) -> Result<(), Halt> {
     let Some(task) = requested(words) else {
         return Err(Halt::Usage);
     };
     let document = read_all(alloc, input)?;
     match task {
-        Task::Count => Ok(Some(read(alloc, document.as_slice())?.len())),
-        Task::Write(rounds) => {
-            write(alloc, rounds, document.as_slice(), out)?;
-            Ok(None)
-        }
+        Task::Count => tell(read(alloc, document.as_slice())?.len(), out)?,
+        Task::Write(rounds) => write(alloc, rounds, document.as_slice(), out)?,
+    }
+    match out.flush() {
+        Ok(()) => Ok(()),
+        Err(_) => Err(Halt::Write),
     }
 }
 
@@ -73,13 +81,7 @@ fn main(rt: HostRuntime) -> io::Result<ExitCode> {
     let mut out = Counted::new(BufWriter::new(alloc, rt.stdout())?);
     let mut input = rt.stdin();
     match run(alloc, words.as_slice(), &mut input, &mut out) {
-        Ok(count) => {
-            out.flush()?;
-            if let Some(count) = count {
-                println!(rt; "{count} triples")?;
-            }
-            Ok(ExitCode::from(0))
-        }
+        Ok(()) => Ok(ExitCode::from(0)),
         Err(halt) => {
             let (status, line) = halt.told();
             eprintln!(rt; "csvw_ntriples_bench: {line}")?;

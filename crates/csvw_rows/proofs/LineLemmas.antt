@@ -1,24 +1,18 @@
 -- What stands at the front of a text, from one pass over it.
-use Rattle.std.proofs.Common.{◌≡◌, ℕ, zero, suc, ◌+◌, ◌-◌, ◌<◌, ◌≤◌, Bool, true, false, ◌&&◌, ◌==◌, if◌then◌else◌, List, [], ◌∷◌, ◌++◌, map, length, take, drop, get_or, Some, None, option_map, refl, sym, ap, ◌∙◌, arith, append-nil, length-drop, ◌⊎◌, inl, inr}
+use Rattle.std.proofs.Common.{◌≡◌, ℕ, zero, suc, ◌+◌, ◌-◌, ◌<◌, ◌≤◌, Bool, true, false, ◌&&◌, ◌==◌, if◌then◌else◌, List, [], ◌∷◌, ◌++◌, length, take, drop, get_or, refl, sym, ap, ◌∙◌, arith, append-nil}
 use Rattle.std.proofs.lemmas.Bool.Decides.{nat_tests}
 use Rattle.std.proofs.lemmas.Grind.{common_steps}
-use Rattle.std.proofs.lemmas.List.{take_more, drop-append-le}
+use Rattle.std.proofs.lemmas.List.{take_more}
 use Rattle.csvw_dialect.specs.declared.dialect.Dialect.{Dialect}
 use Rattle.csvw_rows.specs.declared.stop.RowStop.{RowStop}
 use Rattle.csvw_rows.specs.declared.scan.State.{State}
 use Rattle.csvw_rows.specs.declared.scan.State.TheVariants.{Start, Plain, Inside, Escaped, Closed}
 use Rattle.csvw_rows.specs.declared.scan.Step.{Step}
 use Rattle.csvw_rows.specs.declared.scan.Step.TheVariants.{Keep, Skip, Open, Next, End, Stop}
-use Rattle.csvw_rows.specs.Grammar.{trimmed}
-use Rattle.csvw_dialect.specs.Lawful.{IsLawful}
-use Rattle.csvw_rows.specs.Files.{is_note}
-use Rattle.csvw_rows.specs.Scan.{Found, Broken, Unfinished, is_quoted, step_of, run, pass, finish}
-use Rattle.csvw_rows.specs.Looks.{settled, unsettled, line_of, found_row}
-use Rattle.csvw_rows.specs.Parts.{Continues}
-use Rattle.csvw_rows.specs.Lines.{IsFound}
+use Rattle.csvw_rows.specs.Scan.{Found, Broken, Unfinished, is_quoted, step_of, run, finish}
+use Rattle.csvw_rows.specs.Looks.{settled, unsettled}
 use Rattle.csvw_rows.proofs.RunSteps.{ends_at, act_run}
-use Rattle.csvw_rows.proofs.Joins.{goes_on, line_joins, settled_all}
-use Rattle.csvw_rows.proofs.Continue.{settled_len, fields_next, note_next, clear_all, continues_note}
+use Rattle.csvw_rows.proofs.Joins.{goes_on}
 use Rattle.csvw_rows.proofs.Sees.{run_on}
 
 -- the settled text, by its last character

@@ -1,10 +1,10 @@
 //! The rows of generated texts of many dialects, beside those that the plain reader finds.
 
+use crate::kind::{DEFAULT, Kind};
 use crate::numbers::Numbers;
 use crate::plain::{Front, plain};
 use crate::reading::pieces;
 use csvw_rows::{Dialect, LineTerminators, Trim};
-use csvw_text::Text;
 use std::alloc::{AllocError, Global};
 use std::process::Abort;
 use std::test::Fail;
@@ -180,10 +180,9 @@ fn compare_text(
 }
 
 /// Compares what texts give by the dialect. Up to three bytes are cut off their ends.
-fn compare(rt: &impl Abort, alloc: Global, d: &Dialect, seed: u64) -> Result<(), Fail> {
-    let mut numbers = Numbers(seed);
+fn compare(rt: &impl Abort, alloc: Global, d: &Dialect, numbers: &mut Numbers) -> Result<(), Fail> {
     for _ in 0..TEXTS {
-        let text = generated(alloc, &mut numbers, d)?;
+        let text = generated(alloc, numbers, d)?;
         let cut = numbers.below(4) as usize;
         let len = text.len().saturating_sub(cut);
         compare_text(rt, alloc, d, text.as_str(), len)?;
@@ -191,81 +190,83 @@ fn compare(rt: &impl Abort, alloc: Global, d: &Dialect, seed: u64) -> Result<(),
     Ok(())
 }
 
-#[test]
-fn delimiters(rt: HostRuntime) -> Result<(), Fail> {
-    let alloc = rt.alloc();
-    let mut d = Dialect::new(alloc)?;
-    compare(&rt, alloc, &d, 1)?;
-    d.delimiter = ';';
-    compare(&rt, alloc, &d, 2)
-}
+const KINDS: [Kind; 15] = [
+    DEFAULT,
+    Kind {
+        delimiter: ';',
+        ..DEFAULT
+    },
+    Kind {
+        quote_char: Some('\''),
+        ..DEFAULT
+    },
+    Kind {
+        quote_char: None,
+        ..DEFAULT
+    },
+    Kind {
+        double_quote: false,
+        ..DEFAULT
+    },
+    Kind {
+        double_quote: false,
+        skip_initial_space: true,
+        ..DEFAULT
+    },
+    Kind {
+        delimiter: '\u{2192}',
+        ..DEFAULT
+    },
+    Kind {
+        quote_char: Some('\u{2192}'),
+        ..DEFAULT
+    },
+    Kind {
+        trim: Trim::Start,
+        ..DEFAULT
+    },
+    Kind {
+        trim: Trim::End,
+        ..DEFAULT
+    },
+    Kind {
+        trim: Trim::Both,
+        skip_blank_rows: true,
+        ..DEFAULT
+    },
+    Kind {
+        comment_prefix: Some("\"\u{E9}\""),
+        ..DEFAULT
+    },
+    Kind {
+        comment_prefix: None,
+        skip_rows: 2,
+        skip_columns: 1,
+        header_row_count: 2,
+        ..DEFAULT
+    },
+    Kind {
+        line_terminators: LineTerminators {
+            crlf: true,
+            lf: false,
+        },
+        ..DEFAULT
+    },
+    Kind {
+        line_terminators: LineTerminators {
+            crlf: false,
+            lf: true,
+        },
+        ..DEFAULT
+    },
+];
 
 #[test]
-fn quotes(rt: HostRuntime) -> Result<(), Fail> {
+fn as_the_plain_reader(rt: HostRuntime) -> Result<(), Fail> {
     let alloc = rt.alloc();
-    let mut d = Dialect::new(alloc)?;
-    d.quote_char = Some('\'');
-    compare(&rt, alloc, &d, 3)?;
-    d.quote_char = None;
-    compare(&rt, alloc, &d, 4)
-}
-
-#[test]
-fn escapes(rt: HostRuntime) -> Result<(), Fail> {
-    let alloc = rt.alloc();
-    let mut d = Dialect::new(alloc)?;
-    d.double_quote = false;
-    compare(&rt, alloc, &d, 5)?;
-    d.skip_initial_space = true;
-    compare(&rt, alloc, &d, 6)
-}
-
-#[test]
-fn symbols_outside_ascii(rt: HostRuntime) -> Result<(), Fail> {
-    let alloc = rt.alloc();
-    let mut d = Dialect::new(alloc)?;
-    d.delimiter = '\u{2192}';
-    compare(&rt, alloc, &d, 7)?;
-    d.delimiter = ',';
-    d.quote_char = Some('\u{2192}');
-    compare(&rt, alloc, &d, 8)
-}
-
-#[test]
-fn stripped_fields(rt: HostRuntime) -> Result<(), Fail> {
-    let alloc = rt.alloc();
-    let mut d = Dialect::new(alloc)?;
-    d.trim = Trim::Start;
-    compare(&rt, alloc, &d, 9)?;
-    d.trim = Trim::End;
-    compare(&rt, alloc, &d, 10)?;
-    d.trim = Trim::Both;
-    d.skip_blank_rows = true;
-    compare(&rt, alloc, &d, 11)
-}
-
-#[test]
-fn rows_that_give_nothing(rt: HostRuntime) -> Result<(), Fail> {
-    let alloc = rt.alloc();
-    let mut d = Dialect::new(alloc)?;
-    d.comment_prefix = Some(Text::copied(alloc, "\"\u{E9}\"")?);
-    compare(&rt, alloc, &d, 12)?;
-    d.comment_prefix = None;
-    d.skip_rows = 2;
-    d.skip_columns = 1;
-    d.header_row_count = 2;
-    compare(&rt, alloc, &d, 13)
-}
-
-#[test]
-fn terminators(rt: HostRuntime) -> Result<(), Fail> {
-    let alloc = rt.alloc();
-    let mut d = Dialect::new(alloc)?;
-    d.line_terminators.lf = false;
-    compare(&rt, alloc, &d, 14)?;
-    d.line_terminators = LineTerminators {
-        crlf: false,
-        lf: true,
-    };
-    compare(&rt, alloc, &d, 15)
+    let mut numbers = Numbers(1);
+    for kind in KINDS {
+        compare(&rt, alloc, &kind.dialect(alloc)?, &mut numbers)?;
+    }
+    Ok(())
 }

@@ -7,6 +7,8 @@ mod compared;
 #[cfg(test)]
 mod generated;
 #[cfg(test)]
+mod kind;
+#[cfg(test)]
 mod numbers;
 #[cfg(test)]
 mod plain;

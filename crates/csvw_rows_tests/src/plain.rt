@@ -10,7 +10,9 @@ use std::test::Fail;
 /// The first characters of a text, and whether bytes that begin another one stand behind them.
 #[derive(Drop)]
 pub struct Front {
+    /// The characters.
     pub chars: Vec<char>,
+    /// Whether bytes of another one stand behind them.
     pub is_cut: bool,
 }
 
@@ -23,6 +25,7 @@ enum End<'a> {
     Terminator(&'a [char]),
     /// The text ended, within quotes or not.
     Text(bool),
+    /// A rule is broken.
     Stop(RowStop),
 }
 
@@ -33,6 +36,7 @@ enum Found<'a> {
     Row(Option<Vec<String>>, &'a [char]),
     /// The row isn't whole.
     Open,
+    /// A rule is broken.
     Stop(RowStop),
 }
 

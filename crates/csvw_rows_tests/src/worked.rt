@@ -1,16 +1,16 @@
 //! Worked rows, each text at every cut.
 
+use crate::kind::{DEFAULT, Kind};
 use crate::reading::{end, feed, open, write_rows};
-use csvw_rows::{Dialect, LineTerminators, Trim};
-use csvw_text::Text;
+use csvw_rows::{LineTerminators, Trim};
 use std::alloc::Global;
 use std::process::Abort;
 use std::test::Fail;
 
-/// What the pieces give, a bar behind what was there after each of them.
+/// What the pieces give by the default dialect, a bar behind what was there after each of them.
 fn steps(alloc: Global, pieces: &[&[u8]]) -> Result<String, Fail> {
     let mut text = String::new(alloc);
-    let mut rows = open(alloc, Dialect::new(alloc)?, 1000)?;
+    let mut rows = open(alloc, DEFAULT.dialect(alloc)?, 1000)?;
     for piece in pieces {
         feed(&mut rows, piece);
         write_rows(&mut text, &mut rows)?;
@@ -22,9 +22,9 @@ fn steps(alloc: Global, pieces: &[&[u8]]) -> Result<String, Fail> {
 }
 
 /// What a text gives in two pieces.
-fn halves(alloc: Global, dialect: Dialect, max: u32, a: &[u8], b: &[u8]) -> Result<String, Fail> {
+fn halves(alloc: Global, kind: &Kind, max: u32, a: &[u8], b: &[u8]) -> Result<String, Fail> {
     let mut text = String::new(alloc);
-    let mut rows = open(alloc, dialect, max)?;
+    let mut rows = open(alloc, kind.dialect(alloc)?, max)?;
     feed(&mut rows, a);
     feed(&mut rows, b);
     end(&mut rows);
@@ -36,30 +36,133 @@ fn halves(alloc: Global, dialect: Dialect, max: u32, a: &[u8], b: &[u8]) -> Resu
 fn cuts(
     rt: &impl Abort,
     alloc: Global,
-    dialect: &Dialect,
-    max: u32,
+    table: &Table,
     text: &[u8],
     want: &str,
 ) -> Result<(), Fail> {
     for i in 0..=text.len() {
         let (a, b) = text.split_at(i);
-        let dialect = dialect.clone(alloc)?;
-        assert_eq!(rt; halves(alloc, dialect, max, a, b)?.as_str(), want, "at {i}");
+        let found = halves(alloc, &table.kind, table.max, a, b)?;
+        assert_eq!(rt; found.as_str(), want, "{text:?} at {i}");
     }
     Ok(())
 }
 
-fn table(
-    rt: &impl Abort,
-    alloc: Global,
-    dialect: &Dialect,
-    cases: &[(&[u8], &str)],
-) -> Result<(), Fail> {
-    for (text, want) in cases {
-        cuts(rt, alloc, dialect, 1000, text, want)?;
-    }
-    Ok(())
+/// Texts with what they give by a dialect that takes at most so many rows.
+#[derive(Clone, Copy)]
+struct Table {
+    /// The dialect.
+    kind: Kind,
+    /// How many rows are taken.
+    max: u32,
+    /// The texts, and what they give.
+    cases: &'static [(&'static [u8], &'static str)],
 }
+
+const TABLES: [Table; 13] = [
+    Table {
+        kind: DEFAULT,
+        max: 1000,
+        cases: &FIELDS,
+    },
+    Table {
+        kind: DEFAULT,
+        max: 1000,
+        cases: &STOPS,
+    },
+    Table {
+        kind: DEFAULT,
+        max: 1,
+        cases: &TOO_MANY,
+    },
+    Table {
+        kind: Kind {
+            skip_rows: 2,
+            skip_blank_rows: true,
+            ..DEFAULT
+        },
+        max: 1000,
+        cases: &SKIPS,
+    },
+    Table {
+        kind: Kind {
+            line_terminators: LineTerminators {
+                crlf: false,
+                lf: true,
+            },
+            ..DEFAULT
+        },
+        max: 1000,
+        cases: &LINE_FEEDS,
+    },
+    Table {
+        kind: Kind {
+            double_quote: false,
+            ..DEFAULT
+        },
+        max: 9,
+        cases: &[(b"\"a\\\"b\"", "1/0 \"a\\\"b\"; ")],
+    },
+    Table {
+        kind: Kind {
+            skip_initial_space: true,
+            trim: Trim::Start,
+            ..DEFAULT
+        },
+        max: 9,
+        cases: &[(b"id, n\n1, \" x\"\n", "1/0 \"id\" \"n\"; 2/1 \"1\" \"x\"; ")],
+    },
+    Table {
+        kind: Kind {
+            skip_columns: 2,
+            skip_blank_rows: true,
+            trim: Trim::Both,
+            ..DEFAULT
+        },
+        max: 9,
+        cases: &[(b"a,b,c\n ,\" \"\nx\n", "1/0 \"c\"; 3/1; ")],
+    },
+    Table {
+        kind: Kind {
+            comment_prefix: Some("a\"b"),
+            ..DEFAULT
+        },
+        max: 1000,
+        cases: &PREFIXES,
+    },
+    Table {
+        kind: Kind {
+            comment_prefix: Some("\"a\"b"),
+            ..DEFAULT
+        },
+        max: 1000,
+        cases: &QUOTE_PREFIXES,
+    },
+    Table {
+        kind: Kind {
+            trim: Trim::Both,
+            ..DEFAULT
+        },
+        max: 1000,
+        cases: &TRIMMED,
+    },
+    Table {
+        kind: Kind {
+            trim: Trim::Start,
+            ..DEFAULT
+        },
+        max: 9,
+        cases: &[(SPACES, "1/0 \"x \\t\\r\\n\"; ")],
+    },
+    Table {
+        kind: Kind {
+            trim: Trim::End,
+            ..DEFAULT
+        },
+        max: 9,
+        cases: &[(SPACES, "1/0 \" \\t\\r\\nx\"; ")],
+    },
+];
 
 const FIELDS: [(&[u8], &str); 12] = [
     (
@@ -85,12 +188,6 @@ const FIELDS: [(&[u8], &str); 12] = [
     (b"id\n\xC3\xA9\n#", "1/0 \"id\"; 2/1 \"\u{E9}\"; "),
 ];
 
-#[test]
-fn fields_and_quotes(rt: HostRuntime) -> Result<(), Fail> {
-    let alloc = rt.alloc();
-    table(&rt, alloc, &Dialect::new(alloc)?, &FIELDS)
-}
-
 const STOPS: [(&[u8], &str); 8] = [
     (b"a\"b,c\n", "BadQuote 1; "),
     (b"\"a\"b\n", "TextAfterQuote 1; "),
@@ -102,29 +199,11 @@ const STOPS: [(&[u8], &str); 8] = [
     (b"\"a\"\r\xFF", "NotUtf8 1; "),
 ];
 
-#[test]
-fn stops(rt: HostRuntime) -> Result<(), Fail> {
-    let alloc = rt.alloc();
-    table(&rt, alloc, &Dialect::new(alloc)?, &STOPS)
-}
-
-#[test]
-fn too_many_rows(rt: HostRuntime) -> Result<(), Fail> {
-    let alloc = rt.alloc();
-    let d = Dialect::new(alloc)?;
-    cuts(&rt, alloc, &d, 1, b"x\ny\n", "1/0 \"x\"; TooManyRows 2; ")?;
-    cuts(&rt, alloc, &d, 1, b"x\n", "1/0 \"x\"; ")?;
-    cuts(&rt, alloc, &d, 1, b"x\n\xFF", "1/0 \"x\"; NotUtf8 2; ")
-}
-
-#[test]
-fn skipped_rows(rt: HostRuntime) -> Result<(), Fail> {
-    let alloc = rt.alloc();
-    let mut d = Dialect::new(alloc)?;
-    d.skip_rows = 2;
-    d.skip_blank_rows = true;
-    table(&rt, alloc, &d, &SKIPS)
-}
+const TOO_MANY: [(&[u8], &str); 3] = [
+    (b"x\ny\n", "1/0 \"x\"; TooManyRows 2; "),
+    (b"x\n", "1/0 \"x\"; "),
+    (b"x\n\xFF", "1/0 \"x\"; NotUtf8 2; "),
+];
 
 const SKIPS: [(&[u8], &str); 4] = [
     (b"\"x\n\n#note\nid\n\n7\n", "4/0 \"id\"; 6/1 \"7\"; "),
@@ -133,65 +212,10 @@ const SKIPS: [(&[u8], &str); 4] = [
     (b"x\ny\n#z", ""),
 ];
 
-#[test]
-fn only_line_feeds(rt: HostRuntime) -> Result<(), Fail> {
-    let alloc = rt.alloc();
-    let mut d = Dialect::new(alloc)?;
-    d.line_terminators = LineTerminators {
-        crlf: false,
-        lf: true,
-    };
-    table(&rt, alloc, &d, &LINE_FEEDS)
-}
-
 const LINE_FEEDS: [(&[u8], &str); 2] = [
     (b"a\r\n", "1/0 \"a\\r\"; "),
     (b"\"a\"\r\n", "TextAfterQuote 1; "),
 ];
-
-#[test]
-fn backslashes(rt: HostRuntime) -> Result<(), Fail> {
-    let alloc = rt.alloc();
-    let mut d = Dialect::new(alloc)?;
-    d.double_quote = false;
-    cuts(&rt, alloc, &d, 9, b"\"a\\\"b\"", "1/0 \"a\\\"b\"; ")
-}
-
-#[test]
-fn spaces(rt: HostRuntime) -> Result<(), Fail> {
-    let alloc = rt.alloc();
-    let mut d = Dialect::new(alloc)?;
-    d.skip_initial_space = true;
-    d.trim = Trim::Start;
-    let text = b"id, n\n1, \" x\"\n";
-    cuts(
-        &rt,
-        alloc,
-        &d,
-        9,
-        text,
-        "1/0 \"id\" \"n\"; 2/1 \"1\" \"x\"; ",
-    )
-}
-
-#[test]
-fn columns(rt: HostRuntime) -> Result<(), Fail> {
-    let alloc = rt.alloc();
-    let mut d = Dialect::new(alloc)?;
-    d.skip_columns = 2;
-    d.skip_blank_rows = true;
-    d.trim = Trim::Both;
-    let text = b"a,b,c\n ,\" \"\nx\n";
-    cuts(&rt, alloc, &d, 9, text, "1/0 \"c\"; 3/1; ")
-}
-
-#[test]
-fn prefix_with_a_quote(rt: HostRuntime) -> Result<(), Fail> {
-    let alloc = rt.alloc();
-    let mut d = Dialect::new(alloc)?;
-    d.comment_prefix = Some(Text::copied(alloc, "a\"b")?);
-    table(&rt, alloc, &d, &PREFIXES)
-}
 
 const PREFIXES: [(&[u8], &str); 4] = [
     (b"a\"bx\ny\n", "2/0 \"y\"; "),
@@ -200,72 +224,75 @@ const PREFIXES: [(&[u8], &str); 4] = [
     (b"a\"\xFF", "NotUtf8 1; "),
 ];
 
-fn step(rt: &impl Abort, alloc: Global, pieces: &[&[u8]], want: &str) -> Result<(), Fail> {
-    assert_eq!(rt; steps(alloc, pieces)?.as_str(), want);
-    Ok(())
-}
-
-#[test]
-fn as_soon_as_the_terminator_is_known(rt: HostRuntime) -> Result<(), Fail> {
-    let alloc = rt.alloc();
-    step(
-        &rt,
-        alloc,
-        &[b"id\n7\r", b"\n"],
-        "1/0 \"id\"; | 2/1 \"7\"; | ",
-    )?;
-    step(
-        &rt,
-        alloc,
-        &[b"id\n\"a\"", b"\"b\"\n"],
-        "1/0 \"id\"; | 2/1 \"a\\\"b\"; | ",
-    )?;
-    step(
-        &rt,
-        alloc,
-        &[b"id\n\xC3", b"\xA9\n"],
-        "1/0 \"id\"; | 2/1 \"\u{E9}\"; | ",
-    )?;
-    step(&rt, alloc, &[b"\xEF\xBB", b"\xBFid\n"], "| 1/0 \"id\"; | ")
-}
-
-#[test]
-fn a_stop_stays(rt: HostRuntime) -> Result<(), Fail> {
-    let alloc = rt.alloc();
-    step(
-        &rt,
-        alloc,
-        &[b"id\n\xC3", b"x"],
-        "1/0 \"id\"; | NotUtf8 2; | NotUtf8 2; ",
-    )?;
-    step(
-        &rt,
-        alloc,
-        &[b"id\n\"a\"\xC3", b"x"],
-        "1/0 \"id\"; | NotUtf8 2; | NotUtf8 2; ",
-    )?;
-    step(
-        &rt,
-        alloc,
-        &[b"b\"\n", b"c\n"],
-        "BadQuote 1; | BadQuote 1; | BadQuote 1; ",
-    )
-}
-
-#[test]
-fn prefix_that_begins_with_a_quote(rt: HostRuntime) -> Result<(), Fail> {
-    let alloc = rt.alloc();
-    let mut d = Dialect::new(alloc)?;
-    d.comment_prefix = Some(Text::copied(alloc, "\"a\"b")?);
-    table(&rt, alloc, &d, &QUOTE_PREFIXES)
-}
-
 const QUOTE_PREFIXES: [(&[u8], &str); 4] = [
     (b"\"a\"bx\ny\n", "2/0 \"y\"; "),
     (b"\"a\"", "1/0 \"a\"; "),
     (b"\"a\"x", "TextAfterQuote 1; "),
     (b"\"a", "UnclosedQuote 1; "),
 ];
+
+const SPACES: &[u8] = b"\" \t\r\nx \t\r\n\"";
+
+const TRIMMED: [(&[u8], &str); 3] = [
+    (SPACES, "1/0 \"x\"; "),
+    (b" \ty\r\t , \t\r,z \t\n", "1/0 \"y\" \"\" \"z\"; "),
+    (
+        b"\x0Bx\x0C,\xC2\xA0y\xE3\x80\x80\n",
+        "1/0 \"\\u{b}x\\u{c}\" \"\\u{a0}y\\u{3000}\"; ",
+    ),
+];
+
+/// Cuts each text of the table everywhere.
+fn cuts_of(rt: &impl Abort, alloc: Global, table: &Table) -> Result<(), Fail> {
+    for (text, want) in table.cases {
+        cuts(rt, alloc, table, text, want)?;
+    }
+    Ok(())
+}
+
+fn cuts_of_all(rt: &impl Abort, alloc: Global, tables: &[Table]) -> Result<(), Fail> {
+    for table in tables {
+        cuts_of(rt, alloc, table)?;
+    }
+    Ok(())
+}
+
+#[test]
+fn at_every_cut(rt: HostRuntime) -> Result<(), Fail> {
+    cuts_of_all(&rt, rt.alloc(), &TABLES)
+}
+
+/// Pieces, and what is there behind each: a row as soon as its terminator is known, and a stop that stays.
+const STEPS: [([&[u8]; 2], &str); 7] = [
+    ([b"id\n7\r", b"\n"], "1/0 \"id\"; | 2/1 \"7\"; | "),
+    (
+        [b"id\n\"a\"", b"\"b\"\n"],
+        "1/0 \"id\"; | 2/1 \"a\\\"b\"; | ",
+    ),
+    ([b"id\n\xC3", b"\xA9\n"], "1/0 \"id\"; | 2/1 \"\u{E9}\"; | "),
+    ([b"\xEF\xBB", b"\xBFid\n"], "| 1/0 \"id\"; | "),
+    (
+        [b"id\n\xC3", b"x"],
+        "1/0 \"id\"; | NotUtf8 2; | NotUtf8 2; ",
+    ),
+    (
+        [b"id\n\"a\"\xC3", b"x"],
+        "1/0 \"id\"; | NotUtf8 2; | NotUtf8 2; ",
+    ),
+    (
+        [b"b\"\n", b"c\n"],
+        "BadQuote 1; | BadQuote 1; | BadQuote 1; ",
+    ),
+];
+
+#[test]
+fn as_soon_as_it_is_known(rt: HostRuntime) -> Result<(), Fail> {
+    let alloc = rt.alloc();
+    for (pieces, want) in STEPS {
+        assert_eq!(rt; steps(alloc, &pieces)?.as_str(), want);
+    }
+    Ok(())
+}
 
 const LIMIT: usize = 1_048_576;
 
@@ -282,7 +309,7 @@ fn row_of(alloc: Global, len: usize, quoted: bool) -> Result<Vec<u8>, Fail> {
 /// What these pieces give, the row with CR behind it.
 fn fed(alloc: Global, front: &[u8], row: &[u8], behind: &[u8]) -> Result<String, Fail> {
     let mut text = String::new(alloc);
-    let mut rows = open(alloc, Dialect::new(alloc)?, 9)?;
+    let mut rows = open(alloc, DEFAULT.dialect(alloc)?, 9)?;
     feed(&mut rows, front);
     feed(&mut rows, row);
     feed(&mut rows, b"\r");
@@ -293,23 +320,30 @@ fn fed(alloc: Global, front: &[u8], row: &[u8], behind: &[u8]) -> Result<String,
     Ok(text)
 }
 
-const LONG: [(&[u8], usize, &[u8], &str); 4] = [
-    (b"", LIMIT, b"x", "RowTooLong 1; "),
-    (b"", LIMIT, b"", "RowTooLong 1; "),
-    (b"\xEF\xBB\xBF", LIMIT, b"x", "RowTooLong 1; "),
+/// A text, a row of so many bytes behind it, quoted or not, and what stands behind the row and a CR.
+const LONG: [(&[u8], usize, bool, &[u8], &str); 9] = [
+    (b"", LIMIT, false, b"x", "RowTooLong 1; "),
+    (b"", LIMIT, false, b"", "RowTooLong 1; "),
+    (b"\xEF\xBB\xBF", LIMIT, false, b"x", "RowTooLong 1; "),
     (
         b"\xEF\xBB\xBF\xEF\xBB\xBF",
         LIMIT - 3,
+        false,
         b"x",
         "RowTooLong 1; ",
     ),
+    (b"", LIMIT, true, b"x", "RowTooLong 1; "),
+    (b"", LIMIT, true, b"", "RowTooLong 1; "),
+    (b"", LIMIT - 1, true, b"x", "RowTooLong 1; "),
+    (b"", LIMIT - 1, true, b"", "TextAfterQuote 1; "),
+    (b"", LIMIT - 2, true, b"x", "TextAfterQuote 1; "),
 ];
 
 #[test]
 fn too_long(rt: HostRuntime) -> Result<(), Fail> {
     let alloc = rt.alloc();
-    for (front, len, behind, want) in LONG {
-        let row = row_of(alloc, len, false)?;
+    for (front, len, quoted, behind, want) in LONG {
+        let row = row_of(alloc, len, quoted)?;
         assert_eq!(rt;
             fed(alloc, front, row.as_slice(), behind)?.as_str(),
             want,
@@ -319,64 +353,20 @@ fn too_long(rt: HostRuntime) -> Result<(), Fail> {
     Ok(())
 }
 
-const LONG_QUOTED: [(usize, &[u8], &str); 5] = [
-    (LIMIT, b"x", "RowTooLong 1; "),
-    (LIMIT, b"", "RowTooLong 1; "),
-    (LIMIT - 1, b"x", "RowTooLong 1; "),
-    (LIMIT - 1, b"", "TextAfterQuote 1; "),
-    (LIMIT - 2, b"x", "TextAfterQuote 1; "),
+/// What stands before the longest row, whether it is quoted, and how many letters it gives.
+const LONGEST: [(&[u8], bool, usize); 3] = [
+    (b"", false, LIMIT),
+    (b"\xEF\xBB\xBF", false, LIMIT),
+    (b"", true, LIMIT - 2),
 ];
-
-#[test]
-fn too_long_behind_a_quote(rt: HostRuntime) -> Result<(), Fail> {
-    let alloc = rt.alloc();
-    for (len, behind, want) in LONG_QUOTED {
-        let row = row_of(alloc, len, true)?;
-        assert_eq!(rt;
-            fed(alloc, b"", row.as_slice(), behind)?.as_str(),
-            want,
-            "{len}"
-        );
-    }
-    Ok(())
-}
-
-/// How many letters a row gives with CR LF behind it.
-fn letters(alloc: Global, front: &[u8], row: &[u8]) -> Result<usize, Fail> {
-    let text = fed(alloc, front, row, b"\n")?;
-    Ok(text.len().saturating_sub("1/0 \"\"; ".len()))
-}
 
 #[test]
 fn the_longest_row(rt: HostRuntime) -> Result<(), Fail> {
     let alloc = rt.alloc();
-    let row = row_of(alloc, LIMIT, false)?;
-    assert_eq!(rt; letters(alloc, b"", row.as_slice())?, LIMIT);
-    assert_eq!(rt; letters(alloc, b"\xEF\xBB\xBF", row.as_slice())?, LIMIT);
-    let row = row_of(alloc, LIMIT, true)?;
-    assert_eq!(rt; letters(alloc, b"", row.as_slice())?, LIMIT - 2);
+    for (front, quoted, letters) in LONGEST {
+        let row = row_of(alloc, LIMIT, quoted)?;
+        let text = fed(alloc, front, row.as_slice(), b"\n")?;
+        assert_eq!(rt; text.len().saturating_sub("1/0 \"\"; ".len()), letters);
+    }
     Ok(())
 }
-
-#[test]
-fn white_space(rt: HostRuntime) -> Result<(), Fail> {
-    let alloc = rt.alloc();
-    let mut d = Dialect::new(alloc)?;
-    d.trim = Trim::Both;
-    table(&rt, alloc, &d, &TRIMMED)?;
-    d.trim = Trim::Start;
-    cuts(&rt, alloc, &d, 9, SPACES, "1/0 \"x \\t\\r\\n\"; ")?;
-    d.trim = Trim::End;
-    cuts(&rt, alloc, &d, 9, SPACES, "1/0 \" \\t\\r\\nx\"; ")
-}
-
-const SPACES: &[u8] = b"\" \t\r\nx \t\r\n\"";
-
-const TRIMMED: [(&[u8], &str); 3] = [
-    (SPACES, "1/0 \"x\"; "),
-    (b" \ty\r\t , \t\r,z \t\n", "1/0 \"y\" \"\" \"z\"; "),
-    (
-        b"\x0Bx\x0C,\xC2\xA0y\xE3\x80\x80\n",
-        "1/0 \"\\u{b}x\\u{c}\" \"\\u{a0}y\\u{3000}\"; ",
-    ),
-];
