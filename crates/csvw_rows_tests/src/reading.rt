@@ -1,6 +1,6 @@
 //! What `Rows` gives of a text, written as a line.
 ghost use Rattle.std.specs.Prelude.{◌<◌, IfOk};
-ghost use Rattle.csvw_rows.specs.Lawful.{IsLawful};
+ghost use Rattle.csvw_dialect.specs.Lawful.{IsLawful};
 
 use csvw_rows::{BadDialect, Dialect, RawRow, RowStop, Rows};
 use std::alloc::{AllocError, Global};
