@@ -6,11 +6,8 @@ use Rattle.std.proofs.lemmas.Grind.{common_steps}
 use Rattle.std.proofs.lemmas.Bool.Decides.{nat_tests}
 use Rattle.std.proofs.lemmas.List.{drop-drop, drop-take}
 use Rattle.std.proofs.lemmas.Str.{IsUtf8-drop, IsCharBoundary-from_take, chars-append, encodes-chars}
-use Rattle.csvw_text.specs.Class.{is_white_char}
 use Rattle.csvw_rows.specs.declared.bound.Bound.{Bound}
 use Rattle.csvw_rows.specs.Bounds.{is_apart}
-use Rattle.csvw_rows.specs.Grammar.{strip_start, strip_end}
-use Rattle.csvw_rows.proofs.DraftLemmas.{one_char}
 
 -- what is kept of a range is a range
 pub range_len : (texts : List ℕ) (from to : ℕ) → from ≤ to → to ≤ length texts → length (slice_range texts from to) ≡ to - from

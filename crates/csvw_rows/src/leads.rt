@@ -1,5 +1,5 @@
 //! The bytes that a dialect's symbols begin with in UTF-8. A text without such a byte has no such symbol.
-ghost use Rattle.std.specs.Prelude.{◌≡◌, ◌≢◌, ◌≤◌, ◌<◌, ◌-◌, [], ◌∷◌, length, take, chars, encode_utf8, slice_index};
+ghost use Rattle.std.specs.Prelude.{◌≡◌, ◌≢◌, ◌≤◌, ◌<◌, ◌-◌, true, false, [], ◌∷◌, length, take, chars, encode_utf8, slice_index};
 ghost use Rattle.std.specs.Str.{IsCharBoundary};
 ghost use Rattle.csvw_rows.specs.Clean.{IsLeads, IsClean};
 ghost use Rattle.csvw_rows.specs.declared.scan.State.TheVariants.{Plain, Inside};
@@ -76,9 +76,19 @@ fn begins_with_cr(bytes: &[u8]) -> bool {
 /// This place, if it is between two characters, else 0.
 fn boundary_at(text: &str, at: usize) -> usize
     ensures within { result ≤ at }
+    ensures kept { 0 < result → result ≡ at }
     ensures boundary { IsCharBoundary text.now result }
 {
     if text.is_char_boundary(at) { at } else { 0 }
+}
+
+/// Whether a CR stands in front of this place.
+fn ends_in_cr(bytes: &[u8], end: usize) -> bool
+    requires { end ≤ length bytes.now }
+    ensures some { result ≡ true → 0 < end }
+    ensures other { result ≡ false → 0 < end → slice_index bytes.now (end - 1) ≢ 13 }
+{
+    0 < end && bytes[end - 1] == b'\r'
 }
 
 /// The greatest place up to this one that is behind no CR, if it is between two characters, else 0.
@@ -88,9 +98,8 @@ fn place_before(text: &str, at: usize) -> usize
     ensures boundary { IsCharBoundary text.now result }
     ensures settled { 0 < result → slice_index text.now (result - 1) ≢ 13 }
 {
-    let bytes = text.as_bytes();
     let mut end = at;
-    while 0 < end && bytes[end - 1] == b'\r' {
+    while ends_in_cr(text.as_bytes(), end) {
         end -= 1;
     }
     boundary_at(text, end)
