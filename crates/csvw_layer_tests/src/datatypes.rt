@@ -1,4 +1,4 @@
-//! Worked rows of datatypes.
+//! Texts under datatypes: their values in lexical form, the facets that those break, and which datatypes are sound.
 use csvw_datatype::{
     Broken, Datatype, DateFormat, Facets, Format, MomentFormat, NumberFormat, Simple, TruthFormat,
     Value, Width,
@@ -8,36 +8,49 @@ use std::alloc::{AllocError, Global};
 use std::process::Abort;
 use std::test::Fail;
 
-fn plain(simple: Simple, format: Option<Format>) -> Datatype {
-    Datatype {
+/// A format, as a datatype description writes it.
+#[derive(Clone, Copy, Debug)]
+enum Pattern {
+    /// None.
+    Plain,
+    /// The decimal character and the group character.
+    Number(char, Option<char>),
+    /// Of dates.
+    Day(&'static str),
+    /// Of moments.
+    Moment(&'static str),
+    /// Of truths.
+    Truth(&'static str),
+}
+
+fn format_of(alloc: Global, pattern: &Pattern) -> Result<Option<Format>, AllocError> {
+    Ok(match pattern {
+        Pattern::Plain => None,
+        Pattern::Number(decimal_char, group_char) => Some(Format::Number(NumberFormat {
+            decimal_char: *decimal_char,
+            group_char: *group_char,
+        })),
+        Pattern::Day(text) => DateFormat::of(text).map(Format::Day),
+        Pattern::Moment(text) => MomentFormat::of(text).map(Format::Moment),
+        Pattern::Truth(text) => TruthFormat::of(alloc, text)?.map(Format::Truth),
+    })
+}
+
+fn datatype_of(
+    alloc: Global,
+    simple: Simple,
+    pattern: &Pattern,
+    limits: &Limits,
+) -> Result<Datatype, AllocError> {
+    Ok(Datatype {
         simple,
         id: None,
-        format,
-        facets: Facets::new(),
-    }
+        format: format_of(alloc, pattern)?,
+        facets: facets_of(limits),
+    })
 }
 
-fn with(simple: Simple, facets: Facets) -> Datatype {
-    Datatype {
-        simple,
-        id: None,
-        format: None,
-        facets,
-    }
-}
-
-fn number(decimal_char: char, group_char: Option<char>) -> Option<Format> {
-    Some(Format::Number(NumberFormat {
-        decimal_char,
-        group_char,
-    }))
-}
-
-fn date(pattern: &str) -> Option<Format> {
-    DateFormat::of(pattern).map(Format::Day)
-}
-
-// The lexical form of the value that a text is, or the name of its code.
+/// The lexical form of the value that a text is, or the name of its code.
 fn answer(alloc: Global, datatype: &Datatype, text: &str) -> Result<String, AllocError> {
     if datatype.check().is_err() {
         return String::from_str(alloc, "BadDatatype");
@@ -48,256 +61,385 @@ fn answer(alloc: Global, datatype: &Datatype, text: &str) -> Result<String, Allo
     }
 }
 
-fn each_reads(
-    rt: &impl Abort,
-    alloc: Global,
-    datatype: Datatype,
-    rows: &[(&str, &str)],
-) -> Result<(), AllocError> {
-    for (text, expected) in rows {
-        let found = answer(alloc, &datatype, text)?;
-        assert!(rt; found.as_str() == *expected, "{text}: {found}");
-    }
-    Ok(())
-}
+/// A datatype without facets, and texts, each with the lexical form of its value or the name of its code.
+type Readings = (Simple, Pattern, &'static [(&'static str, &'static str)]);
 
-#[test]
-fn integers(rt: HostRuntime) -> Result<(), Fail> {
-    each_reads(
-        &rt,
-        rt.alloc(),
-        plain(Simple::Whole, None),
+const NUMBERS: [Readings; 9] = [
+    (Simple::Whole, Pattern::Plain, &WHOLE),
+    (Simple::Whole, Pattern::Number('.', Some(',')), &GROUPED),
+    (Simple::Decimal, Pattern::Plain, &DECIMAL),
+    (Simple::Decimal, Pattern::Number('.', None), &MARKED),
+    (
+        Simple::Decimal,
+        Pattern::Number(',', Some('.')),
+        &[("1.234,5", "1234.5")],
+    ),
+    (Simple::Decimal, Pattern::Number('.', Some('.')), &UNSOUND),
+    (Simple::Decimal, Pattern::Number('5', None), &UNSOUND),
+    (Simple::Decimal, Pattern::Number('‰', None), &UNSOUND),
+    (Simple::Decimal, Pattern::Number('\t', None), &UNSOUND),
+];
+
+const UNSOUND: [(&str, &str); 1] = [("1", "BadDatatype")];
+
+const WHOLE: [(&str, &str); 7] = [
+    ("-0", "0"),
+    ("1.", "BadInteger"),
+    ("+007", "7"),
+    ("", "BadInteger"),
+    ("99999999999999999999", "99999999999999999999"),
+    ("100000000000000000000", "NumberTooLong"),
+    ("-100000000000000000000", "NumberTooLong"),
+];
+
+const GROUPED: [(&str, &str); 6] = [
+    ("1,234", "1234"),
+    ("1,,2", "BadInteger"),
+    (",1", "BadInteger"),
+    ("1,", "BadInteger"),
+    ("-1,000", "-1000"),
+    ("5%", "BadInteger"),
+];
+
+const DECIMAL: [(&str, &str); 13] = [
+    (".5", "0.5"),
+    ("5.", "5"),
+    ("-0.25", "-0.25"),
+    ("-10", "-10"),
+    ("1.0000000000000000000", "1"),
+    ("0.000000000000000001", "0.000000000000000001"),
+    (".", "BadDecimal"),
+    ("1e3", "BadDecimal"),
+    ("5%", "BadDecimal"),
+    ("", "BadDecimal"),
+    ("+", "BadDecimal"),
+    ("--1", "BadDecimal"),
+    ("1 0", "BadDecimal"),
+];
+
+const MARKED: [(&str, &str); 9] = [
+    ("5‰", "0.005"),
+    ("100000000000000000000%", "1000000000000000000"),
+    ("0.000000000000000001", "0.000000000000000001"),
+    ("0.000000000000000001%", "NumberTooLong"),
+    ("99999999999999999999", "99999999999999999999"),
+    ("100000000000000000000", "NumberTooLong"),
+    ("-25%", "-0.25"),
+    ("1.500", "1.5"),
+    ("2.0", "2"),
+];
+
+const LEAP: &str = "2024-02-29";
+
+const DATES: [Readings; 16] = [
+    (Simple::Day, Pattern::Plain, &DAYS),
+    (
+        Simple::Day,
+        Pattern::Day("yyyyMMdd"),
+        &[("20240229", LEAP), ("2024022", BAD), ("20230229", BAD)],
+    ),
+    (
+        Simple::Day,
+        Pattern::Day("dd-MM-yyyy"),
         &[
-            ("-0", "0"),
-            ("1.", "BadInteger"),
-            ("+007", "7"),
-            ("", "BadInteger"),
-            ("99999999999999999999", "99999999999999999999"),
-            ("100000000000000000000", "NumberTooLong"),
-            ("-100000000000000000000", "NumberTooLong"),
+            ("29-02-2024", LEAP),
+            ("29/02/2024", BAD),
+            ("29-02-1900", BAD),
         ],
-    )?;
-    Ok(())
-}
-
-#[test]
-fn integers_with_groups(rt: HostRuntime) -> Result<(), Fail> {
-    let grouped = plain(Simple::Whole, number('.', Some(',')));
-    each_reads(
-        &rt,
-        rt.alloc(),
-        grouped,
+    ),
+    (
+        Simple::Day,
+        Pattern::Day("dd/MM/yyyy"),
         &[
-            ("1,234", "1234"),
-            ("1,,2", "BadInteger"),
-            ("5%", "BadInteger"),
+            ("29/02/2024", LEAP),
+            ("29/02/2023", BAD),
+            ("29/2/2024", BAD),
         ],
-    )?;
-    Ok(())
-}
-
-#[test]
-fn decimals(rt: HostRuntime) -> Result<(), Fail> {
-    each_reads(
-        &rt,
-        rt.alloc(),
-        plain(Simple::Decimal, None),
+    ),
+    (
+        Simple::Day,
+        Pattern::Day("dd.MM.yyyy"),
+        &[("29.02.2024", LEAP), ("29.02.24", BAD), ("00.02.2024", BAD)],
+    ),
+    (
+        Simple::Day,
+        Pattern::Day("d-M-yyyy"),
         &[
-            (".5", "0.5"),
-            ("5.", "5"),
-            (".", "BadDecimal"),
-            ("1e3", "BadDecimal"),
-            ("5%", "BadDecimal"),
-            ("1.0000000000000000000", "1"),
+            ("29-2-2024", LEAP),
+            ("29-02-2024", LEAP),
+            ("029-2-2024", BAD),
         ],
-    )?;
-    Ok(())
-}
-
-#[test]
-fn decimals_with_a_format(rt: HostRuntime) -> Result<(), Fail> {
-    each_reads(
-        &rt,
-        rt.alloc(),
-        plain(Simple::Decimal, number('.', None)),
+    ),
+    (
+        Simple::Day,
+        Pattern::Day("d/M/yyyy"),
+        &[("29/2/2024", LEAP), ("29/2/2024 ", BAD), ("29//2024", BAD)],
+    ),
+    (
+        Simple::Day,
+        Pattern::Day("d.M.yyyy"),
         &[
-            ("5‰", "0.005"),
-            ("100000000000000000000%", "1000000000000000000"),
-            ("0.000000000000000001", "0.000000000000000001"),
-            ("0.000000000000000001%", "NumberTooLong"),
-            ("-25%", "-0.25"),
-            ("1.500", "1.5"),
-            ("2.0", "2"),
+            ("1.12.2024", "2024-12-01"),
+            ("31.4.2024", BAD),
+            ("1.13.2024", BAD),
         ],
-    )?;
-    Ok(())
-}
-
-#[test]
-fn dates(rt: HostRuntime) -> Result<(), Fail> {
-    let alloc = rt.alloc();
-    each_reads(
-        &rt,
-        alloc,
-        plain(Simple::Day, None),
-        &[("0001-01-01", "0001-01-01"), ("0000-01-01", "BadDate")],
-    )?;
-    each_reads(
-        &rt,
-        alloc,
-        plain(Simple::Day, date("d.M.yyyy")),
-        &[("1.12.2024", "2024-12-01"), ("31.4.2024", "BadDate")],
-    )?;
-    each_reads(
-        &rt,
-        alloc,
-        plain(Simple::Day, date("dd/MM/yyyy")),
-        &[("29/02/2024", "2024-02-29"), ("29/02/2023", "BadDate")],
-    )?;
-    Ok(())
-}
-
-#[test]
-fn moments(rt: HostRuntime) -> Result<(), Fail> {
-    let alloc = rt.alloc();
-    each_reads(
-        &rt,
-        alloc,
-        plain(Simple::Moment, Some(Format::Moment(MomentFormat::Minutes))),
+    ),
+    (
+        Simple::Day,
+        Pattern::Day("MM-dd-yyyy"),
         &[
-            ("2024-02-29T23:59", "2024-02-29T23:59:00"),
-            ("2024-02-29T24:00", "BadDateTime"),
+            ("02-29-2024", LEAP),
+            ("29-02-2024", BAD),
+            ("2-29-2024", BAD),
         ],
-    )?;
-    each_reads(
-        &rt,
-        alloc,
-        plain(Simple::Moment, None),
+    ),
+    (
+        Simple::Day,
+        Pattern::Day("MM/dd/yyyy"),
         &[
-            ("2024-02-29T23:59:59", "2024-02-29T23:59:59"),
-            ("2024-02-29T23:59", "BadDateTime"),
+            ("02/29/2024", LEAP),
+            ("02/30/2024", BAD),
+            ("02-29-2024", BAD),
         ],
-    )?;
-    Ok(())
-}
-
-#[test]
-fn truths(rt: HostRuntime) -> Result<(), Fail> {
-    each_reads(
-        &rt,
-        rt.alloc(),
-        plain(Simple::Truth, None),
+    ),
+    (
+        Simple::Day,
+        Pattern::Day("MM.dd.yyyy"),
         &[
-            ("1", "true"),
-            ("true", "true"),
-            ("false", "false"),
-            ("0", "false"),
-            ("TRUE", "BadBoolean"),
+            ("02.29.2024", LEAP),
+            ("13.01.2024", BAD),
+            ("02.29.02024", BAD),
         ],
-    )?;
-    Ok(())
-}
+    ),
+    (
+        Simple::Day,
+        Pattern::Day("M-d-yyyy"),
+        &[
+            ("2-29-2024", LEAP),
+            ("12-1-2024", "2024-12-01"),
+            ("4-31-2024", BAD),
+        ],
+    ),
+    (
+        Simple::Day,
+        Pattern::Day("M/d/yyyy"),
+        &[("2/29/2024", LEAP), ("2/29/1900", BAD), ("", BAD)],
+    ),
+    (
+        Simple::Day,
+        Pattern::Day("M.d.yyyy"),
+        &[("2.29.2024", LEAP), ("2.29.2024.", BAD), ("2.2a.2024", BAD)],
+    ),
+    (Simple::Moment, Pattern::Plain, &SECONDS),
+    (
+        Simple::Moment,
+        Pattern::Moment("yyyy-MM-ddTHH:mm"),
+        &MINUTES,
+    ),
+];
 
-#[test]
-fn truths_with_a_format(rt: HostRuntime) -> Result<(), Fail> {
-    let letters = TruthFormat::of(rt.alloc(), "Y|N")?.ok_or("a format")?;
-    let truth = plain(Simple::Truth, Some(Format::Truth(letters)));
-    each_reads(
-        &rt,
-        rt.alloc(),
-        truth,
+const BAD: &str = "BadDate";
+
+const DAYS: [(&str, &str); 10] = [
+    (LEAP, LEAP),
+    ("2024-2-29", BAD),
+    ("2023-02-29", BAD),
+    ("1900-02-29", BAD),
+    ("2000-02-29", "2000-02-29"),
+    ("0000-01-01", BAD),
+    ("0001-01-01", "0001-01-01"),
+    ("1969-12-31", "1969-12-31"),
+    ("9999-12-31", "9999-12-31"),
+    ("10000-01-01", BAD),
+];
+
+const SECONDS: [(&str, &str); 11] = [
+    ("1970-01-01T00:00:00", "1970-01-01T00:00:00"),
+    ("1969-12-31T23:59:59", "1969-12-31T23:59:59"),
+    ("2024-02-29T12:34:56", "2024-02-29T12:34:56"),
+    ("0001-01-01T00:00:00", "0001-01-01T00:00:00"),
+    ("9999-12-31T23:59:59", "9999-12-31T23:59:59"),
+    ("2024-02-29T23:59", "BadDateTime"),
+    ("2024-02-29T23:59:60", "BadDateTime"),
+    ("2024-02-29T23:59:00Z", "BadDateTime"),
+    ("2024-02-29T23:59:00.5", "BadDateTime"),
+    ("2024-02-29T1:00:00", "BadDateTime"),
+    ("0000-01-01T00:00:00", "BadDateTime"),
+];
+
+const MINUTES: [(&str, &str); 7] = [
+    ("2024-02-29T23:59", "2024-02-29T23:59:00"),
+    ("2024-02-29T24:00", "BadDateTime"),
+    ("2024-02-29T23:60", "BadDateTime"),
+    ("2023-02-29T23:59", "BadDateTime"),
+    ("2024-02-29T23:59:00", "BadDateTime"),
+    ("2024-02-29 23:59", "BadDateTime"),
+    ("", "BadDateTime"),
+];
+
+const TEXTS: [Readings; 5] = [
+    (Simple::Truth, Pattern::Plain, &TRUTHS),
+    (
+        Simple::Truth,
+        Pattern::Truth("Y|N"),
         &[("Y", "true"), ("N", "false"), ("1", "BadBoolean")],
-    )?;
-    Ok(())
-}
-
-#[test]
-fn patterns_of_truths(rt: HostRuntime) -> Result<(), Fail> {
-    for pattern in ["", "Y", "Y|", "|N", "Y|Y", "Y|N|", "|"] {
-        assert!(rt;
-            TruthFormat::of(rt.alloc(), pattern)?.is_none(),
-            "{pattern}"
-        );
-    }
-    Ok(())
-}
-
-#[test]
-fn texts(rt: HostRuntime) -> Result<(), Fail> {
-    let alloc = rt.alloc();
-    each_reads(
-        &rt,
-        alloc,
-        plain(Simple::Text, None),
-        &[(" a\n", " a\n"), ("", "")],
-    )?;
-    each_reads(&rt, alloc, plain(Simple::Uri, None), &[("x y", "x y")])?;
-    Ok(())
-}
-
-#[test]
-fn bounds_of_derived_integers(rt: HostRuntime) -> Result<(), Fail> {
-    let rows = [
-        (Width::Long, "-9223372036854775808", "-9223372036854775809"),
-        (Width::Long, "9223372036854775807", "9223372036854775808"),
-        (Width::Int, "-2147483648", "-2147483649"),
-        (Width::Int, "2147483647", "2147483648"),
-        (Width::Short, "-32768", "-32769"),
-        (Width::Short, "32767", "32768"),
-        (Width::Byte, "-128", "-129"),
-        (Width::Byte, "127", "128"),
-        (Width::UnsignedLong, "0", "-1"),
-        (
-            Width::UnsignedLong,
-            "18446744073709551615",
-            "18446744073709551616",
-        ),
-        (Width::UnsignedInt, "0", "-1"),
-        (Width::UnsignedInt, "4294967295", "4294967296"),
-        (Width::UnsignedShort, "0", "-1"),
-        (Width::UnsignedShort, "65535", "65536"),
-        (Width::UnsignedByte, "0", "-1"),
-        (Width::UnsignedByte, "255", "256"),
-        (Width::NonNegativeInteger, "0", "-1"),
-        (Width::PositiveInteger, "1", "0"),
-        (Width::NonPositiveInteger, "0", "1"),
-        (Width::NegativeInteger, "-1", "0"),
-    ];
-    for (width, met, passed) in rows {
-        each_reads(
-            &rt,
-            rt.alloc(),
-            plain(Simple::Derived(width), None),
-            &[(met, met), (passed, "OutOfRange")],
-        )?;
-    }
-    Ok(())
-}
-
-#[test]
-fn codes_of_derived_integers(rt: HostRuntime) -> Result<(), Fail> {
-    each_reads(
-        &rt,
-        rt.alloc(),
-        plain(Simple::Derived(Width::Byte), None),
+    ),
+    (Simple::Text, Pattern::Plain, &[(" a\n", " a\n"), ("", "")]),
+    (Simple::Uri, Pattern::Plain, &[("x y", "x y")]),
+    (
+        Simple::Derived(Width::Byte),
+        Pattern::Plain,
         &[
             ("100000000000000000000", "NumberTooLong"),
             ("x", "BadInteger"),
             ("01", "1"),
         ],
-    )?;
-    Ok(())
-}
+    ),
+];
 
-fn broken(
+const TRUTHS: [(&str, &str); 5] = [
+    ("1", "true"),
+    ("true", "true"),
+    ("false", "false"),
+    ("0", "false"),
+    ("TRUE", "BadBoolean"),
+];
+
+fn reads_each(
     rt: &impl Abort,
     alloc: Global,
     datatype: &Datatype,
-    text: &str,
-) -> Result<Broken, AllocError> {
-    assert!(rt; datatype.check().is_ok());
-    let value = datatype.read(alloc, text)?;
-    Ok(datatype.facets(&value.expect(rt, "a value")))
+    answers: &[(&str, &str)],
+) -> Result<(), AllocError> {
+    for (text, expected) in answers {
+        let found = answer(alloc, datatype, text)?;
+        assert!(rt; found.as_str() == *expected, "{text}: {found}");
+    }
+    Ok(())
+}
+
+fn reads_all(rt: &impl Abort, alloc: Global, tables: &[Readings]) -> Result<(), AllocError> {
+    for (simple, pattern, answers) in tables {
+        let datatype = datatype_of(alloc, *simple, pattern, &UNLIMITED)?;
+        reads_each(rt, alloc, &datatype, answers)?;
+    }
+    Ok(())
+}
+
+/// Derived integers, each with a text of its bound and one past it.
+const BOUNDS: [(Width, &str, &str); 20] = [
+    (Width::Long, "-9223372036854775808", "-9223372036854775809"),
+    (Width::Long, "9223372036854775807", "9223372036854775808"),
+    (Width::Int, "-2147483648", "-2147483649"),
+    (Width::Int, "2147483647", "2147483648"),
+    (Width::Short, "-32768", "-32769"),
+    (Width::Short, "32767", "32768"),
+    (Width::Byte, "-128", "-129"),
+    (Width::Byte, "127", "128"),
+    (Width::UnsignedLong, "0", "-1"),
+    (
+        Width::UnsignedLong,
+        "18446744073709551615",
+        "18446744073709551616",
+    ),
+    (Width::UnsignedInt, "0", "-1"),
+    (Width::UnsignedInt, "4294967295", "4294967296"),
+    (Width::UnsignedShort, "0", "-1"),
+    (Width::UnsignedShort, "65535", "65536"),
+    (Width::UnsignedByte, "0", "-1"),
+    (Width::UnsignedByte, "255", "256"),
+    (Width::NonNegativeInteger, "0", "-1"),
+    (Width::PositiveInteger, "1", "0"),
+    (Width::NonPositiveInteger, "0", "1"),
+    (Width::NegativeInteger, "-1", "0"),
+];
+
+fn bounds_each(
+    rt: &impl Abort,
+    alloc: Global,
+    bounds: &[(Width, &str, &str)],
+) -> Result<(), AllocError> {
+    for (width, met, passed) in bounds {
+        let simple = Simple::Derived(*width);
+        let datatype = datatype_of(alloc, simple, &Pattern::Plain, &UNLIMITED)?;
+        reads_each(rt, alloc, &datatype, &[(met, met), (passed, "OutOfRange")])?;
+    }
+    Ok(())
+}
+
+#[test]
+fn values_of_texts(rt: HostRuntime) -> Result<(), Fail> {
+    let alloc = rt.alloc();
+    reads_all(&rt, alloc, &NUMBERS)?;
+    reads_all(&rt, alloc, &DATES)?;
+    reads_all(&rt, alloc, &TEXTS)?;
+    Ok(bounds_each(&rt, alloc, &BOUNDS)?)
+}
+
+/// A bound of values.
+#[derive(Clone, Copy)]
+enum Bound {
+    /// Of numbers, in units of 10^-18.
+    Number(i128),
+    /// Of days.
+    Day(i32),
+}
+
+/// Facets, as constants.
+#[derive(Clone, Copy)]
+struct Limits {
+    /// The length in characters.
+    length: Option<u64>,
+    /// The least length.
+    min_length: Option<u64>,
+    /// The greatest length.
+    max_length: Option<u64>,
+    /// The least value.
+    minimum: Option<Bound>,
+    /// The greatest value.
+    maximum: Option<Bound>,
+    /// The least value, by its other name.
+    min_inclusive: Option<Bound>,
+    /// The greatest value, by its other name.
+    max_inclusive: Option<Bound>,
+    /// What values are above.
+    min_exclusive: Option<Bound>,
+    /// What values are below.
+    max_exclusive: Option<Bound>,
+}
+
+const UNLIMITED: Limits = Limits {
+    length: None,
+    min_length: None,
+    max_length: None,
+    minimum: None,
+    maximum: None,
+    min_inclusive: None,
+    max_inclusive: None,
+    min_exclusive: None,
+    max_exclusive: None,
+};
+
+fn value_of(bound: Option<Bound>) -> Option<Value> {
+    match bound {
+        None => None,
+        Some(Bound::Number(number)) => Some(Value::Number(number)),
+        Some(Bound::Day(day)) => Some(Value::Day(day)),
+    }
+}
+
+fn facets_of(limits: &Limits) -> Facets {
+    Facets {
+        length: limits.length,
+        min_length: limits.min_length,
+        max_length: limits.max_length,
+        minimum: value_of(limits.minimum),
+        maximum: value_of(limits.maximum),
+        min_inclusive: value_of(limits.min_inclusive),
+        max_inclusive: value_of(limits.max_inclusive),
+        min_exclusive: value_of(limits.min_exclusive),
+        max_exclusive: value_of(limits.max_exclusive),
+    }
 }
 
 const UNBROKEN: Broken = Broken {
@@ -333,171 +475,244 @@ const ABOVE: Broken = Broken {
     ..UNBROKEN
 };
 
-fn each_breaks(
-    rt: &impl Abort,
-    alloc: Global,
-    datatype: Datatype,
-    rows: &[(&str, Broken)],
-) -> Result<(), AllocError> {
-    for (text, expected) in rows {
-        let found = broken(rt, alloc, &datatype, text)?;
-        assert!(rt; found == *expected, "{text}");
-    }
-    Ok(())
+/// A datatype, and texts with the facets that their values break.
+#[derive(Clone, Copy)]
+struct Breaks {
+    /// What the datatype is based on.
+    simple: Simple,
+    /// Its facets.
+    limits: Limits,
+    /// The texts.
+    broken: &'static [(&'static str, Broken)],
 }
 
-#[test]
-fn one_character(rt: HostRuntime) -> Result<(), Fail> {
-    let mut facets = Facets::new();
-    facets.length = Some(1);
-    each_breaks(
-        &rt,
-        rt.alloc(),
-        with(Simple::Text, facets),
-        &[
+const HALF: i128 = 500_000_000_000_000_000;
+
+const BREAKS: [Breaks; 4] = [
+    Breaks {
+        simple: Simple::Text,
+        limits: Limits {
+            length: Some(1),
+            ..UNLIMITED
+        },
+        broken: &[
             ("é", UNBROKEN),
             ("😀", UNBROKEN),
             ("", WRONG_LENGTH),
             ("ab", WRONG_LENGTH),
         ],
-    )?;
-    Ok(())
-}
-
-#[test]
-fn two_or_three_characters(rt: HostRuntime) -> Result<(), Fail> {
-    let mut facets = Facets::new();
-    facets.min_length = Some(2);
-    facets.max_length = Some(3);
-    each_breaks(
-        &rt,
-        rt.alloc(),
-        with(Simple::Text, facets),
-        &[
+    },
+    Breaks {
+        simple: Simple::Text,
+        limits: Limits {
+            min_length: Some(2),
+            max_length: Some(3),
+            ..UNLIMITED
+        },
+        broken: &[
             ("é", TOO_SHORT),
             ("éé", UNBROKEN),
             ("ééé", UNBROKEN),
             ("éééé", TOO_LONG),
         ],
-    )?;
-    Ok(())
-}
-
-const HALF: i128 = 500_000_000_000_000_000;
-
-#[test]
-fn ranges_of_numbers(rt: HostRuntime) -> Result<(), Fail> {
-    let mut facets = Facets::new();
-    facets.maximum = Some(Value::Number(3 * HALF));
-    facets.min_exclusive = Some(Value::Number(-HALF));
-    each_breaks(
-        &rt,
-        rt.alloc(),
-        with(Simple::Decimal, facets),
-        &[
+    },
+    Breaks {
+        simple: Simple::Decimal,
+        limits: Limits {
+            maximum: Some(Bound::Number(3 * HALF)),
+            min_exclusive: Some(Bound::Number(-HALF)),
+            ..UNLIMITED
+        },
+        broken: &[
             ("1.500", UNBROKEN),
             ("2.0", ABOVE),
             ("-0.5", BELOW),
             ("-0.49", UNBROKEN),
         ],
-    )?;
-    Ok(())
-}
-
-#[test]
-fn ranges_of_days(rt: HostRuntime) -> Result<(), Fail> {
-    let mut facets = Facets::new();
-    facets.min_inclusive = Some(Value::Day(0));
-    facets.max_exclusive = Some(Value::Day(365));
-    each_breaks(
-        &rt,
-        rt.alloc(),
-        with(Simple::Day, facets),
-        &[
+    },
+    Breaks {
+        simple: Simple::Day,
+        limits: Limits {
+            min_inclusive: Some(Bound::Day(0)),
+            max_exclusive: Some(Bound::Day(365)),
+            ..UNLIMITED
+        },
+        broken: &[
             ("1970-01-01", UNBROKEN),
             ("1969-12-31", BELOW),
             ("1971-01-01", ABOVE),
             ("1970-12-31", UNBROKEN),
         ],
-    )?;
+    },
+];
+
+fn broken(
+    rt: &impl Abort,
+    alloc: Global,
+    datatype: &Datatype,
+    text: &str,
+) -> Result<Broken, AllocError> {
+    assert!(rt; datatype.check().is_ok());
+    let value = datatype.read(alloc, text)?;
+    Ok(datatype.facets(&value.expect(rt, "a value")))
+}
+
+fn breaks_each(
+    rt: &impl Abort,
+    alloc: Global,
+    datatype: &Datatype,
+    rows: &[(&str, Broken)],
+) -> Result<(), AllocError> {
+    for (text, expected) in rows {
+        let found = broken(rt, alloc, datatype, text)?;
+        assert!(rt; found == *expected, "{text}");
+    }
+    Ok(())
+}
+
+fn breaks_all(rt: &impl Abort, alloc: Global, tables: &[Breaks]) -> Result<(), AllocError> {
+    for table in tables {
+        let datatype = datatype_of(alloc, table.simple, &Pattern::Plain, &table.limits)?;
+        breaks_each(rt, alloc, &datatype, table.broken)?;
+    }
     Ok(())
 }
 
 #[test]
-fn lengths_that_do_not_fit(rt: HostRuntime) {
-    let mut crossed = Facets::new();
-    crossed.min_length = Some(2);
-    crossed.max_length = Some(1);
-    assert!(rt; with(Simple::Text, crossed).check().is_err());
-    let mut length = Facets::new();
-    length.length = Some(1);
-    assert!(rt; with(Simple::Uri, length).check().is_err());
+fn broken_facets(rt: HostRuntime) -> Result<(), Fail> {
+    Ok(breaks_all(&rt, rt.alloc(), &BREAKS)?)
 }
 
-fn at_most(bound: i128) -> Facets {
-    let mut facets = Facets::new();
-    facets.maximum = Some(Value::Number(bound));
-    facets
+const AT_MOST_HALF: Limits = Limits {
+    maximum: Some(Bound::Number(HALF)),
+    ..UNLIMITED
+};
+
+const AT_MOST_255: Limits = Limits {
+    maximum: Some(Bound::Number(255 * 2 * HALF)),
+    ..UNLIMITED
+};
+
+const AT_MOST_256: Limits = Limits {
+    maximum: Some(Bound::Number(256 * 2 * HALF)),
+    ..UNLIMITED
+};
+
+const ONE_TWICE: Limits = Limits {
+    minimum: Some(Bound::Number(1)),
+    min_inclusive: Some(Bound::Number(1)),
+    ..UNLIMITED
+};
+
+const ONE_AND_TWO: Limits = Limits {
+    minimum: Some(Bound::Number(1)),
+    min_inclusive: Some(Bound::Number(2)),
+    ..UNLIMITED
+};
+
+const NOTHING_BETWEEN: Limits = Limits {
+    min_exclusive: Some(Bound::Number(1)),
+    max_exclusive: Some(Bound::Number(1)),
+    ..UNLIMITED
+};
+
+const CROSSED: Limits = Limits {
+    min_exclusive: Some(Bound::Number(2)),
+    max_exclusive: Some(Bound::Number(1)),
+    ..UNLIMITED
+};
+
+/// Datatypes, and whether they are sound.
+const SOUND: [(Simple, Pattern, Limits, bool); 17] = [
+    (
+        Simple::Text,
+        Pattern::Plain,
+        Limits {
+            min_length: Some(2),
+            max_length: Some(1),
+            ..UNLIMITED
+        },
+        false,
+    ),
+    (
+        Simple::Uri,
+        Pattern::Plain,
+        Limits {
+            length: Some(1),
+            ..UNLIMITED
+        },
+        false,
+    ),
+    (BYTE, Pattern::Plain, AT_MOST_256, false),
+    (BYTE, Pattern::Plain, AT_MOST_255, true),
+    (Simple::Whole, Pattern::Plain, AT_MOST_HALF, false),
+    (Simple::Text, Pattern::Plain, AT_MOST_HALF, false),
+    (Simple::Decimal, Pattern::Plain, AT_MOST_HALF, true),
+    (Simple::Day, Pattern::Number('.', None), UNLIMITED, false),
+    (
+        Simple::Decimal,
+        Pattern::Number('.', Some('.')),
+        UNLIMITED,
+        false,
+    ),
+    (Simple::Whole, Pattern::Number('5', None), UNLIMITED, false),
+    (Simple::Decimal, Pattern::Plain, NOTHING_BETWEEN, true),
+    (Simple::Decimal, Pattern::Plain, CROSSED, false),
+    (
+        Simple::Decimal,
+        Pattern::Plain,
+        Limits {
+            max_exclusive: Some(Bound::Number(1)),
+            ..ONE_TWICE
+        },
+        false,
+    ),
+    (
+        Simple::Decimal,
+        Pattern::Plain,
+        Limits {
+            max_inclusive: Some(Bound::Number(1)),
+            ..ONE_TWICE
+        },
+        true,
+    ),
+    (Simple::Decimal, Pattern::Plain, ONE_TWICE, true),
+    (Simple::Decimal, Pattern::Plain, ONE_AND_TWO, false),
+    (
+        Simple::Decimal,
+        Pattern::Plain,
+        Limits {
+            min_exclusive: Some(Bound::Number(0)),
+            ..ONE_TWICE
+        },
+        false,
+    ),
+];
+
+const BYTE: Simple = Simple::Derived(Width::UnsignedByte);
+
+fn checks_each(
+    rt: &impl Abort,
+    alloc: Global,
+    rows: &[(Simple, Pattern, Limits, bool)],
+) -> Result<(), AllocError> {
+    for (simple, pattern, limits, sound) in rows {
+        let datatype = datatype_of(alloc, *simple, pattern, limits)?;
+        assert!(rt;
+            datatype.check().is_ok() == *sound,
+            "{simple:?} {pattern:?}"
+        );
+    }
+    Ok(())
 }
 
 #[test]
-fn bounds_outside_their_type(rt: HostRuntime) {
-    let byte = Simple::Derived(Width::UnsignedByte);
-    assert!(rt; with(byte, at_most(256 * 2 * HALF)).check().is_err());
-    assert!(rt; with(byte, at_most(255 * 2 * HALF)).check().is_ok());
-    assert!(rt; with(Simple::Whole, at_most(HALF)).check().is_err());
-    assert!(rt; with(Simple::Text, at_most(HALF)).check().is_err());
-    assert!(rt; with(Simple::Decimal, at_most(HALF)).check().is_ok());
-}
-
-#[test]
-fn formats_that_do_not_fit(rt: HostRuntime) {
-    assert!(rt; plain(Simple::Day, number('.', None)).check().is_err());
-    assert!(rt;
-        plain(Simple::Decimal, number('.', Some('.')))
-            .check()
-            .is_err()
-    );
-    assert!(rt; plain(Simple::Whole, number('5', None)).check().is_err());
-}
-
-fn between(low: i128, high: i128) -> Facets {
-    let mut facets = Facets::new();
-    facets.min_exclusive = Some(Value::Number(low));
-    facets.max_exclusive = Some(Value::Number(high));
-    facets
-}
-
-fn from(low: i128, other: i128) -> Facets {
-    let mut facets = Facets::new();
-    facets.minimum = Some(Value::Number(low));
-    facets.min_inclusive = Some(Value::Number(other));
-    facets
-}
-
-#[test]
-fn bounds_of_two_sides(rt: HostRuntime) {
-    assert!(rt; with(Simple::Decimal, between(1, 1)).check().is_ok());
-    assert!(rt; with(Simple::Decimal, between(2, 1)).check().is_err());
-    let mut touching = from(1, 1);
-    touching.max_exclusive = Some(Value::Number(1));
-    assert!(rt; with(Simple::Decimal, touching).check().is_err());
-    let mut single = from(1, 1);
-    single.max_inclusive = Some(Value::Number(1));
-    assert!(rt; with(Simple::Decimal, single).check().is_ok());
-}
-
-#[test]
-fn bounds_of_one_side(rt: HostRuntime) {
-    assert!(rt; with(Simple::Decimal, from(1, 1)).check().is_ok());
-    assert!(rt; with(Simple::Decimal, from(1, 2)).check().is_err());
-    let mut both = from(1, 1);
-    both.min_exclusive = Some(Value::Number(0));
-    assert!(rt; with(Simple::Decimal, both).check().is_err());
+fn sound_datatypes(rt: HostRuntime) -> Result<(), Fail> {
+    Ok(checks_each(&rt, rt.alloc(), &SOUND)?)
 }
 
 fn value(rt: &impl Abort, alloc: Global, simple: Simple, text: &str) -> Result<Value, AllocError> {
-    let datatype = plain(simple, None);
+    let datatype = datatype_of(alloc, simple, &Pattern::Plain, &UNLIMITED)?;
     assert!(rt; datatype.check().is_ok());
     Ok(datatype.read(alloc, text)?.expect(rt, "a value"))
 }
@@ -506,54 +721,88 @@ fn value(rt: &impl Abort, alloc: Global, simple: Simple, text: &str) -> Result<V
 fn numbers_are_equal_across_types(rt: HostRuntime) -> Result<(), Fail> {
     let one = value(&rt, rt.alloc(), Simple::Whole, "01")?;
     assert!(rt; one == value(&rt, rt.alloc(), Simple::Decimal, "1.0")?);
-    assert!(rt; one == value(&rt, rt.alloc(), Simple::Derived(Width::Byte), "+1")?);
     assert!(rt; one != value(&rt, rt.alloc(), Simple::Text, "1")?);
     Ok(())
 }
 
-#[test]
-fn names(rt: HostRuntime) {
-    assert_eq!(rt; Simple::of("datetime"), Some(Simple::Moment));
-    assert_eq!(rt;
-        Simple::of("unsignedShort"),
-        Some(Simple::Derived(Width::UnsignedShort))
-    );
-    assert_eq!(rt; Simple::of("float"), None);
-    assert!(rt; Simple::Moment.name() == "dateTime" && Simple::Uri.name() == "anyURI");
-}
+/// Names of datatypes, and what they are based on.
+const NAMES: [(&str, Option<Simple>); 4] = [
+    ("dateTime", Some(Simple::Moment)),
+    ("datetime", Some(Simple::Moment)),
+    ("unsignedShort", Some(Simple::Derived(Width::UnsignedShort))),
+    ("float", None),
+];
 
-#[test]
-fn characters_of_numbers(rt: HostRuntime) {
-    let plain = NumberFormat {
-        decimal_char: '.',
-        group_char: None,
-    };
-    let grouped = NumberFormat {
-        decimal_char: ',',
-        group_char: Some('·'),
-    };
-    assert_eq!(rt; NumberFormat::of(None, None), Some(plain));
-    assert_eq!(rt; NumberFormat::of(Some(","), Some("·")), Some(grouped));
-    for text in ["", "..", ".·"] {
-        assert_eq!(rt; NumberFormat::of(Some(text), None), None, "{text}");
-        assert_eq!(rt; NumberFormat::of(None, Some(text)), None, "{text}");
+/// Patterns that are no format.
+const NO_FORMAT: [Pattern; 15] = [
+    Pattern::Day(""),
+    Pattern::Day("yyyy-M-d"),
+    Pattern::Day("d-MM-yyyy"),
+    Pattern::Day("dd MM yyyy"),
+    Pattern::Day("dd-MM/yyyy"),
+    Pattern::Day("yyyy/MM/dd"),
+    Pattern::Day("M-dd-yyyy"),
+    Pattern::Moment("yyyy-MM-dd"),
+    Pattern::Truth(""),
+    Pattern::Truth("Y"),
+    Pattern::Truth("Y|"),
+    Pattern::Truth("|N"),
+    Pattern::Truth("Y|Y"),
+    Pattern::Truth("Y|N|"),
+    Pattern::Truth("|"),
+];
+
+fn names_each(rt: &impl Abort, names: &[(&str, Option<Simple>)]) {
+    for (name, simple) in names {
+        assert!(rt; Simple::of(name) == *simple, "{name}");
     }
 }
 
-#[test]
-fn copies_are_equal(rt: HostRuntime) -> Result<(), Fail> {
-    let mut datatype = plain(Simple::Decimal, number(',', None));
-    datatype.facets.minimum = Some(Value::Text(Text::copied(rt.alloc(), "t")?));
-    let copy = datatype.clone(rt.alloc())?;
-    assert!(rt; copy == datatype);
+fn no_formats(rt: &impl Abort, alloc: Global, patterns: &[Pattern]) -> Result<(), AllocError> {
+    for pattern in patterns {
+        assert!(rt; format_of(alloc, pattern)?.is_none(), "{pattern:?}");
+    }
     Ok(())
 }
 
 #[test]
-fn copies_of_parts_are_equal(rt: HostRuntime) -> Result<(), Fail> {
-    let letters = Format::Truth(TruthFormat::of(rt.alloc(), "Y|N")?.ok_or("a format")?);
-    let copy = letters.clone(rt.alloc())?;
-    assert!(rt; copy == letters);
-    assert!(rt; Value::Moment(1).clone(rt.alloc())? == Value::Moment(1));
+fn names_and_formats(rt: HostRuntime) -> Result<(), Fail> {
+    names_each(&rt, &NAMES);
+    assert!(rt; Simple::Moment.name() == "dateTime" && Simple::Uri.name() == "anyURI");
+    Ok(no_formats(&rt, rt.alloc(), &NO_FORMAT)?)
+}
+
+/// The texts of a decimal and a group character, and the format that they make.
+const CHARACTERS: [(Option<&str>, Option<&str>, Option<(char, Option<char>)>); 5] = [
+    (None, None, Some(('.', None))),
+    (Some(","), Some("·"), Some((',', Some('·')))),
+    (Some(""), None, None),
+    (Some(".."), None, None),
+    (None, Some(".·"), None),
+];
+
+fn characters_each(
+    rt: &impl Abort,
+    rows: &[(Option<&str>, Option<&str>, Option<(char, Option<char>)>)],
+) {
+    for (decimal, group, want) in rows {
+        let format = NumberFormat::of(*decimal, *group);
+        let found = format.map(|f| (f.decimal_char, f.group_char));
+        assert!(rt; found == *want, "{decimal:?} {group:?}");
+    }
+}
+
+#[test]
+fn characters_of_numbers(rt: HostRuntime) {
+    characters_each(&rt, &CHARACTERS);
+}
+
+#[test]
+fn copies_are_equal(rt: HostRuntime) -> Result<(), Fail> {
+    let alloc = rt.alloc();
+    let mut datatype = datatype_of(alloc, Simple::Truth, &Pattern::Truth("Y|N"), &UNLIMITED)?;
+    datatype.facets.minimum = Some(Value::Text(Text::copied(alloc, "t")?));
+    let copy = datatype.clone(alloc)?;
+    assert!(rt; copy == datatype);
     Ok(())
 }

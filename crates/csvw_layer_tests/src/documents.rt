@@ -1,6 +1,7 @@
 //! Documents that are read, and documents that are refused.
 use csvw_ntriples::{NtFault, NtNode, NtTerm, NtTriple, read};
 use std::alloc::Global;
+use std::process::Abort;
 use std::test::Fail;
 
 fn triples(alloc: Global, text: &[u8]) -> Result<Option<Vec<NtTriple>>, Fail> {
@@ -98,23 +99,34 @@ const REFUSED: [&str; 40] = [
     "_:-a <a:b> <a:b> .",
 ];
 
-#[test]
-fn documents_have_their_triples(rt: HostRuntime) -> Result<(), Fail> {
-    let alloc = rt.alloc();
-    for (text, triples) in DOCUMENTS {
-        assert_eq!(rt; count(alloc, text.as_bytes())?, Some(triples));
+/// Bytes that are no documents.
+const BROKEN: [&[u8]; 2] = [b"<a:b> <a:b> \"\xff\" .", b"<a:b> <a:b> \"\xc3"];
+
+fn counts_each(rt: &impl Abort, alloc: Global, documents: &[(&str, usize)]) -> Result<(), Fail> {
+    for (text, triples) in documents {
+        assert!(rt;
+            count(alloc, text.as_bytes())? == Some(*triples),
+            "{text:?}"
+        );
+    }
+    Ok(())
+}
+
+fn refuses_each(rt: &impl Abort, alloc: Global, texts: &[&str]) -> Result<(), Fail> {
+    for text in texts {
+        assert!(rt; count(alloc, text.as_bytes())?.is_none(), "{text:?}");
     }
     Ok(())
 }
 
 #[test]
-fn other_texts_are_refused(rt: HostRuntime) -> Result<(), Fail> {
+fn documents_and_other_texts(rt: HostRuntime) -> Result<(), Fail> {
     let alloc = rt.alloc();
-    for text in REFUSED {
-        assert_eq!(rt; count(alloc, text.as_bytes())?, None);
+    counts_each(&rt, alloc, &DOCUMENTS)?;
+    refuses_each(&rt, alloc, &REFUSED)?;
+    for text in BROKEN {
+        assert!(rt; count(alloc, text)?.is_none());
     }
-    assert_eq!(rt; count(alloc, b"<a:b> <a:b> \"\xff\" .")?, None);
-    assert_eq!(rt; count(alloc, b"<a:b> <a:b> \"\xc3")?, None);
     Ok(())
 }
 

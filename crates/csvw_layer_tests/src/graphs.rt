@@ -5,6 +5,7 @@ use csvw_ntriples::{NtNode, NtTerm, NtTriple, read};
 use csvw_text::Counted;
 use std::alloc::{AllocError, Global};
 use std::fmt::Write;
+use std::process::Abort;
 use std::test::Fail;
 
 const URL: &str = "http://example.org/t.csv";
@@ -225,30 +226,34 @@ fn agrees(alloc: Global, table: &[&[&str]]) -> Result<bool, Fail> {
     Ok(is_same_up_to(alloc, table.len(), graph.as_slice(), triples.as_slice())?)
 }
 
-#[test]
-fn writes_the_graph_of_the_table(rt: HostRuntime) -> Result<(), Fail> {
-    let alloc = rt.alloc();
-    let tables: [&[&[&str]]; 6] = [
-        &[&["id", "name"], &["1", "Ann"]],
-        &[&["id", "name"], &["1", "Ann"], &["1", "Ann"], &["2", ""]],
-        &[
-            &["a", "b", "c"],
-            &["", "", ""],
-            &["x", "", "y"],
-            &["", "x", "y"],
-        ],
-        &[
-            &["q"],
-            &["say \"so\""],
-            &["two\nlines"],
-            &["a,b\\c\rd"],
-            &["déjà vu 😀"],
-        ],
-        &[&["none"]],
-        &[],
-    ];
+const TABLES: [&[&[&str]]; 6] = [
+    &[&["id", "name"], &["1", "Ann"]],
+    &[&["id", "name"], &["1", "Ann"], &["1", "Ann"], &["2", ""]],
+    &[
+        &["a", "b", "c"],
+        &["", "", ""],
+        &["x", "", "y"],
+        &["", "x", "y"],
+    ],
+    &[
+        &["q"],
+        &["say \"so\""],
+        &["two\nlines"],
+        &["a,b\\c\rd"],
+        &["déjà vu 😀"],
+    ],
+    &[&["none"]],
+    &[],
+];
+
+fn agrees_each(rt: &impl Abort, alloc: Global, tables: &[&[&[&str]]]) -> Result<(), Fail> {
     for table in tables {
         assert!(rt; agrees(alloc, table)?);
     }
     Ok(())
+}
+
+#[test]
+fn writes_the_graph_of_the_table(rt: HostRuntime) -> Result<(), Fail> {
+    agrees_each(&rt, rt.alloc(), &TABLES)
 }

@@ -4,14 +4,8 @@
 #[cfg(test)]
 mod datatypes;
 #[cfg(test)]
-mod dates;
-#[cfg(test)]
 mod documents;
 #[cfg(test)]
 mod graphs;
-#[cfg(test)]
-mod moments;
-#[cfg(test)]
-mod numbers;
 #[cfg(test)]
 mod templates;

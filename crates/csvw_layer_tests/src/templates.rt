@@ -2,6 +2,7 @@
 use csvw_template::{Operator, Part, Template, Var, Vars};
 use csvw_text::{Seq, Text};
 use std::alloc::{AllocError, Global};
+use std::process::Abort;
 use std::test::Fail;
 
 /// Examples of RFC 6570, sections 1.2 and 3.2, and their expansions.
@@ -143,61 +144,63 @@ fn times(alloc: Global, text: &str, n: usize) -> Result<String, AllocError> {
     Ok(out)
 }
 
-#[test]
-fn examples_of_the_standard(rt: HostRuntime) -> Result<(), Fail> {
-    let alloc = rt.alloc();
-    for (text, want) in &EXAMPLES {
-        assert_eq!(rt; expanded(alloc, text)?.as_str(), *want, "{text:?}");
+fn expands_each(rt: &impl Abort, alloc: Global, rows: &[(&str, &str)]) -> Result<(), AllocError> {
+    for (text, want) in rows {
+        assert!(rt; expanded(alloc, text)?.as_str() == *want, "{text:?}");
+    }
+    Ok(())
+}
+
+fn refuses_each(
+    rt: &impl Abort,
+    alloc: Global,
+    texts: &[&str],
+    fault: &str,
+) -> Result<(), AllocError> {
+    for text in texts {
+        assert!(rt; expanded(alloc, text)?.as_str() == fault, "{text:?}");
     }
     Ok(())
 }
 
 #[test]
-fn names_lists_and_literals(rt: HostRuntime) -> Result<(), Fail> {
+fn templates_and_other_texts(rt: HostRuntime) -> Result<(), Fail> {
     let alloc = rt.alloc();
-    for (text, want) in &TEMPLATES {
-        assert_eq!(rt; expanded(alloc, text)?.as_str(), *want, "{text:?}");
+    expands_each(&rt, alloc, &EXAMPLES)?;
+    expands_each(&rt, alloc, &TEMPLATES)?;
+    refuses_each(&rt, alloc, &BAD, "BadTemplate")?;
+    Ok(refuses_each(&rt, alloc, &HIGHER, "TemplateLevel")?)
+}
+
+/// A text so many times, and what it expands to so many times; `None`: `TooLong`.
+const LONG: [(&str, usize, Option<&str>); 6] = [
+    ("a", 4096, Some("a")),
+    ("{x}", 32, Some("1024")),
+    ("a", 4097, None),
+    ("}", 4097, None),
+    ("{x}", 33, None),
+    ("}{", 33, None),
+];
+
+fn long_each(
+    rt: &impl Abort,
+    alloc: Global,
+    rows: &[(&str, usize, Option<&str>)],
+) -> Result<(), AllocError> {
+    for (text, n, want) in rows {
+        let found = expanded(alloc, times(alloc, text, *n)?.as_str())?;
+        let want = match want {
+            Some(part) => times(alloc, part, *n)?,
+            None => String::from_str(alloc, "TooLong")?,
+        };
+        assert!(rt; found.as_str() == want.as_str(), "{text:?}");
     }
     Ok(())
 }
 
 #[test]
-fn faults_from_the_left(rt: HostRuntime) -> Result<(), Fail> {
-    let alloc = rt.alloc();
-    for text in &BAD {
-        assert_eq!(rt; expanded(alloc, text)?.as_str(), "BadTemplate", "{text:?}");
-    }
-    for text in &HIGHER {
-        assert_eq!(rt;
-            expanded(alloc, text)?.as_str(),
-            "TemplateLevel",
-            "{text:?}"
-        );
-    }
-    Ok(())
-}
-
-#[test]
-fn longest_template(rt: HostRuntime) -> Result<(), Fail> {
-    let alloc = rt.alloc();
-    let text = times(alloc, "a", 4096)?;
-    assert!(rt; expanded(alloc, text.as_str())?.as_str() == text.as_str());
-    let full = times(alloc, "{x}", 32)?;
-    let want = times(alloc, "1024", 32)?;
-    assert_eq!(rt; expanded(alloc, full.as_str())?.as_str(), want.as_str());
-    Ok(())
-}
-
-#[test]
-fn too_long_templates(rt: HostRuntime) -> Result<(), Fail> {
-    let alloc = rt.alloc();
-    for (text, n) in [("a", 4097), ("}", 4097), ("{x}", 33), ("}{", 33)] {
-        assert_eq!(rt;
-            expanded(alloc, times(alloc, text, n)?.as_str())?.as_str(),
-            "TooLong"
-        );
-    }
-    Ok(())
+fn long_templates(rt: HostRuntime) -> Result<(), Fail> {
+    Ok(long_each(&rt, rt.alloc(), &LONG)?)
 }
 
 /// Each part, by its operator and its texts.
