@@ -1,1 +1,2 @@
 pub mod Inherited
+pub mod Columns

@@ -2,8 +2,10 @@
 #![tactic(auto)]
 
 mod column;
+mod columns;
 mod inherited;
 mod properties;
 
 pub use column::Column;
+pub use columns::Columns;
 pub use properties::{Defaults, Properties};

@@ -1,0 +1,124 @@
+//! What a row says.
+ghost use Rattle.std.specs.Prelude.{◌≡◌, ◌<◌, ◌≤◌, [], IfOk, OnOk, length};
+ghost use Rattle.csvw_rows.specs.RowValue.{row_of};
+ghost use Rattle.csvw_datatype.specs.Sound.{IsSound};
+ghost use Rattle.csvw_annotate_core.specs.Annotated.{IsCell, AreCells, Annotates, AreSound};
+ghost use Rattle.csvw_annotate_core.specs.FieldAt.{field_at};
+
+use crate::row::{AnnCell, Row};
+use crate::row_stop::RowStop;
+use csvw_cell::{Cell, parse_into};
+use csvw_columns_core::{Column, Columns};
+use csvw_rows::RawRow;
+use csvw_text::Seq;
+use std::alloc::{AllocError, Global};
+use std::mem;
+
+/// Makes it the cell of a text, in its memory.
+fn fill_cell(
+    alloc: Global,
+    column: &Column,
+    text: &str,
+    cell: &mut AnnCell,
+) -> Result<(), AllocError>
+    requires { IsSound column.now.properties.datatype }
+    ensures { OnOk result (IsCell column.now text.now cell.new) }
+{
+    let AnnCell {
+        value,
+        faults,
+        about: _,
+        property: _,
+        link: _,
+    } = mem::replace(cell, AnnCell::new(alloc));
+    let Cell { value, faults } = parse_into(alloc, column, text, Cell { value, faults })?;
+    cell.value = value;
+    cell.faults = faults;
+    Ok(())
+}
+
+/// The text of a field, from 0; the empty one where there is no such field.
+fn field_at<'a>(row: &RawRow<'a>, i: usize) -> &'a str
+    ensures { result.now ≡ field_at (row_of row.now).fields i }
+{
+    if i < row.len() { row.field(i) } else { "" }
+}
+
+/// So many cells: the first of these, and null cells behind them.
+fn resized(mut cells: Vec<AnnCell>, alloc: Global, count: usize) -> Result<Vec<AnnCell>, AllocError>
+    ensures { IfOk result (λ v. length v.items ≡ count) }
+{
+    cells.truncate(count);
+    while cells.len() < count {
+        cells.push(AnnCell::new(alloc))?;
+    }
+    Ok(cells)
+}
+
+/// Makes them the cells of the columns.
+fn fill_cells(
+    alloc: Global,
+    columns: &[Column],
+    row: &RawRow,
+    cells: &mut [AnnCell],
+) -> Result<(), AllocError>
+    requires sound { AreSound columns.now }
+    requires places { length cells.old ≡ length columns.now }
+    ensures { OnOk result (AreCells columns.now (row_of row.now).fields cells.new) }
+{
+    for i in 0..columns.len() {
+        fill_cell(alloc, &columns[i], field_at(row, i), &mut cells[i])?;
+    }
+    Ok(())
+}
+
+/// The cells of a row, in the memory of others.
+fn refilled(
+    alloc: Global,
+    columns: &[Column],
+    row: &RawRow,
+    cells: Vec<AnnCell>,
+) -> Result<Vec<AnnCell>, AllocError>
+    requires { AreSound columns.now }
+    ensures { IfOk result (λ v. AreCells columns.now (row_of row.now).fields v.items) }
+{
+    let mut cells = resized(cells, alloc, columns.len())?;
+    fill_cells(alloc, columns, row, cells.as_mut_slice())?;
+    Ok(cells)
+}
+
+/// As `annotate`, in the memory of a row that is no longer needed.
+pub fn annotate_into(
+    alloc: Global,
+    columns: &Columns,
+    row: &RawRow,
+    spare: Row,
+) -> Result<Row, RowStop>
+    requires { AreSound columns.now.columns }
+    ensures { Annotates columns.now (row_of row.now) result }
+{
+    if row.len() != columns.field_count() {
+        return Err(RowStop::RaggedRow);
+    }
+    let cells = refilled(
+        alloc,
+        columns.columns.as_slice(),
+        row,
+        spare.cells.into_vec(),
+    )?;
+    Ok(Row {
+        number: row.number(),
+        source: row.source(),
+        cells: Seq::of(cells),
+    })
+}
+
+/// The annotated row of a data row of a table with these columns, whose datatypes have passed `Datatype::check` (Model for
+/// Tabular Data, sections 4.4 and 6.4.2). `RaggedRow` exactly where it hasn't one field for each column that isn't virtual;
+/// `Memory` where there is none.
+pub fn annotate(alloc: Global, columns: &Columns, row: &RawRow) -> Result<Row, RowStop>
+    requires { AreSound columns.now.columns }
+    ensures { Annotates columns.now (row_of row.now) result }
+{
+    annotate_into(alloc, columns, row, Row::new(alloc))
+}

@@ -1,0 +1,57 @@
+//! The columns of a table.
+ghost use Rattle.std.specs.Prelude.{◌≡◌, ◌<◌, length, slice_get, Some, not};
+ghost use Rattle.csvw_columns_core.specs.Columns.{field_count};
+
+use crate::column::Column;
+use csvw_iri::{Base, Iri};
+use csvw_text::Seq;
+
+/// The columns of a table, in their order, and what the graph tells of the table (Model for Tabular Data, section 4.2).
+#[derive(Debug, Drop)]
+pub struct Columns {
+    /// The columns. Virtual ones come last.
+    pub columns: Seq<Column>,
+    /// The table's URL.
+    pub url: Base,
+    /// The table's `@id`.
+    pub id: Option<Iri>,
+    /// Whether the table gives no triples.
+    pub suppressed: bool,
+}
+
+impl Columns {
+    /// How many there are.
+    pub fn len(&self) -> usize
+        ensures { result ≡ length self.now.columns }
+    {
+        self.columns.len()
+    }
+
+    /// A column, from 0.
+    pub fn column(&self, i: usize) -> &Column
+        requires { i < length self.now.columns }
+        ensures { slice_get self.now.columns i ≡ Some result.now }
+    {
+        let columns = self.columns.as_slice();
+        &columns[i]
+    }
+
+    /// How many fields a row of the table has: one for each column that isn't virtual.
+    pub fn field_count(&self) -> usize
+        ensures { result ≡ field_count self.now.columns }
+    {
+        count_fields(self.columns.as_slice())
+    }
+}
+
+fn count_fields(columns: &[Column]) -> usize
+    ensures { result ≡ field_count columns.now }
+{
+    let mut count = 0;
+    for column in columns {
+        if !column.is_virtual {
+            count += 1;
+        }
+    }
+    count
+}
