@@ -31,11 +31,13 @@ use Rattle.csvw_ntriples.specs.Sending.{Sends}
 use Rattle.csvw_ntriples.specs.Writable.{TripleFits}
 use Rattle.csvw_ntriples.specs.Written.{written, said}
 use Rattle.csvw_engine.specs.Halts.{of_table}
-use Rattle.csvw_engine.specs.Plain.{Run, run_of, StaysAt, WroteGraph, AreFirst, IsStoppedAt, IsRefusedAt, Converts, StopsBehind, StopsWithin, IsCutShort, IsCutLine, StopsSo}
+use Rattle.csvw_engine.specs.Plain.{Run, run_of, WroteGraph, AreFirst, IsStoppedAt, IsRefusedAt, Converts, StopsBehind, StopsWithin, IsCutShort, IsCutLine, HaltsSo, Halts, IsCutOff, Runs}
 use Rattle.csvw_engine.specs.Tables.{max_rows, table_triples, TableHolds, HasAll, IsGivenBy, Stands, Finishes, TookPart, Reads}
 use Rattle.csvw_engine.specs.Tables as tables
 use Rattle.csvw_engine.specs.declared.halt.Halt.{Halt}
 use Rattle.csvw_engine.specs.declared.halt.Halt.TheVariants as halt
+use Rattle.csvw_engine.specs.declared.stop.Stop.{Stop}
+use Rattle.csvw_engine.specs.declared.stop.Stop.TheVariants as stop
 use Rattle.csvw_engine.specs.declared.table.Table.{Table}
 use Rattle.csvw_engine.proofs.Tables.{no_triples}
 
@@ -134,8 +136,8 @@ pub same_writer : {W : Type 0} (contents : W → Option (List ℕ)) (d : Dialect
 same_writer contents d known rest failures later start t now halt.Read r = r.3.gained.0
 same_writer contents d known rest failures later start t now halt.Memory r = r.4.0.took.gained.0
 same_writer contents d known rest failures later start t now halt.Write r = r.4.0.took.gained.0
-same_writer contents d known rest failures later start t now (halt.Rows row stop) r = r.4.gained.0
-same_writer contents d known rest failures later start t now (halt.Table row stop) r = r.4.gained.0
+same_writer contents d known rest failures later start t now (halt.Rows row reason) r = r.4.gained.0
+same_writer contents d known rest failures later start t now (halt.Table row reason) r = r.4.gained.0
 
 -- a run from one state of the sink to another
 pub record Spans {W : Type 0} (contents : W → Option (List ℕ)) (run : Run) (start now : NtSink W) : Type 0 where
@@ -166,8 +168,8 @@ begun contents d t s o h = record {
 }
 
 module _ {W : Type 0} (contents : W → Option (List ℕ)) (laws : Laws) (base : Parts) (run : Run) (start now : NtSink W) (spans : Spans contents run start now) where
-  stays_at : IsAsReady sink_is_open failed_of start now → StaysAt run.out_failures run.out_failed
-  stays_at r = λ room. spans.failed ∙ (r.1 ∙ sym spans.failures)
+  stays_at : IsAsReady sink_is_open failed_of start now → run.out_failed ≡ run.out_failures
+  stays_at r = spans.failed ∙ (r.1 ∙ sym spans.failures)
 
   -- whole lines, where the sink is open at the end
   whole_lines : (ts : List Triple) → takes contents start ts now → IsAsReady sink_is_open failed_of start now → Appends run.held run.holds (written ts)
@@ -177,9 +179,9 @@ module _ {W : Type 0} (contents : W → Option (List ℕ)) (laws : Laws) (base :
   graph columns rows g r = wrote_graph laws run columns rows g.1 (whole_lines (table_triples 1 columns rows) g r)
 
   pub converts : (d : Dialect) (bytes : List ℕ) → IsDefault d → Consumes run.unread run.left bytes → IsAtEnd run.left
-      → Finishes (takes contents) sink_is_open failed_of d start 1 base bytes true now → Converts base run × StaysAt run.out_failures run.out_failed
-  converts d bytes default consumed at_end f = (
-    record {
+      → Finishes (takes contents) sink_is_open failed_of d start 1 base bytes true now → run.input_failed ≡ run.input_failures → Converts base run
+  converts d bytes default consumed at_end f none = record {
+    table = record {
       dialect = d;
       bytes = bytes;
       read = record { is_default = default; consumed = consumed; at_end = λ _. at_end };
@@ -187,9 +189,10 @@ module _ {W : Type 0} (contents : W → Option (List ℕ)) (laws : Laws) (base :
       rows = f.rows;
       annotated = file_of d base f.columns bytes f.rows f.all (f.whole refl);
       wrote = graph f.columns f.rows f.gained f.ready;
-    },
-    stays_at f.ready,
-  )
+    };
+    no_read_failed = none;
+    no_write_failed = stays_at f.ready;
+  }
 
   -- behind rows
   behind : (Reason : Dialect → List ℕ → Bool → Option Columns → List Row → Type 0) (d : Dialect) (bytes : List ℕ) (ended : Bool) (columns : Option Columns) (rows : List Row)
@@ -204,7 +207,6 @@ module _ {W : Type 0} (contents : W → Option (List ℕ)) (laws : Laws) (base :
     rows = rows;
     reason = reason;
     wrote = graph columns rows g r;
-    no_failure = stays_at r;
   }
 
   -- within rows
@@ -225,29 +227,35 @@ module _ {W : Type 0} (contents : W → Option (List ℕ)) (laws : Laws) (base :
     appended = a;
   }
 
+  halted : (reason : Stop) → HaltsSo base run reason → IsAsReady sink_is_open failed_of start now → Runs base run (Err reason)
+  halted reason so r = inl (record { so = so; no_write_failed = stays_at r })
+
   halts : (d : Dialect) (bytes : List ℕ) (ended : Bool) → IsDefault d → Consumes run.unread run.left bytes → (ended ≡ true → IsAtEnd run.left)
-      → (reason : Halt) → tables.StopsSo (takes contents) sink_is_open failed_of d start 1 base bytes ended now reason → StopsSo base run (of_table 1 reason)
+      → (reason : Halt) → tables.StopsSo (takes contents) sink_is_open failed_of d start 1 base bytes ended now reason → Runs base run (Err (of_table 1 reason))
   halts d bytes ended default consumed at_end halt.Memory so =
-      inr (
-        within d bytes ended [] default consumed at_end so.0
-            (subst (λ xs. Appends run.held run.holds xs) (sym (append-nil (written so.0.took.front))) (whole_lines so.0.took.front so.0.took.gained so.1)),
-        stays_at so.1,
-      )
+      halted stop.Memory
+      (within d bytes ended [] default consumed at_end so.0
+      (subst (λ xs. Appends run.held run.holds xs) (sym (append-nil (written so.0.took.front))) (whole_lines so.0.took.front so.0.took.gained so.1))) so.1
   halts d bytes ended default consumed at_end halt.Read so = absurd so
   halts d bytes ended default consumed at_end halt.Write so =
-      let cut = sends_cut (contents (inner_of (sink_out start).now)) (contents (inner_of (sink_out now).now)) (sink_is_open start) (sink_is_open now) so.0.took.front spans.begun so.0.took.gained.2 in (
-        cut.0,
-        cut.1,
-        within d bytes ended cut.0 default consumed at_end so.0 (rw (spans.held, spans.holds) cut.2),
-        λ room. spans.failed ∙ (so.1 spans.begun (rw spans.failures at room) ∙ ap (λ n. n + 1) (sym spans.failures)),
+      let cut = sends_cut (contents (inner_of (sink_out start).now)) (contents (inner_of (sink_out now).now)) (sink_is_open start) (sink_is_open now) so.0.took.front spans.begun so.0.took.gained.2 in
+      inr (
+        refl,
+        record {
+          more = cut.0;
+          is_cut = cut.1;
+          within = within d bytes ended cut.0 default consumed at_end so.0 (rw (spans.held, spans.holds) cut.2);
+          failed = λ room. spans.failed ∙ (so.1 spans.begun (rw spans.failures at room) ∙ ap (λ n. n + 1) (sym spans.failures));
+        },
       )
-  halts d bytes ended default consumed at_end (halt.Rows row stop) so =
-      (refl, behind (IsStoppedAt base row stop) d bytes ended so.columns so.rows default consumed at_end so.reason so.gained so.ready)
-  halts d bytes ended default consumed at_end (halt.Table row stop) so = (
-    refl,
-    behind (IsRefusedAt base row stop) d bytes ended so.columns so.rows default consumed at_end
-        (record { refused = so.reason; first = are_first laws d bytes ended (so.reason.given ++ so.reason.raw ∷ []) so.reason.is_given }) so.gained so.ready,
-  )
+  halts d bytes ended default consumed at_end (halt.Rows row reason) so =
+      halted (stop.Rows 1 row reason) (refl, behind (IsStoppedAt base row reason) d bytes ended so.columns so.rows default consumed at_end so.reason so.gained so.ready) so.ready
+  halts d bytes ended default consumed at_end (halt.Table row reason) so =
+      halted (stop.Table 1 row reason) (
+        refl,
+        behind (IsRefusedAt base row reason) d bytes ended so.columns so.rows default consumed at_end
+            (record { refused = so.reason; first = are_first laws d bytes ended (so.reason.given ++ so.reason.raw ∷ []) so.reason.is_given }) so.gained so.ready,
+      ) so.ready
 
   at_base : (d : Dialect) (bytes : List ℕ) (ended : Bool) (t : Table) (reason : Halt) → t.number ≡ 1 → t.url ≡ base
       → tables.StopsSo (takes contents) sink_is_open failed_of d start t.number t.url bytes ended now reason → tables.StopsSo (takes contents) sink_is_open failed_of d start 1 base bytes ended now reason
@@ -277,9 +285,9 @@ module _ {W : Type 0} (contents : W → Option (List ℕ)) (laws : Laws) (base :
 
   -- after the table was read
   pub stops : (d : Dialect) (t : Table) (reason : Halt) → IsDefault d → t.number ≡ 1 → t.url ≡ base
-      → Reads (takes contents) sink_is_open failed_of d run.unread run.left run.input_failures run.input_failed start t now (Err reason) → StopsSo base run (of_table 1 reason)
-  stops d t halt.Read default n u r = cut_short d r.0 t default n u r.1 r.2 r.3 r.4
+      → Reads (takes contents) sink_is_open failed_of d run.unread run.left run.input_failures run.input_failed start t now (Err reason) → Runs base run (Err (of_table 1 reason))
+  stops d t halt.Read default n u r = halted stop.Read (cut_short d r.0 t default n u r.1 r.2 r.3 r.4) r.3.ready
   stops d t halt.Memory default n u r = halts d r.0 r.1 default r.2 r.3 halt.Memory (at_base d r.0 r.1 t halt.Memory n u r.4)
   stops d t halt.Write default n u r = halts d r.0 r.1 default r.2 r.3 halt.Write (at_base d r.0 r.1 t halt.Write n u r.4)
-  stops d t (halt.Rows row stop) default n u r = halts d r.0 r.1 default r.2 r.3 (halt.Rows row stop) (at_base d r.0 r.1 t (halt.Rows row stop) n u r.4)
-  stops d t (halt.Table row stop) default n u r = halts d r.0 r.1 default r.2 r.3 (halt.Table row stop) (at_base d r.0 r.1 t (halt.Table row stop) n u r.4)
+  stops d t (halt.Rows row reason) default n u r = halts d r.0 r.1 default r.2 r.3 (halt.Rows row reason) (at_base d r.0 r.1 t (halt.Rows row reason) n u r.4)
+  stops d t (halt.Table row reason) default n u r = halts d r.0 r.1 default r.2 r.3 (halt.Table row reason) (at_base d r.0 r.1 t (halt.Table row reason) n u r.4)
