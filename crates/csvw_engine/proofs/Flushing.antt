@@ -75,8 +75,9 @@ module _ (run : Run) (holds : Option (List ℕ)) (failed : ℕ) (keeps : Keeps r
     read = read_kept w.dialect w.bytes w.ended w.read;
     columns = w.columns;
     rows = w.rows;
-    begins = w.begins;
+    given = w.given;
     first = w.first;
+    table = w.table;
     front = w.front;
     rest = w.rest;
     parts = w.parts;
@@ -103,9 +104,10 @@ module _ (run : Run) (holds : Option (List ℕ)) (failed : ℕ) (keeps : Keeps r
 
   stop_kept : (base : Parts) (reason : Stop) (reports reported : ℕ) → failed ≡ run.out_failed → Halts base run reason ⊎ ((reason ≡ stop.Write) × IsCutOff base run)
       → Halts base after reason ⊎ ((reason ≡ stop.Write) × WriterFails base after reports reported)
+  unfolding within_kept
   stop_kept base reason reports reported e (inl h) = inl (record { so = halt_kept base reason h.so; no_write_failed = e ∙ h.no_write_failed })
   stop_kept base reason reports reported e (inr (w, c)) =
-      inr (w, inl (record { more = c.more; is_cut = c.is_cut; within = within_kept base c.more c.within; failed = λ room. e ∙ c.failed room }))
+      inr (w, inl (record { more = c.more; within = within_kept base c.more c.within; is_cut = c.is_cut; failed = λ room. e ∙ c.failed room }))
 
   -- it fails, behind the whole graph or behind a stop
   unsent : (base : Parts) (ran : Result Unit Stop) → failed ≡ one_more run.out_failed → ran ≢ Err stop.Write → Runs base run ran → FlushFails base after

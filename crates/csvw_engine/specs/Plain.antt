@@ -8,21 +8,22 @@ use Rattle.csvw_text.specs.Counted.{inner_of, failures_of}
 use Rattle.csvw_iri.specs.Link.{Refusal, too_long, bad, base_of, iri_of}
 use Rattle.csvw_rows.specs.declared.dialect.Dialect.{Dialect}
 use Rattle.csvw_rows.specs.declared.stop.RowStop.{RowStop}
-use Rattle.csvw_rows.specs.Files.{Row as FileRow, Front, Body}
+use Rattle.csvw_rows.specs.Laws.{AreFirst}
 use Rattle.csvw_rows.specs.Lawful.{IsDefault}
 use Rattle.csvw_rows.specs.RowValue.{Given}
 use Rattle.csvw_rows.specs.Stops.{StopOf}
 use Rattle.csvw_columns.specs.declared.column.Columns.{Columns}
 use Rattle.csvw_columns.specs.declared.table_stop.TableStop.{TableStop}
-use Rattle.csvw_annotate.specs.Tables.{IsAnnotated}
+use Rattle.csvw_annotate.specs.Tables.{IsAnnotated, IsTable, Refuses}
 use Rattle.csvw_annotate.specs.declared.row.Row.{Row}
 use Rattle.csvw_triples.specs.declared.term.Triple.{Triple}
 use Rattle.csvw_triples.specs.Graph.{Minimal}
 use Rattle.csvw_ntriples.specs.declared.term.NtTriple.{NtTriple}
 use Rattle.csvw_ntriples.specs.Grammar.{Denotes}
 use Rattle.csvw_ntriples.specs.SameUpTo.{SameUpTo}
+use Rattle.csvw_ntriples.specs.Writable.{TripleFits}
 use Rattle.csvw_ntriples.specs.Written.{written}
-use Rattle.csvw_engine.specs.Tables.{max_rows, HasAll, BeginsWith, IsRefused, table_triples}
+use Rattle.csvw_engine.specs.Tables.{max_rows, HasAll, table_triples}
 use Rattle.csvw_engine.specs.declared.meta_fault.MetaCode.{MetaCode}
 use Rattle.csvw_engine.specs.declared.meta_fault.MetaCode.TheVariants as code
 use Rattle.csvw_engine.specs.declared.meta_fault.MetaFault.{MetaFault}
@@ -98,18 +99,18 @@ pub record StopsBehind (run : Run) (Reason : Dialect → List ℕ → Bool → O
   pub reason : Reason dialect bytes ended columns rows
   pub wrote : WroteGraph run columns rows
 
--- these rows of the source come first in the text so far
-abbrev pub AreFirst : Dialect → List ℕ → Bool → List Given → Type 0
-AreFirst d bytes ended given = (front : List FileRow) → Front d max_rows bytes ended front → (rest : List Given) × (Body d front ≡ given ++ rest)
-
 -- all rows of the text so far are there, and the stop of the records stands behind them
 abbrev pub IsStoppedAt : Parts → ℕ → RowStop → Dialect → List ℕ → Bool → Option Columns → List Row → Type 0
 IsStoppedAt base row reason d bytes ended columns rows = HasAll d base columns bytes ended rows × StopOf d max_rows bytes ended reason row
 
--- a row of the text so far is refused, and those in front of it are there
+-- the rows of the source that come first in the text so far are those in front and one more, which the table refuses
 pub record IsRefusedAt (base : Parts) (row : ℕ) (reason : TableStop) (d : Dialect) (bytes : List ℕ) (ended : Bool) (columns : Option Columns) (rows : List Row) : Type 0 where
-  pub refused : IsRefused d base columns bytes ended rows row reason
-  pub first : AreFirst d bytes ended (refused.given ++ (refused.raw ∷ []))
+  pub given : List Given
+  pub raw : Given
+  pub first : AreFirst d max_rows bytes ended (given ++ (raw ∷ []))
+  pub table : IsTable (iri_of base) given columns rows
+  pub refuses : Refuses (iri_of base) columns raw reason
+  pub source : raw.source ≡ row
 
 -- a reader failed, or many bytes were read; all rows of the bytes so far are there
 pub record IsCutShort (base : Parts) (run : Run) (d : Dialect) (bytes : List ℕ) (ended : Bool) (columns : Option Columns) (rows : List Row) : Type 0 where
@@ -117,7 +118,7 @@ pub record IsCutShort (base : Parts) (run : Run) (d : Dialect) (bytes : List ℕ
   pub blame : (run.input_failed ≡ one_more run.input_failures) ⊎ (2 ^ 40 ≤ length bytes)
   pub whole : ((bytes ≡ []) × (columns ≡ None) × (rows ≡ [])) ⊎ HasAll d base columns bytes false rows
 
--- whole lines: a front of the triples of the rows so far; and more bytes
+-- whole lines: a front of the triples of the rows that come first in the text so far; and more bytes
 pub record StopsWithin (base : Parts) (run : Run) (more : List ℕ) : Type 0 where
   pub dialect : Dialect
   pub bytes : List ℕ
@@ -125,16 +126,18 @@ pub record StopsWithin (base : Parts) (run : Run) (more : List ℕ) : Type 0 whe
   pub read : HasRead run dialect bytes ended
   pub columns : Option Columns
   pub rows : List Row
-  pub begins : BeginsWith dialect base columns bytes ended rows
-  pub first : AreFirst dialect bytes ended begins.given
+  pub given : List Given
+  pub first : AreFirst dialect max_rows bytes ended given
+  pub table : IsTable (iri_of base) given columns rows
   pub front : List Triple
   pub rest : List Triple
   pub parts : table_triples 1 columns rows ≡ front ++ rest
   pub appended : Appends run.held run.holds (written front ++ more)
 
--- a front of a line, and not the whole
-abbrev pub IsCutLine : List ℕ → Type 0
-IsCutLine more = (more ≡ []) ⊎ ((triple : Triple) × (n : ℕ) × (n < length (written (triple ∷ []))) × (more ≡ take n (written (triple ∷ []))))
+-- a front of the line of the next triple, and not the whole; where none is next, nothing
+abbrev pub IsCutLine : List Triple → List ℕ → Type 0
+IsCutLine [] more = more ≡ []
+IsCutLine (next ∷ rest) more = (more ≡ []) ⊎ (TripleFits next × (n : ℕ) × (n < length (written (next ∷ []))) × (more ≡ take n (written (next ∷ []))))
 
 -- nothing was read, and nothing written
 pub record IsUntouched (run : Run) : Type 0 where
@@ -164,8 +167,8 @@ pub record Halts (base : Parts) (run : Run) (reason : Stop) : Type 0 where
 -- a write failed, within a line or between two
 pub record IsCutOff (base : Parts) (run : Run) : Type 0 where
   pub more : List ℕ
-  pub is_cut : IsCutLine more
   pub within : StopsWithin base run more
+  pub is_cut : IsCutLine within.rest more
   pub failed : Rose run.out_failures run.out_failed
 
 -- a flush failed, behind the whole graph or behind what was written in front of a stop
