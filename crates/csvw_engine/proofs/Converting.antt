@@ -31,7 +31,7 @@ use Rattle.csvw_ntriples.specs.Sending.{Sends}
 use Rattle.csvw_ntriples.specs.Writable.{TripleFits}
 use Rattle.csvw_ntriples.specs.Written.{written, said}
 use Rattle.csvw_engine.specs.Halts.{of_table}
-use Rattle.csvw_engine.specs.Plain.{Run, run_of, WroteGraph, IsStoppedAt, IsRefusedAt, Converts, StopsBehind, StopsWithin, IsCutShort, IsCutLine, HaltsSo, Halts, IsCutOff, Runs}
+use Rattle.csvw_engine.specs.Plain.{Run, run_of, WroteGraph, IsStoppedAt, IsRefusedAt, Converts, StopsBehind, StopsWithin, IsCutShort, IsCutLine, HaltsSo, Runs}
 use Rattle.csvw_engine.specs.Tables.{max_rows, table_triples, TableHolds, HasAll, IsGivenBy, Stands, Finishes, TookPart, Reads}
 use Rattle.csvw_engine.specs.Tables as tables
 use Rattle.csvw_engine.specs.declared.halt.Halt.{Halt}
