@@ -55,7 +55,7 @@ fn stop_status(stop: &Stop) -> u8
 }
 
 /// Tells a stop in one line. Where that fails, the status is all that is told.
-fn tell_stop<V: Write>(alloc: Global, stop: &Stop, err: &mut Counted<V>) -> u8
+pub fn tell_stop<V: Write>(alloc: Global, stop: &Stop, err: &mut Counted<V>) -> u8
     ensures { TellsStop stop.now (stream_of V.contents err.old err.new) result }
 {
     match stop_line(alloc, stop) {
@@ -81,7 +81,8 @@ fn give_help<W: Write, V: Write>(
     }
 }
 
-fn tell_mistake<V: Write>(text: &str, err: &mut Counted<V>) -> u8
+/// Tells a mistake of the command line.
+pub fn tell_mistake<V: Write>(text: &str, err: &mut Counted<V>) -> u8
     ensures told { Tells (stream_of V.contents err.old err.new) text.now }
     ensures status { result ≡ 2 }
 {

@@ -6,19 +6,34 @@ mod names;
 mod opener;
 mod words;
 
-use command::command;
+use command::{command, tell_mistake, tell_stop};
+use csvw_engine::Stop;
 use csvw_text::Counted;
 use opener::FileOpener;
-use std::io::{self, BufWriter};
+use std::io::{self, BufWriter, Stderr};
 use std::process::ExitCode;
 use std::{env, fs};
 
-fn main(rt: HostRuntime) -> io::Result<ExitCode> {
+/// Runs the program on the words and streams of its process. At the end the buffer of standard output is
+/// let go unsent: it is empty, or what a failed write left of it.
+fn run(rt: &HostRuntime, err: &mut Counted<Stderr>) -> io::Result<u8> {
     let alloc = rt.alloc();
-    let words = env::args(&rt)?.collect::<Vec<String>>(alloc)?;
-    let mut opener = FileOpener::new(&rt);
+    let words = env::args(rt)?.collect::<Vec<String>>(alloc)?;
+    let mut opener = FileOpener::new(rt);
     let mut out = Counted::new(BufWriter::new(alloc, rt.stdout())?);
+    let status = command(alloc, words.as_slice(), &mut opener, &mut out, err);
+    let (_, _) = out.into_inner().into_parts();
+    Ok(status)
+}
+
+fn main(rt: HostRuntime) -> ExitCode {
     let mut err = Counted::new(rt.stderr());
-    let status = command(alloc, words.as_slice(), &mut opener, &mut out, &mut err);
-    Ok(ExitCode::from(status))
+    let status = match run(&rt, &mut err) {
+        Ok(status) => status,
+        Err(fault) if fault.kind() == io::ErrorKind::InvalidData => {
+            tell_mistake("csvw: a word of the command line is no UTF-8\n", &mut err)
+        }
+        Err(_) => tell_stop(rt.alloc(), &Stop::Memory, &mut err),
+    };
+    ExitCode::from(status)
 }

@@ -1,5 +1,5 @@
 -- What a run over an N-Triples sink leaves.
-use Rattle.std.proofs.Common.{◌≡◌, ◌≤◌, ◌^◌, ◌+◌, ℕ, List, [], ◌∷◌, ◌++◌, refl, sym, ap, ◌∙◌, subst, arith, true, false, Bool, take, length, map, append-nil, inl, inr, ◌⊎◌, ◌↔◌, Contains, Option, Some, None, Err}
+use Rattle.std.proofs.Common.{◌≡◌, ◌≤◌, ◌^◌, ◌+◌, ℕ, List, [], ◌∷◌, ◌++◌, refl, sym, ap, ◌∙◌, subst, arith, true, false, Bool, take, length, map, append-nil, append_assoc, inl, inr, ◌⊎◌, ◌↔◌, Contains, Option, Some, None, Err}
 use Rattle.std.proofs.KnownBytes.{Appends-nil}
 use Rattle.std.specs.Prelude.{flat_map}
 use Rattle.std.specs.List.{AllByRecursion}
@@ -10,10 +10,10 @@ use Rattle.csvw_text.specs.Counted.{inner_of, failures_of}
 use Rattle.csvw_text.specs.declared.counted.Counted.{Counted}
 use Rattle.csvw_iri.specs.Link.{iri_of}
 use Rattle.csvw_dialect.specs.declared.dialect.Dialect.{Dialect}
-use Rattle.csvw_rows.specs.Files.{Front, IsWhole, Body}
+use Rattle.csvw_rows.specs.Files.{Front, IsWhole}
 use Rattle.csvw_dialect.specs.Lawful.{IsDefault}
 use Rattle.csvw_rows.specs.RowValue.{Given}
-use Rattle.csvw_rows.specs.Laws.{GivenBegin, GivenBeginLater, NothingGiven}
+use Rattle.csvw_rows.specs.Laws.{AreFirst, GivenFirst, GivenFirstLater, NothingGiven}
 use Rattle.csvw_columns.specs.declared.column.Columns.{Columns}
 use Rattle.csvw_annotate.specs.Tables.{IsTable, IsAnnotated}
 use Rattle.csvw_annotate.specs.declared.row.Row.{Row}
@@ -31,11 +31,13 @@ use Rattle.csvw_ntriples.specs.Sending.{Sends}
 use Rattle.csvw_ntriples.specs.Writable.{TripleFits}
 use Rattle.csvw_ntriples.specs.Written.{written, said}
 use Rattle.csvw_engine.specs.Halts.{of_table}
-use Rattle.csvw_engine.specs.Plain.{Run, run_of, StaysAt, WroteGraph, AreFirst, IsStoppedAt, IsRefusedAt, Converts, StopsBehind, StopsWithin, IsCutShort, IsCutLine, StopsSo}
+use Rattle.csvw_engine.specs.Plain.{Run, run_of, WroteGraph, IsStoppedAt, IsRefusedAt, Converts, StopsBehind, StopsWithin, IsCutShort, IsCutLine, HaltsSo, Runs}
 use Rattle.csvw_engine.specs.Tables.{max_rows, table_triples, TableHolds, HasAll, IsGivenBy, Stands, Finishes, TookPart, Reads}
 use Rattle.csvw_engine.specs.Tables as tables
 use Rattle.csvw_engine.specs.declared.halt.Halt.{Halt}
 use Rattle.csvw_engine.specs.declared.halt.Halt.TheVariants as halt
+use Rattle.csvw_engine.specs.declared.stop.Stop.{Stop}
+use Rattle.csvw_engine.specs.declared.stop.Stop.TheVariants as stop
 use Rattle.csvw_engine.specs.declared.table.Table.{Table}
 use Rattle.csvw_engine.proofs.Tables.{no_triples}
 
@@ -66,8 +68,8 @@ pub record Laws : Type 0 where
   pub names : (ts : List Triple) → AllByRecursion TripleFits ts → SameUpTo (Contains ts) (map said ts)
   pub minimal : (t : ℕ) (columns : Columns) (rows : List Row) (x : Triple) → Contains (flat_map (row_triples mode.Minimal t columns) rows) x ↔ Minimal t (Some columns) rows x
   pub nothing : NothingGiven
-  pub first : GivenBegin
-  pub later : GivenBeginLater
+  pub first : GivenFirst
+  pub later : GivenFirstLater
 
 wrote_graph : Laws → (run : Run) (columns : Option Columns) (rows : List Row) → AllByRecursion TripleFits (table_triples 1 columns rows) → Appends run.held run.holds (written (table_triples 1 columns rows))
     → WroteGraph run columns rows
@@ -95,14 +97,14 @@ no_rows law d t bytes rows e h =
     subst (λ g. IsTable (iri_of t.url) g t.columns rows) none h.table
 
 -- rows that some reader gave come first
-are_first : Laws → (d : Dialect) (bytes : List ℕ) (ended : Bool) (given : List Given) → IsGivenBy d bytes ended given → AreFirst d bytes ended given
-are_first laws d bytes ended given g front f = by_part g.whole
+are_first : Laws → (d : Dialect) (bytes : List ℕ) (ended : Bool) (given : List Given) → IsGivenBy d bytes ended given → AreFirst d max_rows bytes ended given
+are_first laws d bytes ended given g = by_part g.whole
   where
-    by_part : ((g.rest ≡ []) × (g.closed ≡ ended)) ⊎ (g.closed ≡ false) → (rest : List Given) × (Body d front ≡ given ++ rest)
+    by_part : ((g.rest ≡ []) × (g.closed ≡ ended)) ⊎ (g.closed ≡ false) → AreFirst d max_rows bytes ended given
     by_part (inl (e, k)) =
         let all : bytes ≡ g.part = g.parts ∙ ap (λ z. g.part ++ z) e ∙ append-nil g.part in
-        laws.first g.reader d max_rows g.part g.closed given front g.holds (subst (λ c. Front d max_rows g.part c front) (sym k) (subst (λ (b : List ℕ). Front d max_rows b ended front) all f))
-    by_part (inr k) = laws.later g.reader d max_rows g.part g.rest ended given front (rw k at g.holds) (subst (λ (b : List ℕ). Front d max_rows b ended front) g.parts f)
+        subst (λ (b : List ℕ). AreFirst d max_rows b ended given) (sym all) (subst (λ c. AreFirst d max_rows g.part c given) k (laws.first g.reader d max_rows g.part g.closed given g.holds))
+    by_part (inr k) = subst (λ (b : List ℕ). AreFirst d max_rows b ended given) (sym g.parts) (laws.later g.reader d max_rows g.part g.rest ended given (rw k at g.holds))
 
 -- what a sink did that is open at both ends
 sends_whole : (k m : Option (List ℕ)) (a b : Bool) (ts : List Triple) → a ≡ true → b ≡ true → Sends k a ts m b → Appends k m (written ts)
@@ -110,11 +112,35 @@ sends_whole k m true true ts p q s = s
 sends_whole k m true false ts p q s = cc
 sends_whole k m false b ts p q s = cc
 
--- or was cut off
-sends_cut : (k m : Option (List ℕ)) (a b : Bool) (ts : List Triple) → a ≡ true → Sends k a ts m b → (more : List ℕ) × IsCutLine more × Appends k m (written ts ++ more)
-sends_cut k m true true ts p s = ([], inl refl, subst (λ xs. Appends k m xs) (sym (append-nil (written ts))) s)
-sends_cut k m true false ts p s = (take s.1 (written (s.0 ∷ [])), inr (s.0, s.1, s.2, refl), s.3)
-sends_cut k m false b ts p s = cc
+-- or was cut off: whole lines, and perhaps a front of the next
+record LeavesCut (k m : Option (List ℕ)) (all : List Triple) : Type 0 where
+  pub front : List Triple
+  pub rest : List Triple
+  pub more : List ℕ
+  pub parts : all ≡ front ++ rest
+  pub is_cut : IsCutLine rest more
+  pub appended : Appends k m (written front ++ more)
+
+none_cut : (rest : List Triple) → IsCutLine rest []
+none_cut [] = refl
+none_cut (next ∷ rest) = inl refl
+
+last_fits : (front : List Triple) (cut : Triple) → AllByRecursion TripleFits (front ++ cut ∷ []) → TripleFits cut
+last_fits [] cut h = h.0
+last_fits (x ∷ front) cut h = last_fits front cut h.1
+
+sends_cut : (k m : Option (List ℕ)) (a b : Bool) (all ts rest : List Triple) → all ≡ ts ++ rest → AllByRecursion TripleFits ts → a ≡ true → Sends k a ts m b → LeavesCut k m all
+sends_cut k m true true all ts rest p fit q s =
+    record { front = ts; rest = rest; more = []; parts = p; is_cut = none_cut rest; appended = subst (λ xs. Appends k m xs) (sym (append-nil (written ts))) s }
+sends_cut k m true false all ts rest p fit q s = record {
+  front = s.0;
+  rest = s.1 ∷ rest;
+  more = take s.2 (written (s.1 ∷ []));
+  parts = p ∙ ap (λ z. z ++ rest) s.3 ∙ append_assoc s.0 (s.1 ∷ []) rest;
+  is_cut = inr (last_fits s.0 s.1 (subst (AllByRecursion TripleFits) s.3 fit), s.2, s.4, refl);
+  appended = s.5;
+}
+sends_cut k m false b all ts rest p fit q s = cc
 
 sends_nothing : (k : Option (List ℕ)) (a : Bool) → a ≡ true → Sends k a [] k a
 sends_nothing k true e = Appends-nil k
@@ -134,8 +160,8 @@ pub same_writer : {W : Type 0} (contents : W → Option (List ℕ)) (d : Dialect
 same_writer contents d known rest failures later start t now halt.Read r = r.3.gained.0
 same_writer contents d known rest failures later start t now halt.Memory r = r.4.0.took.gained.0
 same_writer contents d known rest failures later start t now halt.Write r = r.4.0.took.gained.0
-same_writer contents d known rest failures later start t now (halt.Rows row stop) r = r.4.gained.0
-same_writer contents d known rest failures later start t now (halt.Table row stop) r = r.4.gained.0
+same_writer contents d known rest failures later start t now (halt.Rows row reason) r = r.4.gained.0
+same_writer contents d known rest failures later start t now (halt.Table row reason) r = r.4.gained.0
 
 -- a run from one state of the sink to another
 pub record Spans {W : Type 0} (contents : W → Option (List ℕ)) (run : Run) (start now : NtSink W) : Type 0 where
@@ -166,8 +192,8 @@ begun contents d t s o h = record {
 }
 
 module _ {W : Type 0} (contents : W → Option (List ℕ)) (laws : Laws) (base : Parts) (run : Run) (start now : NtSink W) (spans : Spans contents run start now) where
-  stays_at : IsAsReady sink_is_open failed_of start now → StaysAt run.out_failures run.out_failed
-  stays_at r = λ room. spans.failed ∙ (r.1 ∙ sym spans.failures)
+  stays_at : IsAsReady sink_is_open failed_of start now → run.out_failed ≡ run.out_failures
+  stays_at r = spans.failed ∙ (r.1 ∙ sym spans.failures)
 
   -- whole lines, where the sink is open at the end
   whole_lines : (ts : List Triple) → takes contents start ts now → IsAsReady sink_is_open failed_of start now → Appends run.held run.holds (written ts)
@@ -177,9 +203,9 @@ module _ {W : Type 0} (contents : W → Option (List ℕ)) (laws : Laws) (base :
   graph columns rows g r = wrote_graph laws run columns rows g.1 (whole_lines (table_triples 1 columns rows) g r)
 
   pub converts : (d : Dialect) (bytes : List ℕ) → IsDefault d → Consumes run.unread run.left bytes → IsAtEnd run.left
-      → Finishes (takes contents) sink_is_open failed_of d start 1 base bytes true now → Converts base run × StaysAt run.out_failures run.out_failed
-  converts d bytes default consumed at_end f = (
-    record {
+      → Finishes (takes contents) sink_is_open failed_of d start 1 base bytes true now → run.input_failed ≡ run.input_failures → Converts base run
+  converts d bytes default consumed at_end f none = record {
+    table = record {
       dialect = d;
       bytes = bytes;
       read = record { is_default = default; consumed = consumed; at_end = λ _. at_end };
@@ -187,9 +213,10 @@ module _ {W : Type 0} (contents : W → Option (List ℕ)) (laws : Laws) (base :
       rows = f.rows;
       annotated = file_of d base f.columns bytes f.rows f.all (f.whole refl);
       wrote = graph f.columns f.rows f.gained f.ready;
-    },
-    stays_at f.ready,
-  )
+    };
+    no_read_failed = none;
+    no_write_failed = stays_at f.ready;
+  }
 
   -- behind rows
   behind : (Reason : Dialect → List ℕ → Bool → Option Columns → List Row → Type 0) (d : Dialect) (bytes : List ℕ) (ended : Bool) (columns : Option Columns) (rows : List Row)
@@ -204,50 +231,65 @@ module _ {W : Type 0} (contents : W → Option (List ℕ)) (laws : Laws) (base :
     rows = rows;
     reason = reason;
     wrote = graph columns rows g r;
-    no_failure = stays_at r;
   }
 
   -- within rows
-  within : (d : Dialect) (bytes : List ℕ) (ended : Bool) (more : List ℕ) → IsDefault d → Consumes run.unread run.left bytes → (ended ≡ true → IsAtEnd run.left)
-      → (p : TookPart (takes contents) d start 1 base bytes ended now) → Appends run.held run.holds (written p.took.front ++ more) → StopsWithin base run more
-  within d bytes ended more default consumed at_end p a = record {
+  within : (d : Dialect) (bytes : List ℕ) (ended : Bool) → IsDefault d → Consumes run.unread run.left bytes → (ended ≡ true → IsAtEnd run.left)
+      → (p : TookPart (takes contents) d start 1 base bytes ended now) (front rest : List Triple) (more : List ℕ) → table_triples 1 p.columns p.rows ≡ front ++ rest
+      → Appends run.held run.holds (written front ++ more) → StopsWithin base run more
+  within d bytes ended default consumed at_end p front rest more parts a = record {
     dialect = d;
     bytes = bytes;
     ended = ended;
     read = record { is_default = default; consumed = consumed; at_end = at_end };
     columns = p.columns;
     rows = p.rows;
-    begins = p.begins;
+    given = p.begins.given;
     first = are_first laws d bytes ended p.begins.given p.begins.is_given;
-    front = p.took.front;
-    rest = p.took.rest;
-    parts = p.took.parts;
+    table = p.begins.table;
+    front = front;
+    rest = rest;
+    parts = parts;
     appended = a;
   }
 
+  halted : (reason : Stop) → HaltsSo base run reason → IsAsReady sink_is_open failed_of start now → Runs base run (Err reason)
+  halted reason so r = inl (record { so = so; no_write_failed = stays_at r })
+
   halts : (d : Dialect) (bytes : List ℕ) (ended : Bool) → IsDefault d → Consumes run.unread run.left bytes → (ended ≡ true → IsAtEnd run.left)
-      → (reason : Halt) → tables.StopsSo (takes contents) sink_is_open failed_of d start 1 base bytes ended now reason → StopsSo base run (of_table 1 reason)
+      → (reason : Halt) → tables.StopsSo (takes contents) sink_is_open failed_of d start 1 base bytes ended now reason → Runs base run (Err (of_table 1 reason))
+  unfolding within sends_cut
   halts d bytes ended default consumed at_end halt.Memory so =
-      inr (
-        within d bytes ended [] default consumed at_end so.0
-            (subst (λ xs. Appends run.held run.holds xs) (sym (append-nil (written so.0.took.front))) (whole_lines so.0.took.front so.0.took.gained so.1)),
-        stays_at so.1,
-      )
+      halted stop.Memory
+      (within d bytes ended default consumed at_end so.0 so.0.took.front so.0.took.rest [] so.0.took.parts
+      (subst (λ xs. Appends run.held run.holds xs) (sym (append-nil (written so.0.took.front))) (whole_lines so.0.took.front so.0.took.gained so.1))) so.1
   halts d bytes ended default consumed at_end halt.Read so = absurd so
   halts d bytes ended default consumed at_end halt.Write so =
-      let cut = sends_cut (contents (inner_of (sink_out start).now)) (contents (inner_of (sink_out now).now)) (sink_is_open start) (sink_is_open now) so.0.took.front spans.begun so.0.took.gained.2 in (
-        cut.0,
-        cut.1,
-        within d bytes ended cut.0 default consumed at_end so.0 (rw (spans.held, spans.holds) cut.2),
-        λ room. spans.failed ∙ (so.1 spans.begun (rw spans.failures at room) ∙ ap (λ n. n + 1) (sym spans.failures)),
+      let cut = sends_cut (contents (inner_of (sink_out start).now)) (contents (inner_of (sink_out now).now)) (sink_is_open start) (sink_is_open now) _ so.0.took.front so.0.took.rest so.0.took.parts so.0.took.gained.1 spans.begun so.0.took.gained.2 in
+      inr (
+        refl,
+        record {
+          more = cut.more;
+          within = within d bytes ended default consumed at_end so.0 cut.front cut.rest cut.more cut.parts (rw (spans.held, spans.holds) cut.appended);
+          is_cut = cut.is_cut;
+          failed = λ room. spans.failed ∙ (so.1 spans.begun (rw spans.failures at room) ∙ ap (λ n. n + 1) (sym spans.failures));
+        },
       )
-  halts d bytes ended default consumed at_end (halt.Rows row stop) so =
-      (refl, behind (IsStoppedAt base row stop) d bytes ended so.columns so.rows default consumed at_end so.reason so.gained so.ready)
-  halts d bytes ended default consumed at_end (halt.Table row stop) so = (
-    refl,
-    behind (IsRefusedAt base row stop) d bytes ended so.columns so.rows default consumed at_end
-        (record { refused = so.reason; first = are_first laws d bytes ended (so.reason.given ++ so.reason.raw ∷ []) so.reason.is_given }) so.gained so.ready,
-  )
+  halts d bytes ended default consumed at_end (halt.Rows row reason) so =
+      halted (stop.Rows 1 row reason) (refl, behind (IsStoppedAt base row reason) d bytes ended so.columns so.rows default consumed at_end so.reason so.gained so.ready) so.ready
+  halts d bytes ended default consumed at_end (halt.Table row reason) so =
+      halted (stop.Table 1 row reason) (
+        refl,
+        behind (IsRefusedAt base row reason) d bytes ended so.columns so.rows default consumed at_end
+            (record {
+              given = so.reason.given;
+              raw = so.reason.raw;
+              first = are_first laws d bytes ended (so.reason.given ++ so.reason.raw ∷ []) so.reason.is_given;
+              table = so.reason.table;
+              refuses = so.reason.refuses;
+              source = so.reason.source;
+            }) so.gained so.ready,
+      ) so.ready
 
   at_base : (d : Dialect) (bytes : List ℕ) (ended : Bool) (t : Table) (reason : Halt) → t.number ≡ 1 → t.url ≡ base
       → tables.StopsSo (takes contents) sink_is_open failed_of d start t.number t.url bytes ended now reason → tables.StopsSo (takes contents) sink_is_open failed_of d start 1 base bytes ended now reason
@@ -277,9 +319,9 @@ module _ {W : Type 0} (contents : W → Option (List ℕ)) (laws : Laws) (base :
 
   -- after the table was read
   pub stops : (d : Dialect) (t : Table) (reason : Halt) → IsDefault d → t.number ≡ 1 → t.url ≡ base
-      → Reads (takes contents) sink_is_open failed_of d run.unread run.left run.input_failures run.input_failed start t now (Err reason) → StopsSo base run (of_table 1 reason)
-  stops d t halt.Read default n u r = cut_short d r.0 t default n u r.1 r.2 r.3 r.4
+      → Reads (takes contents) sink_is_open failed_of d run.unread run.left run.input_failures run.input_failed start t now (Err reason) → Runs base run (Err (of_table 1 reason))
+  stops d t halt.Read default n u r = halted stop.Read (cut_short d r.0 t default n u r.1 r.2 r.3 r.4) r.3.ready
   stops d t halt.Memory default n u r = halts d r.0 r.1 default r.2 r.3 halt.Memory (at_base d r.0 r.1 t halt.Memory n u r.4)
   stops d t halt.Write default n u r = halts d r.0 r.1 default r.2 r.3 halt.Write (at_base d r.0 r.1 t halt.Write n u r.4)
-  stops d t (halt.Rows row stop) default n u r = halts d r.0 r.1 default r.2 r.3 (halt.Rows row stop) (at_base d r.0 r.1 t (halt.Rows row stop) n u r.4)
-  stops d t (halt.Table row stop) default n u r = halts d r.0 r.1 default r.2 r.3 (halt.Table row stop) (at_base d r.0 r.1 t (halt.Table row stop) n u r.4)
+  stops d t (halt.Rows row reason) default n u r = halts d r.0 r.1 default r.2 r.3 (halt.Rows row reason) (at_base d r.0 r.1 t (halt.Rows row reason) n u r.4)
+  stops d t (halt.Table row reason) default n u r = halts d r.0 r.1 default r.2 r.3 (halt.Table row reason) (at_base d r.0 r.1 t (halt.Table row reason) n u r.4)

@@ -19,10 +19,10 @@ module _ {S : Type 0} (gains : S → List Triple → S → Type 0) (is_open : S 
   reads_halted bytes ended (halt.Table row stop) c e so = (bytes, ended, c, e, so)
 
   -- the end of the table's text
-  pub reads_ended : (bytes : List ℕ) (r : Result Unit Halt) → Consumes known rest bytes → IsAtEnd rest → Drains gains is_open failed d bytes true start t now r
+  pub reads_ended : (bytes : List ℕ) (r : Result Unit Halt) → Consumes known rest bytes → IsAtEnd rest → later ≡ failures → Drains gains is_open failed d bytes true start t now r
       → Reads gains is_open failed d known rest failures later start t now r
-  reads_ended bytes (Ok u) c e so = (bytes, c, e, so.1)
-  reads_ended bytes (Err reason) c e so = reads_halted bytes true reason c (λ _. e) so
+  reads_ended bytes (Ok u) c e n so = (bytes, c, e, so.1, n)
+  reads_ended bytes (Err reason) c e n so = reads_halted bytes true reason c (λ _. e) so
 
   pub reads_err : (bytes : List ℕ) (ended : Bool) (r : Result Unit Halt) (e f : Halt) → r ≡ Err e → e ≡ f → Consumes known rest bytes → (ended ≡ true → IsAtEnd rest)
       → StopsSo gains is_open failed d start t.number t.url bytes ended now f → Reads gains is_open failed d known rest failures later start t now r

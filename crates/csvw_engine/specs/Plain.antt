@@ -1,5 +1,5 @@
 -- What a run over one table without a schema leaves (Generating RDF from Tabular Data on the Web, section 4.2, minimal mode).
-use Rattle.std.specs.Prelude.{◌≡◌, ◌⊎◌, ◌<◌, ◌≤◌, ◌+◌, ◌-◌, ◌^◌, ℕ, Bool, true, false, List, [], ◌∷◌, ◌++◌, codes, length, take, Option, None, Result, Ok, Err}
+use Rattle.std.specs.Prelude.{◌≡◌, ◌≢◌, ◌⊎◌, ◌<◌, ◌≤◌, ◌+◌, ◌-◌, ◌^◌, ℕ, Bool, true, false, List, [], ◌∷◌, ◌++◌, codes, length, take, Option, None, Result, Ok, Err}
 use Rattle.std.specs.Io.KnownBytes.{Appends, Consumes, IsAtEnd}
 use Rattle.url.specs.Parts.{Parts}
 use Rattle.csvw_text.specs.declared.counted.Counted.{Counted}
@@ -8,21 +8,22 @@ use Rattle.csvw_text.specs.Counted.{inner_of, failures_of}
 use Rattle.csvw_iri.specs.Link.{Refusal, too_long, bad, base_of, iri_of}
 use Rattle.csvw_dialect.specs.declared.dialect.Dialect.{Dialect}
 use Rattle.csvw_rows.specs.declared.stop.RowStop.{RowStop}
-use Rattle.csvw_rows.specs.Files.{Row as FileRow, Front, Body}
+use Rattle.csvw_rows.specs.Laws.{AreFirst}
 use Rattle.csvw_dialect.specs.Lawful.{IsDefault}
 use Rattle.csvw_rows.specs.RowValue.{Given}
 use Rattle.csvw_rows.specs.Stops.{StopOf}
 use Rattle.csvw_columns.specs.declared.column.Columns.{Columns}
 use Rattle.csvw_columns.specs.declared.table_stop.TableStop.{TableStop}
-use Rattle.csvw_annotate.specs.Tables.{IsAnnotated}
+use Rattle.csvw_annotate.specs.Tables.{IsAnnotated, IsTable, Refuses}
 use Rattle.csvw_annotate.specs.declared.row.Row.{Row}
 use Rattle.csvw_triples.specs.declared.term.Triple.{Triple}
 use Rattle.csvw_triples.specs.Graph.{Minimal}
 use Rattle.csvw_ntriples.specs.declared.term.NtTriple.{NtTriple}
 use Rattle.csvw_ntriples.specs.Grammar.{Denotes}
 use Rattle.csvw_ntriples.specs.SameUpTo.{SameUpTo}
+use Rattle.csvw_ntriples.specs.Writable.{TripleFits}
 use Rattle.csvw_ntriples.specs.Written.{written}
-use Rattle.csvw_engine.specs.Tables.{max_rows, HasAll, BeginsWith, IsRefused, table_triples}
+use Rattle.csvw_engine.specs.Tables.{max_rows, HasAll, table_triples}
 use Rattle.csvw_engine.specs.declared.meta_fault.MetaCode.{MetaCode}
 use Rattle.csvw_engine.specs.declared.meta_fault.MetaCode.TheVariants as code
 use Rattle.csvw_engine.specs.declared.meta_fault.MetaFault.{MetaFault}
@@ -57,10 +58,6 @@ run_of remaining contents input read out wrote = record {
 abbrev pub Rose : ℕ → ℕ → Type 0
 Rose old new = old < 2 ^ 64 - 1 → new ≡ old + 1
 
--- a count of failures stays
-abbrev pub StaysAt : ℕ → ℕ → Type 0
-StaysAt old new = old < 2 ^ 64 - 1 → new ≡ old
-
 -- the bytes that the writer gained denote the graph of these rows, with a name of its own for each blank node
 pub record WroteGraph (run : Run) (columns : Option Columns) (rows : List Row) : Type 0 where
   pub added : List ℕ
@@ -76,7 +73,7 @@ pub record HasRead (run : Run) (d : Dialect) (bytes : List ℕ) (ended : Bool) :
   pub at_end : ended ≡ true → IsAtEnd run.left
 
 -- all bytes of the reader are a table at this URL, and its graph was written
-pub record Converts (base : Parts) (run : Run) : Type 0 where
+pub record WroteTable (base : Parts) (run : Run) : Type 0 where
   pub dialect : Dialect
   pub bytes : List ℕ
   pub read : HasRead run dialect bytes true
@@ -84,6 +81,12 @@ pub record Converts (base : Parts) (run : Run) : Type 0 where
   pub rows : List Row
   pub annotated : IsAnnotated dialect max_rows (iri_of base) bytes columns rows
   pub wrote : WroteGraph run columns rows
+
+-- so it is, and neither the reader nor the writer failed
+pub record Converts (base : Parts) (run : Run) : Type 0 where
+  pub table : WroteTable base run
+  pub no_read_failed : run.input_failed ≡ run.input_failures
+  pub no_write_failed : run.out_failed ≡ run.out_failures
 
 -- the graph of these rows was written, and there is a reason to stop behind them
 pub record StopsBehind (run : Run) (Reason : Dialect → List ℕ → Bool → Option Columns → List Row → Type 0) : Type 0 where
@@ -95,20 +98,19 @@ pub record StopsBehind (run : Run) (Reason : Dialect → List ℕ → Bool → O
   pub rows : List Row
   pub reason : Reason dialect bytes ended columns rows
   pub wrote : WroteGraph run columns rows
-  pub no_failure : StaysAt run.out_failures run.out_failed
-
--- these rows of the source come first in the text so far
-abbrev pub AreFirst : Dialect → List ℕ → Bool → List Given → Type 0
-AreFirst d bytes ended given = (front : List FileRow) → Front d max_rows bytes ended front → (rest : List Given) × (Body d front ≡ given ++ rest)
 
 -- all rows of the text so far are there, and the stop of the records stands behind them
 abbrev pub IsStoppedAt : Parts → ℕ → RowStop → Dialect → List ℕ → Bool → Option Columns → List Row → Type 0
 IsStoppedAt base row reason d bytes ended columns rows = HasAll d base columns bytes ended rows × StopOf d max_rows bytes ended reason row
 
--- a row of the text so far is refused, and those in front of it are there
+-- the rows of the source that come first in the text so far are those in front and one more, which the table refuses
 pub record IsRefusedAt (base : Parts) (row : ℕ) (reason : TableStop) (d : Dialect) (bytes : List ℕ) (ended : Bool) (columns : Option Columns) (rows : List Row) : Type 0 where
-  pub refused : IsRefused d base columns bytes ended rows row reason
-  pub first : AreFirst d bytes ended (refused.given ++ (refused.raw ∷ []))
+  pub given : List Given
+  pub raw : Given
+  pub first : AreFirst d max_rows bytes ended (given ++ (raw ∷ []))
+  pub table : IsTable (iri_of base) given columns rows
+  pub refuses : Refuses (iri_of base) columns raw reason
+  pub source : raw.source ≡ row
 
 -- a reader failed, or many bytes were read; all rows of the bytes so far are there
 pub record IsCutShort (base : Parts) (run : Run) (d : Dialect) (bytes : List ℕ) (ended : Bool) (columns : Option Columns) (rows : List Row) : Type 0 where
@@ -116,7 +118,7 @@ pub record IsCutShort (base : Parts) (run : Run) (d : Dialect) (bytes : List ℕ
   pub blame : (run.input_failed ≡ one_more run.input_failures) ⊎ (2 ^ 40 ≤ length bytes)
   pub whole : ((bytes ≡ []) × (columns ≡ None) × (rows ≡ [])) ⊎ HasAll d base columns bytes false rows
 
--- whole lines: a front of the triples of the rows so far; and more bytes
+-- whole lines: a front of the triples of the rows that come first in the text so far; and more bytes
 pub record StopsWithin (base : Parts) (run : Run) (more : List ℕ) : Type 0 where
   pub dialect : Dialect
   pub bytes : List ℕ
@@ -124,16 +126,18 @@ pub record StopsWithin (base : Parts) (run : Run) (more : List ℕ) : Type 0 whe
   pub read : HasRead run dialect bytes ended
   pub columns : Option Columns
   pub rows : List Row
-  pub begins : BeginsWith dialect base columns bytes ended rows
-  pub first : AreFirst dialect bytes ended begins.given
+  pub given : List Given
+  pub first : AreFirst dialect max_rows bytes ended given
+  pub table : IsTable (iri_of base) given columns rows
   pub front : List Triple
   pub rest : List Triple
   pub parts : table_triples 1 columns rows ≡ front ++ rest
   pub appended : Appends run.held run.holds (written front ++ more)
 
--- a front of a line, and not the whole
-abbrev pub IsCutLine : List ℕ → Type 0
-IsCutLine more = (more ≡ []) ⊎ ((triple : Triple) × (n : ℕ) × (n < length (written (triple ∷ []))) × (more ≡ take n (written (triple ∷ []))))
+-- a front of the line of the next triple, and not the whole; where none is next, nothing
+abbrev pub IsCutLine : List Triple → List ℕ → Type 0
+IsCutLine [] more = more ≡ []
+IsCutLine (next ∷ rest) more = (more ≡ []) ⊎ (TripleFits next × (n : ℕ) × (n < length (written (next ∷ []))) × (more ≡ take n (written (next ∷ []))))
 
 -- nothing was read, and nothing written
 pub record IsUntouched (run : Run) : Type 0 where
@@ -141,24 +145,54 @@ pub record IsUntouched (run : Run) : Type 0 where
   pub out : run.holds ≡ run.held
   pub no_failure : run.out_failed ≡ run.out_failures
 
--- why a run over the table at this URL stops
-abbrev pub StopsSo : Parts → Run → Stop → Type 0
-StopsSo base run stop.Memory = IsUntouched run ⊎ (StopsWithin base run [] × StaysAt run.out_failures run.out_failed)
-StopsSo base run stop.Read = StopsBehind run (IsCutShort base run)
-StopsSo base run stop.Write = (more : List ℕ) × IsCutLine more × StopsWithin base run more × Rose run.out_failures run.out_failed
-StopsSo base run (stop.Rows t row reason) = (t ≡ 1) × StopsBehind run (IsStoppedAt base row reason)
-StopsSo base run (stop.Table t row reason) = (t ≡ 1) × StopsBehind run (IsRefusedAt base row reason)
-StopsSo base run (stop.Meta fault) = ⊥
-StopsSo base run stop.TableCount = ⊥
-StopsSo base run stop.UnknownTable = ⊥
-StopsSo base run stop.AfterEnd = ⊥
-StopsSo base run stop.NotEnded = ⊥
-StopsSo base run stop.Failed = ⊥
+-- why the table at this URL stops, but for a writer that failed, and what was written in front of the stop
+abbrev pub HaltsSo : Parts → Run → Stop → Type 0
+HaltsSo base run stop.Memory = StopsWithin base run []
+HaltsSo base run stop.Read = StopsBehind run (IsCutShort base run)
+HaltsSo base run stop.Write = ⊥
+HaltsSo base run (stop.Rows t row reason) = (t ≡ 1) × StopsBehind run (IsStoppedAt base row reason)
+HaltsSo base run (stop.Table t row reason) = (t ≡ 1) × StopsBehind run (IsRefusedAt base row reason)
+HaltsSo base run (stop.Meta fault) = ⊥
+HaltsSo base run stop.TableCount = ⊥
+HaltsSo base run stop.UnknownTable = ⊥
+HaltsSo base run stop.AfterEnd = ⊥
+HaltsSo base run stop.NotEnded = ⊥
+HaltsSo base run stop.Failed = ⊥
+
+-- the table stops, and the writer didn't fail
+pub record Halts (base : Parts) (run : Run) (reason : Stop) : Type 0 where
+  pub so : HaltsSo base run reason
+  pub no_write_failed : run.out_failed ≡ run.out_failures
+
+-- a write failed, within a line or between two
+pub record IsCutOff (base : Parts) (run : Run) : Type 0 where
+  pub more : List ℕ
+  pub within : StopsWithin base run more
+  pub is_cut : IsCutLine within.rest more
+  pub failed : Rose run.out_failures run.out_failed
+
+-- a flush failed, behind the whole graph or behind what was written in front of a stop
+pub record FlushFails (base : Parts) (run : Run) : Type 0 where
+  pub wrote : WroteTable base run ⊎ ((reason : Stop) × HaltsSo base run reason)
+  pub failed : Rose run.out_failures run.out_failed
+
+-- a flush of the report failed, behind the whole graph
+pub record ReportFails (base : Parts) (run : Run) (reports reported : ℕ) : Type 0 where
+  pub converts : Converts base run
+  pub failed : Rose reports reported
+
+-- how a writer failed
+abbrev pub WriterFails : Parts → Run → ℕ → ℕ → Type 0
+WriterFails base run reports reported = IsCutOff base run ⊎ (FlushFails base run ⊎ ReportFails base run reports reported)
 
 -- after a run over the table at this URL, up to the flushes
 abbrev pub Runs : Parts → Run → Result Unit Stop → Type 0
-Runs base run (Ok u) = Converts base run × StaysAt run.out_failures run.out_failed
-Runs base run (Err reason) = StopsSo base run reason
+Runs base run (Ok u) = Converts base run
+Runs base run (Err reason) = Halts base run reason ⊎ ((reason ≡ stop.Write) × IsCutOff base run)
+
+-- the answer of a run after a flush, which fails by itself; behind a failed write there is none
+abbrev pub IsFlushed : Result Unit Stop → Result Unit Stop → ℕ → ℕ → Type 0
+IsFlushed ran result old new = ((result ≡ ran) × (new ≡ old)) ⊎ ((ran ≢ Err stop.Write) × (result ≡ Err stop.Write) × (new ≡ one_more old))
 
 -- the fault of a URL that is refused
 abbrev pub url_fault : Refusal → MetaFault
@@ -197,11 +231,8 @@ IsUrlStop url stop.Failed = ⊥
 abbrev pub AtUrl : List ℕ → (Parts → Type 0) → Type 0
 AtUrl url P = (base : Parts) × (base_of None url ≡ Ok base) × P base
 
--- a flush failed, behind the whole graph
-abbrev pub FlushFails : Run → ℕ → ℕ → Stop → Parts → Type 0
-FlushFails run reports reported reason base = (reason ≡ stop.Write) × Converts base run × (Rose run.out_failures run.out_failed ⊎ Rose reports reported)
-
--- Why a run stops: the URL is refused, which comes before all else; the table is cut short; or a flush failed.
+-- Why a run stops: the URL is refused, which comes before all else; the table stops; or a writer failed.
 abbrev pub PlainStops : List ℕ → Run → ℕ → ℕ → Stop → Type 0
 PlainStops url run reports reported reason =
-    (IsUntouched run × IsUrlStop (base_of None url) reason) ⊎ (AtUrl url (λ base. StopsSo base run reason) ⊎ AtUrl url (FlushFails run reports reported reason))
+    (IsUntouched run × IsUrlStop (base_of None url) reason)
+    ⊎ AtUrl url (λ base. Halts base run reason ⊎ ((reason ≡ stop.Write) × WriterFails base run reports reported))

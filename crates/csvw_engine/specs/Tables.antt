@@ -168,7 +168,7 @@ GivesRow gains is_open failed triples old new (Err _) = ⊥
 -- after a reader was read to its end
 abbrev pub Reads : {S : Type 0} → (S → List Triple → S → Type 0) → (S → Bool) → (S → ℕ) → Dialect → Option (List ℕ) → Option (List ℕ) → ℕ → ℕ → S → Table → S → Result Unit Halt → Type 0
 Reads gains is_open failed d known rest failures now_failures start t now (Ok u) =
-    (bytes : List ℕ) × Consumes known rest bytes × IsAtEnd rest × Finishes gains is_open failed d start t.number t.url bytes true now
+    (bytes : List ℕ) × Consumes known rest bytes × IsAtEnd rest × Finishes gains is_open failed d start t.number t.url bytes true now × (now_failures ≡ failures)
 Reads gains is_open failed d known rest failures now_failures start t now (Err halt.Read) =
     (bytes : List ℕ) × Consumes known rest bytes × ((now_failures ≡ one_more failures) ⊎ (2 ^ 40 ≤ length bytes))
     × Stands gains is_open failed d start t bytes false now × ((bytes ≡ []) ⊎ Finishes gains is_open failed d start t.number t.url bytes false now)

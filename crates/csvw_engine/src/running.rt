@@ -1,11 +1,15 @@
 //! Whole runs.
-ghost use Rattle.std.specs.Prelude.{◌≡◌, [], None, Ok, IfOk, IfErr};
+ghost use Rattle.std.specs.Prelude.{◌≡◌, [], false, None, Ok, IfOk, IfErr};
 ghost use Rattle.std.specs.Io.KnownBytes.{Keeps};
 ghost use Rattle.csvw_text.specs.Count.{after_call};
 ghost use Rattle.csvw_text.specs.Counted.{inner_of, failures_of};
 ghost use Rattle.csvw_iri.specs.Link.{base_of};
+ghost use Rattle.csvw_dialect.specs.declared.dialect.Dialect.{Dialect as TheDialect};
+ghost use Rattle.csvw_dialect.specs.Lawful.{IsDefault};
+ghost use Rattle.csvw_rows.specs.RowsState.{is_ended_of};
 ghost use Rattle.csvw_engine.specs.declared.stop.Stop.TheVariants as stop;
-ghost use Rattle.csvw_engine.specs.Plain.{run_of, AtUrl, Converts, IsUrlStop, PlainStops, Runs, TellsCode};
+ghost use Rattle.csvw_engine.specs.Plain.{run_of, AtUrl, Converts, IsFlushed, IsUrlStop, PlainStops, Runs, TellsCode};
+ghost use Rattle.csvw_engine.specs.Tables.{TableHolds};
 
 use crate::halt::Halt;
 use crate::meta_fault::{MetaCode, MetaFault};
@@ -15,7 +19,7 @@ use crate::stop::Stop;
 use crate::table::Table;
 use csvw_iri::{Base, IriFault};
 use csvw_ntriples::{NtSink, labels_name_one_to_one, written_denotes};
-use csvw_rows::laws::{given_begin, given_begin_later, nothing_given};
+use csvw_rows::laws::{given_first, given_first_later, nothing_given};
 use csvw_text::{Counted, Seq, Text};
 use csvw_triples::rows_triples_are_minimal;
 use std::alloc::Global;
@@ -42,6 +46,21 @@ fn table_url(alloc: Global, url: &str) -> Result<Base, Stop>
     }
 }
 
+/// Table 1 of this URL, of whose text nothing was read.
+fn new_table(alloc: Global, url: &str) -> Result<Table, Stop>
+    ensures url { IfOk result (λ t. base_of None url.now ≡ Ok t.url) }
+    ensures number { IfOk result (λ t. t.number ≡ 1) }
+    ensures open { IfOk result (λ t. is_ended_of t.rows ≡ false) }
+    ensures fresh { IfOk result (λ t. (d : TheDialect) × IsDefault d × TableHolds d t [] false []) }
+    ensures stop { IfErr result (λ reason. IsUrlStop (base_of None url.now) reason) }
+{
+    let url = table_url(alloc, url)?;
+    match Table::new(alloc, 1, url) {
+        Ok(table) => Ok(table),
+        Err(_) => Err(Stop::Memory),
+    }
+}
+
 fn flush<W: Write>(w: &mut Counted<W>) -> Result<(), Stop>
     ensures keeps { Keeps (W.contents (inner_of w.old)) (W.contents (inner_of w.new)) }
     ensures count { failures_of w.new ≡ after_call result (failures_of w.old) }
@@ -53,24 +72,39 @@ fn flush<W: Write>(w: &mut Counted<W>) -> Result<(), Stop>
     }
 }
 
+/// Flushes what a run wrote before its answer is told; behind a failed write nothing more is sent.
+fn flush_behind<W: Write>(w: &mut Counted<W>, ran: Result<(), Stop>) -> Result<(), Stop>
+    ensures keeps { Keeps (W.contents (inner_of w.old)) (W.contents (inner_of w.new)) }
+    ensures flushed { IsFlushed ran result (failures_of w.old) (failures_of w.new) }
+{
+    match ran {
+        Err(Stop::Write) => Err(Stop::Write),
+        ran => {
+            flush(w)?;
+            ran
+        }
+    }
+}
+
 /// Reads table 1 to its end and writes its graph.
 fn convert<R: Read, W: Write>(
     alloc: Global,
-    url: Base,
+    table: Table,
     input: &mut Counted<R>,
     out: &mut Counted<W>,
 ) -> Result<(), Stop>
-    ensures { Runs url (run_of R.remaining W.contents input.old input.new out.old out.new) result }
+    requires number { table.number ≡ 1 }
+    requires open { is_ended_of table.rows ≡ false }
+    requires fresh { (d : TheDialect) × IsDefault d × TableHolds d table [] false [] }
+    ensures { Runs table.url (run_of R.remaining W.contents input.old input.new out.old out.new) result }
 {
     written_denotes();
     labels_name_one_to_one();
     rows_triples_are_minimal();
-    given_begin();
-    given_begin_later();
+    given_first();
+    given_first_later();
     nothing_given();
-    let Ok(mut table) = Table::new(alloc, 1, url) else {
-        return Err(Stop::Memory);
-    };
+    let mut table = table;
     let mut sink = NtSink::new(alloc, out);
     let read = read_table(alloc, &mut table, input, &mut sink);
     let _ = sink.into_inner();
@@ -82,11 +116,13 @@ fn convert<R: Read, W: Write>(
 
 /// Converts one table of this URL, without a schema, by the default dialect: its header names its
 /// columns, and each of its cells gives a triple in `out` (csv2rdf, minimal mode). Then both writers
-/// are flushed once. Rows in front of a stop are written before it is answered.
+/// are flushed once. Rows in front of a stop are written, and `out` is flushed, before it is answered;
+/// after a failed write nothing more is sent.
 ///
 /// `Meta` with `BadUrl` or `UrlTooLong` at `/url` where the URL is refused; `Rows` and `Table` with the
 /// first row that can't be read or annotated; `Read` and `Write` where a reader or writer failed in this
-/// call, `Read` also after 2^40 reads; `Memory` where there is none.
+/// call, `Read` also after 2^40 reads; `Memory` where there is none. Where the flush behind a stop
+/// fails, the answer is `Write`.
 pub fn plain<R: Read, W: Write, V: Write>(
     alloc: Global,
     url: &str,
@@ -102,9 +138,9 @@ pub fn plain<R: Read, W: Write, V: Write>(
         (failures_of report.old) (failures_of report.new) reason) }
     ensures report { Keeps (V.contents (inner_of report.old)) (V.contents (inner_of report.new)) }
 {
-    let url = table_url(alloc, url)?;
-    convert(alloc, url, input, out)?;
-    flush(out)?;
+    let table = new_table(alloc, url)?;
+    let ran = convert(alloc, table, input, out);
+    flush_behind(out, ran)?;
     flush(report)?;
     Ok(Outcome {
         faults: Seq::new(alloc),

@@ -4,11 +4,12 @@ use Rattle.std.specs.Io.KnownBytes.{Appends, Keeps}
 use Rattle.csvw_ntriples.specs.Written.{written}
 use Rattle.csvw_triples.specs.declared.term.Triple.{Triple}
 
--- From one state of the bytes (and of the sink, open or not) to another by these triples: whole lines, and
--- where the sink was closed in between, a proper front of one more line. A closed sink adds nothing.
+-- From one state of the bytes (and of the sink, open or not) to another by these triples: whole lines, but where the sink was
+-- closed in between, a proper front of the last triple's line. A closed sink adds nothing.
 abbrev pub Sends : Option (List ℕ) → Bool → List Triple → Option (List ℕ) → Bool → Type 0
 Sends old true ts new true = Appends old new (written ts)
 Sends old true ts new false =
-    (cut : Triple) × (n : ℕ) × (n < length (written (cut ∷ []))) × Appends old new (written ts ++ take n (written (cut ∷ [])))
+    (front : List Triple) × (cut : Triple) × (n : ℕ) × (ts ≡ front ++ (cut ∷ [])) × (n < length (written (cut ∷ [])))
+    × Appends old new (written front ++ take n (written (cut ∷ [])))
 Sends old false ts new true = ⊥
 Sends old false ts new false = (ts ≡ []) × Keeps old new

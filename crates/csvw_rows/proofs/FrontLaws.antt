@@ -8,7 +8,7 @@ use Rattle.csvw_rows.specs.Files.{Row, IsRow, AreRows, AreAllRows, EndsOpen, Kee
 use Rattle.csvw_rows.specs.SourceState.{rest_of}
 use Rattle.csvw_rows.specs.RowValue.{Given}
 use Rattle.csvw_rows.specs.Stops.{Begins}
-use Rattle.csvw_rows.specs.Laws.{HaveOneList, FrontsGrow, StopsPart, GivenBegin, GivenBeginLater, NothingGiven}
+use Rattle.csvw_rows.specs.Laws.{HaveOneList, FrontsGrow, StopsPart, ComeFirst, FirstBegin, GivenBegin, GivenBeginLater, GivenFirst, GivenFirstLater, NothingGiven}
 use Rattle.csvw_rows.proofs.RowLaws.{row_unique, rows_prefix}
 use Rattle.csvw_rows.proofs.Lookahead.{rows_again}
 use Rattle.csvw_rows.proofs.Stands.{no_more, no_row_in_last, begins_front}
@@ -84,15 +84,20 @@ begins_front_of d max bytes ended rows front rest w k are (inl (e, f)) = by_file
 begins_front_of d max bytes ended rows front rest w k are (inr (n, longest)) =
     let m = rows_prefix d 0 (content bytes) rows front rest longest.0.rest w are longest.0.are_rows (longest.1 rows (record { rest = rest; are_rows = are; limits = k })) in (m.0, m.1)
 
--- and the front of all that the bytes go on to
-begins_later_front : (d : Dialect) (max : ℕ) (bytes more : List ℕ) (ended : Bool) (rows later : List Row) (rest : List ℕ) → IsLawful d → KeepsLimits max rows → AreRows d 0 (content bytes) rows rest
-    → Front d max (bytes ++ more) ended later → Begun rows later
-begins_later_front d max bytes more ended rows later rest w k are g =
+-- they begin all that the bytes go on to
+rows_later : (d : Dialect) (bytes more : List ℕ) (rows : List Row) (rest : List ℕ) → AreRows d 0 (content bytes) rows rest → (after : List ℕ) × AreRows d 0 (content (bytes ++ more)) rows after
+rows_later d bytes more rows rest are =
     let a = rows_again d 0 (content bytes) rows rest are in
     let c = content_more bytes more in
     let joined : content (bytes ++ more) ≡ a.front ++ (rest ++ c.0) = c.1 ∙ ap (λ l. l ++ c.0) a.spelled ∙ append_assoc a.front rest c.0 in
-    begins_front_of d max (bytes ++ more) ended rows later (rest ++ c.0) w k
-    (subst (λ (l : List ℕ). AreRows d 0 l rows (rest ++ c.0)) (sym joined) (a.again (rest ++ c.0))) g
+    (rest ++ c.0, subst (λ (l : List ℕ). AreRows d 0 l rows (rest ++ c.0)) (sym joined) (a.again (rest ++ c.0)))
+
+-- and the front of it
+begins_later_front : (d : Dialect) (max : ℕ) (bytes more : List ℕ) (ended : Bool) (rows later : List Row) (rest : List ℕ) → IsLawful d → KeepsLimits max rows → AreRows d 0 (content bytes) rows rest
+    → Front d max (bytes ++ more) ended later → Begun rows later
+begins_later_front d max bytes more ended rows later rest w k are g =
+    let a = rows_later d bytes more rows rest are in
+    begins_front_of d max (bytes ++ more) ended rows later a.0 w k a.1 g
 
 pub fronts_grow : FrontsGrow
 fronts_grow d max bytes more ended front later w f g = by_front f
@@ -144,6 +149,27 @@ given_begin_later s d max bytes more ended before later h g = told (body_begun d
 
     told : (rest : List Given) × (Body d later ≡ Body d h.rows ++ rest) → (rest : List Given) × (Body d later ≡ before ++ rest)
     told (rest, e) = (rest, e ∙ ap (λ l. l ++ rest) (sym h.given_is))
+
+pub first_begin : FirstBegin
+first_begin d max bytes ended rows front w (inl b) f = begins_front_of d max bytes ended rows front b.rest w b.limits b.are_rows f
+first_begin d max bytes ended rows front w (inr (e, k)) (inl (t, f)) = by_file d (content bytes) rows front [] w k.are_rows f.are_rows
+first_begin d max bytes ended rows front w (inr (e, k)) (inr (n, longest)) = absurd (n e rows k)
+
+pub given_first : GivenFirst
+given_first s d max bytes ended before h = record { rows = h.rows; come = by_reached h.read.reached; all = h.given_is }
+  where
+    by_reached : AreRows d 0 (content bytes) h.rows (rest_of s.source) ⊎ ((ended ≡ true) × (is_text bytes ≡ true) × EndsOpen d (content bytes) h.rows
+        × (rest_of s.source ≡ []) × Begins d max (content bytes)) → ComeFirst d max bytes ended h.rows
+    by_reached (inl are) = inl (record { rest = rest_of s.source; are_rows = are; limits = h.read.limits })
+    by_reached (inr (e, t, o, z, b)) = inr (e, record { is_utf8 = t; are_rows = inr o; limits = h.read.limits })
+
+pub given_first_later : GivenFirstLater
+given_first_later s d max bytes more ended before h = record { rows = h.rows; come = by_reached h.read.reached; all = h.given_is }
+  where
+    by_reached : AreRows d 0 (content bytes) h.rows (rest_of s.source) ⊎ ((false ≡ true) × (is_text bytes ≡ true) × EndsOpen d (content bytes) h.rows
+        × (rest_of s.source ≡ []) × Begins d max (content bytes)) → ComeFirst d max (bytes ++ more) ended h.rows
+    by_reached (inl are) = let a = rows_later d bytes more h.rows (rest_of s.source) are in inl (record { rest = a.0; are_rows = a.1; limits = h.read.limits })
+    by_reached (inr (e, t, o, z, b)) = absurd cc
 
 pub nothing_given : NothingGiven
 nothing_given s d max before h = h.given_is ∙ by_rows h.rows h.read.reached

@@ -1,9 +1,9 @@
 -- Laws that bind the definitions.
-use Rattle.std.specs.Prelude.{◌≡◌, ℕ, ◌<◌, ◌≤◌, Bool, false, List, [], ◌++◌, take}
+use Rattle.std.specs.Prelude.{◌≡◌, ◌⊎◌, ℕ, ◌<◌, ◌≤◌, Bool, false, IsTrue, List, [], ◌++◌, take}
 use Rattle.csvw_dialect.specs.declared.dialect.Dialect.{Dialect}
 use Rattle.csvw_rows.specs.declared.rows.Rows.{Rows}
 use Rattle.csvw_dialect.specs.Lawful.{IsLawful}
-use Rattle.csvw_rows.specs.Files.{Row, File, Front, Body}
+use Rattle.csvw_rows.specs.Files.{Row, File, BeginsWithRows, Front, Body, content}
 use Rattle.csvw_rows.specs.RowValue.{Given}
 use Rattle.csvw_rows.specs.Stops.{Begins, StopsAt}
 use Rattle.csvw_rows.specs.RowsState.{Holds}
@@ -30,6 +30,29 @@ GivenBegin = (s : Rows) (d : Dialect) (max : ℕ) (bytes : List ℕ) (ended : Bo
 abbrev pub GivenBeginLater : Type 0
 GivenBeginLater = (s : Rows) (d : Dialect) (max : ℕ) (bytes more : List ℕ) (ended : Bool) (given : List Given) (later : List Row) → Holds s d max bytes false given → Front d max (bytes ++ more) ended later
     → (rest : List Given) × (Body d later ≡ given ++ rest)
+
+-- these rows come first: the bytes begin with them, each with its terminator, or are a file of them
+abbrev pub ComeFirst : Dialect → ℕ → List ℕ → Bool → List Row → Type 0
+ComeFirst d max bytes ended rows = BeginsWithRows d max (content bytes) rows ⊎ (IsTrue ended × File d max bytes rows)
+
+-- these are the header rows and data rows of some rows that come first
+pub record AreFirst (d : Dialect) (max : ℕ) (bytes : List ℕ) (ended : Bool) (given : List Given) : Type 0 where
+  pub rows : List Row
+  pub come : ComeFirst d max bytes ended rows
+  pub all : given ≡ Body d rows
+
+-- rows that come first begin the front
+abbrev pub FirstBegin : Type 0
+FirstBegin = (d : Dialect) (max : ℕ) (bytes : List ℕ) (ended : Bool) (rows front : List Row) → IsLawful d → ComeFirst d max bytes ended rows → Front d max bytes ended front
+    → (rest : List Row) × (front ≡ rows ++ rest)
+
+-- what was given comes first
+abbrev pub GivenFirst : Type 0
+GivenFirst = (s : Rows) (d : Dialect) (max : ℕ) (bytes : List ℕ) (ended : Bool) (given : List Given) → Holds s d max bytes ended given → AreFirst d max bytes ended given
+
+-- the same of all that bytes go on to which haven't ended
+abbrev pub GivenFirstLater : Type 0
+GivenFirstLater = (s : Rows) (d : Dialect) (max : ℕ) (bytes more : List ℕ) (ended : Bool) (given : List Given) → Holds s d max bytes false given → AreFirst d max (bytes ++ more) ended given
 
 -- of nothing read nothing was given
 abbrev pub NothingGiven : Type 0

@@ -1,5 +1,5 @@
 //! Laws that bind the definitions by which the contracts speak. The calls do nothing.
-ghost use Rattle.csvw_rows.specs.Laws.{HaveOneList, FrontsGrow, StopsPart, GivenBegin, GivenBeginLater, NothingGiven};
+ghost use Rattle.csvw_rows.specs.Laws.{HaveOneList, FrontsGrow, StopsPart, FirstBegin, GivenBegin, GivenBeginLater, GivenFirst, GivenFirstLater, NothingGiven};
 
 /// Bytes are a file of at most one list of rows.
 pub fn have_one_list()
@@ -26,6 +26,21 @@ pub fn given_begin()
 /// go on to.
 pub fn given_begin_later()
     ensures { GivenBeginLater }
+{}
+
+/// Rows that come first in a text begin its front.
+pub fn first_begin()
+    ensures { FirstBegin }
+{}
+
+/// What a reader gave are the header rows and data rows of rows that come first in its text.
+pub fn given_first()
+    ensures { GivenFirst }
+{}
+
+/// What a reader gave of bytes that haven't ended comes first in all that they go on to.
+pub fn given_first_later()
+    ensures { GivenFirstLater }
 {}
 
 /// Of nothing read nothing was given.

@@ -3,7 +3,7 @@ use Rattle.std.proofs.Common.{◌≡◌, ℕ, ◌+◌, ◌<◌, ◌≤◌, zero,
 use Rattle.std.proofs.lemmas.List.{take-append-drop}
 use Rattle.std.proofs.lemmas.List.Concat.{flat_map-append}
 use Rattle.std.specs.List.{zip}
-use Rattle.std.specs.Prelude.{Err}
+use Rattle.std.specs.Prelude.{◌≢◌, Result, Err}
 use Rattle.csvw_columns.specs.declared.column.Column.{Column}
 use Rattle.csvw_annotate.specs.declared.row.AnnCell.{AnnCell}
 use Rattle.csvw_triples.specs.declared.sink.SinkFault.{SinkFault}
@@ -63,16 +63,29 @@ module _ {S : Type 0} (gains : S → List Triple → S → Type 0) (is_open : S 
       let within : length (zip columns cells) ≤ i = omega (arith, length-zip columns cells e) in
       subst (λ ps. gains old (flat_map (pair_triples t number) ps) new) (take_all i (zip columns cells) within) f
 
-  -- a front was taken, and nothing more
-  pub takes_front : (t number : ℕ) (columns : List Column) (cells : List AnnCell) (i : ℕ) (old mid new : S) → gains old (triples_so_far t number columns cells i) mid → gains mid [] new
+  unmoved : (t number : ℕ) (columns : List Column) (cells : List AnnCell) (i : ℕ) (old mid new : S) → gains old (triples_so_far t number columns cells i) mid → gains mid [] new
+      → gains old (triples_so_far t number columns cells i) new
+  unmoved t number columns cells i old mid new f g =
+      subst (λ ts. gains old ts new) (append-nil (triples_so_far t number columns cells i)) (goes_on old mid new (triples_so_far t number columns cells i) [] f g)
+
+  front_at : (t number : ℕ) (columns : List Column) (cells : List AnnCell) (i : ℕ) (old new : S) → gains old (triples_so_far t number columns cells i) new
       → FrontOf gains old (cells_triples t number columns cells) new
-  takes_front t number columns cells i old mid new f g =
-      record {
-        front = triples_so_far t number columns cells i;
-        rest = flat_map (pair_triples t number) (drop i (zip columns cells));
-        parts = so_far_parts t number columns cells i;
-        gained = subst (λ ts. gains old ts new) (append-nil (triples_so_far t number columns cells i)) (goes_on old mid new (triples_so_far t number columns cells i) [] f g);
-      }
+  front_at t number columns cells i old new f = record {
+    front = triples_so_far t number columns cells i;
+    rest = flat_map (pair_triples t number) (drop i (zip columns cells));
+    parts = so_far_parts t number columns cells i;
+    gained = f;
+  }
+
+  -- a front was taken: nothing more of the next cell, or its triple in part
+  pub takes_front : (t number : ℕ) (columns : List Column) (cells : List AnnCell) (i : ℕ) (c : Column) (v : AnnCell) (old mid new : S) (e : SinkFault) → i < length columns → i < length cells
+      → c ≡ get_or columns i c → v ≡ get_or cells i v
+      → gains old (triples_so_far t number columns cells i) mid → (◌≢◌ {A = Result Unit SinkFault} (Err e) (Err Device) → gains mid [] new) → (◌≡◌ {A = Result Unit SinkFault} (Err e) (Err Device) → gains mid (cell_triples t number c v) new)
+      → FrontOf gains old (cells_triples t number columns cells) new
+  takes_front t number columns cells i c v old mid new Device h k p q f none part =
+      front_at t number columns cells (i + 1) old new (takes_more t number columns cells i c v old mid new h k p q f (part refl))
+  takes_front t number columns cells i c v old mid new Memory h k p q f none part = front_at t number columns cells i old new (unmoved t number columns cells i old mid new f (none (λ e. cc)))
+  takes_front t number columns cells i c v old mid new Closed h k p q f none part = front_at t number columns cells i old new (unmoved t number columns cells i old mid new f (none (λ e. cc)))
 
   -- how the sink stands after an error in a later call
   pub ends_later : (old mid new : S) (e : SinkFault) → failed mid ≡ failed old → is_open mid ≡ is_open old → Ends is_open failed mid new (Err e) → Ends is_open failed old new (Err e)

@@ -4,7 +4,7 @@ use Rattle.csvw_triples.specs.declared.term.Triple.{Triple}
 use Rattle.csvw_triples.specs.declared.sink.SinkFault.{SinkFault}
 use Rattle.csvw_triples.specs.declared.sink.SinkFault.TheVariants.{Memory, Device, Closed}
 
--- from one state to another a front of these triples was taken
+-- From one state to another a front of these triples was taken; of its last only a part, where a device failed within it.
 pub record FrontOf {S : Type 0} (gains : S → List Triple → S → Type 0) (old : S) (all : List Triple) (new : S) : Type 0 where
   pub front : List Triple
   pub rest : List Triple

@@ -1,5 +1,5 @@
 //! The triples of rows, put into a sink.
-ghost use Rattle.std.specs.Prelude.{◌≡◌, [], ◌∷◌, length, IfOk, OnOk, OnErr};
+ghost use Rattle.std.specs.Prelude.{◌≡◌, ◌≢◌, [], ◌∷◌, length, Err, IfOk, OnOk, OnErr};
 ghost use Rattle.csvw_triples.specs.RowTriples.{value_triple, cell_triples, cells_triples, row_triples};
 ghost use Rattle.csvw_triples.specs.Taking.{FrontOf, Ends};
 
@@ -47,7 +47,8 @@ fn emit_value<S: TripleSink>(
     sink: &mut S,
 ) -> Result<(), SinkFault>
     ensures ok { OnOk result (S.gains sink.old (value_triple t number column.now value.now ∷ []) sink.new) }
-    ensures err { OnErr result (S.gains sink.old [] sink.new) }
+    ensures err { result ≢ Err SinkFault.Device → OnErr result (S.gains sink.old [] sink.new) }
+    ensures cut { result ≡ Err SinkFault.Device → S.gains sink.old (value_triple t number column.now value.now ∷ []) sink.new }
     ensures sink { Ends S.is_open S.failed sink.old sink.new result }
 {
     let mut text = mem::replace(spare, Text::new(alloc));
@@ -68,7 +69,8 @@ fn emit_cell<S: TripleSink>(
     sink: &mut S,
 ) -> Result<(), SinkFault>
     ensures ok { OnOk result (S.gains sink.old (cell_triples t number column.now cell.now) sink.new) }
-    ensures err { OnErr result (S.gains sink.old [] sink.new) }
+    ensures err { result ≢ Err SinkFault.Device → OnErr result (S.gains sink.old [] sink.new) }
+    ensures cut { result ≡ Err SinkFault.Device → S.gains sink.old (cell_triples t number column.now cell.now) sink.new }
     ensures sink { Ends S.is_open S.failed sink.old sink.new result }
 {
     match &cell.value {
@@ -114,8 +116,9 @@ impl Emitter {
     }
 
     /// Puts the triples of a row of table `t`, numbered from 1, in the order of its cells (csv2rdf,
-    /// section 4.2); in mode `Validate` none. After an error a front of them was taken, and the fault
-    /// is one that the sink answered in this call, or `Memory`.
+    /// section 4.2); in mode `Validate` none. After an error a front of them was taken, of whose last
+    /// triple only a part after `Device`, and the fault is one that the sink answered in this call, or
+    /// `Memory`.
     pub fn emit_row<S: TripleSink>(
         &mut self,
         columns: &Columns,

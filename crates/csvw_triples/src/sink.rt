@@ -28,7 +28,8 @@ impl From<AllocError> for SinkFault {
 
 /// What takes triples, one after the other.
 pub trait TripleSink {
-    /// The sink went from one state to another, and took these triples, in their order.
+    /// The sink went from one state to another, and took these triples, in their order: of the last only a
+    /// part where its device failed within it.
     ghost gains: { Self → List TheTriple → Self → Type 0 };
 
     /// No device failed so far.
@@ -41,10 +42,12 @@ pub trait TripleSink {
     fn failures(&self) -> u64
         ensures { result ≡ failed self.now };
 
-    /// Takes a triple at the end, or answers why it took none.
+    /// Takes a triple at the end, or answers why it didn't: after `Device` a part of it was taken, else
+    /// nothing.
     fn put(&mut self, triple: &Triple) -> Result<(), SinkFault>
         ensures ok { OnOk result (gains self.old (triple.now ∷ []) self.new) }
-        ensures err { OnErr result (gains self.old [] self.new) }
+        ensures err { result ≢ Err SinkFault.Device → OnErr result (gains self.old [] self.new) }
+        ensures cut { result ≡ Err SinkFault.Device → gains self.old (triple.now ∷ []) self.new }
         ensures open { OnOk result (IsTrue (is_open self.new)) }
         ensures closed { (result ≡ Err SinkFault.Closed) ↔ (is_open self.old ≡ false) }
         ensures memory { result ≢ Err SinkFault.Device → is_open self.new ≡ is_open self.old }

@@ -230,6 +230,40 @@ fn tells_a_writer_that_fails(rt: HostRuntime) -> Result<(), Fail> {
     Ok(())
 }
 
+/// A writer whose bytes are lost: it takes all, and its flush fails.
+#[derive(Drop)]
+struct FullDevice;
+
+impl Write for FullDevice {
+    fn write(&mut self, buf: &[u8]) -> io::Result<usize> {
+        Ok(buf.len())
+    }
+
+    fn flush(&mut self) -> io::Result<()> {
+        Err(io::Error::from(io::ErrorKind::StorageFull))
+    }
+}
+
+#[test]
+fn tells_a_flush_that_fails_in_place_of_a_stop(rt: HostRuntime) -> Result<(), Fail> {
+    let alloc = rt.alloc();
+    let mut words = Vec::new(alloc);
+    for word in ["csvw", "plain", "http://example.org/p.csv", "p.csv"] {
+        words.push(String::from_str(alloc, word)?)?;
+    }
+    let mut opener = OneFile {
+        bytes: b"id\n1\n2,3\n",
+    };
+    let mut out = Counted::new(FullDevice);
+    let mut err = Counted::new(Vec::new(alloc));
+    let status = command(alloc, words.as_slice(), &mut opener, &mut out, &mut err);
+    let OneFile { bytes: _ } = opener;
+    assert_eq!(rt; status, 4);
+    assert_eq!(rt; out.failures(), 1);
+    assert!(rt; err.into_inner().as_slice() == b"csvw: Write\n".as_slice());
+    Ok(())
+}
+
 #[test]
 fn help_goes_to_standard_output(rt: HostRuntime) -> Result<(), Fail> {
     let ran = run(rt.alloc(), &["csvw", "plain", "--help"], b"")?;

@@ -39,6 +39,7 @@ returns-then-n-eq0-clause-reads g c =
     reads_ended g.S.TripleSink.gains g.S.TripleSink.is_open g.S.TripleSink.failed d (g.R.Read.remaining (inner_of c.args.input.now)) (g.R.Read.remaining (inner_of c.read.new.self)) (failures_of c.args.input.now) (failures_of c.read.new.self) start c.end_table.new.table c.end_table.new.sink i.bytes c.end_table.result
     (subst (λ (xs : List ℕ). Consumes (g.R.Read.remaining (inner_of c.args.input.now)) (g.R.Read.remaining (inner_of c.read.new.self)) xs) (append-nil i.bytes) all)
     (c.in-Ok.ensures.bytes.1 c.if-n-eq0.true (search rules))
+    (c.in-Ok.ensures.count ∙ i.failures)
     (c.end_table.ensures.drains d i.bytes start (i.stands d start h))
 
 pub returns-in_err-feed_table-clause-reads : goal.returns-in_err-feed_table-clause-reads

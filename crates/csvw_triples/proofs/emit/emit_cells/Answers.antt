@@ -12,7 +12,8 @@ returns-in_err-emit_cell-clause-err g c =
     let p = err_from_is_err_and c.from_residual.result c.from_residual.ensures.1 in
     let s = g.S.TripleSink in
     rw p.1 (takes_front s.gains s.is_open s.failed g.met.S.TripleSink.goes_on c.args.t c.args.number c.args.columns.now c.args.cells.now c.loop-i.i
-    c.args.sink.now c.loop-i.sink c.emit_cell.new.sink c.loop-i.invariant.taken c.in_err-emit_cell.ensures.err)
+    c.index-columns-i.result c.index-cells-i.result c.args.sink.now c.loop-i.sink c.emit_cell.new.sink c.in_err-emit_cell.field-0.0
+    (omega arith) (omega arith) c.index-columns-i.is c.index-cells-i.is c.loop-i.invariant.taken c.in_err-emit_cell.ensures.err c.in_err-emit_cell.ensures.cut)
 
 pub loop-i-preserved : goal.loop-i-preserved
 loop-i-preserved g c =
