@@ -1,0 +1,41 @@
+#!/usr/bin/env bash
+# Measures the reader of rows on hostile rows of 1 MB beside rows of letters, as a table in Markdown. It fails where one takes
+# more than 5 times as long as letters. Usage: bench/hostile.sh [RUNS]: the least of so many runs, of 3 where none is given.
+set -euo pipefail
+runs=${1:-3}
+bench=$(cd "$(dirname "${BASH_SOURCE[0]}")" && pwd)
+work=$bench/out/hostile
+crate=$bench/../crates/csvw_rows_bench
+program=$crate/out/csvw_rows_bench
+names="letters crs marks umlauts endings quoted_letters quoted_crs quoted_quotes quoted_marks quoted_umlauts quoted_endings"
+mkdir -p "$work"
+
+(cd "$crate" && rt run -- csv </dev/null >/dev/null)
+python3 "$bench/hostile_files.py" "$work"
+
+# The least processor seconds of the runs over a file, in pieces of so many bytes.
+least() {
+  local file=$1 size=$2 times=$work/times
+  rm -f "$times"
+  for _ in $(seq "$runs"); do
+    /usr/bin/time -f '%U %S' -a -o "$times" "$program" rows "$size" , <"$file" >/dev/null
+  done
+  awk 'NR == 1 || $1 + $2 < least { least = $1 + $2 } END { print (least > 0.01 ? least : 0.01) }' "$times"
+}
+
+slow=0
+echo '| Rows of | Seconds of 60 MB in pieces of 65,536 bytes | To letters | Seconds of 6 MB in pieces of 1 byte | To letters |'
+echo '|---|---|---|---|---|'
+whole_letters=$(least "$work/letters_60.csv" 65536)
+byte_letters=$(least "$work/letters_6.csv" 1)
+for name in $names; do
+  whole=$(least "$work/${name}_60.csv" 65536)
+  byte=$(least "$work/${name}_6.csv" 1)
+  line=$(awk -v n="$name" -v a="$whole" -v b="$whole_letters" -v c="$byte" -v d="$byte_letters" '
+    BEGIN { printf "| %s | %.2f | %.1f | %.2f | %.1f |", n, a, a / b, c, c / d; exit (a > 5 * b || c > 5 * d) }') || slow=1
+  echo "$line"
+done
+if [ "$slow" = 1 ]; then
+  echo 'hostile.sh: some rows take more than 5 times as long as letters' >&2
+  exit 1
+fi
