@@ -28,6 +28,13 @@ is_below (Day a) (Day b) = lt_z a b
 is_below (Moment a) (Moment b) = lt_z a b
 is_below _ _ = false
 
+-- a number, a day or a moment is another, or below it
+abbrev pub is_up_to : Value → Value → Bool
+is_up_to (Number a) (Number b) = not (lt_z b a)
+is_up_to (Day a) (Day b) = not (lt_z b a)
+is_up_to (Moment a) (Moment b) = not (lt_z b a)
+is_up_to _ _ = false
+
 -- how many characters a text has
 abbrev pub length_of : Value → Option ℕ
 length_of (Text text) = Some (length (chars text))
@@ -42,9 +49,9 @@ fails test _ _ = false
 abbrev pub is_over : Option Value → Option Value → Bool
 is_over a b = fails (λ a b. is_below b a) a b
 
--- both are there, and the first isn't below the second
+-- both are there, and the second is the first or below it
 abbrev pub is_not_under : Option Value → Option Value → Bool
-is_not_under a b = fails (λ a b. not (is_below a b)) a b
+is_not_under a b = fails (λ a b. is_up_to b a) a b
 
 -- a facet asks for a length
 abbrev pub has_lengths : Facets → Bool

@@ -1,7 +1,7 @@
 //! The facets that a value breaks.
 ghost use Rattle.std.specs.Prelude.{◌≡◌, length, ◌==◌, nat_lt, not, option_copied, Some};
 ghost use Rattle.std.specs.Str.{chars};
-ghost use Rattle.csvw_datatype.specs.Breaks.{breaks, length_breaks, has_lengths, is_below, length_of, fails, is_over, is_not_under};
+ghost use Rattle.csvw_datatype.specs.Breaks.{breaks, length_breaks, has_lengths, is_below, is_up_to, length_of, fails, is_over, is_not_under};
 
 use crate::datatype::{Datatype, Facets};
 use crate::value::Value;
@@ -109,6 +109,17 @@ pub(crate) fn is_below(a: &Value, b: &Value) -> bool
     }
 }
 
+fn is_up_to(a: &Value, b: &Value) -> bool
+    ensures { result ≡ is_up_to a.now b.now }
+{
+    match (a, b) {
+        (Value::Number(x), Value::Number(y)) => *x <= *y,
+        (Value::Day(x), Value::Day(y)) => *x <= *y,
+        (Value::Moment(x), Value::Moment(y)) => *x <= *y,
+        _ => false,
+    }
+}
+
 pub(crate) fn is_over(a: Option<&Value>, b: Option<&Value>) -> bool
     ensures { result ≡ is_over (option_copied a.entry) (option_copied b.entry) }
 {
@@ -122,7 +133,7 @@ pub(crate) fn is_not_under(a: Option<&Value>, b: Option<&Value>) -> bool
     ensures { result ≡ is_not_under (option_copied a.entry) (option_copied b.entry) }
 {
     match (a, b) {
-        (Some(x), Some(y)) => !is_below(x, y),
+        (Some(x), Some(y)) => is_up_to(y, x),
         (Some(_), None) | (None, Some(_)) | (None, None) => false,
     }
 }
