@@ -9,7 +9,7 @@ use std::process::Abort;
 use std::test::Fail;
 
 /// A format, as a datatype description writes it.
-#[derive(Clone, Copy, Debug)]
+#[derive(Clone, Copy)]
 enum Pattern {
     /// None.
     Plain,
@@ -698,10 +698,7 @@ fn checks_each(
 ) -> Result<(), AllocError> {
     for (simple, pattern, limits, sound) in rows {
         let datatype = datatype_of(alloc, *simple, pattern, limits)?;
-        assert!(rt;
-            datatype.check().is_ok() == *sound,
-            "{simple:?} {pattern:?}"
-        );
+        assert!(rt; datatype.check().is_ok() == *sound);
     }
     Ok(())
 }
@@ -760,7 +757,7 @@ fn names_each(rt: &impl Abort, names: &[(&str, Option<Simple>)]) {
 
 fn no_formats(rt: &impl Abort, alloc: Global, patterns: &[Pattern]) -> Result<(), AllocError> {
     for pattern in patterns {
-        assert!(rt; format_of(alloc, pattern)?.is_none(), "{pattern:?}");
+        assert!(rt; format_of(alloc, pattern)?.is_none());
     }
     Ok(())
 }
@@ -788,7 +785,7 @@ fn characters_each(
     for (decimal, group, want) in rows {
         let format = NumberFormat::of(*decimal, *group);
         let found = format.map(|f| (f.decimal_char, f.group_char));
-        assert!(rt; found == *want, "{decimal:?} {group:?}");
+        assert!(rt; found == *want);
     }
 }
 

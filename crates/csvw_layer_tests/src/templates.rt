@@ -1,5 +1,5 @@
 //! The examples of RFC 6570 that have these operators alone, and texts that are no templates.
-use csvw_template::{Operator, Part, Template, Var, Vars};
+use csvw_template::{Template, Var, Vars};
 use csvw_text::{Seq, Text};
 use std::alloc::{AllocError, Global};
 use std::process::Abort;
@@ -172,28 +172,25 @@ fn templates_and_other_texts(rt: HostRuntime) -> Result<(), Fail> {
     Ok(refuses_each(&rt, alloc, &HIGHER, "TemplateLevel")?)
 }
 
-/// A text so many times, and what it expands to so many times; `None`: `TooLong`.
-const LONG: [(&str, usize, Option<&str>); 6] = [
-    ("a", 4096, Some("a")),
-    ("{x}", 32, Some("1024")),
-    ("a", 4097, None),
-    ("}", 4097, None),
-    ("{x}", 33, None),
-    ("}{", 33, None),
+/// Texts, and the answers to so many of them: so many other texts.
+const LONG: [(&str, usize, &str, usize); 6] = [
+    ("a", 4096, "a", 4096),
+    ("{x}", 32, "1024", 32),
+    ("a", 4097, "TooLong", 1),
+    ("}", 4097, "TooLong", 1),
+    ("{x}", 33, "TooLong", 1),
+    ("}{", 33, "TooLong", 1),
 ];
 
 fn long_each(
     rt: &impl Abort,
     alloc: Global,
-    rows: &[(&str, usize, Option<&str>)],
+    rows: &[(&str, usize, &str, usize)],
 ) -> Result<(), AllocError> {
-    for (text, n, want) in rows {
-        let found = expanded(alloc, times(alloc, text, *n)?.as_str())?;
-        let want = match want {
-            Some(part) => times(alloc, part, *n)?,
-            None => String::from_str(alloc, "TooLong")?,
-        };
-        assert!(rt; found.as_str() == want.as_str(), "{text:?}");
+    for (text, n, part, parts) in rows {
+        let long = times(alloc, text, *n)?;
+        let want = times(alloc, part, *parts)?;
+        assert!(rt; expanded(alloc, long.as_str())?.as_str() == want.as_str());
     }
     Ok(())
 }
@@ -201,47 +198,6 @@ fn long_each(
 #[test]
 fn long_templates(rt: HostRuntime) -> Result<(), Fail> {
     Ok(long_each(&rt, rt.alloc(), &LONG)?)
-}
-
-/// Each part, by its operator and its texts.
-fn parts_told(alloc: Global, template: &Template) -> Result<String, AllocError> {
-    let mut out = String::new(alloc);
-    for part in template.parts() {
-        match part.clone(alloc)? {
-            Part::Literal(text) => out.push_str(text.as_str())?,
-            Part::Expression(operator, names) => push_names(&mut out, operator, names.as_slice())?,
-        }
-        out.push(';')?;
-    }
-    Ok(out)
-}
-
-fn push_names(out: &mut String, operator: Operator, names: &[Text]) -> Result<(), AllocError> {
-    out.push_str(match operator {
-        Operator::Simple => "0",
-        Operator::Reserved => "+",
-        Operator::Fragment => "#",
-    })?;
-    for name in names {
-        out.push('<')?;
-        out.push_str(name.as_str())?;
-    }
-    Ok(())
-}
-
-#[test]
-fn parts_of_a_template(rt: HostRuntime) -> Result<(), Fail> {
-    let alloc = rt.alloc();
-    let template = Template::read(alloc, "a{#x,y}{z}b{+w}")?;
-    assert_eq!(rt;
-        parts_told(alloc, &template)?.as_str(),
-        "a;#<x<y;0<z;b;+<w;"
-    );
-    assert_eq!(rt;
-        parts_told(alloc, &template.clone(alloc)?)?.as_str(),
-        "a;#<x<y;0<z;b;+<w;"
-    );
-    Ok(())
 }
 
 #[test]
