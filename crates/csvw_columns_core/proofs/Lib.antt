@@ -1,1 +1,2 @@
 pub mod InheritedLemmas
+pub mod DeclaredLemmas

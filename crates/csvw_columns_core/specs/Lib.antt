@@ -1,2 +1,3 @@
 pub mod Inherited
 pub mod Columns
+pub mod SchemaColumns

@@ -3,9 +3,11 @@
 
 mod column;
 mod columns;
+mod declared;
 mod inherited;
 mod properties;
 
 pub use column::Column;
 pub use columns::Columns;
+pub use declared::{COLUMN_LIMIT, Frame, SKIP_LIMIT};
 pub use properties::{Defaults, Properties};
