@@ -1,3 +1,4 @@
 pub mod Inherited
 pub mod Columns
 pub mod SchemaColumns
+pub mod HeaderFits

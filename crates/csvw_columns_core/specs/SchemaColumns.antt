@@ -1,5 +1,5 @@
 -- The columns that a schema declares (Metadata Vocabulary for Tabular Data, sections 5.6 and 5.7; csv2rdf, section 4.6.5).
-use Rattle.std.specs.Prelude.{ℕ, ◌+◌, Bool, List, [], ◌∷◌, ◌++◌, Option, Some, None, codes, if◌then◌else◌}
+use Rattle.std.specs.Prelude.{ℕ, ◌+◌, Bool, List, [], ◌∷◌, ◌++◌, Option, Some, None, is_some, codes, if◌then◌else◌}
 use Rattle.csvw_description.specs.declared.column.ColumnDescription.{ColumnDescription}
 use Rattle.csvw_description.specs.declared.inherited.Inherited.{Inherited}
 use Rattle.csvw_description.specs.Name.{name_of}
@@ -18,6 +18,7 @@ source_number_of is_virtual skipped number = if is_virtual then None else Some (
 abbrev pub declared : List ℕ → ℕ → Inherited → Inherited → Inherited → ℕ → ColumnDescription → Column
 declared url skipped schema table group n c = record {
   name = name_of n c;
+  is_named = is_some c.name;
   titles = c.titles;
   number = n;
   source_number = source_number_of c.is_virtual skipped n;

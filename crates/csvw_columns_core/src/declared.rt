@@ -68,6 +68,7 @@ impl Frame {
         )?;
         Ok(Column {
             name,
+            is_named: description.name.is_some(),
             titles: description.titles.clone(alloc)?,
             number,
             source_number: source_number_of(description.is_virtual, self.skip_columns, number),

@@ -4,10 +4,12 @@
 mod column;
 mod columns;
 mod declared;
+mod header;
 mod inherited;
 mod properties;
 
 pub use column::Column;
 pub use columns::Columns;
 pub use declared::{COLUMN_LIMIT, Frame, SKIP_LIMIT};
+pub use header::{HeaderRow, header_faults};
 pub use properties::{Defaults, Properties};
