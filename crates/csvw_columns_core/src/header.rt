@@ -19,7 +19,7 @@ pub struct HeaderRow {
 }
 
 /// The cell at this place, from 0; the empty text where there is none.
-fn cell_at(row: &HeaderRow, i: usize) -> &str
+pub(crate) fn cell_at(row: &HeaderRow, i: usize) -> &str
     ensures { result.now ≡ cell_at row.now i }
 {
     match row.cells.as_slice().get(i) {
