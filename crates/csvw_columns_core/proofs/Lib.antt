@@ -1,1 +1,3 @@
 pub mod InheritedLemmas
+pub mod DeclaredLemmas
+pub mod HeaderLemmas

@@ -9,6 +9,8 @@ use csvw_text::{Seq, Text};
 pub struct Column {
     /// Its name.
     pub name: Name,
+    /// Whether the name is one of its own, and not that of a title or of its number.
+    pub is_named: bool,
     /// Its titles that aren't empty, the first one first.
     pub titles: Seq<Text>,
     /// Its number in its table, from 1.

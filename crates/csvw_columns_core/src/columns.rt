@@ -44,7 +44,7 @@ impl Columns {
     }
 }
 
-fn count_fields(columns: &[Column]) -> usize
+pub(crate) fn count_fields(columns: &[Column]) -> usize
     ensures { result ≡ field_count columns.now }
 {
     let mut count = 0;

@@ -3,9 +3,15 @@
 
 mod column;
 mod columns;
+mod declared;
+mod header;
+mod header_columns;
 mod inherited;
 mod properties;
 
 pub use column::Column;
 pub use columns::Columns;
+pub use declared::{COLUMN_LIMIT, Frame, SKIP_LIMIT};
+pub use header::{HeaderRow, header_faults};
+pub use header_columns::{column_count, from_header};
 pub use properties::{Defaults, Properties};

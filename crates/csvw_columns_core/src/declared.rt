@@ -1,0 +1,102 @@
+//! The columns that a schema declares.
+ghost use Rattle.std.specs.Prelude.{◌≡◌, ◌<◌, ◌≤◌, ◌+◌, ◌^◌, IfOk, length};
+ghost use Rattle.csvw_iri.specs.Link.{iri_of};
+ghost use Rattle.csvw_columns_core.specs.Inherited.{IsDefaults};
+ghost use Rattle.csvw_columns_core.specs.SchemaColumns.{column_limit, source_number_of, declared, declared_columns};
+
+use crate::column::Column;
+use crate::properties::Defaults;
+use csvw_description::{ColumnDescription, Inherited};
+use csvw_iri::{Base, with_fragment};
+use csvw_text::Seq;
+use std::alloc::{AllocError, Global};
+
+/// How many columns a table has at most.
+pub const COLUMN_LIMIT: usize = 1024;
+
+/// How many columns of a source are skipped at most.
+pub const SKIP_LIMIT: u32 = 1024;
+
+/// What the columns of a table have of it, beside what stands in them.
+#[derive(Debug, Drop)]
+pub struct Frame {
+    /// The table's URL.
+    pub url: Base,
+    /// How many columns of the source are skipped in front of them.
+    pub skip_columns: u32,
+    /// The inherited properties of their schema.
+    pub schema: Inherited,
+    /// Those of their table.
+    pub table: Inherited,
+}
+
+/// The source number of a column: none of a virtual one.
+fn source_number_of(is_virtual: bool, skip_columns: u32, number: u32) -> Option<u32>
+    requires { skip_columns + number < 2 ^ 32 }
+    ensures { result ≡ source_number_of is_virtual skip_columns number }
+{
+    if is_virtual {
+        None
+    } else {
+        Some(skip_columns + number)
+    }
+}
+
+impl Frame {
+    /// The column of a description, with its number from 1 (Metadata Vocabulary for Tabular Data, sections 5.6 and 5.7;
+    /// csv2rdf, section 4.6.5). `AllocError` where there is no memory.
+    pub fn declared(
+        &self,
+        alloc: Global,
+        defaults: &Defaults,
+        group: &Inherited,
+        number: u32,
+        description: &ColumnDescription,
+    ) -> Result<Column, AllocError>
+        requires defaults { IsDefaults defaults.now }
+        requires number { self.now.skip_columns + number < 2 ^ 32 }
+        ensures { IfOk result (λ c. c ≡ declared (iri_of self.now.url) self.now.skip_columns self.now.schema self.now.table group.now number description.now) }
+    {
+        let name = description.resolved_name(alloc, number as usize)?;
+        let predicate = with_fragment(alloc, self.url.iri(), name.as_str())?;
+        let properties = defaults.inherited(
+            alloc,
+            &description.inherited,
+            &self.schema,
+            &self.table,
+            group,
+        )?;
+        Ok(Column {
+            name,
+            is_named: description.name.is_some(),
+            titles: description.titles.clone(alloc)?,
+            number,
+            source_number: source_number_of(description.is_virtual, self.skip_columns, number),
+            is_virtual: description.is_virtual,
+            suppressed: description.suppressed,
+            predicate,
+            properties,
+        })
+    }
+
+    /// The columns that a schema declares, in their order, numbered from 1. `AllocError` where there is no memory.
+    pub fn declared_columns(
+        &self,
+        alloc: Global,
+        defaults: &Defaults,
+        group: &Inherited,
+        descriptions: &[ColumnDescription],
+    ) -> Result<Seq<Column>, AllocError>
+        requires defaults { IsDefaults defaults.now }
+        requires skipped { self.now.skip_columns ≤ column_limit }
+        requires limit { length descriptions.now ≤ column_limit }
+        ensures { IfOk result (λ cs. cs ≡ declared_columns (iri_of self.now.url) self.now.skip_columns self.now.schema self.now.table group.now descriptions.now) }
+    {
+        let mut columns = Vec::new(alloc);
+        for (i, description) in descriptions.iter().enumerate() {
+            let column = self.declared(alloc, defaults, group, i as u32 + 1, description)?;
+            columns.push(column)?;
+        }
+        Ok(Seq::of(columns))
+    }
+}

@@ -1,0 +1,91 @@
+//! The columns that come from a header.
+ghost use Rattle.std.specs.Prelude.{◌≡◌, IfOk};
+ghost use Rattle.csvw_columns_core.specs.HeaderColumns.{no_inherited, titled_column, titles_at, titled_columns, column_count, from_header};
+
+use crate::header::{HeaderRow, cell_at};
+use csvw_description::{ColumnDescription, Inherited};
+use csvw_text::{Seq, Text};
+use std::alloc::{AllocError, Global};
+
+/// Nothing of its own.
+fn no_inherited() -> Inherited
+    ensures { result ≡ no_inherited }
+{
+    Inherited {
+        about_url: None,
+        property_url: None,
+        value_url: None,
+        datatype: None,
+        default: None,
+        lang: None,
+        null: None,
+        ordered: None,
+        required: None,
+        separator: None,
+    }
+}
+
+fn titles_at(alloc: Global, rows: &[HeaderRow], i: usize) -> Result<Seq<Text>, AllocError>
+    ensures { IfOk result (λ s. s ≡ titles_at rows.now i) }
+{
+    let mut titles = Seq::new(alloc);
+    for row in rows {
+        let cell = cell_at(row, i);
+        if !cell.is_empty() {
+            titles.push(Text::copied(alloc, cell)?)?;
+        }
+    }
+    Ok(titles)
+}
+
+fn titled_column(alloc: Global, titles: Seq<Text>) -> ColumnDescription
+    ensures { result ≡ titled_column titles }
+{
+    ColumnDescription {
+        name: None,
+        titles,
+        is_virtual: false,
+        suppressed: false,
+        inherited: no_inherited(),
+        warnings: Seq::new(alloc),
+    }
+}
+
+fn titled_columns(
+    alloc: Global,
+    rows: &[HeaderRow],
+    count: usize,
+) -> Result<Vec<ColumnDescription>, AllocError>
+    ensures { IfOk result (λ v. v.items ≡ titled_columns rows.now count) }
+{
+    let mut columns = Vec::new(alloc);
+    for i in 0..count {
+        let titles = titles_at(alloc, rows, i)?;
+        columns.push(titled_column(alloc, titles))?;
+    }
+    Ok(columns)
+}
+
+/// How many columns come from a header: as many as its first row has cells, or without header rows as the first data row has
+/// fields, where there is one.
+pub fn column_count(rows: &[HeaderRow], width: Option<usize>) -> usize
+    ensures { result ≡ column_count rows.now width }
+{
+    match rows.first() {
+        Some(row) => row.cells.len(),
+        None => width.unwrap_or(0),
+    }
+}
+
+/// The columns that come from a header, each titled by its header cells that aren't empty (Model for Tabular Data, section 8;
+/// Metadata Vocabulary for Tabular Data, section 5.6). Without header rows there is one for each field of the first data row,
+/// of which there are so many. `AllocError` where there is no memory.
+pub fn from_header(
+    alloc: Global,
+    rows: &[HeaderRow],
+    width: Option<usize>,
+) -> Result<Vec<ColumnDescription>, AllocError>
+    ensures { IfOk result (λ v. v.items ≡ from_header rows.now width) }
+{
+    titled_columns(alloc, rows, column_count(rows, width))
+}
