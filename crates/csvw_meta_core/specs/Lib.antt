@@ -1,0 +1,6 @@
+pub mod Kinds
+pub mod Links
+pub mod Others
+pub mod Pointer
+pub mod Read
+pub mod Reads

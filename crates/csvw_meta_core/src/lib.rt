@@ -1,0 +1,19 @@
+//! What a part of a metadata document says, or what is wrong with it, and the kinds of value that a
+//! property may have.
+#![tactic(auto)]
+
+mod fault;
+mod kinds;
+mod links;
+mod others;
+mod part;
+mod pointer;
+mod reader;
+
+pub use fault::{MetaCode, MetaFault, Refusal};
+pub use kinds::{AnyText, Character, Fixed, Language, SomeText, Texts, Truth, Whole};
+pub use links::{IdReader, UrlReader};
+pub use others::Listed;
+pub use part::Part;
+pub use pointer::Pointer;
+pub use reader::{NotYet, OrNull, Reader, each};
