@@ -29,6 +29,10 @@ abbrev pub whole : ℕ → List ℕ → Data → Read ℕ
 whole most at d =
     on_kind at d 0 (option_and_then as_u64 (as_number d)) (λ n. if nat_le n most then fine n else faulty TooMany at 0)
 
+-- a whole number of any size
+abbrev pub any_whole : List ℕ → Data → Read ℕ
+any_whole at d = on_kind at d 0 (option_and_then as_u64 (as_number d)) fine
+
 -- how many characters there are
 abbrev pub sole_of : List ℕ → Sole
 sole_of [] = Empty

@@ -1,5 +1,6 @@
 pub mod Kinds
 pub mod Links
+pub mod Listed
 pub mod Others
 pub mod Pointer
 pub mod Read

@@ -40,6 +40,14 @@ unless_faulty (f ∷ fs) more = f ∷ fs
 abbrev pub also : {A : Type 0} → Read A → (A → List MetaFault) → Read A
 also r rule = record { faults = unless_faulty r.faults (rule r.value); value = r.value }
 
+-- What follows from a value that has to be there first: where it isn't, only its own faults are told.
+abbrev pub over_faults : {A B : Type 0} → B → List MetaFault → A → (A → Read B) → Read B
+over_faults dummy [] a next = next a
+over_faults dummy (f ∷ fs) a next = record { faults = f ∷ fs; value = dummy }
+
+abbrev pub over : {A B : Type 0} → B → Read A → (A → Read B) → Read B
+over dummy r next = over_faults dummy r.faults r.value next
+
 -- ---- values of a wrong kind
 
 -- A number that isn't whole is not supported, whatever is wanted in its place.
@@ -101,7 +109,11 @@ needed reads dummy at d name = found reads dummy at name (get name d)
 
 -- ---- arrays
 
--- each item of an array, the first of which has the number i
+-- each item of an array, the first of which here has the index i; what it says may depend on its number, from 1
+abbrev pub each_numbered : {A : Type 0} → (ℕ → List ℕ → Data → Read A) → List ℕ → ℕ → Items → Read (List A)
+each_numbered reads at i no_items = fine []
+each_numbered reads at i (item d ds) =
+    both (λ x xs. x ∷ xs) (reads (i + 1) (item_at at i) d) (each_numbered reads at (i + 1) ds)
+
 abbrev pub each : {A : Type 0} → (List ℕ → Data → Read A) → List ℕ → ℕ → Items → Read (List A)
-each reads at i no_items = fine []
-each reads at i (item d ds) = both (λ x xs. x ∷ xs) (reads (item_at at i) d) (each reads at (i + 1) ds)
+each reads at i ds = each_numbered (λ n. reads) at i ds

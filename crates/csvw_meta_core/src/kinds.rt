@@ -4,7 +4,7 @@ ghost use Rattle.std.specs.Str.{chars};
 ghost use Rattle.serde_json.specs.View.{view};
 ghost use Rattle.csvw_meta_core.specs.Pointer.{text_of};
 ghost use Rattle.csvw_meta_core.specs.Reads.{Reads};
-ghost use Rattle.csvw_meta_core.specs.Kinds.{truth, text, some_text, fixed, whole, character, texts, language, sole_of};
+ghost use Rattle.csvw_meta_core.specs.Kinds.{truth, text, some_text, fixed, whole, any_whole, character, texts, language, sole_of};
 
 use crate::fault::{MetaCode, Refusal};
 use crate::part::Part;
@@ -89,22 +89,63 @@ impl<'a> Reader for Fixed<'a> {
 
 /// A whole number from 0 up to a limit; one above it is `TooMany`.
 #[derive(Drop)]
-pub struct Whole {
+pub struct WholeU8 {
     /// The limit.
-    pub most: u64,
+    pub most: u8,
 }
 
-impl Reader for Whole {
-    type Output = u64;
+impl Reader for WholeU8 {
+    type Output = u8;
 
     ghost reads = { λ r. whole r.most };
 
+    fn read(&self, part: &Part) -> Result<u8, Refusal> {
+        Ok(whole(part, self.most as u64)? as u8)
+    }
+}
+
+/// A whole number from 0 up to a limit; one above it is `TooMany`.
+#[derive(Drop)]
+pub struct WholeU32 {
+    /// The limit.
+    pub most: u32,
+}
+
+impl Reader for WholeU32 {
+    type Output = u32;
+
+    ghost reads = { λ r. whole r.most };
+
+    fn read(&self, part: &Part) -> Result<u32, Refusal> {
+        Ok(whole(part, self.most as u64)? as u32)
+    }
+}
+
+/// A whole number from 0 on. What a u64 doesn't hold isn't whole.
+#[derive(Drop)]
+pub struct AnyWhole;
+
+impl Reader for AnyWhole {
+    type Output = u64;
+
+    ghost reads = { λ _. any_whole };
+
     fn read(&self, part: &Part) -> Result<u64, Refusal> {
         match part.value.as_u64() {
-            Some(number) if number <= self.most => Ok(number),
-            Some(_) => Err(part.refused(MetaCode::TooMany)),
+            Some(number) => Ok(number),
             None => Err(part.wrong()),
         }
+    }
+}
+
+fn whole(part: &Part, most: u64) -> Result<u64, Refusal>
+    ensures number { Reads result (whole most (text_of part.now.at) (view part.now.value.now)) }
+    ensures bound { IfOk result (λ n. n ≤ most) }
+{
+    match part.value.as_u64() {
+        Some(number) if number <= most => Ok(number),
+        Some(_) => Err(part.refused(MetaCode::TooMany)),
+        None => Err(part.wrong()),
     }
 }
 

@@ -5,15 +5,17 @@
 mod fault;
 mod kinds;
 mod links;
+mod numbered;
 mod others;
 mod part;
 mod pointer;
 mod reader;
 
 pub use fault::{MetaCode, MetaFault, Refusal};
-pub use kinds::{AnyText, Character, Fixed, Language, SomeText, Texts, Truth, Whole};
+pub use kinds::{AnyText, AnyWhole, Character, Fixed, Language, SomeText, Texts, Truth, WholeU8, WholeU32};
 pub use links::{IdReader, UrlReader};
 pub use others::Listed;
 pub use part::Part;
 pub use pointer::Pointer;
+pub use numbered::{NumberedReader, each_numbered};
 pub use reader::{NotYet, OrNull, Reader, each};

@@ -5,6 +5,7 @@ ghost use Rattle.serde_json.specs.View.{view, members_view};
 ghost use Rattle.csvw_meta_core.specs.Pointer.{text_of};
 ghost use Rattle.csvw_meta_core.specs.Reads.{Reads};
 ghost use Rattle.csvw_meta_core.specs.Others.{has_colon, is_among, names_of, other, others_in, others};
+ghost use Rattle.csvw_meta_core.specs.Listed.{all_names};
 
 use crate::fault::{MetaCode, Refusal};
 use crate::part::Part;
@@ -15,8 +16,10 @@ use serde_json::{Map, Value};
 /// The warnings on the properties of an object that aren't listed for it.
 #[derive(Drop)]
 pub struct Listed<'a> {
-    /// The names of the properties that are listed.
+    /// The names of the properties that are listed for the kind of object.
     pub names: &'a [&'a str],
+    /// Those of the properties that it shares with other kinds.
+    pub shared: &'a [&'a str],
     /// What a common property is, one that has a colon in its name and isn't listed.
     pub common: MetaCode,
     /// Where the warnings are told.
@@ -26,7 +29,7 @@ pub struct Listed<'a> {
 impl<'a> Reader for Listed<'a> {
     type Output = Seq<Fault>;
 
-    ghost reads = { λ r. others (names_of r.names.now) r.common r.place };
+    ghost reads = { λ r. others (all_names r) r.common r.place };
 
     fn read(&self, part: &Part) -> Result<Seq<Fault>, Refusal> {
         match part.value {
@@ -41,7 +44,7 @@ fn others_in(
     listed: &Listed,
     members: &Map<String, Value>,
 ) -> Result<Seq<Fault>, Refusal>
-    ensures { Reads result (others_in (names_of listed.now.names.now) listed.now.common listed.now.place (text_of part.now.at) (members_view members.now.entries)) }
+    ensures { Reads result (others_in (all_names listed.now) listed.now.common listed.now.place (text_of part.now.at) (members_view members.now.entries)) }
 {
     let mut warnings = Vec::new(part.alloc);
     for (name, _) in members.iter() {
@@ -57,9 +60,9 @@ fn others_in(
 }
 
 fn is_ignored(part: &Part, listed: &Listed, name: &str) -> Result<bool, Refusal>
-    ensures { Reads result (other (names_of listed.now.names.now) listed.now.common (text_of part.now.at) name.now) }
+    ensures { Reads result (other (all_names listed.now) listed.now.common (text_of part.now.at) name.now) }
 {
-    if is_among(listed.names, name) {
+    if is_among(listed.names, name) || is_among(listed.shared, name) {
         return Ok(false);
     }
     if has_colon(name) {
