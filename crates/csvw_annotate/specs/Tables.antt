@@ -1,6 +1,6 @@
 -- Annotated tables of string columns that a header names (Model for Tabular Data, sections 4.1 to 4.5).
 use Rattle.std.specs.Prelude.{◌≡◌, ℕ, List, [], ◌∷◌, Option, Some, None, Ok, Err}
-use Rattle.csvw_rows.specs.declared.dialect.Dialect.{Dialect}
+use Rattle.csvw_dialect.specs.declared.dialect.Dialect.{Dialect}
 use Rattle.csvw_rows.specs.Files.{Row as FileRow, File, Body}
 use Rattle.csvw_rows.specs.RowValue.{Given}
 use Rattle.csvw_columns.specs.Columns.{header_gives}

@@ -13,8 +13,11 @@ use Rattle.csvw_datatype_core.specs.declared.number.Mark.{Mark}
 use Rattle.csvw_datatype_core.specs.declared.number.Mark.TheVariants as marks
 use Rattle.csvw_datatype_core.specs.Numbers.{Sign, NoSign, Plus, Minus, signed, divisor, fraction_digits, digits_of, IsFraction, IsMarked, IsLawful, ReadsNumber, SpellsNumber}
 use Rattle.csvw_datatype_core.specs.Misread.{MisreadNumber}
-use Rattle.csvw_datatype_core.proofs.LexicalDateLemmas.{date_in_range, moment_in_range}
-use Rattle.csvw_datatype_core.proofs.OneValue.{one_number, one_date, one_moment}
+use Rattle.csvw_datatype_core.specs.declared.date.DateFormat.{DateFormat}
+use Rattle.csvw_datatype_core.specs.declared.moment.MomentFormat.{MomentFormat}
+use Rattle.csvw_datatype_core.specs.Dates.{ReadsDate}
+use Rattle.csvw_datatype_core.specs.Moments.{ReadsMoment}
+use Rattle.csvw_datatype_core.specs.LexicalDates.{IsDayNumber, IsMomentNumber}
 use Rattle.csvw_datatype.specs.declared.value.Value.{Value}
 use Rattle.csvw_datatype.specs.declared.value.Value.TheVariants as values
 use Rattle.csvw_datatype.specs.declared.simple.Simple.{Simple}
@@ -28,6 +31,23 @@ use Rattle.csvw_datatype.specs.Reads.{SpellsTruth, whole_rules, decimal_rules, d
 use Rattle.csvw_datatype.specs.Sound.{IsNumberSize, IsWholeNumber, IsBoundOf, has_bounds}
 use Rattle.csvw_datatype.specs.Lexical.{IsWritable}
 use Rattle.csvw_datatype.proofs.FormatLemmas.{whole_lawful, derived_lawful, decimal_lawful}
+
+-- the laws of csvw_datatype_core: a text is one number, one date and one moment at most, and days and moments have a range
+
+abbrev OneNumber : Type 0
+OneNumber = (rules : NumberRules) (cs : List ℕ) (y z : ℤ) → IsLawful rules → ReadsNumber rules cs y → ReadsNumber rules cs z → y ≡ z
+
+abbrev OneDate : Type 0
+OneDate = (f : DateFormat) (text : List ℕ) (a b : ℤ) → ReadsDate f text a → ReadsDate f text b → a ≡ b
+
+abbrev OneMoment : Type 0
+OneMoment = (f : MomentFormat) (text : List ℕ) (a b : ℤ) → ReadsMoment f text a → ReadsMoment f text b → a ≡ b
+
+abbrev DatesInRange : Type 0
+DatesInRange = (f : DateFormat) (text : List ℕ) (day : ℤ) → ReadsDate f text day → IsDayNumber day
+
+abbrev MomentsInRange : Type 0
+MomentsInRange = (f : MomentFormat) (text : List ℕ) (moment : ℤ) → ReadsMoment f text moment → IsMomentNumber moment
 
 -- truths
 
@@ -55,8 +75,8 @@ one_truth (Some (formats.Moment f)) text a b ok r s = absurd ok
 
 -- numbers
 
-same_number : (rules : NumberRules) (l : IsLawful rules) (cs : List ℕ) (v w : Value) (x y : ℤ) → ReadsNumber rules cs x → ReadsNumber rules cs y → v ≡ values.Number x → w ≡ values.Number y → v ≡ w
-same_number rules l cs v w x y r s p q = p ∙ ap (λ z. values.Number z) (one_number rules l cs x y r s) ∙ sym q
+same_number : OneNumber → (rules : NumberRules) (l : IsLawful rules) (cs : List ℕ) (v w : Value) (x y : ℤ) → ReadsNumber rules cs x → ReadsNumber rules cs y → v ≡ values.Number x → w ≡ values.Number y → v ≡ w
+same_number one rules l cs v w x y r s p q = p ∙ ap (λ z. values.Number z) (one rules cs x y l r s) ∙ sym q
 
 spells_of : (rules : NumberRules) (cs : List ℕ) (z : ℤ) → ReadsNumber rules cs z → SpellsNumber rules cs
 spells_of rules cs z r = record { parts = r.parts; is_number = r.is_number; spelled = r.spelled }
@@ -76,31 +96,31 @@ one_number_code bad rules text c d p q = p.2 ∙ ap (number_code bad) (one_fault
 
 -- values
 
-pub one_value : (s : Simple) (f : Option Format) (text : List ℕ) (v w : Value) → IsFormatOf s f → ReadsAs s f text v → ReadsAs s f text w → v ≡ w
-one_value simples.Text f text v w ok r s = r ∙ sym s
-one_value simples.Uri f text v w ok r s = r ∙ sym s
-one_value simples.Truth f text v w ok r s = r.2 ∙ ap (λ b. values.Truth b) (one_truth f text r.0 s.0 ok r.1 s.1) ∙ sym s.2
-one_value simples.Whole f text v w ok r s = same_number (whole_rules f) (whole_lawful f ok) (chars text) v w r.0 s.0 r.1 s.1 r.2 s.2
-one_value (simples.Derived width) f text v w ok r s = same_number (whole_rules f) (derived_lawful width f ok) (chars text) v w r.0 s.0 r.1 s.1 r.3 s.3
-one_value simples.Decimal f text v w ok r s = same_number (decimal_rules f) (decimal_lawful f ok) (chars text) v w r.0 s.0 r.1 s.1 r.2 s.2
-one_value simples.Day f text v w ok r s = r.2 ∙ ap (λ d. values.Day d) (one_date (date_format f) text r.0 s.0 r.1 s.1) ∙ sym s.2
-one_value simples.Moment f text v w ok r s = r.2 ∙ ap (λ m. values.Moment m) (one_moment (moment_format f) text r.0 s.0 r.1 s.1) ∙ sym s.2
+pub one_value : OneNumber → OneDate → OneMoment → (s : Simple) (f : Option Format) (text : List ℕ) (v w : Value) → IsFormatOf s f → ReadsAs s f text v → ReadsAs s f text w → v ≡ w
+one_value one date moment simples.Text f text v w ok r s = r ∙ sym s
+one_value one date moment simples.Uri f text v w ok r s = r ∙ sym s
+one_value one date moment simples.Truth f text v w ok r s = r.2 ∙ ap (λ b. values.Truth b) (one_truth f text r.0 s.0 ok r.1 s.1) ∙ sym s.2
+one_value one date moment simples.Whole f text v w ok r s = same_number one (whole_rules f) (whole_lawful f ok) (chars text) v w r.0 s.0 r.1 s.1 r.2 s.2
+one_value one date moment (simples.Derived width) f text v w ok r s = same_number one (whole_rules f) (derived_lawful width f ok) (chars text) v w r.0 s.0 r.1 s.1 r.3 s.3
+one_value one date moment simples.Decimal f text v w ok r s = same_number one (decimal_rules f) (decimal_lawful f ok) (chars text) v w r.0 s.0 r.1 s.1 r.2 s.2
+one_value one date moment simples.Day f text v w ok r s = r.2 ∙ ap (λ d. values.Day d) (date (date_format f) text r.0 s.0 r.1 s.1) ∙ sym s.2
+one_value one date moment simples.Moment f text v w ok r s = r.2 ∙ ap (λ m. values.Moment m) (moment (moment_format f) text r.0 s.0 r.1 s.1) ∙ sym s.2
 
 in_width : (w : Width) (x y : ℤ) → x ≡ y → IsInWidth w x → IsInWidth w y
 in_width w x y e h = let P : ℤ → Type 0 = λ z. IsInWidth w z in subst P e h
 
-pub value_or_code : (s : Simple) (f : Option Format) (text : List ℕ) (v : Value) (code : Code) → IsFormatOf s f → ReadsAs s f text v → MisreadAs s f text code → ⊥
-value_or_code simples.Text f text v code ok r m = m
-value_or_code simples.Uri f text v code ok r m = m
-value_or_code simples.Truth f text v code ok r m = m.0 r.0 r.1
-value_or_code simples.Whole f text v code ok r m = not_misread (whole_rules f) (chars text) r.0 m.0 r.1 m.1
-value_or_code (simples.Derived w) f text v code ok r m = elim m [
+pub value_or_code : OneNumber → (s : Simple) (f : Option Format) (text : List ℕ) (v : Value) (code : Code) → IsFormatOf s f → ReadsAs s f text v → MisreadAs s f text code → ⊥
+value_or_code one simples.Text f text v code ok r m = m
+value_or_code one simples.Uri f text v code ok r m = m
+value_or_code one simples.Truth f text v code ok r m = m.0 r.0 r.1
+value_or_code one simples.Whole f text v code ok r m = not_misread (whole_rules f) (chars text) r.0 m.0 r.1 m.1
+value_or_code one (simples.Derived w) f text v code ok r m = elim m [
   | inl n ↦ not_misread (whole_rules f) (chars text) r.0 n.0 r.1 n.1
-  | inr n ↦ n.2 (in_width w r.0 n.0 (one_number (whole_rules f) (derived_lawful w f ok) (chars text) r.0 n.0 r.1 n.1) r.2)
+  | inr n ↦ n.2 (in_width w r.0 n.0 (one (whole_rules f) (chars text) r.0 n.0 (derived_lawful w f ok) r.1 n.1) r.2)
 ]
-value_or_code simples.Decimal f text v code ok r m = not_misread (decimal_rules f) (chars text) r.0 m.0 r.1 m.1
-value_or_code simples.Day f text v code ok r m = m.0 r.0 r.1
-value_or_code simples.Moment f text v code ok r m = m.0 r.0 r.1
+value_or_code one simples.Decimal f text v code ok r m = not_misread (decimal_rules f) (chars text) r.0 m.0 r.1 m.1
+value_or_code one simples.Day f text v code ok r m = m.0 r.0 r.1
+value_or_code one simples.Moment f text v code ok r m = m.0 r.0 r.1
 
 pub one_code : (s : Simple) (f : Option Format) (text : List ℕ) (c d : Code) → IsFormatOf s f → MisreadAs s f text c → MisreadAs s f text d → c ≡ d
 one_code simples.Text f text c d ok p q = absurd p
@@ -162,26 +182,27 @@ whole (Some (formats.Moment f)) cs z r = whole_group None cs z r
 at_value : (P : Value → Type 0) (v w : Value) → v ≡ w → P w → P v
 at_value P v w e h = subst P (sym e) h
 
-pub writable : (s : Simple) (f : Option Format) (text : List ℕ) (v : Value) → ReadsAs s f text v → IsWritable v
-writable simples.Text f text v r = at_value (λ v. IsWritable v) v (values.Text text) r tt
-writable simples.Uri f text v r = at_value (λ v. IsWritable v) v (values.Text text) r tt
-writable simples.Truth f text v r = at_value (λ v. IsWritable v) v (values.Truth r.0) r.2 tt
-writable simples.Whole f text v r = at_value (λ v. IsWritable v) v (values.Number r.0) r.2 (size (whole_rules f) (chars text) r.0 r.1)
-writable (simples.Derived w) f text v r = at_value (λ v. IsWritable v) v (values.Number r.0) r.3 (size (whole_rules f) (chars text) r.0 r.1)
-writable simples.Decimal f text v r = at_value (λ v. IsWritable v) v (values.Number r.0) r.2 (size (decimal_rules f) (chars text) r.0 r.1)
-writable simples.Day f text v r = at_value (λ v. IsWritable v) v (values.Day r.0) r.2 (date_in_range (date_format f) text r.0 r.1)
-writable simples.Moment f text v r = at_value (λ v. IsWritable v) v (values.Moment r.0) r.2 (moment_in_range (moment_format f) text r.0 r.1)
+pub writable : DatesInRange → MomentsInRange → (s : Simple) (f : Option Format) (text : List ℕ) (v : Value) → ReadsAs s f text v → IsWritable v
+writable dates moments simples.Text f text v r = at_value (λ v. IsWritable v) v (values.Text text) r tt
+writable dates moments simples.Uri f text v r = at_value (λ v. IsWritable v) v (values.Text text) r tt
+writable dates moments simples.Truth f text v r = at_value (λ v. IsWritable v) v (values.Truth r.0) r.2 tt
+writable dates moments simples.Whole f text v r = at_value (λ v. IsWritable v) v (values.Number r.0) r.2 (size (whole_rules f) (chars text) r.0 r.1)
+writable dates moments (simples.Derived w) f text v r = at_value (λ v. IsWritable v) v (values.Number r.0) r.3 (size (whole_rules f) (chars text) r.0 r.1)
+writable dates moments simples.Decimal f text v r = at_value (λ v. IsWritable v) v (values.Number r.0) r.2 (size (decimal_rules f) (chars text) r.0 r.1)
+writable dates moments simples.Day f text v r = at_value (λ v. IsWritable v) v (values.Day r.0) r.2 (dates (date_format f) text r.0 r.1)
+writable dates moments simples.Moment f text v r = at_value (λ v. IsWritable v) v (values.Moment r.0) r.2 (moments (moment_format f) text r.0 r.1)
 
-pub writable_answer : (s : Simple) (f : Option Format) (text : List ℕ) (r : Result Value Code) → MatchResult r (ReadsAs s f text) (MisreadAs s f text) → IfOk r IsWritable
-writable_answer s f text (Ok v) h = writable s f text v h
-writable_answer s f text (Err code) h = tt
+pub writable_answer : ((s : Simple) (f : Option Format) (text : List ℕ) (v : Value) → ReadsAs s f text v → IsWritable v)
+    → (s : Simple) (f : Option Format) (text : List ℕ) (r : Result Value Code) → MatchResult r (ReadsAs s f text) (MisreadAs s f text) → IfOk r IsWritable
+writable_answer law s f text (Ok v) h = law s f text v h
+writable_answer law s f text (Err code) h = tt
 
-pub bound : (s : Simple) (f : Option Format) (text : List ℕ) (v : Value) → has_bounds s ≡ true → ReadsAs s f text v → IsBoundOf s v
-bound simples.Text f text v h r = cc
-bound simples.Uri f text v h r = cc
-bound simples.Truth f text v h r = cc
-bound simples.Whole f text v h r = at_value (λ v. IsBoundOf simples.Whole v) v (values.Number r.0) r.2 (size (whole_rules f) (chars text) r.0 r.1, whole f (chars text) r.0 r.1)
-bound (simples.Derived w) f text v h r = at_value (λ v. IsBoundOf (simples.Derived w) v) v (values.Number r.0) r.3 (size (whole_rules f) (chars text) r.0 r.1, whole f (chars text) r.0 r.1, r.2)
-bound simples.Decimal f text v h r = at_value (λ v. IsBoundOf simples.Decimal v) v (values.Number r.0) r.2 (size (decimal_rules f) (chars text) r.0 r.1)
-bound simples.Day f text v h r = at_value (λ v. IsBoundOf simples.Day v) v (values.Day r.0) r.2 (date_in_range (date_format f) text r.0 r.1)
-bound simples.Moment f text v h r = at_value (λ v. IsBoundOf simples.Moment v) v (values.Moment r.0) r.2 (moment_in_range (moment_format f) text r.0 r.1)
+pub bound : DatesInRange → MomentsInRange → (s : Simple) (f : Option Format) (text : List ℕ) (v : Value) → has_bounds s ≡ true → ReadsAs s f text v → IsBoundOf s v
+bound dates moments simples.Text f text v h r = cc
+bound dates moments simples.Uri f text v h r = cc
+bound dates moments simples.Truth f text v h r = cc
+bound dates moments simples.Whole f text v h r = at_value (λ v. IsBoundOf simples.Whole v) v (values.Number r.0) r.2 (size (whole_rules f) (chars text) r.0 r.1, whole f (chars text) r.0 r.1)
+bound dates moments (simples.Derived w) f text v h r = at_value (λ v. IsBoundOf (simples.Derived w) v) v (values.Number r.0) r.3 (size (whole_rules f) (chars text) r.0 r.1, whole f (chars text) r.0 r.1, r.2)
+bound dates moments simples.Decimal f text v h r = at_value (λ v. IsBoundOf simples.Decimal v) v (values.Number r.0) r.2 (size (decimal_rules f) (chars text) r.0 r.1)
+bound dates moments simples.Day f text v h r = at_value (λ v. IsBoundOf simples.Day v) v (values.Day r.0) r.2 (dates (date_format f) text r.0 r.1)
+bound dates moments simples.Moment f text v h r = at_value (λ v. IsBoundOf simples.Moment v) v (values.Moment r.0) r.2 (moments (moment_format f) text r.0 r.1)

@@ -9,18 +9,25 @@ ghost use Rattle.csvw_datatype.specs.Sound.{IsBoundOf, has_bounds};
 use crate::format::Format;
 use crate::simple::Simple;
 use crate::value::Value;
+use csvw_datatype_core::{one_date, one_moment, one_number};
 
 /// A law: a text is one value at most.
 pub fn one_value()
     ensures { (s : Simple) (f : Option Format) (text : List ℕ) (v w : Value) → IsFormatOf s f
         → ReadsAs s f text v → ReadsAs s f text w → v ≡ w }
-{}
+{
+    one_number();
+    one_date();
+    one_moment();
+}
 
 /// A law: a text that is a value has no code.
 pub fn value_or_code()
     ensures { (s : Simple) (f : Option Format) (text : List ℕ) (v : Value) (code : Code) → IsFormatOf s f
         → ReadsAs s f text v → ¬ MisreadAs s f text code }
-{}
+{
+    one_number();
+}
 
 /// A law: a text has one code at most.
 pub fn one_code()
@@ -34,7 +41,10 @@ pub fn values_of_texts()
         → ReadsAs s f text v → IsWritable v }
     ensures in_type { (s : Simple) (f : Option Format) (text : List ℕ) (v : Value) → has_bounds s ≡ true
         → ReadsAs s f text v → IsBoundOf s v }
-{}
+{
+    one_date();
+    one_moment();
+}
 
 /// Whether `==` holds of two values, which it does where they are the same text, truth, number, day or moment.
 pub fn are_equal(a: &Value, b: &Value) -> bool

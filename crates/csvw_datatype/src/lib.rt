@@ -9,8 +9,6 @@ mod laws;
 mod lexical;
 mod read;
 mod simple;
-#[cfg(test)]
-mod tests;
 mod truth;
 mod value;
 mod width;

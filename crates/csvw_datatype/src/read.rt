@@ -8,6 +8,7 @@ ghost use Rattle.csvw_datatype.specs.Lexical.{IsWritable};
 
 use crate::datatype::Datatype;
 use crate::format::Format;
+use crate::laws::values_of_texts;
 use crate::simple::{Simple, Width};
 use crate::truth::read_truth;
 use crate::value::Value;
@@ -31,6 +32,7 @@ impl Datatype {
             (λ answer. MatchResult answer (Reads self.now text.now) (Misread self.now text.now)) }
         ensures writable { IfOk result (λ answer. IfOk answer IsWritable) }
     {
+        values_of_texts();
         let format = &self.format;
         match self.simple {
             Simple::Text | Simple::Uri => Ok(Ok(Value::Text(Text::copied(alloc, text)?))),

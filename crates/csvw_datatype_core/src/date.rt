@@ -191,6 +191,3 @@ pub fn one_date()
     ensures same { (f : DateFormat) (text : List ℕ) (a b : ℤ) → ReadsDate f text a → ReadsDate f text b → a ≡ b }
     ensures in_range { (f : DateFormat) (text : List ℕ) (day : ℤ) → ReadsDate f text day → IsDayNumber day }
 {}
-
-#[cfg(test)]
-mod tests;

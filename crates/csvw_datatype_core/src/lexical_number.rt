@@ -61,22 +61,3 @@ fn push_fraction(out: &mut String, fraction: u64) -> Result<(), AllocError>
     }
     Ok(())
 }
-
-#[cfg(test)]
-mod tests {
-    use super::*;
-    use std::test::Fail;
-
-    #[test]
-    fn nothing_that_can_be_left_out(rt: HostRuntime) -> Result<(), Fail> {
-        let alloc = rt.alloc();
-        let one = 1_000_000_000_000_000_000;
-        assert!(rt; number_text(alloc, 0)?.as_str() == "0");
-        assert!(rt; number_text(alloc, 7 * one)?.as_str() == "7");
-        assert!(rt; number_text(alloc, one / 2)?.as_str() == "0.5");
-        assert!(rt; number_text(alloc, -one / 4)?.as_str() == "-0.25");
-        assert!(rt; number_text(alloc, 1)?.as_str() == "0.000000000000000001");
-        assert!(rt; number_text(alloc, -10 * one)?.as_str() == "-10");
-        Ok(())
-    }
-}

@@ -91,6 +91,3 @@ pub fn one_moment()
     ensures in_range { (f : MomentFormat) (text : List ℕ) (moment : ℤ)
         → ReadsMoment f text moment → IsMomentNumber moment }
 {}
-
-#[cfg(test)]
-mod tests;

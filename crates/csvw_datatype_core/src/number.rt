@@ -326,6 +326,3 @@ pub fn one_number()
     ensures { (rules : NumberRules) (cs : List ℕ) (y z : ℤ) → IsLawful rules
         → ReadsNumber rules cs y → ReadsNumber rules cs z → y ≡ z }
 {}
-
-#[cfg(test)]
-mod tests;

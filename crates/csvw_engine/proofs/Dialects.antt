@@ -3,8 +3,8 @@ use Rattle.std.proofs.Common.{◌≡◌, ◌∙◌, ℕ, sym, ap, arith, Bool, O
 use Rattle.std.specs.Prelude.{option_map}
 use Rattle.std.specs.Str.{chars}
 use Rattle.std.proofs.lemmas.Str.{chars-IsAscii}
-use Rattle.csvw_rows.specs.declared.dialect.Dialect.{Dialect}
-use Rattle.csvw_rows.specs.Lawful.{IsDefault, IsLawful, prefix_breaks}
+use Rattle.csvw_dialect.specs.declared.dialect.Dialect.{Dialect}
+use Rattle.csvw_dialect.specs.Lawful.{IsDefault, IsLawful, prefix_breaks}
 
 comma_is_no : (c : ℕ) (x : ℕ) → c ≡ 44 → c ≡ x → x ≡ 44
 comma_is_no c x p q = sym q ∙ p

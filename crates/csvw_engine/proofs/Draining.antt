@@ -1,6 +1,6 @@
 -- How the sink of a table goes on, row by row.
 use Rattle.std.proofs.Common.{◌≡◌, ◌+◌, ℕ, List, [], ◌∷◌, ◌++◌, refl, sym, ap, ◌∙◌, subst, false, Bool, append_assoc, append-nil, inl, inr, ◌⊎◌, Some, None, Result, Err}
-use Rattle.csvw_rows.specs.declared.dialect.Dialect.{Dialect}
+use Rattle.csvw_dialect.specs.declared.dialect.Dialect.{Dialect}
 use Rattle.csvw_annotate.specs.declared.row.Row.{Row}
 use Rattle.csvw_triples.specs.Taking.{FrontOf, IsAsReady}
 use Rattle.csvw_triples.specs.declared.term.Triple.{Triple}

@@ -1,7 +1,7 @@
 -- The bytes of a reader, piece by piece.
 use Rattle.std.proofs.Common.{◌≡◌, ℕ, List, sym, ap, ◌∙◌, subst, true, Bool, Option, Result, Ok, Err}
 use Rattle.std.specs.Io.KnownBytes.{Consumes, IsAtEnd}
-use Rattle.csvw_rows.specs.declared.dialect.Dialect.{Dialect}
+use Rattle.csvw_dialect.specs.declared.dialect.Dialect.{Dialect}
 use Rattle.csvw_triples.specs.declared.term.Triple.{Triple}
 use Rattle.csvw_engine.specs.Tables.{StopsSo, Drains, Reads}
 use Rattle.csvw_engine.specs.declared.halt.Halt.{Halt}

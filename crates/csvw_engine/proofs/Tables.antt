@@ -2,7 +2,7 @@
 use Rattle.std.proofs.Common.{◌≡◌, ◌≢◌, ℕ, List, [], ◌∷◌, ◌++◌, refl, sym, ap, ◌∙◌, subst, true, Bool, append-nil, inl, Option, Some, None, Result, Ok, Err}
 use Rattle.std.proofs.lemmas.List.Concat.{flat_map-append}
 use Rattle.csvw_iri.specs.Link.{iri_of}
-use Rattle.csvw_rows.specs.declared.dialect.Dialect.{Dialect}
+use Rattle.csvw_dialect.specs.declared.dialect.Dialect.{Dialect}
 use Rattle.csvw_rows.specs.Files.{IsWhole}
 use Rattle.csvw_rows.specs.RowValue.{Given}
 use Rattle.csvw_rows.specs.RowsState.{Holds, Gives, Stays, IsDone, IsStopped, NoStop, is_ended_of}

@@ -4,7 +4,7 @@ use Rattle.std.specs.Io.KnownBytes.{Consumes, IsAtEnd}
 use Rattle.url.specs.Parts.{Parts}
 use Rattle.csvw_text.specs.Count.{one_more}
 use Rattle.csvw_iri.specs.Link.{iri_of}
-use Rattle.csvw_rows.specs.declared.dialect.Dialect.{Dialect}
+use Rattle.csvw_dialect.specs.declared.dialect.Dialect.{Dialect}
 use Rattle.csvw_rows.specs.declared.rows.Rows.{Rows}
 use Rattle.csvw_rows.specs.Files.{IsWhole}
 use Rattle.csvw_rows.specs.RowValue.{Given}

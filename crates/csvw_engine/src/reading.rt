@@ -1,6 +1,6 @@
 //! A table, read to its end.
 ghost use Rattle.std.specs.Prelude.{◌≡◌, [], false, IfOk, length};
-ghost use Rattle.csvw_rows.specs.declared.dialect.Dialect.{Dialect as TheDialect};
+ghost use Rattle.csvw_dialect.specs.declared.dialect.Dialect.{Dialect as TheDialect};
 ghost use Rattle.csvw_rows.specs.RowsState.{is_ended_of};
 ghost use Rattle.csvw_text.specs.Counted.{inner_of, failures_of};
 ghost use Rattle.csvw_engine.specs.Tables.{IsSameTable, Stands, Reads};

@@ -110,6 +110,3 @@ pub fn plain<R: Read, W: Write, V: Write>(
         faults: Seq::new(alloc),
     })
 }
-
-#[cfg(test)]
-mod tests;

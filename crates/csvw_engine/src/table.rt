@@ -1,8 +1,8 @@
 //! The state of one table, and how a piece of its text goes on to the sink.
 ghost use Rattle.std.specs.Prelude.{◌≡◌, ◌++◌, ◌∷◌, ℕ, List, [], Bool, true, false, IfOk, IfErr, Some, None, Ok};
-ghost use Rattle.csvw_rows.specs.declared.dialect.Dialect.{Dialect as TheDialect};
+ghost use Rattle.csvw_dialect.specs.declared.dialect.Dialect.{Dialect as TheDialect};
 ghost use Rattle.csvw_iri.specs.Link.{iri_of};
-ghost use Rattle.csvw_rows.specs.Lawful.{IsDefault};
+ghost use Rattle.csvw_dialect.specs.Lawful.{IsDefault};
 ghost use Rattle.csvw_rows.specs.RowValue.{row_of};
 ghost use Rattle.csvw_columns.specs.Columns.{header_gives};
 ghost use Rattle.csvw_annotate.specs.Annotated.{annotated};

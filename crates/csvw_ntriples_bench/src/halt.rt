@@ -1,8 +1,8 @@
 //! Why a run stops.
 
-use crate::convert::Unwritable;
 use csvw_ntriples::NtFault;
 use csvw_triples::SinkFault;
+use std::alloc::AllocError;
 
 /// Why a run stops.
 #[derive(Clone, Copy, Debug, PartialEq, Eq)]
@@ -17,18 +17,32 @@ pub enum Halt {
     Write,
     /// The document isn't N-Triples.
     Syntax,
-    /// A triple was read that `NtSink` never writes: an IRI has an escaped character that can't stand raw,
-    /// or a label isn't that of a note.
+    /// A triple was read that `NtSink` never writes: an IRI has an escaped character that can't stand raw, or a label isn't
+    /// that of a note.
     NotWritable,
 }
 
+impl Halt {
+    /// The exit status, and the line that tells it.
+    pub fn told(self) -> (u8, &'static str) {
+        match self {
+            Halt::Syntax => (1, "Syntax"),
+            Halt::Usage => (2, "count <DOCUMENT, or write ROUNDS <DOCUMENT"),
+            Halt::NotWritable => (3, "NotWritable"),
+            Halt::Memory => (4, "Memory"),
+            Halt::Read => (4, "Read"),
+            Halt::Write => (4, "Write"),
+        }
+    }
+}
+
+impl From<AllocError> for Halt {
+    fn from(_: AllocError) -> Halt {
+        Halt::Memory
+    }
+}
+
 impl From<NtFault> for Halt {
-    ghost use Rattle.std.specs.Prelude.{◌≡◌};
-    ghost use Rattle.csvw_ntriples.specs.declared.term.NtFault.TheVariants as fault;
-    ghost use Rattle.csvw_ntriples_bench.specs.declared.halt.Halt.TheVariants as halt;
-
-    ghost from_gives = { λ f h. h ≡ halt.Syntax → f ≡ fault.Syntax };
-
     fn from(fault: NtFault) -> Halt {
         match fault {
             NtFault::Memory => Halt::Memory,
@@ -38,29 +52,10 @@ impl From<NtFault> for Halt {
 }
 
 impl From<SinkFault> for Halt {
-    ghost use Rattle.std.specs.Prelude.{◌≢◌};
-    ghost use Rattle.csvw_ntriples_bench.specs.declared.halt.Halt.TheVariants as halt;
-
-    ghost from_gives = { λ _ h. h ≢ halt.Syntax };
-
     fn from(fault: SinkFault) -> Halt {
         match fault {
             SinkFault::Memory => Halt::Memory,
             SinkFault::Device | SinkFault::Closed => Halt::Write,
-        }
-    }
-}
-
-impl From<Unwritable> for Halt {
-    ghost use Rattle.std.specs.Prelude.{◌≢◌};
-    ghost use Rattle.csvw_ntriples_bench.specs.declared.halt.Halt.TheVariants as halt;
-
-    ghost from_gives = { λ _ h. h ≢ halt.Syntax };
-
-    fn from(fault: Unwritable) -> Halt {
-        match fault {
-            Unwritable::Memory => Halt::Memory,
-            Unwritable::Spelling => Halt::NotWritable,
         }
     }
 }

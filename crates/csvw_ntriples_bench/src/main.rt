@@ -1,24 +1,89 @@
 //! Reads and writes N-Triples, so that both can be measured and compared.
 #![tactic(auto)]
 
-mod command;
 mod convert;
 mod halt;
-mod putting;
 mod words;
 
-use command::command;
+use convert::triples;
+use csvw_ntriples::{NtSink, read};
 use csvw_text::Counted;
+use csvw_triples::{Triple, TripleSink};
+use halt::Halt;
+use std::alloc::Global;
 use std::env;
-use std::io::{self, BufWriter};
+use std::io::{self, BufWriter, Read, Write};
 use std::process::ExitCode;
+use words::{Task, requested};
+
+/// Everything that the reader has left.
+fn read_all<R: Read>(alloc: Global, input: &mut R) -> Result<Vec<u8>, Halt> {
+    let mut bytes = Vec::new(alloc);
+    match input.read_to_end(&mut bytes) {
+        Ok(_) => Ok(bytes),
+        Err(_) => Err(Halt::Read),
+    }
+}
+
+fn put_all<S: TripleSink>(triples: &[Triple], sink: &mut S) -> Result<(), Halt> {
+    for triple in triples {
+        sink.put(triple)?;
+    }
+    Ok(())
+}
+
+/// Writes the triples of the document so many times.
+fn write<W: Write>(
+    alloc: Global,
+    rounds: u64,
+    document: &[u8],
+    out: &mut Counted<W>,
+) -> Result<(), Halt> {
+    let triples = triples(alloc, read(alloc, document)?)?;
+    let mut sink = NtSink::new(alloc, out);
+    for _ in 0..rounds {
+        put_all(triples.as_slice(), &mut sink)?;
+    }
+    Ok(())
+}
+
+/// Does what the words ask for with the document, and tells how many triples it has where they ask for that.
+fn run<R: Read, W: Write>(
+    alloc: Global,
+    words: &[String],
+    input: &mut R,
+    out: &mut Counted<W>,
+) -> Result<Option<usize>, Halt> {
+    let Some(task) = requested(words) else {
+        return Err(Halt::Usage);
+    };
+    let document = read_all(alloc, input)?;
+    match task {
+        Task::Count => Ok(Some(read(alloc, document.as_slice())?.len())),
+        Task::Write(rounds) => {
+            write(alloc, rounds, document.as_slice(), out)?;
+            Ok(None)
+        }
+    }
+}
 
 fn main(rt: HostRuntime) -> io::Result<ExitCode> {
     let alloc = rt.alloc();
     let words = env::args(&rt)?.collect::<Vec<String>>(alloc)?;
-    let mut input = rt.stdin();
     let mut out = Counted::new(BufWriter::new(alloc, rt.stdout())?);
-    let mut err = Counted::new(rt.stderr());
-    let status = command(alloc, words.as_slice(), &mut input, &mut out, &mut err);
-    Ok(ExitCode::from(status))
+    let mut input = rt.stdin();
+    match run(alloc, words.as_slice(), &mut input, &mut out) {
+        Ok(count) => {
+            out.flush()?;
+            if let Some(count) = count {
+                println!(rt; "{count} triples")?;
+            }
+            Ok(ExitCode::from(0))
+        }
+        Err(halt) => {
+            let (status, line) = halt.told();
+            eprintln!(rt; "csvw_ntriples_bench: {line}")?;
+            Ok(ExitCode::from(status))
+        }
+    }
 }

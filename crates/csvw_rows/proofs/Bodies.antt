@@ -5,8 +5,8 @@ use Rattle.std.specs.List.{enumerate_from, cons_option, list_all}
 use Rattle.std.specs.Char.{encode_utf8}
 use Rattle.std.proofs.lemmas.Str.{length-encode, len_utf8_bounds}
 use Rattle.std.proofs.lemmas.Bool.Decides.{nat_tests}
-use Rattle.csvw_rows.specs.declared.dialect.Dialect.{Dialect}
-use Rattle.csvw_rows.specs.declared.dialect.Trim.{Trim}
+use Rattle.csvw_dialect.specs.declared.dialect.Dialect.{Dialect}
+use Rattle.csvw_dialect.specs.declared.dialect.Trim.{Trim}
 use Rattle.csvw_rows.specs.Grammar.{trimmed}
 use Rattle.csvw_rows.specs.Files.{Row, Body, given, remaining, remaining_fields, is_empty}
 

@@ -200,13 +200,6 @@ moved_is text spare at b h e = by_apart b.apart refl
         )
 
 -- the bounds behind the first
-pub are_dropped : (text spare : List ℕ) (n : ℕ) (bounds : List Bound) → are_bounds text spare bounds ≡ true → are_bounds text spare (drop n bounds) ≡ true
-are_dropped text spare zero bounds e = e
-are_dropped text spare (suc n) [] e = e
-are_dropped text spare (suc n) (b ∷ bs) e = are_dropped text spare n bs (tail (is_bound text spare b) (are_bounds text spare bs) e)
-  where
-    tail : (a c : Bool) → (a && c) ≡ true → c ≡ true
-    tail a c h = grind arith
 
 pub on_ok : {T E : Type 0} (r : Result T E) (P Q : Type 0) → (P → Q) → OnOk r P → OnOk r Q
 on_ok (Ok x) P Q f h = f h

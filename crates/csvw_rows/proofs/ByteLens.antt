@@ -17,9 +17,6 @@ byte_len_more xs i h =
 take_all : (l : List ℕ) → take (length l) l ≡ l
 take_all l = grind (arith, common_steps)
 
-rest_whole : (l : List ℕ) (s : ℕ) → take (length l - s) (drop s l) ≡ drop s l
-rest_whole l s = ap (λ n. take n (drop s l)) (sym (length-drop s l)) ∙ take_all (drop s l)
-
 byte_len_append : (a b : List ℕ) → byte_len (a ++ b) ≡ byte_len a + byte_len b
 byte_len_append a b = ap length (encodes-append a b) ∙ length-append (encode_utf8_all a) (encode_utf8_all b)
 

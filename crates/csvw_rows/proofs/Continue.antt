@@ -4,12 +4,13 @@ use Rattle.std.specs.List.{starts_with}
 use Rattle.std.proofs.lemmas.Bool.Decides.{nat_tests}
 use Rattle.std.proofs.lemmas.Grind.{common_steps}
 use Rattle.std.proofs.lemmas.List.{append_cancel_right}
-use Rattle.csvw_rows.specs.declared.dialect.Dialect.{Dialect}
+use Rattle.csvw_dialect.specs.declared.dialect.Dialect.{Dialect}
 use Rattle.csvw_rows.specs.declared.scan.State.{State}
 use Rattle.csvw_rows.specs.declared.scan.State.TheVariants.{Start}
 use Rattle.csvw_rows.specs.Grammar.{terminator_len}
-use Rattle.csvw_rows.specs.Lawful.{IsLawful, has_break, prefix_breaks}
-use Rattle.csvw_rows.specs.Files.{Row, IsRow, EndsRow, is_note, begins_with, prefix_of}
+use Rattle.csvw_dialect.specs.Lawful.{IsLawful, has_break, prefix_breaks}
+use Rattle.csvw_rows.specs.Files.{Row, IsRow, EndsRow, is_note, begins_with}
+use Rattle.csvw_dialect.specs.Lawful.{prefix_of}
 use Rattle.csvw_rows.specs.Scan.{Outcome, Found, Broken, Unfinished, run, pass, finish}
 use Rattle.csvw_rows.specs.Looks.{settled, unsettled, line_of, found_row, next_row, terminator_of, may_be_note, begins_prefix}
 use Rattle.csvw_rows.specs.Parts.{Continues}

@@ -7,7 +7,7 @@ use Rattle.std.proofs.lemmas.List.{take_more, get_or-take, get_or-drop, drop-dro
 use Rattle.std.proofs.lemmas.Str.{IsUtf8-from_is_utf8, is_utf8-from_IsUtf8, IsUtf8-append, IsUtf8-nil, IsUtf8-from_ascii, chars-append, encodes-chars, chars-nil}
 use Rattle.memchr.specs.Find.{is_byte}
 use Rattle.csvw_rows.specs.Marked.{is_quote, StandsAhead}
-use Rattle.csvw_rows.specs.declared.dialect.Dialect.{Dialect}
+use Rattle.csvw_dialect.specs.declared.dialect.Dialect.{Dialect}
 use Rattle.csvw_rows.specs.declared.bound.Bound.{Bound}
 use Rattle.csvw_rows.specs.declared.cut.Cut.{Cut}
 use Rattle.csvw_rows.specs.declared.cut.Symbols.{Symbols}

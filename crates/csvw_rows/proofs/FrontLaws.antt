@@ -2,8 +2,8 @@
 use Rattle.std.proofs.Common.{◌≡◌, ℕ, zero, suc, ◌+◌, ◌<◌, ◌≤◌, Bool, true, false, List, [], ◌∷◌, ◌++◌, length, map, take, refl, sym, ap, ◌∙◌, subst, arith, append_assoc, append-nil, length-append, ◌⊎◌, inl, inr}
 use Rattle.std.proofs.lemmas.Bool.{cases_lt}
 use Rattle.std.specs.List.{enumerate_from}
-use Rattle.csvw_rows.specs.declared.dialect.Dialect.{Dialect}
-use Rattle.csvw_rows.specs.Lawful.{IsLawful}
+use Rattle.csvw_dialect.specs.declared.dialect.Dialect.{Dialect}
+use Rattle.csvw_dialect.specs.Lawful.{IsLawful}
 use Rattle.csvw_rows.specs.Files.{Row, IsRow, AreRows, AreAllRows, EndsOpen, KeepsLimits, Front, Body, given, remaining, content, is_text, without_mark}
 use Rattle.csvw_rows.specs.SourceState.{rest_of}
 use Rattle.csvw_rows.specs.RowValue.{Given}

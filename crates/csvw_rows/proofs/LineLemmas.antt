@@ -3,14 +3,14 @@ use Rattle.std.proofs.Common.{◌≡◌, ℕ, zero, suc, ◌+◌, ◌-◌, ◌<�
 use Rattle.std.proofs.lemmas.Bool.Decides.{nat_tests}
 use Rattle.std.proofs.lemmas.Grind.{common_steps}
 use Rattle.std.proofs.lemmas.List.{take_more, drop-append-le}
-use Rattle.csvw_rows.specs.declared.dialect.Dialect.{Dialect}
+use Rattle.csvw_dialect.specs.declared.dialect.Dialect.{Dialect}
 use Rattle.csvw_rows.specs.declared.stop.RowStop.{RowStop}
 use Rattle.csvw_rows.specs.declared.scan.State.{State}
 use Rattle.csvw_rows.specs.declared.scan.State.TheVariants.{Start, Plain, Inside, Escaped, Closed}
 use Rattle.csvw_rows.specs.declared.scan.Step.{Step}
 use Rattle.csvw_rows.specs.declared.scan.Step.TheVariants.{Keep, Skip, Open, Next, End, Stop}
 use Rattle.csvw_rows.specs.Grammar.{trimmed}
-use Rattle.csvw_rows.specs.Lawful.{IsLawful}
+use Rattle.csvw_dialect.specs.Lawful.{IsLawful}
 use Rattle.csvw_rows.specs.Files.{is_note}
 use Rattle.csvw_rows.specs.Scan.{Found, Broken, Unfinished, is_quoted, step_of, run, pass, finish}
 use Rattle.csvw_rows.specs.Looks.{settled, unsettled, line_of, found_row}
@@ -72,73 +72,11 @@ settled_same d (c ∷ cs) n =
     last_of text some ∙ sym (ap (settled d) (last_of text some) ∙ settled_snoc d p x ∙ ap (λ (b : Bool). if b then p else p ++ x ∷ []) test)
 
 -- lines
-line_true : (d : Dialect) (text after : List ℕ) → line_of true d text ≡ Some after → ((after ≡ []) × (line_of false d text ≡ None)) ⊎ ((0 < length after) × (line_of false d text ≡ Some after))
-line_true d [] after e = inl (cc, refl)
-line_true d (c ∷ cs) after e = by_test (ends_at d (c ∷ cs)) e (line_true d cs after)
-  where
-    by_test : (b : Bool) → (if b then Some (c ∷ cs) else line_of true d cs) ≡ Some after
-        → (line_of true d cs ≡ Some after → ((after ≡ []) × (line_of false d cs ≡ None)) ⊎ ((0 < length after) × (line_of false d cs ≡ Some after)))
-        → ((after ≡ []) × ((if b then Some (c ∷ cs) else line_of false d cs) ≡ None)) ⊎ ((0 < length after) × ((if b then Some (c ∷ cs) else line_of false d cs) ≡ Some after))
-    by_test true e ih = let same : c ∷ cs ≡ after = cc in inr ((let n : 0 < length after = omega (arith, ap length same) in n), e)
-    by_test false e ih = ih e
-
-drop_settled : (d : Dialect) (text : List ℕ) (n : ℕ) → n ≤ length (settled d text) → drop n (settled d text) ++ unsettled d text ≡ drop n text
-drop_settled d text n h = sym (drop-append-le n (settled d text) (unsettled d text) h) ∙ ap (drop n) (settled_all d text)
-
-settled_short : (d : Dialect) (text : List ℕ) → length (settled d text) ≤ length text
-settled_short d text = omega (arith, settled_len d text)
-
-pub note_whole : (d : Dialect) (i : ℕ) (text : List ℕ) (len : ℕ) → len ≤ length text → line_of true d text ≡ Some (drop len text) → is_note d i text ≡ true → IsFound true d i text len None
-note_whole d i text len h e n = record {
-  within = h;
-  found = ap (λ (b : Bool). if b then option_map (λ after. (None, after)) (line_of true d text) else found_row d (pass true d Start [] [] text)) n ∙ ap (option_map (λ after. (None, after))) e;
-}
-
-pub note_part : (d : Dialect) (i : ℕ) (text : List ℕ) (len : ℕ) → len < length (settled d text) → line_of true d (settled d text) ≡ Some (drop len (settled d text)) → is_note d i text ≡ true
-    → IsFound false d i text len None
-note_part d i text len h e n = by_line (line_true d s (drop len s) e)
-  where
-    s : List ℕ
-    s = settled d text
-
-    by_line : ((drop len s ≡ []) × (line_of false d s ≡ None)) ⊎ ((0 < length (drop len s)) × (line_of false d s ≡ Some (drop len s))) → IsFound false d i text len None
-    by_line (inl (z, f)) = absurd (omega (arith, h, ap length z, length-drop len s))
-    by_line (inr (p, f)) = record {
-      within = (let k = settled_short d text in omega (arith, h, k));
-      found = note_next d i text n ∙ ap (option_map (λ after. (None, after)))
-          (ap (line_of false d) (sym (settled_all d text)) ∙ line_joins d false s (unsettled d text) (drop len s) (clear_all d text) f ∙ ap Some (drop_settled d text len (omega (arith, h))));
-    }
-
-pub note_open : (d : Dialect) (i : ℕ) (text : List ℕ) (len : ℕ) → IsLawful d → len ≤ length (settled d text) → (len < length (settled d text) → ⊥) → line_of true d (settled d text) ≡ Some (drop len (settled d text))
-    → is_note d i text ≡ true → Continues d i text (length (settled d text))
-note_open d i text len w h k e n = by_line (line_true d s (drop len s) e)
-  where
-    s : List ℕ
-    s = settled d text
-
-    by_line : ((drop len s ≡ []) × (line_of false d s ≡ None)) ⊎ ((0 < length (drop len s)) × (line_of false d s ≡ Some (drop len s))) → Continues d i text (length s)
-    by_line (inl (z, f)) = continues_note d i text w n f
-    by_line (inr (p, f)) = absurd (omega (arith, h, k, p, length-drop len s))
 
 -- rows with fields
-pub found_whole : (d : Dialect) (i : ℕ) (text : List ℕ) (len : ℕ) (values : List (List ℕ)) → len ≤ length text → run d Start [] [] text ≡ Found values (drop len text) → is_note d i text ≡ false
-    → IsFound true d i text len (Some (map (trimmed d.trim) values))
-found_whole d i text len values h e n = record { within = h; found = fields_next true d i text n ∙ ap (λ o. found_row d (finish o true)) e }
 
 pub run_whole : (d : Dialect) (text : List ℕ) → run d Start [] [] text ≡ goes_on d (run d Start [] [] (settled d text)) (unsettled d text)
 run_whole d text = ap (run d Start [] []) (sym (append-nil text)) ∙ run_on d text [] ∙ ap (goes_on d (run d Start [] [] (settled d text))) (append-nil (unsettled d text))
-
-pub found_part : (d : Dialect) (i : ℕ) (text : List ℕ) (len : ℕ) (values : List (List ℕ)) → len ≤ length (settled d text) → run d Start [] [] (settled d text) ≡ Found values (drop len (settled d text))
-    → is_note d i text ≡ false → IsFound false d i text len (Some (map (trimmed d.trim) values))
-found_part d i text len values h e n = record {
-  within = (let k = settled_short d text in omega (arith, h, k));
-  found = fields_next false d i text n ∙ ap (λ o. found_row d (finish o false))
-      (run_whole d text ∙ ap (λ o. goes_on d o (unsettled d text)) e ∙ ap (Found values) (drop_settled d text len h));
-}
-
-pub broken_part : (d : Dialect) (text : List ℕ) (stop : RowStop) (at : ℕ) → at < length (settled d text) → run d Start [] [] (settled d text) ≡ Broken stop (drop at (settled d text))
-    → run d Start [] [] text ≡ Broken stop (drop at text)
-broken_part d text stop at h e = run_whole d text ∙ ap (λ o. goes_on d o (unsettled d text)) e ∙ ap (Broken stop) (drop_settled d text at (omega (arith, h)))
 
 pub unquoted_ends : (st : State) (vs : List (List ℕ)) (cur : List ℕ) → is_quoted st ≡ false → finish (Unfinished st vs cur) true ≡ Found (vs ++ cur ∷ []) []
 unquoted_ends Start vs cur q = refl
@@ -146,14 +84,6 @@ unquoted_ends Plain vs cur q = refl
 unquoted_ends Closed vs cur q = refl
 unquoted_ends Inside vs cur q = absurd cc
 unquoted_ends Escaped vs cur q = absurd cc
-
-pub last_whole : (d : Dialect) (i : ℕ) (text : List ℕ) (st : State) (vs pushed : List (List ℕ)) (cur : List ℕ) → run d Start [] [] text ≡ Unfinished st vs cur → is_quoted st ≡ false → pushed ≡ vs ++ cur ∷ []
-    → is_note d i text ≡ false → IsFound true d i text (length text) (Some (map (trimmed d.trim) pushed))
-last_whole d i text st vs pushed cur e q p n = record {
-  within = omega arith;
-  found = fields_next true d i text n ∙ ap (λ o. found_row d (finish o true)) e ∙ ap (found_row d) (unquoted_ends st vs cur q)
-      ∙ ap (λ l. Some (Some (map (trimmed d.trim) l), [])) (sym p) ∙ ap (λ l. Some (Some (map (trimmed d.trim) pushed), l)) (sym (drop_all (length text) text (omega arith)));
-}
 
 -- a broken rule leaves some of the text
 act_broken : (d : Dialect) (vs : List (List ℕ)) (cur : List ℕ) (c : ℕ) (cs : List ℕ) (s : Step) (stop : RowStop) (rest : List ℕ)

@@ -2,10 +2,11 @@
 use Rattle.std.proofs.Common.{◌≡◌, ℕ, ◌<◌, Bool, true, false, ◌&&◌, ◌||◌, ◌==◌, if◌then◌else◌, List, [], ◌∷◌, ◌++◌, Option, Some, None, refl, sym, ap, ◌∙◌, arith, inl, inr, nat_lt, nat_eq}
 use Rattle.std.specs.List.{starts_with}
 use Rattle.std.proofs.lemmas.Bool.Decides.{nat_tests}
-use Rattle.csvw_rows.specs.declared.dialect.Dialect.{Dialect}
+use Rattle.csvw_dialect.specs.declared.dialect.Dialect.{Dialect}
 use Rattle.csvw_rows.specs.Grammar.{terminator_len}
-use Rattle.csvw_rows.specs.Files.{EndsRow, begins_with, prefix_of, is_note}
-use Rattle.csvw_rows.specs.Lawful.{IsLawful, has_break, prefix_breaks}
+use Rattle.csvw_rows.specs.Files.{EndsRow, begins_with, is_note}
+use Rattle.csvw_dialect.specs.Lawful.{prefix_of}
+use Rattle.csvw_dialect.specs.Lawful.{IsLawful, has_break, prefix_breaks}
 use Rattle.csvw_rows.specs.Looks.{begins_prefix, may_be_note}
 
 -- CR or LF

@@ -3,11 +3,11 @@ use Rattle.std.proofs.Common.{◌≡◌, ℕ, ◌+◌, ◌<◌, ◌≤◌, Bool,
 use Rattle.std.specs.Prelude.{is_some, IsSome}
 use Rattle.std.specs.Str.Lossy.{utf8_valid_len, utf8_error_len}
 use Rattle.std.proofs.lemmas.List.Elements.{All-push}
-use Rattle.csvw_rows.specs.declared.dialect.Dialect.{Dialect}
+use Rattle.csvw_dialect.specs.declared.dialect.Dialect.{Dialect}
 use Rattle.csvw_rows.specs.declared.stop.RowStop.{RowStop}
 use Rattle.csvw_rows.specs.declared.stop.RowStop.TheVariants.{NotUtf8}
 use Rattle.csvw_rows.specs.Grammar.{terminator_len}
-use Rattle.csvw_rows.specs.Lawful.{IsLawful}
+use Rattle.csvw_dialect.specs.Lawful.{IsLawful}
 use Rattle.csvw_rows.specs.Files.{Row, IsRow, AreRows, AreAllRows, EndsOpen, KeepsLimits, File, IsWhole, Front, content, is_text}
 use Rattle.csvw_rows.specs.Parts.{Goes, NoRow, FirstEnd}
 use Rattle.csvw_rows.specs.Stops.{Begins, StopOf, StopsInText, StopsInBytes, StopsAtEnd, IsNamed}

@@ -1,9 +1,9 @@
 -- A text begins with at most one row, and with at most one list of rows of a length.
 use Rattle.std.proofs.Common.{◌≡◌, ℕ, ◌+◌, ◌≤◌, Bool, true, false, if◌then◌else◌, List, [], ◌∷◌, ◌++◌, map, length, Option, Some, None, option_map, refl, sym, ap, ◌∙◌, subst, arith, inl, inr, MatchBool, drop, add-zero, unwrap_or}
-use Rattle.csvw_rows.specs.declared.dialect.Dialect.{Dialect}
+use Rattle.csvw_dialect.specs.declared.dialect.Dialect.{Dialect}
 use Rattle.csvw_rows.specs.declared.scan.State.TheVariants.{Start}
 use Rattle.csvw_rows.specs.Grammar.{terminator_len, trimmed, AreFields, RowText}
-use Rattle.csvw_rows.specs.Lawful.{IsLawful}
+use Rattle.csvw_dialect.specs.Lawful.{IsLawful}
 use Rattle.csvw_rows.specs.Scan.{Outcome, Found, Broken, Unfinished, pass}
 use Rattle.csvw_rows.specs.Files.{Row, IsRow, AreRows, EndsRow, HasNoTerminator, is_note}
 use Rattle.csvw_rows.specs.Looks.{line_of, found_row, next_row}

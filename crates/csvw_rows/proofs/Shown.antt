@@ -4,12 +4,13 @@ use Rattle.std.specs.List.{starts_with}
 use Rattle.std.proofs.lemmas.Bool.{cases_lt}
 use Rattle.std.proofs.lemmas.Grind.{common_steps}
 use Rattle.std.proofs.lemmas.List.{take-append-drop}
-use Rattle.csvw_rows.specs.declared.dialect.Dialect.{Dialect}
+use Rattle.csvw_dialect.specs.declared.dialect.Dialect.{Dialect}
 use Rattle.csvw_rows.specs.declared.stop.RowStop.{RowStop}
 use Rattle.csvw_rows.specs.declared.stop.RowStop.TheVariants.{Memory, NotUtf8, RowTooLong, BadQuote, TextAfterQuote, UnclosedQuote, TooManyRows}
 use Rattle.csvw_rows.specs.declared.scan.State.{State}
 use Rattle.csvw_rows.specs.declared.scan.State.TheVariants.{Start, Plain, Inside, Escaped, Closed}
-use Rattle.csvw_rows.specs.Files.{is_note, prefix_of}
+use Rattle.csvw_rows.specs.Files.{is_note}
+use Rattle.csvw_dialect.specs.Lawful.{prefix_of}
 use Rattle.csvw_rows.specs.Scan.{Outcome, Found, Broken, Unfinished, is_quoted, run, finish}
 use Rattle.csvw_rows.specs.Looks.{settled, unsettled, found_row, next_row, may_be_note, begins_prefix}
 use Rattle.csvw_rows.specs.Parts.{Breaks}

@@ -7,8 +7,8 @@ use Rattle.std.proofs.lemmas.Bool.Decides.{nat_tests}
 use Rattle.std.proofs.lemmas.Grind.{common_steps}
 use Rattle.std.proofs.lemmas.List.{take-append-drop, append_cancel_right}
 use Rattle.std.proofs.lemmas.Str.{encodes-chars, length-le-encodes}
-use Rattle.csvw_rows.specs.declared.dialect.Dialect.{Dialect}
-use Rattle.csvw_rows.specs.Files.{prefix_of}
+use Rattle.csvw_dialect.specs.declared.dialect.Dialect.{Dialect}
+use Rattle.csvw_dialect.specs.Lawful.{prefix_of}
 use Rattle.csvw_rows.specs.Lengths.{byte_len}
 use Rattle.csvw_rows.specs.Lines.{IsPrefixLen, IsCr, IsShownAt, IsShown, IsShownLen}
 use Rattle.csvw_rows.proofs.Ascii.{split_chars}

@@ -1,6 +1,6 @@
 -- What is read as a row is a row.
 use Rattle.std.proofs.Common.{◌≡◌, ◌≢◌, ℕ, ◌<◌, Bool, true, false, ◌&&◌, ◌==◌, not, if◌then◌else◌, List, [], ◌∷◌, ◌++◌, Option, Some, None, refl, sym, ap, ◌∙◌, subst, arith, append_assoc, append-nil, ◌⊎◌, inl, inr}
-use Rattle.csvw_rows.specs.declared.dialect.Dialect.{Dialect}
+use Rattle.csvw_dialect.specs.declared.dialect.Dialect.{Dialect}
 use Rattle.csvw_rows.specs.declared.stop.RowStop.TheVariants.{BadQuote, TextAfterQuote}
 use Rattle.csvw_rows.specs.declared.scan.State.{State}
 use Rattle.csvw_rows.specs.declared.scan.State.TheVariants.{Start, Plain, Inside, Escaped, Closed}

@@ -5,13 +5,13 @@ use Rattle.std.specs.List.{list_all}
 use Rattle.std.specs.Str.Lossy.{utf8_valid_len, utf8_error_len}
 use Rattle.std.proofs.lemmas.Bool.Decides.{nat_tests}
 use Rattle.std.proofs.lemmas.List.Elements.{All-nil}
-use Rattle.csvw_rows.specs.declared.dialect.Dialect.{Dialect}
+use Rattle.csvw_dialect.specs.declared.dialect.Dialect.{Dialect}
 use Rattle.csvw_rows.specs.declared.rows.Rows.{Rows}
 use Rattle.csvw_rows.specs.declared.source.Source.{Source}
 use Rattle.csvw_rows.specs.declared.stop.RowStop.{RowStop}
 use Rattle.csvw_rows.specs.declared.stop.RowStop.TheVariants.{Memory, NotUtf8, RowTooLong, BadQuote, TextAfterQuote, UnclosedQuote, TooManyRows}
 use Rattle.csvw_rows.specs.declared.next.After.TheVariants.{More, Nothing, NoText}
-use Rattle.csvw_rows.specs.Lawful.{IsLawful}
+use Rattle.csvw_dialect.specs.Lawful.{IsLawful}
 use Rattle.csvw_rows.specs.Files.{AreRows, EndsOpen, IsWhole, content, is_text, Body, remaining, remaining_fields, without_mark, is_empty, given as given_row}
 use Rattle.csvw_rows.specs.RowValue.{Given}
 use Rattle.csvw_rows.specs.Parts.{Goes, NoRow}

@@ -2,8 +2,8 @@
 use Rattle.std.specs.Prelude.{◌≡◌, ℕ, ◌+◌, ◌-◌, ◌<◌, ◌≤◌, true, false, List, ◌∷◌, ◌++◌, length, take, drop, map, Some, None, chars, encode_utf8_all, if◌then◌else◌, slice_index}
 use Rattle.std.specs.Str.{is_utf8}
 use Rattle.memchr.specs.Find.{is_byte3}
-use Rattle.csvw_rows.specs.declared.dialect.Dialect.{Dialect}
-use Rattle.csvw_rows.specs.declared.dialect.Trim.TheVariants.{No}
+use Rattle.csvw_dialect.specs.declared.dialect.Dialect.{Dialect}
+use Rattle.csvw_dialect.specs.declared.dialect.Trim.TheVariants.{No}
 use Rattle.csvw_rows.specs.declared.bound.Bound.{Bound}
 use Rattle.csvw_rows.specs.declared.cut.Cut.{Cut}
 use Rattle.csvw_rows.specs.declared.cut.Symbols.{Symbols}

@@ -1,7 +1,7 @@
 -- The front of a row that was read, and what reading on gives.
 use Rattle.std.specs.Prelude.{◌≡◌, ◌⊎◌, ℕ, ◌+◌, ◌-◌, ◌<◌, ◌≤◌, Bool, true, false, List, [], ◌∷◌, ◌++◌, length, take, drop, map, nat_lt, chars}
 use Rattle.std.specs.Str.{is_utf8}
-use Rattle.csvw_rows.specs.declared.dialect.Dialect.{Dialect}
+use Rattle.csvw_dialect.specs.declared.dialect.Dialect.{Dialect}
 use Rattle.csvw_rows.specs.declared.draft.Draft.{Draft}
 use Rattle.csvw_rows.specs.declared.draft.Reading.{Reading}
 use Rattle.csvw_rows.specs.declared.draft.Reading.TheVariants as reading

@@ -2,7 +2,8 @@
 use Rattle.std.specs.Prelude.{◌≡◌, ◌≢◌, ◌⊎◌, ℕ, ◌+◌, ◌-◌, ◌<◌, ◌≤◌, Bool, true, false, ◌&&◌, ◌||◌, ◌==◌, nat_eq, nat_lt, if◌then◌else◌, IsTrue, List, [], ◌∷◌, ◌++◌, map, length, take, drop, filter_map, Option, Some, None, option_map, MatchBool, encode_utf8_all, chars}
 use Rattle.std.specs.List.{starts_with, enumerate_from, list_all, All}
 use Rattle.std.specs.Str.Lossy.{utf8_valid_len}
-use Rattle.csvw_rows.specs.declared.dialect.Dialect.{Dialect}
+use Rattle.csvw_dialect.specs.declared.dialect.Dialect.{Dialect}
+use Rattle.csvw_dialect.specs.Lawful.{prefix_of}
 use Rattle.csvw_rows.specs.Grammar.{terminator_len, RowText}
 use Rattle.csvw_rows.specs.Lengths.{byte_len, row_limit}
 use Rattle.csvw_rows.specs.RowValue.{Given}
@@ -16,10 +17,6 @@ pub record Row : Type 0 where
 abbrev pub begins_with : List ℕ → Option (List ℕ) → Bool
 begins_with text None = false
 begins_with text (Some prefix) = starts_with nat_eq text prefix
-
--- the characters of the comment prefix
-abbrev pub prefix_of : Dialect → Option (List ℕ)
-prefix_of d = option_map chars d.comment_prefix
 
 -- the row at place i, from 0, is one of the first that are skipped, or a comment
 abbrev pub is_note : Dialect → ℕ → List ℕ → Bool

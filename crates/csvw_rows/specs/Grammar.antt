@@ -1,10 +1,10 @@
 -- RowText: rows and fields by the dialect. A text is a list of characters.
-use Rattle.std.specs.Prelude.{◌≡◌, ◌≢◌, ◌⊎◌, ℕ, ◌&&◌, nat_eq, if◌then◌else◌, IsTrue, List, [], ◌∷◌, ◌++◌, map, reverse, Some}
+use Rattle.std.specs.Prelude.{◌≡◌, ◌≢◌, ◌⊎◌, ℕ, ◌&&◌, nat_eq, if◌then◌else◌, IsTrue, List, [], ◌∷◌, ◌++◌, map, Some}
 use Rattle.std.specs.List.{starts_with}
-use Rattle.csvw_text.specs.Class.{is_white_char}
-use Rattle.csvw_rows.specs.declared.dialect.Dialect.{Dialect}
-use Rattle.csvw_rows.specs.declared.dialect.Trim.{Trim}
-use Rattle.csvw_rows.specs.declared.dialect.Trim.TheVariants.{No, Start, End, Both}
+use Rattle.csvw_text.specs.Strip.{strip_start, strip_end}
+use Rattle.csvw_dialect.specs.declared.dialect.Dialect.{Dialect}
+use Rattle.csvw_dialect.specs.declared.dialect.Trim.{Trim}
+use Rattle.csvw_dialect.specs.declared.dialect.Trim.TheVariants.{No, Start, End, Both}
 
 -- how many characters at the front of a text are a terminator: CR LF, or LF, where the dialect has it; 0 where none stands there
 abbrev pub terminator_len : Dialect → List ℕ → ℕ
@@ -58,14 +58,6 @@ AreFields d row [] after = ⊥
 AreFields d row (v ∷ []) after = IsField d row v after
 AreFields d row (v ∷ w ∷ vs) after = (source more : List ℕ) × (row ≡ source ++ d.delimiter ∷ more)
     × IsField d source v (d.delimiter ∷ more ++ after) × AreFields d more (w ∷ vs) after
-
--- a text without white space at its start, and at its end
-abbrev pub strip_start : List ℕ → List ℕ
-strip_start [] = []
-strip_start (c ∷ cs) = if is_white_char c then strip_start cs else c ∷ cs
-
-abbrev pub strip_end : List ℕ → List ℕ
-strip_end text = reverse (strip_start (reverse text))
 
 abbrev pub trimmed : Trim → List ℕ → List ℕ
 trimmed No text = text

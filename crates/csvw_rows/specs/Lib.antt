@@ -7,7 +7,6 @@ pub mod Files
 pub mod Looks
 pub mod Stops
 pub mod Parts
-pub mod Lawful
 pub mod Lengths
 pub mod Marked
 pub mod Nexts

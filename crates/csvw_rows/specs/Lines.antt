@@ -1,8 +1,8 @@
 -- What stands at the front of the characters that no row has yet.
 use Rattle.std.specs.Prelude.{◌≡◌, ◌≢◌, ◌⊎◌, ℕ, ◌+◌, ◌<◌, ◌≤◌, Bool, true, false, List, length, take, drop, Option, Some, None, slice_index, chars}
-use Rattle.csvw_rows.specs.declared.dialect.Dialect.{Dialect}
+use Rattle.csvw_dialect.specs.declared.dialect.Dialect.{Dialect}
 use Rattle.csvw_rows.specs.declared.stop.RowStop.{RowStop}
-use Rattle.csvw_rows.specs.Files.{prefix_of}
+use Rattle.csvw_dialect.specs.Lawful.{prefix_of}
 use Rattle.csvw_rows.specs.Lengths.{byte_len}
 use Rattle.csvw_rows.specs.Looks.{next_row}
 use Rattle.csvw_rows.specs.Parts.{Breaks}

@@ -1,11 +1,12 @@
 -- The row at the front of a text by a pass over it: what the code computes. The laws in proofs/ tie it to IsRow.
 use Rattle.std.specs.Prelude.{ℕ, Bool, false, ◌&&◌, ◌==◌, nat_eq, if◌then◌else◌, List, [], ◌∷◌, map, nat_lt, Option, Some, None, option_map}
 use Rattle.std.specs.List.{starts_with}
-use Rattle.csvw_rows.specs.declared.dialect.Dialect.{Dialect}
+use Rattle.csvw_dialect.specs.declared.dialect.Dialect.{Dialect}
 use Rattle.csvw_rows.specs.declared.scan.State.TheVariants.{Start}
 use Rattle.csvw_rows.specs.Grammar.{terminator_len, trimmed}
 use Rattle.csvw_rows.specs.Scan.{Outcome, Found, Broken, Unfinished, pass}
-use Rattle.csvw_rows.specs.Files.{is_note, prefix_of}
+use Rattle.csvw_rows.specs.Files.{is_note}
+use Rattle.csvw_dialect.specs.Lawful.{prefix_of}
 
 -- the text without a CR at its end that may begin a terminator
 abbrev pub settled : Dialect → List ℕ → List ℕ

@@ -1,6 +1,6 @@
 -- What a part of a text is that begins at a row: a row with more behind it, or none whatever follows.
 use Rattle.std.specs.Prelude.{◌≡◌, ◌≢◌, ◌⊎◌, ℕ, ◌<◌, ◌≤◌, false, List, [], ◌++◌, length, take, None}
-use Rattle.csvw_rows.specs.declared.dialect.Dialect.{Dialect}
+use Rattle.csvw_dialect.specs.declared.dialect.Dialect.{Dialect}
 use Rattle.csvw_rows.specs.declared.stop.RowStop.{RowStop}
 use Rattle.csvw_rows.specs.declared.scan.State.TheVariants.{Start}
 use Rattle.csvw_rows.specs.Grammar.{terminator_len}

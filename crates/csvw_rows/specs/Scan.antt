@@ -1,6 +1,6 @@
 -- The fields of a row by one pass over the text: what the code computes. The laws in proofs/ tie it to RowText.
 use Rattle.std.specs.Prelude.{ℕ, Bool, true, false, ◌&&◌, ◌==◌, not, if◌then◌else◌, List, [], ◌∷◌, ◌++◌, nat_lt, Option, Some, None}
-use Rattle.csvw_rows.specs.declared.dialect.Dialect.{Dialect}
+use Rattle.csvw_dialect.specs.declared.dialect.Dialect.{Dialect}
 use Rattle.csvw_rows.specs.declared.stop.RowStop.{RowStop}
 use Rattle.csvw_rows.specs.declared.stop.RowStop.TheVariants.{BadQuote, TextAfterQuote, UnclosedQuote}
 use Rattle.csvw_rows.specs.declared.scan.State.{State}

@@ -4,8 +4,8 @@ ghost use Rattle.std.specs.Str.{is_utf8};
 ghost use Rattle.csvw_rows.specs.Lines.{IsShownAt, IsShownLen};
 
 use crate::decode::{char_count, front_len};
-use crate::dialect::Dialect;
 use crate::rules::Rules;
+use csvw_dialect::Dialect;
 
 /// Whether this is a CR in a dialect where LF may follow to make it a terminator, and any other character
 /// makes it text.

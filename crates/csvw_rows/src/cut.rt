@@ -5,14 +5,14 @@ ghost use Rattle.std.specs.Str.{is_utf8};
 ghost use Rattle.csvw_rows.specs.Bounds.{are_bounds, lent_bound, moved};
 ghost use Rattle.csvw_rows.specs.Cuts.{IsSymbols, NoneBefore, IsBehind, IsCut, IsLent, IsUnescaped, Grows, IsCutRow, IsRowLen};
 ghost use Rattle.csvw_rows.specs.Grammar.{terminator_len};
-ghost use Rattle.csvw_rows.specs.Lawful.{IsLawful};
+ghost use Rattle.csvw_dialect.specs.Lawful.{IsLawful};
 ghost use Rattle.csvw_rows.specs.Marked.{is_symbol, is_quote, AreMarks, StandsAhead};
 
 use crate::bound::Bound;
-use crate::dialect::{Dialect, Trim};
 use crate::marks::{Marks, next_quote, next_symbol};
 use crate::next::ROW_LIMIT;
 use crate::rules::Rules;
+use csvw_dialect::{Dialect, Trim};
 use std::alloc::AllocError;
 
 /// The symbols of a dialect as bytes. The quote is one only where fields may be `quoted`.

@@ -8,11 +8,11 @@ ghost use Rattle.csvw_rows.specs.declared.scan.State.TheVariants.{Start, Inside}
 
 use crate::bound::Bound;
 use crate::cut::terminator_at;
-use crate::dialect::{Dialect, Trim};
 use crate::rules::Rules;
 use crate::scan::{State, Step, is_quoted, next_step};
 use crate::stop::RowStop;
 use crate::trim::trim_fields;
+use csvw_dialect::{Dialect, Trim};
 use std::alloc::{AllocError, Global};
 use std::mem::swap;
 

@@ -4,8 +4,8 @@ ghost use Rattle.std.specs.Str.{IsCharBoundary};
 ghost use Rattle.csvw_rows.specs.Clean.{IsLeads, IsClean};
 ghost use Rattle.csvw_rows.specs.declared.scan.State.TheVariants.{Plain, Inside};
 
-use crate::dialect::Dialect;
 use crate::scan::State;
+use csvw_dialect::Dialect;
 use memchr::{memchr2, memchr3};
 
 /// The first bytes of the delimiter, of the quote, and of what begins an escape. Where no field is quoted,
@@ -43,7 +43,9 @@ impl Leads {
         }
     }
 
-    /// How many bytes at the front are sure to be the text of a field that is left in this state.
+    /// How many bytes at the front are sure to be the text of a field that is left in this state. Outside quotes a
+    /// text that begins with a CR has none, without a look at what comes behind it: so bytes that aren't sure are
+    /// looked at once.
     pub fn clean_len(self, d: &Dialect, state: State, text: &str) -> usize
         requires { IsLeads d.now self }
         ensures boundary { IsCharBoundary text.now result }
@@ -52,19 +54,34 @@ impl Leads {
         let bytes = text.as_bytes();
         match state {
             State::Plain => {
+                if begins_with_cr(bytes) {
+                    return 0;
+                }
                 let found = memchr3(self.delimiter, self.quote, b'\n', bytes);
                 place_before(text, found.unwrap_or(bytes.len()))
             }
             State::Inside => {
                 let found = memchr2(self.quote, self.escape, bytes);
-                place_before(text, found.unwrap_or(bytes.len()))
+                boundary_at(text, found.unwrap_or(bytes.len()))
             }
             State::Start | State::Escaped | State::Closed => 0,
         }
     }
 }
 
-/// A place up to this one between two characters, behind none that is a CR.
+fn begins_with_cr(bytes: &[u8]) -> bool {
+    !bytes.is_empty() && bytes[0] == b'\r'
+}
+
+/// This place, if it is between two characters, else 0.
+fn boundary_at(text: &str, at: usize) -> usize
+    ensures within { result ≤ at }
+    ensures boundary { IsCharBoundary text.now result }
+{
+    if text.is_char_boundary(at) { at } else { 0 }
+}
+
+/// The greatest place up to this one that is behind no CR, if it is between two characters, else 0.
 fn place_before(text: &str, at: usize) -> usize
     requires { at ≤ length text.now }
     ensures within { result ≤ at }
@@ -72,14 +89,9 @@ fn place_before(text: &str, at: usize) -> usize
     ensures settled { 0 < result → slice_index text.now (result - 1) ≢ 13 }
 {
     let bytes = text.as_bytes();
-    let end = if 0 < at && bytes[at - 1] == b'\r' {
-        at - 1
-    } else {
-        at
-    };
-    if 0 < end && bytes[end - 1] != b'\r' && text.is_char_boundary(end) {
-        end
-    } else {
-        0
+    let mut end = at;
+    while 0 < end && bytes[end - 1] == b'\r' {
+        end -= 1;
     }
+    boundary_at(text, end)
 }

@@ -5,7 +5,6 @@ mod bound;
 mod breach;
 mod cut;
 mod decode;
-mod dialect;
 mod draft;
 mod field;
 pub mod laws;
@@ -17,13 +16,11 @@ mod raw_row;
 mod rows;
 mod rules;
 mod scan;
-#[cfg(test)]
-mod slow;
 mod source;
 mod stop;
 mod trim;
 
-pub use dialect::{BadDialect, Dialect, LineTerminators, Trim};
+pub use csvw_dialect::{BadDialect, Dialect, LineTerminators, Trim};
 pub use raw_row::RawRow;
 pub use rows::Rows;
 pub use stop::RowStop;

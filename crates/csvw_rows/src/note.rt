@@ -2,7 +2,7 @@
 ghost use Rattle.csvw_rows.specs.Notes.{IsLineEnd};
 
 use crate::cut::terminator_at;
-use crate::dialect::Dialect;
+use csvw_dialect::Dialect;
 
 /// Where the first terminator stands that begins at this place or behind it.
 pub fn line_end(d: &Dialect, text: &[u8], from: usize) -> Option<usize>

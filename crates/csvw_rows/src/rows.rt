@@ -3,7 +3,7 @@ ghost use Rattle.std.specs.Prelude.{◌≡◌, ◌≤◌, ◌<◌, ◌-◌, ◌+
 ghost use Rattle.std.specs.Str.{is_utf8};
 ghost use Rattle.std.specs.Borrow.{sem};
 ghost use Rattle.csvw_rows.specs.Bounds.{are_bounds};
-ghost use Rattle.csvw_rows.specs.Lawful.{IsLawful};
+ghost use Rattle.csvw_dialect.specs.Lawful.{IsLawful};
 ghost use Rattle.csvw_rows.specs.Drafts.{IsDraft};
 ghost use Rattle.csvw_rows.specs.Marked.{Marked};
 ghost use Rattle.csvw_rows.specs.Notes.{IsNoted};
@@ -12,7 +12,6 @@ ghost use Rattle.csvw_rows.specs.SourceState.{rest_bytes};
 use crate::bound::Bound;
 use crate::breach::shown_len;
 use crate::cut::{cut_row, row_len, terminator_at};
-use crate::dialect::Dialect;
 use crate::draft::{Draft, Reading, settled};
 use crate::field::all_empty;
 use crate::marks::Marks;
@@ -23,6 +22,7 @@ use crate::rules::Rules;
 use crate::scan::is_quoted;
 use crate::source::Source;
 use crate::stop::RowStop;
+use csvw_dialect::Dialect;
 use std::alloc::{AllocError, Global};
 
 /// A reader of the rows of a text that comes in pieces of bytes.
@@ -458,6 +458,3 @@ impl Rows {
         Turn::Given
     }
 }
-
-#[cfg(test)]
-mod tests;

@@ -4,15 +4,16 @@ ghost use Rattle.std.specs.List.{starts_with};
 ghost use Rattle.csvw_rows.specs.Clean.{IsLeads};
 ghost use Rattle.csvw_rows.specs.Cuts.{IsSymbols};
 ghost use Rattle.csvw_rows.specs.declared.cut.Symbols.{Symbols};
-ghost use Rattle.csvw_rows.specs.Files.{prefix_of, begins_with, is_note};
-ghost use Rattle.csvw_rows.specs.Lawful.{IsLawful};
+ghost use Rattle.csvw_rows.specs.Files.{begins_with, is_note};
+ghost use Rattle.csvw_dialect.specs.Lawful.{prefix_of};
+ghost use Rattle.csvw_dialect.specs.Lawful.{IsLawful};
 ghost use Rattle.csvw_rows.specs.Looks.{may_be_note};
 ghost use Rattle.csvw_rows.specs.Lines.{IsCommon, IsPrefixLen};
 
 use crate::cut::Symbols;
 use crate::decode::chars_of;
-use crate::dialect::Dialect;
 use crate::leads::Leads;
+use csvw_dialect::Dialect;
 use csvw_text::Seq;
 use std::alloc::{AllocError, Global};
 

@@ -2,8 +2,8 @@
 ghost use Rattle.std.specs.Prelude.{◌≡◌};
 ghost use Rattle.csvw_rows.specs.Scan.{quote_is, is_quoted, step_of};
 
-use crate::dialect::Dialect;
 use crate::stop::RowStop;
+use csvw_dialect::Dialect;
 
 /// Where in a field a character stands.
 #[derive(Clone, Copy, Debug, PartialEq, Eq)]

@@ -1,52 +1,13 @@
 //! White space that a dialect strips from the texts of fields (tab, line feed, carriage return, space).
-ghost use Rattle.std.specs.Prelude.{◌≡◌, ◌≤◌, ◌+◌, ◌-◌, true, length, take, drop, map, chars, encode_utf8_all, slice_range, OnOk};
+ghost use Rattle.std.specs.Prelude.{◌≡◌, ◌≤◌, ◌+◌, true, length, take, drop, map, chars, encode_utf8_all, slice_range, OnOk};
 ghost use Rattle.std.specs.Str.{is_utf8};
 ghost use Rattle.csvw_rows.specs.Bounds.{is_apart, apart_all, texts_apart};
-ghost use Rattle.csvw_rows.specs.Grammar.{strip_start, strip_end, trimmed};
+ghost use Rattle.csvw_rows.specs.Grammar.{trimmed};
 
 use crate::bound::{Bound, text_at};
-use crate::dialect::Trim;
-use csvw_text::is_white;
+use csvw_dialect::Trim;
+use csvw_text::{strip_end, strip_start};
 use std::alloc::AllocError;
-
-/// Without white space at the start.
-fn without_start(text: &str) -> &str
-    ensures within { length result.now ≤ length text.now }
-    ensures value { result.now ≡ drop (length text.now - length result.now) text.now }
-    ensures chars { chars result.now ≡ strip_start (chars text.now) }
-{
-    let mut rest = text;
-    loop {
-        let mut behind = rest.chars();
-        let Some(c) = behind.next() else {
-            return rest;
-        };
-        if !is_white(c) {
-            return rest;
-        }
-        rest = behind.as_str();
-    }
-}
-
-/// Without white space at the end.
-fn without_end(text: &str) -> &str
-    ensures within { length result.now ≤ length text.now }
-    ensures value { result.now ≡ take (length result.now) text.now }
-    ensures chars { chars result.now ≡ strip_end (chars text.now) }
-{
-    let mut rest = text;
-    loop {
-        let mut before = rest.chars();
-        let Some(c) = before.next_back() else {
-            return rest;
-        };
-        let front = before.as_str();
-        if !is_white(c) {
-            return rest;
-        }
-        rest = front;
-    }
-}
 
 /// How many bytes are stripped at the start of a text, and how many remain behind them.
 fn kept(trim: Trim, text: &str) -> (usize, usize)
@@ -57,13 +18,13 @@ fn kept(trim: Trim, text: &str) -> (usize, usize)
     match trim {
         Trim::No => (0, text.len()),
         Trim::Start => {
-            let rest = without_start(text);
+            let rest = strip_start(text);
             (text.len() - rest.len(), rest.len())
         }
-        Trim::End => (0, without_end(text).len()),
+        Trim::End => (0, strip_end(text).len()),
         Trim::Both => {
-            let rest = without_start(text);
-            (text.len() - rest.len(), without_end(rest).len())
+            let rest = strip_start(text);
+            (text.len() - rest.len(), strip_end(rest).len())
         }
     }
 }

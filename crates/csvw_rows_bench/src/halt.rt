@@ -11,20 +11,23 @@ pub enum Halt {
     Memory,
     /// Standard input failed.
     Read,
-    /// Standard output failed.
-    Write,
-    /// The reader stopped before the end of its file.
+    /// The reader refused the file.
     Stopped,
-    /// A count left its range.
-    TooMany,
+}
+
+impl Halt {
+    /// The line that tells it.
+    pub fn told(self) -> &'static str {
+        match self {
+            Halt::Usage => "rows PIECE DELIMITER <FILE, or csv <FILE",
+            Halt::Memory => "Memory",
+            Halt::Read => "Read",
+            Halt::Stopped => "Stopped",
+        }
+    }
 }
 
 impl From<AllocError> for Halt {
-    ghost use Rattle.std.specs.Prelude.{◌≡◌};
-    ghost use Rattle.csvw_rows_bench.specs.declared.halt.Halt.TheVariants.{Memory};
-
-    ghost from_gives = { λ _ e. e ≡ Memory };
-
     fn from(_: AllocError) -> Halt {
         Halt::Memory
     }

@@ -1,28 +1,46 @@
-//! Counts the rows, fields and bytes of a file, so that its readers can be measured and compared.
+//! Counts the rows, fields and bytes of a file on standard input, so that its readers can be measured and compared.
 #![tactic(auto)]
 
-mod command;
 mod counts;
 mod halt;
 mod kit;
 mod own;
 mod words;
 
-use command::command;
-use csvw_text::Counted;
+use counts::Counts;
+use halt::Halt;
+use kit::count_records;
+use own::count_file;
+use std::alloc::Global;
 use std::env;
-use std::io::{self, BufReader};
+use std::io::{self, BufReader, Read};
 use std::process::ExitCode;
+use words::{Task, requested};
 
 /// How many bytes are read from the system at once.
 const BUFFER: usize = 65_536;
 
+fn run<R: Read + Drop>(alloc: Global, words: &[String], mut input: R) -> Result<Counts, Halt> {
+    match requested(words) {
+        Some(Task::Rows(delimiter, piece)) => count_file(alloc, delimiter, piece, &mut input),
+        Some(Task::Csv) => count_records(alloc, input),
+        None => Err(Halt::Usage),
+    }
+}
+
 fn main(rt: HostRuntime) -> io::Result<ExitCode> {
     let alloc = rt.alloc();
     let words = env::args(&rt)?.collect::<Vec<String>>(alloc)?;
-    let mut input = Counted::new(BufReader::with_capacity(alloc, BUFFER, rt.stdin())?);
-    let mut out = Counted::new(rt.stdout());
-    let mut err = Counted::new(rt.stderr());
-    let status = command(alloc, words.as_slice(), &mut input, &mut out, &mut err);
-    Ok(ExitCode::from(status))
+    let input = BufReader::with_capacity(alloc, BUFFER, rt.stdin())?;
+    match run(alloc, words.as_slice(), input) {
+        Ok(counts) => {
+            let (rows, fields, bytes) = (counts.rows, counts.fields, counts.bytes);
+            println!(rt; "{rows} rows, {fields} fields, {bytes} bytes")?;
+            Ok(ExitCode::from(0))
+        }
+        Err(halt) => {
+            eprintln!(rt; "csvw_rows_bench: {}", halt.told())?;
+            Ok(ExitCode::from(1))
+        }
+    }
 }

@@ -94,6 +94,3 @@ fn is_past(text: &str) -> bool
 {
     text.len() > MAX_LEN || count_open(text.as_bytes()) > MAX_OPEN
 }
-
-#[cfg(test)]
-mod tests;

@@ -1,3 +1,4 @@
 pub mod LanguageLemmas
 pub mod SpacesLemmas
 pub mod WritingLemmas
+pub mod StripLemmas

@@ -6,3 +6,4 @@ pub mod Counted
 pub mod Language
 pub mod Spaces
 pub mod Streams
+pub mod Strip

@@ -7,7 +7,9 @@ mod counted;
 mod fault;
 mod language;
 mod seq;
+mod shared;
 mod spaces;
+mod strip;
 mod text;
 mod writing;
 
@@ -16,6 +18,8 @@ pub use counted::Counted;
 pub use fault::{Code, Fault, Kind, Place};
 pub use language::LanguageTag;
 pub use seq::{Copied, Seq, copied_option};
+pub use shared::Shared;
 pub use spaces::collapse;
+pub use strip::{strip_end, strip_start};
 pub use text::Text;
 pub use writing::{Cut, write_out};

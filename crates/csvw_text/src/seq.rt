@@ -126,3 +126,9 @@ pub fn copied_option<T: Copied + Drop>(
         Some(x) => Ok(Some(x.copied(alloc)?)),
     }
 }
+
+impl<T: Copied + Drop> Copied for Option<T> {
+    fn copied(&self, alloc: Global) -> Result<Option<T>, AllocError> {
+        copied_option(alloc, self)
+    }
+}

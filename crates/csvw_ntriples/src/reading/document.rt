@@ -57,6 +57,3 @@ pub fn read(alloc: Global, bytes: &[u8]) -> Result<Vec<NtTriple>, NtFault>
     };
     triples(alloc, &characters)
 }
-
-#[cfg(test)]
-mod tests;

@@ -2,7 +2,7 @@
 use Rattle.std.proofs.Common.{◌≡◌, ◌<◌, ◌≤◌, ◌⊎◌, ℕ, List, [], length, false}
 use Rattle.std.specs.Io.KnownBytes.{Consumes}
 use Rattle.csvw_text.specs.Counted.{inner_of, failures_of}
-use Rattle.csvw_rows.specs.declared.dialect.Dialect.{Dialect}
+use Rattle.csvw_dialect.specs.declared.dialect.Dialect.{Dialect}
 use Rattle.csvw_rows.specs.RowsState.{is_ended_of}
 use Rattle.csvw_engine.specs.Tables.{IsSameTable, Stands, Finishes}
 use Rattle.csvw_engine.proofs.reading.read_table.Given as goal

@@ -1,6 +1,6 @@
 -- The sink has the triples of all rows so far, and what is unread falls.
 use Rattle.std.proofs.Common.{◌≡◌, ℕ, List, Bool}
-use Rattle.csvw_rows.specs.declared.dialect.Dialect.{Dialect}
+use Rattle.csvw_dialect.specs.declared.dialect.Dialect.{Dialect}
 use Rattle.csvw_rows.specs.RowsState.{is_ended_of, unread}
 use Rattle.csvw_engine.specs.Tables.{IsSameTable, Stands}
 use Rattle.csvw_engine.proofs.table.drain.Given as goal

@@ -1,0 +1,42 @@
+//! Columns, as a document describes them.
+ghost use Rattle.std.specs.Prelude.{◌≡◌, IfOk};
+ghost use Rattle.csvw_description.specs.Name.{name_of};
+
+use crate::inherited::Inherited;
+use crate::name::Name;
+use csvw_text::{Fault, Seq, Text};
+use std::alloc::{AllocError, Global};
+
+/// A column description (Metadata Vocabulary for Tabular Data, section 5.6).
+#[derive(Debug, Drop)]
+pub struct ColumnDescription {
+    /// Its `name`.
+    pub name: Option<Name>,
+    /// Its `titles` of all languages that aren't empty. Those of the context's language come first, then those of each
+    /// other language in the byte order of their tags, so that the first title names a column without a name.
+    pub titles: Seq<Text>,
+    /// Whether it has no field in the source (`virtual`).
+    pub is_virtual: bool,
+    /// Whether its cells give no triples (`suppressOutput`).
+    pub suppressed: bool,
+    /// Its inherited properties.
+    pub inherited: Inherited,
+    /// A warning for each property that is ignored, in it or in its datatype.
+    pub warnings: Seq<Fault>,
+}
+
+impl ColumnDescription {
+    /// The name of the column of this number, from 1: its own, else its first title percent-encoded, else `_col.` and
+    /// the number (section 5.6). `AllocError` where there is no memory.
+    pub fn resolved_name(&self, alloc: Global, number: usize) -> Result<Name, AllocError>
+        ensures { IfOk result (λ name. name ≡ name_of number self.now) }
+    {
+        if let Some(name) = &self.name {
+            return name.clone(alloc);
+        }
+        match self.titles.as_slice().first() {
+            Some(title) => Name::of_title(alloc, title.as_str()),
+            None => Name::numbered(alloc, number),
+        }
+    }
+}

@@ -1,0 +1,30 @@
+//! Properties that columns inherit from their schema, table and group.
+use csvw_datatype::Datatype;
+use csvw_template::Template;
+use csvw_text::{LanguageTag, Seq, Shared, Text};
+
+/// The inherited properties that stand in an object; `None`: the object doesn't have it (Metadata Vocabulary for
+/// Tabular Data, section 5.7).
+#[derive(Debug, Drop)]
+pub struct Inherited {
+    /// `aboutUrl`: the subject of the cells' triples.
+    pub about_url: Option<Shared<Template>>,
+    /// `propertyUrl`: their predicate.
+    pub property_url: Option<Shared<Template>>,
+    /// `valueUrl`: their object.
+    pub value_url: Option<Shared<Template>>,
+    /// `datatype`: the values of cells.
+    pub datatype: Option<Shared<Datatype>>,
+    /// `default`: what stands for an empty text.
+    pub default: Option<Shared<Text>>,
+    /// `lang`: the language of texts.
+    pub lang: Option<Shared<LanguageTag>>,
+    /// `null`: the texts that are null; none: no text is.
+    pub null: Option<Shared<Seq<Text>>>,
+    /// `ordered`: whether the items of a list keep their order in the graph.
+    pub ordered: Option<bool>,
+    /// `required`: whether a cell may be null.
+    pub required: Option<bool>,
+    /// `separator`: what parts the items of a list; `Some(None)`: it is null, so that a cell is no list.
+    pub separator: Option<Option<Shared<Text>>>,
+}

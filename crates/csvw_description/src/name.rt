@@ -1,0 +1,107 @@
+//! The names of columns.
+ghost use Rattle.std.specs.Prelude.{◌≡◌, ◌++◌, true, false, IfOk, OnOk, MatchOption, string_bytes};
+ghost use Rattle.csvw_iri.specs.Safe.{is_iri};
+ghost use Rattle.csvw_description.specs.Name.{encoded_byte, encoded, numbered};
+
+use csvw_iri::is_raw_text;
+use csvw_text::{Copied, Text, is_unreserved};
+use percent_encoding::percent_encode_byte;
+use std::alloc::{AllocError, Global};
+use std::marker::Model;
+
+/// The name of a column. Its characters may all stand raw in an IRIREF (N-Triples 1.1, section 7), so that it may
+/// be the fragment of an IRI. Contracts see its bytes.
+#[derive(Debug, Drop, PartialEq, Eq, PartialOrd, Ord)]
+pub struct Name {
+    text: Text,
+}
+
+impl Model for Name {
+    ghost use Rattle.std.specs.Prelude.{◌≡◌, ℕ, List, true};
+    ghost use Rattle.csvw_iri.specs.Safe.{is_iri};
+
+    ghost Value = { List ℕ };
+
+    ghost view = { λ name. name.text };
+
+    ghost invariant = { λ name. is_iri name.text ≡ true };
+
+    ghost inverse = { λ text. record { text = text } };
+}
+
+impl Name {
+    /// The name that a text is; `None` where a character of it can't stand raw in an IRIREF. It takes no memory.
+    pub fn of(text: Text) -> Option<Name>
+        ensures { MatchOption result (is_iri text ≡ false) (λ n. (n ≡ text) × (is_iri text ≡ true)) }
+    {
+        if is_raw_text(text.as_str()) {
+            Some(Name { text })
+        } else {
+            None
+        }
+    }
+
+    /// A title as a name: all but unreserved characters are percent-encoded (Metadata Vocabulary for Tabular Data,
+    /// section 5.6, `name`). `AllocError` where there is no memory.
+    pub fn of_title(alloc: Global, title: &str) -> Result<Name, AllocError>
+        ensures { IfOk result (λ name. name ≡ encoded title.now) }
+    {
+        Ok(Name {
+            text: Text::of(encoded(alloc, title)?),
+        })
+    }
+
+    /// The name of a column that has neither a name nor a title: `_col.` and its number, from 1 (Metadata
+    /// Vocabulary for Tabular Data, section 5.6, `name`). `AllocError` where there is no memory.
+    pub fn numbered(alloc: Global, number: usize) -> Result<Name, AllocError>
+        ensures { IfOk result (λ name. name ≡ numbered number) }
+    {
+        Ok(Name {
+            text: Text::of(format!(in alloc; "_col.{number}")?),
+        })
+    }
+
+    /// The name as a slice.
+    pub fn as_str(&self) -> &str
+        ensures value { result.now ≡ self.now }
+        ensures raw { is_iri self.now ≡ true }
+    {
+        self.text.as_str()
+    }
+
+    /// An equal name; `AllocError` where there is no memory.
+    pub fn clone(&self, alloc: Global) -> Result<Name, AllocError>
+        ensures { IfOk result (λ n. n ≡ self.now) }
+    {
+        Ok(Name {
+            text: self.text.clone(alloc)?,
+        })
+    }
+}
+
+impl Copied for Name {
+    fn copied(&self, alloc: Global) -> Result<Name, AllocError> {
+        self.clone(alloc)
+    }
+}
+
+fn push_encoded(out: &mut String, b: u8) -> Result<(), AllocError>
+    ensures { OnOk result (string_bytes out.new ≡ string_bytes out.old ++ encoded_byte b) }
+{
+    if is_unreserved(b as char) {
+        out.push(b as char)
+    } else {
+        out.push_str(percent_encode_byte(b))
+    }
+}
+
+#[tactic(auto, unfolding(crate::specs::Name::encoded))]
+fn encoded(alloc: Global, title: &str) -> Result<String, AllocError>
+    ensures { IfOk result (λ name. string_bytes name ≡ encoded title.now) }
+{
+    let mut out = String::new(alloc);
+    for b in title.as_bytes() {
+        push_encoded(&mut out, *b)?;
+    }
+    Ok(out)
+}

@@ -1,0 +1,53 @@
+-- The dialects by which texts can be read, and the defaults (Metadata Vocabulary for Tabular Data, section 5.9).
+use Rattle.std.specs.Prelude.{◌≡◌, ◌≢◌, ℕ, ◌==◌, ◌||◌, ◌&&◌, not, Bool, true, false, List, [], ◌∷◌, Option, Some, None, option_map, chars}
+use Rattle.std.specs.List.{list_any}
+use Rattle.csvw_dialect.specs.declared.dialect.Dialect.{Dialect}
+use Rattle.csvw_dialect.specs.declared.dialect.Trim.TheVariants.{No}
+
+-- the characters of the comment prefix
+abbrev pub prefix_of : Dialect → Option (List ℕ)
+prefix_of d = option_map chars d.comment_prefix
+
+-- CR or LF stands in the text
+abbrev pub has_break : List ℕ → Bool
+has_break text = list_any (λ c. (c == 13) || (c == 10)) text
+
+abbrev pub prefix_breaks : Option (List ℕ) → Bool
+prefix_breaks None = false
+prefix_breaks (Some prefix) = has_break prefix
+
+-- a text can be read by the dialect: no CR or LF in the delimiter, the quote and the comment prefix, a delimiter that isn't
+-- the quote, neither of them a backslash where quotes aren't doubled, and some line terminator
+pub record IsLawful (d : Dialect) : Type 0 where
+  pub delimiter_cr : d.delimiter ≢ 13
+  pub delimiter_lf : d.delimiter ≢ 10
+  pub quote_cr : d.quote_char ≢ Some 13
+  pub quote_lf : d.quote_char ≢ Some 10
+  pub prefix : prefix_breaks (prefix_of d) ≡ false
+  pub apart : d.quote_char ≢ Some d.delimiter
+  pub delimiter_escape : d.double_quote ≡ false → d.delimiter ≢ 92
+  pub quote_escape : d.double_quote ≡ false → d.quote_char ≢ Some 92
+  pub terminators : (d.line_terminators.crlf || d.line_terminators.lf) ≡ true
+
+-- the same as tests
+abbrev pub delimiter_breaks : Dialect → Bool
+delimiter_breaks d = ((d.delimiter == 13) || (d.delimiter == 10)) || (not d.double_quote && (d.delimiter == 92))
+
+abbrev pub quote_breaks : ℕ → Bool → Option ℕ → Bool
+quote_breaks delimiter double None = false
+quote_breaks delimiter double (Some q) = ((q == 13) || (q == 10)) || (q == delimiter) || (not double && (q == 92))
+
+-- the defaults
+pub record IsDefault (d : Dialect) : Type 0 where
+  pub delimiter : d.delimiter ≡ 44
+  pub quote_char : d.quote_char ≡ Some 34
+  pub double_quote : d.double_quote ≡ true
+  pub comment_prefix : d.comment_prefix ≡ Some (35 ∷ [])
+  pub header_row_count : d.header_row_count ≡ 1
+  pub skip_rows : d.skip_rows ≡ 0
+  pub skip_columns : d.skip_columns ≡ 0
+  pub skip_blank_rows : d.skip_blank_rows ≡ false
+  pub skip_initial_space : d.skip_initial_space ≡ false
+  pub trim : d.trim ≡ No
+  pub crlf : d.line_terminators.crlf ≡ true
+  pub lf : d.line_terminators.lf ≡ true

@@ -1,0 +1,6 @@
+//! Dialects: how a text is cut into rows and fields.
+#![tactic(auto)]
+
+mod dialect;
+
+pub use dialect::{BadDialect, Dialect, LineTerminators, Trim};

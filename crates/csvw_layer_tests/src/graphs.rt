@@ -1,0 +1,254 @@
+//! `plain` beside a slow program that goes by the definition of a table's graph.
+
+use csvw_engine::plain;
+use csvw_ntriples::{NtNode, NtTerm, NtTriple, read};
+use csvw_text::Counted;
+use std::alloc::{AllocError, Global};
+use std::fmt::Write;
+use std::test::Fail;
+
+const URL: &str = "http://example.org/t.csv";
+
+const XSD_STRING: &str = "http://www.w3.org/2001/XMLSchema#string";
+
+/// A triple of the graph of a table: the row of its subject, from 1, its predicate, and its value.
+#[derive(Drop)]
+struct CellTriple {
+    row: usize,
+    predicate: String,
+    value: String,
+}
+
+fn push_cell(text: &mut String, cell: &str) -> Result<(), AllocError> {
+    text.push('"')?;
+    for c in cell.chars() {
+        if c == '"' {
+            text.push('"')?;
+        }
+        text.push(c)?;
+    }
+    text.push('"')
+}
+
+fn push_row(text: &mut String, row: &[&str]) -> Result<(), AllocError> {
+    for i in 0..row.len() {
+        if i > 0 {
+            text.push(',')?;
+        }
+        push_cell(text, row[i])?;
+    }
+    text.push_str("\r\n")
+}
+
+/// The text of a table, with each field quoted (RFC 4180, section 2).
+fn text_of(alloc: Global, table: &[&[&str]]) -> Result<String, AllocError> {
+    let mut text = String::new(alloc);
+    for row in table {
+        push_row(&mut text, row)?;
+    }
+    Ok(text)
+}
+
+fn push_column(
+    alloc: Global,
+    graph: &mut Vec<CellTriple>,
+    name: &str,
+    column: usize,
+    rows: &[&[&str]],
+) -> Result<(), AllocError> {
+    for i in 0..rows.len() {
+        let value = rows[i].get(column).copied().unwrap_or("");
+        if !value.is_empty() {
+            let mut predicate = String::from_str(alloc, URL)?;
+            predicate.push('#')?;
+            predicate.push_str(name)?;
+            let value = String::from_str(alloc, value)?;
+            graph.push(CellTriple {
+                row: i.saturating_add(1),
+                predicate,
+                value,
+            })?;
+        }
+    }
+    Ok(())
+}
+
+/// The graph of a table whose first row is its header: for each column and each row the triple of
+/// their cell, unless the cell is empty (csv2rdf, section 4.2, minimal mode).
+fn minimal(alloc: Global, table: &[&[&str]]) -> Result<Vec<CellTriple>, AllocError> {
+    let mut graph = Vec::new(alloc);
+    let Some((header, rows)) = table.split_first() else {
+        return Ok(graph);
+    };
+    for i in 0..header.len() {
+        push_column(alloc, &mut graph, header[i], i, rows)?;
+    }
+    Ok(graph)
+}
+
+fn label_of(triple: &NtTriple) -> &str {
+    match &triple.s {
+        NtNode::Blank(label) => label.as_str(),
+        NtNode::Named(_) => "",
+    }
+}
+
+/// Whether the triple that was read is the cell's, but for its subject.
+fn says(read: &NtTriple, cell: &CellTriple) -> bool {
+    match &read.o {
+        NtTerm::Literal(lit) => {
+            read.p.as_str() == cell.predicate.as_str()
+                && lit.text.as_str() == cell.value.as_str()
+                && lit.datatype.as_str() == XSD_STRING
+                && lit.lang.is_none()
+        }
+        NtTerm::Named(_) | NtTerm::Blank(_) => false,
+    }
+}
+
+/// Whether the triple of the cell was read, about this label.
+fn was_read(label: &str, cell: &CellTriple, read: &[NtTriple]) -> bool {
+    for triple in read {
+        if label_of(triple) == label && says(triple, cell) {
+            return true;
+        }
+    }
+    false
+}
+
+/// Whether the triple that was read is that of a cell of the row.
+fn is_in_row(row: usize, triple: &NtTriple, graph: &[CellTriple]) -> bool {
+    for cell in graph {
+        if cell.row == row && says(triple, cell) {
+            return true;
+        }
+    }
+    false
+}
+
+/// Whether all triples of the row were read, about this label.
+fn has_row(label: &str, row: usize, graph: &[CellTriple], read: &[NtTriple]) -> bool {
+    for cell in graph {
+        if cell.row == row && !was_read(label, cell, read) {
+            return false;
+        }
+    }
+    true
+}
+
+/// Whether the triples about this label are all of the row.
+fn is_row(label: &str, row: usize, graph: &[CellTriple], read: &[NtTriple]) -> bool {
+    for triple in read {
+        if label_of(triple) == label && !is_in_row(row, triple, graph) {
+            return false;
+        }
+    }
+    true
+}
+
+fn is_taken(taken: &[&str], label: &str) -> bool {
+    for other in taken {
+        if *other == label {
+            return true;
+        }
+    }
+    false
+}
+
+/// A label that no other row has, of which the triples are those of the row.
+fn name_of<'a>(
+    taken: &[&str],
+    row: usize,
+    graph: &[CellTriple],
+    read: &'a [NtTriple],
+) -> Option<&'a str> {
+    for triple in read {
+        let label = label_of(triple);
+        if !is_taken(taken, label)
+            && has_row(label, row, graph, read)
+            && is_row(label, row, graph, read)
+        {
+            return Some(label);
+        }
+    }
+    None
+}
+
+fn gives_nothing(row: usize, graph: &[CellTriple]) -> bool {
+    for cell in graph {
+        if cell.row == row {
+            return false;
+        }
+    }
+    true
+}
+
+/// Whether the triples that were read are the graph, up to a one-to-one naming of its blank nodes. Rows
+/// with the same cells may have each other's names, so that the first name that fits is as good as any.
+fn is_same_up_to(
+    alloc: Global,
+    rows: usize,
+    graph: &[CellTriple],
+    read: &[NtTriple],
+) -> Result<bool, AllocError> {
+    let mut taken = Vec::new(alloc);
+    for row in 1..=rows {
+        if !gives_nothing(row, graph) {
+            match name_of(taken.as_slice(), row, graph, read) {
+                Some(label) => taken.push(label)?,
+                None => return Ok(false),
+            }
+        }
+    }
+    for triple in read {
+        if !is_taken(taken.as_slice(), label_of(triple)) {
+            return Ok(false);
+        }
+    }
+    Ok(true)
+}
+
+/// Whether `plain` writes the graph of the table.
+fn agrees(alloc: Global, table: &[&[&str]]) -> Result<bool, Fail> {
+    let text = text_of(alloc, table)?;
+    let mut input = Counted::new(text.as_bytes());
+    let mut out = Counted::new(Vec::new(alloc));
+    let mut report = Counted::new(Vec::new(alloc));
+    if !plain(alloc, URL, &mut input, &mut out, &mut report).is_ok() {
+        return Ok(false);
+    }
+    let written = out.into_inner();
+    let Ok(triples) = read(alloc, written.as_slice()) else {
+        return Ok(false);
+    };
+    let graph = minimal(alloc, table)?;
+    Ok(is_same_up_to(alloc, table.len(), graph.as_slice(), triples.as_slice())?)
+}
+
+#[test]
+fn writes_the_graph_of_the_table(rt: HostRuntime) -> Result<(), Fail> {
+    let alloc = rt.alloc();
+    let tables: [&[&[&str]]; 6] = [
+        &[&["id", "name"], &["1", "Ann"]],
+        &[&["id", "name"], &["1", "Ann"], &["1", "Ann"], &["2", ""]],
+        &[
+            &["a", "b", "c"],
+            &["", "", ""],
+            &["x", "", "y"],
+            &["", "x", "y"],
+        ],
+        &[
+            &["q"],
+            &["say \"so\""],
+            &["two\nlines"],
+            &["a,b\\c\rd"],
+            &["déjà vu 😀"],
+        ],
+        &[&["none"]],
+        &[],
+    ];
+    for table in tables {
+        assert!(rt; agrees(alloc, table)?);
+    }
+    Ok(())
+}

@@ -1,9 +1,0 @@
-pub mod Asked
-pub mod Commands
-pub mod Counting
-pub mod Delimiters
-pub mod Inputs
-pub mod Lines
-pub mod Reading
-pub mod Records
-pub mod Status

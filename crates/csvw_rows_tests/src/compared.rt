@@ -1,0 +1,134 @@
+//! The rows of generated texts, beside those that the crate `csv` reads of them.
+
+use crate::numbers::Numbers;
+use crate::reading::{pieces, write_field};
+use csv::{Reader, ReaderBuilder, StringRecord};
+use csvw_rows::Dialect;
+use std::alloc::Global;
+use std::fmt::Write;
+use std::test::Fail;
+
+/// What may stand in a cell without quotes, at its start too.
+const PLAIN: [&str; 9] = [
+    "a",
+    "7",
+    " ",
+    "\t",
+    ".#",
+    "\u{E9}",
+    "\u{6F22}",
+    "\u{1F600}",
+    "'",
+];
+
+/// What may stand in quotes.
+const QUOTED: [&str; 10] = [
+    "a",
+    " ",
+    ",",
+    "\"\"",
+    "\n",
+    "\r\n",
+    "\r",
+    "#",
+    "\u{E9}",
+    "\u{1F600}",
+];
+
+fn add_plain(text: &mut String, numbers: &mut Numbers, len: u64) -> Result<(), Fail> {
+    for _ in 0..len {
+        text.push_str(numbers.pick(&PLAIN))?;
+    }
+    Ok(())
+}
+
+fn add_quoted(text: &mut String, numbers: &mut Numbers, len: u64) -> Result<(), Fail> {
+    text.push('"')?;
+    for _ in 0..len {
+        text.push_str(numbers.pick(&QUOTED))?;
+    }
+    Ok(text.push('"')?)
+}
+
+/// A row of so many cells. One cell alone isn't empty, as the row would be blank.
+fn add_row(text: &mut String, numbers: &mut Numbers, columns: u64) -> Result<(), Fail> {
+    for column in 0..columns {
+        if 0 < column {
+            text.push(',')?;
+        }
+        let len = numbers.below(4);
+        if numbers.below(2) == 0 {
+            add_quoted(text, numbers, len)?;
+        } else {
+            add_plain(text, numbers, len.max(u64::from(columns == 1)))?;
+        }
+    }
+    Ok(())
+}
+
+/// A text of up to seven rows of equal length; the last may lack its terminator.
+fn generated(alloc: Global, numbers: &mut Numbers) -> Result<String, Fail> {
+    let mut text = String::new(alloc);
+    let columns = 1 + numbers.below(4);
+    let rows = numbers.below(8);
+    for row in 0..rows {
+        add_row(&mut text, numbers, columns)?;
+        if row + 1 < rows || numbers.below(2) == 0 {
+            text.push_str(numbers.pick(&["\n", "\r\n"]))?;
+        }
+    }
+    Ok(text)
+}
+
+/// Writes a record as `write_row` writes a row of this source number.
+fn write_record(text: &mut String, record: &StringRecord, source: u64) -> Result<(), Fail> {
+    write!(text, "{source}/{}", source.saturating_sub(1))?;
+    for field in record.iter() {
+        write_field(text, field)?;
+    }
+    Ok(text.push_str("; ")?)
+}
+
+/// Whether there was a record.
+fn read_record(reader: &mut Reader<&[u8]>, record: &mut StringRecord) -> Result<bool, Fail> {
+    match reader.read_record(record) {
+        Ok(more) => Ok(more),
+        Err(_) => Err("no record")?,
+    }
+}
+
+/// What the crate `csv` reads.
+fn records(alloc: Global, bytes: &[u8]) -> Result<String, Fail> {
+    let mut reader = ReaderBuilder::new()
+        .has_headers(false)
+        .from_reader(alloc, bytes);
+    let mut record = StringRecord::new(alloc);
+    let mut text = String::new(alloc);
+    for source in 1..64 {
+        if !read_record(&mut reader, &mut record)? {
+            break;
+        }
+        write_record(&mut text, &record, source)?;
+    }
+    Ok(text)
+}
+
+const TEXTS: u32 = 1000;
+
+#[test]
+fn as_the_crate_csv(rt: HostRuntime) -> Result<(), Fail> {
+    let alloc = rt.alloc();
+    let mut numbers = Numbers(1);
+    for _ in 0..TEXTS {
+        let text = generated(alloc, &mut numbers)?;
+        let want = records(alloc, text.as_bytes())?;
+        for len in [1, 2, 3, 7, 1000] {
+            assert_eq!(rt;
+                pieces(alloc, Dialect::new(alloc)?, 1000, text.as_bytes(), len)?.as_str(),
+                want.as_str(),
+                "{text:?} by {len}"
+            );
+        }
+    }
+    Ok(())
+}

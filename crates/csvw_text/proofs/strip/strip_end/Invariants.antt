@@ -1,0 +1,15 @@
+use Rattle.std.proofs.Common.{◌≡◌, ◌≤◌, true, length, take, chars}
+use Rattle.std.specs.Str.{is_utf8}
+use Rattle.csvw_text.specs.Strip.{strip_end}
+use Rattle.csvw_text.proofs.strip.strip_end.Given as goal
+
+abbrev pub invariant-loop-c : goal.invariant-loop-c
+invariant-loop-c l = record {
+  within : length l.rest ≤ length l.text;
+  front : take (length l.rest) l.text ≡ l.rest;
+  is_text : is_utf8 l.rest ≡ true;
+  same : strip_end (chars l.text) ≡ strip_end (chars l.rest);
+}
+
+abbrev pub decreases-loop-c : goal.decreases-loop-c
+decreases-loop-c l = length l.rest
