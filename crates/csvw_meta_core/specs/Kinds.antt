@@ -8,7 +8,7 @@ use Rattle.csvw_meta_core.specs.declared.fault.MetaCode.{MetaCode}
 use Rattle.csvw_meta_core.specs.declared.fault.MetaCode.TheVariants.{BadProperty, TooMany}
 use Rattle.csvw_meta_core.specs.declared.kinds.Sole.{Sole}
 use Rattle.csvw_meta_core.specs.declared.kinds.Sole.TheVariants.{Empty, One, Several}
-use Rattle.csvw_meta_core.specs.Read.{Read, fine, faulty, wrong, on_kind, each}
+use Rattle.csvw_meta_core.specs.Read.{Read, fine, faulty, wrong, on_kind, on_kind_as, each}
 
 abbrev pub truth : List ℕ → Data → Read Bool
 truth at d = on_kind at d false (as_bool d) fine
@@ -57,6 +57,6 @@ texts at (boolean b) = wrong at (boolean b) []
 texts at (number n) = wrong at (number n) []
 texts at (object ms) = wrong at (object ms) []
 
--- a language tag
-abbrev pub language : List ℕ → Data → Read (List ℕ)
-language at d = on_kind at d [] (as_str d) (λ s. if is_language_tag s then fine s else faulty BadProperty at [])
+-- a language tag; another value has a code of its own
+abbrev pub language : MetaCode → List ℕ → Data → Read (List ℕ)
+language code at d = on_kind_as code at d [] (as_str d) (λ s. if is_language_tag s then fine s else faulty code at [])

@@ -51,26 +51,51 @@ over dummy r next = over_faults dummy r.faults r.value next
 -- ---- values of a wrong kind
 
 -- A number that isn't whole is not supported, whatever is wanted in its place.
-abbrev pub wrong_number : Num → MetaCode
-wrong_number (unsigned n) = BadProperty
-wrong_number (negative z) = BadProperty
-wrong_number (float x) = NotSupported
+abbrev pub number_code : MetaCode → Num → MetaCode
+number_code code (unsigned n) = code
+number_code code (negative z) = code
+number_code code (float x) = NotSupported
 
-abbrev pub wrong_code : Data → MetaCode
-wrong_code null = BadProperty
-wrong_code (boolean b) = BadProperty
-wrong_code (number n) = wrong_number n
-wrong_code (string s) = BadProperty
-wrong_code (array ds) = BadProperty
-wrong_code (object ms) = BadProperty
+abbrev pub code_for : MetaCode → Data → MetaCode
+code_for code null = code
+code_for code (boolean b) = code
+code_for code (number n) = number_code code n
+code_for code (string s) = code
+code_for code (array ds) = code
+code_for code (object ms) = code
+
+-- a value of a wrong kind, where that has a code of its own, and where it hasn't
+abbrev pub wrong_as : {A : Type 0} → MetaCode → List ℕ → Data → A → Read A
+wrong_as code at d dummy = faulty (code_for code d) at dummy
 
 abbrev pub wrong : {A : Type 0} → List ℕ → Data → A → Read A
-wrong at d dummy = faulty (wrong_code d) at dummy
+wrong at d dummy = wrong_as BadProperty at d dummy
 
 -- what a value is as one of a kind, read on; a value of no such kind is wrong
+abbrev pub on_kind_as : {A B : Type 0} → MetaCode → List ℕ → Data → B → Option A → (A → Read B) → Read B
+on_kind_as code at d dummy None reads = wrong_as code at d dummy
+on_kind_as code at d dummy (Some x) reads = reads x
+
 abbrev pub on_kind : {A B : Type 0} → List ℕ → Data → B → Option A → (A → Read B) → Read B
-on_kind at d dummy None reads = wrong at d dummy
-on_kind at d dummy (Some x) reads = reads x
+on_kind at d dummy o reads = on_kind_as BadProperty at d dummy o reads
+
+-- an object, read on
+abbrev pub on_object : {A : Type 0} → List ℕ → Data → A → Read A → Read A
+on_object at (object ms) dummy r = r
+on_object at null dummy r = wrong at null dummy
+on_object at (boolean b) dummy r = wrong at (boolean b) dummy
+on_object at (number n) dummy r = wrong at (number n) dummy
+on_object at (string s) dummy r = wrong at (string s) dummy
+on_object at (array ds) dummy r = wrong at (array ds) dummy
+
+-- the same where a text would be the URL of the object, which is not supported
+abbrev pub on_linked_object : {A : Type 0} → List ℕ → Data → A → Read A → Read A
+on_linked_object at (object ms) dummy r = r
+on_linked_object at null dummy r = wrong at null dummy
+on_linked_object at (boolean b) dummy r = wrong at (boolean b) dummy
+on_linked_object at (number n) dummy r = wrong at (number n) dummy
+on_linked_object at (string s) dummy r = faulty NotSupported at dummy
+on_linked_object at (array ds) dummy r = wrong at (array ds) dummy
 
 -- one of a kind, or null for none
 abbrev pub or_null : {A : Type 0} → (List ℕ → Data → Read A) → List ℕ → Data → Read (Option A)

@@ -216,23 +216,26 @@ impl Reader for Texts {
     }
 }
 
-/// A language tag; a text that is none is `BadProperty`.
+/// A language tag.
 #[derive(Drop)]
-pub struct Language;
+pub struct Language {
+    /// What another value is.
+    pub wrong: MetaCode,
+}
 
 impl Reader for Language {
     type Output = LanguageTag;
 
-    ghost reads = { λ _. language };
+    ghost reads = { λ r. language r.wrong };
 
     fn read(&self, part: &Part) -> Result<LanguageTag, Refusal> {
         let Some(text) = part.value.as_str() else {
-            return Err(part.wrong());
+            return Err(part.wrong_as(self.wrong));
         };
         let text = Text::copied(part.alloc, text)?;
         match LanguageTag::of(part.alloc, text)? {
             Some(tag) => Ok(tag),
-            None => Err(part.refused(MetaCode::BadProperty)),
+            None => Err(part.refused(self.wrong)),
         }
     }
 }

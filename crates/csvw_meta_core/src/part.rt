@@ -2,7 +2,7 @@
 ghost use Rattle.std.specs.Prelude.{◌≡◌, ◌∷◌, []};
 ghost use Rattle.serde_json.specs.View.{view};
 ghost use Rattle.csvw_meta_core.specs.Pointer.{text_of, below, item_at};
-ghost use Rattle.csvw_meta_core.specs.Read.{property, optional, needed, wrong_code};
+ghost use Rattle.csvw_meta_core.specs.Read.{property, optional, needed, code_for};
 ghost use Rattle.csvw_meta_core.specs.Reads.{Fails, Reads};
 
 use crate::fault::{MetaCode, MetaFault, Refusal};
@@ -36,13 +36,20 @@ impl<'a> Part<'a> {
     /// The fault of a value of a wrong kind: `BadProperty`, or `NotSupported` for a number that isn't
     /// whole; `Memory` where there is none for it.
     pub fn wrong(&self) -> Refusal
-        ensures { Fails result (record { code = wrong_code (view self.now.value.now); pointer = text_of self.now.at } ∷ []) }
+        ensures { Fails result (record { code = code_for MetaCode.BadProperty (view self.now.value.now); pointer = text_of self.now.at } ∷ []) }
     {
-        let code = match self.value {
-            Value::Number(number) if number.is_f64() => MetaCode::NotSupported,
-            _ => MetaCode::BadProperty,
-        };
-        self.refused(code)
+        self.wrong_as(MetaCode::BadProperty)
+    }
+
+    /// The fault of a value of a wrong kind that has this code, or `NotSupported` for a number that
+    /// isn't whole; `Memory` where there is none for it.
+    pub fn wrong_as(&self, code: MetaCode) -> Refusal
+        ensures { Fails result (record { code = code_for code (view self.now.value.now); pointer = text_of self.now.at } ∷ []) }
+    {
+        match self.value {
+            Value::Number(number) if number.is_f64() => self.refused(MetaCode::NotSupported),
+            _ => self.refused(code),
+        }
     }
 
     /// A property of this object, or the default where it is missing. A fault is the reader's.
