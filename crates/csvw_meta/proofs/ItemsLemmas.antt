@@ -1,0 +1,11 @@
+-- How many items an array has.
+use Rattle.std.proofs.Common.{◌≡◌, ℕ, ◌+◌, List, [], ◌∷◌, length, refl, ap, arith, suc, sym, ◌∙◌}
+use Rattle.serde_json.specs.View.{view, items_view}
+use Rattle.serde_json.specs.declared.value.Value.{Value}
+use Rattle.csvw_meta.specs.Several.{items_len}
+
+pub items_len-items_view : (vs : List Value) → items_len (items_view vs) ≡ length vs
+items_len-items_view [] = refl
+items_len-items_view (v ∷ vs) = let e = items_len-items_view vs in omega (arith, e)
+
+pub ruleset counting = items_len-items_view

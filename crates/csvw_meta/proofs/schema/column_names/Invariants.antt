@@ -1,0 +1,6 @@
+use Rattle.std.proofs.Common.{◌≡◌, ◌++◌, drop}
+use Rattle.csvw_meta.specs.Schema.{numbered_names}
+use Rattle.csvw_meta.proofs.schema.column_names.Given as goal
+
+abbrev pub invariant-loop-i : goal.invariant-loop-i
+invariant-loop-i l = l.names.items ++ numbered_names l.i (drop l.i l.columns) ≡ numbered_names 0 l.columns

@@ -1,0 +1,26 @@
+-- What groups and tables have in common (Metadata Vocabulary for Tabular Data, sections 5.3 and 5.4).
+use Rattle.std.specs.Prelude.{ℕ, List, ◌++◌, Option, Some, None, codes}
+use Rattle.serde_json.specs.Data.{Data}
+use Rattle.csvw_text.specs.declared.fault.Fault.{Fault}
+use Rattle.csvw_meta_core.specs.Read.{Read, fine, ◌>>=◌, under, optional}
+use Rattle.csvw_meta.specs.declared.body.Body.{Body}
+use Rattle.csvw_meta.specs.declared.body.DialectGiven.{DialectGiven}
+use Rattle.csvw_meta.specs.declared.context.Context.{Context}
+use Rattle.csvw_meta.specs.declared.dialect.DialectFound.{DialectFound}
+use Rattle.csvw_meta.specs.Dialect.{dialect}
+use Rattle.csvw_meta.specs.Inherited.{inherited}
+use Rattle.csvw_meta.specs.Schema.{schema}
+
+-- the warnings on a dialect, then those on its object
+abbrev pub split : List Fault → Option DialectFound → DialectGiven
+split warnings None = record { dialect = None; warnings = warnings }
+split warnings (Some found) = record { dialect = Some found.dialect; warnings = found.warnings ++ warnings }
+
+unfoldable pub given_dialect : Context → ℕ → List Fault → List ℕ → Data → Read DialectGiven
+given_dialect context table warnings at d = under (split warnings) (optional (dialect context table) at d (codes "dialect"))
+
+unfoldable pub body : Context → ℕ → List ℕ → Data → Read Body
+body context table at d = do
+  inherited ← inherited at d
+  schema ← optional (schema context table) at d (codes "tableSchema")
+  fine (record { schema = schema; inherited = inherited })

@@ -1,0 +1,54 @@
+-- The group of tables that a document describes, and the faults that stand in the document (Metadata Vocabulary for Tabular Data,
+-- section 5). There is a group exactly where there is no fault.
+use Rattle.std.specs.Prelude.{ℕ, List, [], ◌∷◌, Bool, true, false, nat_lt, length, codes, is_some, if◌then◌else◌, Option, Some, None}
+use Rattle.serde_json.specs.Data.{Data}
+use Rattle.serde_json.specs.Find.{get}
+use Rattle.url.specs.Parts.{Parts}
+use Rattle.csvw_iri.specs.Link.{base_of}
+use Rattle.csvw_description.specs.declared.description.Description.{Description}
+use Rattle.csvw_description.specs.declared.table.TableDescription.{TableDescription}
+use Rattle.csvw_meta_core.specs.declared.fault.MetaCode.TheVariants.{NotJson, TooLong}
+use Rattle.csvw_meta_core.specs.Links.{told, no_url}
+use Rattle.csvw_meta_core.specs.Read.{Read, faulty, over, under}
+use Rattle.csvw_meta.specs.declared.context.Context.{Context}
+use Rattle.csvw_meta.specs.Context.{context}
+use Rattle.csvw_meta.specs.Group.{group, no_group}
+use Rattle.csvw_meta.specs.Inherited.{no_inherited}
+use Rattle.csvw_meta.specs.Json.{json_of, without_bom}
+use Rattle.csvw_meta.specs.Table.{table_of}
+
+-- the group of one table, which has nothing else
+abbrev pub group_of : TableDescription → Description
+group_of table = record {
+  id = None;
+  tables = table ∷ [];
+  dialect = None;
+  schema = None;
+  inherited = no_inherited;
+  notes = [];
+  warnings = [];
+}
+
+abbrev pub sole_table : Context → List ℕ → Data → Read Description
+sole_table context at d = under group_of (table_of context true 1 at d)
+
+-- A document with `tables` is a group.
+abbrev pub within : Context → List ℕ → Data → Read Description
+within context at d = if is_some (get (codes "tables") d) then group context at d else sole_table context at d
+
+-- what a value describes, at the document's own URL
+abbrev pub described : Parts → List ℕ → Data → Read Description
+described base at d = over no_group (context base at d) (λ c. within c at d)
+
+abbrev pub of_json : Parts → Option Data → Read Description
+of_json base None = faulty NotJson [] no_group
+of_json base (Some d) = described base [] d
+
+abbrev pub of_bytes : Parts → List ℕ → Read Description
+of_bytes base bytes = of_json base (json_of (without_bom bytes))
+
+-- the document with the text of its own URL
+unfoldable pub document : List ℕ → List ℕ → Read Description
+document base bytes =
+    if nat_lt 1048576 (length bytes) then faulty TooLong [] no_group
+    else over no_group (told [] no_url (base_of None base)) (λ b. of_bytes b bytes)

@@ -1,0 +1,55 @@
+-- Groups of tables (Metadata Vocabulary for Tabular Data, section 5.3).
+use Rattle.std.specs.Prelude.{ℕ, List, [], ◌++◌, None, codes, map}
+use Rattle.serde_json.specs.Data.{Data}
+use Rattle.csvw_iri.specs.Link.{iri_of}
+use Rattle.csvw_description.specs.declared.description.Description.{Description}
+use Rattle.csvw_description.specs.declared.table.TableDescription.{TableDescription}
+use Rattle.csvw_meta_core.specs.declared.fault.MetaCode.TheVariants.{DuplicateTable, NotSupported}
+use Rattle.csvw_meta_core.specs.declared.fault.MetaFault.{MetaFault}
+use Rattle.csvw_meta_core.specs.Pointer.{below, item_at}
+use Rattle.csvw_meta_core.specs.Read.{Read, fine, ◌>>=◌, also, needed, optional, not_yet}
+use Rattle.csvw_meta_core.specs.Kinds.{fixed}
+use Rattle.csvw_meta_core.specs.Links.{id}
+use Rattle.csvw_meta_core.specs.Others.{others}
+use Rattle.csvw_meta.specs.declared.context.Context.{Context}
+use Rattle.csvw_meta.specs.Body.{given_dialect, body}
+use Rattle.csvw_meta.specs.Inherited.{no_inherited}
+use Rattle.csvw_meta.specs.Names.{group_names, inherited_names, place_of}
+use Rattle.csvw_meta.specs.Repeated.{repeated}
+use Rattle.csvw_meta.specs.Several.{several}
+use Rattle.csvw_meta.specs.Table.{table}
+
+-- a table's URL, made safe
+abbrev pub url_of : TableDescription → List ℕ
+url_of t = iri_of t.url
+
+-- No two tables have one URL.
+abbrev pub url_faults : List ℕ → List TableDescription → List MetaFault
+url_faults at ts =
+    repeated (λ i. record { code = DuplicateTable; pointer = below (item_at at i) (codes "url") }) [] 0 (map url_of ts)
+
+abbrev pub tables : Context → List ℕ → Data → Read (List TableDescription)
+tables context at d = also (several 1 64 (table context) at d) (url_faults at)
+
+-- Notes are not supported yet.
+unfoldable pub group : Context → List ℕ → Data → Read Description
+group context at d = do
+  type ← optional (fixed (codes "TableGroup")) at d (codes "@type")
+  notes ← optional not_yet at d (codes "notes")
+  warnings ← others (group_names ++ inherited_names) NotSupported (place_of 0 0) at d
+  tables ← needed (tables context) [] at d (codes "tables")
+  iri ← optional (id context.base) at d (codes "@id")
+  given ← given_dialect context 0 warnings at d
+  body ← body context 0 at d
+  fine (record {
+    id = iri;
+    tables = tables;
+    dialect = given.dialect;
+    schema = body.schema;
+    inherited = body.inherited;
+    notes = [];
+    warnings = given.warnings;
+  })
+
+abbrev pub no_group : Description
+no_group = record { id = None; tables = []; dialect = None; schema = None; inherited = no_inherited; notes = []; warnings = [] }

@@ -1,0 +1,47 @@
+-- The inherited properties of an object (Metadata Vocabulary for Tabular Data, section 5.7).
+use Rattle.std.specs.Prelude.{ℕ, List, Option, Some, None, codes}
+use Rattle.serde_json.specs.Data.{Data}
+use Rattle.csvw_description.specs.declared.inherited.Inherited.{Inherited}
+use Rattle.csvw_meta_core.specs.declared.fault.MetaCode.TheVariants.{BadProperty}
+use Rattle.csvw_meta_core.specs.Read.{Read, fine, ◌>>=◌, optional, or_null, not_yet}
+use Rattle.csvw_meta_core.specs.Kinds.{truth, text, some_text, texts, language}
+
+abbrev pub no_inherited : Inherited
+no_inherited = record {
+  about_url = None;
+  property_url = None;
+  value_url = None;
+  datatype = None;
+  default = None;
+  lang = None;
+  null = None;
+  ordered = None;
+  required = None;
+  separator = None;
+}
+
+-- Templates and datatypes are not supported yet.
+unfoldable pub inherited : List ℕ → Data → Read Inherited
+inherited at d = do
+  about_url ← optional not_yet at d (codes "aboutUrl")
+  property_url ← optional not_yet at d (codes "propertyUrl")
+  value_url ← optional not_yet at d (codes "valueUrl")
+  datatype ← optional not_yet at d (codes "datatype")
+  default ← optional text at d (codes "default")
+  lang ← optional (language BadProperty) at d (codes "lang")
+  null_texts ← optional texts at d (codes "null")
+  ordered ← optional truth at d (codes "ordered")
+  required ← optional truth at d (codes "required")
+  separator ← optional (or_null some_text) at d (codes "separator")
+  fine (record {
+    about_url = None;
+    property_url = None;
+    value_url = None;
+    datatype = None;
+    default = default;
+    lang = lang;
+    null = null_texts;
+    ordered = ordered;
+    required = required;
+    separator = separator;
+  })

@@ -1,0 +1,15 @@
+pub mod Body
+pub mod Column
+pub mod Context
+pub mod DeclaredName
+pub mod Dialect
+pub mod Document
+pub mod Group
+pub mod Inherited
+pub mod Json
+pub mod Names
+pub mod Repeated
+pub mod Schema
+pub mod Several
+pub mod Table
+pub mod Titles

@@ -1,0 +1,72 @@
+//! What groups and tables have in common: a dialect, a schema and inherited properties (Metadata Vocabulary
+//! for Tabular Data, sections 5.3 and 5.4).
+ghost use Rattle.std.specs.Prelude.{◌≡◌, IfOk};
+ghost use Rattle.serde_json.specs.View.{view};
+ghost use Rattle.csvw_meta_core.specs.Pointer.{text_of};
+ghost use Rattle.csvw_meta_core.specs.Reads.{Reads};
+ghost use Rattle.csvw_meta.specs.Body.{split, given_dialect, body};
+
+use crate::context::Context;
+use crate::dialect::{DialectFound, DialectReader};
+use crate::inherited::read_inherited;
+use crate::schema::SchemaReader;
+use csvw_description::{Inherited, Schema};
+use csvw_dialect::Dialect;
+use csvw_meta_core::{Part, Refusal};
+use csvw_text::{Fault, Seq};
+use std::alloc::AllocError;
+
+/// The dialect of an object, and the warnings on it and on the object.
+#[derive(Debug, Drop)]
+pub(crate) struct DialectGiven {
+    pub(crate) dialect: Option<Dialect>,
+    pub(crate) warnings: Seq<Fault>,
+}
+
+/// The schema of an object, and its inherited properties.
+#[derive(Debug, Drop)]
+pub(crate) struct Body {
+    pub(crate) schema: Option<Schema>,
+    pub(crate) inherited: Inherited,
+}
+
+fn split(found: Option<DialectFound>, warnings: Seq<Fault>) -> Result<DialectGiven, AllocError>
+    ensures { IfOk result (λ g. g ≡ split warnings found) }
+{
+    let Some(found) = found else {
+        return Ok(DialectGiven {
+            dialect: None,
+            warnings,
+        });
+    };
+    let mut all = found.warnings.into_vec();
+    all.append(&mut warnings.into_vec())?;
+    Ok(DialectGiven {
+        dialect: Some(found.dialect),
+        warnings: Seq::of(all),
+    })
+}
+
+/// The dialect of the table of this number, 0 for the group, with these warnings on the object.
+#[tactic(auto, unfolding(crate::specs::Body::given_dialect))]
+pub(crate) fn read_dialect(
+    context: &Context,
+    table: u32,
+    warnings: Seq<Fault>,
+    part: &Part,
+) -> Result<DialectGiven, Refusal>
+    ensures { Reads result (given_dialect context.now table warnings (text_of part.now.at) (view part.now.value.now)) }
+{
+    let found = part.optional(&DialectReader { context, table }, "dialect")?;
+    Ok(split(found, warnings)?)
+}
+
+/// The schema and the inherited properties of the table of this number, 0 for the group.
+#[tactic(auto, using(crate::proofs::ReadLemmas::fails_first), unfolding(crate::specs::Body::body))]
+pub(crate) fn read_body(context: &Context, table: u32, part: &Part) -> Result<Body, Refusal>
+    ensures { Reads result (body context.now table (text_of part.now.at) (view part.now.value.now)) }
+{
+    let inherited = read_inherited(part)?;
+    let schema = part.optional(&SchemaReader { context, table }, "tableSchema")?;
+    Ok(Body { schema, inherited })
+}

@@ -1,0 +1,360 @@
+//! Dialects (Metadata Vocabulary for Tabular Data, section 5.9).
+ghost use Rattle.std.specs.Prelude.{◌≡◌, chars};
+ghost use Rattle.std.specs.List.{list_any};
+ghost use Rattle.serde_json.specs.View.{view};
+ghost use Rattle.csvw_dialect.specs.Lawful.{has_break};
+ghost use Rattle.csvw_meta_core.specs.Pointer.{text_of};
+ghost use Rattle.csvw_meta_core.specs.Reads.{Reads};
+ghost use Rattle.csvw_meta.specs.Dialect.{mark, comment_prefix, trim, trim_named, encoding, is_utf8_name, terminator, terminators, joined, header_rows, trim_of, skips_spaces, clashes, dialect_parts, lawful_dialect, dialect_of, is_break_char};
+
+use crate::context::Context;
+use crate::unlisted::dialect_warnings;
+use csvw_dialect::{Dialect, LineTerminators, Trim};
+use csvw_meta_core::{
+    AnyWhole, Character, Fixed, IdReader, MetaCode, OrNull, Part, Reader, Refusal, Truth, WholeU8,
+    WholeU32, each,
+};
+use csvw_text::{Fault, Seq, Text};
+use serde_json::Value;
+
+/// A dialect, and the warnings on it.
+#[derive(Debug, Drop)]
+pub(crate) struct DialectFound {
+    pub(crate) dialect: Dialect,
+    /// One for each property of it that is ignored.
+    pub(crate) warnings: Seq<Fault>,
+}
+
+fn is_break(c: char) -> bool
+    ensures { result ≡ is_break_char c }
+{
+    c == '\r' || c == '\n'
+}
+
+fn has_break(text: &str) -> bool
+    ensures { result ≡ has_break (chars text.now) }
+{
+    text.chars().any(|c| is_break(c))
+}
+
+/// A delimiter or a quote: one character, neither CR nor LF.
+#[derive(Drop)]
+struct Mark {
+    /// What several characters are.
+    several: MetaCode,
+}
+
+impl Reader for Mark {
+    type Output = char;
+
+    ghost reads = { λ r. mark r.several };
+
+    #[tactic(auto, using(crate::proofs::ReadLemmas::fails_over))]
+    fn read(&self, part: &Part) -> Result<char, Refusal> {
+        let c = Character {
+            several: self.several,
+        }
+        .read(part)?;
+        if is_break(c) {
+            return Err(part.refused(MetaCode::BadDialect));
+        }
+        Ok(c)
+    }
+}
+
+/// What a comment row begins with: 1 to 16 bytes, without CR and LF.
+#[derive(Drop)]
+struct CommentPrefix;
+
+impl Reader for CommentPrefix {
+    type Output = Text;
+
+    ghost reads = { λ _. comment_prefix };
+
+    fn read(&self, part: &Part) -> Result<Text, Refusal> {
+        let Some(text) = part.value.as_str() else {
+            return Err(part.wrong());
+        };
+        if text.is_empty() || text.len() > 16 {
+            return Err(part.refused(MetaCode::BadProperty));
+        }
+        if has_break(text) {
+            return Err(part.refused(MetaCode::BadDialect));
+        }
+        Ok(Text::copied(part.alloc, text)?)
+    }
+}
+
+fn trim_named(text: &str) -> Option<Trim>
+    ensures { result ≡ trim_named text.now }
+{
+    match text {
+        "true" => Some(Trim::Both),
+        "false" => Some(Trim::No),
+        "start" => Some(Trim::Start),
+        "end" => Some(Trim::End),
+        _ => None,
+    }
+}
+
+/// What is stripped from fields: a truth, or a name.
+#[derive(Drop)]
+struct TrimReader;
+
+impl Reader for TrimReader {
+    type Output = Trim;
+
+    ghost reads = { λ _. trim };
+
+    fn read(&self, part: &Part) -> Result<Trim, Refusal> {
+        match part.value {
+            Value::Bool(true) => Ok(Trim::Both),
+            Value::Bool(false) => Ok(Trim::No),
+            Value::String(text) => match trim_named(text.as_str()) {
+                Some(trim) => Ok(trim),
+                None => Err(part.refused(MetaCode::BadProperty)),
+            },
+            _ => Err(part.wrong()),
+        }
+    }
+}
+
+fn is_utf8_name(text: &str) -> bool
+    ensures { result ≡ is_utf8_name text.now }
+{
+    text.eq_ignore_ascii_case("utf-8")
+}
+
+/// The name of the one encoding, in any case.
+#[derive(Drop)]
+struct Encoding;
+
+impl Reader for Encoding {
+    type Output = ();
+
+    ghost reads = { λ _. encoding };
+
+    fn read(&self, part: &Part) -> Result<(), Refusal> {
+        match part.value.as_str() {
+            Some(text) if is_utf8_name(text) => Ok(()),
+            Some(_) => Err(part.refused(MetaCode::NotSupported)),
+            None => Err(part.wrong()),
+        }
+    }
+}
+
+/// A line terminator: CR LF, or LF.
+#[derive(Drop)]
+struct Terminator;
+
+impl Reader for Terminator {
+    type Output = LineTerminators;
+
+    ghost reads = { λ _. terminator };
+
+    fn read(&self, part: &Part) -> Result<LineTerminators, Refusal> {
+        match part.value.as_str() {
+            Some("\r\n") => Ok(LineTerminators {
+                crlf: true,
+                lf: false,
+            }),
+            Some("\n") => Ok(LineTerminators {
+                crlf: false,
+                lf: true,
+            }),
+            Some(_) => Err(part.refused(MetaCode::NotSupported)),
+            None => Err(part.wrong()),
+        }
+    }
+}
+
+fn has_crlf(terminators: &[LineTerminators]) -> bool
+    ensures { result ≡ list_any (λ t. t.crlf) terminators.now }
+{
+    terminators.iter().any(|t| t.crlf)
+}
+
+fn has_lf(terminators: &[LineTerminators]) -> bool
+    ensures { result ≡ list_any (λ t. t.lf) terminators.now }
+{
+    terminators.iter().any(|t| t.lf)
+}
+
+fn joined(terminators: &[LineTerminators]) -> LineTerminators
+    ensures { result ≡ joined terminators.now }
+{
+    LineTerminators {
+        crlf: has_crlf(terminators),
+        lf: has_lf(terminators),
+    }
+}
+
+/// One line terminator, or an array of one at least.
+#[derive(Drop)]
+struct Terminators;
+
+impl Reader for Terminators {
+    type Output = LineTerminators;
+
+    ghost reads = { λ _. terminators };
+
+    #[tactic(auto, using(crate::proofs::ReadLemmas::fails_over))]
+    fn read(&self, part: &Part) -> Result<LineTerminators, Refusal> {
+        match part.value {
+            Value::Array(items) => {
+                let found = each(part, &Terminator, items.as_slice())?;
+                if found.is_empty() {
+                    return Err(part.refused(MetaCode::BadDialect));
+                }
+                Ok(joined(found.as_slice()))
+            }
+            Value::String(_) => Terminator.read(part),
+            _ => Err(part.wrong()),
+        }
+    }
+}
+
+/// How many header rows there are. A given `headerRowCount` decides alone.
+fn header_rows(header: bool, count: Option<u8>) -> u8
+    ensures { result ≡ header_rows header count }
+{
+    match count {
+        Some(count) => count,
+        None if header => 1,
+        None => 0,
+    }
+}
+
+/// What is stripped. Where `trim` is missing, `skipInitialSpace` strips the start.
+fn trim_of(trim: Option<Trim>, skip_initial_space: bool) -> Trim
+    ensures { result ≡ trim_of trim skip_initial_space }
+{
+    match trim {
+        Some(trim) => trim,
+        None if skip_initial_space => Trim::Start,
+        None => Trim::No,
+    }
+}
+
+fn skips_spaces(trim: Option<Trim>, skip_initial_space: bool) -> bool
+    ensures { result ≡ skips_spaces trim skip_initial_space }
+{
+    trim.is_none() && skip_initial_space
+}
+
+/// Whether the delimiter is the quote, or one of them is the backslash that escapes.
+fn clashes(dialect: &Dialect) -> bool
+    ensures { result ≡ clashes dialect.now.delimiter dialect.now.quote_char dialect.now.double_quote }
+{
+    match dialect.quote_char {
+        Some(quote) => quote == dialect.delimiter
+            || !dialect.double_quote && (quote == '\\' || dialect.delimiter == '\\'),
+        None => !dialect.double_quote && dialect.delimiter == '\\',
+    }
+}
+
+#[tactic(auto, using(crate::proofs::ReadLemmas::fails_first), unfolding(crate::specs::Dialect::dialect_parts))]
+fn dialect_parts(part: &Part) -> Result<Dialect, Refusal>
+    ensures { Reads result (dialect_parts (text_of part.now.at) (view part.now.value.now)) }
+{
+    let delimiter = part.property(
+        &Mark {
+            several: MetaCode::NotSupported,
+        },
+        ',',
+        "delimiter",
+    )?;
+    let quote = OrNull {
+        reader: Mark {
+            several: MetaCode::BadProperty,
+        },
+    };
+    let quote_char = part.property(&quote, Some('"'), "quoteChar")?;
+    let double_quote = part.property(&Truth, true, "doubleQuote")?;
+    let prefix = Text::copied(part.alloc, "#")?;
+    let comment_prefix = part.property(
+        &OrNull {
+            reader: CommentPrefix,
+        },
+        Some(prefix),
+        "commentPrefix",
+    )?;
+    let header = part.property(&Truth, true, "header")?;
+    let count = part.optional(&WholeU8 { most: 8 }, "headerRowCount")?;
+    let skip_rows = part.property(&AnyWhole, 0, "skipRows")?;
+    let skip_columns = part.property(&WholeU32 { most: 1024 }, 0, "skipColumns")?;
+    let skip_blank_rows = part.property(&Truth, false, "skipBlankRows")?;
+    let skip_initial_space = part.property(&Truth, false, "skipInitialSpace")?;
+    let trim = part.optional(&TrimReader, "trim")?;
+    let both = LineTerminators {
+        crlf: true,
+        lf: true,
+    };
+    let line_terminators = part.property(&Terminators, both, "lineTerminators")?;
+    part.property(&Encoding, (), "encoding")?;
+    Ok(Dialect {
+        delimiter,
+        quote_char,
+        double_quote,
+        comment_prefix,
+        header_row_count: header_rows(header, count),
+        skip_rows,
+        skip_columns,
+        skip_blank_rows,
+        skip_initial_space: skips_spaces(trim, skip_initial_space),
+        trim: trim_of(trim, skip_initial_space),
+        line_terminators,
+    })
+}
+
+#[tactic(auto, using(crate::proofs::ReadLemmas::fails_also), unfolding(crate::specs::Dialect::dialect_parts))]
+fn lawful_dialect(part: &Part) -> Result<Dialect, Refusal>
+    ensures { Reads result (lawful_dialect (text_of part.now.at) (view part.now.value.now)) }
+{
+    let dialect = dialect_parts(part)?;
+    if clashes(&dialect) {
+        return Err(part.refused(MetaCode::BadDialect));
+    }
+    Ok(dialect)
+}
+
+#[tactic(auto, using(crate::proofs::ReadLemmas::fails_first), unfolding(crate::specs::Dialect::dialect_of))]
+fn dialect_of(context: &Context, table: u32, part: &Part) -> Result<DialectFound, Refusal>
+    ensures { Reads result (dialect_of context.now table (text_of part.now.at) (view part.now.value.now)) }
+{
+    part.optional(
+        &IdReader {
+            base: &context.base,
+        },
+        "@id",
+    )?;
+    part.optional(&Fixed { text: "Dialect" }, "@type")?;
+    let dialect = lawful_dialect(part)?;
+    let warnings = dialect_warnings(table, part)?;
+    Ok(DialectFound { dialect, warnings })
+}
+
+/// A dialect; the URL of one is `NotSupported`.
+#[derive(Drop)]
+pub(crate) struct DialectReader<'a> {
+    /// The document's context.
+    pub(crate) context: &'a Context,
+    /// The number of its table, 0 for its group's.
+    pub(crate) table: u32,
+}
+
+impl<'a> Reader for DialectReader<'a> {
+    ghost use Rattle.csvw_meta.specs.Dialect.{dialect};
+
+    type Output = DialectFound;
+
+    ghost reads = { λ r. dialect r.context.now r.table };
+
+    fn read(&self, part: &Part) -> Result<DialectFound, Refusal> {
+        match part.value {
+            Value::Object(_) => dialect_of(self.context, self.table, part),
+            Value::String(_) => Err(part.refused(MetaCode::NotSupported)),
+            _ => Err(part.wrong()),
+        }
+    }
+}

@@ -1,0 +1,124 @@
+//! Documents (Metadata Vocabulary for Tabular Data, section 5).
+ghost use Rattle.std.specs.Prelude.{◌≡◌, ◌≢◌, [], None, IfOk, IfErr, Contains};
+ghost use Rattle.serde_json.specs.View.{view};
+ghost use Rattle.csvw_iri.specs.Link.{base_of};
+ghost use Rattle.csvw_meta_core.specs.Links.{told, no_url};
+ghost use Rattle.csvw_meta_core.specs.Pointer.{text_of};
+ghost use Rattle.csvw_meta_core.specs.Read.{fine};
+ghost use Rattle.csvw_meta_core.specs.Reads.{Reads};
+ghost use Rattle.csvw_meta.specs.Document.{sole_table, within, described, of_bytes, document};
+
+use crate::context::{Context, read_context};
+use crate::group::read_group;
+use crate::json::{document_fault, json_of, without_bom};
+use crate::table::table_of;
+use csvw_description::{Description, Inherited};
+use csvw_iri::{Base, IriFault};
+use csvw_meta_core::{MetaCode, MetaFault, Part, Pointer, Refusal};
+use csvw_text::{Seq, Text};
+use std::alloc::Global;
+
+/// How many bytes a document has at most.
+const MAX_DOCUMENT: usize = 1048576;
+
+/// The group of the one table that the document is.
+fn of_table(context: &Context, part: &Part) -> Result<Description, Refusal>
+    ensures { Reads result (sole_table context.now (text_of part.now.at) (view part.now.value.now)) }
+{
+    let table = table_of(context, true, 1, part)?;
+    let mut tables = Seq::new(part.alloc);
+    tables.push(table)?;
+    Ok(Description {
+        id: None,
+        tables,
+        dialect: None,
+        schema: None,
+        inherited: Inherited {
+            about_url: None,
+            property_url: None,
+            value_url: None,
+            datatype: None,
+            default: None,
+            lang: None,
+            null: None,
+            ordered: None,
+            required: None,
+            separator: None,
+        },
+        notes: Seq::new(part.alloc),
+        warnings: Seq::new(part.alloc),
+    })
+}
+
+/// What the document describes within its context: a group, or the group of one table.
+fn within(context: &Context, part: &Part) -> Result<Description, Refusal>
+    ensures { Reads result (within context.now (text_of part.now.at) (view part.now.value.now)) }
+{
+    match part.value.get("tables") {
+        Some(_) => read_group(context, part),
+        None => of_table(context, part),
+    }
+}
+
+/// What a value describes at the document's own URL.
+#[tactic(auto, using(crate::proofs::ReadLemmas::fails_over))]
+fn described(part: &Part, base: &Base) -> Result<Description, Refusal>
+    ensures { Reads result (described base.now (text_of part.now.at) (view part.now.value.now)) }
+{
+    let context = read_context(part, base)?;
+    within(&context, part)
+}
+
+fn of_bytes(alloc: Global, base: &Base, bytes: &[u8]) -> Result<Description, Refusal>
+    ensures { Reads result (of_bytes base.now bytes.now) }
+{
+    let value = json_of(alloc, without_bom(bytes))?;
+    let part = Part {
+        alloc,
+        at: Pointer::Root,
+        value: &value,
+    };
+    described(&part, base)
+}
+
+fn own_url(alloc: Global, base: &str) -> Result<Base, Refusal>
+    ensures { Reads result (told [] no_url (base_of None base.now)) }
+{
+    match Base::new(alloc, base) {
+        Ok(base) => Ok(base),
+        Err(IriFault::Memory) => Err(Refusal::Memory),
+        Err(IriFault::UrlTooLong) => Err(document_fault(alloc, MetaCode::UrlTooLong)),
+        Err(IriFault::BadUrl) => Err(document_fault(alloc, MetaCode::BadUrl)),
+    }
+}
+
+#[tactic(auto, using(crate::proofs::ReadLemmas::fails_over), unfolding(crate::specs::Document::document))]
+fn document(alloc: Global, bytes: &[u8], base: &str) -> Result<Description, Refusal>
+    ensures { Reads result (document base.now bytes.now) }
+{
+    if bytes.len() > MAX_DOCUMENT {
+        return Err(document_fault(alloc, MetaCode::TooLong));
+    }
+    let base = own_url(alloc, base)?;
+    of_bytes(alloc, &base, bytes)
+}
+
+/// The group that a document describes, at its own URL. The fault is one of those that stand in it, or
+/// has the code `Memory` where there is none for the group: `TooLong` past 1,048,576 bytes, `BadUrl` or
+/// `UrlTooLong` where its URL is none, `NotJson` where it is no JSON text, `BadContext` where it has no
+/// context, and what its parts say.
+pub fn read(alloc: Global, bytes: &[u8], base: &str) -> Result<Description, MetaFault>
+    // What is read stands in a document without faults.
+    ensures found { IfOk result (λ d. document base.now bytes.now ≡ fine d) }
+    // What is refused has that fault.
+    ensures fault { IfErr result (λ e. e.code ≢ MetaCode.Memory → Contains (document base.now bytes.now).faults e) }
+{
+    match document(alloc, bytes, base) {
+        Ok(description) => Ok(description),
+        Err(Refusal::Fault(fault)) => Err(fault),
+        Err(Refusal::Memory) => Err(MetaFault {
+            code: MetaCode::Memory,
+            pointer: Text::new(alloc),
+        }),
+    }
+}

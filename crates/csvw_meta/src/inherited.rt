@@ -1,0 +1,64 @@
+//! The inherited properties of an object (Metadata Vocabulary for Tabular Data, section 5.7).
+ghost use Rattle.std.specs.Prelude.{◌≡◌};
+ghost use Rattle.serde_json.specs.View.{view};
+ghost use Rattle.csvw_meta_core.specs.Pointer.{text_of};
+ghost use Rattle.csvw_meta_core.specs.Reads.{Reads};
+ghost use Rattle.csvw_meta.specs.Inherited.{inherited};
+
+use csvw_description::Inherited;
+use csvw_meta_core::{
+    AnyText, Language, MetaCode, NotYet, OrNull, Part, Reader, Refusal, SomeText, Texts, Truth,
+};
+use csvw_text::Shared;
+
+/// A value of a kind, to be shared by the columns that inherit it.
+#[derive(Drop)]
+struct SharedOf<R> {
+    reader: R,
+}
+
+impl<R: Reader> Reader for SharedOf<R> {
+    type Output = Shared<R::Output>;
+
+    ghost reads = { λ r. R.reads r.reader };
+
+    fn read(&self, part: &Part) -> Result<Shared<R::Output>, Refusal> {
+        let value = self.reader.read(part)?;
+        Ok(Shared::new(part.alloc, value)?)
+    }
+}
+
+/// The inherited properties that stand in the object that the part is.
+#[tactic(auto, using(crate::proofs::ReadLemmas::fails_first), unfolding(crate::specs::Inherited::inherited))]
+pub(crate) fn read_inherited(part: &Part) -> Result<Inherited, Refusal>
+    ensures { Reads result (inherited (text_of part.now.at) (view part.now.value.now)) }
+{
+    part.optional(&NotYet, "aboutUrl")?;
+    part.optional(&NotYet, "propertyUrl")?;
+    part.optional(&NotYet, "valueUrl")?;
+    part.optional(&NotYet, "datatype")?;
+    let default = part.optional(&SharedOf { reader: AnyText }, "default")?;
+    let language = Language {
+        wrong: MetaCode::BadProperty,
+    };
+    let lang = part.optional(&SharedOf { reader: language }, "lang")?;
+    let null = part.optional(&SharedOf { reader: Texts }, "null")?;
+    let ordered = part.optional(&Truth, "ordered")?;
+    let required = part.optional(&Truth, "required")?;
+    let separator = OrNull {
+        reader: SharedOf { reader: SomeText },
+    };
+    let separator = part.optional(&separator, "separator")?;
+    Ok(Inherited {
+        about_url: None,
+        property_url: None,
+        value_url: None,
+        datatype: None,
+        default,
+        lang,
+        null,
+        ordered,
+        required,
+        separator,
+    })
+}

@@ -1,0 +1,22 @@
+//! The group of tables that a metadata document describes, or what is wrong with the document (Metadata
+//! Vocabulary for Tabular Data).
+#![tactic(auto)]
+
+mod body;
+mod column;
+mod context;
+mod dialect;
+mod document;
+mod group;
+mod inherited;
+mod json;
+mod name;
+mod repeated;
+mod schema;
+mod several;
+mod table;
+mod titles;
+mod unlisted;
+
+pub use csvw_meta_core::{MetaCode, MetaFault};
+pub use document::read;

@@ -1,0 +1,136 @@
+//! Schemas (Metadata Vocabulary for Tabular Data, section 5.5).
+ghost use Rattle.std.specs.Prelude.{◌≡◌, ◌<◌, ◌+◌, ◌^◌, [], IfOk, MatchResult};
+ghost use Rattle.csvw_description.specs.Name.{name_of};
+ghost use Rattle.serde_json.specs.View.{view};
+ghost use Rattle.csvw_meta_core.specs.Pointer.{text_of};
+ghost use Rattle.csvw_meta_core.specs.Reads.{Fails, Reads};
+ghost use Rattle.csvw_meta.specs.Schema.{numbered_names, name_faults, schema_of};
+
+use crate::column::ColumnReader;
+use crate::context::Context;
+use crate::inherited::read_inherited;
+use crate::repeated::repeated_at;
+use crate::several::Several;
+use crate::unlisted::schema_warnings;
+use csvw_description::{ColumnDescription, Schema};
+use csvw_meta_core::{Fixed, IdReader, MetaCode, NotYet, Part, Reader, Refusal};
+use csvw_text::{Seq, Text};
+use serde_json::Value;
+use std::alloc::{AllocError, Global};
+
+/// How many columns a table has at most.
+const MAX_COLUMNS: u32 = 1024;
+
+fn column_name(alloc: Global, column: &ColumnDescription, index: usize) -> Result<Text, AllocError>
+    requires { index + 1 < 2 ^ 64 }
+    ensures { IfOk result (λ t. t ≡ name_of (index + 1) column.now) }
+{
+    let name = column.resolved_name(alloc, index + 1)?;
+    Text::copied(alloc, name.as_str())
+}
+
+fn column_names(alloc: Global, columns: &[ColumnDescription]) -> Result<Seq<Text>, AllocError>
+    ensures { IfOk result (λ s. s ≡ numbered_names 0 columns.now) }
+{
+    let mut names = Vec::new(alloc);
+    for (i, column) in columns.iter().enumerate() {
+        let name = column_name(alloc, column, i)?;
+        names.push(name)?;
+    }
+    Ok(Seq::of(names))
+}
+
+/// No column has the name of an earlier one; else `DuplicateName` at the later one.
+fn check_names(part: &Part, columns: &[ColumnDescription]) -> Result<(), Refusal>
+    ensures { MatchResult result (λ _. name_faults (text_of part.now.at) columns.now ≡ []) (λ e. Fails e (name_faults (text_of part.now.at) columns.now)) }
+{
+    let names = column_names(part.alloc, columns)?;
+    match repeated_at(names.as_slice()) {
+        None => Ok(()),
+        Some(i) => Err(part.item(i, part.value).refused(MetaCode::DuplicateName)),
+    }
+}
+
+/// The columns of a schema.
+#[derive(Drop)]
+struct Columns<'a> {
+    /// The document's context.
+    context: &'a Context,
+    /// The number of their table, 0 in the group's schema.
+    table: u32,
+}
+
+impl<'a> Reader for Columns<'a> {
+    ghost use Rattle.csvw_meta.specs.Schema.{columns};
+
+    type Output = Seq<ColumnDescription>;
+
+    ghost reads = { λ r. columns r.context.now r.table };
+
+    #[tactic(auto, using(crate::proofs::ReadLemmas::fails_also))]
+    fn read(&self, part: &Part) -> Result<Seq<ColumnDescription>, Refusal> {
+        let reader = ColumnReader {
+            context: self.context,
+            table: self.table,
+        };
+        let several = Several {
+            reader,
+            least: 0,
+            most: MAX_COLUMNS,
+        };
+        let columns = several.read(part)?;
+        check_names(part, columns.as_slice())?;
+        Ok(columns)
+    }
+}
+
+/// A schema; the URL of one is `NotSupported`.
+#[derive(Drop)]
+pub(crate) struct SchemaReader<'a> {
+    /// The document's context.
+    pub(crate) context: &'a Context,
+    /// The number of its table, 0 for its group's.
+    pub(crate) table: u32,
+}
+
+impl<'a> Reader for SchemaReader<'a> {
+    ghost use Rattle.csvw_meta.specs.Schema.{schema};
+
+    type Output = Schema;
+
+    ghost reads = { λ r. schema r.context.now r.table };
+
+    fn read(&self, part: &Part) -> Result<Schema, Refusal> {
+        match part.value {
+            Value::Object(_) => schema_of(self.context, self.table, part),
+            Value::String(_) => Err(part.refused(MetaCode::NotSupported)),
+            _ => Err(part.wrong()),
+        }
+    }
+}
+
+#[tactic(auto, using(crate::proofs::ReadLemmas::fails_first), unfolding(crate::specs::Schema::schema_of))]
+fn schema_of(context: &Context, table: u32, part: &Part) -> Result<Schema, Refusal>
+    ensures { Reads result (schema_of context.now table (text_of part.now.at) (view part.now.value.now)) }
+{
+    part.optional(
+        &IdReader {
+            base: &context.base,
+        },
+        "@id",
+    )?;
+    part.optional(&Fixed { text: "Schema" }, "@type")?;
+    part.optional(&NotYet, "primaryKey")?;
+    part.optional(&NotYet, "foreignKeys")?;
+    part.optional(&NotYet, "rowTitles")?;
+    let warnings = schema_warnings(table, part)?;
+    let columns = part.property(&Columns { context, table }, Seq::new(part.alloc), "columns")?;
+    let inherited = read_inherited(part)?;
+    Ok(Schema {
+        columns,
+        primary_key: Seq::new(part.alloc),
+        foreign_keys: Seq::new(part.alloc),
+        inherited,
+        warnings,
+    })
+}

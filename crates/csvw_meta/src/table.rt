@@ -1,0 +1,86 @@
+//! Tables (Metadata Vocabulary for Tabular Data, section 5.4).
+ghost use Rattle.std.specs.Prelude.{◌≡◌};
+ghost use Rattle.serde_json.specs.View.{view};
+ghost use Rattle.csvw_meta_core.specs.Pointer.{text_of};
+ghost use Rattle.csvw_meta_core.specs.Reads.{Reads};
+ghost use Rattle.csvw_meta.specs.Table.{table_of, table_others};
+
+use crate::body::{read_body, read_dialect};
+use crate::context::Context;
+use crate::unlisted::{sole_table_warnings, table_warnings};
+use csvw_description::TableDescription;
+use csvw_meta_core::{Fixed, IdReader, NotYet, NumberedReader, Part, Reader, Refusal, UrlReader};
+use csvw_text::{Fault, Seq};
+use serde_json::Value;
+
+/// A table of a group, by its number.
+#[derive(Drop)]
+pub(crate) struct TableReader<'a> {
+    /// The document's context.
+    pub(crate) context: &'a Context,
+}
+
+impl<'a> NumberedReader for TableReader<'a> {
+    ghost use Rattle.csvw_meta.specs.Table.{table};
+
+    type Output = TableDescription;
+
+    ghost reads = { λ r. table r.context.now };
+
+    fn read(&self, number: u32, part: &Part) -> Result<TableDescription, Refusal> {
+        match part.value {
+            Value::Object(_) => table_of(self.context, false, number, part),
+            _ => Err(part.wrong()),
+        }
+    }
+}
+
+fn warnings_of(sole: bool, number: u32, part: &Part) -> Result<Seq<Fault>, Refusal>
+    ensures { Reads result (table_others sole number (text_of part.now.at) (view part.now.value.now)) }
+{
+    if sole {
+        sole_table_warnings(part)
+    } else {
+        table_warnings(number, part)
+    }
+}
+
+/// The table of this number that an object describes, which may be the document.
+#[tactic(auto, using(crate::proofs::ReadLemmas::fails_first), unfolding(crate::specs::Table::table_of))]
+pub(crate) fn table_of(
+    context: &Context,
+    sole: bool,
+    number: u32,
+    part: &Part,
+) -> Result<TableDescription, Refusal>
+    ensures { Reads result (table_of context.now sole number (text_of part.now.at) (view part.now.value.now)) }
+{
+    part.optional(&Fixed { text: "Table" }, "@type")?;
+    part.optional(&NotYet, "notes")?;
+    part.optional(&NotYet, "suppressOutput")?;
+    let warnings = warnings_of(sole, number, part)?;
+    let url = part.needed(
+        &UrlReader {
+            base: &context.base,
+        },
+        "url",
+    )?;
+    let id = part.optional(
+        &IdReader {
+            base: &context.base,
+        },
+        "@id",
+    )?;
+    let given = read_dialect(context, number, warnings, part)?;
+    let body = read_body(context, number, part)?;
+    Ok(TableDescription {
+        url,
+        id,
+        dialect: given.dialect,
+        schema: body.schema,
+        suppressed: false,
+        inherited: body.inherited,
+        notes: Seq::new(part.alloc),
+        warnings: given.warnings,
+    })
+}

@@ -1,0 +1,4 @@
+pub mod EachLemmas
+pub mod NamesLemmas
+pub mod PointerLemmas
+pub mod ReadLemmas

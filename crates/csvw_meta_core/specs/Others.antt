@@ -1,0 +1,46 @@
+-- The properties of an object that the vocabulary doesn't list for it (Metadata Vocabulary for Tabular Data, section 4.1): one with a
+-- colon in its name is a common property (section 5.8), any other is ignored with a warning.
+use Rattle.std.specs.Prelude.{ℕ, ◌==◌, List, [], ◌∷◌, ◌++◌, Bool, true, false, bytes_eq, map, if◌then◌else◌}
+use Rattle.std.specs.Borrow.{Bor}
+use Rattle.std.specs.List.{list_any}
+use Rattle.serde_json.specs.Data.{Data, null, boolean, number, string, array, object, Members, no_members, member}
+use Rattle.csvw_text.specs.declared.fault.Place.{Place}
+use Rattle.csvw_text.specs.declared.fault.Fault.{Fault}
+use Rattle.csvw_text.specs.declared.fault.Code.TheVariants.{UnknownProperty}
+use Rattle.csvw_text.specs.declared.fault.Kind.TheVariants.{Warning}
+use Rattle.csvw_meta_core.specs.declared.fault.MetaCode.{MetaCode}
+use Rattle.csvw_meta_core.specs.Pointer.{below}
+use Rattle.csvw_meta_core.specs.Read.{Read, fine, faulty, both}
+
+-- texts that are lent
+abbrev pub names_of : List (Bor (List ℕ)) → List (List ℕ)
+names_of names = map (λ n. n.now) names
+
+abbrev pub has_colon : List ℕ → Bool
+has_colon name = list_any (λ b. b == 58) name
+
+abbrev pub is_among : List (List ℕ) → List ℕ → Bool
+is_among names name = list_any (λ n. bytes_eq n name) names
+
+abbrev pub warning_at : Place → Fault
+warning_at place = record { place = place; code = UnknownProperty; kind = Warning }
+
+-- whether a property is ignored
+abbrev pub other : List (List ℕ) → MetaCode → List ℕ → List ℕ → Read Bool
+other names common at name =
+    if is_among names name then fine false
+    else (if has_colon name then faulty common (below at name) false else fine true)
+
+-- a warning for each property that is ignored
+abbrev pub others_in : List (List ℕ) → MetaCode → Place → List ℕ → Members → Read (List Fault)
+others_in names common place at no_members = fine []
+others_in names common place at (member k d ms) =
+    both (λ ignored rest. (if ignored then warning_at place ∷ [] else []) ++ rest) (other names common at k) (others_in names common place at ms)
+
+abbrev pub others : List (List ℕ) → MetaCode → Place → List ℕ → Data → Read (List Fault)
+others names common place at (object ms) = others_in names common place at ms
+others names common place at null = fine []
+others names common place at (boolean b) = fine []
+others names common place at (number n) = fine []
+others names common place at (string s) = fine []
+others names common place at (array ds) = fine []

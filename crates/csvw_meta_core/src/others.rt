@@ -1,0 +1,89 @@
+//! The properties of an object that the vocabulary doesn't list for it (Metadata Vocabulary for Tabular
+//! Data, section 5.8 and section 4.1).
+ghost use Rattle.std.specs.Prelude.{◌≡◌};
+ghost use Rattle.serde_json.specs.View.{view, members_view};
+ghost use Rattle.csvw_meta_core.specs.Pointer.{text_of};
+ghost use Rattle.csvw_meta_core.specs.Reads.{Reads};
+ghost use Rattle.csvw_meta_core.specs.Others.{has_colon, is_among, names_of, other, others_in, others};
+ghost use Rattle.csvw_meta_core.specs.Listed.{all_names};
+
+use crate::fault::{MetaCode, Refusal};
+use crate::part::Part;
+use crate::reader::Reader;
+use csvw_text::{Code, Fault, Kind, Place, Seq};
+use serde_json::{Map, Value};
+
+/// The warnings on the properties of an object that aren't listed for it.
+#[derive(Drop)]
+pub struct Listed<'a> {
+    /// The names of the properties that are listed for the kind of object.
+    pub names: &'a [&'a str],
+    /// Those of the properties that it shares with other kinds.
+    pub shared: &'a [&'a str],
+    /// What a common property is, one that has a colon in its name and isn't listed.
+    pub common: MetaCode,
+    /// Where the warnings are told.
+    pub place: Place,
+}
+
+impl<'a> Reader for Listed<'a> {
+    type Output = Seq<Fault>;
+
+    ghost reads = { λ r. others (all_names r) r.common r.place };
+
+    fn read(&self, part: &Part) -> Result<Seq<Fault>, Refusal> {
+        match part.value {
+            Value::Object(members) => others_in(part, self, members),
+            _ => Ok(Seq::new(part.alloc)),
+        }
+    }
+}
+
+fn others_in(
+    part: &Part,
+    listed: &Listed,
+    members: &Map<String, Value>,
+) -> Result<Seq<Fault>, Refusal>
+    ensures { Reads result (others_in (all_names listed.now) listed.now.common listed.now.place (text_of part.now.at) (members_view members.now.entries)) }
+{
+    let mut warnings = Vec::new(part.alloc);
+    for (name, _) in members.iter() {
+        if is_ignored(part, listed, name.as_str())? {
+            warnings.push(Fault {
+                place: listed.place,
+                code: Code::UnknownProperty,
+                kind: Kind::Warning,
+            })?;
+        }
+    }
+    Ok(Seq::of(warnings))
+}
+
+fn is_ignored(part: &Part, listed: &Listed, name: &str) -> Result<bool, Refusal>
+    ensures { Reads result (other (all_names listed.now) listed.now.common (text_of part.now.at) name.now) }
+{
+    if is_among(listed.names, name) || is_among(listed.shared, name) {
+        return Ok(false);
+    }
+    if has_colon(name) {
+        return Err(part.member(name, part.value).refused(listed.common));
+    }
+    Ok(true)
+}
+
+fn has_colon(name: &str) -> bool
+    ensures { result ≡ has_colon name.now }
+{
+    name.as_bytes().contains(&b':')
+}
+
+fn is_among(names: &[&str], name: &str) -> bool
+    ensures { result ≡ is_among (names_of names.now) name.now }
+{
+    for listed in names {
+        if *listed == name {
+            return true;
+        }
+    }
+    false
+}
