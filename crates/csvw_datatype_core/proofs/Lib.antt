@@ -13,3 +13,4 @@ pub mod TimeLemmas
 pub mod LexicalDateLemmas
 pub mod LawfulLemmas
 pub mod OneValue
+pub mod OneText
