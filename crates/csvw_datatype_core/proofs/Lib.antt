@@ -14,3 +14,4 @@ pub mod LexicalDateLemmas
 pub mod LawfulLemmas
 pub mod OneValue
 pub mod OneText
+pub mod OneNumberText

@@ -1,5 +1,5 @@
 -- A day and a moment have one text in their lexical form.
-use Rattle.std.proofs.Common.{◌≡◌, ℕ, ◌+◌, ◌-◌, ◌*◌, ◌/◌, ◌%◌, ◌^◌, ◌<◌, ◌⊎◌, inl, inr, ⊎_elim, List, [], ◌∷◌, ◌++◌, length, refl, sym, ap, subst, ◌∙◌, arith, ℤ, pos, ◌<ℤ◌, ◌+ℤ◌, ◌*ℤ◌}
+use Rattle.std.proofs.Common.{◌≡◌, ℕ, ◌+◌, ◌-◌, ◌*◌, ◌/◌, ◌%◌, ◌^◌, ◌<◌, inl, inr, ⊎_elim, List, [], ◌∷◌, ◌++◌, length, refl, sym, ap, subst, ◌∙◌, arith, ℤ, pos, ◌+ℤ◌, ◌*ℤ◌}
 use Rattle.std.specs.List.{AllByRecursion}
 use Rattle.std.specs.Char.{IsAsciiDigit}
 use Rattle.std.specs.Str.Parse.{digits_value}
@@ -16,7 +16,7 @@ use Rattle.csvw_datatype_core.specs.Moments.{IsPair, ReadsTime, ReadsMoment}
 use Rattle.csvw_datatype_core.proofs.Counts.{value-cons, value-below}
 use Rattle.csvw_datatype_core.proofs.LexicalDateLemmas.{civil_of, time_in_range}
 
-quotients : (a b p v w : ℕ) → v < p → w < p → a * p + v ≡ b * p + w → (a ≡ b) × (v ≡ w)
+pub quotients : (a b p v w : ℕ) → v < p → w < p → a * p + v ≡ b * p + w → (a ≡ b) × (v ≡ w)
 quotients a b p v w l m e =
     (sym (div-mul-add a p v l) ∙ ap (λ n. n / p) e ∙ div-mul-add b p w m, sym (mod-mul-add a p v l) ∙ ap (λ n. n % p) e ∙ mod-mul-add b p w m)
 
@@ -38,7 +38,7 @@ record SameFields (y m d y₂ m₂ d₂ : ℕ) : Type 0 where
   pub month : m ≡ m₂
   pub date : d ≡ d₂
 
-order : (a b : ℕ) → (a < b → ⊥) → (b < a → ⊥) → a ≡ b
+pub order : (a b : ℕ) → (a < b → ⊥) → (b < a → ⊥) → a ≡ b
 order a b f g = ⊎_elim (λ (e : a ≡ b). e) (λ r. ⊎_elim (λ (l : a < b). absurd (f l)) (λ (l : b < a). absurd (g l)) r) (cases_order a b)
 
 one_count : (y m d y₂ m₂ d₂ : ℕ) → day_number y m d ≡ day_number y₂ m₂ d₂ → day_count (pos y) m d ≡ day_count (pos y₂) m₂ d₂
