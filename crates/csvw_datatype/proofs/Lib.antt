@@ -3,3 +3,4 @@ pub mod CharacterLemmas
 pub mod BarLemmas
 pub mod FormatLemmas
 pub mod LawLemmas
+pub mod OneForm

@@ -1,15 +1,18 @@
-//! Laws: a text has one value or one code.
+//! Laws: a text has one value or one code, and a value one lexical form.
 ghost use Rattle.std.specs.Prelude.{◌≡◌, ◌↔◌, IsTrue, true, List, ℕ, Option};
+ghost use Rattle.std.specs.Str.{IsUtf8};
 ghost use Rattle.csvw_text.specs.declared.fault.Code.{Code};
 ghost use Rattle.csvw_datatype.specs.Formats.{IsFormatOf};
 ghost use Rattle.csvw_datatype.specs.Reads.{ReadsAs, MisreadAs};
-ghost use Rattle.csvw_datatype.specs.Lexical.{IsWritable};
+ghost use Rattle.csvw_datatype.specs.Lexical.{IsWritable, IsLexical};
 ghost use Rattle.csvw_datatype.specs.Sound.{IsBoundOf, has_bounds};
 
 use crate::format::Format;
 use crate::simple::Simple;
 use crate::value::Value;
-use csvw_datatype_core::{one_date, one_moment, one_number};
+use csvw_datatype_core::{
+    one_date, one_date_text, one_moment, one_moment_text, one_number, one_number_text,
+};
 
 /// A law: a text is one value at most.
 pub fn one_value()
@@ -44,6 +47,15 @@ pub fn values_of_texts()
 {
     one_date();
     one_moment();
+}
+
+/// A law: a value has one lexical form among the texts, which are UTF-8 as each `String` is.
+pub fn one_form()
+    ensures { (v : Value) (s t : List ℕ) → IsUtf8 s → IsUtf8 t → IsLexical v s → IsLexical v t → s ≡ t }
+{
+    one_number_text();
+    one_date_text();
+    one_moment_text();
 }
 
 /// Whether `==` holds of two values, which it does where they are the same text, truth, number, day or moment.
