@@ -4,3 +4,4 @@ pub mod BarLemmas
 pub mod FormatLemmas
 pub mod LawLemmas
 pub mod OneForm
+pub mod FacetLemmas

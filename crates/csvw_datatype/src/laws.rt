@@ -5,6 +5,9 @@ ghost use Rattle.csvw_text.specs.declared.fault.Code.{Code};
 ghost use Rattle.csvw_datatype.specs.Formats.{IsFormatOf};
 ghost use Rattle.csvw_datatype.specs.Reads.{ReadsAs, MisreadAs};
 ghost use Rattle.csvw_datatype.specs.Lexical.{IsWritable, IsLexical};
+ghost use Rattle.csvw_datatype.specs.declared.datatype.Facets.{Facets};
+ghost use Rattle.csvw_datatype.specs.Breaks.{breaks};
+ghost use Rattle.csvw_datatype.specs.Facets.{SaysWhatBreaks};
 ghost use Rattle.csvw_datatype.specs.Sound.{IsBoundOf, has_bounds};
 
 use crate::format::Format;
@@ -57,6 +60,11 @@ pub fn one_form()
     one_date_text();
     one_moment_text();
 }
+
+/// A law: of the facets that a value breaks each code says what the standards' words say.
+pub fn broken_facets()
+    ensures { (v : Value) (f : Facets) → SaysWhatBreaks v f (breaks v f) }
+{}
 
 /// Whether `==` holds of two values, which it does where they are the same text, truth, number, day or moment.
 pub fn are_equal(a: &Value, b: &Value) -> bool
