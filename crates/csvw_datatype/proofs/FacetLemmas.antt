@@ -1,15 +1,15 @@
 -- The broken facets are those of which the standards' words hold.
-use Rattle.std.proofs.Common.{◌≡◌, ◌≢◌, ◌↔◌, ◌⊎◌, inl, inr, ℕ, ◌<◌, ◌||◌, ◌==◌, not, nat_lt, Bool, true, false, Option, Some, None, length, refl, sym, ap, ◌∙◌, arith, ℤ, ◌<ℤ◌, ◌≤ℤ◌}
+use Rattle.std.proofs.Common.{◌≢◌, ◌↔◌, ◌⊎◌, inl, inr, ℕ, ◌<◌, ◌||◌, ◌==◌, not, nat_lt, Bool, true, false, Option, Some, None, length, refl, arith, ℤ, ◌<ℤ◌, ◌≤ℤ◌}
 use Rattle.std.specs.Prelude.{IsTrue}
 use Rattle.std.specs.Str.{chars}
-use lib.Signed.{lt_z, lt_z_yes, lt_z_no}
+use lib.Signed.{lt_z}
 use Rattle.std.proofs.lemmas.Bool.Decides.{nat_tests}
 use Rattle.std.proofs.lemmas.Int.{ints, by_lt_z}
 use Rattle.csvw_datatype.specs.declared.value.Value.{Value}
 use Rattle.csvw_datatype.specs.declared.value.Value.TheVariants.{Text, Truth, Number, Day, Moment}
 use Rattle.csvw_datatype.specs.declared.datatype.Facets.{Facets}
 use Rattle.csvw_datatype.specs.Breaks.{is_below, is_up_to, length_of, fails, is_over, is_not_under, breaks}
-use Rattle.csvw_datatype.specs.Facets.{IsThereAnd, HasLength, IsLess, IsAtMost, HasOtherLength, IsShorter, IsLonger, IsBelowMinimum, IsAboveMaximum, SaysWhatBreaks}
+use Rattle.csvw_datatype.specs.Facets.{IsThereAnd, HasLength, IsLess, IsAtMost, SaysWhatBreaks}
 
 -- tests
 
@@ -28,7 +28,7 @@ is_short n k = (λ h. grind (arith, nat_tests), λ h. grind (arith, nat_tests))
 never : IsTrue false ↔ ⊥
 never = (λ h. cc, λ h. absurd h)
 
-below : (v w : Value) → IsTrue (is_below v w) ↔ IsLess v w
+pub below : (v w : Value) → IsTrue (is_below v w) ↔ IsLess v w
 below (Number a) (Number b) = is_less a b
 below (Day a) (Day b) = is_less a b
 below (Moment a) (Moment b) = is_less a b
@@ -47,7 +47,7 @@ below (Moment a) (Day t) = never
 below (Text a) w = never
 below (Truth a) w = never
 
-up_to : (v w : Value) → IsTrue (is_up_to v w) ↔ IsAtMost v w
+pub up_to : (v w : Value) → IsTrue (is_up_to v w) ↔ IsAtMost v w
 up_to (Number a) (Number b) = is_at_most a b
 up_to (Day a) (Day b) = is_at_most a b
 up_to (Moment a) (Moment b) = is_at_most a b

@@ -5,3 +5,4 @@ pub mod FormatLemmas
 pub mod LawLemmas
 pub mod OneForm
 pub mod FacetLemmas
+pub mod AgreementLemmas

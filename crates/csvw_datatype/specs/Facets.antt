@@ -1,6 +1,6 @@
 -- What each facet asks of a value, in the standards' words (Model for Tabular Data and Metadata on the Web, sections 4.6.1
 -- and 4.6.2; Metadata Vocabulary for Tabular Data, section 5.11.2; XML Schema 1.1 part 2, section 4.3).
-use Rattle.std.specs.Prelude.{◌≡◌, ◌≢◌, ◌↔◌, ◌⊎◌, ℕ, ◌<◌, IsTrue, Option, Some, None, length, ◌<ℤ◌, ◌≤ℤ◌}
+use Rattle.std.specs.Prelude.{◌≢◌, ◌↔◌, ◌⊎◌, ℕ, ◌<◌, IsTrue, Option, Some, None, length, ◌<ℤ◌, ◌≤ℤ◌}
 use Rattle.std.specs.Str.{chars}
 use Rattle.csvw_datatype.specs.declared.value.Value.{Value}
 use Rattle.csvw_datatype.specs.declared.value.Value.TheVariants.{Text, Number, Day, Moment}

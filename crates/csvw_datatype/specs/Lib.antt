@@ -8,3 +8,4 @@ pub mod Reads
 pub mod Sound
 pub mod Lexical
 pub mod Facets
+pub mod Agreement

@@ -8,7 +8,8 @@ ghost use Rattle.csvw_datatype.specs.Lexical.{IsWritable, IsLexical};
 ghost use Rattle.csvw_datatype.specs.declared.datatype.Facets.{Facets};
 ghost use Rattle.csvw_datatype.specs.Breaks.{breaks};
 ghost use Rattle.csvw_datatype.specs.Facets.{SaysWhatBreaks};
-ghost use Rattle.csvw_datatype.specs.Sound.{IsBoundOf, has_bounds};
+ghost use Rattle.csvw_datatype.specs.Agreement.{LengthsApply, LengthsAgree, BoundsAgree};
+ghost use Rattle.csvw_datatype.specs.Sound.{IsBoundOf, has_bounds, lengths_apply, lengths_agree, bounds_agree};
 
 use crate::format::Format;
 use crate::simple::Simple;
@@ -64,6 +65,13 @@ pub fn one_form()
 /// A law: of the facets that a value breaks each code says what the standards' words say.
 pub fn broken_facets()
     ensures { (v : Value) (f : Facets) → SaysWhatBreaks v f (breaks v f) }
+{}
+
+/// A law: the facets of a sound datatype fit the type and each other as the standards' words say.
+pub fn sound_facets()
+    ensures lengths_apply { (s : Simple) (f : Facets) → IsTrue (lengths_apply s f) ↔ LengthsApply s f }
+    ensures lengths_agree { (f : Facets) → IsTrue (lengths_agree f) ↔ LengthsAgree f }
+    ensures bounds_agree { (f : Facets) → IsTrue (bounds_agree f) ↔ BoundsAgree f }
 {}
 
 /// Whether `==` holds of two values, which it does where they are the same text, truth, number, day or moment.
