@@ -50,16 +50,19 @@ all_kept (c ∷ cs) h = cond-true _ _ _ (digit_test c h.0) ∙ ap (λ x. c ∷ x
 longer : (x y p q b : ℕ) → x < p → p ≤ q → 1 ≤ b → x ≡ b * q + y → ⊥
 longer x y p q b h l m e = omega (arith, e, mul-le-mul_right q m)
 
-shorter : (xs ys : List ℕ) → AllByRecursion IsAsciiDigit xs → AllByRecursion IsAsciiDigit ys → HasNoLeadingZero xs → HasNoLeadingZero ys → digits_value 10 xs ≡ digits_value 10 ys → length xs < length ys → ⊥
+shorter : (xs ys : List ℕ) → AllByRecursion IsAsciiDigit xs → AllByRecursion IsAsciiDigit ys → HasNoLeadingZero xs → HasNoLeadingZero ys
+    → digits_value 10 xs ≡ digits_value 10 ys → length xs < length ys → ⊥
 shorter [] ys h k m n e l = m
 shorter (x ∷ xs) [] h k m n e l = n
 shorter (x ∷ xs) (y ∷ []) h k m n e l = omega (arith, l)
 shorter (x ∷ xs) (y ∷ z ∷ ys) h k m n e l =
     let most : 10 ^ length (x ∷ xs) ≤ 10 ^ length (z ∷ ys) = pow-le-pow_right (omega arith) (omega (arith, l)) in
     let first : 1 ≤ y - 48 = omega (arith, k.0, n) in
-    longer (digits_value 10 (x ∷ xs)) (digits_value 10 (z ∷ ys)) (10 ^ length (x ∷ xs)) (10 ^ length (z ∷ ys)) (y - 48) (value-below (x ∷ xs) h) most first (e ∙ value-cons y (z ∷ ys) k.0)
+    longer (digits_value 10 (x ∷ xs)) (digits_value 10 (z ∷ ys)) (10 ^ length (x ∷ xs)) (10 ^ length (z ∷ ys)) (y - 48)
+    (value-below (x ∷ xs) h) most first (e ∙ value-cons y (z ∷ ys) k.0)
 
-same_whole : (xs ys : List ℕ) → AllByRecursion IsAsciiDigit xs → AllByRecursion IsAsciiDigit ys → HasNoLeadingZero xs → HasNoLeadingZero ys → digits_value 10 xs ≡ digits_value 10 ys → xs ≡ ys
+same_whole : (xs ys : List ℕ) → AllByRecursion IsAsciiDigit xs → AllByRecursion IsAsciiDigit ys → HasNoLeadingZero xs → HasNoLeadingZero ys
+    → digits_value 10 xs ≡ digits_value 10 ys → xs ≡ ys
 same_whole xs ys h k m n e = same_digits xs ys h k (order (length xs) (length ys) (shorter xs ys h k m n e) (shorter ys xs k h n m (sym e))) e
 
 -- fractions
@@ -85,14 +88,16 @@ last_digit : (ds : List ℕ) → AllByRecursion IsAsciiDigit ds → HasNoTrailin
 last_digit [] h n e = n
 last_digit (c ∷ []) h n e = omega (arith, sym (value-cons c [] h.0) ∙ refl, value-cons c [] h.0, h.0, n, e)
 last_digit (c ∷ d ∷ cs) h n e =
-    let p : digits_value 10 (c ∷ d ∷ cs) ≡ (c - 48) * 10 ^ length cs * 10 + digits_value 10 (d ∷ cs) = value-cons c (d ∷ cs) h.0 ∙ ap (λ x. (c - 48) * x + digits_value 10 (d ∷ cs)) (pow-suc 10 (length cs)) ∙ omega arith in
+    let p : digits_value 10 (c ∷ d ∷ cs) ≡ (c - 48) * 10 ^ length cs * 10 + digits_value 10 (d ∷ cs) = value-cons c (d ∷ cs) h.0
+    ∙ ap (λ x. (c - 48) * x + digits_value 10 (d ∷ cs)) (pow-suc 10 (length cs)) ∙ omega arith in
     last_digit (d ∷ cs) h.1 n (sym (mul-add-mod_self_right ((c - 48) * 10 ^ length cs) 10 (digits_value 10 (d ∷ cs))) ∙ ap (λ x. x % 10) (sym p) ∙ e)
 
 no_more : (x e : ℕ) → x * 10 ^ suc e % 10 ≡ 0
 no_more x e = ap (λ p. x * p % 10) (pow-suc 10 e) ∙ ap (λ p. p % 10) (omega arith) ∙ mul-mod_left (x * 10 ^ e) 10
 
 -- no digits follow that a trimmed fraction has and the other not
-same_fraction : (fs gs : List ℕ) (e : ℕ) → AllByRecursion IsAsciiDigit fs → AllByRecursion IsAsciiDigit gs → length gs ≡ length fs + e → IsTrimmed gs → digits_value 10 fs * 10 ^ e ≡ digits_value 10 gs → fs ≡ gs
+same_fraction : (fs gs : List ℕ) (e : ℕ) → AllByRecursion IsAsciiDigit fs → AllByRecursion IsAsciiDigit gs → length gs ≡ length fs + e
+    → IsTrimmed gs → digits_value 10 fs * 10 ^ e ≡ digits_value 10 gs → fs ≡ gs
 same_fraction fs gs zero h k l t v = same_digits fs gs h k (omega (arith, l)) (omega (arith, v))
 same_fraction fs gs (suc e) h k l (inl t) v = absurd (omega (arith, l, ap length t))
 same_fraction fs gs (suc e) h k l (inr t) v = absurd (last_digit gs k t (ap (λ x. x % 10) (sym v) ∙ no_more (digits_value 10 fs) e))
@@ -112,7 +117,8 @@ Same w v fs gs = (w ≡ v) × (fs ≡ gs)
 abbrev Counts : ℕ → ℕ → List ℕ → Type 0
 Counts n w fs = n * 10 ^ length fs ≡ (w * 10 ^ length fs + digits_value 10 fs) * 10 ^ 18
 
-aligned : (n w v : ℕ) (fs gs : List ℕ) → AllByRecursion IsAsciiDigit fs → AllByRecursion IsAsciiDigit gs → length fs ≤ length gs → IsTrimmed gs → Counts n w fs → Counts n v gs → Same w v fs gs
+aligned : (n w v : ℕ) (fs gs : List ℕ) → AllByRecursion IsAsciiDigit fs → AllByRecursion IsAsciiDigit gs → length fs ≤ length gs → IsTrimmed gs
+    → Counts n w fs → Counts n v gs → Same w v fs gs
 aligned n w v fs gs h k l t a b =
     let e = length gs - length fs in
     let long : length gs ≡ length fs + e = omega (arith, l) in
@@ -120,10 +126,12 @@ aligned n w v fs gs h k l t a b =
     let P : ℕ → Type 0 = λ x. n * x ≡ (v * x + digits_value 10 gs) * 10 ^ 18 in
     let s = scaled n w v (digits_value 10 fs) (digits_value 10 gs) (10 ^ length fs) (10 ^ e) (10 ^ 18) (omega arith) a (subst P power b) in
     let small : digits_value 10 gs < 10 ^ length fs * 10 ^ e = subst (λ x. digits_value 10 gs < x) power (value-below gs k) in
-    let q = quotients w v (10 ^ length fs * 10 ^ e) (digits_value 10 fs * 10 ^ e) (digits_value 10 gs) (below _ _ _ (value-below fs h) (pow_is_pos e)) small s in
+    let q = quotients w v (10 ^ length fs * 10 ^ e) (digits_value 10 fs * 10 ^ e) (digits_value 10 gs)
+    (below _ _ _ (value-below fs h) (pow_is_pos e)) small s in
     (q.0, same_fraction fs gs e h k long t q.1)
 
-one_split : (n w v : ℕ) (fs gs : List ℕ) → AllByRecursion IsAsciiDigit fs → AllByRecursion IsAsciiDigit gs → IsTrimmed fs → IsTrimmed gs → Counts n w fs → Counts n v gs → Same w v fs gs
+one_split : (n w v : ℕ) (fs gs : List ℕ) → AllByRecursion IsAsciiDigit fs → AllByRecursion IsAsciiDigit gs → IsTrimmed fs → IsTrimmed gs
+    → Counts n w fs → Counts n v gs → Same w v fs gs
 one_split n w v fs gs h k s t a b =
     ⊎_elim (λ (e : length fs ≡ length gs). aligned n w v fs gs h k (omega (arith, e)) t a b)
     (λ (r : (length fs < length gs) ⊎ (length gs < length fs)).
@@ -140,7 +148,8 @@ counts : (cs : List ℕ) (z : ℤ) (r : IsLexicalNumber cs z) → Counts r.reads
 counts cs z r =
     let p = r.reads.parts in
     let one : divisor p.mark ≡ 1 = ap divisor r.no_mark in
-    let left : r.reads.count * 10 ^ length (fraction_digits p) ≡ r.reads.count * (10 ^ length (fraction_digits p) * divisor p.mark) = omega arith ∙ ap (λ d. r.reads.count * (10 ^ length (fraction_digits p) * d)) (sym one) in
+    let left : r.reads.count * 10 ^ length (fraction_digits p) ≡ r.reads.count * (10 ^ length (fraction_digits p) * divisor p.mark) = omega arith
+    ∙ ap (λ d. r.reads.count * (10 ^ length (fraction_digits p) * d)) (sym one) in
     let whole : whole_value 0 p.whole ≡ digits_value 10 p.whole = ap (digits_value 10) (all_kept p.whole (lexical_whole cs z r)) in
     left ∙ r.reads.is_count ∙ ap (λ x. x * 10 ^ 18) (digits_split p ∙ ap (λ w. w * 10 ^ length (fraction_digits p) + digits_value 10 (fraction_digits p)) whole)
 
@@ -156,7 +165,8 @@ one_number_text cs ds z r s =
     let p = r.reads.parts in
     let q = s.reads.parts in
     let sign : p.sign ≡ q.sign = one_sign _ p.sign q.sign r.minus s.minus r.no_plus s.no_plus in
-    let count : r.reads.count ≡ s.reads.count = sym (ap unsigned_abs r.reads.is_value ∙ signed_abs p.sign r.reads.count) ∙ ap unsigned_abs s.reads.is_value ∙ signed_abs q.sign s.reads.count in
+    let count : r.reads.count ≡ s.reads.count = sym (ap unsigned_abs r.reads.is_value ∙ signed_abs p.sign r.reads.count)
+    ∙ ap unsigned_abs s.reads.is_value ∙ signed_abs q.sign s.reads.count in
     let P : ℕ → Type 0 = λ n. Counts n (digits_value 10 q.whole) (fraction_digits q) in
     let parts = one_split r.reads.count (digits_value 10 p.whole) (digits_value 10 q.whole) (fraction_digits p) (fraction_digits q)
     (all_digits p.fraction r.reads.is_number.fraction) (all_digits q.fraction s.reads.is_number.fraction)

@@ -21,15 +21,18 @@ quotients a b p v w l m e =
     (sym (div-mul-add a p v l) ∙ ap (λ n. n / p) e ∙ div-mul-add b p w m, sym (mod-mul-add a p v l) ∙ ap (λ n. n % p) e ∙ mod-mul-add b p w m)
 
 -- digits of one length with one value are the same
-pub same_digits : (xs ys : List ℕ) → AllByRecursion IsAsciiDigit xs → AllByRecursion IsAsciiDigit ys → length xs ≡ length ys → digits_value 10 xs ≡ digits_value 10 ys → xs ≡ ys
+pub same_digits : (xs ys : List ℕ) → AllByRecursion IsAsciiDigit xs → AllByRecursion IsAsciiDigit ys → length xs ≡ length ys
+    → digits_value 10 xs ≡ digits_value 10 ys → xs ≡ ys
 same_digits [] [] h k l e = refl
 same_digits [] (y ∷ ys) h k l e = absurd (omega (arith, l))
 same_digits (x ∷ xs) [] h k l e = absurd (omega (arith, l))
 same_digits (x ∷ xs) (y ∷ ys) h k l e =
     let n : length xs ≡ length ys = omega (arith, l) in
     let below : digits_value 10 ys < 10 ^ length xs = rw n (value-below ys k.1) in
-    let right : digits_value 10 (y ∷ ys) ≡ (y - 48) * 10 ^ length xs + digits_value 10 ys = value-cons y ys k.0 ∙ ap (λ n. (y - 48) * 10 ^ n + digits_value 10 ys) (sym n) in
-    let q = quotients (x - 48) (y - 48) (10 ^ length xs) (digits_value 10 xs) (digits_value 10 ys) (value-below xs h.1) below (sym (value-cons x xs h.0) ∙ e ∙ right) in
+    let right : digits_value 10 (y ∷ ys) ≡ (y - 48) * 10 ^ length xs + digits_value 10 ys = value-cons y ys k.0
+    ∙ ap (λ n. (y - 48) * 10 ^ n + digits_value 10 ys) (sym n) in
+    let q = quotients (x - 48) (y - 48) (10 ^ length xs) (digits_value 10 xs) (digits_value 10 ys) (value-below xs h.1) below
+    (sym (value-cons x xs h.0) ∙ e ∙ right) in
     let head : x ≡ y = omega (arith, q.0, h.0, k.0) in
     ap (λ c. c ∷ xs) head ∙ ap (λ cs. y ∷ cs) (same_digits xs ys h.1 k.1 n q.1)
 
@@ -75,7 +78,8 @@ one_date_text s t day p q =
     let y = same_digits p.y q.y p.year.0 q.year.0 (p.year.1 ∙ sym q.year.1) f.year in
     let m = one_field p.m q.m p.month q.month f.month in
     let d = one_field p.d q.d p.date q.date f.date in
-    p.spelled ∙ ap (λ y. date_text YearFirst y p.m p.d) y ∙ ap (λ m. date_text YearFirst q.y m p.d) m ∙ ap (λ d. date_text YearFirst q.y q.m d) d ∙ sym q.spelled
+    p.spelled ∙ ap (λ y. date_text YearFirst y p.m p.d) y ∙ ap (λ m. date_text YearFirst q.y m p.d) m ∙ ap (λ d. date_text YearFirst q.y q.m d) d
+    ∙ sym q.spelled
 
 one_pair : (ds es : List ℕ) (limit : ℕ) → IsPair ds limit → IsPair es limit → digits_value 10 ds ≡ digits_value 10 es → ds ≡ es
 one_pair ds es limit h k e = same_digits ds es h.0 k.0 (h.1 ∙ sym k.1) e
