@@ -27,7 +27,8 @@ neither : (a b : Bool) (P Q : Type 0) → IsTrue (not a) ↔ P → IsTrue (not b
 neither true b P Q p q = (λ h. absurd (no h), λ h. absurd (no (p.1 h.0)))
 neither false b P Q p q = (λ h. (p.0 refl, q.0 h), λ h. q.1 h.1)
 
-not_fails : {A B : Type 0} (test : A → B → Bool) (P : A → B → Type 0) → ((a : A) (b : B) → IsTrue (not (test a b)) ↔ P a b) → (x : Option A) (y : Option B) → IsTrue (not (fails test x y)) ↔ IfBoth x y P
+not_fails : {A B : Type 0} (test : A → B → Bool) (P : A → B → Type 0) → ((a : A) (b : B) → IsTrue (not (test a b)) ↔ P a b)
+    → (x : Option A) (y : Option B) → IsTrue (not (fails test x y)) ↔ IfBoth x y P
 not_fails test P h None y = (λ k. tt, λ k. refl)
 not_fails test P h (Some a) None = (λ k. tt, λ k. refl)
 not_fails test P h (Some a) (Some b) = h a b

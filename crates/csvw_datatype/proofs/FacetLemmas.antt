@@ -14,10 +14,14 @@ use Rattle.csvw_datatype.specs.Facets.{IsThereAnd, HasLength, IsLess, IsAtMost, 
 -- tests
 
 is_less : (a b : ℤ) → IsTrue (lt_z a b) ↔ (a <ℤ b)
-is_less a b = by_lt_z a b (λ l. (λ h. l, λ k. grind (arith, ints, nat_tests))) (λ l. (λ h. grind (arith, ints, nat_tests), λ k. absurd (omega (arith, ints, l, k))))
+is_less a b =
+    by_lt_z a b (λ l. (λ h. l, λ k. grind (arith, ints, nat_tests)))
+    (λ l. (λ h. grind (arith, ints, nat_tests), λ k. absurd (omega (arith, ints, l, k))))
 
 is_at_most : (a b : ℤ) → IsTrue (not (lt_z b a)) ↔ (a ≤ℤ b)
-is_at_most a b = by_lt_z b a (λ l. (λ h. grind (arith, ints, nat_tests), λ k. absurd (omega (arith, ints, l, k)))) (λ l. (λ h. l, λ k. grind (arith, ints, nat_tests)))
+is_at_most a b =
+    by_lt_z b a (λ l. (λ h. grind (arith, ints, nat_tests), λ k. absurd (omega (arith, ints, l, k))))
+    (λ l. (λ h. l, λ k. grind (arith, ints, nat_tests)))
 
 differs : (n k : ℕ) → IsTrue (not (n == k)) ↔ (n ≢ k)
 differs n k = (λ h. grind (arith, nat_tests), λ h. grind (arith, nat_tests))
@@ -68,7 +72,8 @@ up_to (Truth a) w = never
 
 -- facets
 
-lengths : (test : ℕ → ℕ → Bool) (P : ℕ → ℕ → Type 0) (v : Value) (o : Option ℕ) → ((n k : ℕ) → IsTrue (test n k) ↔ P n k) → IsTrue (fails test (length_of v) o) ↔ IsThereAnd o (λ k. HasLength v (λ n. P n k))
+lengths : (test : ℕ → ℕ → Bool) (P : ℕ → ℕ → Type 0) (v : Value) (o : Option ℕ) → ((n k : ℕ) → IsTrue (test n k) ↔ P n k)
+    → IsTrue (fails test (length_of v) o) ↔ IsThereAnd o (λ k. HasLength v (λ n. P n k))
 lengths test P (Text t) None h = never
 lengths test P (Truth t) None h = never
 lengths test P (Number t) None h = never
@@ -99,7 +104,8 @@ not_below v (Some b) = up_to b v
 any : (a b c : Bool) (P Q R : Type 0) → IsTrue a ↔ P → IsTrue b ↔ Q → IsTrue c ↔ R → IsTrue (a || b || c) ↔ (P ⊎ (Q ⊎ R))
 any true b c P Q R p q r = (λ h. inl (p.0 refl), λ h. refl)
 any false true c P Q R p q r = (λ h. inr (inl (q.0 refl)), λ h. refl)
-any false false c P Q R p q r = (λ h. inr (inr (r.0 h)), λ h. elim h [ inl x ↦ absurd (never.0 (p.1 x)) | inr y ↦ elim y [ inl x ↦ absurd (never.0 (q.1 x)) | inr z ↦ r.1 z ] ])
+any false false c P Q R p q r =
+    (λ h. inr (inr (r.0 h)), λ h. elim h [ inl x ↦ absurd (never.0 (p.1 x)) | inr y ↦ elim y [ inl x ↦ absurd (never.0 (q.1 x)) | inr z ↦ r.1 z ] ])
 
 pub says_what_breaks : (v : Value) (f : Facets) → SaysWhatBreaks v f (breaks v f)
 says_what_breaks v f = record {

@@ -1,4 +1,4 @@
-//! Laws: a text has one value or one code, and a value one lexical form.
+//! Laws: a text has one value or one code, a value has one lexical form, and facets say what the standards do.
 ghost use Rattle.std.specs.Prelude.{◌≡◌, ◌↔◌, IsTrue, true, List, ℕ, Option};
 ghost use Rattle.std.specs.Str.{IsUtf8};
 ghost use Rattle.csvw_text.specs.declared.fault.Code.{Code};
