@@ -7,3 +7,5 @@ pub mod Breaks
 pub mod Reads
 pub mod Sound
 pub mod Lexical
+pub mod Facets
+pub mod Agreement

@@ -1,15 +1,22 @@
-//! Laws: a text has one value or one code.
+//! Laws: a text has one value or one code, a value has one lexical form, and facets say what the standards do.
 ghost use Rattle.std.specs.Prelude.{◌≡◌, ◌↔◌, IsTrue, true, List, ℕ, Option};
+ghost use Rattle.std.specs.Str.{IsUtf8};
 ghost use Rattle.csvw_text.specs.declared.fault.Code.{Code};
 ghost use Rattle.csvw_datatype.specs.Formats.{IsFormatOf};
 ghost use Rattle.csvw_datatype.specs.Reads.{ReadsAs, MisreadAs};
-ghost use Rattle.csvw_datatype.specs.Lexical.{IsWritable};
-ghost use Rattle.csvw_datatype.specs.Sound.{IsBoundOf, has_bounds};
+ghost use Rattle.csvw_datatype.specs.Lexical.{IsWritable, IsLexical};
+ghost use Rattle.csvw_datatype.specs.declared.datatype.Facets.{Facets};
+ghost use Rattle.csvw_datatype.specs.Breaks.{breaks};
+ghost use Rattle.csvw_datatype.specs.Facets.{SaysWhatBreaks};
+ghost use Rattle.csvw_datatype.specs.Agreement.{LengthsApply, LengthsAgree, BoundsAgree};
+ghost use Rattle.csvw_datatype.specs.Sound.{IsBoundOf, has_bounds, lengths_apply, lengths_agree, bounds_agree};
 
 use crate::format::Format;
 use crate::simple::Simple;
 use crate::value::Value;
-use csvw_datatype_core::{one_date, one_moment, one_number};
+use csvw_datatype_core::{
+    one_date, one_date_text, one_moment, one_moment_text, one_number, one_number_text,
+};
 
 /// A law: a text is one value at most.
 pub fn one_value()
@@ -45,6 +52,27 @@ pub fn values_of_texts()
     one_date();
     one_moment();
 }
+
+/// A law: a value has one lexical form among the texts, which are UTF-8 as each `String` is.
+pub fn one_form()
+    ensures { (v : Value) (s t : List ℕ) → IsUtf8 s → IsUtf8 t → IsLexical v s → IsLexical v t → s ≡ t }
+{
+    one_number_text();
+    one_date_text();
+    one_moment_text();
+}
+
+/// A law: of the facets that a value breaks each code says what the standards' words say.
+pub fn broken_facets()
+    ensures { (v : Value) (f : Facets) → SaysWhatBreaks v f (breaks v f) }
+{}
+
+/// A law: the facets of a sound datatype fit the type and each other as the standards' words say.
+pub fn sound_facets()
+    ensures lengths_apply { (s : Simple) (f : Facets) → IsTrue (lengths_apply s f) ↔ LengthsApply s f }
+    ensures lengths_agree { (f : Facets) → IsTrue (lengths_agree f) ↔ LengthsAgree f }
+    ensures bounds_agree { (f : Facets) → IsTrue (bounds_agree f) ↔ BoundsAgree f }
+{}
 
 /// Whether `==` holds of two values, which it does where they are the same text, truth, number, day or moment.
 pub fn are_equal(a: &Value, b: &Value) -> bool

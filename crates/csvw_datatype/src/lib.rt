@@ -18,6 +18,9 @@ pub use csvw_datatype_core::{DateFormat, FieldDigits, MomentFormat, Separator};
 pub use datatype::{Datatype, Facets};
 pub use facets::Broken;
 pub use format::{Format, NumberFormat, TruthFormat};
-pub use laws::{are_equal, one_code, one_value, value_or_code, values_of_texts};
+pub use laws::{
+    are_equal, broken_facets, one_code, one_form, one_value, sound_facets, value_or_code,
+    values_of_texts,
+};
 pub use simple::{Simple, Width};
 pub use value::Value;

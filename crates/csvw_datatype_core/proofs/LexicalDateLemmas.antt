@@ -100,7 +100,7 @@ year_positive d h =
     (λ lt. absurd (omega (arith, signed_arith, h, first_count, days_from_civil-day_count d.year d.month d.day, day_count-lt_year d.year d.month d.day (pos 1) 1 1 (civil d) (omega arith) lt)))
     (λ ge. ge)
 
-civil_of : (y m d : ℕ) → IsDay y m d → IsCivilDate (pos y) m d
+pub civil_of : (y m d : ℕ) → IsDay y m d → IsCivilDate (pos y) m d
 civil_of y m d h = (h.1.0, (omega (arith, ints, h.1.1.0), omega (arith, ints, h.1.1.1)), (omega (arith, ints, h.1.2.0), omega (arith, ints, h.1.2.1)))
 
 first_civil : IsCivilDate (pos 1) 1 1

@@ -13,3 +13,5 @@ pub mod TimeLemmas
 pub mod LexicalDateLemmas
 pub mod LawfulLemmas
 pub mod OneValue
+pub mod OneText
+pub mod OneNumberText

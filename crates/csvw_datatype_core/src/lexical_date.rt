@@ -1,12 +1,12 @@
 //! The lexical forms of days and moments.
-ghost use Rattle.std.specs.Prelude.{◌≡◌, ◌≤◌, ◌+◌, ◌*◌, ◌<◌, ◌++◌, [], ◌∷◌, IfOk, OnOk, string_bytes, ℤ, pos, ◌+ℤ◌, ◌*ℤ◌};
+ghost use Rattle.std.specs.Prelude.{◌≡◌, ◌≤◌, ◌+◌, ◌*◌, ◌<◌, ◌++◌, [], ◌∷◌, IfOk, OnOk, string_bytes, List, ℕ, ℤ, pos, ◌+ℤ◌, ◌*ℤ◌};
+ghost use Rattle.csvw_datatype_core.specs.declared.date.DateFormat.TheVariants.{YearFirst};
+ghost use Rattle.csvw_datatype_core.specs.declared.moment.MomentFormat.TheVariants.{Seconds};
 ghost use Rattle.csvw_datatype_core.specs.Dates.{IsDay, day_number, ReadsDate};
 ghost use Rattle.csvw_datatype_core.specs.Moments.{ReadsMoment};
 ghost use Rattle.csvw_datatype_core.specs.LexicalDates.{IsDayNumber, IsMomentNumber, AppendsDate, AppendsTime};
 ghost use Rattle.csvw_datatype_core.specs.LexicalDates.{IsFields, IsDayAndSecond, two_digits, four_digits, date_digits, time_digits};
 
-use crate::date::DateFormat;
-use crate::moment::MomentFormat;
 use jiff_core::civil::Date;
 use std::alloc::{AllocError, Global};
 
@@ -14,7 +14,7 @@ use std::alloc::{AllocError, Global};
 /// `AllocError` where there is no memory (XML Schema 1.1 part 2, section 3.3.9).
 pub fn date_text(alloc: Global, day: i32) -> Result<String, AllocError>
     requires { IsDayNumber day }
-    ensures { IfOk result (λ s. ReadsDate DateFormat.YearFirst (string_bytes s) day) }
+    ensures { IfOk result (λ s. ReadsDate YearFirst (string_bytes s) day) }
 {
     let mut out = String::new(alloc);
     push_date(&mut out, day)?;
@@ -25,7 +25,7 @@ pub fn date_text(alloc: Global, day: i32) -> Result<String, AllocError>
 /// 9999; `AllocError` where there is no memory (XML Schema 1.1 part 2, section 3.3.7).
 pub fn moment_text(alloc: Global, moment: i64) -> Result<String, AllocError>
     requires { IsMomentNumber moment }
-    ensures { IfOk result (λ s. ReadsMoment MomentFormat.Seconds (string_bytes s) moment) }
+    ensures { IfOk result (λ s. ReadsMoment Seconds (string_bytes s) moment) }
 {
     let (day, second) = day_and_second(moment);
     let mut out = String::new(alloc);
@@ -120,3 +120,13 @@ fn push_digit(out: &mut String, digit: u8) -> Result<(), AllocError>
 {
     out.push((48 + digit) as char)
 }
+
+/// A law: a day has one text in the form `yyyy-MM-dd`.
+pub fn one_date_text()
+    ensures { (s t : List ℕ) (day : ℤ) → ReadsDate YearFirst s day → ReadsDate YearFirst t day → s ≡ t }
+{}
+
+/// A law: a moment has one text in the form `yyyy-MM-ddTHH:mm:ss`.
+pub fn one_moment_text()
+    ensures { (s t : List ℕ) (moment : ℤ) → ReadsMoment Seconds s moment → ReadsMoment Seconds t moment → s ≡ t }
+{}

@@ -5,7 +5,7 @@ use Rattle.csvw_rows.specs.declared.stop.RowStop.{RowStop}
 use Rattle.csvw_rows.specs.declared.next.Turn.{Turn}
 use Rattle.csvw_rows.specs.declared.next.Turn.TheVariants as turn
 use Rattle.csvw_rows.specs.Nexts.{Waits, StopGives}
-use Rattle.csvw_rows.proofs.States.{is_done, is_stopped}
+use Rattle.csvw_rows.proofs.States.{is_done, is_reading, is_stopped}
 use Rattle.csvw_rows.specs.SourceState.{rest_of, Decodes}
 use Rattle.csvw_rows.specs.RowsState.{HasRead, Stays, Turns, Refills, after_of, unread, Passes}
 
@@ -32,8 +32,8 @@ turns_from s t u (Ok turn.Given) r (ended, less, gives) =
     (ended ∙ r.ended, (let e = refills_unread s t r in omega (arith, less, e)), (λ d max bytes ended given h. gives d max bytes ended given (refills_stay s t r d max bytes ended given h)))
 turns_from s t u (Ok turn.Passed) r (ended, less, stays) =
     (ended ∙ r.ended, (let e = refills_unread s t r in omega (arith, less, e)), (λ d max bytes ended given h. stays d max bytes ended given (refills_stay s t r d max bytes ended given h)))
-turns_from s t u (Ok turn.Waits) r (ended, stays, done) =
-    (ended ∙ r.ended, (λ d max bytes ended given h. stays d max bytes ended given (refills_stay s t r d max bytes ended given h)), (λ d max bytes ended given h. done d max bytes ended given (refills_stay s t r d max bytes ended given h)))
+turns_from s t u (Ok turn.Waits) r (ended, stays, done, reading) =
+    (ended ∙ r.ended, (λ d max bytes ended given h. stays d max bytes ended given (refills_stay s t r d max bytes ended given h)), (λ d max bytes ended given h. done d max bytes ended given (refills_stay s t r d max bytes ended given h)), (λ d max bytes ended given h. reading d max bytes ended given (refills_stay s t r d max bytes ended given h)))
 turns_from s t u (Err e) r (ended, stopped) =
     (ended ∙ r.ended, (λ n d max bytes ended given h. stopped n d max bytes ended given (refills_stay s t r d max bytes ended given h)))
 
@@ -54,7 +54,7 @@ refills_again s t u r q = record {
 
 -- no row is complete where it was
 pub waits_turns : (s t : Rows) → Refills s t → Waits (after_of t) t.rules.dialect t.max_rows t.row (rest_of t.source) → Turns s t (Ok turn.Waits)
-waits_turns s t r g = turns_from s t t (Ok turn.Waits) r (refl, (λ d max bytes ended given h. h), is_done t g)
+waits_turns s t r g = turns_from s t t (Ok turn.Waits) r (refl, (λ d max bytes ended given h. h), is_done t g, is_reading t g)
 
 -- a stop stands where it was
 pub stop_turns : (s t : Rows) (stop : RowStop) → Refills s t → StopGives (after_of t) t.rules.dialect t.max_rows t.row (rest_of t.source) stop → Turns s t (Err stop)

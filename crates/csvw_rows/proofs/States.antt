@@ -12,13 +12,13 @@ use Rattle.csvw_rows.specs.declared.stop.RowStop.{RowStop}
 use Rattle.csvw_rows.specs.declared.stop.RowStop.TheVariants.{Memory, NotUtf8, RowTooLong, BadQuote, TextAfterQuote, UnclosedQuote, TooManyRows}
 use Rattle.csvw_rows.specs.declared.next.After.TheVariants.{More, Nothing, NoText}
 use Rattle.csvw_dialect.specs.Lawful.{IsLawful}
-use Rattle.csvw_rows.specs.Files.{AreRows, EndsOpen, IsWhole, content, is_text, Body, remaining, remaining_fields, without_mark, is_empty, given as given_row}
+use Rattle.csvw_rows.specs.Files.{Row, Front, AreRows, EndsOpen, IsWhole, content, is_text, Body, remaining, remaining_fields, without_mark, is_empty, given as given_row}
 use Rattle.csvw_rows.specs.RowValue.{Given}
 use Rattle.csvw_rows.specs.Parts.{Goes, NoRow}
 use Rattle.csvw_rows.specs.Stops.{StopOf, Begins}
 use Rattle.csvw_rows.specs.Nexts.{is_last, StandsThere, TakesRow, StopsHere, StopGives, Waits}
 use Rattle.csvw_rows.specs.SourceState.{Decodes, rest_of, is_bad_of, pending_of, begun_of, Pushes}
-use Rattle.csvw_rows.specs.RowsState.{fields_of, Holds, HasRead, HasGiven, NoStop, Stays, IsDone, IsStopped, Passes, after_of, reading_of, last_of, Gives as RowGives}
+use Rattle.csvw_rows.specs.RowsState.{fields_of, Holds, HasRead, HasGiven, NoStop, Stays, IsDone, IsReading, IsStopped, Passes, after_of, reading_of, last_of, Gives as RowGives}
 use Rattle.csvw_rows.specs.Grammar.{trimmed}
 use Rattle.csvw_rows.proofs.Bodies.{none_given, one_given, texts_of, some_remain}
 use Rattle.csvw_rows.proofs.Texts.{IsShort}
@@ -97,17 +97,16 @@ module _ (s : Rows) (d : Dialect) (max : ℕ) (bytes : List ℕ) (ended : Bool) 
           (subst (λ (n : ℕ). StandsThere (is_last (after_of s)) s.rules.dialect n s.row (rest_of s.source) len r.row) h.max_is r.stands)
 
   -- nothing is complete
-  pub done : Waits (after_of s) s.rules.dialect s.max_rows s.row (rest_of s.source) → HasGiven d max bytes ended given × NoStop d max bytes ended × (ended ≡ true → IsWhole d max bytes)
-  done (text, goes, none, last) =
+  waited : Waits (after_of s) s.rules.dialect s.max_rows s.row (rest_of s.source) → Done d max bytes ended h.rows
+  waited (text, goes, none, last) =
       let a = after_text (is_bad_of s.source) s.ended (not (length (pending_of s.source) == 0)) text in
       let at_end : ended ≡ true → (is_text bytes ≡ true) × (rest_of s.source ≡ []) =
       λ e. (let b = a.1 (h.ended_is ∙ e) in (is_text_of bytes (sym h.decodes.pending ∙ uncut (pending_of s.source) b.0), last b.1)) in
-      let r : Done d max bytes ended h.rows = waits_done d max bytes ended (rest_of s.source) h.rows (lawful_of s d h.dialect) h.read
+      waits_done d max bytes ended (rest_of s.source) h.rows (lawful_of s d h.dialect) h.read
       (subst (λ (n : ℕ). Goes d max n (rest_of s.source)) h.row_is (subst (λ (n : ℕ). Goes d n s.row (rest_of s.source)) h.max_is (subst (λ (x : Dialect). Goes x s.max_rows s.row (rest_of s.source)) h.dialect goes)))
       (subst (λ (n : ℕ). NoRow d max n (rest_of s.source)) h.row_is (subst (λ (n : ℕ). NoRow d n s.row (rest_of s.source)) h.max_is (subst (λ (x : Dialect). NoRow x s.max_rows s.row (rest_of s.source)) h.dialect none)))
       at_end
-      (λ t. (open_of t at_end, sym h.decodes.bad ∙ a.0)) in
-      (record { front = h.rows; is_front = r.is_front; all = h.given_is }, r.none, r.whole)
+      (λ t. (open_of t at_end, sym h.decodes.bad ∙ a.0))
     where
       by_ended : (b : Bool) → ended ≡ b → is_text bytes ≡ false → (ended ≡ true → (is_text bytes ≡ true) × (rest_of s.source ≡ [])) → b ≡ false
       by_ended false e t f = refl
@@ -115,6 +114,12 @@ module _ (s : Rows) (d : Dialect) (max : ℕ) (bytes : List ℕ) (ended : Bool) 
 
       open_of : is_text bytes ≡ false → (ended ≡ true → (is_text bytes ≡ true) × (rest_of s.source ≡ [])) → ended ≡ false
       open_of t f = by_ended ended refl t f
+
+  pub done : Waits (after_of s) s.rules.dialect s.max_rows s.row (rest_of s.source) → HasGiven d max bytes ended given × NoStop d max bytes ended × (ended ≡ true → IsWhole d max bytes)
+  done n = let r = waited n in (record { front = h.rows; is_front = r.is_front; all = h.given_is }, r.none, r.whole)
+
+  pub reading : Waits (after_of s) s.rules.dialect s.max_rows s.row (rest_of s.source) → (front : List Row) × Front d max bytes ended front × (reading_of s ≡ length front + 1)
+  reading n = (h.rows, (waited n).is_front, ap (λ n. n + 1) h.row_is)
 
   here : (e : RowStop) → StopsHere (is_last (after_of s)) s.rules.dialect s.max_rows s.row (rest_of s.source) e → HasGiven d max bytes ended given × StopOf d max bytes ended e (reading_of s)
   here e t =
@@ -218,6 +223,9 @@ row_gives s t len values p more r texts full d max bytes ended given h =
     ∙ ap (λ (k : ℕ). record { fields = drop t.rules.dialect.skip_columns (fields_of t); source = t.row; number = k }) number in
     passed s d max bytes ended given h t len (Some fields) p r (given ++ last_of t ∷ []) (sym (body.1 ∙ count))
     (ap (λ l. l ++ last_of t ∷ []) h.given_is ∙ ap (λ g. Body d h.rows ++ g ∷ []) (sym same) ∙ sym body.0)
+
+pub is_reading : (s : Rows) → Waits (after_of s) s.rules.dialect s.max_rows s.row (rest_of s.source) → IsReading s (reading_of s)
+is_reading s n d max bytes ended given h = reading s d max bytes ended given h n
 
 pub is_done : (s : Rows) → Waits (after_of s) s.rules.dialect s.max_rows s.row (rest_of s.source) → IsDone s
 is_done s n d max bytes ended given h = done s d max bytes ended given h n

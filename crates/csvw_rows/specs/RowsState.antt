@@ -96,6 +96,11 @@ abbrev pub IsDone : Rows → Type 0
 IsDone old = (d : Dialect) (max : ℕ) (bytes : List ℕ) (ended : Bool) (given : List Given) → Holds old d max bytes ended given
     → HasGiven d max bytes ended given × NoStop d max bytes ended × (ended ≡ true → IsWhole d max bytes)
 
+-- the source number of the row that is being read is one more than there are complete rows
+abbrev pub IsReading : Rows → ℕ → Type 0
+IsReading old row = (d : Dialect) (max : ℕ) (bytes : List ℕ) (ended : Bool) (given : List Given) → Holds old d max bytes ended given
+    → (front : List Row) × Front d max bytes ended front × (row ≡ length front + 1)
+
 -- all rows were given, and the stop stands behind them
 abbrev pub IsStopped : Rows → RowStop → ℕ → Type 0
 IsStopped old stop row = stop ≢ Memory → (d : Dialect) (max : ℕ) (bytes : List ℕ) (ended : Bool) (given : List Given) → Holds old d max bytes ended given
@@ -119,14 +124,14 @@ Closes old new (Err e) = stop_of old ≡ Some e
 -- after a call that reads on to a row that is given
 abbrev pub Advances : Rows → Rows → Result Bool RowStop → Type 0
 Advances old new (Ok true) = (is_ended_of new ≡ is_ended_of old) × (unread new < unread old) × Gives old new (last_of new)
-Advances old new (Ok false) = (is_ended_of new ≡ is_ended_of old) × Stays old new × IsDone old
+Advances old new (Ok false) = (is_ended_of new ≡ is_ended_of old) × Stays old new × IsDone old × IsReading old (reading_of new)
 Advances old new (Err e) = (is_ended_of new ≡ is_ended_of old) × IsStopped old e (reading_of new)
 
 -- after a call that reads one row on
 abbrev pub Turns : Rows → Rows → Result Turn RowStop → Type 0
 Turns old new (Ok turn.Given) = (is_ended_of new ≡ is_ended_of old) × (unread new < unread old) × Gives old new (last_of new)
 Turns old new (Ok turn.Passed) = (is_ended_of new ≡ is_ended_of old) × (unread new < unread old) × Stays old new
-Turns old new (Ok turn.Waits) = (is_ended_of new ≡ is_ended_of old) × Stays old new × IsDone old
+Turns old new (Ok turn.Waits) = (is_ended_of new ≡ is_ended_of old) × Stays old new × IsDone old × IsReading old (reading_of new)
 Turns old new (Err e) = (is_ended_of new ≡ is_ended_of old) × IsStopped old e (reading_of new)
 
 -- all but the text that isn't taken, the fields and how many rows remained stays, and one more row is read

@@ -1,0 +1,127 @@
+-- The facets fit the type and each other where the standards' words say so.
+use Rattle.std.proofs.Common.{◌≡◌, ◌↔◌, ◌⊎◌, inl, inr, ℕ, ◌≤◌, ◌||◌, ◌&&◌, not, nat_lt, Bool, true, false, Option, Some, None, is_some, refl, arith}
+use Rattle.std.specs.Prelude.{IsTrue}
+use Rattle.std.proofs.lemmas.Bool.Decides.{nat_tests}
+use Rattle.csvw_datatype.specs.declared.value.Value.{Value}
+use Rattle.csvw_datatype.specs.declared.simple.Simple.{Simple}
+use Rattle.csvw_datatype.specs.declared.simple.Simple.TheVariants as simples
+use Rattle.csvw_datatype.specs.declared.datatype.Facets.{Facets}
+use Rattle.csvw_datatype.specs.Breaks.{fails, is_below, is_over, is_not_under, has_lengths}
+use Rattle.csvw_datatype.specs.Sound.{is_text, lengths_apply, lengths_agree, side_agrees, bounds_agree, first_of}
+use Rattle.csvw_datatype.specs.Facets.{IsLess, IsAtMost}
+use Rattle.csvw_datatype.specs.Agreement.{IfBoth, AreSame, LengthsApply, LengthsAgree, BoundsAgree, min_of, max_of}
+use Rattle.csvw_datatype.proofs.FacetLemmas.{below, up_to}
+
+no : IsTrue false → ⊥
+no h = cc
+
+is_not : (b : Bool) (P : Type 0) → IsTrue b ↔ P → IsTrue (not b) ↔ (P → ⊥)
+is_not true P p = (λ h. absurd (no h), λ h. absurd (h (p.0 refl)))
+is_not false P p = (λ h k. no (p.1 k), λ h. refl)
+
+both : (a b : Bool) (P Q : Type 0) → IsTrue a ↔ P → IsTrue b ↔ Q → IsTrue (a && b) ↔ (P × Q)
+both true b P Q p q = (λ h. (p.0 refl, q.0 h), λ h. q.1 h.1)
+both false b P Q p q = (λ h. absurd (no h), λ h. absurd (no (p.1 h.0)))
+
+neither : (a b : Bool) (P Q : Type 0) → IsTrue (not a) ↔ P → IsTrue (not b) ↔ Q → IsTrue (not (a || b)) ↔ (P × Q)
+neither true b P Q p q = (λ h. absurd (no h), λ h. absurd (no (p.1 h.0)))
+neither false b P Q p q = (λ h. (p.0 refl, q.0 h), λ h. q.1 h.1)
+
+not_fails : {A B : Type 0} (test : A → B → Bool) (P : A → B → Type 0) → ((a : A) (b : B) → IsTrue (not (test a b)) ↔ P a b)
+    → (x : Option A) (y : Option B) → IsTrue (not (fails test x y)) ↔ IfBoth x y P
+not_fails test P h None y = (λ k. tt, λ k. refl)
+not_fails test P h (Some a) None = (λ k. tt, λ k. refl)
+not_fails test P h (Some a) (Some b) = h a b
+
+-- lengths
+
+at_most : (a b : ℕ) → IsTrue (not (nat_lt b a)) ↔ (a ≤ b)
+at_most a b = (λ h. grind (arith, nat_tests), λ h. grind (arith, nat_tests))
+
+-- the other way round
+turned : (x y : Option ℕ) → IsTrue (not (fails (λ n k. nat_lt n k) y x)) ↔ IfBoth x y (λ a b. a ≤ b)
+turned None None = (λ k. tt, λ k. refl)
+turned None (Some b) = (λ k. tt, λ k. refl)
+turned (Some a) None = (λ k. tt, λ k. refl)
+turned (Some a) (Some b) = at_most a b
+
+absent : (o : Option ℕ) → IsTrue (not (is_some o)) ↔ (o ≡ None)
+absent None = (λ h. refl, λ h. refl)
+absent (Some n) = (λ h. absurd (no h), λ h. cc)
+
+is_string : (s : Simple) → IsTrue (is_text s) ↔ (s ≡ simples.Text)
+is_string simples.Text = (λ h. refl, λ h. refl)
+is_string simples.Uri = (λ h. absurd (no h), λ h. cc)
+is_string simples.Truth = (λ h. absurd (no h), λ h. cc)
+is_string simples.Whole = (λ h. absurd (no h), λ h. cc)
+is_string (simples.Derived w) = (λ h. absurd (no h), λ h. cc)
+is_string simples.Decimal = (λ h. absurd (no h), λ h. cc)
+is_string simples.Day = (λ h. absurd (no h), λ h. cc)
+is_string simples.Moment = (λ h. absurd (no h), λ h. cc)
+
+one_of : (a b : Bool) (P Q : Type 0) → IsTrue a ↔ P → IsTrue b ↔ Q → IsTrue (a || b) ↔ (P ⊎ Q)
+one_of true b P Q p q = (λ h. inl (p.0 refl), λ h. refl)
+one_of false b P Q p q = (λ h. inr (q.0 h), λ h. elim h [ inl x ↦ absurd (no (p.1 x)) | inr y ↦ q.1 y ])
+
+no_lengths : (f : Facets) → IsTrue (not (has_lengths f)) ↔ ((f.length ≡ None) × (f.min_length ≡ None) × (f.max_length ≡ None))
+no_lengths f =
+    let p = neither (is_some f.length) (is_some f.min_length) _ _ (absent f.length) (absent f.min_length) in
+    let q = neither (is_some f.length || is_some f.min_length) (is_some f.max_length) _ _ p (absent f.max_length) in
+    (λ h. let k = q.0 h in (k.0.0, k.0.1, k.1), λ h. q.1 ((h.0, h.1), h.2))
+
+pub applies : (s : Simple) (f : Facets) → IsTrue (lengths_apply s f) ↔ LengthsApply s f
+applies s f = one_of (is_text s) (not (has_lengths f)) _ _ (is_string s) (no_lengths f)
+
+pub agree_lengths : (f : Facets) → IsTrue (lengths_agree f) ↔ LengthsAgree f
+agree_lengths f =
+    let a = turned f.min_length f.max_length in
+    let b = turned f.min_length f.length in
+    let c = turned f.length f.max_length in
+    let p = neither _ _ _ _ (neither _ _ _ _ a b) c in
+    (λ h. let k = p.0 h in record { range = k.0.0; low = k.0.1; high = k.1 }, λ h. p.1 ((h.range, h.low), h.high))
+
+-- bounds
+
+not_less : (a b : Value) → IsTrue (not (is_below b a)) ↔ (IsLess b a → ⊥)
+not_less a b = is_not (is_below b a) (IsLess b a) (below b a)
+
+same : (a b : Value) → IsTrue (not (is_below a b || is_below b a)) ↔ AreSame a b
+same a b = neither (is_below a b) (is_below b a) _ _ (not_less b a) (not_less a b)
+
+not_over : (x y : Option Value) → IsTrue (not (is_over x y)) ↔ IfBoth x y (λ a b. IsLess b a → ⊥)
+not_over x y = not_fails (λ a b. is_below b a) _ not_less x y
+
+under : (x y : Option Value) → IsTrue (not (is_not_under x y)) ↔ IfBoth x y (λ a b. IsAtMost b a → ⊥)
+under x y = not_fails _ _ (λ a b. is_not _ (IsAtMost b a) (up_to b a)) x y
+
+alone : (x y z : Option Value) → IsTrue (not (is_some z && (is_some x || is_some y))) ↔ IfBoth z (first_of x y) (λ a b. ⊥)
+alone x y None = (λ h. tt, λ h. refl)
+alone None None (Some c) = (λ h. tt, λ h. refl)
+alone None (Some b) (Some c) = (λ h. no h, λ h. absurd h)
+alone (Some a) y (Some c) = (λ h. no h, λ h. absurd h)
+
+side : (x y z : Option Value) → IsTrue (side_agrees x y z) ↔ (IfBoth x y AreSame × IfBoth z (first_of x y) (λ a b. ⊥))
+side x y z = both _ _ _ _ (not_fails _ AreSame same x y) (alone x y z)
+
+pub agree_bounds : (f : Facets) → IsTrue (bounds_agree f) ↔ BoundsAgree f
+agree_bounds f =
+    let low = side f.minimum f.min_inclusive f.min_exclusive in
+    let high = side f.maximum f.max_inclusive f.max_exclusive in
+    let a = not_over (min_of f) (max_of f) in
+    let b = not_over f.min_exclusive f.max_exclusive in
+    let c = under (min_of f) f.max_exclusive in
+    let d = under f.min_exclusive (max_of f) in
+    let sides = neither _ _ _ _ (neither _ _ _ _ (neither _ _ _ _ a b) c) d in
+    let all = both _ _ _ _ (both _ _ _ _ low high) sides in (
+      λ h. let k = all.0 h in record {
+        one_minimum = k.0.0.0;
+        one_maximum = k.0.1.0;
+        minimum_alone = k.0.0.1;
+        maximum_alone = k.0.1.1;
+        inclusive = k.1.0.0.0;
+        exclusive = k.1.0.0.1;
+        below_exclusive = k.1.0.1;
+        above_exclusive = k.1.1;
+      },
+      λ h. all.1 (((h.one_minimum, h.minimum_alone), (h.one_maximum, h.maximum_alone)), (((h.inclusive, h.exclusive), h.below_exclusive), h.above_exclusive)),
+    )

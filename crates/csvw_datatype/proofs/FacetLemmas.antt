@@ -1,0 +1,117 @@
+-- The broken facets are those of which the standards' words hold.
+use Rattle.std.proofs.Common.{◌≢◌, ◌↔◌, ◌⊎◌, inl, inr, ℕ, ◌<◌, ◌||◌, ◌==◌, not, nat_lt, Bool, true, false, Option, Some, None, length, refl, arith, ℤ, ◌<ℤ◌, ◌≤ℤ◌}
+use Rattle.std.specs.Prelude.{IsTrue}
+use Rattle.std.specs.Str.{chars}
+use lib.Signed.{lt_z}
+use Rattle.std.proofs.lemmas.Bool.Decides.{nat_tests}
+use Rattle.std.proofs.lemmas.Int.{ints, by_lt_z}
+use Rattle.csvw_datatype.specs.declared.value.Value.{Value}
+use Rattle.csvw_datatype.specs.declared.value.Value.TheVariants.{Text, Truth, Number, Day, Moment}
+use Rattle.csvw_datatype.specs.declared.datatype.Facets.{Facets}
+use Rattle.csvw_datatype.specs.Breaks.{is_below, is_up_to, length_of, fails, is_over, is_not_under, breaks}
+use Rattle.csvw_datatype.specs.Facets.{IsThereAnd, HasLength, IsLess, IsAtMost, SaysWhatBreaks}
+
+-- tests
+
+is_less : (a b : ℤ) → IsTrue (lt_z a b) ↔ (a <ℤ b)
+is_less a b =
+    by_lt_z a b (λ l. (λ h. l, λ k. grind (arith, ints, nat_tests)))
+    (λ l. (λ h. grind (arith, ints, nat_tests), λ k. absurd (omega (arith, ints, l, k))))
+
+is_at_most : (a b : ℤ) → IsTrue (not (lt_z b a)) ↔ (a ≤ℤ b)
+is_at_most a b =
+    by_lt_z b a (λ l. (λ h. grind (arith, ints, nat_tests), λ k. absurd (omega (arith, ints, l, k))))
+    (λ l. (λ h. l, λ k. grind (arith, ints, nat_tests)))
+
+differs : (n k : ℕ) → IsTrue (not (n == k)) ↔ (n ≢ k)
+differs n k = (λ h. grind (arith, nat_tests), λ h. grind (arith, nat_tests))
+
+is_short : (n k : ℕ) → IsTrue (nat_lt n k) ↔ (n < k)
+is_short n k = (λ h. grind (arith, nat_tests), λ h. grind (arith, nat_tests))
+
+never : IsTrue false ↔ ⊥
+never = (λ h. cc, λ h. absurd h)
+
+pub below : (v w : Value) → IsTrue (is_below v w) ↔ IsLess v w
+below (Number a) (Number b) = is_less a b
+below (Day a) (Day b) = is_less a b
+below (Moment a) (Moment b) = is_less a b
+below (Number a) (Text t) = never
+below (Number a) (Truth t) = never
+below (Number a) (Day t) = never
+below (Number a) (Moment t) = never
+below (Day a) (Text t) = never
+below (Day a) (Truth t) = never
+below (Day a) (Number t) = never
+below (Day a) (Moment t) = never
+below (Moment a) (Text t) = never
+below (Moment a) (Truth t) = never
+below (Moment a) (Number t) = never
+below (Moment a) (Day t) = never
+below (Text a) w = never
+below (Truth a) w = never
+
+pub up_to : (v w : Value) → IsTrue (is_up_to v w) ↔ IsAtMost v w
+up_to (Number a) (Number b) = is_at_most a b
+up_to (Day a) (Day b) = is_at_most a b
+up_to (Moment a) (Moment b) = is_at_most a b
+up_to (Number a) (Text t) = never
+up_to (Number a) (Truth t) = never
+up_to (Number a) (Day t) = never
+up_to (Number a) (Moment t) = never
+up_to (Day a) (Text t) = never
+up_to (Day a) (Truth t) = never
+up_to (Day a) (Number t) = never
+up_to (Day a) (Moment t) = never
+up_to (Moment a) (Text t) = never
+up_to (Moment a) (Truth t) = never
+up_to (Moment a) (Number t) = never
+up_to (Moment a) (Day t) = never
+up_to (Text a) w = never
+up_to (Truth a) w = never
+
+-- facets
+
+lengths : (test : ℕ → ℕ → Bool) (P : ℕ → ℕ → Type 0) (v : Value) (o : Option ℕ) → ((n k : ℕ) → IsTrue (test n k) ↔ P n k)
+    → IsTrue (fails test (length_of v) o) ↔ IsThereAnd o (λ k. HasLength v (λ n. P n k))
+lengths test P (Text t) None h = never
+lengths test P (Truth t) None h = never
+lengths test P (Number t) None h = never
+lengths test P (Day t) None h = never
+lengths test P (Moment t) None h = never
+lengths test P (Text t) (Some k) h = h (length (chars t)) k
+lengths test P (Truth t) (Some k) h = never
+lengths test P (Number t) (Some k) h = never
+lengths test P (Day t) (Some k) h = never
+lengths test P (Moment t) (Some k) h = never
+
+under : (v : Value) (o : Option Value) → IsTrue (is_over o (Some v)) ↔ IsThereAnd o (λ b. IsLess v b)
+under v None = never
+under v (Some b) = below v b
+
+over : (v : Value) (o : Option Value) → IsTrue (is_over (Some v) o) ↔ IsThereAnd o (λ b. IsLess b v)
+over v None = never
+over v (Some b) = below b v
+
+not_above : (v : Value) (o : Option Value) → IsTrue (is_not_under o (Some v)) ↔ IsThereAnd o (λ b. IsAtMost v b)
+not_above v None = never
+not_above v (Some b) = up_to v b
+
+not_below : (v : Value) (o : Option Value) → IsTrue (is_not_under (Some v) o) ↔ IsThereAnd o (λ b. IsAtMost b v)
+not_below v None = never
+not_below v (Some b) = up_to b v
+
+any : (a b c : Bool) (P Q R : Type 0) → IsTrue a ↔ P → IsTrue b ↔ Q → IsTrue c ↔ R → IsTrue (a || b || c) ↔ (P ⊎ (Q ⊎ R))
+any true b c P Q R p q r = (λ h. inl (p.0 refl), λ h. refl)
+any false true c P Q R p q r = (λ h. inr (inl (q.0 refl)), λ h. refl)
+any false false c P Q R p q r =
+    (λ h. inr (inr (r.0 h)), λ h. elim h [ inl x ↦ absurd (never.0 (p.1 x)) | inr y ↦ elim y [ inl x ↦ absurd (never.0 (q.1 x)) | inr z ↦ r.1 z ] ])
+
+pub says_what_breaks : (v : Value) (f : Facets) → SaysWhatBreaks v f (breaks v f)
+says_what_breaks v f = record {
+  length = lengths (λ n k. not (n == k)) (λ n k. n ≢ k) v f.length differs;
+  min_length = lengths (λ n k. nat_lt n k) (λ n k. n < k) v f.min_length is_short;
+  max_length = lengths (λ n k. nat_lt k n) (λ n k. k < n) v f.max_length (λ n k. is_short k n);
+  minimum = any _ _ _ _ _ _ (under v f.minimum) (under v f.min_inclusive) (not_above v f.min_exclusive);
+  maximum = any _ _ _ _ _ _ (over v f.maximum) (over v f.max_inclusive) (not_below v f.max_exclusive);
+}

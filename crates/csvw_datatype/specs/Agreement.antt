@@ -1,0 +1,47 @@
+-- Which facets fit the type and each other, in the standards' words (Model for Tabular Data and Metadata on the Web, sections
+-- 4.6.1 and 4.6.2; Metadata Vocabulary for Tabular Data, section 5.11.2).
+use Rattle.std.specs.Prelude.{◌≡◌, ◌⊎◌, ◌≤◌, Option, None, IfSome}
+use Rattle.csvw_datatype.specs.declared.value.Value.{Value}
+use Rattle.csvw_datatype.specs.declared.simple.Simple.{Simple}
+use Rattle.csvw_datatype.specs.declared.simple.Simple.TheVariants as simples
+use Rattle.csvw_datatype.specs.declared.datatype.Facets.{Facets}
+use Rattle.csvw_datatype.specs.Sound.{first_of}
+use Rattle.csvw_datatype.specs.Facets.{IsLess, IsAtMost}
+
+-- where both are there, this holds of them
+abbrev pub IfBoth : {A B : Type 0} → Option A → Option B → (A → B → Type 0) → Type 0
+IfBoth a b P = IfSome a (λ x. IfSome b (λ y. P x y))
+
+-- neither is less than the other
+abbrev pub AreSame : Value → Value → Type 0
+AreSame a b = (IsLess a b → ⊥) × (IsLess b a → ⊥)
+
+-- length, minLength and maxLength stand on strings alone
+abbrev pub LengthsApply : Simple → Facets → Type 0
+LengthsApply s f = (s ≡ simples.Text) ⊎ ((f.length ≡ None) × (f.min_length ≡ None) × (f.max_length ≡ None))
+
+-- minLength isn't greater than maxLength, and length is neither less than minLength nor greater than maxLength
+pub record LengthsAgree (f : Facets) : Type 0 where
+  pub range : IfBoth f.min_length f.max_length (λ a b. a ≤ b)
+  pub low : IfBoth f.min_length f.length (λ a b. a ≤ b)
+  pub high : IfBoth f.length f.max_length (λ a b. a ≤ b)
+
+-- minimum and maximum are other names of minInclusive and maxInclusive
+abbrev pub min_of : Facets → Option Value
+min_of f = first_of f.minimum f.min_inclusive
+
+abbrev pub max_of : Facets → Option Value
+max_of f = first_of f.maximum f.max_inclusive
+
+-- two names of a bound say the same; an inclusive and an exclusive bound don't stand together; minInclusive is neither greater
+-- than maxInclusive nor greater than or equal to maxExclusive; minExclusive is neither greater than maxExclusive nor greater
+-- than or equal to maxInclusive
+pub record BoundsAgree (f : Facets) : Type 0 where
+  pub one_minimum : IfBoth f.minimum f.min_inclusive AreSame
+  pub one_maximum : IfBoth f.maximum f.max_inclusive AreSame
+  pub minimum_alone : IfBoth f.min_exclusive (min_of f) (λ a b. ⊥)
+  pub maximum_alone : IfBoth f.max_exclusive (max_of f) (λ a b. ⊥)
+  pub inclusive : IfBoth (min_of f) (max_of f) (λ a b. IsLess b a → ⊥)
+  pub exclusive : IfBoth f.min_exclusive f.max_exclusive (λ a b. IsLess b a → ⊥)
+  pub below_exclusive : IfBoth (min_of f) f.max_exclusive (λ a b. IsAtMost b a → ⊥)
+  pub above_exclusive : IfBoth f.min_exclusive (max_of f) (λ a b. IsAtMost b a → ⊥)

@@ -1,0 +1,60 @@
+-- What each facet asks of a value, in the standards' words (Model for Tabular Data and Metadata on the Web, sections 4.6.1
+-- and 4.6.2; Metadata Vocabulary for Tabular Data, section 5.11.2; XML Schema 1.1 part 2, section 4.3).
+use Rattle.std.specs.Prelude.{◌≢◌, ◌↔◌, ◌⊎◌, ℕ, ◌<◌, IsTrue, Option, Some, None, length, ◌<ℤ◌, ◌≤ℤ◌}
+use Rattle.std.specs.Str.{chars}
+use Rattle.csvw_datatype.specs.declared.value.Value.{Value}
+use Rattle.csvw_datatype.specs.declared.value.Value.TheVariants.{Text, Number, Day, Moment}
+use Rattle.csvw_datatype.specs.declared.datatype.Facets.{Facets}
+use Rattle.csvw_datatype.specs.declared.facets.Broken.{Broken}
+
+-- the facet is there, and this holds of it
+abbrev pub IsThereAnd : {A : Type 0} → Option A → (A → Type 0) → Type 0
+IsThereAnd None P = ⊥
+IsThereAnd (Some x) P = P x
+
+-- this holds of the value's length, which is its number of characters; a number, a truth, a day and a moment have none
+abbrev pub HasLength : Value → (ℕ → Type 0) → Type 0
+HasLength (Text text) P = P (length (chars text))
+HasLength _ P = ⊥
+
+-- a number, a day or a moment is less than another
+abbrev pub IsLess : Value → Value → Type 0
+IsLess (Number a) (Number b) = a <ℤ b
+IsLess (Day a) (Day b) = a <ℤ b
+IsLess (Moment a) (Moment b) = a <ℤ b
+IsLess _ _ = ⊥
+
+-- a number, a day or a moment is less than another or equal to it
+abbrev pub IsAtMost : Value → Value → Type 0
+IsAtMost (Number a) (Number b) = a ≤ℤ b
+IsAtMost (Day a) (Day b) = a ≤ℤ b
+IsAtMost (Moment a) (Moment b) = a ≤ℤ b
+IsAtMost _ _ = ⊥
+
+-- length: the exact length of the value
+abbrev pub HasOtherLength : Value → Facets → Type 0
+HasOtherLength v f = IsThereAnd f.length (λ k. HasLength v (λ n. n ≢ k))
+
+-- minLength: the minimum length of the value
+abbrev pub IsShorter : Value → Facets → Type 0
+IsShorter v f = IsThereAnd f.min_length (λ k. HasLength v (λ n. n < k))
+
+-- maxLength: the maximum length of the value
+abbrev pub IsLonger : Value → Facets → Type 0
+IsLonger v f = IsThereAnd f.max_length (λ k. HasLength v (λ n. k < n))
+
+-- minimum and minInclusive: the minimum valid value; minExclusive: the minimum value, itself not valid
+abbrev pub IsBelowMinimum : Value → Facets → Type 0
+IsBelowMinimum v f = IsThereAnd f.minimum (λ b. IsLess v b) ⊎ (IsThereAnd f.min_inclusive (λ b. IsLess v b) ⊎ IsThereAnd f.min_exclusive (λ b. IsAtMost v b))
+
+-- maximum and maxInclusive: the maximum valid value; maxExclusive: the maximum value, itself not valid
+abbrev pub IsAboveMaximum : Value → Facets → Type 0
+IsAboveMaximum v f = IsThereAnd f.maximum (λ b. IsLess b v) ⊎ (IsThereAnd f.max_inclusive (λ b. IsLess b v) ⊎ IsThereAnd f.max_exclusive (λ b. IsAtMost b v))
+
+-- each code stands exactly where the value breaks one of its facets
+pub record SaysWhatBreaks (v : Value) (f : Facets) (broken : Broken) : Type 0 where
+  pub length : IsTrue broken.wrong_length ↔ HasOtherLength v f
+  pub min_length : IsTrue broken.too_short ↔ IsShorter v f
+  pub max_length : IsTrue broken.too_long ↔ IsLonger v f
+  pub minimum : IsTrue broken.below_minimum ↔ IsBelowMinimum v f
+  pub maximum : IsTrue broken.above_maximum ↔ IsAboveMaximum v f
