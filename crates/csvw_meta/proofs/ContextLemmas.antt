@@ -7,7 +7,8 @@ use Rattle.csvw_meta_core.specs.declared.fault.MetaCode.TheVariants.{BadContext}
 use Rattle.csvw_meta_core.specs.Read.{faulty}
 use Rattle.csvw_meta.specs.Context.{other_items, no_context}
 
-pub other_items-many : (base : Parts) (at : List ℕ) (vs : List Value) → 2 ≤ length vs → other_items base at (items_view vs) ≡ faulty BadContext at no_context
+pub other_items-many : (base : Parts) (at : List ℕ) (vs : List Value) → 2 ≤ length vs
+    → other_items base at (items_view vs) ≡ faulty BadContext at no_context
 other_items-many base at [] h = absurd (omega arith)
 other_items-many base at (v ∷ []) h = absurd (omega arith)
 other_items-many base at (v ∷ w ∷ vs) h = refl

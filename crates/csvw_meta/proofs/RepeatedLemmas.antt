@@ -1,5 +1,6 @@
 -- Looking for a text that an earlier one is equal to.
-use Rattle.std.proofs.Common.{◌≡◌, ℕ, ◌+◌, ◌<◌, List, [], ◌∷◌, ◌++◌, length, take, drop, get_or, true, false, bytes_eq, ap, sym, ◌∙◌, subst, suc, add-one, drop-cons, Contains, rules}
+use Rattle.std.proofs.Common.{◌≡◌, ℕ, ◌+◌, ◌<◌, List, [], ◌∷◌, ◌++◌, length, take, drop, get_or, true}
+use Rattle.std.proofs.Common.{false, bytes_eq, ap, sym, ◌∙◌, subst, suc, add-one, drop-cons, Contains, rules}
 use Rattle.std.specs.List.{list_any}
 use Rattle.std.proofs.lemmas.Bool.{cond-true, cond-false}
 use Rattle.std.proofs.lemmas.List.{take_more}
@@ -17,7 +18,8 @@ module _ (fault : ℕ → MetaFault) (ts : List (List ℕ)) (i : ℕ) (t : List 
 
   pub goes_on : list_any (λ u. bytes_eq u t) (take i ts) ≡ false → repeated fault (take (i + 1) ts) (i + 1) (drop (i + 1) ts) ≡ total
   goes_on none =
-      rw more (ap (λ (fs : List MetaFault). fs ++ repeated fault (take i ts ++ t ∷ []) (i + 1) (drop (i + 1) ts)) (sym (cond-false _ _ _ none)) ∙ (rw here at so_far))
+      rw more (ap (λ (fs : List MetaFault). fs ++ repeated fault (take i ts ++ t ∷ []) (i + 1) (drop (i + 1) ts)) (sym (cond-false _ _ _ none)) ∙ (rw
+      here at so_far))
 
   pub ends : list_any (λ u. bytes_eq u t) (take i ts) ≡ true → Contains total (fault i)
   ends some =

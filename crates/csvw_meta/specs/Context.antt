@@ -1,5 +1,5 @@
 -- The context of a document (Metadata Vocabulary for Tabular Data, section 5.2).
-use Rattle.std.specs.Prelude.{ℕ, ◌||◌, List, [], ◌∷◌, Bool, true, false, Option, Some, None, bytes_eq, codes, if◌then◌else◌, ⊤}
+use Rattle.std.specs.Prelude.{ℕ, ◌||◌, List, Bool, false, Option, Some, None, bytes_eq, codes, if◌then◌else◌, ⊤}
 use Rattle.serde_json.specs.Data.{Data, null, boolean, number, string, array, object, Items, no_items, item, Members, no_members, member}
 use Rattle.serde_json.specs.Find.{get, as_str}
 use Rattle.url.specs.Parts.{Parts}

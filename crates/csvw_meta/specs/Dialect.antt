@@ -1,5 +1,6 @@
 -- Dialects (Metadata Vocabulary for Tabular Data, section 5.9).
-use Rattle.std.specs.Prelude.{ℕ, ◌==◌, ◌||◌, ◌&&◌, not, List, [], ◌∷◌, ◌++◌, Bool, true, false, Option, Some, None, is_none, nat_lt, length, bytes_eq, codes, chars, if◌then◌else◌, map, ⊤}
+use Rattle.std.specs.Prelude.{ℕ, ◌==◌, ◌||◌, ◌&&◌, not, List, [], ◌∷◌, ◌++◌, Bool, true, false, Option}
+use Rattle.std.specs.Prelude.{Some, None, is_none, nat_lt, length, bytes_eq, codes, chars, if◌then◌else◌, map, ⊤}
 use Rattle.std.specs.Char.{to_ascii_lowercase}
 use Rattle.std.specs.List.{list_any}
 use Rattle.serde_json.specs.Data.{Data, null, boolean, number, string, array, object}

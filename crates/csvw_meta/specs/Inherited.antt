@@ -1,5 +1,5 @@
 -- The inherited properties of an object (Metadata Vocabulary for Tabular Data, section 5.7).
-use Rattle.std.specs.Prelude.{ℕ, List, Option, Some, None, codes}
+use Rattle.std.specs.Prelude.{ℕ, List, None, codes}
 use Rattle.serde_json.specs.Data.{Data}
 use Rattle.csvw_description.specs.declared.inherited.Inherited.{Inherited}
 use Rattle.csvw_meta_core.specs.declared.fault.MetaCode.TheVariants.{BadProperty}

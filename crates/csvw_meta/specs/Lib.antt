@@ -13,3 +13,4 @@ pub mod Schema
 pub mod Several
 pub mod Table
 pub mod Titles
+pub mod UrlAlone

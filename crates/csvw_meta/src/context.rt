@@ -3,7 +3,8 @@ ghost use Rattle.std.specs.Prelude.{◌≡◌};
 ghost use Rattle.serde_json.specs.View.{view, items_view, members_view};
 ghost use Rattle.csvw_meta_core.specs.Pointer.{text_of};
 ghost use Rattle.csvw_meta_core.specs.Reads.{Reads};
-ghost use Rattle.csvw_meta.specs.Context.{is_vocabulary, stranger, strangers, further_context, second_item, other_items, context_items, context_value, context, context_base};
+ghost use Rattle.csvw_meta.specs.Context.{is_vocabulary, stranger, strangers, further_context, second_item, other_items};
+ghost use Rattle.csvw_meta.specs.Context.{context_items, context_value, context, context_base};
 
 use csvw_iri::{Base, IriFault};
 use csvw_meta_core::{Language, MetaCode, Part, Reader, Refusal};

@@ -5,7 +5,8 @@ ghost use Rattle.serde_json.specs.View.{view};
 ghost use Rattle.csvw_dialect.specs.Lawful.{has_break};
 ghost use Rattle.csvw_meta_core.specs.Pointer.{text_of};
 ghost use Rattle.csvw_meta_core.specs.Reads.{Reads};
-ghost use Rattle.csvw_meta.specs.Dialect.{mark, comment_prefix, trim, trim_named, encoding, is_utf8_name, terminator, terminators, joined, header_rows, trim_of, skips_spaces, clashes, dialect_parts, lawful_dialect, dialect_of, is_break_char};
+ghost use Rattle.csvw_meta.specs.Dialect.{mark, comment_prefix, trim, trim_named, encoding, is_utf8_name, terminator, terminators, joined};
+ghost use Rattle.csvw_meta.specs.Dialect.{header_rows, trim_of, skips_spaces, clashes, dialect_parts, lawful_dialect, dialect_of, is_break_char};
 
 use crate::context::Context;
 use crate::unlisted::dialect_warnings;

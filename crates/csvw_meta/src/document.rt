@@ -62,7 +62,7 @@ fn within(context: &Context, part: &Part) -> Result<Description, Refusal>
 
 /// What a value describes at the document's own URL.
 #[tactic(auto, using(crate::proofs::ReadLemmas::fails_over))]
-fn described(part: &Part, base: &Base) -> Result<Description, Refusal>
+pub(crate) fn described(part: &Part, base: &Base) -> Result<Description, Refusal>
     ensures { Reads result (described base.now (text_of part.now.at) (view part.now.value.now)) }
 {
     let context = read_context(part, base)?;

@@ -17,6 +17,8 @@ mod several;
 mod table;
 mod titles;
 mod unlisted;
+mod url_alone;
 
 pub use csvw_meta_core::{MetaCode, MetaFault};
 pub use document::read;
+pub use url_alone::plain;

@@ -19,7 +19,8 @@ fn has_text(texts: &[Text], text: &Text) -> bool
 
 /// The index of a text that an earlier one is equal to, where there is one.
 pub(crate) fn repeated_at(texts: &[Text]) -> Option<usize>
-    ensures { (fault : ℕ → MetaFault) → MatchOption result (repeated fault [] 0 texts.now ≡ []) (λ i. Contains (repeated fault [] 0 texts.now) (fault i)) }
+    ensures { (fault : ℕ → MetaFault) → MatchOption result (repeated fault [] 0 texts.now ≡ [])
+        (λ i. Contains (repeated fault [] 0 texts.now) (fault i)) }
 {
     for (i, text) in texts.iter().enumerate() {
         if has_text(&texts[..i], text) {

@@ -124,7 +124,8 @@ pub(crate) fn dialect_warnings(table: u32, part: &Part) -> Result<Seq<Fault>, Re
 
 /// The warnings on the column of this number, of the table of that number or of the group where it is 0.
 pub(crate) fn column_warnings(table: u32, column: u32, part: &Part) -> Result<Seq<Fault>, Refusal>
-    ensures { Reads result (others (column_names ++ inherited_names) MetaCode.NotSupported (place_of table column) (text_of part.now.at) (view part.now.value.now)) }
+    ensures { Reads result (others (column_names ++ inherited_names) MetaCode.NotSupported (place_of table column)
+        (text_of part.now.at) (view part.now.value.now)) }
 {
     let listed = Listed {
         names: &COLUMN,

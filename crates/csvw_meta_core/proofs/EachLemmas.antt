@@ -31,11 +31,13 @@ module _ {A : Type 0} (reads : ℕ → List ℕ → Data → Read A) (at : List 
       two ∙ sym one ∙ so_far
 
   pub ends : (front : List A) (i : ℕ) (v : Value) (vs : List Value) (e : Refusal)
-      → with_front front (each_numbered reads at i (items_view (v ∷ vs))) ≡ total → Fails e (reads (i + 1) (item_at at i) (view v)).faults → Fails e total.faults
+      → with_front front (each_numbered reads at i (items_view (v ∷ vs))) ≡ total → Fails e (reads (i + 1) (item_at at i) (view v)).faults
+      → Fails e total.faults
   ends front i v vs e so_far h =
       subst (λ (r : Read (List A)). Fails e r.faults) so_far (fails_first e _ (each_numbered reads at (i + 1) (items_view vs)).faults h)
 
-  pub is_done : (front : List A) (i : ℕ) (vs : List Value) → length vs ≤ i → with_front front (each_numbered reads at i (items_view (drop i vs))) ≡ total → total ≡ fine front
+  pub is_done : (front : List A) (i : ℕ) (vs : List Value) → length vs ≤ i → with_front front (each_numbered reads at i (items_view (drop i vs))) ≡ total
+      → total ≡ fine front
   is_done front i vs le so_far =
       let none : drop i vs ≡ [] = drop_all i vs le in
       sym (rw none at so_far) ∙ ap fine (append-nil front)
@@ -46,5 +48,6 @@ module _ {A : Type 0} (reads : ℕ → List ℕ → Data → Read A) (at : List 
   goes_on_at front i v vs x lt e so_far h = goes_on front i v (drop (i + 1) vs) x (rw (here vs i v lt e) at so_far) h
 
   pub ends_at : (front : List A) (i : ℕ) (v : Value) (vs : List Value) (e : Refusal) → i < length vs → v ≡ get_or vs i v
-      → with_front front (each_numbered reads at i (items_view (drop i vs))) ≡ total → Fails e (reads (i + 1) (item_at at i) (view v)).faults → Fails e total.faults
+      → with_front front (each_numbered reads at i (items_view (drop i vs))) ≡ total → Fails e (reads (i + 1) (item_at at i) (view v)).faults
+      → Fails e total.faults
   ends_at front i v vs e lt is so_far h = ends front i v (drop (i + 1) vs) e (rw (here vs i v lt is) at so_far) h

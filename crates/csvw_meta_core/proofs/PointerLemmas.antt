@@ -1,5 +1,6 @@
 -- Names as steps of a pointer, by bytes and by characters.
-use Rattle.std.proofs.Common.{◌≡◌, ℕ, ◌<◌, ◌≤◌, List, [], ◌∷◌, ◌++◌, refl, ap, sym, ◌∙◌, arith, flat_map, nat_lt, encode_utf8, encode_utf8_all, ⊎_elim, append-nil, ◌==◌}
+use Rattle.std.proofs.Common.{◌≡◌, ℕ, ◌<◌, ◌≤◌, List, [], ◌∷◌, ◌++◌, refl, ap, sym}
+use Rattle.std.proofs.Common.{◌∙◌, arith, flat_map, nat_lt, encode_utf8, encode_utf8_all, ⊎_elim, append-nil, ◌==◌}
 use lib.Utf8.{encode}
 use Rattle.std.proofs.lemmas.Bool.{cond-false, cond_both, cases_lt}
 use Rattle.std.proofs.lemmas.Bool.Decides.{nat_tests}

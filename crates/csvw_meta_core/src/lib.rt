@@ -12,10 +12,12 @@ mod pointer;
 mod reader;
 
 pub use fault::{MetaCode, MetaFault, Refusal};
-pub use kinds::{AnyText, AnyWhole, Character, Fixed, Language, SomeText, Texts, Truth, WholeU8, WholeU32};
+pub use kinds::{
+    AnyText, AnyWhole, Character, Fixed, Language, SomeText, Texts, Truth, WholeU8, WholeU32,
+};
 pub use links::{IdReader, UrlReader};
+pub use numbered::{NumberedReader, each_numbered};
 pub use others::Listed;
 pub use part::Part;
 pub use pointer::Pointer;
-pub use numbered::{NumberedReader, each_numbered};
 pub use reader::{NotYet, OrNull, Reader, each};

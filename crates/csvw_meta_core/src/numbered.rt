@@ -25,7 +25,11 @@ pub trait NumberedReader {
 }
 
 /// Each item of the array that the part is.
-pub fn each_numbered<R: NumberedReader>(part: &Part, reader: &R, items: &[Value]) -> Result<Seq<R::Output>, Refusal>
+pub fn each_numbered<R: NumberedReader>(
+    part: &Part,
+    reader: &R,
+    items: &[Value],
+) -> Result<Seq<R::Output>, Refusal>
     requires { length items.now < 2 ^ 32 }
     ensures { Reads result (each_numbered (R.reads reader.now) (text_of part.now.at) 0 (items_view items.now)) }
 {
@@ -37,7 +41,12 @@ pub fn each_numbered<R: NumberedReader>(part: &Part, reader: &R, items: &[Value]
     Ok(Seq::of(found))
 }
 
-fn read_item<R: NumberedReader>(part: &Part, reader: &R, index: usize, item: &Value) -> Result<R::Output, Refusal>
+fn read_item<R: NumberedReader>(
+    part: &Part,
+    reader: &R,
+    index: usize,
+    item: &Value,
+) -> Result<R::Output, Refusal>
     requires { index + 1 < 2 ^ 32 }
     ensures { Reads result (R.reads reader.now (index + 1) (item_at (text_of part.now.at) index) (view item.now)) }
 {

@@ -1,4 +1,4 @@
-use Rattle.std.proofs.Common.{◌≡◌, ◌≤◌, drop}
+use Rattle.std.proofs.Common.{◌≡◌, drop}
 use Rattle.csvw_meta.specs.DeclaredName.{are_varchars}
 use Rattle.csvw_meta.proofs.name.are_varchars.Given as goal
 

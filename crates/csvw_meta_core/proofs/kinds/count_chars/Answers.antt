@@ -15,7 +15,8 @@ returns-in_default c =
 pub returns-in-None : goal.returns-in-None
 returns-in-None c =
     let rest = none_of c.next.new.self.rest.now c.in-None.ensures.steps.0.0 in
-    let one = chars_past_char c.args.text.now c.next.new.self.rest.now c.in-Some.c c.utf8.text (sym c.chars-chars.ensures.rest ∙ c.in-Some.ensures.steps.0) in
+    let one = chars_past_char c.args.text.now c.next.new.self.rest.now c.in-Some.c c.utf8.text (sym c.chars-chars.ensures.rest ∙
+    c.in-Some.ensures.steps.0) in
     ap sole_of (sym (one ∙ ap (λ x. c.in-Some.c ∷ x) rest))
 
 pub returns-in-Some-next : goal.returns-in-Some-next
@@ -23,5 +24,6 @@ returns-in-Some-next c =
     let rest = c.next.new.self.rest.now in
     let first = sym c.chars-chars.ensures.rest ∙ c.in-Some.ensures.steps.0 in
     let one = chars_past_char c.args.text.now rest c.in-Some.c c.utf8.text first in
-    let two = chars_past_char rest c.next-2.new.self.rest.now c.in-Some-next.field-0 (IsUtf8-past_char c.args.text.now rest c.in-Some.c c.utf8.text first) c.in-Some-next.ensures.steps.0 in
+    let two = chars_past_char rest c.next-2.new.self.rest.now c.in-Some-next.field-0 (IsUtf8-past_char c.args.text.now rest c.in-Some.c c.utf8.text
+    first) c.in-Some-next.ensures.steps.0 in
     ap sole_of (sym (one ∙ ap (λ x. c.in-Some.c ∷ x) two))

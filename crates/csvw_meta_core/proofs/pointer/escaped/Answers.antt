@@ -7,5 +7,7 @@ use Rattle.csvw_meta_core.proofs.pointer.escaped.Goals as goal
 
 pub returns : goal.returns
 returns c =
-    let end = YieldsList-end (YieldsList-from_chars c.args.name.now c.utf8.name cc) c.loop-c.yielded _ c.loop-c.yielded_by _ _ c.in-None.is c.next.ensures.steps in
-    c.loop-c.invariant ∙ ap (flat_map escape_char) (sym (map-id c.loop-c.yielded) ∙ end.0) ∙ sym (flat_map-encodes _) ∙ ap (flat_map escape_byte) (encodes-chars _ c.utf8.name)
+    let end = YieldsList-end (YieldsList-from_chars c.args.name.now c.utf8.name cc)
+    c.loop-c.yielded _ c.loop-c.yielded_by _ _ c.in-None.is c.next.ensures.steps in
+    c.loop-c.invariant ∙ ap (flat_map escape_char) (sym (map-id c.loop-c.yielded) ∙ end.0) ∙ sym (flat_map-encodes _) ∙ ap (flat_map escape_byte)
+    (encodes-chars _ c.utf8.name)

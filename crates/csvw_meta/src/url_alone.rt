@@ -1,0 +1,68 @@
+//! The description of one table by its URL alone.
+ghost use Rattle.std.specs.Prelude.{◌≡◌, ◌≢◌, IfOk, IfErr, Contains};
+ghost use Rattle.serde_json.specs.View.{view};
+ghost use Rattle.csvw_meta_core.specs.Pointer.{text_of};
+ghost use Rattle.csvw_meta_core.specs.Read.{fine};
+ghost use Rattle.csvw_meta_core.specs.Reads.{Reads};
+ghost use Rattle.csvw_meta.specs.UrlAlone.{own_base, plain_document, plain_description};
+
+use crate::document::described;
+use csvw_description::Description;
+use csvw_iri::{Base, IriFault};
+use csvw_meta_core::{MetaCode, MetaFault, Part, Pointer, Refusal};
+use csvw_text::Text;
+use serde_json::{Value, json};
+use std::alloc::{AllocError, Global};
+
+/// The document that has the context and that URL alone.
+fn plain_document(alloc: Global, url: &str) -> Result<Value, AllocError>
+    ensures { IfOk result (λ v. view v ≡ plain_document url.now) }
+{
+    json!(in alloc; {"@context": "http://www.w3.org/ns/csvw", "url": url})
+}
+
+fn own_base(part: &Part, url: &str) -> Result<Base, Refusal>
+    ensures { Reads result (own_base (text_of part.now.at) url.now) }
+{
+    match Base::new(part.alloc, url) {
+        Ok(base) => Ok(base),
+        Err(IriFault::Memory) => Err(Refusal::Memory),
+        Err(IriFault::UrlTooLong) => Err(
+            part.member("url", part.value).refused(MetaCode::UrlTooLong),
+        ),
+        Err(IriFault::BadUrl) => Err(part.member("url", part.value).refused(MetaCode::BadUrl)),
+    }
+}
+
+#[tactic(auto, using(crate::proofs::ReadLemmas::fails_over))]
+fn plain_description(alloc: Global, url: &str) -> Result<Description, Refusal>
+    ensures { Reads result (plain_description url.now) }
+{
+    let document = plain_document(alloc, url)?;
+    let part = Part {
+        alloc,
+        at: Pointer::Root,
+        value: &document,
+    };
+    let base = own_base(&part, url)?;
+    described(&part, &base)
+}
+
+/// The group of the one table of that URL, with no schema and the default dialect: the description of
+/// a document that has the context and that `url` alone, at that URL. `BadUrl` or `UrlTooLong` at
+/// `/url` where it is none; the code `Memory` where there is none for the group.
+pub fn plain(alloc: Global, url: &str) -> Result<Description, MetaFault>
+    // What is read stands in a document without faults.
+    ensures found { IfOk result (λ d. plain_description url.now ≡ fine d) }
+    // What is refused has that fault.
+    ensures fault { IfErr result (λ e. e.code ≢ MetaCode.Memory → Contains (plain_description url.now).faults e) }
+{
+    match plain_description(alloc, url) {
+        Ok(description) => Ok(description),
+        Err(Refusal::Fault(fault)) => Err(fault),
+        Err(Refusal::Memory) => Err(MetaFault {
+            code: MetaCode::Memory,
+            pointer: Text::new(alloc),
+        }),
+    }
+}
