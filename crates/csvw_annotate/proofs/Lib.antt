@@ -1,1 +1,1 @@
-pub mod CellLemmas
+pub mod CellsLemmas

@@ -1,22 +1,52 @@
--- Annotated rows (Model for Tabular Data, sections 4.4 and 4.5).
-use Rattle.std.specs.Prelude.{ℕ, ◌==◌, List, length, map, if◌then◌else◌, Option, Some, None, Result, Ok, Err}
+-- Annotated rows (Model for Tabular Data, sections 4.4, 4.5 and 6.4.2).
+use Rattle.std.specs.Prelude.{◌≡◌, ◌≢◌, ℕ, List, [], ◌∷◌, length, None, Result, Ok, Err}
 use Rattle.csvw_rows.specs.RowValue.{Given}
-use Rattle.csvw_columns.specs.declared.column.Columns.{Columns}
-use Rattle.csvw_columns.specs.declared.table_stop.TableStop.{TableStop}
-use Rattle.csvw_columns.specs.declared.table_stop.TableStop.TheVariants.{RaggedRow}
+use Rattle.csvw_datatype.specs.Sound.{IsSound}
+use Rattle.csvw_columns_core.specs.Columns.{field_count}
+use Rattle.csvw_columns_core.specs.declared.column.Column.{Column}
+use Rattle.csvw_columns_core.specs.declared.columns.Columns.{Columns}
+use Rattle.csvw_cell.specs.CellOf.{CellOf}
+use Rattle.csvw_cell.specs.declared.cell.CellValue.TheVariants.{Null}
 use Rattle.csvw_annotate.specs.declared.row.AnnCell.{AnnCell}
 use Rattle.csvw_annotate.specs.declared.row.Row.{Row}
+use Rattle.csvw_annotate.specs.declared.row_stop.RowStop.{RowStop}
+use Rattle.csvw_annotate.specs.declared.row_stop.RowStop.TheVariants.{Memory, RaggedRow}
 
--- the value of a cell of strings is its text; the empty text is null
-abbrev pub value_of : List ℕ → Option (List ℕ)
-value_of text = if length text == 0 then None else Some text
+abbrev pub null_cell : AnnCell
+null_cell = record { value = Null; about = None; property = None; link = None; faults = [] }
 
-abbrev pub cell_of : List ℕ → AnnCell
-cell_of text = record { value = value_of text }
+-- the cell of a text in a column, without links
+pub record IsCell (column : Column) (text : List ℕ) (cell : AnnCell) : Type 0 where
+  pub says : CellOf column text (record { value = cell.value; faults = cell.faults })
+  pub about : cell.about ≡ None
+  pub property : cell.property ≡ None
+  pub link : cell.link ≡ None
 
--- the row, where it has one field for each column
-abbrev pub annotated : Columns → Given → Result Row TableStop
-annotated columns raw =
-    if length raw.fields == length columns.columns
-    then Ok (record { number = raw.number; source = raw.source; cells = map cell_of raw.fields })
-    else Err RaggedRow
+-- the cells of the columns, each of the next field, or where no field is left of the empty text, as in virtual columns
+abbrev pub AreCells : List Column → List (List ℕ) → List AnnCell → Type 0
+AreCells [] fields cells = cells ≡ []
+AreCells (column ∷ columns) fields [] = ⊥
+AreCells (column ∷ columns) [] (cell ∷ cells) = IsCell column [] cell × AreCells columns [] cells
+AreCells (column ∷ columns) (field ∷ fields) (cell ∷ cells) = IsCell column field cell × AreCells columns fields cells
+
+-- the row has one field for each column that isn't virtual
+abbrev pub Fits : Columns → Given → Type 0
+Fits columns raw = length raw.fields ≡ field_count columns.columns
+
+-- the annotated row of a row of the source
+pub record IsRow (columns : Columns) (raw : Given) (row : Row) : Type 0 where
+  pub fits : Fits columns raw
+  pub number : row.number ≡ raw.number
+  pub source : row.source ≡ raw.source
+  pub cells : AreCells columns.columns raw.fields row.cells
+
+-- the answer is the annotated row, or a refusal where the row doesn't fit; of want of memory nothing is said
+abbrev pub Annotates : Columns → Given → Result Row RowStop → Type 0
+Annotates columns raw (Ok row) = IsRow columns raw row
+Annotates columns raw (Err RaggedRow) = Fits columns raw → ⊥
+Annotates columns raw (Err Memory) = Unit {0}
+
+-- the datatype of each column has passed its check
+abbrev pub AreSound : List Column → Type 0
+AreSound [] = Unit {0}
+AreSound (column ∷ columns) = IsSound column.properties.datatype × AreSound columns

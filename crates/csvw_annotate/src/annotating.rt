@@ -1,61 +1,89 @@
 //! What a row says.
-ghost use Rattle.std.specs.Prelude.{◌≡◌, IfOk, OnOk, length, map};
+ghost use Rattle.std.specs.Prelude.{◌≡◌, ◌<◌, ◌≤◌, [], IfOk, OnOk, length};
 ghost use Rattle.csvw_rows.specs.RowValue.{row_of};
-ghost use Rattle.csvw_columns.specs.Outcome.{Answers};
-ghost use Rattle.csvw_annotate.specs.Annotated.{cell_of, annotated};
+ghost use Rattle.csvw_datatype.specs.Sound.{IsSound};
+ghost use Rattle.csvw_annotate.specs.Annotated.{IsCell, AreCells, Annotates, AreSound};
+ghost use Rattle.csvw_annotate.specs.FieldAt.{field_at};
 
 use crate::row::{AnnCell, Row};
-use csvw_columns::{Columns, TableStop};
+use crate::row_stop::RowStop;
+use csvw_cell::{Cell, parse_into};
+use csvw_columns_core::{Column, Columns};
 use csvw_rows::RawRow;
-use csvw_text::{Seq, Text};
+use csvw_text::Seq;
 use std::alloc::{AllocError, Global};
+use std::mem;
 
-/// Makes it the cell of a text, in its memory: null where the text is empty (Model for Tabular Data,
-/// section 6.4.2).
-fn fill_cell(alloc: Global, cell: &mut AnnCell, text: &str) -> Result<(), AllocError>
-    ensures { OnOk result (cell.new ≡ cell_of text.now) }
+/// Makes it the cell of a text, in its memory.
+fn fill_cell(
+    alloc: Global,
+    column: &Column,
+    text: &str,
+    cell: &mut AnnCell,
+) -> Result<(), AllocError>
+    requires { IsSound column.now.properties.datatype }
+    ensures { OnOk result (IsCell column.now text.now cell.new) }
 {
-    if text.is_empty() {
-        cell.value = None;
-        return Ok(());
-    }
-    match &mut cell.value {
-        Some(value) => value.refill(text),
-        None => {
-            cell.value = Some(Text::copied(alloc, text)?);
-            Ok(())
-        }
-    }
+    let AnnCell {
+        value,
+        faults,
+        about: _,
+        property: _,
+        link: _,
+    } = mem::replace(cell, AnnCell::new(alloc));
+    let Cell { value, faults } = parse_into(alloc, column, text, Cell { value, faults })?;
+    cell.value = value;
+    cell.faults = faults;
+    Ok(())
+}
+
+/// The text of a field, from 0; the empty one where there is no such field.
+fn field_at<'a>(row: &RawRow<'a>, i: usize) -> &'a str
+    ensures { result.now ≡ field_at (row_of row.now).fields i }
+{
+    if i < row.len() { row.field(i) } else { "" }
 }
 
 /// So many cells: the first of these, and null cells behind them.
-fn resized(mut cells: Vec<AnnCell>, count: usize) -> Result<Vec<AnnCell>, AllocError>
+fn resized(mut cells: Vec<AnnCell>, alloc: Global, count: usize) -> Result<Vec<AnnCell>, AllocError>
     ensures { IfOk result (λ v. length v.items ≡ count) }
 {
     cells.truncate(count);
     while cells.len() < count {
-        cells.push(AnnCell { value: None })?;
+        cells.push(AnnCell::new(alloc))?;
     }
     Ok(cells)
 }
 
-/// Makes them the cells of the row's fields.
-fn fill_cells(alloc: Global, row: &RawRow, cells: &mut [AnnCell]) -> Result<(), AllocError>
-    requires { length cells.old ≡ length (row_of row.now).fields }
-    ensures { OnOk result (cells.new ≡ map cell_of (row_of row.now).fields) }
+/// Makes them the cells of the columns.
+fn fill_cells(
+    alloc: Global,
+    columns: &[Column],
+    row: &RawRow,
+    cells: &mut [AnnCell],
+) -> Result<(), AllocError>
+    requires sound { AreSound columns.now }
+    requires places { length cells.old ≡ length columns.now }
+    ensures { OnOk result (AreCells columns.now (row_of row.now).fields cells.new) }
 {
-    for i in 0..row.len() {
-        fill_cell(alloc, &mut cells[i], row.field(i))?;
+    for i in 0..columns.len() {
+        fill_cell(alloc, &columns[i], field_at(row, i), &mut cells[i])?;
     }
     Ok(())
 }
 
-/// The cells of the row's fields, in the memory of others.
-fn refilled(alloc: Global, row: &RawRow, cells: Vec<AnnCell>) -> Result<Vec<AnnCell>, AllocError>
-    ensures { IfOk result (λ v. v.items ≡ map cell_of (row_of row.now).fields) }
+/// The cells of a row, in the memory of others.
+fn refilled(
+    alloc: Global,
+    columns: &[Column],
+    row: &RawRow,
+    cells: Vec<AnnCell>,
+) -> Result<Vec<AnnCell>, AllocError>
+    requires { AreSound columns.now }
+    ensures { IfOk result (λ v. AreCells columns.now (row_of row.now).fields v.items) }
 {
-    let mut cells = resized(cells, row.len())?;
-    fill_cells(alloc, row, cells.as_mut_slice())?;
+    let mut cells = resized(cells, alloc, columns.len())?;
+    fill_cells(alloc, columns, row, cells.as_mut_slice())?;
     Ok(cells)
 }
 
@@ -65,13 +93,19 @@ pub fn annotate_into(
     columns: &Columns,
     row: &RawRow,
     spare: Row,
-) -> Result<Row, TableStop>
-    ensures { Answers result (annotated columns.now (row_of row.now)) }
+) -> Result<Row, RowStop>
+    requires { AreSound columns.now.columns }
+    ensures { Annotates columns.now (row_of row.now) result }
 {
-    if row.len() != columns.len() {
-        return Err(TableStop::RaggedRow);
+    if row.len() != columns.field_count() {
+        return Err(RowStop::RaggedRow);
     }
-    let cells = refilled(alloc, row, spare.cells.into_vec())?;
+    let cells = refilled(
+        alloc,
+        columns.columns.as_slice(),
+        row,
+        spare.cells.into_vec(),
+    )?;
     Ok(Row {
         number: row.number(),
         source: row.source(),
@@ -79,11 +113,12 @@ pub fn annotate_into(
     })
 }
 
-/// The annotated row of a data row of a table with these columns (Model for Tabular Data, section 4.4).
-/// `RaggedRow` exactly where it hasn't one field for each column; `Memory` where there is none. It
-/// answers no other stop.
-pub fn annotate(alloc: Global, columns: &Columns, row: &RawRow) -> Result<Row, TableStop>
-    ensures { Answers result (annotated columns.now (row_of row.now)) }
+/// The annotated row of a data row of a table with these columns, whose datatypes have passed `Datatype::check` (Model for
+/// Tabular Data, sections 4.4 and 6.4.2). `RaggedRow` exactly where it hasn't one field for each column that isn't virtual;
+/// `Memory` where there is none.
+pub fn annotate(alloc: Global, columns: &Columns, row: &RawRow) -> Result<Row, RowStop>
+    requires { AreSound columns.now.columns }
+    ensures { Annotates columns.now (row_of row.now) result }
 {
     annotate_into(alloc, columns, row, Row::new(alloc))
 }

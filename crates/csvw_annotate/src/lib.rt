@@ -3,6 +3,8 @@
 
 mod annotating;
 mod row;
+mod row_stop;
 
 pub use annotating::{annotate, annotate_into};
 pub use row::{AnnCell, Row};
+pub use row_stop::RowStop;

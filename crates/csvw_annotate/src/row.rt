@@ -1,14 +1,25 @@
 //! Annotated rows.
 ghost use Rattle.std.specs.Prelude.{◌≡◌, []};
+ghost use Rattle.csvw_annotate.specs.Annotated.{null_cell};
 
-use csvw_text::{Seq, Text};
+use csvw_cell::CellValue;
+use csvw_iri::Iri;
+use csvw_text::{Code, Seq};
 use std::alloc::Global;
 
 /// A cell of a row (Model for Tabular Data, section 4.5).
 #[derive(Debug, Drop)]
 pub struct AnnCell {
-    /// Its value, a string; `None` where it is null.
-    pub value: Option<Text>,
+    /// Its value.
+    pub value: CellValue,
+    /// Its about link, the subject of its triples.
+    pub about: Option<Iri>,
+    /// Its property link, their predicate.
+    pub property: Option<Iri>,
+    /// Its value link, their object.
+    pub link: Option<Iri>,
+    /// What is wrong with it, each code once, in the order of the codes.
+    pub faults: Seq<Code>,
 }
 
 /// A row (Model for Tabular Data, section 4.4).
@@ -20,6 +31,21 @@ pub struct Row {
     pub source: u64,
     /// Its cells, one for each column.
     pub cells: Seq<AnnCell>,
+}
+
+impl AnnCell {
+    /// A null cell without links and faults. It takes no memory.
+    pub fn new(alloc: Global) -> AnnCell
+        ensures { result ≡ null_cell }
+    {
+        AnnCell {
+            value: CellValue::Null,
+            about: None,
+            property: None,
+            link: None,
+            faults: Seq::new(alloc),
+        }
+    }
 }
 
 impl Row {

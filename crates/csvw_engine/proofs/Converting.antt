@@ -14,14 +14,14 @@ use Rattle.csvw_rows.specs.Files.{Front, IsWhole}
 use Rattle.csvw_dialect.specs.Lawful.{IsDefault}
 use Rattle.csvw_rows.specs.RowValue.{Given}
 use Rattle.csvw_rows.specs.Laws.{AreFirst, GivenFirst, GivenFirstLater, NothingGiven}
-use Rattle.csvw_columns.specs.declared.column.Columns.{Columns}
-use Rattle.csvw_annotate.specs.Tables.{IsTable, IsAnnotated}
-use Rattle.csvw_annotate.specs.declared.row.Row.{Row}
-use Rattle.csvw_triples.specs.declared.mode.Mode.TheVariants as mode
-use Rattle.csvw_triples.specs.declared.term.Triple.{Triple}
-use Rattle.csvw_triples.specs.Graph.{Minimal}
-use Rattle.csvw_triples.specs.RowTriples.{row_triples}
-use Rattle.csvw_triples.specs.Taking.{IsAsReady}
+use Rattle.csvw_plain_columns.specs.declared.column.Columns.{Columns}
+use Rattle.csvw_plain_annotate.specs.Tables.{IsTable, IsAnnotated}
+use Rattle.csvw_plain_annotate.specs.declared.row.Row.{Row}
+use Rattle.csvw_triples_core.specs.declared.mode.Mode.TheVariants as mode
+use Rattle.csvw_triples_core.specs.declared.term.Triple.{Triple}
+use Rattle.csvw_plain_triples.specs.Graph.{Minimal}
+use Rattle.csvw_plain_triples.specs.RowTriples.{row_triples}
+use Rattle.csvw_triples_core.specs.Taking.{IsAsReady}
 use Rattle.csvw_ntriples.specs.declared.nt_sink.NtSink.{NtSink}
 use Rattle.csvw_ntriples.specs.declared.term.NtTriple.{NtTriple}
 use Rattle.csvw_ntriples.specs.Grammar.{Denotes}

@@ -1,14 +1,14 @@
 -- How the sink of a table goes on, row by row.
 use Rattle.std.proofs.Common.{◌≡◌, ◌+◌, ℕ, List, [], ◌∷◌, ◌++◌, refl, sym, ap, ◌∙◌, subst, false, Bool, append_assoc, append-nil, inl, inr, ◌⊎◌, Some, None, Result, Err}
 use Rattle.csvw_dialect.specs.declared.dialect.Dialect.{Dialect}
-use Rattle.csvw_annotate.specs.declared.row.Row.{Row}
-use Rattle.csvw_triples.specs.Taking.{FrontOf, IsAsReady}
-use Rattle.csvw_triples.specs.declared.term.Triple.{Triple}
+use Rattle.csvw_plain_annotate.specs.declared.row.Row.{Row}
+use Rattle.csvw_triples_core.specs.Taking.{FrontOf, IsAsReady}
+use Rattle.csvw_triples_core.specs.declared.term.Triple.{Triple}
 use Rattle.csvw_rows.specs.RowValue.{Given}
 use Rattle.csvw_rows.specs.RowsState.{Holds, stop_of}
 use Rattle.csvw_rows.specs.declared.stop.RowStop.{RowStop}
 use Rattle.csvw_rows.specs.declared.stop.RowStop.TheVariants as row_stop
-use Rattle.csvw_annotate.specs.Tables.{IsTable}
+use Rattle.csvw_plain_annotate.specs.Tables.{IsTable}
 use Rattle.csvw_engine.specs.Halts.{of_row_stop}
 use Rattle.csvw_engine.specs.Tables.{max_rows, TableHolds, BeginsWith, HaltsSo, Goes, IsDrained, IsSameTable, Stands, Finishes, TookPart, StopsSo, Drains, GivesRow, table_triples}
 use Rattle.csvw_engine.specs.declared.halt.Halt.{Halt}

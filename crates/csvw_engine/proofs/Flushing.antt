@@ -5,8 +5,8 @@ use Rattle.url.specs.Parts.{Parts}
 use Rattle.csvw_text.specs.Count.{one_more}
 use Rattle.csvw_iri.specs.Link.{base_of}
 use Rattle.csvw_dialect.specs.declared.dialect.Dialect.{Dialect}
-use Rattle.csvw_columns.specs.declared.column.Columns.{Columns}
-use Rattle.csvw_annotate.specs.declared.row.Row.{Row}
+use Rattle.csvw_plain_columns.specs.declared.column.Columns.{Columns}
+use Rattle.csvw_plain_annotate.specs.declared.row.Row.{Row}
 use Rattle.csvw_engine.specs.Plain.{Run, Rose, HasRead, WroteGraph, WroteTable, Converts, StopsBehind, StopsWithin, IsStoppedAt, IsRefusedAt, IsCutShort, HaltsSo, Halts, IsCutOff, FlushFails, WriterFails, Runs, IsFlushed, PlainStops}
 use Rattle.csvw_engine.specs.declared.outcome.Outcome.{Outcome}
 use Rattle.csvw_engine.specs.declared.stop.Stop.{Stop}

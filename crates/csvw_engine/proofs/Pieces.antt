@@ -2,7 +2,7 @@
 use Rattle.std.proofs.Common.{◌≡◌, ℕ, List, sym, ap, ◌∙◌, subst, true, Bool, Option, Result, Ok, Err}
 use Rattle.std.specs.Io.KnownBytes.{Consumes, IsAtEnd}
 use Rattle.csvw_dialect.specs.declared.dialect.Dialect.{Dialect}
-use Rattle.csvw_triples.specs.declared.term.Triple.{Triple}
+use Rattle.csvw_triples_core.specs.declared.term.Triple.{Triple}
 use Rattle.csvw_engine.specs.Tables.{StopsSo, Drains, Reads}
 use Rattle.csvw_engine.specs.declared.halt.Halt.{Halt}
 use Rattle.csvw_engine.specs.declared.halt.Halt.TheVariants as halt

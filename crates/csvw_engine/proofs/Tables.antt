@@ -10,14 +10,14 @@ use Rattle.csvw_rows.specs.Stops.{StopOf}
 use Rattle.csvw_rows.specs.declared.rows.Rows.{Rows}
 use Rattle.csvw_rows.specs.declared.stop.RowStop.{RowStop}
 use Rattle.csvw_rows.specs.declared.stop.RowStop.TheVariants as row_stop
-use Rattle.csvw_columns.specs.declared.table_stop.TableStop.{TableStop}
-use Rattle.csvw_columns.specs.Columns.{header_gives}
-use Rattle.csvw_columns.specs.declared.column.Columns.{Columns}
-use Rattle.csvw_annotate.specs.Annotated.{annotated}
-use Rattle.csvw_annotate.specs.Tables.{AreAnnotated, IsTable, Refuses}
-use Rattle.csvw_annotate.specs.declared.row.Row.{Row}
-use Rattle.csvw_triples.specs.RowTriples.{row_triples}
-use Rattle.csvw_triples.specs.declared.mode.Mode.TheVariants as mode
+use Rattle.csvw_plain_columns.specs.declared.table_stop.TableStop.{TableStop}
+use Rattle.csvw_plain_columns.specs.Columns.{header_gives}
+use Rattle.csvw_plain_columns.specs.declared.column.Columns.{Columns}
+use Rattle.csvw_plain_annotate.specs.Annotated.{annotated}
+use Rattle.csvw_plain_annotate.specs.Tables.{AreAnnotated, IsTable, Refuses}
+use Rattle.csvw_plain_annotate.specs.declared.row.Row.{Row}
+use Rattle.csvw_plain_triples.specs.RowTriples.{row_triples}
+use Rattle.csvw_triples_core.specs.declared.mode.Mode.TheVariants as mode
 use Rattle.csvw_engine.specs.Tables.{max_rows, TableHolds, HasAll, IsRefused, HaltsSo, IsSameTable, Steps, table_triples}
 use Rattle.csvw_engine.specs.Halts.{HaltsAt, of_row_stop}
 use Rattle.csvw_engine.specs.declared.halt.Halt.{Halt}

@@ -12,12 +12,12 @@ use Rattle.csvw_rows.specs.Laws.{AreFirst}
 use Rattle.csvw_dialect.specs.Lawful.{IsDefault}
 use Rattle.csvw_rows.specs.RowValue.{Given}
 use Rattle.csvw_rows.specs.Stops.{StopOf}
-use Rattle.csvw_columns.specs.declared.column.Columns.{Columns}
-use Rattle.csvw_columns.specs.declared.table_stop.TableStop.{TableStop}
-use Rattle.csvw_annotate.specs.Tables.{IsAnnotated, IsTable, Refuses}
-use Rattle.csvw_annotate.specs.declared.row.Row.{Row}
-use Rattle.csvw_triples.specs.declared.term.Triple.{Triple}
-use Rattle.csvw_triples.specs.Graph.{Minimal}
+use Rattle.csvw_plain_columns.specs.declared.column.Columns.{Columns}
+use Rattle.csvw_plain_columns.specs.declared.table_stop.TableStop.{TableStop}
+use Rattle.csvw_plain_annotate.specs.Tables.{IsAnnotated, IsTable, Refuses}
+use Rattle.csvw_plain_annotate.specs.declared.row.Row.{Row}
+use Rattle.csvw_triples_core.specs.declared.term.Triple.{Triple}
+use Rattle.csvw_plain_triples.specs.Graph.{Minimal}
 use Rattle.csvw_ntriples.specs.declared.term.NtTriple.{NtTriple}
 use Rattle.csvw_ntriples.specs.Grammar.{Denotes}
 use Rattle.csvw_ntriples.specs.SameUpTo.{SameUpTo}

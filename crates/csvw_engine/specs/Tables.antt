@@ -10,14 +10,14 @@ use Rattle.csvw_rows.specs.Files.{IsWhole}
 use Rattle.csvw_rows.specs.RowValue.{Given}
 use Rattle.csvw_rows.specs.RowsState.{is_ended_of, unread, Holds, HasGiven, NoStop}
 use Rattle.csvw_rows.specs.Stops.{StopOf}
-use Rattle.csvw_columns.specs.declared.column.Columns.{Columns}
-use Rattle.csvw_columns.specs.declared.table_stop.TableStop.{TableStop}
-use Rattle.csvw_annotate.specs.Tables.{IsTable, Refuses}
-use Rattle.csvw_annotate.specs.declared.row.Row.{Row}
-use Rattle.csvw_triples.specs.RowTriples.{row_triples}
-use Rattle.csvw_triples.specs.Taking.{FrontOf, IsAsReady}
-use Rattle.csvw_triples.specs.declared.mode.Mode.TheVariants as mode
-use Rattle.csvw_triples.specs.declared.term.Triple.{Triple}
+use Rattle.csvw_plain_columns.specs.declared.column.Columns.{Columns}
+use Rattle.csvw_plain_columns.specs.declared.table_stop.TableStop.{TableStop}
+use Rattle.csvw_plain_annotate.specs.Tables.{IsTable, Refuses}
+use Rattle.csvw_plain_annotate.specs.declared.row.Row.{Row}
+use Rattle.csvw_plain_triples.specs.RowTriples.{row_triples}
+use Rattle.csvw_triples_core.specs.Taking.{FrontOf, IsAsReady}
+use Rattle.csvw_triples_core.specs.declared.mode.Mode.TheVariants as mode
+use Rattle.csvw_triples_core.specs.declared.term.Triple.{Triple}
 use Rattle.csvw_engine.specs.declared.halt.Halt.{Halt}
 use Rattle.csvw_engine.specs.declared.halt.Halt.TheVariants as halt
 use Rattle.csvw_engine.specs.declared.table.Table.{Table}

@@ -9,7 +9,7 @@ mod running;
 mod stop;
 mod table;
 
-pub use csvw_columns::TableStop;
+pub use csvw_plain_columns::TableStop;
 pub use meta_fault::{MetaCode, MetaFault};
 pub use outcome::Outcome;
 pub use running::plain;

@@ -8,7 +8,7 @@ ghost use Rattle.csvw_engine.specs.Tables.{IsSameTable, Stands, Reads};
 use crate::halt::Halt;
 use crate::table::{Table, end_table, feed_table};
 use csvw_text::Counted;
-use csvw_triples::TripleSink;
+use csvw_triples_core::TripleSink;
 use std::alloc::{AllocError, Global};
 use std::io::Read;
 

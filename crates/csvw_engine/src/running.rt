@@ -19,9 +19,9 @@ use crate::stop::Stop;
 use crate::table::Table;
 use csvw_iri::{Base, IriFault};
 use csvw_ntriples::{NtSink, labels_name_one_to_one, written_denotes};
+use csvw_plain_triples::rows_triples_are_minimal;
 use csvw_rows::laws::{given_first, given_first_later, nothing_given};
 use csvw_text::{Counted, Seq, Text};
-use csvw_triples::rows_triples_are_minimal;
 use std::alloc::Global;
 use std::io::{Read, Write};
 

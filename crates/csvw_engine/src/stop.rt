@@ -1,7 +1,7 @@
 //! Why a run or a session stops.
 
 use crate::meta_fault::MetaFault;
-use csvw_columns::TableStop;
+use csvw_plain_columns::TableStop;
 use csvw_rows::RowStop;
 
 /// Why a run or a session stops.

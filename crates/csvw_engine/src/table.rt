@@ -4,19 +4,20 @@ ghost use Rattle.csvw_dialect.specs.declared.dialect.Dialect.{Dialect as TheDial
 ghost use Rattle.csvw_iri.specs.Link.{iri_of};
 ghost use Rattle.csvw_dialect.specs.Lawful.{IsDefault};
 ghost use Rattle.csvw_rows.specs.RowValue.{row_of};
-ghost use Rattle.csvw_columns.specs.Columns.{header_gives};
-ghost use Rattle.csvw_annotate.specs.Annotated.{annotated};
+ghost use Rattle.csvw_plain_columns.specs.Columns.{header_gives};
+ghost use Rattle.csvw_plain_annotate.specs.Annotated.{annotated};
 ghost use Rattle.csvw_engine.specs.Halts.{HaltsAt};
 ghost use Rattle.csvw_rows.specs.RowsState.{is_ended_of};
 ghost use Rattle.csvw_engine.specs.Tables.{TableHolds, Steps, RowFits, IsSameTable, table_triples, GivesRow, Stands, Drains};
 
 use crate::halt::Halt;
-use csvw_annotate::{Row, annotate_into};
-use csvw_columns::{Columns, HeaderRow, match_header};
 use csvw_iri::Base;
+use csvw_plain_annotate::{Row, annotate_into};
+use csvw_plain_columns::{Columns, HeaderRow, match_header};
+use csvw_plain_triples::Emitter;
 use csvw_rows::{Dialect, RawRow, RowStop, Rows};
 use csvw_text::{Seq, Text};
-use csvw_triples::{Emitter, Mode, TripleSink};
+use csvw_triples_core::{Mode, TripleSink};
 use std::alloc::{AllocError, Global};
 
 /// How many rows of all kinds a table has at most.

@@ -3,7 +3,7 @@ use Rattle.std.proofs.Common.{◌≡◌, ◌<◌, ℕ, List, [], ◌∷◌, Bool
 use Rattle.std.specs.Io.KnownBytes.{Appends}
 use Rattle.csvw_ntriples.specs.Sending.{Sends}
 use Rattle.csvw_ntriples.specs.Written.{written, line_text}
-use Rattle.csvw_triples.specs.declared.term.Triple.{Triple}
+use Rattle.csvw_triples_core.specs.declared.term.Triple.{Triple}
 
 pub cut_sends : (a b : Option (List ℕ)) (o : Bool) (t : Triple) (n : ℕ) (line : List ℕ) → o ≡ true → line ≡ line_text t → n < length line → Appends a b (take n line) → Sends a o (t ∷ []) b false
 cut_sends a b true t n line o e h p =

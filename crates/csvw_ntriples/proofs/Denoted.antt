@@ -10,14 +10,14 @@ use Rattle.std.proofs.lemmas.Bool.Decides.{nat_tests, Decides-eqb}
 use Rattle.std.proofs.lemmas.List.Folds.{list_all-append}
 use Rattle.csvw_text.specs.Language.{is_letter_or_digit_char}
 use Rattle.csvw_iri.specs.Safe.{is_iri}
-use Rattle.csvw_triples.specs.Vocabulary.{xsd_string, lang_string}
-use Rattle.csvw_triples.specs.declared.origin.Origin.{Origin}
-use Rattle.csvw_triples.specs.declared.term.Node.{Node}
-use Rattle.csvw_triples.specs.declared.term.Node.TheVariants as node
-use Rattle.csvw_triples.specs.declared.term.Lit.{Lit}
-use Rattle.csvw_triples.specs.declared.term.Term.{Term}
-use Rattle.csvw_triples.specs.declared.term.Term.TheVariants as term
-use Rattle.csvw_triples.specs.declared.term.Triple.{Triple}
+use Rattle.csvw_triples_core.specs.Vocabulary.{xsd_string, lang_string}
+use Rattle.csvw_triples_core.specs.declared.origin.Origin.{Origin}
+use Rattle.csvw_triples_core.specs.declared.term.Node.{Node}
+use Rattle.csvw_triples_core.specs.declared.term.Node.TheVariants as node
+use Rattle.csvw_triples_core.specs.declared.term.Lit.{Lit}
+use Rattle.csvw_triples_core.specs.declared.term.Term.{Term}
+use Rattle.csvw_triples_core.specs.declared.term.Term.TheVariants as term
+use Rattle.csvw_triples_core.specs.declared.term.Triple.{Triple}
 use Rattle.csvw_ntriples.specs.Character.{is_blank, is_break, is_raw_in_iri}
 use Rattle.csvw_ntriples.specs.Terminal.{InBytes, IsString, IsIriref, IsLangtag, IsBlankNode}
 use Rattle.csvw_ntriples.specs.Grammar.{Takes, TakesIri, TakesBlank, TakesNode, TakesSuffix, TakesTerm, IsTripleLine, AreLines, Denotes, DenotesText}

@@ -9,8 +9,8 @@ use Rattle.std.specs.Fmt.{decimal, digits, digits_onto, digit_glyph}
 use Rattle.csvw_text.specs.Class.{is_digit_char}
 use Rattle.csvw_ntriples.specs.Written.{label}
 use Rattle.csvw_ntriples.specs.LabelLaw.{IsOrigin}
-use Rattle.csvw_triples.specs.declared.origin.Origin.{Origin}
-use Rattle.csvw_triples.specs.declared.origin.Origin.TheVariants.{Group, Table, Row, Subject, Entry, Note}
+use Rattle.csvw_triples_core.specs.declared.origin.Origin.{Origin}
+use Rattle.csvw_triples_core.specs.declared.origin.Origin.TheVariants.{Group, Table, Row, Subject, Entry, Note}
 
 glyph_is_digit : (d : ℕ) → d < 10 → is_digit_char (digit_glyph false d) ≡ true
 glyph_is_digit d h = grind (arith, nat_tests)

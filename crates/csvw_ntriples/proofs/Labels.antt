@@ -8,8 +8,8 @@ use Rattle.std.specs.List.{list_all}
 use Rattle.std.specs.Fmt.{decimal, digits, digits_onto, digit_glyph}
 use Rattle.csvw_text.specs.Language.{is_letter_or_digit_char}
 use Rattle.csvw_ntriples.specs.Written.{label}
-use Rattle.csvw_triples.specs.declared.origin.Origin.{Origin}
-use Rattle.csvw_triples.specs.declared.origin.Origin.TheVariants.{Group, Table, Row, Subject, Entry, Note}
+use Rattle.csvw_triples_core.specs.declared.origin.Origin.{Origin}
+use Rattle.csvw_triples_core.specs.declared.origin.Origin.TheVariants.{Group, Table, Row, Subject, Entry, Note}
 
 digit_plain : (d : ℕ) → d < 10 → is_letter_or_digit_char (digit_glyph false d) ≡ true
 digit_plain d h = grind (arith, nat_tests)

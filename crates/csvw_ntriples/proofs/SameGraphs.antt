@@ -2,8 +2,8 @@
 use Rattle.std.proofs.Common.{◌≡◌, List, [], ◌∷◌, sym, subst, arith, inl, inr, Contains, map}
 use Rattle.std.proofs.lemmas.List.Elements.{Contains-append_left, Contains-append_right, Contains-append_cases, Contains-push, Contains-push_cases, All-contains, All-from_recursion}
 use Rattle.std.specs.List.{AllByRecursion}
-use Rattle.csvw_triples.specs.declared.origin.Origin.{Origin}
-use Rattle.csvw_triples.specs.declared.term.Triple.{Triple}
+use Rattle.csvw_triples_core.specs.declared.origin.Origin.{Origin}
+use Rattle.csvw_triples_core.specs.declared.term.Triple.{Triple}
 use Rattle.csvw_ntriples.specs.LabelLaw.{IsOrigin}
 use Rattle.csvw_ntriples.specs.SameUpTo.{Occurs, SameUpTo}
 use Rattle.csvw_ntriples.specs.Writable.{NodeFits, TermFits, TripleFits}

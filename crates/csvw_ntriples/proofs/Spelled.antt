@@ -10,8 +10,8 @@ use Rattle.csvw_ntriples.specs.Character.{is_raw_in_string, is_raw_in_iri, is_la
 use Rattle.csvw_ntriples.specs.Terminal.{IsString, IsIriref, IsLangtag, IsBlankNode, IsLabel, IsLabelTail, StringPiece, IriPiece, Spells, InBytes}
 use Rattle.csvw_ntriples.specs.Grammar.{IsLongest, IsMark}
 use Rattle.csvw_ntriples.specs.Written.{escaped, iri_text, string_text, label}
-use Rattle.csvw_triples.specs.declared.origin.Origin.{Origin}
-use Rattle.csvw_triples.specs.declared.origin.Origin.TheVariants.{Group, Table, Row, Subject, Entry, Note}
+use Rattle.csvw_triples_core.specs.declared.origin.Origin.{Origin}
+use Rattle.csvw_triples_core.specs.declared.origin.Origin.TheVariants.{Group, Table, Row, Subject, Entry, Note}
 use Rattle.csvw_ntriples.proofs.Pieces.{body_once, string_piece_once, string_begins, iri_piece_once, iri_begins}
 use Rattle.csvw_ntriples.proofs.Labels.{label_plain}
 

@@ -1,9 +1,9 @@
 -- Graphs that are the same but for the names of their blank nodes (RDF 1.1 Concepts, section 3.6).
 use Rattle.std.specs.Prelude.{ℕ, ◌≡◌, List, ◌⊎◌, Contains}
-use Rattle.csvw_triples.specs.declared.origin.Origin.{Origin}
-use Rattle.csvw_triples.specs.declared.term.Node.TheVariants as node
-use Rattle.csvw_triples.specs.declared.term.Term.TheVariants as term
-use Rattle.csvw_triples.specs.declared.term.Triple.{Triple}
+use Rattle.csvw_triples_core.specs.declared.origin.Origin.{Origin}
+use Rattle.csvw_triples_core.specs.declared.term.Node.TheVariants as node
+use Rattle.csvw_triples_core.specs.declared.term.Term.TheVariants as term
+use Rattle.csvw_triples_core.specs.declared.term.Triple.{Triple}
 use Rattle.csvw_ntriples.specs.Written.{named}
 use Rattle.csvw_ntriples.specs.declared.term.NtTriple.{NtTriple}
 

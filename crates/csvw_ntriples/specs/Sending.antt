@@ -2,7 +2,7 @@
 use Rattle.std.specs.Prelude.{ℕ, ◌≡◌, ◌<◌, List, [], ◌∷◌, ◌++◌, Bool, true, false, Option, take, length}
 use Rattle.std.specs.Io.KnownBytes.{Appends, Keeps}
 use Rattle.csvw_ntriples.specs.Written.{written}
-use Rattle.csvw_triples.specs.declared.term.Triple.{Triple}
+use Rattle.csvw_triples_core.specs.declared.term.Triple.{Triple}
 
 -- From one state of the bytes (and of the sink, open or not) to another by these triples: whole lines, but where the sink was
 -- closed in between, a proper front of the last triple's line. A closed sink adds nothing.

@@ -7,7 +7,7 @@ use Rattle.std.specs.List.{AllByRecursion}
 use Rattle.csvw_ntriples.specs.Sending.{Sends}
 use Rattle.csvw_ntriples.specs.Written.{written, line_text}
 use Rattle.csvw_ntriples.specs.Writable.{TripleFits}
-use Rattle.csvw_triples.specs.declared.term.Triple.{Triple}
+use Rattle.csvw_triples_core.specs.declared.term.Triple.{Triple}
 
 pub all_fit : (xs ys : List Triple) → AllByRecursion TripleFits xs → AllByRecursion TripleFits ys → AllByRecursion TripleFits (xs ++ ys)
 all_fit [] ys h k = k

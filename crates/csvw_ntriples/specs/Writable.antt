@@ -2,12 +2,12 @@
 use Rattle.std.specs.Prelude.{ℕ, ◌≡◌, List, Option, Some, None, true, IsUtf8}
 use Rattle.csvw_text.specs.Language.{is_language_tag}
 use Rattle.csvw_iri.specs.Safe.{is_iri}
-use Rattle.csvw_triples.specs.declared.term.Node.{Node}
-use Rattle.csvw_triples.specs.declared.term.Node.TheVariants as node
-use Rattle.csvw_triples.specs.declared.term.Lit.{Lit}
-use Rattle.csvw_triples.specs.declared.term.Term.{Term}
-use Rattle.csvw_triples.specs.declared.term.Term.TheVariants as term
-use Rattle.csvw_triples.specs.declared.term.Triple.{Triple}
+use Rattle.csvw_triples_core.specs.declared.term.Node.{Node}
+use Rattle.csvw_triples_core.specs.declared.term.Node.TheVariants as node
+use Rattle.csvw_triples_core.specs.declared.term.Lit.{Lit}
+use Rattle.csvw_triples_core.specs.declared.term.Term.{Term}
+use Rattle.csvw_triples_core.specs.declared.term.Term.TheVariants as term
+use Rattle.csvw_triples_core.specs.declared.term.Triple.{Triple}
 use Rattle.csvw_ntriples.specs.LabelLaw.{IsOrigin}
 
 -- a text whose characters may all stand raw in an IRIREF

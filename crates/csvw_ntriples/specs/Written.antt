@@ -1,15 +1,15 @@
 -- The one spelling of triples that is written (RDF 1.1 N-Triples), byte by byte.
 use Rattle.std.specs.Prelude.{ℕ, Bool, List, [], ◌∷◌, ◌++◌, ◌==◌, Option, Some, None, bytes_eq, codes, flat_map, if◌then◌else◌}
 use Rattle.std.specs.Fmt.{decimal}
-use Rattle.csvw_triples.specs.declared.origin.Origin.{Origin}
-use Rattle.csvw_triples.specs.declared.origin.Origin.TheVariants as origin
-use Rattle.csvw_triples.specs.declared.term.Node.{Node}
-use Rattle.csvw_triples.specs.declared.term.Node.TheVariants as node
-use Rattle.csvw_triples.specs.declared.term.Lit.{Lit}
-use Rattle.csvw_triples.specs.declared.term.Term.{Term}
-use Rattle.csvw_triples.specs.declared.term.Term.TheVariants as term
-use Rattle.csvw_triples.specs.declared.term.Triple.{Triple}
-use Rattle.csvw_triples.specs.Vocabulary.{xsd_string}
+use Rattle.csvw_triples_core.specs.declared.origin.Origin.{Origin}
+use Rattle.csvw_triples_core.specs.declared.origin.Origin.TheVariants as origin
+use Rattle.csvw_triples_core.specs.declared.term.Node.{Node}
+use Rattle.csvw_triples_core.specs.declared.term.Node.TheVariants as node
+use Rattle.csvw_triples_core.specs.declared.term.Lit.{Lit}
+use Rattle.csvw_triples_core.specs.declared.term.Term.{Term}
+use Rattle.csvw_triples_core.specs.declared.term.Term.TheVariants as term
+use Rattle.csvw_triples_core.specs.declared.term.Triple.{Triple}
+use Rattle.csvw_triples_core.specs.Vocabulary.{xsd_string}
 use Rattle.csvw_ntriples.specs.declared.term.NtNode.{NtNode}
 use Rattle.csvw_ntriples.specs.declared.term.NtNode.TheVariants as nt_node
 use Rattle.csvw_ntriples.specs.declared.term.NtLit.{NtLit}

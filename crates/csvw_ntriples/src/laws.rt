@@ -1,7 +1,7 @@
 //! Laws about what is written and read.
 ghost use Rattle.std.specs.Prelude.{◌≡◌, List, ℕ, map, Contains};
 ghost use Rattle.std.specs.List.{AllByRecursion};
-ghost use Rattle.csvw_triples.specs.declared.term.Triple.{Triple};
+ghost use Rattle.csvw_triples_core.specs.declared.term.Triple.{Triple};
 ghost use Rattle.csvw_ntriples.specs.LabelLaw.{LabelsDiffer};
 ghost use Rattle.csvw_ntriples.specs.Grammar.{Denotes};
 ghost use Rattle.csvw_ntriples.specs.declared.term.NtTriple.{NtTriple};

@@ -4,7 +4,7 @@ ghost use Rattle.csvw_ntriples.specs.NtSink.{sink_out, sink_is_open};
 
 use crate::write::push_line;
 use csvw_text::{Counted, write_out};
-use csvw_triples::{SinkFault, Triple, TripleSink};
+use csvw_triples_core::{SinkFault, Triple, TripleSink};
 use std::alloc::Global;
 use std::io::Write;
 

@@ -10,7 +10,7 @@ ghost use Rattle.csvw_text.specs.Language.{is_language_tag};
 
 use csvw_iri::Iri;
 use csvw_text::LanguageTag;
-use csvw_triples::{Lit, Node, Origin, Term, Triple};
+use csvw_triples_core::{Lit, Node, Origin, Term, Triple};
 use itoa::{Buffer, Integer};
 use std::alloc::AllocError;
 

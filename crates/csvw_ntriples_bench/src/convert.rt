@@ -4,7 +4,7 @@ use crate::halt::Halt;
 use csvw_iri::{Iri, made_safe};
 use csvw_ntriples::{NtLit, NtNode, NtTerm, NtTriple};
 use csvw_text::Text;
-use csvw_triples::{Lit, Node, Origin, Term, Triple};
+use csvw_triples_core::{Lit, Node, Origin, Term, Triple};
 use itoa::Buffer;
 use std::alloc::Global;
 

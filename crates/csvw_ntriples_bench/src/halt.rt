@@ -1,7 +1,7 @@
 //! Why a run stops.
 
 use csvw_ntriples::NtFault;
-use csvw_triples::SinkFault;
+use csvw_triples_core::SinkFault;
 use std::alloc::AllocError;
 
 /// Why a run stops.

@@ -8,7 +8,7 @@ mod words;
 use convert::triples;
 use csvw_ntriples::{NtSink, read};
 use csvw_text::Counted;
-use csvw_triples::{Triple, TripleSink};
+use csvw_triples_core::{Triple, TripleSink};
 use halt::Halt;
 use std::alloc::Global;
 use std::env;

@@ -2,8 +2,8 @@
 use Rattle.std.proofs.Common.{◌≤◌, ◌-◌, length}
 use Rattle.csvw_annotate.proofs.annotating.resized.Given as goal
 
-abbrev pub invariant-loop-cells : goal.invariant-loop-cells
-invariant-loop-cells l = length l.cells.items ≤ l.count
+abbrev pub invariant-loop-alloc : goal.invariant-loop-alloc
+invariant-loop-alloc l = length l.cells.items ≤ l.count
 
-abbrev pub decreases-loop-cells : goal.decreases-loop-cells
-decreases-loop-cells l = l.count - length l.cells.items
+abbrev pub decreases-loop-alloc : goal.decreases-loop-alloc
+decreases-loop-alloc l = l.count - length l.cells.items

@@ -1,0 +1,2 @@
+pub mod Annotated
+pub mod Tables

@@ -1,0 +1,4 @@
+pub mod Literal
+pub mod Taking
+pub mod VecSink
+pub mod Vocabulary

@@ -1,0 +1,24 @@
+-- What a sink has taken after a call that puts several triples.
+use Rattle.std.specs.Prelude.{◌≡◌, ℕ, ◌+◌, ◌<◌, ◌^◌, ◌-◌, Bool, false, List, ◌++◌, Result, Ok, Err}
+use Rattle.csvw_triples_core.specs.declared.term.Triple.{Triple}
+use Rattle.csvw_triples_core.specs.declared.sink.SinkFault.{SinkFault}
+use Rattle.csvw_triples_core.specs.declared.sink.SinkFault.TheVariants.{Memory, Device, Closed}
+
+-- From one state to another a front of these triples was taken; of its last only a part, where a device failed within it.
+pub record FrontOf {S : Type 0} (gains : S → List Triple → S → Type 0) (old : S) (all : List Triple) (new : S) : Type 0 where
+  pub front : List Triple
+  pub rest : List Triple
+  pub parts : all ≡ front ++ rest
+  pub gained : gains old front new
+
+-- open or not as before, and no failure was counted
+abbrev pub IsAsReady : {S : Type 0} → (S → Bool) → (S → ℕ) → S → S → Type 0
+IsAsReady is_open failed old new = (is_open new ≡ is_open old) × (failed new ≡ failed old)
+
+-- A sink stays ready in a call that answers Ok or Memory; Device comes only with one more failure, where the count has room,
+-- Closed only from a sink that wasn't open.
+abbrev pub Ends : {S : Type 0} → (S → Bool) → (S → ℕ) → S → S → Result Unit SinkFault → Type 0
+Ends is_open failed old new (Ok u) = IsAsReady is_open failed old new
+Ends is_open failed old new (Err Memory) = IsAsReady is_open failed old new
+Ends is_open failed old new (Err Device) = failed old < 2 ^ 64 - 1 → failed new ≡ failed old + 1
+Ends is_open failed old new (Err Closed) = is_open old ≡ false

@@ -1,0 +1,119 @@
+//! Terms and triples (RDF 1.1 Concepts and Abstract Syntax, section 3).
+ghost use Rattle.std.specs.Prelude.{◌≡◌, IfOk, is_some, true};
+ghost use Rattle.csvw_triples_core.specs.Vocabulary.{lang_string};
+
+use crate::Origin;
+use csvw_iri::Iri;
+use csvw_text::{LanguageTag, Text, copied_option};
+use std::alloc::{AllocError, Global};
+
+/// What a triple begins with: an IRI or a blank node.
+#[derive(Debug, Drop)]
+pub enum Node {
+    Named(Iri),
+    Blank(Origin),
+}
+
+/// A literal: its text, its datatype and perhaps its language, which comes with rdf:langString.
+#[derive(Debug, Drop)]
+pub struct Lit {
+    pub text: Text,
+    pub datatype: Iri,
+    pub lang: Option<LanguageTag>,
+    pub ghost tagged: { is_some lang ≡ true → datatype ≡ lang_string },
+}
+
+/// What a triple ends with: an IRI, a blank node or a literal.
+#[derive(Debug, Drop)]
+pub enum Term {
+    Named(Iri),
+    Blank(Origin),
+    Literal(Lit),
+}
+
+/// A triple: its subject, predicate and object.
+#[derive(Debug, Drop)]
+pub struct Triple {
+    pub s: Node,
+    pub p: Iri,
+    pub o: Term,
+}
+
+impl Node {
+    /// An equal node; `AllocError` where there is no memory.
+    pub fn clone(&self, alloc: Global) -> Result<Node, AllocError>
+        ensures { IfOk result (λ n. n ≡ self.now) }
+    {
+        match self {
+            Node::Named(iri) => Ok(Node::Named(iri.clone(alloc)?)),
+            Node::Blank(origin) => Ok(Node::Blank(*origin)),
+        }
+    }
+}
+
+impl Lit {
+    ghost use Rattle.csvw_triples_core.specs.Literal.{typed_lit};
+
+    /// A literal of a datatype, without a language.
+    pub fn typed(text: Text, datatype: Iri) -> Lit
+        ensures { result ≡ typed_lit text datatype }
+    {
+        Lit {
+            text,
+            datatype,
+            lang: None,
+        }
+    }
+
+    /// Its text. It takes no memory.
+    pub fn into_text(self) -> Text
+        ensures { result ≡ self.text }
+    {
+        let Lit {
+            text,
+            datatype: _,
+            lang: _,
+        } = self;
+        text
+    }
+
+    /// An equal literal; `AllocError` where there is no memory.
+    pub fn clone(&self, alloc: Global) -> Result<Lit, AllocError>
+        ensures { IfOk result (λ l. l ≡ self.now) }
+    {
+        let text = self.text.clone(alloc)?;
+        let datatype = self.datatype.clone(alloc)?;
+        let lang = copied_option(alloc, &self.lang)?;
+        Ok(Lit {
+            text,
+            datatype,
+            lang,
+        })
+    }
+}
+
+impl Term {
+    /// An equal term; `AllocError` where there is no memory.
+    pub fn clone(&self, alloc: Global) -> Result<Term, AllocError>
+        ensures { IfOk result (λ t. t ≡ self.now) }
+    {
+        match self {
+            Term::Named(iri) => Ok(Term::Named(iri.clone(alloc)?)),
+            Term::Blank(origin) => Ok(Term::Blank(*origin)),
+            Term::Literal(lit) => Ok(Term::Literal(lit.clone(alloc)?)),
+        }
+    }
+}
+
+impl Triple {
+    /// An equal triple; `AllocError` where there is no memory.
+    pub fn clone(&self, alloc: Global) -> Result<Triple, AllocError>
+        ensures { IfOk result (λ t. t ≡ self.now) }
+    {
+        Ok(Triple {
+            s: self.s.clone(alloc)?,
+            p: self.p.clone(alloc)?,
+            o: self.o.clone(alloc)?,
+        })
+    }
+}

@@ -1,0 +1,59 @@
+//! A sink over a vector.
+ghost use Rattle.std.specs.Prelude.{◌≡◌, [], true, ◌++◌};
+ghost use Rattle.std.proofs.Common.{rules, append_assoc, append-nil};
+ghost use Rattle.csvw_triples_core.specs.VecSink.{triples_of};
+
+use crate::{SinkFault, Triple, TripleSink};
+use std::alloc::Global;
+
+/// A sink that keeps its triples.
+#[derive(Debug, Drop)]
+pub struct VecSink {
+    items: Vec<Triple>,
+    alloc: Global,
+}
+
+impl VecSink {
+    /// A sink without triples. It takes no memory.
+    pub fn new(alloc: Global) -> VecSink
+        ensures { triples_of result ≡ [] }
+    {
+        VecSink {
+            items: Vec::new(alloc),
+            alloc,
+        }
+    }
+
+    /// The triples so far.
+    pub fn triples(&self) -> &[Triple]
+        ensures { result.now ≡ triples_of self.now }
+    {
+        self.items.as_slice()
+    }
+}
+
+impl TripleSink for VecSink {
+    ghost gains = { λ old ts new. triples_of new ≡ triples_of old ++ ts };
+
+    ghost is_open = { λ _. true };
+
+    ghost failed = { λ _. 0 };
+
+    fn failures(&self) -> u64 {
+        0
+    }
+
+    fn put(&mut self, triple: &Triple) -> Result<(), SinkFault> {
+        let Ok(copy) = triple.clone(self.alloc) else {
+            return Err(SinkFault::Memory);
+        };
+        match self.items.push(copy) {
+            Ok(()) => Ok(()),
+            Err(_) => Err(SinkFault::Memory),
+        }
+    }
+
+    ghost stays = { λ s. Prim.search rules };
+
+    ghost goes_on = { λ a b c xs ys p q. Prim.search (rules, append_assoc) };
+}
