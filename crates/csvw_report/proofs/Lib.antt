@@ -1,0 +1,3 @@
+pub mod LineFacts
+pub mod OrderFacts
+pub mod Sending

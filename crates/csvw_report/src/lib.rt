@@ -1,0 +1,11 @@
+//! The report of a run: its faults in order, and the text that lists them.
+#![tactic(auto)]
+
+mod lines;
+mod outcome;
+mod reporting;
+mod stop;
+
+pub use outcome::{Outcome, sorted};
+pub use reporting::write_report;
+pub use stop::ReportStop;
