@@ -1,6 +1,7 @@
 //! The report of a run: its faults in order, and the text that lists them.
 #![tactic(auto)]
 
+pub mod laws;
 mod lines;
 mod outcome;
 mod reporting;
