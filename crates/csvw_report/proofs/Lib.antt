@@ -1,0 +1,4 @@
+pub mod LineFacts
+pub mod OneOrder
+pub mod OrderFacts
+pub mod Sending

@@ -1,0 +1,5 @@
+pub mod Laws
+pub mod Order
+pub mod Records
+pub mod Report
+pub mod Stops

@@ -1,0 +1,17 @@
+-- What a report that stops leaves in its stream.
+use Rattle.std.specs.Prelude.{◌≡◌, ℕ, List, ◌++◌}
+use Rattle.csvw_text.specs.Streams.{Stream, Sends, IsCut}
+use Rattle.csvw_report.specs.declared.stop.ReportStop.{ReportStop}
+use Rattle.csvw_report.specs.declared.stop.ReportStop.TheVariants.{Memory, Write}
+
+-- a front of the text was sent, and nothing failed
+pub record SendsFront (s : Stream) (text : List ℕ) : Type 0 where
+  pub front : List ℕ
+  pub rest : List ℕ
+  pub parts : text ≡ front ++ rest
+  pub sent : Sends s front
+
+-- without memory nothing failed; else the stream did
+abbrev pub StopsAt : Stream → List ℕ → ReportStop → Type 0
+StopsAt s text Memory = SendsFront s text
+StopsAt s text Write = IsCut s text

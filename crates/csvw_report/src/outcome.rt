@@ -1,0 +1,46 @@
+//! What a run that was not stopped found.
+ghost use Rattle.std.specs.Prelude.{◌≡◌};
+ghost use Rattle.std.specs.List.{list_all};
+ghost use Rattle.std.specs.List.Sorted.{IsPermutation, IsSorted};
+ghost use Rattle.csvw_report.specs.Order.{fault_cmp, is_no_error};
+
+use csvw_text::{Fault, Kind, Seq};
+
+/// What a run that was not stopped found.
+#[derive(Debug, Drop, PartialEq, Eq)]
+pub struct Outcome {
+    /// The violated constraints, sorted.
+    pub faults: Seq<Fault>,
+}
+
+fn is_no_error(fault: &Fault) -> bool
+    ensures { result ≡ is_no_error fault.now }
+{
+    match fault.kind {
+        Kind::Error => false,
+        Kind::Warning => true,
+    }
+}
+
+impl Outcome {
+    /// Whether no fault is an error; there may be warnings.
+    pub fn valid(&self) -> bool
+        ensures { result ≡ list_all is_no_error self.now.faults }
+    {
+        self.faults
+            .as_slice()
+            .iter()
+            .all(|fault| is_no_error(fault))
+    }
+}
+
+/// The faults in the order of reports: by table, row, column, code and kind. Equal faults stand as often
+/// as they came.
+pub fn sorted(faults: Seq<Fault>) -> Seq<Fault>
+    ensures same { IsPermutation faults result }
+    ensures order { IsSorted fault_cmp result }
+{
+    let mut faults = faults.into_vec();
+    faults.sort_unstable();
+    Seq::of(faults)
+}
