@@ -6,6 +6,7 @@ ghost use Rattle.csvw_datatype_core.specs.Dates.{IsDay, day_number, ReadsDate};
 ghost use Rattle.csvw_datatype_core.specs.Moments.{ReadsMoment};
 ghost use Rattle.csvw_datatype_core.specs.LexicalDates.{IsDayNumber, IsMomentNumber, AppendsDate, AppendsTime};
 ghost use Rattle.csvw_datatype_core.specs.LexicalDates.{IsFields, IsDayAndSecond, two_digits, four_digits, date_digits, time_digits};
+ghost use Rattle.csvw_datatype_core.specs.Forms.{date_form, moment_form};
 
 use jiff_core::civil::Date;
 use std::alloc::{AllocError, Global};
@@ -129,4 +130,11 @@ pub fn one_date_text()
 /// A law: a moment has one text in the form `yyyy-MM-ddTHH:mm:ss`.
 pub fn one_moment_text()
     ensures { (s t : List ℕ) (moment : ℤ) → ReadsMoment Seconds s moment → ReadsMoment Seconds t moment → s ≡ t }
+{}
+
+/// A law: the text of a day in the form `yyyy-MM-dd` is the one that a function gives, and so is that of a moment in the form
+/// `yyyy-MM-ddTHH:mm:ss`.
+pub fn date_forms()
+    ensures day { (text : List ℕ) (day : ℤ) → ReadsDate YearFirst text day → text ≡ date_form day }
+    ensures moment { (text : List ℕ) (moment : ℤ) → ReadsMoment Seconds text moment → text ≡ moment_form moment }
 {}

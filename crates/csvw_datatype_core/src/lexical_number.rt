@@ -1,8 +1,9 @@
 //! The lexical form of a number.
-ghost use Rattle.std.specs.Prelude.{◌≡◌, ◌≤◌, ◌+◌, ◌*◌, ◌^◌, ◌<◌, ◌++◌, IfOk, OnOk, OnErr, string_bytes, unsigned_abs, List, ℕ, ℤ, [], ◌∷◌, if◌then◌else◌};
+ghost use Rattle.std.specs.Prelude.{◌≡◌, ◌≤◌, ◌+◌, ◌*◌, ◌^◌, ◌<◌, ◌++◌, IfOk, OnOk, OnErr, string_bytes, unsigned_abs, List, ℕ, ℤ, [], ◌∷◌, if◌then◌else◌, encode_utf8_all};
 ghost use Rattle.std.specs.Fmt.{decimal};
 ghost use Rattle.std.specs.Str.{chars};
 ghost use Rattle.csvw_datatype_core.specs.LexicalNumbers.{AppendsPart, AppendsFraction, IsLexicalNumber};
+ghost use Rattle.csvw_datatype_core.specs.Forms.{number_form};
 
 use std::alloc::{AllocError, Global};
 use std::fmt::Write;
@@ -65,4 +66,10 @@ fn push_fraction(out: &mut String, fraction: u64) -> Result<(), AllocError>
 /// A law: a number has one text in its lexical form.
 pub fn one_number_text()
     ensures { (cs ds : List ℕ) (z : ℤ) → IsLexicalNumber cs z → IsLexicalNumber ds z → cs ≡ ds }
+{}
+
+/// A law: the lexical form of a number below 10^38 units in size is the text that a function gives, which is ASCII.
+pub fn number_forms()
+    ensures form { (text : List ℕ) (z : ℤ) → unsigned_abs z < 10 ^ 38 → IsLexicalNumber text z → text ≡ number_form z }
+    ensures bytes { (z : ℤ) → unsigned_abs z < 10 ^ 38 → encode_utf8_all (number_form z) ≡ number_form z }
 {}
