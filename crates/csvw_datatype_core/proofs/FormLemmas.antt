@@ -1,10 +1,10 @@
 -- A text that is the form of a number, a day or a moment is the one that the functions give.
-use Rattle.std.proofs.Common.{◌≡◌, ℕ, zero, suc, ◌+◌, ◌*◌, ◌/◌, ◌%◌, ◌^◌, ◌<◌, ◌≤◌, Bool, true, false, cond, ◌&&◌, ◌⊎◌, inl, inr, ⊎_elim, Option, Some, None, unwrap_or, List, [], ◌∷◌, ◌++◌, length, refl, sym, ap, subst, ◌∙◌, arith, append_assoc, append-nil, length-append, ℤ, pos, negsuc, ◌+ℤ◌, ◌*ℤ◌, unsigned_abs, encode_utf8_all, nat_le, ◌==◌}
-use Rattle.std.specs.Char.{IsAsciiDigit}
+use Rattle.std.proofs.Common.{rules, ◌≡◌, ℕ, zero, suc, ◌+◌, ◌/◌, ◌%◌, ◌^◌, ◌<◌, ◌≤◌, Bool, true, false, cond, ◌&&◌, ◌⊎◌, inl, inr, ⊎_elim, Option, Some, None, unwrap_or, List, [], ◌∷◌, ◌++◌, length, refl, sym, ap, subst, ◌∙◌, arith, append_assoc, append-nil, length-append, ℤ, pos, negsuc, ◌+ℤ◌, ◌*ℤ◌, unsigned_abs, encode_utf8_all, nat_le, FitsSigned}
 use Rattle.std.specs.Fmt.{decimal}
 use Rattle.std.specs.Ordering.{int_eq}
 use Rattle.std.specs.Str.Parse.{digits_value}
 use lib.Signed.{lt_z}
+use mir.Syntax.{w32}
 use Rattle.std.proofs.lemmas.Bool.{cases_order}
 use Rattle.std.proofs.lemmas.Bool.Decides.{nat_tests, eqb_tells, Decides-int_eq}
 use Rattle.std.proofs.lemmas.Int.{ints}
@@ -14,14 +14,14 @@ use Rattle.csvw_datatype_core.specs.declared.date.DateFormat.TheVariants.{YearFi
 use Rattle.csvw_datatype_core.specs.declared.moment.MomentFormat.TheVariants.{Seconds}
 use Rattle.csvw_datatype_core.specs.Dates.{IsDay, day_number, ReadsDate}
 use Rattle.csvw_datatype_core.specs.Moments.{ReadsMoment}
-use Rattle.csvw_datatype_core.specs.LexicalDates.{date_digits, time_digits, IsFields}
+use Rattle.csvw_datatype_core.specs.LexicalDates.{date_digits, IsFields, IsDayNumber, IsDayAndSecond, AppendsDate, AppendsTime}
 use Rattle.csvw_datatype_core.specs.LexicalNumbers.{IsLexicalNumber, AppendsFraction, AppendsPart}
 use Rattle.csvw_datatype_core.specs.Forms.{sign_form, fraction_digits, fraction_form, number_form, or_else, found_below, found_if, is_day, found_on_dates, date_form, time_form, moment_form}
 use Rattle.csvw_datatype_core.proofs.Counts.{tenth}
 use Rattle.csvw_datatype_core.proofs.DateLemmas.{digits_small}
 use Rattle.csvw_datatype_core.proofs.LexicalLemmas.{IsPushing, pushing_begins, pushing_step, pushing_ends}
 use Rattle.csvw_datatype_core.proofs.LexicalNumber.{lexical_number}
-use Rattle.csvw_datatype_core.proofs.LexicalDateLemmas.{date_digits_read, time_digits_read, time_in_range}
+use Rattle.csvw_datatype_core.proofs.LexicalDateLemmas.{date_digits_read, time_digits_read, time_in_range, date_alone, moment_written}
 use Rattle.csvw_datatype_core.proofs.OneText.{one_date_text, one_moment_text}
 use Rattle.csvw_datatype_core.proofs.OneNumberText.{one_number_text}
 use Rattle.csvw_datatype_core.proofs.AsciiLemmas.{bytes_of}
@@ -183,6 +183,10 @@ date_is_form text day r =
     let b = finds_date (at_day day) p.y p.m p.d (date_digits p.y p.m p.d) p.year p.month p.date here in
     one_date_text text b.0 day r (reads_found day b.0 (at_date (at_day day) b.0 b.1)) ∙ sym (ap (λ o. unwrap_or o []) b.1)
 
+-- a date that was written into an empty text
+pub written_date : (old new : List ℕ) (day : ℤ) → old ≡ [] → AppendsDate old new day → new ≡ date_form day
+written_date old new day e a = date_is_form new day (date_alone new day (subst (λ t. AppendsDate t new day) e a))
+
 -- moments
 
 abbrev at_second : ℤ → ℕ → ℕ → ℕ → ℕ → Option (List ℕ)
@@ -221,6 +225,16 @@ moment_is_form text moment r =
     let b = finds_date (at_moment moment) p.y p.m p.d here.0 p.year p.month p.date here.1 in
     one_moment_text text b.0 moment r (reads_moment moment b.0 (at_date (at_moment moment) b.0 b.1)) ∙ sym (ap (λ o. unwrap_or o []) b.1)
 
+-- the number of a day has 32 bits
+pub fits_day : (day : ℤ) → IsDayNumber day → FitsSigned w32 day
+fits_day day h = search rules
+
+-- a date that was written into an empty text, and a time of day behind it
+pub written_moment : (old mid new : List ℕ) (moment day : ℤ) (second : ℕ) → old ≡ [] → IsDayAndSecond moment day second → AppendsDate old mid day → AppendsTime mid new second
+    → new ≡ moment_form moment
+written_moment old mid new moment day second e p a b =
+    moment_is_form new moment (moment_written mid new moment day second p (subst (λ t. AppendsDate t mid day) e a) b)
+
 -- numbers
 
 nothing_left : (start out : List ℕ) (n rest weight : ℕ) (more : List ℕ) → IsPushing start out n rest weight → rest ≡ 0 → more ≡ [] → AppendsFraction start (out ++ more) n
@@ -247,7 +261,7 @@ pushed (suc e) start out n rest p l =
           let more = pushing_step start out n rest (10 ^ e) c here (omega (arith, h.1)) refl in
           let all = pushed e start (out ++ c ∷ []) n (rest % 10 ^ e) more (omega (arith, l, length-append out (c ∷ []))) in
           let text : (out ++ c ∷ []) ++ fraction_digits e (rest % 10 ^ e) ≡ out ++ fraction_digits (suc e) rest =
-              append_assoc out (c ∷ []) _ ∙ ap (λ t. out ++ t) (sym (ap (λ t. cond t [] (c ∷ fraction_digits e (rest % 10 ^ e))) h.0)) in
+          append_assoc out (c ∷ []) _ ∙ ap (λ t. out ++ t) (sym (ap (λ t. cond t [] (c ∷ fraction_digits e (rest % 10 ^ e))) h.0)) in
           subst (λ t. AppendsFraction start t n) text all
     ]
 
@@ -258,7 +272,7 @@ part out n l =
       | inr h ↦
           let all = pushed 18 (out ++ 46 ∷ []) (out ++ 46 ∷ []) n n (pushing_begins (out ++ 46 ∷ []) n (omega (arith, h.1)) l) refl in
           let text : (out ++ 46 ∷ []) ++ fraction_digits 18 n ≡ out ++ fraction_form n =
-              append_assoc out (46 ∷ []) _ ∙ ap (λ t. out ++ t) (sym (ap (λ t. cond t [] (46 ∷ fraction_digits 18 n)) h.0)) in
+          append_assoc out (46 ∷ []) _ ∙ ap (λ t. out ++ t) (sym (ap (λ t. cond t [] (46 ∷ fraction_digits 18 n)) h.0)) in
           inr (subst (λ t. AppendsFraction (out ++ 46 ∷ []) t n) text all)
     ]
 

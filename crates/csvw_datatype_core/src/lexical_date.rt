@@ -15,7 +15,8 @@ use std::alloc::{AllocError, Global};
 /// `AllocError` where there is no memory (XML Schema 1.1 part 2, section 3.3.9).
 pub fn date_text(alloc: Global, day: i32) -> Result<String, AllocError>
     requires { IsDayNumber day }
-    ensures { IfOk result (λ s. ReadsDate YearFirst (string_bytes s) day) }
+    ensures form { IfOk result (λ s. ReadsDate YearFirst (string_bytes s) day) }
+    ensures text { IfOk result (λ s. string_bytes s ≡ date_form day) }
 {
     let mut out = String::new(alloc);
     push_date(&mut out, day)?;
@@ -26,7 +27,8 @@ pub fn date_text(alloc: Global, day: i32) -> Result<String, AllocError>
 /// 9999; `AllocError` where there is no memory (XML Schema 1.1 part 2, section 3.3.7).
 pub fn moment_text(alloc: Global, moment: i64) -> Result<String, AllocError>
     requires { IsMomentNumber moment }
-    ensures { IfOk result (λ s. ReadsMoment Seconds (string_bytes s) moment) }
+    ensures form { IfOk result (λ s. ReadsMoment Seconds (string_bytes s) moment) }
+    ensures text { IfOk result (λ s. string_bytes s ≡ moment_form moment) }
 {
     let (day, second) = day_and_second(moment);
     let mut out = String::new(alloc);

@@ -14,7 +14,8 @@ const UNIT: u128 = 1_000_000_000_000_000_000;
 /// that could be left out, no point where it is whole; `AllocError` where there is no memory.
 pub fn number_text(alloc: Global, number: i128) -> Result<String, AllocError>
     requires { unsigned_abs number < 10 ^ 38 }
-    ensures { IfOk result (λ s. IsLexicalNumber (chars (string_bytes s)) number) }
+    ensures form { IfOk result (λ s. IsLexicalNumber (chars (string_bytes s)) number) }
+    ensures text { IfOk result (λ s. string_bytes s ≡ number_form number) }
 {
     let count = number.unsigned_abs();
     let mut out = String::new(alloc);
