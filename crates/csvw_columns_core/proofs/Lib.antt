@@ -1,3 +1,4 @@
 pub mod InheritedLemmas
 pub mod DeclaredLemmas
 pub mod HeaderLemmas
+pub mod XsdLemmas

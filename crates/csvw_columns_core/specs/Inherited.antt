@@ -1,6 +1,6 @@
 -- The value of an inherited property: the first that is present, read from the column outwards, else the default
 -- (Metadata Vocabulary for Tabular Data, section 5.7).
-use Rattle.std.specs.Prelude.{◌≡◌, List, [], ◌∷◌, Option, Some, None, true, false, codes, unwrap_or}
+use Rattle.std.specs.Prelude.{◌≡◌, List, [], ◌∷◌, Option, Some, None, false, codes, unwrap_or}
 use Rattle.csvw_datatype.specs.Breaks.{no_facets}
 use Rattle.csvw_datatype.specs.declared.datatype.Datatype.{Datatype}
 use Rattle.csvw_datatype.specs.declared.simple.Simple.TheVariants as simple

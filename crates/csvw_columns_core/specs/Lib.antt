@@ -1,5 +1,6 @@
 pub mod Inherited
 pub mod Columns
+pub mod LiteralDatatype
 pub mod SchemaColumns
 pub mod HeaderFits
 pub mod HeaderColumns

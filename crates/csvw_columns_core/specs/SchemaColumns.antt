@@ -5,6 +5,7 @@ use Rattle.csvw_description.specs.declared.inherited.Inherited.{Inherited}
 use Rattle.csvw_description.specs.Name.{name_of}
 use Rattle.csvw_columns_core.specs.declared.column.Column.{Column}
 use Rattle.csvw_columns_core.specs.Inherited.{properties_of}
+use Rattle.csvw_columns_core.specs.LiteralDatatype.{literal_datatype}
 
 -- at most so many columns, and so many that are skipped
 abbrev pub column_limit : ℕ
@@ -25,6 +26,7 @@ declared url skipped schema table group n c = record {
   is_virtual = c.is_virtual;
   suppressed = c.suppressed;
   predicate = url ++ codes "#" ++ name_of n c;
+  literal_datatype = literal_datatype (properties_of c.inherited schema table group).datatype;
   properties = properties_of c.inherited schema table group;
 }
 

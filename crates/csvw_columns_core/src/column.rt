@@ -24,6 +24,9 @@ pub struct Column {
     /// The predicate of its cells' triples where no link is given: the table's URL, `#` and its name (csv2rdf,
     /// section 4.6.5).
     pub predicate: Iri,
+    /// The datatype of the literals of its values that were read and have no language: the `@id` of its datatype, else the
+    /// base.
+    pub literal_datatype: Iri,
     /// Its inherited properties.
     pub properties: Properties,
 }

@@ -6,6 +6,7 @@ ghost use Rattle.csvw_columns_core.specs.SchemaColumns.{column_limit, source_num
 
 use crate::column::Column;
 use crate::properties::Defaults;
+use crate::xsd::literal_datatype;
 use csvw_description::{ColumnDescription, Inherited};
 use csvw_iri::{Base, with_fragment};
 use csvw_text::Seq;
@@ -66,6 +67,7 @@ impl Frame {
             &self.table,
             group,
         )?;
+        let literal_datatype = literal_datatype(alloc, properties.datatype.get())?;
         Ok(Column {
             name,
             is_named: description.name.is_some(),
@@ -75,6 +77,7 @@ impl Frame {
             is_virtual: description.is_virtual,
             suppressed: description.suppressed,
             predicate,
+            literal_datatype,
             properties,
         })
     }

@@ -9,6 +9,7 @@ mod header;
 mod header_columns;
 mod inherited;
 mod properties;
+mod xsd;
 
 pub use column::Column;
 pub use columns::Columns;

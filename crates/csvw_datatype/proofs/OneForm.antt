@@ -1,5 +1,5 @@
 -- A value has one lexical form.
-use Rattle.std.proofs.Common.{◌≡◌, ℕ, List, sym, ap, ◌∙◌, ℤ}
+use Rattle.std.proofs.Common.{◌≡◌, ℕ, ◌<◌, ◌^◌, List, sym, ap, ◌∙◌, ℤ, unsigned_abs}
 use Rattle.std.specs.Str.{chars, IsUtf8}
 use Rattle.std.specs.Prelude.{encode_utf8_all}
 use Rattle.std.proofs.lemmas.Str.{encodes-chars}
@@ -7,10 +7,11 @@ use Rattle.csvw_datatype_core.specs.declared.date.DateFormat.TheVariants.{YearFi
 use Rattle.csvw_datatype_core.specs.declared.moment.MomentFormat.TheVariants.{Seconds}
 use Rattle.csvw_datatype_core.specs.Dates.{ReadsDate}
 use Rattle.csvw_datatype_core.specs.Moments.{ReadsMoment}
+use Rattle.csvw_datatype_core.specs.Forms.{number_form, date_form, moment_form}
 use Rattle.csvw_datatype_core.specs.LexicalNumbers.{IsLexicalNumber}
 use Rattle.csvw_datatype.specs.declared.value.Value.{Value}
 use Rattle.csvw_datatype.specs.declared.value.Value.TheVariants as values
-use Rattle.csvw_datatype.specs.Lexical.{IsLexical}
+use Rattle.csvw_datatype.specs.Lexical.{IsWritable, IsLexical, lexical_of}
 
 -- the laws of csvw_datatype_core: a number, a day and a moment have one text each
 
@@ -32,3 +33,24 @@ one_form number date moment (values.Truth b) s t p q h k = h ∙ sym k
 one_form number date moment (values.Number z) s t p q h k = same_bytes s t p q (number (chars s) (chars t) z h k)
 one_form number date moment (values.Day day) s t p q h k = date s t day h k
 one_form number date moment (values.Moment m) s t p q h k = moment s t m h k
+
+-- and so are their forms the texts that functions give
+
+abbrev NumberForms : Type 0
+NumberForms = (text : List ℕ) (z : ℤ) → unsigned_abs z < 10 ^ 38 → IsLexicalNumber text z → text ≡ number_form z
+
+abbrev NumberInBytes : Type 0
+NumberInBytes = (z : ℤ) → unsigned_abs z < 10 ^ 38 → encode_utf8_all (number_form z) ≡ number_form z
+
+abbrev DayForms : Type 0
+DayForms = (text : List ℕ) (day : ℤ) → ReadsDate YearFirst text day → text ≡ date_form day
+
+abbrev MomentForms : Type 0
+MomentForms = (text : List ℕ) (moment : ℤ) → ReadsMoment Seconds text moment → text ≡ moment_form moment
+
+pub forms : NumberForms → NumberInBytes → DayForms → MomentForms → (v : Value) (text : List ℕ) → IsUtf8 text → IsWritable v → IsLexical v text → text ≡ lexical_of v
+forms number bytes day moment (values.Text t) text p w h = h
+forms number bytes day moment (values.Truth b) text p w h = h
+forms number bytes day moment (values.Number z) text p w h = sym (encodes-chars text p) ∙ ap encode_utf8_all (number (chars text) z w h) ∙ bytes z w
+forms number bytes day moment (values.Day d) text p w h = day text d h
+forms number bytes day moment (values.Moment m) text p w h = moment text m h

@@ -6,6 +6,7 @@ use Rattle.csvw_datatype_core.specs.declared.moment.MomentFormat.TheVariants.{Se
 use Rattle.csvw_datatype_core.specs.LexicalNumbers.{IsLexicalNumber}
 use Rattle.csvw_datatype_core.specs.LexicalDates.{IsDayNumber, IsMomentNumber}
 use Rattle.csvw_datatype_core.specs.Dates.{ReadsDate}
+use Rattle.csvw_datatype_core.specs.Forms.{number_form, date_form, moment_form}
 use Rattle.csvw_datatype_core.specs.Moments.{ReadsMoment}
 use Rattle.csvw_datatype.specs.declared.value.Value.{Value}
 use Rattle.csvw_datatype.specs.declared.value.Value.TheVariants as values
@@ -28,6 +29,14 @@ IsLexical (values.Truth b) text = text ≡ (if b then codes "true" else codes "f
 IsLexical (values.Number z) text = IsLexicalNumber (chars text) z
 IsLexical (values.Day day) text = ReadsDate YearFirst text day
 IsLexical (values.Moment moment) text = ReadsMoment Seconds text moment
+
+-- that form, as the text that it is
+abbrev pub lexical_of : Value → List ℕ
+lexical_of (values.Text t) = t
+lexical_of (values.Truth b) = if b then codes "true" else codes "false"
+lexical_of (values.Number z) = number_form z
+lexical_of (values.Day day) = date_form day
+lexical_of (values.Moment moment) = moment_form moment
 
 -- the type whose texts are read as such values
 abbrev pub simple_of : Value → Simple

@@ -4,7 +4,7 @@ ghost use Rattle.std.specs.Str.{IsUtf8};
 ghost use Rattle.csvw_text.specs.declared.fault.Code.{Code};
 ghost use Rattle.csvw_datatype.specs.Formats.{IsFormatOf};
 ghost use Rattle.csvw_datatype.specs.Reads.{ReadsAs, MisreadAs};
-ghost use Rattle.csvw_datatype.specs.Lexical.{IsWritable, IsLexical};
+ghost use Rattle.csvw_datatype.specs.Lexical.{IsWritable, IsLexical, lexical_of};
 ghost use Rattle.csvw_datatype.specs.declared.datatype.Facets.{Facets};
 ghost use Rattle.csvw_datatype.specs.Breaks.{breaks};
 ghost use Rattle.csvw_datatype.specs.Facets.{SaysWhatBreaks};
@@ -15,7 +15,8 @@ use crate::format::Format;
 use crate::simple::Simple;
 use crate::value::Value;
 use csvw_datatype_core::{
-    one_date, one_date_text, one_moment, one_moment_text, one_number, one_number_text,
+    date_forms, number_forms, one_date, one_date_text, one_moment, one_moment_text, one_number,
+    one_number_text,
 };
 
 /// A law: a text is one value at most.
@@ -60,6 +61,14 @@ pub fn one_form()
     one_number_text();
     one_date_text();
     one_moment_text();
+}
+
+/// A law: that form is the text that a function gives.
+pub fn lexical_forms()
+    ensures { (v : Value) (text : List ℕ) → IsUtf8 text → IsWritable v → IsLexical v text → text ≡ lexical_of v }
+{
+    number_forms();
+    date_forms();
 }
 
 /// A law: of the facets that a value breaks each code says what the standards' words say.

@@ -1,6 +1,6 @@
 //! The lexical forms of values.
 ghost use Rattle.std.specs.Prelude.{◌≡◌, IfOk, None, string_bytes, codes, if◌then◌else◌};
-ghost use Rattle.csvw_datatype.specs.Lexical.{IsWritable, IsLexical, simple_of};
+ghost use Rattle.csvw_datatype.specs.Lexical.{IsWritable, IsLexical, lexical_of, simple_of};
 ghost use Rattle.csvw_datatype.specs.Reads.{ReadsAs};
 
 use crate::value::Value;
@@ -15,6 +15,7 @@ impl Value {
     pub fn lexical(&self, alloc: Global) -> Result<String, AllocError>
         requires { IsWritable self.now }
         ensures form { IfOk result (λ s. IsLexical self.now (string_bytes s)) }
+        ensures text { IfOk result (λ s. string_bytes s ≡ lexical_of self.now) }
         ensures read_again { IfOk result (λ s. ReadsAs (simple_of self.now) None (string_bytes s) self.now) }
     {
         match self {

@@ -19,8 +19,8 @@ pub use datatype::{Datatype, Facets};
 pub use facets::Broken;
 pub use format::{Format, NumberFormat, TruthFormat};
 pub use laws::{
-    are_equal, broken_facets, one_code, one_form, one_value, sound_facets, value_or_code,
-    values_of_texts,
+    are_equal, broken_facets, lexical_forms, one_code, one_form, one_value, sound_facets,
+    value_or_code, values_of_texts,
 };
 pub use simple::{Simple, Width};
 pub use value::Value;

@@ -1,9 +1,9 @@
 -- The lexical form of a number is ASCII, so its bytes are its characters.
-use Rattle.std.proofs.Common.{◌≡◌, ℕ, zero, suc, ◌<◌, ◌⊎◌, inl, inr, Option, Some, None, List, [], ◌∷◌, ◌++◌, sym, subst, arith, ℤ}
+use Rattle.std.proofs.Common.{◌≡◌, ◌∙◌, ℕ, zero, suc, ◌<◌, ◌⊎◌, inl, inr, Option, Some, None, List, [], ◌∷◌, ◌++◌, refl, sym, ap, subst, arith, ℤ, encode_utf8_all}
 use Rattle.std.specs.List.{AllByRecursion}
 use Rattle.std.specs.Char.{IsAsciiDigit}
 use Rattle.std.specs.Str.{chars, IsAscii}
-use Rattle.std.proofs.lemmas.Str.{chars-IsAscii}
+use Rattle.std.proofs.lemmas.Str.{chars-IsAscii, encode_ascii}
 use Rattle.csvw_datatype_core.specs.declared.number.Mark.{Mark}
 use Rattle.csvw_datatype_core.specs.declared.number.Mark.TheVariants.{Plain, Percent, PerMille}
 use Rattle.csvw_datatype_core.specs.Numbers.{Sign, NoSign, Plus, Minus, sign_text, fraction_text, mark_text, IsGrouped, IsFraction, IsMarked, ReadsNumber}
@@ -68,3 +68,12 @@ pub as_characters : (z : ℤ) (bytes : List ℕ) → IsLexicalNumber bytes z →
 as_characters z bytes l =
     let P : List ℕ → Type 0 = λ cs. IsLexicalNumber cs z in
     subst P (sym (chars-IsAscii bytes (is_ascii bytes (number bytes z l.reads)))) l
+
+in_bytes : (cs : List ℕ) → AllAscii cs → encode_utf8_all cs ≡ cs
+unfolding AllAscii
+in_bytes [] h = refl
+in_bytes (c ∷ cs) h = ap (λ x. x ++ encode_utf8_all cs) (encode_ascii c h.0) ∙ ap (λ x. c ∷ x) (in_bytes cs h.1)
+
+-- and its characters in UTF-8 are they themselves
+pub bytes_of : (z : ℤ) (cs : List ℕ) → IsLexicalNumber cs z → encode_utf8_all cs ≡ cs
+bytes_of z cs l = in_bytes cs (number cs z l.reads)

@@ -15,3 +15,4 @@ pub mod LawfulLemmas
 pub mod OneValue
 pub mod OneText
 pub mod OneNumberText
+pub mod FormLemmas

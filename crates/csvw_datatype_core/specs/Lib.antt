@@ -10,3 +10,4 @@ pub mod Moments
 pub mod TimeFields
 pub mod LexicalDates
 pub mod DatePatterns
+pub mod Forms

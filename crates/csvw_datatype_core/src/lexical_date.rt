@@ -6,6 +6,7 @@ ghost use Rattle.csvw_datatype_core.specs.Dates.{IsDay, day_number, ReadsDate};
 ghost use Rattle.csvw_datatype_core.specs.Moments.{ReadsMoment};
 ghost use Rattle.csvw_datatype_core.specs.LexicalDates.{IsDayNumber, IsMomentNumber, AppendsDate, AppendsTime};
 ghost use Rattle.csvw_datatype_core.specs.LexicalDates.{IsFields, IsDayAndSecond, two_digits, four_digits, date_digits, time_digits};
+ghost use Rattle.csvw_datatype_core.specs.Forms.{date_form, moment_form};
 
 use jiff_core::civil::Date;
 use std::alloc::{AllocError, Global};
@@ -14,7 +15,8 @@ use std::alloc::{AllocError, Global};
 /// `AllocError` where there is no memory (XML Schema 1.1 part 2, section 3.3.9).
 pub fn date_text(alloc: Global, day: i32) -> Result<String, AllocError>
     requires { IsDayNumber day }
-    ensures { IfOk result (λ s. ReadsDate YearFirst (string_bytes s) day) }
+    ensures form { IfOk result (λ s. ReadsDate YearFirst (string_bytes s) day) }
+    ensures text { IfOk result (λ s. string_bytes s ≡ date_form day) }
 {
     let mut out = String::new(alloc);
     push_date(&mut out, day)?;
@@ -25,7 +27,8 @@ pub fn date_text(alloc: Global, day: i32) -> Result<String, AllocError>
 /// 9999; `AllocError` where there is no memory (XML Schema 1.1 part 2, section 3.3.7).
 pub fn moment_text(alloc: Global, moment: i64) -> Result<String, AllocError>
     requires { IsMomentNumber moment }
-    ensures { IfOk result (λ s. ReadsMoment Seconds (string_bytes s) moment) }
+    ensures form { IfOk result (λ s. ReadsMoment Seconds (string_bytes s) moment) }
+    ensures text { IfOk result (λ s. string_bytes s ≡ moment_form moment) }
 {
     let (day, second) = day_and_second(moment);
     let mut out = String::new(alloc);
@@ -129,4 +132,11 @@ pub fn one_date_text()
 /// A law: a moment has one text in the form `yyyy-MM-ddTHH:mm:ss`.
 pub fn one_moment_text()
     ensures { (s t : List ℕ) (moment : ℤ) → ReadsMoment Seconds s moment → ReadsMoment Seconds t moment → s ≡ t }
+{}
+
+/// A law: the text of a day in the form `yyyy-MM-dd` is the one that a function gives, and so is that of a moment in the form
+/// `yyyy-MM-ddTHH:mm:ss`.
+pub fn date_forms()
+    ensures day { (text : List ℕ) (day : ℤ) → ReadsDate YearFirst text day → text ≡ date_form day }
+    ensures moment { (text : List ℕ) (moment : ℤ) → ReadsMoment Seconds text moment → text ≡ moment_form moment }
 {}

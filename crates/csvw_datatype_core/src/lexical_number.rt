@@ -1,8 +1,9 @@
 //! The lexical form of a number.
-ghost use Rattle.std.specs.Prelude.{◌≡◌, ◌≤◌, ◌+◌, ◌*◌, ◌^◌, ◌<◌, ◌++◌, IfOk, OnOk, OnErr, string_bytes, unsigned_abs, List, ℕ, ℤ, [], ◌∷◌, if◌then◌else◌};
+ghost use Rattle.std.specs.Prelude.{◌≡◌, ◌≤◌, ◌+◌, ◌*◌, ◌^◌, ◌<◌, ◌++◌, IfOk, OnOk, OnErr, string_bytes, unsigned_abs, List, ℕ, ℤ, [], ◌∷◌, if◌then◌else◌, encode_utf8_all};
 ghost use Rattle.std.specs.Fmt.{decimal};
 ghost use Rattle.std.specs.Str.{chars};
 ghost use Rattle.csvw_datatype_core.specs.LexicalNumbers.{AppendsPart, AppendsFraction, IsLexicalNumber};
+ghost use Rattle.csvw_datatype_core.specs.Forms.{number_form};
 
 use std::alloc::{AllocError, Global};
 use std::fmt::Write;
@@ -13,7 +14,8 @@ const UNIT: u128 = 1_000_000_000_000_000_000;
 /// that could be left out, no point where it is whole; `AllocError` where there is no memory.
 pub fn number_text(alloc: Global, number: i128) -> Result<String, AllocError>
     requires { unsigned_abs number < 10 ^ 38 }
-    ensures { IfOk result (λ s. IsLexicalNumber (chars (string_bytes s)) number) }
+    ensures form { IfOk result (λ s. IsLexicalNumber (chars (string_bytes s)) number) }
+    ensures text { IfOk result (λ s. string_bytes s ≡ number_form number) }
 {
     let count = number.unsigned_abs();
     let mut out = String::new(alloc);
@@ -65,4 +67,10 @@ fn push_fraction(out: &mut String, fraction: u64) -> Result<(), AllocError>
 /// A law: a number has one text in its lexical form.
 pub fn one_number_text()
     ensures { (cs ds : List ℕ) (z : ℤ) → IsLexicalNumber cs z → IsLexicalNumber ds z → cs ≡ ds }
+{}
+
+/// A law: the lexical form of a number below 10^38 units in size is the text that a function gives, which is ASCII.
+pub fn number_forms()
+    ensures form { (text : List ℕ) (z : ℤ) → unsigned_abs z < 10 ^ 38 → IsLexicalNumber text z → text ≡ number_form z }
+    ensures bytes { (z : ℤ) → unsigned_abs z < 10 ^ 38 → encode_utf8_all (number_form z) ≡ number_form z }
 {}

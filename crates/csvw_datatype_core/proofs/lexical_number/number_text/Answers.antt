@@ -1,6 +1,7 @@
 use Rattle.std.proofs.Common.{arith, ◌^◌, ◌<◌, ◌≡◌, unsigned_abs, FitsSigned, ap, ◌∙◌}
 use mir.Syntax.{w128}
 use Rattle.std.proofs.lemmas.Int.{to_z-of_z}
+use Rattle.csvw_datatype_core.proofs.FormLemmas.{number_is_form}
 use Rattle.csvw_datatype_core.proofs.LexicalNumber.{lexical_number}
 use Rattle.csvw_datatype_core.proofs.AsciiLemmas.{as_characters}
 use Rattle.csvw_datatype_core.proofs.lexical_number.number_text.Goals as goal
@@ -12,4 +13,4 @@ returns c =
     let fits : FitsSigned w128 c.args.number = c.ranges.number in
     let sign = simp to_z-of_z at c.in_ok-push_sign.ensures in
     let lexical = lexical_number c.args.number c.unsigned_abs-count.result _ _ _ _ abs small c.new-out.ensures.bytes sign c.in_ok-push_decimal.ensures c.in_ok-push_point_and_fraction.ensures in
-    as_characters c.args.number _ lexical
+    record { form = as_characters c.args.number _ lexical; text = number_is_form _ c.args.number c.requires lexical }

@@ -1,0 +1,41 @@
+-- The IRIs of the built-in datatypes stand raw.
+use Rattle.std.proofs.Common.{◌≡◌, ◌∙◌, ℕ, List, ◌++◌, refl, ap}
+use Rattle.std.specs.Prelude.{codes}
+use Rattle.csvw_iri.specs.Safe.{safe}
+use Rattle.csvw_datatype.specs.Names.{name_of}
+use Rattle.csvw_datatype.specs.declared.simple.Simple.{Simple}
+use Rattle.csvw_datatype.specs.declared.simple.Simple.TheVariants as simples
+use Rattle.csvw_datatype.specs.declared.simple.Width.{Width}
+use Rattle.csvw_datatype.specs.declared.simple.Width.TheVariants as widths
+use Rattle.csvw_columns_core.specs.LiteralDatatype.{xsd_type}
+
+raw_width : (w : Width) → safe (xsd_type (simples.Derived w)) ≡ xsd_type (simples.Derived w)
+unfolding safe
+raw_width widths.Long = refl
+raw_width widths.Int = refl
+raw_width widths.Short = refl
+raw_width widths.Byte = refl
+raw_width widths.UnsignedLong = refl
+raw_width widths.UnsignedInt = refl
+raw_width widths.UnsignedShort = refl
+raw_width widths.UnsignedByte = refl
+raw_width widths.NonNegativeInteger = refl
+raw_width widths.PositiveInteger = refl
+raw_width widths.NonPositiveInteger = refl
+raw_width widths.NegativeInteger = refl
+
+raw_type : (s : Simple) → safe (xsd_type s) ≡ xsd_type s
+unfolding safe
+raw_type simples.Text = refl
+raw_type simples.Truth = refl
+raw_type simples.Whole = refl
+raw_type simples.Decimal = refl
+raw_type simples.Day = refl
+raw_type simples.Uri = refl
+raw_type (simples.Derived w) = raw_width w
+raw_type simples.Moment = refl
+
+pub safe_type : (s : Simple) (text joined head name : List ℕ) → text ≡ joined → joined ≡ head ++ name → head ≡ codes "http://www.w3.org/2001/XMLSchema#" → name ≡ name_of s
+    → safe text ≡ xsd_type s
+safe_type s text joined head name e f g h =
+    ap safe (e ∙ f ∙ ap (λ t. t ++ name) g ∙ ap (λ t. codes "http://www.w3.org/2001/XMLSchema#" ++ t) h) ∙ raw_type s

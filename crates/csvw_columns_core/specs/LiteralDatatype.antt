@@ -1,0 +1,13 @@
+-- The datatypes of literals (csv2rdf, section 4.6; Metadata Vocabulary for Tabular Data, section 5.11).
+use Rattle.std.specs.Prelude.{ℕ, ◌++◌, List, codes, unwrap_or}
+use Rattle.csvw_datatype.specs.Names.{name_of}
+use Rattle.csvw_datatype.specs.declared.datatype.Datatype.{Datatype}
+use Rattle.csvw_datatype.specs.declared.simple.Simple.{Simple}
+
+-- the IRI of a built-in datatype
+abbrev pub xsd_type : Simple → List ℕ
+xsd_type s = codes "http://www.w3.org/2001/XMLSchema#" ++ name_of s
+
+-- a value that was read: the datatype's `@id`, else its base
+abbrev pub literal_datatype : Datatype → List ℕ
+literal_datatype d = unwrap_or d.id (xsd_type d.simple)

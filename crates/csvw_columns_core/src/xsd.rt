@@ -1,0 +1,27 @@
+//! The datatypes of literals.
+ghost use Rattle.std.specs.Prelude.{◌≡◌, IfOk};
+ghost use Rattle.csvw_columns_core.specs.LiteralDatatype.{xsd_type, literal_datatype};
+
+use csvw_datatype::{Datatype, Simple};
+use csvw_iri::{Iri, made_safe};
+use std::alloc::{AllocError, Global};
+
+/// The IRI of a built-in datatype.
+fn xsd_type(alloc: Global, simple: Simple) -> Result<Iri, AllocError>
+    ensures { IfOk result (λ iri. iri ≡ xsd_type simple) }
+{
+    let mut text = String::from_str(alloc, "http://www.w3.org/2001/XMLSchema#")?;
+    text.push_str(simple.name())?;
+    made_safe(alloc, text.as_str())
+}
+
+/// The datatype of the literals of values that were read: the `@id` of a datatype, else its base (csv2rdf, section 4.6).
+/// `AllocError` where there is no memory.
+pub(crate) fn literal_datatype(alloc: Global, datatype: &Datatype) -> Result<Iri, AllocError>
+    ensures { IfOk result (λ iri. iri ≡ literal_datatype datatype.now) }
+{
+    match &datatype.id {
+        Some(id) => id.clone(alloc),
+        None => xsd_type(alloc, datatype.simple),
+    }
+}
