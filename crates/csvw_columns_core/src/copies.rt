@@ -40,6 +40,7 @@ impl Column {
             is_virtual: self.is_virtual,
             suppressed: self.suppressed,
             predicate: self.predicate.clone(alloc)?,
+            literal_datatype: self.literal_datatype.clone(alloc)?,
             properties: self.properties.clone(alloc)?,
         })
     }
