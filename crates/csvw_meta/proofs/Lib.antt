@@ -1,4 +1,8 @@
 pub mod ContextLemmas
+pub mod FineLemmas
+pub mod FitDialect
+pub mod FitDocument
+pub mod FitSchema
 pub mod ItemsLemmas
 pub mod JsonLemmas
 pub mod ReadLemmas

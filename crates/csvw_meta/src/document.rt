@@ -2,6 +2,7 @@
 ghost use Rattle.std.specs.Prelude.{◌≡◌, ◌≢◌, [], None, IfOk, IfErr, Contains};
 ghost use Rattle.serde_json.specs.View.{view};
 ghost use Rattle.csvw_iri.specs.Link.{base_of};
+ghost use Rattle.csvw_description.specs.Plannable.{IsPlannable};
 ghost use Rattle.csvw_meta_core.specs.Links.{told, no_url};
 ghost use Rattle.csvw_meta_core.specs.Pointer.{text_of};
 ghost use Rattle.csvw_meta_core.specs.Read.{fine};
@@ -108,8 +109,9 @@ fn document(alloc: Global, bytes: &[u8], base: &str) -> Result<Description, Refu
 /// `UrlTooLong` where its URL is none, `NotJson` where it is no JSON text, `BadContext` where it has no
 /// context, and what its parts say.
 pub fn read(alloc: Global, bytes: &[u8], base: &str) -> Result<Description, MetaFault>
-    // What is read stands in a document without faults.
+    // What is read stands in a document without faults, and so keeps the limits and rules of descriptions.
     ensures found { IfOk result (λ d. document base.now bytes.now ≡ fine d) }
+    ensures plannable { IfOk result IsPlannable }
     // What is refused has that fault.
     ensures fault { IfErr result (λ e. e.code ≢ MetaCode.Memory → Contains (document base.now bytes.now).faults e) }
 {

@@ -1,6 +1,7 @@
 //! The description of one table by its URL alone.
 ghost use Rattle.std.specs.Prelude.{◌≡◌, ◌≢◌, IfOk, IfErr, Contains};
 ghost use Rattle.serde_json.specs.View.{view};
+ghost use Rattle.csvw_description.specs.Plannable.{IsPlannable};
 ghost use Rattle.csvw_meta_core.specs.Pointer.{text_of};
 ghost use Rattle.csvw_meta_core.specs.Read.{fine};
 ghost use Rattle.csvw_meta_core.specs.Reads.{Reads};
@@ -52,8 +53,9 @@ fn plain_description(alloc: Global, url: &str) -> Result<Description, Refusal>
 /// a document that has the context and that `url` alone, at that URL. `BadUrl` or `UrlTooLong` at
 /// `/url` where it is none; the code `Memory` where there is none for the group.
 pub fn plain(alloc: Global, url: &str) -> Result<Description, MetaFault>
-    // What is read stands in a document without faults.
+    // What is read stands in a document without faults, and so keeps the limits and rules of descriptions.
     ensures found { IfOk result (λ d. plain_description url.now ≡ fine d) }
+    ensures plannable { IfOk result IsPlannable }
     // What is refused has that fault.
     ensures fault { IfErr result (λ e. e.code ≢ MetaCode.Memory → Contains (plain_description url.now).faults e) }
 {

@@ -1,0 +1,129 @@
+-- A schema that stands in a document without faults has no more columns than the limit, and no two of one name.
+use Rattle.std.proofs.Common.{◌≡◌, ◌≢◌, ◌≤◌, ◌+◌, ℕ, List, [], ◌∷◌, ◌++◌, ◌||◌, Bool, true, false, refl, sym, ap, ◌∙◌, subst, arith, length, append_assoc, All, AllPairs, bytes_eq, codes, if◌then◌else◌}
+use Rattle.std.specs.List.{list_any}
+use Rattle.std.proofs.lemmas.List.Elements.{All-cons}
+use Rattle.std.proofs.lemmas.List.Folds.{list_any-append}
+use Rattle.std.proofs.lemmas.List.Kept.{AllPairs-cons}
+use Rattle.std.proofs.lemmas.Slice.Eq.{bytes_eq-Decides}
+use Rattle.serde_json.specs.Data.{Data}
+use Rattle.csvw_description.specs.declared.column.ColumnDescription.{ColumnDescription}
+use Rattle.csvw_description.specs.Name.{name_of}
+use Rattle.csvw_description.specs.Plannable.{HasSoundDatatype, IsFitSchema, names_from}
+use Rattle.csvw_meta_core.specs.declared.fault.MetaCode.TheVariants.{DuplicateName, NotSupported}
+use Rattle.csvw_meta_core.specs.declared.fault.MetaFault.{MetaFault}
+use Rattle.csvw_meta_core.specs.Pointer.{item_at}
+use Rattle.csvw_meta_core.specs.Read.{property, optional, not_yet}
+use Rattle.csvw_meta_core.specs.Kinds.{fixed}
+use Rattle.csvw_meta_core.specs.Links.{id}
+use Rattle.csvw_meta_core.specs.Others.{others}
+use Rattle.csvw_meta.specs.declared.context.Context.{Context}
+use Rattle.csvw_meta.specs.Column.{column, column_of, no_column}
+use Rattle.csvw_meta.specs.Inherited.{inherited}
+use Rattle.csvw_meta.specs.Names.{schema_names, inherited_names, place_of}
+use Rattle.csvw_meta.specs.Repeated.{repeated}
+use Rattle.csvw_meta.specs.Schema.{columns, name_faults, no_schema, numbered_names, schema, schema_of}
+use Rattle.csvw_meta.specs.Several.{several}
+use Rattle.csvw_meta.proofs.FineLemmas.{Ensures, none_in_both, also_fine, on_object_fine, on_linked_fine, property_fine, several_fine}
+
+-- ---- texts of which none repeats an earlier one
+
+none_alike : (b : Bool) (fault : MetaFault) → (if b then fault ∷ [] else []) ≡ [] → b ≡ false
+none_alike true fault h = cc
+none_alike false fault h = refl
+
+middle_true : (a b : Bool) → (a || (true || b)) ≡ true
+middle_true true b = refl
+middle_true false b = refl
+
+middle_apart : (before after : List (List ℕ)) (x t : List ℕ) → list_any (λ u. bytes_eq u t) (before ++ x ∷ after) ≡ false → x ≢ t
+middle_apart before after x t none e =
+    let here : bytes_eq x t ≡ true = (bytes_eq-Decides x t).1 e in
+    let parts : (list_any (λ u. bytes_eq u t) before || (bytes_eq x t || list_any (λ u. bytes_eq u t) after)) ≡ false =
+    sym (list_any-append (λ u. bytes_eq u t) before (x ∷ after)) ∙ none in
+    let wrong : true ≡ false = sym (middle_true (list_any (λ u. bytes_eq u t) before) (list_any (λ u. bytes_eq u t) after)) ∙ rw here at parts in
+    cc
+
+module _ (fault : ℕ → MetaFault) where
+  alike : (before : List (List ℕ)) (i : ℕ) (t : List ℕ) (ts : List (List ℕ)) → repeated fault before i (t ∷ ts) ≡ []
+      → (list_any (λ u. bytes_eq u t) before ≡ false) × (repeated fault (before ++ t ∷ []) (i + 1) ts ≡ [])
+  alike before i t ts h =
+      let here = list_any (λ u. bytes_eq u t) before in
+      let parts = none_in_both (if here then fault i ∷ [] else []) _ h in
+      (none_alike here (fault i) parts.0, parts.1)
+
+  all_apart : (before after : List (List ℕ)) (x : List ℕ) (i : ℕ) (ts : List (List ℕ)) → repeated fault (before ++ x ∷ after) i ts ≡ [] → All (λ y. x ≢ y) ts
+  all_apart before after x i [] h = λ k d lt. absurd (omega (arith, lt))
+  all_apart before after x i (t ∷ ts) h =
+      let parts = alike (before ++ x ∷ after) i t ts h in
+      let rest : repeated fault (before ++ x ∷ (after ++ t ∷ [])) (i + 1) ts ≡ [] =
+      subst (λ us. repeated fault us (i + 1) ts ≡ []) (append_assoc before (x ∷ after) (t ∷ [])) parts.1 in
+      All-cons (λ y. x ≢ y) t ts (middle_apart before after x t parts.0) (all_apart before (after ++ t ∷ []) x (i + 1) ts rest)
+
+  pairs_apart : (before : List (List ℕ)) (i : ℕ) (ts : List (List ℕ)) → repeated fault before i ts ≡ [] → AllPairs (λ x y. x ≢ y) ts
+  pairs_apart before i [] h = λ i j d less lt. absurd (omega (arith, lt))
+  pairs_apart before i (t ∷ ts) h =
+      let rest = (alike before i t ts h).1 in
+      AllPairs-cons (λ x y. x ≢ y) t ts (all_apart before [] t (i + 1) ts rest) (pairs_apart (before ++ t ∷ []) (i + 1) ts rest)
+
+-- ---- columns
+
+pub inherited_sound : (at : List ℕ) (d : Data) → HasSoundDatatype (inherited at d).value
+unfolding inherited
+inherited_sound at d = tt
+
+abbrev IsSoundColumn : ColumnDescription → Type 0
+IsSoundColumn c = HasSoundDatatype c.inherited
+
+column_of_fine : (context : Context) (table number : ℕ) (at : List ℕ) (d : Data) → Ensures (column_of context table number at d) IsSoundColumn
+unfolding column_of
+column_of_fine context table number at d h = inherited_sound at d
+
+column_fine : (context : Context) (table number : ℕ) (at : List ℕ) (d : Data) → Ensures (column context table number at d) IsSoundColumn
+column_fine context table number at d =
+    on_object_fine IsSoundColumn at d no_column (column_of context table number at d) (column_of_fine context table number at d)
+
+names_are : (i : ℕ) (cs : List ColumnDescription) → numbered_names i cs ≡ names_from (i + 1) cs
+names_are i [] = refl
+names_are i (c ∷ cs) = ap (λ ns. name_of (i + 1) c ∷ ns) (names_are (i + 1) cs)
+
+record AreFitColumns (cs : List ColumnDescription) : Type 0 where
+  pub sound : All IsSoundColumn cs
+  pub count : length cs ≤ 1024
+  pub names : AllPairs (λ x y. x ≢ y) (names_from 1 cs)
+
+abbrev AreSeveral : List ColumnDescription → Type 0
+AreSeveral cs = All IsSoundColumn cs × (length cs ≤ 1024)
+
+named_fine : (at : List ℕ) (cs : List ColumnDescription) → AreSeveral cs → name_faults at cs ≡ [] → AreFitColumns cs
+named_fine at cs several h = record {
+  sound = several.0;
+  count = several.1;
+  names = subst (AllPairs (λ x y. x ≢ y)) (names_are 0 cs)
+      (pairs_apart (λ i. record { code = DuplicateName; pointer = item_at at i }) [] 0 (numbered_names 0 cs) h);
+}
+
+columns_fine : (context : Context) (table : ℕ) (at : List ℕ) (d : Data) → Ensures (columns context table at d) AreFitColumns
+columns_fine context table at d =
+    also_fine AreSeveral AreFitColumns (several 0 1024 (column context table) at d) (name_faults at)
+    (several_fine IsSoundColumn (column context table) (column_fine context table) 0 1024 at d) (named_fine at)
+
+no_columns : AreFitColumns []
+no_columns = record { sound = λ k d lt. absurd (omega (arith, lt)); count = omega arith; names = λ i j d less lt. absurd (omega (arith, lt)) }
+
+-- ---- schemas
+
+schema_of_fine : (context : Context) (table : ℕ) (at : List ℕ) (d : Data) → Ensures (schema_of context table at d) IsFitSchema
+unfolding schema_of
+schema_of_fine context table at d h =
+    let p1 = none_in_both (optional (id context.base) at d (codes "@id")).faults _ h in
+    let p2 = none_in_both (optional (fixed (codes "Schema")) at d (codes "@type")).faults _ p1.1 in
+    let p3 = none_in_both (optional not_yet at d (codes "primaryKey")).faults _ p2.1 in
+    let p4 = none_in_both (optional not_yet at d (codes "foreignKeys")).faults _ p3.1 in
+    let p5 = none_in_both (optional not_yet at d (codes "rowTitles")).faults _ p4.1 in
+    let p6 = none_in_both (others (schema_names ++ inherited_names) NotSupported (place_of table 0) at d).faults _ p5.1 in
+    let p7 = none_in_both (property (columns context table) [] at d (codes "columns")).faults _ p6.1 in
+    let fits = property_fine AreFitColumns (columns context table) (columns_fine context table) [] no_columns at d (codes "columns") p7.0 in
+    record { inherited = inherited_sound at d; columns = fits.sound; count = fits.count; names = fits.names }
+
+pub schema_fine : (context : Context) (table : ℕ) (at : List ℕ) (d : Data) → Ensures (schema context table at d) IsFitSchema
+schema_fine context table at d = on_linked_fine IsFitSchema at d no_schema (schema_of context table at d) (schema_of_fine context table at d)
