@@ -1,2 +1,5 @@
 pub mod ColumnLemmas
 pub mod DistinctLemmas
+pub mod DialectLemmas
+pub mod PlanLemmas
+pub mod ReadyLemmas

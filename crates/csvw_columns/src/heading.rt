@@ -5,6 +5,7 @@ ghost use Rattle.csvw_columns_core.specs.HeaderColumns.{column_count, from_heade
 ghost use Rattle.csvw_columns_core.specs.SchemaColumns.{column_limit, declared_columns};
 ghost use Rattle.csvw_columns.specs.HeaderMatch.{columns_of, header_columns, frame_of, IsWithin, GivesColumns, Matches};
 
+use crate::copies::copied_inherited;
 use crate::names::{are_distinct, names_of};
 use crate::plan::TablePlan;
 use crate::table_stop::TableStop;
@@ -12,27 +13,8 @@ use csvw_columns_core::{
     COLUMN_LIMIT, Column, Columns, Defaults, Frame, HeaderRow, SKIP_LIMIT, column_count,
     from_header, header_faults,
 };
-use csvw_description::Inherited;
 use csvw_text::{Fault, Seq, copied_option};
 use std::alloc::{AllocError, Global};
-
-/// An equal one, which shares its templates, texts and datatype.
-fn copied_inherited(alloc: Global, inherited: &Inherited) -> Result<Inherited, AllocError>
-    ensures { IfOk result (λ i. i ≡ inherited.now) }
-{
-    Ok(Inherited {
-        about_url: copied_option(alloc, &inherited.about_url)?,
-        property_url: copied_option(alloc, &inherited.property_url)?,
-        value_url: copied_option(alloc, &inherited.value_url)?,
-        datatype: copied_option(alloc, &inherited.datatype)?,
-        default: copied_option(alloc, &inherited.default)?,
-        lang: copied_option(alloc, &inherited.lang)?,
-        null: copied_option(alloc, &inherited.null)?,
-        ordered: inherited.ordered,
-        required: inherited.required,
-        separator: copied_option(alloc, &inherited.separator)?,
-    })
-}
 
 /// What its columns have of the table.
 fn frame_of(alloc: Global, plan: &TablePlan) -> Result<Frame, AllocError>
