@@ -3,3 +3,4 @@ pub mod DistinctLemmas
 pub mod DialectLemmas
 pub mod PlanLemmas
 pub mod ReadyLemmas
+pub mod SoundLemmas

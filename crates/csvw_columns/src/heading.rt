@@ -4,6 +4,7 @@ ghost use Rattle.csvw_iri.specs.Link.{iri_of};
 ghost use Rattle.csvw_columns_core.specs.HeaderColumns.{column_count, from_header};
 ghost use Rattle.csvw_columns_core.specs.SchemaColumns.{column_limit, declared_columns};
 ghost use Rattle.csvw_columns.specs.HeaderMatch.{columns_of, header_columns, frame_of, IsWithin, GivesColumns, Matches};
+ghost use Rattle.csvw_columns.specs.Ready.{AreSound, IsReady};
 
 use crate::copies::copied_inherited;
 use crate::names::{are_distinct, names_of};
@@ -89,13 +90,15 @@ fn columns_of(
 /// those that come from the header rows, or without header rows one for each field of the first data row, of which there
 /// are so many. `TooManyColumns` where there are over 1,024 of them, or over 1,024 columns of the source are skipped; else
 /// `DuplicateName` where two have one name. `Memory` where there is none. It never answers `RaggedRow`.
+#[tactic(auto, using(crate::proofs::SoundLemmas::sound_at))]
 pub fn match_header(
     alloc: Global,
     plan: &TablePlan,
     rows: &[HeaderRow],
     width: Option<usize>,
 ) -> Result<(Columns, Vec<Fault>), TableStop>
-    ensures { Matches plan.now rows.now width result }
+    ensures matches { Matches plan.now rows.now width result }
+    ensures sound { IfOk result (λ found. IsReady plan.now → AreSound found.0.columns) }
 {
     let columns = columns_of(alloc, plan, rows, width)?;
     let names = names_of(alloc, columns.as_slice())?;
