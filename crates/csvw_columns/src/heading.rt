@@ -4,7 +4,9 @@ ghost use Rattle.csvw_iri.specs.Link.{iri_of};
 ghost use Rattle.csvw_columns_core.specs.HeaderColumns.{column_count, from_header};
 ghost use Rattle.csvw_columns_core.specs.SchemaColumns.{column_limit, declared_columns};
 ghost use Rattle.csvw_columns.specs.HeaderMatch.{columns_of, header_columns, frame_of, IsWithin, GivesColumns, Matches};
+ghost use Rattle.csvw_columns.specs.Ready.{AreSound, IsReady};
 
+use crate::copies::copied_inherited;
 use crate::names::{are_distinct, names_of};
 use crate::plan::TablePlan;
 use crate::table_stop::TableStop;
@@ -12,27 +14,8 @@ use csvw_columns_core::{
     COLUMN_LIMIT, Column, Columns, Defaults, Frame, HeaderRow, SKIP_LIMIT, column_count,
     from_header, header_faults,
 };
-use csvw_description::Inherited;
 use csvw_text::{Fault, Seq, copied_option};
 use std::alloc::{AllocError, Global};
-
-/// An equal one, which shares its templates, texts and datatype.
-fn copied_inherited(alloc: Global, inherited: &Inherited) -> Result<Inherited, AllocError>
-    ensures { IfOk result (λ i. i ≡ inherited.now) }
-{
-    Ok(Inherited {
-        about_url: copied_option(alloc, &inherited.about_url)?,
-        property_url: copied_option(alloc, &inherited.property_url)?,
-        value_url: copied_option(alloc, &inherited.value_url)?,
-        datatype: copied_option(alloc, &inherited.datatype)?,
-        default: copied_option(alloc, &inherited.default)?,
-        lang: copied_option(alloc, &inherited.lang)?,
-        null: copied_option(alloc, &inherited.null)?,
-        ordered: inherited.ordered,
-        required: inherited.required,
-        separator: copied_option(alloc, &inherited.separator)?,
-    })
-}
 
 /// What its columns have of the table.
 fn frame_of(alloc: Global, plan: &TablePlan) -> Result<Frame, AllocError>
@@ -107,13 +90,15 @@ fn columns_of(
 /// those that come from the header rows, or without header rows one for each field of the first data row, of which there
 /// are so many. `TooManyColumns` where there are over 1,024 of them, or over 1,024 columns of the source are skipped; else
 /// `DuplicateName` where two have one name. `Memory` where there is none. It never answers `RaggedRow`.
+#[tactic(auto, using(crate::proofs::SoundLemmas::sound_at))]
 pub fn match_header(
     alloc: Global,
     plan: &TablePlan,
     rows: &[HeaderRow],
     width: Option<usize>,
 ) -> Result<(Columns, Vec<Fault>), TableStop>
-    ensures { Matches plan.now rows.now width result }
+    ensures matches { Matches plan.now rows.now width result }
+    ensures sound { IfOk result (λ found. IsReady plan.now → AreSound found.0.columns) }
 {
     let columns = columns_of(alloc, plan, rows, width)?;
     let names = names_of(alloc, columns.as_slice())?;

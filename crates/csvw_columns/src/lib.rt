@@ -1,10 +1,15 @@
 //! The plan of a group of tables: which columns each table has, and how its header fits them.
 #![tactic(auto)]
 
+mod building;
+mod checks;
+mod copies;
 mod heading;
 mod names;
 mod plan;
+mod planning;
 mod table_stop;
+mod warnings;
 
 pub use csvw_columns_core::{Column, Columns, HeaderRow};
 pub use heading::match_header;
