@@ -1,11 +1,11 @@
 -- Triples put one after the other.
-use Rattle.std.proofs.Common.{◌≡◌, ℕ, ◌+◌, List, [], ◌++◌, Bool, refl, sym, ap, ◌∙◌, subst, append_assoc, append-nil}
+use Rattle.std.proofs.Common.{◌≡◌, ℕ, ◌+◌, List, [], ◌++◌, Bool, refl, sym, ap, ◌∙◌, subst, append_assoc}
 use Rattle.std.specs.Prelude.{Result, Ok, Err}
 use Rattle.csvw_triples_core.specs.declared.sink.SinkFault.{SinkFault}
 use Rattle.csvw_triples_core.specs.declared.sink.SinkFault.TheVariants.{Memory, Device, Closed}
 use Rattle.csvw_triples_core.specs.declared.term.Triple.{Triple}
-use Rattle.csvw_triples_core.specs.Taking.{FrontOf, IsAsReady, Ends}
-use Rattle.csvw_triples.specs.Puts.{Takes, Puts}
+use Rattle.csvw_triples_core.specs.Taking.{IsAsReady, Ends}
+use Rattle.csvw_triples.specs.Puts.{Puts}
 
 module _ {S : Type 0} (gains : S → List Triple → S → Type 0) (is_open : S → Bool) (failed : S → ℕ) where
   -- how the sink stands after a later call

@@ -1,22 +1,20 @@
 -- The values of annotated rows have lexical forms.
-use Rattle.std.proofs.Common.{◌≡◌, ℕ, Bool, true, false, List, [], ◌∷◌, ◌++◌, Option, Some, None, refl, sym, subst}
-use Rattle.std.specs.Prelude.{MatchBool}
+use Rattle.std.proofs.Common.{◌≡◌, ℕ, Bool, true, false, List, [], ◌∷◌, Option, Some, None, length, sym, subst}
+use Rattle.std.specs.Prelude.{MatchBool, ◌==◌}
 use Rattle.csvw_text.specs.declared.fault.Code.{Code}
 use Rattle.csvw_datatype.specs.declared.datatype.Datatype.{Datatype}
 use Rattle.csvw_datatype.specs.declared.format.Format.{Format}
 use Rattle.csvw_datatype.specs.declared.simple.Simple.{Simple}
 use Rattle.csvw_datatype.specs.declared.value.Value.{Value}
 use Rattle.csvw_datatype.specs.Lexical.{IsWritable}
-use Rattle.csvw_datatype.specs.Reads.{Reads, ReadsAs, Misread}
+use Rattle.csvw_datatype.specs.Reads.{ReadsAs}
 use Rattle.csvw_columns_core.specs.declared.column.Column.{Column}
 use Rattle.csvw_columns_core.specs.declared.columns.Columns.{Columns}
 use Rattle.csvw_columns_core.specs.declared.properties.Properties.{Properties}
 use Rattle.csvw_rows.specs.RowValue.{Given}
-use Rattle.csvw_cell.specs.Codes.{broken_codes}
-use Rattle.csvw_cell.specs.CellOf.{IsItem, AreItems, IsSingle, IsListOf, IsList, IsCellBy, CellOf, is_null, texts_of, missing, or_default, normalized}
+use Rattle.csvw_cell.specs.CellOf.{IsItem, AreItems, IsSingle, IsListOf, IsList, IsCellBy, is_null, texts_of, missing, or_default, normalized}
 use Rattle.csvw_cell.specs.declared.cell.Cell.{Cell}
 use Rattle.csvw_cell.specs.declared.cell.Item.{Item}
-use Rattle.csvw_cell.specs.declared.cell.CellValue.{CellValue}
 use Rattle.csvw_cell.specs.declared.cell.CellValue.TheVariants as values
 use Rattle.csvw_annotate.specs.Annotated.{IsCell, AreCells, IsRow}
 use Rattle.csvw_annotate.specs.declared.row.AnnCell.{AnnCell}
@@ -53,7 +51,8 @@ module _ (law : Writable) where
 
   list_forms : (p : Properties) (separator text : List ℕ) (cell : Cell) → IsList p separator text cell → ValueHasForms cell.value
   list_forms p separator text cell h =
-      either _ (λ k. subst ValueHasForms (sym k.0) tt) (λ r. either (is_null p.null text) (λ k. null_form cell k.0) (λ k. list_of_forms p separator text cell k) r) h
+      either (length text == 0) (λ (k : (cell.value ≡ values.Many []) × (cell.faults ≡ missing p)). subst ValueHasForms (sym k.0) tt)
+      (λ r. either (is_null p.null text) (λ (k : (cell.value ≡ values.Null) × (cell.faults ≡ [])). null_form cell k.0) (λ k. list_of_forms p separator text cell k) r) h
 
   by_forms : (p : Properties) (separator : Option (List ℕ)) (text : List ℕ) (cell : Cell) → IsCellBy p separator text cell → ValueHasForms cell.value
   by_forms p None text cell h = single_form p text cell h

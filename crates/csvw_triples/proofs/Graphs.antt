@@ -1,5 +1,5 @@
 -- The triples that rows give are their graph.
-use Rattle.std.proofs.Common.{◌≡◌, ℕ, zero, suc, ◌+◌, ◌<◌, Bool, true, false, cond, List, [], ◌∷◌, ◌++◌, map, drop, refl, sym, ap, ◌∙◌, subst, arith, add-one, inl, inr, ◌⊎◌, ◌↔◌, Option, Some, None, Contains}
+use Rattle.std.proofs.Common.{◌≡◌, ℕ, zero, suc, ◌+◌, Bool, true, false, cond, List, [], ◌∷◌, map, drop, refl, sym, ap, ◌∙◌, subst, arith, add-one, inl, inr, ◌⊎◌, ◌↔◌, Option, Some, None, Contains}
 use Rattle.std.proofs.lemmas.List.Elements.{Contains-append_left, Contains-append_right, Contains-append_cases, Contains-push, Contains-push_cases}
 use Rattle.std.specs.Prelude.{MatchBool, flat_map, slice_get}
 use Rattle.std.specs.List.{zip}
@@ -8,7 +8,6 @@ use Rattle.csvw_columns_core.specs.declared.columns.Columns.{Columns}
 use Rattle.csvw_cell.specs.declared.cell.Item.{Item}
 use Rattle.csvw_cell.specs.declared.cell.CellValue.{CellValue}
 use Rattle.csvw_cell.specs.declared.cell.CellValue.TheVariants.{Null, One, Many}
-use Rattle.csvw_annotate.specs.declared.row.AnnCell.{AnnCell}
 use Rattle.csvw_annotate.specs.declared.row.Row.{Row}
 use Rattle.csvw_triples_core.specs.declared.mode.Mode.TheVariants as mode
 use Rattle.csvw_triples_core.specs.declared.origin.Origin.{Origin}
@@ -17,8 +16,8 @@ use Rattle.csvw_triples_core.specs.declared.term.Term.{Term}
 use Rattle.csvw_triples_core.specs.declared.term.Term.TheVariants as term
 use Rattle.csvw_triples_core.specs.declared.term.Triple.{Triple}
 use Rattle.csvw_triples.specs.Literals.{literal_of}
-use Rattle.csvw_triples.specs.Graph.{IsObjectOf, IsObjectBy, IsListTriple, IsOfList, IsOfCell, RowGraph, Minimal}
-use Rattle.csvw_triples.specs.RowTriples.{triple, subject_of, predicate_of, entries_of, list_node, first_triple, rest_triple, list_triples, items_triples, value_triples, object_triples, cell_triples, cells_triples, row_triples}
+use Rattle.csvw_triples.specs.Graph.{IsObjectBy, IsListTriple, IsOfList, RowGraph, Minimal}
+use Rattle.csvw_triples.specs.RowTriples.{triple, subject_of, predicate_of, entries_of, list_node, first_triple, rest_triple, list_triples, object_triples, cell_triples, cells_triples, row_triples}
 
 -- lists
 
@@ -103,21 +102,29 @@ module _ (entry : ℕ → Origin) (column : Column) where
   later_entry : (k : ℕ) (y : Item) (items : List Item) (x : Triple) → OfEntry (k + 1) items x → OfEntry k (y ∷ items) x
   later_entry k y items x h =
       let n = next_number h.0 k in
-      let tail : drop (h.0 + 1) items ≡ drop (suc h.0 + 1) (y ∷ items) = ap (λ m. drop m items) (add-one h.0) ∙ ap (λ m. drop m (y ∷ items)) (sym (add-one (suc h.0))) in
-      (suc h.0, h.1, h.2, elim h.3 [
-        | inl e ↦ inl (e ∙ ap (λ m. first_triple entry column m h.1) n)
-        | inr e ↦ inr (e ∙ ap (λ m. rest_triple entry m (drop (h.0 + 1) items)) n ∙ ap (λ t. rest_triple entry (suc h.0 + k) t) tail)
-      ])
+      let tail : drop (h.0 + 1) items ≡ drop (suc h.0 + 1) (y ∷ items) = ap (λ m. drop m items) (add-one h.0) ∙ ap (λ m. drop m (y ∷ items)) (sym (add-one (suc h.0))) in (
+        suc h.0,
+        h.1,
+        h.2,
+        elim h.3 [
+          | inl e ↦ inl (e ∙ ap (λ m. first_triple entry column m h.1) n)
+          | inr e ↦ inr (e ∙ ap (λ m. rest_triple entry m (drop (h.0 + 1) items)) n ∙ ap (λ t. rest_triple entry (suc h.0 + k) t) tail)
+        ],
+      )
 
   first_number : (k : ℕ) → k ≡ 0 + k
   first_number k = omega arith
 
+  -- the triples behind the first entry's
+  abbrev behind : ℕ → List Item → List Triple
+  behind k items = rest_triple entry k items ∷ list_triples entry column (k + 1) items
+
   from_list : (k : ℕ) (items : List Item) (x : Triple) → Contains (list_triples entry column k items) x → OfEntry k items x
   from_list k [] x h = absurd (none_in x h)
   from_list k (item ∷ items) x h =
-      elim (in_cons (first_triple entry column k item) _ x h) [
+      elim (in_cons (first_triple entry column k item) (behind k items) x h) [
         | inl e ↦ (0, item, refl, inl (e ∙ ap (λ m. first_triple entry column m item) (first_number k)))
-        | inr l ↦ elim (in_cons (rest_triple entry k items) _ x l) [
+        | inr l ↦ elim (in_cons (rest_triple entry k items) (list_triples entry column (k + 1) items) x l) [
           | inl e ↦ (0, item, refl, inr (e ∙ ap (λ m. rest_triple entry m items) (first_number k)))
           | inr m ↦ later_entry k item items x (from_list (k + 1) items x m)
         ]
@@ -126,21 +133,32 @@ module _ (entry : ℕ → Origin) (column : Column) where
   some_same : (y z : Item) → Some y ≡ Some z → y ≡ z
   some_same y z e = cc
 
+  in_first : (k : ℕ) (item : Item) (items : List Item) (x : Triple) → x ≡ first_triple entry column k item → Contains (list_triples entry column k (item ∷ items)) x
+  in_first k item items x e = is_first (first_triple entry column k item) (behind k items) x e
+
+  in_rest : (k : ℕ) (item : Item) (items : List Item) (x : Triple) → x ≡ rest_triple entry k items → Contains (list_triples entry column k (item ∷ items)) x
+  in_rest k item items x e =
+      later_in (first_triple entry column k item) (behind k items) x (is_first (rest_triple entry k items) (list_triples entry column (k + 1) items) x e)
+
+  in_others : (k : ℕ) (item : Item) (items : List Item) (x : Triple) → Contains (list_triples entry column (k + 1) items) x → Contains (list_triples entry column k (item ∷ items)) x
+  in_others k item items x h =
+      later_in (first_triple entry column k item) (behind k items) x (later_in (rest_triple entry k items) (list_triples entry column (k + 1) items) x h)
+
   to_list : (k : ℕ) (items : List Item) (x : Triple) (i : ℕ) (item : Item) → slice_get items i ≡ Some item
       → (x ≡ first_triple entry column (i + k) item) ⊎ (x ≡ rest_triple entry (i + k) (drop (i + 1) items)) → Contains (list_triples entry column k items) x
   to_list k [] x i item e h = cc
   to_list k (y ∷ items) x zero item e h =
       elim h [
-        | inl f ↦ is_first _ _ x (f ∙ ap (λ m. first_triple entry column m item) (sym (first_number k)) ∙ ap (first_triple entry column k) (sym (some_same y item e)))
-        | inr f ↦ later_in _ _ x (is_first _ _ x (f ∙ ap (λ m. rest_triple entry m items) (sym (first_number k))))
+        | inl f ↦ in_first k y items x (f ∙ ap (λ m. first_triple entry column m item) (sym (first_number k)) ∙ ap (first_triple entry column k) (sym (some_same y item e)))
+        | inr f ↦ in_rest k y items x (f ∙ ap (λ m. rest_triple entry m items) (sym (first_number k)))
       ]
   to_list k (y ∷ items) x (suc i) item e h =
       let n = next_number i k in
       let tail : drop (i + 1) items ≡ drop (suc i + 1) (y ∷ items) = ap (λ m. drop m items) (add-one i) ∙ ap (λ m. drop m (y ∷ items)) (sym (add-one (suc i))) in
-      later_in _ _ x (later_in _ _ x (to_list (k + 1) items x i item e (elim h [
+      in_others k y items x (to_list (k + 1) items x i item e (elim h [
         | inl f ↦ inl (f ∙ ap (λ m. first_triple entry column m item) (sym n))
         | inr f ↦ inr (f ∙ ap (λ t. rest_triple entry (suc i + k) t) (sym tail) ∙ ap (λ m. rest_triple entry m (drop (i + 1) items)) (sym n))
-      ])))
+      ]))
 
   -- cells
 
@@ -189,10 +207,16 @@ module _ (entry : ℕ → Origin) (column : Column) where
   from_value s p (One item) None x h = inl (whole s p _ x (one_in _ x h))
   from_value s p (Many items) None x h = from_items s p items column.properties.ordered x h
 
+  -- a cell with a value link is no list
+  no_list : (value : CellValue) (link : List ℕ) (x : Triple) → IsOfList entry column value (Some link) x → ⊥
+  no_list Null link x h = h
+  no_list (One item) link x h = h
+  no_list (Many items) link x h = h
+
   to_value : (s : Node) (p : List ℕ) (value : CellValue) (link : Option (List ℕ)) (x : Triple) → Of s p value link x → Contains (object_triples s p entry column value link) x
-  to_value s p value (Some link) x h = elim h [ | inl e ↦ is_first _ [] x (same_triple x s p _ e.0 e.1 e.2) | inr l ↦ absurd l ]
-  to_value s p Null None x h = elim h [ | inl e ↦ absurd e.2 | inr l ↦ absurd l ]
-  to_value s p (One item) None x h = elim h [ | inl e ↦ is_first _ [] x (same_triple x s p _ e.0 e.1 e.2) | inr l ↦ absurd l ]
+  to_value s p value (Some link) x h = elim h [ inl e ↦ is_first _ [] x (same_triple x s p _ e.0 e.1 e.2) | inr l ↦ absurd (no_list value link x l) ]
+  to_value s p Null None x h = elim h [ inl e ↦ absurd e.2 | inr l ↦ absurd l ]
+  to_value s p (One item) None x h = elim h [ inl e ↦ is_first _ [] x (same_triple x s p _ e.0 e.1 e.2) | inr l ↦ absurd l ]
   to_value s p (Many items) None x h = to_items s p items column.properties.ordered x h
 
 -- nothing is given where it is suppressed

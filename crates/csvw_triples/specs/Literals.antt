@@ -1,5 +1,5 @@
 -- The literals of values (csv2rdf, section 4.6; Metadata Vocabulary for Tabular Data, section 5.7, `lang`).
-use Rattle.std.specs.Prelude.{ℕ, Bool, not, ◌&&◌, is_some, Option, Some, None, List, bytes_eq, codes, if◌then◌else◌}
+use Rattle.std.specs.Prelude.{ℕ, Bool, not, ◌&&◌, is_some, List, bytes_eq, codes, if◌then◌else◌}
 use Rattle.csvw_columns_core.specs.declared.column.Column.{Column}
 use Rattle.csvw_columns_core.specs.declared.properties.Properties.{Properties}
 use Rattle.csvw_datatype.specs.Lexical.{lexical_of}

@@ -1,5 +1,5 @@
 -- The triples of a row, in their order (csv2rdf, minimal mode, section 4.2).
-use Rattle.std.specs.Prelude.{ℕ, ◌+◌, Bool, List, [], ◌∷◌, map, flat_map, Option, Some, None, unwrap_or, if◌then◌else◌}
+use Rattle.std.specs.Prelude.{ℕ, ◌+◌, List, [], ◌∷◌, map, flat_map, Option, Some, None, unwrap_or, if◌then◌else◌}
 use Rattle.std.specs.List.{zip}
 use Rattle.csvw_columns_core.specs.declared.column.Column.{Column}
 use Rattle.csvw_columns_core.specs.declared.columns.Columns.{Columns}

@@ -50,12 +50,7 @@ fn form_of(alloc: Global, value: &Value, spare: Text) -> Result<Text, AllocError
     }
 }
 
-fn tagged(
-    alloc: Global,
-    names: &RdfNames,
-    text: Text,
-    tag: &LanguageTag,
-) -> Result<Lit, AllocError>
+fn tagged(alloc: Global, names: &RdfNames, text: Text, tag: &LanguageTag) -> Result<Lit, AllocError>
     ensures { IfOk result (λ lit. lit ≡ tagged_lit text tag.now) }
 {
     let datatype = names.tagged.clone(alloc)?;

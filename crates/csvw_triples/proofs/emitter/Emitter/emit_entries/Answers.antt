@@ -1,5 +1,5 @@
 -- One entry more, a part of them, or all.
-use Rattle.std.proofs.Common.{◌≡◌, ℕ, List, refl, ◌∙◌, ap, arith, ◌+◌, ◌++◌, drop}
+use Rattle.std.proofs.Common.{ℕ, refl, ◌∙◌, ap, arith, ◌+◌, ◌++◌, drop}
 use Rattle.std.specs.Prelude.{Ok, Err}
 use Rattle.std.proofs.lemmas.Result.{err_from_is_err_and}
 use Rattle.csvw_triples_core.specs.declared.origin.Origin.{Origin}
@@ -7,7 +7,7 @@ use Rattle.csvw_triples_core.specs.declared.origin.Origin.TheVariants.{Entry}
 use Rattle.csvw_triples_core.specs.declared.sink.SinkFault.TheVariants.{Memory}
 use Rattle.csvw_triples.specs.RowTriples.{list_triples}
 use Rattle.csvw_triples.proofs.Emitting.{puts_nothing, no_memory, puts_then, puts_part, puts_same}
-use Rattle.csvw_triples.proofs.Runs.{front_triples, front_none, entries_left, entries_all, entry_put}
+use Rattle.csvw_triples.proofs.Runs.{front_none, entries_left, entries_all, entry_put}
 use Rattle.csvw_triples.proofs.emitter.Emitter.emit_entries.Goals as goal
 
 pub loop-i-init : goal.loop-i-init
