@@ -1,0 +1,5 @@
+pub mod Emitting
+pub mod Runs
+pub mod RdfLemmas
+pub mod Graphs
+pub mod FormsLemmas

@@ -1,0 +1,6 @@
+pub mod Vocabulary
+pub mod Literals
+pub mod HasForms
+pub mod Puts
+pub mod RowTriples
+pub mod Graph

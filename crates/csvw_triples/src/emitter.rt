@@ -1,0 +1,402 @@
+//! The triples of rows, put into a sink.
+ghost use Rattle.std.specs.Prelude.{◌≡◌, ◌+◌, ◌==◌, ◌≤◌, [], ◌∷◌, length, map, drop, IfOk, OnOk, OnErr, if◌then◌else◌};
+ghost use Rattle.csvw_datatype.specs.Lexical.{IsWritable};
+ghost use Rattle.csvw_triples_core.specs.Taking.{FrontOf, Ends};
+ghost use Rattle.csvw_triples_core.specs.declared.origin.Origin.TheVariants.{Entry};
+ghost use Rattle.csvw_triples_core.specs.declared.term.Node.TheVariants as node;
+ghost use Rattle.csvw_triples_core.specs.declared.term.Term.TheVariants as term;
+ghost use Rattle.csvw_triples.specs.HasForms.{HaveForms, ValueHasForms, CellsHaveForms, HasForms};
+ghost use Rattle.csvw_triples.specs.Literals.{literal_of};
+ghost use Rattle.csvw_triples.specs.Puts.{Puts};
+ghost use Rattle.csvw_triples.specs.RowTriples.{triple, entries_of, list_node, first_triple, rest_triple, list_triples, items_triples, value_triples, object_triples, subject_of, predicate_of, cell_triples, cells_triples, row_triples};
+ghost use Rattle.csvw_triples.specs.Vocabulary.{rdf_first, rdf_rest, rdf_nil};
+
+use crate::literals::literal_of;
+use crate::rdf::RdfNames;
+use crate::stem::{ListPlace, RowPlace, Stem};
+use csvw_annotate::{AnnCell, Row};
+use csvw_cell::{CellValue, Item};
+use csvw_columns_core::{Column, Columns};
+use csvw_iri::Iri;
+use csvw_text::Text;
+use csvw_triples_core::{Mode, Node, Origin, SinkFault, Term, Triple, TripleSink};
+use std::alloc::{AllocError, Global};
+use std::mem;
+
+fn put_one<S: TripleSink>(triple: &Triple, sink: &mut S) -> Result<(), SinkFault>
+    ensures { Puts S.gains S.is_open S.failed sink.old (triple.now ∷ []) sink.new result }
+{
+    sink.put(triple)
+}
+
+/// Puts the triples of rows into sinks, and keeps the memory of one literal from row to row.
+#[derive(Debug, Drop)]
+pub struct Emitter {
+    alloc: Global,
+    names: RdfNames,
+    spare: Text,
+}
+
+impl Emitter {
+    /// An emitter; `AllocError` where there is no memory.
+    pub fn new(alloc: Global) -> Result<Emitter, AllocError> {
+        Ok(Emitter {
+            alloc,
+            names: RdfNames::new(alloc)?,
+            spare: Text::new(alloc),
+        })
+    }
+
+    /// Keeps the memory of the triple's literal.
+    fn keep(&mut self, triple: Triple) {
+        let Triple { s: _, p: _, o } = triple;
+        if let Term::Literal(lit) = o {
+            self.spare = lit.into_text();
+        }
+    }
+
+    fn put_object<S: TripleSink>(
+        &mut self,
+        stem: &Stem,
+        o: Term,
+        sink: &mut S,
+    ) -> Result<(), SinkFault>
+        ensures { Puts S.gains S.is_open S.failed sink.old (triple stem.now.s stem.now.p o ∷ []) sink.new result }
+    {
+        let triple = stem.triple(self.alloc, o)?;
+        let put = put_one(&triple, sink);
+        self.keep(triple);
+        put
+    }
+
+    fn emit_item<S: TripleSink>(
+        &mut self,
+        stem: &Stem,
+        column: &Column,
+        item: &Item,
+        sink: &mut S,
+    ) -> Result<(), SinkFault>
+        requires { IsWritable item.now.value }
+        ensures { Puts S.gains S.is_open S.failed sink.old (triple stem.now.s stem.now.p (term.Literal (literal_of column.now item.now)) ∷ []) sink.new result }
+    {
+        let spare = mem::replace(&mut self.spare, Text::new(self.alloc));
+        let literal = literal_of(self.alloc, &self.names, column, item, spare)?;
+        self.put_object(stem, Term::Literal(literal), sink)
+    }
+
+    fn emit_items<S: TripleSink>(
+        &mut self,
+        stem: &Stem,
+        column: &Column,
+        items: &[Item],
+        sink: &mut S,
+    ) -> Result<(), SinkFault>
+        requires { HaveForms items.now }
+        ensures { Puts S.gains S.is_open S.failed sink.old (map (λ item. triple stem.now.s stem.now.p (term.Literal (literal_of column.now item))) items.now) sink.new result }
+    {
+        for i in 0..items.len() {
+            self.emit_item(stem, column, &items[i], sink)?;
+        }
+        Ok(())
+    }
+
+    /// What a list is from entry `k` on.
+    fn list_node(&self, place: ListPlace, k: u64, is_end: bool) -> Result<Term, AllocError>
+        ensures { IfOk result (λ o. o ≡ (if is_end then term.Named rdf_nil else term.Blank (Entry place.table place.row place.column k))) }
+    {
+        if is_end {
+            Ok(Term::Named(self.names.nil.clone(self.alloc)?))
+        } else {
+            Ok(Term::Blank(place.entry(k)))
+        }
+    }
+
+    fn first_stem(&self, entry: Origin) -> Result<Stem, AllocError>
+        ensures s { IfOk result (λ stem. stem.s ≡ node.Blank entry) }
+        ensures p { IfOk result (λ stem. stem.p ≡ rdf_first) }
+    {
+        Ok(Stem {
+            s: Node::Blank(entry),
+            p: self.names.first.clone(self.alloc)?,
+        })
+    }
+
+    fn rest_stem(&self, entry: Origin) -> Result<Stem, AllocError>
+        ensures s { IfOk result (λ stem. stem.s ≡ node.Blank entry) }
+        ensures p { IfOk result (λ stem. stem.p ≡ rdf_rest) }
+    {
+        Ok(Stem {
+            s: Node::Blank(entry),
+            p: self.names.rest.clone(self.alloc)?,
+        })
+    }
+
+    /// Puts that an entry's first is the item.
+    fn emit_first<S: TripleSink>(
+        &mut self,
+        entry: Origin,
+        column: &Column,
+        item: &Item,
+        sink: &mut S,
+    ) -> Result<(), SinkFault>
+        requires { IsWritable item.now.value }
+        ensures { Puts S.gains S.is_open S.failed sink.old (triple (node.Blank entry) rdf_first (term.Literal (literal_of column.now item.now)) ∷ []) sink.new result }
+    {
+        let stem = self.first_stem(entry)?;
+        self.emit_item(&stem, column, item, sink)
+    }
+
+    /// Puts what an entry's rest is.
+    fn emit_rest<S: TripleSink>(
+        &mut self,
+        entry: Origin,
+        rest: Term,
+        sink: &mut S,
+    ) -> Result<(), SinkFault>
+        ensures { Puts S.gains S.is_open S.failed sink.old (triple (node.Blank entry) rdf_rest rest ∷ []) sink.new result }
+    {
+        let stem = self.rest_stem(entry)?;
+        self.put_object(&stem, rest, sink)
+    }
+
+    /// Puts the triples of an entry.
+    fn emit_entry<S: TripleSink>(
+        &mut self,
+        entry: Origin,
+        column: &Column,
+        item: &Item,
+        rest: Term,
+        sink: &mut S,
+    ) -> Result<(), SinkFault>
+        requires { IsWritable item.now.value }
+        ensures { Puts S.gains S.is_open S.failed sink.old
+            (triple (node.Blank entry) rdf_first (term.Literal (literal_of column.now item.now)) ∷ triple (node.Blank entry) rdf_rest rest ∷ []) sink.new result }
+    {
+        self.emit_first(entry, column, item, sink)?;
+        self.emit_rest(entry, rest, sink)
+    }
+
+    fn emit_entries<S: TripleSink>(
+        &mut self,
+        place: ListPlace,
+        column: &Column,
+        items: &[Item],
+        sink: &mut S,
+    ) -> Result<(), SinkFault>
+        requires { HaveForms items.now }
+        ensures { Puts S.gains S.is_open S.failed sink.old (list_triples (λ k. Entry place.table place.row place.column k) column.now 1 items.now) sink.new result }
+    {
+        for i in 0..items.len() {
+            let k = i as u64 + 1;
+            let rest = self.list_node(place, k + 1, i + 1 == items.len())?;
+            self.emit_entry(place.entry(k), column, &items[i], rest, sink)?;
+        }
+        Ok(())
+    }
+
+    fn emit_list<S: TripleSink>(
+        &mut self,
+        stem: &Stem,
+        place: ListPlace,
+        column: &Column,
+        items: &[Item],
+        sink: &mut S,
+    ) -> Result<(), SinkFault>
+        requires { HaveForms items.now }
+        ensures { Puts S.gains S.is_open S.failed sink.old
+            (triple stem.now.s stem.now.p (list_node (λ k. Entry place.table place.row place.column k) 1 items.now)
+            ∷ list_triples (λ k. Entry place.table place.row place.column k) column.now 1 items.now) sink.new result }
+    {
+        let list = self.list_node(place, 1, items.is_empty())?;
+        self.put_object(stem, list, sink)?;
+        self.emit_entries(place, column, items, sink)
+    }
+
+    fn emit_many<S: TripleSink>(
+        &mut self,
+        stem: &Stem,
+        place: ListPlace,
+        column: &Column,
+        items: &[Item],
+        sink: &mut S,
+    ) -> Result<(), SinkFault>
+        requires { HaveForms items.now }
+        ensures { Puts S.gains S.is_open S.failed sink.old (items_triples stem.now.s stem.now.p (λ k. Entry place.table place.row place.column k) column.now items.now) sink.new result }
+    {
+        if column.properties.ordered {
+            self.emit_list(stem, place, column, items, sink)
+        } else {
+            self.emit_items(stem, column, items, sink)
+        }
+    }
+
+    fn emit_value<S: TripleSink>(
+        &mut self,
+        stem: &Stem,
+        place: ListPlace,
+        column: &Column,
+        value: &CellValue,
+        sink: &mut S,
+    ) -> Result<(), SinkFault>
+        requires { ValueHasForms value.now }
+        ensures { Puts S.gains S.is_open S.failed sink.old (value_triples stem.now.s stem.now.p (λ k. Entry place.table place.row place.column k) column.now value.now) sink.new result }
+    {
+        match value {
+            CellValue::Null => Ok(()),
+            CellValue::One(item) => self.emit_item(stem, column, item, sink),
+            CellValue::Many(items) => self.emit_many(stem, place, column, items.as_slice(), sink),
+        }
+    }
+
+    fn emit_link<S: TripleSink>(
+        &mut self,
+        stem: &Stem,
+        link: &Iri,
+        sink: &mut S,
+    ) -> Result<(), SinkFault>
+        ensures { Puts S.gains S.is_open S.failed sink.old (triple stem.now.s stem.now.p (term.Named link.now) ∷ []) sink.new result }
+    {
+        let o = Term::Named(link.clone(self.alloc)?);
+        self.put_object(stem, o, sink)
+    }
+
+    fn emit_objects<S: TripleSink>(
+        &mut self,
+        stem: &Stem,
+        place: ListPlace,
+        column: &Column,
+        cell: &AnnCell,
+        sink: &mut S,
+    ) -> Result<(), SinkFault>
+        requires { ValueHasForms cell.now.value }
+        ensures { Puts S.gains S.is_open S.failed sink.old (object_triples stem.now.s stem.now.p (λ k. Entry place.table place.row place.column k) column.now cell.now.value cell.now.link) sink.new result }
+    {
+        match &cell.link {
+            Some(link) => self.emit_link(stem, link, sink),
+            None => self.emit_value(stem, place, column, &cell.value, sink),
+        }
+    }
+
+    fn emit_cell<S: TripleSink>(
+        &mut self,
+        place: RowPlace,
+        column: &Column,
+        cell: &AnnCell,
+        sink: &mut S,
+    ) -> Result<(), SinkFault>
+        requires { ValueHasForms cell.now.value }
+        ensures { Puts S.gains S.is_open S.failed sink.old (cell_triples place.table place.row column.now cell.now) sink.new result }
+    {
+        if column.suppressed {
+            return Ok(());
+        }
+        let stem = Stem::of(self.alloc, place, column, cell)?;
+        let list = ListPlace {
+            table: place.table,
+            row: place.row,
+            column: column.number,
+        };
+        self.emit_objects(&stem, list, column, cell, sink)
+    }
+
+    fn emit_cells<S: TripleSink>(
+        &mut self,
+        place: RowPlace,
+        columns: &[Column],
+        cells: &[AnnCell],
+        sink: &mut S,
+    ) -> Result<(), SinkFault>
+        requires places { length cells.now ≡ length columns.now }
+        requires forms { CellsHaveForms cells.now }
+        ensures { Puts S.gains S.is_open S.failed sink.old (cells_triples place.table place.row columns.now cells.now) sink.new result }
+    {
+        for i in 0..cells.len() {
+            self.emit_cell(place, &columns[i], &cells[i], sink)?;
+        }
+        Ok(())
+    }
+
+    fn emit_minimal<S: TripleSink>(
+        &mut self,
+        columns: &Columns,
+        t: u32,
+        row: &Row,
+        sink: &mut S,
+    ) -> Result<(), SinkFault>
+        requires places { length row.now.cells ≡ length columns.now.columns }
+        requires forms { HasForms row.now }
+        ensures { Puts S.gains S.is_open S.failed sink.old
+            (if columns.now.suppressed then [] else cells_triples t row.now.number columns.now.columns row.now.cells) sink.new result }
+    {
+        if columns.suppressed {
+            return Ok(());
+        }
+        let place = RowPlace {
+            table: t,
+            row: row.number,
+        };
+        self.emit_cells(
+            place,
+            columns.columns.as_slice(),
+            row.cells.as_slice(),
+            sink,
+        )
+    }
+
+    fn emit<S: TripleSink>(
+        &mut self,
+        columns: &Columns,
+        mode: Mode,
+        t: u32,
+        row: &Row,
+        sink: &mut S,
+    ) -> Result<(), SinkFault>
+        requires places { length row.now.cells ≡ length columns.now.columns }
+        requires forms { HasForms row.now }
+        ensures { Puts S.gains S.is_open S.failed sink.old (row_triples mode t columns.now row.now) sink.new result }
+    {
+        match mode {
+            Mode::Validate => Ok(()),
+            Mode::Minimal => self.emit_minimal(columns, t, row, sink),
+        }
+    }
+
+    /// Puts the triples of a row of table `t`, whose values have lexical forms, in the order of its cells (csv2rdf,
+    /// section 4.2); in mode `Validate` none. After an error a front of them was taken, of whose last triple only a part
+    /// after `Device`, and the fault is one that the sink answered in this call, or `Memory`.
+    pub fn emit_row<S: TripleSink>(
+        &mut self,
+        columns: &Columns,
+        mode: Mode,
+        t: u32,
+        row: &Row,
+        sink: &mut S,
+    ) -> Result<(), SinkFault>
+        requires places { length row.now.cells ≡ length columns.now.columns }
+        requires forms { HasForms row.now }
+        ensures ok { OnOk result (S.gains sink.old (row_triples mode t columns.now row.now) sink.new) }
+        ensures err { OnErr result (FrontOf S.gains sink.old (row_triples mode t columns.now row.now) sink.new) }
+        ensures sink { Ends S.is_open S.failed sink.old sink.new result }
+    {
+        self.emit(columns, mode, t, row, sink)
+    }
+}
+
+/// Puts the triples of one row, as `Emitter::emit_row` does.
+pub fn emit_row<S: TripleSink>(
+    alloc: Global,
+    columns: &Columns,
+    mode: Mode,
+    t: u32,
+    row: &Row,
+    sink: &mut S,
+) -> Result<(), SinkFault>
+    requires places { length row.now.cells ≡ length columns.now.columns }
+    requires forms { HasForms row.now }
+    ensures ok { OnOk result (S.gains sink.old (row_triples mode t columns.now row.now) sink.new) }
+    ensures err { OnErr result (FrontOf S.gains sink.old (row_triples mode t columns.now row.now) sink.new) }
+    ensures sink { Ends S.is_open S.failed sink.old sink.new result }
+{
+    let mut emitter = Emitter::new(alloc)?;
+    emitter.emit_row(columns, mode, t, row, sink)
+}

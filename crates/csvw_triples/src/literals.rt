@@ -1,0 +1,95 @@
+//! The literals of values.
+ghost use Rattle.std.specs.Prelude.{◌≡◌, IfOk};
+ghost use Rattle.csvw_datatype.specs.Lexical.{IsWritable, lexical_of};
+ghost use Rattle.csvw_cell.specs.Codes.{is_string};
+ghost use Rattle.csvw_triples_core.specs.Literal.{tagged_lit};
+ghost use Rattle.csvw_triples.specs.Literals.{has_language, literal_of, read_literal};
+
+use crate::rdf::RdfNames;
+use csvw_cell::Item;
+use csvw_columns_core::{Column, Properties};
+use csvw_datatype::{Datatype, Simple, Value};
+use csvw_text::{LanguageTag, Text};
+use csvw_triples_core::Lit;
+use std::alloc::{AllocError, Global};
+
+fn is_string(datatype: &Datatype) -> bool
+    ensures { result ≡ is_string datatype.now }
+{
+    match datatype.simple {
+        Simple::Text => true,
+        Simple::Truth
+        | Simple::Whole
+        | Simple::Decimal
+        | Simple::Day
+        | Simple::Uri
+        | Simple::Derived(_)
+        | Simple::Moment => false,
+    }
+}
+
+fn has_language(properties: &Properties) -> bool
+    ensures { result ≡ has_language properties.now }
+{
+    let datatype = properties.datatype.get();
+    is_string(datatype) && datatype.id.is_none() && properties.lang.get().as_str() != "und"
+}
+
+/// The lexical form of a value, in the memory of another text where the value is a text.
+fn form_of(alloc: Global, value: &Value, spare: Text) -> Result<Text, AllocError>
+    requires { IsWritable value.now }
+    ensures { IfOk result (λ text. text ≡ lexical_of value.now) }
+{
+    match value {
+        Value::Text(text) => {
+            let mut copy = spare;
+            copy.refill(text.as_str())?;
+            Ok(copy)
+        }
+        _ => Ok(Text::of(value.lexical(alloc)?)),
+    }
+}
+
+fn tagged(alloc: Global, names: &RdfNames, text: Text, tag: &LanguageTag) -> Result<Lit, AllocError>
+    ensures { IfOk result (λ lit. lit ≡ tagged_lit text tag.now) }
+{
+    let datatype = names.tagged.clone(alloc)?;
+    let lang = Some(tag.clone(alloc)?);
+    Ok(Lit {
+        text,
+        datatype,
+        lang,
+    })
+}
+
+fn read_literal(
+    alloc: Global,
+    names: &RdfNames,
+    column: &Column,
+    text: Text,
+) -> Result<Lit, AllocError>
+    ensures { IfOk result (λ lit. lit ≡ read_literal column.now text) }
+{
+    if has_language(&column.properties) {
+        return tagged(alloc, names, text, column.properties.lang.get());
+    }
+    Ok(Lit::typed(text, column.literal_datatype.clone(alloc)?))
+}
+
+/// The literal of a value, in the memory of another text where the value is a text; `AllocError` where there is no memory.
+pub fn literal_of(
+    alloc: Global,
+    names: &RdfNames,
+    column: &Column,
+    item: &Item,
+    spare: Text,
+) -> Result<Lit, AllocError>
+    requires { IsWritable item.now.value }
+    ensures { IfOk result (λ lit. lit ≡ literal_of column.now item.now) }
+{
+    let text = form_of(alloc, &item.value, spare)?;
+    if item.was_read {
+        return read_literal(alloc, names, column, text);
+    }
+    Ok(Lit::typed(text, names.string.clone(alloc)?))
+}

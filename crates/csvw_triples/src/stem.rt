@@ -1,0 +1,95 @@
+//! What the triples of a cell begin with, and where its list stands.
+ghost use Rattle.std.specs.Prelude.{◌≡◌, IfOk};
+ghost use Rattle.csvw_triples_core.specs.declared.origin.Origin.TheVariants.{Entry};
+ghost use Rattle.csvw_triples.specs.RowTriples.{triple, subject_of, predicate_of};
+
+use csvw_annotate::AnnCell;
+use csvw_columns_core::Column;
+use csvw_iri::Iri;
+use csvw_triples_core::{Node, Origin, Term, Triple};
+use std::alloc::{AllocError, Global};
+
+/// A row of a table.
+#[derive(Clone, Copy, Debug)]
+pub struct RowPlace {
+    /// The table.
+    pub table: u32,
+    /// The row, by its number among the data rows.
+    pub row: u64,
+}
+
+/// A subject and a predicate.
+#[derive(Debug, Drop)]
+pub struct Stem {
+    /// The subject.
+    pub s: Node,
+    /// The predicate.
+    pub p: Iri,
+}
+
+/// A cell that is an ordered list.
+#[derive(Clone, Copy, Debug)]
+pub struct ListPlace {
+    /// The table.
+    pub table: u32,
+    /// The row.
+    pub row: u64,
+    /// The column, by its number.
+    pub column: u32,
+}
+
+fn subject_of(alloc: Global, place: RowPlace, cell: &AnnCell) -> Result<Node, AllocError>
+    ensures { IfOk result (λ s. s ≡ subject_of place.table place.row cell.now) }
+{
+    match &cell.about {
+        Some(iri) => Ok(Node::Named(iri.clone(alloc)?)),
+        None => Ok(Node::Blank(Origin::Subject(place.table, place.row))),
+    }
+}
+
+fn predicate_of(alloc: Global, column: &Column, cell: &AnnCell) -> Result<Iri, AllocError>
+    ensures { IfOk result (λ p. p ≡ predicate_of column.now cell.now) }
+{
+    match &cell.property {
+        Some(iri) => iri.clone(alloc),
+        None => column.predicate.clone(alloc),
+    }
+}
+
+impl Stem {
+    /// The subject and the predicate of a cell; `AllocError` where there is no memory.
+    pub fn of(
+        alloc: Global,
+        place: RowPlace,
+        column: &Column,
+        cell: &AnnCell,
+    ) -> Result<Stem, AllocError>
+        ensures s { IfOk result (λ stem. stem.s ≡ subject_of place.table place.row cell.now) }
+        ensures p { IfOk result (λ stem. stem.p ≡ predicate_of column.now cell.now) }
+    {
+        Ok(Stem {
+            s: subject_of(alloc, place, cell)?,
+            p: predicate_of(alloc, column, cell)?,
+        })
+    }
+
+    /// The triple with this object; `AllocError` where there is no memory.
+    pub fn triple(&self, alloc: Global, o: Term) -> Result<Triple, AllocError>
+        ensures { IfOk result (λ x. x ≡ triple self.now.s self.now.p o) }
+    {
+        Ok(Triple {
+            s: self.s.clone(alloc)?,
+            p: self.p.clone(alloc)?,
+            o,
+        })
+    }
+}
+
+impl ListPlace {
+    /// Entry `k` of the list, from 1.
+    pub fn entry(self, k: u64) -> Origin
+        ensures { result ≡ Entry self.table self.row self.column k }
+    {
+        Origin::Entry(self.table, self.row, self.column, k)
+    }
+}
