@@ -3,6 +3,7 @@
 
 mod column;
 mod columns;
+mod copies;
 mod declared;
 mod header;
 mod header_columns;

@@ -1,0 +1,6 @@
+pub mod ColumnLemmas
+pub mod DistinctLemmas
+pub mod DialectLemmas
+pub mod PlanLemmas
+pub mod ReadyLemmas
+pub mod SoundLemmas

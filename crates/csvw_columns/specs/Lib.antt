@@ -1,0 +1,5 @@
+pub mod Distinct
+pub mod HeaderMatch
+pub mod Plannable
+pub mod PlanOf
+pub mod Ready

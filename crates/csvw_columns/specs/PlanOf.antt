@@ -1,0 +1,80 @@
+-- The plan of a group of tables (Metadata Vocabulary for Tabular Data, sections 5.3 to 5.7; Model for Tabular Data,
+-- sections 4.1 and 4.2).
+use Rattle.std.specs.Prelude.{◌≡◌, ◌≢◌, ℕ, ◌+◌, List, [], ◌∷◌, Option, Some, true, false, unwrap_or, Result, Ok, Err}
+use Rattle.csvw_dialect.specs.declared.dialect.Dialect.{Dialect}
+use Rattle.csvw_dialect.specs.declared.dialect.Trim.TheVariants.{No}
+use Rattle.csvw_iri.specs.Link.{iri_of}
+use Rattle.csvw_description.specs.Unknown.{unknown}
+use Rattle.csvw_description.specs.declared.description.Description.{Description}
+use Rattle.csvw_description.specs.declared.inherited.Inherited.{Inherited}
+use Rattle.csvw_description.specs.declared.schema.Schema.{Schema}
+use Rattle.csvw_description.specs.declared.table.TableDescription.{TableDescription}
+use Rattle.csvw_columns_core.specs.HeaderColumns.{no_inherited}
+use Rattle.csvw_columns_core.specs.Inherited.{first_of}
+use Rattle.csvw_columns_core.specs.SchemaColumns.{declared_columns}
+use Rattle.csvw_meta_core.specs.declared.fault.MetaFault.{MetaFault}
+use Rattle.csvw_meta_core.specs.declared.fault.MetaCode.TheVariants.{Memory}
+use Rattle.csvw_columns.specs.Plannable.{IsPlannable}
+use Rattle.csvw_columns.specs.declared.plan.Plan.{Plan}
+use Rattle.csvw_columns.specs.declared.plan.TablePlan.{TablePlan}
+
+-- the dialect where none is given (Metadata Vocabulary for Tabular Data, section 5.9)
+abbrev pub default_dialect : Dialect
+default_dialect = record {
+  delimiter = 44;
+  quote_char = Some 34;
+  double_quote = true;
+  comment_prefix = Some (35 ∷ []);
+  header_row_count = 1;
+  skip_rows = 0;
+  skip_columns = 0;
+  skip_blank_rows = false;
+  skip_initial_space = false;
+  trim = No;
+  line_terminators = record { crlf = true; lf = true };
+}
+
+-- the table's own dialect, else that of its group, else the default
+abbrev pub dialect_of : Option Dialect → Option Dialect → Dialect
+dialect_of table group = unwrap_or (first_of table group) default_dialect
+
+-- nothing is declared
+abbrev pub no_schema : Schema
+no_schema = record { columns = []; primary_key = []; foreign_keys = []; inherited = no_inherited; warnings = [] }
+
+-- the table's own schema, else that of its group, else none
+abbrev pub schema_of : Option Schema → Option Schema → Schema
+schema_of table group = unwrap_or (first_of table group) no_schema
+
+-- table n, with its dialect and its schema
+abbrev pub planned : Inherited → ℕ → TableDescription → Dialect → Schema → TablePlan
+planned group n table dialect schema = record {
+  number = n;
+  url = table.url;
+  id = table.id;
+  suppressed = table.suppressed;
+  dialect = dialect;
+  declared = declared_columns (iri_of table.url) dialect.skip_columns schema.inherited table.inherited group schema.columns;
+  schema = schema.inherited;
+  table = table.inherited;
+  group = group;
+  primary_key = [];
+  foreign_keys = [];
+  notes = table.notes;
+}
+
+abbrev pub table_plan : Description → ℕ → TableDescription → TablePlan
+table_plan group n table = planned group.inherited n table (dialect_of table.dialect group.dialect) (schema_of table.schema group.schema)
+
+-- the tables from number n on
+abbrev pub table_plans : Description → ℕ → List TableDescription → List TablePlan
+table_plans group n [] = []
+table_plans group n (table ∷ tables) = table_plan group n table ∷ table_plans group (n + 1) tables
+
+abbrev pub plan_of : Description → Plan
+plan_of d = record { id = d.id; notes = d.notes; tables = table_plans d 1 d.tables; warnings = unknown d }
+
+-- the answer is the plan, or a fault of a description that can't be planned; of want of memory nothing is said
+abbrev pub Builds : Description → Result Plan MetaFault → Type 0
+Builds d (Ok plan) = (plan ≡ plan_of d) × IsPlannable d
+Builds d (Err fault) = (fault.pointer ≡ []) × (fault.code ≢ Memory → IsPlannable d → ⊥)

@@ -1,0 +1,136 @@
+//! Whether a description can be planned.
+ghost use Rattle.std.specs.Prelude.{◌≡◌, ◌↔◌, IfOk, IfSome, IsTrue, All};
+ghost use Rattle.csvw_columns.specs.Plannable.{table_limit, IsFitDialect, HasSound, numbered_names, IsFitSchema, IsFitTable, IsPlannable, Finds};
+
+use crate::names::are_distinct;
+use csvw_columns_core::{COLUMN_LIMIT, SKIP_LIMIT};
+use csvw_description::{ColumnDescription, Description, Inherited, Name, Schema, TableDescription};
+use csvw_dialect::Dialect;
+use csvw_meta_core::MetaCode;
+use std::alloc::{AllocError, Global};
+
+/// How many tables a group has at most.
+const TABLE_LIMIT: usize = 64;
+
+fn is_fit_dialect(dialect: &Dialect) -> bool
+    ensures { IsTrue result ↔ IsFitDialect dialect.now }
+{
+    match dialect.check() {
+        Ok(()) => dialect.skip_columns <= SKIP_LIMIT,
+        Err(_) => false,
+    }
+}
+
+fn has_fit_dialect(dialect: &Option<Dialect>) -> bool
+    ensures { IsTrue result ↔ IfSome dialect.now IsFitDialect }
+{
+    match dialect {
+        Some(dialect) => is_fit_dialect(dialect),
+        None => true,
+    }
+}
+
+fn has_sound(inherited: &Inherited) -> bool
+    ensures { IsTrue result ↔ HasSound inherited.now }
+{
+    match &inherited.datatype {
+        Some(datatype) => datatype.get().check().is_ok(),
+        None => true,
+    }
+}
+
+fn are_sound(columns: &[ColumnDescription]) -> bool
+    ensures { IsTrue result ↔ All (λ c. HasSound c.inherited) columns.now }
+{
+    columns.iter().all(|c| has_sound(&c.inherited))
+}
+
+fn numbered_names(alloc: Global, columns: &[ColumnDescription]) -> Result<Vec<Name>, AllocError>
+    ensures { IfOk result (λ v. v.items ≡ numbered_names 0 columns.now) }
+{
+    let mut names = Vec::new(alloc);
+    for (i, column) in columns.iter().enumerate() {
+        let name = column.resolved_name(alloc, i + 1)?;
+        names.push(name)?;
+    }
+    Ok(names)
+}
+
+fn schema_fault(alloc: Global, schema: &Schema) -> Result<Option<MetaCode>, AllocError>
+    ensures { Finds (IsFitSchema schema.now) result }
+{
+    if schema.columns.len() > COLUMN_LIMIT {
+        return Ok(Some(MetaCode::TooMany));
+    }
+    if !has_sound(&schema.inherited) || !are_sound(schema.columns.as_slice()) {
+        return Ok(Some(MetaCode::BadDatatype));
+    }
+    if schema.primary_key.len() > 0 || schema.foreign_keys.len() > 0 {
+        return Ok(Some(MetaCode::BadReference));
+    }
+    let names = numbered_names(alloc, schema.columns.as_slice())?;
+    if !are_distinct(alloc, names)? {
+        return Ok(Some(MetaCode::DuplicateName));
+    }
+    Ok(None)
+}
+
+fn fault_in(alloc: Global, schema: &Option<Schema>) -> Result<Option<MetaCode>, AllocError>
+    ensures { Finds (IfSome schema.now IsFitSchema) result }
+{
+    match schema {
+        Some(schema) => schema_fault(alloc, schema),
+        None => Ok(None),
+    }
+}
+
+fn table_fault(alloc: Global, table: &TableDescription) -> Result<Option<MetaCode>, AllocError>
+    ensures { Finds (IsFitTable table.now) result }
+{
+    if !has_fit_dialect(&table.dialect) {
+        return Ok(Some(MetaCode::BadDialect));
+    }
+    if !has_sound(&table.inherited) {
+        return Ok(Some(MetaCode::BadDatatype));
+    }
+    if let Some(code) = fault_in(alloc, &table.schema)? {
+        return Ok(Some(code));
+    }
+    Ok(None)
+}
+
+fn first_fault(alloc: Global, tables: &[TableDescription]) -> Result<Option<MetaCode>, AllocError>
+    ensures { Finds (All IsFitTable tables.now) result }
+{
+    for table in tables {
+        if let Some(code) = table_fault(alloc, table)? {
+            return Ok(Some(code));
+        }
+    }
+    Ok(None)
+}
+
+/// Why a description can't be planned; `None` where it can be. `AllocError` where there is no memory.
+pub(crate) fn fault_of(
+    alloc: Global,
+    description: &Description,
+) -> Result<Option<MetaCode>, AllocError>
+    ensures { Finds (IsPlannable description.now) result }
+{
+    if description.tables.len() > TABLE_LIMIT {
+        return Ok(Some(MetaCode::TooMany));
+    }
+    if !has_fit_dialect(&description.dialect) {
+        return Ok(Some(MetaCode::BadDialect));
+    }
+    if !has_sound(&description.inherited) {
+        return Ok(Some(MetaCode::BadDatatype));
+    }
+    if let Some(code) = fault_in(alloc, &description.schema)? {
+        return Ok(Some(code));
+    }
+    if let Some(code) = first_fault(alloc, description.tables.as_slice())? {
+        return Ok(Some(code));
+    }
+    Ok(None)
+}

@@ -1,0 +1,117 @@
+//! The columns of a table, once its header is known.
+ghost use Rattle.std.specs.Prelude.{◌≡◌, ◌≤◌, ◌↔◌, IfOk, IsTrue, length};
+ghost use Rattle.csvw_iri.specs.Link.{iri_of};
+ghost use Rattle.csvw_columns_core.specs.HeaderColumns.{column_count, from_header};
+ghost use Rattle.csvw_columns_core.specs.SchemaColumns.{column_limit, declared_columns};
+ghost use Rattle.csvw_columns.specs.HeaderMatch.{columns_of, header_columns, frame_of, IsWithin, GivesColumns, Matches};
+ghost use Rattle.csvw_columns.specs.Ready.{AreSound, IsReady};
+
+use crate::copies::copied_inherited;
+use crate::names::{are_distinct, names_of};
+use crate::plan::TablePlan;
+use crate::table_stop::TableStop;
+use csvw_columns_core::{
+    COLUMN_LIMIT, Column, Columns, Defaults, Frame, HeaderRow, SKIP_LIMIT, column_count,
+    from_header, header_faults,
+};
+use csvw_text::{Fault, Seq, copied_option};
+use std::alloc::{AllocError, Global};
+
+/// What its columns have of the table.
+fn frame_of(alloc: Global, plan: &TablePlan) -> Result<Frame, AllocError>
+    ensures { IfOk result (λ f. f ≡ frame_of plan.now) }
+{
+    Ok(Frame {
+        url: plan.url.clone(alloc)?,
+        skip_columns: plan.dialect.skip_columns,
+        schema: copied_inherited(alloc, &plan.schema)?,
+        table: copied_inherited(alloc, &plan.table)?,
+    })
+}
+
+/// The columns that come from the header.
+#[tactic(auto, using(crate::proofs::ColumnLemmas::length_from_header))]
+fn header_columns(
+    alloc: Global,
+    plan: &TablePlan,
+    rows: &[HeaderRow],
+    width: Option<usize>,
+) -> Result<Seq<Column>, AllocError>
+    requires skipped { plan.now.dialect.skip_columns ≤ column_limit }
+    requires limit { column_count rows.now width ≤ column_limit }
+    ensures { IfOk result (λ cs. cs ≡ header_columns plan.now rows.now width) }
+{
+    let descriptions = from_header(alloc, rows, width)?;
+    let defaults = Defaults::new(alloc)?;
+    let frame = frame_of(alloc, plan)?;
+    let columns = frame.declared_columns(alloc, &defaults, &plan.group, descriptions.as_slice())?;
+    Ok(columns)
+}
+
+/// How many columns there are.
+#[tactic(auto, using(crate::proofs::ColumnLemmas::count_of))]
+fn count(plan: &TablePlan, rows: &[HeaderRow], width: Option<usize>) -> usize
+    ensures { result ≡ length (columns_of plan.now rows.now width) }
+{
+    if plan.declared.is_empty() {
+        column_count(rows, width)
+    } else {
+        plan.declared.len()
+    }
+}
+
+/// Whether the limits are kept.
+fn is_within(plan: &TablePlan, rows: &[HeaderRow], width: Option<usize>) -> bool
+    ensures { IsTrue result ↔ IsWithin plan.now rows.now width }
+{
+    plan.dialect.skip_columns <= SKIP_LIMIT && count(plan, rows, width) <= COLUMN_LIMIT
+}
+
+/// The columns; `TooManyColumns` where the limits aren't kept.
+fn columns_of(
+    alloc: Global,
+    plan: &TablePlan,
+    rows: &[HeaderRow],
+    width: Option<usize>,
+) -> Result<Seq<Column>, TableStop>
+    ensures { GivesColumns plan.now rows.now width result }
+{
+    if !is_within(plan, rows, width) {
+        return Err(TableStop::TooManyColumns);
+    }
+    if plan.declared.is_empty() {
+        return Ok(header_columns(alloc, plan, rows, width)?);
+    }
+    Ok(plan.declared.clone(alloc)?)
+}
+
+/// The columns of a table, once its header is known, and what is wrong with the header (Metadata Vocabulary for Tabular
+/// Data, sections 5.6 and 6.4; Model for Tabular Data, section 8): the columns that are declared, or where there are none,
+/// those that come from the header rows, or without header rows one for each field of the first data row, of which there
+/// are so many. `TooManyColumns` where there are over 1,024 of them, or over 1,024 columns of the source are skipped; else
+/// `DuplicateName` where two have one name. `Memory` where there is none. It never answers `RaggedRow`.
+#[tactic(auto, using(crate::proofs::SoundLemmas::sound_at))]
+pub fn match_header(
+    alloc: Global,
+    plan: &TablePlan,
+    rows: &[HeaderRow],
+    width: Option<usize>,
+) -> Result<(Columns, Vec<Fault>), TableStop>
+    ensures matches { Matches plan.now rows.now width result }
+    ensures sound { IfOk result (λ found. IsReady plan.now → AreSound found.0.columns) }
+{
+    let columns = columns_of(alloc, plan, rows, width)?;
+    let names = names_of(alloc, columns.as_slice())?;
+    if !are_distinct(alloc, names)? {
+        return Err(TableStop::DuplicateName);
+    }
+    let wanted = plan.dialect.header_row_count;
+    let faults = header_faults(alloc, plan.number, wanted, columns.as_slice(), rows)?;
+    let columns = Columns {
+        columns,
+        url: plan.url.clone(alloc)?,
+        id: copied_option(alloc, &plan.id)?,
+        suppressed: plan.suppressed,
+    };
+    Ok((columns, faults.into_vec()))
+}

@@ -1,0 +1,18 @@
+//! The plan of a group of tables: which columns each table has, and how its header fits them.
+#![tactic(auto)]
+
+mod building;
+mod checks;
+mod copies;
+mod heading;
+mod names;
+mod plan;
+mod planning;
+mod table_stop;
+mod warnings;
+
+pub use csvw_columns_core::{Column, Columns, HeaderRow};
+pub use heading::match_header;
+pub use names::by_name;
+pub use plan::{ForeignKeyPlan, Plan, TablePlan};
+pub use table_stop::TableStop;

@@ -1,0 +1,52 @@
+//! The names of columns.
+ghost use Rattle.std.specs.Prelude.{◌≡◌, ◌↔◌, IfOk, IsTrue, map, find, bytes_eq};
+ghost use Rattle.std.specs.Option.{option_copied};
+ghost use Rattle.std.specs.BTreeSet.{IsFromIterResult};
+ghost use Rattle.std.specs.Cmp.Lexicographic.{slice_cmp};
+ghost use Rattle.std.specs.Ordering.{nat_cmp};
+ghost use Rattle.csvw_columns.specs.Distinct.{AllDistinct};
+
+use csvw_columns_core::{Column, Columns};
+use csvw_description::Name;
+use std::alloc::{AllocError, Global};
+use std::collections::BTreeSet;
+
+/// The column of this name, the first one; `None` where there is none. It takes no memory.
+pub fn by_name<'a>(columns: &'a Columns, name: &str) -> Option<&'a Column>
+    ensures { option_copied result ≡ find (λ c. bytes_eq c.name name.now) columns.now.columns }
+{
+    columns
+        .columns
+        .as_slice()
+        .iter()
+        .find(|c| c.name.as_str() == name)
+}
+
+/// Copies of the names of columns.
+pub(crate) fn names_of(alloc: Global, columns: &[Column]) -> Result<Vec<Name>, AllocError>
+    ensures { IfOk result (λ v. v.items ≡ map (λ c. c.name) columns.now) }
+{
+    let mut names = Vec::new(alloc);
+    for column in columns {
+        let name = column.name.clone(alloc)?;
+        names.push(name)?;
+    }
+    Ok(names)
+}
+
+/// The set of names.
+fn set_of(alloc: Global, names: Vec<Name>) -> Result<BTreeSet<Name>, AllocError>
+    ensures { IfOk result (IsFromIterResult (slice_cmp nat_cmp) names.items) }
+{
+    names.into_iter().collect(alloc)
+}
+
+/// Whether no two names are equal.
+#[tactic(auto, using(crate::proofs::DistinctLemmas::tells))]
+pub(crate) fn are_distinct(alloc: Global, names: Vec<Name>) -> Result<bool, AllocError>
+    ensures { IfOk result (λ b. IsTrue b ↔ AllDistinct names.items) }
+{
+    let count = names.len();
+    let set = set_of(alloc, names)?;
+    Ok(set.len() == count)
+}
