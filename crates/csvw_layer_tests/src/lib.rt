@@ -8,4 +8,6 @@ mod documents;
 #[cfg(test)]
 mod graphs;
 #[cfg(test)]
+mod reports;
+#[cfg(test)]
 mod templates;

@@ -17,8 +17,8 @@ use Rattle.csvw_meta_core.specs.Kinds.{truth, whole, any_whole, character, fixed
 use Rattle.csvw_meta_core.specs.Links.{id}
 use Rattle.csvw_meta.specs.declared.context.Context.{Context}
 use Rattle.csvw_meta.specs.declared.dialect.DialectFound.{DialectFound}
-use Rattle.csvw_meta.specs.Dialect.{is_break_char, mark, comment_prefix, terminator, terminators, joined, neither, clashes, dialect_parts, dialect_faults, lawful_dialect, header_rows, trim, dialect_of, dialect, no_dialect}
-use Rattle.csvw_meta.proofs.FineLemmas.{Ensures, each_fine, none_in_both, if_fine, also_fine, over_fine, on_kind_fine, on_linked_fine, property_fine, or_null_fine, optional_fine}
+use Rattle.csvw_meta.specs.Dialect.{is_break_char, mark, comment_prefix, terminator, terminators, joined, neither, clashes, dialect_parts, dialect_faults, lawful_dialect, trim, dialect_of, dialect, no_dialect}
+use Rattle.csvw_meta.proofs.FineLemmas.{Ensures, each_fine, none_in_both, if_fine, also_fine, over_fine, on_kind_fine, on_linked_fine, property_fine, or_null_fine}
 
 -- neither CR nor LF
 abbrev IsMark : ℕ → Type 0
@@ -86,11 +86,6 @@ whole_fine most at d =
     on_kind_fine (λ n. n ≤ most) BadProperty at d 0 (option_and_then as_u64 (as_number d)) next
     (λ n. if_fine (λ k. k ≤ most) (nat_le n most) (fine n) (faulty TooMany at 0) (λ b h. leb-true n most b) (λ b h. cc))
 
-header_rows_fine : (header : Bool) (count : Option ℕ) → IfSome count (λ n. n ≤ 8) → header_rows header count ≤ 8
-header_rows_fine header (Some n) h = h
-header_rows_fine true None h = omega arith
-header_rows_fine false None h = omega arith
-
 -- ---- the rule over several values
 
 last_true : (a b : Bool) → (a || (b || true)) ≡ true
@@ -154,7 +149,6 @@ record FitsInParts (d : Dialect) : Type 0 where
   pub quote : IfSome d.quote_char IsMark
   pub prefix : IfSome d.comment_prefix IsPrefix
   pub terminators : HasTerminator d.line_terminators
-  pub header_rows : d.header_row_count ≤ 8
   pub skipped : d.skip_columns ≤ 1024
 
 parts_fine : (at : List ℕ) (d : Data) → Ensures (dialect_parts at d) FitsInParts
@@ -180,8 +174,6 @@ parts_fine at d h =
           (Some (codes "#")) default_prefix at d (codes "commentPrefix") p4.0;
       terminators = property_fine HasTerminator terminators terminators_fine (record { crlf = true; lf = true }) refl
           at d (codes "lineTerminators") p12.0;
-      header_rows = header_rows_fine (property truth true at d (codes "header")).value (optional (whole 8) at d (codes "headerRowCount")).value
-          (optional_fine (λ n. n ≤ 8) (whole 8) (whole_fine 8) at d (codes "headerRowCount") p6.0);
       skipped = property_fine (λ n. n ≤ 1024) (whole 1024) (whole_fine 1024) 0 (omega arith) at d (codes "skipColumns") p8.0;
     }
 
@@ -200,7 +192,6 @@ fit d parts h = record {
     quote_escape = quote_escape d.delimiter d.quote_char d.double_quote h;
     terminators = parts.terminators;
   };
-  header_rows = parts.header_rows;
   skipped = parts.skipped;
 }
 

@@ -8,7 +8,7 @@ use Rattle.csvw_text.specs.declared.fault.Fault.{Fault}
 use Rattle.csvw_iri.specs.Link.{base_of}
 use Rattle.csvw_description.specs.declared.description.Description.{Description}
 use Rattle.csvw_description.specs.declared.table.TableDescription.{TableDescription}
-use Rattle.csvw_description.specs.Plannable.{HasSoundDatatype, IsFitDialect, IsFitSchema, IsFitTable, IsPlannable}
+use Rattle.csvw_description.specs.Plannable.{HasSound, IsFitDialect, IsFitSchema, IsFitTable, IsPlannable}
 use Rattle.csvw_meta_core.specs.declared.fault.MetaCode.TheVariants.{NotSupported, TooLong}
 use Rattle.csvw_meta_core.specs.Read.{Read, fine, faulty, over, optional, needed, not_yet}
 use Rattle.csvw_meta_core.specs.Kinds.{fixed}
@@ -52,7 +52,7 @@ given_dialect_fine context table warnings at d h =
 
 record IsFitBody (b : Body) : Type 0 where
   pub schema : IfSome b.schema IsFitSchema
-  pub inherited : HasSoundDatatype b.inherited
+  pub inherited : HasSound b.inherited
 
 body_fine : (context : Context) (table : ℕ) (at : List ℕ) (d : Data) → Ensures (body context table at d) IsFitBody
 unfolding body
@@ -109,7 +109,7 @@ group_fine context at d h =
     let fit = needed_fine AreFitTables (tables context) (tables_fine context) [] at d (codes "tables") p4.0 in
     let given = given_dialect_fine context 0 warnings.value at d p6.0 in
     let rest = body_fine context 0 at d p7.0 in
-    record { dialect = given; schema = rest.schema; inherited = rest.inherited; tables = fit.0; count = fit.1 }
+    record { dialect = given; schema = rest.schema; inherited = rest.inherited; limit = fit.1; tables = fit.0 }
 
 sole_fine : (context : Context) (at : List ℕ) (d : Data) → Ensures (sole_table context at d) IsPlannable
 sole_fine context at d h =
@@ -118,8 +118,8 @@ sole_fine context at d h =
       dialect = tt;
       schema = tt;
       inherited = tt;
+      limit = omega arith;
       tables = All-cons IsFitTable t [] (table_of_fine context true 1 at d h) (λ k e lt. absurd (omega (arith, lt)));
-      count = omega arith;
     }
 
 within_fine : (context : Context) (at : List ℕ) (d : Data) → Ensures (within context at d) IsPlannable

@@ -8,7 +8,8 @@ use Rattle.std.proofs.lemmas.Slice.Eq.{bytes_eq-Decides}
 use Rattle.serde_json.specs.Data.{Data}
 use Rattle.csvw_description.specs.declared.column.ColumnDescription.{ColumnDescription}
 use Rattle.csvw_description.specs.Name.{name_of}
-use Rattle.csvw_description.specs.Plannable.{HasSoundDatatype, IsFitSchema, names_from}
+use Rattle.csvw_description.specs.Plannable.{HasSound, IsFitSchema}
+use Rattle.csvw_description.specs.Plannable as plannable
 use Rattle.csvw_meta_core.specs.declared.fault.MetaCode.TheVariants.{DuplicateName, NotSupported}
 use Rattle.csvw_meta_core.specs.declared.fault.MetaFault.{MetaFault}
 use Rattle.csvw_meta_core.specs.Pointer.{item_at}
@@ -67,12 +68,12 @@ module _ (fault : ℕ → MetaFault) where
 
 -- ---- columns
 
-pub inherited_sound : (at : List ℕ) (d : Data) → HasSoundDatatype (inherited at d).value
+pub inherited_sound : (at : List ℕ) (d : Data) → HasSound (inherited at d).value
 unfolding inherited
 inherited_sound at d = tt
 
 abbrev IsSoundColumn : ColumnDescription → Type 0
-IsSoundColumn c = HasSoundDatatype c.inherited
+IsSoundColumn c = HasSound c.inherited
 
 column_of_fine : (context : Context) (table number : ℕ) (at : List ℕ) (d : Data) → Ensures (column_of context table number at d) IsSoundColumn
 unfolding column_of
@@ -82,14 +83,14 @@ column_fine : (context : Context) (table number : ℕ) (at : List ℕ) (d : Data
 column_fine context table number at d =
     on_object_fine IsSoundColumn at d no_column (column_of context table number at d) (column_of_fine context table number at d)
 
-names_are : (i : ℕ) (cs : List ColumnDescription) → numbered_names i cs ≡ names_from (i + 1) cs
+names_are : (i : ℕ) (cs : List ColumnDescription) → numbered_names i cs ≡ plannable.numbered_names i cs
 names_are i [] = refl
 names_are i (c ∷ cs) = ap (λ ns. name_of (i + 1) c ∷ ns) (names_are (i + 1) cs)
 
 record AreFitColumns (cs : List ColumnDescription) : Type 0 where
   pub sound : All IsSoundColumn cs
   pub count : length cs ≤ 1024
-  pub names : AllPairs (λ x y. x ≢ y) (names_from 1 cs)
+  pub names : AllPairs (λ x y. x ≢ y) (plannable.numbered_names 0 cs)
 
 abbrev AreSeveral : List ColumnDescription → Type 0
 AreSeveral cs = All IsSoundColumn cs × (length cs ≤ 1024)
@@ -123,7 +124,14 @@ schema_of_fine context table at d h =
     let p6 = none_in_both (others (schema_names ++ inherited_names) NotSupported (place_of table 0) at d).faults _ p5.1 in
     let p7 = none_in_both (property (columns context table) [] at d (codes "columns")).faults _ p6.1 in
     let fits = property_fine AreFitColumns (columns context table) (columns_fine context table) [] no_columns at d (codes "columns") p7.0 in
-    record { inherited = inherited_sound at d; columns = fits.sound; count = fits.count; names = fits.names }
+    record {
+      limit = fits.count;
+      inherited = inherited_sound at d;
+      datatypes = fits.sound;
+      names = fits.names;
+      primary_key = refl;
+      foreign_keys = refl;
+    }
 
 pub schema_fine : (context : Context) (table : ℕ) (at : List ℕ) (d : Data) → Ensures (schema context table at d) IsFitSchema
 schema_fine context table at d = on_linked_fine IsFitSchema at d no_schema (schema_of context table at d) (schema_of_fine context table at d)
