@@ -48,7 +48,8 @@ DayForms = (text : List ℕ) (day : ℤ) → ReadsDate YearFirst text day → te
 abbrev MomentForms : Type 0
 MomentForms = (text : List ℕ) (moment : ℤ) → ReadsMoment Seconds text moment → text ≡ moment_form moment
 
-pub forms : NumberForms → NumberInBytes → DayForms → MomentForms → (v : Value) (text : List ℕ) → IsUtf8 text → IsWritable v → IsLexical v text → text ≡ lexical_of v
+pub forms : NumberForms → NumberInBytes → DayForms → MomentForms → (v : Value) (text : List ℕ) → IsUtf8 text → IsWritable v
+    → IsLexical v text → text ≡ lexical_of v
 forms number bytes day moment (values.Text t) text p w h = h
 forms number bytes day moment (values.Truth b) text p w h = h
 forms number bytes day moment (values.Number z) text p w h = sym (encodes-chars text p) ∙ ap encode_utf8_all (number (chars text) z w h) ∙ bytes z w

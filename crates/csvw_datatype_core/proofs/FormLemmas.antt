@@ -8,7 +8,7 @@ use mir.Syntax.{w32}
 use Rattle.std.proofs.lemmas.Bool.{cases_order}
 use Rattle.std.proofs.lemmas.Bool.Decides.{nat_tests, eqb_tells, Decides-int_eq}
 use Rattle.std.proofs.lemmas.Int.{ints}
-use Rattle.jiff_core.specs.Calendar.{days_in_month}
+use Rattle.jiff_core.specs.Calendar.{days_in_month, IsYear, IsBetween}
 use Rattle.jiff_core.proofs.CalendarLemmas.{days_in_month_bounds}
 use Rattle.csvw_datatype_core.specs.declared.date.DateFormat.TheVariants.{YearFirst}
 use Rattle.csvw_datatype_core.specs.declared.moment.MomentFormat.TheVariants.{Seconds}
@@ -78,7 +78,8 @@ at_date f a e =
     let d = found_at 32 (λ d. f y.0 m.0 d) a m.2 in
     record { y = y.0; m = m.0; d = d.0; year = y.1; found = d.2 }
 
-finds_date : {A : Type 0} (f : ℕ → ℕ → ℕ → Option A) (y m d : ℕ) (a : A) → y < 10_000 → m < 13 → d < 32 → f y m d ≡ Some a → (b : A) × (found_on_dates f ≡ Some b)
+finds_date : {A : Type 0} (f : ℕ → ℕ → ℕ → Option A) (y m d : ℕ) (a : A) → y < 10_000 → m < 13 → d < 32 → f y m d ≡ Some a
+    → (b : A) × (found_on_dates f ≡ Some b)
 unfolding found_on_dates
 finds_date f y m d a h k l e =
     let b = finds 32 (λ d. f y m d) d a l e in
@@ -135,7 +136,9 @@ true_day y m d l h =
     let m_to = true_le m 12 c.1 in
     let d_from = true_le 1 d b.1 in
     let d_to = true_le d (days_in_month (pos y) m) a.1 in
-    (y_from, ((omega (arith, ints, l), omega (arith, ints, l)), (omega (arith, ints, m_from), omega (arith, ints, m_to)), (omega (arith, ints, d_from), omega (arith, ints, d_to))))
+    let year : IsYear (pos y) = (omega (arith, ints, l), omega (arith, ints, l)) in
+    let month : IsBetween (pos 1) (pos 12) (pos m) = (omega (arith, ints, m_from), omega (arith, ints, m_to)) in
+    (y_from, (year, month, (omega (arith, ints, d_from), omega (arith, ints, d_to))))
 
 abbrev at_day : ℤ → ℕ → ℕ → ℕ → Option (List ℕ)
 at_day day y m d = found_if (is_day y m d && int_eq day (day_number y m d)) (date_digits y m d)
@@ -144,7 +147,8 @@ reads_found : (day : ℤ) (text : List ℕ) → AtDate (at_day day) text → Rea
 reads_found day text a =
     let e = is_true _ _ text a.found in
     let b = parts_of_and _ _ e.0 in
-    let f : IsFields day a.y a.m a.d = record { year = a.year; is_day = true_day a.y a.m a.d a.year b.0; is_value = (Decides-int_eq day (day_number a.y a.m a.d)).0 b.1 } in
+    let value = (Decides-int_eq day (day_number a.y a.m a.d)).0 b.1 in
+    let f : IsFields day a.y a.m a.d = record { year = a.year; is_day = true_day a.y a.m a.d a.year b.0; is_value = value } in
     subst (λ t. ReadsDate YearFirst t day) e.1 (date_digits_read a.y a.m a.d day f)
 
 -- the fields of a date that is read
@@ -230,14 +234,16 @@ pub fits_day : (day : ℤ) → IsDayNumber day → FitsSigned w32 day
 fits_day day h = search rules
 
 -- a date that was written into an empty text, and a time of day behind it
-pub written_moment : (old mid new : List ℕ) (moment day : ℤ) (second : ℕ) → old ≡ [] → IsDayAndSecond moment day second → AppendsDate old mid day → AppendsTime mid new second
+pub written_moment : (old mid new : List ℕ) (moment day : ℤ) (second : ℕ) → old ≡ [] → IsDayAndSecond moment day second
+    → AppendsDate old mid day → AppendsTime mid new second
     → new ≡ moment_form moment
 written_moment old mid new moment day second e p a b =
     moment_is_form new moment (moment_written mid new moment day second p (subst (λ t. AppendsDate t mid day) e a) b)
 
 -- numbers
 
-nothing_left : (start out : List ℕ) (n rest weight : ℕ) (more : List ℕ) → IsPushing start out n rest weight → rest ≡ 0 → more ≡ [] → AppendsFraction start (out ++ more) n
+nothing_left : (start out : List ℕ) (n rest weight : ℕ) (more : List ℕ) → IsPushing start out n rest weight → rest ≡ 0 → more ≡ []
+    → AppendsFraction start (out ++ more) n
 nothing_left start out n rest weight more p h e =
     subst (λ t. AppendsFraction start t n) (sym (ap (λ t. out ++ t) e ∙ append-nil out)) (pushing_ends start out n rest weight p h)
 
