@@ -104,14 +104,14 @@ le_true a b h = grind (arith, nat_tests)
 true_le : (a b : ℕ) → nat_le a b ≡ true → a ≤ b
 true_le a b h = grind (arith, nat_tests)
 
-record InMonth (y m d : ℕ) : Type 0 where
+pub record InMonth (y m d : ℕ) : Type 0 where
   pub from_year : 1 ≤ y
   pub from_month : 1 ≤ m
   pub to_month : m ≤ 12
   pub from_day : 1 ≤ d
   pub to_day : d ≤ days_in_month (pos y) m
 
-in_month : (y m d : ℕ) → IsDay y m d → InMonth y m d
+pub in_month : (y m d : ℕ) → IsDay y m d → InMonth y m d
 in_month y m d h = record {
   from_year = h.0;
   from_month = omega (arith, ints, h.1.1.0);
@@ -125,20 +125,26 @@ day_true y m d h =
     let i = in_month y m d h in
     all_five _ _ _ _ _ (le_true 1 y i.from_year) (le_true 1 m i.from_month) (le_true m 12 i.to_month) (le_true 1 d i.from_day) (le_true d _ i.to_day)
 
+pub day_of_month : (y m d : ℕ) → y < 10_000 → InMonth y m d → IsDay y m d
+day_of_month y m d l i =
+    let year : IsYear (pos y) = (omega (arith, ints, l), omega (arith, ints, l)) in
+    let month : IsBetween (pos 1) (pos 12) (pos m) = (omega (arith, ints, i.from_month), omega (arith, ints, i.to_month)) in
+    (i.from_year, (year, month, (omega (arith, ints, i.from_day), omega (arith, ints, i.to_day))))
+
 true_day : (y m d : ℕ) → y < 10_000 → is_day y m d ≡ true → IsDay y m d
 true_day y m d l h =
     let a = parts_of_and _ (nat_le d (days_in_month (pos y) m)) h in
     let b = parts_of_and _ (nat_le 1 d) a.0 in
     let c = parts_of_and _ (nat_le m 12) b.0 in
     let e = parts_of_and (nat_le 1 y) (nat_le 1 m) c.0 in
-    let y_from = true_le 1 y e.0 in
-    let m_from = true_le 1 m e.1 in
-    let m_to = true_le m 12 c.1 in
-    let d_from = true_le 1 d b.1 in
-    let d_to = true_le d (days_in_month (pos y) m) a.1 in
-    let year : IsYear (pos y) = (omega (arith, ints, l), omega (arith, ints, l)) in
-    let month : IsBetween (pos 1) (pos 12) (pos m) = (omega (arith, ints, m_from), omega (arith, ints, m_to)) in
-    (y_from, (year, month, (omega (arith, ints, d_from), omega (arith, ints, d_to))))
+    let inside : InMonth y m d = record {
+      from_year = true_le 1 y e.0;
+      from_month = true_le 1 m e.1;
+      to_month = true_le m 12 c.1;
+      from_day = true_le 1 d b.1;
+      to_day = true_le d (days_in_month (pos y) m) a.1;
+    } in
+    day_of_month y m d l inside
 
 abbrev at_day : ℤ → ℕ → ℕ → ℕ → Option (List ℕ)
 at_day day y m d = found_if (is_day y m d && int_eq day (day_number y m d)) (date_digits y m d)
@@ -286,7 +292,7 @@ sign_is : (z : ℤ) → cond (lt_z z (pos 0)) (45 ∷ []) [] ≡ sign_form z
 sign_is (pos n) = grind (arith, nat_tests)
 sign_is (negsuc n) = refl
 
-form_is_lexical : (z : ℤ) → unsigned_abs z < 10 ^ 38 → IsLexicalNumber (number_form z) z
+pub form_is_lexical : (z : ℤ) → unsigned_abs z < 10 ^ 38 → IsLexicalNumber (number_form z) z
 unfolding number_form
 form_is_lexical z h =
     let n : ℕ = unsigned_abs z in
