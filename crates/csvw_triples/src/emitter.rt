@@ -1,15 +1,15 @@
 //! The triples of rows, put into a sink.
-ghost use Rattle.std.specs.Prelude.{◌≡◌, ◌+◌, ◌==◌, ◌≤◌, [], ◌∷◌, length, map, drop, IfOk, OnOk, OnErr, if◌then◌else◌};
+ghost use Rattle.std.specs.Prelude.{◌≡◌, [], ◌∷◌, length, map, IfOk, OnOk, OnErr, if◌then◌else◌};
 ghost use Rattle.csvw_datatype.specs.Lexical.{IsWritable};
 ghost use Rattle.csvw_triples_core.specs.Taking.{FrontOf, Ends};
-ghost use Rattle.csvw_triples_core.specs.declared.origin.Origin.TheVariants.{Entry};
 ghost use Rattle.csvw_triples_core.specs.declared.term.Node.TheVariants as node;
 ghost use Rattle.csvw_triples_core.specs.declared.term.Term.TheVariants as term;
 ghost use Rattle.csvw_triples.specs.HasForms.{HaveForms, ValueHasForms, CellsHaveForms, HasForms};
 ghost use Rattle.csvw_triples.specs.Literals.{literal_of};
 ghost use Rattle.csvw_triples.specs.Puts.{Puts};
 ghost use Rattle.csvw_triples.specs.Stems.{object_triple, literal_triple, entries_in, entry_triples};
-ghost use Rattle.csvw_triples.specs.RowTriples.{triple, entries_of, list_node, first_triple, rest_triple, list_triples, items_triples, value_triples, object_triples, subject_of, predicate_of, cell_triples, cells_triples, row_triples};
+ghost use Rattle.csvw_triples.specs.RowTriples.{triple, list_node, list_triples, items_triples, value_triples};
+ghost use Rattle.csvw_triples.specs.RowTriples.{object_triples, cell_triples, cells_triples, row_triples};
 ghost use Rattle.csvw_triples.specs.Vocabulary.{rdf_first, rdf_rest, rdf_nil};
 
 use crate::literals::literal_of;
