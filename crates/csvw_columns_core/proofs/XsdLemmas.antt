@@ -35,7 +35,8 @@ raw_type simples.Uri = refl
 raw_type (simples.Derived w) = raw_width w
 raw_type simples.Moment = refl
 
-pub safe_type : (s : Simple) (text joined head name : List ℕ) → text ≡ joined → joined ≡ head ++ name → head ≡ codes "http://www.w3.org/2001/XMLSchema#" → name ≡ name_of s
+pub safe_type : (s : Simple) (text joined head name : List ℕ) → text ≡ joined → joined ≡ head ++ name
+    → head ≡ codes "http://www.w3.org/2001/XMLSchema#" → name ≡ name_of s
     → safe text ≡ xsd_type s
 safe_type s text joined head name e f g h =
     ap safe (e ∙ f ∙ ap (λ t. t ++ name) g ∙ ap (λ t. codes "http://www.w3.org/2001/XMLSchema#" ++ t) h) ∙ raw_type s

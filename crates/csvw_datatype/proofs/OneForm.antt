@@ -1,5 +1,5 @@
 -- A value has one lexical form.
-use Rattle.std.proofs.Common.{◌≡◌, ℕ, ◌<◌, ◌^◌, List, sym, ap, ◌∙◌, ℤ, unsigned_abs}
+use Rattle.std.proofs.Common.{◌≡◌, ℕ, ◌<◌, ◌^◌, List, refl, sym, ap, ◌∙◌, ℤ, unsigned_abs}
 use Rattle.std.specs.Str.{chars, IsUtf8}
 use Rattle.std.specs.Prelude.{encode_utf8_all}
 use Rattle.std.proofs.lemmas.Str.{encodes-chars}
@@ -7,6 +7,7 @@ use Rattle.csvw_datatype_core.specs.declared.date.DateFormat.TheVariants.{YearFi
 use Rattle.csvw_datatype_core.specs.declared.moment.MomentFormat.TheVariants.{Seconds}
 use Rattle.csvw_datatype_core.specs.Dates.{ReadsDate}
 use Rattle.csvw_datatype_core.specs.Moments.{ReadsMoment}
+use Rattle.csvw_datatype_core.specs.LexicalDates.{IsDayNumber, IsMomentNumber}
 use Rattle.csvw_datatype_core.specs.Forms.{number_form, date_form, moment_form}
 use Rattle.csvw_datatype_core.specs.LexicalNumbers.{IsLexicalNumber}
 use Rattle.csvw_datatype.specs.declared.value.Value.{Value}
@@ -48,9 +49,26 @@ DayForms = (text : List ℕ) (day : ℤ) → ReadsDate YearFirst text day → te
 abbrev MomentForms : Type 0
 MomentForms = (text : List ℕ) (moment : ℤ) → ReadsMoment Seconds text moment → text ≡ moment_form moment
 
-pub forms : NumberForms → NumberInBytes → DayForms → MomentForms → (v : Value) (text : List ℕ) → IsUtf8 text → IsWritable v → IsLexical v text → text ≡ lexical_of v
+pub forms : NumberForms → NumberInBytes → DayForms → MomentForms → (v : Value) (text : List ℕ) → IsUtf8 text → IsWritable v
+    → IsLexical v text → text ≡ lexical_of v
 forms number bytes day moment (values.Text t) text p w h = h
 forms number bytes day moment (values.Truth b) text p w h = h
 forms number bytes day moment (values.Number z) text p w h = sym (encodes-chars text p) ∙ ap encode_utf8_all (number (chars text) z w h) ∙ bytes z w
 forms number bytes day moment (values.Day d) text p w h = day text d h
 forms number bytes day moment (values.Moment m) text p w h = moment text m h
+
+abbrev NumbersHaveForms : Type 0
+NumbersHaveForms = (z : ℤ) → unsigned_abs z < 10 ^ 38 → IsLexicalNumber (chars (number_form z)) z
+
+abbrev DaysHaveForms : Type 0
+DaysHaveForms = (day : ℤ) → IsDayNumber day → ReadsDate YearFirst (date_form day) day
+
+abbrev MomentsHaveForms : Type 0
+MomentsHaveForms = (moment : ℤ) → IsMomentNumber moment → ReadsMoment Seconds (moment_form moment) moment
+
+pub have_forms : NumbersHaveForms → DaysHaveForms → MomentsHaveForms → (v : Value) → IsWritable v → IsLexical v (lexical_of v)
+have_forms number day moment (values.Text t) w = refl
+have_forms number day moment (values.Truth b) w = refl
+have_forms number day moment (values.Number z) w = number z w
+have_forms number day moment (values.Day d) w = day d w
+have_forms number day moment (values.Moment m) w = moment m w

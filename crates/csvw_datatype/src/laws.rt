@@ -63,9 +63,10 @@ pub fn one_form()
     one_moment_text();
 }
 
-/// A law: that form is the text that a function gives.
+/// A law: that form is the text that a function gives, which is a lexical form.
 pub fn lexical_forms()
-    ensures { (v : Value) (text : List ℕ) → IsUtf8 text → IsWritable v → IsLexical v text → text ≡ lexical_of v }
+    ensures only { (v : Value) (text : List ℕ) → IsUtf8 text → IsWritable v → IsLexical v text → text ≡ lexical_of v }
+    ensures lexical { (v : Value) → IsWritable v → IsLexical v (lexical_of v) }
 {
     number_forms();
     date_forms();

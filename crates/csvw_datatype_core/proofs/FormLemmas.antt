@@ -8,7 +8,7 @@ use mir.Syntax.{w32}
 use Rattle.std.proofs.lemmas.Bool.{cases_order}
 use Rattle.std.proofs.lemmas.Bool.Decides.{nat_tests, eqb_tells, Decides-int_eq}
 use Rattle.std.proofs.lemmas.Int.{ints}
-use Rattle.jiff_core.specs.Calendar.{days_in_month}
+use Rattle.jiff_core.specs.Calendar.{days_in_month, IsYear, IsBetween}
 use Rattle.jiff_core.proofs.CalendarLemmas.{days_in_month_bounds}
 use Rattle.csvw_datatype_core.specs.declared.date.DateFormat.TheVariants.{YearFirst}
 use Rattle.csvw_datatype_core.specs.declared.moment.MomentFormat.TheVariants.{Seconds}
@@ -78,7 +78,8 @@ at_date f a e =
     let d = found_at 32 (λ d. f y.0 m.0 d) a m.2 in
     record { y = y.0; m = m.0; d = d.0; year = y.1; found = d.2 }
 
-finds_date : {A : Type 0} (f : ℕ → ℕ → ℕ → Option A) (y m d : ℕ) (a : A) → y < 10_000 → m < 13 → d < 32 → f y m d ≡ Some a → (b : A) × (found_on_dates f ≡ Some b)
+finds_date : {A : Type 0} (f : ℕ → ℕ → ℕ → Option A) (y m d : ℕ) (a : A) → y < 10_000 → m < 13 → d < 32 → f y m d ≡ Some a
+    → (b : A) × (found_on_dates f ≡ Some b)
 unfolding found_on_dates
 finds_date f y m d a h k l e =
     let b = finds 32 (λ d. f y m d) d a l e in
@@ -103,14 +104,14 @@ le_true a b h = grind (arith, nat_tests)
 true_le : (a b : ℕ) → nat_le a b ≡ true → a ≤ b
 true_le a b h = grind (arith, nat_tests)
 
-record InMonth (y m d : ℕ) : Type 0 where
+pub record InMonth (y m d : ℕ) : Type 0 where
   pub from_year : 1 ≤ y
   pub from_month : 1 ≤ m
   pub to_month : m ≤ 12
   pub from_day : 1 ≤ d
   pub to_day : d ≤ days_in_month (pos y) m
 
-in_month : (y m d : ℕ) → IsDay y m d → InMonth y m d
+pub in_month : (y m d : ℕ) → IsDay y m d → InMonth y m d
 in_month y m d h = record {
   from_year = h.0;
   from_month = omega (arith, ints, h.1.1.0);
@@ -124,18 +125,26 @@ day_true y m d h =
     let i = in_month y m d h in
     all_five _ _ _ _ _ (le_true 1 y i.from_year) (le_true 1 m i.from_month) (le_true m 12 i.to_month) (le_true 1 d i.from_day) (le_true d _ i.to_day)
 
+pub day_of_month : (y m d : ℕ) → y < 10_000 → InMonth y m d → IsDay y m d
+day_of_month y m d l i =
+    let year : IsYear (pos y) = (omega (arith, ints, l), omega (arith, ints, l)) in
+    let month : IsBetween (pos 1) (pos 12) (pos m) = (omega (arith, ints, i.from_month), omega (arith, ints, i.to_month)) in
+    (i.from_year, (year, month, (omega (arith, ints, i.from_day), omega (arith, ints, i.to_day))))
+
 true_day : (y m d : ℕ) → y < 10_000 → is_day y m d ≡ true → IsDay y m d
 true_day y m d l h =
     let a = parts_of_and _ (nat_le d (days_in_month (pos y) m)) h in
     let b = parts_of_and _ (nat_le 1 d) a.0 in
     let c = parts_of_and _ (nat_le m 12) b.0 in
     let e = parts_of_and (nat_le 1 y) (nat_le 1 m) c.0 in
-    let y_from = true_le 1 y e.0 in
-    let m_from = true_le 1 m e.1 in
-    let m_to = true_le m 12 c.1 in
-    let d_from = true_le 1 d b.1 in
-    let d_to = true_le d (days_in_month (pos y) m) a.1 in
-    (y_from, ((omega (arith, ints, l), omega (arith, ints, l)), (omega (arith, ints, m_from), omega (arith, ints, m_to)), (omega (arith, ints, d_from), omega (arith, ints, d_to))))
+    let inside : InMonth y m d = record {
+      from_year = true_le 1 y e.0;
+      from_month = true_le 1 m e.1;
+      to_month = true_le m 12 c.1;
+      from_day = true_le 1 d b.1;
+      to_day = true_le d (days_in_month (pos y) m) a.1;
+    } in
+    day_of_month y m d l inside
 
 abbrev at_day : ℤ → ℕ → ℕ → ℕ → Option (List ℕ)
 at_day day y m d = found_if (is_day y m d && int_eq day (day_number y m d)) (date_digits y m d)
@@ -144,7 +153,8 @@ reads_found : (day : ℤ) (text : List ℕ) → AtDate (at_day day) text → Rea
 reads_found day text a =
     let e = is_true _ _ text a.found in
     let b = parts_of_and _ _ e.0 in
-    let f : IsFields day a.y a.m a.d = record { year = a.year; is_day = true_day a.y a.m a.d a.year b.0; is_value = (Decides-int_eq day (day_number a.y a.m a.d)).0 b.1 } in
+    let value = (Decides-int_eq day (day_number a.y a.m a.d)).0 b.1 in
+    let f : IsFields day a.y a.m a.d = record { year = a.year; is_day = true_day a.y a.m a.d a.year b.0; is_value = value } in
     subst (λ t. ReadsDate YearFirst t day) e.1 (date_digits_read a.y a.m a.d day f)
 
 -- the fields of a date that is read
@@ -230,14 +240,16 @@ pub fits_day : (day : ℤ) → IsDayNumber day → FitsSigned w32 day
 fits_day day h = search rules
 
 -- a date that was written into an empty text, and a time of day behind it
-pub written_moment : (old mid new : List ℕ) (moment day : ℤ) (second : ℕ) → old ≡ [] → IsDayAndSecond moment day second → AppendsDate old mid day → AppendsTime mid new second
+pub written_moment : (old mid new : List ℕ) (moment day : ℤ) (second : ℕ) → old ≡ [] → IsDayAndSecond moment day second
+    → AppendsDate old mid day → AppendsTime mid new second
     → new ≡ moment_form moment
 written_moment old mid new moment day second e p a b =
     moment_is_form new moment (moment_written mid new moment day second p (subst (λ t. AppendsDate t mid day) e a) b)
 
 -- numbers
 
-nothing_left : (start out : List ℕ) (n rest weight : ℕ) (more : List ℕ) → IsPushing start out n rest weight → rest ≡ 0 → more ≡ [] → AppendsFraction start (out ++ more) n
+nothing_left : (start out : List ℕ) (n rest weight : ℕ) (more : List ℕ) → IsPushing start out n rest weight → rest ≡ 0 → more ≡ []
+    → AppendsFraction start (out ++ more) n
 nothing_left start out n rest weight more p h e =
     subst (λ t. AppendsFraction start t n) (sym (ap (λ t. out ++ t) e ∙ append-nil out)) (pushing_ends start out n rest weight p h)
 
@@ -280,7 +292,7 @@ sign_is : (z : ℤ) → cond (lt_z z (pos 0)) (45 ∷ []) [] ≡ sign_form z
 sign_is (pos n) = grind (arith, nat_tests)
 sign_is (negsuc n) = refl
 
-form_is_lexical : (z : ℤ) → unsigned_abs z < 10 ^ 38 → IsLexicalNumber (number_form z) z
+pub form_is_lexical : (z : ℤ) → unsigned_abs z < 10 ^ 38 → IsLexicalNumber (number_form z) z
 unfolding number_form
 form_is_lexical z h =
     let n : ℕ = unsigned_abs z in

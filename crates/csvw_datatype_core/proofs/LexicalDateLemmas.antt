@@ -90,7 +90,7 @@ time_digits_read h m s second a b c e =
     }
 
 -- 1 January of the year 1
-first_count : day_count (pos 1) 1 1 ≡ 3_652_791
+pub first_count : day_count (pos 1) 1 1 ≡ 3_652_791
 first_count = day_count-early (pos 1) 10_000 1 1 refl (omega arith) (omega arith) (omega arith)
 
 -- a day from then on is in no year before

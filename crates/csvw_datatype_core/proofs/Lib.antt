@@ -16,3 +16,4 @@ pub mod OneValue
 pub mod OneText
 pub mod OneNumberText
 pub mod FormLemmas
+pub mod EveryDay

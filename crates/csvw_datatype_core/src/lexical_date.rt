@@ -134,9 +134,11 @@ pub fn one_moment_text()
     ensures { (s t : List ℕ) (moment : ℤ) → ReadsMoment Seconds s moment → ReadsMoment Seconds t moment → s ≡ t }
 {}
 
-/// A law: the text of a day in the form `yyyy-MM-dd` is the one that a function gives, and so is that of a moment in the form
-/// `yyyy-MM-ddTHH:mm:ss`.
+/// A law: the text of a day of the years 0001 to 9999 in the form `yyyy-MM-dd` is the one that a function gives, and no other;
+/// so is that of a moment in the form `yyyy-MM-ddTHH:mm:ss`.
 pub fn date_forms()
     ensures day { (text : List ℕ) (day : ℤ) → ReadsDate YearFirst text day → text ≡ date_form day }
     ensures moment { (text : List ℕ) (moment : ℤ) → ReadsMoment Seconds text moment → text ≡ moment_form moment }
+    ensures is_day { (day : ℤ) → IsDayNumber day → ReadsDate YearFirst (date_form day) day }
+    ensures is_moment { (moment : ℤ) → IsMomentNumber moment → ReadsMoment Seconds (moment_form moment) moment }
 {}

@@ -69,8 +69,10 @@ pub fn one_number_text()
     ensures { (cs ds : List ℕ) (z : ℤ) → IsLexicalNumber cs z → IsLexicalNumber ds z → cs ≡ ds }
 {}
 
-/// A law: the lexical form of a number below 10^38 units in size is the text that a function gives, which is ASCII.
+/// A law: the lexical form of a number below 10^38 units in size is the text that a function gives, and no other; its bytes are
+/// its characters.
 pub fn number_forms()
     ensures form { (text : List ℕ) (z : ℤ) → unsigned_abs z < 10 ^ 38 → IsLexicalNumber text z → text ≡ number_form z }
+    ensures lexical { (z : ℤ) → unsigned_abs z < 10 ^ 38 → IsLexicalNumber (chars (number_form z)) z }
     ensures bytes { (z : ℤ) → unsigned_abs z < 10 ^ 38 → encode_utf8_all (number_form z) ≡ number_form z }
 {}

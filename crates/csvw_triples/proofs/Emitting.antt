@@ -9,14 +9,16 @@ use Rattle.csvw_triples.specs.Puts.{Puts}
 
 module _ {S : Type 0} (gains : S → List Triple → S → Type 0) (is_open : S → Bool) (failed : S → ℕ) where
   -- how the sink stands after a later call
-  ends_later : (old mid new : S) (r : Result Unit SinkFault) → IsAsReady is_open failed old mid → Ends is_open failed mid new r → Ends is_open failed old new r
+  ends_later : (old mid new : S) (r : Result Unit SinkFault) → IsAsReady is_open failed old mid
+      → Ends is_open failed mid new r → Ends is_open failed old new r
   ends_later old mid new (Ok u) s h = (h.0 ∙ s.0, h.1 ∙ s.1)
   ends_later old mid new (Err Memory) s h = (h.0 ∙ s.0, h.1 ∙ s.1)
   ends_later old mid new (Err Device) s h = λ q. h (rw s.1 q) ∙ ap (λ n. n + 1) s.1
   ends_later old mid new (Err Closed) s h = sym s.0 ∙ h
 
   -- a front of the first triples is one of them and more
-  pub puts_front : (old new : S) (xs rest all : List Triple) (e : SinkFault) → all ≡ xs ++ rest → Puts gains is_open failed old xs new (Err e) → Puts gains is_open failed old all new (Err e)
+  pub puts_front : (old new : S) (xs rest all : List Triple) (e : SinkFault) → all ≡ xs ++ rest
+      → Puts gains is_open failed old xs new (Err e) → Puts gains is_open failed old all new (Err e)
   puts_front old new xs rest all e same p = record {
     takes = record {
       front = p.takes.front;
@@ -26,6 +28,11 @@ module _ {S : Type 0} (gains : S → List Triple → S → Type 0) (is_open : S 
     };
     ends = p.ends;
   }
+
+  -- the same triples
+  pub puts_same : (old new : S) (xs ys : List Triple) (r : Result Unit SinkFault) → xs ≡ ys
+      → Puts gains is_open failed old xs new r → Puts gains is_open failed old ys new r
+  puts_same old new xs ys r e p = subst (λ ts. Puts gains is_open failed old ts new r) e p
 
   module _ (stays : (s : S) → gains s [] s) where
     -- nothing was put
@@ -59,7 +66,3 @@ module _ {S : Type 0} (gains : S → List Triple → S → Type 0) (is_open : S 
         → Puts gains is_open failed old xs mid (Ok tt) → Puts gains is_open failed mid ys new (Err e) → Puts gains is_open failed old all new (Err e)
     puts_part old mid new xs ys rest all e same p q =
         puts_front old new (xs ++ ys) rest all e same (puts_then old mid new xs ys (xs ++ ys) (Err e) refl p q)
-
-    -- the same triples, and how the call went
-    pub puts_same : (old new : S) (xs ys : List Triple) (r : Result Unit SinkFault) → xs ≡ ys → Puts gains is_open failed old xs new r → Puts gains is_open failed old ys new r
-    puts_same old new xs ys r e p = subst (λ ts. Puts gains is_open failed old ts new r) e p

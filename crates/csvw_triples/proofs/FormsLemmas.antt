@@ -52,7 +52,8 @@ module _ (law : Writable) where
   list_forms : (p : Properties) (separator text : List ℕ) (cell : Cell) → IsList p separator text cell → ValueHasForms cell.value
   list_forms p separator text cell h =
       either (length text == 0) (λ (k : (cell.value ≡ values.Many []) × (cell.faults ≡ missing p)). subst ValueHasForms (sym k.0) tt)
-      (λ r. either (is_null p.null text) (λ (k : (cell.value ≡ values.Null) × (cell.faults ≡ [])). null_form cell k.0) (λ k. list_of_forms p separator text cell k) r) h
+      (λ r. either (is_null p.null text) (λ (k : (cell.value ≡ values.Null) × (cell.faults ≡ [])). null_form cell k.0)
+      (λ k. list_of_forms p separator text cell k) r) h
 
   by_forms : (p : Properties) (separator : Option (List ℕ)) (text : List ℕ) (cell : Cell) → IsCellBy p separator text cell → ValueHasForms cell.value
   by_forms p None text cell h = single_form p text cell h

@@ -99,10 +99,13 @@ module _ (entry : ℕ → Origin) (column : Column) where
   next_number : (i k : ℕ) → i + (k + 1) ≡ suc i + k
   next_number i k = omega arith
 
+  next_tail : (i : ℕ) (y : Item) (items : List Item) → drop (i + 1) items ≡ drop (suc i + 1) (y ∷ items)
+  next_tail i y items = ap (λ m. drop m items) (add-one i) ∙ ap (λ m. drop m (y ∷ items)) (sym (add-one (suc i)))
+
   later_entry : (k : ℕ) (y : Item) (items : List Item) (x : Triple) → OfEntry (k + 1) items x → OfEntry k (y ∷ items) x
   later_entry k y items x h =
       let n = next_number h.0 k in
-      let tail : drop (h.0 + 1) items ≡ drop (suc h.0 + 1) (y ∷ items) = ap (λ m. drop m items) (add-one h.0) ∙ ap (λ m. drop m (y ∷ items)) (sym (add-one (suc h.0))) in (
+      let tail = next_tail h.0 y items in (
         suc h.0,
         h.1,
         h.2,
@@ -133,14 +136,16 @@ module _ (entry : ℕ → Origin) (column : Column) where
   some_same : (y z : Item) → Some y ≡ Some z → y ≡ z
   some_same y z e = cc
 
-  in_first : (k : ℕ) (item : Item) (items : List Item) (x : Triple) → x ≡ first_triple entry column k item → Contains (list_triples entry column k (item ∷ items)) x
+  in_first : (k : ℕ) (item : Item) (items : List Item) (x : Triple) → x ≡ first_triple entry column k item
+      → Contains (list_triples entry column k (item ∷ items)) x
   in_first k item items x e = is_first (first_triple entry column k item) (behind k items) x e
 
   in_rest : (k : ℕ) (item : Item) (items : List Item) (x : Triple) → x ≡ rest_triple entry k items → Contains (list_triples entry column k (item ∷ items)) x
   in_rest k item items x e =
       later_in (first_triple entry column k item) (behind k items) x (is_first (rest_triple entry k items) (list_triples entry column (k + 1) items) x e)
 
-  in_others : (k : ℕ) (item : Item) (items : List Item) (x : Triple) → Contains (list_triples entry column (k + 1) items) x → Contains (list_triples entry column k (item ∷ items)) x
+  in_others : (k : ℕ) (item : Item) (items : List Item) (x : Triple) → Contains (list_triples entry column (k + 1) items) x
+      → Contains (list_triples entry column k (item ∷ items)) x
   in_others k item items x h =
       later_in (first_triple entry column k item) (behind k items) x (later_in (rest_triple entry k items) (list_triples entry column (k + 1) items) x h)
 
@@ -149,12 +154,14 @@ module _ (entry : ℕ → Origin) (column : Column) where
   to_list k [] x i item e h = cc
   to_list k (y ∷ items) x zero item e h =
       elim h [
-        | inl f ↦ in_first k y items x (f ∙ ap (λ m. first_triple entry column m item) (sym (first_number k)) ∙ ap (first_triple entry column k) (sym (some_same y item e)))
+        | inl f ↦
+            let number = ap (λ m. first_triple entry column m item) (sym (first_number k)) in
+            in_first k y items x (f ∙ number ∙ ap (first_triple entry column k) (sym (some_same y item e)))
         | inr f ↦ in_rest k y items x (f ∙ ap (λ m. rest_triple entry m items) (sym (first_number k)))
       ]
   to_list k (y ∷ items) x (suc i) item e h =
       let n = next_number i k in
-      let tail : drop (i + 1) items ≡ drop (suc i + 1) (y ∷ items) = ap (λ m. drop m items) (add-one i) ∙ ap (λ m. drop m (y ∷ items)) (sym (add-one (suc i))) in
+      let tail = next_tail i y items in
       in_others k y items x (to_list (k + 1) items x i item e (elim h [
         | inl f ↦ inl (f ∙ ap (λ m. first_triple entry column m item) (sym n))
         | inr f ↦ inr (f ∙ ap (λ t. rest_triple entry (suc i + k) t) (sym tail) ∙ ap (λ m. rest_triple entry m (drop (i + 1) items)) (sym n))
@@ -171,11 +178,13 @@ module _ (entry : ℕ → Origin) (column : Column) where
 
   abbrev items_by : Node → List ℕ → List Item → Bool → List Triple
   items_by s p items ordered =
-      cond ordered (triple s p (list_node entry 1 items) ∷ list_triples entry column 1 items) (map (λ item. triple s p (term.Literal (literal_of column item))) items)
+      cond ordered (triple s p (list_node entry 1 items) ∷ list_triples entry column 1 items)
+      (map (λ item. triple s p (term.Literal (literal_of column item))) items)
 
   abbrev OfBy : Node → List ℕ → List Item → Bool → Triple → Type 0
   OfBy s p items ordered x =
-      ((x.s ≡ s) × (x.p ≡ p) × MatchBool ordered (x.o ≡ list_node entry 1 items) ((item : Item) × Contains items item × (x.o ≡ term.Literal (literal_of column item))))
+      ((x.s ≡ s) × (x.p ≡ p) × MatchBool ordered (x.o ≡ list_node entry 1 items)
+      ((item : Item) × Contains items item × (x.o ≡ term.Literal (literal_of column item))))
       ⊎ MatchBool ordered (IsListTriple entry column items x) ⊥
 
   from_items : (s : Node) (p : List ℕ) (items : List Item) (ordered : Bool) (x : Triple) → Contains (items_by s p items ordered) x → OfBy s p items ordered x
@@ -201,7 +210,8 @@ module _ (entry : ℕ → Origin) (column : Column) where
         | inr l ↦ absurd l
       ]
 
-  from_value : (s : Node) (p : List ℕ) (value : CellValue) (link : Option (List ℕ)) (x : Triple) → Contains (object_triples s p entry column value link) x → Of s p value link x
+  from_value : (s : Node) (p : List ℕ) (value : CellValue) (link : Option (List ℕ)) (x : Triple)
+      → Contains (object_triples s p entry column value link) x → Of s p value link x
   from_value s p value (Some link) x h = inl (whole s p _ x (one_in _ x h))
   from_value s p Null None x h = absurd (none_in x h)
   from_value s p (One item) None x h = inl (whole s p _ x (one_in _ x h))
@@ -213,7 +223,8 @@ module _ (entry : ℕ → Origin) (column : Column) where
   no_list (One item) link x h = h
   no_list (Many items) link x h = h
 
-  to_value : (s : Node) (p : List ℕ) (value : CellValue) (link : Option (List ℕ)) (x : Triple) → Of s p value link x → Contains (object_triples s p entry column value link) x
+  to_value : (s : Node) (p : List ℕ) (value : CellValue) (link : Option (List ℕ)) (x : Triple) → Of s p value link x
+      → Contains (object_triples s p entry column value link) x
   to_value s p value (Some link) x h = elim h [ inl e ↦ is_first _ [] x (same_triple x s p _ e.0 e.1 e.2) | inr l ↦ absurd (no_list value link x l) ]
   to_value s p Null None x h = elim h [ inl e ↦ absurd e.2 | inr l ↦ absurd l ]
   to_value s p (One item) None x h = elim h [ inl e ↦ is_first _ [] x (same_triple x s p _ e.0 e.1 e.2) | inr l ↦ absurd l ]

@@ -84,7 +84,8 @@ module _ (entry : ℕ → Origin) (column : Column) where
       ap (λ ts. first_triple entry column k item ∷ rest_triple entry k items ∷ ts)
       (left (k + 1) n items ∙ ap (λ m. front_triples (k + 1) n items ++ list_triples entry column m (drop n items)) (same_number k n))
 
-  pub entries_left : (items : List Item) (i : ℕ) → list_triples entry column 1 items ≡ front_triples 1 i items ++ list_triples entry column (1 + i) (drop i items)
+  pub entries_left : (items : List Item) (i : ℕ)
+      → list_triples entry column 1 items ≡ front_triples 1 i items ++ list_triples entry column (1 + i) (drop i items)
   entries_left items i = left 1 i items
 
   past : (k n : ℕ) (items : List Item) → length items ≤ n → front_triples k n items ≡ list_triples entry column k items
@@ -104,7 +105,8 @@ module _ (entry : ℕ → Origin) (column : Column) where
   node_by k (item ∷ items) true e = absurd (grind (arith, nat_tests))
   node_by k (item ∷ items) false e = refl
 
-  pub whole_list : (k : ℕ) (items : List Item) (b : Bool) → b ≡ (length items == 0) → cond b (term.Named rdf_nil) (term.Blank (entry k)) ≡ list_node entry k items
+  pub whole_list : (k : ℕ) (items : List Item) (b : Bool) → b ≡ (length items == 0)
+      → cond b (term.Named rdf_nil) (term.Blank (entry k)) ≡ list_node entry k items
   whole_list k items b e = node_by k items b (sym e)
 
   is_last : (n i l : ℕ) → n ≡ l - (i + 1) → i < l → (n == 0) ≡ ((i + 1) == l)
@@ -120,12 +122,16 @@ module _ (entry : ℕ → Origin) (column : Column) where
       → front_triples 1 (i + 1) items
       ≡ front_triples 1 i items ++ triple (node.Blank e) rdf_first (term.Literal (literal_of column item)) ∷ triple (node.Blank e) rdf_rest rest ∷ []
   entry_put items i n item e rest h is number here left =
+      let so_far = front_triples 1 i items in
+      let literal = term.Literal (literal_of column item) in
+      let rest_is = sym (left ∙ rest_of_list (n + 1) i items h) in
       entries_more items i n item h is number
-      ∙ ap (λ o. front_triples 1 i items ++ first_triple entry column n item ∷ triple (node.Blank (entry n)) rdf_rest o ∷ []) (sym (left ∙ rest_of_list (n + 1) i items h))
-      ∙ ap (λ b. front_triples 1 i items ++ triple (node.Blank b) rdf_first (term.Literal (literal_of column item)) ∷ triple (node.Blank b) rdf_rest rest ∷ []) (sym here)
+      ∙ ap (λ o. so_far ++ first_triple entry column n item ∷ triple (node.Blank (entry n)) rdf_rest o ∷ []) rest_is
+      ∙ ap (λ b. so_far ++ triple (node.Blank b) rdf_first literal ∷ triple (node.Blank b) rdf_rest rest ∷ []) (sym here)
 
   -- and what a list was put as
-  pub list_put : (s : Node) (p : List ℕ) (items : List Item) (b : Bool) (list : Term) → b ≡ (length items == 0) → list ≡ cond b (term.Named rdf_nil) (term.Blank (entry 1))
+  pub list_put : (s : Node) (p : List ℕ) (items : List Item) (b : Bool) (list : Term) → b ≡ (length items == 0)
+      → list ≡ cond b (term.Named rdf_nil) (term.Blank (entry 1))
       → triple s p (list_node entry 1 items) ∷ list_triples entry column 1 items ≡ (triple s p list ∷ []) ++ list_triples entry column 1 items
   list_put s p items b list is e = ap (λ o. triple s p o ∷ list_triples entry column 1 items) (sym (e ∙ whole_list 1 items b is))
 

@@ -3,4 +3,5 @@ pub mod Literals
 pub mod HasForms
 pub mod Puts
 pub mod RowTriples
+pub mod Stems
 pub mod Graph

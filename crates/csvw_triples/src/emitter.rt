@@ -1,14 +1,15 @@
 //! The triples of rows, put into a sink.
-ghost use Rattle.std.specs.Prelude.{◌≡◌, ◌+◌, ◌==◌, ◌≤◌, [], ◌∷◌, length, map, drop, IfOk, OnOk, OnErr, if◌then◌else◌};
+ghost use Rattle.std.specs.Prelude.{◌≡◌, [], ◌∷◌, length, map, IfOk, OnOk, OnErr, if◌then◌else◌};
 ghost use Rattle.csvw_datatype.specs.Lexical.{IsWritable};
 ghost use Rattle.csvw_triples_core.specs.Taking.{FrontOf, Ends};
-ghost use Rattle.csvw_triples_core.specs.declared.origin.Origin.TheVariants.{Entry};
 ghost use Rattle.csvw_triples_core.specs.declared.term.Node.TheVariants as node;
 ghost use Rattle.csvw_triples_core.specs.declared.term.Term.TheVariants as term;
 ghost use Rattle.csvw_triples.specs.HasForms.{HaveForms, ValueHasForms, CellsHaveForms, HasForms};
 ghost use Rattle.csvw_triples.specs.Literals.{literal_of};
 ghost use Rattle.csvw_triples.specs.Puts.{Puts};
-ghost use Rattle.csvw_triples.specs.RowTriples.{triple, entries_of, list_node, first_triple, rest_triple, list_triples, items_triples, value_triples, object_triples, subject_of, predicate_of, cell_triples, cells_triples, row_triples};
+ghost use Rattle.csvw_triples.specs.Stems.{object_triple, literal_triple, entries_in, entry_triples};
+ghost use Rattle.csvw_triples.specs.RowTriples.{triple, list_node, list_triples, items_triples, value_triples};
+ghost use Rattle.csvw_triples.specs.RowTriples.{object_triples, cell_triples, cells_triples, row_triples};
 ghost use Rattle.csvw_triples.specs.Vocabulary.{rdf_first, rdf_rest, rdf_nil};
 
 use crate::literals::literal_of;
@@ -61,7 +62,7 @@ impl Emitter {
         o: Term,
         sink: &mut S,
     ) -> Result<(), SinkFault>
-        ensures { Puts S.gains S.is_open S.failed sink.old (triple stem.now.s stem.now.p o ∷ []) sink.new result }
+        ensures { Puts S.gains S.is_open S.failed sink.old (object_triple stem.now o ∷ []) sink.new result }
     {
         let triple = stem.triple(self.alloc, o)?;
         let put = put_one(&triple, sink);
@@ -77,7 +78,7 @@ impl Emitter {
         sink: &mut S,
     ) -> Result<(), SinkFault>
         requires { IsWritable item.now.value }
-        ensures { Puts S.gains S.is_open S.failed sink.old (triple stem.now.s stem.now.p (term.Literal (literal_of column.now item.now)) ∷ []) sink.new result }
+        ensures { Puts S.gains S.is_open S.failed sink.old (literal_triple stem.now column.now item.now ∷ []) sink.new result }
     {
         let spare = mem::replace(&mut self.spare, Text::new(self.alloc));
         let literal = literal_of(self.alloc, &self.names, column, item, spare)?;
@@ -92,7 +93,7 @@ impl Emitter {
         sink: &mut S,
     ) -> Result<(), SinkFault>
         requires { HaveForms items.now }
-        ensures { Puts S.gains S.is_open S.failed sink.old (map (λ item. triple stem.now.s stem.now.p (term.Literal (literal_of column.now item))) items.now) sink.new result }
+        ensures { Puts S.gains S.is_open S.failed sink.old (map (literal_triple stem.now column.now) items.now) sink.new result }
     {
         for i in 0..items.len() {
             self.emit_item(stem, column, &items[i], sink)?;
@@ -102,7 +103,7 @@ impl Emitter {
 
     /// What a list is from entry `k` on.
     fn list_node(&self, place: ListPlace, k: u64, is_end: bool) -> Result<Term, AllocError>
-        ensures { IfOk result (λ o. o ≡ (if is_end then term.Named rdf_nil else term.Blank (Entry place.table place.row place.column k))) }
+        ensures { IfOk result (λ o. o ≡ (if is_end then term.Named rdf_nil else term.Blank (entries_in place k))) }
     {
         if is_end {
             Ok(Term::Named(self.names.nil.clone(self.alloc)?))
@@ -140,7 +141,8 @@ impl Emitter {
         sink: &mut S,
     ) -> Result<(), SinkFault>
         requires { IsWritable item.now.value }
-        ensures { Puts S.gains S.is_open S.failed sink.old (triple (node.Blank entry) rdf_first (term.Literal (literal_of column.now item.now)) ∷ []) sink.new result }
+        ensures { Puts S.gains S.is_open S.failed sink.old
+            (triple (node.Blank entry) rdf_first (term.Literal (literal_of column.now item.now)) ∷ []) sink.new result }
     {
         let stem = self.first_stem(entry)?;
         self.emit_item(&stem, column, item, sink)
@@ -169,8 +171,7 @@ impl Emitter {
         sink: &mut S,
     ) -> Result<(), SinkFault>
         requires { IsWritable item.now.value }
-        ensures { Puts S.gains S.is_open S.failed sink.old
-            (triple (node.Blank entry) rdf_first (term.Literal (literal_of column.now item.now)) ∷ triple (node.Blank entry) rdf_rest rest ∷ []) sink.new result }
+        ensures { Puts S.gains S.is_open S.failed sink.old (entry_triples entry column.now item.now rest) sink.new result }
     {
         self.emit_first(entry, column, item, sink)?;
         self.emit_rest(entry, rest, sink)
@@ -184,7 +185,7 @@ impl Emitter {
         sink: &mut S,
     ) -> Result<(), SinkFault>
         requires { HaveForms items.now }
-        ensures { Puts S.gains S.is_open S.failed sink.old (list_triples (λ k. Entry place.table place.row place.column k) column.now 1 items.now) sink.new result }
+        ensures { Puts S.gains S.is_open S.failed sink.old (list_triples (entries_in place) column.now 1 items.now) sink.new result }
     {
         for i in 0..items.len() {
             let k = i as u64 + 1;
@@ -204,8 +205,8 @@ impl Emitter {
     ) -> Result<(), SinkFault>
         requires { HaveForms items.now }
         ensures { Puts S.gains S.is_open S.failed sink.old
-            (triple stem.now.s stem.now.p (list_node (λ k. Entry place.table place.row place.column k) 1 items.now)
-            ∷ list_triples (λ k. Entry place.table place.row place.column k) column.now 1 items.now) sink.new result }
+            (object_triple stem.now (list_node (entries_in place) 1 items.now)
+            ∷ list_triples (entries_in place) column.now 1 items.now) sink.new result }
     {
         let list = self.list_node(place, 1, items.is_empty())?;
         self.put_object(stem, list, sink)?;
@@ -221,7 +222,8 @@ impl Emitter {
         sink: &mut S,
     ) -> Result<(), SinkFault>
         requires { HaveForms items.now }
-        ensures { Puts S.gains S.is_open S.failed sink.old (items_triples stem.now.s stem.now.p (λ k. Entry place.table place.row place.column k) column.now items.now) sink.new result }
+        ensures { Puts S.gains S.is_open S.failed sink.old
+            (items_triples stem.now.s stem.now.p (entries_in place) column.now items.now) sink.new result }
     {
         if column.properties.ordered {
             self.emit_list(stem, place, column, items, sink)
@@ -239,7 +241,8 @@ impl Emitter {
         sink: &mut S,
     ) -> Result<(), SinkFault>
         requires { ValueHasForms value.now }
-        ensures { Puts S.gains S.is_open S.failed sink.old (value_triples stem.now.s stem.now.p (λ k. Entry place.table place.row place.column k) column.now value.now) sink.new result }
+        ensures { Puts S.gains S.is_open S.failed sink.old
+            (value_triples stem.now.s stem.now.p (entries_in place) column.now value.now) sink.new result }
     {
         match value {
             CellValue::Null => Ok(()),
@@ -254,7 +257,7 @@ impl Emitter {
         link: &Iri,
         sink: &mut S,
     ) -> Result<(), SinkFault>
-        ensures { Puts S.gains S.is_open S.failed sink.old (triple stem.now.s stem.now.p (term.Named link.now) ∷ []) sink.new result }
+        ensures { Puts S.gains S.is_open S.failed sink.old (object_triple stem.now (term.Named link.now) ∷ []) sink.new result }
     {
         let o = Term::Named(link.clone(self.alloc)?);
         self.put_object(stem, o, sink)
@@ -269,7 +272,8 @@ impl Emitter {
         sink: &mut S,
     ) -> Result<(), SinkFault>
         requires { ValueHasForms cell.now.value }
-        ensures { Puts S.gains S.is_open S.failed sink.old (object_triples stem.now.s stem.now.p (λ k. Entry place.table place.row place.column k) column.now cell.now.value cell.now.link) sink.new result }
+        ensures { Puts S.gains S.is_open S.failed sink.old
+            (object_triples stem.now.s stem.now.p (entries_in place) column.now cell.now.value cell.now.link) sink.new result }
     {
         match &cell.link {
             Some(link) => self.emit_link(stem, link, sink),

@@ -1,7 +1,7 @@
 //! What the triples of a cell begin with, and where its list stands.
 ghost use Rattle.std.specs.Prelude.{◌≡◌, IfOk};
-ghost use Rattle.csvw_triples_core.specs.declared.origin.Origin.TheVariants.{Entry};
-ghost use Rattle.csvw_triples.specs.RowTriples.{triple, subject_of, predicate_of};
+ghost use Rattle.csvw_triples.specs.RowTriples.{subject_of, predicate_of};
+ghost use Rattle.csvw_triples.specs.Stems.{object_triple, entries_in};
 
 use csvw_annotate::AnnCell;
 use csvw_columns_core::Column;
@@ -75,7 +75,7 @@ impl Stem {
 
     /// The triple with this object; `AllocError` where there is no memory.
     pub fn triple(&self, alloc: Global, o: Term) -> Result<Triple, AllocError>
-        ensures { IfOk result (λ x. x ≡ triple self.now.s self.now.p o) }
+        ensures { IfOk result (λ x. x ≡ object_triple self.now o) }
     {
         Ok(Triple {
             s: self.s.clone(alloc)?,
@@ -88,7 +88,7 @@ impl Stem {
 impl ListPlace {
     /// Entry `k` of the list, from 1.
     pub fn entry(self, k: u64) -> Origin
-        ensures { result ≡ Entry self.table self.row self.column k }
+        ensures { result ≡ entries_in self k }
     {
         Origin::Entry(self.table, self.row, self.column, k)
     }
