@@ -6,6 +6,7 @@ pub mod Formats
 pub mod Breaks
 pub mod Reads
 pub mod Sound
+pub mod SoundProp
 pub mod Lexical
 pub mod Facets
 pub mod Agreement

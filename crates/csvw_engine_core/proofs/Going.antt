@@ -1,0 +1,235 @@
+-- How a table and its sink go on, row by row.
+use Rattle.std.proofs.Common.{◌≡◌, ◌+◌, ℕ, Bool, List, [], ◌∷◌, ◌++◌, refl, sym, ap, ◌∙◌, subst, append_assoc, append-nil, Option, Some, None, Result, Err}
+use Rattle.std.proofs.lemmas.List.Concat.{flat_map-append}
+use Rattle.csvw_text.specs.declared.fault.Fault.{Fault}
+use Rattle.csvw_rows.specs.Laws.{GivenFirst}
+use Rattle.csvw_rows.specs.RowValue.{Given}
+use Rattle.csvw_columns_core.specs.declared.columns.Columns.{Columns}
+use Rattle.csvw_columns.specs.declared.plan.TablePlan.{TablePlan}
+use Rattle.csvw_annotate.specs.declared.row.Row.{Row}
+use Rattle.csvw_triples_core.specs.Taking.{FrontOf, IsAsReady}
+use Rattle.csvw_triples_core.specs.declared.mode.Mode.{Mode}
+use Rattle.csvw_triples_core.specs.declared.term.Triple.{Triple}
+use Rattle.csvw_triples.specs.RowTriples.{row_triples}
+use Rattle.csvw_engine_core.specs.Annotated.{IsTable, HasRows}
+use Rattle.csvw_engine_core.specs.Faults.{row_faults, table_faults}
+use Rattle.csvw_engine_core.specs.Tables.{max_rows, TableHolds, KeepsColumns, Keeps, Goes, HaltsSo, IsStopped, IsRefused, IsAtRest, Gives, Gone, GivesAll, GivesSome, GivesFront, TableOutcome, table_triples}
+use Rattle.csvw_engine_core.specs.declared.halt.Halt.{Halt}
+use Rattle.csvw_engine_core.specs.declared.halt.Halt.TheVariants as halt
+use Rattle.csvw_engine_core.specs.declared.table.Table.{Table}
+
+pub no_triples : (mode : Mode) (t : ℕ) (columns : Option Columns) → table_triples mode t columns [] ≡ []
+no_triples mode t None = refl
+no_triples mode t (Some columns) = refl
+
+triples_more : (mode : Mode) (t : ℕ) (columns : Option Columns) (rows more : List Row) → table_triples mode t columns (rows ++ more) ≡ table_triples mode t columns rows ++ table_triples mode t columns more
+triples_more mode t None rows more = refl
+triples_more mode t (Some columns) rows more = flat_map-append (row_triples mode t columns) rows more
+
+no_faults : (t : ℕ) (columns : Option Columns) → table_faults t columns [] ≡ []
+no_faults t None = refl
+no_faults t (Some columns) = refl
+
+faults_more : (t : ℕ) (columns : Option Columns) (rows more : List Row) → table_faults t columns (rows ++ more) ≡ table_faults t columns rows ++ table_faults t columns more
+faults_more t None rows more = refl
+faults_more t (Some columns) rows more = flat_map-append (row_faults t columns.columns) rows more
+
+both_empty : {X : Type 0} (xs ys : List X) → xs ++ ys ≡ [] → ys ≡ []
+both_empty [] ys e = e
+both_empty (x ∷ xs) ys e = cc
+
+-- rows that were given before keep their triples and faults
+pub same_triples : (mode : Mode) (t : ℕ) (old new : Option Columns) (more : List Row) → ((columns : Columns) → old ≡ Some columns → new ≡ Some columns) → (old ≡ None → more ≡ [])
+    → table_triples mode t new more ≡ table_triples mode t old more
+same_triples mode t None new more stay none = ap (table_triples mode t new) (none refl) ∙ no_triples mode t new
+same_triples mode t (Some columns) new more stay none = ap (λ z. table_triples mode t z more) (stay columns refl)
+
+pub same_faults : (t : ℕ) (old new : Option Columns) (more : List Row) → ((columns : Columns) → old ≡ Some columns → new ≡ Some columns) → (old ≡ None → more ≡ [])
+    → table_faults t new more ≡ table_faults t old more
+same_faults t None new more stay none = ap (table_faults t new) (none refl) ∙ no_faults t new
+same_faults t (Some columns) new more stay none = ap (λ z. table_faults t z more) (stay columns refl)
+
+pub none_more : (plan : TablePlan) (columns : Option Columns) (given : List Given) (rows more : List Row) → HasRows plan columns given (rows ++ more) → columns ≡ None → more ≡ []
+none_more plan None given rows more h e = both_empty rows more h
+none_more plan (Some columns) given rows more h e = cc
+
+-- the same table with other faults
+pub holds_told : (plan : TablePlan) (mode : Mode) (t : Table) (faults : List Fault) (bytes : List ℕ) (ended : Bool) (given : List Given) (rows : List Row)
+    → TableHolds plan mode t bytes ended given rows → TableHolds plan mode (record t { faults = faults }) bytes ended given rows
+holds_told plan mode t faults bytes ended given rows h = record { number_is = h.number_is; mode_is = h.mode_is; reader = h.reader; head = h.head; has = h.has }
+
+module _ {S : Type 0} (gains : S → List Triple → S → Type 0) (is_open : S → Bool) (failed : S → ℕ)
+    (stays : (s : S) → gains s [] s) (goes_on : (a b c : S) (xs ys : List Triple) → gains a xs b → gains b ys c → gains a (xs ++ ys) c)
+    (plan : TablePlan) (mode : Mode) (bytes : List ℕ) (ended : Bool) (given : List Given) (rows : List Row) where
+  pub gone_nothing : (t : Table) (s : S) → TableHolds plan mode t bytes ended given rows → Gone gains plan mode bytes ended given rows t t s s
+  gone_nothing t s h = record {
+    raws = [];
+    more = [];
+    holds = subst (λ g. TableHolds plan mode t bytes ended g (rows ++ [])) (sym (append-nil given)) (subst (λ r. TableHolds plan mode t bytes ended given r) (sym (append-nil rows)) h);
+    took = subst (λ ts. gains s ts s) (sym (no_triples mode plan.number t.head.columns)) (stays s);
+    told = sym (ap (λ z. t.faults ++ z) (no_faults plan.number t.head.columns) ∙ append-nil t.faults);
+  }
+
+  module _ (first : Table) (start : S) where
+    -- what was given goes on where the table does
+    took_on : (old new : Table) (now : S) → KeepsColumns old new → (g : Gone gains plan mode bytes ended given rows first old start now) → gains start (table_triples mode plan.number new.head.columns g.more) now
+    took_on old new now stay g =
+        subst (λ ts. gains start ts now) (sym (same_triples mode plan.number old.head.columns new.head.columns g.more stay (none_more plan old.head.columns (given ++ g.raws) rows g.more g.holds.has))) g.took
+
+    told_on : (old new : Table) (now : S) → KeepsColumns old new → (g : Gone gains plan mode bytes ended given rows first old start now) → old.faults ≡ first.faults ++ table_faults plan.number new.head.columns g.more
+    told_on old new now stay g =
+        g.told ∙ ap (λ z. first.faults ++ z) (sym (same_faults plan.number old.head.columns new.head.columns g.more stay (none_more plan old.head.columns (given ++ g.raws) rows g.more g.holds.has)))
+
+    -- a header row
+    pub gone_header : (old new : Table) (now : S) → Keeps old new → Goes plan old new (λ r. r)
+        → Gone gains plan mode bytes ended given rows first old start now → Gone gains plan mode bytes ended given rows first new start now
+    gone_header old new now keeps goes g =
+        let k = goes mode bytes ended (given ++ g.raws) (rows ++ g.more) g.holds in
+        record {
+          raws = g.raws ++ k.0 ∷ [];
+          more = g.more;
+          holds = subst (λ z. TableHolds plan mode new bytes ended z (rows ++ g.more)) (append_assoc given g.raws (k.0 ∷ [])) k.1;
+          took = took_on old new now keeps.columns g;
+          told = keeps.faults ∙ told_on old new now keeps.columns g;
+        }
+
+    -- nothing more
+    pub gone_same : (old new : Table) (now : S) → Keeps old new
+        → ((m : Mode) (b : List ℕ) (e : Bool) (gs : List Given) (rs : List Row) → TableHolds plan m old b e gs rs → TableHolds plan m new b e gs rs × IsAtRest plan b e gs)
+        → Gone gains plan mode bytes ended given rows first old start now → GivesAll gains plan mode bytes ended given rows first new start now
+    gone_same old new now keeps goes g =
+        let k = goes mode bytes ended (given ++ g.raws) (rows ++ g.more) g.holds in
+        record {
+          gone = record { raws = g.raws; more = g.more; holds = k.0; took = took_on old new now keeps.columns g; told = keeps.faults ∙ told_on old new now keeps.columns g };
+          at_rest = k.1;
+        }
+
+    -- the table with its row and its faults
+    held_row : (old mid new : Table) (now : S) (row : Row) → Goes plan old mid (λ r. r ++ row ∷ []) → new ≡ record mid { faults = new.faults }
+        → (g : Gone gains plan mode bytes ended given rows first old start now)
+        → (raw : Given) × TableHolds plan mode new bytes ended (given ++ (g.raws ++ raw ∷ [])) (rows ++ (g.more ++ row ∷ []))
+    held_row old mid new now row goes same g =
+        let k = goes mode bytes ended (given ++ g.raws) (rows ++ g.more) g.holds in
+        let there : TableHolds plan mode (record mid { faults = new.faults }) bytes ended ((given ++ g.raws) ++ k.0 ∷ []) ((rows ++ g.more) ++ row ∷ []) =
+        holds_told plan mode mid new.faults bytes ended ((given ++ g.raws) ++ k.0 ∷ []) ((rows ++ g.more) ++ row ∷ []) k.1 in (
+          k.0,
+          subst (λ t. TableHolds plan mode t bytes ended (given ++ (g.raws ++ k.0 ∷ [])) (rows ++ (g.more ++ row ∷ []))) (sym same)
+              (subst (λ z. TableHolds plan mode (record mid { faults = new.faults }) bytes ended z (rows ++ (g.more ++ row ∷ []))) (append_assoc given g.raws (k.0 ∷ []))
+              (subst (λ z. TableHolds plan mode (record mid { faults = new.faults }) bytes ended ((given ++ g.raws) ++ k.0 ∷ []) z) (append_assoc rows g.more (row ∷ [])) there)),
+        )
+
+    -- a row, whose triples the sink took
+    pub gone_row : (old mid new : Table) (now then : S) (row : Row) → Keeps old mid → Goes plan old mid (λ r. r ++ row ∷ []) → new ≡ record mid { faults = new.faults }
+        → new.faults ≡ mid.faults ++ table_faults mid.number mid.head.columns (row ∷ [])
+        → gains now (table_triples new.mode new.number new.head.columns (row ∷ [])) then
+        → Gone gains plan mode bytes ended given rows first old start now → Gone gains plan mode bytes ended given rows first new start then
+    gone_row old mid new now then row keeps goes same told gained g =
+        let k = held_row old mid new now row goes same g in
+        let columns : new.head.columns ≡ mid.head.columns = ap (λ (t : Table). t.head.columns) same in
+        let stay : KeepsColumns old new = λ c e. columns ∙ keeps.columns c e in
+        let number : new.number ≡ plan.number = k.1.number_is in
+        let numbered : mid.number ≡ plan.number = sym (ap (λ (t : Table). t.number) same) ∙ number in
+        record {
+          raws = g.raws ++ k.0 ∷ [];
+          more = g.more ++ row ∷ [];
+          holds = k.1;
+          took = subst (λ ts. gains start ts then) (sym (triples_more mode plan.number new.head.columns g.more (row ∷ [])))
+              (goes_on start now then (table_triples mode plan.number new.head.columns g.more) (table_triples mode plan.number new.head.columns (row ∷ [])) (took_on old new now stay g)
+              (subst (λ m. gains now (table_triples m plan.number new.head.columns (row ∷ [])) then) k.1.mode_is
+              (subst (λ n. gains now (table_triples new.mode n new.head.columns (row ∷ [])) then) number gained)));
+          told = told
+              ∙ (ap (λ z. z ++ table_faults mid.number mid.head.columns (row ∷ [])) (keeps.faults ∙ told_on old new now stay g)
+              ∙ (append_assoc first.faults (table_faults plan.number new.head.columns g.more) (table_faults mid.number mid.head.columns (row ∷ []))
+              ∙ ap (λ z. first.faults ++ z)
+              (ap (λ z. table_faults plan.number new.head.columns g.more ++ z)
+              (ap (λ n. table_faults n mid.head.columns (row ∷ [])) numbered ∙ ap (λ c. table_faults plan.number c (row ∷ [])) (sym columns))
+              ∙ sym (faults_more plan.number new.head.columns g.more (row ∷ [])))));
+        }
+
+    table_of : (t : Table) (gs : List Given) (rs : List Row) → TableHolds plan mode t bytes ended gs rs → IsTable plan gs t.head.columns t.head.faults rs
+    table_of t gs rs h = record { head = h.head.known; has = h.has }
+
+    part_of_all : (now : S) (ts : List Triple) → gains start ts now → FrontOf gains start ts now
+    part_of_all now ts g = record { front = ts; rest = []; parts = sym (append-nil ts); gained = g }
+
+    part_on : (now then : S) (xs ys : List Triple) → gains start xs now → FrontOf gains now ys then → FrontOf gains start (xs ++ ys) then
+    part_on now then xs ys g f = record {
+      front = xs ++ f.front;
+      rest = f.rest;
+      parts = ap (λ z. xs ++ z) f.parts ∙ sym (append_assoc xs f.front f.rest);
+      gained = goes_on start now then xs f.front g f.gained;
+    }
+
+    -- between two rows
+    pub some_given : GivenFirst → (t : Table) (now : S) → Gone gains plan mode bytes ended given rows first t start now → GivesSome gains plan mode bytes ended given rows start now
+    some_given law t now g = record {
+      raws = g.raws;
+      more = g.more;
+      first = law t.rows plan.dialect max_rows bytes ended (given ++ g.raws) g.holds.reader;
+      columns = t.head.columns;
+      faults = t.head.faults;
+      table = table_of t (given ++ g.raws) (rows ++ g.more) g.holds;
+      took = part_of_all now (table_triples mode plan.number t.head.columns g.more) g.took;
+    }
+
+    -- within the triples of a row
+    pub row_cut : GivenFirst → (old mid new : Table) (now then : S) (row : Row) → Keeps old mid → Goes plan old mid (λ r. r ++ row ∷ []) → new ≡ record mid { faults = new.faults }
+        → FrontOf gains now (table_triples new.mode new.number new.head.columns (row ∷ [])) then
+        → Gone gains plan mode bytes ended given rows first old start now → GivesSome gains plan mode bytes ended given rows start then
+    row_cut law old mid new now then row keeps goes same cut g =
+        let k = held_row old mid new now row goes same g in
+        let columns : new.head.columns ≡ mid.head.columns = ap (λ (t : Table). t.head.columns) same in
+        let stay : KeepsColumns old new = λ c e. columns ∙ keeps.columns c e in
+        record {
+          raws = g.raws ++ k.0 ∷ [];
+          more = g.more ++ row ∷ [];
+          first = law new.rows plan.dialect max_rows bytes ended (given ++ (g.raws ++ k.0 ∷ [])) k.1.reader;
+          columns = new.head.columns;
+          faults = new.head.faults;
+          table = table_of new (given ++ (g.raws ++ k.0 ∷ [])) (rows ++ (g.more ++ row ∷ [])) k.1;
+          took = subst (λ ts. FrontOf gains start ts then) (sym (triples_more mode plan.number new.head.columns g.more (row ∷ [])))
+              (part_on now then (table_triples mode plan.number new.head.columns g.more) (table_triples mode plan.number new.head.columns (row ∷ [])) (took_on old new now stay g)
+              (subst (λ m. FrontOf gains now (table_triples m plan.number new.head.columns (row ∷ [])) then) k.1.mode_is
+              (subst (λ n. FrontOf gains now (table_triples new.mode n new.head.columns (row ∷ [])) then) k.1.number_is cut)));
+        }
+
+    all_given : (t : Table) (now : S) (Why : Option Columns → List Given → Type 0) → (g : Gone gains plan mode bytes ended given rows first t start now) → Why t.head.columns (given ++ g.raws)
+        → GivesFront gains plan mode bytes ended given rows start now Why
+    all_given t now Why g why = record {
+      raws = g.raws;
+      more = g.more;
+      columns = t.head.columns;
+      faults = t.head.faults;
+      table = table_of t (given ++ g.raws) (rows ++ g.more) g.holds;
+      why = why;
+      took = g.took;
+    }
+
+    -- a halt in the text
+    pub text_halts : GivenFirst → (t new : Table) (now : S) (reason : Halt) → HaltsSo plan t reason → IsAsReady is_open failed start now
+        → Gone gains plan mode bytes ended given rows first t start now → TableOutcome gains is_open failed plan mode bytes ended given rows first new start now (Err reason)
+    text_halts law t new now halt.Memory so ready g = (some_given law t now g, ready)
+    text_halts law t new now halt.Write so ready g = absurd so
+    text_halts law t new now (halt.Rows row stop) so ready g =
+        (all_given t now (λ columns all. IsStopped plan bytes ended all row stop) g (so mode bytes ended (given ++ g.raws) (rows ++ g.more) g.holds), ready)
+    text_halts law t new now (halt.Table row stop) so ready g =
+        (all_given t now (λ columns all. IsRefused plan columns bytes ended all row stop) g (so mode bytes ended (given ++ g.raws) (rows ++ g.more) g.holds), ready)
+
+    ready_on : (a b c : S) → IsAsReady is_open failed a b → IsAsReady is_open failed b c → IsAsReady is_open failed a c
+    ready_on a b c f g = (g.0 ∙ f.0, g.1 ∙ f.1)
+
+    -- a halt at the sink
+    pub sink_halts : GivenFirst → (old mid new : Table) (now then : S) (row : Row) (reason : Halt) → Keeps old mid → Goes plan old mid (λ r. r ++ row ∷ []) → new ≡ record mid { faults = new.faults }
+        → Gives gains is_open failed (table_triples new.mode new.number new.head.columns (row ∷ [])) now then (Err reason) → IsAsReady is_open failed start now
+        → Gone gains plan mode bytes ended given rows first old start now → TableOutcome gains is_open failed plan mode bytes ended given rows first new start then (Err reason)
+    sink_halts law old mid new now then row halt.Memory keeps goes same gave ready g =
+        (row_cut law old mid new now then row keeps goes same gave.0 g, ready_on start now then ready gave.1)
+    sink_halts law old mid new now then row halt.Write keeps goes same gave ready g =
+        (row_cut law old mid new now then row keeps goes same gave.0 g, λ is_ready room. gave.1 (ready.0 ∙ is_ready) (rw ready.1 room) ∙ ap (λ n. n + 1) ready.1)
+    sink_halts law old mid new now then row (halt.Rows at stop) keeps goes same gave ready g = absurd gave
+    sink_halts law old mid new now then row (halt.Table at stop) keeps goes same gave ready g = absurd gave
+
+    -- an answer that tells a halt
+    pub outcome_err : (new : Table) (now : S) (r : Result Unit Halt) (e f : Halt) → r ≡ Err e → e ≡ f
+        → TableOutcome gains is_open failed plan mode bytes ended given rows first new start now (Err f) → TableOutcome gains is_open failed plan mode bytes ended given rows first new start now r
+    outcome_err new now r e f p q so = subst (TableOutcome gains is_open failed plan mode bytes ended given rows first new start now) (sym (p ∙ ap Err q)) so

@@ -1,0 +1,100 @@
+-- One step more, and where the steps end.
+use Rattle.std.proofs.Common.{◌∙◌, refl, ap}
+use Rattle.std.proofs.lemmas.Result.{err_from_is_err_and}
+use Rattle.csvw_engine_core.specs.declared.halt.Halt.TheVariants as halt
+use Rattle.csvw_engine_core.proofs.Going.{gone_nothing, gone_header, gone_same, gone_row, some_given, text_halts, sink_halts, outcome_err}
+use Rattle.csvw_engine_core.specs.Tables.{is_ended}
+use Rattle.csvw_engine_core.specs.declared.table.Table.{Table}
+use Rattle.csvw_engine_core.proofs.giving.drain.Goals as goal
+
+pub returns-in_err-emitter-clause-drains : goal.returns-in_err-emitter-clause-drains
+returns-in_err-emitter-clause-drains g c = λ mode bytes ended given rows h.
+    let s = g.S.TripleSink in
+    let p = err_from_is_err_and c.from_residual.result c.from_residual.ensures.1 in
+    outcome_err s.gains s.is_open s.failed g.met.S.TripleSink.stays g.met.S.TripleSink.goes_on c.args.plan.now mode bytes ended given rows c.args.table.now c.args.sink.now c.args.table.now c.args.sink.now
+    c.from_residual.result p.0 halt.Memory p.1 p.2 (
+      some_given s.gains s.is_open s.failed g.met.S.TripleSink.stays g.met.S.TripleSink.goes_on c.args.plan.now mode bytes ended given rows c.args.table.now c.args.sink.now c.given_first.ensures c.args.table.now c.args.sink.now
+          (gone_nothing s.gains s.is_open s.failed g.met.S.TripleSink.stays g.met.S.TripleSink.goes_on c.args.plan.now mode bytes ended given rows c.args.table.now c.args.sink.now h),
+      (refl, refl),
+    )
+
+pub loop-emitter-init : goal.loop-emitter-init
+loop-emitter-init g c = record {
+  ended = refl;
+  ready = (refl, refl);
+  gone = λ mode bytes ended given rows h. let s = g.S.TripleSink in
+      gone_nothing s.gains s.is_open s.failed g.met.S.TripleSink.stays g.met.S.TripleSink.goes_on c.args.plan.now mode bytes ended given rows c.args.table.now c.args.sink.now h;
+}
+
+pub returns-in_err-row-clause-drains : goal.returns-in_err-row-clause-drains
+returns-in_err-row-clause-drains g c = λ mode bytes ended given rows h.
+    let s = g.S.TripleSink in
+    let i = c.loop-emitter.invariant in
+    let e = c.in_err-row.ensures in
+    let p = err_from_is_err_and c.from_residual-in_err-row.result c.from_residual-in_err-row.ensures.1 in
+    outcome_err s.gains s.is_open s.failed g.met.S.TripleSink.stays g.met.S.TripleSink.goes_on c.args.plan.now mode bytes ended given rows c.args.table.now c.args.sink.now c.next_row.new.table c.loop-emitter.sink
+    c.from_residual-in_err-row.result p.0 _ p.1 p.2
+    (text_halts s.gains s.is_open s.failed g.met.S.TripleSink.stays g.met.S.TripleSink.goes_on c.args.plan.now mode bytes ended given rows c.args.table.now c.args.sink.now c.given_first.ensures
+    c.loop-emitter.table c.next_row.new.table c.loop-emitter.sink _ e.1 i.ready (i.gone mode bytes ended given rows h))
+
+pub returns-in_err-tell-in-Row-clause-drains : goal.returns-in_err-tell-in-Row-clause-drains
+returns-in_err-tell-in-Row-clause-drains g c = λ mode bytes ended given rows h.
+    let s = g.S.TripleSink in
+    let i = c.loop-emitter.invariant in
+    let p = err_from_is_err_and c.from_residual-in_err-tell-in-Row.result c.from_residual-in_err-tell-in-Row.ensures.1 in
+    outcome_err s.gains s.is_open s.failed g.met.S.TripleSink.stays g.met.S.TripleSink.goes_on c.args.plan.now mode bytes ended given rows c.args.table.now c.args.sink.now c.tell.new.self c.loop-emitter.sink
+    c.from_residual-in_err-tell-in-Row.result p.0 halt.Memory p.1 p.2 (
+      some_given s.gains s.is_open s.failed g.met.S.TripleSink.stays g.met.S.TripleSink.goes_on c.args.plan.now mode bytes ended given rows c.args.table.now c.args.sink.now c.given_first.ensures c.loop-emitter.table c.loop-emitter.sink
+          (i.gone mode bytes ended given rows h),
+      i.ready,
+    )
+
+pub returns-in_err-give-in-Row-clause-drains : goal.returns-in_err-give-in-Row-clause-drains
+returns-in_err-give-in-Row-clause-drains g c = λ mode bytes ended given rows h.
+    let s = g.S.TripleSink in
+    let i = c.loop-emitter.invariant in
+    let k = rw c.in-Row.is at c.in_ok-row.ensures in
+    let p = err_from_is_err_and c.from_residual-in_err-give-in-Row.result c.from_residual-in_err-give-in-Row.ensures.1 in
+    outcome_err s.gains s.is_open s.failed g.met.S.TripleSink.stays g.met.S.TripleSink.goes_on c.args.plan.now mode bytes ended given rows c.args.table.now c.args.sink.now c.tell.new.self c.give.new.sink
+    c.from_residual-in_err-give-in-Row.result p.0 _ p.1 p.2
+    (sink_halts s.gains s.is_open s.failed g.met.S.TripleSink.stays g.met.S.TripleSink.goes_on c.args.plan.now mode bytes ended given rows c.args.table.now c.args.sink.now c.given_first.ensures
+    c.loop-emitter.table c.next_row.new.table c.tell.new.self c.loop-emitter.sink c.give.new.sink c.in-Row.row _ k.0 k.3 c.in_ok-tell-in-Row.ensures.same c.in_err-give-in-Row.ensures i.ready
+    (i.gone mode bytes ended given rows h))
+
+pub loop-emitter-preserved-in-Row : goal.loop-emitter-preserved-in-Row
+loop-emitter-preserved-in-Row g c =
+    let s = g.S.TripleSink in
+    let i = c.loop-emitter.invariant in
+    let k = rw c.in-Row.is at c.in_ok-row.ensures in
+    let t = c.in_ok-tell-in-Row.ensures in
+    let gave = c.in_ok-give-in-Row.ensures in
+    record {
+      ended = ap (λ (x : Table). is_ended x) t.same ∙ (k.0.ended ∙ i.ended);
+      ready = (gave.1.0 ∙ i.ready.0, gave.1.1 ∙ i.ready.1);
+      gone = λ mode bytes ended given rows h.
+          gone_row s.gains s.is_open s.failed g.met.S.TripleSink.stays g.met.S.TripleSink.goes_on c.args.plan.now mode bytes ended given rows c.args.table.now c.args.sink.now
+          c.loop-emitter.table c.next_row.new.table c.tell.new.self c.loop-emitter.sink c.give.new.sink c.in-Row.row k.0 k.3 t.same t.told gave.0 (i.gone mode bytes ended given rows h);
+    }
+
+pub loop-emitter-preserved : goal.loop-emitter-preserved
+loop-emitter-preserved g c =
+    let s = g.S.TripleSink in
+    let i = c.loop-emitter.invariant in
+    let k = rw c.in-Header.is at c.in_ok-row.ensures in
+    record {
+      ended = k.0.ended ∙ i.ended;
+      ready = i.ready;
+      gone = λ mode bytes ended given rows h.
+          gone_header s.gains s.is_open s.failed g.met.S.TripleSink.stays g.met.S.TripleSink.goes_on c.args.plan.now mode bytes ended given rows c.args.table.now c.args.sink.now
+          c.loop-emitter.table c.next_row.new.table c.loop-emitter.sink k.0 k.2 (i.gone mode bytes ended given rows h);
+    }
+
+pub returns-in-Nothing-clause-drains : goal.returns-in-Nothing-clause-drains
+returns-in-Nothing-clause-drains g c = λ mode bytes ended given rows h.
+    let s = g.S.TripleSink in
+    let i = c.loop-emitter.invariant in
+    let k = rw c.in-Nothing.is at c.in_ok-row.ensures in (
+      gone_same s.gains s.is_open s.failed g.met.S.TripleSink.stays g.met.S.TripleSink.goes_on c.args.plan.now mode bytes ended given rows c.args.table.now c.args.sink.now
+          c.loop-emitter.table c.next_row.new.table c.loop-emitter.sink k.0 k.1 (i.gone mode bytes ended given rows h),
+      i.ready,
+    )

@@ -1,0 +1,15 @@
+-- Columns whose datatypes have passed their checks.
+use Rattle.std.specs.Prelude.{Option, Some, None}
+use Rattle.csvw_columns_core.specs.declared.columns.Columns.{Columns}
+use Rattle.csvw_annotate.specs.Annotated.{AreSound}
+use Rattle.csvw_annotate.specs.SoundProp.{AreSound-prop}
+use mathlib.Core.HLevel.{Unit-prop}
+
+-- the datatype of each column has passed its check, where the columns are known
+abbrev pub AreSoundIf : Option Columns → Type 0
+AreSoundIf None = Unit {0}
+AreSoundIf (Some columns) = AreSound columns.columns
+
+pub AreSoundIf-prop : (columns : Option Columns) → IsProp (AreSoundIf columns)
+AreSoundIf-prop None = Unit-prop
+AreSoundIf-prop (Some columns) = AreSound-prop columns.columns

@@ -1,0 +1,210 @@
+-- What the state of a table stands for, and how it goes on.
+use Rattle.std.specs.Prelude.{◌≡◌, ◌⊎◌, ◌<◌, ◌^◌, ◌-◌, ℕ, ◌+◌, Bool, true, false, List, [], ◌∷◌, ◌++◌, flat_map, length, Option, Some, None, Result, Ok, Err}
+use Rattle.csvw_text.specs.declared.fault.Fault.{Fault}
+use Rattle.csvw_rows.specs.Files.{IsWhole}
+use Rattle.csvw_rows.specs.Laws.{AreFirst}
+use Rattle.csvw_rows.specs.RowValue.{Given}
+use Rattle.csvw_rows.specs.RowsState.{is_ended_of, unread, Holds, HasGiven, NoStop}
+use Rattle.csvw_rows.specs.Stops.{StopOf}
+use Rattle.csvw_rows.specs.declared.stop.RowStop.{RowStop}
+use Rattle.csvw_columns_core.specs.declared.columns.Columns.{Columns}
+use Rattle.csvw_columns.specs.declared.plan.TablePlan.{TablePlan}
+use Rattle.csvw_columns.specs.declared.table_stop.TableStop.{TableStop}
+use Rattle.csvw_annotate.specs.declared.row.Row.{Row}
+use Rattle.csvw_triples_core.specs.Taking.{FrontOf, IsAsReady}
+use Rattle.csvw_triples_core.specs.declared.mode.Mode.{Mode}
+use Rattle.csvw_triples_core.specs.declared.term.Triple.{Triple}
+use Rattle.csvw_triples.specs.HasForms.{HasForms}
+use Rattle.csvw_triples.specs.RowTriples.{row_triples}
+use Rattle.csvw_engine_core.specs.Annotated.{IsTable, IsWholeTable, HasRows, Refuses, RefusesEnd}
+use Rattle.csvw_engine_core.specs.Faults.{table_faults}
+use Rattle.csvw_engine_core.specs.Heads.{HeadHolds, Settles}
+use Rattle.csvw_engine_core.specs.declared.halt.Halt.{Halt}
+use Rattle.csvw_engine_core.specs.declared.halt.Halt.TheVariants as halt
+use Rattle.csvw_engine_core.specs.declared.step.Step.{Step}
+use Rattle.csvw_engine_core.specs.declared.step.Step.TheVariants as step
+use Rattle.csvw_engine_core.specs.declared.table.Table.{Table}
+
+-- how many rows of all kinds a table has at most
+abbrev pub max_rows : ℕ
+max_rows = 4_000_000_000
+
+-- whether the text of the table has ended
+abbrev pub is_ended : Table → Bool
+is_ended t = is_ended_of t.rows
+
+-- the columns, once they are known, and what is wrong with the header and the cells
+abbrev pub columns_of : Table → Option Columns
+columns_of t = t.head.columns
+
+-- The text so far gave these rows of the source, which are these rows of the table.
+pub record TableHolds (plan : TablePlan) (mode : Mode) (t : Table) (bytes : List ℕ) (ended : Bool) (given : List Given) (rows : List Row) : Type 0 where
+  pub number_is : t.number ≡ plan.number
+  pub mode_is : t.mode ≡ mode
+  pub reader : Holds t.rows plan.dialect max_rows bytes ended given
+  pub head : HeadHolds plan t.head given
+  pub has : HasRows plan t.head.columns given rows
+
+-- nothing was read
+pub record IsNewTable (plan : TablePlan) (mode : Mode) (t : Table) : Type 0 where
+  pub not_ended : is_ended t ≡ false
+  pub holds : TableHolds plan mode t [] false [] []
+  pub no_faults : t.faults ≡ []
+
+-- the columns stay, once they are known
+abbrev pub KeepsColumns : Table → Table → Type 0
+KeepsColumns old new = (columns : Columns) → old.head.columns ≡ Some columns → new.head.columns ≡ Some columns
+
+-- there are columns, the row has a cell for each, and its values have lexical forms
+abbrev pub RowFits : Option Columns → Row → Type 0
+RowFits None row = ⊥
+RowFits (Some columns) row = (length row.cells ≡ length columns.columns) × HasForms row
+
+-- what the table is goes on with one row of the source more
+abbrev pub Goes : TablePlan → Table → Table → (List Row → List Row) → Type 0
+Goes plan old new on = (mode : Mode) (bytes : List ℕ) (ended : Bool) (given : List Given) (rows : List Row) → TableHolds plan mode old bytes ended given rows
+    → (raw : Given) × TableHolds plan mode new bytes ended (given ++ raw ∷ []) (on rows)
+
+-- all rows of the text so far were given, and no stop stands
+pub record IsAtRest (plan : TablePlan) (bytes : List ℕ) (ended : Bool) (given : List Given) : Type 0 where
+  pub all : HasGiven plan.dialect max_rows bytes ended given
+  pub no_stop : NoStop plan.dialect max_rows bytes ended
+  pub whole : ended ≡ true → IsWhole plan.dialect max_rows bytes
+
+-- all rows of the text so far were given, and behind them it stops
+pub record IsStopped (plan : TablePlan) (bytes : List ℕ) (ended : Bool) (given : List Given) (row : ℕ) (stop : RowStop) : Type 0 where
+  pub all : HasGiven plan.dialect max_rows bytes ended given
+  pub stops : StopOf plan.dialect max_rows bytes ended stop row
+
+-- behind the rows that were given comes one that the table refuses
+pub record IsRefused (plan : TablePlan) (columns : Option Columns) (bytes : List ℕ) (ended : Bool) (given : List Given) (row : ℕ) (stop : TableStop) : Type 0 where
+  pub raw : Given
+  pub first : AreFirst plan.dialect max_rows bytes ended (given ++ raw ∷ [])
+  pub refuses : Refuses plan given columns raw row stop
+
+-- why a table halts in its text
+abbrev pub HaltsSo : TablePlan → Table → Halt → Type 0
+HaltsSo plan t halt.Memory = Unit {0}
+HaltsSo plan t halt.Write = ⊥
+HaltsSo plan t (halt.Rows row stop) = (mode : Mode) (bytes : List ℕ) (ended : Bool) (given : List Given) (rows : List Row) → TableHolds plan mode t bytes ended given rows
+    → IsStopped plan bytes ended given row stop
+HaltsSo plan t (halt.Table row stop) = (mode : Mode) (bytes : List ℕ) (ended : Bool) (given : List Given) (rows : List Row) → TableHolds plan mode t bytes ended given rows
+    → IsRefused plan t.head.columns bytes ended given row stop
+
+-- what is the same after each step
+pub record Keeps (old new : Table) : Type 0 where
+  pub ended : is_ended new ≡ is_ended old
+  pub columns : KeepsColumns old new
+  pub faults : new.faults ≡ old.faults
+  pub number : new.number ≡ old.number
+  pub mode : new.mode ≡ old.mode
+
+-- A step gives one row more, takes a header row, finds nothing, or halts. It makes what is unread less, or ends the search.
+abbrev pub Steps : TablePlan → Table → Table → Result Step Halt → Type 0
+Steps plan old new (Ok (step.Row row)) = Keeps old new × (unread new.rows < unread old.rows) × RowFits new.head.columns row × Goes plan old new (λ rows. rows ++ row ∷ [])
+Steps plan old new (Ok step.Header) = Keeps old new × (unread new.rows < unread old.rows) × Goes plan old new (λ rows. rows)
+Steps plan old new (Ok step.Nothing) = Keeps old new × ((mode : Mode) (bytes : List ℕ) (ended : Bool) (given : List Given) (rows : List Row) → TableHolds plan mode old bytes ended given rows
+    → TableHolds plan mode new bytes ended given rows × IsAtRest plan bytes ended given)
+Steps plan old new (Err reason) = (is_ended new ≡ is_ended old) × HaltsSo plan old reason
+
+-- the triples of rows of a table, of which there are none without columns
+abbrev pub table_triples : Mode → ℕ → Option Columns → List Row → List Triple
+table_triples mode t None rows = []
+table_triples mode t (Some columns) rows = flat_map (row_triples mode t columns) rows
+
+-- after a row was given to the sink, and its faults were told
+abbrev pub Gives : {S : Type 0} → (S → List Triple → S → Type 0) → (S → Bool) → (S → ℕ) → List Triple → S → S → Result Unit Halt → Type 0
+Gives gains is_open failed triples old new (Ok u) = gains old triples new × IsAsReady is_open failed old new
+Gives gains is_open failed triples old new (Err halt.Memory) = FrontOf gains old triples new × IsAsReady is_open failed old new
+Gives gains is_open failed triples old new (Err halt.Write) = FrontOf gains old triples new × (is_open old ≡ true → failed old < 2 ^ 64 - 1 → failed new ≡ failed old + 1)
+Gives gains is_open failed triples old new (Err (halt.Rows row stop)) = ⊥
+Gives gains is_open failed triples old new (Err (halt.Table row stop)) = ⊥
+
+-- Rows more were given: the sink took their triples, and their faults were told.
+pub record Gone {S : Type 0} (gains : S → List Triple → S → Type 0) (plan : TablePlan) (mode : Mode) (bytes : List ℕ) (ended : Bool) (given : List Given) (rows : List Row) (old new : Table) (before now : S) : Type 0 where
+  pub raws : List Given
+  pub more : List Row
+  pub holds : TableHolds plan mode new bytes ended (given ++ raws) (rows ++ more)
+  pub took : gains before (table_triples mode plan.number new.head.columns more) now
+  pub told : new.faults ≡ old.faults ++ table_faults plan.number new.head.columns more
+
+-- all rows of the text so far were given
+pub record GivesAll {S : Type 0} (gains : S → List Triple → S → Type 0) (plan : TablePlan) (mode : Mode) (bytes : List ℕ) (ended : Bool) (given : List Given) (rows : List Row) (old new : Table) (before now : S) : Type 0 where
+  pub gone : Gone gains plan mode bytes ended given rows old new before now
+  pub at_rest : IsAtRest plan bytes ended (given ++ gone.raws)
+
+-- Some of the rows were given, and perhaps a front of the next one's triples.
+pub record GivesSome {S : Type 0} (gains : S → List Triple → S → Type 0) (plan : TablePlan) (mode : Mode) (bytes : List ℕ) (ended : Bool) (given : List Given) (rows : List Row) (before now : S) : Type 0 where
+  pub raws : List Given
+  pub more : List Row
+  pub first : AreFirst plan.dialect max_rows bytes ended (given ++ raws)
+  pub columns : Option Columns
+  pub faults : List Fault
+  pub table : IsTable plan (given ++ raws) columns faults (rows ++ more)
+  pub took : FrontOf gains before (table_triples mode plan.number columns more) now
+
+-- All rows in front of a stop were given.
+pub record GivesFront {S : Type 0} (gains : S → List Triple → S → Type 0) (plan : TablePlan) (mode : Mode) (bytes : List ℕ) (ended : Bool) (given : List Given) (rows : List Row) (before now : S) (Why : Option Columns → List Given → Type 0) : Type 0 where
+  pub raws : List Given
+  pub more : List Row
+  pub columns : Option Columns
+  pub faults : List Fault
+  pub table : IsTable plan (given ++ raws) columns faults (rows ++ more)
+  pub why : Why columns (given ++ raws)
+  pub took : gains before (table_triples mode plan.number columns more) now
+
+-- what a call leaves, by its answer
+abbrev pub TableOutcome : {S : Type 0} → (S → List Triple → S → Type 0) → (S → Bool) → (S → ℕ) → TablePlan → Mode → List ℕ → Bool → List Given → List Row → Table → Table → S → S → Result Unit Halt → Type 0
+TableOutcome gains is_open failed plan mode bytes ended given rows old new before now (Ok u) =
+    GivesAll gains plan mode bytes ended given rows old new before now × IsAsReady is_open failed before now
+TableOutcome gains is_open failed plan mode bytes ended given rows old new before now (Err halt.Memory) =
+    GivesSome gains plan mode bytes ended given rows before now × IsAsReady is_open failed before now
+TableOutcome gains is_open failed plan mode bytes ended given rows old new before now (Err halt.Write) =
+    GivesSome gains plan mode bytes ended given rows before now × (is_open before ≡ true → failed before < 2 ^ 64 - 1 → failed now ≡ failed before + 1)
+TableOutcome gains is_open failed plan mode bytes ended given rows old new before now (Err (halt.Rows row stop)) =
+    GivesFront gains plan mode bytes ended given rows before now (λ columns all. IsStopped plan bytes ended all row stop) × IsAsReady is_open failed before now
+TableOutcome gains is_open failed plan mode bytes ended given rows old new before now (Err (halt.Table row stop)) =
+    GivesFront gains plan mode bytes ended given rows before now (λ columns all. IsRefused plan columns bytes ended all row stop) × IsAsReady is_open failed before now
+
+-- The whole text is a table: these are its columns and rows.
+pub record HoldsWhole (plan : TablePlan) (mode : Mode) (t : Table) (bytes : List ℕ) (rows : List Row) : Type 0 where
+  pub number_is : t.number ≡ plan.number
+  pub mode_is : t.mode ≡ mode
+  pub ended : is_ended t ≡ true
+  pub given : List Given
+  pub at_rest : IsAtRest plan bytes true given
+  pub columns : Columns
+  pub columns_are : t.head.columns ≡ Some columns
+  pub table : IsWholeTable plan given columns t.head.faults rows
+
+-- Rows more were given, and these are all.
+pub record GivesWhole {S : Type 0} (gains : S → List Triple → S → Type 0) (plan : TablePlan) (mode : Mode) (bytes : List ℕ) (rows : List Row) (old new : Table) (before now : S) : Type 0 where
+  pub more : List Row
+  pub holds : HoldsWhole plan mode new bytes (rows ++ more)
+  pub took : gains before (table_triples mode plan.number new.head.columns more) now
+  pub told : new.faults ≡ old.faults ++ table_faults plan.number new.head.columns more
+
+-- behind the rows that were given comes one that the table refuses, or the text ended before all header rows, and they are refused
+abbrev pub IsRefusedAtEnd : TablePlan → Option Columns → List ℕ → List Given → ℕ → TableStop → Type 0
+IsRefusedAtEnd plan columns bytes given row stop =
+    IsRefused plan columns bytes true given row stop ⊎ (IsAtRest plan bytes true given × (columns ≡ None) × RefusesEnd plan given row stop)
+
+-- what the end of a text leaves, by its answer
+abbrev pub EndOutcome : {S : Type 0} → (S → List Triple → S → Type 0) → (S → Bool) → (S → ℕ) → TablePlan → Mode → List ℕ → List Given → List Row → Table → Table → S → S → Result Unit Halt → Type 0
+EndOutcome gains is_open failed plan mode bytes given rows old new before now (Ok u) =
+    GivesWhole gains plan mode bytes rows old new before now × IsAsReady is_open failed before now
+EndOutcome gains is_open failed plan mode bytes given rows old new before now (Err halt.Memory) =
+    GivesSome gains plan mode bytes true given rows before now × IsAsReady is_open failed before now
+EndOutcome gains is_open failed plan mode bytes given rows old new before now (Err halt.Write) =
+    GivesSome gains plan mode bytes true given rows before now × (is_open before ≡ true → failed before < 2 ^ 64 - 1 → failed now ≡ failed before + 1)
+EndOutcome gains is_open failed plan mode bytes given rows old new before now (Err (halt.Rows row stop)) =
+    GivesFront gains plan mode bytes true given rows before now (λ columns all. IsStopped plan bytes true all row stop) × IsAsReady is_open failed before now
+EndOutcome gains is_open failed plan mode bytes given rows old new before now (Err (halt.Table row stop)) =
+    GivesFront gains plan mode bytes true given rows before now (λ columns all. IsRefusedAtEnd plan columns bytes all row stop) × IsAsReady is_open failed before now
+
+-- after the end of the text, where the columns weren't known; of want of memory nothing is said
+abbrev pub SettlesHead : TablePlan → Table → Table → Result Unit Halt → Type 0
+SettlesHead plan old new result = (new ≡ record old { head = new.head }) × Settles plan None 0 old.head new.head result
+
+abbrev pub SettlesTable : TablePlan → Table → Table → Result Unit Halt → Type 0
+SettlesTable plan old new result = ((columns : Columns) × (old.head.columns ≡ Some columns) × (new ≡ old) × (result ≡ Ok tt)) ⊎ ((old.head.columns ≡ None) × SettlesHead plan old new result)

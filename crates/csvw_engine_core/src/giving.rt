@@ -1,0 +1,99 @@
+//! How the rows of a table go on to the sink.
+ghost use Rattle.std.specs.Prelude.{◌≡◌, ◌++◌, ◌∷◌, [], ℕ, List, Bool, true, false, IfOk, OnOk, Some, None};
+ghost use Rattle.csvw_rows.specs.RowValue.{Given};
+ghost use Rattle.csvw_columns.specs.Ready.{IsReady};
+ghost use Rattle.csvw_annotate.specs.declared.row.Row.{Row as TheRow};
+ghost use Rattle.csvw_triples_core.specs.declared.mode.Mode.{Mode as TheMode};
+ghost use Rattle.csvw_engine_core.specs.Tables.{RowFits, is_ended, Gives, TableHolds, TableOutcome, EndOutcome, table_triples};
+
+use crate::halt::Halt;
+use crate::step::Step;
+use crate::table::{Table, next_row};
+use csvw_annotate::Row;
+use csvw_columns::TablePlan;
+use csvw_rows::laws::{given_first, given_first_later};
+use csvw_triples::{Emitter, TripleSink};
+
+/// Puts the triples of a row.
+fn give<S: TripleSink>(
+    emitter: &mut Emitter,
+    table: &Table,
+    row: &Row,
+    sink: &mut S,
+) -> Result<(), Halt>
+    requires { RowFits table.now.head.columns row.now }
+    ensures { Gives S.gains S.is_open S.failed (table_triples table.now.mode table.now.number table.now.head.columns (row.now ∷ [])) sink.old sink.new result }
+{
+    match &table.head.columns {
+        Some(columns) => {
+            emitter.emit_row(columns, table.mode, table.number, row, sink)?;
+            Ok(())
+        }
+        None => unreachable!(),
+    }
+}
+
+/// Gives each row that is complete, and tells its faults. The rows share the memory of one row and of one literal.
+fn drain<S: TripleSink>(plan: &TablePlan, table: &mut Table, sink: &mut S) -> Result<(), Halt>
+    requires { IsReady plan.now }
+    ensures ended { is_ended table.new ≡ is_ended table.old }
+    ensures drains { (mode : TheMode) (bytes : List ℕ) (ended : Bool) (given : List Given) (rows : List TheRow) → TableHolds plan.now mode table.old bytes ended given rows
+        → TableOutcome S.gains S.is_open S.failed plan.now mode bytes ended given rows table.old table.new sink.old sink.new result }
+{
+    let alloc = table.alloc;
+    given_first();
+    let mut emitter = Emitter::new(alloc)?;
+    let mut spare = Row::new(alloc);
+    loop {
+        match next_row(plan, table, spare)? {
+            Step::Row(row) => {
+                table.tell(&row)?;
+                give(&mut emitter, table, &row, sink)?;
+                spare = row;
+            }
+            Step::Header => spare = Row::new(alloc),
+            Step::Nothing => return Ok(()),
+        }
+    }
+}
+
+/// Takes a piece of the table's text, and gives each row that is complete.
+pub fn feed_table<S: TripleSink>(
+    plan: &TablePlan,
+    table: &mut Table,
+    piece: &[u8],
+    sink: &mut S,
+) -> Result<(), Halt>
+    requires ready { IsReady plan.now }
+    requires not_ended { is_ended table.old ≡ false }
+    ensures ended { is_ended table.new ≡ false }
+    ensures feeds { (mode : TheMode) (bytes : List ℕ) (given : List Given) (rows : List TheRow) → TableHolds plan.now mode table.old bytes false given rows
+        → TableOutcome S.gains S.is_open S.failed plan.now mode (bytes ++ piece.now) false given rows table.old table.new sink.old sink.new result }
+{
+    given_first_later();
+    match table.rows.feed(piece) {
+        Ok(()) => drain(plan, table, sink),
+        Err(stop) => Err(Halt::of_row_stop(table.rows.row(), stop)),
+    }
+}
+
+/// Takes the end of the table's text, and gives each row that is left.
+pub fn end_table<S: TripleSink>(
+    plan: &TablePlan,
+    table: &mut Table,
+    sink: &mut S,
+) -> Result<(), Halt>
+    requires ready { IsReady plan.now }
+    requires not_ended { is_ended table.old ≡ false }
+    ensures ends { (mode : TheMode) (bytes : List ℕ) (given : List Given) (rows : List TheRow) → TableHolds plan.now mode table.old bytes false given rows
+        → EndOutcome S.gains S.is_open S.failed plan.now mode bytes given rows table.old table.new sink.old sink.new result }
+{
+    given_first();
+    match table.rows.end() {
+        Ok(()) => {
+            drain(plan, table, sink)?;
+            table.settle(plan)
+        }
+        Err(stop) => Err(Halt::of_row_stop(table.rows.row(), stop)),
+    }
+}

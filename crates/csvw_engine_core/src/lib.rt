@@ -1,0 +1,12 @@
+//! The state of one table of a session: its text in pieces in, the triples of its rows out, and what is wrong with it.
+#![tactic(auto)]
+
+mod giving;
+mod halt;
+mod head;
+mod step;
+mod table;
+
+pub use giving::{end_table, feed_table};
+pub use halt::Halt;
+pub use table::Table;

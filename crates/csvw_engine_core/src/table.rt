@@ -1,0 +1,149 @@
+//! The state of one table, and how a piece of its text goes on to the sink.
+ghost use Rattle.std.specs.Prelude.{◌≡◌, ◌++◌, ◌∷◌, [], length, IfOk, OnOk};
+ghost use Rattle.csvw_dialect.specs.Lawful.{IsLawful};
+ghost use Rattle.csvw_engine_core.specs.Faults.{cell_faults, row_faults, table_faults};
+ghost use Rattle.csvw_columns.specs.Ready.{IsReady};
+ghost use Rattle.csvw_engine_core.specs.Tables.{IsNewTable, Steps, RowFits, SettlesTable, is_ended};
+
+use crate::halt::Halt;
+use crate::head::Head;
+use crate::step::{Step, row_of};
+use csvw_annotate::Row;
+use csvw_columns::{Column, TablePlan};
+use csvw_rows::Rows;
+use csvw_rows::laws::given_first;
+use csvw_text::{Code, Fault, Kind, Place, Seq};
+use csvw_triples::{Mode, annotated_rows_have_forms};
+use std::alloc::{AllocError, Global};
+
+/// How many rows of all kinds a table has at most.
+const MAX_ROWS: u64 = 4_000_000_000;
+
+/// The state of one table.
+#[derive(Drop)]
+pub struct Table {
+    /// Where its memory comes from.
+    pub(crate) alloc: Global,
+    /// Its number in its group, from 1.
+    pub(crate) number: u32,
+    /// Which triples its rows give.
+    pub(crate) mode: Mode,
+    /// Its text so far.
+    pub(crate) rows: Rows,
+    /// What is known of its header.
+    pub(crate) head: Head,
+    /// What is wrong with its cells so far.
+    pub(crate) faults: Seq<Fault>,
+}
+
+impl Table {
+    /// A table of whose text nothing was read; `AllocError` where there is no memory.
+    pub fn new(alloc: Global, plan: &TablePlan, mode: Mode) -> Result<Table, AllocError>
+        requires { IsLawful plan.now.dialect }
+        ensures { IfOk result (λ t. IsNewTable plan.now mode t) }
+    {
+        Ok(Table {
+            alloc,
+            number: plan.number,
+            mode,
+            rows: Rows::new(alloc, plan.dialect.clone(alloc)?, MAX_ROWS)?,
+            head: Head::new(alloc),
+            faults: Seq::new(alloc),
+        })
+    }
+
+    /// Whether its text has ended.
+    pub fn is_ended(&self) -> bool
+        ensures { result ≡ is_ended self.now }
+    {
+        self.rows.is_ended()
+    }
+}
+
+/// Reads the next row of a table and annotates it in the memory of a row that is no longer needed. The loan of the reader ends
+/// here.
+pub(crate) fn next_row(plan: &TablePlan, table: &mut Table, spare: Row) -> Result<Step, Halt>
+    requires { IsReady plan.now }
+    ensures { Steps plan.now table.old table.new result }
+{
+    given_first();
+    annotated_rows_have_forms();
+    let alloc = table.alloc;
+    match table.rows.next() {
+        Ok(Some(raw)) => {
+            let head = &mut table.head;
+            match &head.columns {
+                Some(columns) => Ok(Step::Row(row_of(alloc, columns, &raw, spare)?)),
+                None => head.begin(alloc, plan, &raw, spare),
+            }
+        }
+        Ok(None) => Ok(Step::Nothing),
+        Err(stop) => Err(Halt::of_row_stop(table.rows.row(), stop)),
+    }
+}
+
+/// Tells what is wrong with a cell.
+fn tell_cell(faults: &mut Seq<Fault>, place: Place, codes: &[Code]) -> Result<(), AllocError>
+    ensures { OnOk result (faults.new ≡ faults.old ++ cell_faults place codes.now) }
+{
+    for code in codes {
+        faults.push(Fault {
+            kind: Kind::Error,
+            code: *code,
+            place,
+        })?;
+    }
+    Ok(())
+}
+
+/// Tells what is wrong with the cells of a row.
+fn tell_row(
+    faults: &mut Seq<Fault>,
+    table: u32,
+    columns: &[Column],
+    row: &Row,
+) -> Result<(), AllocError>
+    requires { length row.now.cells ≡ length columns.now }
+    ensures { OnOk result (faults.new ≡ faults.old ++ row_faults table columns.now row.now) }
+{
+    for (column, cell) in columns.iter().zip(row.cells.as_slice()) {
+        let place = Place {
+            table,
+            row: row.source,
+            column: column.number,
+        };
+        tell_cell(faults, place, cell.faults.as_slice())?;
+    }
+    Ok(())
+}
+
+impl Table {
+    /// Tells what is wrong with the cells of a row.
+    pub(crate) fn tell(&mut self, row: &Row) -> Result<(), AllocError>
+        requires { RowFits self.old.head.columns row.now }
+        ensures same { self.new ≡ record self.old { faults = self.new.faults } }
+        ensures told { OnOk result (self.new.faults ≡ self.old.faults ++ table_faults self.old.number self.old.head.columns (row.now ∷ [])) }
+    {
+        let head = &self.head;
+        match &head.columns {
+            Some(columns) => tell_row(
+                &mut self.faults,
+                self.number,
+                columns.columns.as_slice(),
+                row,
+            ),
+            None => unreachable!(),
+        }
+    }
+
+    /// Makes the columns, where the text ended before they were known.
+    pub(crate) fn settle(&mut self, plan: &TablePlan) -> Result<(), Halt>
+        requires { IsReady plan.now }
+        ensures { SettlesTable plan.now self.old self.new result }
+    {
+        if self.head.columns.is_some() {
+            return Ok(());
+        }
+        self.head.settle(self.alloc, plan, None, 0)
+    }
+}
