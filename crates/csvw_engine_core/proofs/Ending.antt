@@ -75,6 +75,7 @@ module _ {S : Type 0} (gains : S → List Triple → S → Type 0) (is_open : S 
           };
           took = g.took;
           told = g.told;
+          keeps = g.keeps;
         }
 
     module _ (none : mid.head.columns ≡ None) where
@@ -112,6 +113,7 @@ module _ {S : Type 0} (gains : S → List Triple → S → Type 0) (is_open : S 
             took = subst (λ ts. gains before ts now) (sym (same_triples mode plan.number mid.head.columns new.head.columns g.more stay no_more)) g.took;
             told = ap (λ (t : Table). t.faults) same
                 ∙ (g.told ∙ ap (λ z. old.faults ++ z) (sym (same_faults plan.number mid.head.columns new.head.columns g.more stay no_more)));
+            keeps = λ columns e. stay columns (g.keeps columns e);
           }
 
       -- or is refused

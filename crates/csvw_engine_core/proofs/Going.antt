@@ -68,6 +68,7 @@ module _ {S : Type 0} (gains : S → List Triple → S → Type 0) (is_open : S 
     holds = subst (λ g. TableHolds plan mode t bytes ended g (rows ++ [])) (sym (append-nil given)) (subst (λ r. TableHolds plan mode t bytes ended given r) (sym (append-nil rows)) h);
     took = subst (λ ts. gains s ts s) (sym (no_triples mode plan.number t.head.columns)) (stays s);
     told = sym (ap (λ z. t.faults ++ z) (no_faults plan.number t.head.columns) ∙ append-nil t.faults);
+    keeps = λ columns e. e;
   }
 
   module _ (first : Table) (start : S) where
@@ -91,6 +92,7 @@ module _ {S : Type 0} (gains : S → List Triple → S → Type 0) (is_open : S 
           holds = subst (λ z. TableHolds plan mode new bytes ended z (rows ++ g.more)) (append_assoc given g.raws (k.0 ∷ [])) k.1;
           took = took_on old new now keeps.columns g;
           told = keeps.faults ∙ told_on old new now keeps.columns g;
+          keeps = λ columns e. keeps.columns columns (g.keeps columns e);
         }
 
     -- nothing more
@@ -100,7 +102,7 @@ module _ {S : Type 0} (gains : S → List Triple → S → Type 0) (is_open : S 
     gone_same old new now keeps goes g =
         let k = goes mode bytes ended (given ++ g.raws) (rows ++ g.more) g.holds in
         record {
-          gone = record { raws = g.raws; more = g.more; holds = k.0; took = took_on old new now keeps.columns g; told = keeps.faults ∙ told_on old new now keeps.columns g };
+          gone = record { raws = g.raws; more = g.more; holds = k.0; took = took_on old new now keeps.columns g; told = keeps.faults ∙ told_on old new now keeps.columns g; keeps = λ columns e. keeps.columns columns (g.keeps columns e) };
           at_rest = k.1;
         }
 
@@ -144,6 +146,7 @@ module _ {S : Type 0} (gains : S → List Triple → S → Type 0) (is_open : S 
               (ap (λ z. table_faults plan.number new.head.columns g.more ++ z)
               (ap (λ n. table_faults n mid.head.columns (row ∷ [])) numbered ∙ ap (λ c. table_faults plan.number c (row ∷ [])) (sym columns))
               ∙ sym (faults_more plan.number new.head.columns g.more (row ∷ [])))));
+          keeps = λ columns e. stay columns (g.keeps columns e);
         }
 
     table_of : (t : Table) (gs : List Given) (rs : List Row) → TableHolds plan mode t bytes ended gs rs → IsTable plan gs t.head.columns t.head.faults rs

@@ -64,7 +64,7 @@ pub outcome_moved : {S : Type 0} (gains : S → List Triple → S → Type 0) (i
     → TableOutcome gains is_open failed plan mode bytes ended given annotated (record t { rows = rows }) new before now r → TableOutcome gains is_open failed plan mode bytes ended given annotated t new before now r
 outcome_moved gains is_open failed plan mode bytes ended given annotated t new rows before now (Ok u) h = (
   record {
-    gone = record { raws = h.0.gone.raws; more = h.0.gone.more; holds = h.0.gone.holds; took = h.0.gone.took; told = h.0.gone.told };
+    gone = record { raws = h.0.gone.raws; more = h.0.gone.more; holds = h.0.gone.holds; took = h.0.gone.took; told = h.0.gone.told; keeps = h.0.gone.keeps };
     at_rest = h.0.at_rest;
   },
   h.1,
@@ -78,7 +78,7 @@ pub end_moved : {S : Type 0} (gains : S → List Triple → S → Type 0) (is_op
     (t new : Table) (rows : Rows) (before now : S) (r : Result Unit Halt)
     → EndOutcome gains is_open failed plan mode bytes given annotated (record t { rows = rows }) new before now r → EndOutcome gains is_open failed plan mode bytes given annotated t new before now r
 end_moved gains is_open failed plan mode bytes given annotated t new rows before now (Ok u) h =
-    (record { more = h.0.more; holds = h.0.holds; took = h.0.took; told = h.0.told }, h.1)
+    (record { more = h.0.more; holds = h.0.holds; took = h.0.took; told = h.0.told; keeps = h.0.keeps }, h.1)
 end_moved gains is_open failed plan mode bytes given annotated t new rows before now (Err halt.Memory) h = h
 end_moved gains is_open failed plan mode bytes given annotated t new rows before now (Err halt.Write) h = h
 end_moved gains is_open failed plan mode bytes given annotated t new rows before now (Err (halt.Rows row stop)) h = h

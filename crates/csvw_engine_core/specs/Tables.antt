@@ -127,6 +127,7 @@ pub record Gone {S : Type 0} (gains : S → List Triple → S → Type 0) (plan 
   pub holds : TableHolds plan mode new bytes ended (given ++ raws) (rows ++ more)
   pub took : gains before (table_triples mode plan.number new.head.columns more) now
   pub told : new.faults ≡ old.faults ++ table_faults plan.number new.head.columns more
+  pub keeps : KeepsColumns old new
 
 -- all rows of the text so far were given
 pub record GivesAll {S : Type 0} (gains : S → List Triple → S → Type 0) (plan : TablePlan) (mode : Mode) (bytes : List ℕ) (ended : Bool) (given : List Given) (rows : List Row) (old new : Table) (before now : S) : Type 0 where
@@ -183,6 +184,7 @@ pub record GivesWhole {S : Type 0} (gains : S → List Triple → S → Type 0) 
   pub holds : HoldsWhole plan mode new bytes (rows ++ more)
   pub took : gains before (table_triples mode plan.number new.head.columns more) now
   pub told : new.faults ≡ old.faults ++ table_faults plan.number new.head.columns more
+  pub keeps : KeepsColumns old new
 
 -- behind the rows that were given comes one that the table refuses, or the text ended before all header rows, and they are refused
 abbrev pub IsRefusedAtEnd : TablePlan → Option Columns → List ℕ → List Given → ℕ → TableStop → Type 0
