@@ -1,59 +1,19 @@
--- The descriptions that can be planned (Metadata Vocabulary for Tabular Data, sections 5.3 to 5.9).
-use Rattle.std.specs.Prelude.{◌≡◌, ◌≤◌, ℕ, ◌+◌, List, [], ◌∷◌, length, Option, MatchOption, Result, IfOk, IfSome, All}
-use Rattle.std.specs.declared.alloc.AllocError.{AllocError}
-use Rattle.csvw_dialect.specs.Lawful.{IsLawful}
-use Rattle.csvw_dialect.specs.declared.dialect.Dialect.{Dialect}
-use Rattle.csvw_datatype.specs.Sound.{IsSound}
-use Rattle.csvw_description.specs.Name.{name_of}
-use Rattle.csvw_description.specs.declared.column.ColumnDescription.{ColumnDescription}
+-- The descriptions that can be planned, and what `Plan::build` gives of a description.
+use Rattle.std.specs.Prelude.{◌≡◌, ◌≢◌, [], Result, Ok, Err, All}
 use Rattle.csvw_description.specs.declared.description.Description.{Description}
-use Rattle.csvw_description.specs.declared.inherited.Inherited.{Inherited}
-use Rattle.csvw_description.specs.declared.schema.Schema.{Schema}
-use Rattle.csvw_description.specs.declared.table.TableDescription.{TableDescription}
-use Rattle.csvw_meta_core.specs.declared.fault.MetaCode.{MetaCode}
-use Rattle.csvw_columns_core.specs.SchemaColumns.{column_limit}
-use Rattle.csvw_columns.specs.Distinct.{AllDistinct}
+use Rattle.csvw_meta_core.specs.declared.fault.MetaFault.{MetaFault}
+use Rattle.csvw_meta_core.specs.declared.fault.MetaCode.TheVariants.{Memory}
+use Rattle.csvw_columns.specs.Fit.{IsFitGroup}
+use Rattle.csvw_columns.specs.Keys.{AreResolved}
+use Rattle.csvw_columns.specs.PlanOf.{plan_of}
+use Rattle.csvw_columns.specs.declared.plan.Plan.{Plan}
 
--- at most so many tables
-abbrev pub table_limit : ℕ
-table_limit = 64
+-- its tables can be read, and what their keys name is there
+pub record IsPlannable (d : Description) : Type 0 where
+  pub fit : IsFitGroup d
+  pub keys : All AreResolved (plan_of d).tables
 
--- texts can be read by the dialect, and it skips no more columns than the limit
-pub record IsFitDialect (dialect : Dialect) : Type 0 where
-  pub lawful : IsLawful dialect
-  pub skipped : dialect.skip_columns ≤ column_limit
-
--- the datatype that stands there, if one does, fits together
-abbrev pub HasSound : Inherited → Type 0
-HasSound inherited = IfSome inherited.datatype IsSound
-
--- the names of columns, the first of which here has the index i
-abbrev pub numbered_names : ℕ → List ColumnDescription → List (List ℕ)
-numbered_names i [] = []
-numbered_names i (c ∷ cs) = name_of (i + 1) c ∷ numbered_names (i + 1) cs
-
--- no more columns than the limit, each with a name of its own, datatypes that fit together, and no keys
-pub record IsFitSchema (schema : Schema) : Type 0 where
-  pub limit : length schema.columns ≤ column_limit
-  pub inherited : HasSound schema.inherited
-  pub datatypes : All (λ c. HasSound c.inherited) schema.columns
-  pub names : AllDistinct (numbered_names 0 schema.columns)
-  pub primary_key : length schema.primary_key ≡ 0
-  pub foreign_keys : length schema.foreign_keys ≡ 0
-
-pub record IsFitTable (table : TableDescription) : Type 0 where
-  pub dialect : IfSome table.dialect IsFitDialect
-  pub inherited : HasSound table.inherited
-  pub schema : IfSome table.schema IsFitSchema
-
--- what stands in the group and in each of its tables is fit, and there are no more tables than the limit
-pub record IsPlannable (description : Description) : Type 0 where
-  pub dialect : IfSome description.dialect IsFitDialect
-  pub inherited : HasSound description.inherited
-  pub schema : IfSome description.schema IsFitSchema
-  pub limit : length description.tables ≤ table_limit
-  pub tables : All IsFitTable description.tables
-
--- nothing is found exactly where the fact holds; of want of memory nothing is said
-abbrev pub Finds : Type 0 → Result (Option MetaCode) AllocError → Type 0
-Finds P result = IfOk result (λ found. MatchOption found P (λ code. P → ⊥))
+-- the answer is the plan, or a fault of a description that can't be planned; of want of memory nothing is said
+abbrev pub Builds : Description → Result Plan MetaFault → Type 0
+Builds d (Ok plan) = (plan ≡ plan_of d) × IsPlannable d
+Builds d (Err fault) = (fault.pointer ≡ []) × (fault.code ≢ Memory → IsPlannable d → ⊥)
