@@ -9,7 +9,8 @@ use Rattle.csvw_columns.specs.PlanOf.{table_plan, table_plans}
 pub one_longer : (plans more : List TablePlan) (plan : TablePlan) → more ≡ plans ++ plan ∷ [] → length more ≡ length plans + 1
 one_longer plans more plan e = ap length e ∙ length-append plans (plan ∷ [])
 
-pub next_made : (targets : Targets) (group : Description) (plans more all : List TablePlan) (plan : TablePlan) (table : TableDescription) (before after : List TableDescription)
+pub next_made : (targets : Targets) (group : Description) (plans more all : List TablePlan) (plan : TablePlan) (table : TableDescription)
+    (before after : List TableDescription)
     → plans ++ table_plans targets group (length plans + 1) before ≡ all → before ≡ table ∷ after
     → plan ≡ table_plan targets group (length plans + 1) table → more ≡ plans ++ plan ∷ []
     → more ++ table_plans targets group (length more + 1) after ≡ all

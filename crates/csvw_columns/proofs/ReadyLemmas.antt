@@ -106,14 +106,17 @@ module _ (targets : Targets) (d : Description) (plannable : IsFitGroup d) where
         skipped = dialect.skipped;
         limit = omega (arith, many, schema.limit);
         names = subst AllDistinct (sym (names_from (iri_of t.url) skipped s.inherited t.inherited d.inherited 0 s.columns)) schema.names;
-        declared = sound_columns (iri_of t.url) skipped s.inherited t.inherited d.inherited schema.inherited fit.inherited plannable.inherited 1 s.columns schema.datatypes;
+        declared =
+            sound_columns (iri_of t.url) skipped s.inherited t.inherited d.inherited schema.inherited fit.inherited plannable.inherited 1 s.columns
+            schema.datatypes;
         header = sound_of None s.inherited.datatype t.inherited.datatype d.inherited.datatype tt schema.inherited fit.inherited plannable.inherited;
       }
 
   ready_tables : (n : ℕ) (ts : List TableDescription) → All IsFitTable ts → All IsReady (table_plans targets d n ts)
   ready_tables n [] fit = All-nil IsReady
   ready_tables n (t ∷ ts) fit =
-      All-cons IsReady (table_plan targets d n t) (table_plans targets d (n + 1) ts) (ready_table n t (All-head IsFitTable t ts fit)) (ready_tables (n + 1) ts (All-tail IsFitTable t ts fit))
+      let first : IsReady (table_plan targets d n t) = ready_table n t (All-head IsFitTable t ts fit) in
+      All-cons IsReady (table_plan targets d n t) (table_plans targets d (n + 1) ts) first (ready_tables (n + 1) ts (All-tail IsFitTable t ts fit))
 
 pub ready : (d : Description) → IsFitGroup d → All IsReady (plan_of d).tables
 ready d plannable = ready_tables (targets_of d) d plannable 1 d.tables plannable.tables
@@ -124,7 +127,8 @@ short_names : (group : Option Schema) (ts : List TableDescription) → IfSome gr
 short_names group [] g fit = All-nil (λ names. length names ≤ column_limit)
 short_names group (t ∷ ts) g fit =
     let schema : IsFitSchema (schema_of t.schema group) = fit_schema t.schema group (All-head IsFitTable t ts fit).schema g in
-    let first : length (numbered_names 0 (schema_of t.schema group).columns) ≤ column_limit = omega (arith, length_numbered 0 (schema_of t.schema group).columns, schema.limit) in
+    let many = length_numbered 0 (schema_of t.schema group).columns in
+    let first : length (numbered_names 0 (schema_of t.schema group).columns) ≤ column_limit = omega (arith, many, schema.limit) in
     All-cons (λ names. length names ≤ column_limit) (numbered_names 0 (schema_of t.schema group).columns)
     (map (λ t. numbered_names 0 (schema_of t.schema group).columns) ts) first (short_names group ts g (All-tail IsFitTable t ts fit))
 

@@ -46,7 +46,8 @@ fn declared(
     requires defaults { IsDefaults defaults.now }
     requires skipped { frame.now.skip_columns ≤ column_limit }
     requires limit { length (unwrap_or schema.now no_schema).columns ≤ column_limit }
-    ensures { IfOk result (λ cs. cs ≡ declared_columns (iri_of frame.now.url) frame.now.skip_columns frame.now.schema frame.now.table group.now (unwrap_or schema.now no_schema).columns) }
+    ensures { IfOk result (λ cs. cs ≡ declared_columns (iri_of frame.now.url) frame.now.skip_columns frame.now.schema frame.now.table
+        group.now (unwrap_or schema.now no_schema).columns) }
 {
     match schema {
         Some(schema) => frame.declared_columns(alloc, defaults, group, schema.columns.as_slice()),
@@ -61,7 +62,8 @@ fn frame_of(
     skip_columns: u32,
     schema: &Option<Schema>,
 ) -> Result<Frame, AllocError>
-    ensures { IfOk result (λ f. f ≡ record { url = table.now.url; skip_columns = skip_columns; schema = (unwrap_or schema.now no_schema).inherited; table = table.now.inherited }) }
+    ensures { let inherited = (unwrap_or schema.now no_schema).inherited in
+        IfOk result (λ f. f ≡ record { url = table.now.url; skip_columns = skip_columns; schema = inherited; table = table.now.inherited }) }
 {
     Ok(Frame {
         url: table.url.clone(alloc)?,

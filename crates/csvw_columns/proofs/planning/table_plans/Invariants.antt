@@ -8,7 +8,8 @@ use Rattle.csvw_columns.proofs.planning.table_plans.Given as goal
 
 abbrev pub invariant-loop-table : goal.invariant-loop-table
 invariant-loop-table l = record {
-  made : l.plans.items ++ table_plans l.known.targets l.group (length l.plans.items + 1) (into_iter_items l.table-iterator) ≡ table_plans l.known.targets l.group 1 l.fn.tables.items;
+  made : l.plans.items ++ table_plans l.known.targets l.group (length l.plans.items + 1) (into_iter_items l.table-iterator)
+      ≡ table_plans l.known.targets l.group 1 l.fn.tables.items;
   left : All IsFitTable (into_iter_items l.table-iterator);
   count : length l.plans.items + length (into_iter_items l.table-iterator) ≡ length l.fn.tables.items;
 }
