@@ -21,7 +21,8 @@ pub length_from_header : (rows : List HeaderRow) (width : Option ℕ) → length
 length_from_header rows width = length-titled rows (column_count rows width)
 
 -- one for each description
-pub length-declared : (url : List ℕ) (skipped : ℕ) (schema table group : Inherited) (n : ℕ) (cs : List ColumnDescription) → length (declared_from url skipped schema table group n cs) ≡ length cs
+pub length-declared : (url : List ℕ) (skipped : ℕ) (schema table group : Inherited) (n : ℕ) (cs : List ColumnDescription)
+    → length (declared_from url skipped schema table group n cs) ≡ length cs
 length-declared url skipped schema table group n [] = refl
 length-declared url skipped schema table group n (c ∷ cs) = ap (λ k. suc k) (length-declared url skipped schema table group (n + 1) cs)
 
@@ -38,6 +39,7 @@ or_declared [] others h = absurd (grind (arith, h))
 or_declared (c ∷ cs) others h = refl
 
 -- where nothing is declared, those of the header count
-pub count_of : (plan : TablePlan) (rows : List HeaderRow) (width : Option ℕ) → (length plan.declared == 0) ≡ true → column_count rows width ≡ length (columns_of plan rows width)
+pub count_of : (plan : TablePlan) (rows : List HeaderRow) (width : Option ℕ) → (length plan.declared == 0) ≡ true
+    → column_count rows width ≡ length (columns_of plan rows width)
 count_of plan rows width h =
     sym (length-header_columns plan rows width) ∙ ap length (sym (or_empty plan.declared (header_columns plan rows width) h))

@@ -4,3 +4,4 @@ pub mod DialectLemmas
 pub mod PlanLemmas
 pub mod ReadyLemmas
 pub mod SoundLemmas
+pub mod KeyLemmas

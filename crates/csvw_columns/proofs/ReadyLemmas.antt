@@ -1,6 +1,7 @@
 -- What is fit in a description is ready in its plan.
-use Rattle.std.proofs.Common.{◌≡◌, ℕ, ◌+◌, List, [], ◌∷◌, map, refl, sym, ap, subst, arith, rules}
+use Rattle.std.proofs.Common.{◌≡◌, ℕ, ◌+◌, List, [], ◌∷◌, map, refl, sym, ap, subst, arith, rules, length, ◌≤◌}
 use Rattle.std.specs.Prelude.{Option, Some, None, IfSome, All}
+use Rattle.std.proofs.lemmas.List.{length-map}
 use Rattle.std.proofs.lemmas.List.Elements.{All-nil, All-cons, All-head, All-tail}
 use Rattle.csvw_dialect.specs.declared.dialect.Dialect.{Dialect}
 use Rattle.std.specs.Str.{chars}
@@ -14,14 +15,18 @@ use Rattle.csvw_description.specs.declared.description.Description.{Description}
 use Rattle.csvw_description.specs.declared.inherited.Inherited.{Inherited}
 use Rattle.csvw_description.specs.declared.schema.Schema.{Schema}
 use Rattle.csvw_description.specs.declared.table.TableDescription.{TableDescription}
-use Rattle.csvw_columns_core.specs.Inherited.{inherited, string_type}
-use Rattle.csvw_columns_core.specs.SchemaColumns.{declared_from}
+use Rattle.csvw_columns_core.specs.Inherited.{inherited, string_type, IsDefaults}
+use Rattle.csvw_columns_core.specs.SchemaColumns.{declared_from, column_limit}
 use Rattle.csvw_description.specs.Name.{name_of}
 use Rattle.csvw_columns.specs.Distinct.{AllDistinct}
-use Rattle.csvw_columns.specs.Plannable.{IsFitDialect, HasSound, numbered_names, IsFitSchema, IsFitTable, IsPlannable}
-use Rattle.csvw_columns.specs.PlanOf.{default_dialect, dialect_of, no_schema, schema_of, table_plan, table_plans, plan_of}
+use Rattle.csvw_columns.specs.Fit.{table_limit, IsFitDialect, HasSound, numbered_names, IsFitSchema, IsFitTable, IsFitGroup}
+use Rattle.csvw_columns.specs.PlanOf.{default_dialect, dialect_of, no_schema, schema_of, table_plan, table_plans, targets_of, plan_of}
+use Rattle.csvw_columns.specs.declared.references.Targets.{Targets}
 use Rattle.csvw_columns.specs.Ready.{AreSound, IsReady}
+use Rattle.csvw_columns.specs.Known.{IsKnown}
+use Rattle.csvw_columns.specs.declared.planning.Known.{Known}
 use Rattle.csvw_columns.proofs.ColumnLemmas.{length-declared}
+use Rattle.csvw_columns.proofs.KeyLemmas.{length_numbered}
 
 string_is_sound : IsSound string_type
 string_is_sound = record {
@@ -81,8 +86,6 @@ none_is_fit = record {
   inherited = tt;
   datatypes = All-nil (λ c. HasSound c.inherited);
   names = λ i j d h k. absurd (omega arith);
-  primary_key = refl;
-  foreign_keys = refl;
 }
 
 fit_schema : (t g : Option Schema) → IfSome t IsFitSchema → IfSome g IsFitSchema → IsFitSchema (schema_of t g)
@@ -90,8 +93,8 @@ fit_schema (Some s) g a b = a
 fit_schema None (Some s) a b = b
 fit_schema None None a b = none_is_fit
 
-module _ (d : Description) (plannable : IsPlannable d) where
-  ready_table : (n : ℕ) (t : TableDescription) → IsFitTable t → IsReady (table_plan d n t)
+module _ (targets : Targets) (d : Description) (plannable : IsFitGroup d) where
+  ready_table : (n : ℕ) (t : TableDescription) → IsFitTable t → IsReady (table_plan targets d n t)
   ready_table n t fit =
       let dialect : IsFitDialect (dialect_of t.dialect d.dialect) = fit_dialect t.dialect d.dialect fit.dialect plannable.dialect in
       let schema : IsFitSchema (schema_of t.schema d.schema) = fit_schema t.schema d.schema fit.schema plannable.schema in
@@ -103,14 +106,37 @@ module _ (d : Description) (plannable : IsPlannable d) where
         skipped = dialect.skipped;
         limit = omega (arith, many, schema.limit);
         names = subst AllDistinct (sym (names_from (iri_of t.url) skipped s.inherited t.inherited d.inherited 0 s.columns)) schema.names;
-        declared = sound_columns (iri_of t.url) skipped s.inherited t.inherited d.inherited schema.inherited fit.inherited plannable.inherited 1 s.columns schema.datatypes;
+        declared =
+            sound_columns (iri_of t.url) skipped s.inherited t.inherited d.inherited schema.inherited fit.inherited plannable.inherited 1 s.columns
+            schema.datatypes;
         header = sound_of None s.inherited.datatype t.inherited.datatype d.inherited.datatype tt schema.inherited fit.inherited plannable.inherited;
       }
 
-  ready_tables : (n : ℕ) (ts : List TableDescription) → All IsFitTable ts → All IsReady (table_plans d n ts)
+  ready_tables : (n : ℕ) (ts : List TableDescription) → All IsFitTable ts → All IsReady (table_plans targets d n ts)
   ready_tables n [] fit = All-nil IsReady
   ready_tables n (t ∷ ts) fit =
-      All-cons IsReady (table_plan d n t) (table_plans d (n + 1) ts) (ready_table n t (All-head IsFitTable t ts fit)) (ready_tables (n + 1) ts (All-tail IsFitTable t ts fit))
+      let first : IsReady (table_plan targets d n t) = ready_table n t (All-head IsFitTable t ts fit) in
+      All-cons IsReady (table_plan targets d n t) (table_plans targets d (n + 1) ts) first (ready_tables (n + 1) ts (All-tail IsFitTable t ts fit))
 
-pub ready : (d : Description) → IsPlannable d → All IsReady (plan_of d).tables
-ready d plannable = ready_tables d plannable 1 d.tables plannable.tables
+pub ready : (d : Description) → IsFitGroup d → All IsReady (plan_of d).tables
+ready d plannable = ready_tables (targets_of d) d plannable 1 d.tables plannable.tables
+
+-- what is known of a group that is fit keeps the limits
+short_names : (group : Option Schema) (ts : List TableDescription) → IfSome group IsFitSchema → All IsFitTable ts
+    → All (λ names. length names ≤ column_limit) (map (λ t. numbered_names 0 (schema_of t.schema group).columns) ts)
+short_names group [] g fit = All-nil (λ names. length names ≤ column_limit)
+short_names group (t ∷ ts) g fit =
+    let schema : IsFitSchema (schema_of t.schema group) = fit_schema t.schema group (All-head IsFitTable t ts fit).schema g in
+    let many = length_numbered 0 (schema_of t.schema group).columns in
+    let first : length (numbered_names 0 (schema_of t.schema group).columns) ≤ column_limit = omega (arith, many, schema.limit) in
+    All-cons (λ names. length names ≤ column_limit) (numbered_names 0 (schema_of t.schema group).columns)
+    (map (λ t. numbered_names 0 (schema_of t.schema group).columns) ts) first (short_names group ts g (All-tail IsFitTable t ts fit))
+
+pub known : (k : Known) (d : Description) → IsDefaults k.defaults → k.targets ≡ targets_of d → IsFitGroup d → IsKnown k
+known k d defaults targets fit =
+    let tables : length (targets_of d).urls ≤ table_limit = omega (arith, length-map d.tables (λ t. iri_of t.url), fit.limit) in
+    record {
+      defaults = defaults;
+      tables = subst (λ t. length t.urls ≤ table_limit) (sym targets) tables;
+      names = subst (λ t. All (λ names. length names ≤ column_limit) t.names) (sym targets) (short_names d.schema d.tables fit.schema fit.tables);
+    }

@@ -47,5 +47,6 @@ pub sound_columns_of : (plan : TablePlan) (rows : List HeaderRow) (width : Optio
 sound_columns_of plan rows width ready =
     sound_or plan.declared (header_columns plan rows width) ready.declared (sound_header plan rows width ready)
 
-pub sound_at : (plan : TablePlan) (rows : List HeaderRow) (width : Option ℕ) (columns : List Column) → columns ≡ columns_of plan rows width → IsReady plan → AreSound columns
+pub sound_at : (plan : TablePlan) (rows : List HeaderRow) (width : Option ℕ) (columns : List Column) → columns ≡ columns_of plan rows width → IsReady plan
+    → AreSound columns
 sound_at plan rows width columns e ready = subst AreSound (sym e) (sound_columns_of plan rows width ready)

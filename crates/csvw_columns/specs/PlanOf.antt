@@ -1,6 +1,6 @@
 -- The plan of a group of tables (Metadata Vocabulary for Tabular Data, sections 5.3 to 5.7; Model for Tabular Data,
 -- sections 4.1 and 4.2).
-use Rattle.std.specs.Prelude.{◌≡◌, ◌≢◌, ℕ, ◌+◌, List, [], ◌∷◌, Option, Some, true, false, unwrap_or, Result, Ok, Err}
+use Rattle.std.specs.Prelude.{ℕ, ◌+◌, List, [], ◌∷◌, map, Option, Some, true, false, unwrap_or}
 use Rattle.csvw_dialect.specs.declared.dialect.Dialect.{Dialect}
 use Rattle.csvw_dialect.specs.declared.dialect.Trim.TheVariants.{No}
 use Rattle.csvw_iri.specs.Link.{iri_of}
@@ -12,9 +12,10 @@ use Rattle.csvw_description.specs.declared.table.TableDescription.{TableDescript
 use Rattle.csvw_columns_core.specs.HeaderColumns.{no_inherited}
 use Rattle.csvw_columns_core.specs.Inherited.{first_of}
 use Rattle.csvw_columns_core.specs.SchemaColumns.{declared_columns}
-use Rattle.csvw_meta_core.specs.declared.fault.MetaFault.{MetaFault}
-use Rattle.csvw_meta_core.specs.declared.fault.MetaCode.TheVariants.{Memory}
-use Rattle.csvw_columns.specs.Plannable.{IsPlannable}
+use Rattle.csvw_columns.specs.Fit.{numbered_names}
+use Rattle.csvw_columns.specs.Keys.{numbers_of, foreign_key}
+use Rattle.csvw_columns.specs.declared.references.Keys.{Keys}
+use Rattle.csvw_columns.specs.declared.references.Targets.{Targets}
 use Rattle.csvw_columns.specs.declared.plan.Plan.{Plan}
 use Rattle.csvw_columns.specs.declared.plan.TablePlan.{TablePlan}
 
@@ -46,9 +47,23 @@ no_schema = record { columns = []; primary_key = []; foreign_keys = []; inherite
 abbrev pub schema_of : Option Schema → Option Schema → Schema
 schema_of table group = unwrap_or (first_of table group) no_schema
 
+-- what the foreign keys of a group refer to: the URLs of its tables, and the names of the columns that each declares
+abbrev pub targets_of : Description → Targets
+targets_of d = record {
+  urls = map (λ t. iri_of t.url) d.tables;
+  names = map (λ t. numbered_names 0 (schema_of t.schema d.schema).columns) d.tables;
+}
+
+-- the keys of a table that declares the columns of this schema
+abbrev pub keys_of : Targets → Schema → Keys
+keys_of targets schema = record {
+  primary = numbers_of (numbered_names 0 schema.columns) schema.primary_key;
+  foreign = map (foreign_key targets.urls targets.names (numbered_names 0 schema.columns)) schema.foreign_keys;
+}
+
 -- table n, with its dialect and its schema
-abbrev pub planned : Inherited → ℕ → TableDescription → Dialect → Schema → TablePlan
-planned group n table dialect schema = record {
+abbrev pub planned : Targets → Inherited → ℕ → TableDescription → Dialect → Schema → TablePlan
+planned targets group n table dialect schema = record {
   number = n;
   url = table.url;
   id = table.id;
@@ -58,23 +73,18 @@ planned group n table dialect schema = record {
   schema = schema.inherited;
   table = table.inherited;
   group = group;
-  primary_key = [];
-  foreign_keys = [];
+  primary_key = (keys_of targets schema).primary;
+  foreign_keys = (keys_of targets schema).foreign;
   notes = table.notes;
 }
 
-abbrev pub table_plan : Description → ℕ → TableDescription → TablePlan
-table_plan group n table = planned group.inherited n table (dialect_of table.dialect group.dialect) (schema_of table.schema group.schema)
+abbrev pub table_plan : Targets → Description → ℕ → TableDescription → TablePlan
+table_plan targets group n table = planned targets group.inherited n table (dialect_of table.dialect group.dialect) (schema_of table.schema group.schema)
 
 -- the tables from number n on
-abbrev pub table_plans : Description → ℕ → List TableDescription → List TablePlan
-table_plans group n [] = []
-table_plans group n (table ∷ tables) = table_plan group n table ∷ table_plans group (n + 1) tables
+abbrev pub table_plans : Targets → Description → ℕ → List TableDescription → List TablePlan
+table_plans targets group n [] = []
+table_plans targets group n (table ∷ tables) = table_plan targets group n table ∷ table_plans targets group (n + 1) tables
 
 abbrev pub plan_of : Description → Plan
-plan_of d = record { id = d.id; notes = d.notes; tables = table_plans d 1 d.tables; warnings = unknown d }
-
--- the answer is the plan, or a fault of a description that can't be planned; of want of memory nothing is said
-abbrev pub Builds : Description → Result Plan MetaFault → Type 0
-Builds d (Ok plan) = (plan ≡ plan_of d) × IsPlannable d
-Builds d (Err fault) = (fault.pointer ≡ []) × (fault.code ≢ Memory → IsPlannable d → ⊥)
+plan_of d = record { id = d.id; notes = d.notes; tables = table_plans (targets_of d) d 1 d.tables; warnings = unknown d }

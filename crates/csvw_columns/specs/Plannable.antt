@@ -1,9 +1,19 @@
--- The descriptions that can be planned (Metadata Vocabulary for Tabular Data, sections 5.3 to 5.9).
-use Rattle.std.specs.Prelude.{MatchOption, Option, Result, IfOk}
-use Rattle.std.specs.declared.alloc.AllocError.{AllocError}
-use Rattle.csvw_meta_core.specs.declared.fault.MetaCode.{MetaCode}
-pub use Rattle.csvw_description.specs.Plannable.{table_limit, IsFitDialect, HasSound, numbered_names, IsFitSchema, IsFitTable, IsPlannable}
+-- The descriptions that can be planned, and what `Plan::build` gives of a description.
+use Rattle.std.specs.Prelude.{◌≡◌, ◌≢◌, [], Result, Ok, Err, All}
+use Rattle.csvw_description.specs.declared.description.Description.{Description}
+use Rattle.csvw_meta_core.specs.declared.fault.MetaFault.{MetaFault}
+use Rattle.csvw_meta_core.specs.declared.fault.MetaCode.TheVariants.{Memory}
+use Rattle.csvw_columns.specs.Fit.{IsFitGroup}
+use Rattle.csvw_columns.specs.Keys.{AreResolved}
+use Rattle.csvw_columns.specs.PlanOf.{plan_of}
+use Rattle.csvw_columns.specs.declared.plan.Plan.{Plan}
 
--- nothing is found exactly where the fact holds; of want of memory nothing is said
-abbrev pub Finds : Type 0 → Result (Option MetaCode) AllocError → Type 0
-Finds P result = IfOk result (λ found. MatchOption found P (λ code. P → ⊥))
+-- its tables can be read, and what their keys name is there
+pub record IsPlannable (d : Description) : Type 0 where
+  pub fit : IsFitGroup d
+  pub keys : All AreResolved (plan_of d).tables
+
+-- the answer is the plan, or a fault of a description that can't be planned; of want of memory nothing is said
+abbrev pub Builds : Description → Result Plan MetaFault → Type 0
+Builds d (Ok plan) = (plan ≡ plan_of d) × IsPlannable d
+Builds d (Err fault) = (fault.pointer ≡ []) × (fault.code ≢ Memory → IsPlannable d → ⊥)

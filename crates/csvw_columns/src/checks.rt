@@ -1,6 +1,6 @@
-//! Whether a description can be planned.
+//! Whether the tables of a description can be read, keys aside.
 ghost use Rattle.std.specs.Prelude.{◌≡◌, ◌↔◌, IfOk, IfSome, IsTrue, All};
-ghost use Rattle.csvw_columns.specs.Plannable.{table_limit, IsFitDialect, HasSound, numbered_names, IsFitSchema, IsFitTable, IsPlannable, Finds};
+ghost use Rattle.csvw_columns.specs.Fit.{table_limit, IsFitDialect, HasSound, numbered_names, IsFitSchema, IsFitTable, IsFitGroup, Finds};
 
 use crate::names::are_distinct;
 use csvw_columns_core::{COLUMN_LIMIT, SKIP_LIMIT};
@@ -45,7 +45,11 @@ fn are_sound(columns: &[ColumnDescription]) -> bool
     columns.iter().all(|c| has_sound(&c.inherited))
 }
 
-fn numbered_names(alloc: Global, columns: &[ColumnDescription]) -> Result<Vec<Name>, AllocError>
+/// The names of columns, numbered from 1. `AllocError` where there is no memory.
+pub(crate) fn numbered_names(
+    alloc: Global,
+    columns: &[ColumnDescription],
+) -> Result<Vec<Name>, AllocError>
     ensures { IfOk result (λ v. v.items ≡ numbered_names 0 columns.now) }
 {
     let mut names = Vec::new(alloc);
@@ -64,9 +68,6 @@ fn schema_fault(alloc: Global, schema: &Schema) -> Result<Option<MetaCode>, Allo
     }
     if !has_sound(&schema.inherited) || !are_sound(schema.columns.as_slice()) {
         return Ok(Some(MetaCode::BadDatatype));
-    }
-    if schema.primary_key.len() > 0 || schema.foreign_keys.len() > 0 {
-        return Ok(Some(MetaCode::BadReference));
     }
     let names = numbered_names(alloc, schema.columns.as_slice())?;
     if !are_distinct(alloc, names)? {
@@ -110,12 +111,12 @@ fn first_fault(alloc: Global, tables: &[TableDescription]) -> Result<Option<Meta
     Ok(None)
 }
 
-/// Why a description can't be planned; `None` where it can be. `AllocError` where there is no memory.
+/// Why the tables of a description can't be read; `None` where they can. `AllocError` where there is no memory.
 pub(crate) fn fault_of(
     alloc: Global,
     description: &Description,
 ) -> Result<Option<MetaCode>, AllocError>
-    ensures { Finds (IsPlannable description.now) result }
+    ensures { Finds (IsFitGroup description.now) result }
 {
     if description.tables.len() > TABLE_LIMIT {
         return Ok(Some(MetaCode::TooMany));

@@ -3,11 +3,13 @@
 
 mod building;
 mod checks;
+mod choices;
 mod copies;
 mod heading;
 mod names;
 mod plan;
 mod planning;
+mod references;
 mod table_stop;
 mod warnings;
 

@@ -10,5 +10,6 @@ header_columns-requires-clause-limit c =
     let plan = c.args.plan.now in
     let rows = c.args.rows.now in
     let within : IsWithin plan rows c.args.width = c.is_within.ensures.0 c.if-not-is_within.false in
-    let same : column_count rows c.args.width ≡ length (columns_of plan rows c.args.width) = count_of plan rows c.args.width (sym c.is_empty.ensures ∙ c.if-is_empty.true) in
+    let same : column_count rows c.args.width ≡ length (columns_of plan rows c.args.width) =
+    count_of plan rows c.args.width (sym c.is_empty.ensures ∙ c.if-is_empty.true) in
     omega (arith, same, within.columns)
