@@ -4,6 +4,7 @@ pub mod Composed
 pub mod Cutting
 pub mod Decoded
 pub mod Denoted
+pub mod Documents
 pub mod EscapeLemmas
 pub mod Hex
 pub mod LabelParts
