@@ -3,9 +3,10 @@ use Rattle.std.proofs.Common.{◌≡◌, ◌↔◌, ℕ, List, [], ◌∷◌, �
 use Rattle.std.proofs.lemmas.Bool.{and_parts}
 use Rattle.std.specs.List.{list_all, slice_split}
 use Rattle.csvw_ntriples.specs.Character.{is_break}
-use Rattle.csvw_ntriples.specs.Grammar.{AreLines, DenotesText}
-use Rattle.csvw_ntriples.specs.Document.{IsInLine, IsGap, IsEolOver, IsEol, IsFirst, AreFurther, IsEnd, IsDocument}
+use Rattle.csvw_ntriples.specs.Grammar.{IsTripleLine, AreLines, DenotesText}
+use Rattle.csvw_ntriples.specs.Document.{IsInLine, IsGap, IsEolOver, IsEol, TakesEol, TakesTriple, TakesFirst, TakesFurther, IsEnd, IsDocument}
 use Rattle.csvw_ntriples.specs.declared.term.NtTriple.{NtTriple}
+use Rattle.csvw_ntriples.proofs.OnLines.{Ends, triple_down, triple_up}
 
 no_break : (c : ℕ) (cs : List ℕ) → IsInLine (c ∷ cs) → (is_break c ≡ false) × IsInLine cs
 no_break c cs h = let b = and_parts (not (is_break c)) (list_all (λ x. not (is_break x)) cs) h in (not_true (is_break c) b.0, b.1)
@@ -18,7 +19,8 @@ line_alone : (line : List ℕ) → IsInLine line → slice_split is_break line �
 line_alone [] h = refl
 line_alone (c ∷ cs) h = let b = no_break c cs h in rw (b.0, line_alone cs b.1) refl
 
-line_before : (line : List ℕ) (k : ℕ) (rest : List ℕ) → IsInLine line → IsTrue (is_break k) → slice_split is_break (line ++ k ∷ rest) ≡ line ∷ slice_split is_break rest
+line_before : (line : List ℕ) (k : ℕ) (rest : List ℕ) → IsInLine line → IsTrue (is_break k)
+    → slice_split is_break (line ++ k ∷ rest) ≡ line ∷ slice_split is_break rest
 line_before [] k rest h e = rw e refl
 line_before (c ∷ cs) k rest h e = let b = no_break c cs h in rw (b.0, line_before cs k rest b.1 e) refl
 
@@ -46,81 +48,98 @@ cut (c ∷ cs) = by_test (is_break c) refl (cut cs)
 one_break : (k : ℕ) → IsTrue (is_break k) → IsEol (k ∷ [])
 one_break k e = ([], (k, refl, e))
 
-more_breaks : (k : ℕ) (gap eol : List ℕ) → IsTrue (is_break k) → IsGap gap → IsEol eol → IsEol (k ∷ gap ++ eol)
-more_breaks k gap eol e g h = (gap ∷ h.0, (k, eol, refl, e, g, h.1))
+eol_one : (gap : List ℕ) (k : ℕ) (rest : List ℕ) → IsGap gap → IsTrue (is_break k) → TakesEol (gap ++ k ∷ rest) rest
+eol_one gap k rest g e = (gap, k ∷ [], refl, g, one_break k e)
+
+eol_more : (gap : List ℕ) (k : ℕ) (text rest : List ℕ) → IsGap gap → IsTrue (is_break k) → TakesEol text rest → TakesEol (gap ++ k ∷ text) rest
+eol_more gap k text rest g e (inner, eol, whole, h, breaks) =
+    let parts : gap ++ k ∷ text ≡ gap ++ k ∷ ((inner ++ eol) ++ rest) = ap (λ z. gap ++ k ∷ z) (whole ∙ sym (append_assoc inner eol rest)) in
+    (gap, k ∷ inner ++ eol, parts, g, (inner ∷ breaks.0, (k, eol, refl, e, h, breaks.1)))
 
 -- (EOL triple)* EOL?
 abbrev Follows : List ℕ → List NtTriple → Type 0
-Follows text ts = (b c : List ℕ) × (text ≡ b ++ c) × AreFurther b ts × IsEnd c
+Follows text ts = (b : List ℕ) × TakesFurther ts text b × IsEnd b
 
--- a break and a gap before the end
-end_more : (k : ℕ) (gap text : List ℕ) → IsTrue (is_break k) → IsGap gap → IsEnd text → IsEnd (k ∷ gap ++ text)
-end_more k gap text e g (inl h) = inr (k ∷ [], gap, ap (λ z. k ∷ gap ++ z) h ∙ ap (λ z. k ∷ z) (append-nil gap), one_break k e, g)
-end_more k gap text e g (inr h) =
-    let parts : k ∷ gap ++ text ≡ (k ∷ gap ++ h.0) ++ h.1 = ap (λ z. k ∷ gap ++ z) h.2 ∙ ap (λ z. k ∷ z) (sym (append_assoc gap h.0 h.1)) in
-    inr (k ∷ gap ++ h.0, h.1, parts, more_breaks k gap h.0 e g h.3, h.4)
+-- a gap and a break before a document
+break_before : (gap : List ℕ) (k : ℕ) (first : Option NtTriple) (ts : List NtTriple) (text a b : List ℕ) → IsGap gap → IsTrue (is_break k)
+    → TakesFirst first text a → TakesFurther ts a b → IsEnd b → Follows (gap ++ k ∷ text) (option_to_list first ++ ts)
+break_before gap k (Some t) ts text a b g e f h d = (b, (text, a, eol_one gap k text g e, f, h), d)
+break_before gap k None [] text a b g e f h (inl d) =
+    (gap ++ k ∷ text, refl, inr (text, eol_one gap k text g e, subst (λ (z : List ℕ). IsGap z) (sym (f ∙ h)) d))
+break_before gap k None [] text a b g e f h (inr d) =
+    (gap ++ k ∷ text, refl, inr (d.0, eol_more gap k text d.0 g e (subst (λ (z : List ℕ). TakesEol z d.0) (sym (f ∙ h)) d.1), d.2))
+break_before gap k None (t ∷ ts) text a b g e f h d =
+    (b, (h.0, h.1, eol_more gap k text h.0 g e (subst (λ (z : List ℕ). TakesEol z h.0) (sym f) h.2), h.3, h.4), d)
 
--- a break before a document
-break_before : (k : ℕ) (first : Option NtTriple) (ts : List NtTriple) (a b c : List ℕ) → IsTrue (is_break k) → IsFirst a first → AreFurther b ts → IsEnd c → Follows (k ∷ a ++ (b ++ c)) (option_to_list first ++ ts)
-break_before k (Some t) ts a b c e f h d = (k ∷ a ++ b, c, ap (λ z. k ∷ z) (sym (append_assoc a b c)), (k ∷ [], a, b, refl, one_break k e, f, h), d)
-break_before k None [] a b c e f h d = ([], k ∷ a ++ (b ++ c), refl, refl, subst (λ (z : List ℕ). IsEnd (k ∷ a ++ (z ++ c))) (sym h) (end_more k a c e f d))
-break_before k None (t ∷ ts) a b c e f h d =
-    let tail = h.1 ++ h.2 in
-    let parts : k ∷ a ++ b ≡ (k ∷ a ++ h.0) ++ tail = ap (λ z. k ∷ a ++ z) h.3 ∙ ap (λ z. k ∷ z) (sym (append_assoc a h.0 tail)) in
-    (k ∷ a ++ b, c, ap (λ z. k ∷ z) (sym (append_assoc a b c)), (k ∷ a ++ h.0, h.1, h.2, parts, more_breaks k a h.0 e f h.4, h.5, h.6), d)
+document_follows : (gap : List ℕ) (k : ℕ) (text : List ℕ) (ts : List NtTriple) → IsGap gap → IsTrue (is_break k) → IsDocument text ts
+    → Follows (gap ++ k ∷ text) ts
+document_follows gap k text ts g e (first, further, a, b, all, f, h, d) =
+    subst (λ (z : List NtTriple). Follows (gap ++ k ∷ text) z) (sym all) (break_before gap k first further text a b g e f h d)
 
-document_follows : (k : ℕ) (text : List ℕ) (ts : List NtTriple) → IsTrue (is_break k) → IsDocument text ts → Follows (k ∷ text) ts
-document_follows k text ts e (first, further, a, b, c, whole, all, f, h, d) =
-    let parts = break_before k first further a b c e f h d in
-    (parts.0, parts.1, ap (λ z. k ∷ z) whole ∙ parts.2, subst (λ (z : List NtTriple). AreFurther parts.0 z) (sym all) parts.3, parts.4)
+-- a triple's line before what follows
+triple_before : (t : NtTriple) (us ts : List NtTriple) (text line tail : List ℕ) → text ≡ line ++ tail → ts ≡ t ∷ us
+    → IsInLine line → Ends tail → IsTripleLine line t → ((gap : List ℕ) → IsGap gap → Follows (gap ++ tail) us) → IsDocument text ts
+triple_before t us ts text line tail whole all l e f left =
+    let taken = triple_up t line tail l e f in
+    let rest = left taken.0 taken.1 in
+    (Some t, us, taken.0 ++ tail, rest.0, all, subst (λ (z : List ℕ). TakesTriple t z (taken.0 ++ tail)) (sym whole) taken.2, rest.1, rest.2)
 
 to_document : (more : List (List ℕ)) (line text : List ℕ) (ts : List NtTriple) → AreBroken line more text → AreLines (line ∷ more) ts → IsDocument text ts
-to_document [] line text ts b (inl f) = (None, [], line, [], [], b.1 ∙ sym (append-nil line), f.1, (b.0, f.0), refl, inl refl)
-to_document [] line text ts b (inr f) = (Some f.0, [], line, [], [], b.1 ∙ sym (append-nil line), f.2 ∙ ap (λ z. f.0 ∷ z) f.4, (b.0, f.3), refl, inl refl)
+to_document [] line text ts b (inl f) = (None, [], text, text, f.1, refl, refl, inl (subst (λ (z : List ℕ). IsGap z) (sym b.1) (b.0, f.0)))
+to_document [] line text ts b (inr f) =
+    triple_before f.0 [] ts text line [] (b.1 ∙ sym (append-nil line)) (f.2 ∙ ap (λ z. f.0 ∷ z) f.4) b.0 tt f.3
+    (λ gap g. (gap ++ [], refl, inl (subst (λ (z : List ℕ). IsGap z) (sym (append-nil gap)) g)))
 to_document (next ∷ more) line text ts b (inl f) =
-    let w = document_follows b.0 b.1 ts b.4 (to_document more next b.1 ts b.5 f.1) in
-    (None, ts, line, w.0, w.1, b.3 ∙ ap (λ z. line ++ z) w.2, refl, (b.2, f.0), w.3, w.4)
+    let w = document_follows line b.0 b.1 ts (b.2, f.0) b.4 (to_document more next b.1 ts b.5 f.1) in
+    (None, ts, text, w.0, refl, refl, subst (λ (z : List ℕ). TakesFurther ts z w.0) (sym b.3) w.1, w.2)
 to_document (next ∷ more) line text ts b (inr f) =
-    let w = document_follows b.0 b.1 f.1 b.4 (to_document more next b.1 f.1 b.5 f.4) in
-    (Some f.0, f.1, line, w.0, w.1, b.3 ∙ ap (λ z. line ++ z) w.2, f.2, (b.2, f.3), w.3, w.4)
+    triple_before f.0 f.1 ts text line (b.0 ∷ b.1) b.3 f.2 b.2 b.4 f.3
+    (λ gap g. document_follows gap b.0 b.1 f.1 g b.4 (to_document more next b.1 f.1 b.5 f.4))
 
--- from the production to the lines
-abbrev LineThen : List ℕ → List ℕ → List NtTriple → Type 0
-LineThen line text ts = (lines : List (List ℕ)) × (slice_split is_break text ≡ line ∷ lines) × AreLines lines ts
+-- from the production to the lines: whatever line goes on into the text ends there, and these lines follow
+abbrev GoesOn : List ℕ → List NtTriple → Type 0
+GoesOn tail ts =
+    Ends tail × (lines : List (List ℕ)) × AreLines lines ts × ((line : List ℕ) → IsInLine line → slice_split is_break (line ++ tail) ≡ line ∷ lines)
 
-eol_lines : (gaps : List (List ℕ)) (line eol rest : List ℕ) (ts : List NtTriple) → IsInLine line → IsEolOver gaps eol → DenotesText rest ts → LineThen line (line ++ (eol ++ rest)) ts
-eol_lines [] line eol rest ts l e h = (slice_split is_break rest, ap (λ z. slice_split is_break (line ++ (z ++ rest))) e.1 ∙ line_before line e.0 rest l e.2, h)
-eol_lines (gap ∷ gaps) line eol rest ts l (k, left, whole, b, g, e) h =
-    let w = eol_lines gaps gap left rest ts g.0 e h in
-    let parts : line ++ (eol ++ rest) ≡ line ++ k ∷ (gap ++ (left ++ rest)) = ap (λ z. line ++ (z ++ rest)) whole ∙ ap (λ z. line ++ k ∷ z) (append_assoc gap left rest) in
-    let cuts = line_before line k (gap ++ (left ++ rest)) l b in
-    (gap ∷ w.0, ap (slice_split is_break) parts ∙ (cuts ∙ ap (λ z. line ∷ z) w.1), inl (g.1, w.2))
+eol_goes_on : (gaps : List (List ℕ)) (eol rest : List ℕ) (ts : List NtTriple) → IsEolOver gaps eol → DenotesText rest ts → GoesOn (eol ++ rest) ts
+eol_goes_on [] eol rest ts (k, whole, b) h = rw whole (b, slice_split is_break rest, h, λ line l. line_before line k rest l b)
+eol_goes_on (gap ∷ gaps) eol rest ts (k, left, whole, b, g, e) h =
+    let (ends, lines, are, cuts) = eol_goes_on gaps left rest ts e h in
+    let parts : eol ++ rest ≡ k ∷ (gap ++ (left ++ rest)) = ap (λ z. z ++ rest) whole ∙ ap (λ z. k ∷ z) (append_assoc gap left rest) in
+    rw parts (b, gap ∷ lines, inl (g.1, are), λ line l. line_before line k (gap ++ (left ++ rest)) l b ∙ ap (λ z. line ∷ z) (cuts gap g.0))
 
--- a line at the front, which has its triple or none
-to_lines : (us : List NtTriple) (line b c : List ℕ) (ts : List NtTriple) → IsInLine line → AreFurther b us → IsEnd c
-    → ((lines : List (List ℕ)) → AreLines lines us → AreLines (line ∷ lines) ts) → DenotesText (line ++ (b ++ c)) ts
-to_lines [] line b c ts l h (inl e) front =
-    let parts : line ++ (b ++ c) ≡ line = ap (λ z. line ++ (z ++ c)) h ∙ (ap (λ z. line ++ z) e ∙ append-nil line) in
-    subst (λ (z : List (List ℕ)). AreLines z ts) (sym (ap (slice_split is_break) parts ∙ line_alone line l)) (front [] refl)
-to_lines [] line b c ts l h (inr (eol, gap, whole, e, g)) front =
-    let last = subst (λ (z : List (List ℕ)). AreLines z []) (sym (line_alone gap g.0)) (inl (g.1, refl)) in
-    let w = eol_lines e.0 line eol gap [] l e.1 last in
-    let parts : line ++ (b ++ c) ≡ line ++ (eol ++ gap) = ap (λ z. line ++ (z ++ c)) h ∙ ap (λ z. line ++ z) whole in
-    subst (λ (z : List (List ℕ)). AreLines z ts) (sym (ap (slice_split is_break) parts ∙ w.1)) (front w.0 w.2)
-to_lines (t ∷ us) line b c ts l (eol, part, rest, whole, e, h, more) d front =
-    let left = to_lines us part rest c (t ∷ us) h.0 more d (λ lines f. inr (t, us, refl, h.1, f)) in
-    let w = eol_lines e.0 line eol (part ++ (rest ++ c)) (t ∷ us) l e.1 left in
-    let parts : line ++ (b ++ c) ≡ line ++ (eol ++ (part ++ (rest ++ c))) =
-    ap (λ z. line ++ (z ++ c)) whole ∙ ap (λ z. line ++ z) (append_assoc eol (part ++ rest) c ∙ ap (λ z. eol ++ z) (append_assoc part rest c)) in
-    subst (λ (z : List (List ℕ)). AreLines z ts) (sym (ap (slice_split is_break) parts ∙ w.1)) (front w.0 w.2)
+-- a gap on the line, and what goes on behind the line
+abbrev Left : List ℕ → List NtTriple → Type 0
+Left text ts = (gap tail : List ℕ) × (text ≡ gap ++ tail) × IsGap gap × GoesOn tail ts
 
-first_lines : (first : Option NtTriple) (us : List NtTriple) (a b c : List ℕ) → IsFirst a first → AreFurther b us → IsEnd c → DenotesText (a ++ (b ++ c)) (option_to_list first ++ us)
-first_lines None us a b c f h d = to_lines us a b c us f.0 h d (λ lines g. inl (f.1, g))
-first_lines (Some t) us a b c f h d = to_lines us a b c (t ∷ us) f.0 h d (λ lines g. inr (t, us, refl, f.1, g))
+gap_left : (gap : List ℕ) → IsGap gap → Left gap []
+gap_left gap g = (gap, [], sym (append-nil gap), g, (tt, [], refl, λ line l. ap (slice_split is_break) (append-nil line) ∙ line_alone line l))
+
+eol_left : (text rest : List ℕ) (ts : List NtTriple) → TakesEol text rest → DenotesText rest ts → Left text ts
+eol_left text rest ts (gap, eol, whole, g, e) h = (gap, eol ++ rest, whole, g, eol_goes_on e.0 eol rest ts e.1 h)
+
+left_idle : (text : List ℕ) (ts : List NtTriple) → Left text ts → DenotesText text ts
+left_idle text ts (gap, tail, whole, g, (ends, lines, are, cuts)) =
+    subst (λ (z : List (List ℕ)). AreLines z ts) (sym (ap (slice_split is_break) whole ∙ cuts gap g.0)) (inl (g.1, are))
+
+left_triple : (t : NtTriple) (text after : List ℕ) (ts : List NtTriple) → TakesTriple t text after → Left after ts → DenotesText text (t ∷ ts)
+left_triple t text after ts f (gap, tail, whole, g, (ends, lines, are, cuts)) =
+    let (line, parts, l, h) = triple_down t text gap tail g (subst (λ (z : List ℕ). TakesTriple t text z) whole f) in
+    subst (λ (z : List (List ℕ)). AreLines z (t ∷ ts)) (sym (ap (slice_split is_break) parts ∙ cuts line l)) (inr (t, ts, refl, h, are))
+
+further_left : (ts : List NtTriple) (text b : List ℕ) → TakesFurther ts text b → IsEnd b → Left text ts
+further_left [] text b h (inl d) = subst (λ (z : List ℕ). Left z []) (sym h) (gap_left b d)
+further_left [] text b h (inr d) = subst (λ (z : List ℕ). Left z []) (sym h) (eol_left b d.0 [] d.1 (left_idle d.0 [] (gap_left d.0 d.2)))
+further_left (t ∷ ts) text b (x, y, e, f, h) d = eol_left text x (t ∷ ts) e (left_triple t x y ts f (further_left ts y b h d))
+
+first_lines : (first : Option NtTriple) (ts : List NtTriple) (text a : List ℕ) → TakesFirst first text a → Left a ts
+    → DenotesText text (option_to_list first ++ ts)
+first_lines None ts text a f h = left_idle text ts (subst (λ (z : List ℕ). Left z ts) (sym f) h)
+first_lines (Some t) ts text a f h = left_triple t text a ts f h
 
 from_document : (text : List ℕ) (ts : List NtTriple) → IsDocument text ts → DenotesText text ts
-from_document text ts (first, further, a, b, c, whole, all, f, h, d) =
-    subst (λ (z : List ℕ). DenotesText z ts) (sym whole) (subst (λ (z : List NtTriple). DenotesText (a ++ (b ++ c)) z) (sym all) (first_lines first further a b c f h d))
+from_document text ts (first, further, a, b, all, f, h, d) =
+    subst (λ (z : List NtTriple). DenotesText text z) (sym all) (first_lines first further text a f (further_left further a b h d))
 
 -- the law
 pub document_is_the_grammars : (text : List ℕ) (ts : List NtTriple) → DenotesText text ts ↔ IsDocument text ts

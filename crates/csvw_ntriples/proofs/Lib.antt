@@ -11,8 +11,10 @@ pub mod LabelParts
 pub mod LabelRuns
 pub mod Labels
 pub mod Lines
+pub mod OnLines
 pub mod Once
 pub mod Pieces
 pub mod Runs
 pub mod SameGraphs
 pub mod Spelled
+pub mod Unbroken

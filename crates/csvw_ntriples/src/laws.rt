@@ -15,8 +15,8 @@ pub fn labels_differ()
     ensures { LabelsDiffer }
 {}
 
-/// The documents, which are read line by line, are those of the production `ntriplesDoc`, with the same
-/// triples (RDF 1.1 N-Triples, section 7).
+/// A text denotes triples, line by line, exactly where it is a document of them by the production
+/// `ntriplesDoc` (RDF 1.1 N-Triples, section 7).
 pub fn document_is_the_grammars()
     ensures { (text : List ℕ) (ts : List NtTriple) → DenotesText text ts ↔ IsDocument text ts }
 {}
