@@ -4,14 +4,17 @@ pub mod Composed
 pub mod Cutting
 pub mod Decoded
 pub mod Denoted
+pub mod Documents
 pub mod EscapeLemmas
 pub mod Hex
 pub mod LabelParts
 pub mod LabelRuns
 pub mod Labels
 pub mod Lines
+pub mod OnLines
 pub mod Once
 pub mod Pieces
 pub mod Runs
 pub mod SameGraphs
 pub mod Spelled
+pub mod Unbroken

@@ -69,7 +69,7 @@ AreLines (line ∷ lines) ts =
     (IsIdle line × AreLines lines ts)
     ⊎ ((t : NtTriple) × (rest : List NtTriple) × (ts ≡ t ∷ rest) × IsTripleLine line t × AreLines lines rest)
 
--- No terminal holds a CR or LF, so a document is its lines, and the empty ones make no difference.
+-- No terminal holds a CR or LF, so a document is its lines, and the empty ones make no difference. Document has the production.
 abbrev pub DenotesText : List ℕ → List NtTriple → Type 0
 DenotesText text ts = AreLines (slice_split is_break text) ts
 

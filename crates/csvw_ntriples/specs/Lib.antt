@@ -1,4 +1,5 @@
 pub mod Character
+pub mod Document
 pub mod Escape
 pub mod Grammar
 pub mod LabelLaw

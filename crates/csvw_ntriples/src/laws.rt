@@ -1,9 +1,10 @@
 //! Laws about what is written and read.
-ghost use Rattle.std.specs.Prelude.{◌≡◌, List, ℕ, map, Contains};
+ghost use Rattle.std.specs.Prelude.{◌≡◌, ◌↔◌, List, ℕ, map, Contains};
 ghost use Rattle.std.specs.List.{AllByRecursion};
 ghost use Rattle.csvw_triples_core.specs.declared.term.Triple.{Triple};
 ghost use Rattle.csvw_ntriples.specs.LabelLaw.{LabelsDiffer};
-ghost use Rattle.csvw_ntriples.specs.Grammar.{Denotes};
+ghost use Rattle.csvw_ntriples.specs.Document.{IsDocument};
+ghost use Rattle.csvw_ntriples.specs.Grammar.{Denotes, DenotesText};
 ghost use Rattle.csvw_ntriples.specs.declared.term.NtTriple.{NtTriple};
 ghost use Rattle.csvw_ntriples.specs.SameUpTo.{SameUpTo};
 ghost use Rattle.csvw_ntriples.specs.Written.{written, said};
@@ -12,6 +13,12 @@ ghost use Rattle.csvw_ntriples.specs.Writable.{TripleFits};
 /// Different origins have different labels.
 pub fn labels_differ()
     ensures { LabelsDiffer }
+{}
+
+/// A text denotes triples, line by line, exactly where it is a document of them by the production
+/// `ntriplesDoc` (RDF 1.1 N-Triples, section 7).
+pub fn document_is_the_grammars()
+    ensures { (text : List ℕ) (ts : List NtTriple) → DenotesText text ts ↔ IsDocument text ts }
 {}
 
 /// A text denotes one list of triples at most (RDF 1.1 N-Triples, section 7).
