@@ -210,3 +210,10 @@ SettlesHead plan old new result = (new ≡ record old { head = new.head }) × Se
 
 abbrev pub SettlesTable : TablePlan → Table → Table → Result Unit Halt → Type 0
 SettlesTable plan old new result = ((columns : Columns) × (old.head.columns ≡ Some columns) × (new ≡ old) × (result ≡ Ok tt)) ⊎ ((old.head.columns ≡ None) × SettlesHead plan old new result)
+
+-- what is wrong with the header of the table, and with its cells so far
+abbrev pub header_faults_of : Table → List Fault
+header_faults_of t = t.head.faults
+
+abbrev pub faults_of : Table → List Fault
+faults_of t = t.faults

@@ -3,7 +3,7 @@ ghost use Rattle.std.specs.Prelude.{◌≡◌, ◌++◌, ◌∷◌, [], length, 
 ghost use Rattle.csvw_dialect.specs.Lawful.{IsLawful};
 ghost use Rattle.csvw_engine_core.specs.Faults.{cell_faults, row_faults, table_faults};
 ghost use Rattle.csvw_columns.specs.Ready.{IsReady};
-ghost use Rattle.csvw_engine_core.specs.Tables.{IsNewTable, Steps, RowFits, SettlesTable, is_ended};
+ghost use Rattle.csvw_engine_core.specs.Tables.{IsNewTable, Steps, RowFits, SettlesTable, faults_of, header_faults_of, is_ended};
 
 use crate::halt::Halt;
 use crate::head::Head;
@@ -82,6 +82,15 @@ pub(crate) fn next_row(plan: &TablePlan, table: &mut Table, spare: Row) -> Resul
     }
 }
 
+fn add_all(faults: &mut Seq<Fault>, more: &[Fault]) -> Result<(), AllocError>
+    ensures { OnOk result (faults.new ≡ faults.old ++ more.now) }
+{
+    for fault in more {
+        faults.push(*fault)?;
+    }
+    Ok(())
+}
+
 /// Tells what is wrong with a cell.
 fn tell_cell(faults: &mut Seq<Fault>, place: Place, codes: &[Code]) -> Result<(), AllocError>
     ensures { OnOk result (faults.new ≡ faults.old ++ cell_faults place codes.now) }
@@ -118,6 +127,14 @@ fn tell_row(
 }
 
 impl Table {
+    /// Adds what is wrong with its header, and then with its cells so far.
+    pub fn list_faults(&self, faults: &mut Seq<Fault>) -> Result<(), AllocError>
+        ensures { OnOk result (faults.new ≡ faults.old ++ header_faults_of self.now ++ faults_of self.now) }
+    {
+        add_all(faults, self.head.faults.as_slice())?;
+        add_all(faults, self.faults.as_slice())
+    }
+
     /// Tells what is wrong with the cells of a row.
     pub(crate) fn tell(&mut self, row: &Row) -> Result<(), AllocError>
         requires { RowFits self.old.head.columns row.now }

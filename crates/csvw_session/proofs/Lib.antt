@@ -1,0 +1,6 @@
+pub mod Checking
+pub mod Feeding
+pub mod Lists
+pub mod Standing
+pub mod Starting
+pub mod Texts

@@ -1,0 +1,8 @@
+pub mod Events
+pub mod Faults
+pub mod Finishing
+pub mod Laws
+pub mod NewTables
+pub mod Ready
+pub mod Sessions
+pub mod Stops

@@ -1,0 +1,12 @@
+-- How a halt in the text of a table is told.
+use Rattle.std.specs.Prelude.{ℕ}
+use Rattle.csvw_engine_core.specs.declared.halt.Halt.{Halt}
+use Rattle.csvw_engine_core.specs.declared.halt.Halt.TheVariants as halt
+use Rattle.csvw_session.specs.declared.stop.Stop.{Stop}
+use Rattle.csvw_session.specs.declared.stop.Stop.TheVariants as stop
+
+abbrev pub stop_of : ℕ → Halt → Stop
+stop_of t halt.Memory = stop.Memory
+stop_of t halt.Write = stop.Write
+stop_of t (halt.Rows row reason) = stop.Rows t row reason
+stop_of t (halt.Table row reason) = stop.Table t row reason

@@ -1,0 +1,236 @@
+//! A session over the tables of a plan.
+ghost use Rattle.std.specs.Prelude.{◌≡◌, ◌↔◌, ◌⊎◌, ◌<◌, ◌+◌, length, ◌++◌, IsTrue, IfOk, IfErr, OnOk, MatchOption};
+ghost use Rattle.std.specs.List.{list_all};
+ghost use Rattle.csvw_engine_core.specs.Tables.{is_ended};
+ghost use Rattle.csvw_session.specs.Faults.{all_faults};
+ghost use Rattle.csvw_session.specs.Ready.{AreReady, AreReady-prop};
+ghost use Rattle.csvw_session.specs.NewTables.{AreNew};
+
+use crate::state::State;
+use crate::stop::Stop;
+use csvw_columns::{Plan, TablePlan};
+use csvw_engine_core::{Table, end_table, feed_table};
+use csvw_report::{Outcome, sorted};
+use csvw_text::{Fault, Seq};
+use csvw_triples::{Mode, TripleSink};
+use std::alloc::{AllocError, Global};
+
+/// Tables that come in pieces, and a sink for their triples.
+#[derive(Drop)]
+pub struct Session<S> {
+    alloc: Global,
+    plan: Plan,
+    mode: Mode,
+    tables: Vec<Table>,
+    sink: S,
+    state: State,
+    ghost many: { length tables.items ≡ length plan.tables },
+    ghost ready: { AreReady plan.tables } by { AreReady-prop plan.tables },
+}
+
+/// A session that did not start, and its sink.
+#[derive(Drop)]
+pub struct Refused<S> {
+    /// Why.
+    pub stop: Stop,
+    /// The sink that was handed in, which may have taken a part of the opening.
+    pub sink: S,
+}
+
+/// The states of tables of whose texts nothing was read.
+fn new_tables(alloc: Global, plans: &[TablePlan], mode: Mode) -> Result<Vec<Table>, AllocError>
+    requires { AreReady plans.now }
+    ensures { IfOk result (λ v. AreNew mode plans.now v.items) }
+{
+    let mut tables = Vec::new(alloc);
+    for plan in plans {
+        tables.push(Table::new(alloc, plan, mode)?)?;
+    }
+    Ok(tables)
+}
+
+fn all_ended(tables: &[Table]) -> bool
+    ensures { result ≡ list_all is_ended tables.now }
+{
+    tables.iter().all(|table| table.is_ended())
+}
+
+fn list_warnings(warnings: &[Fault], faults: &mut Seq<Fault>) -> Result<(), AllocError>
+    ensures { OnOk result (faults.new ≡ faults.old ++ warnings.now) }
+{
+    for warning in warnings {
+        faults.push(*warning)?;
+    }
+    Ok(())
+}
+
+fn list_faults(tables: &[Table], faults: &mut Seq<Fault>) -> Result<(), AllocError>
+    ensures { OnOk result (faults.new ≡ faults.old ++ all_faults tables.now) }
+{
+    for table in tables {
+        table.list_faults(faults)?;
+    }
+    Ok(())
+}
+
+/// The place from 0 of table t, from 1; `None` where there is none.
+fn place_of(t: u32, count: usize) -> Option<usize>
+    ensures { MatchOption result ((t ≡ 0) ⊎ (count < t)) (λ i. (i + 1 ≡ t) × (i < count)) }
+{
+    if t == 0 {
+        return None;
+    }
+    if t as usize > count {
+        return None;
+    }
+    Some(t as usize - 1)
+}
+
+impl<S: TripleSink> Session<S> {
+    ghost use Rattle.csvw_session.specs.Events.{Feed, End};
+    ghost use Rattle.csvw_session.specs.Sessions.{Checks, Starts, Takes};
+    ghost use Rattle.csvw_session.specs.Finishing.{Finishes};
+
+    /// A session over the tables of a plan as `Plan::build` gives it, of whose texts nothing was read. `Refused` with `Memory`
+    /// where there is none, and the sink as it was handed in.
+    pub fn start(alloc: Global, plan: Plan, mode: Mode, sink: S) -> Result<Session<S>, Refused<S>>
+        requires { AreReady plan.tables }
+        ensures stands { IfOk result (λ s. Starts S.gains S.is_open S.failed plan mode sink s) }
+        ensures refused { IfErr result (λ r. (r.stop ≡ Stop.Memory) × (r.sink ≡ sink)) }
+    {
+        match new_tables(alloc, plan.tables(), mode) {
+            Ok(tables) => Ok(Session {
+                alloc,
+                plan,
+                mode,
+                tables,
+                sink,
+                state: State::Open,
+            }),
+            Err(_) => Err(Refused {
+                stop: Stop::Memory,
+                sink,
+            }),
+        }
+    }
+
+    fn is_failed(&self) -> bool
+        ensures { IsTrue result ↔ (self.now.state ≡ State.Failed) }
+    {
+        self.state == State::Failed
+    }
+
+    fn is_finished(&self) -> bool
+        ensures { IsTrue result ↔ (self.now.state ≡ State.Finished) }
+    {
+        self.state == State::Finished
+    }
+
+    /// Whether table t takes an event now; its place from 0.
+    fn check(&self, t: u32) -> Result<usize, Stop>
+        ensures { Checks self.now t result }
+    {
+        if self.is_failed() {
+            return Err(Stop::Failed);
+        }
+        let Some(i) = place_of(t, self.tables.len()) else {
+            return Err(Stop::UnknownTable);
+        };
+        if self.is_finished() {
+            return Err(Stop::AfterEnd);
+        }
+        if self.tables[i].is_ended() {
+            return Err(Stop::AfterEnd);
+        }
+        Ok(i)
+    }
+
+    /// Takes a piece of table `t`, numbered from 1, and gives each row that is complete.
+    pub fn feed(&mut self, t: u32, piece: &[u8]) -> Result<(), Stop>
+        ensures takes { Takes S.gains S.is_open S.failed self.old self.new t (Feed t piece.now) result }
+        ensures same { (self.new.plan ≡ self.old.plan) × (self.new.mode ≡ self.old.mode) }
+    {
+        let i = self.check(t)?;
+        self.state = State::Failed;
+        let plans = self.plan.tables();
+        match feed_table(&plans[i], &mut self.tables[i], piece, &mut self.sink) {
+            Ok(()) => {
+                self.state = State::Open;
+                Ok(())
+            }
+            Err(halt) => Err(Stop::of_halt(t, halt)),
+        }
+    }
+
+    /// Takes the end of table `t`, numbered from 1, and gives each row that is left.
+    pub fn end(&mut self, t: u32) -> Result<(), Stop>
+        ensures takes { Takes S.gains S.is_open S.failed self.old self.new t (End t) result }
+        ensures same { (self.new.plan ≡ self.old.plan) × (self.new.mode ≡ self.old.mode) }
+    {
+        let i = self.check(t)?;
+        self.state = State::Failed;
+        let plans = self.plan.tables();
+        match end_table(&plans[i], &mut self.tables[i], &mut self.sink) {
+            Ok(()) => {
+                self.state = State::Open;
+                Ok(())
+            }
+            Err(halt) => Err(Stop::of_halt(t, halt)),
+        }
+    }
+
+    /// The warnings of the plan, and what is wrong with the tables.
+    fn faults(&self) -> Result<Seq<Fault>, AllocError>
+        ensures { IfOk result (λ faults. faults ≡ self.now.plan.warnings ++ all_faults self.now.tables.items) }
+    {
+        let mut faults = Seq::new(self.alloc);
+        list_warnings(self.plan.warnings(), &mut faults)?;
+        list_faults(self.tables.as_slice(), &mut faults)?;
+        Ok(faults)
+    }
+
+    /// Finishes the session, where each table was ended: its faults, in order.
+    pub fn finish(&mut self) -> Result<Outcome, Stop>
+        ensures { Finishes self.old self.new result }
+    {
+        if self.is_failed() {
+            return Err(Stop::Failed);
+        }
+        if self.is_finished() {
+            return Err(Stop::AfterEnd);
+        }
+        if !all_ended(self.tables.as_slice()) {
+            return Err(Stop::NotEnded);
+        }
+        let Ok(faults) = self.faults() else {
+            self.state = State::Failed;
+            return Err(Stop::Memory);
+        };
+        self.state = State::Finished;
+        Ok(Outcome {
+            faults: sorted(faults),
+        })
+    }
+
+    /// The sink.
+    pub fn sink(&self) -> &S
+        ensures { result.now ≡ self.now.sink }
+    {
+        &self.sink
+    }
+
+    /// The sink, where no more events come.
+    pub fn into_sink(self) -> S
+        ensures { result ≡ self.sink }
+    {
+        let Session {
+            alloc: _,
+            plan: _,
+            mode: _,
+            tables: _,
+            sink,
+            state: _,
+        } = self;
+        sink
+    }
+}
