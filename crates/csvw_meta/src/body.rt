@@ -17,14 +17,14 @@ use csvw_text::{Fault, Seq};
 use std::alloc::AllocError;
 
 /// The dialect of an object, and the warnings on it and on the object.
-#[derive(Debug, Drop)]
+#[derive(Drop)]
 pub(crate) struct DialectGiven {
     pub(crate) dialect: Option<Dialect>,
     pub(crate) warnings: Seq<Fault>,
 }
 
 /// The schema of an object, and its inherited properties.
-#[derive(Debug, Drop)]
+#[derive(Drop)]
 pub(crate) struct Body {
     pub(crate) schema: Option<Schema>,
     pub(crate) inherited: Inherited,

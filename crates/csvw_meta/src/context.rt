@@ -12,7 +12,7 @@ use csvw_text::LanguageTag;
 use serde_json::{Map, Value};
 
 /// What the context of a document says.
-#[derive(Debug, Drop)]
+#[derive(Drop)]
 pub(crate) struct Context {
     /// What the document's URLs are resolved against.
     pub(crate) base: Base,

@@ -19,7 +19,7 @@ use csvw_text::{Fault, Seq, Text};
 use serde_json::Value;
 
 /// A dialect, and the warnings on it.
-#[derive(Debug, Drop)]
+#[derive(Drop)]
 pub(crate) struct DialectFound {
     pub(crate) dialect: Dialect,
     /// One for each property of it that is ignored.

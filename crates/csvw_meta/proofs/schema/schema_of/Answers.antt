@@ -1,0 +1,69 @@
+-- A fault of each part is told, behind those that have none.
+use Rattle.serde_json.specs.View.{view}
+use Rattle.csvw_meta_core.specs.Pointer.{text_of}
+use Rattle.csvw_meta.specs.Schema.{schema_of}
+use Rattle.csvw_meta.proofs.ReadLemmas.{fails_first, later, refused}
+use Rattle.csvw_meta.proofs.schema.schema_of.Goals as goal
+
+pub returns-in_err-optional : goal.returns-in_err-optional
+unfolding schema_of
+returns-in_err-optional c =
+    refused c.from_residual.result c.in_err-optional.field-0.0
+    (schema_of c.args.context.now c.args.table (text_of c.args.part.now.at) (view c.args.part.now.value.now)) c.from_residual.ensures.1
+    (fails_first _ _ _ c.in_err-optional.ensures)
+
+pub returns-in_err-optional-2 : goal.returns-in_err-optional-2
+unfolding schema_of
+returns-in_err-optional-2 c =
+    refused c.from_residual-in_err-optional-2.result c.in_err-optional-2.field-0.0
+    (schema_of c.args.context.now c.args.table (text_of c.args.part.now.at) (view c.args.part.now.value.now)) c.from_residual-in_err-optional-2.ensures.1
+    (later _ _ _ _ c.in_ok-optional.ensures (fails_first _ _ _ c.in_err-optional-2.ensures))
+
+pub returns-in_err-optional-3 : goal.returns-in_err-optional-3
+unfolding schema_of
+returns-in_err-optional-3 c =
+    refused c.from_residual-in_err-optional-3.result c.in_err-optional-3.field-0.0
+    (schema_of c.args.context.now c.args.table (text_of c.args.part.now.at) (view c.args.part.now.value.now)) c.from_residual-in_err-optional-3.ensures.1
+    (later _ _ _ _ c.in_ok-optional.ensures (later _ _ _ _ c.in_ok-optional-2.ensures (fails_first _ _ _ c.in_err-optional-3.ensures)))
+
+pub returns-in_err-optional-4 : goal.returns-in_err-optional-4
+unfolding schema_of
+returns-in_err-optional-4 c =
+    refused c.from_residual-in_err-optional-4.result c.in_err-optional-4.field-0.0
+    (schema_of c.args.context.now c.args.table (text_of c.args.part.now.at) (view c.args.part.now.value.now)) c.from_residual-in_err-optional-4.ensures.1
+    (later _ _ _ _ c.in_ok-optional.ensures (later _ _ _ _ c.in_ok-optional-2.ensures (later _ _ _ _ c.in_ok-optional-3.ensures (
+    fails_first _ _ _ c.in_err-optional-4.ensures))))
+
+pub returns-in_err-optional-5 : goal.returns-in_err-optional-5
+unfolding schema_of
+returns-in_err-optional-5 c =
+    refused c.from_residual-in_err-optional-5.result c.in_err-optional-5.field-0.0
+    (schema_of c.args.context.now c.args.table (text_of c.args.part.now.at) (view c.args.part.now.value.now)) c.from_residual-in_err-optional-5.ensures.1
+    (later _ _ _ _ c.in_ok-optional.ensures (later _ _ _ _ c.in_ok-optional-2.ensures (later _ _ _ _ c.in_ok-optional-3.ensures (
+    later _ _ _ _ c.in_ok-optional-4.ensures (fails_first _ _ _ c.in_err-optional-5.ensures)))))
+
+pub returns-in_err-warnings : goal.returns-in_err-warnings
+unfolding schema_of
+returns-in_err-warnings c =
+    refused c.from_residual-in_err-warnings.result c.in_err-warnings.field-0.0
+    (schema_of c.args.context.now c.args.table (text_of c.args.part.now.at) (view c.args.part.now.value.now)) c.from_residual-in_err-warnings.ensures.1
+    (later _ _ _ _ c.in_ok-optional.ensures (later _ _ _ _ c.in_ok-optional-2.ensures (later _ _ _ _ c.in_ok-optional-3.ensures (
+    later _ _ _ _ c.in_ok-optional-4.ensures (later _ _ _ _ c.in_ok-optional-5.ensures (fails_first _ _ _ c.in_err-warnings.ensures))))))
+
+pub returns-in_err-columns : goal.returns-in_err-columns
+unfolding schema_of
+returns-in_err-columns c =
+    refused c.from_residual-in_err-columns.result c.in_err-columns.field-0.0
+    (schema_of c.args.context.now c.args.table (text_of c.args.part.now.at) (view c.args.part.now.value.now)) c.from_residual-in_err-columns.ensures.1
+    (later _ _ _ _ c.in_ok-optional.ensures (later _ _ _ _ c.in_ok-optional-2.ensures (later _ _ _ _ c.in_ok-optional-3.ensures (
+    later _ _ _ _ c.in_ok-optional-4.ensures (later _ _ _ _ c.in_ok-optional-5.ensures (later _ _ _ _ c.in_ok-warnings.ensures (
+    fails_first _ _ _ (rw c.new.ensures at c.in_err-columns.ensures))))))))
+
+pub returns-in_err-inherited : goal.returns-in_err-inherited
+unfolding schema_of
+returns-in_err-inherited c =
+    refused c.from_residual-in_err-inherited.result c.in_err-inherited.field-0.0
+    (schema_of c.args.context.now c.args.table (text_of c.args.part.now.at) (view c.args.part.now.value.now)) c.from_residual-in_err-inherited.ensures.1
+    (later _ _ _ _ c.in_ok-optional.ensures (later _ _ _ _ c.in_ok-optional-2.ensures (later _ _ _ _ c.in_ok-optional-3.ensures (
+    later _ _ _ _ c.in_ok-optional-4.ensures (later _ _ _ _ c.in_ok-optional-5.ensures (later _ _ _ _ c.in_ok-warnings.ensures (
+    later _ _ _ _ (rw c.new.ensures at c.in_ok-columns.ensures) (fails_first _ _ _ c.in_err-inherited.ensures))))))))

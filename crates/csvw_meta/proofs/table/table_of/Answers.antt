@@ -1,0 +1,55 @@
+-- A fault of each part is told, behind those that have none.
+use Rattle.serde_json.specs.View.{view}
+use Rattle.csvw_meta_core.specs.Pointer.{text_of}
+use Rattle.csvw_meta_core.specs.Links.{no_url}
+use Rattle.csvw_meta.specs.Table.{table_of}
+use Rattle.csvw_meta.proofs.ReadLemmas.{fails_first, later, refused}
+use Rattle.csvw_meta.proofs.table.table_of.Goals as goal
+
+pub returns-in_err-optional : goal.returns-in_err-optional
+unfolding table_of
+returns-in_err-optional c =
+    refused c.from_residual.result c.in_err-optional.field-0.0
+    (table_of c.args.context.now c.args.sole c.args.number (text_of c.args.part.now.at) (view c.args.part.now.value.now)) c.from_residual.ensures.1
+    (fails_first _ _ _ c.in_err-optional.ensures)
+
+pub returns-in_err-optional-2 : goal.returns-in_err-optional-2
+unfolding table_of
+returns-in_err-optional-2 c =
+    refused c.from_residual-in_err-optional-2.result c.in_err-optional-2.field-0.0
+    (table_of c.args.context.now c.args.sole c.args.number (text_of c.args.part.now.at) (view c.args.part.now.value.now))
+    c.from_residual-in_err-optional-2.ensures.1
+    (later _ _ _ _ c.in_ok-optional.ensures (fails_first _ _ _ c.in_err-optional-2.ensures))
+
+pub returns-in_err-optional-3 : goal.returns-in_err-optional-3
+unfolding table_of
+returns-in_err-optional-3 c =
+    refused c.from_residual-in_err-optional-3.result c.in_err-optional-3.field-0.0
+    (table_of c.args.context.now c.args.sole c.args.number (text_of c.args.part.now.at) (view c.args.part.now.value.now))
+    c.from_residual-in_err-optional-3.ensures.1
+    (later _ _ _ _ c.in_ok-optional.ensures (later _ _ _ _ c.in_ok-optional-2.ensures (fails_first _ _ _ c.in_err-optional-3.ensures)))
+
+pub returns-in_err-warnings : goal.returns-in_err-warnings
+unfolding table_of
+returns-in_err-warnings c =
+    refused c.from_residual-in_err-warnings.result c.in_err-warnings.field-0.0
+    (table_of c.args.context.now c.args.sole c.args.number (text_of c.args.part.now.at) (view c.args.part.now.value.now))
+    c.from_residual-in_err-warnings.ensures.1
+    (later _ _ _ _ c.in_ok-optional.ensures (later _ _ _ _ c.in_ok-optional-2.ensures (later _ _ _ _ c.in_ok-optional-3.ensures (
+    fails_first _ _ _ c.in_err-warnings.ensures))))
+
+pub returns-in_err-url : goal.returns-in_err-url
+unfolding table_of
+returns-in_err-url c =
+    refused c.from_residual-in_err-url.result c.in_err-url.field-0.0
+    (table_of c.args.context.now c.args.sole c.args.number (text_of c.args.part.now.at) (view c.args.part.now.value.now)) c.from_residual-in_err-url.ensures.1
+    (later _ _ _ _ c.in_ok-optional.ensures (later _ _ _ _ c.in_ok-optional-2.ensures (later _ _ _ _ c.in_ok-optional-3.ensures (
+    later _ _ _ _ c.in_ok-warnings.ensures (fails_first _ _ _ (c.in_err-url.ensures no_url))))))
+
+pub returns-in_err-id : goal.returns-in_err-id
+unfolding table_of
+returns-in_err-id c =
+    refused c.from_residual-in_err-id.result c.in_err-id.field-0.0
+    (table_of c.args.context.now c.args.sole c.args.number (text_of c.args.part.now.at) (view c.args.part.now.value.now)) c.from_residual-in_err-id.ensures.1
+    (later _ _ _ _ c.in_ok-optional.ensures (later _ _ _ _ c.in_ok-optional-2.ensures (later _ _ _ _ c.in_ok-optional-3.ensures (
+    later _ _ _ _ c.in_ok-warnings.ensures (later _ _ _ _ (c.in_ok-url.ensures no_url) (fails_first _ _ _ c.in_err-id.ensures))))))
