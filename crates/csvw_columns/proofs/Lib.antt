@@ -5,3 +5,4 @@ pub mod PlanLemmas
 pub mod ReadyLemmas
 pub mod SoundLemmas
 pub mod KeyLemmas
+pub mod DescribedLemmas

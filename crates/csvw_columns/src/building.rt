@@ -1,7 +1,9 @@
 //! From a description to its plan.
-ghost use Rattle.std.specs.Prelude.{◌≡◌, [], IfOk, All};
+ghost use Rattle.std.specs.Prelude.{◌≡◌, ◌≢◌, [], IfOk, MatchOption, All};
+ghost use Rattle.csvw_columns.specs.Fit.{IsFitGroup};
 ghost use Rattle.csvw_columns.specs.Plannable.{Builds};
 ghost use Rattle.csvw_columns.specs.Ready.{IsReady};
+ghost use Rattle.csvw_meta_core.specs.declared.fault.MetaCode.TheVariants.{Memory};
 
 use crate::checks::fault_of;
 use crate::plan::Plan;
@@ -22,6 +24,16 @@ fn fault(alloc: Global, code: MetaCode) -> MetaFault
     }
 }
 
+/// Why a description's tables can't be read; `Memory` where there is none.
+fn refused(alloc: Global, description: &Description) -> Option<MetaCode>
+    ensures { MatchOption result (IsFitGroup description.now) (λ code. code ≢ Memory → IsFitGroup description.now → ⊥) }
+{
+    match fault_of(alloc, description) {
+        Ok(found) => found,
+        Err(_) => Some(MetaCode::Memory),
+    }
+}
+
 impl Plan {
     /// The plan of a description: each table with its own dialect and schema or those of its group, its columns with what
     /// they inherit, and its keys by numbers (Metadata Vocabulary for Tabular Data, sections 5.3 to 5.7). Where there is none,
@@ -32,12 +44,14 @@ impl Plan {
         ensures plan { Builds description result }
         ensures ready { IfOk result (λ plan. All IsReady plan.tables) }
     {
-        match fault_of(alloc, &description) {
-            Ok(None) => {}
-            Ok(Some(code)) => return Err(fault(alloc, code)),
-            Err(_) => return Err(fault(alloc, MetaCode::Memory)),
+        if let Some(code) = refused(alloc, &description) {
+            drop(description);
+            return Err(fault(alloc, code));
         }
-        let Ok(plan) = planned(alloc, description) else {
+        let mut description = description;
+        let plan = planned(alloc, &mut description);
+        drop(description);
+        let Ok(plan) = plan else {
             return Err(fault(alloc, MetaCode::Memory));
         };
         if !are_resolved(plan.tables.as_slice()) {

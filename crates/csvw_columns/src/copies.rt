@@ -2,6 +2,7 @@
 ghost use Rattle.std.specs.Prelude.{◌≡◌, IfOk};
 ghost use Rattle.csvw_columns_core.specs.HeaderColumns.{no_inherited};
 
+use crate::both::both;
 use csvw_description::Inherited;
 use csvw_text::copied_option;
 use std::alloc::{AllocError, Global};
@@ -13,17 +14,30 @@ pub(crate) fn copied_inherited(
 ) -> Result<Inherited, AllocError>
     ensures { IfOk result (λ i. i ≡ inherited.now) }
 {
+    let about_url = copied_option(alloc, &inherited.about_url);
+    let property_url = copied_option(alloc, &inherited.property_url);
+    let value_url = copied_option(alloc, &inherited.value_url);
+    let datatype = copied_option(alloc, &inherited.datatype);
+    let default = copied_option(alloc, &inherited.default);
+    let lang = copied_option(alloc, &inherited.lang);
+    let null = copied_option(alloc, &inherited.null);
+    let separator = copied_option(alloc, &inherited.separator);
+    let urls = both(both(about_url, property_url), both(value_url, datatype));
+    let texts = both(both(default, lang), both(null, separator));
+    let (urls, texts) = both(urls, texts)?;
+    let ((about_url, property_url), (value_url, datatype)) = urls;
+    let ((default, lang), (null, separator)) = texts;
     Ok(Inherited {
-        about_url: copied_option(alloc, &inherited.about_url)?,
-        property_url: copied_option(alloc, &inherited.property_url)?,
-        value_url: copied_option(alloc, &inherited.value_url)?,
-        datatype: copied_option(alloc, &inherited.datatype)?,
-        default: copied_option(alloc, &inherited.default)?,
-        lang: copied_option(alloc, &inherited.lang)?,
-        null: copied_option(alloc, &inherited.null)?,
+        about_url,
+        property_url,
+        value_url,
+        datatype,
+        default,
+        lang,
+        null,
         ordered: inherited.ordered,
         required: inherited.required,
-        separator: copied_option(alloc, &inherited.separator)?,
+        separator,
     })
 }
 

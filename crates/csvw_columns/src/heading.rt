@@ -6,8 +6,9 @@ ghost use Rattle.csvw_columns_core.specs.SchemaColumns.{column_limit, declared_c
 ghost use Rattle.csvw_columns.specs.HeaderMatch.{columns_of, header_columns, frame_of, IsWithin, GivesColumns, Matches};
 ghost use Rattle.csvw_columns.specs.Ready.{AreSound, IsReady};
 
+use crate::both::both;
 use crate::copies::copied_inherited;
-use crate::names::{are_distinct, names_of};
+use crate::names::are_named_apart;
 use crate::plan::TablePlan;
 use crate::table_stop::TableStop;
 use csvw_columns_core::{
@@ -21,11 +22,15 @@ use std::alloc::{AllocError, Global};
 fn frame_of(alloc: Global, plan: &TablePlan) -> Result<Frame, AllocError>
     ensures { IfOk result (λ f. f ≡ frame_of plan.now) }
 {
+    let url = plan.url.clone(alloc);
+    let schema = copied_inherited(alloc, &plan.schema);
+    let table = copied_inherited(alloc, &plan.table);
+    let (url, (schema, table)) = both(url, both(schema, table))?;
     Ok(Frame {
-        url: plan.url.clone(alloc)?,
+        url,
         skip_columns: plan.dialect.skip_columns,
-        schema: copied_inherited(alloc, &plan.schema)?,
-        table: copied_inherited(alloc, &plan.table)?,
+        schema,
+        table,
     })
 }
 
@@ -42,10 +47,11 @@ fn header_columns(
     ensures { IfOk result (λ cs. cs ≡ header_columns plan.now rows.now width) }
 {
     let descriptions = from_header(alloc, rows, width)?;
-    let defaults = Defaults::new(alloc)?;
-    let frame = frame_of(alloc, plan)?;
-    let columns = frame.declared_columns(alloc, &defaults, &plan.group, descriptions.as_slice())?;
-    Ok(columns)
+    let (defaults, frame) = both(Defaults::new(alloc), frame_of(alloc, plan))?;
+    let columns = frame.declared_columns(alloc, &defaults, &plan.group, descriptions.as_slice());
+    drop(frame);
+    drop(defaults);
+    columns
 }
 
 /// How many columns there are.
@@ -85,6 +91,21 @@ fn columns_of(
     Ok(plan.declared.clone(alloc)?)
 }
 
+/// The columns, with what they have of their table.
+fn in_table(alloc: Global, plan: &TablePlan, columns: Seq<Column>) -> Result<Columns, AllocError>
+    ensures { IfOk result (λ found. found ≡ record { columns = columns; url = plan.now.url; id = plan.now.id; suppressed = plan.now.suppressed }) }
+{
+    let url = plan.url.clone(alloc);
+    let id = copied_option(alloc, &plan.id);
+    let (url, id) = both(url, id)?;
+    Ok(Columns {
+        columns,
+        url,
+        id,
+        suppressed: plan.suppressed,
+    })
+}
+
 /// The columns of a table, once its header is known, and what is wrong with the header (Metadata Vocabulary for Tabular
 /// Data, sections 5.6 and 6.4; Model for Tabular Data, section 8): the columns that are declared, or where there are none,
 /// those that come from the header rows, or without header rows one for each field of the first data row, of which there
@@ -101,17 +122,12 @@ pub fn match_header(
     ensures sound { IfOk result (λ found. IsReady plan.now → AreSound found.0.columns) }
 {
     let columns = columns_of(alloc, plan, rows, width)?;
-    let names = names_of(alloc, columns.as_slice())?;
-    if !are_distinct(alloc, names)? {
+    if !are_named_apart(alloc, columns.as_slice())? {
         return Err(TableStop::DuplicateName);
     }
     let wanted = plan.dialect.header_row_count;
-    let faults = header_faults(alloc, plan.number, wanted, columns.as_slice(), rows)?;
-    let columns = Columns {
-        columns,
-        url: plan.url.clone(alloc)?,
-        id: copied_option(alloc, &plan.id)?,
-        suppressed: plan.suppressed,
-    };
+    let faults = header_faults(alloc, plan.number, wanted, columns.as_slice(), rows);
+    let columns = in_table(alloc, plan, columns);
+    let (columns, faults) = both(columns, faults)?;
     Ok((columns, faults.into_vec()))
 }

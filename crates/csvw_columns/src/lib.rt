@@ -1,11 +1,13 @@
 //! The plan of a group of tables: which columns each table has, and how its header fits them.
 #![tactic(auto)]
 
+mod both;
 mod building;
 mod checks;
 mod choices;
 mod copies;
 mod heading;
+pub mod laws;
 mod names;
 mod plan;
 mod planning;

@@ -4,7 +4,7 @@ ghost use Rattle.std.specs.Option.{option_copied};
 ghost use Rattle.std.specs.BTreeSet.{IsFromIterResult};
 ghost use Rattle.std.specs.Cmp.Lexicographic.{slice_cmp};
 ghost use Rattle.std.specs.Ordering.{nat_cmp};
-ghost use Rattle.csvw_columns.specs.Distinct.{AllDistinct};
+ghost use Rattle.csvw_columns.specs.Distinct.{AllDistinct, AreNamedApart};
 
 use csvw_columns_core::{Column, Columns};
 use csvw_description::Name;
@@ -23,7 +23,7 @@ pub fn by_name<'a>(columns: &'a Columns, name: &str) -> Option<&'a Column>
 }
 
 /// Copies of the names of columns.
-pub(crate) fn names_of(alloc: Global, columns: &[Column]) -> Result<Vec<Name>, AllocError>
+fn names_of(alloc: Global, columns: &[Column]) -> Result<Vec<Name>, AllocError>
     ensures { IfOk result (λ v. v.items ≡ map (λ c. c.name) columns.now) }
 {
     let mut names = Vec::new(alloc);
@@ -49,4 +49,12 @@ pub(crate) fn are_distinct(alloc: Global, names: Vec<Name>) -> Result<bool, Allo
     let count = names.len();
     let set = set_of(alloc, names)?;
     Ok(set.len() == count)
+}
+
+/// Whether no two columns have one name.
+pub(crate) fn are_named_apart(alloc: Global, columns: &[Column]) -> Result<bool, AllocError>
+    ensures { IfOk result (λ b. IsTrue b ↔ AreNamedApart columns.now) }
+{
+    let names = names_of(alloc, columns)?;
+    are_distinct(alloc, names)
 }

@@ -2,18 +2,20 @@
 ghost use Rattle.std.specs.Prelude.{◌≡◌, ◌≤◌, [], IfOk, IfSome, All, length, unwrap_or};
 ghost use Rattle.csvw_iri.specs.Link.{iri_of};
 ghost use Rattle.csvw_columns_core.specs.Inherited.{IsDefaults};
+ghost use Rattle.csvw_columns_core.specs.declared.declared.Frame.{Frame as TheFrame};
 ghost use Rattle.csvw_columns_core.specs.SchemaColumns.{column_limit, declared_columns};
 ghost use Rattle.csvw_columns.specs.Fit.{table_limit, IsFitDialect, IsFitSchema, IsFitTable, IsFitGroup};
 ghost use Rattle.csvw_columns.specs.Known.{IsKnown};
 ghost use Rattle.csvw_columns.specs.PlanOf.{dialect_of, no_schema, schema_of, targets_of, table_plan, table_plans, plan_of};
 
+use crate::both::both;
 use crate::choices::{dialect_of, schema_of};
 use crate::copies::{copied_inherited, no_inherited};
 use crate::plan::{Plan, TablePlan};
-use crate::references::{Targets, keys_of, targets_of};
+use crate::references::{Keys, Targets, keys_of, targets_of};
 use crate::warnings::unknown;
 use csvw_columns_core::{Column, Defaults, Frame};
-use csvw_description::{Description, Inherited, Schema, TableDescription};
+use csvw_description::{Description, Inherited, Note, Schema, TableDescription};
 use csvw_text::{Seq, copied_option};
 use std::alloc::{AllocError, Global};
 use std::mem;
@@ -65,12 +67,38 @@ fn frame_of(
     ensures { let inherited = (unwrap_or schema.now no_schema).inherited in
         IfOk result (λ f. f ≡ record { url = table.now.url; skip_columns = skip_columns; schema = inherited; table = table.now.inherited }) }
 {
+    let url = table.url.clone(alloc);
+    let schema = schema_inherited(alloc, schema);
+    let table = copied_inherited(alloc, &table.inherited);
+    let (url, (schema, table)) = both(url, both(schema, table))?;
     Ok(Frame {
-        url: table.url.clone(alloc)?,
+        url,
         skip_columns,
-        schema: schema_inherited(alloc, schema)?,
-        table: copied_inherited(alloc, &table.inherited)?,
+        schema,
+        table,
     })
+}
+
+/// What the columns have of their table, and the columns that a schema declares.
+fn framed(
+    alloc: Global,
+    group: &Description,
+    known: &Known,
+    table: &TableDescription,
+    skip_columns: u32,
+) -> Result<(Frame, Seq<Column>), AllocError>
+    requires defaults { IsDefaults known.now.defaults }
+    requires skipped { skip_columns ≤ column_limit }
+    requires limit { length (schema_of table.now.schema group.now.schema).columns ≤ column_limit }
+    ensures { let schema = schema_of table.now.schema group.now.schema in
+        let frame : TheFrame = record { url = table.now.url; skip_columns = skip_columns; schema = schema.inherited; table = table.now.inherited } in
+        IfOk result (λ p. (p.0 ≡ frame) × (p.1 ≡ declared_columns (iri_of table.now.url) skip_columns schema.inherited table.now.inherited
+        group.now.inherited schema.columns)) }
+{
+    let schema = schema_of(&table.schema, &group.schema);
+    let frame = frame_of(alloc, table, skip_columns, schema)?;
+    let declared = declared(alloc, &known.defaults, &frame, &group.inherited, schema);
+    both(Ok(frame), declared)
 }
 
 /// The plan of a table, without its keys and notes.
@@ -86,24 +114,36 @@ fn bare_plan(
     requires limit { length (schema_of table.now.schema group.now.schema).columns ≤ column_limit }
     ensures { IfOk result (λ p. p ≡ record (table_plan known.now.targets group.now number table.now) { primary_key = []; foreign_keys = []; notes = [] }) }
 {
-    let schema = schema_of(&table.schema, &group.schema);
     let dialect = dialect_of(alloc, &table.dialect, &group.dialect)?;
-    let frame = frame_of(alloc, table, dialect.skip_columns, schema)?;
-    let declared = declared(alloc, &known.defaults, &frame, &group.inherited, schema)?;
+    let id = copied_option(alloc, &table.id)?;
+    let framed = framed(alloc, group, known, table, dialect.skip_columns);
+    let inherited = copied_inherited(alloc, &group.inherited);
+    let ((frame, declared), group) = both(framed, inherited)?;
     Ok(TablePlan {
         number,
         url: frame.url,
-        id: copied_option(alloc, &table.id)?,
+        id,
         suppressed: table.suppressed,
         dialect,
         declared,
         schema: frame.schema,
         table: frame.table,
-        group: copied_inherited(alloc, &group.inherited)?,
+        group,
         primary_key: Seq::new(alloc),
         foreign_keys: Seq::new(alloc),
         notes: Seq::new(alloc),
     })
+}
+
+/// The plan of a table, with its keys and notes.
+fn completed(plan: TablePlan, keys: Keys, notes: Seq<Note>) -> TablePlan
+    ensures { result ≡ record plan { primary_key = keys.primary; foreign_keys = keys.foreign; notes = notes } }
+{
+    let mut plan = plan;
+    plan.primary_key = keys.primary;
+    plan.foreign_keys = keys.foreign;
+    plan.notes = notes;
+    plan
 }
 
 /// The plan of a table.
@@ -112,20 +152,20 @@ fn table_plan(
     group: &Description,
     known: &Known,
     number: u32,
-    table: TableDescription,
+    mut table: TableDescription,
 ) -> Result<TablePlan, AllocError>
     requires known { IsKnown known.now }
     requires skipped { (dialect_of table.dialect group.now.dialect).skip_columns ≤ column_limit }
     requires limit { length (schema_of table.schema group.now.schema).columns ≤ column_limit }
     ensures { IfOk result (λ p. p ≡ table_plan known.now.targets group.now number table) }
 {
-    let mut plan = bare_plan(alloc, group, known, number, &table)?;
+    let plan = bare_plan(alloc, group, known, number, &table);
     let schema = schema_of(&table.schema, &group.schema);
-    let keys = keys_of(alloc, &known.targets, schema)?;
-    plan.primary_key = keys.primary;
-    plan.foreign_keys = keys.foreign;
-    plan.notes = table.notes;
-    Ok(plan)
+    let keys = keys_of(alloc, &known.targets, schema);
+    let notes = mem::replace(&mut table.notes, Seq::new(alloc));
+    drop(table);
+    let (plan, keys) = both(plan, keys)?;
+    Ok(completed(plan, keys, notes))
 }
 
 /// The plans of tables, numbered from 1.
@@ -161,18 +201,21 @@ fn known_of(alloc: Global, group: &Description) -> Result<Known, AllocError>
     })
 }
 
-/// The plan of a description whose tables can be read. `AllocError` where there is no memory.
-pub(crate) fn planned(alloc: Global, mut description: Description) -> Result<Plan, AllocError>
-    requires { IsFitGroup description }
-    ensures { IfOk result (λ plan. plan ≡ plan_of description) }
+/// The plan of a description whose tables can be read, and whose tables, `@id` and notes it takes. `AllocError` where there
+/// is no memory.
+pub(crate) fn planned(alloc: Global, description: &mut Description) -> Result<Plan, AllocError>
+    requires { IsFitGroup description.old }
+    ensures { IfOk result (λ plan. plan ≡ plan_of description.old) }
 {
-    let warnings = unknown(alloc, &description)?;
-    let known = known_of(alloc, &description)?;
+    let warnings = unknown(alloc, description)?;
+    let known = known_of(alloc, description)?;
     let tables = mem::replace(&mut description.tables, Seq::new(alloc));
-    let tables = table_plans(alloc, &description, &known, tables.into_vec())?;
+    let tables = table_plans(alloc, description, &known, tables.into_vec());
+    drop(known);
+    let tables = tables?;
     Ok(Plan {
-        id: description.id,
-        notes: description.notes,
+        id: mem::replace(&mut description.id, None),
+        notes: mem::replace(&mut description.notes, Seq::new(alloc)),
         tables,
         warnings,
     })

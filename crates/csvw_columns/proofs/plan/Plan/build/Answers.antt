@@ -10,8 +10,8 @@ use Rattle.csvw_columns.proofs.plan.Plan.build.Goals as goal
 pub returns-clause-plan : goal.returns-clause-plan
 returns-clause-plan c =
     let d = c.args.description in
-    let found = c.in-Ok-None.ensures in
-    let fit : IsFitGroup d = rw c.in-Ok-None.field-0-is at found in
+    let found = c.refused.ensures in
+    let fit : IsFitGroup d = rw c.in_default.is at found in
     let keys = subst (All AreResolved) c.as_slice.ensures (c.are_resolved.ensures.0 c.if-not-are_resolved.false) in
     let planned : All AreResolved (plan_of d).tables = subst (λ (p : Plan). All AreResolved p.tables) c.in-Ok.ensures keys in
     (c.in-Ok.ensures, record { fit = fit; keys = planned })

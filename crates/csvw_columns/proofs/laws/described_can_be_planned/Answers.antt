@@ -1,0 +1,6 @@
+-- What is described is fit, and has no keys.
+use Rattle.csvw_columns.proofs.DescribedLemmas.{described}
+use Rattle.csvw_columns.proofs.laws.described_can_be_planned.Goals as goal
+
+pub returns : goal.returns
+returns c = described

@@ -1,0 +1,18 @@
+//! Two results together.
+ghost use Rattle.std.specs.Prelude.{◌≡◌, Ok, IfOk};
+
+use std::alloc::AllocError;
+
+/// Both values. Large ones that are taken out together leave no early return between them that lets go of the first: each such
+/// return drops it part by part, in code of its own.
+pub(crate) fn both<A: Drop, B: Drop>(
+    first: Result<A, AllocError>,
+    second: Result<B, AllocError>,
+) -> Result<(A, B), AllocError>
+    ensures { IfOk result (λ both. (first ≡ Ok both.0) × (second ≡ Ok both.1)) }
+{
+    match (first, second) {
+        (Ok(a), Ok(b)) => Ok((a, b)),
+        _ => Err(AllocError),
+    }
+}
