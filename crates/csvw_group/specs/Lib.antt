@@ -1,0 +1,4 @@
+pub mod Annotated
+pub mod Graph
+pub mod Law
+pub mod Violations
