@@ -1,0 +1,3 @@
+pub mod NextTable
+pub mod Readers
+pub mod Tables

@@ -1,0 +1,6 @@
+//! Readers as the events of a session: tables read one after the other.
+#![tactic(auto)]
+
+mod reading;
+
+pub use reading::read_tables;
