@@ -3,8 +3,8 @@ use Rattle.std.proofs.Common.{◌≡◌, ℕ, List, [], subst, ap₂, inl, inr, 
 use Rattle.std.specs.Io.KnownBytes.{Keeps}
 use Rattle.csvw_text.specs.declared.counted.Counted.{Counted}
 use Rattle.csvw_text.specs.Counted.{inner_of, failures_of}
-use Rattle.csvw_engine.specs.declared.outcome.Outcome.{Outcome}
-use Rattle.csvw_engine.specs.declared.stop.Stop.{Stop}
+use Rattle.csvw_report.specs.declared.outcome.Outcome.{Outcome}
+use Rattle.csvw_session.specs.declared.stop.Stop.{Stop}
 use Rattle.csvw_engine.specs.Plain.{Run, AtUrl, Converts, PlainStops, run_of}
 use Rattle.csvw.specs.Answers.{TellsStop}
 use Rattle.csvw.specs.Commands.{RunsOver, run_from}

@@ -3,9 +3,9 @@ use Rattle.std.specs.Prelude.{◌≡◌, ◌⊎◌, ℕ, List, [], Option, None,
 use Rattle.std.specs.Io.KnownBytes.{Keeps}
 use Rattle.clap.specs.Words.{HasKind, Text, fault_of, kind_of}
 use Rattle.clap.specs.declared.error.Error.{Error}
-use Rattle.csvw_engine.specs.declared.outcome.Outcome.{Outcome}
-use Rattle.csvw_engine.specs.declared.stop.Stop.{Stop}
-use Rattle.csvw_engine.specs.declared.stop.Stop.TheVariants as stop
+use Rattle.csvw_report.specs.declared.outcome.Outcome.{Outcome}
+use Rattle.csvw_session.specs.declared.stop.Stop.{Stop}
+use Rattle.csvw_session.specs.declared.stop.Stop.TheVariants as stop
 use Rattle.csvw_engine.specs.Plain.{Run, AtUrl, Converts, PlainStops}
 use Rattle.csvw.specs.Answers.{Answers, TellsStop}
 use Rattle.csvw.specs.Asked.{AsksPlain, program_app}

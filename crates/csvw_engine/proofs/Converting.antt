@@ -36,8 +36,8 @@ use Rattle.csvw_engine.specs.Tables.{max_rows, table_triples, TableHolds, HasAll
 use Rattle.csvw_engine.specs.Tables as tables
 use Rattle.csvw_engine.specs.declared.halt.Halt.{Halt}
 use Rattle.csvw_engine.specs.declared.halt.Halt.TheVariants as halt
-use Rattle.csvw_engine.specs.declared.stop.Stop.{Stop}
-use Rattle.csvw_engine.specs.declared.stop.Stop.TheVariants as stop
+use Rattle.csvw_session.specs.declared.stop.Stop.{Stop}
+use Rattle.csvw_session.specs.declared.stop.Stop.TheVariants as stop
 use Rattle.csvw_engine.specs.declared.table.Table.{Table}
 use Rattle.csvw_engine.proofs.Tables.{no_triples}
 
@@ -45,7 +45,7 @@ use Rattle.csvw_engine.proofs.Tables.{no_triples}
 occurs_too : (X Y : Triple → Type 0) → ((x : Triple) → X x ↔ Y x) → (o : _) → Occurs Y o → Occurs X o
 occurs_too X Y iff o h = (h.0, (iff h.0).1 h.1, h.2)
 
-same_by : (X Y : Triple → Type 0) (ys : List NtTriple) → ((x : Triple) → X x ↔ Y x) → SameUpTo X ys → SameUpTo Y ys
+pub same_by : (X Y : Triple → Type 0) (ys : List NtTriple) → ((x : Triple) → X x ↔ Y x) → SameUpTo X ys → SameUpTo Y ys
 same_by X Y ys iff s = record {
   name = s.name;
   one_to_one = λ o p h k e. s.one_to_one o p (occurs_too X Y iff o h) (occurs_too X Y iff p k) e;
@@ -107,7 +107,7 @@ are_first laws d bytes ended given g = by_part g.whole
     by_part (inr k) = subst (λ (b : List ℕ). AreFirst d max_rows b ended given) (sym g.parts) (laws.later g.reader d max_rows g.part g.rest ended given (rw k at g.holds))
 
 -- what a sink did that is open at both ends
-sends_whole : (k m : Option (List ℕ)) (a b : Bool) (ts : List Triple) → a ≡ true → b ≡ true → Sends k a ts m b → Appends k m (written ts)
+pub sends_whole : (k m : Option (List ℕ)) (a b : Bool) (ts : List Triple) → a ≡ true → b ≡ true → Sends k a ts m b → Appends k m (written ts)
 sends_whole k m true true ts p q s = s
 sends_whole k m true false ts p q s = cc
 sends_whole k m false b ts p q s = cc
@@ -142,7 +142,7 @@ sends_cut k m true false all ts rest p fit q s = record {
 }
 sends_cut k m false b all ts rest p fit q s = cc
 
-sends_nothing : (k : Option (List ℕ)) (a : Bool) → a ≡ true → Sends k a [] k a
+pub sends_nothing : (k : Option (List ℕ)) (a : Bool) → a ≡ true → Sends k a [] k a
 sends_nothing k true e = Appends-nil k
 sends_nothing k false e = cc
 

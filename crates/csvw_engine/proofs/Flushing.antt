@@ -7,12 +7,13 @@ use Rattle.csvw_iri.specs.Link.{base_of}
 use Rattle.csvw_dialect.specs.declared.dialect.Dialect.{Dialect}
 use Rattle.csvw_plain_columns.specs.declared.column.Columns.{Columns}
 use Rattle.csvw_plain_annotate.specs.declared.row.Row.{Row}
-use Rattle.csvw_engine.specs.Plain.{Run, Rose, HasRead, WroteGraph, WroteTable, Converts, StopsBehind, StopsWithin, IsStoppedAt, IsRefusedAt, IsCutShort, HaltsSo, Halts, IsCutOff, FlushFails, WriterFails, Runs, IsFlushed, PlainStops}
-use Rattle.csvw_engine.specs.declared.outcome.Outcome.{Outcome}
-use Rattle.csvw_engine.specs.declared.stop.Stop.{Stop}
-use Rattle.csvw_engine.specs.declared.stop.Stop.TheVariants as stop
+use Rattle.csvw_engine.specs.Plain.{Run, Rose, HasRead, WroteGraph, WroteTable, Converts, StopsBehind, StopsWithin, IsStoppedAt, IsRefusedAt, IsCutShort, HaltsSo, Halts, IsCutOff, FlushFails, WriterFails, Runs, PlainStops}
+use Rattle.csvw_engine.specs.Flushes.{IsFlushed}
+use Rattle.csvw_report.specs.declared.outcome.Outcome.{Outcome}
+use Rattle.csvw_session.specs.declared.stop.Stop.{Stop}
+use Rattle.csvw_session.specs.declared.stop.Stop.TheVariants as stop
 
-appends_kept : (a b c : Option (List ℕ)) (bs : List ℕ) → Appends a b bs → Keeps b c → Appends a c bs
+pub appends_kept : (a b c : Option (List ℕ)) (bs : List ℕ) → Appends a b bs → Keeps b c → Appends a c bs
 appends_kept None b c bs p q = tt
 appends_kept (Some x) None c bs p q = absurd p
 appends_kept (Some x) (Some y) None bs p q = absurd q

@@ -1,7 +1,11 @@
 pub mod Converting
 pub mod Dialects
 pub mod Draining
+pub mod Ending
 pub mod Flushing
 pub mod Lists
 pub mod Pieces
+pub mod Planning
 pub mod Tables
+pub mod Taking
+pub mod Writing

@@ -10,7 +10,7 @@ use Rattle.csvw_rows.specs.Stops.{StopOf}
 use Rattle.csvw_rows.specs.declared.rows.Rows.{Rows}
 use Rattle.csvw_rows.specs.declared.stop.RowStop.{RowStop}
 use Rattle.csvw_rows.specs.declared.stop.RowStop.TheVariants as row_stop
-use Rattle.csvw_plain_columns.specs.declared.table_stop.TableStop.{TableStop}
+use Rattle.csvw_columns.specs.declared.table_stop.TableStop.{TableStop}
 use Rattle.csvw_plain_columns.specs.Columns.{header_gives}
 use Rattle.csvw_plain_columns.specs.declared.column.Columns.{Columns}
 use Rattle.csvw_plain_annotate.specs.Annotated.{annotated}

@@ -2,14 +2,14 @@
 use Rattle.std.specs.Prelude.{◌≡◌, ℕ, Result, Err}
 use Rattle.csvw_rows.specs.declared.stop.RowStop.{RowStop}
 use Rattle.csvw_rows.specs.declared.stop.RowStop.TheVariants as row_stop
-use Rattle.csvw_plain_columns.specs.declared.table_stop.TableStop.{TableStop}
-use Rattle.csvw_plain_columns.specs.declared.table_stop.TableStop.TheVariants as table_stop
+use Rattle.csvw_columns.specs.declared.table_stop.TableStop.{TableStop}
+use Rattle.csvw_columns.specs.declared.table_stop.TableStop.TheVariants as table_stop
 use Rattle.csvw_triples_core.specs.declared.sink.SinkFault.{SinkFault}
 use Rattle.csvw_triples_core.specs.declared.sink.SinkFault.TheVariants as fault
 use Rattle.csvw_engine.specs.declared.halt.Halt.{Halt}
 use Rattle.csvw_engine.specs.declared.halt.Halt.TheVariants.{Memory, Read, Write, Rows, Table}
-use Rattle.csvw_engine.specs.declared.stop.Stop.{Stop}
-use Rattle.csvw_engine.specs.declared.stop.Stop.TheVariants as stop
+use Rattle.csvw_session.specs.declared.stop.Stop.{Stop}
+use Rattle.csvw_session.specs.declared.stop.Stop.TheVariants as stop
 
 -- a fault of the device is a failed write
 abbrev pub IsHaltOf : SinkFault → Halt → Type 0

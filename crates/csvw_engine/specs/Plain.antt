@@ -1,5 +1,5 @@
 -- What a run over one table without a schema leaves (Generating RDF from Tabular Data on the Web, section 4.2, minimal mode).
-use Rattle.std.specs.Prelude.{◌≡◌, ◌≢◌, ◌⊎◌, ◌<◌, ◌≤◌, ◌+◌, ◌-◌, ◌^◌, ℕ, Bool, true, false, List, [], ◌∷◌, ◌++◌, codes, length, take, Option, None, Result, Ok, Err}
+use Rattle.std.specs.Prelude.{◌≡◌, ◌⊎◌, ◌<◌, ◌≤◌, ◌+◌, ◌-◌, ◌^◌, ℕ, Bool, true, false, List, [], ◌∷◌, ◌++◌, codes, length, take, Option, None, Result, Ok, Err}
 use Rattle.std.specs.Io.KnownBytes.{Appends, Consumes, IsAtEnd}
 use Rattle.url.specs.Parts.{Parts}
 use Rattle.csvw_text.specs.declared.counted.Counted.{Counted}
@@ -13,7 +13,7 @@ use Rattle.csvw_dialect.specs.Lawful.{IsDefault}
 use Rattle.csvw_rows.specs.RowValue.{Given}
 use Rattle.csvw_rows.specs.Stops.{StopOf}
 use Rattle.csvw_plain_columns.specs.declared.column.Columns.{Columns}
-use Rattle.csvw_plain_columns.specs.declared.table_stop.TableStop.{TableStop}
+use Rattle.csvw_columns.specs.declared.table_stop.TableStop.{TableStop}
 use Rattle.csvw_plain_annotate.specs.Tables.{IsAnnotated, IsTable, Refuses}
 use Rattle.csvw_plain_annotate.specs.declared.row.Row.{Row}
 use Rattle.csvw_triples_core.specs.declared.term.Triple.{Triple}
@@ -24,11 +24,11 @@ use Rattle.csvw_ntriples.specs.SameUpTo.{SameUpTo}
 use Rattle.csvw_ntriples.specs.Writable.{TripleFits}
 use Rattle.csvw_ntriples.specs.Written.{written}
 use Rattle.csvw_engine.specs.Tables.{max_rows, HasAll, table_triples}
-use Rattle.csvw_engine.specs.declared.meta_fault.MetaCode.{MetaCode}
-use Rattle.csvw_engine.specs.declared.meta_fault.MetaCode.TheVariants as code
-use Rattle.csvw_engine.specs.declared.meta_fault.MetaFault.{MetaFault}
-use Rattle.csvw_engine.specs.declared.stop.Stop.{Stop}
-use Rattle.csvw_engine.specs.declared.stop.Stop.TheVariants as stop
+use Rattle.csvw_meta_core.specs.declared.fault.MetaCode.{MetaCode}
+use Rattle.csvw_meta_core.specs.declared.fault.MetaCode.TheVariants as code
+use Rattle.csvw_meta_core.specs.declared.fault.MetaFault.{MetaFault}
+use Rattle.csvw_session.specs.declared.stop.Stop.{Stop}
+use Rattle.csvw_session.specs.declared.stop.Stop.TheVariants as stop
 
 -- What a run began with and what it left: the bytes that the reader has still to give and those that the writer holds, where
 -- they tell them, and how often each of them failed.
@@ -189,10 +189,6 @@ WriterFails base run reports reported = IsCutOff base run ⊎ (FlushFails base r
 abbrev pub Runs : Parts → Run → Result Unit Stop → Type 0
 Runs base run (Ok u) = Converts base run
 Runs base run (Err reason) = Halts base run reason ⊎ ((reason ≡ stop.Write) × IsCutOff base run)
-
--- the answer of a run after a flush, which fails by itself; behind a failed write there is none
-abbrev pub IsFlushed : Result Unit Stop → Result Unit Stop → ℕ → ℕ → Type 0
-IsFlushed ran result old new = ((result ≡ ran) × (new ≡ old)) ⊎ ((ran ≢ Err stop.Write) × (result ≡ Err stop.Write) × (new ≡ one_more old))
 
 -- the fault of a URL that is refused
 abbrev pub url_fault : Refusal → MetaFault

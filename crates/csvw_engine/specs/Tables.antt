@@ -11,7 +11,7 @@ use Rattle.csvw_rows.specs.RowValue.{Given}
 use Rattle.csvw_rows.specs.RowsState.{is_ended_of, unread, Holds, HasGiven, NoStop}
 use Rattle.csvw_rows.specs.Stops.{StopOf}
 use Rattle.csvw_plain_columns.specs.declared.column.Columns.{Columns}
-use Rattle.csvw_plain_columns.specs.declared.table_stop.TableStop.{TableStop}
+use Rattle.csvw_columns.specs.declared.table_stop.TableStop.{TableStop}
 use Rattle.csvw_plain_annotate.specs.Tables.{IsTable, Refuses}
 use Rattle.csvw_plain_annotate.specs.declared.row.Row.{Row}
 use Rattle.csvw_plain_triples.specs.RowTriples.{row_triples}

@@ -3,9 +3,9 @@
 ghost use Rattle.std.specs.Prelude.{◌≡◌};
 ghost use Rattle.csvw_engine.specs.Halts.{of_table, of_row_stop, of_table_stop};
 
-use crate::stop::Stop;
-use csvw_plain_columns::TableStop;
+use csvw_columns::TableStop;
 use csvw_rows::RowStop;
+use csvw_session::Stop;
 use csvw_triples_core::SinkFault;
 use std::alloc::AllocError;
 

@@ -1,16 +1,18 @@
 //! Whole runs: a table from a reader to a graph.
 #![tactic(auto)]
 
+mod flush;
+mod group;
 mod halt;
-mod meta_fault;
-mod outcome;
+mod plan;
 mod reading;
+mod run_group;
 mod running;
-mod stop;
 mod table;
 
-pub use csvw_plain_columns::TableStop;
-pub use meta_fault::{MetaCode, MetaFault};
-pub use outcome::Outcome;
+pub use csvw_columns::TableStop;
+pub use csvw_meta_core::{MetaCode, MetaFault};
+pub use csvw_report::Outcome;
+pub use csvw_session::Stop;
+pub use run_group::run;
 pub use running::plain;
-pub use stop::Stop;

@@ -16,9 +16,9 @@ use std::io::Read;
 const MAX_READS: u64 = 1_099_511_627_776;
 
 /// How many bytes one read takes at most.
-const PIECE: usize = 65_536;
+pub(crate) const PIECE: usize = 65_536;
 
-fn buffer_of(alloc: Global, len: usize) -> Result<Vec<u8>, AllocError>
+pub(crate) fn buffer_of(alloc: Global, len: usize) -> Result<Vec<u8>, AllocError>
     ensures { IfOk result (λ v. length v.items ≡ len) }
 {
     vec![in alloc; 0u8; len]

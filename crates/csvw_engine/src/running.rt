@@ -7,20 +7,21 @@ ghost use Rattle.csvw_iri.specs.Link.{base_of};
 ghost use Rattle.csvw_dialect.specs.declared.dialect.Dialect.{Dialect as TheDialect};
 ghost use Rattle.csvw_dialect.specs.Lawful.{IsDefault};
 ghost use Rattle.csvw_rows.specs.RowsState.{is_ended_of};
-ghost use Rattle.csvw_engine.specs.declared.stop.Stop.TheVariants as stop;
-ghost use Rattle.csvw_engine.specs.Plain.{run_of, AtUrl, Converts, IsFlushed, IsUrlStop, PlainStops, Runs, TellsCode};
+ghost use Rattle.csvw_session.specs.declared.stop.Stop.TheVariants as stop;
+ghost use Rattle.csvw_engine.specs.Plain.{run_of, AtUrl, Converts, IsUrlStop, PlainStops, Runs, TellsCode};
 ghost use Rattle.csvw_engine.specs.Tables.{TableHolds};
 
+use crate::flush::{flush, flush_behind};
 use crate::halt::Halt;
-use crate::meta_fault::{MetaCode, MetaFault};
-use crate::outcome::Outcome;
 use crate::reading::read_table;
-use crate::stop::Stop;
 use crate::table::Table;
 use csvw_iri::{Base, IriFault};
+use csvw_meta_core::{MetaCode, MetaFault};
 use csvw_ntriples::{NtSink, labels_name_one_to_one, written_denotes};
 use csvw_plain_triples::rows_triples_are_minimal;
+use csvw_report::Outcome;
 use csvw_rows::laws::{given_first, given_first_later, nothing_given};
+use csvw_session::Stop;
 use csvw_text::{Counted, Seq, Text};
 use std::alloc::Global;
 use std::io::{Read, Write};
@@ -58,31 +59,6 @@ fn new_table(alloc: Global, url: &str) -> Result<Table, Stop>
     match Table::new(alloc, 1, url) {
         Ok(table) => Ok(table),
         Err(_) => Err(Stop::Memory),
-    }
-}
-
-fn flush<W: Write>(w: &mut Counted<W>) -> Result<(), Stop>
-    ensures keeps { Keeps (W.contents (inner_of w.old)) (W.contents (inner_of w.new)) }
-    ensures count { failures_of w.new ≡ after_call result (failures_of w.old) }
-    ensures write { IfErr result (λ reason. reason ≡ stop.Write) }
-{
-    match w.flush() {
-        Ok(()) => Ok(()),
-        Err(_) => Err(Stop::Write),
-    }
-}
-
-/// Flushes what a run wrote before its answer is told; behind a failed write nothing more is sent.
-fn flush_behind<W: Write>(w: &mut Counted<W>, ran: Result<(), Stop>) -> Result<(), Stop>
-    ensures keeps { Keeps (W.contents (inner_of w.old)) (W.contents (inner_of w.new)) }
-    ensures flushed { IsFlushed ran result (failures_of w.old) (failures_of w.new) }
-{
-    match ran {
-        Err(Stop::Write) => Err(Stop::Write),
-        ran => {
-            flush(w)?;
-            ran
-        }
     }
 }
 

@@ -1,4 +1,4 @@
-//! Tests of the layers with long proofs, by their public calls: worked values, expansions, documents and graphs.
+//! Tests of the layers with long proofs, by their public calls: worked values, expansions, documents, graphs and groups.
 #![tactic(auto)]
 
 #[cfg(test)]
@@ -7,6 +7,8 @@ mod datatypes;
 mod documents;
 #[cfg(test)]
 mod graphs;
+#[cfg(test)]
+mod groups;
 #[cfg(test)]
 mod reports;
 #[cfg(test)]

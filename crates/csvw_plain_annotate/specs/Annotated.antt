@@ -2,8 +2,8 @@
 use Rattle.std.specs.Prelude.{ℕ, ◌==◌, List, length, map, if◌then◌else◌, Option, Some, None, Result, Ok, Err}
 use Rattle.csvw_rows.specs.RowValue.{Given}
 use Rattle.csvw_plain_columns.specs.declared.column.Columns.{Columns}
-use Rattle.csvw_plain_columns.specs.declared.table_stop.TableStop.{TableStop}
-use Rattle.csvw_plain_columns.specs.declared.table_stop.TableStop.TheVariants.{RaggedRow}
+use Rattle.csvw_columns.specs.declared.table_stop.TableStop.{TableStop}
+use Rattle.csvw_columns.specs.declared.table_stop.TableStop.TheVariants.{RaggedRow}
 use Rattle.csvw_plain_annotate.specs.declared.row.AnnCell.{AnnCell}
 use Rattle.csvw_plain_annotate.specs.declared.row.Row.{Row}
 

@@ -5,7 +5,7 @@ use Rattle.csvw_rows.specs.Files.{Row as FileRow, File, Body}
 use Rattle.csvw_rows.specs.RowValue.{Given}
 use Rattle.csvw_plain_columns.specs.Columns.{header_gives}
 use Rattle.csvw_plain_columns.specs.declared.column.Columns.{Columns}
-use Rattle.csvw_plain_columns.specs.declared.table_stop.TableStop.{TableStop}
+use Rattle.csvw_columns.specs.declared.table_stop.TableStop.{TableStop}
 use Rattle.csvw_plain_annotate.specs.Annotated.{annotated}
 use Rattle.csvw_plain_annotate.specs.declared.row.Row.{Row}
 

@@ -4,8 +4,8 @@ use Rattle.std.specs.List.{list_any}
 use Rattle.csvw_plain_columns.specs.Name.{name_of}
 use Rattle.csvw_plain_columns.specs.declared.column.Column.{Column}
 use Rattle.csvw_plain_columns.specs.declared.column.Columns.{Columns}
-use Rattle.csvw_plain_columns.specs.declared.table_stop.TableStop.{TableStop}
-use Rattle.csvw_plain_columns.specs.declared.table_stop.TableStop.TheVariants.{DuplicateName, TooManyColumns}
+use Rattle.csvw_columns.specs.declared.table_stop.TableStop.{TableStop}
+use Rattle.csvw_columns.specs.declared.table_stop.TableStop.TheVariants.{DuplicateName, TooManyColumns}
 
 -- xsd:string
 abbrev pub string_type : List ℕ

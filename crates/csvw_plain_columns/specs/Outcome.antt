@@ -1,7 +1,7 @@
 -- What a fallible call answers, want of memory aside.
 use Rattle.std.specs.Prelude.{◌≡◌, Result, Ok, Err}
-use Rattle.csvw_plain_columns.specs.declared.table_stop.TableStop.{TableStop}
-use Rattle.csvw_plain_columns.specs.declared.table_stop.TableStop.TheVariants.{Memory, DuplicateName, TooManyColumns, RaggedRow}
+use Rattle.csvw_columns.specs.declared.table_stop.TableStop.{TableStop}
+use Rattle.csvw_columns.specs.declared.table_stop.TableStop.TheVariants.{Memory, DuplicateName, TooManyColumns, RaggedRow}
 
 -- the answer is the expected one; of want of memory nothing is said
 abbrev pub Answers : {X : Type 0} → Result X TableStop → Result X TableStop → Type 0

@@ -7,7 +7,7 @@ ghost use Rattle.csvw_plain_columns.specs.Outcome.{Answers};
 
 use crate::column::{Column, Columns};
 use crate::name::name_of;
-use crate::table_stop::TableStop;
+use csvw_columns::TableStop;
 use csvw_iri::{Base, Iri, made_safe, with_fragment};
 use csvw_text::{Seq, Text};
 use std::alloc::{AllocError, Global};

@@ -4,8 +4,7 @@
 mod column;
 mod header;
 mod name;
-mod table_stop;
 
 pub use column::{Column, Columns};
+pub use csvw_columns::TableStop;
 pub use header::{HeaderRow, match_header};
-pub use table_stop::TableStop;

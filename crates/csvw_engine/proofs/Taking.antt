@@ -1,0 +1,176 @@
+-- The tables of a session, read to their ends.
+use Rattle.std.proofs.Common.{◌≡◌, ◌<◌, ◌+◌, ◌-◌, ◌^◌, ℕ, suc, Bool, true, false, List, [], ◌∷◌, ◌++◌, length, refl, sym, ap, ◌∙◌, subst, inl, inr, arith, Option, Some, Result, Ok, Err}
+use Rattle.std.specs.Prelude.{slice_get}
+use Rattle.std.specs.List.{list_all}
+use Rattle.std.proofs.lemmas.Option.{slice_get_within}
+use Rattle.std.specs.List.Sorted.{IsPermutation}
+use Rattle.csvw_text.specs.declared.counted.Counted.{Counted}
+use Rattle.csvw_text.specs.declared.fault.Fault.{Fault}
+use Rattle.csvw_columns.specs.declared.plan.Plan.{Plan}
+use Rattle.csvw_columns.specs.declared.plan.TablePlan.{TablePlan}
+use Rattle.csvw_triples_core.specs.Taking.{IsAsReady}
+use Rattle.csvw_triples_core.specs.declared.mode.Mode.{Mode}
+use Rattle.csvw_triples_core.specs.declared.term.Triple.{Triple}
+use Rattle.csvw_engine_core.specs.Tables.{is_ended}
+use Rattle.csvw_engine_core.specs.declared.table.Table.{Table}
+use Rattle.csvw_report.specs.declared.outcome.Outcome.{Outcome}
+use Rattle.csvw_session.specs.Events.{Event, text_of, ended_in}
+use Rattle.csvw_session.specs.Finishing.{Finishes}
+use Rattle.csvw_session.specs.Sessions.{Stands, TableStands}
+use Rattle.csvw_session.specs.declared.session.Session.{Session}
+use Rattle.csvw_session.specs.declared.stop.Stop.{Stop}
+use Rattle.csvw_session.specs.declared.stop.Stop.TheVariants as stop
+use Rattle.csvw_group.specs.Annotated.{AreAnnotated}
+use Rattle.csvw_group.specs.Law.{Annotates, texts_of}
+use Rattle.csvw_group.specs.Violations.{AreViolations}
+use Rattle.csvw_reading.specs.Reading.{Gave, GaveTexts, Reads, ReadsAll}
+use Rattle.csvw_engine.specs.Groups.{GainsSome, TablesStop, TakesTables}
+use Rattle.csvw_engine.specs.Runs.{ReadWhole}
+
+-- each of the tables has ended
+all_ended : (plans : List TablePlan) (tables : List Table) → length tables ≡ length plans
+    → ((i : ℕ) (plan : TablePlan) (table : Table) → slice_get plans i ≡ Some plan → slice_get tables i ≡ Some table → is_ended table ≡ true) → list_all is_ended tables ≡ true
+all_ended plans [] e h = refl
+all_ended [] (t ∷ ts) e h = cc
+all_ended (p ∷ ps) (t ∷ ts) e h = rw (h 0 p t refl refl) (all_ended ps ts (let f = e in omega (arith, f)) (λ i plan table x y. h (suc i) plan table x y))
+
+ready_on : {S : Type 0} (is_open : S → Bool) (failed : S → ℕ) (a b c : S) → IsAsReady is_open failed a b → IsAsReady is_open failed b c → IsAsReady is_open failed a c
+ready_on is_open failed a b c x y = (y.0 ∙ x.0, y.1 ∙ x.1)
+
+ended_stands : (plan : TablePlan) (mode : Mode) (table : Table) (bytes : List ℕ) (ended : Bool) (rows : List _) → ended ≡ true → TableStands plan mode table bytes ended rows → is_ended table ≡ true
+ended_stands plan mode table bytes true rows e h = h.ended
+ended_stands plan mode table bytes false rows e h = cc
+
+module _ {R S : Type 0} (gains : S → List Triple → S → Type 0) (is_open : S → Bool) (failed : S → ℕ) (remaining : R → Option (List ℕ)) (start : S) (olds news : List (Counted R)) where
+  -- texts that were read whole
+  read_whole : (events : List Event) → GaveTexts remaining olds news events → ((i : ℕ) → i < length olds → ended_in events (i + 1) ≡ true) → ReadWhole remaining olds news (texts_of events)
+  read_whole events gave ended i r s p q =
+      subst (λ b. Gave remaining r s (text_of events (i + 1)) b) (ended i (slice_get_within olds i r p)) (gave.each i r s p q)
+
+  -- the session was read to its end
+  module _ (old middle new : Session S) (all : ReadsAll gains is_open failed remaining start olds news old middle) (many : length olds ≡ length old.plan.tables)
+      (law : (events : List Event) (s : Session S) → Stands gains is_open failed start events s → list_all is_ended s.tables.items ≡ true → Annotates gains start events s) where
+    whole : (outcome : Outcome) → Finishes middle new (Ok outcome) → TakesTables gains is_open failed remaining old.mode old.plan olds news start new.sink (Ok outcome)
+    whole outcome fin =
+        let a = law all.events middle all.stands fin.1.ended in record {
+          texts = texts_of all.events;
+          read = read_whole all.events all.gave all.ended;
+          steady = all.steady;
+          tables = a.tables;
+          annotated = subst (λ (p : Plan). AreAnnotated p.tables (texts_of all.events) a.tables) all.same.0 a.annotated;
+          violations = subst (λ (p : Plan). AreViolations p a.tables outcome.faults) all.same.0 (record {
+            same = subst (λ (fs : List Fault). IsPermutation (middle.plan.warnings ++ fs) outcome.faults) a.faults fin.1.faults;
+            sorted = fin.1.sorted;
+          });
+          gives = record {
+            took = rw (fin.0.sink, sym all.same.0, sym all.same.1) a.took;
+            ready = rw fin.0.sink all.stands.ready;
+          };
+        }
+
+    none_open : list_all is_ended middle.tables.items ≡ false → ⊥
+    none_open e =
+        let ended : list_all is_ended middle.tables.items ≡ true = all_ended middle.plan.tables middle.tables.items middle.many
+        (λ i plan table p q.
+        let below : i < length olds = let k = slice_get_within middle.plan.tables i plan p in let m = ap (λ (z : Plan). length z.tables) all.same.0 in omega (arith, k, m, many) in
+        ended_stands plan middle.mode table (text_of all.events (i + 1)) (ended_in all.events (i + 1)) _ (all.ended i below) (all.stands.tables i plan table (p, q)).stands) in
+        cc
+
+    pub finished : (result : Result Outcome Stop) → Finishes middle new result → TakesTables gains is_open failed remaining old.mode old.plan olds news start new.sink result
+    finished (Ok outcome) fin = whole outcome fin
+    finished (Err stop.Memory) fin = ((all.stands.took.taken, rw fin.sink all.stands.took.gained), rw fin.sink all.stands.ready)
+    finished (Err stop.Failed) fin = let is = fin.1 in let opened = all.stands.state_is in cc
+    finished (Err stop.AfterEnd) fin = let is = fin.1 in let opened = all.stands.state_is in cc
+    finished (Err stop.NotEnded) fin = absurd (none_open fin.1)
+    finished (Err stop.Read) fin = absurd fin
+    finished (Err stop.Write) fin = absurd fin
+    finished (Err (stop.Meta fault)) fin = absurd fin
+    finished (Err stop.TableCount) fin = absurd fin
+    finished (Err (stop.Rows t row reason)) fin = absurd fin
+    finished (Err (stop.Table t row reason)) fin = absurd fin
+    finished (Err stop.UnknownTable) fin = absurd fin
+
+  -- or it stopped before
+  module _ (goes_on : (a b c : S) (xs ys : List Triple) → gains a xs b → gains b ys c → gains a (xs ++ ys) c) (old new : Session S) where
+    -- what its sink took by then
+    some_gained : (reason : Stop) → Reads gains is_open failed remaining start olds news old new (Err reason) → GainsSome gains start new.sink
+    some_gained stop.Memory h =
+        let s = h.stops in
+        let k = s.takes.1 start s.before s.stands in
+        (s.stands.took.taken ++ k.0.leaves.took.front, goes_on start s.session.sink new.sink s.stands.took.taken k.0.leaves.took.front s.stands.took.gained k.0.leaves.took.gained)
+    some_gained stop.Read h = (h.stands.took.taken, h.stands.took.gained)
+    some_gained stop.Write h =
+        let s = h.stops in
+        let k = s.takes.1 start s.before s.stands in
+        (s.stands.took.taken ++ k.0.leaves.took.front, goes_on start s.session.sink new.sink s.stands.took.taken k.0.leaves.took.front s.stands.took.gained k.0.leaves.took.gained)
+    some_gained (stop.Rows t row reason) h =
+        let s = h.stops in
+        let k = s.takes.2 start s.before s.stands in
+        (s.stands.took.taken ++ _, goes_on start s.session.sink new.sink s.stands.took.taken _ s.stands.took.gained k.0.leaves.took)
+    some_gained (stop.Table t row reason) h =
+        let s = h.stops in
+        let k = s.takes.2 start s.before s.stands in
+        (s.stands.took.taken ++ _, goes_on start s.session.sink new.sink s.stands.took.taken _ s.stands.took.gained k.0.leaves.took)
+    some_gained (stop.Meta fault) h = absurd h
+    some_gained stop.TableCount h = absurd h
+    some_gained stop.UnknownTable h = absurd h
+    some_gained stop.AfterEnd h = absurd h
+    some_gained stop.NotEnded h = absurd h
+    some_gained stop.Failed h = absurd h
+
+    stopped : (reason : Stop) → Reads gains is_open failed remaining start olds news old new (Err reason)
+        → TablesStop remaining old.plan olds news (IsAsReady is_open failed start new.sink) (is_open start ≡ true → failed start < 2 ^ 64 - 1 → failed new.sink ≡ failed start + 1) reason
+    stopped stop.Memory h = let s = h.stops in ready_on is_open failed start s.session.sink new.sink s.stands.ready (s.takes.1 start s.before s.stands).1
+    stopped stop.Read h = (elim h.blame [ inl f ↦ inl f | inr m ↦ inr (h.events, h.gave, m.0) ], h.stands.ready)
+    stopped stop.Write h = let s = h.stops in λ begun room.
+        (s.takes.1 start s.before s.stands).1 (s.stands.ready.0 ∙ begun) (rw s.stands.ready.1 room) ∙ ap (λ n. n + 1) s.stands.ready.1
+    stopped (stop.Rows t row reason) h =
+        let s = h.stops in
+        let k = s.takes.2 start s.before s.stands in
+        let at = k.0 in (
+          (
+            h.events,
+            h.gave,
+            record {
+              i = at.i;
+              number = at.number ∙ sym s.takes.1;
+              table = at.plan;
+              is_at = subst (λ (p : Plan). slice_get p.tables at.i ≡ Some at.plan) s.same.0 at.is_at.0;
+              given = at.given ++ at.leaves.raws;
+              stopped = rw (s.all, s.takes.1) at.leaves.why;
+            },
+          ),
+          ready_on is_open failed start s.session.sink new.sink s.stands.ready k.1,
+        )
+    stopped (stop.Table t row reason) h =
+        let s = h.stops in
+        let k = s.takes.2 start s.before s.stands in
+        let at = k.0 in (
+          (
+            h.events,
+            h.gave,
+            record {
+              i = at.i;
+              number = at.number ∙ sym s.takes.1;
+              table = at.plan;
+              is_at = subst (λ (p : Plan). slice_get p.tables at.i ≡ Some at.plan) s.same.0 at.is_at.0;
+              given = at.given ++ at.leaves.raws;
+              columns = at.leaves.columns;
+              faults = at.leaves.faults;
+              rows = _;
+              in_front = at.leaves.table;
+              refused = rw (s.all, s.takes.1) at.leaves.why;
+            },
+          ),
+          ready_on is_open failed start s.session.sink new.sink s.stands.ready k.1,
+        )
+    stopped (stop.Meta fault) h = absurd h
+    stopped stop.TableCount h = absurd h
+    stopped stop.UnknownTable h = absurd h
+    stopped stop.AfterEnd h = absurd h
+    stopped stop.NotEnded h = absurd h
+    stopped stop.Failed h = absurd h
+
+    pub stops : (reason : Stop) → Reads gains is_open failed remaining start olds news old new (Err reason)
+        → TakesTables gains is_open failed remaining old.mode old.plan olds news start new.sink (Err reason)
+    stops reason h = (some_gained reason h, stopped reason h)

@@ -1,0 +1,20 @@
+-- The tables were read to their ends, or stop.
+use Rattle.std.proofs.lemmas.Result.{err_from_is_err_and}
+use Rattle.csvw_engine.proofs.Taking.{finished, stops}
+use Rattle.csvw_engine.proofs.group.take_tables.Goals as goal
+
+pub returns-in_err-read_tables : goal.returns-in_err-read_tables
+returns-in_err-read_tables g c =
+    let s = g.S.TripleSink in
+    let p = err_from_is_err_and c.from_residual.result c.from_residual.ensures.1 in
+    λ start h many.
+    rw (p.1, p.2)
+    (stops s.gains s.is_open s.failed g.R.Read.remaining start c.args.readers.now c.read_tables.new.readers g.met.S.TripleSink.goes_on c.args.session.now c.read_tables.new.session
+    c.in_err-read_tables.field-0.0 (c.in_err-read_tables.ensures.reads start h many))
+
+pub returns : goal.returns
+returns g c =
+    let s = g.S.TripleSink in
+    λ start h many.
+    finished s.gains s.is_open s.failed g.R.Read.remaining start c.args.readers.now c.read_tables.new.readers c.args.session.now c.read_tables.new.session c.finish.new.self
+    (c.in_ok-read_tables.ensures.reads start h many) many (c.sessions_annotate.ensures start) c.finish.result c.finish.ensures

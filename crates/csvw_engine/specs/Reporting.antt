@@ -1,0 +1,18 @@
+-- What is reported of a run.
+use Rattle.std.specs.Prelude.{◌≡◌, ◌⊎◌, Result, Ok, Err}
+use Rattle.csvw_text.specs.Count.{one_more}
+use Rattle.csvw_text.specs.Streams.{Stream, Sends, IsIdle}
+use Rattle.csvw_report.specs.Report.{report}
+use Rattle.csvw_report.specs.declared.outcome.Outcome.{Outcome}
+use Rattle.csvw_session.specs.declared.stop.Stop.{Stop}
+use Rattle.csvw_session.specs.declared.stop.Stop.TheVariants as stop
+
+-- the report was written; or it wasn't, for want of memory or because its writer failed
+abbrev pub TellsOutcome : Outcome → Stream → Result Outcome Stop → Type 0
+TellsOutcome outcome s result = ((result ≡ Ok outcome) × Sends s (report outcome.faults))
+    ⊎ (((result ≡ Err stop.Memory) × (s.failed ≡ s.failures)) ⊎ ((result ≡ Err stop.Write) × (s.failed ≡ one_more s.failures)))
+
+-- behind a stop nothing is reported
+abbrev pub Reports : Result Outcome Stop → Stream → Result Outcome Stop → Type 0
+Reports (Ok outcome) s result = TellsOutcome outcome s result
+Reports (Err reason) s result = (result ≡ Err reason) × IsIdle s

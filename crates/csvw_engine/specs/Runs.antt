@@ -1,0 +1,140 @@
+-- What a run over a group of tables leaves (Generating RDF from Tabular Data on the Web, section 4.2; Model for Tabular Data, sections
+-- 6 and 8).
+use Rattle.std.specs.Prelude.{◌≡◌, ◌≢◌, ◌⊎◌, ◌<◌, ◌+◌, ◌-◌, ◌^◌, ℕ, true, List, [], length, slice_get, Option, Some, Result, Ok, Err, Contains}
+use Rattle.csvw_text.specs.declared.counted.Counted.{Counted}
+use Rattle.csvw_text.specs.declared.fault.Fault.{Fault}
+use Rattle.csvw_text.specs.Streams.{Stream, Sends, IsIdle}
+use Rattle.csvw_rows.specs.RowValue.{Given}
+use Rattle.csvw_rows.specs.declared.stop.RowStop.{RowStop}
+use Rattle.csvw_description.specs.declared.description.Description.{Description}
+use Rattle.csvw_meta_core.specs.Read.{fine}
+use Rattle.csvw_meta.specs.Document.{document}
+use Rattle.csvw_columns_core.specs.declared.columns.Columns.{Columns}
+use Rattle.csvw_columns.specs.PlanOf.{plan_of}
+use Rattle.csvw_columns.specs.declared.plan.Plan.{Plan}
+use Rattle.csvw_columns.specs.declared.plan.TablePlan.{TablePlan}
+use Rattle.csvw_columns.specs.declared.table_stop.TableStop.{TableStop}
+use Rattle.csvw_annotate.specs.declared.row.Row.{Row}
+use Rattle.csvw_triples_core.specs.declared.mode.Mode.{Mode}
+use Rattle.csvw_triples_core.specs.declared.mode.Mode.TheVariants as mode
+use Rattle.csvw_triples_core.specs.declared.term.Triple.{Triple}
+use Rattle.csvw_engine_core.specs.Annotated.{IsTable}
+use Rattle.csvw_engine_core.specs.Tables.{IsStopped}
+use Rattle.csvw_ntriples.specs.declared.term.NtTriple.{NtTriple}
+use Rattle.csvw_ntriples.specs.Grammar.{Denotes}
+use Rattle.csvw_ntriples.specs.SameUpTo.{SameUpTo}
+use Rattle.csvw_report.specs.Report.{report}
+use Rattle.csvw_report.specs.declared.outcome.Outcome.{Outcome}
+use Rattle.csvw_session.specs.Events.{Event, text_of, ended_in}
+use Rattle.csvw_session.specs.Sessions.{IsRefusedHere}
+use Rattle.csvw_session.specs.declared.stop.Stop.{Stop}
+use Rattle.csvw_session.specs.declared.stop.Stop.TheVariants as stop
+use Rattle.csvw_group.specs.Annotated.{Table, AreAnnotated}
+use Rattle.csvw_group.specs.Graph.{Minimal}
+use Rattle.csvw_group.specs.Violations.{AreViolations}
+use Rattle.csvw_reading.specs.Reading.{Gave, GaveTexts, AreSteady, OneFailed, AreMany}
+
+-- a count of failures rose by one, where it had room
+abbrev pub Rises : Stream → Type 0
+Rises s = s.failures < 2 ^ 64 - 1 → s.failed ≡ s.failures + 1
+
+-- the document at this URL describes the group of this plan
+pub record IsPlanned (meta base : List ℕ) (plan : Plan) : Type 0 where
+  pub description : Description
+  pub described : document base meta ≡ fine description
+  pub planned : plan ≡ plan_of description
+
+-- the bytes that the writer gained denote the graph, with a name of its own for each blank node
+pub record WroteGraph (out : Stream) (Graph : Triple → Type 0) : Type 0 where
+  pub added : List ℕ
+  pub sent : Sends out added
+  pub triples : List NtTriple
+  pub denotes : Denotes added triples
+  pub same : SameUpTo Graph triples
+
+-- what is written, by the mode: nothing, or the graph of the group
+abbrev pub Wrote : Mode → Stream → List TablePlan → List Table → Type 0
+Wrote mode.Validate out plans tables = Sends out []
+Wrote mode.Minimal out plans tables = WroteGraph out (Minimal plans tables)
+
+-- each reader gave the text of its table, and told its end
+abbrev pub ReadWhole : {R : Type 0} → (R → Option (List ℕ)) → List (Counted R) → List (Counted R) → (ℕ → List ℕ) → Type 0
+ReadWhole {R} remaining olds news texts = (i : ℕ) (r s : Counted R) → slice_get olds i ≡ Some r → slice_get news i ≡ Some s → Gave remaining r s (texts i) true
+
+-- The texts of the readers are the annotated tables of the group that the document describes; their graph was written, their
+-- violations told and reported, and nothing failed.
+pub record Succeeds {R : Type 0} (remaining : R → Option (List ℕ)) (meta base : List ℕ) (mode : Mode) (olds news : List (Counted R)) (out report_out : Stream) (outcome : Outcome) : Type 0 where
+  pub plan : Plan
+  pub planned : IsPlanned meta base plan
+  pub many : length olds ≡ length plan.tables
+  pub texts : ℕ → List ℕ
+  pub read : ReadWhole remaining olds news texts
+  pub steady : AreSteady olds news
+  pub tables : List Table
+  pub annotated : AreAnnotated plan.tables texts tables
+  pub wrote : Wrote mode out plan.tables tables
+  pub violations : AreViolations plan tables outcome.faults
+  pub reported : Sends report_out (report outcome.faults)
+
+-- the texts so far of the tables of the group
+pub record ReadsGroup {R : Type 0} (remaining : R → Option (List ℕ)) (meta base : List ℕ) (olds news : List (Counted R)) (plan : Plan) (events : List Event) : Type 0 where
+  pub planned : IsPlanned meta base plan
+  pub many : length olds ≡ length plan.tables
+  pub gave : GaveTexts remaining olds news events
+
+-- the text of table t stops here
+pub record StopsInText (plan : Plan) (events : List Event) (t row : ℕ) (reason : RowStop) : Type 0 where
+  pub i : ℕ
+  pub number : i + 1 ≡ t
+  pub table : TablePlan
+  pub is_at : slice_get plan.tables i ≡ Some table
+  pub given : List Given
+  pub stopped : IsStopped table (text_of events t) (ended_in events t) given row reason
+
+-- a row of table t, or its header, is refused, behind the rows in front of it
+pub record RefusedInText (plan : Plan) (events : List Event) (t row : ℕ) (reason : TableStop) : Type 0 where
+  pub i : ℕ
+  pub number : i + 1 ≡ t
+  pub table : TablePlan
+  pub is_at : slice_get plan.tables i ≡ Some table
+  pub given : List Given
+  pub columns : Option Columns
+  pub faults : List Fault
+  pub rows : List Row
+  pub in_front : IsTable table given columns faults rows
+  pub refused : IsRefusedHere table columns (text_of events t) (ended_in events t) given row reason
+
+-- the texts so far, of which this holds
+abbrev pub SoFar : {R : Type 0} → (R → Option (List ℕ)) → List ℕ → List ℕ → List (Counted R) → List (Counted R) → (Plan → List Event → Type 0) → Type 0
+SoFar remaining meta base olds news P = (plan : Plan) × (events : List Event) × ReadsGroup remaining meta base olds news plan events × P plan events
+
+-- a reader failed, or many reads were made
+abbrev pub ReadsFail : {R : Type 0} → (R → Option (List ℕ)) → List ℕ → List ℕ → List (Counted R) → List (Counted R) → Type 0
+ReadsFail remaining meta base olds news = OneFailed olds news ⊎ SoFar remaining meta base olds news (λ plan events. AreMany events)
+
+-- readers and tables differ in number
+pub record Differ {R : Type 0} (meta base : List ℕ) (olds : List (Counted R)) : Type 0 where
+  pub plan : Plan
+  pub planned : IsPlanned meta base plan
+  pub apart : length olds ≢ length plan.tables
+
+-- Why a run stops. Of want of memory nothing is said.
+abbrev pub StopsSo : {R : Type 0} → (R → Option (List ℕ)) → List ℕ → List ℕ → List (Counted R) → List (Counted R) → Stream → Stream → Stop → Type 0
+StopsSo remaining meta base olds news out report_out stop.Memory = Unit {0}
+StopsSo remaining meta base olds news out report_out stop.Read = ReadsFail remaining meta base olds news × IsIdle report_out
+StopsSo remaining meta base olds news out report_out stop.Write = Rises out ⊎ Rises report_out
+StopsSo remaining meta base olds news out report_out (stop.Meta fault) = Contains (document base meta).faults fault × IsIdle out × IsIdle report_out
+StopsSo remaining meta base olds news out report_out stop.TableCount = Differ meta base olds × IsIdle out × IsIdle report_out
+StopsSo remaining meta base olds news out report_out (stop.Rows t row reason) =
+    SoFar remaining meta base olds news (λ plan events. StopsInText plan events t row reason) × IsIdle report_out
+StopsSo remaining meta base olds news out report_out (stop.Table t row reason) =
+    SoFar remaining meta base olds news (λ plan events. RefusedInText plan events t row reason) × IsIdle report_out
+StopsSo remaining meta base olds news out report_out stop.UnknownTable = ⊥
+StopsSo remaining meta base olds news out report_out stop.AfterEnd = ⊥
+StopsSo remaining meta base olds news out report_out stop.NotEnded = ⊥
+StopsSo remaining meta base olds news out report_out stop.Failed = ⊥
+
+-- what a run over the document and the readers leaves, by its answer
+abbrev pub Runs : {R : Type 0} → (R → Option (List ℕ)) → List ℕ → List ℕ → Mode → List (Counted R) → List (Counted R) → Stream → Stream → Result Outcome Stop → Type 0
+Runs remaining meta base mode olds news out report_out (Ok outcome) = Succeeds remaining meta base mode olds news out report_out outcome
+Runs remaining meta base mode olds news out report_out (Err reason) = StopsSo remaining meta base olds news out report_out reason

@@ -1,0 +1,62 @@
+//! Runs over a group of tables.
+ghost use Rattle.std.specs.Prelude.{◌≡◌};
+ghost use Rattle.csvw_text.specs.Streams.{stream_of};
+ghost use Rattle.csvw_engine.specs.Reporting.{Reports};
+ghost use Rattle.csvw_engine.specs.Runs.{Runs};
+
+use crate::flush::{flush, flush_behind};
+use crate::group::convert_tables;
+use crate::plan::planned;
+use csvw_report::{Outcome, ReportStop, write_report};
+use csvw_session::Stop;
+use csvw_text::Counted;
+use csvw_triples_core::Mode;
+use std::alloc::Global;
+use std::io::{Read, Write};
+
+/// Writes the report of what the tables gave, if they were read to their ends.
+fn tell<V: Write>(
+    alloc: Global,
+    ran: Result<Outcome, Stop>,
+    report: &mut Counted<V>,
+) -> Result<Outcome, Stop>
+    ensures { Reports ran (stream_of V.contents report.old report.new) result }
+{
+    let outcome = ran?;
+    match write_report(alloc, outcome.faults.as_slice(), report) {
+        Ok(()) => Ok(outcome),
+        Err(ReportStop::Memory) => Err(Stop::Memory),
+        Err(ReportStop::Write) => Err(Stop::Write),
+    }
+}
+
+/// Reads a group of tables, as the metadata document `meta` at the URL `base` describes them: the nth reader has the text of the nth
+/// table. In mode `Minimal` it writes their graph to `out` (csv2rdf, section 4.2), in mode `Validate` nothing; then the faults to
+/// `report`, in order. Tables are read one after the other, in pieces of at most 65,536 bytes. At the end each writer is flushed
+/// once. Rows in front of a stop are written, and `out` is flushed, before it is answered; after a failed write nothing more is sent.
+///
+/// `Meta` with a fault of the document; `TableCount` where readers and tables differ in number; `Rows` and `Table` with the first row
+/// of a table that can't be read or annotated; `Read` and `Write` where a reader or writer failed in this call, `Read` also after
+/// 2^40 reads; `Memory` where there is none.
+pub fn run<R: Read, W: Write, V: Write>(
+    alloc: Global,
+    meta: &[u8],
+    base: &str,
+    readers: &mut [Counted<R>],
+    mode: Mode,
+    out: &mut Counted<W>,
+    report: &mut Counted<V>,
+) -> Result<Outcome, Stop>
+    ensures { Runs R.remaining meta.now base.now mode readers.old readers.new
+        (stream_of W.contents out.old out.new) (stream_of V.contents report.old report.new) result }
+{
+    let plan = planned(alloc, meta, base)?;
+    if readers.len() != plan.tables().len() {
+        return Err(Stop::TableCount);
+    }
+    let ran = convert_tables(alloc, plan, mode, readers, out);
+    let told = tell(alloc, ran, report);
+    let outcome = flush_behind(out, told)?;
+    flush(report)?;
+    Ok(outcome)
+}
