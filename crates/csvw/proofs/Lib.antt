@@ -1,3 +1,6 @@
-pub mod Asking
+pub mod Asked
+pub mod Documents
+pub mod Ending
+pub mod Opening
 pub mod Running
 pub mod Sending

@@ -1,6 +1,6 @@
 pub mod Answers
-pub mod Asked
 pub mod Commands
+pub mod Groups
 pub mod Lines
 pub mod MetaNames
 pub mod Names

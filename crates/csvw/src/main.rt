@@ -2,17 +2,19 @@
 #![tactic(auto)]
 
 mod command;
+mod group;
 mod names;
 mod opener;
-mod words;
+mod tell;
 
-use command::{command, tell_mistake, tell_stop};
+use command::command;
 use csvw_engine::Stop;
 use csvw_text::Counted;
 use opener::FileOpener;
 use std::io::{self, BufWriter, Stderr};
 use std::process::ExitCode;
 use std::{env, fs};
+use tell::{tell_mistake, tell_stop};
 
 /// Runs the program on the words and streams of its process. At the end the buffer of standard output is
 /// let go unsent: it is empty, or what a failed write left of it.

@@ -52,7 +52,7 @@ fn line_buffered<'a>(alloc: Global) -> Arg<'a>
     flag(
         alloc,
         LINE_BUFFERED,
-        "Sends each line as soon as it is whole, as in `tail -f t.csv | csvw plain --line-buffered URL -`",
+        "Is to send each line as soon as it is whole, as in `csvw plain --line-buffered URL t.csv`; so far it changes nothing",
     )
 }
 
@@ -73,9 +73,10 @@ fn files<'a>(alloc: Global) -> Arg<'a>
     ensures rule { rule_of result ≡ files_rule }
     ensures local { result.global ≡ false }
 {
-    Arg::new(alloc, FILE).required(true).num_args(1..).help(
-        "The CSV file of each table, in the order of the metadata; `-` is standard input",
-    )
+    Arg::new(alloc, FILE)
+        .required(true)
+        .num_args(1..)
+        .help("The CSV file of each table, in the order of the metadata")
 }
 
 /// A subcommand on a group of tables.
@@ -87,11 +88,7 @@ fn group_command<'a>(
     ensures app { IfOk result (λ command. app_of command ≡ group_app name.entry.now) }
     ensures local { IfOk result (λ command. (out-Command command).has_globals ≡ false) }
 {
-    let meta = required_word(
-        alloc,
-        META,
-        "The file with the metadata document; `-` is standard input",
-    );
+    let meta = required_word(alloc, META, "The file with the metadata document");
     Command::new(alloc, name)
         .about(about)
         .arg(base(alloc))?
@@ -140,7 +137,7 @@ fn plain_command<'a>(alloc: Global) -> Result<Command<'a>, AllocError>
     let file = required_word(
         alloc,
         FILE,
-        "The CSV file: UTF-8, with one header row that names the columns; `-` is standard input",
+        "The CSV file: UTF-8, with one header row that names the columns",
     );
     Command::new(alloc, PLAIN)
         .about("Converts one CSV file without metadata to N-Triples on standard output")

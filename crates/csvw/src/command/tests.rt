@@ -1,5 +1,5 @@
 //! Runs of the program over files in memory.
-ghost use Rattle.std.specs.Prelude.{◌≡◌, IfSome};
+ghost use Rattle.std.specs.Prelude.{◌≡◌};
 
 use crate::command::command;
 use crate::opener::Opener;
@@ -8,22 +8,30 @@ use std::alloc::{AllocError, Global};
 use std::io::{self, Write};
 use std::test::Fail;
 
-/// One file, of any path but `missing.csv`.
-struct OneFile<'a> {
+/// A file in memory.
+#[derive(Clone, Copy)]
+struct File<'a> {
+    path: &'a str,
     bytes: &'a [u8],
 }
 
-impl<'a> Opener for OneFile<'a> {
+/// The files that there are.
+struct Files<'a> {
+    files: &'a [File<'a>],
+}
+
+impl<'a> Opener for Files<'a> {
     type Reader = &'a [u8];
 
-    ghost opens = { λ old _ opened _. IfSome opened (λ reader. reader ≡ old.bytes) };
+    ghost opens = { λ old _ _ new. new.files ≡ old.files };
 
     fn open(&mut self, path: &str) -> Option<&'a [u8]> {
-        if path == "missing.csv" {
-            None
-        } else {
-            Some(self.bytes)
+        for file in self.files {
+            if file.path == path {
+                return Some(file.bytes);
+            }
         }
+        None
     }
 }
 
@@ -60,16 +68,16 @@ struct Ran {
     err: Vec<u8>,
 }
 
-fn run(alloc: Global, words: &[&str], file: &[u8]) -> Result<Ran, AllocError> {
+fn run(alloc: Global, words: &[&str], files: &[File<'_>]) -> Result<Ran, AllocError> {
     let mut owned = Vec::new(alloc);
     for word in words {
         owned.push(String::from_str(alloc, word)?)?;
     }
-    let mut opener = OneFile { bytes: file };
+    let mut opener = Files { files };
     let mut out = Counted::new(Vec::new(alloc));
     let mut err = Counted::new(Vec::new(alloc));
     let status = command(alloc, owned.as_slice(), &mut opener, &mut out, &mut err);
-    let OneFile { bytes: _ } = opener;
+    let Files { files: _ } = opener;
     Ok(Ran {
         status,
         out: out.into_inner(),
@@ -81,7 +89,10 @@ fn plain(alloc: Global, file: &[u8]) -> Result<Ran, AllocError> {
     run(
         alloc,
         &["csvw", "plain", "http://example.org/p.csv", "p.csv"],
-        file,
+        &[File {
+            path: "p.csv",
+            bytes: file,
+        }],
     )
 }
 
@@ -184,13 +195,17 @@ fn tells_a_header_that_names_no_columns(rt: HostRuntime) -> Result<(), Fail> {
 #[test]
 fn tells_a_url_that_is_none(rt: HostRuntime) -> Result<(), Fail> {
     let alloc = rt.alloc();
-    let ran = run(alloc, &["csvw", "plain", "p.csv", "p.csv"], b"a\n1\n")?;
+    let files = [File {
+        path: "p.csv",
+        bytes: b"a\n1\n",
+    }];
+    let ran = run(alloc, &["csvw", "plain", "p.csv", "p.csv"], &files)?;
     assert!(rt; ran.is(3, b"", b"csvw: metadata BadUrl /url\n"));
     let url = letters(alloc, b"http://example.org/", 65_536)?;
     let Ok(url) = String::from_utf8(url) else {
         return Err(Fail::from("text"));
     };
-    let ran = run(alloc, &["csvw", "plain", url.as_str(), "p.csv"], b"a\n1\n")?;
+    let ran = run(alloc, &["csvw", "plain", url.as_str(), "p.csv"], &files)?;
     assert!(rt; ran.is(3, b"", b"csvw: metadata UrlTooLong /url\n"));
     Ok(())
 }
@@ -200,7 +215,7 @@ fn tells_a_missing_file(rt: HostRuntime) -> Result<(), Fail> {
     let ran = run(
         rt.alloc(),
         &["csvw", "plain", "http://example.org/p.csv", "missing.csv"],
-        b"",
+        &[],
     )?;
     assert!(rt; ran.is(4, b"", b"csvw: Read\n"));
     Ok(())
@@ -213,16 +228,18 @@ fn tells_a_writer_that_fails(rt: HostRuntime) -> Result<(), Fail> {
     for word in ["csvw", "plain", "http://example.org/p.csv", "p.csv"] {
         words.push(String::from_str(alloc, word)?)?;
     }
-    let mut opener = OneFile {
+    let files = [File {
+        path: "p.csv",
         bytes: b"id,name\n1,Ann\n",
-    };
+    }];
+    let mut opener = Files { files: &files };
     let mut out = Counted::new(FailingWriter {
         room: 50,
         taken: Vec::new(alloc),
     });
     let mut err = Counted::new(Vec::new(alloc));
     let status = command(alloc, words.as_slice(), &mut opener, &mut out, &mut err);
-    let OneFile { bytes: _ } = opener;
+    let Files { files: _ } = opener;
     assert_eq!(rt; status, 4);
     assert!(rt; err.into_inner().as_slice() == b"csvw: Write\n".as_slice());
     let front = b"_:t1r1s <http://example.org/p.csv#id> \"1\" .\n_:t1r1";
@@ -251,13 +268,15 @@ fn tells_a_flush_that_fails_in_place_of_a_stop(rt: HostRuntime) -> Result<(), Fa
     for word in ["csvw", "plain", "http://example.org/p.csv", "p.csv"] {
         words.push(String::from_str(alloc, word)?)?;
     }
-    let mut opener = OneFile {
+    let files = [File {
+        path: "p.csv",
         bytes: b"id\n1\n2,3\n",
-    };
+    }];
+    let mut opener = Files { files: &files };
     let mut out = Counted::new(FullDevice);
     let mut err = Counted::new(Vec::new(alloc));
     let status = command(alloc, words.as_slice(), &mut opener, &mut out, &mut err);
-    let OneFile { bytes: _ } = opener;
+    let Files { files: _ } = opener;
     assert_eq!(rt; status, 4);
     assert_eq!(rt; out.failures(), 1);
     assert!(rt; err.into_inner().as_slice() == b"csvw: Write\n".as_slice());
@@ -266,7 +285,7 @@ fn tells_a_flush_that_fails_in_place_of_a_stop(rt: HostRuntime) -> Result<(), Fa
 
 #[test]
 fn help_goes_to_standard_output(rt: HostRuntime) -> Result<(), Fail> {
-    let ran = run(rt.alloc(), &["csvw", "plain", "--help"], b"")?;
+    let ran = run(rt.alloc(), &["csvw", "plain", "--help"], &[])?;
     assert!(rt; ran.status == 0 && !ran.out.is_empty() && ran.err.is_empty());
     Ok(())
 }
@@ -274,9 +293,159 @@ fn help_goes_to_standard_output(rt: HostRuntime) -> Result<(), Fail> {
 #[test]
 fn a_wrong_command_line_is_refused(rt: HostRuntime) -> Result<(), Fail> {
     let alloc = rt.alloc();
-    let ran = run(alloc, &["csvw", "plain", "http://example.org/p.csv"], b"")?;
+    let ran = run(alloc, &["csvw", "plain", "http://example.org/p.csv"], &[])?;
     assert!(rt; ran.status == 2 && ran.out.is_empty() && !ran.err.is_empty());
-    let ran = run(alloc, &["csvw", "convert-all"], b"")?;
+    let ran = run(alloc, &["csvw", "convert-all"], &[])?;
     assert!(rt; ran.status == 2 && ran.out.is_empty() && !ran.err.is_empty());
+    Ok(())
+}
+
+const PLAIN_META: &[u8] = br#"{"@context":"http://www.w3.org/ns/csvw","url":"p.csv"}"#;
+
+const REQUIRED_META: &[u8] =
+    br#"{"@context":"http://www.w3.org/ns/csvw","url":"p.csv","tableSchema":{"columns":[{"name":"id","required":true},{"name":"name"}]}}"#;
+
+const HEADING: &[u8] = b"kind,code,table,row,column\n";
+
+const VALIDATE: [&str; 6] = [
+    "csvw",
+    "validate",
+    "--base",
+    "http://example.org/",
+    "m.json",
+    "p.csv",
+];
+
+const CONVERT: [&str; 7] = [
+    "csvw",
+    "convert",
+    "--minimal",
+    "--base",
+    "http://example.org/",
+    "m.json",
+    "p.csv",
+];
+
+fn group<'a>(meta: &'a [u8], table: &'a [u8]) -> [File<'a>; 2] {
+    [
+        File {
+            path: "m.json",
+            bytes: meta,
+        },
+        File {
+            path: "p.csv",
+            bytes: table,
+        },
+    ]
+}
+
+#[test]
+fn a_valid_group_has_an_empty_report(rt: HostRuntime) -> Result<(), Fail> {
+    let files = group(PLAIN_META, b"id,name\n1,Ann\n");
+    let ran = run(rt.alloc(), &VALIDATE, &files)?;
+    assert!(rt; ran.is(0, HEADING, b""));
+    Ok(())
+}
+
+#[test]
+fn a_group_is_converted(rt: HostRuntime) -> Result<(), Fail> {
+    let files = group(PLAIN_META, b"id,name\n1,Ann\n");
+    let ran = run(rt.alloc(), &CONVERT, &files)?;
+    let lines =
+        b"_:t1r1s <http://example.org/p.csv#id> \"1\" .\n_:t1r1s <http://example.org/p.csv#name> \"Ann\" .\n";
+    assert!(rt; ran.is(0, lines, HEADING));
+    Ok(())
+}
+
+#[test]
+fn a_fault_is_reported(rt: HostRuntime) -> Result<(), Fail> {
+    let alloc = rt.alloc();
+    let files = group(REQUIRED_META, b"id,name\n,Ann\n");
+    let report = b"kind,code,table,row,column\nerror,Required,1,2,1\n";
+    assert!(rt; run(alloc, &VALIDATE, &files)?.is(1, report, b""));
+    let line = b"_:t1r1s <http://example.org/p.csv#name> \"Ann\" .\n";
+    assert!(rt; run(alloc, &CONVERT, &files)?.is(1, line, report));
+    Ok(())
+}
+
+#[test]
+fn tells_why_a_group_stops(rt: HostRuntime) -> Result<(), Fail> {
+    let alloc = rt.alloc();
+    let files = group(b"{", b"id\n");
+    for words in [VALIDATE.as_slice(), CONVERT.as_slice()] {
+        assert!(rt; run(alloc, words, &files)?.is(3, b"", b"csvw: metadata NotJson \n"));
+    }
+    let files = group(PLAIN_META, b"id\n1\n2,3\n");
+    let ragged = b"csvw: RaggedRow table 1 row 3\n";
+    assert!(rt; run(alloc, &VALIDATE, &files)?.is(3, b"", ragged));
+    let line = b"_:t1r1s <http://example.org/p.csv#id> \"1\" .\n";
+    assert!(rt; run(alloc, &CONVERT, &files)?.is(3, line, ragged));
+    Ok(())
+}
+
+#[test]
+fn tells_another_number_of_files(rt: HostRuntime) -> Result<(), Fail> {
+    let words = [
+        "csvw",
+        "validate",
+        "--base",
+        "http://example.org/",
+        "m.json",
+        "p.csv",
+        "p.csv",
+    ];
+    let files = group(PLAIN_META, b"id\n");
+    let ran = run(rt.alloc(), &words, &files)?;
+    assert!(rt; ran.is(3, b"", b"csvw: TableCount\n"));
+    Ok(())
+}
+
+#[test]
+fn tells_a_missing_file_of_a_group(rt: HostRuntime) -> Result<(), Fail> {
+    let alloc = rt.alloc();
+    let files = group(PLAIN_META, b"id\n");
+    for words in [VALIDATE.as_slice(), CONVERT.as_slice()] {
+        assert!(rt; run(alloc, words, &files[..1])?.is(4, b"", b"csvw: Read\n"));
+        assert!(rt; run(alloc, words, &files[1..])?.is(4, b"", b"csvw: Read\n"));
+    }
+    Ok(())
+}
+
+#[test]
+fn tells_metadata_that_is_too_long(rt: HostRuntime) -> Result<(), Fail> {
+    let alloc = rt.alloc();
+    let mut meta = Vec::from_slice(alloc, PLAIN_META)?;
+    let room = 1_048_576 - meta.len();
+    for _ in 0..room {
+        meta.push(b' ')?;
+    }
+    let files = group(meta.as_slice(), b"id,name\n");
+    assert!(rt; run(alloc, &VALIDATE, &files)?.is(0, HEADING, b""));
+    meta.push(b' ')?;
+    let files = group(meta.as_slice(), b"id,name\n");
+    assert!(rt; run(alloc, &VALIDATE, &files)?.is(3, b"", b"csvw: metadata TooLong \n"));
+    Ok(())
+}
+
+#[test]
+fn a_conversion_is_minimal(rt: HostRuntime) -> Result<(), Fail> {
+    let words = [
+        "csvw",
+        "convert",
+        "--base",
+        "http://example.org/",
+        "m.json",
+        "p.csv",
+    ];
+    let files = group(PLAIN_META, b"id,name\n1,Ann\n");
+    let ran = run(rt.alloc(), &words, &files)?;
+    assert!(rt; ran.is(2, b"", b"csvw: --minimal is needed\n"));
+    Ok(())
+}
+
+#[test]
+fn the_version_goes_to_standard_output(rt: HostRuntime) -> Result<(), Fail> {
+    let ran = run(rt.alloc(), &["csvw", "--version"], &[])?;
+    assert!(rt; ran.is(0, b"csvw 0.1.0 (rattle 0.0.0)\n", b""));
     Ok(())
 }

@@ -2,7 +2,7 @@
 use Rattle.std.proofs.Common.{[], ◌∷◌, inr}
 use Rattle.csvw_text.specs.Counted.{inner_of, failures_of}
 use Rattle.csvw.proofs.Sending.{cut_first, tells_second}
-use Rattle.csvw.proofs.command.send_line.Goals as goal
+use Rattle.csvw.proofs.tell.send_line.Goals as goal
 
 pub returns-then-send : goal.returns-then-send
 returns-then-send g c =

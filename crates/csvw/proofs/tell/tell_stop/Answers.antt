@@ -2,8 +2,8 @@
 use Rattle.std.proofs.Common.{rules, [], ◌∷◌, ◌++◌, ◌≡◌, inl, inr, subst}
 use Rattle.csvw.specs.Lines.{line_of}
 use Rattle.csvw_text.specs.Streams.{Tells, stream_of}
-use Rattle.csvw.proofs.command.tell_stop.Goals.{in-Ok, in-Err}
-use Rattle.csvw.proofs.command.tell_stop.Goals as goal
+use Rattle.csvw.proofs.tell.tell_stop.Goals.{in-Ok, in-Err}
+use Rattle.csvw.proofs.tell.tell_stop.Goals as goal
 
 pub returns : goal.returns
 returns g c = (

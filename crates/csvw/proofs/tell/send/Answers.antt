@@ -1,7 +1,7 @@
 -- A write that was cut.
 use Rattle.csvw_text.specs.Counted.{inner_of, failures_of}
 use Rattle.csvw.proofs.Sending.{cut_write}
-use Rattle.csvw.proofs.command.send.Goals as goal
+use Rattle.csvw.proofs.tell.send.Goals as goal
 
 pub returns-in_default-clause-cut : goal.returns-in_default-clause-cut
 returns-in_default-clause-cut g c =

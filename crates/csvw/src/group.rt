@@ -1,0 +1,148 @@
+//! Runs over the files of a group of tables.
+ghost use Rattle.std.specs.Prelude.{◌≡◌, ◌≤◌, IfErr, IfOk, map};
+ghost use Rattle.csvw.specs.Groups.{EndsSo, IsDocument, IsReadStop, OpensAll, OpensGroup, OpensNot, RunsGroup, StopsOpening};
+ghost use Rattle.csvw_text.specs.Streams.{stream_of};
+ghost use Rattle.csvw_triples_core.specs.declared.mode.Mode.TheVariants as mode;
+
+use crate::opener::Opener;
+use crate::tell::{outcome_status, tell_stop};
+use csvw_engine::{Outcome, Stop, run};
+use csvw_text::Counted;
+use csvw_triples_core::Mode;
+use csvw_words::Group;
+use std::alloc::Global;
+use std::io::{ErrorKind, Read, Write};
+
+/// How many bytes of metadata are read at most: one more than a document may have.
+const META_BYTES: u64 = 1_048_577;
+
+/// What a run over a group reads.
+#[derive(Drop)]
+struct Opened<R> {
+    /// The bytes of the metadata document.
+    meta: Vec<u8>,
+    /// The files of the tables.
+    readers: Vec<Counted<R>>,
+}
+
+fn read_meta<R: Read + Drop>(alloc: Global, reader: R) -> Result<Vec<u8>, Stop>
+    ensures document { IfOk result (λ bytes. IsDocument (R.remaining reader) bytes.items) }
+    ensures stop { IfErr result IsReadStop }
+{
+    let mut bytes = Vec::new(alloc);
+    let mut front = reader.take(META_BYTES);
+    match front.read_to_end(&mut bytes) {
+        Ok(_) => Ok(bytes),
+        Err(fault) if fault.kind() == ErrorKind::OutOfMemory => Err(Stop::Memory),
+        Err(_) => Err(Stop::Read),
+    }
+}
+
+/// Opens the files of all tables.
+fn open_all<O: Opener>(
+    alloc: Global,
+    files: &[&str],
+    opener: &mut O,
+) -> Result<Vec<Counted<O::Reader>>, Stop>
+    ensures opened { IfOk result (λ readers. OpensAll O.opens opener.old (map (λ file. file.now) files.now) readers.items opener.new) }
+    ensures stop { IfErr result (λ reason. StopsOpening O.opens opener.old (map (λ file. file.now) files.now) opener.new reason) }
+{
+    let mut readers = Vec::new(alloc);
+    for file in files {
+        let Some(reader) = opener.open(file) else {
+            return Err(Stop::Read);
+        };
+        let Ok(()) = readers.push(Counted::new(reader)) else {
+            return Err(Stop::Memory);
+        };
+    }
+    Ok(readers)
+}
+
+/// Opens and reads the metadata, and opens the files behind it.
+fn open_group<O: Opener>(
+    alloc: Global,
+    group: &Group<'_>,
+    opener: &mut O,
+) -> Result<Opened<O::Reader>, Stop>
+    ensures opened { IfOk result (λ opened. OpensGroup O.opens O.Reader.remaining group.now opener.old opener.new opened.meta.items opened.readers.items) }
+    ensures stop { IfErr result (λ reason. OpensNot O.opens group.now opener.old opener.new reason) }
+{
+    let Some(reader) = opener.open(group.meta) else {
+        return Err(Stop::Read);
+    };
+    let meta = read_meta(alloc, reader)?;
+    let readers = open_all(alloc, group.files.as_slice(), opener)?;
+    Ok(Opened { meta, readers })
+}
+
+/// The status of a run, whose stop is told.
+fn tell_end<V: Write>(alloc: Global, ran: &Result<Outcome, Stop>, err: &mut Counted<V>) -> u8
+    ensures end { EndsSo ran.now (stream_of V.contents err.old err.new) result }
+    ensures bound { result ≤ 4 }
+{
+    match ran {
+        Ok(outcome) => outcome_status(outcome),
+        Err(stop) => tell_stop(alloc, stop, err),
+    }
+}
+
+/// Reports the faults of a group on `out`.
+pub fn validate<O: Opener, W: Write, V: Write>(
+    alloc: Global,
+    group: &Group<'_>,
+    opener: &mut O,
+    out: &mut Counted<W>,
+    err: &mut Counted<V>,
+) -> u8
+    ensures runs { RunsGroup O.opens O.Reader.remaining mode.Validate group.now opener.old opener.new
+        (stream_of W.contents out.old out.new) (stream_of V.contents err.old err.new) result }
+    ensures bound { result ≤ 4 }
+{
+    match open_group(alloc, group, opener) {
+        Ok(Opened { meta, mut readers }) => {
+            let input = meta.as_slice();
+            let ran = run(
+                alloc,
+                input,
+                group.base,
+                readers.as_mut_slice(),
+                Mode::Validate,
+                err,
+                out,
+            );
+            tell_end(alloc, &ran, err)
+        }
+        Err(stop) => tell_stop(alloc, &stop, err),
+    }
+}
+
+/// Writes the graph of a group to `out`, and reports its faults on `err`.
+pub fn convert<O: Opener, W: Write, V: Write>(
+    alloc: Global,
+    group: &Group<'_>,
+    opener: &mut O,
+    out: &mut Counted<W>,
+    err: &mut Counted<V>,
+) -> u8
+    ensures runs { RunsGroup O.opens O.Reader.remaining mode.Minimal group.now opener.old opener.new
+        (stream_of W.contents out.old out.new) (stream_of V.contents err.old err.new) result }
+    ensures bound { result ≤ 4 }
+{
+    match open_group(alloc, group, opener) {
+        Ok(Opened { meta, mut readers }) => {
+            let input = meta.as_slice();
+            let ran = run(
+                alloc,
+                input,
+                group.base,
+                readers.as_mut_slice(),
+                Mode::Minimal,
+                out,
+                err,
+            );
+            tell_end(alloc, &ran, err)
+        }
+        Err(stop) => tell_stop(alloc, &stop, err),
+    }
+}
