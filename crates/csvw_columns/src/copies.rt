@@ -2,9 +2,8 @@
 ghost use Rattle.std.specs.Prelude.{◌≡◌, IfOk};
 ghost use Rattle.csvw_columns_core.specs.HeaderColumns.{no_inherited};
 
-use crate::both::both;
 use csvw_description::Inherited;
-use csvw_text::copied_option;
+use csvw_text::{both, copied_option};
 use std::alloc::{AllocError, Global};
 
 /// An equal one, which shares its templates, texts and datatype; `AllocError` where there is no memory.

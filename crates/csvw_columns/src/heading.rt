@@ -6,7 +6,6 @@ ghost use Rattle.csvw_columns_core.specs.SchemaColumns.{column_limit, declared_c
 ghost use Rattle.csvw_columns.specs.HeaderMatch.{columns_of, header_columns, frame_of, IsWithin, GivesColumns, Matches};
 ghost use Rattle.csvw_columns.specs.Ready.{AreSound, IsReady};
 
-use crate::both::both;
 use crate::copies::copied_inherited;
 use crate::names::are_named_apart;
 use crate::plan::TablePlan;
@@ -15,7 +14,7 @@ use csvw_columns_core::{
     COLUMN_LIMIT, Column, Columns, Defaults, Frame, HeaderRow, SKIP_LIMIT, column_count,
     from_header, header_faults,
 };
-use csvw_text::{Fault, Seq, copied_option};
+use csvw_text::{Fault, Seq, both, copied_option};
 use std::alloc::{AllocError, Global};
 
 /// What its columns have of the table.

@@ -1,7 +1,6 @@
 //! The plan of a group of tables: which columns each table has, and how its header fits them.
 #![tactic(auto)]
 
-mod both;
 mod building;
 mod checks;
 mod choices;

@@ -8,7 +8,6 @@ ghost use Rattle.csvw_columns.specs.Fit.{table_limit, IsFitDialect, IsFitSchema,
 ghost use Rattle.csvw_columns.specs.Known.{IsKnown};
 ghost use Rattle.csvw_columns.specs.PlanOf.{dialect_of, no_schema, schema_of, targets_of, table_plan, table_plans, plan_of};
 
-use crate::both::both;
 use crate::choices::{dialect_of, schema_of};
 use crate::copies::{copied_inherited, no_inherited};
 use crate::plan::{Plan, TablePlan};
@@ -16,7 +15,7 @@ use crate::references::{Keys, Targets, keys_of, targets_of};
 use crate::warnings::unknown;
 use csvw_columns_core::{Column, Defaults, Frame};
 use csvw_description::{Description, Inherited, Note, Schema, TableDescription};
-use csvw_text::{Seq, copied_option};
+use csvw_text::{Seq, both, copied_option};
 use std::alloc::{AllocError, Global};
 use std::mem;
 

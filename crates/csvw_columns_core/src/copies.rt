@@ -3,7 +3,7 @@ ghost use Rattle.std.specs.Prelude.{◌≡◌, IfOk};
 
 use crate::column::Column;
 use crate::properties::Properties;
-use csvw_text::{Copied, copied_option};
+use csvw_text::{Copied, both, copied_option};
 use std::alloc::{AllocError, Global};
 
 impl Properties {
@@ -11,17 +11,30 @@ impl Properties {
     pub fn clone(&self, alloc: Global) -> Result<Properties, AllocError>
         ensures { IfOk result (λ p. p ≡ self.now) }
     {
+        let about_url = copied_option(alloc, &self.about_url);
+        let property_url = copied_option(alloc, &self.property_url);
+        let value_url = copied_option(alloc, &self.value_url);
+        let datatype = self.datatype.clone(alloc);
+        let default = self.default.clone(alloc);
+        let lang = self.lang.clone(alloc);
+        let null = self.null.clone(alloc);
+        let separator = copied_option(alloc, &self.separator);
+        let urls = both(both(about_url, property_url), both(value_url, datatype));
+        let texts = both(both(default, lang), both(null, separator));
+        let (urls, texts) = both(urls, texts)?;
+        let ((about_url, property_url), (value_url, datatype)) = urls;
+        let ((default, lang), (null, separator)) = texts;
         Ok(Properties {
-            about_url: copied_option(alloc, &self.about_url)?,
-            property_url: copied_option(alloc, &self.property_url)?,
-            value_url: copied_option(alloc, &self.value_url)?,
-            datatype: self.datatype.clone(alloc)?,
-            default: self.default.clone(alloc)?,
-            lang: self.lang.clone(alloc)?,
-            null: self.null.clone(alloc)?,
+            about_url,
+            property_url,
+            value_url,
+            datatype,
+            default,
+            lang,
+            null,
             ordered: self.ordered,
             required: self.required,
-            separator: copied_option(alloc, &self.separator)?,
+            separator,
         })
     }
 }
@@ -31,17 +44,23 @@ impl Column {
     pub fn clone(&self, alloc: Global) -> Result<Column, AllocError>
         ensures { IfOk result (λ c. c ≡ self.now) }
     {
+        let names = both(self.name.clone(alloc), self.titles.clone(alloc));
+        let predicate = self.predicate.clone(alloc);
+        let iris = both(predicate, self.literal_datatype.clone(alloc));
+        let (names, (iris, properties)) = both(names, both(iris, self.properties.clone(alloc)))?;
+        let (name, titles) = names;
+        let (predicate, literal_datatype) = iris;
         Ok(Column {
-            name: self.name.clone(alloc)?,
+            name,
             is_named: self.is_named,
-            titles: self.titles.clone(alloc)?,
+            titles,
             number: self.number,
             source_number: self.source_number,
             is_virtual: self.is_virtual,
             suppressed: self.suppressed,
-            predicate: self.predicate.clone(alloc)?,
-            literal_datatype: self.literal_datatype.clone(alloc)?,
-            properties: self.properties.clone(alloc)?,
+            predicate,
+            literal_datatype,
+            properties,
         })
     }
 }

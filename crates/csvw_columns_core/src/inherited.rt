@@ -1,10 +1,10 @@
 //! The properties of a column, with what it inherits.
-ghost use Rattle.std.specs.Prelude.{◌≡◌, IfOk, unwrap_or, false};
+ghost use Rattle.std.specs.Prelude.{◌≡◌, Option, Ok, IfOk, unwrap_or, false};
 ghost use Rattle.csvw_columns_core.specs.Inherited.{IsDefaults, first_of, inherited, inherited_or_none, properties_of};
 
 use crate::properties::{Defaults, Properties};
 use csvw_description::Inherited;
-use csvw_text::{Copied, copied_option};
+use csvw_text::{Copied, both, copied_option};
 use std::alloc::{AllocError, Global};
 
 fn first_of<'a, T>(inner: &'a Option<T>, outer: &'a Option<T>) -> &'a Option<T>
@@ -45,15 +45,15 @@ fn is_set(
     column.or(schema).or(table).or(group).unwrap_or(false)
 }
 
-/// The value, or where there is none a copy of the default.
-fn or_default<T: Copied + Drop>(
+/// The value that was found, or where there is none a copy of the default.
+fn found_or<T: Copied + Drop>(
     alloc: Global,
-    value: Option<T>,
+    found: Result<Option<T>, AllocError>,
     default: &T,
 ) -> Result<T, AllocError>
-    ensures { IfOk result (λ x. x ≡ unwrap_or value default.now) }
+    ensures { IfOk result (λ x. (value : Option T) × (found ≡ Ok value) × (x ≡ unwrap_or value default.now)) }
 {
-    match value {
+    match found? {
         Some(x) => Ok(x),
         None => default.copied(alloc),
     }
@@ -74,46 +74,55 @@ impl Defaults {
         requires { IsDefaults self.now }
         ensures { IfOk result (λ p. p ≡ properties_of c.now s.now t.now g.now) }
     {
-        let datatype = found(alloc, &c.datatype, &s.datatype, &t.datatype, &g.datatype)?;
-        let default = found(alloc, &c.default, &s.default, &t.default, &g.default)?;
-        let lang = found(alloc, &c.lang, &s.lang, &t.lang, &g.lang)?;
-        let null = found(alloc, &c.null, &s.null, &t.null, &g.null)?;
-        let separator = found(
-            alloc,
-            &c.separator,
-            &s.separator,
-            &t.separator,
-            &g.separator,
-        )?;
         let about_url = found(
             alloc,
             &c.about_url,
             &s.about_url,
             &t.about_url,
             &g.about_url,
-        )?;
+        );
         let property_url = found(
             alloc,
             &c.property_url,
             &s.property_url,
             &t.property_url,
             &g.property_url,
-        )?;
+        );
         let value_url = found(
             alloc,
             &c.value_url,
             &s.value_url,
             &t.value_url,
             &g.value_url,
-        )?;
+        );
+        let datatype = found(alloc, &c.datatype, &s.datatype, &t.datatype, &g.datatype);
+        let default = found(alloc, &c.default, &s.default, &t.default, &g.default);
+        let lang = found(alloc, &c.lang, &s.lang, &t.lang, &g.lang);
+        let null = found(alloc, &c.null, &s.null, &t.null, &g.null);
+        let separator = found(
+            alloc,
+            &c.separator,
+            &s.separator,
+            &t.separator,
+            &g.separator,
+        );
+        let datatype = found_or(alloc, datatype, &self.datatype);
+        let default = found_or(alloc, default, &self.default);
+        let lang = found_or(alloc, lang, &self.lang);
+        let null = found_or(alloc, null, &self.null);
+        let urls = both(both(about_url, property_url), both(value_url, datatype));
+        let texts = both(both(default, lang), both(null, separator));
+        let (urls, texts) = both(urls, texts)?;
+        let ((about_url, property_url), (value_url, datatype)) = urls;
+        let ((default, lang), (null, separator)) = texts;
         Ok(Properties {
             about_url,
             property_url,
             value_url,
-            datatype: or_default(alloc, datatype, &self.datatype)?,
-            default: or_default(alloc, default, &self.default)?,
-            lang: or_default(alloc, lang, &self.lang)?,
-            null: or_default(alloc, null, &self.null)?,
+            datatype,
+            default,
+            lang,
+            null,
             ordered: is_set(c.ordered, s.ordered, t.ordered, g.ordered),
             required: is_set(c.required, s.required, t.required, g.required),
             separator: separator.unwrap_or(None),

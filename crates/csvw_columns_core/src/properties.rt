@@ -4,7 +4,7 @@ ghost use Rattle.csvw_columns_core.specs.Inherited.{IsDefaults};
 
 use csvw_datatype::{Datatype, Facets, Simple};
 use csvw_template::Template;
-use csvw_text::{LanguageTag, Seq, Shared, Text};
+use csvw_text::{LanguageTag, Seq, Shared, Text, both};
 use std::alloc::{AllocError, Global};
 
 /// The inherited properties of a column, each with its value, or with its default where no object has it (Metadata
@@ -59,11 +59,16 @@ impl Defaults {
         };
         let mut null = Seq::new(alloc);
         null.push(Text::new(alloc))?;
+        let lang = undetermined(alloc)?;
+        let datatype = Shared::new(alloc, datatype);
+        let default = Shared::new(alloc, Text::new(alloc));
+        let texts = both(Shared::new(alloc, lang), Shared::new(alloc, null));
+        let ((datatype, default), (lang, null)) = both(both(datatype, default), texts)?;
         Ok(Defaults {
-            datatype: Shared::new(alloc, datatype)?,
-            default: Shared::new(alloc, Text::new(alloc))?,
-            lang: Shared::new(alloc, undetermined(alloc)?)?,
-            null: Shared::new(alloc, null)?,
+            datatype,
+            default,
+            lang,
+            null,
         })
     }
 }

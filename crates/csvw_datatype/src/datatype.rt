@@ -5,7 +5,7 @@ use crate::format::Format;
 use crate::simple::Simple;
 use crate::value::Value;
 use csvw_iri::Iri;
-use csvw_text::copied_option;
+use csvw_text::{both, copied_option};
 use std::alloc::{AllocError, Global};
 
 /// What values a column takes besides their type (Metadata Vocabulary for Tabular Data, section 5.11.2).
@@ -59,16 +59,27 @@ impl Facets {
     pub fn clone(&self, alloc: Global) -> Result<Facets, AllocError>
         ensures { IfOk result (λ f. f ≡ self.now) }
     {
+        let least = copied_option(alloc, &self.minimum);
+        let least_inclusive = copied_option(alloc, &self.min_inclusive);
+        let least_exclusive = copied_option(alloc, &self.min_exclusive);
+        let greatest = copied_option(alloc, &self.maximum);
+        let greatest_inclusive = copied_option(alloc, &self.max_inclusive);
+        let greatest_exclusive = copied_option(alloc, &self.max_exclusive);
+        let lower = both(least, both(least_inclusive, least_exclusive));
+        let upper = both(greatest, both(greatest_inclusive, greatest_exclusive));
+        let (lower, upper) = both(lower, upper)?;
+        let (minimum, (min_inclusive, min_exclusive)) = lower;
+        let (maximum, (max_inclusive, max_exclusive)) = upper;
         Ok(Facets {
             length: self.length,
             min_length: self.min_length,
             max_length: self.max_length,
-            minimum: copied_option(alloc, &self.minimum)?,
-            min_inclusive: copied_option(alloc, &self.min_inclusive)?,
-            min_exclusive: copied_option(alloc, &self.min_exclusive)?,
-            maximum: copied_option(alloc, &self.maximum)?,
-            max_inclusive: copied_option(alloc, &self.max_inclusive)?,
-            max_exclusive: copied_option(alloc, &self.max_exclusive)?,
+            minimum,
+            min_inclusive,
+            min_exclusive,
+            maximum,
+            max_inclusive,
+            max_exclusive,
         })
     }
 }
@@ -78,11 +89,14 @@ impl Datatype {
     pub fn clone(&self, alloc: Global) -> Result<Datatype, AllocError>
         ensures { IfOk result (λ d. d ≡ self.now) }
     {
+        let id = copied_option(alloc, &self.id);
+        let format = copied_option(alloc, &self.format);
+        let ((id, format), facets) = both(both(id, format), self.facets.clone(alloc))?;
         Ok(Datatype {
             simple: self.simple,
-            id: copied_option(alloc, &self.id)?,
-            format: copied_option(alloc, &self.format)?,
-            facets: self.facets.clone(alloc)?,
+            id,
+            format,
+            facets,
         })
     }
 }

@@ -3,9 +3,9 @@ ghost use Rattle.std.specs.Prelude.{◌≡◌, Ok, IfOk};
 
 use std::alloc::AllocError;
 
-/// Both values. Large ones that are taken out together leave no early return between them that lets go of the first: each such
-/// return drops it part by part, in code of its own.
-pub(crate) fn both<A: Drop, B: Drop>(
+/// Both values; `AllocError` where one of them is. Large ones that are taken out together leave no early return between them
+/// that lets go of the first: each such return drops it part by part, in code of its own.
+pub fn both<A: Drop, B: Drop>(
     first: Result<A, AllocError>,
     second: Result<B, AllocError>,
 ) -> Result<(A, B), AllocError>
