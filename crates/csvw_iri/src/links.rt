@@ -28,6 +28,3 @@ pub fn link(alloc: Global, base: &Base, text: &str) -> Result<Iri, IriFault>
     let expanded = expand_prefix(alloc, text)?;
     resolve(alloc, base, expanded.as_str())
 }
-
-#[cfg(test)]
-mod tests;
