@@ -5,42 +5,59 @@ ghost use Rattle.csvw_template.specs.Expand.{expand, expand_part, encoded, signe
 
 use crate::encode::{push_encoded, push_kept};
 use crate::part::{Operator, Part};
-use crate::vars::{Var, Vars};
+use crate::scope::Scope;
+use crate::vars::Var;
 use csvw_text::Text;
 use std::alloc::{AllocError, Global};
 
 #[tactic(auto, unfolding(crate::specs::Expand::expand))]
-pub(crate) fn expand_parts(alloc: Global, parts: &[Part], vars: &Vars) -> Result<String, AllocError>
-    ensures { IfOk result (λ s. string_bytes s ≡ expand vars.now parts.now) }
+pub(crate) fn push_parts<S: Scope>(
+    alloc: Global,
+    out: &mut String,
+    parts: &[Part],
+    scope: &S,
+) -> Result<(), AllocError>
+    requires { S.can_look_up scope.now }
+    ensures { OnOk result (string_bytes out.new ≡ string_bytes out.old ++ expand (S.variables scope.now) parts.now) }
 {
-    let mut out = String::new(alloc);
     for part in parts {
-        push_part(&mut out, part, vars)?;
+        push_part(alloc, out, part, scope)?;
     }
-    Ok(out)
+    Ok(())
 }
 
-fn push_part(out: &mut String, part: &Part, vars: &Vars) -> Result<(), AllocError>
-    ensures { OnOk result (string_bytes out.new ≡ string_bytes out.old ++ expand_part vars.now part.now) }
+fn push_part<S: Scope>(
+    alloc: Global,
+    out: &mut String,
+    part: &Part,
+    scope: &S,
+) -> Result<(), AllocError>
+    requires { S.can_look_up scope.now }
+    ensures { OnOk result (string_bytes out.new ≡ string_bytes out.old ++ expand_part (S.variables scope.now) part.now) }
 {
     match part {
         Part::Literal(text) => push_kept(out, text.as_str()),
-        Part::Expression(operator, names) => push_values(out, *operator, names.as_slice(), vars),
+        Part::Expression(operator, names) => {
+            push_values(alloc, out, *operator, names.as_slice(), scope)
+        }
     }
 }
 
-fn push_values(
+fn push_values<S: Scope>(
+    alloc: Global,
     out: &mut String,
     operator: Operator,
     names: &[Text],
-    vars: &Vars,
+    scope: &S,
 ) -> Result<(), AllocError>
+    requires { S.can_look_up scope.now }
     ensures { OnOk result (string_bytes out.new
-        ≡ string_bytes out.old ++ signed operator (values operator vars.now names.now)) }
+        ≡ string_bytes out.old ++ signed operator (values operator (S.variables scope.now) names.now)) }
 {
     let mut is_first = true;
     for name in names {
-        if push_value(out, operator, is_first, vars.get(name.as_str()))? {
+        let var = scope.var(alloc, name.as_str())?;
+        if push_value(out, operator, is_first, &var)? {
             is_first = false;
         }
     }

@@ -11,10 +11,12 @@ mod fault;
 mod names;
 mod part;
 mod read;
+mod scope;
 mod template;
 mod vars;
 
 pub use fault::TemplateFault;
 pub use part::{Operator, Part};
+pub use scope::Scope;
 pub use template::Template;
 pub use vars::{Var, Vars};

@@ -1,14 +1,15 @@
 //! URI templates.
-ghost use Rattle.std.specs.Prelude.{◌≡◌, IfOk, string_bytes};
+ghost use Rattle.std.specs.Prelude.{◌≡◌, ◌++◌, IfOk, OnOk, string_bytes};
 ghost use Rattle.csvw_template.specs.Fault.{Gives};
 ghost use Rattle.csvw_template.specs.Expand.{expand};
 ghost use Rattle.csvw_template.specs.Grammar.{IsTheReading};
 ghost use Rattle.csvw_template.specs.Reading.{template, is_past};
 
-use crate::expand::expand_parts;
+use crate::expand::push_parts;
 use crate::fault::TemplateFault;
 use crate::part::Part;
 use crate::read::{count_open, of_pieces, pieces};
+use crate::scope::Scope;
 use crate::vars::Vars;
 use csvw_text::{Copied, Seq};
 use std::alloc::{AllocError, Global};
@@ -63,7 +64,22 @@ impl Template {
     pub fn expand(&self, alloc: Global, vars: &Vars) -> Result<String, AllocError>
         ensures { IfOk result (λ s. string_bytes s ≡ expand vars.now self.now) }
     {
-        expand_parts(alloc, self.parts.as_slice(), vars)
+        let mut out = String::new(alloc);
+        self.expand_into(alloc, &mut out, vars)?;
+        Ok(out)
+    }
+
+    /// Adds the expansion under the variables of a scope; `AllocError` where there is no memory.
+    pub fn expand_into<S: Scope>(
+        &self,
+        alloc: Global,
+        out: &mut String,
+        scope: &S,
+    ) -> Result<(), AllocError>
+        requires { S.can_look_up scope.now }
+        ensures { OnOk result (string_bytes out.new ≡ string_bytes out.old ++ expand (S.variables scope.now) self.now) }
+    {
+        push_parts(alloc, out, self.parts.as_slice(), scope)
     }
 
     /// Its parts, in order.

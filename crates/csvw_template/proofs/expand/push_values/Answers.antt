@@ -4,12 +4,13 @@ use Rattle.csvw_template.proofs.expand.push_values.Goals as goal
 use Rattle.csvw_template.proofs.expand.push_values.Goals.{then-branch, else-branch}
 
 pub loop-name-preserved : goal.loop-name-preserved
-loop-name-preserved c =
+loop-name-preserved g c =
+    let vars = g.S.Scope.variables c.args.scope.now in
     elim c.if-branch.branch [
       | then-branch w ↦
-          let a = rw (w.if-branch.true, c.get.ensures, c.as_str.ensures) at c.in_ok-push_value.ensures in
-          rw w.is_first-is (goes_on c.args.operator c.args.vars.now c.args.names.now c.loop-name.name-index c.name-item.result c.loop-name-test.true c.name-item.is (string_bytes c.args.out.now) c.loop-name.is_first (string_bytes c.loop-name.out) (string_bytes c.push_value.new.out) c.loop-name.invariant a)
+          let a = rw (w.if-branch.true, c.in_ok-var.ensures, c.as_str.ensures) at c.in_ok-push_value.ensures in
+          rw w.is_first-is (goes_on c.args.operator vars c.args.names.now c.loop-name.name-index c.name-item.result c.loop-name-test.true c.name-item.is (string_bytes c.args.out.now) c.loop-name.is_first (string_bytes c.loop-name.out) (string_bytes c.push_value.new.out) c.loop-name.invariant a)
       | else-branch w ↦
-          let a = rw (w.if-branch.false, c.get.ensures, c.as_str.ensures) at c.in_ok-push_value.ensures in
-          rw w.is_first-is (stays c.args.operator c.args.vars.now c.args.names.now c.loop-name.name-index c.name-item.result c.loop-name-test.true c.name-item.is (string_bytes c.args.out.now) c.loop-name.is_first (string_bytes c.loop-name.out) (string_bytes c.push_value.new.out) c.loop-name.invariant a)
+          let a = rw (w.if-branch.false, c.in_ok-var.ensures, c.as_str.ensures) at c.in_ok-push_value.ensures in
+          rw w.is_first-is (stays c.args.operator vars c.args.names.now c.loop-name.name-index c.name-item.result c.loop-name-test.true c.name-item.is (string_bytes c.args.out.now) c.loop-name.is_first (string_bytes c.loop-name.out) (string_bytes c.push_value.new.out) c.loop-name.invariant a)
     ]
