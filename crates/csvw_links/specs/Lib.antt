@@ -1,0 +1,5 @@
+pub mod CellVariables
+pub mod Found
+pub mod HasForm
+pub mod Links
+pub mod Reserved

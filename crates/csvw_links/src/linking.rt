@@ -1,0 +1,172 @@
+//! The links of a cell.
+ghost use Rattle.std.specs.Prelude.{◌≡◌, ◌++◌, IfOk, OnOk};
+ghost use Rattle.csvw_iri.specs.Link.{link_of};
+ghost use Rattle.csvw_cell.specs.Codes.{told};
+ghost use Rattle.csvw_links.specs.Links.{no_link, outcome, link_by, has_value, value_link, links_of, codes_of, has_template};
+
+use csvw_cell::CellValue;
+use csvw_columns_core::Column;
+use csvw_iri::{Base, Iri, IriFault, link};
+use csvw_template::{Scope, Template};
+use csvw_text::{Code, Seq, Shared, both};
+use std::alloc::{AllocError, Global};
+
+/// A link, or what is wrong with it.
+#[derive(Drop)]
+pub struct Made {
+    /// The IRI; `None` where there is no template, or something is wrong.
+    pub iri: Option<Iri>,
+    /// Whether it is no URL.
+    pub is_bad: bool,
+    /// Whether its text is past the limit.
+    pub is_too_long: bool,
+}
+
+/// The links of a cell, and what is wrong with them (Metadata Vocabulary for Tabular Data, section 5.7).
+#[derive(Drop)]
+pub struct Links {
+    /// The about link, by `aboutUrl`.
+    pub about: Option<Iri>,
+    /// The property link, by `propertyUrl`.
+    pub property: Option<Iri>,
+    /// The value link, by `valueUrl`.
+    pub value: Option<Iri>,
+    /// Whether one of them is no URL.
+    pub is_bad: bool,
+    /// Whether the text of one of them is past the limit.
+    pub is_too_long: bool,
+}
+
+fn no_link() -> Made
+    ensures { result ≡ no_link }
+{
+    Made {
+        iri: None,
+        is_bad: false,
+        is_too_long: false,
+    }
+}
+
+fn linked(alloc: Global, base: &Base, text: &str) -> Result<Made, AllocError>
+    ensures { IfOk result (λ l. l ≡ outcome (link_of base.now text.now)) }
+{
+    match link(alloc, base, text) {
+        Ok(iri) => Ok(Made {
+            iri: Some(iri),
+            is_bad: false,
+            is_too_long: false,
+        }),
+        Err(IriFault::BadUrl) => Ok(Made {
+            iri: None,
+            is_bad: true,
+            is_too_long: false,
+        }),
+        Err(IriFault::UrlTooLong) => Ok(Made {
+            iri: None,
+            is_bad: false,
+            is_too_long: true,
+        }),
+        Err(IriFault::Memory) => Err(AllocError),
+    }
+}
+
+fn link_by<S: Scope>(
+    alloc: Global,
+    base: &Base,
+    template: &Option<Shared<Template>>,
+    scope: &S,
+) -> Result<Made, AllocError>
+    requires { S.can_look_up scope.now }
+    ensures { IfOk result (λ l. l ≡ link_by base.now (S.variables scope.now) template.now) }
+{
+    let Some(template) = template else {
+        return Ok(no_link());
+    };
+    let mut text = String::new(alloc);
+    template.get().expand_into(alloc, &mut text, scope)?;
+    linked(alloc, base, text.as_str())
+}
+
+fn has_value(value: &CellValue) -> bool
+    ensures { result ≡ has_value value.now }
+{
+    match value {
+        CellValue::Null => false,
+        CellValue::One(_) => true,
+        CellValue::Many(items) => !items.is_empty(),
+    }
+}
+
+fn value_link<S: Scope>(
+    alloc: Global,
+    base: &Base,
+    column: &Column,
+    value: &CellValue,
+    scope: &S,
+) -> Result<Made, AllocError>
+    requires { S.can_look_up scope.now }
+    ensures { IfOk result (λ l. l ≡ value_link base.now (S.variables scope.now) column.now value.now) }
+{
+    if column.is_virtual || has_value(value) {
+        link_by(alloc, base, &column.properties.value_url, scope)
+    } else {
+        Ok(no_link())
+    }
+}
+
+/// Whether a column has a template for a link.
+pub fn has_template(column: &Column) -> bool
+    ensures { result ≡ has_template column.now }
+{
+    let properties = &column.properties;
+    properties.about_url.is_some()
+        || properties.property_url.is_some()
+        || properties.value_url.is_some()
+}
+
+/// The links of a cell of the column with this value, in a table of this URL, under the variables of a scope: each the
+/// expansion of its template, with its prefix replaced and joined to the URL. There is no value link where the value is null
+/// or the empty list, unless the column is virtual (Metadata Vocabulary for Tabular Data, sections 5.1.3 and 5.7).
+/// `AllocError` where there is no memory.
+pub fn links_of<S: Scope>(
+    alloc: Global,
+    base: &Base,
+    column: &Column,
+    value: &CellValue,
+    scope: &S,
+) -> Result<Links, AllocError>
+    requires { S.can_look_up scope.now }
+    ensures { IfOk result (λ l. l ≡ links_of base.now (S.variables scope.now) column.now value.now) }
+{
+    let about = link_by(alloc, base, &column.properties.about_url, scope);
+    let property = link_by(alloc, base, &column.properties.property_url, scope);
+    let value = value_link(alloc, base, column, value, scope);
+    let (about, (property, value)) = both(about, both(property, value))?;
+    Ok(Links {
+        is_bad: about.is_bad || property.is_bad || value.is_bad,
+        is_too_long: about.is_too_long || property.is_too_long || value.is_too_long,
+        about: about.iri,
+        property: property.iri,
+        value: value.iri,
+    })
+}
+
+fn tell(codes: &mut Seq<Code>, is_wrong: bool, code: Code) -> Result<(), AllocError>
+    ensures { OnOk result (codes.new ≡ codes.old ++ told is_wrong code) }
+{
+    if is_wrong {
+        codes.push(code)?;
+    }
+    Ok(())
+}
+
+impl Links {
+    /// Adds the codes of what is wrong with the links, each once and in the order of the codes; `AllocError` where there is no
+    /// memory.
+    pub fn tell(&self, codes: &mut Seq<Code>) -> Result<(), AllocError>
+        ensures { OnOk result (codes.new ≡ codes.old ++ codes_of self.now) }
+    {
+        tell(codes, self.is_bad, Code::BadUrl)?;
+        tell(codes, self.is_too_long, Code::UrlTooLong)
+    }
+}
