@@ -1,1 +1,4 @@
 pub mod CellsLemmas
+pub mod FormsLemmas
+pub mod LinkLemmas
+pub mod NamedLemmas

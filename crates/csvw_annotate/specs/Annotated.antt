@@ -1,5 +1,5 @@
 -- Annotated rows (Model for Tabular Data, sections 4.4, 4.5 and 6.4.2).
-use Rattle.std.specs.Prelude.{◌≡◌, ◌≢◌, ℕ, List, [], ◌∷◌, length, None, Result, Ok, Err}
+use Rattle.std.specs.Prelude.{◌≡◌, ℕ, List, [], ◌∷◌, length, None, Result, Ok, Err}
 use Rattle.csvw_rows.specs.RowValue.{Given}
 use Rattle.csvw_datatype.specs.Sound.{IsSound}
 use Rattle.csvw_columns_core.specs.Columns.{field_count}
@@ -10,6 +10,8 @@ use Rattle.csvw_cell.specs.declared.cell.CellValue.TheVariants.{Null}
 use Rattle.csvw_annotate.specs.declared.row.AnnCell.{AnnCell}
 use Rattle.csvw_annotate.specs.declared.row.Row.{Row}
 use Rattle.csvw_annotate.specs.declared.row_stop.RowStop.{RowStop}
+use Rattle.csvw_annotate.specs.Linked.{linked_cells}
+use Rattle.csvw_links.specs.declared.numbers.RowNumbers.{RowNumbers}
 use Rattle.csvw_annotate.specs.declared.row_stop.RowStop.TheVariants.{Memory, RaggedRow}
 
 abbrev pub null_cell : AnnCell
@@ -33,12 +35,17 @@ AreCells (column ∷ columns) (field ∷ fields) (cell ∷ cells) = IsCell colum
 abbrev pub Fits : Columns → Given → Type 0
 Fits columns raw = length raw.fields ≡ field_count columns.columns
 
--- the annotated row of a row of the source
+abbrev pub numbers_of : Given → RowNumbers
+numbers_of raw = record { number = raw.number; source = raw.source }
+
+-- the annotated row of a row of the source: its cells say what its fields are, and have their links
 pub record IsRow (columns : Columns) (raw : Given) (row : Row) : Type 0 where
   pub fits : Fits columns raw
   pub number : row.number ≡ raw.number
   pub source : row.source ≡ raw.source
-  pub cells : AreCells columns.columns raw.fields row.cells
+  pub unlinked : List AnnCell
+  pub says : AreCells columns.columns raw.fields unlinked
+  pub cells : row.cells ≡ linked_cells columns (numbers_of raw) unlinked
 
 -- the answer is the annotated row, or a refusal where the row doesn't fit; of want of memory nothing is said
 abbrev pub Annotates : Columns → Given → Result Row RowStop → Type 0

@@ -5,10 +5,13 @@ ghost use Rattle.csvw_datatype.specs.Sound.{IsSound};
 ghost use Rattle.csvw_annotate.specs.Annotated.{IsCell, AreCells, Annotates, AreSound};
 ghost use Rattle.csvw_annotate.specs.FieldAt.{field_at};
 
+use crate::linking::link_cells;
 use crate::row::{AnnCell, Row};
 use crate::row_stop::RowStop;
 use csvw_cell::{Cell, parse_into};
 use csvw_columns_core::{Column, Columns};
+use csvw_datatype::values_of_texts;
+use csvw_links::RowNumbers;
 use csvw_rows::RawRow;
 use csvw_text::Seq;
 use std::alloc::{AllocError, Global};
@@ -80,7 +83,8 @@ fn refilled(
     cells: Vec<AnnCell>,
 ) -> Result<Vec<AnnCell>, AllocError>
     requires { AreSound columns.now }
-    ensures { IfOk result (λ v. AreCells columns.now (row_of row.now).fields v.items) }
+    ensures cells { IfOk result (λ v. AreCells columns.now (row_of row.now).fields v.items) }
+    ensures places { IfOk result (λ v. length v.items ≡ length columns.now) }
 {
     let mut cells = resized(cells, alloc, columns.len())?;
     fill_cells(alloc, columns, row, cells.as_mut_slice())?;
@@ -100,21 +104,27 @@ pub fn annotate_into(
     if row.len() != columns.field_count() {
         return Err(RowStop::RaggedRow);
     }
-    let cells = refilled(
+    let mut cells = refilled(
         alloc,
         columns.columns.as_slice(),
         row,
         spare.cells.into_vec(),
     )?;
-    Ok(Row {
+    let numbers = RowNumbers {
         number: row.number(),
         source: row.source(),
+    };
+    values_of_texts();
+    link_cells(alloc, columns, numbers, cells.as_mut_slice())?;
+    Ok(Row {
+        number: numbers.number,
+        source: numbers.source,
         cells: Seq::of(cells),
     })
 }
 
 /// The annotated row of a data row of a table with these columns, whose datatypes have passed `Datatype::check` (Model for
-/// Tabular Data, sections 4.4 and 6.4.2). `RaggedRow` exactly where it hasn't one field for each column that isn't virtual;
+/// Tabular Data, sections 4.4, 4.5 and 6.4.2): what its cells say, and their links. `RaggedRow` exactly where it hasn't one field for each column that isn't virtual;
 /// `Memory` where there is none.
 pub fn annotate(alloc: Global, columns: &Columns, row: &RawRow) -> Result<Row, RowStop>
     requires { AreSound columns.now.columns }

@@ -2,8 +2,10 @@
 #![tactic(auto)]
 
 mod annotating;
+mod linking;
 mod row;
 mod row_stop;
+mod scope;
 
 pub use annotating::{annotate, annotate_into};
 pub use row::{AnnCell, Row};

@@ -14,7 +14,8 @@ use Rattle.csvw_columns.specs.declared.plan.TablePlan.{TablePlan}
 use Rattle.csvw_columns.specs.declared.table_stop.TableStop.{TableStop}
 use Rattle.csvw_triples_core.specs.declared.mode.Mode.{Mode}
 use Rattle.csvw_triples.specs.HasForms.{HasForms}
-use Rattle.csvw_annotate.specs.Annotated.{IsRow, AreCells}
+use Rattle.csvw_annotate.specs.Annotated.{IsRow, AreCells, numbers_of}
+use Rattle.csvw_annotate.specs.Linked.{each_linked, linked_in, values_of}
 use Rattle.csvw_annotate.specs.declared.row.AnnCell.{AnnCell}
 use Rattle.csvw_columns_core.specs.declared.column.Column.{Column}
 use Rattle.csvw_annotate.specs.declared.row.Row.{Row}
@@ -61,12 +62,23 @@ cells_fit (column ∷ columns) fields [] h = absurd h
 cells_fit (column ∷ columns) [] (cell ∷ cells) h = ap (λ n. suc n) (cells_fit columns [] cells h.1)
 cells_fit (column ∷ columns) (field ∷ fields) (cell ∷ cells) h = ap (λ n. suc n) (cells_fit columns fields cells h.1)
 
+-- and so it has with links
+linked_fit : (link : Column → AnnCell → AnnCell) (columns : List Column) (cells : List AnnCell) → length cells ≡ length columns → length (each_linked link columns cells) ≡ length columns
+linked_fit link [] cells same = refl
+linked_fit link (column ∷ columns) [] same = same
+linked_fit link (column ∷ columns) (cell ∷ cells) same = ap (λ n. suc n) (linked_fit link columns cells (omega (arith, same)))
+
+row_cells_fit : (columns : Columns) (raw : Given) (row : Row) → IsRow columns raw row → length row.cells ≡ length columns.columns
+row_cells_fit columns raw row is =
+    ap length is.cells
+    ∙ linked_fit (linked_in columns (numbers_of raw) (values_of is.unlinked)) columns.columns is.unlinked (cells_fit columns.columns raw.fields is.unlinked is.says)
+
 -- annotated rows have lexical forms
 abbrev pub FormsLaw : Type 0
 FormsLaw = (columns : Columns) (raw : Given) (row : Row) → IsRow columns raw row → HasForms row
 
 pub row_fits : FormsLaw → (columns : Option Columns) (known : Columns) (row : Row) (raw : Given) → columns ≡ Some known → IsRow known raw row → RowFits columns row
-row_fits forms columns known row raw e is = subst (λ z. RowFits z row) (sym e) (cells_fit known.columns raw.fields row.cells is.cells, forms known raw row is)
+row_fits forms columns known row raw e is = subst (λ z. RowFits z row) (sym e) (row_cells_fit known raw row is, forms known raw row is)
 
 pub step_halts : (plan : TablePlan) (old new : Table) (r : Result Step Halt) (e f : Halt) → r ≡ Err e → e ≡ f → is_ended new ≡ is_ended old → HaltsSo plan old f → Steps plan old new r
 step_halts plan old new r e f p q ended so = subst (Steps plan old new) (sym (p ∙ ap Err q)) (ended, so)

@@ -1,5 +1,5 @@
 -- One cell more.
-use Rattle.std.proofs.Common.{◌∙◌, ◌++◌, ◌∷◌, [], ap, take, arith, rules}
+use Rattle.std.proofs.Common.{take, arith, rules}
 use Rattle.std.proofs.lemmas.List.{take_more_set}
 use Rattle.csvw_rows.specs.RowValue.{row_of}
 use Rattle.csvw_annotate.proofs.CellsLemmas.{sound_at, one_cell}
