@@ -10,8 +10,8 @@ use Rattle.csvw_description.specs.declared.description.Description.{Description}
 use Rattle.csvw_description.specs.declared.table.TableDescription.{TableDescription}
 use Rattle.csvw_description.specs.Plannable.{HasSound, IsFitDialect, IsFitSchema, IsFitTable, IsPlannable}
 use Rattle.csvw_meta_core.specs.declared.fault.MetaCode.TheVariants.{NotSupported, TooLong}
-use Rattle.csvw_meta_core.specs.Read.{Read, fine, faulty, over, optional, needed, not_yet}
-use Rattle.csvw_meta_core.specs.Kinds.{fixed}
+use Rattle.csvw_meta_core.specs.Read.{Read, fine, faulty, over, optional, property, needed, not_yet}
+use Rattle.csvw_meta_core.specs.Kinds.{fixed, truth}
 use Rattle.csvw_meta_core.specs.Links.{id, no_url, told, url}
 use Rattle.csvw_meta_core.specs.Others.{others}
 use Rattle.csvw_meta.specs.declared.body.Body.{Body}
@@ -72,7 +72,7 @@ table_of_fine context sole number at d h =
     let warnings = table_others sole number at d in
     let p1 = none_in_both (optional (fixed (codes "Table")) at d (codes "@type")).faults _ h in
     let p2 = none_in_both (optional not_yet at d (codes "notes")).faults _ p1.1 in
-    let p3 = none_in_both (optional not_yet at d (codes "suppressOutput")).faults _ p2.1 in
+    let p3 = none_in_both (property truth false at d (codes "suppressOutput")).faults _ p2.1 in
     let p4 = none_in_both warnings.faults _ p3.1 in
     let p5 = none_in_both (needed (url context.base) no_url at d (codes "url")).faults _ p4.1 in
     let p6 = none_in_both (optional (id context.base) at d (codes "@id")).faults _ p5.1 in

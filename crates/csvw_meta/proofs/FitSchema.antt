@@ -22,7 +22,7 @@ use Rattle.csvw_meta.specs.Column.{column, column_of, no_column}
 use Rattle.csvw_meta.specs.Inherited.{inherited}
 use Rattle.csvw_meta.specs.Names.{schema_names, inherited_names, place_of}
 use Rattle.csvw_meta.specs.Repeated.{repeated}
-use Rattle.csvw_meta.specs.Schema.{columns, name_faults, no_schema, numbered_names, schema, schema_of}
+use Rattle.csvw_meta.specs.Schema.{columns, column_faults, order_faults, name_faults, no_schema, numbered_names, schema, schema_of}
 use Rattle.csvw_meta.specs.Several.{several}
 use Rattle.csvw_meta.proofs.FineLemmas.{Ensures, none_in_both, also_fine, on_object_fine, on_linked_fine, property_fine, several_fine}
 
@@ -105,8 +105,9 @@ named_fine at cs several h = record {
 
 columns_fine : (context : Context) (table : ℕ) (at : List ℕ) (d : Data) → Ensures (columns context table at d) AreFitColumns
 columns_fine context table at d =
-    also_fine AreSeveral AreFitColumns (several 0 1024 (column context table) at d) (name_faults at)
-    (several_fine IsSoundColumn (column context table) (column_fine context table) 0 1024 at d) (named_fine at)
+    also_fine AreSeveral AreFitColumns (several 0 1024 (column context table) at d) (column_faults at)
+    (several_fine IsSoundColumn (column context table) (column_fine context table) 0 1024 at d)
+    (λ cs several h. named_fine at cs several (none_in_both (name_faults at cs) (order_faults at cs) h).0)
 
 no_columns : AreFitColumns []
 no_columns = record { sound = λ k d lt. absurd (omega (arith, lt)); count = omega arith; names = λ i j d less lt. absurd (omega (arith, lt)) }

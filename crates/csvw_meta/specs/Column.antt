@@ -3,8 +3,8 @@ use Rattle.std.specs.Prelude.{ℕ, List, [], ◌++◌, false, None, codes}
 use Rattle.serde_json.specs.Data.{Data}
 use Rattle.csvw_description.specs.declared.column.ColumnDescription.{ColumnDescription}
 use Rattle.csvw_meta_core.specs.declared.fault.MetaCode.TheVariants.{NotSupported}
-use Rattle.csvw_meta_core.specs.Read.{Read, fine, ◌>>=◌, on_object, property, optional, not_yet}
-use Rattle.csvw_meta_core.specs.Kinds.{fixed}
+use Rattle.csvw_meta_core.specs.Read.{Read, fine, ◌>>=◌, on_object, property, optional}
+use Rattle.csvw_meta_core.specs.Kinds.{fixed, truth}
 use Rattle.csvw_meta_core.specs.Links.{id}
 use Rattle.csvw_meta_core.specs.Others.{others}
 use Rattle.csvw_meta.specs.declared.context.Context.{Context}
@@ -16,18 +16,17 @@ use Rattle.csvw_meta.specs.Titles.{titles}
 abbrev pub no_column : ColumnDescription
 no_column = record { name = None; titles = []; is_virtual = false; suppressed = false; inherited = no_inherited; warnings = [] }
 
--- Virtual columns and suppressed ones are not supported yet.
 unfoldable pub column_of : Context → ℕ → ℕ → List ℕ → Data → Read ColumnDescription
 column_of context table number at d = do
   iri ← optional (id context.base) at d (codes "@id")
   type ← optional (fixed (codes "Column")) at d (codes "@type")
-  virtual ← optional not_yet at d (codes "virtual")
-  suppressed ← optional not_yet at d (codes "suppressOutput")
+  is_virtual ← property truth false at d (codes "virtual")
+  suppressed ← property truth false at d (codes "suppressOutput")
   warnings ← others (column_names ++ inherited_names) NotSupported (place_of table number) at d
   name ← optional name at d (codes "name")
   titles ← property (titles context.language) [] at d (codes "titles")
   inherited ← inherited at d
-  fine (record { name = name; titles = titles; is_virtual = false; suppressed = false; inherited = inherited; warnings = warnings })
+  fine (record { name = name; titles = titles; is_virtual = is_virtual; suppressed = suppressed; inherited = inherited; warnings = warnings })
 
 -- the column of this number, of the table of that number or of the group where it is 0
 abbrev pub column : Context → ℕ → ℕ → List ℕ → Data → Read ColumnDescription

@@ -5,6 +5,7 @@ use Rattle.csvw_description.specs.declared.inherited.Inherited.{Inherited}
 use Rattle.csvw_meta_core.specs.declared.fault.MetaCode.TheVariants.{BadProperty}
 use Rattle.csvw_meta_core.specs.Read.{Read, fine, ◌>>=◌, optional, or_null, not_yet}
 use Rattle.csvw_meta_core.specs.Kinds.{truth, text, some_text, texts, language}
+use Rattle.csvw_meta.specs.TemplateText.{template_text}
 
 abbrev pub no_inherited : Inherited
 no_inherited = record {
@@ -20,12 +21,12 @@ no_inherited = record {
   separator = None;
 }
 
--- Templates and datatypes are not supported yet.
+-- Datatypes are not supported yet.
 unfoldable pub inherited : List ℕ → Data → Read Inherited
 inherited at d = do
-  about_url ← optional not_yet at d (codes "aboutUrl")
-  property_url ← optional not_yet at d (codes "propertyUrl")
-  value_url ← optional not_yet at d (codes "valueUrl")
+  about_url ← optional template_text at d (codes "aboutUrl")
+  property_url ← optional template_text at d (codes "propertyUrl")
+  value_url ← optional template_text at d (codes "valueUrl")
   datatype ← optional not_yet at d (codes "datatype")
   default ← optional text at d (codes "default")
   lang ← optional (language BadProperty) at d (codes "lang")
@@ -34,9 +35,9 @@ inherited at d = do
   required ← optional truth at d (codes "required")
   separator ← optional (or_null some_text) at d (codes "separator")
   fine (record {
-    about_url = None;
-    property_url = None;
-    value_url = None;
+    about_url = about_url;
+    property_url = property_url;
+    value_url = value_url;
     datatype = None;
     default = default;
     lang = lang;

@@ -12,5 +12,7 @@ pub mod Repeated
 pub mod Schema
 pub mod Several
 pub mod Table
+pub mod TemplateText
 pub mod Titles
 pub mod UrlAlone
+pub mod VirtualOrder

@@ -1,10 +1,10 @@
 -- Schemas (Metadata Vocabulary for Tabular Data, section 5.5).
-use Rattle.std.specs.Prelude.{ℕ, ◌+◌, List, [], ◌∷◌, ◌++◌, codes}
+use Rattle.std.specs.Prelude.{ℕ, ◌+◌, List, [], ◌∷◌, ◌++◌, false, codes}
 use Rattle.serde_json.specs.Data.{Data}
 use Rattle.csvw_description.specs.declared.column.ColumnDescription.{ColumnDescription}
 use Rattle.csvw_description.specs.declared.schema.Schema.{Schema}
 use Rattle.csvw_description.specs.Name.{name_of}
-use Rattle.csvw_meta_core.specs.declared.fault.MetaCode.TheVariants.{DuplicateName, NotSupported}
+use Rattle.csvw_meta_core.specs.declared.fault.MetaCode.TheVariants.{DuplicateName, NotSupported, VirtualOrder}
 use Rattle.csvw_meta_core.specs.declared.fault.MetaFault.{MetaFault}
 use Rattle.csvw_meta_core.specs.Pointer.{item_at}
 use Rattle.csvw_meta_core.specs.Read.{Read, fine, ◌>>=◌, also, on_linked_object, property, optional, not_yet}
@@ -17,6 +17,7 @@ use Rattle.csvw_meta.specs.Inherited.{inherited, no_inherited}
 use Rattle.csvw_meta.specs.Names.{schema_names, inherited_names, place_of}
 use Rattle.csvw_meta.specs.Repeated.{repeated}
 use Rattle.csvw_meta.specs.Several.{several}
+use Rattle.csvw_meta.specs.VirtualOrder.{misplaced}
 
 -- the names of columns, the first of which here has the index i
 abbrev pub numbered_names : ℕ → List ColumnDescription → List (List ℕ)
@@ -27,8 +28,15 @@ numbered_names i (c ∷ cs) = name_of (i + 1) c ∷ numbered_names (i + 1) cs
 abbrev pub name_faults : List ℕ → List ColumnDescription → List MetaFault
 name_faults at cs = repeated (λ i. record { code = DuplicateName; pointer = item_at at i }) [] 0 (numbered_names 0 cs)
 
+-- Virtual columns come last.
+abbrev pub order_faults : List ℕ → List ColumnDescription → List MetaFault
+order_faults at cs = misplaced (λ i. record { code = VirtualOrder; pointer = item_at at i }) false 0 cs
+
+abbrev pub column_faults : List ℕ → List ColumnDescription → List MetaFault
+column_faults at cs = name_faults at cs ++ order_faults at cs
+
 abbrev pub columns : Context → ℕ → List ℕ → Data → Read (List ColumnDescription)
-columns context table at d = also (several 0 1024 (column context table) at d) (name_faults at)
+columns context table at d = also (several 0 1024 (column context table) at d) (column_faults at)
 
 -- Keys are not supported yet.
 unfoldable pub schema_of : Context → ℕ → List ℕ → Data → Read Schema

@@ -4,8 +4,8 @@ use Rattle.serde_json.specs.Data.{Data}
 use Rattle.csvw_text.specs.declared.fault.Fault.{Fault}
 use Rattle.csvw_description.specs.declared.table.TableDescription.{TableDescription}
 use Rattle.csvw_meta_core.specs.declared.fault.MetaCode.TheVariants.{NotSupported}
-use Rattle.csvw_meta_core.specs.Read.{Read, fine, ◌>>=◌, on_object, needed, optional, not_yet}
-use Rattle.csvw_meta_core.specs.Kinds.{fixed}
+use Rattle.csvw_meta_core.specs.Read.{Read, fine, ◌>>=◌, on_object, needed, property, optional, not_yet}
+use Rattle.csvw_meta_core.specs.Kinds.{fixed, truth}
 use Rattle.csvw_meta_core.specs.Links.{url, id, no_url}
 use Rattle.csvw_meta_core.specs.Others.{others}
 use Rattle.csvw_meta.specs.declared.context.Context.{Context}
@@ -18,12 +18,12 @@ abbrev pub table_others : Bool → ℕ → List ℕ → Data → Read (List Faul
 table_others true number at d = others (sole_table_names ++ inherited_names) NotSupported (place_of 1 0) at d
 table_others false number at d = others (table_names ++ inherited_names) NotSupported (place_of number 0) at d
 
--- Notes and suppressed tables are not supported yet.
+-- Notes are not supported yet.
 unfoldable pub table_of : Context → Bool → ℕ → List ℕ → Data → Read TableDescription
 table_of context sole number at d = do
   type ← optional (fixed (codes "Table")) at d (codes "@type")
   notes ← optional not_yet at d (codes "notes")
-  suppressed ← optional not_yet at d (codes "suppressOutput")
+  suppressed ← property truth false at d (codes "suppressOutput")
   warnings ← table_others sole number at d
   url ← needed (url context.base) no_url at d (codes "url")
   iri ← optional (id context.base) at d (codes "@id")
@@ -34,7 +34,7 @@ table_of context sole number at d = do
     id = iri;
     dialect = given.dialect;
     schema = body.schema;
-    suppressed = false;
+    suppressed = suppressed;
     inherited = body.inherited;
     notes = [];
     warnings = given.warnings;

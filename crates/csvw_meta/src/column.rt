@@ -11,7 +11,7 @@ use crate::name::NameReader;
 use crate::titles::Titles;
 use crate::unlisted::column_warnings;
 use csvw_description::ColumnDescription;
-use csvw_meta_core::{Fixed, IdReader, NotYet, NumberedReader, Part, Refusal};
+use csvw_meta_core::{Fixed, IdReader, NumberedReader, Part, Refusal, Truth};
 use csvw_text::Seq;
 use serde_json::Value;
 
@@ -50,8 +50,8 @@ fn column_of(reader: &ColumnReader, number: u32, part: &Part) -> Result<ColumnDe
         "@id",
     )?;
     part.optional(&Fixed { text: "Column" }, "@type")?;
-    part.optional(&NotYet, "virtual")?;
-    part.optional(&NotYet, "suppressOutput")?;
+    let is_virtual = part.property(&Truth, false, "virtual")?;
+    let suppressed = part.property(&Truth, false, "suppressOutput")?;
     let warnings = column_warnings(reader.table, number, part)?;
     let name = part.optional(&NameReader, "name")?;
     let titles = Titles {
@@ -62,8 +62,8 @@ fn column_of(reader: &ColumnReader, number: u32, part: &Part) -> Result<ColumnDe
     Ok(ColumnDescription {
         name,
         titles,
-        is_virtual: false,
-        suppressed: false,
+        is_virtual,
+        suppressed,
         inherited,
         warnings,
     })

@@ -5,6 +5,7 @@ ghost use Rattle.csvw_meta_core.specs.Pointer.{text_of};
 ghost use Rattle.csvw_meta_core.specs.Reads.{Reads};
 ghost use Rattle.csvw_meta.specs.Inherited.{inherited};
 
+use crate::template::TemplateReader;
 use csvw_description::Inherited;
 use csvw_meta_core::{
     AnyText, Language, MetaCode, NotYet, OrNull, Part, Reader, Refusal, SomeText, Texts, Truth,
@@ -33,9 +34,24 @@ impl<R: Reader> Reader for SharedOf<R> {
 pub(crate) fn read_inherited(part: &Part) -> Result<Inherited, Refusal>
     ensures { Reads result (inherited (text_of part.now.at) (view part.now.value.now)) }
 {
-    part.optional(&NotYet, "aboutUrl")?;
-    part.optional(&NotYet, "propertyUrl")?;
-    part.optional(&NotYet, "valueUrl")?;
+    let about_url = part.optional(
+        &SharedOf {
+            reader: TemplateReader,
+        },
+        "aboutUrl",
+    )?;
+    let property_url = part.optional(
+        &SharedOf {
+            reader: TemplateReader,
+        },
+        "propertyUrl",
+    )?;
+    let value_url = part.optional(
+        &SharedOf {
+            reader: TemplateReader,
+        },
+        "valueUrl",
+    )?;
     part.optional(&NotYet, "datatype")?;
     let default = part.optional(&SharedOf { reader: AnyText }, "default")?;
     let language = Language {
@@ -50,9 +66,9 @@ pub(crate) fn read_inherited(part: &Part) -> Result<Inherited, Refusal>
     };
     let separator = part.optional(&separator, "separator")?;
     Ok(Inherited {
-        about_url: None,
-        property_url: None,
-        value_url: None,
+        about_url,
+        property_url,
+        value_url,
         datatype: None,
         default,
         lang,

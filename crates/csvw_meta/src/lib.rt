@@ -15,9 +15,11 @@ mod repeated;
 mod schema;
 mod several;
 mod table;
+mod template;
 mod titles;
 mod unlisted;
 mod url_alone;
+mod virtual_order;
 
 pub use csvw_meta_core::{MetaCode, MetaFault};
 pub use document::read;

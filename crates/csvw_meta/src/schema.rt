@@ -4,7 +4,7 @@ ghost use Rattle.csvw_description.specs.Name.{name_of};
 ghost use Rattle.serde_json.specs.View.{view};
 ghost use Rattle.csvw_meta_core.specs.Pointer.{text_of};
 ghost use Rattle.csvw_meta_core.specs.Reads.{Fails, Reads};
-ghost use Rattle.csvw_meta.specs.Schema.{numbered_names, name_faults, schema_of};
+ghost use Rattle.csvw_meta.specs.Schema.{numbered_names, name_faults, order_faults, column_faults, schema_of};
 
 use crate::column::ColumnReader;
 use crate::context::Context;
@@ -12,6 +12,7 @@ use crate::inherited::read_inherited;
 use crate::repeated::repeated_at;
 use crate::several::Several;
 use crate::unlisted::schema_warnings;
+use crate::virtual_order::misplaced_at;
 use csvw_description::{ColumnDescription, Schema};
 use csvw_meta_core::{Fixed, IdReader, MetaCode, NotYet, Part, Reader, Refusal};
 use csvw_text::{Seq, Text};
@@ -51,6 +52,24 @@ fn check_names(part: &Part, columns: &[ColumnDescription]) -> Result<(), Refusal
     }
 }
 
+/// No column that isn't virtual stands behind one that is; else `VirtualOrder` at it.
+fn check_order(part: &Part, columns: &[ColumnDescription]) -> Result<(), Refusal>
+    ensures { MatchResult result (λ _. order_faults (text_of part.now.at) columns.now ≡ []) (λ e. Fails e (order_faults (text_of part.now.at) columns.now)) }
+{
+    match misplaced_at(columns) {
+        None => Ok(()),
+        Some(i) => Err(part.item(i, part.value).refused(MetaCode::VirtualOrder)),
+    }
+}
+
+/// Each column has a name of its own, and the virtual ones come last.
+fn check_columns(part: &Part, columns: &[ColumnDescription]) -> Result<(), Refusal>
+    ensures { MatchResult result (λ _. column_faults (text_of part.now.at) columns.now ≡ []) (λ e. Fails e (column_faults (text_of part.now.at) columns.now)) }
+{
+    check_names(part, columns)?;
+    check_order(part, columns)
+}
+
 /// The columns of a schema.
 #[derive(Drop)]
 struct Columns<'a> {
@@ -79,7 +98,7 @@ impl<'a> Reader for Columns<'a> {
             most: MAX_COLUMNS,
         };
         let columns = several.read(part)?;
-        check_names(part, columns.as_slice())?;
+        check_columns(part, columns.as_slice())?;
         Ok(columns)
     }
 }

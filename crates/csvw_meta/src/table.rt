@@ -9,7 +9,9 @@ use crate::body::{read_body, read_dialect};
 use crate::context::Context;
 use crate::unlisted::{sole_table_warnings, table_warnings};
 use csvw_description::TableDescription;
-use csvw_meta_core::{Fixed, IdReader, NotYet, NumberedReader, Part, Reader, Refusal, UrlReader};
+use csvw_meta_core::{
+    Fixed, IdReader, NotYet, NumberedReader, Part, Reader, Refusal, Truth, UrlReader,
+};
 use csvw_text::{Fault, Seq};
 use serde_json::Value;
 
@@ -57,7 +59,7 @@ pub(crate) fn table_of(
 {
     part.optional(&Fixed { text: "Table" }, "@type")?;
     part.optional(&NotYet, "notes")?;
-    part.optional(&NotYet, "suppressOutput")?;
+    let suppressed = part.property(&Truth, false, "suppressOutput")?;
     let warnings = warnings_of(sole, number, part)?;
     let url = part.needed(
         &UrlReader {
@@ -78,7 +80,7 @@ pub(crate) fn table_of(
         id,
         dialect: given.dialect,
         schema: body.schema,
-        suppressed: false,
+        suppressed,
         inherited: body.inherited,
         notes: Seq::new(part.alloc),
         warnings: given.warnings,

@@ -21,22 +21,22 @@ returns-in_err-optional-2 c =
     c.from_residual-in_err-optional-2.ensures.1
     (later _ _ _ _ c.in_ok-optional.ensures (fails_first _ _ _ c.in_err-optional-2.ensures))
 
-pub returns-in_err-optional-3 : goal.returns-in_err-optional-3
+pub returns-in_err-is_virtual : goal.returns-in_err-is_virtual
 unfolding column_of
-returns-in_err-optional-3 c =
-    refused c.from_residual-in_err-optional-3.result c.in_err-optional-3.field-0.0
+returns-in_err-is_virtual c =
+    refused c.from_residual-in_err-is_virtual.result c.in_err-is_virtual.field-0.0
     (column_of c.args.reader.now.context.now c.args.reader.now.table c.args.number (text_of c.args.part.now.at) (view c.args.part.now.value.now))
-    c.from_residual-in_err-optional-3.ensures.1
-    (later _ _ _ _ c.in_ok-optional.ensures (later _ _ _ _ c.in_ok-optional-2.ensures (fails_first _ _ _ c.in_err-optional-3.ensures)))
+    c.from_residual-in_err-is_virtual.ensures.1
+    (later _ _ _ _ c.in_ok-optional.ensures (later _ _ _ _ c.in_ok-optional-2.ensures (fails_first _ _ _ c.in_err-is_virtual.ensures)))
 
-pub returns-in_err-optional-4 : goal.returns-in_err-optional-4
+pub returns-in_err-suppressed : goal.returns-in_err-suppressed
 unfolding column_of
-returns-in_err-optional-4 c =
-    refused c.from_residual-in_err-optional-4.result c.in_err-optional-4.field-0.0
+returns-in_err-suppressed c =
+    refused c.from_residual-in_err-suppressed.result c.in_err-suppressed.field-0.0
     (column_of c.args.reader.now.context.now c.args.reader.now.table c.args.number (text_of c.args.part.now.at) (view c.args.part.now.value.now))
-    c.from_residual-in_err-optional-4.ensures.1
-    (later _ _ _ _ c.in_ok-optional.ensures (later _ _ _ _ c.in_ok-optional-2.ensures (later _ _ _ _ c.in_ok-optional-3.ensures (
-    fails_first _ _ _ c.in_err-optional-4.ensures))))
+    c.from_residual-in_err-suppressed.ensures.1
+    (later _ _ _ _ c.in_ok-optional.ensures (later _ _ _ _ c.in_ok-optional-2.ensures (later _ _ _ _ c.in_ok-is_virtual.ensures (
+    fails_first _ _ _ c.in_err-suppressed.ensures))))
 
 pub returns-in_err-warnings : goal.returns-in_err-warnings
 unfolding column_of
@@ -44,8 +44,8 @@ returns-in_err-warnings c =
     refused c.from_residual-in_err-warnings.result c.in_err-warnings.field-0.0
     (column_of c.args.reader.now.context.now c.args.reader.now.table c.args.number (text_of c.args.part.now.at) (view c.args.part.now.value.now))
     c.from_residual-in_err-warnings.ensures.1
-    (later _ _ _ _ c.in_ok-optional.ensures (later _ _ _ _ c.in_ok-optional-2.ensures (later _ _ _ _ c.in_ok-optional-3.ensures (
-    later _ _ _ _ c.in_ok-optional-4.ensures (fails_first _ _ _ c.in_err-warnings.ensures)))))
+    (later _ _ _ _ c.in_ok-optional.ensures (later _ _ _ _ c.in_ok-optional-2.ensures (later _ _ _ _ c.in_ok-is_virtual.ensures (
+    later _ _ _ _ c.in_ok-suppressed.ensures (fails_first _ _ _ c.in_err-warnings.ensures)))))
 
 pub returns-in_err-name : goal.returns-in_err-name
 unfolding column_of
@@ -53,8 +53,8 @@ returns-in_err-name c =
     refused c.from_residual-in_err-name.result c.in_err-name.field-0.0
     (column_of c.args.reader.now.context.now c.args.reader.now.table c.args.number (text_of c.args.part.now.at) (view c.args.part.now.value.now))
     c.from_residual-in_err-name.ensures.1
-    (later _ _ _ _ c.in_ok-optional.ensures (later _ _ _ _ c.in_ok-optional-2.ensures (later _ _ _ _ c.in_ok-optional-3.ensures (
-    later _ _ _ _ c.in_ok-optional-4.ensures (later _ _ _ _ c.in_ok-warnings.ensures (fails_first _ _ _ c.in_err-name.ensures))))))
+    (later _ _ _ _ c.in_ok-optional.ensures (later _ _ _ _ c.in_ok-optional-2.ensures (later _ _ _ _ c.in_ok-is_virtual.ensures (
+    later _ _ _ _ c.in_ok-suppressed.ensures (later _ _ _ _ c.in_ok-warnings.ensures (fails_first _ _ _ c.in_err-name.ensures))))))
 
 pub returns-in_err-titles : goal.returns-in_err-titles
 unfolding column_of
@@ -62,8 +62,8 @@ returns-in_err-titles c =
     refused c.from_residual-in_err-titles.result c.in_err-titles.field-0.0
     (column_of c.args.reader.now.context.now c.args.reader.now.table c.args.number (text_of c.args.part.now.at) (view c.args.part.now.value.now))
     c.from_residual-in_err-titles.ensures.1
-    (later _ _ _ _ c.in_ok-optional.ensures (later _ _ _ _ c.in_ok-optional-2.ensures (later _ _ _ _ c.in_ok-optional-3.ensures (
-    later _ _ _ _ c.in_ok-optional-4.ensures (later _ _ _ _ c.in_ok-warnings.ensures (later _ _ _ _ c.in_ok-name.ensures (
+    (later _ _ _ _ c.in_ok-optional.ensures (later _ _ _ _ c.in_ok-optional-2.ensures (later _ _ _ _ c.in_ok-is_virtual.ensures (
+    later _ _ _ _ c.in_ok-suppressed.ensures (later _ _ _ _ c.in_ok-warnings.ensures (later _ _ _ _ c.in_ok-name.ensures (
     fails_first _ _ _ (rw c.new.ensures at c.in_err-titles.ensures))))))))
 
 pub returns-in_err-inherited : goal.returns-in_err-inherited
@@ -72,6 +72,6 @@ returns-in_err-inherited c =
     refused c.from_residual-in_err-inherited.result c.in_err-inherited.field-0.0
     (column_of c.args.reader.now.context.now c.args.reader.now.table c.args.number (text_of c.args.part.now.at) (view c.args.part.now.value.now))
     c.from_residual-in_err-inherited.ensures.1
-    (later _ _ _ _ c.in_ok-optional.ensures (later _ _ _ _ c.in_ok-optional-2.ensures (later _ _ _ _ c.in_ok-optional-3.ensures (
-    later _ _ _ _ c.in_ok-optional-4.ensures (later _ _ _ _ c.in_ok-warnings.ensures (later _ _ _ _ c.in_ok-name.ensures (
+    (later _ _ _ _ c.in_ok-optional.ensures (later _ _ _ _ c.in_ok-optional-2.ensures (later _ _ _ _ c.in_ok-is_virtual.ensures (
+    later _ _ _ _ c.in_ok-suppressed.ensures (later _ _ _ _ c.in_ok-warnings.ensures (later _ _ _ _ c.in_ok-name.ensures (
     later _ _ _ _ (rw c.new.ensures at c.in_ok-titles.ensures) (fails_first _ _ _ c.in_err-inherited.ensures))))))))

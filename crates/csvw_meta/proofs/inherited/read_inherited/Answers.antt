@@ -5,58 +5,58 @@ use Rattle.csvw_meta.specs.Inherited.{inherited}
 use Rattle.csvw_meta.proofs.ReadLemmas.{fails_first, later, refused}
 use Rattle.csvw_meta.proofs.inherited.read_inherited.Goals as goal
 
+pub returns-in_err-about_url : goal.returns-in_err-about_url
+unfolding inherited
+returns-in_err-about_url c =
+    refused c.from_residual.result c.in_err-about_url.field-0.0
+    (inherited (text_of c.args.part.now.at) (view c.args.part.now.value.now)) c.from_residual.ensures.1
+    (fails_first _ _ _ c.in_err-about_url.ensures)
+
+pub returns-in_err-property_url : goal.returns-in_err-property_url
+unfolding inherited
+returns-in_err-property_url c =
+    refused c.from_residual-in_err-property_url.result c.in_err-property_url.field-0.0
+    (inherited (text_of c.args.part.now.at) (view c.args.part.now.value.now)) c.from_residual-in_err-property_url.ensures.1
+    (later _ _ _ _ c.in_ok-about_url.ensures (fails_first _ _ _ c.in_err-property_url.ensures))
+
+pub returns-in_err-value_url : goal.returns-in_err-value_url
+unfolding inherited
+returns-in_err-value_url c =
+    refused c.from_residual-in_err-value_url.result c.in_err-value_url.field-0.0
+    (inherited (text_of c.args.part.now.at) (view c.args.part.now.value.now)) c.from_residual-in_err-value_url.ensures.1
+    (later _ _ _ _ c.in_ok-about_url.ensures (later _ _ _ _ c.in_ok-property_url.ensures (fails_first _ _ _ c.in_err-value_url.ensures)))
+
 pub returns-in_err-optional : goal.returns-in_err-optional
 unfolding inherited
 returns-in_err-optional c =
-    refused c.from_residual.result c.in_err-optional.field-0.0
-    (inherited (text_of c.args.part.now.at) (view c.args.part.now.value.now)) c.from_residual.ensures.1
-    (fails_first _ _ _ c.in_err-optional.ensures)
-
-pub returns-in_err-optional-2 : goal.returns-in_err-optional-2
-unfolding inherited
-returns-in_err-optional-2 c =
-    refused c.from_residual-in_err-optional-2.result c.in_err-optional-2.field-0.0
-    (inherited (text_of c.args.part.now.at) (view c.args.part.now.value.now)) c.from_residual-in_err-optional-2.ensures.1
-    (later _ _ _ _ c.in_ok-optional.ensures (fails_first _ _ _ c.in_err-optional-2.ensures))
-
-pub returns-in_err-optional-3 : goal.returns-in_err-optional-3
-unfolding inherited
-returns-in_err-optional-3 c =
-    refused c.from_residual-in_err-optional-3.result c.in_err-optional-3.field-0.0
-    (inherited (text_of c.args.part.now.at) (view c.args.part.now.value.now)) c.from_residual-in_err-optional-3.ensures.1
-    (later _ _ _ _ c.in_ok-optional.ensures (later _ _ _ _ c.in_ok-optional-2.ensures (fails_first _ _ _ c.in_err-optional-3.ensures)))
-
-pub returns-in_err-optional-4 : goal.returns-in_err-optional-4
-unfolding inherited
-returns-in_err-optional-4 c =
-    refused c.from_residual-in_err-optional-4.result c.in_err-optional-4.field-0.0
-    (inherited (text_of c.args.part.now.at) (view c.args.part.now.value.now)) c.from_residual-in_err-optional-4.ensures.1
-    (later _ _ _ _ c.in_ok-optional.ensures (later _ _ _ _ c.in_ok-optional-2.ensures (later _ _ _ _ c.in_ok-optional-3.ensures (
-    fails_first _ _ _ c.in_err-optional-4.ensures))))
+    refused c.from_residual-in_err-optional.result c.in_err-optional.field-0.0
+    (inherited (text_of c.args.part.now.at) (view c.args.part.now.value.now)) c.from_residual-in_err-optional.ensures.1
+    (later _ _ _ _ c.in_ok-about_url.ensures (later _ _ _ _ c.in_ok-property_url.ensures (later _ _ _ _ c.in_ok-value_url.ensures (
+    fails_first _ _ _ c.in_err-optional.ensures))))
 
 pub returns-in_err-default : goal.returns-in_err-default
 unfolding inherited
 returns-in_err-default c =
     refused c.from_residual-in_err-default.result c.in_err-default.field-0.0
     (inherited (text_of c.args.part.now.at) (view c.args.part.now.value.now)) c.from_residual-in_err-default.ensures.1
-    (later _ _ _ _ c.in_ok-optional.ensures (later _ _ _ _ c.in_ok-optional-2.ensures (later _ _ _ _ c.in_ok-optional-3.ensures (
-    later _ _ _ _ c.in_ok-optional-4.ensures (fails_first _ _ _ c.in_err-default.ensures)))))
+    (later _ _ _ _ c.in_ok-about_url.ensures (later _ _ _ _ c.in_ok-property_url.ensures (later _ _ _ _ c.in_ok-value_url.ensures (
+    later _ _ _ _ c.in_ok-optional.ensures (fails_first _ _ _ c.in_err-default.ensures)))))
 
 pub returns-in_err-lang : goal.returns-in_err-lang
 unfolding inherited
 returns-in_err-lang c =
     refused c.from_residual-in_err-lang.result c.in_err-lang.field-0.0
     (inherited (text_of c.args.part.now.at) (view c.args.part.now.value.now)) c.from_residual-in_err-lang.ensures.1
-    (later _ _ _ _ c.in_ok-optional.ensures (later _ _ _ _ c.in_ok-optional-2.ensures (later _ _ _ _ c.in_ok-optional-3.ensures (
-    later _ _ _ _ c.in_ok-optional-4.ensures (later _ _ _ _ c.in_ok-default.ensures (fails_first _ _ _ c.in_err-lang.ensures))))))
+    (later _ _ _ _ c.in_ok-about_url.ensures (later _ _ _ _ c.in_ok-property_url.ensures (later _ _ _ _ c.in_ok-value_url.ensures (
+    later _ _ _ _ c.in_ok-optional.ensures (later _ _ _ _ c.in_ok-default.ensures (fails_first _ _ _ c.in_err-lang.ensures))))))
 
 pub returns-in_err-null : goal.returns-in_err-null
 unfolding inherited
 returns-in_err-null c =
     refused c.from_residual-in_err-null.result c.in_err-null.field-0.0
     (inherited (text_of c.args.part.now.at) (view c.args.part.now.value.now)) c.from_residual-in_err-null.ensures.1
-    (later _ _ _ _ c.in_ok-optional.ensures (later _ _ _ _ c.in_ok-optional-2.ensures (later _ _ _ _ c.in_ok-optional-3.ensures (
-    later _ _ _ _ c.in_ok-optional-4.ensures (later _ _ _ _ c.in_ok-default.ensures (later _ _ _ _ c.in_ok-lang.ensures (
+    (later _ _ _ _ c.in_ok-about_url.ensures (later _ _ _ _ c.in_ok-property_url.ensures (later _ _ _ _ c.in_ok-value_url.ensures (
+    later _ _ _ _ c.in_ok-optional.ensures (later _ _ _ _ c.in_ok-default.ensures (later _ _ _ _ c.in_ok-lang.ensures (
     fails_first _ _ _ c.in_err-null.ensures)))))))
 
 pub returns-in_err-ordered : goal.returns-in_err-ordered
@@ -64,8 +64,8 @@ unfolding inherited
 returns-in_err-ordered c =
     refused c.from_residual-in_err-ordered.result c.in_err-ordered.field-0.0
     (inherited (text_of c.args.part.now.at) (view c.args.part.now.value.now)) c.from_residual-in_err-ordered.ensures.1
-    (later _ _ _ _ c.in_ok-optional.ensures (later _ _ _ _ c.in_ok-optional-2.ensures (later _ _ _ _ c.in_ok-optional-3.ensures (
-    later _ _ _ _ c.in_ok-optional-4.ensures (later _ _ _ _ c.in_ok-default.ensures (later _ _ _ _ c.in_ok-lang.ensures (
+    (later _ _ _ _ c.in_ok-about_url.ensures (later _ _ _ _ c.in_ok-property_url.ensures (later _ _ _ _ c.in_ok-value_url.ensures (
+    later _ _ _ _ c.in_ok-optional.ensures (later _ _ _ _ c.in_ok-default.ensures (later _ _ _ _ c.in_ok-lang.ensures (
     later _ _ _ _ c.in_ok-null.ensures (fails_first _ _ _ c.in_err-ordered.ensures))))))))
 
 pub returns-in_err-required : goal.returns-in_err-required
@@ -73,8 +73,8 @@ unfolding inherited
 returns-in_err-required c =
     refused c.from_residual-in_err-required.result c.in_err-required.field-0.0
     (inherited (text_of c.args.part.now.at) (view c.args.part.now.value.now)) c.from_residual-in_err-required.ensures.1
-    (later _ _ _ _ c.in_ok-optional.ensures (later _ _ _ _ c.in_ok-optional-2.ensures (later _ _ _ _ c.in_ok-optional-3.ensures (
-    later _ _ _ _ c.in_ok-optional-4.ensures (later _ _ _ _ c.in_ok-default.ensures (later _ _ _ _ c.in_ok-lang.ensures (
+    (later _ _ _ _ c.in_ok-about_url.ensures (later _ _ _ _ c.in_ok-property_url.ensures (later _ _ _ _ c.in_ok-value_url.ensures (
+    later _ _ _ _ c.in_ok-optional.ensures (later _ _ _ _ c.in_ok-default.ensures (later _ _ _ _ c.in_ok-lang.ensures (
     later _ _ _ _ c.in_ok-null.ensures (later _ _ _ _ c.in_ok-ordered.ensures (fails_first _ _ _ c.in_err-required.ensures)))))))))
 
 pub returns-in_err-separator : goal.returns-in_err-separator
@@ -82,7 +82,7 @@ unfolding inherited
 returns-in_err-separator c =
     refused c.from_residual-in_err-separator.result c.in_err-separator.field-0.0
     (inherited (text_of c.args.part.now.at) (view c.args.part.now.value.now)) c.from_residual-in_err-separator.ensures.1
-    (later _ _ _ _ c.in_ok-optional.ensures (later _ _ _ _ c.in_ok-optional-2.ensures (later _ _ _ _ c.in_ok-optional-3.ensures (
-    later _ _ _ _ c.in_ok-optional-4.ensures (later _ _ _ _ c.in_ok-default.ensures (later _ _ _ _ c.in_ok-lang.ensures (
+    (later _ _ _ _ c.in_ok-about_url.ensures (later _ _ _ _ c.in_ok-property_url.ensures (later _ _ _ _ c.in_ok-value_url.ensures (
+    later _ _ _ _ c.in_ok-optional.ensures (later _ _ _ _ c.in_ok-default.ensures (later _ _ _ _ c.in_ok-lang.ensures (
     later _ _ _ _ c.in_ok-null.ensures (later _ _ _ _ c.in_ok-ordered.ensures (later _ _ _ _ c.in_ok-required.ensures (
     fails_first _ _ _ c.in_err-separator.ensures))))))))))

@@ -21,13 +21,13 @@ returns-in_err-optional-2 c =
     c.from_residual-in_err-optional-2.ensures.1
     (later _ _ _ _ c.in_ok-optional.ensures (fails_first _ _ _ c.in_err-optional-2.ensures))
 
-pub returns-in_err-optional-3 : goal.returns-in_err-optional-3
+pub returns-in_err-suppressed : goal.returns-in_err-suppressed
 unfolding table_of
-returns-in_err-optional-3 c =
-    refused c.from_residual-in_err-optional-3.result c.in_err-optional-3.field-0.0
+returns-in_err-suppressed c =
+    refused c.from_residual-in_err-suppressed.result c.in_err-suppressed.field-0.0
     (table_of c.args.context.now c.args.sole c.args.number (text_of c.args.part.now.at) (view c.args.part.now.value.now))
-    c.from_residual-in_err-optional-3.ensures.1
-    (later _ _ _ _ c.in_ok-optional.ensures (later _ _ _ _ c.in_ok-optional-2.ensures (fails_first _ _ _ c.in_err-optional-3.ensures)))
+    c.from_residual-in_err-suppressed.ensures.1
+    (later _ _ _ _ c.in_ok-optional.ensures (later _ _ _ _ c.in_ok-optional-2.ensures (fails_first _ _ _ c.in_err-suppressed.ensures)))
 
 pub returns-in_err-warnings : goal.returns-in_err-warnings
 unfolding table_of
@@ -35,7 +35,7 @@ returns-in_err-warnings c =
     refused c.from_residual-in_err-warnings.result c.in_err-warnings.field-0.0
     (table_of c.args.context.now c.args.sole c.args.number (text_of c.args.part.now.at) (view c.args.part.now.value.now))
     c.from_residual-in_err-warnings.ensures.1
-    (later _ _ _ _ c.in_ok-optional.ensures (later _ _ _ _ c.in_ok-optional-2.ensures (later _ _ _ _ c.in_ok-optional-3.ensures (
+    (later _ _ _ _ c.in_ok-optional.ensures (later _ _ _ _ c.in_ok-optional-2.ensures (later _ _ _ _ c.in_ok-suppressed.ensures (
     fails_first _ _ _ c.in_err-warnings.ensures))))
 
 pub returns-in_err-url : goal.returns-in_err-url
@@ -43,7 +43,7 @@ unfolding table_of
 returns-in_err-url c =
     refused c.from_residual-in_err-url.result c.in_err-url.field-0.0
     (table_of c.args.context.now c.args.sole c.args.number (text_of c.args.part.now.at) (view c.args.part.now.value.now)) c.from_residual-in_err-url.ensures.1
-    (later _ _ _ _ c.in_ok-optional.ensures (later _ _ _ _ c.in_ok-optional-2.ensures (later _ _ _ _ c.in_ok-optional-3.ensures (
+    (later _ _ _ _ c.in_ok-optional.ensures (later _ _ _ _ c.in_ok-optional-2.ensures (later _ _ _ _ c.in_ok-suppressed.ensures (
     later _ _ _ _ c.in_ok-warnings.ensures (fails_first _ _ _ (c.in_err-url.ensures no_url))))))
 
 pub returns-in_err-id : goal.returns-in_err-id
@@ -51,5 +51,5 @@ unfolding table_of
 returns-in_err-id c =
     refused c.from_residual-in_err-id.result c.in_err-id.field-0.0
     (table_of c.args.context.now c.args.sole c.args.number (text_of c.args.part.now.at) (view c.args.part.now.value.now)) c.from_residual-in_err-id.ensures.1
-    (later _ _ _ _ c.in_ok-optional.ensures (later _ _ _ _ c.in_ok-optional-2.ensures (later _ _ _ _ c.in_ok-optional-3.ensures (
+    (later _ _ _ _ c.in_ok-optional.ensures (later _ _ _ _ c.in_ok-optional-2.ensures (later _ _ _ _ c.in_ok-suppressed.ensures (
     later _ _ _ _ c.in_ok-warnings.ensures (later _ _ _ _ (c.in_ok-url.ensures no_url) (fails_first _ _ _ c.in_err-id.ensures))))))

@@ -1,0 +1,11 @@
+-- Virtual columns stand behind all others (Metadata Vocabulary for Tabular Data, section 5.6).
+use Rattle.std.specs.Prelude.{ℕ, ◌+◌, List, [], ◌∷◌, ◌++◌, Bool, ◌||◌, ◌&&◌, not, if◌then◌else◌}
+use Rattle.csvw_description.specs.declared.column.ColumnDescription.{ColumnDescription}
+use Rattle.csvw_meta_core.specs.declared.fault.MetaFault.{MetaFault}
+
+-- The faults of the columns that aren't virtual and stand behind one that is; the first column here has the index i, and
+-- `is_behind` tells whether a virtual one stands in front of it.
+abbrev pub misplaced : (ℕ → MetaFault) → Bool → ℕ → List ColumnDescription → List MetaFault
+misplaced fault is_behind i [] = []
+misplaced fault is_behind i (c ∷ cs) =
+    (if is_behind && not c.is_virtual then fault i ∷ [] else []) ++ misplaced fault (is_behind || c.is_virtual) (i + 1) cs
