@@ -1,0 +1,161 @@
+//! Documents with links, and the graphs and reports that their tables give.
+use crate::running::run_over;
+use csvw_triples_core::Mode;
+use std::alloc::{AllocError, Global};
+use std::test::Fail;
+
+/// A document, the text of its table, and what they give.
+struct Case {
+    /// The document.
+    meta: &'static str,
+    /// The text of its table.
+    text: &'static str,
+    /// The graph.
+    graph: &'static str,
+    /// The lines of the report behind its heading.
+    faults: &'static str,
+}
+
+const CASES: [Case; 12] = [
+    // about, property and value links
+    Case {
+        meta: r##"{"@context":"http://www.w3.org/ns/csvw","url":"p.csv","tableSchema":{"aboutUrl":"#{id}","columns":[{"name":"id"},{"name":"u","propertyUrl":"schema:name","valueUrl":"http://x.org/{+u}"}]}}"##,
+        text: "id,u\n7,a b%20|\n",
+        graph: concat!(
+            "<http://example.org/p.csv#7> <http://example.org/p.csv#id> \"7\" .\n",
+            "<http://example.org/p.csv#7> <http://schema.org/name> <http://x.org/a%20b%20%7C> .\n",
+        ),
+        faults: "",
+    },
+    // a virtual column behind a suppressed one
+    Case {
+        meta: r##"{"@context":"http://www.w3.org/ns/csvw","url":"p.csv","tableSchema":{"columns":[{"name":"id","suppressOutput":true},{"virtual":true,"propertyUrl":"rdf:type","valueUrl":"schema:Person"}]}}"##,
+        text: "id\n1\n",
+        graph: "_:t1r1s <http://www.w3.org/1999/02/22-rdf-syntax-ns#type> <http://schema.org/Person> .\n",
+        faults: "",
+    },
+    // a link that is no URL
+    Case {
+        meta: r##"{"@context":"http://www.w3.org/ns/csvw","url":"p.csv","tableSchema":{"columns":[{"name":"id","valueUrl":"http://[{id}"}]}}"##,
+        text: "id\n7\n",
+        graph: "_:t1r1s <http://example.org/p.csv#id> \"7\" .\n",
+        faults: "error,BadUrl,1,2,1\n",
+    },
+    // the numbers of a row
+    Case {
+        meta: r##"{"@context":"http://www.w3.org/ns/csvw","url":"p.csv","tableSchema":{"aboutUrl":"#{_row}-{_sourceRow}","columns":[{"name":"id"}]}}"##,
+        text: "id\n7\n",
+        graph: "<http://example.org/p.csv#1-2> <http://example.org/p.csv#id> \"7\" .\n",
+        faults: "",
+    },
+    // the numbers of a column
+    Case {
+        meta: r##"{"@context":"http://www.w3.org/ns/csvw","url":"p.csv","tableSchema":{"columns":[{"name":"id","suppressOutput":true},{"virtual":true,"valueUrl":"x{_sourceColumn}{_column}"}]}}"##,
+        text: "id\n1\n",
+        graph: "_:t1r1s <http://example.org/p.csv#_col.2> <http://example.org/x2> .\n",
+        faults: "",
+    },
+    // no value link of a null cell
+    Case {
+        meta: r##"{"@context":"http://www.w3.org/ns/csvw","url":"p.csv","tableSchema":{"columns":[{"name":"id"},{"name":"u","valueUrl":"http://x.org/{id}"}]}}"##,
+        text: "id,u\n1,\n",
+        graph: "_:t1r1s <http://example.org/p.csv#id> \"1\" .\n",
+        faults: "",
+    },
+    // a named virtual column is no mismatch
+    Case {
+        meta: r##"{"@context":"http://www.w3.org/ns/csvw","url":"p.csv","tableSchema":{"columns":[{"name":"id"},{"virtual":true,"name":"t","propertyUrl":"rdf:type","valueUrl":"schema:Person"}]}}"##,
+        text: "id\n1\n",
+        graph: concat!(
+            "_:t1r1s <http://example.org/p.csv#id> \"1\" .\n",
+            "_:t1r1s <http://www.w3.org/1999/02/22-rdf-syntax-ns#type> <http://schema.org/Person> .\n",
+        ),
+        faults: "",
+    },
+    // a column of a later place, and a list
+    Case {
+        meta: r##"{"@context":"http://www.w3.org/ns/csvw","url":"p.csv","tableSchema":{"aboutUrl":"#{tags}","columns":[{"name":"id"},{"name":"tags","separator":";"}]}}"##,
+        text: "id,tags\n1,a;b\n",
+        graph: concat!(
+            "<http://example.org/p.csv#a,b> <http://example.org/p.csv#id> \"1\" .\n",
+            "<http://example.org/p.csv#a,b> <http://example.org/p.csv#tags> \"a\" .\n",
+            "<http://example.org/p.csv#a,b> <http://example.org/p.csv#tags> \"b\" .\n",
+        ),
+        faults: "",
+    },
+    // several variables
+    Case {
+        meta: r##"{"@context":"http://www.w3.org/ns/csvw","url":"p.csv","tableSchema":{"aboutUrl":"#{x,y}","columns":[{"name":"x"},{"name":"y"}]}}"##,
+        text: "x,y\n1,\n",
+        graph: "<http://example.org/p.csv#1> <http://example.org/p.csv#x> \"1\" .\n",
+        faults: "",
+    },
+    // the columns win over no reserved variable
+    Case {
+        meta: r##"{"@context":"http://www.w3.org/ns/csvw","url":"p.csv","tableSchema":{"aboutUrl":"#{_row}","columns":[{"titles":"_row"}]}}"##,
+        text: "_row\nx\n",
+        graph: "<http://example.org/p.csv#1> <http://example.org/p.csv#_row> \"x\" .\n",
+        faults: "",
+    },
+    // a suppressed table
+    Case {
+        meta: r##"{"@context":"http://www.w3.org/ns/csvw","url":"p.csv","suppressOutput":true,"tableSchema":{"columns":[{"name":"id","valueUrl":"http://[{id}"}]}}"##,
+        text: "id\n7\n",
+        graph: "",
+        faults: "error,BadUrl,1,2,1\n",
+    },
+    // the name of a column
+    Case {
+        meta: r##"{"@context":"http://www.w3.org/ns/csvw","url":"p.csv","dialect":{"header":false},"tableSchema":{"columns":[{"name":"First%20Name","valueUrl":"{#_name}"}]}}"##,
+        text: "x\n",
+        graph: "_:t1r1s <http://example.org/p.csv#First%20Name> <http://example.org/p.csv#First%20Name> .\n",
+        faults: "",
+    },
+];
+
+const HEADING: &str = "kind,code,table,row,column\n";
+
+fn is_report(report: &[u8], faults: &str) -> bool {
+    report.strip_prefix(HEADING.as_bytes()) == Some(faults.as_bytes())
+}
+
+/// Whether a run ends, and leaves this graph and a report of these faults.
+fn leaves(alloc: Global, case: &Case, mode: Mode, graph: &str) -> Result<bool, AllocError> {
+    let ran = run_over(alloc, case.meta, case.text, mode)?;
+    let is_graph = ran.graph.as_slice() == graph.as_bytes();
+    Ok(ran.stop.is_none() && is_graph && is_report(ran.report.as_slice(), case.faults))
+}
+
+fn gives(alloc: Global, case: &Case) -> Result<bool, AllocError> {
+    let converts = leaves(alloc, case, Mode::Minimal, case.graph)?;
+    Ok(leaves(alloc, case, Mode::Validate, "")? && converts)
+}
+
+#[test]
+fn links_stand_in_the_graph(rt: HostRuntime) -> Result<(), Fail> {
+    for case in &CASES {
+        assert!(rt; gives(rt.alloc(), case)?, "{}", case.meta);
+    }
+    Ok(())
+}
+
+/// Whether a text of one letter so often is too long for a link.
+fn is_too_long(alloc: Global, count: usize) -> Result<bool, AllocError> {
+    let meta =
+        r#"{"@context":"http://www.w3.org/ns/csvw","url":"p.csv","tableSchema":{"columns":[{"name":"id","valueUrl":"{id}"}]}}"#;
+    let mut text = String::from_str(alloc, "id\n")?;
+    for _ in 0..count {
+        text.push('a')?;
+    }
+    text.push('\n')?;
+    let ran = run_over(alloc, meta, text.as_str(), Mode::Minimal)?;
+    Ok(is_report(ran.report.as_slice(), "error,UrlTooLong,1,2,1\n"))
+}
+
+#[test]
+fn long_links_are_told(rt: HostRuntime) -> Result<(), Fail> {
+    let alloc = rt.alloc();
+    assert!(rt; is_too_long(alloc, 65537)?);
+    assert!(rt; !is_too_long(alloc, 65536)?);
+    Ok(())
+}

@@ -1,0 +1,9 @@
+//! Tests of links in rows by whole runs: templates, virtual columns, and suppressed columns and tables.
+#![tactic(auto)]
+
+#[cfg(test)]
+mod groups;
+#[cfg(test)]
+mod refusals;
+#[cfg(test)]
+mod running;
