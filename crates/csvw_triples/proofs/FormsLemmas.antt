@@ -1,5 +1,5 @@
 -- The values of annotated rows have lexical forms.
-use Rattle.std.proofs.Common.{◌≡◌, ℕ, Bool, true, false, List, [], ◌∷◌, Option, Some, None, length, sym, subst}
+use Rattle.std.proofs.Common.{◌≡◌, ℕ, Bool, true, false, List, [], ◌∷◌, Option, Some, None, length, refl, sym, subst}
 use Rattle.std.specs.Prelude.{MatchBool, ◌==◌}
 use Rattle.csvw_text.specs.declared.fault.Code.{Code}
 use Rattle.csvw_datatype.specs.declared.datatype.Datatype.{Datatype}
@@ -16,7 +16,8 @@ use Rattle.csvw_cell.specs.CellOf.{IsItem, AreItems, IsSingle, IsListOf, IsList,
 use Rattle.csvw_cell.specs.declared.cell.Cell.{Cell}
 use Rattle.csvw_cell.specs.declared.cell.Item.{Item}
 use Rattle.csvw_cell.specs.declared.cell.CellValue.TheVariants as values
-use Rattle.csvw_annotate.specs.Annotated.{IsCell, AreCells, IsRow}
+use Rattle.csvw_annotate.specs.Annotated.{IsCell, AreCells, IsRow, numbers_of}
+use Rattle.csvw_annotate.specs.Linked.{each_linked, linked_in, values_of}
 use Rattle.csvw_annotate.specs.declared.row.AnnCell.{AnnCell}
 use Rattle.csvw_annotate.specs.declared.row.Row.{Row}
 use Rattle.csvw_triples.specs.HasForms.{HaveForms, ValueHasForms, CellsHaveForms, HasForms}
@@ -29,6 +30,13 @@ Writable = (s : Simple) (f : Option Format) (text : List ℕ) (v : Value) → Re
 either : {P Q R : Type 0} (b : Bool) → (P → R) → (Q → R) → MatchBool b P Q → R
 either true f g h = f h
 either false f g h = g h
+
+-- links leave values as they are
+linked_forms : (link : Column → AnnCell → AnnCell) → ((column : Column) (cell : AnnCell) → (link column cell).value ≡ cell.value)
+    → (columns : List Column) (cells : List AnnCell) → CellsHaveForms cells → CellsHaveForms (each_linked link columns cells)
+linked_forms link keeps [] cells h = tt
+linked_forms link keeps (column ∷ columns) [] h = tt
+linked_forms link keeps (column ∷ columns) (cell ∷ cells) h = (subst ValueHasForms (sym (keeps column cell)) h.0, linked_forms link keeps columns cells h.1)
 
 module _ (law : Writable) where
   item_form : (d : Datatype) (text : List ℕ) (item : Item) (codes : List Code) → IsItem d text item codes → IsWritable item.value
@@ -71,4 +79,6 @@ module _ (law : Writable) where
   cells_forms (column ∷ columns) (field ∷ fields) (cell ∷ cells) h = (cell_forms column field cell h.0, cells_forms columns fields cells h.1)
 
   pub row_forms : (columns : Columns) (raw : Given) (row : Row) → IsRow columns raw row → HasForms row
-  row_forms columns raw row h = cells_forms columns.columns raw.fields row.cells h.cells
+  row_forms columns raw row h =
+      let link = linked_in columns (numbers_of raw) (values_of h.unlinked) in
+      subst CellsHaveForms (sym h.cells) (linked_forms link (λ column cell. refl) columns.columns h.unlinked (cells_forms columns.columns raw.fields h.unlinked h.says))

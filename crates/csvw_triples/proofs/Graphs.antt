@@ -21,16 +21,16 @@ use Rattle.csvw_triples.specs.RowTriples.{triple, subject_of, predicate_of, entr
 
 -- lists
 
-none_in : {X : Type 0} (x : X) → Contains [] x → ⊥
+pub none_in : {X : Type 0} (x : X) → Contains [] x → ⊥
 none_in x h = let lt = h.1 in absurd (omega arith)
 
-first_in : {X : Type 0} (x : X) (xs : List X) → Contains (x ∷ xs) x
+pub first_in : {X : Type 0} (x : X) (xs : List X) → Contains (x ∷ xs) x
 first_in x xs = Contains-append_left (x ∷ []) xs x (Contains-push [] x)
 
-later_in : {X : Type 0} (y : X) (xs : List X) (x : X) → Contains xs x → Contains (y ∷ xs) x
+pub later_in : {X : Type 0} (y : X) (xs : List X) (x : X) → Contains xs x → Contains (y ∷ xs) x
 later_in y xs x h = Contains-append_right (y ∷ []) xs x h
 
-one_in : {X : Type 0} (y x : X) → Contains (y ∷ []) x → x ≡ y
+pub one_in : {X : Type 0} (y x : X) → Contains (y ∷ []) x → x ≡ y
 one_in y x h = same (Contains-push_cases [] y x h)
   where
     same : Contains [] x ⊎ (y ≡ x) → x ≡ y
@@ -38,18 +38,18 @@ one_in y x h = same (Contains-push_cases [] y x h)
     same (inr e) = sym e
 
 -- the first of a list, or one of the others
-in_cons : {X : Type 0} (y : X) (ys : List X) (x : X) → Contains (y ∷ ys) x → (x ≡ y) ⊎ Contains ys x
+pub in_cons : {X : Type 0} (y : X) (ys : List X) (x : X) → Contains (y ∷ ys) x → (x ≡ y) ⊎ Contains ys x
 in_cons y ys x h =
     elim (Contains-append_cases (y ∷ []) ys x h) [
       | inl k ↦ inl (one_in y x k)
       | inr k ↦ inr k
     ]
 
-is_first : {X : Type 0} (y : X) (ys : List X) (x : X) → x ≡ y → Contains (y ∷ ys) x
+pub is_first : {X : Type 0} (y : X) (ys : List X) (x : X) → x ≡ y → Contains (y ∷ ys) x
 is_first y ys x e = subst (λ z. Contains (y ∷ ys) z) (sym e) (first_in y ys)
 
 -- what stands in the joined lists stands in the list of some item
-from_flat : {X Y : Type 0} (f : X → List Y) (xs : List X) (y : Y) → Contains (flat_map f xs) y → (x : X) × Contains xs x × Contains (f x) y
+pub from_flat : {X Y : Type 0} (f : X → List Y) (xs : List X) (y : Y) → Contains (flat_map f xs) y → (x : X) × Contains xs x × Contains (f x) y
 from_flat f [] y h = absurd (none_in y h)
 from_flat f (x ∷ xs) y h =
     elim (Contains-append_cases (f x) (flat_map f xs) y h) [
@@ -57,7 +57,7 @@ from_flat f (x ∷ xs) y h =
       | inr k ↦ let rest = from_flat f xs y k in (rest.0, later_in x xs rest.0 rest.1, rest.2)
     ]
 
-to_flat : {X Y : Type 0} (f : X → List Y) (xs : List X) (x : X) (y : Y) → Contains xs x → Contains (f x) y → Contains (flat_map f xs) y
+pub to_flat : {X Y : Type 0} (f : X → List Y) (xs : List X) (x : X) (y : Y) → Contains xs x → Contains (f x) y → Contains (flat_map f xs) y
 to_flat f [] x y h k = absurd (none_in x h)
 to_flat f (z ∷ xs) x y h k =
     elim (in_cons z xs x h) [
@@ -231,11 +231,11 @@ module _ (entry : ℕ → Origin) (column : Column) where
   to_value s p (Many items) None x h = to_items s p items column.properties.ordered x h
 
 -- nothing is given where it is suppressed
-unless : {X : Type 0} (b : Bool) (xs : List X) (x : X) → Contains (cond b [] xs) x → (b ≡ false) × Contains xs x
+pub unless : {X : Type 0} (b : Bool) (xs : List X) (x : X) → Contains (cond b [] xs) x → (b ≡ false) × Contains xs x
 unless true xs x h = absurd (none_in x h)
 unless false xs x h = (refl, h)
 
-given : {X : Type 0} (b : Bool) (xs : List X) (x : X) → b ≡ false → Contains xs x → Contains (cond b [] xs) x
+pub given : {X : Type 0} (b : Bool) (xs : List X) (x : X) → b ≡ false → Contains xs x → Contains (cond b [] xs) x
 given b xs x e h = subst (λ t. Contains (cond t [] xs) x) (sym e) h
 
 pub from_row : (t : ℕ) (columns : Columns) (row : Row) (x : Triple) → Contains (row_triples mode.Minimal t columns row) x → RowGraph t columns row x

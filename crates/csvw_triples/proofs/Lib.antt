@@ -3,3 +3,7 @@ pub mod Runs
 pub mod RdfLemmas
 pub mod Graphs
 pub mod FormsLemmas
+pub mod Fragments
+pub mod Walking
+pub mod Standards
+pub mod StandardGraphs

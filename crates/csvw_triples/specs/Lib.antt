@@ -5,3 +5,6 @@ pub mod Puts
 pub mod RowTriples
 pub mod Stems
 pub mod Graph
+pub mod CsvwVocabulary
+pub mod StandardTriples
+pub mod Standard

@@ -12,7 +12,9 @@ ghost use Rattle.csvw_triples.specs.RowTriples.{triple, list_node, list_triples,
 ghost use Rattle.csvw_triples.specs.RowTriples.{object_triples, cell_triples, cells_triples, row_triples};
 ghost use Rattle.csvw_triples.specs.Vocabulary.{rdf_first, rdf_rest, rdf_nil};
 
+use crate::csvw_names::CsvwNames;
 use crate::literals::literal_of;
+use crate::putting::put_one;
 use crate::rdf::RdfNames;
 use crate::stem::{ListPlace, RowPlace, Stem};
 use csvw_annotate::{AnnCell, Row};
@@ -24,18 +26,14 @@ use csvw_triples_core::{Mode, Node, Origin, SinkFault, Term, Triple, TripleSink}
 use std::alloc::{AllocError, Global};
 use std::mem;
 
-fn put_one<S: TripleSink>(triple: &Triple, sink: &mut S) -> Result<(), SinkFault>
-    ensures { Puts S.gains S.is_open S.failed sink.old (triple.now ∷ []) sink.new result }
-{
-    sink.put(triple)
-}
-
-/// Puts the triples of rows into sinks, and keeps the memory of one literal from row to row.
+/// Puts the triples of rows into sinks, and keeps the memory of one literal and of one place from row to row.
 #[derive(Debug, Drop)]
 pub struct Emitter {
-    alloc: Global,
+    pub(crate) alloc: Global,
     names: RdfNames,
-    spare: Text,
+    pub(crate) csvw: CsvwNames,
+    pub(crate) spare: Text,
+    pub(crate) fragment: Text,
 }
 
 impl Emitter {
@@ -44,7 +42,9 @@ impl Emitter {
         Ok(Emitter {
             alloc,
             names: RdfNames::new(alloc)?,
+            csvw: CsvwNames::new(alloc)?,
             spare: Text::new(alloc),
+            fragment: Text::new(alloc),
         })
     }
 
@@ -56,7 +56,7 @@ impl Emitter {
         }
     }
 
-    fn put_object<S: TripleSink>(
+    pub(crate) fn put_object<S: TripleSink>(
         &mut self,
         stem: &Stem,
         o: Term,
@@ -281,7 +281,7 @@ impl Emitter {
         }
     }
 
-    fn emit_cell<S: TripleSink>(
+    pub(crate) fn emit_cell<S: TripleSink>(
         &mut self,
         place: RowPlace,
         column: &Column,

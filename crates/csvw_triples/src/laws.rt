@@ -9,6 +9,8 @@ ghost use Rattle.csvw_triples_core.specs.declared.term.Triple.{Triple as TheTrip
 ghost use Rattle.csvw_triples.specs.Graph.{RowGraph, Minimal};
 ghost use Rattle.csvw_triples.specs.HasForms.{HasForms};
 ghost use Rattle.csvw_triples.specs.RowTriples.{row_triples};
+ghost use Rattle.csvw_triples.specs.Standard.{StandardRow, StandardRows};
+ghost use Rattle.csvw_triples.specs.StandardTriples.{standard_triples};
 
 use csvw_datatype::values_of_texts;
 
@@ -22,6 +24,18 @@ pub fn row_triples_are_row_graph()
 pub fn rows_triples_are_minimal()
     ensures { (t : ℕ) (columns : TheColumns) (rows : List TheRow) (x : TheTriple)
         → Contains (flat_map (row_triples mode.Minimal t columns) rows) x ↔ Minimal t (Some columns) rows x }
+{}
+
+/// The triples that a row gives in standard mode are its graph (csv2rdf, section 4.2).
+pub fn standard_triples_are_standard_row()
+    ensures { (t : ℕ) (columns : TheColumns) (row : TheRow) (x : TheTriple)
+        → Contains (standard_triples t columns row) x ↔ StandardRow t columns row x }
+{}
+
+/// The triples that all rows of a table give in standard mode are the graph of its rows (csv2rdf, section 4.2).
+pub fn rows_triples_are_standard()
+    ensures { (t : ℕ) (columns : TheColumns) (rows : List TheRow) (x : TheTriple)
+        → Contains (flat_map (standard_triples t columns) rows) x ↔ StandardRows t (Some columns) rows x }
 {}
 
 /// The values of an annotated row have lexical forms.

@@ -1,14 +1,23 @@
 //! The triples that rows give.
 #![tactic(auto)]
 
+mod csvw_names;
 mod emitter;
 mod laws;
 mod literals;
+mod putting;
 mod rdf;
+mod standard;
 mod stem;
 
 pub use csvw_triples_core::{
     Lit, Mode, Node, Origin, SinkFault, Term, Triple, TripleSink, VecSink,
 };
 pub use emitter::{Emitter, emit_row};
-pub use laws::{annotated_rows_have_forms, row_triples_are_row_graph, rows_triples_are_minimal};
+pub use laws::{
+    annotated_rows_have_forms, row_triples_are_row_graph, rows_triples_are_minimal,
+    rows_triples_are_standard, standard_triples_are_standard_row,
+};
+pub use putting::put_all;
+pub use rdf::named;
+pub use standard::table_node;

@@ -27,8 +27,8 @@ pub struct RdfNames {
     pub ghost is_string: { string ≡ xsd_string },
 }
 
-/// The IRI that a text is.
-fn named(alloc: Global, text: &str) -> Result<Iri, AllocError>
+/// The IRI that a text is, whose characters all stand raw; `AllocError` where there is no memory.
+pub fn named(alloc: Global, text: &str) -> Result<Iri, AllocError>
     requires { is_iri text.now ≡ true }
     ensures { IfOk result (λ iri. iri ≡ text.now) }
 {
