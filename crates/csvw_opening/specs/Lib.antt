@@ -1,0 +1,2 @@
+pub mod OpeningTriples
+pub mod Opening
