@@ -1,0 +1,63 @@
+-- The type of a name, by its other form.
+use Rattle.std.proofs.Common.{◌≡◌, MatchOption, inl, inr, ℕ, List, [], ◌∷◌, Option, Some, None, Bool, true, false, refl, bytes_eq, codes, sym}
+use Rattle.std.proofs.lemmas.Slice.Eq.{bytes_eq-Decides}
+use Rattle.csvw_datatype.specs.declared.simple.Simple.{Simple}
+use Rattle.csvw_datatype.specs.declared.simple.Simple.TheVariants.{Text, Truth, Whole, Decimal, Day, Uri, Derived, Moment}
+use Rattle.csvw_datatype.specs.declared.simple.Width.{Width}
+use Rattle.csvw_datatype.specs.declared.simple.Width.TheVariants.{Long, Int, Short, Byte, UnsignedLong, UnsignedInt, UnsignedShort, UnsignedByte, NonNegativeInteger, PositiveInteger, NonPositiveInteger, NegativeInteger}
+use Rattle.csvw_datatype.specs.Names.{name_of, width_name, IsNamed}
+use Rattle.csvw_meta_datatype.specs.Names.{all_simples, named_in, named_of}
+
+is_named : (name : List ℕ) (s : Simple) → name ≡ name_of s → IsNamed name s
+is_named name Text e = e
+is_named name Truth e = e
+is_named name Whole e = e
+is_named name Decimal e = e
+is_named name Day e = e
+is_named name Uri e = e
+is_named name (Derived w) e = e
+is_named name Moment e = inl e
+
+unequal : (b : Bool) → (b ≡ true → ⊥) → b ≡ false
+unequal true h = absurd (h refl)
+unequal false h = refl
+
+differs : (a b : List ℕ) → (a ≡ b → ⊥) → bytes_eq a b ≡ false
+differs a b h = unequal (bytes_eq a b) (λ e. h ((bytes_eq-Decides a b).0 e))
+
+none_in : (name : List ℕ) → ((s : Simple) → IsNamed name s → ⊥) → (ss : List Simple) → named_in ss name ≡ None
+none_in name h [] = refl
+none_in name h (s ∷ ss) = rw (differs name (name_of s) (λ e. h s (is_named name s e))) (none_in name h ss)
+
+pub none_named : (name : List ℕ) → ((s : Simple) → IsNamed name s → ⊥) → named_of name ≡ None
+none_named name h = rw (differs name (codes "datetime") (λ e. h Moment (inr e))) (none_in name h all_simples)
+
+width_named : (name : List ℕ) (w : Width) → name ≡ width_name w → named_of name ≡ Some (Derived w)
+width_named name Long e = rw e refl
+width_named name Int e = rw e refl
+width_named name Short e = rw e refl
+width_named name Byte e = rw e refl
+width_named name UnsignedLong e = rw e refl
+width_named name UnsignedInt e = rw e refl
+width_named name UnsignedShort e = rw e refl
+width_named name UnsignedByte e = rw e refl
+width_named name NonNegativeInteger e = rw e refl
+width_named name PositiveInteger e = rw e refl
+width_named name NonPositiveInteger e = rw e refl
+width_named name NegativeInteger e = rw e refl
+
+pub one_named : (name : List ℕ) (s : Simple) → IsNamed name s → named_of name ≡ Some s
+one_named name Text e = rw e refl
+one_named name Truth e = rw e refl
+one_named name Whole e = rw e refl
+one_named name Decimal e = rw e refl
+one_named name Day e = rw e refl
+one_named name Uri e = rw e refl
+one_named name (Derived w) e = width_named name w e
+one_named name Moment (inl e) = rw e refl
+one_named name Moment (inr e) = rw e refl
+
+-- what `Simple::of` answers
+pub named_as : (name : List ℕ) (o : Option Simple) → MatchOption o ((s : Simple) → ¬ IsNamed name s) (IsNamed name) → o ≡ named_of name
+named_as name None h = sym (none_named name h)
+named_as name (Some s) h = sym (one_named name s h)

@@ -1,0 +1,47 @@
+-- Datatypes (Metadata Vocabulary for Tabular Data, section 5.11).
+use Rattle.std.specs.Prelude.{ℕ, List, [], ◌++◌, Option, None, codes}
+use Rattle.serde_json.specs.Data.{Data, null, boolean, number, string, array, object}
+use Rattle.url.specs.Parts.{Parts}
+use Rattle.csvw_text.specs.declared.fault.Place.{Place}
+use Rattle.csvw_datatype.specs.declared.simple.Simple.{Simple}
+use Rattle.csvw_datatype.specs.declared.simple.Simple.TheVariants.{Text}
+use Rattle.csvw_datatype.specs.declared.datatype.Datatype.{Datatype}
+use Rattle.csvw_datatype.specs.Breaks.{no_facets}
+use Rattle.csvw_meta_core.specs.declared.fault.MetaCode.TheVariants.{NotSupported}
+use Rattle.csvw_meta_core.specs.Read.{Read, fine, ◌>>=◌, under, property, optional, not_yet}
+use Rattle.csvw_meta_core.specs.Kinds.{fixed}
+use Rattle.csvw_meta_core.specs.Links.{id}
+use Rattle.csvw_meta_core.specs.Others.{others}
+use Rattle.csvw_meta_datatype.specs.declared.form.DatatypeFound.{DatatypeFound}
+use Rattle.csvw_meta_datatype.specs.Base.{base}
+use Rattle.csvw_meta_datatype.specs.Names.{datatype_names}
+use Rattle.csvw_meta_datatype.specs.Refused.{lengths, bounds}
+
+-- the datatype of a type, with an `@id` or without one
+abbrev pub plain : Simple → Option (List ℕ) → Datatype
+plain simple id = record { simple = simple; id = id; format = None; facets = no_facets }
+
+-- the datatype of a name
+abbrev pub named : Simple → DatatypeFound
+named simple = record { datatype = plain simple None; warnings = [] }
+
+-- The datatype that an object describes. Formats and facets are not supported yet.
+unfoldable pub form : Parts → Place → List ℕ → Data → Read DatatypeFound
+form against place at d = do
+  iri ← optional (id against) at d (codes "@id")
+  type ← optional (fixed (codes "Datatype")) at d (codes "@type")
+  warnings ← others (datatype_names ++ []) NotSupported place at d
+  simple ← property base Text at d (codes "base")
+  format ← optional not_yet at d (codes "format")
+  lengths ← lengths at d
+  bounds ← bounds at d
+  fine (record { datatype = plain simple iri; warnings = warnings })
+
+-- the datatype of a name, or that of an object
+unfoldable pub datatype : Parts → Place → List ℕ → Data → Read DatatypeFound
+datatype against place at (object ms) = form against place at (object ms)
+datatype against place at null = under named (base at null)
+datatype against place at (boolean b) = under named (base at (boolean b))
+datatype against place at (number n) = under named (base at (number n))
+datatype against place at (string s) = under named (base at (string s))
+datatype against place at (array ds) = under named (base at (array ds))

@@ -1,0 +1,83 @@
+//! Datatypes that are described by objects (Metadata Vocabulary for Tabular Data, section 5.11.2).
+ghost use Rattle.std.specs.Prelude.{◌≡◌, ◌++◌, []};
+ghost use Rattle.serde_json.specs.View.{view};
+ghost use Rattle.csvw_meta_core.specs.Pointer.{text_of};
+ghost use Rattle.csvw_meta_core.specs.Others.{others};
+ghost use Rattle.csvw_meta_core.specs.Reads.{Reads};
+ghost use Rattle.csvw_meta_datatype.specs.Names.{datatype_names};
+ghost use Rattle.csvw_meta_datatype.specs.Datatypes.{form, plain};
+
+use crate::base::BaseReader;
+use crate::refused::{refuse_bounds, refuse_lengths};
+use csvw_datatype::{Datatype, Facets, Simple};
+use csvw_iri::{Base, Iri};
+use csvw_meta_core::{Fixed, IdReader, Listed, MetaCode, NotYet, Part, Reader, Refusal};
+use csvw_text::{Fault, Place, Seq};
+
+/// The properties that are listed for a datatype.
+const DATATYPE: [&str; 13] = [
+    "@id",
+    "@type",
+    "base",
+    "format",
+    "length",
+    "minLength",
+    "maxLength",
+    "minimum",
+    "minInclusive",
+    "minExclusive",
+    "maximum",
+    "maxInclusive",
+    "maxExclusive",
+];
+
+/// A datatype, and the warnings on it.
+#[derive(Drop)]
+pub struct DatatypeFound {
+    /// The datatype. Its format and its facets fit its type and each other.
+    pub datatype: Datatype,
+    /// One for each property of it that is ignored.
+    pub warnings: Seq<Fault>,
+}
+
+/// The datatype of a type, with an `@id` or without one.
+pub(crate) fn plain(simple: Simple, id: Option<Iri>) -> Datatype
+    ensures { result ≡ plain simple id }
+{
+    Datatype {
+        simple,
+        id,
+        format: None,
+        facets: Facets::new(),
+    }
+}
+
+fn warnings_of(place: Place, part: &Part) -> Result<Seq<Fault>, Refusal>
+    ensures { Reads result (others (datatype_names ++ []) MetaCode.NotSupported place (text_of part.now.at) (view part.now.value.now)) }
+{
+    let listed = Listed {
+        names: &DATATYPE,
+        shared: &[],
+        common: MetaCode::NotSupported,
+        place,
+    };
+    listed.read(part)
+}
+
+/// The datatype that an object describes; its `@id` is resolved against the base.
+#[tactic(auto, using(crate::proofs::ReadLemmas::fails_first), unfolding(crate::specs::Datatypes::form))]
+pub(crate) fn read_form(base: &Base, place: Place, part: &Part) -> Result<DatatypeFound, Refusal>
+    ensures { Reads result (form base.now place (text_of part.now.at) (view part.now.value.now)) }
+{
+    let id = part.optional(&IdReader { base }, "@id")?;
+    part.optional(&Fixed { text: "Datatype" }, "@type")?;
+    let warnings = warnings_of(place, part)?;
+    let simple = part.property(&BaseReader, Simple::Text, "base")?;
+    part.optional(&NotYet, "format")?;
+    refuse_lengths(part)?;
+    refuse_bounds(part)?;
+    Ok(DatatypeFound {
+        datatype: plain(simple, id),
+        warnings,
+    })
+}

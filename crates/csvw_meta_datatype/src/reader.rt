@@ -1,0 +1,38 @@
+//! Datatypes (Metadata Vocabulary for Tabular Data, section 5.11).
+use crate::base::BaseReader;
+use crate::form::{DatatypeFound, plain, read_form};
+use csvw_iri::Base;
+use csvw_meta_core::{Part, Reader, Refusal};
+use csvw_text::{Place, Seq};
+use serde_json::Value;
+
+/// A datatype: the name of a built-in one, or an object. A name that isn't known is `NotSupported`.
+#[derive(Drop)]
+pub struct DatatypeReader<'a> {
+    /// What its `@id` is resolved against.
+    pub base: &'a Base,
+    /// Where the warnings on it are told.
+    pub place: Place,
+}
+
+impl<'a> Reader for DatatypeReader<'a> {
+    ghost use Rattle.csvw_meta_datatype.specs.Datatypes.{datatype};
+
+    type Output = DatatypeFound;
+
+    ghost reads = { λ r. datatype r.base.now r.place };
+
+    #[tactic(auto, unfolding(crate::specs::Datatypes::datatype))]
+    fn read(&self, part: &Part) -> Result<DatatypeFound, Refusal> {
+        match part.value {
+            Value::Object(_) => read_form(self.base, self.place, part),
+            _ => {
+                let simple = BaseReader.read(part)?;
+                Ok(DatatypeFound {
+                    datatype: plain(simple, None),
+                    warnings: Seq::new(part.alloc),
+                })
+            }
+        }
+    }
+}
