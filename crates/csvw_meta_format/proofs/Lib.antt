@@ -1,0 +1,3 @@
+pub mod PatternLemmas
+pub mod ReadLemmas
+pub mod TruthLemmas

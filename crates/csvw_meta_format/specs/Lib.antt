@@ -1,0 +1,4 @@
+pub mod Formats
+pub mod Numbers
+pub mod Patterns
+pub mod Truths
