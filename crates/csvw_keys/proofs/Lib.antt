@@ -1,0 +1,4 @@
+pub mod EqualLemmas
+pub mod PrimaryLemmas
+pub mod ReferenceLemmas
+pub mod TallyLemmas

@@ -1,0 +1,10 @@
+pub mod Duplicates
+pub mod EqualKeys
+pub mod Key
+pub mod Places
+pub mod PrimaryBooks
+pub mod ReferenceBooks
+pub mod References
+pub mod Tables
+pub mod Tallies
+pub mod Times

@@ -1,0 +1,15 @@
+-- Where broken keys are told.
+use Rattle.std.specs.Prelude.{ℕ, List, [], ◌∷◌}
+use Rattle.csvw_text.specs.declared.fault.Code.{Code}
+use Rattle.csvw_text.specs.declared.fault.Fault.{Fault}
+use Rattle.csvw_text.specs.declared.fault.Kind.TheVariants.{Error}
+
+-- the first number; 0 where there is none
+abbrev pub first_of : List ℕ → ℕ
+first_of [] = 0
+first_of (n ∷ ns) = n
+
+-- what is wrong with a key in a row: its place is the row and the key's first column
+abbrev pub fault_of : Code → ℕ → List ℕ → ℕ → Fault
+fault_of code table columns source =
+    record { place = record { table = table; row = source; column = first_of columns }; code = code; kind = Error }

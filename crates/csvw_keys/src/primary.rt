@@ -1,0 +1,121 @@
+//! The rows of a table whose primary key an earlier row has.
+ghost use Rattle.std.specs.Prelude.{◌≡◌, ◌<◌, ◌++◌, ◌∷◌, [], ℕ, List, OnOk};
+ghost use Rattle.std.specs.Vec.{vec_len, vec_capacity};
+ghost use Rattle.csvw_annotate.specs.declared.row.Row.{Row};
+ghost use Rattle.csvw_keys.specs.Duplicates.{duplicate_faults};
+ghost use Rattle.csvw_keys.specs.Places.{fault_of};
+ghost use Rattle.csvw_keys.specs.PrimaryBooks.{IsStaged, KeepsPrimary, noted};
+ghost use Rattle.csvw_keys.specs.Tables.{with_row};
+
+use crate::key::{Key, key_of};
+use crate::places::fault_of;
+use crate::tally::Tally;
+use crate::times::Times;
+use csvw_annotate::Row;
+use csvw_text::{Code, Fault, Seq};
+use std::alloc::{AllocError, Global};
+
+/// A primary key, its keys so far and what is wrong with them. A row is added in two steps, the first of which alone needs
+/// memory.
+#[derive(Drop)]
+pub struct PrimaryBook {
+    /// The number of its table, from 1.
+    pub(crate) table: u32,
+    /// The numbers of its columns, from 1.
+    pub(crate) columns: Seq<u32>,
+    tally: Tally<Key>,
+    found: Vec<Fault>,
+    /// The key of the row that is added next.
+    next: Option<Key>,
+}
+
+impl PrimaryBook {
+    /// The book of no row. It takes no memory.
+    pub fn new(alloc: Global, table: u32, columns: Seq<u32>) -> PrimaryBook
+        ensures table { result.table ≡ table }
+        ensures columns { result.columns ≡ columns }
+        ensures keeps { KeepsPrimary result [] }
+    {
+        PrimaryBook {
+            table,
+            columns,
+            tally: Tally::new(alloc),
+            found: Vec::new(alloc),
+            next: None,
+        }
+    }
+
+    /// The faults of the rows, in order.
+    pub fn faults(&self) -> &[Fault]
+        ensures { (rows : List Row) → KeepsPrimary self.now rows
+            → result.now ≡ duplicate_faults self.now.table self.now.columns rows }
+    {
+        self.found.as_slice()
+    }
+
+    /// Makes room for a row of a table; nothing where that isn't its own.
+    pub fn make_room(&mut self, alloc: Global, table: u32, row: &Row) -> Result<(), AllocError>
+        ensures table { self.new.table ≡ self.old.table }
+        ensures columns { self.new.columns ≡ self.old.columns }
+        ensures keeps { (rows : List Row) → KeepsPrimary self.old rows → KeepsPrimary self.new rows }
+        ensures staged { OnOk result (table ≡ self.old.table → IsStaged self.new row.now) }
+    {
+        if table == self.table {
+            self.make_own_room(alloc, row)
+        } else {
+            Ok(())
+        }
+    }
+
+    /// Adds the row of a table that there is room for; nothing where that isn't its own.
+    pub fn add(&mut self, table: u32, row: &Row)
+        ensures table { self.new.table ≡ self.old.table }
+        ensures columns { self.new.columns ≡ self.old.columns }
+        ensures keeps { (table ≡ self.old.table → IsStaged self.old row.now) → (tables : ℕ → List Row)
+            → KeepsPrimary self.old (tables self.old.table)
+            → KeepsPrimary self.new (with_row tables table row.now self.old.table) }
+    {
+        if table == self.table {
+            self.add_own(row);
+        }
+    }
+
+    fn make_own_room(&mut self, alloc: Global, row: &Row) -> Result<(), AllocError>
+        ensures table { self.new.table ≡ self.old.table }
+        ensures columns { self.new.columns ≡ self.old.columns }
+        ensures keeps { (rows : List Row) → KeepsPrimary self.old rows → KeepsPrimary self.new rows }
+        ensures staged { OnOk result (IsStaged self.new row.now) }
+    {
+        let key = key_of(alloc, self.columns.as_slice(), row)?;
+        self.tally.make_room(alloc, &key)?;
+        self.found.reserve(1)?;
+        self.next = Some(key);
+        Ok(())
+    }
+
+    fn add_own(&mut self, row: &Row)
+        ensures table { self.new.table ≡ self.old.table }
+        ensures columns { self.new.columns ≡ self.old.columns }
+        ensures keeps { IsStaged self.old row.now → (rows : List Row) → KeepsPrimary self.old rows
+            → KeepsPrimary self.new (rows ++ row.now ∷ []) }
+    {
+        let Some(key) = self.next.take() else {
+            return;
+        };
+        let fault = fault_of(Code::DuplicateKey, self.table, self.columns.as_slice(), row);
+        note(&mut self.found, self.tally.times(&key), fault);
+        self.tally.count(&key);
+    }
+}
+
+/// Adds the fault of a row to those that there is room behind, where its key was there before.
+fn note(found: &mut Vec<Fault>, times: Times, fault: Fault)
+    ensures { vec_len found.old < vec_capacity found.old → found.new.items ≡ found.old.items ++ noted times fault }
+{
+    match times {
+        Times::Never => {}
+        Times::Once | Times::Often => {
+            let _ = found.push(fault);
+        }
+    }
+}
