@@ -34,7 +34,7 @@ use Rattle.csvw_datatype.proofs.FormatLemmas.{whole_lawful, derived_lawful, deci
 
 -- the laws of csvw_datatype_core: a text is one number, one date and one moment at most, and days and moments have a range
 
-abbrev OneNumber : Type 0
+abbrev pub OneNumber : Type 0
 OneNumber = (rules : NumberRules) (cs : List ℕ) (y z : ℤ) → IsLawful rules → ReadsNumber rules cs y → ReadsNumber rules cs z → y ≡ z
 
 abbrev OneDate : Type 0

@@ -6,3 +6,4 @@ pub mod LawLemmas
 pub mod OneForm
 pub mod FacetLemmas
 pub mod AgreementLemmas
+pub mod BoundLemmas

@@ -10,3 +10,4 @@ pub mod SoundProp
 pub mod Lexical
 pub mod Facets
 pub mod Agreement
+pub mod Bounds

@@ -80,6 +80,10 @@ bounds_agree f =
     side_agrees f.minimum f.min_inclusive f.min_exclusive && side_agrees f.maximum f.max_inclusive f.max_exclusive
     && sides_agree (first_of f.minimum f.min_inclusive) f.min_exclusive (first_of f.maximum f.max_inclusive) f.max_exclusive
 
+-- no facet rules out what another asks for
+abbrev pub agree : Facets → Bool
+agree f = lengths_agree f && bounds_agree f
+
 -- the format and the facets fit the type and each other
 pub record IsSound (d : Datatype) : Type 0 where
   pub format : IsFormatOf d.simple d.format

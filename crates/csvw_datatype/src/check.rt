@@ -4,7 +4,7 @@ ghost use Rattle.csvw_datatype_core.specs.LexicalDates.{IsDayNumber, IsMomentNum
 ghost use Rattle.csvw_datatype.specs.Breaks.{is_below, fails};
 ghost use Rattle.csvw_datatype.specs.Formats.{IsFormatOf};
 ghost use Rattle.csvw_datatype.specs.Sound.{IsSound, IsBoundOf, AreBoundsOf, IsNumberSize, IsWholeNumber, is_text};
-ghost use Rattle.csvw_datatype.specs.Sound.{lengths_apply, lengths_agree, side_agrees, sides_agree, first_of, bounds_agree};
+ghost use Rattle.csvw_datatype.specs.Sound.{lengths_apply, lengths_agree, side_agrees, sides_agree, first_of, bounds_agree, agree};
 
 use crate::datatype::{Datatype, Facets};
 use crate::facets::{has_lengths, is_below, is_less, is_not_under, is_over};
@@ -53,6 +53,16 @@ impl Datatype {
             return Err(BadDatatype);
         }
         Ok(())
+    }
+}
+
+impl Facets {
+    /// Whether no facet rules out what another asks for. It takes no memory (Metadata Vocabulary for Tabular Data,
+    /// section 5.11.2).
+    pub fn agree(&self) -> bool
+        ensures { result ≡ agree self.now }
+    {
+        lengths_agree(self) && bounds_agree(self)
     }
 }
 

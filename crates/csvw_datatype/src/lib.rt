@@ -1,6 +1,7 @@
 //! Datatypes of columns: which value a text is, which facets it breaks, and the lexical forms of values.
 #![tactic(auto)]
 
+mod bound;
 mod check;
 mod datatype;
 mod facets;
@@ -13,6 +14,7 @@ mod truth;
 mod value;
 mod width;
 
+pub use bound::bounds_read;
 pub use check::BadDatatype;
 pub use csvw_datatype_core::{DateFormat, FieldDigits, MomentFormat, Separator};
 pub use datatype::{Datatype, Facets};

@@ -115,7 +115,7 @@ fn read_date_time(format: &Option<Format>, text: &str) -> Result<Value, Code>
     }
 }
 
-fn whole_rules(format: &Option<Format>) -> NumberRules
+pub(crate) fn whole_rules(format: &Option<Format>) -> NumberRules
     ensures { result ≡ whole_rules format.now }
 {
     let group_char = match format {
@@ -129,7 +129,7 @@ fn whole_rules(format: &Option<Format>) -> NumberRules
     }
 }
 
-fn decimal_rules(format: &Option<Format>) -> NumberRules
+pub(crate) fn decimal_rules(format: &Option<Format>) -> NumberRules
     ensures { result ≡ decimal_rules format.now }
 {
     match format {

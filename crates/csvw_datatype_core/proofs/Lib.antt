@@ -17,3 +17,4 @@ pub mod OneText
 pub mod OneNumberText
 pub mod FormLemmas
 pub mod EveryDay
+pub mod ValueLemmas

@@ -11,3 +11,4 @@ pub mod TimeFields
 pub mod LexicalDates
 pub mod DatePatterns
 pub mod Forms
+pub mod Values
