@@ -1,2 +1,3 @@
 pub mod NameLemmas
 pub mod ReadLemmas
+pub mod SoundLemmas

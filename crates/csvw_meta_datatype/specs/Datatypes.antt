@@ -8,14 +8,15 @@ use Rattle.csvw_datatype.specs.declared.simple.Simple.TheVariants.{Text}
 use Rattle.csvw_datatype.specs.declared.datatype.Datatype.{Datatype}
 use Rattle.csvw_datatype.specs.Breaks.{no_facets}
 use Rattle.csvw_meta_core.specs.declared.fault.MetaCode.TheVariants.{NotSupported}
-use Rattle.csvw_meta_core.specs.Read.{Read, fine, ◌>>=◌, under, property, optional, not_yet}
+use Rattle.csvw_meta_core.specs.Read.{Read, fine, ◌>>=◌, over, under, property, optional}
 use Rattle.csvw_meta_core.specs.Kinds.{fixed}
 use Rattle.csvw_meta_core.specs.Links.{id}
 use Rattle.csvw_meta_core.specs.Others.{others}
+use Rattle.csvw_meta_facets.specs.Facets.{facets}
+use Rattle.csvw_meta_format.specs.Formats.{no_format, format}
 use Rattle.csvw_meta_datatype.specs.declared.form.DatatypeFound.{DatatypeFound}
 use Rattle.csvw_meta_datatype.specs.Base.{base}
 use Rattle.csvw_meta_datatype.specs.Names.{datatype_names}
-use Rattle.csvw_meta_datatype.specs.Refused.{lengths, bounds}
 
 -- the datatype of a type, with an `@id` or without one
 abbrev pub plain : Simple → Option (List ℕ) → Datatype
@@ -25,17 +26,28 @@ plain simple id = record { simple = simple; id = id; format = None; facets = no_
 abbrev pub named : Simple → DatatypeFound
 named simple = record { datatype = plain simple None; warnings = [] }
 
--- The datatype that an object describes. Formats and facets are not supported yet.
+-- The datatype of a type, with the format and the facets that stand in an object.
+unfoldable pub of_type : Option (List ℕ) → Place → List ℕ → Data → Simple → Read DatatypeFound
+of_type id place at d simple = do
+  found ← property (format simple place) no_format at d (codes "format")
+  facets ← facets simple at d
+  fine (record {
+    datatype = record { simple = simple; id = id; format = found.format; facets = facets };
+    warnings = found.warnings;
+  })
+
+-- Where an object's type can't be read, its format and its facets aren't judged.
+abbrev pub based : Option (List ℕ) → Place → List ℕ → Data → Read DatatypeFound
+based id place at d = over (named Text) (property base Text at d (codes "base")) (of_type id place at d)
+
+-- the datatype that an object describes
 unfoldable pub form : Parts → Place → List ℕ → Data → Read DatatypeFound
 form against place at d = do
   iri ← optional (id against) at d (codes "@id")
   type ← optional (fixed (codes "Datatype")) at d (codes "@type")
   warnings ← others (datatype_names ++ []) NotSupported place at d
-  simple ← property base Text at d (codes "base")
-  format ← optional not_yet at d (codes "format")
-  lengths ← lengths at d
-  bounds ← bounds at d
-  fine (record { datatype = plain simple iri; warnings = warnings })
+  found ← based iri place at d
+  fine (record { datatype = found.datatype; warnings = found.warnings ++ warnings })
 
 -- the datatype of a name, or that of an object
 unfoldable pub datatype : Parts → Place → List ℕ → Data → Read DatatypeFound

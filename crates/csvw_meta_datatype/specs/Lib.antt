@@ -1,5 +1,3 @@
 pub mod Base
 pub mod Datatypes
 pub mod Names
-pub mod Refused
-pub mod Sound

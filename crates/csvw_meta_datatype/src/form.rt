@@ -5,13 +5,15 @@ ghost use Rattle.csvw_meta_core.specs.Pointer.{text_of};
 ghost use Rattle.csvw_meta_core.specs.Others.{others};
 ghost use Rattle.csvw_meta_core.specs.Reads.{Reads};
 ghost use Rattle.csvw_meta_datatype.specs.Names.{datatype_names};
-ghost use Rattle.csvw_meta_datatype.specs.Datatypes.{form, plain};
+ghost use Rattle.csvw_meta_datatype.specs.Datatypes.{based, form, of_type, plain};
 
 use crate::base::BaseReader;
-use crate::refused::{refuse_bounds, refuse_lengths};
+use crate::warnings::joined;
 use csvw_datatype::{Datatype, Facets, Simple};
 use csvw_iri::{Base, Iri};
-use csvw_meta_core::{Fixed, IdReader, Listed, MetaCode, NotYet, Part, Reader, Refusal};
+use csvw_meta_core::{Fixed, IdReader, Listed, MetaCode, Part, Reader, Refusal};
+use csvw_meta_facets::FacetsReader;
+use csvw_meta_format::{FormatFound, FormatReader};
 use csvw_text::{Fault, Place, Seq};
 
 /// The properties that are listed for a datatype.
@@ -36,7 +38,7 @@ const DATATYPE: [&str; 13] = [
 pub struct DatatypeFound {
     /// The datatype. Its format and its facets fit its type and each other.
     pub datatype: Datatype,
-    /// One for each property of it that is ignored.
+    /// One for each property of it, or of its format, that is ignored.
     pub warnings: Seq<Fault>,
 }
 
@@ -64,6 +66,42 @@ fn warnings_of(place: Place, part: &Part) -> Result<Seq<Fault>, Refusal>
     listed.read(part)
 }
 
+/// The datatype of a type, with the format and the facets that stand in the object.
+#[tactic(auto, using(crate::proofs::ReadLemmas::fails_first), unfolding(crate::specs::Datatypes::of_type))]
+fn read_of_type(
+    simple: Simple,
+    id: Option<Iri>,
+    place: Place,
+    part: &Part,
+) -> Result<DatatypeFound, Refusal>
+    ensures { Reads result (of_type id place (text_of part.now.at) (view part.now.value.now) simple) }
+{
+    let none = FormatFound {
+        format: None,
+        warnings: Seq::new(part.alloc),
+    };
+    let found = part.property(&FormatReader { simple, place }, none, "format")?;
+    let facets = FacetsReader { simple }.read(part)?;
+    Ok(DatatypeFound {
+        datatype: Datatype {
+            simple,
+            id,
+            format: found.format,
+            facets,
+        },
+        warnings: found.warnings,
+    })
+}
+
+// A format and facets are judged by the type, so that they aren't where `base` is none.
+#[tactic(auto, using(crate::proofs::ReadLemmas::fails_over))]
+fn read_based(id: Option<Iri>, place: Place, part: &Part) -> Result<DatatypeFound, Refusal>
+    ensures { Reads result (based id place (text_of part.now.at) (view part.now.value.now)) }
+{
+    let simple = part.property(&BaseReader, Simple::Text, "base")?;
+    read_of_type(simple, id, place, part)
+}
+
 /// The datatype that an object describes; its `@id` is resolved against the base.
 #[tactic(auto, using(crate::proofs::ReadLemmas::fails_first), unfolding(crate::specs::Datatypes::form))]
 pub(crate) fn read_form(base: &Base, place: Place, part: &Part) -> Result<DatatypeFound, Refusal>
@@ -72,12 +110,10 @@ pub(crate) fn read_form(base: &Base, place: Place, part: &Part) -> Result<Dataty
     let id = part.optional(&IdReader { base }, "@id")?;
     part.optional(&Fixed { text: "Datatype" }, "@type")?;
     let warnings = warnings_of(place, part)?;
-    let simple = part.property(&BaseReader, Simple::Text, "base")?;
-    part.optional(&NotYet, "format")?;
-    refuse_lengths(part)?;
-    refuse_bounds(part)?;
+    let found = read_based(id, place, part)?;
+    let warnings = joined(found.warnings, warnings)?;
     Ok(DatatypeFound {
-        datatype: plain(simple, id),
+        datatype: found.datatype,
         warnings,
     })
 }

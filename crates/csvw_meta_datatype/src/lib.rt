@@ -4,8 +4,11 @@
 
 mod base;
 mod form;
+mod laws;
 mod reader;
-mod refused;
+mod warnings;
 
 pub use form::DatatypeFound;
+pub use laws::datatypes_fit;
 pub use reader::DatatypeReader;
+pub use warnings::joined;

@@ -1,3 +1,4 @@
 pub mod PatternLemmas
 pub mod ReadLemmas
 pub mod TruthLemmas
+pub mod SoundLemmas

@@ -1,31 +1,20 @@
 -- The texts of truths, by the other form of `of`.
-use Rattle.std.proofs.Common.{◌≡◌, ◌≢◌, ◌==◌, ◌||◌, ◌&&◌, not, MatchOption, IfOk, Result, Ok, Err, ℕ, List, [], ◌∷◌, ◌++◌, Option, Some, None, Bool, true, false, refl, sym, ap, ◌∙◌, bytes_eq, if◌then◌else◌, arith}
+use Rattle.std.proofs.Common.{◌≡◌, ◌≢◌, ◌==◌, ◌||◌, not, MatchOption, IfOk, Result, Ok, Err, ℕ, List, [], ◌∷◌, ◌++◌, Option, Some, None, Bool, true, false, refl, sym, ap, bytes_eq, if◌then◌else◌, arith}
 use Rattle.std.proofs.lemmas.Bool.Decides.{nat_tests}
 use Rattle.std.proofs.lemmas.Slice.Eq.{bytes_eq-Decides}
 use Rattle.csvw_datatype.specs.Bars.{has_bar, IsTruthText}
 use Rattle.csvw_datatype.specs.Formats.{AreTruthTexts, truth_pattern}
 use Rattle.csvw_datatype.specs.declared.format.TruthFormat.{TruthFormat}
+use Rattle.csvw_meta_format.proofs.SoundLemmas.{are_lawful}
 use Rattle.csvw_meta_format.specs.Truths.{before_bar, behind_bar, is_truth_text, are_truth_texts, truth_texts, truth_format_of}
 
 or_none : (a b : Bool) → (a || b) ≡ false → (a ≡ false) × (b ≡ false)
 or_none true b h = cc
 or_none false b h = (refl, h)
 
-and_both : (a b : Bool) → (a && b) ≡ true → (a ≡ true) × (b ≡ true)
-and_both true b h = (refl, h)
-and_both false b h = cc
-
-not_true : (b : Bool) → not b ≡ true → b ≡ false
-not_true true h = cc
-not_true false h = refl
-
 unequal : (b : Bool) → (b ≡ true → ⊥) → b ≡ false
 unequal true h = absurd (h refl)
 unequal false h = refl
-
-true_false : (b : Bool) → b ≡ true → b ≡ false → ⊥
-true_false true h k = cc
-true_false false h k = cc
 
 before_is : (t f : List ℕ) → has_bar t ≡ false → before_bar (t ++ (124 ∷ f)) ≡ t
 before_is [] f h = refl
@@ -48,19 +37,9 @@ split_is : (s f : List ℕ) → behind_bar s ≡ Some f → s ≡ before_bar s +
 split_is [] f h = cc
 split_is (b ∷ bs) f h = split_at b bs f (b == 124) refl h (split_is bs f)
 
-truth_text_is : (t : List ℕ) → is_truth_text t ≡ true → IsTruthText t
-truth_text_is [] h = cc
-truth_text_is (b ∷ bs) h = ((λ e. cc), not_true (has_bar (b ∷ bs)) h)
-
 is_truth : (t : List ℕ) → IsTruthText t → is_truth_text t ≡ true
 is_truth [] h = absurd (h.0 refl)
 is_truth (b ∷ bs) h = ap not h.1
-
-pub are_lawful : (t f : List ℕ) → are_truth_texts t f ≡ true → AreTruthTexts (record { if_true = t; if_false = f })
-are_lawful t f h =
-    let first = and_both (is_truth_text t) (is_truth_text f && not (bytes_eq t f)) h in
-    let second = and_both (is_truth_text f) (not (bytes_eq t f)) first.1 in
-    (truth_text_is t first.0, truth_text_is f second.0, λ e. true_false (bytes_eq t f) ((bytes_eq-Decides t f).1 e) (not_true (bytes_eq t f) second.1))
 
 lawful_are : (f : TruthFormat) → AreTruthTexts f → are_truth_texts f.if_true f.if_false ≡ true
 lawful_are f h =

@@ -1,5 +1,5 @@
 -- Formats (Metadata Vocabulary for Tabular Data, section 5.11.2).
-use Rattle.std.specs.Prelude.{ℕ, List, [], Option, Some, None}
+use Rattle.std.specs.Prelude.{ℕ, List, [], Some, None}
 use Rattle.serde_json.specs.Data.{Data}
 use Rattle.csvw_text.specs.declared.fault.Place.{Place}
 use Rattle.csvw_datatype.specs.declared.simple.Simple.{Simple}

@@ -1,0 +1,87 @@
+-- Each datatype that is described fits together, also where a fault stands in it.
+use Rattle.std.specs.Prelude.{◌≡◌, ℕ, List, [], ◌∷◌, true, Option, Some, None, codes}
+use Rattle.std.proofs.Common.{refl}
+use Rattle.serde_json.specs.Data.{Data, null, boolean, number, string, array, object}
+use Rattle.serde_json.specs.Find.{get}
+use Rattle.url.specs.Parts.{Parts}
+use Rattle.csvw_text.specs.declared.fault.Place.{Place}
+use Rattle.csvw_datatype.specs.declared.simple.Simple.{Simple}
+use Rattle.csvw_datatype.specs.declared.simple.Simple.TheVariants.{Text, Truth, Whole, Decimal, Day, Uri, Derived, Moment}
+use Rattle.csvw_datatype.specs.Formats.{IsFormatOf}
+use Rattle.csvw_datatype.specs.Sound.{AreBoundsOf, IsSound, lengths_apply}
+use Rattle.csvw_datatype.specs.Breaks.{no_facets}
+use Rattle.csvw_meta_core.specs.declared.fault.MetaFault.{MetaFault}
+use Rattle.csvw_meta_core.specs.Pointer.{below}
+use Rattle.csvw_meta_core.specs.Read.{Read, given, optional, over_faults, property}
+use Rattle.csvw_meta_core.specs.Links.{id}
+use Rattle.csvw_meta_format.specs.Formats.{format, no_format}
+use Rattle.csvw_meta_facets.specs.Facets.{facets}
+use Rattle.csvw_meta_facets.specs.Fit.{FacetsFit}
+use Rattle.csvw_meta_datatype.specs.declared.form.DatatypeFound.{DatatypeFound}
+use Rattle.csvw_meta_datatype.specs.Base.{base}
+use Rattle.csvw_meta_datatype.specs.Datatypes.{plain, named, of_type, based, form, datatype}
+
+no_lengths : (s : Simple) → lengths_apply s no_facets ≡ true
+no_lengths Text = refl
+no_lengths Truth = refl
+no_lengths Whole = refl
+no_lengths Decimal = refl
+no_lengths Day = refl
+no_lengths Uri = refl
+no_lengths (Derived w) = refl
+no_lengths Moment = refl
+
+no_bounds : (s : Simple) → AreBoundsOf s no_facets
+no_bounds s = record { minimum = tt; min_inclusive = tt; min_exclusive = tt; maximum = tt; max_inclusive = tt; max_exclusive = tt }
+
+plain_sound : (s : Simple) (id : Option (List ℕ)) → IsSound (plain s id)
+plain_sound s id = record { format = tt; bounds = no_bounds s; lengths_apply = no_lengths s; lengths_agree = refl; bounds_agree = refl }
+
+-- the laws of csvw_meta_format and csvw_meta_facets
+
+abbrev FormatsFit : Type 0
+FormatsFit = (s : Simple) (place : Place) (at : List ℕ) (d : Data) → IsFormatOf s (format s place at d).value.format
+
+abbrev AllFacetsFit : Type 0
+AllFacetsFit = (s : Simple) (at : List ℕ) (d : Data) → FacetsFit s (facets s at d).value
+
+given_format : FormatsFit → (s : Simple) (place : Place) (at : List ℕ) (o : Option Data) → IsFormatOf s (given (format s place) no_format at o).value.format
+given_format formats s place at None = tt
+given_format formats s place at (Some d) = formats s place at d
+
+of_type_sound : FormatsFit → AllFacetsFit → (iri : Option (List ℕ)) (place : Place) (at : List ℕ) (d : Data) (s : Simple)
+    → IsSound (of_type iri place at d s).value.datatype
+unfolding of_type
+of_type_sound formats all iri place at d s =
+    let fit : FacetsFit s (facets s at d).value = all s at d in
+    record {
+      format = given_format formats s place (below at (codes "format")) (get (codes "format") d);
+      bounds = fit.bounds;
+      lengths_apply = fit.lengths_apply;
+      lengths_agree = fit.lengths_agree;
+      bounds_agree = fit.bounds_agree;
+    }
+
+over_sound : (faults : List MetaFault) (s : Simple) (next : Simple → Read DatatypeFound) → ((t : Simple) → IsSound (next t).value.datatype)
+    → IsSound (over_faults (named Text) faults s next).value.datatype
+over_sound [] s next each = each s
+over_sound (f ∷ fs) s next each = plain_sound Text None
+
+module _ (formats : FormatsFit) (all : AllFacetsFit) where
+  based_sound : (iri : Option (List ℕ)) (place : Place) (at : List ℕ) (d : Data) → IsSound (based iri place at d).value.datatype
+  based_sound iri place at d =
+      let type = property base Text at d (codes "base") in
+      over_sound type.faults type.value (of_type iri place at d) (of_type_sound formats all iri place at d)
+
+  form_sound : (against : Parts) (place : Place) (at : List ℕ) (d : Data) → IsSound (form against place at d).value.datatype
+  unfolding form
+  form_sound against place at d = based_sound (optional (id against) at d (codes "@id")).value place at d
+
+  pub datatype_sound : (against : Parts) (place : Place) (at : List ℕ) (d : Data) → IsSound (datatype against place at d).value.datatype
+  unfolding datatype
+  datatype_sound against place at (object ms) = form_sound against place at (object ms)
+  datatype_sound against place at null = plain_sound _ _
+  datatype_sound against place at (boolean b) = plain_sound _ _
+  datatype_sound against place at (number n) = plain_sound _ _
+  datatype_sound against place at (string s) = plain_sound _ _
+  datatype_sound against place at (array ds) = plain_sound _ _

@@ -1,0 +1,2 @@
+pub mod FitLemmas
+pub mod ReadLemmas

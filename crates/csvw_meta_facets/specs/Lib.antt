@@ -1,0 +1,4 @@
+pub mod Bounds
+pub mod Facets
+pub mod Fit
+pub mod Lengths
