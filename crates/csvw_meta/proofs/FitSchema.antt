@@ -1,24 +1,31 @@
 -- A schema that stands in a document without faults has no more columns than the limit, and no two of one name.
-use Rattle.std.proofs.Common.{◌≡◌, ◌≢◌, ◌≤◌, ◌+◌, ℕ, List, [], ◌∷◌, ◌++◌, ◌||◌, Bool, true, false, refl, sym, ap, ◌∙◌, subst, arith, length, append_assoc, All, AllPairs, bytes_eq, codes, if◌then◌else◌}
+use Rattle.std.proofs.Common.{◌≡◌, ◌≢◌, ◌≤◌, ◌+◌, ℕ, List, [], ◌∷◌, ◌++◌, ◌||◌, Bool, true, false, refl, sym, ap, ◌∙◌, subst, arith, length, append_assoc, All, AllPairs, IfSome, Option, Some, None, bytes_eq, codes, if◌then◌else◌}
 use Rattle.std.specs.List.{list_any}
 use Rattle.std.proofs.lemmas.List.Elements.{All-cons}
 use Rattle.std.proofs.lemmas.List.Folds.{list_any-append}
 use Rattle.std.proofs.lemmas.List.Kept.{AllPairs-cons}
 use Rattle.std.proofs.lemmas.Slice.Eq.{bytes_eq-Decides}
 use Rattle.serde_json.specs.Data.{Data}
+use Rattle.serde_json.specs.Find.{get}
+use Rattle.url.specs.Parts.{Parts}
+use Rattle.csvw_text.specs.declared.fault.Place.{Place}
+use Rattle.csvw_datatype.specs.Sound.{IsSound}
 use Rattle.csvw_description.specs.declared.column.ColumnDescription.{ColumnDescription}
 use Rattle.csvw_description.specs.Name.{name_of}
 use Rattle.csvw_description.specs.Plannable.{HasSound, IsFitSchema}
 use Rattle.csvw_description.specs.Plannable as plannable
 use Rattle.csvw_meta_core.specs.declared.fault.MetaCode.TheVariants.{DuplicateName, NotSupported}
 use Rattle.csvw_meta_core.specs.declared.fault.MetaFault.{MetaFault}
-use Rattle.csvw_meta_core.specs.Pointer.{item_at}
-use Rattle.csvw_meta_core.specs.Read.{property, optional, not_yet}
+use Rattle.csvw_meta_core.specs.Pointer.{below, item_at}
+use Rattle.csvw_meta_core.specs.Read.{Read, given, under, property, optional, not_yet}
 use Rattle.csvw_meta_core.specs.Kinds.{fixed}
 use Rattle.csvw_meta_core.specs.Links.{id}
 use Rattle.csvw_meta_core.specs.Others.{others}
+use Rattle.csvw_meta_datatype.specs.declared.form.DatatypeFound.{DatatypeFound}
+use Rattle.csvw_meta_datatype.specs.Datatypes.{datatype}
 use Rattle.csvw_meta.specs.declared.context.Context.{Context}
 use Rattle.csvw_meta.specs.Column.{column, column_of, no_column}
+use Rattle.csvw_meta.specs.Datatype.{given_datatype, split}
 use Rattle.csvw_meta.specs.Inherited.{inherited}
 use Rattle.csvw_meta.specs.Names.{schema_names, inherited_names, place_of}
 use Rattle.csvw_meta.specs.Repeated.{repeated}
@@ -68,20 +75,17 @@ module _ (fault : ℕ → MetaFault) where
 
 -- ---- columns
 
-pub inherited_sound : (at : List ℕ) (d : Data) → HasSound (inherited at d).value
-unfolding inherited
-inherited_sound at d = tt
+optional_value : {A : Type 0} (P : A → Type 0) (reads : List ℕ → Data → Read A) → ((at : List ℕ) (d : Data) → P (reads at d).value)
+    → (at : List ℕ) (o : Option Data) → IfSome (given (λ p v. under Some (reads p v)) None at o).value P
+optional_value P reads each at None = tt
+optional_value P reads each at (Some d) = each at d
+
+split_sound : (found : Option DatatypeFound) → IfSome found (λ f. IsSound f.datatype) → IfSome (split found).datatype IsSound
+split_sound None h = tt
+split_sound (Some found) h = h
 
 abbrev IsSoundColumn : ColumnDescription → Type 0
 IsSoundColumn c = HasSound c.inherited
-
-column_of_fine : (context : Context) (table number : ℕ) (at : List ℕ) (d : Data) → Ensures (column_of context table number at d) IsSoundColumn
-unfolding column_of
-column_of_fine context table number at d h = inherited_sound at d
-
-column_fine : (context : Context) (table number : ℕ) (at : List ℕ) (d : Data) → Ensures (column context table number at d) IsSoundColumn
-column_fine context table number at d =
-    on_object_fine IsSoundColumn at d no_column (column_of context table number at d) (column_of_fine context table number at d)
 
 names_are : (i : ℕ) (cs : List ColumnDescription) → numbered_names i cs ≡ plannable.numbered_names i cs
 names_are i [] = refl
@@ -103,36 +107,62 @@ named_fine at cs several h = record {
       (pairs_apart (λ i. record { code = DuplicateName; pointer = item_at at i }) [] 0 (numbered_names 0 cs) h);
 }
 
-columns_fine : (context : Context) (table : ℕ) (at : List ℕ) (d : Data) → Ensures (columns context table at d) AreFitColumns
-columns_fine context table at d =
-    also_fine AreSeveral AreFitColumns (several 0 1024 (column context table) at d) (column_faults at)
-    (several_fine IsSoundColumn (column context table) (column_fine context table) 0 1024 at d)
-    (λ cs several h. named_fine at cs several (none_in_both (name_faults at cs) (order_faults at cs) h).0)
-
 no_columns : AreFitColumns []
 no_columns = record { sound = λ k d lt. absurd (omega (arith, lt)); count = omega arith; names = λ i j d less lt. absurd (omega (arith, lt)) }
 
--- ---- schemas
+-- ---- columns and schemas
 
-schema_of_fine : (context : Context) (table : ℕ) (at : List ℕ) (d : Data) → Ensures (schema_of context table at d) IsFitSchema
-unfolding schema_of
-schema_of_fine context table at d h =
-    let p1 = none_in_both (optional (id context.base) at d (codes "@id")).faults _ h in
-    let p2 = none_in_both (optional (fixed (codes "Schema")) at d (codes "@type")).faults _ p1.1 in
-    let p3 = none_in_both (optional not_yet at d (codes "primaryKey")).faults _ p2.1 in
-    let p4 = none_in_both (optional not_yet at d (codes "foreignKeys")).faults _ p3.1 in
-    let p5 = none_in_both (optional not_yet at d (codes "rowTitles")).faults _ p4.1 in
-    let p6 = none_in_both (others (schema_names ++ inherited_names) NotSupported (place_of table 0) at d).faults _ p5.1 in
-    let p7 = none_in_both (property (columns context table) [] at d (codes "columns")).faults _ p6.1 in
-    let fits = property_fine AreFitColumns (columns context table) (columns_fine context table) [] no_columns at d (codes "columns") p7.0 in
-    record {
-      limit = fits.count;
-      inherited = inherited_sound at d;
-      datatypes = fits.sound;
-      names = fits.names;
-      primary_key = refl;
-      foreign_keys = refl;
-    }
+-- the law of csvw_meta_datatype: each datatype that is read fits together
+abbrev pub DatatypesFit : Type 0
+DatatypesFit = (against : Parts) (place : Place) (at : List ℕ) (d : Data) → IsSound (datatype against place at d).value.datatype
 
-pub schema_fine : (context : Context) (table : ℕ) (at : List ℕ) (d : Data) → Ensures (schema context table at d) IsFitSchema
-schema_fine context table at d = on_linked_fine IsFitSchema at d no_schema (schema_of context table at d) (schema_of_fine context table at d)
+module _ (datatypes : DatatypesFit) where
+  given_sound : (context : Context) (table column : ℕ) (at : List ℕ) (d : Data)
+      → IfSome (given_datatype context table column at d).value.datatype IsSound
+  unfolding given_datatype
+  given_sound context table column at d =
+      let place = place_of table column in
+      split_sound (optional (datatype context.base place) at d (codes "datatype")).value
+      (optional_value (λ f. IsSound f.datatype) (datatype context.base place) (datatypes context.base place) (below at (codes "datatype"))
+      (get (codes "datatype") d))
+
+  pub inherited_sound : (context : Context) (table column : ℕ) (at : List ℕ) (d : Data) → HasSound (inherited context table column at d).value.inherited
+  unfolding inherited
+  inherited_sound context table column at d = given_sound context table column at d
+
+  column_of_fine : (context : Context) (table number : ℕ) (at : List ℕ) (d : Data) → Ensures (column_of context table number at d) IsSoundColumn
+  unfolding column_of
+  column_of_fine context table number at d h = inherited_sound context table number at d
+
+  column_fine : (context : Context) (table number : ℕ) (at : List ℕ) (d : Data) → Ensures (column context table number at d) IsSoundColumn
+  column_fine context table number at d =
+      on_object_fine IsSoundColumn at d no_column (column_of context table number at d) (column_of_fine context table number at d)
+
+  columns_fine : (context : Context) (table : ℕ) (at : List ℕ) (d : Data) → Ensures (columns context table at d) AreFitColumns
+  columns_fine context table at d =
+      also_fine AreSeveral AreFitColumns (several 0 1024 (column context table) at d) (column_faults at)
+      (several_fine IsSoundColumn (column context table) (column_fine context table) 0 1024 at d)
+      (λ cs several h. named_fine at cs several (none_in_both (name_faults at cs) (order_faults at cs) h).0)
+
+  schema_of_fine : (context : Context) (table : ℕ) (at : List ℕ) (d : Data) → Ensures (schema_of context table at d) IsFitSchema
+  unfolding schema_of
+  schema_of_fine context table at d h =
+      let p1 = none_in_both (optional (id context.base) at d (codes "@id")).faults _ h in
+      let p2 = none_in_both (optional (fixed (codes "Schema")) at d (codes "@type")).faults _ p1.1 in
+      let p3 = none_in_both (optional not_yet at d (codes "primaryKey")).faults _ p2.1 in
+      let p4 = none_in_both (optional not_yet at d (codes "foreignKeys")).faults _ p3.1 in
+      let p5 = none_in_both (optional not_yet at d (codes "rowTitles")).faults _ p4.1 in
+      let p6 = none_in_both (others (schema_names ++ inherited_names) NotSupported (place_of table 0) at d).faults _ p5.1 in
+      let p7 = none_in_both (property (columns context table) [] at d (codes "columns")).faults _ p6.1 in
+      let fits = property_fine AreFitColumns (columns context table) (columns_fine context table) [] no_columns at d (codes "columns") p7.0 in
+      record {
+        limit = fits.count;
+        inherited = inherited_sound context table 0 at d;
+        datatypes = fits.sound;
+        names = fits.names;
+        primary_key = refl;
+        foreign_keys = refl;
+      }
+
+  pub schema_fine : (context : Context) (table : ℕ) (at : List ℕ) (d : Data) → Ensures (schema context table at d) IsFitSchema
+  schema_fine context table at d = on_linked_fine IsFitSchema at d no_schema (schema_of context table at d) (schema_of_fine context table at d)

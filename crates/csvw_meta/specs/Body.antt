@@ -21,6 +21,6 @@ given_dialect context table warnings at d = under (split warnings) (optional (di
 
 unfoldable pub body : Context → ℕ → List ℕ → Data → Read Body
 body context table at d = do
-  inherited ← inherited at d
+  found ← inherited context table 0 at d
   schema ← optional (schema context table) at d (codes "tableSchema")
-  fine (record { schema = schema; inherited = inherited })
+  fine (record { schema = schema; inherited = found.inherited; warnings = found.warnings })

@@ -25,8 +25,15 @@ column_of context table number at d = do
   warnings ← others (column_names ++ inherited_names) NotSupported (place_of table number) at d
   name ← optional name at d (codes "name")
   titles ← property (titles context.language) [] at d (codes "titles")
-  inherited ← inherited at d
-  fine (record { name = name; titles = titles; is_virtual = is_virtual; suppressed = suppressed; inherited = inherited; warnings = warnings })
+  found ← inherited context table number at d
+  fine (record {
+    name = name;
+    titles = titles;
+    is_virtual = is_virtual;
+    suppressed = suppressed;
+    inherited = found.inherited;
+    warnings = found.warnings ++ warnings;
+  })
 
 -- the column of this number, of the table of that number or of the group where it is 0
 abbrev pub column : Context → ℕ → ℕ → List ℕ → Data → Read ColumnDescription

@@ -48,7 +48,7 @@ group context at d = do
     schema = body.schema;
     inherited = body.inherited;
     notes = [];
-    warnings = given.warnings;
+    warnings = body.warnings ++ given.warnings;
   })
 
 abbrev pub no_group : Description

@@ -3,8 +3,11 @@ use Rattle.std.specs.Prelude.{ℕ, List, None, codes}
 use Rattle.serde_json.specs.Data.{Data}
 use Rattle.csvw_description.specs.declared.inherited.Inherited.{Inherited}
 use Rattle.csvw_meta_core.specs.declared.fault.MetaCode.TheVariants.{BadProperty}
-use Rattle.csvw_meta_core.specs.Read.{Read, fine, ◌>>=◌, optional, or_null, not_yet}
+use Rattle.csvw_meta_core.specs.Read.{Read, fine, ◌>>=◌, optional, or_null}
 use Rattle.csvw_meta_core.specs.Kinds.{truth, text, some_text, texts, language}
+use Rattle.csvw_meta.specs.declared.context.Context.{Context}
+use Rattle.csvw_meta.specs.declared.inherited.InheritedFound.{InheritedFound}
+use Rattle.csvw_meta.specs.Datatype.{given_datatype}
 use Rattle.csvw_meta.specs.TemplateText.{template_text}
 
 abbrev pub no_inherited : Inherited
@@ -21,13 +24,13 @@ no_inherited = record {
   separator = None;
 }
 
--- Datatypes are not supported yet.
-unfoldable pub inherited : List ℕ → Data → Read Inherited
-inherited at d = do
+-- The inherited properties of the column of this number, of the table of that number, 0 for none and for the group.
+unfoldable pub inherited : Context → ℕ → ℕ → List ℕ → Data → Read InheritedFound
+inherited context table column at d = do
   about_url ← optional template_text at d (codes "aboutUrl")
   property_url ← optional template_text at d (codes "propertyUrl")
   value_url ← optional template_text at d (codes "valueUrl")
-  datatype ← optional not_yet at d (codes "datatype")
+  given ← given_datatype context table column at d
   default ← optional text at d (codes "default")
   lang ← optional (language BadProperty) at d (codes "lang")
   null_texts ← optional texts at d (codes "null")
@@ -35,14 +38,17 @@ inherited at d = do
   required ← optional truth at d (codes "required")
   separator ← optional (or_null some_text) at d (codes "separator")
   fine (record {
-    about_url = about_url;
-    property_url = property_url;
-    value_url = value_url;
-    datatype = None;
-    default = default;
-    lang = lang;
-    null = null_texts;
-    ordered = ordered;
-    required = required;
-    separator = separator;
+    inherited = record {
+      about_url = about_url;
+      property_url = property_url;
+      value_url = value_url;
+      datatype = given.datatype;
+      default = default;
+      lang = lang;
+      null = null_texts;
+      ordered = ordered;
+      required = required;
+      separator = separator;
+    };
+    warnings = given.warnings;
   })

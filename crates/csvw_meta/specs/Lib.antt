@@ -1,6 +1,7 @@
 pub mod Body
 pub mod Column
 pub mod Context
+pub mod Datatype
 pub mod DeclaredName
 pub mod Dialect
 pub mod Document

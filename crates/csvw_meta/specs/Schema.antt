@@ -48,8 +48,8 @@ schema_of context table at d = do
   row_titles ← optional not_yet at d (codes "rowTitles")
   warnings ← others (schema_names ++ inherited_names) NotSupported (place_of table 0) at d
   columns ← property (columns context table) [] at d (codes "columns")
-  inherited ← inherited at d
-  fine (record { columns = columns; primary_key = []; foreign_keys = []; inherited = inherited; warnings = warnings })
+  found ← inherited context table 0 at d
+  fine (record { columns = columns; primary_key = []; foreign_keys = []; inherited = found.inherited; warnings = found.warnings ++ warnings })
 
 abbrev pub no_schema : Schema
 no_schema = record { columns = []; primary_key = []; foreign_keys = []; inherited = no_inherited; warnings = [] }

@@ -37,7 +37,7 @@ table_of context sole number at d = do
     suppressed = suppressed;
     inherited = body.inherited;
     notes = [];
-    warnings = given.warnings;
+    warnings = body.warnings ++ given.warnings;
   })
 
 abbrev pub no_table : TableDescription

@@ -23,11 +23,12 @@ pub(crate) struct DialectGiven {
     pub(crate) warnings: Seq<Fault>,
 }
 
-/// The schema of an object, and its inherited properties.
+/// The schema of an object, its inherited properties, and the warnings on its datatype.
 #[derive(Drop)]
 pub(crate) struct Body {
     pub(crate) schema: Option<Schema>,
     pub(crate) inherited: Inherited,
+    pub(crate) warnings: Seq<Fault>,
 }
 
 fn split(found: Option<DialectFound>, warnings: Seq<Fault>) -> Result<DialectGiven, AllocError>
@@ -66,7 +67,11 @@ pub(crate) fn read_dialect(
 pub(crate) fn read_body(context: &Context, table: u32, part: &Part) -> Result<Body, Refusal>
     ensures { Reads result (body context.now table (text_of part.now.at) (view part.now.value.now)) }
 {
-    let inherited = read_inherited(part)?;
+    let found = read_inherited(context, table, 0, part)?;
     let schema = part.optional(&SchemaReader { context, table }, "tableSchema")?;
-    Ok(Body { schema, inherited })
+    Ok(Body {
+        schema,
+        inherited: found.inherited,
+        warnings: found.warnings,
+    })
 }

@@ -12,6 +12,7 @@ use crate::titles::Titles;
 use crate::unlisted::column_warnings;
 use csvw_description::ColumnDescription;
 use csvw_meta_core::{Fixed, IdReader, NumberedReader, Part, Refusal, Truth};
+use csvw_meta_datatype::joined;
 use csvw_text::Seq;
 use serde_json::Value;
 
@@ -58,13 +59,14 @@ fn column_of(reader: &ColumnReader, number: u32, part: &Part) -> Result<ColumnDe
         language: &reader.context.language,
     };
     let titles = part.property(&titles, Seq::new(part.alloc), "titles")?;
-    let inherited = read_inherited(part)?;
+    let found = read_inherited(reader.context, reader.table, number, part)?;
+    let warnings = joined(found.warnings, warnings)?;
     Ok(ColumnDescription {
         name,
         titles,
         is_virtual,
         suppressed,
-        inherited,
+        inherited: found.inherited,
         warnings,
     })
 }

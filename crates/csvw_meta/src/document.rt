@@ -16,6 +16,7 @@ use crate::table::table_of;
 use csvw_description::{Description, Inherited};
 use csvw_iri::{Base, IriFault};
 use csvw_meta_core::{MetaCode, MetaFault, Part, Pointer, Refusal};
+use csvw_meta_datatype::datatypes_fit;
 use csvw_text::{Seq, Text};
 use std::alloc::Global;
 
@@ -115,6 +116,7 @@ pub fn read(alloc: Global, bytes: &[u8], base: &str) -> Result<Description, Meta
     // What is refused has that fault.
     ensures fault { IfErr result (λ e. e.code ≢ MetaCode.Memory → Contains (document base.now bytes.now).faults e) }
 {
+    datatypes_fit();
     match document(alloc, bytes, base) {
         Ok(description) => Ok(description),
         Err(Refusal::Fault(fault)) => Err(fault),

@@ -13,6 +13,7 @@ use crate::table::TableReader;
 use crate::unlisted::group_warnings;
 use csvw_description::{Description, TableDescription};
 use csvw_meta_core::{Fixed, IdReader, MetaCode, NotYet, Part, Reader, Refusal};
+use csvw_meta_datatype::joined;
 use csvw_text::{Seq, Text};
 use std::alloc::{AllocError, Global};
 
@@ -100,6 +101,7 @@ pub(crate) fn read_group(context: &Context, part: &Part) -> Result<Description, 
     )?;
     let given = read_dialect(context, 0, warnings, part)?;
     let body = read_body(context, 0, part)?;
+    let warnings = joined(body.warnings, given.warnings)?;
     Ok(Description {
         id,
         tables,
@@ -107,6 +109,6 @@ pub(crate) fn read_group(context: &Context, part: &Part) -> Result<Description, 
         schema: body.schema,
         inherited: body.inherited,
         notes: Seq::new(part.alloc),
-        warnings: given.warnings,
+        warnings,
     })
 }

@@ -5,12 +5,14 @@ ghost use Rattle.csvw_meta_core.specs.Pointer.{text_of};
 ghost use Rattle.csvw_meta_core.specs.Reads.{Reads};
 ghost use Rattle.csvw_meta.specs.Inherited.{inherited};
 
+use crate::context::Context;
+use crate::datatype::read_datatype;
 use crate::template::TemplateReader;
 use csvw_description::Inherited;
 use csvw_meta_core::{
-    AnyText, Language, MetaCode, NotYet, OrNull, Part, Reader, Refusal, SomeText, Texts, Truth,
+    AnyText, Language, MetaCode, OrNull, Part, Reader, Refusal, SomeText, Texts, Truth,
 };
-use csvw_text::Shared;
+use csvw_text::{Fault, Seq, Shared};
 
 /// A value of a kind, to be shared by the columns that inherit it.
 #[derive(Drop)]
@@ -29,10 +31,23 @@ impl<R: Reader> Reader for SharedOf<R> {
     }
 }
 
-/// The inherited properties that stand in the object that the part is.
+/// The inherited properties of an object, and the warnings on its datatype.
+#[derive(Drop)]
+pub(crate) struct InheritedFound {
+    pub(crate) inherited: Inherited,
+    pub(crate) warnings: Seq<Fault>,
+}
+
+/// The inherited properties that stand in the object that the part is: that of the column of this number, of
+/// the table of that number, 0 for none and for the group.
 #[tactic(auto, using(crate::proofs::ReadLemmas::fails_first), unfolding(crate::specs::Inherited::inherited))]
-pub(crate) fn read_inherited(part: &Part) -> Result<Inherited, Refusal>
-    ensures { Reads result (inherited (text_of part.now.at) (view part.now.value.now)) }
+pub(crate) fn read_inherited(
+    context: &Context,
+    table: u32,
+    column: u32,
+    part: &Part,
+) -> Result<InheritedFound, Refusal>
+    ensures { Reads result (inherited context.now table column (text_of part.now.at) (view part.now.value.now)) }
 {
     let about_url = part.optional(
         &SharedOf {
@@ -52,7 +67,7 @@ pub(crate) fn read_inherited(part: &Part) -> Result<Inherited, Refusal>
         },
         "valueUrl",
     )?;
-    part.optional(&NotYet, "datatype")?;
+    let given = read_datatype(context, table, column, part)?;
     let default = part.optional(&SharedOf { reader: AnyText }, "default")?;
     let language = Language {
         wrong: MetaCode::BadProperty,
@@ -65,16 +80,20 @@ pub(crate) fn read_inherited(part: &Part) -> Result<Inherited, Refusal>
         reader: SharedOf { reader: SomeText },
     };
     let separator = part.optional(&separator, "separator")?;
-    Ok(Inherited {
+    let inherited = Inherited {
         about_url,
         property_url,
         value_url,
-        datatype: None,
+        datatype: given.datatype,
         default,
         lang,
         null,
         ordered,
         required,
         separator,
+    };
+    Ok(InheritedFound {
+        inherited,
+        warnings: given.warnings,
     })
 }

@@ -5,6 +5,7 @@
 mod body;
 mod column;
 mod context;
+mod datatype;
 mod dialect;
 mod document;
 mod group;

@@ -15,6 +15,7 @@ use crate::unlisted::schema_warnings;
 use crate::virtual_order::misplaced_at;
 use csvw_description::{ColumnDescription, Schema};
 use csvw_meta_core::{Fixed, IdReader, MetaCode, NotYet, Part, Reader, Refusal};
+use csvw_meta_datatype::joined;
 use csvw_text::{Seq, Text};
 use serde_json::Value;
 use std::alloc::{AllocError, Global};
@@ -144,12 +145,13 @@ fn schema_of(context: &Context, table: u32, part: &Part) -> Result<Schema, Refus
     part.optional(&NotYet, "rowTitles")?;
     let warnings = schema_warnings(table, part)?;
     let columns = part.property(&Columns { context, table }, Seq::new(part.alloc), "columns")?;
-    let inherited = read_inherited(part)?;
+    let found = read_inherited(context, table, 0, part)?;
+    let warnings = joined(found.warnings, warnings)?;
     Ok(Schema {
         columns,
         primary_key: Seq::new(part.alloc),
         foreign_keys: Seq::new(part.alloc),
-        inherited,
+        inherited: found.inherited,
         warnings,
     })
 }

@@ -12,6 +12,7 @@ use csvw_description::TableDescription;
 use csvw_meta_core::{
     Fixed, IdReader, NotYet, NumberedReader, Part, Reader, Refusal, Truth, UrlReader,
 };
+use csvw_meta_datatype::joined;
 use csvw_text::{Fault, Seq};
 use serde_json::Value;
 
@@ -75,6 +76,7 @@ pub(crate) fn table_of(
     )?;
     let given = read_dialect(context, number, warnings, part)?;
     let body = read_body(context, number, part)?;
+    let warnings = joined(body.warnings, given.warnings)?;
     Ok(TableDescription {
         url,
         id,
@@ -83,6 +85,6 @@ pub(crate) fn table_of(
         suppressed,
         inherited: body.inherited,
         notes: Seq::new(part.alloc),
-        warnings: given.warnings,
+        warnings,
     })
 }

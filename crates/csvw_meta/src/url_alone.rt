@@ -11,6 +11,7 @@ use crate::document::described;
 use csvw_description::Description;
 use csvw_iri::{Base, IriFault};
 use csvw_meta_core::{MetaCode, MetaFault, Part, Pointer, Refusal};
+use csvw_meta_datatype::datatypes_fit;
 use csvw_text::Text;
 use serde_json::{Value, json};
 use std::alloc::{AllocError, Global};
@@ -59,6 +60,7 @@ pub fn plain(alloc: Global, url: &str) -> Result<Description, MetaFault>
     // What is refused has that fault.
     ensures fault { IfErr result (λ e. e.code ≢ MetaCode.Memory → Contains (plain_description url.now).faults e) }
 {
+    datatypes_fit();
     match plain_description(alloc, url) {
         Ok(description) => Ok(description),
         Err(Refusal::Fault(fault)) => Err(fault),

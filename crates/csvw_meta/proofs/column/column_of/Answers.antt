@@ -66,12 +66,12 @@ returns-in_err-titles c =
     later _ _ _ _ c.in_ok-suppressed.ensures (later _ _ _ _ c.in_ok-warnings.ensures (later _ _ _ _ c.in_ok-name.ensures (
     fails_first _ _ _ (rw c.new.ensures at c.in_err-titles.ensures))))))))
 
-pub returns-in_err-inherited : goal.returns-in_err-inherited
+pub returns-in_err-found : goal.returns-in_err-found
 unfolding column_of
-returns-in_err-inherited c =
-    refused c.from_residual-in_err-inherited.result c.in_err-inherited.field-0.0
+returns-in_err-found c =
+    refused c.from_residual-in_err-found.result c.in_err-found.field-0.0
     (column_of c.args.reader.now.context.now c.args.reader.now.table c.args.number (text_of c.args.part.now.at) (view c.args.part.now.value.now))
-    c.from_residual-in_err-inherited.ensures.1
+    c.from_residual-in_err-found.ensures.1
     (later _ _ _ _ c.in_ok-optional.ensures (later _ _ _ _ c.in_ok-optional-2.ensures (later _ _ _ _ c.in_ok-is_virtual.ensures (
     later _ _ _ _ c.in_ok-suppressed.ensures (later _ _ _ _ c.in_ok-warnings.ensures (later _ _ _ _ c.in_ok-name.ensures (
-    later _ _ _ _ (rw c.new.ensures at c.in_ok-titles.ensures) (fails_first _ _ _ c.in_err-inherited.ensures))))))))
+    later _ _ _ _ (rw c.new.ensures at c.in_ok-titles.ensures) (fails_first _ _ _ c.in_err-found.ensures))))))))

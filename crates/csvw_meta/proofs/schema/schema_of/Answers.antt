@@ -59,11 +59,11 @@ returns-in_err-columns c =
     later _ _ _ _ c.in_ok-optional-4.ensures (later _ _ _ _ c.in_ok-optional-5.ensures (later _ _ _ _ c.in_ok-warnings.ensures (
     fails_first _ _ _ (rw c.new.ensures at c.in_err-columns.ensures))))))))
 
-pub returns-in_err-inherited : goal.returns-in_err-inherited
+pub returns-in_err-found : goal.returns-in_err-found
 unfolding schema_of
-returns-in_err-inherited c =
-    refused c.from_residual-in_err-inherited.result c.in_err-inherited.field-0.0
-    (schema_of c.args.context.now c.args.table (text_of c.args.part.now.at) (view c.args.part.now.value.now)) c.from_residual-in_err-inherited.ensures.1
+returns-in_err-found c =
+    refused c.from_residual-in_err-found.result c.in_err-found.field-0.0
+    (schema_of c.args.context.now c.args.table (text_of c.args.part.now.at) (view c.args.part.now.value.now)) c.from_residual-in_err-found.ensures.1
     (later _ _ _ _ c.in_ok-optional.ensures (later _ _ _ _ c.in_ok-optional-2.ensures (later _ _ _ _ c.in_ok-optional-3.ensures (
     later _ _ _ _ c.in_ok-optional-4.ensures (later _ _ _ _ c.in_ok-optional-5.ensures (later _ _ _ _ c.in_ok-warnings.ensures (
-    later _ _ _ _ (rw c.new.ensures at c.in_ok-columns.ensures) (fails_first _ _ _ c.in_err-inherited.ensures))))))))
+    later _ _ _ _ (rw c.new.ensures at c.in_ok-columns.ensures) (fails_first _ _ _ c.in_err-found.ensures))))))))

@@ -1,5 +1,7 @@
 -- A fault of each part is told, behind those that have none.
+use Rattle.std.proofs.Common.{refl}
 use Rattle.serde_json.specs.View.{view}
+use Rattle.csvw_meta_core.specs.declared.fault.Refusal.TheVariants as refusal
 use Rattle.csvw_meta_core.specs.Pointer.{text_of}
 use Rattle.csvw_meta_core.specs.Links.{no_url}
 use Rattle.csvw_meta.specs.Table.{table_of}
@@ -53,3 +55,26 @@ returns-in_err-id c =
     (table_of c.args.context.now c.args.sole c.args.number (text_of c.args.part.now.at) (view c.args.part.now.value.now)) c.from_residual-in_err-id.ensures.1
     (later _ _ _ _ c.in_ok-optional.ensures (later _ _ _ _ c.in_ok-optional-2.ensures (later _ _ _ _ c.in_ok-suppressed.ensures (
     later _ _ _ _ c.in_ok-warnings.ensures (later _ _ _ _ (c.in_ok-url.ensures no_url) (fails_first _ _ _ c.in_err-id.ensures))))))
+
+pub returns-in_err-warnings-2 : goal.returns-in_err-warnings-2
+returns-in_err-warnings-2 c =
+    refused c.from_residual-in_err-warnings-2.result refusal.Memory
+    (table_of c.args.context.now c.args.sole c.args.number (text_of c.args.part.now.at) (view c.args.part.now.value.now))
+    c.from_residual-in_err-warnings-2.ensures.1 tt
+
+pub returns : goal.returns
+unfolding table_of
+returns c =
+    rw (
+      c.in_ok-optional.ensures,
+      c.in_ok-optional-2.ensures,
+      c.in_ok-suppressed.ensures,
+      c.in_ok-warnings.ensures,
+      c.in_ok-url.ensures no_url,
+      c.in_ok-id.ensures,
+      c.in_ok-given.ensures,
+      c.in_ok-body.ensures,
+      c.in_ok-warnings-2.ensures,
+      c.new.ensures,
+    )
+    refl

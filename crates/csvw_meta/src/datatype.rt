@@ -1,0 +1,58 @@
+//! The datatype of an object, with the warnings on it (Metadata Vocabulary for Tabular Data, section 5.11).
+ghost use Rattle.std.specs.Prelude.{◌≡◌, IfOk};
+ghost use Rattle.serde_json.specs.View.{view};
+ghost use Rattle.csvw_meta_core.specs.Pointer.{text_of};
+ghost use Rattle.csvw_meta_core.specs.Reads.{Reads};
+ghost use Rattle.csvw_meta.specs.Datatype.{split, given_datatype};
+
+use crate::context::Context;
+use csvw_datatype::Datatype;
+use csvw_meta_core::{Part, Refusal};
+use csvw_meta_datatype::{DatatypeFound, DatatypeReader};
+use csvw_text::{Fault, Place, Seq, Shared};
+use std::alloc::{AllocError, Global};
+
+/// The datatype of an object, and the warnings on it.
+#[derive(Drop)]
+pub(crate) struct DatatypeGiven {
+    pub(crate) datatype: Option<Shared<Datatype>>,
+    pub(crate) warnings: Seq<Fault>,
+}
+
+fn split(alloc: Global, found: Option<DatatypeFound>) -> Result<DatatypeGiven, AllocError>
+    ensures { IfOk result (λ g. g ≡ split found) }
+{
+    match found {
+        None => Ok(DatatypeGiven {
+            datatype: None,
+            warnings: Seq::new(alloc),
+        }),
+        Some(found) => Ok(DatatypeGiven {
+            datatype: Some(Shared::new(alloc, found.datatype)?),
+            warnings: found.warnings,
+        }),
+    }
+}
+
+/// The datatype that stands in the object of the column of this number, of the table of that number, 0 for
+/// none and for the group.
+#[tactic(auto, unfolding(crate::specs::Datatype::given_datatype))]
+pub(crate) fn read_datatype(
+    context: &Context,
+    table: u32,
+    column: u32,
+    part: &Part,
+) -> Result<DatatypeGiven, Refusal>
+    ensures { Reads result (given_datatype context.now table column (text_of part.now.at) (view part.now.value.now)) }
+{
+    let reader = DatatypeReader {
+        base: &context.base,
+        place: Place {
+            table,
+            row: 0,
+            column,
+        },
+    };
+    let found = part.optional(&reader, "datatype")?;
+    Ok(split(part.alloc, found)?)
+}
