@@ -4,10 +4,12 @@ use Rattle.std.proofs.lemmas.List.Elements.{Contains-append_left, Contains-appen
 use Rattle.std.specs.Prelude.{flat_map}
 use Rattle.csvw_columns.specs.declared.plan.Plan.{Plan}
 use Rattle.csvw_columns.specs.declared.plan.TablePlan.{TablePlan}
+use Rattle.csvw_triples_core.specs.declared.mode.Mode.{Mode}
+use Rattle.csvw_triples_core.specs.declared.mode.Mode.TheVariants as mode
 use Rattle.csvw_triples_core.specs.declared.term.Node.{Node}
 use Rattle.csvw_triples_core.specs.declared.term.Triple.{Triple}
-use Rattle.csvw_opening.specs.Opening.{IsOfTable, Opening}
-use Rattle.csvw_opening.specs.OpeningTriples.{group_node, group_triple, member_triple, class_triple, url_triple, about_table, table_triples, opening}
+use Rattle.csvw_opening.specs.Opening.{IsOfTable, StandardOpening, Opening}
+use Rattle.csvw_opening.specs.OpeningTriples.{group_node, group_triple, member_triple, class_triple, url_triple, about_table, table_triples, standard_opening, opening}
 
 -- lists
 
@@ -81,9 +83,8 @@ module _ (group : Node) where
         | inr l ↦ Contains-append_right (table_triples group first) (flat_map (table_triples group) tables) x (to_tables tables table x l e k)
       ]
 
--- the law
-pub is_opening : (plan : Plan) (x : Triple) → Contains (opening plan) x ↔ Opening plan x
-is_opening plan x =
+is_standard : (plan : Plan) (x : Triple) → Contains (standard_opening plan) x ↔ StandardOpening plan x
+is_standard plan x =
     let group = group_node plan.id in
     let others = flat_map (table_triples group) plan.tables in (
       λ h. elim (in_cons (group_triple group) others x h) [ inl e ↦ inl e | inr k ↦ inr (from_tables group plan.tables x k) ],
@@ -92,3 +93,9 @@ is_opening plan x =
         | inr k ↦ later_in (group_triple group) others x (to_tables group plan.tables k.0 x k.1 k.2 k.3)
       ],
     )
+
+-- the law
+pub is_opening : (m : Mode) (plan : Plan) (x : Triple) → Contains (opening m plan) x ↔ Opening m plan x
+is_opening mode.Validate plan x = (λ h. absurd (none_in x h), λ h. absurd h)
+is_opening mode.Minimal plan x = (λ h. absurd (none_in x h), λ h. absurd h)
+is_opening mode.Standard plan x = is_standard plan x

@@ -1,8 +1,10 @@
--- The triples of a group and its tables, in their order (csv2rdf, standard mode, section 4.2).
+-- The triples of a group and its tables, in their order (csv2rdf, section 4.2).
 use Rattle.std.specs.Prelude.{ℕ, List, [], ◌∷◌, flat_map, Option, Some, None, if◌then◌else◌}
 use Rattle.csvw_iri.specs.Link.{iri_of}
 use Rattle.csvw_columns.specs.declared.plan.Plan.{Plan}
 use Rattle.csvw_columns.specs.declared.plan.TablePlan.{TablePlan}
+use Rattle.csvw_triples_core.specs.declared.mode.Mode.{Mode}
+use Rattle.csvw_triples_core.specs.declared.mode.Mode.TheVariants as mode
 use Rattle.csvw_triples_core.specs.declared.origin.Origin.TheVariants as origin
 use Rattle.csvw_triples_core.specs.declared.term.Node.{Node}
 use Rattle.csvw_triples_core.specs.declared.term.Node.TheVariants as node
@@ -43,6 +45,12 @@ about_table group table = member_triple group table ∷ class_triple table ∷ u
 abbrev pub table_triples : Node → TablePlan → List Triple
 table_triples group table = if table.suppressed then [] else about_table group table
 
--- the triples of a group and its tables
-abbrev pub opening : Plan → List Triple
-opening plan = group_triple (group_node plan.id) ∷ flat_map (table_triples (group_node plan.id)) plan.tables
+-- the triples of a group and its tables in standard mode
+abbrev pub standard_opening : Plan → List Triple
+standard_opening plan = group_triple (group_node plan.id) ∷ flat_map (table_triples (group_node plan.id)) plan.tables
+
+-- by the mode: validation and minimal mode tell nothing of them
+abbrev pub opening : Mode → Plan → List Triple
+opening mode.Validate plan = []
+opening mode.Minimal plan = []
+opening mode.Standard plan = standard_opening plan

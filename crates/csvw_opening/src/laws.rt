@@ -1,11 +1,12 @@
 //! Laws about the triples of groups and tables. The calls do nothing.
 ghost use Rattle.std.specs.Prelude.{◌↔◌, Contains};
 ghost use Rattle.csvw_columns.specs.declared.plan.Plan.{Plan as ThePlan};
+ghost use Rattle.csvw_triples_core.specs.declared.mode.Mode.{Mode as TheMode};
 ghost use Rattle.csvw_triples_core.specs.declared.term.Triple.{Triple as TheTriple};
 ghost use Rattle.csvw_opening.specs.Opening.{Opening};
 ghost use Rattle.csvw_opening.specs.OpeningTriples.{opening};
 
-/// The triples of a group and its tables are what standard mode tells of them (csv2rdf, section 4.2).
+/// The triples of a group and its tables are what is told of them, in each mode (csv2rdf, section 4.2).
 pub fn opening_is_the_graphs()
-    ensures { (plan : ThePlan) (x : TheTriple) → Contains (opening plan) x ↔ Opening plan x }
+    ensures { (m : TheMode) (plan : ThePlan) (x : TheTriple) → Contains (opening m plan) x ↔ Opening m plan x }
 {}

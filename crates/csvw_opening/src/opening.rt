@@ -3,12 +3,12 @@ ghost use Rattle.std.specs.Prelude.{◌≡◌, ◌++◌, IfOk, OnOk, OnErr, flat
 ghost use Rattle.csvw_triples_core.specs.Taking.{FrontOf, Ends};
 ghost use Rattle.csvw_triples.specs.StandardTriples.{object_of};
 ghost use Rattle.csvw_opening.specs.OpeningTriples.{group_node, node_of, group_triple, member_triple, class_triple, url_triple};
-ghost use Rattle.csvw_opening.specs.OpeningTriples.{about_table, table_triples, opening};
+ghost use Rattle.csvw_opening.specs.OpeningTriples.{about_table, table_triples, standard_opening, opening};
 
 use crate::names::OpeningNames;
 use csvw_columns::{Plan, TablePlan};
 use csvw_iri::Iri;
-use csvw_triples::{Node, Origin, SinkFault, Term, Triple, TripleSink, put_all, table_node};
+use csvw_triples::{Mode, Node, Origin, SinkFault, Term, Triple, TripleSink, put_all, table_node};
 use std::alloc::{AllocError, Global};
 
 /// The node of a group: its `@id`, else its blank node.
@@ -126,8 +126,8 @@ fn push_tables(
     Ok(())
 }
 
-fn opening(alloc: Global, plan: &Plan) -> Result<Vec<Triple>, AllocError>
-    ensures { IfOk result (λ triples. triples.items ≡ opening plan.now) }
+fn standard_opening(alloc: Global, plan: &Plan) -> Result<Vec<Triple>, AllocError>
+    ensures { IfOk result (λ triples. triples.items ≡ standard_opening plan.now) }
 {
     let names = OpeningNames::new(alloc)?;
     let group = group_node(alloc, &plan.id)?;
@@ -137,18 +137,29 @@ fn opening(alloc: Global, plan: &Plan) -> Result<Vec<Triple>, AllocError>
     Ok(triples)
 }
 
-/// Puts the triples that tell of a group and its tables in standard mode, in their order (csv2rdf, section 4.2). After an error
-/// a front of them was taken, of whose last triple only a part after `Device`, and the fault is one that the sink answered in
-/// this call, or `Memory`.
+fn opening(alloc: Global, plan: &Plan, mode: Mode) -> Result<Vec<Triple>, AllocError>
+    ensures { IfOk result (λ triples. triples.items ≡ opening mode plan.now) }
+{
+    match mode {
+        Mode::Validate => Ok(Vec::new(alloc)),
+        Mode::Minimal => Ok(Vec::new(alloc)),
+        Mode::Standard => standard_opening(alloc, plan),
+    }
+}
+
+/// Puts the triples that tell of a group and its tables in mode `Standard`, in their order (csv2rdf, section 4.2); in the other
+/// modes none. After an error a front of them was taken, of whose last triple only a part after `Device`, and the fault is one
+/// that the sink answered in this call, or `Memory`.
 pub fn emit_opening<S: TripleSink>(
     alloc: Global,
     plan: &Plan,
+    mode: Mode,
     sink: &mut S,
 ) -> Result<(), SinkFault>
-    ensures ok { OnOk result (S.gains sink.old (opening plan.now) sink.new) }
-    ensures err { OnErr result (FrontOf S.gains sink.old (opening plan.now) sink.new) }
+    ensures ok { OnOk result (S.gains sink.old (opening mode plan.now) sink.new) }
+    ensures err { OnErr result (FrontOf S.gains sink.old (opening mode plan.now) sink.new) }
     ensures sink { Ends S.is_open S.failed sink.old sink.new result }
 {
-    let triples = opening(alloc, plan)?;
+    let triples = opening(alloc, plan, mode)?;
     put_all(triples.as_slice(), sink)
 }

@@ -7,7 +7,6 @@ use Rattle.csvw_plain_columns.specs.declared.column.Column.{Column}
 use Rattle.csvw_plain_columns.specs.declared.column.Columns.{Columns}
 use Rattle.csvw_plain_annotate.specs.declared.row.AnnCell.{AnnCell}
 use Rattle.csvw_plain_annotate.specs.declared.row.Row.{Row}
-use Rattle.csvw_triples_core.specs.declared.mode.Mode.TheVariants as mode
 use Rattle.csvw_triples_core.specs.declared.term.Node.{Node}
 use Rattle.csvw_triples_core.specs.declared.term.Term.{Term}
 use Rattle.csvw_triples_core.specs.declared.term.Triple.{Triple}
@@ -73,23 +72,23 @@ to_value t row column cell x f g h =
     let alone : Contains (value_triple t row.number column value ∷ []) x = subst (λ z. Contains (value_triple t row.number column value ∷ []) z) (sym same) (first_in _ []) in
     subst (λ (z : Option (List ℕ)). Contains (value_triples t row.number column z) x) (sym h.1) alone
 
-pub from_row : (t : ℕ) (columns : Columns) (row : Row) (x : Triple) → Contains (row_triples mode.Minimal t columns row) x → RowGraph t columns row x
+pub from_row : (t : ℕ) (columns : Columns) (row : Row) (x : Triple) → Contains (row_triples t columns row) x → RowGraph t columns row x
 from_row t columns row x h =
     let c = from_flat (λ p. cell_triples t row.number p.0 p.1) (zip columns.columns row.cells) x h in
     let v = from_value t row c.0.0 c.0.1 c.0.1.value x refl c.2 in
     (c.0.0, c.0.1, c.1, v.0, v.1, v.2)
 
-pub to_row : (t : ℕ) (columns : Columns) (row : Row) (x : Triple) → RowGraph t columns row x → Contains (row_triples mode.Minimal t columns row) x
+pub to_row : (t : ℕ) (columns : Columns) (row : Row) (x : Triple) → RowGraph t columns row x → Contains (row_triples t columns row) x
 to_row t columns row x h =
     to_flat (λ p. cell_triples t row.number p.0 p.1) (zip columns.columns row.cells) (h.0, h.1) x h.2 (to_value t row h.0 h.1 x h.3 h.4 h.5)
 
 -- the laws
-pub row_graph : (t : ℕ) (columns : Columns) (row : Row) (x : Triple) → Contains (row_triples mode.Minimal t columns row) x ↔ RowGraph t columns row x
+pub row_graph : (t : ℕ) (columns : Columns) (row : Row) (x : Triple) → Contains (row_triples t columns row) x ↔ RowGraph t columns row x
 row_graph t columns row x = (from_row t columns row x, to_row t columns row x)
 
 pub table_graph : (t : ℕ) (columns : Columns) (rows : List Row) (x : Triple)
-    → Contains (flat_map (row_triples mode.Minimal t columns) rows) x ↔ Minimal t (Some columns) rows x
+    → Contains (flat_map (row_triples t columns) rows) x ↔ Minimal t (Some columns) rows x
 table_graph t columns rows x = (
-  λ h. let r = from_flat (row_triples mode.Minimal t columns) rows x h in (r.0, r.1, from_row t columns r.0 x r.2),
-  λ h. to_flat (row_triples mode.Minimal t columns) rows h.0 x h.1 (to_row t columns h.0 x h.2),
+  λ h. let r = from_flat (row_triples t columns) rows x h in (r.0, r.1, from_row t columns r.0 x r.2),
+  λ h. to_flat (row_triples t columns) rows h.0 x h.1 (to_row t columns h.0 x h.2),
 )

@@ -5,8 +5,6 @@ use Rattle.csvw_plain_columns.specs.declared.column.Column.{Column}
 use Rattle.csvw_plain_columns.specs.declared.column.Columns.{Columns}
 use Rattle.csvw_plain_annotate.specs.declared.row.AnnCell.{AnnCell}
 use Rattle.csvw_plain_annotate.specs.declared.row.Row.{Row}
-use Rattle.csvw_triples_core.specs.declared.mode.Mode.{Mode}
-use Rattle.csvw_triples_core.specs.declared.mode.Mode.TheVariants.{Validate, Minimal}
 use Rattle.csvw_triples_core.specs.declared.origin.Origin.TheVariants.{Subject}
 use Rattle.csvw_triples_core.specs.declared.term.Node.TheVariants as node
 use Rattle.csvw_triples_core.specs.declared.term.Term.TheVariants as term
@@ -30,6 +28,5 @@ abbrev pub cells_triples : ℕ → ℕ → List Column → List AnnCell → List
 cells_triples t number columns cells = flat_map (λ p. cell_triples t number p.0 p.1) (zip columns cells)
 
 -- the triples of a row of table t
-abbrev pub row_triples : Mode → ℕ → Columns → Row → List Triple
-row_triples Validate t columns row = []
-row_triples Minimal t columns row = cells_triples t row.number columns.columns row.cells
+abbrev pub row_triples : ℕ → Columns → Row → List Triple
+row_triples t columns row = cells_triples t row.number columns.columns row.cells

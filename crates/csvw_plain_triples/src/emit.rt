@@ -6,7 +6,7 @@ ghost use Rattle.csvw_triples_core.specs.Taking.{FrontOf, Ends};
 use csvw_plain_annotate::{AnnCell, Row};
 use csvw_plain_columns::{Column, Columns};
 use csvw_text::Text;
-use csvw_triples_core::{Lit, Mode, Node, Origin, SinkFault, Term, Triple, TripleSink};
+use csvw_triples_core::{Lit, Node, Origin, SinkFault, Term, Triple, TripleSink};
 use std::alloc::{AllocError, Global};
 use std::mem;
 
@@ -116,34 +116,30 @@ impl Emitter {
     }
 
     /// Puts the triples of a row of table `t`, numbered from 1, in the order of its cells (csv2rdf,
-    /// section 4.2); in mode `Validate` none. After an error a front of them was taken, of whose last
+    /// section 4.2, minimal mode). After an error a front of them was taken, of whose last
     /// triple only a part after `Device`, and the fault is one that the sink answered in this call, or
     /// `Memory`.
     pub fn emit_row<S: TripleSink>(
         &mut self,
         columns: &Columns,
-        mode: Mode,
         t: u32,
         row: &Row,
         sink: &mut S,
     ) -> Result<(), SinkFault>
         requires { length row.now.cells ≡ length columns.now.columns }
-        ensures ok { OnOk result (S.gains sink.old (row_triples mode t columns.now row.now) sink.new) }
-        ensures err { OnErr result (FrontOf S.gains sink.old (row_triples mode t columns.now row.now) sink.new) }
+        ensures ok { OnOk result (S.gains sink.old (row_triples t columns.now row.now) sink.new) }
+        ensures err { OnErr result (FrontOf S.gains sink.old (row_triples t columns.now row.now) sink.new) }
         ensures sink { Ends S.is_open S.failed sink.old sink.new result }
     {
-        match mode {
-            Mode::Validate => Ok(()),
-            Mode::Minimal => emit_cells(
-                self.alloc,
-                columns.columns.as_slice(),
-                t,
-                row.number,
-                row.cells.as_slice(),
-                &mut self.spare,
-                sink,
-            ),
-        }
+        emit_cells(
+            self.alloc,
+            columns.columns.as_slice(),
+            t,
+            row.number,
+            row.cells.as_slice(),
+            &mut self.spare,
+            sink,
+        )
     }
 }
 
@@ -151,17 +147,16 @@ impl Emitter {
 pub fn emit_row<S: TripleSink>(
     alloc: Global,
     columns: &Columns,
-    mode: Mode,
     t: u32,
     row: &Row,
     sink: &mut S,
 ) -> Result<(), SinkFault>
     requires { length row.now.cells ≡ length columns.now.columns }
-    ensures ok { OnOk result (S.gains sink.old (row_triples mode t columns.now row.now) sink.new) }
-    ensures err { OnErr result (FrontOf S.gains sink.old (row_triples mode t columns.now row.now) sink.new) }
+    ensures ok { OnOk result (S.gains sink.old (row_triples t columns.now row.now) sink.new) }
+    ensures err { OnErr result (FrontOf S.gains sink.old (row_triples t columns.now row.now) sink.new) }
     ensures sink { Ends S.is_open S.failed sink.old sink.new result }
 {
-    Emitter::new(alloc).emit_row(columns, mode, t, row, sink)
+    Emitter::new(alloc).emit_row(columns, t, row, sink)
 }
 
 #[cfg(test)]
@@ -219,13 +214,11 @@ mod tests {
         let row = row(alloc, &["1", "Ann", ""])?;
         assert_eq!(rt; row.cells.len(), columns.columns.len());
         let mut sink = VecSink::new(alloc);
-        assert!(rt; emit_row(alloc, &columns, Mode::Minimal, 1, &row, &mut sink).is_ok());
+        assert!(rt; emit_row(alloc, &columns, 1, &row, &mut sink).is_ok());
         let triples = sink.triples();
         assert_eq!(rt; triples.len(), 2);
         assert!(rt; triples[1].p.as_str() == "http://example.org/p.csv#name");
         assert!(rt; matches!(&triples[1].o, Term::Literal(lit) if lit.text.as_str() == "Ann"));
-        assert!(rt; emit_row(alloc, &columns, Mode::Validate, 1, &row, &mut sink).is_ok());
-        assert_eq!(rt; sink.triples().len(), 2);
         assert!(rt; triple_copies(alloc, sink.triples())?);
         Ok(())
     }
@@ -239,11 +232,7 @@ mod tests {
         for name in ["Annabel", "Bo"] {
             let row = row(alloc, &[name])?;
             assert_eq!(rt; row.cells.len(), columns.columns.len());
-            assert!(rt;
-                emitter
-                    .emit_row(&columns, Mode::Minimal, 1, &row, &mut sink)
-                    .is_ok()
-            );
+            assert!(rt; emitter.emit_row(&columns, 1, &row, &mut sink).is_ok());
         }
         let triples = sink.triples();
         assert_eq!(rt; triples.len(), 2);

@@ -9,15 +9,14 @@ use Rattle.csvw_cell.specs.declared.cell.Item.{Item}
 use Rattle.csvw_cell.specs.declared.cell.CellValue.{CellValue}
 use Rattle.csvw_cell.specs.declared.cell.CellValue.TheVariants.{Null, One, Many}
 use Rattle.csvw_annotate.specs.declared.row.Row.{Row}
-use Rattle.csvw_triples_core.specs.declared.mode.Mode.TheVariants as mode
 use Rattle.csvw_triples_core.specs.declared.origin.Origin.{Origin}
 use Rattle.csvw_triples_core.specs.declared.term.Node.{Node}
 use Rattle.csvw_triples_core.specs.declared.term.Term.{Term}
 use Rattle.csvw_triples_core.specs.declared.term.Term.TheVariants as term
 use Rattle.csvw_triples_core.specs.declared.term.Triple.{Triple}
 use Rattle.csvw_triples.specs.Literals.{literal_of}
-use Rattle.csvw_triples.specs.Graph.{IsObjectBy, IsListTriple, IsOfList, RowGraph, Minimal}
-use Rattle.csvw_triples.specs.RowTriples.{triple, subject_of, predicate_of, entries_of, list_node, first_triple, rest_triple, list_triples, object_triples, cell_triples, cells_triples, row_triples}
+use Rattle.csvw_triples.specs.Graph.{IsObjectBy, IsListTriple, IsOfList, MinimalRow, Minimal}
+use Rattle.csvw_triples.specs.RowTriples.{triple, subject_of, predicate_of, entries_of, list_node, first_triple, rest_triple, list_triples, object_triples, cell_triples, cells_triples, minimal_triples}
 
 -- lists
 
@@ -238,7 +237,7 @@ unless false xs x h = (refl, h)
 pub given : {X : Type 0} (b : Bool) (xs : List X) (x : X) → b ≡ false → Contains xs x → Contains (cond b [] xs) x
 given b xs x e h = subst (λ t. Contains (cond t [] xs) x) (sym e) h
 
-pub from_row : (t : ℕ) (columns : Columns) (row : Row) (x : Triple) → Contains (row_triples mode.Minimal t columns row) x → RowGraph t columns row x
+pub from_row : (t : ℕ) (columns : Columns) (row : Row) (x : Triple) → Contains (minimal_triples t columns row) x → MinimalRow t columns row x
 from_row t columns row x h =
     let all = unless columns.suppressed (cells_triples t row.number columns.columns row.cells) x h in
     let c = from_flat (λ p. cell_triples t row.number p.0 p.1) (zip columns.columns row.cells) x all.1 in
@@ -248,7 +247,7 @@ from_row t columns row x h =
     let one = unless column.suppressed (object_triples (subject_of t row.number cell) (predicate_of column cell) entry column cell.value cell.link) x c.2 in
     (all.0, column, cell, c.1, one.0, from_value entry column (subject_of t row.number cell) (predicate_of column cell) cell.value cell.link x one.1)
 
-pub to_row : (t : ℕ) (columns : Columns) (row : Row) (x : Triple) → RowGraph t columns row x → Contains (row_triples mode.Minimal t columns row) x
+pub to_row : (t : ℕ) (columns : Columns) (row : Row) (x : Triple) → MinimalRow t columns row x → Contains (minimal_triples t columns row) x
 to_row t columns row x h =
     let column = h.1 in
     let cell = h.2 in
@@ -258,12 +257,12 @@ to_row t columns row x h =
     given columns.suppressed _ x h.0 (to_flat (λ p. cell_triples t row.number p.0 p.1) (zip columns.columns row.cells) (column, cell) x h.3 of_cell)
 
 -- the laws
-pub row_graph : (t : ℕ) (columns : Columns) (row : Row) (x : Triple) → Contains (row_triples mode.Minimal t columns row) x ↔ RowGraph t columns row x
-row_graph t columns row x = (from_row t columns row x, to_row t columns row x)
+pub minimal_row : (t : ℕ) (columns : Columns) (row : Row) (x : Triple) → Contains (minimal_triples t columns row) x ↔ MinimalRow t columns row x
+minimal_row t columns row x = (from_row t columns row x, to_row t columns row x)
 
-pub table_graph : (t : ℕ) (columns : Columns) (rows : List Row) (x : Triple)
-    → Contains (flat_map (row_triples mode.Minimal t columns) rows) x ↔ Minimal t (Some columns) rows x
-table_graph t columns rows x = (
-  λ h. let r = from_flat (row_triples mode.Minimal t columns) rows x h in (r.0, r.1, from_row t columns r.0 x r.2),
-  λ h. to_flat (row_triples mode.Minimal t columns) rows h.0 x h.1 (to_row t columns h.0 x h.2),
+pub minimal_rows : (t : ℕ) (columns : Columns) (rows : List Row) (x : Triple)
+    → Contains (flat_map (minimal_triples t columns) rows) x ↔ Minimal t (Some columns) rows x
+minimal_rows t columns rows x = (
+  λ h. let r = from_flat (minimal_triples t columns) rows x h in (r.0, r.1, from_row t columns r.0 x r.2),
+  λ h. to_flat (minimal_triples t columns) rows h.0 x h.1 (to_row t columns h.0 x h.2),
 )

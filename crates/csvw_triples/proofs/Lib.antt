@@ -7,3 +7,4 @@ pub mod Fragments
 pub mod Walking
 pub mod Standards
 pub mod StandardGraphs
+pub mod ModeGraphs

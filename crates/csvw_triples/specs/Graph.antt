@@ -51,12 +51,12 @@ IsOfCell t number column cell x =
     ⊎ IsOfList (entries_of t number column) column cell.value cell.link x
 
 -- the triples of a row of table t: those of its cells in columns that aren't suppressed, where the table isn't
-abbrev pub RowGraph : ℕ → Columns → Row → Triple → Type 0
-RowGraph t columns row x =
+abbrev pub MinimalRow : ℕ → Columns → Row → Triple → Type 0
+MinimalRow t columns row x =
     (columns.suppressed ≡ false) × (column : Column) × (cell : AnnCell) × IsCell columns row column cell
     × (column.suppressed ≡ false) × IsOfCell t row.number column cell x
 
 -- the triples of table t: those of its rows; a table without columns has none
 abbrev pub Minimal : ℕ → Option Columns → List Row → Triple → Type 0
 Minimal t None rows x = ⊥
-Minimal t (Some columns) rows x = (row : Row) × Contains rows row × RowGraph t columns row x
+Minimal t (Some columns) rows x = (row : Row) × Contains rows row × MinimalRow t columns row x

@@ -8,3 +8,5 @@ pub mod Graph
 pub mod CsvwVocabulary
 pub mod StandardTriples
 pub mod Standard
+pub mod ModeTriples
+pub mod ModeGraph

@@ -8,8 +8,6 @@ use Rattle.csvw_cell.specs.declared.cell.CellValue.{CellValue}
 use Rattle.csvw_cell.specs.declared.cell.CellValue.TheVariants.{Null, One, Many}
 use Rattle.csvw_annotate.specs.declared.row.AnnCell.{AnnCell}
 use Rattle.csvw_annotate.specs.declared.row.Row.{Row}
-use Rattle.csvw_triples_core.specs.declared.mode.Mode.{Mode}
-use Rattle.csvw_triples_core.specs.declared.mode.Mode.TheVariants.{Validate, Minimal}
 use Rattle.csvw_triples_core.specs.declared.origin.Origin.{Origin}
 use Rattle.csvw_triples_core.specs.declared.origin.Origin.TheVariants.{Subject, Entry}
 use Rattle.csvw_triples_core.specs.declared.term.Node.{Node}
@@ -82,6 +80,5 @@ abbrev pub cells_triples : ℕ → ℕ → List Column → List AnnCell → List
 cells_triples t number columns cells = flat_map (λ p. cell_triples t number p.0 p.1) (zip columns cells)
 
 -- the triples of a row of table t; a suppressed table gives nothing
-abbrev pub row_triples : Mode → ℕ → Columns → Row → List Triple
-row_triples Validate t columns row = []
-row_triples Minimal t columns row = if columns.suppressed then [] else cells_triples t row.number columns.columns row.cells
+abbrev pub minimal_triples : ℕ → Columns → Row → List Triple
+minimal_triples t columns row = if columns.suppressed then [] else cells_triples t row.number columns.columns row.cells

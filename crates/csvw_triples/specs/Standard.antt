@@ -5,7 +5,7 @@ use Rattle.csvw_columns_core.specs.declared.columns.Columns.{Columns}
 use Rattle.csvw_annotate.specs.declared.row.AnnCell.{AnnCell}
 use Rattle.csvw_annotate.specs.declared.row.Row.{Row}
 use Rattle.csvw_triples_core.specs.declared.term.Triple.{Triple}
-use Rattle.csvw_triples.specs.Graph.{IsCell, RowGraph}
+use Rattle.csvw_triples.specs.Graph.{IsCell, MinimalRow}
 use Rattle.csvw_triples.specs.RowTriples.{subject_of}
 use Rattle.csvw_triples.specs.StandardTriples.{member_triple, class_triple, number_triple, url_triple, describes_triple}
 
@@ -23,7 +23,7 @@ IsOfRow t columns row x =
 
 -- the triples of a row of table t: those of minimal mode, and where the table isn't suppressed what is told of the row
 abbrev pub StandardRow : ℕ → Columns → Row → Triple → Type 0
-StandardRow t columns row x = RowGraph t columns row x ⊎ ((columns.suppressed ≡ false) × IsOfRow t columns row x)
+StandardRow t columns row x = MinimalRow t columns row x ⊎ ((columns.suppressed ≡ false) × IsOfRow t columns row x)
 
 -- the triples of the rows of table t; a table without columns has none
 abbrev pub StandardRows : ℕ → Option Columns → List Row → Triple → Type 0

@@ -9,7 +9,8 @@ ghost use Rattle.csvw_triples.specs.Literals.{literal_of};
 ghost use Rattle.csvw_triples.specs.Puts.{Puts};
 ghost use Rattle.csvw_triples.specs.Stems.{object_triple, literal_triple, entries_in, entry_triples};
 ghost use Rattle.csvw_triples.specs.RowTriples.{triple, list_node, list_triples, items_triples, value_triples};
-ghost use Rattle.csvw_triples.specs.RowTriples.{object_triples, cell_triples, cells_triples, row_triples};
+ghost use Rattle.csvw_triples.specs.RowTriples.{object_triples, cell_triples, cells_triples, minimal_triples};
+ghost use Rattle.csvw_triples.specs.ModeTriples.{row_triples};
 ghost use Rattle.csvw_triples.specs.Vocabulary.{rdf_first, rdf_rest, rdf_nil};
 
 use crate::csvw_names::CsvwNames;
@@ -329,8 +330,7 @@ impl Emitter {
     ) -> Result<(), SinkFault>
         requires places { length row.now.cells ≡ length columns.now.columns }
         requires forms { HasForms row.now }
-        ensures { Puts S.gains S.is_open S.failed sink.old
-            (if columns.now.suppressed then [] else cells_triples t row.now.number columns.now.columns row.now.cells) sink.new result }
+        ensures { Puts S.gains S.is_open S.failed sink.old (minimal_triples t columns.now row.now) sink.new result }
     {
         if columns.suppressed {
             return Ok(());
@@ -362,11 +362,13 @@ impl Emitter {
         match mode {
             Mode::Validate => Ok(()),
             Mode::Minimal => self.emit_minimal(columns, t, row, sink),
+            Mode::Standard => self.emit_standard(columns, t, row, sink),
         }
     }
 
-    /// Puts the triples of a row of table `t`, whose values have lexical forms, in the order of its cells (csv2rdf,
-    /// section 4.2); in mode `Validate` none. After an error a front of them was taken, of whose last triple only a part
+    /// Puts the triples of a row of table `t`, whose values have lexical forms, by the mode (csv2rdf, section 4.2): those of
+    /// its cells, in their order; in mode `Standard` what is told of the row in front, and before a cell what it adds to
+    /// what the row describes; in mode `Validate` none. After an error a front of them was taken, of whose last triple only a part
     /// after `Device`, and the fault is one that the sink answered in this call, or `Memory`.
     pub fn emit_row<S: TripleSink>(
         &mut self,

@@ -15,8 +15,7 @@ pub use csvw_triples_core::{
 };
 pub use emitter::{Emitter, emit_row};
 pub use laws::{
-    annotated_rows_have_forms, row_triples_are_row_graph, rows_triples_are_minimal,
-    rows_triples_are_standard, standard_triples_are_standard_row,
+    annotated_rows_have_forms, row_triples_are_row_graph, rows_triples_are_table_graph,
 };
 pub use putting::put_all;
 pub use rdf::named;

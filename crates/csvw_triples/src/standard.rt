@@ -276,8 +276,7 @@ impl Emitter {
     }
 
     /// Puts the triples of a row of table `t` in standard mode, whose values have lexical forms, in their order (csv2rdf,
-    /// section 4.2). After an error a front of them was taken, of whose last triple only a part after `Device`, and the
-    /// fault is one that the sink answered in this call, or `Memory`.
+    /// section 4.2).
     pub(crate) fn emit_standard<S: TripleSink>(
         &mut self,
         columns: &Columns,

@@ -7,4 +7,6 @@ pub enum Mode {
     Validate,
     /// The cells' triples alone.
     Minimal,
+    /// The cells' triples, and what is told of the group, its tables and their rows.
+    Standard,
 }
