@@ -13,9 +13,9 @@ use Rattle.csvw_group.specs.Violations.{tables_violations}
 abbrev pub texts_of : List Event → ℕ → List ℕ
 texts_of events i = text_of events (i + 1)
 
--- the texts of the events are annotated tables, whose graph the sink took since the start, and whose violations were told
-pub record Annotates {S : Type 0} (gains : S → List Triple → S → Type 0) (start : S) (events : List Event) (s : Session S) : Type 0 where
+-- the texts of the events are annotated tables, whose graph the sink took since it was handed in, and whose violations were told
+pub record Annotates {S : Type 0} (gains : S → List Triple → S → Type 0) (sink : S) (events : List Event) (s : Session S) : Type 0 where
   pub tables : List Table
   pub annotated : AreAnnotated s.plan.tables (texts_of events) tables
-  pub took : TookGraph gains start s.sink (GraphOf s.mode s.plan.tables tables)
+  pub took : TookGraph gains sink s.sink (GraphOf s.mode s.plan tables)
   pub faults : all_faults s.tables.items ≡ tables_violations s.plan.tables tables

@@ -1,15 +1,23 @@
 -- A session at its start.
-use Rattle.std.proofs.Common.{◌≡◌, ℕ, zero, suc, Bool, false, List, [], ◌∷◌, ◌++◌, refl, sym, ap, ◌∙◌, subst, length, inl, arith, Some, None}
+use Rattle.std.proofs.Common.{◌≡◌, ℕ, zero, suc, Bool, true, false, List, [], ◌∷◌, ◌++◌, refl, sym, ap, ◌∙◌, subst, length, inl, arith, Some, None, Err}
 use Rattle.std.specs.Prelude.{slice_get, Contains}
+use Rattle.csvw_columns.specs.declared.plan.Plan.{Plan}
 use Rattle.csvw_columns.specs.declared.plan.TablePlan.{TablePlan}
+use Rattle.csvw_triples_core.specs.Taking.{FrontOf, Ends}
 use Rattle.csvw_triples_core.specs.declared.mode.Mode.{Mode}
+use Rattle.csvw_triples_core.specs.declared.sink.SinkFault.{SinkFault}
+use Rattle.csvw_triples_core.specs.declared.sink.SinkFault.TheVariants as fault
 use Rattle.csvw_triples_core.specs.declared.term.Triple.{Triple}
+use Rattle.csvw_opening.specs.OpeningTriples.{opening}
 use Rattle.csvw_engine_core.specs.Tables.{IsNewTable, columns_of}
 use Rattle.csvw_engine_core.specs.declared.table.Table.{Table}
 use Rattle.csvw_session.specs.NewTables.{AreNew}
+use Rattle.csvw_session.specs.Refusing.{Refuses}
 use Rattle.csvw_session.specs.Sessions.{Told, Stands}
+use Rattle.csvw_session.specs.Stops.{stop_of_fault}
 use Rattle.csvw_session.specs.declared.session.Session.{Session}
 use Rattle.csvw_session.specs.declared.state.State.TheVariants as state
+use Rattle.csvw_session.specs.declared.stop.Stop.TheVariants as stop
 use Rattle.csvw_session.proofs.Standing.{no_triples, no_faults}
 
 pub one_more_new : (mode : Mode) (plans : List TablePlan) (tables : List Table) (plan : TablePlan) (t : Table) → AreNew mode plans tables → IsNewTable plan mode t → AreNew mode (plans ++ plan ∷ []) (tables ++ t ∷ [])
@@ -60,3 +68,16 @@ module _ {S : Type 0} (gains : S → List Triple → S → Type 0) (is_open : S 
     where
       nothing_in : (x : Triple) → Contains [] x → ⊥
       nothing_in x c = let h = c.1 in absurd (omega arith)
+
+module _ {S : Type 0} (gains : S → List Triple → S → Type 0) (is_open : S → Bool) (failed : S → ℕ) (plan : Plan) (mode : Mode) where
+  -- before anything was put
+  pub refused_early : (sink : S) → gains sink [] sink → Refuses gains is_open failed plan mode sink sink stop.Memory
+  refused_early sink stays = (record { front = []; rest = opening mode plan; parts = refl; gained = stays }, (refl, refl))
+
+  never_open : (sink : S) → is_open sink ≡ false → is_open sink ≡ true → ⊥
+  never_open sink e f = let wrong : false ≡ true = sym e ∙ f in cc
+
+  pub refused_by : (sink now : S) (f : SinkFault) → FrontOf gains sink (opening mode plan) now → Ends is_open failed sink now (Err f) → Refuses gains is_open failed plan mode sink now (stop_of_fault f)
+  refused_by sink now fault.Memory front ends = (front, ends)
+  refused_by sink now fault.Device front ends = (front, λ begun room. ends room)
+  refused_by sink now fault.Closed front ends = (front, λ begun room. absurd (never_open sink ends begun))

@@ -4,5 +4,6 @@ pub mod Finishing
 pub mod Laws
 pub mod NewTables
 pub mod Ready
+pub mod Refusing
 pub mod Sessions
 pub mod Stops

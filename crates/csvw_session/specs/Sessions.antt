@@ -9,6 +9,7 @@ use Rattle.csvw_annotate.specs.declared.row.Row.{Row}
 use Rattle.csvw_triples_core.specs.Taking.{IsAsReady}
 use Rattle.csvw_triples_core.specs.declared.mode.Mode.{Mode}
 use Rattle.csvw_triples_core.specs.declared.term.Triple.{Triple}
+use Rattle.csvw_opening.specs.OpeningTriples.{opening}
 use Rattle.csvw_engine_core.specs.Faults.{table_faults}
 use Rattle.csvw_engine_core.specs.Tables.{TableHolds, HoldsWhole, IsAtRest, IsStopped, IsRefused, IsRefusedAtEnd, GivesSome, GivesFront, table_triples, columns_of, faults_of, is_ended}
 use Rattle.csvw_engine_core.specs.declared.table.Table.{Table}
@@ -57,12 +58,13 @@ pub record Stands {S : Type 0} (gains : S → List Triple → S → Type 0) (is_
   pub ready : IsAsReady is_open failed start s.sink
   pub state_is : s.state ≡ state.Open
 
--- a session at its start, over this plan and sink
+-- a session at its start, over this plan: its sink, since it was handed in, took what is told of the group before any row
 pub record Starts {S : Type 0} (gains : S → List Triple → S → Type 0) (is_open : S → Bool) (failed : S → ℕ) (plan : Plan) (mode : Mode) (sink : S) (s : Session S) : Type 0 where
   pub plan_is : s.plan ≡ plan
   pub mode_is : s.mode ≡ mode
-  pub sink_is : s.sink ≡ sink
-  pub stands : Stands gains is_open failed sink [] s
+  pub opened : gains sink (opening mode plan) s.sink
+  pub ready : IsAsReady is_open failed sink s.sink
+  pub stands : Stands gains is_open failed s.sink [] s
 
 -- whether table t, from 1, takes an event now
 abbrev pub Checks : {S : Type 0} → Session S → ℕ → Result ℕ Stop → Type 0

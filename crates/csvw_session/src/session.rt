@@ -1,15 +1,19 @@
 //! A session over the tables of a plan.
 ghost use Rattle.std.specs.Prelude.{◌≡◌, ◌↔◌, ◌⊎◌, ◌<◌, ◌+◌, length, ◌++◌, IsTrue, IfOk, IfErr, OnOk, MatchOption};
 ghost use Rattle.std.specs.List.{list_all};
+ghost use Rattle.csvw_triples_core.specs.Taking.{IsAsReady};
+ghost use Rattle.csvw_opening.specs.OpeningTriples.{opening};
 ghost use Rattle.csvw_engine_core.specs.Tables.{is_ended};
 ghost use Rattle.csvw_session.specs.Faults.{all_faults};
 ghost use Rattle.csvw_session.specs.Ready.{AreReady, AreReady-prop};
 ghost use Rattle.csvw_session.specs.NewTables.{AreNew};
+ghost use Rattle.csvw_session.specs.Refusing.{Refuses};
 
 use crate::state::State;
 use crate::stop::Stop;
 use csvw_columns::{Plan, TablePlan};
 use csvw_engine_core::{Table, end_table, feed_table};
+use csvw_opening::emit_opening;
 use csvw_report::{Outcome, sorted};
 use csvw_text::{Fault, Seq};
 use csvw_triples::{Mode, TripleSink};
@@ -47,6 +51,28 @@ fn new_tables(alloc: Global, plans: &[TablePlan], mode: Mode) -> Result<Vec<Tabl
         tables.push(Table::new(alloc, plan, mode)?)?;
     }
     Ok(tables)
+}
+
+/// The states of the tables of a plan, of whose texts nothing was read, where the sink took what is told of their group.
+fn open_tables<S: TripleSink>(
+    alloc: Global,
+    plan: &Plan,
+    mode: Mode,
+    sink: &mut S,
+) -> Result<Vec<Table>, Stop>
+    requires { AreReady plan.now.tables }
+    ensures tables { IfOk result (λ tables. AreNew mode plan.now.tables tables.items) }
+    ensures opened { IfOk result (λ tables. S.gains sink.old (opening mode plan.now) sink.new) }
+    ensures ready { IfOk result (λ tables. IsAsReady S.is_open S.failed sink.old sink.new) }
+    ensures refused { IfErr result (λ stop. Refuses S.gains S.is_open S.failed plan.now mode sink.old sink.new stop) }
+{
+    let Ok(tables) = new_tables(alloc, plan.tables(), mode) else {
+        return Err(Stop::Memory);
+    };
+    match emit_opening(alloc, plan, mode, sink) {
+        Ok(()) => Ok(tables),
+        Err(fault) => Err(Stop::of_fault(fault)),
+    }
 }
 
 fn all_ended(tables: &[Table]) -> bool
@@ -91,14 +117,17 @@ impl<S: TripleSink> Session<S> {
     ghost use Rattle.csvw_session.specs.Sessions.{Checks, Starts, Takes};
     ghost use Rattle.csvw_session.specs.Finishing.{Finishes};
 
-    /// A session over the tables of a plan as `Plan::build` gives it, of whose texts nothing was read. `Refused` with `Memory`
-    /// where there is none, and the sink as it was handed in.
+    /// A session over the tables of a plan as `Plan::build` gives it, of whose texts nothing was read. In mode `Standard` its sink
+    /// takes what is told of the group and its tables (csv2rdf, section 4.2). `Refused` with `Memory` where there is none and with
+    /// `Write` where the sink's device failed, and with the sink, which took a front of that, of whose last triple only a part
+    /// after `Write`.
     pub fn start(alloc: Global, plan: Plan, mode: Mode, sink: S) -> Result<Session<S>, Refused<S>>
         requires { AreReady plan.tables }
         ensures stands { IfOk result (λ s. Starts S.gains S.is_open S.failed plan mode sink s) }
-        ensures refused { IfErr result (λ r. (r.stop ≡ Stop.Memory) × (r.sink ≡ sink)) }
+        ensures refused { IfErr result (λ r. Refuses S.gains S.is_open S.failed plan mode sink r.sink r.stop) }
     {
-        match new_tables(alloc, plan.tables(), mode) {
+        let mut sink = sink;
+        match open_tables(alloc, &plan, mode, &mut sink) {
             Ok(tables) => Ok(Session {
                 alloc,
                 plan,
@@ -107,10 +136,7 @@ impl<S: TripleSink> Session<S> {
                 sink,
                 state: State::Open,
             }),
-            Err(_) => Err(Refused {
-                stop: Stop::Memory,
-                sink,
-            }),
+            Err(stop) => Err(Refused { stop, sink }),
         }
     }
 

@@ -1,11 +1,12 @@
 //! Why a run or a session stops.
 ghost use Rattle.std.specs.Prelude.{◌≡◌};
-ghost use Rattle.csvw_session.specs.Stops.{stop_of};
+ghost use Rattle.csvw_session.specs.Stops.{stop_of, stop_of_fault};
 
 use csvw_columns::TableStop;
 use csvw_engine_core::Halt;
 use csvw_meta_core::MetaFault;
 use csvw_rows::RowStop;
+use csvw_triples::SinkFault;
 
 /// Why a run or a session stops.
 #[derive(Debug, Drop, PartialEq, Eq)]
@@ -52,6 +53,17 @@ impl Stop {
             Halt::Write => Stop::Write,
             Halt::Rows(row, stop) => Stop::Rows { table, row, stop },
             Halt::Table(row, stop) => Stop::Table { table, row, stop },
+        }
+    }
+
+    /// The stop that a fault of the sink is.
+    pub(crate) fn of_fault(fault: SinkFault) -> Stop
+        ensures { result ≡ stop_of_fault fault }
+    {
+        match fault {
+            SinkFault::Memory => Stop::Memory,
+            SinkFault::Device => Stop::Write,
+            SinkFault::Closed => Stop::Write,
         }
     }
 }

@@ -3,4 +3,6 @@ use Rattle.csvw_group.proofs.Annotating.{annotates}
 use Rattle.csvw_group.proofs.laws.sessions_annotate.Goals as goal
 
 pub returns : goal.returns
-returns g c = annotates g.S.TripleSink.gains g.S.TripleSink.is_open g.S.TripleSink.failed c.rows_triples_are_minimal.ensures
+returns g c =
+    let s = g.S.TripleSink in
+    annotates s.gains s.is_open s.failed g.met.S.TripleSink.goes_on c.opening_is_the_graphs.ensures c.rows_triples_are_table_graph.ensures
