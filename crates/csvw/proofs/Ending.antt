@@ -1,9 +1,11 @@
 -- What a run over a group leaves, with what is told behind it.
-use Rattle.std.proofs.Common.{◌⊎◌, ℕ, List, sym, subst, ap₂, inl, inr, Option, Result, Ok, Err}
+use Rattle.std.proofs.Common.{◌⊎◌, ℕ, Bool, true, false, List, sym, subst, ap₂, inl, inr, Option, Result, Ok, Err}
 use Rattle.csvw_report.specs.declared.outcome.Outcome.{Outcome}
 use Rattle.csvw_session.specs.declared.stop.Stop.{Stop}
+use Rattle.csvw_text.specs.declared.counted.Counted.{Counted}
 use Rattle.csvw_text.specs.Streams.{Stream}
-use Rattle.csvw.specs.Groups.{ComesToEnd, EndsSo, StopsEarly}
+use Rattle.csvw_engine.specs.Runs.{Runs}
+use Rattle.csvw.specs.Groups.{ComesToEnd, EndsSo, StopsEarly, Leaves, conversion}
 use Rattle.csvw.proofs.Sending.{stream}
 
 pub ends : (L : Stream → Result Outcome Stop → Type 0) (a b c : Option (List ℕ)) (n m k : ℕ) (r : Result Outcome Stop) (status : ℕ)
@@ -20,3 +22,9 @@ ends L a b c n m k (Err reason) status leaves end = inr (record {
   leaves = leaves;
   told = end;
 })
+
+-- what a conversion leaves, its graph on `out` in both modes
+pub converts : {R : Type 0} (remaining : R → Option (List ℕ)) (minimal : Bool) (meta base : List ℕ) (readers left : List (Counted R)) (out err : Stream) (result : Result Outcome Stop)
+    → Runs remaining meta base (conversion minimal) readers left out err result → Leaves remaining (conversion minimal) meta base readers left out err result
+converts remaining true meta base readers left out err result h = h
+converts remaining false meta base readers left out err result h = h

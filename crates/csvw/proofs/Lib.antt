@@ -1,4 +1,3 @@
-pub mod Asked
 pub mod Documents
 pub mod Ending
 pub mod Opening

@@ -1,5 +1,5 @@
 -- What one run of the program does.
-use Rattle.std.specs.Prelude.{◌≡◌, ◌⊎◌, ℕ, true, false, List, [], ◌∷◌, ◌++◌, codes, Option, None, Some}
+use Rattle.std.specs.Prelude.{◌≡◌, ◌⊎◌, ℕ, List, [], Option, None, Some}
 use Rattle.std.specs.Io.KnownBytes.{Keeps}
 use Rattle.clap.specs.Words.{HasKind, Text, fault_of, kind_of}
 use Rattle.clap.specs.declared.error.Error.{Error}
@@ -12,9 +12,9 @@ use Rattle.csvw_words.specs.declared.Request.{Request}
 use Rattle.csvw_words.specs.declared.Request.TheVariants.{Convert, Plain, Validate}
 use Rattle.csvw_engine.specs.Plain.{Run, AtUrl, Converts, PlainStops}
 use Rattle.csvw.specs.Answers.{Answers, TellsStop}
-use Rattle.csvw.specs.Groups.{RunsGroup}
+use Rattle.csvw.specs.Groups.{RunsGroup, conversion}
 use Rattle.csvw.specs.Status.{outcome_status}
-use Rattle.csvw_text.specs.Streams.{Stream, IsIdle, Tells}
+use Rattle.csvw_text.specs.Streams.{Stream, IsIdle}
 
 -- the table at this URL was converted, and nothing told
 pub record EndsWell (url : Text) (run : Run) (err : Stream) (status : ℕ) : Type 0 where
@@ -62,19 +62,11 @@ pub record RunsPlain {O R : Type 0} (opens : O → Text → Option R → O → T
   pub is_opened : opens old file opened new
   pub runs : RunsOn remaining url out err status opened
 
--- a conversion that isn't minimal is a mistake, and no file is opened
-pub record NeedsMinimal {O : Type 0} (old new : O) (out err : Stream) (status : ℕ) : Type 0 where
-  pub opens_none : new ≡ old
-  pub idle : IsIdle out
-  pub told : Tells err (codes "csvw: --minimal is needed" ++ 10 ∷ [])
-  pub status_is : status ≡ 2
-
 -- what is asked for is done
 abbrev pub RunsRequest : {O R : Type 0} → (O → Text → Option R → O → Type 0) → (R → Option (List ℕ)) → Request → O → O → Stream → Stream → ℕ → Type 0
 RunsRequest opens remaining (Plain url file line_buffered) old new out err status = RunsPlain opens remaining url.now file.now old new out err status
 RunsRequest opens remaining (Validate group) old new out err status = RunsGroup opens remaining mode.Validate group old new out err status
-RunsRequest opens remaining (Convert group true line_buffered) old new out err status = RunsGroup opens remaining mode.Minimal group old new out err status
-RunsRequest opens remaining (Convert group false line_buffered) old new out err status = NeedsMinimal old new out err status
+RunsRequest opens remaining (Convert group minimal line_buffered) old new out err status = RunsGroup opens remaining (conversion minimal) group old new out err status
 
 -- the words ask for something, and it is done
 pub record RunsAsked {O R : Type 0} (opens : O → Text → Option R → O → Type 0) (remaining : R → Option (List ℕ)) (words : List Text) (old new : O) (out err : Stream) (status : ℕ) : Type 0 where

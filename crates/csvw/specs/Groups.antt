@@ -1,5 +1,5 @@
 -- What a run over the files of a group of tables does.
-use Rattle.std.specs.Prelude.{◌≡◌, ◌⊎◌, ℕ, List, [], ◌∷◌, ◌++◌, map, take, Option, None, Some, IfSome, Result, Ok, Err}
+use Rattle.std.specs.Prelude.{◌≡◌, ◌⊎◌, ℕ, Bool, true, false, List, [], ◌∷◌, ◌++◌, map, take, Option, None, Some, IfSome, Result, Ok, Err}
 use Rattle.clap.specs.Words.{Text}
 use Rattle.csvw_text.specs.declared.counted.Counted.{Counted}
 use Rattle.csvw_text.specs.Counted.{inner_of, failures_of}
@@ -110,6 +110,12 @@ pub record StopsEarly (Leaves : Stream → Result Outcome Stop → Type 0) (err 
 abbrev pub Leaves : {R : Type 0} → (R → Option (List ℕ)) → Mode → List ℕ → List ℕ → List (Counted R) → List (Counted R) → Stream → Stream → Result Outcome Stop → Type 0
 Leaves remaining mode.Validate meta base readers left out err result = Runs remaining meta base mode.Validate readers left err out result
 Leaves remaining mode.Minimal meta base readers left out err result = Runs remaining meta base mode.Minimal readers left out err result
+Leaves remaining mode.Standard meta base readers left out err result = Runs remaining meta base mode.Standard readers left out err result
+
+-- the mode of a conversion, minimal or not
+abbrev pub conversion : Bool → Mode
+conversion true = mode.Minimal
+conversion false = mode.Standard
 
 -- the group is opened, and a run made over its readers
 pub record RunsOpened {O R : Type 0} (opens : O → Text → Option R → O → Type 0) (remaining : R → Option (List ℕ)) (mode : Mode) (group : Group) (old new : O) (out err : Stream) (status : ℕ) : Type 0 where

@@ -95,11 +95,7 @@ fn run_request<O: Opener, W: Write, V: Write>(
         Request::Plain { url, file, .. } => run_plain(alloc, url, file, opener, out, err),
         Request::Validate(group) => validate(alloc, group, opener, out, err),
         Request::Convert { group, minimal, .. } => {
-            if *minimal {
-                convert(alloc, group, opener, out, err)
-            } else {
-                tell_mistake("csvw: --minimal is needed\n", err)
-            }
+            convert(alloc, group, *minimal, opener, out, err)
         }
     }
 }

@@ -1,6 +1,6 @@
 //! Runs over the files of a group of tables.
 ghost use Rattle.std.specs.Prelude.{◌≡◌, ◌≤◌, IfErr, IfOk, map};
-ghost use Rattle.csvw.specs.Groups.{EndsSo, IsDocument, IsReadStop, OpensAll, OpensGroup, OpensNot, RunsGroup, StopsOpening};
+ghost use Rattle.csvw.specs.Groups.{EndsSo, IsDocument, IsReadStop, OpensAll, OpensGroup, OpensNot, RunsGroup, StopsOpening, conversion};
 ghost use Rattle.csvw_text.specs.Streams.{stream_of};
 ghost use Rattle.csvw_triples_core.specs.declared.mode.Mode.TheVariants as mode;
 
@@ -117,15 +117,27 @@ pub fn validate<O: Opener, W: Write, V: Write>(
     }
 }
 
-/// Writes the graph of a group to `out`, and reports its faults on `err`.
+/// The mode of a conversion, minimal or not.
+fn conversion(minimal: bool) -> Mode
+    ensures { result ≡ conversion minimal }
+{
+    if minimal {
+        Mode::Minimal
+    } else {
+        Mode::Standard
+    }
+}
+
+/// Writes the graph of a group to `out`, where asked for in minimal mode, else in standard mode, and reports its faults on `err`.
 pub fn convert<O: Opener, W: Write, V: Write>(
     alloc: Global,
     group: &Group<'_>,
+    minimal: bool,
     opener: &mut O,
     out: &mut Counted<W>,
     err: &mut Counted<V>,
 ) -> u8
-    ensures runs { RunsGroup O.opens O.Reader.remaining mode.Minimal group.now opener.old opener.new
+    ensures runs { RunsGroup O.opens O.Reader.remaining (conversion minimal) group.now opener.old opener.new
         (stream_of W.contents out.old out.new) (stream_of V.contents err.old err.new) result }
     ensures bound { result ≤ 4 }
 {
@@ -137,7 +149,7 @@ pub fn convert<O: Opener, W: Write, V: Write>(
                 input,
                 group.base,
                 readers.as_mut_slice(),
-                Mode::Minimal,
+                conversion(minimal),
                 out,
                 err,
             );

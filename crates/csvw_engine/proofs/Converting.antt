@@ -17,7 +17,6 @@ use Rattle.csvw_rows.specs.Laws.{AreFirst, GivenFirst, GivenFirstLater, NothingG
 use Rattle.csvw_plain_columns.specs.declared.column.Columns.{Columns}
 use Rattle.csvw_plain_annotate.specs.Tables.{IsTable, IsAnnotated}
 use Rattle.csvw_plain_annotate.specs.declared.row.Row.{Row}
-use Rattle.csvw_triples_core.specs.declared.mode.Mode.TheVariants as mode
 use Rattle.csvw_triples_core.specs.declared.term.Triple.{Triple}
 use Rattle.csvw_plain_triples.specs.Graph.{Minimal}
 use Rattle.csvw_plain_triples.specs.RowTriples.{row_triples}
@@ -57,7 +56,7 @@ none_in : {X : Type 0} (x : X) → Contains [] x → ⊥
 none_in x h = let lt = h.1 in absurd (omega arith)
 
 -- a table without columns has no triples
-all_minimal : ((t : ℕ) (columns : Columns) (rows : List Row) (x : Triple) → Contains (flat_map (row_triples mode.Minimal t columns) rows) x ↔ Minimal t (Some columns) rows x)
+all_minimal : ((t : ℕ) (columns : Columns) (rows : List Row) (x : Triple) → Contains (flat_map (row_triples t columns) rows) x ↔ Minimal t (Some columns) rows x)
     → (columns : Option Columns) (rows : List Row) (x : Triple) → Contains (table_triples 1 columns rows) x ↔ Minimal 1 columns rows x
 all_minimal law None rows x = (λ h. absurd (none_in x h), λ h. absurd h)
 all_minimal law (Some columns) rows x = law 1 columns rows x
@@ -66,7 +65,7 @@ all_minimal law (Some columns) rows x = law 1 columns rows x
 pub record Laws : Type 0 where
   pub denotes : (ts : List Triple) → AllByRecursion TripleFits ts → Denotes (written ts) (map said ts)
   pub names : (ts : List Triple) → AllByRecursion TripleFits ts → SameUpTo (Contains ts) (map said ts)
-  pub minimal : (t : ℕ) (columns : Columns) (rows : List Row) (x : Triple) → Contains (flat_map (row_triples mode.Minimal t columns) rows) x ↔ Minimal t (Some columns) rows x
+  pub minimal : (t : ℕ) (columns : Columns) (rows : List Row) (x : Triple) → Contains (flat_map (row_triples t columns) rows) x ↔ Minimal t (Some columns) rows x
   pub nothing : NothingGiven
   pub first : GivenFirst
   pub later : GivenFirstLater

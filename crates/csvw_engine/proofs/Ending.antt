@@ -5,20 +5,21 @@ use Rattle.csvw_text.specs.declared.counted.Counted.{Counted}
 use Rattle.csvw_text.specs.Count.{one_more}
 use Rattle.csvw_text.specs.Streams.{Stream, Sends, IsIdle}
 use Rattle.csvw_columns.specs.declared.plan.Plan.{Plan}
-use Rattle.csvw_columns.specs.declared.plan.TablePlan.{TablePlan}
 use Rattle.csvw_triples_core.specs.declared.mode.Mode.{Mode}
 use Rattle.csvw_triples_core.specs.declared.mode.Mode.TheVariants as mode
+use Rattle.csvw_triples_core.specs.declared.term.Triple.{Triple}
 use Rattle.csvw_report.specs.Report.{report}
 use Rattle.csvw_report.specs.declared.outcome.Outcome.{Outcome}
 use Rattle.csvw_session.specs.Events.{Event}
 use Rattle.csvw_session.specs.declared.stop.Stop.{Stop}
 use Rattle.csvw_session.specs.declared.stop.Stop.TheVariants as stop
 use Rattle.csvw_group.specs.Annotated.{Table}
+use Rattle.csvw_group.specs.Graph.{GraphOf}
 use Rattle.csvw_engine.specs.Flushes.{IsFlushed}
 use Rattle.csvw_engine.specs.Groups.{Converts, TablesStop, TextsSoFar, IsSound}
 use Rattle.csvw_engine.specs.Planning.{IsMetaStop}
 use Rattle.csvw_engine.specs.Reporting.{Reports, TellsOutcome}
-use Rattle.csvw_engine.specs.Runs.{IsPlanned, Succeeds, StopsSo, SoFar, Wrote, Rises}
+use Rattle.csvw_engine.specs.Runs.{IsPlanned, Succeeds, StopsSo, SoFar, Wrote, WroteGraph, Rises}
 use Rattle.csvw_meta.specs.Document.{document}
 use Rattle.csvw_engine.proofs.Flushing.{appends_kept, rose}
 
@@ -29,10 +30,8 @@ flushed s holds failed = record s { holds = holds; failed = failed }
 sends_kept : (s : Stream) (holds : Option (List ℕ)) (failed : ℕ) (text : List ℕ) → Keeps s.holds holds → failed ≡ s.failed → Sends s text → Sends (flushed s holds failed) text
 sends_kept s holds failed text keeps e h = (appends_kept s.held s.holds holds text h.0 keeps, e ∙ h.1)
 
-wrote_kept : (m : Mode) (s : Stream) (holds : Option (List ℕ)) (failed : ℕ) (plans : List TablePlan) (tables : List Table) → Keeps s.holds holds → failed ≡ s.failed → Wrote m s plans tables
-    → Wrote m (flushed s holds failed) plans tables
-wrote_kept mode.Validate s holds failed plans tables keeps e h = sends_kept s holds failed [] keeps e h
-wrote_kept mode.Minimal s holds failed plans tables keeps e h = record {
+graph_kept : (Graph : Triple → Type 0) (s : Stream) (holds : Option (List ℕ)) (failed : ℕ) → Keeps s.holds holds → failed ≡ s.failed → WroteGraph s Graph → WroteGraph (flushed s holds failed) Graph
+graph_kept Graph s holds failed keeps e h = record {
   added = h.added;
   sent = sends_kept s holds failed h.added keeps e h.sent;
   triples = h.triples;
@@ -40,9 +39,16 @@ wrote_kept mode.Minimal s holds failed plans tables keeps e h = record {
   same = h.same;
 }
 
-wrote_soundly : (m : Mode) (s : Stream) (plans : List TablePlan) (tables : List Table) → Wrote m s plans tables → IsSound s
-wrote_soundly mode.Validate s plans tables h = h.1
-wrote_soundly mode.Minimal s plans tables h = h.sent.1
+wrote_kept : (m : Mode) (s : Stream) (holds : Option (List ℕ)) (failed : ℕ) (plan : Plan) (tables : List Table) → Keeps s.holds holds → failed ≡ s.failed → Wrote m s plan tables
+    → Wrote m (flushed s holds failed) plan tables
+wrote_kept mode.Validate s holds failed plan tables keeps e h = sends_kept s holds failed [] keeps e h
+wrote_kept mode.Minimal s holds failed plan tables keeps e h = graph_kept (GraphOf mode.Minimal plan tables) s holds failed keeps e h
+wrote_kept mode.Standard s holds failed plan tables keeps e h = graph_kept (GraphOf mode.Standard plan tables) s holds failed keeps e h
+
+wrote_soundly : (m : Mode) (s : Stream) (plan : Plan) (tables : List Table) → Wrote m s plan tables → IsSound s
+wrote_soundly mode.Validate s plan tables h = h.1
+wrote_soundly mode.Minimal s plan tables h = h.sent.1
+wrote_soundly mode.Standard s plan tables h = h.sent.1
 
 -- an answer is one
 ok_same : (a b : Outcome) (x : Result Outcome Stop) → x ≡ Ok a → x ≡ Ok b → a ≡ b
@@ -136,7 +142,7 @@ module _ {R : Type 0} (remaining : R → Option (List ℕ)) (meta base : List �
   behind_report outcome told result sound t (inr (apart, e, n)) = subst StopsWith (sym e) (inl (rises sound n))
 
   pub stops : (ran told result : Result Outcome Stop) → Converts remaining m plan olds news out ran → Reports ran report_out told → IsFlushed told result out.failed failed → StopsWith result
-  stops (Ok outcome) told result h t f = behind_report outcome told result (wrote_soundly m out plan.tables h.tables h.gives) t f
+  stops (Ok outcome) told result h t f = behind_report outcome told result (wrote_soundly m out plan h.tables h.gives) t f
   stops (Err reason) told result h t f = behind_stop reason result h t.1 (subst (λ z. IsFlushed z result out.failed failed) t.0 f)
 
   succeeded : (outcome : Outcome) → Converts remaining m plan olds news out (Ok outcome) → failed ≡ out.failed → Sends report_out (report outcome.faults)
@@ -150,7 +156,7 @@ module _ {R : Type 0} (remaining : R → Option (List ℕ)) (meta base : List �
     steady = h.steady;
     tables = h.tables;
     annotated = h.annotated;
-    wrote = wrote_kept m out holds failed plan.tables h.tables keeps e h.gives;
+    wrote = wrote_kept m out holds failed plan h.tables keeps e h.gives;
     violations = h.violations;
     reported = s;
   }

@@ -17,7 +17,6 @@ use Rattle.csvw_plain_annotate.specs.Annotated.{annotated}
 use Rattle.csvw_plain_annotate.specs.Tables.{AreAnnotated, IsTable, Refuses}
 use Rattle.csvw_plain_annotate.specs.declared.row.Row.{Row}
 use Rattle.csvw_plain_triples.specs.RowTriples.{row_triples}
-use Rattle.csvw_triples_core.specs.declared.mode.Mode.TheVariants as mode
 use Rattle.csvw_engine.specs.Tables.{max_rows, TableHolds, HasAll, IsRefused, HaltsSo, IsSameTable, Steps, table_triples}
 use Rattle.csvw_engine.specs.Halts.{HaltsAt, of_row_stop}
 use Rattle.csvw_engine.specs.declared.halt.Halt.{Halt}
@@ -47,7 +46,7 @@ table_begun url (header ∷ raws) columns cs rows raw t e h = let no : None ≡ 
 -- triples of one row more
 pub triples_more : (t : ℕ) (columns : Option Columns) (rows : List Row) (row : Row) → table_triples t columns (rows ++ row ∷ []) ≡ table_triples t columns rows ++ table_triples t columns (row ∷ [])
 triples_more t None rows row = refl
-triples_more t (Some columns) rows row = flat_map-append (row_triples mode.Minimal t columns) rows (row ∷ [])
+triples_more t (Some columns) rows row = flat_map-append (row_triples t columns) rows (row ∷ [])
 
 pub no_triples : (t : ℕ) (columns : Option Columns) → table_triples t columns [] ≡ []
 no_triples t None = refl

@@ -11,16 +11,19 @@ use Rattle.csvw_columns.specs.declared.plan.TablePlan.{TablePlan}
 use Rattle.csvw_triples_core.specs.Taking.{IsAsReady}
 use Rattle.csvw_triples_core.specs.declared.mode.Mode.{Mode}
 use Rattle.csvw_triples_core.specs.declared.term.Triple.{Triple}
+use Rattle.csvw_opening.specs.OpeningTriples.{opening}
 use Rattle.csvw_engine_core.specs.Tables.{is_ended}
 use Rattle.csvw_engine_core.specs.declared.table.Table.{Table}
 use Rattle.csvw_report.specs.declared.outcome.Outcome.{Outcome}
 use Rattle.csvw_session.specs.Events.{Event, text_of, ended_in}
 use Rattle.csvw_session.specs.Finishing.{Finishes}
-use Rattle.csvw_session.specs.Sessions.{Stands, TableStands}
+use Rattle.csvw_session.specs.Refusing.{Refuses}
+use Rattle.csvw_session.specs.Sessions.{Stands, Starts, TableStands, TookGraph}
 use Rattle.csvw_session.specs.declared.session.Session.{Session}
 use Rattle.csvw_session.specs.declared.stop.Stop.{Stop}
 use Rattle.csvw_session.specs.declared.stop.Stop.TheVariants as stop
 use Rattle.csvw_group.specs.Annotated.{AreAnnotated}
+use Rattle.csvw_group.specs.Graph.{GraphOf}
 use Rattle.csvw_group.specs.Law.{Annotates, texts_of}
 use Rattle.csvw_group.specs.Violations.{AreViolations}
 use Rattle.csvw_reading.specs.Reading.{Gave, GaveTexts, Reads, ReadsAll}
@@ -41,7 +44,8 @@ ended_stands : (plan : TablePlan) (mode : Mode) (table : Table) (bytes : List �
 ended_stands plan mode table bytes true rows e h = h.ended
 ended_stands plan mode table bytes false rows e h = cc
 
-module _ {R S : Type 0} (gains : S → List Triple → S → Type 0) (is_open : S → Bool) (failed : S → ℕ) (remaining : R → Option (List ℕ)) (start : S) (olds news : List (Counted R)) where
+module _ {R S : Type 0} (gains : S → List Triple → S → Type 0) (is_open : S → Bool) (failed : S → ℕ) (remaining : R → Option (List ℕ))
+    (goes_on : (a b c : S) (xs ys : List Triple) → gains a xs b → gains b ys c → gains a (xs ++ ys) c) (sink start : S) (as_ready : IsAsReady is_open failed sink start) (olds news : List (Counted R)) where
   -- texts that were read whole
   read_whole : (events : List Event) → GaveTexts remaining olds news events → ((i : ℕ) → i < length olds → ended_in events (i + 1) ≡ true) → ReadWhole remaining olds news (texts_of events)
   read_whole events gave ended i r s p q =
@@ -49,10 +53,14 @@ module _ {R S : Type 0} (gains : S → List Triple → S → Type 0) (is_open : 
 
   -- the session was read to its end
   module _ (old middle new : Session S) (all : ReadsAll gains is_open failed remaining start olds news old middle) (many : length olds ≡ length old.plan.tables)
-      (law : (events : List Event) (s : Session S) → Stands gains is_open failed start events s → list_all is_ended s.tables.items ≡ true → Annotates gains start events s) where
-    whole : (outcome : Outcome) → Finishes middle new (Ok outcome) → TakesTables gains is_open failed remaining old.mode old.plan olds news start new.sink (Ok outcome)
+      (opened : gains sink (opening old.mode old.plan) start)
+      (law : (events : List Event) (s : Session S) → gains sink (opening s.mode s.plan) start → Stands gains is_open failed start events s → list_all is_ended s.tables.items ≡ true
+      → Annotates gains sink events s) where
+    whole : (outcome : Outcome) → Finishes middle new (Ok outcome) → TakesTables gains is_open failed remaining old.mode old.plan olds news sink new.sink (Ok outcome)
     whole outcome fin =
-        let a = law all.events middle all.stands fin.1.ended in record {
+        let here : gains sink (opening middle.mode middle.plan) start =
+        subst (λ (p : Plan). gains sink (opening middle.mode p) start) (sym all.same.0) (subst (λ m. gains sink (opening m old.plan) start) (sym all.same.1) opened) in
+        let a = law all.events middle here all.stands fin.1.ended in record {
           texts = texts_of all.events;
           read = read_whole all.events all.gave all.ended;
           steady = all.steady;
@@ -63,8 +71,10 @@ module _ {R S : Type 0} (gains : S → List Triple → S → Type 0) (is_open : 
             sorted = fin.1.sorted;
           });
           gives = record {
-            took = rw (fin.0.sink, sym all.same.0, sym all.same.1) a.took;
-            ready = rw fin.0.sink all.stands.ready;
+            took = subst (λ (z : S). TookGraph gains sink z (GraphOf old.mode old.plan a.tables)) (sym fin.0.sink)
+                (subst (λ (p : Plan). TookGraph gains sink middle.sink (GraphOf old.mode p a.tables)) all.same.0
+                (subst (λ (m : Mode). TookGraph gains sink middle.sink (GraphOf m middle.plan a.tables)) all.same.1 a.took));
+            ready = rw fin.0.sink (ready_on is_open failed sink start middle.sink as_ready all.stands.ready);
           };
         }
 
@@ -76,9 +86,12 @@ module _ {R S : Type 0} (gains : S → List Triple → S → Type 0) (is_open : 
         ended_stands plan middle.mode table (text_of all.events (i + 1)) (ended_in all.events (i + 1)) _ (all.ended i below) (all.stands.tables i plan table (p, q)).stands) in
         cc
 
-    pub finished : (result : Result Outcome Stop) → Finishes middle new result → TakesTables gains is_open failed remaining old.mode old.plan olds news start new.sink result
+    pub finished : (result : Result Outcome Stop) → Finishes middle new result → TakesTables gains is_open failed remaining old.mode old.plan olds news sink new.sink result
     finished (Ok outcome) fin = whole outcome fin
-    finished (Err stop.Memory) fin = ((all.stands.took.taken, rw fin.sink all.stands.took.gained), rw fin.sink all.stands.ready)
+    finished (Err stop.Memory) fin = (
+      (opening old.mode old.plan ++ all.stands.took.taken, rw fin.sink (goes_on sink start middle.sink (opening old.mode old.plan) all.stands.took.taken opened all.stands.took.gained)),
+      rw fin.sink (ready_on is_open failed sink start middle.sink as_ready all.stands.ready),
+    )
     finished (Err stop.Failed) fin = let is = fin.1 in let opened = all.stands.state_is in cc
     finished (Err stop.AfterEnd) fin = let is = fin.1 in let opened = all.stands.state_is in cc
     finished (Err stop.NotEnded) fin = absurd (none_open fin.1)
@@ -91,7 +104,7 @@ module _ {R S : Type 0} (gains : S → List Triple → S → Type 0) (is_open : 
     finished (Err stop.UnknownTable) fin = absurd fin
 
   -- or it stopped before
-  module _ (goes_on : (a b c : S) (xs ys : List Triple) → gains a xs b → gains b ys c → gains a (xs ++ ys) c) (old new : Session S) where
+  module _ (old new : Session S) (opened : gains sink (opening old.mode old.plan) start) where
     -- what its sink took by then
     some_gained : (reason : Stop) → Reads gains is_open failed remaining start olds news old new (Err reason) → GainsSome gains start new.sink
     some_gained stop.Memory h =
@@ -118,12 +131,20 @@ module _ {R S : Type 0} (gains : S → List Triple → S → Type 0) (is_open : 
     some_gained stop.NotEnded h = absurd h
     some_gained stop.Failed h = absurd h
 
+    gained_behind : GainsSome gains start new.sink → GainsSome gains sink new.sink
+    gained_behind h = (opening old.mode old.plan ++ h.0, goes_on sink start new.sink (opening old.mode old.plan) h.0 opened h.1)
+
+    ready_at : (between : S) → IsAsReady is_open failed start between → IsAsReady is_open failed between new.sink → IsAsReady is_open failed sink new.sink
+    ready_at between x y = ready_on is_open failed sink start new.sink as_ready (ready_on is_open failed start between new.sink x y)
+
     stopped : (reason : Stop) → Reads gains is_open failed remaining start olds news old new (Err reason)
-        → TablesStop remaining old.plan olds news (IsAsReady is_open failed start new.sink) (is_open start ≡ true → failed start < 2 ^ 64 - 1 → failed new.sink ≡ failed start + 1) reason
-    stopped stop.Memory h = let s = h.stops in ready_on is_open failed start s.session.sink new.sink s.stands.ready (s.takes.1 start s.before s.stands).1
-    stopped stop.Read h = (elim h.blame [ inl f ↦ inl f | inr m ↦ inr (h.events, h.gave, m.0) ], h.stands.ready)
-    stopped stop.Write h = let s = h.stops in λ begun room.
-        (s.takes.1 start s.before s.stands).1 (s.stands.ready.0 ∙ begun) (rw s.stands.ready.1 room) ∙ ap (λ n. n + 1) s.stands.ready.1
+        → TablesStop remaining old.plan olds news (IsAsReady is_open failed sink new.sink) (is_open sink ≡ true → failed sink < 2 ^ 64 - 1 → failed new.sink ≡ failed sink + 1) reason
+    stopped stop.Memory h = let s = h.stops in ready_at s.session.sink s.stands.ready (s.takes.1 start s.before s.stands).1
+    stopped stop.Read h = (elim h.blame [ inl f ↦ inl f | inr m ↦ inr (h.events, h.gave, m.0) ], ready_on is_open failed sink start new.sink as_ready h.stands.ready)
+    stopped stop.Write h =
+        let s = h.stops in
+        let r = ready_on is_open failed sink start s.session.sink as_ready s.stands.ready in
+        λ begun room. (s.takes.1 start s.before s.stands).1 (r.0 ∙ begun) (rw r.1 room) ∙ ap (λ n. n + 1) r.1
     stopped (stop.Rows t row reason) h =
         let s = h.stops in
         let k = s.takes.2 start s.before s.stands in
@@ -140,7 +161,7 @@ module _ {R S : Type 0} (gains : S → List Triple → S → Type 0) (is_open : 
               stopped = rw (s.all, s.takes.1) at.leaves.why;
             },
           ),
-          ready_on is_open failed start s.session.sink new.sink s.stands.ready k.1,
+          ready_at s.session.sink s.stands.ready k.1,
         )
     stopped (stop.Table t row reason) h =
         let s = h.stops in
@@ -162,7 +183,7 @@ module _ {R S : Type 0} (gains : S → List Triple → S → Type 0) (is_open : 
               refused = rw (s.all, s.takes.1) at.leaves.why;
             },
           ),
-          ready_on is_open failed start s.session.sink new.sink s.stands.ready k.1,
+          ready_at s.session.sink s.stands.ready k.1,
         )
     stopped (stop.Meta fault) h = absurd h
     stopped stop.TableCount h = absurd h
@@ -172,5 +193,31 @@ module _ {R S : Type 0} (gains : S → List Triple → S → Type 0) (is_open : 
     stopped stop.Failed h = absurd h
 
     pub stops : (reason : Stop) → Reads gains is_open failed remaining start olds news old new (Err reason)
-        → TakesTables gains is_open failed remaining old.mode old.plan olds news start new.sink (Err reason)
-    stops reason h = (some_gained reason h, stopped reason h)
+        → TakesTables gains is_open failed remaining old.mode old.plan olds news sink new.sink (Err reason)
+    stops reason h = (gained_behind (some_gained reason h), stopped reason h)
+
+-- a session that did not start
+pub refused : {R S : Type 0} (gains : S → List Triple → S → Type 0) (is_open : S → Bool) (failed : S → ℕ) (remaining : R → Option (List ℕ)) (m : Mode) (plan : Plan) (olds news : List (Counted R)) (sink now : S)
+    → (reason : Stop) → Refuses gains is_open failed plan m sink now reason → TakesTables gains is_open failed remaining m plan olds news sink now (Err reason)
+refused gains is_open failed remaining m plan olds news sink now stop.Memory h = ((h.0.front, h.0.gained), h.1)
+refused gains is_open failed remaining m plan olds news sink now stop.Write h = ((h.0.front, h.0.gained), h.1)
+refused gains is_open failed remaining m plan olds news sink now stop.Read h = absurd h
+refused gains is_open failed remaining m plan olds news sink now (stop.Meta fault) h = absurd h
+refused gains is_open failed remaining m plan olds news sink now stop.TableCount h = absurd h
+refused gains is_open failed remaining m plan olds news sink now (stop.Rows t row reason) h = absurd h
+refused gains is_open failed remaining m plan olds news sink now (stop.Table t row reason) h = absurd h
+refused gains is_open failed remaining m plan olds news sink now stop.UnknownTable h = absurd h
+refused gains is_open failed remaining m plan olds news sink now stop.AfterEnd h = absurd h
+refused gains is_open failed remaining m plan olds news sink now stop.NotEnded h = absurd h
+refused gains is_open failed remaining m plan olds news sink now stop.Failed h = absurd h
+
+-- a session at its start has its own plan and mode
+pub starts_own : {S : Type 0} (gains : S → List Triple → S → Type 0) (is_open : S → Bool) (failed : S → ℕ) (plan : Plan) (m : Mode) (sink : S) (s : Session S)
+    → Starts gains is_open failed plan m sink s → Starts gains is_open failed s.plan s.mode sink s
+starts_own gains is_open failed plan m sink s h = record {
+  plan_is = refl;
+  mode_is = refl;
+  opened = subst (λ (p : Plan). gains sink (opening s.mode p) s.sink) (sym h.plan_is) (subst (λ n. gains sink (opening n plan) s.sink) (sym h.mode_is) h.opened);
+  ready = h.ready;
+  stands = h.stands;
+}

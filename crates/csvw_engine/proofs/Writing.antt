@@ -1,12 +1,11 @@
 -- The graph of a group, as N-Triples.
-use Rattle.std.proofs.Common.{◌≡◌, ◌+◌, ℕ, true, List, [], ◌∷◌, refl, sym, ap, ◌∙◌, subst, arith, map, Contains, Option, Result, Ok, Err}
+use Rattle.std.proofs.Common.{◌≡◌, ◌+◌, ℕ, true, List, [], ◌∷◌, refl, sym, ap, ◌∙◌, subst, arith, inl, inr, map, Contains, Option, Result, Ok, Err}
 use Rattle.std.specs.List.{AllByRecursion}
 use Rattle.std.specs.Io.KnownBytes.{Appends}
 use Rattle.csvw_text.specs.declared.counted.Counted.{Counted}
 use Rattle.csvw_text.specs.Counted.{inner_of, failures_of}
 use Rattle.csvw_text.specs.Streams.{Stream, stream_of}
 use Rattle.csvw_columns.specs.declared.plan.Plan.{Plan}
-use Rattle.csvw_columns.specs.declared.plan.TablePlan.{TablePlan}
 use Rattle.csvw_triples_core.specs.Taking.{IsAsReady}
 use Rattle.csvw_triples_core.specs.declared.mode.Mode.{Mode}
 use Rattle.csvw_triples_core.specs.declared.mode.Mode.TheVariants as mode
@@ -22,9 +21,9 @@ use Rattle.csvw_session.specs.Sessions.{TookGraph}
 use Rattle.csvw_session.specs.declared.stop.Stop.{Stop}
 use Rattle.csvw_session.specs.declared.stop.Stop.TheVariants as stop
 use Rattle.csvw_group.specs.Annotated.{Table}
-use Rattle.csvw_group.specs.Graph.{GraphOf, Minimal}
+use Rattle.csvw_group.specs.Graph.{GraphOf}
 use Rattle.csvw_engine.specs.Groups.{Converts, TablesStop, TakesTables}
-use Rattle.csvw_engine.specs.Runs.{Wrote}
+use Rattle.csvw_engine.specs.Runs.{Wrote, WroteGraph}
 use Rattle.csvw_engine.proofs.Converting.{takes, failed_of, same_by, sends_whole}
 
 -- what the lines of triples denote
@@ -84,16 +83,24 @@ module _ {W : Type 0} (contents : W → Option (List ℕ)) (laws : LineLaws) (ou
   lines ts g r = rw (streams.held, streams.holds)
       (sends_whole (contents (inner_of (sink_out start).now)) (contents (inner_of (sink_out now).now)) (sink_is_open start) (sink_is_open now) ts streams.begun (r.0 ∙ streams.begun) g.2)
 
-  wrote : (m : Mode) (plans : List TablePlan) (tables : List Table) → TookGraph (takes contents) start now (GraphOf m plans tables) → IsAsReady sink_is_open failed_of start now → Wrote m out plans tables
-  wrote mode.Validate plans tables k r =
-      (subst (λ ts. Appends out.held out.holds (written ts)) (nothing_in k.taken k.within) (lines k.taken k.gained r), steady r)
-  wrote mode.Minimal plans tables k r = record {
+  wrote_graph : (Graph : Triple → Type 0) → TookGraph (takes contents) start now Graph → IsAsReady sink_is_open failed_of start now → WroteGraph out Graph
+  wrote_graph Graph k r = record {
     added = written k.taken;
     sent = (lines k.taken k.gained r, steady r);
     triples = map said k.taken;
     denotes = laws.denotes k.taken k.gained.1;
-    same = same_by (Contains k.taken) (Minimal plans tables) (map said k.taken) (λ x. (k.within x, k.whole x)) (laws.names k.taken k.gained.1);
+    same = same_by (Contains k.taken) Graph (map said k.taken) (λ x. (k.within x, k.whole x)) (laws.names k.taken k.gained.1);
   }
+
+  -- validation gives no triples
+  no_graph : (plan : Plan) (tables : List Table) (x : Triple) → GraphOf mode.Validate plan tables x → ⊥
+  no_graph plan tables x h = elim h [ inl k ↦ k | inr k ↦ k.5 ]
+
+  wrote : (m : Mode) (plan : Plan) (tables : List Table) → TookGraph (takes contents) start now (GraphOf m plan tables) → IsAsReady sink_is_open failed_of start now → Wrote m out plan tables
+  wrote mode.Validate plan tables k r =
+      (subst (λ ts. Appends out.held out.holds (written ts)) (nothing_in k.taken (λ x c. no_graph plan tables x (k.within x c))) (lines k.taken k.gained r), steady r)
+  wrote mode.Minimal plan tables k r = wrote_graph (GraphOf mode.Minimal plan tables) k r
+  wrote mode.Standard plan tables k r = wrote_graph (GraphOf mode.Standard plan tables) k r
 
   pub converted : {R : Type 0} (remaining : R → Option (List ℕ)) (m : Mode) (plan : Plan) (olds news : List (Counted R)) (result : Result Outcome Stop)
       → TakesTables (takes contents) sink_is_open failed_of remaining m plan olds news start now result → Converts remaining m plan olds news out result
@@ -104,7 +111,7 @@ module _ {W : Type 0} (contents : W → Option (List ℕ)) (laws : LineLaws) (ou
     tables = h.tables;
     annotated = h.annotated;
     violations = h.violations;
-    gives = wrote m plan.tables h.tables h.gives.took h.gives.ready;
+    gives = wrote m plan h.tables h.gives.took h.gives.ready;
   }
   converted remaining m plan olds news (Err reason) h =
       stops_by remaining plan olds news _ _ _ _ steady (λ fails room. streams.failed ∙ (fails streams.begun (rw streams.failures at room) ∙ ap (λ n. n + 1) (sym streams.failures))) reason h.1

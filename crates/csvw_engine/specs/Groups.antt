@@ -45,9 +45,9 @@ TablesStop remaining plan olds news Ready Fails stop.AfterEnd = ⊥
 TablesStop remaining plan olds news Ready Fails stop.NotEnded = ⊥
 TablesStop remaining plan olds news Ready Fails stop.Failed = ⊥
 
--- the sink took the graph of the tables, and is as ready as it was
+-- the sink took the graph of the group, and is as ready as it was
 pub record TookTables {S : Type 0} (gains : S → List Triple → S → Type 0) (is_open : S → Bool) (failed : S → ℕ) (mode : Mode) (plan : Plan) (start now : S) (tables : List Table) : Type 0 where
-  pub took : TookGraph gains start now (GraphOf mode plan.tables tables)
+  pub took : TookGraph gains start now (GraphOf mode plan tables)
   pub ready : IsAsReady is_open failed start now
 
 -- the sink took some triples
@@ -67,5 +67,5 @@ IsSound out = out.failed ≡ out.failures
 
 -- after the tables were written as N-Triples
 abbrev pub Converts : {R : Type 0} → (R → Option (List ℕ)) → Mode → Plan → List (Counted R) → List (Counted R) → Stream → Result Outcome Stop → Type 0
-Converts remaining mode plan olds news out (Ok outcome) = AnnotatesTexts remaining plan olds news outcome (λ tables. Wrote mode out plan.tables tables)
+Converts remaining mode plan olds news out (Ok outcome) = AnnotatesTexts remaining plan olds news outcome (λ tables. Wrote mode out plan tables)
 Converts remaining mode plan olds news out (Err reason) = TablesStop remaining plan olds news (IsSound out) (Rises out) reason

@@ -30,7 +30,7 @@ use Rattle.csvw_session.specs.Sessions.{IsRefusedHere}
 use Rattle.csvw_session.specs.declared.stop.Stop.{Stop}
 use Rattle.csvw_session.specs.declared.stop.Stop.TheVariants as stop
 use Rattle.csvw_group.specs.Annotated.{Table, AreAnnotated}
-use Rattle.csvw_group.specs.Graph.{Minimal}
+use Rattle.csvw_group.specs.Graph.{GraphOf}
 use Rattle.csvw_group.specs.Violations.{AreViolations}
 use Rattle.csvw_reading.specs.Reading.{Gave, GaveTexts, AreSteady, OneFailed, AreMany}
 
@@ -53,9 +53,10 @@ pub record WroteGraph (out : Stream) (Graph : Triple → Type 0) : Type 0 where
   pub same : SameUpTo Graph triples
 
 -- what is written, by the mode: nothing, or the graph of the group
-abbrev pub Wrote : Mode → Stream → List TablePlan → List Table → Type 0
-Wrote mode.Validate out plans tables = Sends out []
-Wrote mode.Minimal out plans tables = WroteGraph out (Minimal plans tables)
+abbrev pub Wrote : Mode → Stream → Plan → List Table → Type 0
+Wrote mode.Validate out plan tables = Sends out []
+Wrote mode.Minimal out plan tables = WroteGraph out (GraphOf mode.Minimal plan tables)
+Wrote mode.Standard out plan tables = WroteGraph out (GraphOf mode.Standard plan tables)
 
 -- each reader gave the text of its table, and told its end
 abbrev pub ReadWhole : {R : Type 0} → (R → Option (List ℕ)) → List (Counted R) → List (Counted R) → (ℕ → List ℕ) → Type 0
@@ -72,7 +73,7 @@ pub record Succeeds {R : Type 0} (remaining : R → Option (List ℕ)) (meta bas
   pub steady : AreSteady olds news
   pub tables : List Table
   pub annotated : AreAnnotated plan.tables texts tables
-  pub wrote : Wrote mode out plan.tables tables
+  pub wrote : Wrote mode out plan tables
   pub violations : AreViolations plan tables outcome.faults
   pub reported : Sends report_out (report outcome.faults)
 

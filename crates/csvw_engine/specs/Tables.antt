@@ -16,7 +16,6 @@ use Rattle.csvw_plain_annotate.specs.Tables.{IsTable, Refuses}
 use Rattle.csvw_plain_annotate.specs.declared.row.Row.{Row}
 use Rattle.csvw_plain_triples.specs.RowTriples.{row_triples}
 use Rattle.csvw_triples_core.specs.Taking.{FrontOf, IsAsReady}
-use Rattle.csvw_triples_core.specs.declared.mode.Mode.TheVariants as mode
 use Rattle.csvw_triples_core.specs.declared.term.Triple.{Triple}
 use Rattle.csvw_engine.specs.declared.halt.Halt.{Halt}
 use Rattle.csvw_engine.specs.declared.halt.Halt.TheVariants as halt
@@ -106,7 +105,7 @@ Steps old new (Err reason) = (is_ended_of new.rows ≡ is_ended_of old.rows) × 
 -- the triples of rows of a table
 abbrev pub table_triples : ℕ → Option Columns → List Row → List Triple
 table_triples t None rows = []
-table_triples t (Some columns) rows = flat_map (row_triples mode.Minimal t columns) rows
+table_triples t (Some columns) rows = flat_map (row_triples t columns) rows
 
 -- the sink took the triples of all rows given so far, since its start
 pub record Stands {S : Type 0} (gains : S → List Triple → S → Type 0) (is_open : S → Bool) (failed : S → ℕ) (d : Dialect) (start : S) (t : Table) (bytes : List ℕ) (ended : Bool) (now : S) : Type 0 where

@@ -1,8 +1,8 @@
 //! The tables of a group, from readers to N-Triples.
-ghost use Rattle.std.specs.Prelude.{◌≡◌, ◌<◌, ◌-◌, ◌^◌, [], length};
+ghost use Rattle.std.specs.Prelude.{◌≡◌, ◌<◌, ◌-◌, ◌^◌, length};
 ghost use Rattle.csvw_text.specs.Streams.{stream_of};
 ghost use Rattle.csvw_session.specs.Ready.{AreReady};
-ghost use Rattle.csvw_session.specs.Sessions.{Stands};
+ghost use Rattle.csvw_session.specs.Sessions.{Starts};
 ghost use Rattle.csvw_engine.specs.Groups.{Converts, TakesTables};
 
 use crate::reading::{PIECE, buffer_of};
@@ -17,7 +17,7 @@ use csvw_triples_core::{Mode, TripleSink};
 use std::alloc::Global;
 use std::io::{Read, Write};
 
-/// Reads the tables of a session to their ends, and finishes it.
+/// Reads the tables of a session at its start to their ends, and finishes it.
 fn take_tables<R: Read, S: TripleSink>(
     session: &mut Session<S>,
     readers: &mut [Counted<R>],
@@ -25,8 +25,9 @@ fn take_tables<R: Read, S: TripleSink>(
 ) -> Result<Outcome, Stop>
     requires room { 0 < length piece.old }
     requires few { length readers.old < 2 ^ 32 - 1 }
-    ensures { (start : S) → Stands S.gains S.is_open S.failed start [] session.old → length readers.old ≡ length session.old.plan.tables
-        → TakesTables S.gains S.is_open S.failed R.remaining session.old.mode session.old.plan readers.old readers.new start session.new.sink result }
+    ensures { (sink : S) → Starts S.gains S.is_open S.failed session.old.plan session.old.mode sink session.old
+        → length readers.old ≡ length session.old.plan.tables
+        → TakesTables S.gains S.is_open S.failed R.remaining session.old.mode session.old.plan readers.old readers.new sink session.new.sink result }
 {
     sessions_annotate::<S>();
     read_tables(session, readers, piece)?;

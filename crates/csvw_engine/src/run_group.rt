@@ -31,9 +31,10 @@ fn tell<V: Write>(
 }
 
 /// Reads a group of tables, as the metadata document `meta` at the URL `base` describes them: the nth reader has the text of the nth
-/// table. In mode `Minimal` it writes their graph to `out` (csv2rdf, section 4.2), in mode `Validate` nothing; then the faults to
-/// `report`, in order. Tables are read one after the other, in pieces of at most 65,536 bytes. At the end each writer is flushed
-/// once. Rows in front of a stop are written, and `out` is flushed, before it is answered; after a failed write nothing more is sent.
+/// table. In mode `Minimal` it writes the graph of their cells to `out` (csv2rdf, section 4.2), in mode `Standard` also what is told
+/// of the group, its tables and their rows, in mode `Validate` nothing; then the faults to `report`, in order. Tables are read one
+/// after the other, in pieces of at most 65,536 bytes. At the end each writer is flushed once. Rows in front of a stop are written,
+/// and `out` is flushed, before it is answered; after a failed write nothing more is sent.
 ///
 /// `Meta` with a fault of the document; `TableCount` where readers and tables differ in number; `Rows` and `Table` with the first row
 /// of a table that can't be read or annotated; `Read` and `Write` where a reader or writer failed in this call, `Read` also after

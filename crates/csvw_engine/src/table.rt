@@ -17,7 +17,7 @@ use csvw_plain_columns::{Columns, HeaderRow, match_header};
 use csvw_plain_triples::Emitter;
 use csvw_rows::{Dialect, RawRow, RowStop, Rows};
 use csvw_text::{Seq, Text};
-use csvw_triples_core::{Mode, TripleSink};
+use csvw_triples_core::TripleSink;
 use std::alloc::{AllocError, Global};
 
 /// How many rows of all kinds a table has at most.
@@ -121,7 +121,7 @@ fn give<S: TripleSink>(
 {
     match &table.columns {
         Some(columns) => {
-            emitter.emit_row(columns, Mode::Minimal, table.number, row, sink)?;
+            emitter.emit_row(columns, table.number, row, sink)?;
             Ok(())
         }
         None => unreachable!(),

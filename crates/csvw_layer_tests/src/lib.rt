@@ -12,4 +12,6 @@ mod groups;
 #[cfg(test)]
 mod reports;
 #[cfg(test)]
+mod standard;
+#[cfg(test)]
 mod templates;

@@ -17,9 +17,11 @@ fn fault(kind: Kind, code: Code, table: u32, row: u64, column: u32) -> Fault {
 
 /// A writer with room for so many bytes.
 #[derive(Drop)]
-struct Full {
-    room: usize,
-    taken: Vec<u8>,
+pub(crate) struct Full {
+    /// How many bytes it still takes.
+    pub(crate) room: usize,
+    /// The bytes that it took.
+    pub(crate) taken: Vec<u8>,
 }
 
 impl Write for Full {

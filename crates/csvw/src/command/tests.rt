@@ -307,6 +307,14 @@ const REQUIRED_META: &[u8] =
 
 const HEADING: &[u8] = b"kind,code,table,row,column\n";
 
+/// What standard mode tells of one table.
+const OPENING: &str = concat!(
+    "_:g <http://www.w3.org/1999/02/22-rdf-syntax-ns#type> <http://www.w3.org/ns/csvw#TableGroup> .\n",
+    "_:g <http://www.w3.org/ns/csvw#table> _:t1 .\n",
+    "_:t1 <http://www.w3.org/1999/02/22-rdf-syntax-ns#type> <http://www.w3.org/ns/csvw#Table> .\n",
+    "_:t1 <http://www.w3.org/ns/csvw#url> <http://example.org/p.csv> .\n",
+);
+
 const VALIDATE: [&str; 6] = [
     "csvw",
     "validate",
@@ -428,7 +436,7 @@ fn tells_metadata_that_is_too_long(rt: HostRuntime) -> Result<(), Fail> {
 }
 
 #[test]
-fn a_conversion_is_minimal(rt: HostRuntime) -> Result<(), Fail> {
+fn a_conversion_is_standard(rt: HostRuntime) -> Result<(), Fail> {
     let words = [
         "csvw",
         "convert",
@@ -437,9 +445,9 @@ fn a_conversion_is_minimal(rt: HostRuntime) -> Result<(), Fail> {
         "m.json",
         "p.csv",
     ];
-    let files = group(PLAIN_META, b"id,name\n1,Ann\n");
+    let files = group(PLAIN_META, b"id\n");
     let ran = run(rt.alloc(), &words, &files)?;
-    assert!(rt; ran.is(2, b"", b"csvw: --minimal is needed\n"));
+    assert!(rt; ran.is(0, OPENING.as_bytes(), HEADING));
     Ok(())
 }
 

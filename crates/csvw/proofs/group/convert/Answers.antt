@@ -1,10 +1,10 @@
 -- The graph went to `out`, and a stop is told behind what the run left of `err`.
-use Rattle.std.proofs.Common.{rules, ◌≡◌, inl}
+use Rattle.std.proofs.Common.{rules, ◌≡◌, inl, subst}
 use Rattle.csvw_text.specs.Counted.{inner_of, failures_of}
 use Rattle.csvw_text.specs.Streams.{stream_of}
-use Rattle.csvw_triples_core.specs.declared.mode.Mode.TheVariants as mode
-use Rattle.csvw.specs.Groups.{Leaves}
-use Rattle.csvw.proofs.Ending.{ends}
+use Rattle.csvw_engine.specs.Runs.{Runs}
+use Rattle.csvw.specs.Groups.{Leaves, conversion}
+use Rattle.csvw.proofs.Ending.{ends, converts}
 use Rattle.csvw.proofs.Opening.{opened_as}
 use Rattle.csvw.proofs.group.convert.Goals as goal
 
@@ -22,7 +22,11 @@ returns-in-Ok-clause-runs g c =
       readers = readers;
       opened = opened_as g.O.Opener.opens g.O.Reader.Read.remaining c.args.group.now c.args.opener.now c.open_group.new.opener group.meta.items bytes group.readers.items readers same_bytes same_readers c.in-Ok.ensures.opened;
       left = c.run-ran.new.readers;
-      runs = ends (Leaves g.O.Reader.Read.remaining mode.Minimal bytes c.args.group.now.base.now readers c.run-ran.new.readers out)
+      runs = ends (Leaves g.O.Reader.Read.remaining (conversion c.args.minimal) bytes c.args.group.now.base.now readers c.run-ran.new.readers out)
           (told (inner_of c.args.err.now)) (told (inner_of c.run-ran.new.report)) (told (inner_of c.tell_end.new.err)) (failures_of c.args.err.now) (failures_of c.run-ran.new.report) (failures_of c.tell_end.new.err)
-          c.run-ran.result c.tell_end.result c.run-ran.ensures c.tell_end.ensures.end;
+          c.run-ran.result c.tell_end.result
+          (converts g.O.Reader.Read.remaining c.args.minimal bytes c.args.group.now.base.now readers c.run-ran.new.readers out (stream_of told c.args.err.now c.run-ran.new.report) c.run-ran.result
+          (subst (λ m. Runs g.O.Reader.Read.remaining bytes c.args.group.now.base.now m readers c.run-ran.new.readers out (stream_of told c.args.err.now c.run-ran.new.report) c.run-ran.result)
+          c.conversion.ensures c.run-ran.ensures))
+          c.tell_end.ensures.end;
     })

@@ -1,8 +1,10 @@
 -- What the tables gave to the sink stands in its writer.
-use Rattle.std.proofs.Common.{sym, ap, ◌∙◌, length}
+use Rattle.std.proofs.Common.{sym, ap, ◌∙◌, length, Err}
 use Rattle.csvw_columns.specs.declared.plan.Plan.{Plan}
-use Rattle.csvw_ntriples.specs.NtSink.{sink_out}
-use Rattle.csvw_engine.proofs.Writing.{LineLaws, converted_at, same_lent, streams_of}
+use Rattle.csvw_ntriples.specs.NtSink.{sink_out, sink_is_open}
+use Rattle.csvw_engine.proofs.Converting.{takes, failed_of}
+use Rattle.csvw_engine.proofs.Taking.{refused, starts_own}
+use Rattle.csvw_engine.proofs.Writing.{LineLaws, converted, converted_at, same_lent, streams_of}
 use Rattle.csvw_engine.proofs.group.convert_tables.Goals as goal
 
 pub returns-in-Ok-start : goal.returns-in-Ok-start
@@ -14,10 +16,25 @@ returns-in-Ok-start g c =
     let start = c.new-sink.result in
     let now = c.take_tables-ran.new.session.sink in
     let many = c.requires.many ∙ ap (λ (p : Plan). length p.tables) (sym begun.plan_is) in
-    let ran = c.take_tables-ran.ensures start begun.stands many in
+    let ran = c.take_tables-ran.ensures start (starts_own (takes contents) sink_is_open failed_of c.args.plan c.args.mode start session begun) many in
     let lent = ap (λ z. (sink_out z).ghost_name) c.into_sink.ensures ∙ same_lent contents remaining session.mode session.plan c.args.readers.now c.take_tables-ran.new.readers start now c.take_tables-ran.result ran in
     let final = c.out-1.given.1 (sym (c.into_inner.ensures.same_reference ∙ (lent ∙ c.new-sink.ensures.same_reference))) in
     let laws : LineLaws = record { denotes = c.written_denotes.ensures; names = c.labels_name_one_to_one.ensures } in
     converted_at contents laws _ start now
     (streams_of contents c.args.out.now _ start now c.new-sink.ensures.open c.new-sink.ensures.out (final ∙ (c.into_inner.ensures.value ∙ ap (λ z. (sink_out z).now) c.into_sink.ensures)))
     remaining c.args.mode session.mode c.args.plan session.plan c.args.readers.now c.take_tables-ran.new.readers c.take_tables-ran.result begun.mode_is begun.plan_is ran
+
+pub returns : goal.returns
+returns g c =
+    let contents = g.W.Write.contents in
+    let remaining = g.R.Read.remaining in
+    let start = c.new-sink.result in
+    let now = c.in-Err.field-0.sink in
+    let reason = c.in-Err.field-0.stop in
+    let ran = refused (takes contents) sink_is_open failed_of remaining c.args.mode c.args.plan c.args.readers.now c.args.readers.now start now reason c.in-Err.ensures.refused in
+    let lent = same_lent contents remaining c.args.mode c.args.plan c.args.readers.now c.args.readers.now start now (Err reason) ran in
+    let final = c.out-in-Err-1.given.1 (sym (c.into_inner-in-Err.ensures.same_reference ∙ (lent ∙ c.new-sink.ensures.same_reference))) in
+    let laws : LineLaws = record { denotes = c.written_denotes.ensures; names = c.labels_name_one_to_one.ensures } in
+    converted contents laws _ start now
+    (streams_of contents c.args.out.now _ start now c.new-sink.ensures.open c.new-sink.ensures.out (final ∙ c.into_inner-in-Err.ensures.value))
+    remaining c.args.mode c.args.plan c.args.readers.now c.args.readers.now (Err reason) ran
