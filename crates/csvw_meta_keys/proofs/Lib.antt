@@ -1,0 +1,3 @@
+pub mod ItemsLemmas
+pub mod NamingLemmas
+pub mod ReadLemmas

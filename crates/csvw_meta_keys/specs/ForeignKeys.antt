@@ -1,0 +1,50 @@
+-- Foreign keys (Metadata Vocabulary for Tabular Data, section 5.5.2.1).
+use Rattle.std.specs.Prelude.{ℕ, List, [], ◌∷◌, ◌++◌, codes}
+use Rattle.serde_json.specs.Data.{Data, null, boolean, number, string, array, object}
+use Rattle.url.specs.Parts.{Parts}
+use Rattle.csvw_text.specs.declared.fault.Fault.{Fault}
+use Rattle.csvw_text.specs.declared.fault.Place.{Place}
+use Rattle.csvw_meta_core.specs.declared.fault.MetaCode.TheVariants.{BadProperty}
+use Rattle.csvw_meta_core.specs.Read.{Read, fine, wrong, ◌>>=◌, needed, on_object}
+use Rattle.csvw_meta_core.specs.Others.{others}
+use Rattle.csvw_meta_keys.specs.declared.column_names.KeyName.{KeyName}
+use Rattle.csvw_meta_keys.specs.declared.foreign_key.ForeignKeyFound.{ForeignKeyFound}
+use Rattle.csvw_meta_keys.specs.declared.reference.ReferenceFound.{ReferenceFound}
+use Rattle.csvw_meta_keys.specs.ColumnNames.{column_names}
+use Rattle.csvw_meta_keys.specs.Limited.{limited_items}
+use Rattle.csvw_meta_keys.specs.References.{reference, no_reference, no_resource}
+
+abbrev pub foreign_key_names : List (List ℕ)
+foreign_key_names = codes "columnReference" ∷ codes "reference" ∷ []
+
+-- the foreign key at this pointer, with the warnings on it and then those on what it refers to
+abbrev pub joined : List ℕ → List Fault → List KeyName → ReferenceFound → ForeignKeyFound
+joined at warnings columns reference = record {
+  at = at;
+  columns = columns;
+  resource = reference.resource;
+  referenced = reference.columns;
+  warnings = warnings ++ reference.warnings;
+}
+
+unfoldable pub foreign_key_of : Parts → Place → List ℕ → Data → Read ForeignKeyFound
+foreign_key_of base place at d = do
+  warnings ← others (foreign_key_names ++ []) BadProperty place at d
+  columns ← needed column_names [] at d (codes "columnReference")
+  reference ← needed (reference base place) no_reference at d (codes "reference")
+  fine (joined at warnings columns reference)
+
+abbrev pub no_foreign_key : ForeignKeyFound
+no_foreign_key = record { at = []; columns = []; resource = no_resource; referenced = []; warnings = [] }
+
+abbrev pub foreign_key : Parts → Place → List ℕ → Data → Read ForeignKeyFound
+foreign_key base place at d = on_object at d no_foreign_key (foreign_key_of base place at d)
+
+-- an array of at most 64 foreign keys
+abbrev pub foreign_keys : Parts → Place → List ℕ → Data → Read (List ForeignKeyFound)
+foreign_keys base place at (array ds) = limited_items 0 64 (foreign_key base place) at ds
+foreign_keys base place at null = wrong at null []
+foreign_keys base place at (boolean b) = wrong at (boolean b) []
+foreign_keys base place at (number n) = wrong at (number n) []
+foreign_keys base place at (string s) = wrong at (string s) []
+foreign_keys base place at (object ms) = wrong at (object ms) []

@@ -1,0 +1,15 @@
+-- The keys of a schema (Metadata Vocabulary for Tabular Data, section 5.5).
+use Rattle.std.specs.Prelude.{ℕ, List, [], codes}
+use Rattle.serde_json.specs.Data.{Data}
+use Rattle.url.specs.Parts.{Parts}
+use Rattle.csvw_text.specs.declared.fault.Place.{Place}
+use Rattle.csvw_meta_core.specs.Read.{Read, fine, ◌>>=◌, property}
+use Rattle.csvw_meta_keys.specs.declared.keys.KeysFound.{KeysFound}
+use Rattle.csvw_meta_keys.specs.ColumnNames.{column_names}
+use Rattle.csvw_meta_keys.specs.ForeignKeys.{foreign_keys}
+
+unfoldable pub keys : Parts → Place → List ℕ → Data → Read KeysFound
+keys base place at d = do
+  primary ← property column_names [] at d (codes "primaryKey")
+  foreign ← property (foreign_keys base place) [] at d (codes "foreignKeys")
+  fine (record { primary = primary; foreign = foreign })

@@ -1,0 +1,7 @@
+pub mod ColumnNames
+pub mod Described
+pub mod ForeignKeys
+pub mod Keys
+pub mod Limited
+pub mod Naming
+pub mod References

@@ -1,0 +1,42 @@
+-- What a foreign key refers to (Metadata Vocabulary for Tabular Data, section 5.5.2.1).
+use Rattle.std.specs.Prelude.{ℕ, List, [], ◌∷◌, ◌++◌, codes}
+use Rattle.serde_json.specs.Data.{Data}
+use Rattle.url.specs.Parts.{Parts}
+use Rattle.csvw_iri.specs.Link.{iri_of}
+use Rattle.csvw_text.specs.declared.fault.Place.{Place}
+use Rattle.csvw_meta_core.specs.declared.fault.MetaCode.TheVariants.{BadProperty}
+use Rattle.csvw_meta_core.specs.Read.{Read, fine, ◌>>=◌, under, needed, optional, on_object, not_yet}
+use Rattle.csvw_meta_core.specs.Links.{url}
+use Rattle.csvw_meta_core.specs.Others.{others}
+use Rattle.csvw_meta_keys.specs.declared.reference.ReferenceFound.{ReferenceFound}
+use Rattle.csvw_meta_keys.specs.declared.reference.Resource.{Resource}
+use Rattle.csvw_meta_keys.specs.ColumnNames.{column_names}
+
+abbrev pub reference_names : List (List ℕ)
+reference_names = codes "resource" ∷ codes "schemaReference" ∷ codes "columnReference" ∷ []
+
+-- the table of a URL that stands at this pointer
+abbrev pub resource_at : List ℕ → Parts → Resource
+resource_at at table = record { url = iri_of table; at = at }
+
+-- a URL, as that of a table is read
+abbrev pub resource : Parts → List ℕ → Data → Read Resource
+resource base at d = under (resource_at at) (url base at d)
+
+abbrev pub no_resource : Resource
+no_resource = record { url = []; at = [] }
+
+-- A schema that is referenced is not supported.
+unfoldable pub reference_of : Parts → Place → List ℕ → Data → Read ReferenceFound
+reference_of base place at d = do
+  schema ← optional not_yet at d (codes "schemaReference")
+  warnings ← others (reference_names ++ []) BadProperty place at d
+  resource ← needed (resource base) no_resource at d (codes "resource")
+  columns ← needed column_names [] at d (codes "columnReference")
+  fine (record { resource = resource; columns = columns; warnings = warnings })
+
+abbrev pub no_reference : ReferenceFound
+no_reference = record { resource = no_resource; columns = []; warnings = [] }
+
+abbrev pub reference : Parts → Place → List ℕ → Data → Read ReferenceFound
+reference base place at d = on_object at d no_reference (reference_of base place at d)

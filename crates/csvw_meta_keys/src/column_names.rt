@@ -1,0 +1,70 @@
+//! Names of columns in keys (Metadata Vocabulary for Tabular Data, section 5.1.4: column references).
+ghost use Rattle.std.specs.Prelude.{◌≡◌, IfOk};
+ghost use Rattle.csvw_meta_core.specs.Pointer.{text_of};
+ghost use Rattle.csvw_meta_keys.specs.ColumnNames.{named_at, key_name, column_names};
+
+use crate::limited::{Limits, limited_items};
+use csvw_meta_core::{Part, Reader, Refusal};
+use csvw_text::{Seq, Text};
+use serde_json::Value;
+use std::alloc::AllocError;
+
+/// How many columns a key has.
+const COLUMNS: Limits = Limits { least: 1, most: 16 };
+
+/// The name of a column in a key, and where it stands.
+#[derive(Debug, Drop)]
+pub struct KeyName {
+    /// The name.
+    pub name: Text,
+    /// The JSON Pointer (RFC 6901) of the text.
+    pub at: Text,
+}
+
+fn name_here(part: &Part, name: &str) -> Result<KeyName, AllocError>
+    ensures { IfOk result (λ k. k ≡ named_at (text_of part.now.at) name.now) }
+{
+    Ok(KeyName {
+        name: Text::copied(part.alloc, name)?,
+        at: part.at.text(part.alloc)?,
+    })
+}
+
+/// A name of a column.
+#[derive(Drop)]
+struct KeyNameReader;
+
+impl Reader for KeyNameReader {
+    type Output = KeyName;
+
+    ghost reads = { λ _. key_name };
+
+    fn read(&self, part: &Part) -> Result<KeyName, Refusal> {
+        match part.value.as_str() {
+            Some(name) => Ok(name_here(part, name)?),
+            None => Err(part.wrong()),
+        }
+    }
+}
+
+/// A name of a column, or an array of one at least and of 16 at most.
+#[derive(Drop)]
+pub(crate) struct ColumnNames;
+
+impl Reader for ColumnNames {
+    type Output = Seq<KeyName>;
+
+    ghost reads = { λ _. column_names };
+
+    fn read(&self, part: &Part) -> Result<Seq<KeyName>, Refusal> {
+        match part.value {
+            Value::String(name) => {
+                let mut one = Seq::new(part.alloc);
+                one.push(name_here(part, name.as_str())?)?;
+                Ok(one)
+            }
+            Value::Array(items) => limited_items(part, &KeyNameReader, COLUMNS, items.as_slice()),
+            _ => Err(part.wrong()),
+        }
+    }
+}

@@ -1,0 +1,100 @@
+//! Foreign keys (Metadata Vocabulary for Tabular Data, section 5.5.2.1).
+ghost use Rattle.std.specs.Prelude.{◌≡◌, ◌++◌, [], IfOk};
+ghost use Rattle.serde_json.specs.View.{view};
+ghost use Rattle.csvw_meta_core.specs.Pointer.{text_of};
+ghost use Rattle.csvw_meta_core.specs.Others.{others};
+ghost use Rattle.csvw_meta_core.specs.Reads.{Reads};
+ghost use Rattle.csvw_meta_keys.specs.ForeignKeys.{foreign_key_names, foreign_key_of, joined};
+
+use crate::column_names::{ColumnNames, KeyName};
+use crate::reference::{ReferenceFound, ReferenceReader, Resource};
+use csvw_iri::Base;
+use csvw_meta_core::{Listed, MetaCode, Part, Reader, Refusal};
+use csvw_text::{Fault, Place, Seq, Text};
+use serde_json::Value;
+use std::alloc::AllocError;
+
+/// The properties that are listed for a foreign key.
+const FOREIGN_KEY: [&str; 2] = ["columnReference", "reference"];
+
+/// A foreign key, as a document describes it.
+#[derive(Debug, Drop)]
+pub struct ForeignKeyFound {
+    /// The JSON Pointer (RFC 6901) of its object.
+    pub at: Text,
+    /// The names of the referring columns, from 1 to 16 of them.
+    pub columns: Seq<KeyName>,
+    /// The table that is referenced.
+    pub resource: Resource,
+    /// The names of its columns, from 1 to 16 of them.
+    pub referenced: Seq<KeyName>,
+    /// A warning for each property that is ignored in it.
+    pub warnings: Seq<Fault>,
+}
+
+fn warnings_of(place: Place, part: &Part) -> Result<Seq<Fault>, Refusal>
+    ensures { Reads result (others (foreign_key_names ++ []) MetaCode.BadProperty place (text_of part.now.at) (view part.now.value.now)) }
+{
+    let listed = Listed {
+        names: &FOREIGN_KEY,
+        shared: &[],
+        common: MetaCode::BadProperty,
+        place,
+    };
+    listed.read(part)
+}
+
+/// The foreign key of these columns, with the warnings on it and on what it refers to.
+fn joined(
+    at: Text,
+    warnings: Seq<Fault>,
+    columns: Seq<KeyName>,
+    reference: ReferenceFound,
+) -> Result<ForeignKeyFound, AllocError>
+    ensures { IfOk result (λ k. k ≡ joined at warnings columns reference) }
+{
+    let mut all = warnings.into_vec();
+    all.append(&mut reference.warnings.into_vec())?;
+    Ok(ForeignKeyFound {
+        at,
+        columns,
+        resource: reference.resource,
+        referenced: reference.columns,
+        warnings: Seq::of(all),
+    })
+}
+
+#[tactic(auto, using(crate::proofs::ReadLemmas::fails_first), unfolding(crate::specs::ForeignKeys::foreign_key_of))]
+fn foreign_key_of(base: &Base, place: Place, part: &Part) -> Result<ForeignKeyFound, Refusal>
+    ensures { Reads result (foreign_key_of base.now place (text_of part.now.at) (view part.now.value.now)) }
+{
+    let warnings = warnings_of(place, part)?;
+    let columns = part.needed(&ColumnNames, "columnReference")?;
+    let reference = part.needed(&ReferenceReader { base, place }, "reference")?;
+    let at = part.at.text(part.alloc)?;
+    Ok(joined(at, warnings, columns, reference)?)
+}
+
+/// A foreign key.
+#[derive(Drop)]
+pub(crate) struct ForeignKeyReader<'a> {
+    /// What URLs are resolved against.
+    pub(crate) base: &'a Base,
+    /// Where the warnings are told.
+    pub(crate) place: Place,
+}
+
+impl<'a> Reader for ForeignKeyReader<'a> {
+    ghost use Rattle.csvw_meta_keys.specs.ForeignKeys.{foreign_key};
+
+    type Output = ForeignKeyFound;
+
+    ghost reads = { λ r. foreign_key r.base.now r.place };
+
+    fn read(&self, part: &Part) -> Result<ForeignKeyFound, Refusal> {
+        match part.value {
+            Value::Object(_) => foreign_key_of(self.base, self.place, part),
+            _ => Err(part.wrong()),
+        }
+    }
+}

@@ -1,0 +1,135 @@
+//! What keys name: columns of their own table, and tables of the group with columns of theirs (Metadata Vocabulary for Tabular
+//! Data, sections 5.5.1 and 5.5.2).
+ghost use Rattle.std.specs.Prelude.{◌≡◌, ◌∷◌, [], MatchOption, MatchResult, None, Some, flat_map};
+ghost use Rattle.csvw_meta_core.specs.Reads.{Fails};
+ghost use Rattle.csvw_meta_keys.specs.Naming.{bad_reference, foreign_faults, has_name, key_faults, name_faults, side_faults, table_faults, target_of};
+
+use crate::column_names::KeyName;
+use crate::foreign_key::ForeignKeyFound;
+use crate::keys::KeysFound;
+use csvw_iri::Iri;
+use csvw_meta_core::{MetaCode, MetaFault, Refusal};
+use csvw_text::{Seq, Text};
+use std::alloc::Global;
+
+/// A table that keys may refer to.
+#[derive(Debug, Drop)]
+pub struct Target {
+    /// Its URL, made safe.
+    pub url: Iri,
+    /// The names of the columns that it declares.
+    pub names: Seq<Text>,
+}
+
+/// The fault at this pointer, or `Memory` where there is none for it.
+fn refused(alloc: Global, at: &Text) -> Refusal
+    ensures { Fails result (bad_reference at.now ∷ []) }
+{
+    match at.clone(alloc) {
+        Ok(pointer) => Refusal::Fault(MetaFault {
+            code: MetaCode::BadReference,
+            pointer,
+        }),
+        Err(_) => Refusal::Memory,
+    }
+}
+
+fn has_name(names: &[Text], name: &str) -> bool
+    ensures { result ≡ has_name names.now name.now }
+{
+    names.iter().any(|n| n.as_str() == name)
+}
+
+/// Each name of a key is one of these; else `BadReference` at it.
+fn check_names(alloc: Global, names: &[Text], key: &[KeyName]) -> Result<(), Refusal>
+    ensures { MatchResult result (λ _. name_faults names.now key.now ≡ []) (λ e. Fails e (name_faults names.now key.now)) }
+{
+    for name in key {
+        if !has_name(names, name.name.as_str()) {
+            return Err(refused(alloc, &name.at));
+        }
+    }
+    Ok(())
+}
+
+/// The first of the tables that has a URL.
+fn target_of<'a>(targets: &'a [Target], url: &str) -> Option<&'a Target>
+    ensures { MatchOption result (target_of targets.now url.now ≡ None) (λ t. target_of targets.now url.now ≡ Some t.now) }
+{
+    for target in targets {
+        if target.url.as_str() == url {
+            return Some(target);
+        }
+    }
+    None
+}
+
+/// Both sides of a foreign key have equally many columns; else `BadReference` at the key.
+fn check_sides(alloc: Global, key: &ForeignKeyFound) -> Result<(), Refusal>
+    ensures { MatchResult result (λ _. side_faults key.now ≡ []) (λ e. Fails e (side_faults key.now)) }
+{
+    if key.columns.len() == key.referenced.len() {
+        Ok(())
+    } else {
+        Err(refused(alloc, &key.at))
+    }
+}
+
+#[tactic(auto, using(crate::proofs::ReadLemmas::fails_first))]
+fn check_table(
+    alloc: Global,
+    own: &[Text],
+    target: &Target,
+    key: &ForeignKeyFound,
+) -> Result<(), Refusal>
+    ensures { MatchResult result (λ _. table_faults own.now target.now key.now ≡ []) (λ e. Fails e (table_faults own.now target.now key.now)) }
+{
+    check_names(alloc, own, key.columns.as_slice())?;
+    check_names(alloc, target.names.as_slice(), key.referenced.as_slice())?;
+    check_sides(alloc, key)
+}
+
+fn check_foreign(
+    alloc: Global,
+    own: &[Text],
+    targets: &[Target],
+    key: &ForeignKeyFound,
+) -> Result<(), Refusal>
+    ensures { MatchResult result (λ _. foreign_faults own.now targets.now key.now ≡ []) (λ e. Fails e (foreign_faults own.now targets.now key.now)) }
+{
+    match target_of(targets, key.resource.url.as_str()) {
+        Some(target) => check_table(alloc, own, target, key),
+        None => Err(refused(alloc, &key.resource.at)),
+    }
+}
+
+fn check_each(
+    alloc: Global,
+    own: &[Text],
+    targets: &[Target],
+    keys: &[ForeignKeyFound],
+) -> Result<(), Refusal>
+    ensures { MatchResult result (λ _. flat_map (foreign_faults own.now targets.now) keys.now ≡ [])
+        (λ e. Fails e (flat_map (foreign_faults own.now targets.now) keys.now)) }
+{
+    for key in keys {
+        check_foreign(alloc, own, targets, key)?;
+    }
+    Ok(())
+}
+
+/// What the keys of a schema with columns of these names name is there, among the tables of its group: each column of a key, the
+/// table that is referenced by its URL, and as many columns on both sides; else `BadReference` at the name, at the URL or at the
+/// foreign key.
+#[tactic(auto, using(crate::proofs::ReadLemmas::fails_first))]
+pub fn check_keys(
+    alloc: Global,
+    own: &[Text],
+    targets: &[Target],
+    keys: &KeysFound,
+) -> Result<(), Refusal>
+    ensures { MatchResult result (λ _. key_faults own.now targets.now keys.now ≡ []) (λ e. Fails e (key_faults own.now targets.now keys.now)) }
+{
+    check_names(alloc, own, keys.primary.as_slice())?;
+    check_each(alloc, own, targets, keys.foreign.as_slice())
+}

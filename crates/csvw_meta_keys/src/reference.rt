@@ -1,0 +1,108 @@
+//! What a foreign key refers to (Metadata Vocabulary for Tabular Data, section 5.5.2.1, `reference`).
+ghost use Rattle.std.specs.Prelude.{◌≡◌, ◌++◌, []};
+ghost use Rattle.serde_json.specs.View.{view};
+ghost use Rattle.csvw_meta_core.specs.Pointer.{text_of};
+ghost use Rattle.csvw_meta_core.specs.Others.{others};
+ghost use Rattle.csvw_meta_core.specs.Reads.{Reads};
+ghost use Rattle.csvw_meta_keys.specs.References.{reference_names, reference_of, resource};
+
+use crate::column_names::{ColumnNames, KeyName};
+use csvw_iri::{Base, Iri};
+use csvw_meta_core::{Listed, MetaCode, NotYet, Part, Reader, Refusal, UrlReader};
+use csvw_text::{Fault, Place, Seq, Text};
+use serde_json::Value;
+
+/// The properties that are listed for what a foreign key refers to.
+const REFERENCE: [&str; 3] = ["resource", "schemaReference", "columnReference"];
+
+/// The URL of a table that is referenced, and where it stands.
+#[derive(Debug, Drop)]
+pub struct Resource {
+    /// The URL, made safe.
+    pub url: Iri,
+    /// The JSON Pointer (RFC 6901) of the text.
+    pub at: Text,
+}
+
+/// What a foreign key refers to.
+#[derive(Debug, Drop)]
+pub(crate) struct ReferenceFound {
+    /// The table.
+    pub(crate) resource: Resource,
+    /// The names of its columns.
+    pub(crate) columns: Seq<KeyName>,
+    /// A warning for each property that is ignored.
+    pub(crate) warnings: Seq<Fault>,
+}
+
+/// A URL of a table, resolved against a base and without its fragment; `UrlTooLong` or `BadUrl` where it resolves to none.
+#[derive(Drop)]
+struct ResourceReader<'a> {
+    /// What it is resolved against.
+    base: &'a Base,
+}
+
+impl<'a> Reader for ResourceReader<'a> {
+    type Output = Resource;
+
+    ghost reads = { λ r. resource r.base.now };
+
+    fn read(&self, part: &Part) -> Result<Resource, Refusal> {
+        let url = UrlReader { base: self.base }.read(part)?;
+        Ok(Resource {
+            url: url.iri().clone(part.alloc)?,
+            at: part.at.text(part.alloc)?,
+        })
+    }
+}
+
+fn warnings_of(place: Place, part: &Part) -> Result<Seq<Fault>, Refusal>
+    ensures { Reads result (others (reference_names ++ []) MetaCode.BadProperty place (text_of part.now.at) (view part.now.value.now)) }
+{
+    let listed = Listed {
+        names: &REFERENCE,
+        shared: &[],
+        common: MetaCode::BadProperty,
+        place,
+    };
+    listed.read(part)
+}
+
+#[tactic(auto, using(crate::proofs::ReadLemmas::fails_first), unfolding(crate::specs::References::reference_of))]
+fn reference_of(base: &Base, place: Place, part: &Part) -> Result<ReferenceFound, Refusal>
+    ensures { Reads result (reference_of base.now place (text_of part.now.at) (view part.now.value.now)) }
+{
+    part.optional(&NotYet, "schemaReference")?;
+    let warnings = warnings_of(place, part)?;
+    let resource = part.needed(&ResourceReader { base }, "resource")?;
+    let columns = part.needed(&ColumnNames, "columnReference")?;
+    Ok(ReferenceFound {
+        resource,
+        columns,
+        warnings,
+    })
+}
+
+/// What a foreign key refers to: a table by its URL, and columns of it. That of a schema is `NotSupported`.
+#[derive(Drop)]
+pub(crate) struct ReferenceReader<'a> {
+    /// What URLs are resolved against.
+    pub(crate) base: &'a Base,
+    /// Where the warnings are told.
+    pub(crate) place: Place,
+}
+
+impl<'a> Reader for ReferenceReader<'a> {
+    ghost use Rattle.csvw_meta_keys.specs.References.{reference};
+
+    type Output = ReferenceFound;
+
+    ghost reads = { λ r. reference r.base.now r.place };
+
+    fn read(&self, part: &Part) -> Result<ReferenceFound, Refusal> {
+        match part.value {
+            Value::Object(_) => reference_of(self.base, self.place, part),
+            _ => Err(part.wrong()),
+        }
+    }
+}
