@@ -1,6 +1,6 @@
 -- Keys that compare as equal are equal.
 use Rattle.std.proofs.Common.{◌≡◌, List, Bool, true, false, refl, sym}
-use Rattle.std.specs.Ordering.{is_eq, int_cmp, int_eq}
+use Rattle.std.specs.Ordering.{is_eq}
 use Rattle.std.specs.Cmp.Lexicographic.{slice_cmp, lists_ties}
 use Rattle.std.proofs.lemmas.Map.Text.{is_eq-slice_cmp}
 use Rattle.csvw_datatype.specs.contracts.value.ValueOrd.TheImpl as value
@@ -9,7 +9,7 @@ use Rattle.csvw_datatype.specs.declared.value.Value.TheVariants.{Text, Truth, Nu
 use Rattle.csvw_keys.specs.contracts.key.KeyCellOrd.TheImpl as derived
 use Rattle.csvw_keys.specs.declared.key.KeyCell.{KeyCell}
 use Rattle.csvw_keys.specs.declared.key.KeyCell.TheVariants.{Null, One, Many}
-use Rattle.csvw_keys.specs.EqualKeys.{equal_cells, equal_keys, equal_truths, equal_values}
+use Rattle.csvw_keys.specs.EqualKeys.{equal_cells, equal_keys, equal_values}
 
 truths_are : (a b : Bool) → equal_values (Truth a) (Truth b) ≡ is_eq (value.ghosts.cmp (Truth a) (Truth b))
 truths_are true true = refl

@@ -12,7 +12,6 @@ use Rattle.csvw_keys.specs.declared.key.KeyCell.{KeyCell}
 use Rattle.csvw_keys.specs.declared.times.Times.{Times}
 use Rattle.csvw_keys.specs.declared.times.Times.TheVariants.{Never, Once, Often}
 use Rattle.csvw_keys.specs.Duplicates.{duplicate, duplicate_faults, duplicates_behind, is_among}
-use Rattle.csvw_keys.specs.EqualKeys.{equal_keys}
 use Rattle.csvw_keys.specs.Key.{key_of}
 use Rattle.csvw_keys.specs.Places.{fault_of}
 use Rattle.csvw_keys.specs.PrimaryBooks.{noted}

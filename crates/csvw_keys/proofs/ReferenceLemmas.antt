@@ -1,12 +1,11 @@
 -- What is wrong with rows that refer to others, by the counts of a book and by the rows themselves.
-use Rattle.std.proofs.Common.{◌≡◌, ℕ, ◌+◌, ◌<◌, zero, suc, List, [], ◌∷◌, ◌++◌, refl, sym, ap, ◌∙◌, cond, count_by, flat_map, get_or, length, map, take, arith, IfOk, Result, Ok, Err}
+use Rattle.std.proofs.Common.{◌≡◌, ℕ, ◌+◌, ◌<◌, zero, suc, List, [], ◌∷◌, ◌++◌, refl, sym, ap, ◌∙◌, cond, count_by, flat_map, get_or, length, map, take, IfOk, Result, Ok, Err}
 use Rattle.std.specs.Ordering.{is_eq}
 use Rattle.std.specs.Cmp.Lexicographic.{slice_cmp}
 use Rattle.std.proofs.lemmas.Grind.{flat_map-append}
 use Rattle.std.proofs.lemmas.List.{append-nil, take_more}
 use Rattle.std.proofs.lemmas.List.Sums.{sum_by-cons}
 use Rattle.csvw_annotate.specs.declared.row.Row.{Row}
-use Rattle.csvw_text.specs.declared.fault.Fault.{Fault}
 use Rattle.csvw_keys.specs.contracts.key.KeyCellOrd.TheImpl as derived
 use Rattle.csvw_keys.specs.declared.key.KeyCell.{KeyCell}
 use Rattle.csvw_keys.specs.declared.reference.ReferenceBook.{ReferenceBook}
@@ -16,7 +15,7 @@ use Rattle.csvw_keys.specs.declared.times.Times.TheVariants.{Never, Once, Often}
 use Rattle.csvw_keys.specs.EqualKeys.{equal_keys}
 use Rattle.csvw_keys.specs.Key.{key_of}
 use Rattle.csvw_keys.specs.ReferenceBooks.{KeepsReference, fault_by_times, row_fault}
-use Rattle.csvw_keys.specs.References.{fault_by_count, reference_fault, reference_faults, referring_of}
+use Rattle.csvw_keys.specs.References.{fault_by_count, reference_fault, reference_faults}
 use Rattle.csvw_keys.specs.Tallies.{count_of}
 use Rattle.csvw_keys.specs.Times.{more, times}
 use Rattle.csvw_keys.proofs.EqualLemmas.{keys_are}

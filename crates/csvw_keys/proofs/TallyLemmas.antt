@@ -1,6 +1,6 @@
 -- One key more is counted.
 use Rattle.std.proofs.Common.{◌≡◌, ℕ, ◌+◌, suc, List, [], ◌∷◌, ◌++◌, Bool, true, false, Some, refl, sym, ap, ◌∙◌, add-one, add-zero, cond, count_by, unwrap_or, arith}
-use Rattle.std.specs.Cmp.{IsTotalOrder, IsEquivalence}
+use Rattle.std.specs.Cmp.{IsTotalOrder}
 use Rattle.std.specs.Ordering.{is_eq}
 use Rattle.std.specs.declared.cmp.Ordering.{Ordering}
 use Rattle.std.specs.BTreeMap.{BTreeMap, get, UpdatesBy}

@@ -1,6 +1,6 @@
 -- The rows whose primary key an earlier row has (Model for Tabular Data, section 6.6; Metadata Vocabulary for Tabular Data,
 -- section 5.5).
-use Rattle.std.specs.Prelude.{ℕ, List, [], ◌∷◌, ◌++◌, Bool, map, if◌then◌else◌}
+use Rattle.std.specs.Prelude.{ℕ, List, [], ◌∷◌, ◌++◌, Bool, if◌then◌else◌}
 use Rattle.std.specs.List.{list_any}
 use Rattle.csvw_annotate.specs.declared.row.Row.{Row}
 use Rattle.csvw_text.specs.declared.fault.Code.TheVariants.{DuplicateKey}

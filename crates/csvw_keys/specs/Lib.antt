@@ -1,6 +1,9 @@
+pub mod Books
 pub mod Duplicates
 pub mod EqualKeys
 pub mod Key
+pub mod KeyRules
+pub mod Laws
 pub mod Places
 pub mod PrimaryBooks
 pub mod ReferenceBooks

@@ -1,5 +1,5 @@
 -- How often keys are there.
-use Rattle.std.specs.Prelude.{◌≡◌, ℕ, List, count_by, unwrap_or, IsSome}
+use Rattle.std.specs.Prelude.{◌≡◌, ℕ, List, count_by, unwrap_or}
 use Rattle.std.specs.Ordering.{is_eq}
 use Rattle.std.specs.declared.cmp.Ordering.{Ordering}
 use Rattle.std.specs.BTreeMap.{BTreeMap, get}

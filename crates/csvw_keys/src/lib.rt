@@ -1,7 +1,10 @@
 //! Which rows break a primary or a foreign key, over whole tables and whatever the order in which their rows come.
 #![tactic(auto)]
 
+mod book;
 mod key;
+mod key_book;
+pub mod laws;
 mod places;
 mod primary;
 mod reference;
@@ -11,7 +14,4 @@ mod tally;
 mod times;
 
 pub use key::{Key, KeyCell};
-pub use primary::PrimaryBook;
-pub use reference::ReferenceBook;
-pub use referenced::ReferencedBook;
-pub use referring::ReferringBook;
+pub use key_book::KeyBook;

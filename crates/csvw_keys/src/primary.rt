@@ -47,7 +47,8 @@ impl PrimaryBook {
 
     /// The faults of the rows, in order.
     pub fn faults(&self) -> &[Fault]
-        ensures { (rows : List Row) → KeepsPrimary self.now rows
+        ensures found { result.now ≡ self.now.found.items }
+        ensures keeps { (rows : List Row) → KeepsPrimary self.now rows
             → result.now ≡ duplicate_faults self.now.table self.now.columns rows }
     {
         self.found.as_slice()

@@ -86,7 +86,8 @@ impl ReferenceBook {
 
     /// The faults of the rows that refer, in order.
     pub fn faults(&self, alloc: Global) -> Result<Vec<Fault>, AllocError>
-        ensures { IfOk result (λ v. (tables : ℕ → List Row) → KeepsReference self.now tables
+        ensures told { IfOk result (λ v. v.items ≡ flat_map (row_fault self.now) self.now.referring.rows.items) }
+        ensures keeps { IfOk result (λ v. (tables : ℕ → List Row) → KeepsReference self.now tables
             → v.items ≡ reference_faults self.now.referring.table self.now.referring.columns (tables self.now.referring.table)
             self.now.referenced.columns (tables self.now.referenced.table)) }
     {

@@ -1,0 +1,161 @@
+//! The keys of a group.
+ghost use Rattle.std.specs.Prelude.{◌≡◌, ◌++◌, ℕ, List, All, IfOk, MatchResult, OnOk, flat_map, map};
+ghost use Rattle.csvw_annotate.specs.declared.row.Row.{Row};
+ghost use Rattle.csvw_keys.specs.Books.{KeepsBook, KeepsKeys, IsRoomy, first_told, no_rows, rule_of, told};
+ghost use Rattle.csvw_keys.specs.KeyRules.{KeyRule, AreKeyFaults, duplicates_of, primary_rules, reference_rule, rules_of, table_rules};
+ghost use Rattle.csvw_keys.specs.Tables.{with_row};
+
+use crate::book::{Book, primary_book, reference_book};
+use csvw_annotate::Row;
+use csvw_columns::{ForeignKeyPlan, Plan, TablePlan};
+use csvw_report::sorted;
+use csvw_text::{Fault, Seq};
+use std::alloc::{AllocError, Global};
+
+/// What is kept of the rows so far of the tables of a group, for its primary and foreign keys (Metadata Vocabulary for Tabular
+/// Data, sections 5.5.1 and 5.5.2). Of a row it keeps the cells of its keys and its place, nothing else.
+#[derive(Drop)]
+pub struct KeyBook {
+    /// Gives the memory for what is kept.
+    alloc: Global,
+    /// A book of each key, in the order of the tables: of each the primary key, then its foreign keys.
+    books: Vec<Book>,
+}
+
+fn push_primary(
+    alloc: Global,
+    table: u32,
+    columns: &[u32],
+    books: &mut Vec<Book>,
+) -> Result<(), AllocError>
+    ensures rules { OnOk result (map rule_of books.new.items ≡ map rule_of books.old.items ++ primary_rules table columns.now) }
+    ensures keeps { OnOk result (All (λ b. KeepsBook b no_rows) books.old.items → All (λ b. KeepsBook b no_rows) books.new.items) }
+{
+    if columns.is_empty() {
+        return Ok(());
+    }
+    let book = primary_book(alloc, table, columns)?;
+    books.push(book)?;
+    Ok(())
+}
+
+fn push_references(
+    alloc: Global,
+    table: u32,
+    keys: &[ForeignKeyPlan],
+    books: &mut Vec<Book>,
+) -> Result<(), AllocError>
+    ensures rules { OnOk result (map rule_of books.new.items ≡ map rule_of books.old.items ++ map (reference_rule table) keys.now) }
+    ensures keeps { OnOk result (All (λ b. KeepsBook b no_rows) books.old.items → All (λ b. KeepsBook b no_rows) books.new.items) }
+{
+    for key in keys {
+        let book = reference_book(alloc, table, key)?;
+        books.push(book)?;
+    }
+    Ok(())
+}
+
+fn push_table(alloc: Global, plan: &TablePlan, books: &mut Vec<Book>) -> Result<(), AllocError>
+    ensures rules { OnOk result (map rule_of books.new.items ≡ map rule_of books.old.items ++ table_rules plan.now) }
+    ensures keeps { OnOk result (All (λ b. KeepsBook b no_rows) books.old.items → All (λ b. KeepsBook b no_rows) books.new.items) }
+{
+    push_primary(alloc, plan.number, plan.primary_key.as_slice(), books)?;
+    push_references(alloc, plan.number, plan.foreign_keys.as_slice(), books)
+}
+
+fn books_of(alloc: Global, plans: &[TablePlan]) -> Result<Vec<Book>, AllocError>
+    ensures rules { IfOk result (λ v. map rule_of v.items ≡ flat_map table_rules plans.now) }
+    ensures keeps { IfOk result (λ v. All (λ b. KeepsBook b no_rows) v.items) }
+{
+    let mut books = Vec::new(alloc);
+    for plan in plans {
+        push_table(alloc, plan, &mut books)?;
+    }
+    Ok(books)
+}
+
+/// Makes room for a row of a table in each book.
+fn make_room(alloc: Global, books: &mut [Book], table: u32, row: &Row) -> Result<(), AllocError>
+    ensures rules { map rule_of books.new ≡ map rule_of books.old }
+    ensures keeps { (tables : ℕ → List Row) → All (λ b. KeepsBook b tables) books.old → All (λ b. KeepsBook b tables) books.new }
+    ensures roomy { OnOk result (All (λ b. IsRoomy b table row.now) books.new) }
+{
+    for i in 0..books.len() {
+        books[i].make_room(alloc, table, row)?;
+    }
+    Ok(())
+}
+
+/// Adds the row that there is room for to each book.
+fn add_to_each(books: &mut [Book], table: u32, row: &Row)
+    ensures rules { map rule_of books.new ≡ map rule_of books.old }
+    ensures keeps { All (λ b. IsRoomy b table row.now) books.old → (tables : ℕ → List Row)
+        → All (λ b. KeepsBook b tables) books.old → All (λ b. KeepsBook b (with_row tables table row.now)) books.new }
+{
+    for i in 0..books.len() {
+        books[i].add(table, row);
+    }
+}
+
+/// What the books tell, one after the other.
+fn all_told(alloc: Global, books: &[Book]) -> Result<Vec<Fault>, AllocError>
+    ensures { IfOk result (λ faults. faults.items ≡ flat_map told books.now) }
+{
+    let mut faults = Vec::new(alloc);
+    for book in books {
+        book.tell(alloc, &mut faults)?;
+    }
+    Ok(faults)
+}
+
+/// What the first of the books of the primary key of a table tells; nothing where there is none.
+fn first_told(books: &[Book], table: u32) -> &[Fault]
+    ensures { result.now ≡ first_told table books.now }
+{
+    for book in books {
+        if let Some(faults) = book.duplicates(table) {
+            return faults;
+        }
+    }
+    &[]
+}
+
+impl KeyBook {
+    /// The book of the keys of a plan and no row; `AllocError` where there is no memory.
+    pub fn new(alloc: Global, plan: &Plan) -> Result<KeyBook, AllocError>
+        ensures { IfOk result (λ book. KeepsKeys book (rules_of plan.now) no_rows) }
+    {
+        Ok(KeyBook {
+            alloc,
+            books: books_of(alloc, plan.tables())?,
+        })
+    }
+
+    /// Adds a row at the end of the table of this number, from 1. `AllocError` where there is no memory; it then keeps the rows
+    /// that it kept before.
+    pub fn add(&mut self, table: u32, row: &Row) -> Result<(), AllocError>
+        ensures { (rules : List KeyRule) (tables : ℕ → List Row) → KeepsKeys self.old rules tables
+            → MatchResult result (λ _. KeepsKeys self.new rules (with_row tables table row.now)) (λ _. KeepsKeys self.new rules tables) }
+    {
+        make_room(self.alloc, self.books.as_mut_slice(), table, row)?;
+        add_to_each(self.books.as_mut_slice(), table, row);
+        Ok(())
+    }
+
+    /// What is wrong with the rows so far of the table of this number, from 1, by its primary key. It takes no memory.
+    pub fn duplicates(&self, table: u32) -> &[Fault]
+        ensures { (rules : List KeyRule) (tables : ℕ → List Row) → KeepsKeys self.now rules tables
+            → result.now ≡ duplicates_of table tables rules }
+    {
+        first_told(self.books.as_slice(), table)
+    }
+
+    /// What is wrong with the rows of all tables by their keys, in the order of reports; `AllocError` where there is no memory.
+    pub fn finish(&self) -> Result<Vec<Fault>, AllocError>
+        ensures { IfOk result (λ faults. (rules : List KeyRule) (tables : ℕ → List Row) → KeepsKeys self.now rules tables
+            → AreKeyFaults rules tables faults.items) }
+    {
+        let faults = all_told(self.alloc, self.books.as_slice())?;
+        Ok(sorted(Seq::of(faults)).into_vec())
+    }
+}
