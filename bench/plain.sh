@@ -12,7 +12,7 @@ by_hand=$work/by_hand
 mkdir -p "$work"
 
 "$bench/../csvw" --help >/dev/null
-rustc --edition 2024 -O -o "$by_hand" "$bench/by_hand.rs"
+rustc --edition 2024 -O -o "$by_hand" "$bench/by_hand/main.rs"
 if [ ! -s "$table" ] || [ "$bench/rows.py" -nt "$table" ]; then
   python3 "$bench/rows.py" "$table"
 fi
@@ -28,16 +28,16 @@ summary() {
        END { printf "%.2f %.2f %.0f", s, p, m * 1.024 / 1000 }' "$work/$1.times"
 }
 
-"$proved" plain "$url" "$table" | cmp - <("$by_hand" "$url" "$table") || {
+"$proved" plain "$url" "$table" | cmp - <("$by_hand" minimal "$url" "$table") || {
   echo "plain.sh: a run failed, or the outputs differ" >&2
   exit 1
 }
-written=$("$by_hand" "$url" "$table" | wc -c)
+written=$("$by_hand" minimal "$url" "$table" | wc -c)
 
 rm -f "$work/csvw.times" "$work/by_hand.times"
 for _ in $(seq "$runs"); do
   measure csvw "$proved" plain
-  measure by_hand "$by_hand"
+  measure by_hand "$by_hand" minimal
 done
 read -r ours ours_cpu ours_peak <<<"$(summary csvw)"
 read -r theirs theirs_cpu theirs_peak <<<"$(summary by_hand)"

@@ -1,13 +1,22 @@
-//! The job of `csvw plain`, written by hand for speed's sake: a state machine over the bytes of a CSV
-//! file, and N-Triples through a buffered writer. Usage: by_hand URL FILE.
+//! The records of a CSV file: a state machine over its bytes, with one buffer for a row.
 
-use std::env;
 use std::fs::File;
-use std::io::{self, BufWriter, Read, Write};
-use std::process::ExitCode;
+use std::io::{self, Read};
 
 const PIECE: usize = 65_536;
 const ROW_LIMIT: usize = 1_048_576;
+
+/// What is done with the rows of a file.
+pub trait Job {
+    /// The header row.
+    fn header(&mut self, fields: &[&str]) -> io::Result<()>;
+
+    /// A data row; both numbers are from 1, the source's over rows of all kinds.
+    fn row(&mut self, row: &Row, number: u64, source: u64) -> io::Result<()>;
+
+    /// The end of the file.
+    fn end(&mut self) -> io::Result<()>;
+}
 
 enum State {
     FieldStart,
@@ -18,60 +27,37 @@ enum State {
 }
 
 /// The row so far: its fields' bytes, one after the other, and where each ends.
-struct Row {
+pub struct Row {
     text: Vec<u8>,
     ends: Vec<usize>,
     length: usize,
 }
 
-struct Converter<W: Write> {
-    out: W,
-    url: String,
-    predicates: Vec<String>,
+struct Records<J: Job> {
+    job: J,
+    columns: usize,
     number: u64,
+    source: u64,
     state: State,
     after_cr: bool,
     row: Row,
 }
 
-fn bad(what: &str) -> io::Error {
+pub fn bad(what: &str) -> io::Error {
     io::Error::new(io::ErrorKind::InvalidData, what)
 }
 
-/// The name of a column, numbered from 1.
-fn name_of(number: usize, title: &str) -> String {
-    if title.is_empty() {
-        return format!("_col.{number}");
-    }
-    let mut name = String::new();
-    for b in title.bytes() {
-        if b.is_ascii_alphanumeric() || b"-._~".contains(&b) {
-            name.push(b as char);
-        } else {
-            name.push_str(&format!("%{b:02X}"));
-        }
-    }
-    name
-}
-
-fn write_escaped<W: Write>(out: &mut W, text: &[u8]) -> io::Result<()> {
-    let mut start = 0;
-    for (i, b) in text.iter().enumerate() {
-        let escape: &[u8] = match b {
-            b'"' => b"\\\"",
-            b'\\' => b"\\\\",
-            b'\n' => b"\\n",
-            b'\r' => b"\\r",
-            _ => continue,
-        };
-        out.write_all(&text[start..i])?;
-        out.write_all(escape)?;
-        start = i + 1;
-    }
-    out.write_all(&text[start..])
-}
-
 impl Row {
+    /// The fields, in order.
+    pub fn fields(&self) -> impl Iterator<Item = &[u8]> {
+        let mut start = 0;
+        self.ends.iter().map(move |end| {
+            let field = &self.text[start..*end];
+            start = *end;
+            field
+        })
+    }
+
     fn push(&mut self, b: u8) {
         self.text.push(b);
     }
@@ -87,54 +73,32 @@ impl Row {
     }
 }
 
-impl<W: Write> Converter<W> {
-    fn take_header(&mut self, text: &str) -> io::Result<()> {
+impl<J: Job> Records<J> {
+    fn take_header(&mut self) -> io::Result<()> {
+        self.columns = self.row.ends.len();
+        let text = str::from_utf8(&self.row.text).map_err(|_| bad("NotUtf8"))?;
         let mut start = 0;
-        let mut names: Vec<String> = Vec::new();
-        for (i, end) in self.row.ends.iter().enumerate() {
-            let name = name_of(i + 1, &text[start..*end]);
-            if names.contains(&name) {
-                return Err(bad("DuplicateName"));
-            }
-            self.predicates.push(format!("<{}#{name}>", self.url));
-            names.push(name);
+        let mut fields = Vec::new();
+        for end in &self.row.ends {
+            fields.push(&text[start..*end]);
             start = *end;
         }
-        Ok(())
-    }
-
-    fn take_row(&mut self) -> io::Result<()> {
-        self.number += 1;
-        if self.row.ends.len() != self.predicates.len() {
-            return Err(bad("RaggedRow"));
-        }
-        let label = format!("_:t1r{}s ", self.number);
-        let mut start = 0;
-        for (predicate, end) in self.predicates.iter().zip(&self.row.ends) {
-            let value = &self.row.text[start..*end];
-            start = *end;
-            if value.is_empty() {
-                continue;
-            }
-            self.out.write_all(label.as_bytes())?;
-            self.out.write_all(predicate.as_bytes())?;
-            self.out.write_all(b" \"")?;
-            write_escaped(&mut self.out, value)?;
-            self.out.write_all(b"\" .\n")?;
-        }
-        Ok(())
+        self.job.header(&fields)
     }
 
     fn end_row(&mut self) -> io::Result<()> {
+        self.source += 1;
         if !matches!(self.state, State::Comment) {
             self.row.end_field();
-            if self.predicates.is_empty() {
-                let text = self.row.text.clone();
-                let text = str::from_utf8(&text).map_err(|_| bad("NotUtf8"))?;
-                self.take_header(text)?;
+            if self.columns == 0 {
+                self.take_header()?;
             } else {
                 str::from_utf8(&self.row.text).map_err(|_| bad("NotUtf8"))?;
-                self.take_row()?;
+                if self.row.ends.len() != self.columns {
+                    return Err(bad("RaggedRow"));
+                }
+                self.number += 1;
+                self.job.row(&self.row, self.number, self.source)?;
             }
         }
         self.row.clear();
@@ -219,17 +183,18 @@ impl<W: Write> Converter<W> {
         if self.row.length > 0 {
             self.end_row()?;
         }
-        self.out.flush()
+        self.job.end()
     }
 }
 
-fn convert(url: String, file: &str) -> io::Result<()> {
+/// Gives the rows of a file to a job.
+pub fn read<J: Job>(file: &str, job: J) -> io::Result<()> {
     let mut input = File::open(file)?;
-    let mut converter = Converter {
-        out: BufWriter::with_capacity(PIECE, io::stdout().lock()),
-        url,
-        predicates: Vec::new(),
+    let mut records = Records {
+        job,
+        columns: 0,
         number: 0,
+        source: 0,
         state: State::FieldStart,
         after_cr: false,
         row: Row { text: Vec::new(), ends: Vec::new(), length: 0 },
@@ -238,25 +203,10 @@ fn convert(url: String, file: &str) -> io::Result<()> {
     loop {
         let n = input.read(&mut piece)?;
         if n == 0 {
-            return converter.end();
+            return records.end();
         }
         for b in &piece[..n] {
-            converter.take(*b)?;
-        }
-    }
-}
-
-fn main() -> ExitCode {
-    let words: Vec<String> = env::args().collect();
-    let [_, url, file] = words.as_slice() else {
-        eprintln!("usage: by_hand URL FILE");
-        return ExitCode::from(2);
-    };
-    match convert(url.clone(), file) {
-        Ok(()) => ExitCode::SUCCESS,
-        Err(error) => {
-            eprintln!("by_hand: {error}");
-            ExitCode::from(3)
+            records.take(*b)?;
         }
     }
 }
