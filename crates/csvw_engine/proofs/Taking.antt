@@ -4,6 +4,7 @@ use Rattle.std.specs.Prelude.{slice_get}
 use Rattle.std.specs.List.{list_all}
 use Rattle.std.proofs.lemmas.Option.{slice_get_within}
 use Rattle.std.specs.List.Sorted.{IsPermutation}
+use Rattle.std.proofs.lemmas.List.Sorted.{IsPermutation-trans, IsPermutation-append_right}
 use Rattle.csvw_text.specs.declared.counted.Counted.{Counted}
 use Rattle.csvw_text.specs.declared.fault.Fault.{Fault}
 use Rattle.csvw_columns.specs.declared.plan.Plan.{Plan}
@@ -16,16 +17,18 @@ use Rattle.csvw_engine_core.specs.Tables.{is_ended}
 use Rattle.csvw_engine_core.specs.declared.table.Table.{Table}
 use Rattle.csvw_report.specs.declared.outcome.Outcome.{Outcome}
 use Rattle.csvw_session.specs.Events.{Event, text_of, ended_in}
+use Rattle.csvw_keys.specs.KeyRules.{key_faults, rules_of}
+use Rattle.csvw_session.specs.Faults.{all_faults}
 use Rattle.csvw_session.specs.Finishing.{Finishes}
 use Rattle.csvw_session.specs.Refusing.{Refuses}
-use Rattle.csvw_session.specs.Sessions.{Stands, Starts, TableStands, TookGraph}
+use Rattle.csvw_session.specs.Sessions.{AreNumbered, Stands, Starts, TableStands, TookGraph}
 use Rattle.csvw_session.specs.declared.session.Session.{Session}
 use Rattle.csvw_session.specs.declared.stop.Stop.{Stop}
 use Rattle.csvw_session.specs.declared.stop.Stop.TheVariants as stop
 use Rattle.csvw_group.specs.Annotated.{AreAnnotated}
 use Rattle.csvw_group.specs.Graph.{GraphOf}
 use Rattle.csvw_group.specs.Law.{Annotates, texts_of}
-use Rattle.csvw_group.specs.Violations.{AreViolations}
+use Rattle.csvw_group.specs.Violations.{rows_of, tables_violations, AreViolations}
 use Rattle.csvw_reading.specs.Reading.{Gave, GaveTexts, Reads, ReadsAll}
 use Rattle.csvw_engine.specs.Groups.{GainsSome, TablesStop, TakesTables}
 use Rattle.csvw_engine.specs.Runs.{ReadWhole}
@@ -44,6 +47,13 @@ ended_stands : (plan : TablePlan) (mode : Mode) (table : Table) (bytes : List �
 ended_stands plan mode table bytes true rows e h = h.ended
 ended_stands plan mode table bytes false rows e h = cc
 
+-- faults that are listed, with those of keys in another order behind them
+with_keys : (given violated keys told listed : List Fault) → given ≡ violated → IsPermutation keys told → IsPermutation (given ++ told) listed
+    → IsPermutation (violated ++ keys) listed
+with_keys given violated keys told listed same order all =
+    IsPermutation-trans (violated ++ keys) (violated ++ told) listed (IsPermutation-append_right violated keys told order)
+    (subst (λ fs. IsPermutation (fs ++ told) listed) same all)
+
 module _ {R S : Type 0} (gains : S → List Triple → S → Type 0) (is_open : S → Bool) (failed : S → ℕ) (remaining : R → Option (List ℕ))
     (goes_on : (a b c : S) (xs ys : List Triple) → gains a xs b → gains b ys c → gains a (xs ++ ys) c) (sink start : S) (as_ready : IsAsReady is_open failed sink start) (olds news : List (Counted R)) where
   -- texts that were read whole
@@ -53,9 +63,12 @@ module _ {R S : Type 0} (gains : S → List Triple → S → Type 0) (is_open : 
 
   -- the session was read to its end
   module _ (old middle new : Session S) (all : ReadsAll gains is_open failed remaining start olds news old middle) (many : length olds ≡ length old.plan.tables)
-      (opened : gains sink (opening old.mode old.plan) start)
+      (numbered : AreNumbered old.plan.tables) (opened : gains sink (opening old.mode old.plan) start)
       (law : (events : List Event) (s : Session S) → gains sink (opening s.mode s.plan) start → Stands gains is_open failed start events s → list_all is_ended s.tables.items ≡ true
       → Annotates gains sink events s) where
+    still_numbered : AreNumbered middle.plan.tables
+    still_numbered = subst (λ (p : Plan). AreNumbered p.tables) (sym all.same.0) numbered
+
     whole : (outcome : Outcome) → Finishes middle new (Ok outcome) → TakesTables gains is_open failed remaining old.mode old.plan olds news sink new.sink (Ok outcome)
     whole outcome fin =
         let here : gains sink (opening middle.mode middle.plan) start =
@@ -67,7 +80,10 @@ module _ {R S : Type 0} (gains : S → List Triple → S → Type 0) (is_open : 
           tables = a.tables;
           annotated = subst (λ (p : Plan). AreAnnotated p.tables (texts_of all.events) a.tables) all.same.0 a.annotated;
           violations = subst (λ (p : Plan). AreViolations p a.tables outcome.faults) all.same.0 (record {
-            same = subst (λ (fs : List Fault). IsPermutation (middle.plan.warnings ++ fs) outcome.faults) a.faults fin.1.faults;
+            same = with_keys (middle.plan.warnings ++ all_faults middle.tables.items)
+                (middle.plan.warnings ++ tables_violations middle.plan.tables a.tables) (key_faults (rules_of middle.plan) (rows_of a.tables))
+                fin.1.key_faults outcome.faults (ap (λ (fs : List Fault). middle.plan.warnings ++ fs) a.faults)
+                (fin.1.told (rules_of middle.plan) (rows_of a.tables) (a.keys still_numbered)).same fin.1.faults;
             sorted = fin.1.sorted;
           });
           gives = record {

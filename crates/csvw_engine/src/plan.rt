@@ -2,6 +2,7 @@
 ghost use Rattle.std.specs.Prelude.{◌≤◌, IfOk, IfErr, length};
 ghost use Rattle.csvw_meta.specs.Document.{document};
 ghost use Rattle.csvw_session.specs.Ready.{AreReady};
+ghost use Rattle.csvw_session.specs.Sessions.{AreNumbered};
 ghost use Rattle.csvw_engine.specs.Planning.{IsMetaStop, TellsFault};
 ghost use Rattle.csvw_engine.specs.Runs.{IsPlanned};
 
@@ -25,6 +26,7 @@ fn meta_stop(fault: MetaFault) -> Stop
 pub(crate) fn planned(alloc: Global, meta: &[u8], base: &str) -> Result<Plan, Stop>
     ensures plan { IfOk result (λ plan. IsPlanned meta.now base.now plan) }
     ensures ready { IfOk result (λ plan. AreReady plan.tables) }
+    ensures numbered { IfOk result (λ plan. AreNumbered plan.tables) }
     ensures few { IfOk result (λ plan. length plan.tables ≤ 64) }
     ensures stop { IfErr result (λ reason. IsMetaStop (document base.now meta.now).faults reason) }
 {

@@ -12,7 +12,7 @@ use Rattle.csvw_triples_core.specs.declared.mode.Mode.{Mode}
 use Rattle.csvw_triples_core.specs.declared.term.Triple.{Triple}
 use Rattle.csvw_engine_core.specs.Annotated.{header_count, header_row, header_rows, data_rows, first_width, first_source, source_of, needed, IsHead, HasRows, AreAnnotated}
 use Rattle.csvw_engine_core.specs.Heads.{Settled}
-use Rattle.csvw_engine_core.specs.Tables.{Gone, GivesAll, GivesWhole, TableOutcome, EndOutcome, SettlesHead, SettlesTable, is_ended}
+use Rattle.csvw_engine_core.specs.Tables.{Outlets, Gone, GivesAll, GivesWhole, TableOutcome, EndOutcome, SettlesHead, SettlesTable, is_ended}
 use Rattle.csvw_engine_core.specs.declared.halt.Halt.{Halt}
 use Rattle.csvw_engine_core.specs.declared.halt.Halt.TheVariants as halt
 use Rattle.csvw_engine_core.specs.declared.table.Table.{Table}
@@ -37,7 +37,7 @@ short_data plan given h = drop_all (header_count plan) given (below_needed (head
 
 module _ {S : Type 0} (gains : S → List Triple → S → Type 0) (is_open : S → Bool) (failed : S → ℕ)
     (stays : (s : S) → gains s [] s) (goes_on : (a b c : S) (xs ys : List Triple) → gains a xs b → gains b ys c → gains a (xs ++ ys) c)
-    (plan : TablePlan) (mode : Mode) (bytes : List ℕ) (given : List Given) (rows : List Row) (old : Table) (before now : S) where
+    (plan : TablePlan) (mode : Mode) (bytes : List ℕ) (given : List Given) (rows : List Row) (old : Table) (before now : Outlets S) where
   -- a halt in front of the end
   pub ends_wrong : (new : Table) (reason : Halt) → TableOutcome gains is_open failed plan mode bytes true given rows old new before now (Err reason)
       → EndOutcome gains is_open failed plan mode bytes given rows old new before now (Err reason)
@@ -74,6 +74,7 @@ module _ {S : Type 0} (gains : S → List Triple → S → Type 0) (is_open : S 
             table = record { head = head.1; has = subst (λ z. HasRows plan z (given ++ g.raws) (rows ++ g.more)) e g.holds.has };
           };
           took = g.took;
+          kept = g.kept;
           told = g.told;
           keeps = g.keeps;
         }
@@ -110,14 +111,15 @@ module _ {S : Type 0} (gains : S → List Triple → S → Type 0) (is_open : S 
                 has = subst (λ z. AreAnnotated s.columns z (rows ++ g.more)) (sym (short_data plan (given ++ g.raws) short)) empty;
               };
             };
-            took = subst (λ ts. gains before ts now) (sym (same_triples mode plan.number mid.head.columns new.head.columns g.more stay no_more)) g.took;
+            took = subst (λ ts. gains before.sink ts now.sink) (sym (same_triples mode plan.number mid.head.columns new.head.columns g.more stay no_more)) g.took;
+            kept = g.kept;
             told = ap (λ (t : Table). t.faults) same
                 ∙ (g.told ∙ ap (λ z. old.faults ++ z) (sym (same_faults plan.number mid.head.columns new.head.columns g.more stay no_more)));
             keeps = λ columns e. stay columns (g.keeps columns e);
           }
 
       -- or is refused
-      settle_ends : GivenFirst → IsAsReady is_open failed before now → (new : Table) (r : Result Unit Halt) → SettlesHead plan mid new r
+      settle_ends : GivenFirst → IsAsReady is_open failed before.sink now.sink → (new : Table) (r : Result Unit Halt) → SettlesHead plan mid new r
           → EndOutcome gains is_open failed plan mode bytes given rows old new before now r
       settle_ends law ready new (Ok u) s = (settled_end new s.0 s.1, ready)
       settle_ends law ready new (Err halt.Memory) s =
@@ -146,7 +148,7 @@ module _ {S : Type 0} (gains : S → List Triple → S → Type 0) (is_open : S 
         ready,
       )
 
-    pub ends : GivenFirst → IsAsReady is_open failed before now → (new : Table) (r : Result Unit Halt) → SettlesTable plan mid new r
+    pub ends : GivenFirst → IsAsReady is_open failed before.sink now.sink → (new : Table) (r : Result Unit Halt) → SettlesTable plan mid new r
         → EndOutcome gains is_open failed plan mode bytes given rows old new before now r
     ends law ready new r (inl s) =
         subst (EndOutcome gains is_open failed plan mode bytes given rows old new before now) (sym s.3)

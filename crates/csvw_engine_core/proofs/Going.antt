@@ -1,5 +1,6 @@
 -- How a table and its sink go on, row by row.
-use Rattle.std.proofs.Common.{◌≡◌, ◌+◌, ℕ, Bool, List, [], ◌∷◌, ◌++◌, refl, sym, ap, ◌∙◌, subst, append_assoc, append-nil, Option, Some, None, Result, Err}
+use Rattle.std.proofs.Common.{◌≡◌, ◌+◌, ℕ, Bool, true, false, List, [], ◌∷◌, ◌++◌, refl, sym, ap, ◌∙◌, subst, append_assoc, append-nil, Option, Some, None, Result, Err}
+use Rattle.std.specs.Prelude.{nat_eq, if◌then◌else◌}
 use Rattle.std.proofs.lemmas.List.Concat.{flat_map-append}
 use Rattle.csvw_text.specs.declared.fault.Fault.{Fault}
 use Rattle.csvw_rows.specs.Laws.{GivenFirst}
@@ -7,13 +8,17 @@ use Rattle.csvw_rows.specs.RowValue.{Given}
 use Rattle.csvw_columns_core.specs.declared.columns.Columns.{Columns}
 use Rattle.csvw_columns.specs.declared.plan.TablePlan.{TablePlan}
 use Rattle.csvw_annotate.specs.declared.row.Row.{Row}
+use Rattle.csvw_keys.specs.Books.{KeepsKeys}
+use Rattle.csvw_keys.specs.KeyRules.{KeyRule}
+use Rattle.csvw_keys.specs.Tables.{with_row, with_rows}
+use Rattle.csvw_keys.specs.declared.key_book.KeyBook.{KeyBook}
 use Rattle.csvw_triples_core.specs.Taking.{FrontOf, IsAsReady}
 use Rattle.csvw_triples_core.specs.declared.mode.Mode.{Mode}
 use Rattle.csvw_triples_core.specs.declared.term.Triple.{Triple}
 use Rattle.csvw_triples.specs.ModeTriples.{row_triples}
 use Rattle.csvw_engine_core.specs.Annotated.{IsTable, HasRows}
 use Rattle.csvw_engine_core.specs.Faults.{row_faults, table_faults}
-use Rattle.csvw_engine_core.specs.Tables.{max_rows, TableHolds, KeepsColumns, Keeps, Goes, HaltsSo, IsStopped, IsRefused, IsAtRest, Gives, Gone, GivesAll, GivesSome, GivesFront, TableOutcome, table_triples}
+use Rattle.csvw_engine_core.specs.Tables.{max_rows, TableHolds, KeepsColumns, Keeps, Goes, HaltsSo, IsStopped, IsRefused, IsAtRest, Gives, Gone, GivesAll, GivesSome, GivesFront, TableOutcome, Outlets, AddsRows, table_triples}
 use Rattle.csvw_engine_core.specs.declared.halt.Halt.{Halt}
 use Rattle.csvw_engine_core.specs.declared.halt.Halt.TheVariants as halt
 use Rattle.csvw_engine_core.specs.declared.table.Table.{Table}
@@ -53,6 +58,26 @@ pub none_more : (plan : TablePlan) (columns : Option Columns) (given : List Give
 none_more plan None given rows more h e = both_empty rows more h
 none_more plan (Some columns) given rows more h e = cc
 
+no_rows_at : (b : Bool) (rows : List Row) → rows ≡ (if b then rows ++ [] else rows)
+no_rows_at true rows = sym (append-nil rows)
+no_rows_at false rows = refl
+
+row_behind : (b : Bool) (rows more : List Row) (row : Row)
+    → (if b then (if b then rows ++ more else rows) ++ row ∷ [] else (if b then rows ++ more else rows)) ≡ (if b then rows ++ (more ++ row ∷ []) else rows)
+row_behind true rows more row = append_assoc rows more (row ∷ [])
+row_behind false rows more row = refl
+
+-- no rows more
+pub adds_none : (t : ℕ) (book : KeyBook) → AddsRows t [] book book
+adds_none t book rules tables k = subst (KeepsKeys book rules) (λ i n. no_rows_at (nat_eq t n) (tables n) i) k
+
+-- a row behind others
+pub adds_row : (t : ℕ) (more : List Row) (row : Row) (first old new : KeyBook) → AddsRows t more first old
+    → ((rules : List KeyRule) (tables : ℕ → List Row) → KeepsKeys old rules tables → KeepsKeys new rules (with_row tables t row))
+    → AddsRows t (more ++ row ∷ []) first new
+adds_row t more row first old new before add rules tables k =
+    subst (KeepsKeys new rules) (λ i n. row_behind (nat_eq t n) (tables n) more row i) (add rules (with_rows tables t more) (before rules tables k))
+
 -- the same table with other faults
 pub holds_told : (plan : TablePlan) (mode : Mode) (t : Table) (faults : List Fault) (bytes : List ℕ) (ended : Bool) (given : List Given) (rows : List Row)
     → TableHolds plan mode t bytes ended given rows → TableHolds plan mode (record t { faults = faults }) bytes ended given rows
@@ -61,28 +86,30 @@ holds_told plan mode t faults bytes ended given rows h = record { number_is = h.
 module _ {S : Type 0} (gains : S → List Triple → S → Type 0) (is_open : S → Bool) (failed : S → ℕ)
     (stays : (s : S) → gains s [] s) (goes_on : (a b c : S) (xs ys : List Triple) → gains a xs b → gains b ys c → gains a (xs ++ ys) c)
     (plan : TablePlan) (mode : Mode) (bytes : List ℕ) (ended : Bool) (given : List Given) (rows : List Row) where
-  pub gone_nothing : (t : Table) (s : S) → TableHolds plan mode t bytes ended given rows → Gone gains plan mode bytes ended given rows t t s s
+  pub gone_nothing : (t : Table) (s : Outlets S) → TableHolds plan mode t bytes ended given rows → Gone gains plan mode bytes ended given rows t t s s
   gone_nothing t s h = record {
     raws = [];
     more = [];
     holds = subst (λ g. TableHolds plan mode t bytes ended g (rows ++ [])) (sym (append-nil given)) (subst (λ r. TableHolds plan mode t bytes ended given r) (sym (append-nil rows)) h);
-    took = subst (λ ts. gains s ts s) (sym (no_triples mode plan.number t.head.columns)) (stays s);
+    took = subst (λ ts. gains s.sink ts s.sink) (sym (no_triples mode plan.number t.head.columns)) (stays s.sink);
+    kept = adds_none plan.number s.keys;
     told = sym (ap (λ z. t.faults ++ z) (no_faults plan.number t.head.columns) ∙ append-nil t.faults);
     keeps = λ columns e. e;
   }
 
-  module _ (first : Table) (start : S) where
+  module _ (first : Table) (start : Outlets S) where
     -- what was given goes on where the table does
-    took_on : (old new : Table) (now : S) → KeepsColumns old new → (g : Gone gains plan mode bytes ended given rows first old start now) → gains start (table_triples mode plan.number new.head.columns g.more) now
+    took_on : (old new : Table) (now : Outlets S) → KeepsColumns old new → (g : Gone gains plan mode bytes ended given rows first old start now)
+        → gains start.sink (table_triples mode plan.number new.head.columns g.more) now.sink
     took_on old new now stay g =
-        subst (λ ts. gains start ts now) (sym (same_triples mode plan.number old.head.columns new.head.columns g.more stay (none_more plan old.head.columns (given ++ g.raws) rows g.more g.holds.has))) g.took
+        subst (λ ts. gains start.sink ts now.sink) (sym (same_triples mode plan.number old.head.columns new.head.columns g.more stay (none_more plan old.head.columns (given ++ g.raws) rows g.more g.holds.has))) g.took
 
-    told_on : (old new : Table) (now : S) → KeepsColumns old new → (g : Gone gains plan mode bytes ended given rows first old start now) → old.faults ≡ first.faults ++ table_faults plan.number new.head.columns g.more
+    told_on : (old new : Table) (now : Outlets S) → KeepsColumns old new → (g : Gone gains plan mode bytes ended given rows first old start now) → old.faults ≡ first.faults ++ table_faults plan.number new.head.columns g.more
     told_on old new now stay g =
         g.told ∙ ap (λ z. first.faults ++ z) (sym (same_faults plan.number old.head.columns new.head.columns g.more stay (none_more plan old.head.columns (given ++ g.raws) rows g.more g.holds.has)))
 
     -- a header row
-    pub gone_header : (old new : Table) (now : S) → Keeps old new → Goes plan old new (λ r. r)
+    pub gone_header : (old new : Table) (now : Outlets S) → Keeps old new → Goes plan old new (λ r. r)
         → Gone gains plan mode bytes ended given rows first old start now → Gone gains plan mode bytes ended given rows first new start now
     gone_header old new now keeps goes g =
         let k = goes mode bytes ended (given ++ g.raws) (rows ++ g.more) g.holds in
@@ -91,23 +118,24 @@ module _ {S : Type 0} (gains : S → List Triple → S → Type 0) (is_open : S 
           more = g.more;
           holds = subst (λ z. TableHolds plan mode new bytes ended z (rows ++ g.more)) (append_assoc given g.raws (k.0 ∷ [])) k.1;
           took = took_on old new now keeps.columns g;
+          kept = g.kept;
           told = keeps.faults ∙ told_on old new now keeps.columns g;
           keeps = λ columns e. keeps.columns columns (g.keeps columns e);
         }
 
     -- nothing more
-    pub gone_same : (old new : Table) (now : S) → Keeps old new
+    pub gone_same : (old new : Table) (now : Outlets S) → Keeps old new
         → ((m : Mode) (b : List ℕ) (e : Bool) (gs : List Given) (rs : List Row) → TableHolds plan m old b e gs rs → TableHolds plan m new b e gs rs × IsAtRest plan b e gs)
         → Gone gains plan mode bytes ended given rows first old start now → GivesAll gains plan mode bytes ended given rows first new start now
     gone_same old new now keeps goes g =
         let k = goes mode bytes ended (given ++ g.raws) (rows ++ g.more) g.holds in
         record {
-          gone = record { raws = g.raws; more = g.more; holds = k.0; took = took_on old new now keeps.columns g; told = keeps.faults ∙ told_on old new now keeps.columns g; keeps = λ columns e. keeps.columns columns (g.keeps columns e) };
+          gone = record { raws = g.raws; more = g.more; holds = k.0; took = took_on old new now keeps.columns g; kept = g.kept; told = keeps.faults ∙ told_on old new now keeps.columns g; keeps = λ columns e. keeps.columns columns (g.keeps columns e) };
           at_rest = k.1;
         }
 
     -- the table with its row and its faults
-    held_row : (old mid new : Table) (now : S) (row : Row) → Goes plan old mid (λ r. r ++ row ∷ []) → new ≡ record mid { faults = new.faults }
+    held_row : (old mid new : Table) (now : Outlets S) (row : Row) → Goes plan old mid (λ r. r ++ row ∷ []) → new ≡ record mid { faults = new.faults }
         → (g : Gone gains plan mode bytes ended given rows first old start now)
         → (raw : Given) × TableHolds plan mode new bytes ended (given ++ (g.raws ++ raw ∷ [])) (rows ++ (g.more ++ row ∷ []))
     held_row old mid new now row goes same g =
@@ -120,12 +148,13 @@ module _ {S : Type 0} (gains : S → List Triple → S → Type 0) (is_open : S 
               (subst (λ z. TableHolds plan mode (record mid { faults = new.faults }) bytes ended ((given ++ g.raws) ++ k.0 ∷ []) z) (append_assoc rows g.more (row ∷ [])) there)),
         )
 
-    -- a row, whose triples the sink took
-    pub gone_row : (old mid new : Table) (now then : S) (row : Row) → Keeps old mid → Goes plan old mid (λ r. r ++ row ∷ []) → new ≡ record mid { faults = new.faults }
+    -- a row, whose triples the sink took, and its keys the book
+    pub gone_row : (old mid new : Table) (now after : Outlets S) (row : Row) → Keeps old mid → Goes plan old mid (λ r. r ++ row ∷ []) → new ≡ record mid { faults = new.faults }
         → new.faults ≡ mid.faults ++ table_faults mid.number mid.head.columns (row ∷ [])
-        → gains now (table_triples new.mode new.number new.head.columns (row ∷ [])) then
-        → Gone gains plan mode bytes ended given rows first old start now → Gone gains plan mode bytes ended given rows first new start then
-    gone_row old mid new now then row keeps goes same told gained g =
+        → gains now.sink (table_triples new.mode new.number new.head.columns (row ∷ [])) after.sink
+        → ((rules : List KeyRule) (tables : ℕ → List Row) → KeepsKeys now.keys rules tables → KeepsKeys after.keys rules (with_row tables new.number row))
+        → Gone gains plan mode bytes ended given rows first old start now → Gone gains plan mode bytes ended given rows first new start after
+    gone_row old mid new now after row keeps goes same told gained added g =
         let k = held_row old mid new now row goes same g in
         let columns : new.head.columns ≡ mid.head.columns = ap (λ (t : Table). t.head.columns) same in
         let stay : KeepsColumns old new = λ c e. columns ∙ keeps.columns c e in
@@ -135,10 +164,12 @@ module _ {S : Type 0} (gains : S → List Triple → S → Type 0) (is_open : S 
           raws = g.raws ++ k.0 ∷ [];
           more = g.more ++ row ∷ [];
           holds = k.1;
-          took = subst (λ ts. gains start ts then) (sym (triples_more mode plan.number new.head.columns g.more (row ∷ [])))
-              (goes_on start now then (table_triples mode plan.number new.head.columns g.more) (table_triples mode plan.number new.head.columns (row ∷ [])) (took_on old new now stay g)
-              (subst (λ m. gains now (table_triples m plan.number new.head.columns (row ∷ [])) then) k.1.mode_is
-              (subst (λ n. gains now (table_triples new.mode n new.head.columns (row ∷ [])) then) number gained)));
+          took = subst (λ ts. gains start.sink ts after.sink) (sym (triples_more mode plan.number new.head.columns g.more (row ∷ [])))
+              (goes_on start.sink now.sink after.sink (table_triples mode plan.number new.head.columns g.more) (table_triples mode plan.number new.head.columns (row ∷ [])) (took_on old new now stay g)
+              (subst (λ m. gains now.sink (table_triples m plan.number new.head.columns (row ∷ [])) after.sink) k.1.mode_is
+              (subst (λ n. gains now.sink (table_triples new.mode n new.head.columns (row ∷ [])) after.sink) number gained)));
+          kept = adds_row plan.number g.more row start.keys now.keys after.keys g.kept
+              (λ rules tables b. subst (λ n. KeepsKeys after.keys rules (with_row tables n row)) number (added rules tables b));
           told = told
               ∙ (ap (λ z. z ++ table_faults mid.number mid.head.columns (row ∷ [])) (keeps.faults ∙ told_on old new now stay g)
               ∙ (append_assoc first.faults (table_faults plan.number new.head.columns g.more) (table_faults mid.number mid.head.columns (row ∷ []))
@@ -152,19 +183,21 @@ module _ {S : Type 0} (gains : S → List Triple → S → Type 0) (is_open : S 
     table_of : (t : Table) (gs : List Given) (rs : List Row) → TableHolds plan mode t bytes ended gs rs → IsTable plan gs t.head.columns t.head.faults rs
     table_of t gs rs h = record { head = h.head.known; has = h.has }
 
-    part_of_all : (now : S) (ts : List Triple) → gains start ts now → FrontOf gains start ts now
+    part_of_all : (now : Outlets S) (ts : List Triple) → gains start.sink ts now.sink → FrontOf gains start.sink ts now.sink
     part_of_all now ts g = record { front = ts; rest = []; parts = sym (append-nil ts); gained = g }
 
-    part_on : (now then : S) (xs ys : List Triple) → gains start xs now → FrontOf gains now ys then → FrontOf gains start (xs ++ ys) then
-    part_on now then xs ys g f = record {
+    part_on : (now after : Outlets S) (xs ys : List Triple) → gains start.sink xs now.sink → FrontOf gains now.sink ys after.sink
+        → FrontOf gains start.sink (xs ++ ys) after.sink
+    part_on now after xs ys g f = record {
       front = xs ++ f.front;
       rest = f.rest;
       parts = ap (λ z. xs ++ z) f.parts ∙ sym (append_assoc xs f.front f.rest);
-      gained = goes_on start now then xs f.front g f.gained;
+      gained = goes_on start.sink now.sink after.sink xs f.front g f.gained;
     }
 
     -- between two rows
-    pub some_given : GivenFirst → (t : Table) (now : S) → Gone gains plan mode bytes ended given rows first t start now → GivesSome gains plan mode bytes ended given rows start now
+    pub some_given : GivenFirst → (t : Table) (now : Outlets S) → Gone gains plan mode bytes ended given rows first t start now
+        → GivesSome gains plan mode bytes ended given rows start.sink now.sink
     some_given law t now g = record {
       raws = g.raws;
       more = g.more;
@@ -176,10 +209,10 @@ module _ {S : Type 0} (gains : S → List Triple → S → Type 0) (is_open : S 
     }
 
     -- within the triples of a row
-    pub row_cut : GivenFirst → (old mid new : Table) (now then : S) (row : Row) → Keeps old mid → Goes plan old mid (λ r. r ++ row ∷ []) → new ≡ record mid { faults = new.faults }
-        → FrontOf gains now (table_triples new.mode new.number new.head.columns (row ∷ [])) then
-        → Gone gains plan mode bytes ended given rows first old start now → GivesSome gains plan mode bytes ended given rows start then
-    row_cut law old mid new now then row keeps goes same cut g =
+    pub row_cut : GivenFirst → (old mid new : Table) (now after : Outlets S) (row : Row) → Keeps old mid → Goes plan old mid (λ r. r ++ row ∷ []) → new ≡ record mid { faults = new.faults }
+        → FrontOf gains now.sink (table_triples new.mode new.number new.head.columns (row ∷ [])) after.sink
+        → Gone gains plan mode bytes ended given rows first old start now → GivesSome gains plan mode bytes ended given rows start.sink after.sink
+    row_cut law old mid new now after row keeps goes same cut g =
         let k = held_row old mid new now row goes same g in
         let columns : new.head.columns ≡ mid.head.columns = ap (λ (t : Table). t.head.columns) same in
         let stay : KeepsColumns old new = λ c e. columns ∙ keeps.columns c e in
@@ -190,14 +223,14 @@ module _ {S : Type 0} (gains : S → List Triple → S → Type 0) (is_open : S 
           columns = new.head.columns;
           faults = new.head.faults;
           table = table_of new (given ++ (g.raws ++ k.0 ∷ [])) (rows ++ (g.more ++ row ∷ [])) k.1;
-          took = subst (λ ts. FrontOf gains start ts then) (sym (triples_more mode plan.number new.head.columns g.more (row ∷ [])))
-              (part_on now then (table_triples mode plan.number new.head.columns g.more) (table_triples mode plan.number new.head.columns (row ∷ [])) (took_on old new now stay g)
-              (subst (λ m. FrontOf gains now (table_triples m plan.number new.head.columns (row ∷ [])) then) k.1.mode_is
-              (subst (λ n. FrontOf gains now (table_triples new.mode n new.head.columns (row ∷ [])) then) k.1.number_is cut)));
+          took = subst (λ ts. FrontOf gains start.sink ts after.sink) (sym (triples_more mode plan.number new.head.columns g.more (row ∷ [])))
+              (part_on now after (table_triples mode plan.number new.head.columns g.more) (table_triples mode plan.number new.head.columns (row ∷ [])) (took_on old new now stay g)
+              (subst (λ m. FrontOf gains now.sink (table_triples m plan.number new.head.columns (row ∷ [])) after.sink) k.1.mode_is
+              (subst (λ n. FrontOf gains now.sink (table_triples new.mode n new.head.columns (row ∷ [])) after.sink) k.1.number_is cut)));
         }
 
-    all_given : (t : Table) (now : S) (Why : Option Columns → List Given → Type 0) → (g : Gone gains plan mode bytes ended given rows first t start now) → Why t.head.columns (given ++ g.raws)
-        → GivesFront gains plan mode bytes ended given rows start now Why
+    all_given : (t : Table) (now : Outlets S) (Why : Option Columns → List Given → Type 0) → (g : Gone gains plan mode bytes ended given rows first t start now) → Why t.head.columns (given ++ g.raws)
+        → GivesFront gains plan mode bytes ended given rows start.sink now.sink Why
     all_given t now Why g why = record {
       raws = g.raws;
       more = g.more;
@@ -209,7 +242,7 @@ module _ {S : Type 0} (gains : S → List Triple → S → Type 0) (is_open : S 
     }
 
     -- a halt in the text
-    pub text_halts : GivenFirst → (t new : Table) (now : S) (reason : Halt) → HaltsSo plan t reason → IsAsReady is_open failed start now
+    pub text_halts : GivenFirst → (t new : Table) (now : Outlets S) (reason : Halt) → HaltsSo plan t reason → IsAsReady is_open failed start.sink now.sink
         → Gone gains plan mode bytes ended given rows first t start now → TableOutcome gains is_open failed plan mode bytes ended given rows first new start now (Err reason)
     text_halts law t new now halt.Memory so ready g = (some_given law t now g, ready)
     text_halts law t new now halt.Write so ready g = absurd so
@@ -218,21 +251,21 @@ module _ {S : Type 0} (gains : S → List Triple → S → Type 0) (is_open : S 
     text_halts law t new now (halt.Table row stop) so ready g =
         (all_given t now (λ columns all. IsRefused plan columns bytes ended all row stop) g (so mode bytes ended (given ++ g.raws) (rows ++ g.more) g.holds), ready)
 
-    ready_on : (a b c : S) → IsAsReady is_open failed a b → IsAsReady is_open failed b c → IsAsReady is_open failed a c
+    ready_on : (a b c : Outlets S) → IsAsReady is_open failed a.sink b.sink → IsAsReady is_open failed b.sink c.sink → IsAsReady is_open failed a.sink c.sink
     ready_on a b c f g = (g.0 ∙ f.0, g.1 ∙ f.1)
 
     -- a halt at the sink
-    pub sink_halts : GivenFirst → (old mid new : Table) (now then : S) (row : Row) (reason : Halt) → Keeps old mid → Goes plan old mid (λ r. r ++ row ∷ []) → new ≡ record mid { faults = new.faults }
-        → Gives gains is_open failed (table_triples new.mode new.number new.head.columns (row ∷ [])) now then (Err reason) → IsAsReady is_open failed start now
-        → Gone gains plan mode bytes ended given rows first old start now → TableOutcome gains is_open failed plan mode bytes ended given rows first new start then (Err reason)
-    sink_halts law old mid new now then row halt.Memory keeps goes same gave ready g =
-        (row_cut law old mid new now then row keeps goes same gave.0 g, ready_on start now then ready gave.1)
-    sink_halts law old mid new now then row halt.Write keeps goes same gave ready g =
-        (row_cut law old mid new now then row keeps goes same gave.0 g, λ is_ready room. gave.1 (ready.0 ∙ is_ready) (rw ready.1 room) ∙ ap (λ n. n + 1) ready.1)
-    sink_halts law old mid new now then row (halt.Rows at stop) keeps goes same gave ready g = absurd gave
-    sink_halts law old mid new now then row (halt.Table at stop) keeps goes same gave ready g = absurd gave
+    pub sink_halts : GivenFirst → (old mid new : Table) (now after : Outlets S) (row : Row) (reason : Halt) → Keeps old mid → Goes plan old mid (λ r. r ++ row ∷ []) → new ≡ record mid { faults = new.faults }
+        → Gives gains is_open failed (table_triples new.mode new.number new.head.columns (row ∷ [])) now.sink after.sink (Err reason) → IsAsReady is_open failed start.sink now.sink
+        → Gone gains plan mode bytes ended given rows first old start now → TableOutcome gains is_open failed plan mode bytes ended given rows first new start after (Err reason)
+    sink_halts law old mid new now after row halt.Memory keeps goes same gave ready g =
+        (row_cut law old mid new now after row keeps goes same gave.0 g, ready_on start now after ready gave.1)
+    sink_halts law old mid new now after row halt.Write keeps goes same gave ready g =
+        (row_cut law old mid new now after row keeps goes same gave.0 g, λ is_ready room. gave.1 (ready.0 ∙ is_ready) (rw ready.1 room) ∙ ap (λ n. n + 1) ready.1)
+    sink_halts law old mid new now after row (halt.Rows at stop) keeps goes same gave ready g = absurd gave
+    sink_halts law old mid new now after row (halt.Table at stop) keeps goes same gave ready g = absurd gave
 
     -- an answer that tells a halt
-    pub outcome_err : (new : Table) (now : S) (r : Result Unit Halt) (e f : Halt) → r ≡ Err e → e ≡ f
+    pub outcome_err : (new : Table) (now : Outlets S) (r : Result Unit Halt) (e f : Halt) → r ≡ Err e → e ≡ f
         → TableOutcome gains is_open failed plan mode bytes ended given rows first new start now (Err f) → TableOutcome gains is_open failed plan mode bytes ended given rows first new start now r
     outcome_err new now r e f p q so = subst (TableOutcome gains is_open failed plan mode bytes ended given rows first new start now) (sym (p ∙ ap Err q)) so

@@ -12,7 +12,7 @@ use Rattle.csvw_triples_core.specs.declared.mode.Mode.{Mode}
 use Rattle.csvw_triples_core.specs.declared.term.Triple.{Triple}
 use Rattle.csvw_engine_core.specs.Annotated.{IsHead, HasRows}
 use Rattle.csvw_engine_core.specs.Halts.{of_row_stop}
-use Rattle.csvw_engine_core.specs.Tables.{max_rows, TableHolds, TableOutcome, EndOutcome}
+use Rattle.csvw_engine_core.specs.Tables.{max_rows, Outlets, TableHolds, TableOutcome, EndOutcome}
 use Rattle.csvw_engine_core.specs.declared.halt.Halt.{Halt}
 use Rattle.csvw_engine_core.specs.declared.halt.Halt.TheVariants as halt
 use Rattle.csvw_engine_core.specs.declared.table.Table.{Table}
@@ -32,7 +32,7 @@ holds_moved plan mode t rows bytes more ended closed given annotated move h = re
 
 -- the reader had no memory for more of the text
 pub unfed : {S : Type 0} (gains : S → List Triple → S → Type 0) (is_open : S → Bool) (failed : S → ℕ) (stays : (s : S) → gains s [] s) (law : GivenFirstLater)
-    (plan : TablePlan) (mode : Mode) (t new : Table) (bytes piece : List ℕ) (given : List Given) (rows : List Row) (s : S) (stop : RowStop) (row : ℕ)
+    (plan : TablePlan) (mode : Mode) (t new : Table) (bytes piece : List ℕ) (given : List Given) (rows : List Row) (s : Outlets S) (stop : RowStop) (row : ℕ)
     → (stop_of t.rows ≡ Some stop) ⊎ (stop ≡ row_stop.Memory) → TableHolds plan mode t bytes false given rows
     → TableOutcome gains is_open failed plan mode (bytes ++ piece) false given rows t new s s (Err (of_row_stop row stop))
 unfed gains is_open failed stays law plan mode t new bytes piece given rows s stop row (inl e) h = let wrong : None ≡ Some stop = sym h.reader.no_stop ∙ e in cc
@@ -52,7 +52,7 @@ unfed gains is_open failed stays law plan mode t new bytes piece given rows s st
           front = [];
           rest = [];
           parts = no_triples mode plan.number t.head.columns;
-          gained = stays s;
+          gained = stays s.sink;
         };
       },
       (refl, refl),
@@ -60,11 +60,11 @@ unfed gains is_open failed stays law plan mode t new bytes piece given rows s st
 
 -- what a call leaves of the table that took more of its text
 pub outcome_moved : {S : Type 0} (gains : S → List Triple → S → Type 0) (is_open : S → Bool) (failed : S → ℕ) (plan : TablePlan) (mode : Mode) (bytes : List ℕ) (ended : Bool) (given : List Given) (annotated : List Row)
-    (t new : Table) (rows : Rows) (before now : S) (r : Result Unit Halt)
+    (t new : Table) (rows : Rows) (before now : Outlets S) (r : Result Unit Halt)
     → TableOutcome gains is_open failed plan mode bytes ended given annotated (record t { rows = rows }) new before now r → TableOutcome gains is_open failed plan mode bytes ended given annotated t new before now r
 outcome_moved gains is_open failed plan mode bytes ended given annotated t new rows before now (Ok u) h = (
   record {
-    gone = record { raws = h.0.gone.raws; more = h.0.gone.more; holds = h.0.gone.holds; took = h.0.gone.took; told = h.0.gone.told; keeps = h.0.gone.keeps };
+    gone = record { raws = h.0.gone.raws; more = h.0.gone.more; holds = h.0.gone.holds; took = h.0.gone.took; kept = h.0.gone.kept; told = h.0.gone.told; keeps = h.0.gone.keeps };
     at_rest = h.0.at_rest;
   },
   h.1,
@@ -75,10 +75,10 @@ outcome_moved gains is_open failed plan mode bytes ended given annotated t new r
 outcome_moved gains is_open failed plan mode bytes ended given annotated t new rows before now (Err (halt.Table row stop)) h = h
 
 pub end_moved : {S : Type 0} (gains : S → List Triple → S → Type 0) (is_open : S → Bool) (failed : S → ℕ) (plan : TablePlan) (mode : Mode) (bytes : List ℕ) (given : List Given) (annotated : List Row)
-    (t new : Table) (rows : Rows) (before now : S) (r : Result Unit Halt)
+    (t new : Table) (rows : Rows) (before now : Outlets S) (r : Result Unit Halt)
     → EndOutcome gains is_open failed plan mode bytes given annotated (record t { rows = rows }) new before now r → EndOutcome gains is_open failed plan mode bytes given annotated t new before now r
 end_moved gains is_open failed plan mode bytes given annotated t new rows before now (Ok u) h =
-    (record { more = h.0.more; holds = h.0.holds; took = h.0.took; told = h.0.told; keeps = h.0.keeps }, h.1)
+    (record { more = h.0.more; holds = h.0.holds; took = h.0.took; kept = h.0.kept; told = h.0.told; keeps = h.0.keeps }, h.1)
 end_moved gains is_open failed plan mode bytes given annotated t new rows before now (Err halt.Memory) h = h
 end_moved gains is_open failed plan mode bytes given annotated t new rows before now (Err halt.Write) h = h
 end_moved gains is_open failed plan mode bytes given annotated t new rows before now (Err (halt.Rows row stop)) h = h

@@ -11,6 +11,10 @@ use Rattle.csvw_columns_core.specs.declared.columns.Columns.{Columns}
 use Rattle.csvw_columns.specs.declared.plan.TablePlan.{TablePlan}
 use Rattle.csvw_columns.specs.declared.table_stop.TableStop.{TableStop}
 use Rattle.csvw_annotate.specs.declared.row.Row.{Row}
+use Rattle.csvw_keys.specs.Books.{KeepsKeys}
+use Rattle.csvw_keys.specs.KeyRules.{KeyRule}
+use Rattle.csvw_keys.specs.Tables.{with_rows}
+use Rattle.csvw_keys.specs.declared.key_book.KeyBook.{KeyBook}
 use Rattle.csvw_triples_core.specs.Taking.{FrontOf, IsAsReady}
 use Rattle.csvw_triples_core.specs.declared.mode.Mode.{Mode}
 use Rattle.csvw_triples_core.specs.declared.term.Triple.{Triple}
@@ -120,17 +124,30 @@ Gives gains is_open failed triples old new (Err halt.Write) = FrontOf gains old 
 Gives gains is_open failed triples old new (Err (halt.Rows row stop)) = ⊥
 Gives gains is_open failed triples old new (Err (halt.Table row stop)) = ⊥
 
--- Rows more were given: the sink took their triples, and their faults were told.
-pub record Gone {S : Type 0} (gains : S → List Triple → S → Type 0) (plan : TablePlan) (mode : Mode) (bytes : List ℕ) (ended : Bool) (given : List Given) (rows : List Row) (old new : Table) (before now : S) : Type 0 where
+-- what rows go to: the sink for their triples, and the book for their keys
+pub record Outlets (S : Type 0) : Type 0 where
+  pub sink : S
+  pub keys : KeyBook
+
+abbrev pub outlets : {S : Type 0} → S → KeyBook → Outlets S
+outlets sink keys = record { sink = sink; keys = keys }
+
+-- the book took rows more of a table
+abbrev pub AddsRows : ℕ → List Row → KeyBook → KeyBook → Type 0
+AddsRows table more old new = (rules : List KeyRule) (tables : ℕ → List Row) → KeepsKeys old rules tables → KeepsKeys new rules (with_rows tables table more)
+
+-- Rows more were given: the sink took their triples, the book their keys, and their faults were told.
+pub record Gone {S : Type 0} (gains : S → List Triple → S → Type 0) (plan : TablePlan) (mode : Mode) (bytes : List ℕ) (ended : Bool) (given : List Given) (rows : List Row) (old new : Table) (before now : Outlets S) : Type 0 where
   pub raws : List Given
   pub more : List Row
   pub holds : TableHolds plan mode new bytes ended (given ++ raws) (rows ++ more)
-  pub took : gains before (table_triples mode plan.number new.head.columns more) now
+  pub took : gains before.sink (table_triples mode plan.number new.head.columns more) now.sink
+  pub kept : AddsRows plan.number more before.keys now.keys
   pub told : new.faults ≡ old.faults ++ table_faults plan.number new.head.columns more
   pub keeps : KeepsColumns old new
 
 -- all rows of the text so far were given
-pub record GivesAll {S : Type 0} (gains : S → List Triple → S → Type 0) (plan : TablePlan) (mode : Mode) (bytes : List ℕ) (ended : Bool) (given : List Given) (rows : List Row) (old new : Table) (before now : S) : Type 0 where
+pub record GivesAll {S : Type 0} (gains : S → List Triple → S → Type 0) (plan : TablePlan) (mode : Mode) (bytes : List ℕ) (ended : Bool) (given : List Given) (rows : List Row) (old new : Table) (before now : Outlets S) : Type 0 where
   pub gone : Gone gains plan mode bytes ended given rows old new before now
   pub at_rest : IsAtRest plan bytes ended (given ++ gone.raws)
 
@@ -155,17 +172,17 @@ pub record GivesFront {S : Type 0} (gains : S → List Triple → S → Type 0) 
   pub took : gains before (table_triples mode plan.number columns more) now
 
 -- what a call leaves, by its answer
-abbrev pub TableOutcome : {S : Type 0} → (S → List Triple → S → Type 0) → (S → Bool) → (S → ℕ) → TablePlan → Mode → List ℕ → Bool → List Given → List Row → Table → Table → S → S → Result Unit Halt → Type 0
+abbrev pub TableOutcome : {S : Type 0} → (S → List Triple → S → Type 0) → (S → Bool) → (S → ℕ) → TablePlan → Mode → List ℕ → Bool → List Given → List Row → Table → Table → Outlets S → Outlets S → Result Unit Halt → Type 0
 TableOutcome gains is_open failed plan mode bytes ended given rows old new before now (Ok u) =
-    GivesAll gains plan mode bytes ended given rows old new before now × IsAsReady is_open failed before now
+    GivesAll gains plan mode bytes ended given rows old new before now × IsAsReady is_open failed before.sink now.sink
 TableOutcome gains is_open failed plan mode bytes ended given rows old new before now (Err halt.Memory) =
-    GivesSome gains plan mode bytes ended given rows before now × IsAsReady is_open failed before now
+    GivesSome gains plan mode bytes ended given rows before.sink now.sink × IsAsReady is_open failed before.sink now.sink
 TableOutcome gains is_open failed plan mode bytes ended given rows old new before now (Err halt.Write) =
-    GivesSome gains plan mode bytes ended given rows before now × (is_open before ≡ true → failed before < 2 ^ 64 - 1 → failed now ≡ failed before + 1)
+    GivesSome gains plan mode bytes ended given rows before.sink now.sink × (is_open before.sink ≡ true → failed before.sink < 2 ^ 64 - 1 → failed now.sink ≡ failed before.sink + 1)
 TableOutcome gains is_open failed plan mode bytes ended given rows old new before now (Err (halt.Rows row stop)) =
-    GivesFront gains plan mode bytes ended given rows before now (λ columns all. IsStopped plan bytes ended all row stop) × IsAsReady is_open failed before now
+    GivesFront gains plan mode bytes ended given rows before.sink now.sink (λ columns all. IsStopped plan bytes ended all row stop) × IsAsReady is_open failed before.sink now.sink
 TableOutcome gains is_open failed plan mode bytes ended given rows old new before now (Err (halt.Table row stop)) =
-    GivesFront gains plan mode bytes ended given rows before now (λ columns all. IsRefused plan columns bytes ended all row stop) × IsAsReady is_open failed before now
+    GivesFront gains plan mode bytes ended given rows before.sink now.sink (λ columns all. IsRefused plan columns bytes ended all row stop) × IsAsReady is_open failed before.sink now.sink
 
 -- The whole text is a table: these are its columns and rows.
 pub record HoldsWhole (plan : TablePlan) (mode : Mode) (t : Table) (bytes : List ℕ) (rows : List Row) : Type 0 where
@@ -179,10 +196,11 @@ pub record HoldsWhole (plan : TablePlan) (mode : Mode) (t : Table) (bytes : List
   pub table : IsWholeTable plan given columns t.head.faults rows
 
 -- Rows more were given, and these are all.
-pub record GivesWhole {S : Type 0} (gains : S → List Triple → S → Type 0) (plan : TablePlan) (mode : Mode) (bytes : List ℕ) (rows : List Row) (old new : Table) (before now : S) : Type 0 where
+pub record GivesWhole {S : Type 0} (gains : S → List Triple → S → Type 0) (plan : TablePlan) (mode : Mode) (bytes : List ℕ) (rows : List Row) (old new : Table) (before now : Outlets S) : Type 0 where
   pub more : List Row
   pub holds : HoldsWhole plan mode new bytes (rows ++ more)
-  pub took : gains before (table_triples mode plan.number new.head.columns more) now
+  pub took : gains before.sink (table_triples mode plan.number new.head.columns more) now.sink
+  pub kept : AddsRows plan.number more before.keys now.keys
   pub told : new.faults ≡ old.faults ++ table_faults plan.number new.head.columns more
   pub keeps : KeepsColumns old new
 
@@ -192,17 +210,17 @@ IsRefusedAtEnd plan columns bytes given row stop =
     IsRefused plan columns bytes true given row stop ⊎ (IsAtRest plan bytes true given × (columns ≡ None) × RefusesEnd plan given row stop)
 
 -- what the end of a text leaves, by its answer
-abbrev pub EndOutcome : {S : Type 0} → (S → List Triple → S → Type 0) → (S → Bool) → (S → ℕ) → TablePlan → Mode → List ℕ → List Given → List Row → Table → Table → S → S → Result Unit Halt → Type 0
+abbrev pub EndOutcome : {S : Type 0} → (S → List Triple → S → Type 0) → (S → Bool) → (S → ℕ) → TablePlan → Mode → List ℕ → List Given → List Row → Table → Table → Outlets S → Outlets S → Result Unit Halt → Type 0
 EndOutcome gains is_open failed plan mode bytes given rows old new before now (Ok u) =
-    GivesWhole gains plan mode bytes rows old new before now × IsAsReady is_open failed before now
+    GivesWhole gains plan mode bytes rows old new before now × IsAsReady is_open failed before.sink now.sink
 EndOutcome gains is_open failed plan mode bytes given rows old new before now (Err halt.Memory) =
-    GivesSome gains plan mode bytes true given rows before now × IsAsReady is_open failed before now
+    GivesSome gains plan mode bytes true given rows before.sink now.sink × IsAsReady is_open failed before.sink now.sink
 EndOutcome gains is_open failed plan mode bytes given rows old new before now (Err halt.Write) =
-    GivesSome gains plan mode bytes true given rows before now × (is_open before ≡ true → failed before < 2 ^ 64 - 1 → failed now ≡ failed before + 1)
+    GivesSome gains plan mode bytes true given rows before.sink now.sink × (is_open before.sink ≡ true → failed before.sink < 2 ^ 64 - 1 → failed now.sink ≡ failed before.sink + 1)
 EndOutcome gains is_open failed plan mode bytes given rows old new before now (Err (halt.Rows row stop)) =
-    GivesFront gains plan mode bytes true given rows before now (λ columns all. IsStopped plan bytes true all row stop) × IsAsReady is_open failed before now
+    GivesFront gains plan mode bytes true given rows before.sink now.sink (λ columns all. IsStopped plan bytes true all row stop) × IsAsReady is_open failed before.sink now.sink
 EndOutcome gains is_open failed plan mode bytes given rows old new before now (Err (halt.Table row stop)) =
-    GivesFront gains plan mode bytes true given rows before now (λ columns all. IsRefusedAtEnd plan columns bytes all row stop) × IsAsReady is_open failed before now
+    GivesFront gains plan mode bytes true given rows before.sink now.sink (λ columns all. IsRefusedAtEnd plan columns bytes all row stop) × IsAsReady is_open failed before.sink now.sink
 
 -- after the end of the text, where the columns weren't known; of want of memory nothing is said
 abbrev pub SettlesHead : TablePlan → Table → Table → Result Unit Halt → Type 0

@@ -1,16 +1,17 @@
-//! How the rows of a table go on to the sink.
+//! How the rows of a table go on to the sink, and their keys to the book of keys.
 ghost use Rattle.std.specs.Prelude.{◌≡◌, ◌++◌, ◌∷◌, [], ℕ, List, Bool, true, false, IfOk, OnOk, Some, None};
 ghost use Rattle.csvw_rows.specs.RowValue.{Given};
 ghost use Rattle.csvw_columns.specs.Ready.{IsReady};
 ghost use Rattle.csvw_annotate.specs.declared.row.Row.{Row as TheRow};
 ghost use Rattle.csvw_triples_core.specs.declared.mode.Mode.{Mode as TheMode};
-ghost use Rattle.csvw_engine_core.specs.Tables.{RowFits, is_ended, Gives, TableHolds, TableOutcome, EndOutcome, table_triples};
+ghost use Rattle.csvw_engine_core.specs.Tables.{RowFits, is_ended, Gives, TableHolds, TableOutcome, EndOutcome, outlets, table_triples};
 
 use crate::halt::Halt;
 use crate::step::Step;
 use crate::table::{Table, next_row};
 use csvw_annotate::Row;
 use csvw_columns::TablePlan;
+use csvw_keys::KeyBook;
 use csvw_rows::laws::{given_first, given_first_later};
 use csvw_triples::{Emitter, TripleSink};
 
@@ -33,12 +34,17 @@ fn give<S: TripleSink>(
     }
 }
 
-/// Gives each row that is complete, and tells its faults. The rows share the memory of one row and of one literal.
-fn drain<S: TripleSink>(plan: &TablePlan, table: &mut Table, sink: &mut S) -> Result<(), Halt>
+/// Gives each row that is complete, adds its keys, and tells its faults. The rows share the memory of one row and of one literal.
+fn drain<S: TripleSink>(
+    plan: &TablePlan,
+    table: &mut Table,
+    sink: &mut S,
+    keys: &mut KeyBook,
+) -> Result<(), Halt>
     requires { IsReady plan.now }
     ensures ended { is_ended table.new ≡ is_ended table.old }
     ensures drains { (mode : TheMode) (bytes : List ℕ) (ended : Bool) (given : List Given) (rows : List TheRow) → TableHolds plan.now mode table.old bytes ended given rows
-        → TableOutcome S.gains S.is_open S.failed plan.now mode bytes ended given rows table.old table.new sink.old sink.new result }
+        → TableOutcome S.gains S.is_open S.failed plan.now mode bytes ended given rows table.old table.new (outlets sink.old keys.old) (outlets sink.new keys.new) result }
 {
     let alloc = table.alloc;
     given_first();
@@ -48,6 +54,7 @@ fn drain<S: TripleSink>(plan: &TablePlan, table: &mut Table, sink: &mut S) -> Re
         match next_row(plan, table, spare)? {
             Step::Row(row) => {
                 table.tell(&row)?;
+                keys.add(table.number, &row)?;
                 give(&mut emitter, table, &row, sink)?;
                 spare = row;
             }
@@ -63,16 +70,17 @@ pub fn feed_table<S: TripleSink>(
     table: &mut Table,
     piece: &[u8],
     sink: &mut S,
+    keys: &mut KeyBook,
 ) -> Result<(), Halt>
     requires ready { IsReady plan.now }
     requires not_ended { is_ended table.old ≡ false }
     ensures ended { is_ended table.new ≡ false }
     ensures feeds { (mode : TheMode) (bytes : List ℕ) (given : List Given) (rows : List TheRow) → TableHolds plan.now mode table.old bytes false given rows
-        → TableOutcome S.gains S.is_open S.failed plan.now mode (bytes ++ piece.now) false given rows table.old table.new sink.old sink.new result }
+        → TableOutcome S.gains S.is_open S.failed plan.now mode (bytes ++ piece.now) false given rows table.old table.new (outlets sink.old keys.old) (outlets sink.new keys.new) result }
 {
     given_first_later();
     match table.rows.feed(piece) {
-        Ok(()) => drain(plan, table, sink),
+        Ok(()) => drain(plan, table, sink, keys),
         Err(stop) => Err(Halt::of_row_stop(table.rows.row(), stop)),
     }
 }
@@ -82,16 +90,17 @@ pub fn end_table<S: TripleSink>(
     plan: &TablePlan,
     table: &mut Table,
     sink: &mut S,
+    keys: &mut KeyBook,
 ) -> Result<(), Halt>
     requires ready { IsReady plan.now }
     requires not_ended { is_ended table.old ≡ false }
     ensures ends { (mode : TheMode) (bytes : List ℕ) (given : List Given) (rows : List TheRow) → TableHolds plan.now mode table.old bytes false given rows
-        → EndOutcome S.gains S.is_open S.failed plan.now mode bytes given rows table.old table.new sink.old sink.new result }
+        → EndOutcome S.gains S.is_open S.failed plan.now mode bytes given rows table.old table.new (outlets sink.old keys.old) (outlets sink.new keys.new) result }
 {
     given_first();
     match table.rows.end() {
         Ok(()) => {
-            drain(plan, table, sink)?;
+            drain(plan, table, sink, keys)?;
             table.settle(plan)
         }
         Err(stop) => Err(Halt::of_row_stop(table.rows.row(), stop)),

@@ -1,5 +1,5 @@
 -- A session whose tables were all ended stands for annotated tables.
-use Rattle.std.proofs.Common.{◌≡◌, ◌↔◌, ◌⊎◌, ℕ, ◌+◌, Bool, true, List, ◌++◌, sym, subst, inl, inr, Contains, Some, flat_map}
+use Rattle.std.proofs.Common.{◌≡◌, ◌↔◌, ◌⊎◌, ◌<◌, ◌≤◌, ℕ, zero, suc, ◌+◌, Bool, true, List, [], ◌++◌, length, refl, sym, ap, ◌∙◌, subst, arith, get_or, None, inl, inr, Contains, Some, flat_map}
 use Rattle.std.specs.Prelude.{slice_get}
 use Rattle.std.specs.List.{list_all}
 use Rattle.std.proofs.lemmas.List.Elements.{Contains-append_left, Contains-append_right, Contains-append_cases}
@@ -16,7 +16,11 @@ use Rattle.csvw_opening.specs.OpeningTriples.{opening}
 use Rattle.csvw_engine_core.specs.Tables.{table_triples, columns_of, is_ended}
 use Rattle.csvw_engine_core.specs.declared.table.Table.{Table as State}
 use Rattle.csvw_session.specs.Events.{Event, ended_in}
-use Rattle.csvw_session.specs.Sessions.{RowsGraph, TookGraph, Stands}
+use Rattle.std.proofs.lemmas.Option.{slice_get_cases}
+use Rattle.csvw_keys.specs.Books.{KeepsKeys}
+use Rattle.csvw_keys.specs.KeyRules.{rules_of}
+use Rattle.csvw_group.specs.Violations.{rows_at, rows_of}
+use Rattle.csvw_session.specs.Sessions.{by_number, RowsGraph, TookGraph, Stands}
 use Rattle.csvw_session.specs.declared.session.Session.{Session}
 use Rattle.csvw_group.specs.Annotated.{Table}
 use Rattle.csvw_group.specs.Graph.{RowsOf}
@@ -54,6 +58,30 @@ module _ (law : RowsAreGraph) (plans : List TablePlan) (ts : List State) (texts 
       let c = (law m h.1.number h.2.columns (rows h.0) x).1 own in
       (h.0, h.1, k.t, (h.3, k.is_at), subst (λ z. Contains (table_triples m h.1.number z (rows h.0)) x) (sym k.ends_as.columns) c)
 
+-- the rows of a place, and of the table that stands there
+rows_here : (plans : List TablePlan) (ts : List State) (texts : ℕ → List ℕ) (rows : ℕ → List Row) (tables : List Table)
+    → AreEnded plans ts texts rows tables → ((i : ℕ) → length plans ≤ i → rows i ≡ []) → (i : ℕ)
+    → ((table : Table) × (i < length tables) × (slice_get tables i ≡ Some table) × (get_or tables i table ≡ table)) ⊎ ((length tables ≤ i) × (slice_get tables i ≡ None))
+    → rows i ≡ rows_at (slice_get tables i)
+rows_here plans ts texts rows tables are beyond i (inl at) =
+    ended_here (slice_get_cases plans i).1
+  where
+    ended_here : ((p : TablePlan) × (i < length plans) × (slice_get plans i ≡ Some p) × (get_or plans i p ≡ p)) ⊎ ((length plans ≤ i) × (slice_get plans i ≡ None))
+        → rows i ≡ rows_at (slice_get tables i)
+    ended_here (inl p) = sym (state_at plans ts texts rows tables are i p.0 at.0 p.2 at.2).ends_as.rows_are ∙ sym (ap rows_at at.2)
+    ended_here (inr past) =
+        let many : length tables ≡ length plans = as_many plans ts texts rows tables are in
+        let b = at.1 in let over = past.0 in absurd (omega (arith, b, many, over))
+rows_here plans ts texts rows tables are beyond i (inr past) =
+    let many : length tables ≡ length plans = as_many plans ts texts rows tables are in
+    let over = past.0 in
+    beyond i (omega (arith, many, over)) ∙ sym (ap rows_at past.1)
+
+rows_are : (plans : List TablePlan) (ts : List State) (texts : ℕ → List ℕ) (rows : ℕ → List Row) (tables : List Table)
+    → AreEnded plans ts texts rows tables → ((i : ℕ) → length plans ≤ i → rows i ≡ []) → (n : ℕ) → by_number rows n ≡ rows_of tables n
+rows_are plans ts texts rows tables are beyond zero = refl
+rows_are plans ts texts rows tables are beyond (suc i) = rows_here plans ts texts rows tables are beyond i (slice_get_cases tables i).1
+
 -- the triples of all rows behind others, by other words
 took_behind : {S : Type 0} (gains : S → List Triple → S → Type 0) (goes_on : (a b c : S) (xs ys : List Triple) → gains a xs b → gains b ys c → gains a (xs ++ ys) c)
     → (sink start now : S) (front : List Triple) (O X Y : Triple → Type 0) → gains sink front start → ((x : Triple) → Contains front x ↔ O x)
@@ -85,5 +113,7 @@ module _ {S : Type 0} (gains : S → List Triple → S → Type 0) (is_open : S 
             opened (openings s.mode s.plan)
             (into_graph law s.plan.tables s.tables.items (texts_of events) h.rows all.0 all.1 s.mode)
             (from_graph law s.plan.tables s.tables.items (texts_of events) h.rows all.0 all.1 s.mode) h.took;
+        keys = λ numbered. subst (KeepsKeys s.keys (rules_of s.plan))
+            (λ k n. rows_are s.plan.tables s.tables.items (texts_of events) h.rows all.0 all.1 h.beyond n k) (h.keys numbered);
         faults = faults_are s.plan.tables s.tables.items (texts_of events) h.rows all.0 all.1;
       }

@@ -3,19 +3,23 @@ use Rattle.std.specs.Prelude.{◌≡◌, ℕ, ◌+◌, List}
 use Rattle.csvw_triples_core.specs.declared.term.Triple.{Triple}
 use Rattle.csvw_session.specs.Events.{Event, text_of}
 use Rattle.csvw_session.specs.Faults.{all_faults}
-use Rattle.csvw_session.specs.Sessions.{TookGraph}
+use Rattle.csvw_keys.specs.Books.{KeepsKeys}
+use Rattle.csvw_keys.specs.KeyRules.{rules_of}
+use Rattle.csvw_session.specs.Sessions.{AreNumbered, TookGraph}
 use Rattle.csvw_session.specs.declared.session.Session.{Session}
 use Rattle.csvw_group.specs.Annotated.{Table, AreAnnotated}
 use Rattle.csvw_group.specs.Graph.{GraphOf}
-use Rattle.csvw_group.specs.Violations.{tables_violations}
+use Rattle.csvw_group.specs.Violations.{rows_of, tables_violations}
 
 -- the text of each table, by its place from 0
 abbrev pub texts_of : List Event → ℕ → List ℕ
 texts_of events i = text_of events (i + 1)
 
--- the texts of the events are annotated tables, whose graph the sink took since it was handed in, and whose violations were told
+-- the texts of the events are annotated tables, whose graph the sink took since it was handed in, whose violations were told, and
+-- whose rows the book of keys keeps
 pub record Annotates {S : Type 0} (gains : S → List Triple → S → Type 0) (sink : S) (events : List Event) (s : Session S) : Type 0 where
   pub tables : List Table
   pub annotated : AreAnnotated s.plan.tables (texts_of events) tables
   pub took : TookGraph gains sink s.sink (GraphOf s.mode s.plan tables)
   pub faults : all_faults s.tables.items ≡ tables_violations s.plan.tables tables
+  pub keys : AreNumbered s.plan.tables → KeepsKeys s.keys (rules_of s.plan) (rows_of tables)

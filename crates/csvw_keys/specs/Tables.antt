@@ -5,3 +5,7 @@ use Rattle.csvw_annotate.specs.declared.row.Row.{Row}
 -- one row more of a table
 abbrev pub with_row : (ℕ → List Row) → ℕ → Row → ℕ → List Row
 with_row tables table row n = if nat_eq table n then tables n ++ row ∷ [] else tables n
+
+-- rows more of a table
+abbrev pub with_rows : (ℕ → List Row) → ℕ → List Row → ℕ → List Row
+with_rows tables table more n = if nat_eq table n then tables n ++ more else tables n

@@ -8,7 +8,7 @@ use Rattle.csvw_triples_core.specs.declared.mode.Mode.{Mode}
 use Rattle.csvw_triples_core.specs.declared.term.Triple.{Triple}
 use Rattle.csvw_engine_core.specs.Annotated.{HasRows}
 use Rattle.csvw_engine_core.specs.Faults.{table_faults}
-use Rattle.csvw_engine_core.specs.Tables.{TableHolds, KeepsColumns, GivesFront, TableOutcome, EndOutcome, columns_of, faults_of, is_ended}
+use Rattle.csvw_engine_core.specs.Tables.{outlets, TableHolds, KeepsColumns, GivesFront, TableOutcome, EndOutcome, columns_of, faults_of, is_ended}
 use Rattle.csvw_engine_core.specs.declared.halt.Halt.{Halt}
 use Rattle.csvw_engine_core.specs.declared.halt.Halt.TheVariants as halt
 use Rattle.csvw_engine_core.specs.declared.table.Table.{Table}
@@ -50,7 +50,7 @@ module _ {S : Type 0} (gains : S → List Triple → S → Type 0) (is_open : S 
   -- a piece was taken
   pub fed : (piece : List ℕ) → new.state ≡ state.Open
       → ((bytes : List ℕ) (given : List Given) (rows : List Row) → TableHolds plan old.mode t bytes false given rows
-      → TableOutcome gains is_open failed plan old.mode (bytes ++ piece) false given rows t u old.sink new.sink (Ok tt))
+      → TableOutcome gains is_open failed plan old.mode (bytes ++ piece) false given rows t u (outlets old.sink old.keys) (outlets new.sink new.keys) (Ok tt))
       → (start : S) (events : List Event) → Stands gains is_open failed start events old → Stands gains is_open failed start (events ++ Feed (i + 1) piece ∷ []) new
   fed piece state_is feeds start events h =
       let k = here start events h in
@@ -66,12 +66,12 @@ module _ {S : Type 0} (gains : S → List Triple → S → Type 0) (is_open : S 
       (λ v ne. fed_other events (i + 1) v piece ne) (λ v ne. fed_ended events (i + 1) v piece) gone.more
       (subst (λ b. Told plan old.mode u b (ended_in (events ++ Feed (i + 1) piece ∷ []) (i + 1)) (h.rows i ++ gone.more)) (sym (fed_same events (i + 1) piece))
       (subst (λ b. Told plan old.mode u (bytes ++ piece) b (h.rows i ++ gone.more)) (sym (fed_ended events (i + 1) (i + 1) piece ∙ k.0)) told))
-      gone.keeps none state_is gone.took all.1
+      gone.kept gone.keeps none state_is gone.took all.1
 
   -- the end was taken
   pub ended : new.state ≡ state.Open
       → ((bytes : List ℕ) (given : List Given) (rows : List Row) → TableHolds plan old.mode t bytes false given rows
-      → EndOutcome gains is_open failed plan old.mode bytes given rows t u old.sink new.sink (Ok tt))
+      → EndOutcome gains is_open failed plan old.mode bytes given rows t u (outlets old.sink old.keys) (outlets new.sink new.keys) (Ok tt))
       → (start : S) (events : List Event) → Stands gains is_open failed start events old → Stands gains is_open failed start (events ++ End (i + 1) ∷ []) new
   ended state_is ends start events h =
       let k = here start events h in
@@ -86,12 +86,12 @@ module _ {S : Type 0} (gains : S → List Triple → S → Type 0) (is_open : S 
       (λ v ne. end_text events (i + 1) v) (λ v ne. end_other events (i + 1) v ne) all.0.more
       (subst (λ b. Told plan old.mode u b (ended_in (events ++ End (i + 1) ∷ []) (i + 1)) (h.rows i ++ all.0.more)) (sym (end_text events (i + 1) (i + 1)))
       (subst (λ b. Told plan old.mode u bytes b (h.rows i ++ all.0.more)) (sym (end_same events (i + 1))) told))
-      all.0.keeps none state_is all.0.took all.1
+      all.0.kept all.0.keeps none state_is all.0.took all.1
 
   -- a piece was not taken in full
   pub unfed : (piece : List ℕ) (reason : Halt) → new.state ≡ state.Failed
       → ((bytes : List ℕ) (given : List Given) (rows : List Row) → TableHolds plan old.mode t bytes false given rows
-      → TableOutcome gains is_open failed plan old.mode (bytes ++ piece) false given rows t u old.sink new.sink (Err reason))
+      → TableOutcome gains is_open failed plan old.mode (bytes ++ piece) false given rows t u (outlets old.sink old.keys) (outlets new.sink new.keys) (Err reason))
       → Takes gains is_open failed old new (i + 1) (Feed (i + 1) piece) (Err (stop_of (i + 1) reason))
   unfed piece halt.Memory state_is feeds = (
     state_is,
@@ -170,7 +170,7 @@ module _ {S : Type 0} (gains : S → List Triple → S → Type 0) (is_open : S 
   -- the end was not taken in full
   pub unended : (reason : Halt) → new.state ≡ state.Failed
       → ((bytes : List ℕ) (given : List Given) (rows : List Row) → TableHolds plan old.mode t bytes false given rows
-      → EndOutcome gains is_open failed plan old.mode bytes given rows t u old.sink new.sink (Err reason))
+      → EndOutcome gains is_open failed plan old.mode bytes given rows t u (outlets old.sink old.keys) (outlets new.sink new.keys) (Err reason))
       → Takes gains is_open failed old new (i + 1) (End (i + 1)) (Err (stop_of (i + 1) reason))
   unended halt.Memory state_is ends = (
     state_is,
@@ -249,19 +249,19 @@ module _ {S : Type 0} (gains : S → List Triple → S → Type 0) (is_open : S 
   -- the same by the number of the table
   pub fed_at : (n : ℕ) → i + 1 ≡ n → (piece : List ℕ) → new.state ≡ state.Open
       → ((bytes : List ℕ) (given : List Given) (rows : List Row) → TableHolds plan old.mode t bytes false given rows
-      → TableOutcome gains is_open failed plan old.mode (bytes ++ piece) false given rows t u old.sink new.sink (Ok tt))
+      → TableOutcome gains is_open failed plan old.mode (bytes ++ piece) false given rows t u (outlets old.sink old.keys) (outlets new.sink new.keys) (Ok tt))
       → (start : S) (events : List Event) → Stands gains is_open failed start events old → Stands gains is_open failed start (events ++ Feed n piece ∷ []) new
   fed_at n e piece state_is feeds start events h = subst (λ m. Stands gains is_open failed start (events ++ Feed m piece ∷ []) new) e (fed piece state_is feeds start events h)
 
   pub ended_at : (n : ℕ) → i + 1 ≡ n → new.state ≡ state.Open
       → ((bytes : List ℕ) (given : List Given) (rows : List Row) → TableHolds plan old.mode t bytes false given rows
-      → EndOutcome gains is_open failed plan old.mode bytes given rows t u old.sink new.sink (Ok tt))
+      → EndOutcome gains is_open failed plan old.mode bytes given rows t u (outlets old.sink old.keys) (outlets new.sink new.keys) (Ok tt))
       → (start : S) (events : List Event) → Stands gains is_open failed start events old → Stands gains is_open failed start (events ++ End n ∷ []) new
   ended_at n e state_is ends start events h = subst (λ m. Stands gains is_open failed start (events ++ End m ∷ []) new) e (ended state_is ends start events h)
 
   pub unfed_at : (n : ℕ) → i + 1 ≡ n → (piece : List ℕ) (reason : Halt) (told : Stop) → told ≡ stop_of n reason → new.state ≡ state.Failed
       → ((bytes : List ℕ) (given : List Given) (rows : List Row) → TableHolds plan old.mode t bytes false given rows
-      → TableOutcome gains is_open failed plan old.mode (bytes ++ piece) false given rows t u old.sink new.sink (Err reason))
+      → TableOutcome gains is_open failed plan old.mode (bytes ++ piece) false given rows t u (outlets old.sink old.keys) (outlets new.sink new.keys) (Err reason))
       → Takes gains is_open failed old new n (Feed n piece) (Err told)
   unfed_at n e piece reason told f state_is feeds =
       subst (λ z. Takes gains is_open failed old new n (Feed n piece) (Err z)) (sym f)
@@ -269,7 +269,7 @@ module _ {S : Type 0} (gains : S → List Triple → S → Type 0) (is_open : S 
 
   pub unended_at : (n : ℕ) → i + 1 ≡ n → (reason : Halt) (told : Stop) → told ≡ stop_of n reason → new.state ≡ state.Failed
       → ((bytes : List ℕ) (given : List Given) (rows : List Row) → TableHolds plan old.mode t bytes false given rows
-      → EndOutcome gains is_open failed plan old.mode bytes given rows t u old.sink new.sink (Err reason))
+      → EndOutcome gains is_open failed plan old.mode bytes given rows t u (outlets old.sink old.keys) (outlets new.sink new.keys) (Err reason))
       → Takes gains is_open failed old new n (End n) (Err told)
   unended_at n e reason told f state_is ends =
       subst (λ z. Takes gains is_open failed old new n (End n) (Err z)) (sym f)

@@ -1,21 +1,27 @@
 -- How a session goes on by an event of one of its tables.
-use Rattle.std.proofs.Common.{◌≡◌, ◌≢◌, ◌⊎◌, ◌<◌, ◌+◌, ℕ, Bool, List, [], ◌++◌, refl, sym, ap, ◌∙◌, subst, arith, length, inl, inr, Option, Some, None}
-use Rattle.std.specs.Prelude.{slice_get, slice_set, Contains, if◌then◌else◌, ◌==◌}
+use Rattle.std.proofs.Common.{◌≡◌, ◌≢◌, ◌⊎◌, ◌<◌, ◌≤◌, ◌+◌, ℕ, zero, suc, Bool, true, false, List, [], ◌++◌, refl, sym, ap, ◌∙◌, subst, arith, add-one, length, inl, inr, Option, Some, None}
+use Rattle.std.specs.Prelude.{slice_get, slice_set, Contains, if◌then◌else◌, nat_eq, flat_map, ◌==◌}
+use Rattle.std.proofs.lemmas.Bool.{eq-eqb, eqb-true}
 use Rattle.std.proofs.lemmas.Bool.Decides.{eqb_tells}
+use Rattle.std.proofs.lemmas.Option.{slice_get_within}
 use Rattle.std.proofs.lemmas.List.Elements.{Contains-append_left, Contains-append_right, Contains-append_cases}
 use Rattle.std.proofs.lemmas.List.Concat.{flat_map-append}
 use Rattle.csvw_columns_core.specs.declared.columns.Columns.{Columns}
 use Rattle.csvw_columns.specs.declared.plan.TablePlan.{TablePlan}
 use Rattle.csvw_annotate.specs.declared.row.Row.{Row}
+use Rattle.csvw_keys.specs.Books.{KeepsKeys}
+use Rattle.csvw_keys.specs.KeyRules.{KeyRule, rules_of, table_rules}
+use Rattle.csvw_keys.specs.Tables.{with_rows}
+use Rattle.csvw_keys.specs.declared.key_book.KeyBook.{KeyBook}
 use Rattle.csvw_triples_core.specs.Taking.{IsAsReady}
 use Rattle.csvw_triples_core.specs.declared.mode.Mode.{Mode}
 use Rattle.csvw_triples_core.specs.declared.term.Triple.{Triple}
 use Rattle.csvw_triples.specs.ModeTriples.{row_triples}
 use Rattle.csvw_engine_core.specs.Faults.{row_faults, table_faults}
-use Rattle.csvw_engine_core.specs.Tables.{KeepsColumns, table_triples, columns_of}
+use Rattle.csvw_engine_core.specs.Tables.{AddsRows, KeepsColumns, table_triples, columns_of}
 use Rattle.csvw_engine_core.specs.declared.table.Table.{Table}
 use Rattle.csvw_session.specs.Events.{Event, text_of, ended_in}
-use Rattle.csvw_session.specs.Sessions.{IsTableAt, RowsGraph, Told, Stands}
+use Rattle.csvw_session.specs.Sessions.{AreNumbered, by_number, IsTableAt, RowsGraph, Told, Stands}
 use Rattle.csvw_session.specs.declared.session.Session.{Session}
 use Rattle.csvw_session.specs.declared.state.State.TheVariants as state
 use Rattle.csvw_session.proofs.Lists.{set_same, set_other, set_there, set_stays, one_at}
@@ -56,8 +62,26 @@ pub same_faults : (t : ℕ) (old new : Option Columns) (rows : List Row) → ((c
 same_faults t None new rows stay none = ap (table_faults t new) (none refl) ∙ no_faults t new
 same_faults t (Some columns) new rows stay none = ap (λ z. table_faults t z rows) (stay columns refl)
 
+if_not : (b : Bool) (xs ys : List Row) → (b ≡ true → ⊥) → (if b then xs else ys) ≡ ys
+if_not true xs ys h = absurd (h refl)
+if_not false xs ys h = refl
+
+-- the rows of the table of a number, with more of the table at place i
+more_at : (rows : ℕ → List Row) (i : ℕ) (more : List Row) (j : ℕ) → (j ≡ i) ⊎ (j ≢ i)
+    → (if nat_eq (suc i) (suc j) then rows j ++ more else rows j) ≡ more_rows rows i more j
+more_at rows i more j (inl e) =
+    subst (λ k. (if nat_eq (suc i) (suc k) then rows k ++ more else rows k) ≡ more_rows rows i more k) (sym e)
+    (ap (λ b. if b then rows i ++ more else rows i) (eq-eqb (suc i) (suc i) refl) ∙ sym (same_rows rows i more))
+more_at rows i more j (inr ne) =
+    if_not (nat_eq (suc i) (suc j)) (rows j ++ more) (rows j) (λ t. ne (let e = eqb-true (suc i) (suc j) t in omega (arith, e)))
+    ∙ sym (other_rows rows i j more ne)
+
 same_place : (j i : ℕ) → (j ≡ i) ⊎ (j ≢ i)
 same_place j i = elim (eqb_tells j i) [ inl p ↦ inl p.1 | inr q ↦ inr q.1 ]
+
+numbered_at : (rows : ℕ → List Row) (i : ℕ) (more : List Row) (n : ℕ) → with_rows (by_number rows) (suc i) more n ≡ by_number (more_rows rows i more) n
+numbered_at rows i more zero = if_not (nat_eq (suc i) 0) ([] ++ more) [] (λ t. let e = eqb-true (suc i) 0 t in omega (arith, e))
+numbered_at rows i more (suc n) = more_at rows i more n (same_place n i)
 
 module _ {S : Type 0} (gains : S → List Triple → S → Type 0) (is_open : S → Bool) (failed : S → ℕ)
     (goes_on : (a b c : S) (xs ys : List Triple) → gains a xs b → gains b ys c → gains a (xs ++ ys) c)
@@ -67,6 +91,7 @@ module _ {S : Type 0} (gains : S → List Triple → S → Type 0) (is_open : S 
     (stands : Stands gains is_open failed start past old)
     (texts : (v : ℕ) → v ≢ i + 1 → text_of events v ≡ text_of past v) (ends : (v : ℕ) → v ≢ i + 1 → ended_in events v ≡ ended_in past v)
     (more : List Row) (told : Told plan old.mode u (text_of events (i + 1)) (ended_in events (i + 1)) (stands.rows i ++ more))
+    (kept : AddsRows plan.number more old.keys new.keys)
     (keeps : KeepsColumns t u) (none : columns_of t ≡ None → stands.rows i ≡ []) where
   abbrev rows : ℕ → List Row
   rows = more_rows stands.rows i more
@@ -169,11 +194,31 @@ module _ {S : Type 0} (gains : S → List Triple → S → Type 0) (is_open : S 
   in_graph x (inl a) = let g = stands.took.within x a in stays_in x g.0 g.1 g.2 (same_place g.0 i) g.3 g.4
   in_graph x (inr b) = comes_in x b
 
+  -- there are no tables but those of the plan
+  still_beyond : (j : ℕ) → length new.plan.tables ≤ j → rows j ≡ []
+  still_beyond j above =
+      let same : length new.plan.tables ≡ length old.plan.tables = ap (λ (z : List TablePlan). length z) plans in
+      let here : i < length old.plan.tables = slice_get_within old.plan.tables i plan is_at.0 in
+      other_rows stands.rows i j more (λ e. let at = e in omega (arith, at, same, here, above)) ∙ stands.beyond j (omega (arith, same, above))
+
+  -- the book of keys has the rows
+  still_kept : AreNumbered new.plan.tables → KeepsKeys new.keys (rules_of new.plan) (by_number rows)
+  still_kept numbered =
+      let was : AreNumbered old.plan.tables = subst AreNumbered plans numbered in
+      let number : plan.number ≡ suc i = was i plan is_at.0 ∙ add-one i in
+      let keeps_more : KeepsKeys new.keys (rules_of old.plan) (with_rows (by_number stands.rows) plan.number more) =
+      kept (rules_of old.plan) (by_number stands.rows) (stands.keys was) in
+      subst (λ ps. KeepsKeys new.keys (flat_map table_rules ps) (by_number rows)) (sym plans)
+      (subst (KeepsKeys new.keys (rules_of old.plan)) (λ k n. numbered_at stands.rows i more n k)
+      (subst (λ n. KeepsKeys new.keys (rules_of old.plan) (with_rows (by_number stands.rows) n more)) number keeps_more))
+
   -- the session stands for one event more
   pub stands_on : new.state ≡ state.Open → gains old.sink more_triples new.sink → IsAsReady is_open failed old.sink new.sink → Stands gains is_open failed start events new
   stands_on state_is gained ready = record {
     rows = rows;
     tables = λ j plan' u' h. at_table j plan' u' (same_place j i) h;
+    beyond = still_beyond;
+    keys = still_kept;
     took = record {
       taken = stands.took.taken ++ more_triples;
       gained = goes_on start old.sink new.sink stands.took.taken more_triples stands.took.gained gained;

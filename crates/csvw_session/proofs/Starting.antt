@@ -13,7 +13,9 @@ use Rattle.csvw_engine_core.specs.Tables.{IsNewTable, columns_of}
 use Rattle.csvw_engine_core.specs.declared.table.Table.{Table}
 use Rattle.csvw_session.specs.NewTables.{AreNew}
 use Rattle.csvw_session.specs.Refusing.{Refuses}
-use Rattle.csvw_session.specs.Sessions.{Told, Stands}
+use Rattle.csvw_keys.specs.Books.{KeepsKeys, no_rows}
+use Rattle.csvw_keys.specs.KeyRules.{rules_of}
+use Rattle.csvw_session.specs.Sessions.{by_number, Told, Stands}
 use Rattle.csvw_session.specs.Stops.{stop_of_fault}
 use Rattle.csvw_session.specs.declared.session.Session.{Session}
 use Rattle.csvw_session.specs.declared.state.State.TheVariants as state
@@ -45,6 +47,10 @@ new_at mode (p ∷ plans) (u ∷ tables) zero plan t h e f =
     subst (λ z. IsNewTable z mode t) (same_item p plan e) (subst (λ z. IsNewTable p mode z) (same_item u t f) h.0)
 new_at mode (p ∷ plans) (u ∷ tables) (suc i) plan t h e f = new_at mode plans tables i plan t h.1 e f
 
+none_at : (n : ℕ) → no_rows n ≡ by_number (λ i. []) n
+none_at zero = refl
+none_at (suc n) = refl
+
 told_at_start : (plan : TablePlan) (mode : Mode) (t : Table) → IsNewTable plan mode t → Told plan mode t [] false []
 told_at_start plan mode t is = record {
   stands = record { given = []; holds = is.holds; at_rest = inl refl };
@@ -52,8 +58,9 @@ told_at_start plan mode t is = record {
 }
 
 module _ {S : Type 0} (gains : S → List Triple → S → Type 0) (is_open : S → Bool) (failed : S → ℕ) (stays : (s : S) → gains s [] s) where
-  pub stands_at_start : (s : Session S) → AreNew s.mode s.plan.tables s.tables.items → s.state ≡ state.Open → Stands gains is_open failed s.sink [] s
-  stands_at_start s new is = record {
+  pub stands_at_start : (s : Session S) → AreNew s.mode s.plan.tables s.tables.items → KeepsKeys s.keys (rules_of s.plan) no_rows → s.state ≡ state.Open
+      → Stands gains is_open failed s.sink [] s
+  stands_at_start s new kept is = record {
     rows = λ i. [];
     tables = λ i plan t at. told_at_start plan s.mode t (new_at s.mode s.plan.tables s.tables.items i plan t new at.0 at.1);
     took = record {
@@ -62,6 +69,8 @@ module _ {S : Type 0} (gains : S → List Triple → S → Type 0) (is_open : S 
       within = λ x c. absurd (nothing_in x c);
       whole = λ x g. subst (λ ts. Contains ts x) (no_triples s.mode g.1.number (columns_of g.2)) g.4;
     };
+    beyond = λ i above. refl;
+    keys = λ numbered. subst (KeepsKeys s.keys (rules_of s.plan)) (λ k n. none_at n k) kept;
     ready = (refl, refl);
     state_is = is;
   }

@@ -1,10 +1,15 @@
 -- How a session is finished.
-use Rattle.std.specs.Prelude.{◌≡◌, true, false, ◌++◌, Result, Ok, Err}
+use Rattle.std.specs.Prelude.{◌≡◌, ℕ, List, true, false, ◌++◌, Result, Ok, Err}
 use Rattle.std.specs.List.{list_all}
 use Rattle.std.specs.List.Sorted.{IsPermutation, IsSorted}
+use Rattle.csvw_annotate.specs.declared.row.Row.{Row}
 use Rattle.csvw_engine_core.specs.Tables.{is_ended}
+use Rattle.csvw_keys.specs.Books.{KeepsKeys}
+use Rattle.csvw_keys.specs.KeyRules.{AreKeyFaults, KeyRule}
+use Rattle.csvw_keys.specs.declared.key_book.KeyBook.{KeyBook}
 use Rattle.csvw_report.specs.Order.{fault_cmp}
 use Rattle.csvw_report.specs.declared.outcome.Outcome.{Outcome}
+use Rattle.csvw_text.specs.declared.fault.Fault.{Fault}
 use Rattle.csvw_session.specs.Faults.{all_faults}
 use Rattle.csvw_session.specs.declared.session.Session.{Session}
 use Rattle.csvw_session.specs.declared.state.State.{State}
@@ -18,13 +23,27 @@ pub record IsIn {S : Type 0} (old new : Session S) (now : State) : Type 0 where
   pub mode : new.mode ≡ old.mode
   pub tables : new.tables ≡ old.tables
   pub sink : new.sink ≡ old.sink
+  pub keys : new.keys ≡ old.keys
   pub state_is : new.state ≡ now
 
--- each table was ended, and the outcome lists the warnings of the metadata and what is wrong with the tables, in order
+-- what is wrong with the rows that the book keeps, by their keys
+abbrev pub TellsKeys : KeyBook → List Fault → Type 0
+TellsKeys book faults = (rules : List KeyRule) (tables : ℕ → List Row) → KeepsKeys book rules tables → AreKeyFaults rules tables faults
+
+-- Each table was ended, and the outcome lists the warnings of the metadata, what is wrong with the tables, and what is wrong with
+-- their rows by their keys, in order.
 pub record HasOutcome {S : Type 0} (s : Session S) (outcome : Outcome) : Type 0 where
   pub ended : list_all is_ended s.tables.items ≡ true
-  pub faults : IsPermutation (s.plan.warnings ++ all_faults s.tables.items) outcome.faults
+  pub key_faults : List Fault
+  pub told : TellsKeys s.keys key_faults
+  pub faults : IsPermutation ((s.plan.warnings ++ all_faults s.tables.items) ++ key_faults) outcome.faults
   pub sorted : IsSorted fault_cmp outcome.faults
+
+-- the list of them, in this order
+pub record ListsFaults {S : Type 0} (s : Session S) (faults : List Fault) : Type 0 where
+  pub key_faults : List Fault
+  pub told : TellsKeys s.keys key_faults
+  pub all : faults ≡ (s.plan.warnings ++ all_faults s.tables.items) ++ key_faults
 
 abbrev pub Finishes : {S : Type 0} → Session S → Session S → Result Outcome Stop → Type 0
 Finishes old new (Ok outcome) = IsIn old new state.Finished × HasOutcome old outcome

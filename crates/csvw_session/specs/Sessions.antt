@@ -1,11 +1,13 @@
 -- What a session stands for, and how each call goes on.
-use Rattle.std.specs.Prelude.{◌≡◌, ◌≢◌, ◌⊎◌, ◌<◌, ◌+◌, ◌-◌, ◌^◌, ℕ, Bool, true, false, List, [], ◌∷◌, ◌++◌, length, slice_get, Contains, Option, Some, Result, Ok, Err}
+use Rattle.std.specs.Prelude.{◌≡◌, ◌≢◌, ◌⊎◌, ◌<◌, ◌+◌, ◌-◌, ◌^◌, ◌≤◌, ℕ, zero, suc, Bool, true, false, List, [], ◌∷◌, ◌++◌, length, slice_get, Contains, Option, Some, Result, Ok, Err}
 use Rattle.csvw_rows.specs.RowValue.{Given}
 use Rattle.csvw_columns_core.specs.declared.columns.Columns.{Columns}
 use Rattle.csvw_columns.specs.declared.plan.Plan.{Plan}
 use Rattle.csvw_columns.specs.declared.plan.TablePlan.{TablePlan}
 use Rattle.csvw_columns.specs.declared.table_stop.TableStop.{TableStop}
 use Rattle.csvw_annotate.specs.declared.row.Row.{Row}
+use Rattle.csvw_keys.specs.Books.{KeepsKeys}
+use Rattle.csvw_keys.specs.KeyRules.{rules_of}
 use Rattle.csvw_triples_core.specs.Taking.{IsAsReady}
 use Rattle.csvw_triples_core.specs.declared.mode.Mode.{Mode}
 use Rattle.csvw_triples_core.specs.declared.term.Triple.{Triple}
@@ -43,6 +45,15 @@ IsTableAt s i plan t = (slice_get s.plan.tables i ≡ Some plan) × (slice_get s
 abbrev pub RowsGraph : {S : Type 0} → Session S → (ℕ → List Row) → Triple → Type 0
 RowsGraph s rows x = (i : ℕ) × (plan : TablePlan) × (t : Table) × IsTableAt s i plan t × Contains (table_triples s.mode plan.number (columns_of t) (rows i)) x
 
+-- tables have numbers from 1, in their order
+abbrev pub AreNumbered : List TablePlan → Type 0
+AreNumbered plans = (i : ℕ) (plan : TablePlan) → slice_get plans i ≡ Some plan → plan.number ≡ i + 1
+
+-- the rows of the table of a number, from 1, by its place from 0
+abbrev pub by_number : (ℕ → List Row) → ℕ → List Row
+by_number rows zero = []
+by_number rows (suc i) = rows i
+
 -- the triples that a sink took since the start form a graph
 pub record TookGraph {S : Type 0} (gains : S → List Triple → S → Type 0) (start now : S) (Graph : Triple → Type 0) : Type 0 where
   pub taken : List Triple
@@ -54,7 +65,9 @@ pub record TookGraph {S : Type 0} (gains : S → List Triple → S → Type 0) (
 pub record Stands {S : Type 0} (gains : S → List Triple → S → Type 0) (is_open : S → Bool) (failed : S → ℕ) (start : S) (events : List Event) (s : Session S) : Type 0 where
   pub rows : ℕ → List Row
   pub tables : (i : ℕ) (plan : TablePlan) (t : Table) → IsTableAt s i plan t → Told plan s.mode t (text_of events (i + 1)) (ended_in events (i + 1)) (rows i)
+  pub beyond : (i : ℕ) → length s.plan.tables ≤ i → rows i ≡ []
   pub took : TookGraph gains start s.sink (RowsGraph s rows)
+  pub keys : AreNumbered s.plan.tables → KeepsKeys s.keys (rules_of s.plan) (by_number rows)
   pub ready : IsAsReady is_open failed start s.sink
   pub state_is : s.state ≡ state.Open
 

@@ -13,6 +13,7 @@ use crate::state::State;
 use crate::stop::Stop;
 use csvw_columns::{Plan, TablePlan};
 use csvw_engine_core::{Table, end_table, feed_table};
+use csvw_keys::KeyBook;
 use csvw_opening::emit_opening;
 use csvw_report::{Outcome, sorted};
 use csvw_text::{Fault, Seq};
@@ -27,6 +28,7 @@ pub struct Session<S> {
     mode: Mode,
     tables: Vec<Table>,
     sink: S,
+    keys: KeyBook,
     state: State,
     ghost many: { length tables.items ≡ length plan.tables },
     ghost ready: { AreReady plan.tables } by { AreReady-prop plan.tables },
@@ -81,11 +83,11 @@ fn all_ended(tables: &[Table]) -> bool
     tables.iter().all(|table| table.is_ended())
 }
 
-fn list_warnings(warnings: &[Fault], faults: &mut Seq<Fault>) -> Result<(), AllocError>
-    ensures { OnOk result (faults.new ≡ faults.old ++ warnings.now) }
+fn list_each(more: &[Fault], faults: &mut Seq<Fault>) -> Result<(), AllocError>
+    ensures { OnOk result (faults.new ≡ faults.old ++ more.now) }
 {
-    for warning in warnings {
-        faults.push(*warning)?;
+    for fault in more {
+        faults.push(*fault)?;
     }
     Ok(())
 }
@@ -115,7 +117,7 @@ fn place_of(t: u32, count: usize) -> Option<usize>
 impl<S: TripleSink> Session<S> {
     ghost use Rattle.csvw_session.specs.Events.{Feed, End};
     ghost use Rattle.csvw_session.specs.Sessions.{Checks, Starts, Takes};
-    ghost use Rattle.csvw_session.specs.Finishing.{Finishes};
+    ghost use Rattle.csvw_session.specs.Finishing.{Finishes, ListsFaults};
 
     /// A session over the tables of a plan as `Plan::build` gives it, of whose texts nothing was read. In mode `Standard` its sink
     /// takes what is told of the group and its tables (csv2rdf, section 4.2). `Refused` with `Memory` where there is none and with
@@ -126,6 +128,12 @@ impl<S: TripleSink> Session<S> {
         ensures stands { IfOk result (λ s. Starts S.gains S.is_open S.failed plan mode sink s) }
         ensures refused { IfErr result (λ r. Refuses S.gains S.is_open S.failed plan mode sink r.sink r.stop) }
     {
+        let Ok(keys) = KeyBook::new(alloc, &plan) else {
+            return Err(Refused {
+                stop: Stop::Memory,
+                sink,
+            });
+        };
         let mut sink = sink;
         match open_tables(alloc, &plan, mode, &mut sink) {
             Ok(tables) => Ok(Session {
@@ -134,6 +142,7 @@ impl<S: TripleSink> Session<S> {
                 mode,
                 tables,
                 sink,
+                keys,
                 state: State::Open,
             }),
             Err(stop) => Err(Refused { stop, sink }),
@@ -179,7 +188,13 @@ impl<S: TripleSink> Session<S> {
         let i = self.check(t)?;
         self.state = State::Failed;
         let plans = self.plan.tables();
-        match feed_table(&plans[i], &mut self.tables[i], piece, &mut self.sink) {
+        match feed_table(
+            &plans[i],
+            &mut self.tables[i],
+            piece,
+            &mut self.sink,
+            &mut self.keys,
+        ) {
             Ok(()) => {
                 self.state = State::Open;
                 Ok(())
@@ -196,7 +211,12 @@ impl<S: TripleSink> Session<S> {
         let i = self.check(t)?;
         self.state = State::Failed;
         let plans = self.plan.tables();
-        match end_table(&plans[i], &mut self.tables[i], &mut self.sink) {
+        match end_table(
+            &plans[i],
+            &mut self.tables[i],
+            &mut self.sink,
+            &mut self.keys,
+        ) {
             Ok(()) => {
                 self.state = State::Open;
                 Ok(())
@@ -205,13 +225,15 @@ impl<S: TripleSink> Session<S> {
         }
     }
 
-    /// The warnings of the plan, and what is wrong with the tables.
+    /// The warnings of the plan, what is wrong with the tables, and what is wrong with their rows by their keys.
     fn faults(&self) -> Result<Seq<Fault>, AllocError>
-        ensures { IfOk result (λ faults. faults ≡ self.now.plan.warnings ++ all_faults self.now.tables.items) }
+        ensures { IfOk result (λ faults. ListsFaults self.now faults) }
     {
+        let broken = self.keys.finish()?;
         let mut faults = Seq::new(self.alloc);
-        list_warnings(self.plan.warnings(), &mut faults)?;
+        list_each(self.plan.warnings(), &mut faults)?;
         list_faults(self.tables.as_slice(), &mut faults)?;
+        list_each(broken.as_slice(), &mut faults)?;
         Ok(faults)
     }
 
@@ -255,6 +277,7 @@ impl<S: TripleSink> Session<S> {
             mode: _,
             tables: _,
             sink,
+            keys: _,
             state: _,
         } = self;
         sink

@@ -1,8 +1,9 @@
 -- A read that gave a piece, the end of the reader, or the stop of an event.
-use Rattle.std.proofs.Common.{◌+◌, ℕ, List, [], ◌++◌, refl, ◌∙◌, subst, arith, rules, take, append-nil}
-use Rattle.std.proofs.KnownBytes.{Consumes-nil, Consumes-trans}
+use Rattle.std.proofs.Common.{◌+◌, ℕ, List, [], ◌++◌, refl, ap, ◌∙◌, subst, arith, inl, inr, rules, take, append-nil}
+use Rattle.std.proofs.KnownBytes.{Consumes-kept, Consumes-nil, Consumes-trans}
 use Rattle.std.proofs.lemmas.Result.{err_from_is_err_and}
 use Rattle.std.specs.Io.KnownBytes.{Consumes}
+use Rattle.csvw_text.specs.Count.{one_more}
 use Rattle.csvw_text.specs.Counted.{inner_of}
 use Rattle.csvw_reading.proofs.Tables.{took_none, took_piece, ends, unfed}
 use Rattle.csvw_reading.proofs.reading.read_table.Goals as goal
@@ -64,3 +65,32 @@ returns-in_err-feed-clause-reads g c =
       at_end = λ e. cc;
     })
     (c.in-Ok.ensures.count ∙ i.steady) c.in_err-feed.field-0.0 (c.loop-reads.reads + 1) c.in_err-feed.ensures.takes)
+
+pub returns-in_default-clause-reads : goal.returns-in_default-clause-reads
+returns-in_default-clause-reads g c =
+    let i = c.loop-reads.invariant in
+    let remaining = g.R.Read.remaining in
+    let first = remaining (inner_of c.args.reader.now) in
+    let last = remaining (inner_of c.read.new.self) in
+    λ start events h next many. record {
+      bytes = i.bytes;
+      reads = c.loop-reads.reads;
+      took = i.took start events h next many;
+      gave = record {
+        consumed = Consumes-kept first (remaining (inner_of c.loop-reads.reader)) last i.bytes i.consumed c.in_default.ensures.bytes;
+        at_end = λ e. cc;
+      };
+      blame = inl (c.in_default.ensures.count ∙ ap one_more i.steady);
+    }
+
+pub returns-clause-reads : goal.returns-clause-reads
+returns-clause-reads g c =
+    let i = c.loop-reads.invariant in
+    let past = c.loop-reads-test.false in
+    λ start events h next many. record {
+      bytes = i.bytes;
+      reads = c.loop-reads.reads;
+      took = i.took start events h next many;
+      gave = record { consumed = i.consumed; at_end = λ e. cc };
+      blame = inr (omega (arith, past), i.steady);
+    }
