@@ -1,5 +1,5 @@
 -- The names of columns (Metadata Vocabulary for Tabular Data, section 5.6, `name`).
-use Rattle.std.specs.Prelude.{ℕ, List, [], ◌∷◌, ◌++◌, codes, flat_map, if◌then◌else◌, Option, Some, None}
+use Rattle.std.specs.Prelude.{ℕ, ◌+◌, List, [], ◌∷◌, ◌++◌, codes, flat_map, if◌then◌else◌, Option, Some, None}
 use Rattle.std.specs.Fmt.{decimal}
 use Rattle.percent_encoding.specs.Percent.{percent_encode_byte}
 use Rattle.csvw_text.specs.Class.{is_unreserved_char}
@@ -30,3 +30,8 @@ named n None titles = titled n titles
 -- the name of column n, from 1
 abbrev pub name_of : ℕ → ColumnDescription → List ℕ
 name_of n column = named n column.name column.titles
+
+-- the names of columns, the first of which here has the index i
+abbrev pub numbered_names : ℕ → List ColumnDescription → List (List ℕ)
+numbered_names i [] = []
+numbered_names i (c ∷ cs) = name_of (i + 1) c ∷ numbered_names (i + 1) cs

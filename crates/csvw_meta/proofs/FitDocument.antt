@@ -1,15 +1,16 @@
 -- What a document without faults describes can be planned by.
-use Rattle.std.proofs.Common.{◌≡◌, ◌≤◌, ℕ, List, [], ◌++◌, Bool, true, false, Option, Some, None, ap, subst, arith, length, All, codes, IfSome, nat_lt, is_some}
-use Rattle.std.proofs.lemmas.List.Elements.{All-cons}
+use Rattle.std.proofs.Common.{◌≡◌, ◌≢◌, ◌≤◌, ℕ, List, [], ◌∷◌, ◌++◌, Bool, true, false, Option, Some, None, refl, ap, subst, arith, length, map, All, AllPairs, codes, IfSome, nat_lt, is_some}
+use Rattle.std.proofs.lemmas.List.{length-map}
+use Rattle.std.proofs.lemmas.List.Elements.{All-cons, All-map, All-weaker}
 use Rattle.serde_json.specs.Data.{Data}
 use Rattle.serde_json.specs.Find.{get}
 use Rattle.url.specs.Parts.{Parts}
 use Rattle.csvw_text.specs.declared.fault.Fault.{Fault}
-use Rattle.csvw_iri.specs.Link.{base_of}
+use Rattle.csvw_iri.specs.Link.{base_of, iri_of}
 use Rattle.csvw_description.specs.declared.description.Description.{Description}
-use Rattle.csvw_description.specs.declared.table.TableDescription.{TableDescription}
 use Rattle.csvw_description.specs.Plannable.{HasSound, IsFitDialect, IsFitSchema, IsFitTable, IsPlannable}
-use Rattle.csvw_meta_core.specs.declared.fault.MetaCode.TheVariants.{NotSupported, TooLong}
+use Rattle.csvw_meta_core.specs.declared.fault.MetaCode.TheVariants.{DuplicateTable, NotSupported, TooLong}
+use Rattle.csvw_meta_core.specs.Pointer.{below, item_at}
 use Rattle.csvw_meta_core.specs.Read.{Read, fine, faulty, over, optional, property, needed, not_yet}
 use Rattle.csvw_meta_core.specs.Kinds.{fixed, truth}
 use Rattle.csvw_meta_core.specs.Links.{id, no_url, told, url}
@@ -18,21 +19,27 @@ use Rattle.csvw_meta.specs.declared.body.Body.{Body}
 use Rattle.csvw_meta.specs.declared.body.DialectGiven.{DialectGiven}
 use Rattle.csvw_meta.specs.declared.context.Context.{Context}
 use Rattle.csvw_meta.specs.declared.dialect.DialectFound.{DialectFound}
-use Rattle.csvw_meta.specs.Body.{body, given_dialect, split}
+use Rattle.csvw_meta.specs.declared.group.GroupFound.{GroupFound}
+use Rattle.csvw_meta.specs.declared.inherited.InheritedFound.{InheritedFound}
+use Rattle.csvw_meta.specs.declared.schema.SchemaFound.{SchemaFound}
+use Rattle.csvw_meta.specs.declared.table.TableFound.{TableFound}
+use Rattle.csvw_meta.specs.Body.{body, body_of, given_dialect, split}
 use Rattle.csvw_meta.specs.Context.{context}
 use Rattle.csvw_meta.specs.Dialect.{dialect}
-use Rattle.csvw_meta.specs.Document.{described, document, of_bytes, of_json, sole_table, within}
-use Rattle.csvw_meta.specs.Group.{group, no_group, tables, url_faults}
+use Rattle.csvw_meta.specs.Document.{described, document, of_bytes, of_json, parts, sole_table, within}
+use Rattle.csvw_meta.specs.Group.{description_of, group, no_group, tables, url_faults, url_of}
 use Rattle.csvw_meta.specs.Inherited.{inherited}
 use Rattle.csvw_meta.specs.Json.{json_of, without_bom}
 use Rattle.csvw_meta.specs.Names.{group_names, inherited_names, place_of}
+use Rattle.csvw_meta.specs.References.{reference_faults, schema_faults, table_faults, targets}
 use Rattle.csvw_meta.specs.Schema.{schema}
 use Rattle.csvw_meta.specs.Several.{several}
 use Rattle.csvw_meta.specs.Table.{no_table, table, table_of, table_others}
 use Rattle.csvw_meta.specs.UrlAlone.{own_base, plain_description, plain_document}
 use Rattle.csvw_meta.proofs.FineLemmas.{Ensures, none_in_both, if_fine, also_fine, over_fine, on_object_fine, needed_fine, optional_fine, several_fine}
 use Rattle.csvw_meta.proofs.FitDialect.{HasFitDialect, dialect_fine}
-use Rattle.csvw_meta.proofs.FitSchema.{DatatypesFit, inherited_sound, schema_fine}
+use Rattle.csvw_meta.proofs.FitKeys.{DescribesAny, schema_resolves, tables_resolve}
+use Rattle.csvw_meta.proofs.FitSchema.{DatatypesFit, IsFitFound, inherited_sound, pairs_apart, schema_fine}
 
 -- ---- dialects and bodies
 
@@ -52,10 +59,59 @@ given_dialect_fine context table warnings at d h =
 
 record IsFitBody (b : Body) : Type 0 where
   pub schema : IfSome b.schema IsFitSchema
+  pub keys : DescribesAny b.schema b.keys
   pub inherited : HasSound b.inherited
 
-abbrev AreFitTables : List TableDescription → Type 0
-AreFitTables ts = All IsFitTable ts × (length ts ≤ 64)
+body_of_fine : (schema : Option SchemaFound) (found : InheritedFound) → IfSome schema IsFitFound → HasSound found.inherited → IsFitBody (body_of schema found)
+body_of_fine None found fit sound = record { schema = tt; keys = tt; inherited = sound }
+body_of_fine (Some schema) found fit sound = record { schema = fit.schema; keys = fit.keys; inherited = sound }
+
+-- ---- the parts of groups
+
+record IsFitTableFound (t : TableFound) : Type 0 where
+  pub table : IsFitTable t.table
+  pub keys : DescribesAny t.table.schema t.keys
+
+record AreFitTables (ts : List TableFound) : Type 0 where
+  pub tables : All IsFitTableFound ts
+  pub limit : length ts ≤ 64
+  pub urls : AllPairs (λ x y. x ≢ y) (map url_of ts)
+
+tables_fit : (at : List ℕ) (ts : List TableFound) → All IsFitTableFound ts × (length ts ≤ 64) → url_faults at ts ≡ [] → AreFitTables ts
+tables_fit at ts fit h = record {
+  tables = fit.0;
+  limit = fit.1;
+  urls = pairs_apart (λ i. record { code = DuplicateTable; pointer = below (item_at at i) (codes "url") }) [] 0 (map url_of ts) h;
+}
+
+record IsFitGroup (g : GroupFound) : Type 0 where
+  pub dialect : IsFitGiven g.given
+  pub body : IsFitBody g.body
+  pub tables : AreFitTables g.tables
+
+same_urls : (ts : List TableFound) → map url_of ts ≡ map (λ t. iri_of t.url) (map (λ t. t.table) ts)
+same_urls [] = refl
+same_urls (t ∷ ts) = ap (λ us. url_of t ∷ us) (same_urls ts)
+
+-- What a group describes whose keys name what is there can be planned by.
+plannable : (g : GroupFound) → IsFitGroup g → reference_faults g ≡ [] → IsPlannable (description_of g)
+plannable g fit h =
+    let parts = none_in_both (schema_faults (targets g) g.body.schema g.body.keys) (table_faults (targets g) g.tables) h in
+    let tables = fit.tables.tables in
+    let count = fit.tables.limit in
+    record {
+      dialect = fit.dialect;
+      inherited = fit.body.inherited;
+      schema = fit.body.schema;
+      limit = omega (arith, count, length-map g.tables (λ t. t.table));
+      tables =
+          All-map IsFitTable (λ (t : TableFound). t.table) g.tables
+          (All-weaker IsFitTableFound (λ t. IsFitTable t.table) (λ t f. f.table) g.tables tables);
+      urls = subst (AllPairs (λ x y. x ≢ y)) (same_urls g.tables) fit.tables.urls;
+      keys = schema_resolves g g.body.schema g.body.keys fit.body.keys parts.0;
+      table_keys =
+          tables_resolve g g.tables (All-weaker IsFitTableFound (λ t. DescribesAny t.table.schema t.keys) (λ t f. f.keys) g.tables tables) parts.1;
+    }
 
 -- what is read
 read_fine : (r : Read Description) (d : Description) → Ensures r IsPlannable → r ≡ fine d → IsPlannable d
@@ -69,12 +125,11 @@ module _ (datatypes : DatatypesFit) where
   body_fine context table at d h =
       let p1 = none_in_both (inherited context table 0 at d).faults _ h in
       let p2 = none_in_both (optional (schema context table) at d (codes "tableSchema")).faults _ p1.1 in
-      record {
-        schema = optional_fine IsFitSchema (schema context table) (schema_fine datatypes context table) at d (codes "tableSchema") p2.0;
-        inherited = inherited_sound datatypes context table 0 at d;
-      }
+      body_of_fine (optional (schema context table) at d (codes "tableSchema")).value (inherited context table 0 at d).value
+      (optional_fine IsFitFound (schema context table) (schema_fine datatypes context table) at d (codes "tableSchema") p2.0)
+      (inherited_sound datatypes context table 0 at d)
 
-  table_of_fine : (context : Context) (sole : Bool) (number : ℕ) (at : List ℕ) (d : Data) → Ensures (table_of context sole number at d) IsFitTable
+  table_of_fine : (context : Context) (sole : Bool) (number : ℕ) (at : List ℕ) (d : Data) → Ensures (table_of context sole number at d) IsFitTableFound
   unfolding table_of
   table_of_fine context sole number at d h =
       let warnings = table_others sole number at d in
@@ -88,17 +143,17 @@ module _ (datatypes : DatatypesFit) where
       let p8 = none_in_both (body context number at d).faults _ p7.1 in
       let given = given_dialect_fine context number warnings.value at d p7.0 in
       let rest = body_fine context number at d p8.0 in
-      record { dialect = given; schema = rest.schema; inherited = rest.inherited }
+      record { table = record { dialect = given; schema = rest.schema; inherited = rest.inherited }; keys = rest.keys }
 
-  table_fine : (context : Context) (number : ℕ) (at : List ℕ) (d : Data) → Ensures (table context number at d) IsFitTable
-  table_fine context number at d = on_object_fine IsFitTable at d no_table (table_of context false number at d) (table_of_fine context false number at d)
+  table_fine : (context : Context) (number : ℕ) (at : List ℕ) (d : Data) → Ensures (table context number at d) IsFitTableFound
+  table_fine context number at d = on_object_fine IsFitTableFound at d no_table (table_of context false number at d) (table_of_fine context false number at d)
 
   tables_fine : (context : Context) (at : List ℕ) (d : Data) → Ensures (tables context at d) AreFitTables
   tables_fine context at d =
-      also_fine AreFitTables AreFitTables (several 1 64 (table context) at d) (url_faults at)
-      (several_fine IsFitTable (table context) (table_fine context) 1 64 at d) (λ ts fit h. fit)
+      also_fine (λ ts. All IsFitTableFound ts × (length ts ≤ 64)) AreFitTables (several 1 64 (table context) at d) (url_faults at)
+      (several_fine IsFitTableFound (table context) (table_fine context) 1 64 at d) (tables_fit at)
 
-  group_fine : (context : Context) (at : List ℕ) (d : Data) → Ensures (group context at d) IsPlannable
+  group_fine : (context : Context) (at : List ℕ) (d : Data) → Ensures (group context at d) IsFitGroup
   unfolding group
   group_fine context at d h =
       let warnings = others (group_names ++ inherited_names) NotSupported (place_of 0 0) at d in
@@ -109,26 +164,33 @@ module _ (datatypes : DatatypesFit) where
       let p5 = none_in_both (optional (id context.base) at d (codes "@id")).faults _ p4.1 in
       let p6 = none_in_both (given_dialect context 0 warnings.value at d).faults _ p5.1 in
       let p7 = none_in_both (body context 0 at d).faults _ p6.1 in
-      let fit = needed_fine AreFitTables (tables context) (tables_fine context) [] at d (codes "tables") p4.0 in
-      let given = given_dialect_fine context 0 warnings.value at d p6.0 in
-      let rest = body_fine context 0 at d p7.0 in
-      record { dialect = given; schema = rest.schema; inherited = rest.inherited; limit = fit.1; tables = fit.0 }
+      record {
+        dialect = given_dialect_fine context 0 warnings.value at d p6.0;
+        body = body_fine context 0 at d p7.0;
+        tables = needed_fine AreFitTables (tables context) (tables_fine context) [] at d (codes "tables") p4.0;
+      }
 
-  sole_fine : (context : Context) (at : List ℕ) (d : Data) → Ensures (sole_table context at d) IsPlannable
+  sole_fine : (context : Context) (at : List ℕ) (d : Data) → Ensures (sole_table context at d) IsFitGroup
   sole_fine context at d h =
       let t = (table_of context true 1 at d).value in
       record {
         dialect = tt;
-        schema = tt;
-        inherited = tt;
-        limit = omega arith;
-        tables = All-cons IsFitTable t [] (table_of_fine context true 1 at d h) (λ k e lt. absurd (omega (arith, lt)));
+        body = record { schema = tt; keys = tt; inherited = tt };
+        tables = record {
+          tables = All-cons IsFitTableFound t [] (table_of_fine context true 1 at d h) (λ k e lt. absurd (omega (arith, lt)));
+          limit = omega arith;
+          urls = λ i j u less lt. absurd (omega (arith, less, lt));
+        };
       }
+
+  parts_fine : (context : Context) (at : List ℕ) (d : Data) → Ensures (parts context at d) IsFitGroup
+  parts_fine context at d =
+      if_fine IsFitGroup (is_some (get (codes "tables") d)) (group context at d) (sole_table context at d)
+      (λ b. group_fine context at d) (λ b. sole_fine context at d)
 
   within_fine : (context : Context) (at : List ℕ) (d : Data) → Ensures (within context at d) IsPlannable
   within_fine context at d =
-      if_fine IsPlannable (is_some (get (codes "tables") d)) (group context at d) (sole_table context at d)
-      (λ b. group_fine context at d) (λ b. sole_fine context at d)
+      also_fine IsFitGroup (λ g. IsPlannable (description_of g)) (parts context at d) reference_faults (parts_fine context at d) plannable
 
   described_fine : (base : Parts) (at : List ℕ) (d : Data) → Ensures (described base at d) IsPlannable
   described_fine base at d = over_fine (λ c. Unit {0}) IsPlannable no_group (context base at d) (λ c. within c at d) (λ h. tt) (λ c q. within_fine c at d)

@@ -1,5 +1,5 @@
 -- A schema that stands in a document without faults has no more columns than the limit, and no two of one name.
-use Rattle.std.proofs.Common.{◌≡◌, ◌≢◌, ◌≤◌, ◌+◌, ℕ, List, [], ◌∷◌, ◌++◌, ◌||◌, Bool, true, false, refl, sym, ap, ◌∙◌, subst, arith, length, append_assoc, All, AllPairs, IfSome, Option, Some, None, bytes_eq, codes, if◌then◌else◌}
+use Rattle.std.proofs.Common.{◌≡◌, ◌≢◌, ◌≤◌, ◌+◌, ℕ, List, [], ◌∷◌, ◌++◌, ◌||◌, Bool, true, false, refl, sym, ◌∙◌, subst, arith, length, append_assoc, All, AllPairs, map, IfSome, Option, Some, None, bytes_eq, codes, if◌then◌else◌}
 use Rattle.std.specs.List.{list_any}
 use Rattle.std.proofs.lemmas.List.Elements.{All-cons}
 use Rattle.std.proofs.lemmas.List.Folds.{list_any-append}
@@ -11,9 +11,9 @@ use Rattle.url.specs.Parts.{Parts}
 use Rattle.csvw_text.specs.declared.fault.Place.{Place}
 use Rattle.csvw_datatype.specs.Sound.{IsSound}
 use Rattle.csvw_description.specs.declared.column.ColumnDescription.{ColumnDescription}
-use Rattle.csvw_description.specs.Name.{name_of}
+use Rattle.csvw_description.specs.declared.schema.Schema.{Schema}
+use Rattle.csvw_description.specs.Name.{numbered_names}
 use Rattle.csvw_description.specs.Plannable.{HasSound, IsFitSchema}
-use Rattle.csvw_description.specs.Plannable as plannable
 use Rattle.csvw_meta_core.specs.declared.fault.MetaCode.TheVariants.{DuplicateName, NotSupported}
 use Rattle.csvw_meta_core.specs.declared.fault.MetaFault.{MetaFault}
 use Rattle.csvw_meta_core.specs.Pointer.{below, item_at}
@@ -23,13 +23,16 @@ use Rattle.csvw_meta_core.specs.Links.{id}
 use Rattle.csvw_meta_core.specs.Others.{others}
 use Rattle.csvw_meta_datatype.specs.declared.form.DatatypeFound.{DatatypeFound}
 use Rattle.csvw_meta_datatype.specs.Datatypes.{datatype}
+use Rattle.csvw_meta_keys.specs.declared.keys.KeysFound.{KeysFound}
+use Rattle.csvw_meta_keys.specs.Described.{names_of, described}
 use Rattle.csvw_meta.specs.declared.context.Context.{Context}
+use Rattle.csvw_meta.specs.declared.schema.SchemaFound.{SchemaFound}
 use Rattle.csvw_meta.specs.Column.{column, column_of, no_column}
 use Rattle.csvw_meta.specs.Datatype.{given_datatype, split}
 use Rattle.csvw_meta.specs.Inherited.{inherited}
 use Rattle.csvw_meta.specs.Names.{schema_names, inherited_names, place_of}
 use Rattle.csvw_meta.specs.Repeated.{repeated}
-use Rattle.csvw_meta.specs.Schema.{columns, column_faults, order_faults, name_faults, no_schema, numbered_names, schema, schema_of}
+use Rattle.csvw_meta.specs.Schema.{columns, column_faults, order_faults, name_faults, no_schema, schema, schema_of}
 use Rattle.csvw_meta.specs.Several.{several}
 use Rattle.csvw_meta.proofs.FineLemmas.{Ensures, none_in_both, also_fine, on_object_fine, on_linked_fine, property_fine, several_fine}
 
@@ -67,7 +70,7 @@ module _ (fault : ℕ → MetaFault) where
       subst (λ us. repeated fault us (i + 1) ts ≡ []) (append_assoc before (x ∷ after) (t ∷ [])) parts.1 in
       All-cons (λ y. x ≢ y) t ts (middle_apart before after x t parts.0) (all_apart before (after ++ t ∷ []) x (i + 1) ts rest)
 
-  pairs_apart : (before : List (List ℕ)) (i : ℕ) (ts : List (List ℕ)) → repeated fault before i ts ≡ [] → AllPairs (λ x y. x ≢ y) ts
+  pub pairs_apart : (before : List (List ℕ)) (i : ℕ) (ts : List (List ℕ)) → repeated fault before i ts ≡ [] → AllPairs (λ x y. x ≢ y) ts
   pairs_apart before i [] h = λ i j d less lt. absurd (omega (arith, lt))
   pairs_apart before i (t ∷ ts) h =
       let rest = (alike before i t ts h).1 in
@@ -87,14 +90,10 @@ split_sound (Some found) h = h
 abbrev IsSoundColumn : ColumnDescription → Type 0
 IsSoundColumn c = HasSound c.inherited
 
-names_are : (i : ℕ) (cs : List ColumnDescription) → numbered_names i cs ≡ plannable.numbered_names i cs
-names_are i [] = refl
-names_are i (c ∷ cs) = ap (λ ns. name_of (i + 1) c ∷ ns) (names_are (i + 1) cs)
-
 record AreFitColumns (cs : List ColumnDescription) : Type 0 where
   pub sound : All IsSoundColumn cs
   pub count : length cs ≤ 1024
-  pub names : AllPairs (λ x y. x ≢ y) (plannable.numbered_names 0 cs)
+  pub names : AllPairs (λ x y. x ≢ y) (numbered_names 0 cs)
 
 abbrev AreSeveral : List ColumnDescription → Type 0
 AreSeveral cs = All IsSoundColumn cs × (length cs ≤ 1024)
@@ -103,14 +102,22 @@ named_fine : (at : List ℕ) (cs : List ColumnDescription) → AreSeveral cs →
 named_fine at cs several h = record {
   sound = several.0;
   count = several.1;
-  names = subst (AllPairs (λ x y. x ≢ y)) (names_are 0 cs)
-      (pairs_apart (λ i. record { code = DuplicateName; pointer = item_at at i }) [] 0 (numbered_names 0 cs) h);
+  names = pairs_apart (λ i. record { code = DuplicateName; pointer = item_at at i }) [] 0 (numbered_names 0 cs) h;
 }
 
 no_columns : AreFitColumns []
 no_columns = record { sound = λ k d lt. absurd (omega (arith, lt)); count = omega arith; names = λ i j d less lt. absurd (omega (arith, lt)) }
 
 -- ---- columns and schemas
+
+-- The schema describes the keys that are found in it.
+pub record Describes (schema : Schema) (keys : KeysFound) : Type 0 where
+  pub primary_key : schema.primary_key ≡ names_of keys.primary
+  pub foreign_keys : schema.foreign_keys ≡ map described keys.foreign
+
+pub record IsFitFound (found : SchemaFound) : Type 0 where
+  pub schema : IsFitSchema found.schema
+  pub keys : Describes found.schema found.keys
 
 -- the law of csvw_meta_datatype: each datatype that is read fits together
 abbrev pub DatatypesFit : Type 0
@@ -144,25 +151,24 @@ module _ (datatypes : DatatypesFit) where
       (several_fine IsSoundColumn (column context table) (column_fine context table) 0 1024 at d)
       (λ cs several h. named_fine at cs several (none_in_both (name_faults at cs) (order_faults at cs) h).0)
 
-  schema_of_fine : (context : Context) (table : ℕ) (at : List ℕ) (d : Data) → Ensures (schema_of context table at d) IsFitSchema
+  schema_of_fine : (context : Context) (table : ℕ) (at : List ℕ) (d : Data) → Ensures (schema_of context table at d) IsFitFound
   unfolding schema_of
   schema_of_fine context table at d h =
       let p1 = none_in_both (optional (id context.base) at d (codes "@id")).faults _ h in
       let p2 = none_in_both (optional (fixed (codes "Schema")) at d (codes "@type")).faults _ p1.1 in
-      let p3 = none_in_both (optional not_yet at d (codes "primaryKey")).faults _ p2.1 in
-      let p4 = none_in_both (optional not_yet at d (codes "foreignKeys")).faults _ p3.1 in
-      let p5 = none_in_both (optional not_yet at d (codes "rowTitles")).faults _ p4.1 in
-      let p6 = none_in_both (others (schema_names ++ inherited_names) NotSupported (place_of table 0) at d).faults _ p5.1 in
-      let p7 = none_in_both (property (columns context table) [] at d (codes "columns")).faults _ p6.1 in
-      let fits = property_fine AreFitColumns (columns context table) (columns_fine context table) [] no_columns at d (codes "columns") p7.0 in
+      let p3 = none_in_both (optional not_yet at d (codes "rowTitles")).faults _ p2.1 in
+      let p4 = none_in_both (others (schema_names ++ inherited_names) NotSupported (place_of table 0) at d).faults _ p3.1 in
+      let p5 = none_in_both (property (columns context table) [] at d (codes "columns")).faults _ p4.1 in
+      let fits = property_fine AreFitColumns (columns context table) (columns_fine context table) [] no_columns at d (codes "columns") p5.0 in
       record {
-        limit = fits.count;
-        inherited = inherited_sound context table 0 at d;
-        datatypes = fits.sound;
-        names = fits.names;
-        primary_key = refl;
-        foreign_keys = refl;
+        schema = record {
+          limit = fits.count;
+          inherited = inherited_sound context table 0 at d;
+          datatypes = fits.sound;
+          names = fits.names;
+        };
+        keys = record { primary_key = refl; foreign_keys = refl };
       }
 
-  pub schema_fine : (context : Context) (table : ℕ) (at : List ℕ) (d : Data) → Ensures (schema context table at d) IsFitSchema
-  schema_fine context table at d = on_linked_fine IsFitSchema at d no_schema (schema_of context table at d) (schema_of_fine context table at d)
+  pub schema_fine : (context : Context) (table : ℕ) (at : List ℕ) (d : Data) → Ensures (schema context table at d) IsFitFound
+  schema_fine context table at d = on_linked_fine IsFitFound at d no_schema (schema_of context table at d) (schema_of_fine context table at d)

@@ -1,7 +1,9 @@
 pub mod ContextLemmas
 pub mod FineLemmas
+pub mod FirstLemmas
 pub mod FitDialect
 pub mod FitDocument
+pub mod FitKeys
 pub mod FitSchema
 pub mod ItemsLemmas
 pub mod JsonLemmas

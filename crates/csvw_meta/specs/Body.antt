@@ -7,6 +7,8 @@ use Rattle.csvw_meta.specs.declared.body.Body.{Body}
 use Rattle.csvw_meta.specs.declared.body.DialectGiven.{DialectGiven}
 use Rattle.csvw_meta.specs.declared.context.Context.{Context}
 use Rattle.csvw_meta.specs.declared.dialect.DialectFound.{DialectFound}
+use Rattle.csvw_meta.specs.declared.inherited.InheritedFound.{InheritedFound}
+use Rattle.csvw_meta.specs.declared.schema.SchemaFound.{SchemaFound}
 use Rattle.csvw_meta.specs.Dialect.{dialect}
 use Rattle.csvw_meta.specs.Inherited.{inherited}
 use Rattle.csvw_meta.specs.Schema.{schema}
@@ -19,8 +21,14 @@ split warnings (Some found) = record { dialect = Some found.dialect; warnings = 
 unfoldable pub given_dialect : Context → ℕ → List Fault → List ℕ → Data → Read DialectGiven
 given_dialect context table warnings at d = under (split warnings) (optional (dialect context table) at d (codes "dialect"))
 
+-- the schema and its keys, where there is one, beside the inherited properties
+abbrev pub body_of : Option SchemaFound → InheritedFound → Body
+body_of None found = record { schema = None; keys = None; inherited = found.inherited; warnings = found.warnings }
+body_of (Some schema) found =
+    record { schema = Some schema.schema; keys = Some schema.keys; inherited = found.inherited; warnings = found.warnings }
+
 unfoldable pub body : Context → ℕ → List ℕ → Data → Read Body
 body context table at d = do
   found ← inherited context table 0 at d
   schema ← optional (schema context table) at d (codes "tableSchema")
-  fine (record { schema = schema; inherited = found.inherited; warnings = found.warnings })
+  fine (body_of schema found)

@@ -3,7 +3,6 @@ use Rattle.std.specs.Prelude.{ℕ, List, [], ◌++◌, None, codes, map}
 use Rattle.serde_json.specs.Data.{Data}
 use Rattle.csvw_iri.specs.Link.{iri_of}
 use Rattle.csvw_description.specs.declared.description.Description.{Description}
-use Rattle.csvw_description.specs.declared.table.TableDescription.{TableDescription}
 use Rattle.csvw_meta_core.specs.declared.fault.MetaCode.TheVariants.{DuplicateTable, NotSupported}
 use Rattle.csvw_meta_core.specs.declared.fault.MetaFault.{MetaFault}
 use Rattle.csvw_meta_core.specs.Pointer.{below, item_at}
@@ -12,6 +11,8 @@ use Rattle.csvw_meta_core.specs.Kinds.{fixed}
 use Rattle.csvw_meta_core.specs.Links.{id}
 use Rattle.csvw_meta_core.specs.Others.{others}
 use Rattle.csvw_meta.specs.declared.context.Context.{Context}
+use Rattle.csvw_meta.specs.declared.group.GroupFound.{GroupFound}
+use Rattle.csvw_meta.specs.declared.table.TableFound.{TableFound}
 use Rattle.csvw_meta.specs.Body.{given_dialect, body}
 use Rattle.csvw_meta.specs.Inherited.{no_inherited}
 use Rattle.csvw_meta.specs.Names.{group_names, inherited_names, place_of}
@@ -20,19 +21,19 @@ use Rattle.csvw_meta.specs.Several.{several}
 use Rattle.csvw_meta.specs.Table.{table}
 
 -- a table's URL, made safe
-abbrev pub url_of : TableDescription → List ℕ
-url_of t = iri_of t.url
+abbrev pub url_of : TableFound → List ℕ
+url_of t = iri_of t.table.url
 
 -- No two tables have one URL.
-abbrev pub url_faults : List ℕ → List TableDescription → List MetaFault
+abbrev pub url_faults : List ℕ → List TableFound → List MetaFault
 url_faults at ts =
     repeated (λ i. record { code = DuplicateTable; pointer = below (item_at at i) (codes "url") }) [] 0 (map url_of ts)
 
-abbrev pub tables : Context → List ℕ → Data → Read (List TableDescription)
+abbrev pub tables : Context → List ℕ → Data → Read (List TableFound)
 tables context at d = also (several 1 64 (table context) at d) (url_faults at)
 
 -- Notes are not supported yet.
-unfoldable pub group : Context → List ℕ → Data → Read Description
+unfoldable pub group : Context → List ℕ → Data → Read GroupFound
 group context at d = do
   type ← optional (fixed (codes "TableGroup")) at d (codes "@type")
   notes ← optional not_yet at d (codes "notes")
@@ -41,15 +42,19 @@ group context at d = do
   iri ← optional (id context.base) at d (codes "@id")
   given ← given_dialect context 0 warnings at d
   body ← body context 0 at d
-  fine (record {
-    id = iri;
-    tables = tables;
-    dialect = given.dialect;
-    schema = body.schema;
-    inherited = body.inherited;
-    notes = [];
-    warnings = body.warnings ++ given.warnings;
-  })
+  fine (record { id = iri; tables = tables; given = given; body = body })
+
+-- what is described by the parts of a group
+abbrev pub description_of : GroupFound → Description
+description_of group = record {
+  id = group.id;
+  tables = map (λ t. t.table) group.tables;
+  dialect = group.given.dialect;
+  schema = group.body.schema;
+  inherited = group.body.inherited;
+  notes = [];
+  warnings = group.body.warnings ++ group.given.warnings;
+}
 
 abbrev pub no_group : Description
 no_group = record { id = None; tables = []; dialect = None; schema = None; inherited = no_inherited; notes = []; warnings = [] }

@@ -9,6 +9,7 @@ pub mod Group
 pub mod Inherited
 pub mod Json
 pub mod Names
+pub mod References
 pub mod Repeated
 pub mod Schema
 pub mod Several

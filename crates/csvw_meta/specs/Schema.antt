@@ -1,9 +1,9 @@
 -- Schemas (Metadata Vocabulary for Tabular Data, section 5.5).
-use Rattle.std.specs.Prelude.{ℕ, ◌+◌, List, [], ◌∷◌, ◌++◌, false, codes}
+use Rattle.std.specs.Prelude.{ℕ, List, [], ◌++◌, false, codes, map}
 use Rattle.serde_json.specs.Data.{Data}
 use Rattle.csvw_description.specs.declared.column.ColumnDescription.{ColumnDescription}
-use Rattle.csvw_description.specs.declared.schema.Schema.{Schema}
-use Rattle.csvw_description.specs.Name.{name_of}
+use Rattle.csvw_text.specs.declared.fault.Fault.{Fault}
+use Rattle.csvw_description.specs.Name.{numbered_names}
 use Rattle.csvw_meta_core.specs.declared.fault.MetaCode.TheVariants.{DuplicateName, NotSupported, VirtualOrder}
 use Rattle.csvw_meta_core.specs.declared.fault.MetaFault.{MetaFault}
 use Rattle.csvw_meta_core.specs.Pointer.{item_at}
@@ -11,18 +11,18 @@ use Rattle.csvw_meta_core.specs.Read.{Read, fine, ◌>>=◌, also, on_linked_obj
 use Rattle.csvw_meta_core.specs.Kinds.{fixed}
 use Rattle.csvw_meta_core.specs.Links.{id}
 use Rattle.csvw_meta_core.specs.Others.{others}
+use Rattle.csvw_meta_keys.specs.declared.keys.KeysFound.{KeysFound}
+use Rattle.csvw_meta_keys.specs.Described.{names_of, described, all_warnings}
+use Rattle.csvw_meta_keys.specs.Keys.{keys}
 use Rattle.csvw_meta.specs.declared.context.Context.{Context}
+use Rattle.csvw_meta.specs.declared.inherited.InheritedFound.{InheritedFound}
+use Rattle.csvw_meta.specs.declared.schema.SchemaFound.{SchemaFound}
 use Rattle.csvw_meta.specs.Column.{column}
 use Rattle.csvw_meta.specs.Inherited.{inherited, no_inherited}
 use Rattle.csvw_meta.specs.Names.{schema_names, inherited_names, place_of}
 use Rattle.csvw_meta.specs.Repeated.{repeated}
 use Rattle.csvw_meta.specs.Several.{several}
 use Rattle.csvw_meta.specs.VirtualOrder.{misplaced}
-
--- the names of columns, the first of which here has the index i
-abbrev pub numbered_names : ℕ → List ColumnDescription → List (List ℕ)
-numbered_names i [] = []
-numbered_names i (c ∷ cs) = name_of (i + 1) c ∷ numbered_names (i + 1) cs
 
 -- Names are unique per table.
 abbrev pub name_faults : List ℕ → List ColumnDescription → List MetaFault
@@ -38,22 +38,36 @@ column_faults at cs = name_faults at cs ++ order_faults at cs
 abbrev pub columns : Context → ℕ → List ℕ → Data → Read (List ColumnDescription)
 columns context table at d = also (several 0 1024 (column context table) at d) (column_faults at)
 
--- Keys are not supported yet.
-unfoldable pub schema_of : Context → ℕ → List ℕ → Data → Read Schema
+-- a schema with the keys that are found in it, and the warnings on them behind its own
+abbrev pub with_keys : List ColumnDescription → InheritedFound → List Fault → KeysFound → SchemaFound
+with_keys columns found warnings keys = record {
+  schema = record {
+    columns = columns;
+    primary_key = names_of keys.primary;
+    foreign_keys = map described keys.foreign;
+    inherited = found.inherited;
+    warnings = (found.warnings ++ warnings) ++ all_warnings keys.foreign;
+  };
+  keys = keys;
+}
+
+unfoldable pub schema_of : Context → ℕ → List ℕ → Data → Read SchemaFound
 schema_of context table at d = do
   iri ← optional (id context.base) at d (codes "@id")
   type ← optional (fixed (codes "Schema")) at d (codes "@type")
-  primary ← optional not_yet at d (codes "primaryKey")
-  foreign ← optional not_yet at d (codes "foreignKeys")
   row_titles ← optional not_yet at d (codes "rowTitles")
   warnings ← others (schema_names ++ inherited_names) NotSupported (place_of table 0) at d
   columns ← property (columns context table) [] at d (codes "columns")
   found ← inherited context table 0 at d
-  fine (record { columns = columns; primary_key = []; foreign_keys = []; inherited = found.inherited; warnings = found.warnings ++ warnings })
+  keys ← keys context.base (place_of table 0) at d
+  fine (with_keys columns found warnings keys)
 
-abbrev pub no_schema : Schema
-no_schema = record { columns = []; primary_key = []; foreign_keys = []; inherited = no_inherited; warnings = [] }
+abbrev pub no_schema : SchemaFound
+no_schema = record {
+  schema = record { columns = []; primary_key = []; foreign_keys = []; inherited = no_inherited; warnings = [] };
+  keys = record { primary = []; foreign = [] };
+}
 
 -- the schema of a table, or of the group where the number is 0
-abbrev pub schema : Context → ℕ → List ℕ → Data → Read Schema
+abbrev pub schema : Context → ℕ → List ℕ → Data → Read SchemaFound
 schema context table at d = on_linked_object at d no_schema (schema_of context table at d)

@@ -2,13 +2,13 @@
 use Rattle.std.specs.Prelude.{ℕ, List, [], ◌++◌, Bool, true, false, None, codes}
 use Rattle.serde_json.specs.Data.{Data}
 use Rattle.csvw_text.specs.declared.fault.Fault.{Fault}
-use Rattle.csvw_description.specs.declared.table.TableDescription.{TableDescription}
 use Rattle.csvw_meta_core.specs.declared.fault.MetaCode.TheVariants.{NotSupported}
 use Rattle.csvw_meta_core.specs.Read.{Read, fine, ◌>>=◌, on_object, needed, property, optional, not_yet}
 use Rattle.csvw_meta_core.specs.Kinds.{fixed, truth}
 use Rattle.csvw_meta_core.specs.Links.{url, id, no_url}
 use Rattle.csvw_meta_core.specs.Others.{others}
 use Rattle.csvw_meta.specs.declared.context.Context.{Context}
+use Rattle.csvw_meta.specs.declared.table.TableFound.{TableFound}
 use Rattle.csvw_meta.specs.Body.{given_dialect, body}
 use Rattle.csvw_meta.specs.Inherited.{no_inherited}
 use Rattle.csvw_meta.specs.Names.{table_names, sole_table_names, inherited_names, place_of}
@@ -19,7 +19,7 @@ table_others true number at d = others (sole_table_names ++ inherited_names) Not
 table_others false number at d = others (table_names ++ inherited_names) NotSupported (place_of number 0) at d
 
 -- Notes are not supported yet.
-unfoldable pub table_of : Context → Bool → ℕ → List ℕ → Data → Read TableDescription
+unfoldable pub table_of : Context → Bool → ℕ → List ℕ → Data → Read TableFound
 table_of context sole number at d = do
   type ← optional (fixed (codes "Table")) at d (codes "@type")
   notes ← optional not_yet at d (codes "notes")
@@ -30,28 +30,34 @@ table_of context sole number at d = do
   given ← given_dialect context number warnings at d
   body ← body context number at d
   fine (record {
-    url = url;
-    id = iri;
-    dialect = given.dialect;
-    schema = body.schema;
-    suppressed = suppressed;
-    inherited = body.inherited;
-    notes = [];
-    warnings = body.warnings ++ given.warnings;
+    table = record {
+      url = url;
+      id = iri;
+      dialect = given.dialect;
+      schema = body.schema;
+      suppressed = suppressed;
+      inherited = body.inherited;
+      notes = [];
+      warnings = body.warnings ++ given.warnings;
+    };
+    keys = body.keys;
   })
 
-abbrev pub no_table : TableDescription
+abbrev pub no_table : TableFound
 no_table = record {
-  url = no_url;
-  id = None;
-  dialect = None;
-  schema = None;
-  suppressed = false;
-  inherited = no_inherited;
-  notes = [];
-  warnings = [];
+  table = record {
+    url = no_url;
+    id = None;
+    dialect = None;
+    schema = None;
+    suppressed = false;
+    inherited = no_inherited;
+    notes = [];
+    warnings = [];
+  };
+  keys = None;
 }
 
 -- the table of this number in its group
-abbrev pub table : Context → ℕ → List ℕ → Data → Read TableDescription
+abbrev pub table : Context → ℕ → List ℕ → Data → Read TableFound
 table context number at d = on_object at d no_table (table_of context false number at d)

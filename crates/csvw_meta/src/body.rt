@@ -4,15 +4,16 @@ ghost use Rattle.std.specs.Prelude.{◌≡◌, IfOk};
 ghost use Rattle.serde_json.specs.View.{view};
 ghost use Rattle.csvw_meta_core.specs.Pointer.{text_of};
 ghost use Rattle.csvw_meta_core.specs.Reads.{Reads};
-ghost use Rattle.csvw_meta.specs.Body.{split, given_dialect, body};
+ghost use Rattle.csvw_meta.specs.Body.{split, given_dialect, body_of, body};
 
 use crate::context::Context;
 use crate::dialect::{DialectFound, DialectReader};
-use crate::inherited::read_inherited;
-use crate::schema::SchemaReader;
+use crate::inherited::{InheritedFound, read_inherited};
+use crate::schema::{SchemaFound, SchemaReader};
 use csvw_description::{Inherited, Schema};
 use csvw_dialect::Dialect;
 use csvw_meta_core::{Part, Refusal};
+use csvw_meta_keys::KeysFound;
 use csvw_text::{Fault, Seq};
 use std::alloc::AllocError;
 
@@ -23,10 +24,11 @@ pub(crate) struct DialectGiven {
     pub(crate) warnings: Seq<Fault>,
 }
 
-/// The schema of an object, its inherited properties, and the warnings on its datatype.
+/// The schema of an object and its keys, its inherited properties, and the warnings on its datatype.
 #[derive(Drop)]
 pub(crate) struct Body {
     pub(crate) schema: Option<Schema>,
+    pub(crate) keys: Option<KeysFound>,
     pub(crate) inherited: Inherited,
     pub(crate) warnings: Seq<Fault>,
 }
@@ -62,6 +64,25 @@ pub(crate) fn read_dialect(
     Ok(split(found, warnings)?)
 }
 
+fn body_of(schema: Option<SchemaFound>, found: InheritedFound) -> Body
+    ensures { result ≡ body_of schema found }
+{
+    match schema {
+        None => Body {
+            schema: None,
+            keys: None,
+            inherited: found.inherited,
+            warnings: found.warnings,
+        },
+        Some(schema) => Body {
+            schema: Some(schema.schema),
+            keys: Some(schema.keys),
+            inherited: found.inherited,
+            warnings: found.warnings,
+        },
+    }
+}
+
 /// The schema and the inherited properties of the table of this number, 0 for the group.
 #[tactic(auto, using(crate::proofs::ReadLemmas::fails_first), unfolding(crate::specs::Body::body))]
 pub(crate) fn read_body(context: &Context, table: u32, part: &Part) -> Result<Body, Refusal>
@@ -69,9 +90,5 @@ pub(crate) fn read_body(context: &Context, table: u32, part: &Part) -> Result<Bo
 {
     let found = read_inherited(context, table, 0, part)?;
     let schema = part.optional(&SchemaReader { context, table }, "tableSchema")?;
-    Ok(Body {
-        schema,
-        inherited: found.inherited,
-        warnings: found.warnings,
-    })
+    Ok(body_of(schema, found))
 }

@@ -7,11 +7,13 @@ ghost use Rattle.csvw_meta_core.specs.Links.{told, no_url};
 ghost use Rattle.csvw_meta_core.specs.Pointer.{text_of};
 ghost use Rattle.csvw_meta_core.specs.Read.{fine};
 ghost use Rattle.csvw_meta_core.specs.Reads.{Reads};
-ghost use Rattle.csvw_meta.specs.Document.{sole_table, within, described, of_bytes, document};
+ghost use Rattle.csvw_meta.specs.Document.{sole_table, parts, within, described, of_bytes, document};
 
+use crate::body::{Body, DialectGiven};
 use crate::context::{Context, read_context};
-use crate::group::read_group;
+use crate::group::{GroupFound, description_of, read_group};
 use crate::json::{document_fault, json_of, without_bom};
+use crate::references::check_references;
 use crate::table::table_of;
 use csvw_description::{Description, Inherited};
 use csvw_iri::{Base, IriFault};
@@ -24,42 +26,57 @@ use std::alloc::Global;
 const MAX_DOCUMENT: usize = 1048576;
 
 /// The group of the one table that the document is.
-fn of_table(context: &Context, part: &Part) -> Result<Description, Refusal>
+fn of_table(context: &Context, part: &Part) -> Result<GroupFound, Refusal>
     ensures { Reads result (sole_table context.now (text_of part.now.at) (view part.now.value.now)) }
 {
     let table = table_of(context, true, 1, part)?;
     let mut tables = Seq::new(part.alloc);
     tables.push(table)?;
-    Ok(Description {
+    Ok(GroupFound {
         id: None,
         tables,
-        dialect: None,
-        schema: None,
-        inherited: Inherited {
-            about_url: None,
-            property_url: None,
-            value_url: None,
-            datatype: None,
-            default: None,
-            lang: None,
-            null: None,
-            ordered: None,
-            required: None,
-            separator: None,
+        given: DialectGiven {
+            dialect: None,
+            warnings: Seq::new(part.alloc),
         },
-        notes: Seq::new(part.alloc),
-        warnings: Seq::new(part.alloc),
+        body: Body {
+            schema: None,
+            keys: None,
+            inherited: Inherited {
+                about_url: None,
+                property_url: None,
+                value_url: None,
+                datatype: None,
+                default: None,
+                lang: None,
+                null: None,
+                ordered: None,
+                required: None,
+                separator: None,
+            },
+            warnings: Seq::new(part.alloc),
+        },
     })
 }
 
-/// What the document describes within its context: a group, or the group of one table.
-fn within(context: &Context, part: &Part) -> Result<Description, Refusal>
-    ensures { Reads result (within context.now (text_of part.now.at) (view part.now.value.now)) }
+/// A group, or the group of one table.
+fn parts(context: &Context, part: &Part) -> Result<GroupFound, Refusal>
+    ensures { Reads result (parts context.now (text_of part.now.at) (view part.now.value.now)) }
 {
     match part.value.get("tables") {
         Some(_) => read_group(context, part),
         None => of_table(context, part),
     }
+}
+
+/// What the document describes within its context; what its keys name is there.
+#[tactic(auto, using(crate::proofs::ReadLemmas::fails_also))]
+fn within(context: &Context, part: &Part) -> Result<Description, Refusal>
+    ensures { Reads result (within context.now (text_of part.now.at) (view part.now.value.now)) }
+{
+    let group = parts(context, part)?;
+    check_references(part.alloc, &group)?;
+    Ok(description_of(part.alloc, group)?)
 }
 
 /// What a value describes at the document's own URL.

@@ -3,15 +3,16 @@ ghost use Rattle.std.specs.Prelude.{◌≡◌, [], IfOk, MatchResult, map};
 ghost use Rattle.serde_json.specs.View.{view};
 ghost use Rattle.csvw_meta_core.specs.Pointer.{text_of};
 ghost use Rattle.csvw_meta_core.specs.Reads.{Fails, Reads};
-ghost use Rattle.csvw_meta.specs.Group.{url_of, url_faults, group};
+ghost use Rattle.csvw_meta.specs.Group.{url_of, url_faults, group, description_of};
 
-use crate::body::{read_body, read_dialect};
+use crate::body::{Body, DialectGiven, read_body, read_dialect};
 use crate::context::Context;
 use crate::repeated::repeated_at;
 use crate::several::Several;
-use crate::table::TableReader;
+use crate::table::{TableFound, TableReader};
 use crate::unlisted::group_warnings;
 use csvw_description::{Description, TableDescription};
+use csvw_iri::Iri;
 use csvw_meta_core::{Fixed, IdReader, MetaCode, NotYet, Part, Reader, Refusal};
 use csvw_meta_datatype::joined;
 use csvw_text::{Seq, Text};
@@ -20,13 +21,26 @@ use std::alloc::{AllocError, Global};
 /// How many tables a group has at most.
 const MAX_TABLES: u32 = 64;
 
-fn url_of(alloc: Global, table: &TableDescription) -> Result<Text, AllocError>
-    ensures { IfOk result (λ t. t ≡ url_of table.now) }
-{
-    Text::copied(alloc, table.url.iri().as_str())
+/// The parts of a group, whose keys may name what isn't there.
+#[derive(Drop)]
+pub(crate) struct GroupFound {
+    /// Its `@id`.
+    pub(crate) id: Option<Iri>,
+    /// Its tables.
+    pub(crate) tables: Seq<TableFound>,
+    /// Its dialect, and the warnings on it and on the group.
+    pub(crate) given: DialectGiven,
+    /// Its schema and its inherited properties.
+    pub(crate) body: Body,
 }
 
-fn urls(alloc: Global, tables: &[TableDescription]) -> Result<Seq<Text>, AllocError>
+fn url_of(alloc: Global, found: &TableFound) -> Result<Text, AllocError>
+    ensures { IfOk result (λ t. t ≡ url_of found.now) }
+{
+    Text::copied(alloc, found.table.url.iri().as_str())
+}
+
+fn urls(alloc: Global, tables: &[TableFound]) -> Result<Seq<Text>, AllocError>
     ensures { IfOk result (λ s. s ≡ map url_of tables.now) }
 {
     let mut urls = Vec::new(alloc);
@@ -38,7 +52,7 @@ fn urls(alloc: Global, tables: &[TableDescription]) -> Result<Seq<Text>, AllocEr
 }
 
 /// No table has the URL of an earlier one; else `DuplicateTable` at the later one's.
-fn check_urls(part: &Part, tables: &[TableDescription]) -> Result<(), Refusal>
+fn check_urls(part: &Part, tables: &[TableFound]) -> Result<(), Refusal>
     ensures { MatchResult result (λ _. url_faults (text_of part.now.at) tables.now ≡ []) (λ e. Fails e (url_faults (text_of part.now.at) tables.now)) }
 {
     let urls = urls(part.alloc, tables)?;
@@ -65,12 +79,12 @@ struct Tables<'a> {
 impl<'a> Reader for Tables<'a> {
     ghost use Rattle.csvw_meta.specs.Group.{tables};
 
-    type Output = Seq<TableDescription>;
+    type Output = Seq<TableFound>;
 
     ghost reads = { λ r. tables r.context.now };
 
     #[tactic(auto, using(crate::proofs::ReadLemmas::fails_also))]
-    fn read(&self, part: &Part) -> Result<Seq<TableDescription>, Refusal> {
+    fn read(&self, part: &Part) -> Result<Seq<TableFound>, Refusal> {
         let several = Several {
             reader: TableReader {
                 context: self.context,
@@ -84,9 +98,9 @@ impl<'a> Reader for Tables<'a> {
     }
 }
 
-/// The group that the document describes.
+/// The parts of the group that the document describes.
 #[tactic(auto, using(crate::proofs::ReadLemmas::fails_first), unfolding(crate::specs::Group::group))]
-pub(crate) fn read_group(context: &Context, part: &Part) -> Result<Description, Refusal>
+pub(crate) fn read_group(context: &Context, part: &Part) -> Result<GroupFound, Refusal>
     ensures { Reads result (group context.now (text_of part.now.at) (view part.now.value.now)) }
 {
     part.optional(&Fixed { text: "TableGroup" }, "@type")?;
@@ -101,14 +115,42 @@ pub(crate) fn read_group(context: &Context, part: &Part) -> Result<Description, 
     )?;
     let given = read_dialect(context, 0, warnings, part)?;
     let body = read_body(context, 0, part)?;
+    Ok(GroupFound {
+        id,
+        tables,
+        given,
+        body,
+    })
+}
+
+fn described_tables(
+    alloc: Global,
+    all: Vec<TableFound>,
+) -> Result<Seq<TableDescription>, AllocError>
+    ensures { IfOk result (λ s. s ≡ map (λ t. t.table) all.items) }
+{
+    let mut tables = Vec::new(alloc);
+    for found in all {
+        tables.push(found.table)?;
+    }
+    Ok(Seq::of(tables))
+}
+
+/// What the parts of a group describe; `AllocError` where there is no memory.
+pub(crate) fn description_of(alloc: Global, group: GroupFound) -> Result<Description, AllocError>
+    ensures { IfOk result (λ d. d ≡ description_of group) }
+{
+    let tables = described_tables(alloc, group.tables.into_vec())?;
+    let given = group.given;
+    let body = group.body;
     let warnings = joined(body.warnings, given.warnings)?;
     Ok(Description {
-        id,
+        id: group.id,
         tables,
         dialect: given.dialect,
         schema: body.schema,
         inherited: body.inherited,
-        notes: Seq::new(part.alloc),
+        notes: Seq::new(alloc),
         warnings,
     })
 }

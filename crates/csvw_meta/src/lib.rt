@@ -12,6 +12,7 @@ mod group;
 mod inherited;
 mod json;
 mod name;
+mod references;
 mod repeated;
 mod schema;
 mod several;

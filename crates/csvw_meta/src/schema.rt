@@ -1,14 +1,14 @@
 //! Schemas (Metadata Vocabulary for Tabular Data, section 5.5).
 ghost use Rattle.std.specs.Prelude.{◌≡◌, ◌<◌, ◌+◌, ◌^◌, [], IfOk, MatchResult};
-ghost use Rattle.csvw_description.specs.Name.{name_of};
+ghost use Rattle.csvw_description.specs.Name.{name_of, numbered_names};
 ghost use Rattle.serde_json.specs.View.{view};
 ghost use Rattle.csvw_meta_core.specs.Pointer.{text_of};
 ghost use Rattle.csvw_meta_core.specs.Reads.{Fails, Reads};
-ghost use Rattle.csvw_meta.specs.Schema.{numbered_names, name_faults, order_faults, column_faults, schema_of};
+ghost use Rattle.csvw_meta.specs.Schema.{name_faults, order_faults, column_faults, with_keys, schema_of};
 
 use crate::column::ColumnReader;
 use crate::context::Context;
-use crate::inherited::read_inherited;
+use crate::inherited::{InheritedFound, read_inherited};
 use crate::repeated::repeated_at;
 use crate::several::Several;
 use crate::unlisted::schema_warnings;
@@ -16,12 +16,22 @@ use crate::virtual_order::misplaced_at;
 use csvw_description::{ColumnDescription, Schema};
 use csvw_meta_core::{Fixed, IdReader, MetaCode, NotYet, Part, Reader, Refusal};
 use csvw_meta_datatype::joined;
-use csvw_text::{Seq, Text};
+use csvw_meta_keys::{KeysFound, read_keys};
+use csvw_text::{Fault, Place, Seq, Text};
 use serde_json::Value;
 use std::alloc::{AllocError, Global};
 
 /// How many columns a table has at most.
 const MAX_COLUMNS: u32 = 1024;
+
+/// A schema, and its keys with the places where they stand.
+#[derive(Drop)]
+pub(crate) struct SchemaFound {
+    /// The schema.
+    pub(crate) schema: Schema,
+    /// Its keys.
+    pub(crate) keys: KeysFound,
+}
 
 fn column_name(alloc: Global, column: &ColumnDescription, index: usize) -> Result<Text, AllocError>
     requires { index + 1 < 2 ^ 64 }
@@ -31,7 +41,11 @@ fn column_name(alloc: Global, column: &ColumnDescription, index: usize) -> Resul
     Text::copied(alloc, name.as_str())
 }
 
-fn column_names(alloc: Global, columns: &[ColumnDescription]) -> Result<Seq<Text>, AllocError>
+/// The names of columns, numbered from 1; `AllocError` where there is no memory.
+pub(crate) fn column_names(
+    alloc: Global,
+    columns: &[ColumnDescription],
+) -> Result<Seq<Text>, AllocError>
     ensures { IfOk result (λ s. s ≡ numbered_names 0 columns.now) }
 {
     let mut names = Vec::new(alloc);
@@ -116,11 +130,11 @@ pub(crate) struct SchemaReader<'a> {
 impl<'a> Reader for SchemaReader<'a> {
     ghost use Rattle.csvw_meta.specs.Schema.{schema};
 
-    type Output = Schema;
+    type Output = SchemaFound;
 
     ghost reads = { λ r. schema r.context.now r.table };
 
-    fn read(&self, part: &Part) -> Result<Schema, Refusal> {
+    fn read(&self, part: &Part) -> Result<SchemaFound, Refusal> {
         match part.value {
             Value::Object(_) => schema_of(self.context, self.table, part),
             Value::String(_) => Err(part.refused(MetaCode::NotSupported)),
@@ -129,8 +143,29 @@ impl<'a> Reader for SchemaReader<'a> {
     }
 }
 
+/// The schema of these columns and keys, with its warnings and then those on the keys.
+fn with_keys(
+    alloc: Global,
+    columns: Seq<ColumnDescription>,
+    found: InheritedFound,
+    warnings: Seq<Fault>,
+    keys: KeysFound,
+) -> Result<SchemaFound, AllocError>
+    ensures { IfOk result (λ s. s ≡ with_keys columns found warnings keys) }
+{
+    let warnings = joined(found.warnings, warnings)?;
+    let schema = Schema {
+        columns,
+        primary_key: keys.primary_key(alloc)?,
+        foreign_keys: keys.foreign_keys(alloc)?,
+        inherited: found.inherited,
+        warnings: joined(warnings, keys.warnings(alloc)?)?,
+    };
+    Ok(SchemaFound { schema, keys })
+}
+
 #[tactic(auto, using(crate::proofs::ReadLemmas::fails_first), unfolding(crate::specs::Schema::schema_of))]
-fn schema_of(context: &Context, table: u32, part: &Part) -> Result<Schema, Refusal>
+fn schema_of(context: &Context, table: u32, part: &Part) -> Result<SchemaFound, Refusal>
     ensures { Reads result (schema_of context.now table (text_of part.now.at) (view part.now.value.now)) }
 {
     part.optional(
@@ -140,18 +175,15 @@ fn schema_of(context: &Context, table: u32, part: &Part) -> Result<Schema, Refus
         "@id",
     )?;
     part.optional(&Fixed { text: "Schema" }, "@type")?;
-    part.optional(&NotYet, "primaryKey")?;
-    part.optional(&NotYet, "foreignKeys")?;
     part.optional(&NotYet, "rowTitles")?;
     let warnings = schema_warnings(table, part)?;
     let columns = part.property(&Columns { context, table }, Seq::new(part.alloc), "columns")?;
     let found = read_inherited(context, table, 0, part)?;
-    let warnings = joined(found.warnings, warnings)?;
-    Ok(Schema {
-        columns,
-        primary_key: Seq::new(part.alloc),
-        foreign_keys: Seq::new(part.alloc),
-        inherited: found.inherited,
-        warnings,
-    })
+    let place = Place {
+        table,
+        row: 0,
+        column: 0,
+    };
+    let keys = read_keys(&context.base, place, part)?;
+    Ok(with_keys(part.alloc, columns, found, warnings, keys)?)
 }

@@ -13,8 +13,18 @@ use csvw_meta_core::{
     Fixed, IdReader, NotYet, NumberedReader, Part, Reader, Refusal, Truth, UrlReader,
 };
 use csvw_meta_datatype::joined;
+use csvw_meta_keys::KeysFound;
 use csvw_text::{Fault, Seq};
 use serde_json::Value;
+
+/// A table, and the keys of its own schema with the places where they stand.
+#[derive(Drop)]
+pub(crate) struct TableFound {
+    /// The table.
+    pub(crate) table: TableDescription,
+    /// The keys; none: it has no schema of its own.
+    pub(crate) keys: Option<KeysFound>,
+}
 
 /// A table of a group, by its number.
 #[derive(Drop)]
@@ -26,11 +36,11 @@ pub(crate) struct TableReader<'a> {
 impl<'a> NumberedReader for TableReader<'a> {
     ghost use Rattle.csvw_meta.specs.Table.{table};
 
-    type Output = TableDescription;
+    type Output = TableFound;
 
     ghost reads = { λ r. table r.context.now };
 
-    fn read(&self, number: u32, part: &Part) -> Result<TableDescription, Refusal> {
+    fn read(&self, number: u32, part: &Part) -> Result<TableFound, Refusal> {
         match part.value {
             Value::Object(_) => table_of(self.context, false, number, part),
             _ => Err(part.wrong()),
@@ -55,7 +65,7 @@ pub(crate) fn table_of(
     sole: bool,
     number: u32,
     part: &Part,
-) -> Result<TableDescription, Refusal>
+) -> Result<TableFound, Refusal>
     ensures { Reads result (table_of context.now sole number (text_of part.now.at) (view part.now.value.now)) }
 {
     part.optional(&Fixed { text: "Table" }, "@type")?;
@@ -77,7 +87,7 @@ pub(crate) fn table_of(
     let given = read_dialect(context, number, warnings, part)?;
     let body = read_body(context, number, part)?;
     let warnings = joined(body.warnings, given.warnings)?;
-    Ok(TableDescription {
+    let table = TableDescription {
         url,
         id,
         dialect: given.dialect,
@@ -86,5 +96,9 @@ pub(crate) fn table_of(
         inherited: body.inherited,
         notes: Seq::new(part.alloc),
         warnings,
+    };
+    Ok(TableFound {
+        table,
+        keys: body.keys,
     })
 }

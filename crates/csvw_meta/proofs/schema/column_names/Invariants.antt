@@ -1,5 +1,5 @@
 use Rattle.std.proofs.Common.{◌≡◌, ◌++◌, drop}
-use Rattle.csvw_meta.specs.Schema.{numbered_names}
+use Rattle.csvw_description.specs.Name.{numbered_names}
 use Rattle.csvw_meta.proofs.schema.column_names.Given as goal
 
 abbrev pub invariant-loop-i : goal.invariant-loop-i

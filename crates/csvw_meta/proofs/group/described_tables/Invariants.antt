@@ -1,0 +1,7 @@
+-- Those taken so far, and then those of the tables left.
+use Rattle.std.proofs.Common.{◌≡◌, ◌++◌, map}
+use Rattle.std.specs.Vec.Iter.{into_iter_items}
+use Rattle.csvw_meta.proofs.group.described_tables.Given as goal
+
+abbrev pub invariant-loop-found : goal.invariant-loop-found
+invariant-loop-found l = l.tables.items ++ map (λ t. t.table) (into_iter_items l.found-iterator) ≡ map (λ t. t.table) l.fn.all.items

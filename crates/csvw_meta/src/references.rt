@@ -1,0 +1,99 @@
+//! What the keys of a group's schemas name (Metadata Vocabulary for Tabular Data, sections 5.5.1 and 5.5.2).
+ghost use Rattle.std.specs.Prelude.{◌≡◌, [], IfOk, MatchResult};
+ghost use Rattle.csvw_description.specs.Keys.{declared_names, own_or};
+ghost use Rattle.csvw_meta_core.specs.Reads.{Fails};
+ghost use Rattle.csvw_meta.specs.References.{target, targets, schema_faults, table_faults, reference_faults};
+
+use crate::group::GroupFound;
+use crate::schema::column_names;
+use crate::table::TableFound;
+use csvw_description::Schema;
+use csvw_meta_core::Refusal;
+use csvw_meta_keys::{KeysFound, Target, check_keys};
+use csvw_text::{Seq, Text};
+use std::alloc::{AllocError, Global};
+
+fn declared_names(alloc: Global, schema: &Option<Schema>) -> Result<Seq<Text>, AllocError>
+    ensures { IfOk result (λ s. s ≡ declared_names schema.now) }
+{
+    match schema {
+        Some(schema) => column_names(alloc, schema.columns.as_slice()),
+        None => Ok(Seq::new(alloc)),
+    }
+}
+
+/// A table's own schema, else that of its group.
+fn own_or<'a>(table: &'a Option<Schema>, group: &'a Option<Schema>) -> &'a Option<Schema>
+    ensures { result.now ≡ own_or table.now group.now }
+{
+    match table {
+        Some(_) => table,
+        None => group,
+    }
+}
+
+fn target_of(
+    alloc: Global,
+    group: &Option<Schema>,
+    found: &TableFound,
+) -> Result<Target, AllocError>
+    ensures { IfOk result (λ t. t ≡ target group.now found.now) }
+{
+    Ok(Target {
+        url: found.table.url.iri().clone(alloc)?,
+        names: declared_names(alloc, own_or(&found.table.schema, group))?,
+    })
+}
+
+fn targets_of(alloc: Global, group: &GroupFound) -> Result<Seq<Target>, AllocError>
+    ensures { IfOk result (λ s. s ≡ targets group.now) }
+{
+    let mut targets = Vec::new(alloc);
+    for found in group.tables.as_slice() {
+        let target = target_of(alloc, &group.body.schema, found)?;
+        targets.push(target)?;
+    }
+    Ok(Seq::of(targets))
+}
+
+/// What the keys of a schema name is there; else `BadReference`.
+fn check_schema(
+    alloc: Global,
+    targets: &[Target],
+    schema: &Option<Schema>,
+    keys: &Option<KeysFound>,
+) -> Result<(), Refusal>
+    ensures { MatchResult result (λ _. schema_faults targets.now schema.now keys.now ≡ [])
+        (λ e. Fails e (schema_faults targets.now schema.now keys.now)) }
+{
+    let Some(keys) = keys else {
+        return Ok(());
+    };
+    let own = declared_names(alloc, schema)?;
+    check_keys(alloc, own.as_slice(), targets, keys)
+}
+
+fn check_tables(alloc: Global, targets: &[Target], tables: &[TableFound]) -> Result<(), Refusal>
+    ensures { MatchResult result (λ _. table_faults targets.now tables.now ≡ []) (λ e. Fails e (table_faults targets.now tables.now)) }
+{
+    for found in tables {
+        check_schema(alloc, targets, &found.table.schema, &found.keys)?;
+    }
+    Ok(())
+}
+
+/// What the keys of each schema of a group name is there: each column of a key, the table that is referenced by its URL, and as
+/// many columns on both sides; else `BadReference` at the name, at the URL or at the foreign key.
+#[tactic(auto, using(crate::proofs::ReadLemmas::fails_first))]
+pub(crate) fn check_references(alloc: Global, group: &GroupFound) -> Result<(), Refusal>
+    ensures { MatchResult result (λ _. reference_faults group.now ≡ []) (λ e. Fails e (reference_faults group.now)) }
+{
+    let targets = targets_of(alloc, group)?;
+    check_schema(
+        alloc,
+        targets.as_slice(),
+        &group.body.schema,
+        &group.body.keys,
+    )?;
+    check_tables(alloc, targets.as_slice(), group.tables.as_slice())
+}
