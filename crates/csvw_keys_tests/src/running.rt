@@ -1,0 +1,37 @@
+//! Runs that validate a group of tables.
+use csvw_engine::{Stop, run};
+use csvw_text::Counted;
+use csvw_triples_core::Mode;
+use std::alloc::{AllocError, Global};
+
+/// What a run left.
+#[derive(Drop)]
+pub(crate) struct Ran {
+    /// Why it stopped, if it did.
+    pub(crate) stop: Option<Stop>,
+    /// The report that it wrote.
+    pub(crate) report: Vec<u8>,
+}
+
+/// A run over a document and the texts of its tables.
+pub(crate) fn run_over(alloc: Global, meta: &str, texts: &[&str]) -> Result<Ran, AllocError> {
+    let mut readers = Vec::new(alloc);
+    for text in texts {
+        readers.push(Counted::new(text.as_bytes()))?;
+    }
+    let mut graph = Counted::new(Vec::new(alloc));
+    let mut report = Counted::new(Vec::new(alloc));
+    let outcome = run(
+        alloc,
+        meta.as_bytes(),
+        "http://example.org/",
+        readers.as_mut_slice(),
+        Mode::Validate,
+        &mut graph,
+        &mut report,
+    );
+    Ok(Ran {
+        stop: outcome.err(),
+        report: report.into_inner(),
+    })
+}
