@@ -1,2 +1,4 @@
+pub mod InLists
+pub mod Noting
 pub mod Openings
-pub mod Pushing
+pub mod Numbers

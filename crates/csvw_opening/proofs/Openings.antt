@@ -1,96 +1,121 @@
 -- The triples of a group and its tables are what is told of them.
-use Rattle.std.proofs.Common.{◌≡◌, Bool, true, false, cond, List, [], ◌∷◌, refl, sym, subst, inl, inr, ◌⊎◌, ◌↔◌, Contains, arith}
-use Rattle.std.proofs.lemmas.List.Elements.{Contains-append_left, Contains-append_right, Contains-append_cases, Contains-push, Contains-push_cases}
-use Rattle.std.specs.Prelude.{flat_map}
+use Rattle.std.proofs.Common.{◌≡◌, ℕ, ◌+◌, Bool, true, false, cond, List, [], ◌∷◌, ◌++◌, refl, sym, ap, subst, inl, inr, ◌↔◌, Contains, arith}
+use Rattle.std.proofs.lemmas.List.Elements.{Contains-append_left, Contains-append_right, Contains-append_cases}
 use Rattle.csvw_columns.specs.declared.plan.Plan.{Plan}
 use Rattle.csvw_columns.specs.declared.plan.TablePlan.{TablePlan}
 use Rattle.csvw_triples_core.specs.declared.mode.Mode.{Mode}
 use Rattle.csvw_triples_core.specs.declared.mode.Mode.TheVariants as mode
 use Rattle.csvw_triples_core.specs.declared.term.Node.{Node}
 use Rattle.csvw_triples_core.specs.declared.term.Triple.{Triple}
-use Rattle.csvw_opening.specs.Opening.{IsOfTable, StandardOpening, Opening}
-use Rattle.csvw_opening.specs.OpeningTriples.{group_node, group_triple, member_triple, class_triple, url_triple, about_table, table_triples, standard_opening, opening}
+use Rattle.csvw_opening.specs.Annotations.{annotations}
+use Rattle.csvw_opening.specs.NotesTriples.{notes_triples}
+use Rattle.csvw_opening.specs.Opening.{IsOfTable, IsOfTables, IsOfGroup, StandardOpening, Opening}
+use Rattle.csvw_opening.specs.OpeningTriples.{group_node, node_of, group_triple, member_triple, class_triple, url_triple, about_group, about_table, notes_of}
+use Rattle.csvw_opening.specs.OpeningTriples.{table_triples, table_blanks, tables_blanks, tables_triples, group_blanks, standard_opening, opening}
+use Rattle.csvw_opening.proofs.InLists.{none_in, first_in, later_in, in_cons}
+use Rattle.csvw_opening.proofs.Noting.{from_notes, to_notes}
 
--- lists
-
-none_in : {X : Type 0} (x : X) → Contains [] x → ⊥
-none_in x h = let lt = h.1 in absurd (omega arith)
-
-one_in : {X : Type 0} (y x : X) → Contains (y ∷ []) x → x ≡ y
-one_in y x h = elim (Contains-push_cases [] y x h) [ inl k ↦ absurd (none_in x k) | inr e ↦ sym e ]
-
-first_in : {X : Type 0} (y : X) (ys : List X) (x : X) → x ≡ y → Contains (y ∷ ys) x
-first_in y ys x e = subst (λ z. Contains (y ∷ ys) z) (sym e) (Contains-append_left (y ∷ []) ys y (Contains-push [] y))
-
-later_in : {X : Type 0} (y : X) (ys : List X) (x : X) → Contains ys x → Contains (y ∷ ys) x
-later_in y ys x h = Contains-append_right (y ∷ []) ys x h
-
-in_cons : {X : Type 0} (y : X) (ys : List X) (x : X) → Contains (y ∷ ys) x → (x ≡ y) ⊎ Contains ys x
-in_cons y ys x h = elim (Contains-append_cases (y ∷ []) ys x h) [ inl k ↦ inl (one_in y x k) | inr k ↦ inr k ]
-
-module _ (group : Node) where
+module _ (group : Node) (x : Triple) where
   -- one table
 
-  from_about : (table : TablePlan) (x : Triple) → Contains (about_table group table) x → IsOfTable group table x
-  from_about table x h =
-      elim (in_cons (member_triple group table) (class_triple table ∷ url_triple table ∷ []) x h) [
+  from_table : (n : ℕ) (table : TablePlan) → Contains (about_table group table ++ notes_of n table) x → IsOfTable group n table x
+  from_table n table h =
+      let notes = notes_of n table in
+      elim (in_cons (member_triple group table) (class_triple table ∷ url_triple table ∷ notes) x h) [
         | inl e ↦ inl e
-        | inr k ↦ elim (in_cons (class_triple table) (url_triple table ∷ []) x k) [ inl e ↦ inr (inl e) | inr l ↦ inr (inr (one_in (url_triple table) x l)) ]
+        | inr k ↦ elim (in_cons (class_triple table) (url_triple table ∷ notes) x k) [
+          | inl e ↦ inr (inl e)
+          | inr l ↦ elim (in_cons (url_triple table) notes x l) [
+            | inl e ↦ inr (inr (inl e))
+            | inr m ↦ inr (inr (inr (from_notes x (node_of table) n (annotations table.notes) m)))
+          ]
+        ]
       ]
 
-  to_about : (table : TablePlan) (x : Triple) → IsOfTable group table x → Contains (about_table group table) x
-  to_about table x h =
+  to_table : (n : ℕ) (table : TablePlan) → IsOfTable group n table x → Contains (about_table group table ++ notes_of n table) x
+  to_table n table h =
+      let notes = notes_of n table in
       elim h [
-        | inl e ↦ first_in (member_triple group table) (class_triple table ∷ url_triple table ∷ []) x e
-        | inr k ↦ later_in (member_triple group table) (class_triple table ∷ url_triple table ∷ []) x (elim k [
-          | inl e ↦ first_in (class_triple table) (url_triple table ∷ []) x e
-          | inr e ↦ later_in (class_triple table) (url_triple table ∷ []) x (first_in (url_triple table) [] x e)
+        | inl e ↦ first_in (member_triple group table) (class_triple table ∷ url_triple table ∷ notes) x e
+        | inr k ↦ later_in (member_triple group table) (class_triple table ∷ url_triple table ∷ notes) x (elim k [
+          | inl e ↦ first_in (class_triple table) (url_triple table ∷ notes) x e
+          | inr l ↦ later_in (class_triple table) (url_triple table ∷ notes) x (elim l [
+            | inl e ↦ first_in (url_triple table) notes x e
+            | inr m ↦ later_in (url_triple table) notes x (to_notes x m)
+          ])
         ])
       ]
 
-  unless : (b : Bool) (xs : List Triple) (x : Triple) → Contains (cond b [] xs) x → (b ≡ false) × Contains xs x
-  unless true xs x h = absurd (none_in x h)
-  unless false xs x h = (refl, h)
+  unless : (b : Bool) (xs : List Triple) → Contains (cond b [] xs) x → (b ≡ false) × Contains xs x
+  unless true xs h = absurd (none_in x h)
+  unless false xs h = (refl, h)
 
-  given : (b : Bool) (xs : List Triple) (x : Triple) → b ≡ false → Contains xs x → Contains (cond b [] xs) x
-  given b xs x e h = subst (λ t. Contains (cond t [] xs) x) (sym e) h
+  given : (b : Bool) (xs : List Triple) → b ≡ false → Contains xs x → Contains (cond b [] xs) x
+  given b xs e h = subst (λ t. Contains (cond t [] xs) x) (sym e) h
 
   -- all tables
 
-  abbrev pub Told : List TablePlan → Triple → Type 0
-  Told tables x = (table : TablePlan) × Contains tables table × (table.suppressed ≡ false) × IsOfTable group table x
+  after_one : (n : ℕ) (first : TablePlan) (tables : List TablePlan) → IsOfTables group (n + table_blanks first) tables x → IsOfTables group n (first ∷ tables) x
+  after_one n first tables h =
+      let goes_on : (n + table_blanks first) + tables_blanks h.0 ≡ n + (table_blanks first + tables_blanks h.0) = omega arith in
+      (first ∷ h.0, h.1, h.2, ap (λ ts. first ∷ ts) h.3, h.4, subst (λ k. IsOfTable group k h.1 x) goes_on h.5)
 
-  from_tables : (tables : List TablePlan) (x : Triple) → Contains (flat_map (table_triples group) tables) x → Told tables x
-  from_tables [] x h = absurd (none_in x h)
-  from_tables (table ∷ tables) x h =
-      elim (Contains-append_cases (table_triples group table) (flat_map (table_triples group) tables) x h) [
-        | inl k ↦ let l = unless table.suppressed (about_table group table) x k in (table, first_in table tables table refl, l.0, from_about table x l.1)
-        | inr k ↦ let l = from_tables tables x k in (l.0, later_in table tables l.0 l.1, l.2, l.3)
+  at_first : (n : ℕ) (first : TablePlan) (tables : List TablePlan) → first.suppressed ≡ false → IsOfTable group n first x
+      → IsOfTables group n (first ∷ tables) x
+  at_first n first tables e h =
+      let none : n ≡ n + 0 = omega arith in
+      ([], first, tables, refl, e, subst (λ k. IsOfTable group k first x) none h)
+
+  from_tables : (n : ℕ) (tables : List TablePlan) → Contains (tables_triples group n tables) x → IsOfTables group n tables x
+  from_tables n [] h = absurd (none_in x h)
+  from_tables n (first ∷ tables) h =
+      elim (Contains-append_cases (table_triples group n first) (tables_triples group (n + table_blanks first) tables) x h) [
+        | inl k ↦ let l = unless first.suppressed (about_table group first ++ notes_of n first) k in at_first n first tables l.0 (from_table n first l.1)
+        | inr k ↦ after_one n first tables (from_tables (n + table_blanks first) tables k)
       ]
 
-  told_at : (first : TablePlan) (tables : List TablePlan) (table : TablePlan) (x : Triple) → table ≡ first → table.suppressed ≡ false → IsOfTable group table x
-      → Contains (flat_map (table_triples group) (first ∷ tables)) x
-  told_at first tables table x same e h =
-      Contains-append_left (table_triples group first) (flat_map (table_triples group) tables) x
-      (subst (λ t. Contains (table_triples group t) x) same (given table.suppressed (about_table group table) x e (to_about table x h)))
+  at_place : (n m : ℕ) (before : List TablePlan) (table : TablePlan) (after : List TablePlan) → m ≡ n + tables_blanks before
+      → Contains (table_triples group m table) x → Contains (tables_triples group n (before ++ table ∷ after)) x
+  at_place n m [] table after e h =
+      let same : m ≡ n = omega (arith, e) in
+      let here = subst (λ k. Contains (table_triples group k table) x) same h in
+      Contains-append_left (table_triples group n table) (tables_triples group (n + table_blanks table) after) x here
+  at_place n m (first ∷ before) table after e h =
+      Contains-append_right (table_triples group n first) (tables_triples group (n + table_blanks first) (before ++ table ∷ after)) x
+      (at_place (n + table_blanks first) m before table after (omega (arith, e)) h)
 
-  to_tables : (tables : List TablePlan) (table : TablePlan) (x : Triple) → Contains tables table → table.suppressed ≡ false → IsOfTable group table x
-      → Contains (flat_map (table_triples group) tables) x
-  to_tables [] table x h e k = absurd (none_in table h)
-  to_tables (first ∷ tables) table x h e k =
-      elim (in_cons first tables table h) [
-        | inl same ↦ told_at first tables table x same e k
-        | inr l ↦ Contains-append_right (table_triples group first) (flat_map (table_triples group) tables) x (to_tables tables table x l e k)
+  to_tables : (n : ℕ) (tables : List TablePlan) → IsOfTables group n tables x → Contains (tables_triples group n tables) x
+  to_tables n tables h =
+      let m = n + tables_blanks h.0 in
+      let here = given h.1.suppressed (about_table group h.1 ++ notes_of m h.1) h.4 (to_table m h.1 h.5) in
+      subst (λ ts. Contains (tables_triples group n ts) x) (sym h.3) (at_place n m h.0 h.1 h.2 refl here)
+
+  -- the group
+
+  from_group : (plan : Plan) → Contains (group_triple group ∷ notes_triples group 0 (annotations plan.notes)) x → IsOfGroup group plan x
+  from_group plan h =
+      elim (in_cons (group_triple group) (notes_triples group 0 (annotations plan.notes)) x h) [
+        | inl e ↦ inl e
+        | inr k ↦ inr (from_notes x group 0 (annotations plan.notes) k)
       ]
+
+  to_group : (plan : Plan) → IsOfGroup group plan x → Contains (group_triple group ∷ notes_triples group 0 (annotations plan.notes)) x
+  to_group plan h =
+      let notes = notes_triples group 0 (annotations plan.notes) in
+      elim h [ inl e ↦ first_in (group_triple group) notes x e | inr k ↦ later_in (group_triple group) notes x (to_notes x k) ]
 
 is_standard : (plan : Plan) (x : Triple) → Contains (standard_opening plan) x ↔ StandardOpening plan x
 is_standard plan x =
     let group = group_node plan.id in
-    let others = flat_map (table_triples group) plan.tables in (
-      λ h. elim (in_cons (group_triple group) others x h) [ inl e ↦ inl e | inr k ↦ inr (from_tables group plan.tables x k) ],
+    let front = about_group group 0 plan in
+    let tables = tables_triples group (group_blanks plan) plan.tables in (
+      λ h. elim (Contains-append_cases front tables x h) [
+        | inl k ↦ inl (from_group group x plan k)
+        | inr k ↦ inr (from_tables group x (group_blanks plan) plan.tables k)
+      ],
       λ h. elim h [
-        | inl e ↦ first_in (group_triple group) others x e
-        | inr k ↦ later_in (group_triple group) others x (to_tables group plan.tables k.0 x k.1 k.2 k.3)
+        | inl k ↦ Contains-append_left front tables x (to_group group x plan k)
+        | inr k ↦ Contains-append_right front tables x (to_tables group x (group_blanks plan) plan.tables k)
       ],
     )
 

@@ -1,6 +1,7 @@
 //! The IRIs that the triples of groups and tables name.
 ghost use Rattle.std.specs.Prelude.{◌≡◌};
 ghost use Rattle.csvw_triples.specs.CsvwVocabulary.{rdf_type, group_class, table_class, table_of_group, csvw_url};
+ghost use Rattle.csvw_triples_core.specs.Vocabulary.{lang_string};
 
 use csvw_iri::Iri;
 use csvw_triples::named;
@@ -19,11 +20,14 @@ pub struct OpeningNames {
     pub class: Iri,
     /// csvw:url.
     pub address: Iri,
+    /// rdf:langString.
+    pub tagged: Iri,
     pub ghost is_kind: { kind ≡ rdf_type },
     pub ghost is_group: { group ≡ group_class },
     pub ghost is_member: { member ≡ table_of_group },
     pub ghost is_class: { class ≡ table_class },
     pub ghost is_address: { address ≡ csvw_url },
+    pub ghost is_tagged: { tagged ≡ lang_string },
 }
 
 impl OpeningNames {
@@ -34,12 +38,17 @@ impl OpeningNames {
         let member = named(alloc, "http://www.w3.org/ns/csvw#table")?;
         let class = named(alloc, "http://www.w3.org/ns/csvw#Table")?;
         let address = named(alloc, "http://www.w3.org/ns/csvw#url")?;
+        let tagged = named(
+            alloc,
+            "http://www.w3.org/1999/02/22-rdf-syntax-ns#langString",
+        )?;
         Ok(OpeningNames {
             kind,
             group,
             member,
             class,
             address,
+            tagged,
         })
     }
 }

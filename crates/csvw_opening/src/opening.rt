@@ -1,11 +1,16 @@
 //! The triples of a group and its tables, put into a sink.
-ghost use Rattle.std.specs.Prelude.{◌≡◌, ◌++◌, IfOk, OnOk, OnErr, flat_map};
+ghost use Rattle.std.specs.Prelude.{◌≡◌, ◌++◌, IfOk, OnOk, OnErr};
 ghost use Rattle.csvw_triples_core.specs.Taking.{FrontOf, Ends};
-ghost use Rattle.csvw_triples.specs.StandardTriples.{object_of};
+ghost use Rattle.csvw_opening.specs.Annotations.{annotations};
+ghost use Rattle.csvw_opening.specs.Blanks.{blanks};
+ghost use Rattle.csvw_opening.specs.Growing.{Grows};
 ghost use Rattle.csvw_opening.specs.OpeningTriples.{group_node, node_of, group_triple, member_triple, class_triple, url_triple};
-ghost use Rattle.csvw_opening.specs.OpeningTriples.{about_table, table_triples, standard_opening, opening};
+ghost use Rattle.csvw_opening.specs.OpeningTriples.{about_group, about_table, group_blanks, notes_of, table_blanks, table_triples, tables_triples};
+ghost use Rattle.csvw_opening.specs.OpeningTriples.{standard_opening, opening};
 
+use crate::draft::Draft;
 use crate::names::OpeningNames;
+use crate::notes::{object_of, push_notes};
 use csvw_columns::{Plan, TablePlan};
 use csvw_iri::Iri;
 use csvw_triples::{Mode, Node, Origin, SinkFault, Term, Triple, TripleSink, put_all, table_node};
@@ -18,15 +23,6 @@ fn group_node(alloc: Global, id: &Option<Iri>) -> Result<Node, AllocError>
     match id {
         Some(iri) => Ok(Node::Named(iri.clone(alloc)?)),
         None => Ok(Node::Blank(Origin::Group)),
-    }
-}
-
-fn object_of(node: Node) -> Term
-    ensures { result ≡ object_of node }
-{
-    match node {
-        Node::Named(iri) => Term::Named(iri),
-        Node::Blank(origin) => Term::Blank(origin),
     }
 }
 
@@ -81,49 +77,77 @@ fn url_triple(alloc: Global, names: &OpeningNames, table: &TablePlan) -> Result<
     Ok(Triple { s, p, o })
 }
 
+/// Adds that the group has the table, the table's class and where it is found.
 fn push_about(
     alloc: Global,
     names: &OpeningNames,
+    draft: &mut Draft,
     group: &Node,
     table: &TablePlan,
-    out: &mut Vec<Triple>,
 ) -> Result<(), AllocError>
-    ensures { OnOk result (out.new.items ≡ out.old.items ++ about_table group.now table.now) }
+    ensures { OnOk result (Grows draft.old (about_table group.now table.now) 0 draft.new) }
 {
-    out.push(member_triple(alloc, names, group, table)?)?;
-    out.push(class_triple(alloc, names, table)?)?;
-    out.push(url_triple(alloc, names, table)?)?;
-    Ok(())
+    draft.push(member_triple(alloc, names, group, table)?)?;
+    draft.push(class_triple(alloc, names, table)?)?;
+    draft.push(url_triple(alloc, names, table)?)
+}
+
+/// Adds what the annotations of the table say.
+fn push_notes_of(
+    alloc: Global,
+    names: &OpeningNames,
+    draft: &mut Draft,
+    table: &TablePlan,
+) -> Result<(), AllocError>
+    ensures { OnOk result (Grows draft.old (notes_of draft.old.blanks table.now) (blanks (annotations table.now.notes)) draft.new) }
+{
+    let node = node_of(alloc, table)?;
+    push_notes(alloc, names, draft, &node, table.notes.as_slice())
 }
 
 fn push_table(
     alloc: Global,
     names: &OpeningNames,
+    draft: &mut Draft,
     group: &Node,
     table: &TablePlan,
-    out: &mut Vec<Triple>,
 ) -> Result<(), AllocError>
-    ensures { OnOk result (out.new.items ≡ out.old.items ++ table_triples group.now table.now) }
+    ensures { OnOk result (Grows draft.old (table_triples group.now draft.old.blanks table.now) (table_blanks table.now) draft.new) }
 {
     if table.suppressed {
         return Ok(());
     }
-    push_about(alloc, names, group, table, out)
+    push_about(alloc, names, draft, group, table)?;
+    push_notes_of(alloc, names, draft, table)
 }
 
 fn push_tables(
     alloc: Global,
     names: &OpeningNames,
+    draft: &mut Draft,
     group: &Node,
     tables: &[TablePlan],
-    out: &mut Vec<Triple>,
 ) -> Result<(), AllocError>
-    ensures { OnOk result (out.new.items ≡ out.old.items ++ flat_map (table_triples group.now) tables.now) }
+    ensures { OnOk result (draft.new.triples.items ≡ draft.old.triples.items ++ tables_triples group.now draft.old.blanks tables.now) }
 {
     for table in tables {
-        push_table(alloc, names, group, table, out)?;
+        push_table(alloc, names, draft, group, table)?;
     }
     Ok(())
+}
+
+/// Adds the class of the group and what its annotations say.
+fn push_group(
+    alloc: Global,
+    names: &OpeningNames,
+    draft: &mut Draft,
+    group: &Node,
+    plan: &Plan,
+) -> Result<(), AllocError>
+    ensures { OnOk result (Grows draft.old (about_group group.now draft.old.blanks plan.now) (group_blanks plan.now) draft.new) }
+{
+    draft.push(group_triple(alloc, names, group)?)?;
+    push_notes(alloc, names, draft, group, plan.notes.as_slice())
 }
 
 fn standard_opening(alloc: Global, plan: &Plan) -> Result<Vec<Triple>, AllocError>
@@ -131,10 +155,10 @@ fn standard_opening(alloc: Global, plan: &Plan) -> Result<Vec<Triple>, AllocErro
 {
     let names = OpeningNames::new(alloc)?;
     let group = group_node(alloc, &plan.id)?;
-    let mut triples = Vec::new(alloc);
-    triples.push(group_triple(alloc, &names, &group)?)?;
-    push_tables(alloc, &names, &group, plan.tables(), &mut triples)?;
-    Ok(triples)
+    let mut draft = Draft::new(alloc);
+    push_group(alloc, &names, &mut draft, &group, plan)?;
+    push_tables(alloc, &names, &mut draft, &group, plan.tables())?;
+    Ok(draft.triples)
 }
 
 fn opening(alloc: Global, plan: &Plan, mode: Mode) -> Result<Vec<Triple>, AllocError>
@@ -147,9 +171,9 @@ fn opening(alloc: Global, plan: &Plan, mode: Mode) -> Result<Vec<Triple>, AllocE
     }
 }
 
-/// Puts the triples that tell of a group and its tables in mode `Standard`, in their order (csv2rdf, section 4.2); in the other
-/// modes none. After an error a front of them was taken, of whose last triple only a part after `Device`, and the fault is one
-/// that the sink answered in this call, or `Memory`.
+/// Puts the triples that tell of a group and its tables, and what their annotations say, in mode `Standard`, in their order
+/// (csv2rdf, section 4.2); in the other modes none. After an error a front of them was taken, of whose last triple only a part
+/// after `Device`, and the fault is one that the sink answered in this call, or `Memory`.
 pub fn emit_opening<S: TripleSink>(
     alloc: Global,
     plan: &Plan,
