@@ -1,0 +1,4 @@
+pub mod AddsLemmas
+pub mod FitsLemmas
+pub mod ReadLemmas
+pub mod SafeLemmas

@@ -1,0 +1,11 @@
+pub mod formers
+pub mod Adds
+pub mod Fits
+pub mod Literals
+pub mod Members
+pub mod Names
+pub mod Nodes
+pub mod Notes
+pub mod Scalars
+pub mod Vocabulary
+pub mod Warnings

@@ -1,0 +1,22 @@
+//! What the annotations of a metadata document say, or what is wrong with them: common properties and `notes` (Metadata Vocabulary for
+//! Tabular Data, sections 5.8 and 6.2).
+#![tactic(auto)]
+
+mod annotations;
+mod items;
+mod laws;
+mod literal;
+mod members;
+mod name;
+mod node;
+mod note;
+mod scalar;
+mod value;
+mod vocabulary;
+mod warnings;
+
+pub use annotations::{NoteContext, read_annotations, read_notes};
+pub use items::Items;
+pub use laws::notes_fit;
+pub use note::{Note, NoteLiteral, NoteObject, NoteValue};
+pub use warnings::{annotation_warnings, note_warnings};

@@ -1,0 +1,48 @@
+//! Annotations.
+use crate::items::Items;
+use csvw_iri::Iri;
+use csvw_text::{LanguageTag, Seq, Text};
+
+/// One item of an annotation (Metadata Vocabulary for Tabular Data, sections 5.8 and 6.2): an array gives one of each of
+/// its items.
+#[cycle(note)]
+#[derive(Drop)]
+pub struct Note {
+    /// Its predicate.
+    pub key: Iri,
+    /// What it says.
+    pub value: NoteValue,
+}
+
+/// What an annotation says.
+#[cycle(note)]
+#[derive(Drop)]
+pub enum NoteValue {
+    /// A literal.
+    Literal(NoteLiteral),
+    /// A node of the graph.
+    Object(NoteObject),
+}
+
+/// A literal of an annotation.
+#[derive(Drop)]
+pub struct NoteLiteral {
+    /// Its text.
+    pub text: Text,
+    /// Its datatype; rdf:langString where it has a language.
+    pub datatype: Iri,
+    /// Its language.
+    pub language: Option<LanguageTag>,
+}
+
+/// An object of an annotation, which is a node of the graph.
+#[cycle(note)]
+#[derive(Drop)]
+pub struct NoteObject {
+    /// Its `@id`; `None`: it is a blank node.
+    pub id: Option<Iri>,
+    /// Its `@type`s, in order.
+    pub types: Seq<Iri>,
+    /// Its other properties, in the byte order of their keys.
+    pub notes: Items<Note>,
+}
