@@ -1,7 +1,9 @@
 //! The jobs of `csvw`, written by hand for speed's sake: a state machine over the bytes of a CSV file, and N-Triples
-//! through a buffered writer. Usage: by_hand JOB URL FILE, where JOB is minimal, standard, links or datatypes.
+//! through a buffered writer. Usage: by_hand JOB URL FILE, where JOB is minimal, standard, links or datatypes; or
+//! by_hand JOB FILE FILE, where JOB is keys or hashed_keys.
 
 mod datatypes;
+mod keys;
 mod links;
 mod minimal;
 mod records;
@@ -12,31 +14,35 @@ use datatypes::Datatypes;
 use links::Links;
 use minimal::Minimal;
 use standard::Standard;
+use std::collections::{BTreeMap, HashMap};
 use std::env;
 use std::io::{self, BufWriter};
 use std::process::ExitCode;
 
 const PIECE: usize = 65_536;
 
-fn convert(job: &str, url: String, file: &str) -> io::Result<()> {
+fn run(job: &str, first: &str, file: &str) -> io::Result<()> {
     let out = BufWriter::with_capacity(PIECE, io::stdout().lock());
+    let url = first.to_string();
     let predicates = Vec::new();
     match job {
         "minimal" => records::read(file, Minimal { out, url, predicates }),
         "standard" => records::read(file, Standard { out, url, predicates }),
         "links" => records::read(file, Links { out, url, predicates, subject: Vec::new() }),
         "datatypes" => records::read(file, Datatypes { out, url, predicates, value: Vec::new() }),
+        "keys" => keys::report::<BTreeMap<i128, u32>, _>(first, file, out),
+        "hashed_keys" => keys::report::<HashMap<i128, u32>, _>(first, file, out),
         _ => Err(records::bad("JOB")),
     }
 }
 
 fn main() -> ExitCode {
     let words: Vec<String> = env::args().collect();
-    let [_, job, url, file] = words.as_slice() else {
-        eprintln!("usage: by_hand JOB URL FILE");
+    let [_, job, first, file] = words.as_slice() else {
+        eprintln!("usage: by_hand JOB URL FILE, or by_hand JOB FILE FILE");
         return ExitCode::from(2);
     };
-    match convert(job, url.clone(), file) {
+    match run(job, first, file) {
         Ok(()) => ExitCode::SUCCESS,
         Err(error) => {
             eprintln!("by_hand: {error}");
