@@ -41,5 +41,5 @@ pub struct NoteObject {
     /// Its `@type`s, in order.
     pub types: Seq<Iri>,
     /// Its other properties, in the byte order of their keys.
-    pub notes: Vec<Note>,
+    pub notes: Seq<Note>,
 }

@@ -9,7 +9,7 @@ use Rattle.csvw_meta_core.specs.Pointer.{item_at}
 use Rattle.csvw_meta_core.specs.Read.{Read, both}
 use Rattle.csvw_meta_core.specs.Reads.{Fails}
 use Rattle.csvw_meta_notes.specs.Adds.{with_front}
-use Rattle.csvw_meta_notes.specs.declared.note.Note.{Note}
+use Rattle.csvw_description.specs.declared.note.Note.{Note}
 use Rattle.csvw_meta_notes.specs.Notes.{noted, all_noted}
 use Rattle.csvw_meta_notes.proofs.ReadLemmas.{fails_first}
 

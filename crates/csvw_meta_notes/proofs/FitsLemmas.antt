@@ -10,9 +10,9 @@ use Rattle.csvw_meta_core.specs.Pointer.{below, item_at}
 use Rattle.csvw_meta_core.specs.Read.{Read, fine, over_faults, given, optional, property}
 use Rattle.csvw_meta_core.specs.Kinds as kinds
 use Rattle.csvw_meta_core.specs.declared.fault.MetaCode.TheVariants.{BadProperty}
-use Rattle.csvw_meta_notes.specs.declared.note.Note.{Note}
-use Rattle.csvw_meta_notes.specs.declared.note.NoteLiteral.{NoteLiteral}
-use Rattle.csvw_meta_notes.specs.declared.note.NoteValue.{Literal}
+use Rattle.csvw_description.specs.declared.note.Note.{Note}
+use Rattle.csvw_description.specs.declared.note.NoteLiteral.{NoteLiteral}
+use Rattle.csvw_description.specs.declared.note.NoteValue.{Literal}
 use Rattle.csvw_meta_notes.specs.Fits.{IsFitLiteral, AreFitNotes, literal_fits, node_fits, none_fit, more_fit}
 use Rattle.csvw_meta_notes.specs.Literals.{literal, with_own}
 use Rattle.csvw_meta_notes.specs.Names.{name_of, type_name, type_names}

@@ -1,9 +1,9 @@
 -- Notes whose literals have the datatype rdf:langString where they have a language (RDF 1.1 Concepts, section 3.3).
 use Rattle.std.specs.Prelude.{◌≡◌, ℕ, List, [], ◌∷◌, Some, Option}
-use Rattle.csvw_meta_notes.specs.declared.note.Note.{Note}
-use Rattle.csvw_meta_notes.specs.declared.note.NoteLiteral.{NoteLiteral}
-use Rattle.csvw_meta_notes.specs.declared.note.NoteObject.{roll-NoteObject}
-use Rattle.csvw_meta_notes.specs.declared.note.NoteValue.{Literal, Object}
+use Rattle.csvw_description.specs.declared.note.Note.{Note}
+use Rattle.csvw_description.specs.declared.note.NoteLiteral.{NoteLiteral}
+use Rattle.csvw_description.specs.declared.note.NoteObject.{roll-NoteObject}
+use Rattle.csvw_description.specs.declared.note.NoteValue.{Literal, Object}
 use Rattle.csvw_meta_notes.specs.Vocabulary.{lang_string}
 
 abbrev pub IsFitLiteral : NoteLiteral → Type 0

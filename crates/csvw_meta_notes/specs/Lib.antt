@@ -1,4 +1,3 @@
-pub mod formers
 pub mod Adds
 pub mod Fits
 pub mod Literals

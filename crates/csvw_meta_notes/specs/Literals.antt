@@ -6,7 +6,7 @@ use Rattle.csvw_meta_core.specs.declared.fault.MetaCode.TheVariants.{BadProperty
 use Rattle.csvw_meta_core.specs.Pointer.{below}
 use Rattle.csvw_meta_core.specs.Read.{Read, fine, faulty, wrong, ◌>>=◌, optional}
 use Rattle.csvw_meta_core.specs.Kinds.{language}
-use Rattle.csvw_meta_notes.specs.declared.note.NoteLiteral.{NoteLiteral}
+use Rattle.csvw_description.specs.declared.note.NoteLiteral.{NoteLiteral}
 use Rattle.csvw_meta_notes.specs.Members.{literal_member, each_member}
 use Rattle.csvw_meta_notes.specs.Names.{type_name}
 use Rattle.csvw_meta_notes.specs.Scalars.{typed, tagged, scalar}

@@ -8,8 +8,8 @@ use Rattle.csvw_iri.specs.Link.{link_of}
 use Rattle.csvw_meta_core.specs.declared.fault.MetaCode.TheVariants.{BadId}
 use Rattle.csvw_meta_core.specs.Links.{told}
 use Rattle.csvw_meta_core.specs.Read.{Read, fine, faulty, ◌>>=◌, on_kind, optional, property}
-use Rattle.csvw_meta_notes.specs.declared.note.Note.{Note}
-use Rattle.csvw_meta_notes.specs.declared.note.NoteObject.{NoteObject, roll-NoteObject}
+use Rattle.csvw_description.specs.declared.note.Note.{Note}
+use Rattle.csvw_description.specs.declared.note.NoteObject.{NoteObject, roll-NoteObject}
 use Rattle.csvw_meta_notes.specs.Members.{node_member, each_member}
 use Rattle.csvw_meta_notes.specs.Names.{type_names}
 

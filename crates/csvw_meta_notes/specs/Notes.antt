@@ -6,8 +6,8 @@ use Rattle.url.specs.Parts.{Parts}
 use Rattle.csvw_meta_core.specs.Others.{has_colon}
 use Rattle.csvw_meta_core.specs.Pointer.{below, item_at}
 use Rattle.csvw_meta_core.specs.Read.{Read, fine, wrong, under, both, over, property}
-use Rattle.csvw_meta_notes.specs.declared.note.Note.{Note}
-use Rattle.csvw_meta_notes.specs.declared.note.NoteValue.{NoteValue, Literal, Object}
+use Rattle.csvw_description.specs.declared.note.Note.{Note}
+use Rattle.csvw_description.specs.declared.note.NoteValue.{NoteValue, Literal, Object}
 use Rattle.csvw_meta_notes.specs.Literals.{literal}
 use Rattle.csvw_meta_notes.specs.Names.{name_of}
 use Rattle.csvw_meta_notes.specs.Nodes.{node}

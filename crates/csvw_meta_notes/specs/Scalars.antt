@@ -4,7 +4,7 @@ use Rattle.std.specs.Fmt.{signed_decimal}
 use Rattle.serde_json.specs.Data.{Num, unsigned, negative, float, Data, null, boolean, number, string, array, object}
 use Rattle.csvw_meta_core.specs.declared.fault.MetaCode.TheVariants.{NotSupported}
 use Rattle.csvw_meta_core.specs.Read.{Read, fine, faulty, wrong}
-use Rattle.csvw_meta_notes.specs.declared.note.NoteLiteral.{NoteLiteral}
+use Rattle.csvw_description.specs.declared.note.NoteLiteral.{NoteLiteral}
 use Rattle.csvw_meta_notes.specs.Vocabulary.{xsd_string, xsd_integer, xsd_boolean, lang_string}
 
 -- a literal of a datatype

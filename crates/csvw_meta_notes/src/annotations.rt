@@ -6,7 +6,7 @@ ghost use Rattle.csvw_meta_core.specs.Pointer.{text_of};
 ghost use Rattle.csvw_meta_core.specs.Reads.{Reads};
 ghost use Rattle.csvw_meta_notes.specs.Notes.{annotations, note_items, notes};
 
-use crate::note::Note;
+use csvw_description::Note;
 use crate::value::{Scope, add_items, add_members};
 use crate::vocabulary::Vocabulary;
 use csvw_iri::Base;

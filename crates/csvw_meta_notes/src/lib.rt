@@ -3,20 +3,16 @@
 #![tactic(auto)]
 
 mod annotations;
-mod items;
 mod laws;
 mod literal;
 mod members;
 mod name;
 mod node;
-mod note;
 mod scalar;
 mod value;
 mod vocabulary;
 mod warnings;
 
 pub use annotations::{NoteContext, read_annotations, read_notes};
-pub use items::Items;
 pub use laws::notes_fit;
-pub use note::{Note, NoteLiteral, NoteObject, NoteValue};
 pub use warnings::{annotation_warnings, note_warnings};

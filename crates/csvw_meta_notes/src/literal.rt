@@ -9,7 +9,7 @@ ghost use Rattle.csvw_meta_notes.specs.Literals.{one_of, is_no_text, for_text, w
 
 use crate::members::check_literal_members;
 use crate::name::TypeName;
-use crate::note::NoteLiteral;
+use csvw_description::NoteLiteral;
 use crate::scalar::{in_language, read_scalar, typed};
 use crate::vocabulary::Vocabulary;
 use csvw_iri::Iri;

@@ -5,7 +5,7 @@ ghost use Rattle.csvw_meta_core.specs.Pointer.{text_of};
 ghost use Rattle.csvw_meta_core.specs.Reads.{Reads};
 ghost use Rattle.csvw_meta_notes.specs.Scalars.{typed, in_language, truth_text, whole_literal, scalar};
 
-use crate::note::NoteLiteral;
+use csvw_description::NoteLiteral;
 use crate::vocabulary::Vocabulary;
 use csvw_iri::Iri;
 use csvw_meta_core::{MetaCode, Part, Refusal};

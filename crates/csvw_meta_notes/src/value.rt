@@ -9,14 +9,13 @@ ghost use Rattle.csvw_meta_notes.specs.Adds.{Adds};
 ghost use Rattle.csvw_meta_notes.specs.Nodes.{node};
 ghost use Rattle.csvw_meta_notes.specs.Notes.{note, described, if_common, noted, all_noted, common};
 ghost use Rattle.csvw_meta_notes.specs.Scalars.{scalar};
-ghost use Rattle.csvw_meta_notes.specs.declared.note.NoteValue.TheVariants as value;
+ghost use Rattle.csvw_description.specs.declared.note.NoteValue.TheVariants as value;
 
-use crate::items::Items;
 use crate::literal::read_literal;
 use crate::members::{check_node_members, has_colon};
 use crate::name::{TypeNames, read_name};
 use crate::node::NodeId;
-use crate::note::{Note, NoteObject, NoteValue};
+use csvw_description::{Note, NoteObject, NoteValue};
 use crate::scalar::read_scalar;
 use crate::vocabulary::Vocabulary;
 use csvw_iri::{Base, Iri};
@@ -142,7 +141,7 @@ fn read_node<'p>(
     Ok(NoteObject {
         id,
         types,
-        notes: Items::of(notes),
+        notes: Seq::of(notes),
     })
 }
 

@@ -1,3 +1,4 @@
+pub mod formers
 pub mod Class
 pub mod Code
 pub mod Collapse

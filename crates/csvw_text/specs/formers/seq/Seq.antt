@@ -1,4 +1,4 @@
--- `Items` as a type that may hold the type that holds it: its value is the list of its elements, whose places are those of the vector.
+-- `Seq` as a type that may hold the type that holds it: its value is the list of its elements, whose places are those of the vector.
 use mathlib.Core.Path.{◌≡◌, refl, sym}
 use mathlib.Core.List.{List, []}
 use mathlib.Core.Former.{Former, this, list, via, children}
@@ -14,10 +14,10 @@ use Rattle.std.specs.formers.vec.Vec as vec
 use Rattle.std.specs.declared.alloc.Global.{Global}
 use Rattle.std.specs.contracts.alloc.Global as heap
 use Rattle.std.specs.contracts.impls.GlobalAllocator.TheImpl.{ghosts}
-use Rattle.csvw_meta_notes.specs.declared.items.Items.TheInside.{Inside}
-use Rattle.csvw_meta_notes.specs.declared.items.Items.TheView.{view, invariant}
-use Rattle.csvw_meta_notes.specs.contracts.items.Items as outer
-use Rattle.csvw_meta_notes.specs.contracts.items.Items.TheInside as inner
+use Rattle.csvw_text.specs.declared.seq.Seq.TheInside.{Inside}
+use Rattle.csvw_text.specs.declared.seq.Seq.TheView.{view, invariant}
+use Rattle.csvw_text.specs.contracts.seq.Seq as outer
+use Rattle.csvw_text.specs.contracts.seq.Seq.TheInside as inner
 
 abbrev pub the_former : Former {0} → Former {0}
 the_former f = list f
