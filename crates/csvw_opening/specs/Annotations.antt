@@ -44,7 +44,7 @@ abbrev pub note_step : Note-F Said Keyed Said → Keyed
 note_step n = (n.key, n.value)
 
 abbrev pub object_step : NoteObject-F Said Keyed Said → Said
-object_step o = object o.id o.types (annotations_of o.notes.items)
+object_step o = object o.id o.types (annotations_of o.notes)
 
 -- what an annotation says, under its key, and what its value says
 abbrev pub keyed : Note → Keyed
