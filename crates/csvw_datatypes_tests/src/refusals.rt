@@ -74,7 +74,7 @@ const CASES: [Case; 31] = [
         pointer: "/@type",
     },
     Case {
-        datatype: r#"{"dc:title":"x"}"#,
+        datatype: r#"{"dc:title":1.5}"#,
         code: MetaCode::NotSupported,
         pointer: "/dc:title",
     },

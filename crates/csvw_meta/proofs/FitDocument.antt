@@ -9,12 +9,12 @@ use Rattle.csvw_text.specs.declared.fault.Fault.{Fault}
 use Rattle.csvw_iri.specs.Link.{base_of, iri_of}
 use Rattle.csvw_description.specs.declared.description.Description.{Description}
 use Rattle.csvw_description.specs.Plannable.{HasSound, IsFitDialect, IsFitSchema, IsFitTable, IsPlannable}
-use Rattle.csvw_meta_core.specs.declared.fault.MetaCode.TheVariants.{DuplicateTable, NotSupported, TooLong}
+use Rattle.csvw_meta_core.specs.declared.fault.MetaCode.TheVariants.{DuplicateTable, TooLong}
 use Rattle.csvw_meta_core.specs.Pointer.{below, item_at}
-use Rattle.csvw_meta_core.specs.Read.{Read, fine, faulty, over, optional, property, needed, not_yet}
+use Rattle.csvw_meta_core.specs.Read.{Read, fine, faulty, over, optional, property, needed}
 use Rattle.csvw_meta_core.specs.Kinds.{fixed, truth}
 use Rattle.csvw_meta_core.specs.Links.{id, no_url, told, url}
-use Rattle.csvw_meta_core.specs.Others.{others}
+use Rattle.csvw_meta_notes.specs.Unlisted.{all_notes, all_warnings}
 use Rattle.csvw_meta.specs.declared.body.Body.{Body}
 use Rattle.csvw_meta.specs.declared.body.DialectGiven.{DialectGiven}
 use Rattle.csvw_meta.specs.declared.context.Context.{Context}
@@ -134,7 +134,7 @@ module _ (datatypes : DatatypesFit) where
   table_of_fine context sole number at d h =
       let warnings = table_others sole number at d in
       let p1 = none_in_both (optional (fixed (codes "Table")) at d (codes "@type")).faults _ h in
-      let p2 = none_in_both (optional not_yet at d (codes "notes")).faults _ p1.1 in
+      let p2 = none_in_both (all_notes context.base context.language at d).faults _ p1.1 in
       let p3 = none_in_both (property truth false at d (codes "suppressOutput")).faults _ p2.1 in
       let p4 = none_in_both warnings.faults _ p3.1 in
       let p5 = none_in_both (needed (url context.base) no_url at d (codes "url")).faults _ p4.1 in
@@ -156,9 +156,9 @@ module _ (datatypes : DatatypesFit) where
   group_fine : (context : Context) (at : List ℕ) (d : Data) → Ensures (group context at d) IsFitGroup
   unfolding group
   group_fine context at d h =
-      let warnings = others (group_names ++ inherited_names) NotSupported (place_of 0 0) at d in
+      let warnings = all_warnings (group_names ++ inherited_names) (place_of 0 0) at d in
       let p1 = none_in_both (optional (fixed (codes "TableGroup")) at d (codes "@type")).faults _ h in
-      let p2 = none_in_both (optional not_yet at d (codes "notes")).faults _ p1.1 in
+      let p2 = none_in_both (all_notes context.base context.language at d).faults _ p1.1 in
       let p3 = none_in_both warnings.faults _ p2.1 in
       let p4 = none_in_both (needed (tables context) [] at d (codes "tables")).faults _ p3.1 in
       let p5 = none_in_both (optional (id context.base) at d (codes "@id")).faults _ p4.1 in

@@ -14,13 +14,13 @@ use Rattle.csvw_description.specs.declared.column.ColumnDescription.{ColumnDescr
 use Rattle.csvw_description.specs.declared.schema.Schema.{Schema}
 use Rattle.csvw_description.specs.Name.{numbered_names}
 use Rattle.csvw_description.specs.Plannable.{HasSound, IsFitSchema}
-use Rattle.csvw_meta_core.specs.declared.fault.MetaCode.TheVariants.{DuplicateName, NotSupported}
+use Rattle.csvw_meta_core.specs.declared.fault.MetaCode.TheVariants.{DuplicateName}
 use Rattle.csvw_meta_core.specs.declared.fault.MetaFault.{MetaFault}
 use Rattle.csvw_meta_core.specs.Pointer.{below, item_at}
 use Rattle.csvw_meta_core.specs.Read.{Read, given, under, property, optional, not_yet}
 use Rattle.csvw_meta_core.specs.Kinds.{fixed}
 use Rattle.csvw_meta_core.specs.Links.{id}
-use Rattle.csvw_meta_core.specs.Others.{others}
+use Rattle.csvw_meta_notes.specs.Unlisted.{unlisted}
 use Rattle.csvw_meta_datatype.specs.declared.form.DatatypeFound.{DatatypeFound}
 use Rattle.csvw_meta_datatype.specs.Datatypes.{datatype}
 use Rattle.csvw_meta_keys.specs.declared.keys.KeysFound.{KeysFound}
@@ -157,7 +157,7 @@ module _ (datatypes : DatatypesFit) where
       let p1 = none_in_both (optional (id context.base) at d (codes "@id")).faults _ h in
       let p2 = none_in_both (optional (fixed (codes "Schema")) at d (codes "@type")).faults _ p1.1 in
       let p3 = none_in_both (optional not_yet at d (codes "rowTitles")).faults _ p2.1 in
-      let p4 = none_in_both (others (schema_names ++ inherited_names) NotSupported (place_of table 0) at d).faults _ p3.1 in
+      let p4 = none_in_both (unlisted context.base context.language (schema_names ++ inherited_names) (place_of table 0) at d).faults _ p3.1 in
       let p5 = none_in_both (property (columns context table) [] at d (codes "columns")).faults _ p4.1 in
       let fits = property_fine AreFitColumns (columns context table) (columns_fine context table) [] no_columns at d (codes "columns") p5.0 in
       record {

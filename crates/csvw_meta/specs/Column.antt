@@ -2,11 +2,10 @@
 use Rattle.std.specs.Prelude.{ℕ, List, [], ◌++◌, false, None, codes}
 use Rattle.serde_json.specs.Data.{Data}
 use Rattle.csvw_description.specs.declared.column.ColumnDescription.{ColumnDescription}
-use Rattle.csvw_meta_core.specs.declared.fault.MetaCode.TheVariants.{NotSupported}
 use Rattle.csvw_meta_core.specs.Read.{Read, fine, ◌>>=◌, on_object, property, optional}
 use Rattle.csvw_meta_core.specs.Kinds.{fixed, truth}
 use Rattle.csvw_meta_core.specs.Links.{id}
-use Rattle.csvw_meta_core.specs.Others.{others}
+use Rattle.csvw_meta_notes.specs.Unlisted.{unlisted}
 use Rattle.csvw_meta.specs.declared.context.Context.{Context}
 use Rattle.csvw_meta.specs.DeclaredName.{name}
 use Rattle.csvw_meta.specs.Inherited.{inherited, no_inherited}
@@ -22,7 +21,7 @@ column_of context table number at d = do
   type ← optional (fixed (codes "Column")) at d (codes "@type")
   is_virtual ← property truth false at d (codes "virtual")
   suppressed ← property truth false at d (codes "suppressOutput")
-  warnings ← others (column_names ++ inherited_names) NotSupported (place_of table number) at d
+  warnings ← unlisted context.base context.language (column_names ++ inherited_names) (place_of table number) at d
   name ← optional name at d (codes "name")
   titles ← property (titles context.language) [] at d (codes "titles")
   found ← inherited context table number at d

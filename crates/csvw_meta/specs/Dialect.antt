@@ -16,7 +16,7 @@ use Rattle.csvw_meta_core.specs.declared.fault.MetaFault.{MetaFault}
 use Rattle.csvw_meta_core.specs.Read.{Read, fine, faulty, ◌>>=◌, also, over, wrong, on_kind, on_linked_object, property, optional, or_null, each}
 use Rattle.csvw_meta_core.specs.Kinds.{truth, whole, any_whole, character, fixed}
 use Rattle.csvw_meta_core.specs.Links.{id}
-use Rattle.csvw_meta_core.specs.Others.{others}
+use Rattle.csvw_meta_notes.specs.Unlisted.{unlisted}
 use Rattle.csvw_meta.specs.declared.context.Context.{Context}
 use Rattle.csvw_meta.specs.declared.dialect.DialectFound.{DialectFound}
 use Rattle.csvw_meta.specs.Names.{dialect_names, place_of}
@@ -145,7 +145,7 @@ dialect_of context table at d = do
   name ← optional (id context.base) at d (codes "@id")
   type ← optional (fixed (codes "Dialect")) at d (codes "@type")
   dialect ← lawful_dialect at d
-  warnings ← others (dialect_names ++ []) NotSupported (place_of table 0) at d
+  warnings ← unlisted context.base context.language (dialect_names ++ []) (place_of table 0) at d
   fine (record { dialect = dialect; warnings = warnings })
 
 abbrev pub no_dialect : DialectFound

@@ -26,6 +26,7 @@ group_of table = record {
   tables = table ∷ [];
   given = record { dialect = None; warnings = [] };
   body = record { schema = None; keys = None; inherited = no_inherited; warnings = [] };
+  notes = [];
 }
 
 abbrev pub sole_table : Context → List ℕ → Data → Read GroupFound

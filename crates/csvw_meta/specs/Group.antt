@@ -3,13 +3,13 @@ use Rattle.std.specs.Prelude.{ℕ, List, [], ◌++◌, None, codes, map}
 use Rattle.serde_json.specs.Data.{Data}
 use Rattle.csvw_iri.specs.Link.{iri_of}
 use Rattle.csvw_description.specs.declared.description.Description.{Description}
-use Rattle.csvw_meta_core.specs.declared.fault.MetaCode.TheVariants.{DuplicateTable, NotSupported}
+use Rattle.csvw_meta_core.specs.declared.fault.MetaCode.TheVariants.{DuplicateTable}
 use Rattle.csvw_meta_core.specs.declared.fault.MetaFault.{MetaFault}
 use Rattle.csvw_meta_core.specs.Pointer.{below, item_at}
-use Rattle.csvw_meta_core.specs.Read.{Read, fine, ◌>>=◌, also, needed, optional, not_yet}
+use Rattle.csvw_meta_core.specs.Read.{Read, fine, ◌>>=◌, also, needed, optional}
 use Rattle.csvw_meta_core.specs.Kinds.{fixed}
 use Rattle.csvw_meta_core.specs.Links.{id}
-use Rattle.csvw_meta_core.specs.Others.{others}
+use Rattle.csvw_meta_notes.specs.Unlisted.{all_notes, all_warnings}
 use Rattle.csvw_meta.specs.declared.context.Context.{Context}
 use Rattle.csvw_meta.specs.declared.group.GroupFound.{GroupFound}
 use Rattle.csvw_meta.specs.declared.table.TableFound.{TableFound}
@@ -32,17 +32,16 @@ url_faults at ts =
 abbrev pub tables : Context → List ℕ → Data → Read (List TableFound)
 tables context at d = also (several 1 64 (table context) at d) (url_faults at)
 
--- Notes are not supported yet.
 unfoldable pub group : Context → List ℕ → Data → Read GroupFound
 group context at d = do
   type ← optional (fixed (codes "TableGroup")) at d (codes "@type")
-  notes ← optional not_yet at d (codes "notes")
-  warnings ← others (group_names ++ inherited_names) NotSupported (place_of 0 0) at d
+  notes ← all_notes context.base context.language at d
+  warnings ← all_warnings (group_names ++ inherited_names) (place_of 0 0) at d
   tables ← needed (tables context) [] at d (codes "tables")
   iri ← optional (id context.base) at d (codes "@id")
   given ← given_dialect context 0 warnings at d
   body ← body context 0 at d
-  fine (record { id = iri; tables = tables; given = given; body = body })
+  fine (record { id = iri; tables = tables; given = given; body = body; notes = notes })
 
 -- what is described by the parts of a group
 abbrev pub description_of : GroupFound → Description
@@ -52,7 +51,7 @@ description_of group = record {
   dialect = group.given.dialect;
   schema = group.body.schema;
   inherited = group.body.inherited;
-  notes = [];
+  notes = group.notes;
   warnings = group.body.warnings ++ group.given.warnings;
 }
 

@@ -4,13 +4,13 @@ use Rattle.serde_json.specs.Data.{Data}
 use Rattle.csvw_description.specs.declared.column.ColumnDescription.{ColumnDescription}
 use Rattle.csvw_text.specs.declared.fault.Fault.{Fault}
 use Rattle.csvw_description.specs.Name.{numbered_names}
-use Rattle.csvw_meta_core.specs.declared.fault.MetaCode.TheVariants.{DuplicateName, NotSupported, VirtualOrder}
+use Rattle.csvw_meta_core.specs.declared.fault.MetaCode.TheVariants.{DuplicateName, VirtualOrder}
 use Rattle.csvw_meta_core.specs.declared.fault.MetaFault.{MetaFault}
 use Rattle.csvw_meta_core.specs.Pointer.{item_at}
 use Rattle.csvw_meta_core.specs.Read.{Read, fine, ◌>>=◌, also, on_linked_object, property, optional, not_yet}
 use Rattle.csvw_meta_core.specs.Kinds.{fixed}
 use Rattle.csvw_meta_core.specs.Links.{id}
-use Rattle.csvw_meta_core.specs.Others.{others}
+use Rattle.csvw_meta_notes.specs.Unlisted.{unlisted}
 use Rattle.csvw_meta_keys.specs.declared.keys.KeysFound.{KeysFound}
 use Rattle.csvw_meta_keys.specs.Described.{names_of, described, all_warnings}
 use Rattle.csvw_meta_keys.specs.Keys.{keys}
@@ -56,7 +56,7 @@ schema_of context table at d = do
   iri ← optional (id context.base) at d (codes "@id")
   type ← optional (fixed (codes "Schema")) at d (codes "@type")
   row_titles ← optional not_yet at d (codes "rowTitles")
-  warnings ← others (schema_names ++ inherited_names) NotSupported (place_of table 0) at d
+  warnings ← unlisted context.base context.language (schema_names ++ inherited_names) (place_of table 0) at d
   columns ← property (columns context table) [] at d (codes "columns")
   found ← inherited context table 0 at d
   keys ← keys context.base (place_of table 0) at d

@@ -2,11 +2,10 @@
 use Rattle.std.specs.Prelude.{ℕ, List, [], ◌++◌, Bool, true, false, None, codes}
 use Rattle.serde_json.specs.Data.{Data}
 use Rattle.csvw_text.specs.declared.fault.Fault.{Fault}
-use Rattle.csvw_meta_core.specs.declared.fault.MetaCode.TheVariants.{NotSupported}
-use Rattle.csvw_meta_core.specs.Read.{Read, fine, ◌>>=◌, on_object, needed, property, optional, not_yet}
+use Rattle.csvw_meta_core.specs.Read.{Read, fine, ◌>>=◌, on_object, needed, property, optional}
 use Rattle.csvw_meta_core.specs.Kinds.{fixed, truth}
 use Rattle.csvw_meta_core.specs.Links.{url, id, no_url}
-use Rattle.csvw_meta_core.specs.Others.{others}
+use Rattle.csvw_meta_notes.specs.Unlisted.{all_notes, all_warnings}
 use Rattle.csvw_meta.specs.declared.context.Context.{Context}
 use Rattle.csvw_meta.specs.declared.table.TableFound.{TableFound}
 use Rattle.csvw_meta.specs.Body.{given_dialect, body}
@@ -15,14 +14,13 @@ use Rattle.csvw_meta.specs.Names.{table_names, sole_table_names, inherited_names
 
 -- the properties of a table that is the document, and of another
 abbrev pub table_others : Bool → ℕ → List ℕ → Data → Read (List Fault)
-table_others true number at d = others (sole_table_names ++ inherited_names) NotSupported (place_of 1 0) at d
-table_others false number at d = others (table_names ++ inherited_names) NotSupported (place_of number 0) at d
+table_others true number at d = all_warnings (sole_table_names ++ inherited_names) (place_of 1 0) at d
+table_others false number at d = all_warnings (table_names ++ inherited_names) (place_of number 0) at d
 
--- Notes are not supported yet.
 unfoldable pub table_of : Context → Bool → ℕ → List ℕ → Data → Read TableFound
 table_of context sole number at d = do
   type ← optional (fixed (codes "Table")) at d (codes "@type")
-  notes ← optional not_yet at d (codes "notes")
+  notes ← all_notes context.base context.language at d
   suppressed ← property truth false at d (codes "suppressOutput")
   warnings ← table_others sole number at d
   url ← needed (url context.base) no_url at d (codes "url")
@@ -37,7 +35,7 @@ table_of context sole number at d = do
       schema = body.schema;
       suppressed = suppressed;
       inherited = body.inherited;
-      notes = [];
+      notes = notes;
       warnings = body.warnings ++ given.warnings;
     };
     keys = body.keys;

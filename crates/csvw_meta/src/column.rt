@@ -11,8 +11,7 @@ use crate::name::NameReader;
 use crate::titles::Titles;
 use crate::unlisted::column_warnings;
 use csvw_description::ColumnDescription;
-use csvw_meta_core::{Fixed, IdReader, NumberedReader, Part, Refusal, Truth};
-use csvw_meta_datatype::joined;
+use csvw_meta_core::{Fixed, IdReader, NumberedReader, Part, Refusal, Truth, joined};
 use csvw_text::Seq;
 use serde_json::Value;
 
@@ -53,7 +52,7 @@ fn column_of(reader: &ColumnReader, number: u32, part: &Part) -> Result<ColumnDe
     part.optional(&Fixed { text: "Column" }, "@type")?;
     let is_virtual = part.property(&Truth, false, "virtual")?;
     let suppressed = part.property(&Truth, false, "suppressOutput")?;
-    let warnings = column_warnings(reader.table, number, part)?;
+    let warnings = column_warnings(reader.context, reader.table, number, part)?;
     let name = part.optional(&NameReader, "name")?;
     let titles = Titles {
         language: &reader.context.language,

@@ -331,7 +331,7 @@ fn dialect_of(context: &Context, table: u32, part: &Part) -> Result<DialectFound
     )?;
     part.optional(&Fixed { text: "Dialect" }, "@type")?;
     let dialect = lawful_dialect(part)?;
-    let warnings = dialect_warnings(table, part)?;
+    let warnings = dialect_warnings(context, table, part)?;
     Ok(DialectFound { dialect, warnings })
 }
 

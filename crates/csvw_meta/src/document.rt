@@ -56,6 +56,7 @@ fn of_table(context: &Context, part: &Part) -> Result<GroupFound, Refusal>
             },
             warnings: Seq::new(part.alloc),
         },
+        notes: Seq::new(part.alloc),
     })
 }
 

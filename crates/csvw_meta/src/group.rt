@@ -10,11 +10,10 @@ use crate::context::Context;
 use crate::repeated::repeated_at;
 use crate::several::Several;
 use crate::table::{TableFound, TableReader};
-use crate::unlisted::group_warnings;
-use csvw_description::{Description, TableDescription};
+use crate::unlisted::{group_warnings, read_notes};
+use csvw_description::{Description, Note, TableDescription};
 use csvw_iri::Iri;
-use csvw_meta_core::{Fixed, IdReader, MetaCode, NotYet, Part, Reader, Refusal};
-use csvw_meta_datatype::joined;
+use csvw_meta_core::{Fixed, IdReader, MetaCode, Part, Reader, Refusal, joined};
 use csvw_text::{Seq, Text};
 use std::alloc::{AllocError, Global};
 
@@ -32,6 +31,8 @@ pub(crate) struct GroupFound {
     pub(crate) given: DialectGiven,
     /// Its schema and its inherited properties.
     pub(crate) body: Body,
+    /// Its annotations.
+    pub(crate) notes: Seq<Note>,
 }
 
 fn url_of(alloc: Global, found: &TableFound) -> Result<Text, AllocError>
@@ -104,7 +105,7 @@ pub(crate) fn read_group(context: &Context, part: &Part) -> Result<GroupFound, R
     ensures { Reads result (group context.now (text_of part.now.at) (view part.now.value.now)) }
 {
     part.optional(&Fixed { text: "TableGroup" }, "@type")?;
-    part.optional(&NotYet, "notes")?;
+    let notes = read_notes(context, part)?;
     let warnings = group_warnings(part)?;
     let tables = part.needed(&Tables { context }, "tables")?;
     let id = part.optional(
@@ -120,6 +121,7 @@ pub(crate) fn read_group(context: &Context, part: &Part) -> Result<GroupFound, R
         tables,
         given,
         body,
+        notes,
     })
 }
 
@@ -150,7 +152,7 @@ pub(crate) fn description_of(alloc: Global, group: GroupFound) -> Result<Descrip
         dialect: given.dialect,
         schema: body.schema,
         inherited: body.inherited,
-        notes: Seq::new(alloc),
+        notes: group.notes,
         warnings,
     })
 }

@@ -14,8 +14,7 @@ use crate::several::Several;
 use crate::unlisted::schema_warnings;
 use crate::virtual_order::misplaced_at;
 use csvw_description::{ColumnDescription, Schema};
-use csvw_meta_core::{Fixed, IdReader, MetaCode, NotYet, Part, Reader, Refusal};
-use csvw_meta_datatype::joined;
+use csvw_meta_core::{Fixed, IdReader, MetaCode, NotYet, Part, Reader, Refusal, joined};
 use csvw_meta_keys::{KeysFound, read_keys};
 use csvw_text::{Fault, Place, Seq, Text};
 use serde_json::Value;
@@ -176,7 +175,7 @@ fn schema_of(context: &Context, table: u32, part: &Part) -> Result<SchemaFound, 
     )?;
     part.optional(&Fixed { text: "Schema" }, "@type")?;
     part.optional(&NotYet, "rowTitles")?;
-    let warnings = schema_warnings(table, part)?;
+    let warnings = schema_warnings(context, table, part)?;
     let columns = part.property(&Columns { context, table }, Seq::new(part.alloc), "columns")?;
     let found = read_inherited(context, table, 0, part)?;
     let place = Place {

@@ -7,12 +7,11 @@ ghost use Rattle.csvw_meta.specs.Table.{table_of, table_others};
 
 use crate::body::{read_body, read_dialect};
 use crate::context::Context;
-use crate::unlisted::{sole_table_warnings, table_warnings};
+use crate::unlisted::{read_notes, sole_table_warnings, table_warnings};
 use csvw_description::TableDescription;
 use csvw_meta_core::{
-    Fixed, IdReader, NotYet, NumberedReader, Part, Reader, Refusal, Truth, UrlReader,
+    Fixed, IdReader, NumberedReader, Part, Reader, Refusal, Truth, UrlReader, joined,
 };
-use csvw_meta_datatype::joined;
 use csvw_meta_keys::KeysFound;
 use csvw_text::{Fault, Seq};
 use serde_json::Value;
@@ -69,7 +68,7 @@ pub(crate) fn table_of(
     ensures { Reads result (table_of context.now sole number (text_of part.now.at) (view part.now.value.now)) }
 {
     part.optional(&Fixed { text: "Table" }, "@type")?;
-    part.optional(&NotYet, "notes")?;
+    let notes = read_notes(context, part)?;
     let suppressed = part.property(&Truth, false, "suppressOutput")?;
     let warnings = warnings_of(sole, number, part)?;
     let url = part.needed(
@@ -94,7 +93,7 @@ pub(crate) fn table_of(
         schema: body.schema,
         suppressed,
         inherited: body.inherited,
-        notes: Seq::new(part.alloc),
+        notes,
         warnings,
     };
     Ok(TableFound {

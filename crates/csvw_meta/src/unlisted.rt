@@ -1,13 +1,17 @@
-//! The warnings on the properties of an object that aren't listed for its kind (Metadata Vocabulary for
-//! Tabular Data, section 5).
+//! The annotations of an object, and the warnings on its properties that aren't listed for its kind (Metadata Vocabulary for
+//! Tabular Data, sections 5 and 5.8).
 ghost use Rattle.std.specs.Prelude.{◌≡◌, ◌++◌, []};
 ghost use Rattle.serde_json.specs.View.{view};
 ghost use Rattle.csvw_meta_core.specs.Pointer.{text_of};
-ghost use Rattle.csvw_meta_core.specs.Others.{others, names_of};
+ghost use Rattle.csvw_meta_core.specs.Others.{names_of};
 ghost use Rattle.csvw_meta_core.specs.Reads.{Reads};
+ghost use Rattle.csvw_meta_notes.specs.Unlisted.{all_notes, all_warnings, unlisted};
 ghost use Rattle.csvw_meta.specs.Names.{place_of, inherited_names, dialect_names, column_names, schema_names, table_names, sole_table_names, group_names};
 
-use csvw_meta_core::{Listed, MetaCode, Part, Reader, Refusal};
+use crate::context::Context;
+use csvw_description::Note;
+use csvw_meta_core::{Part, Refusal};
+use csvw_meta_notes::{NoteContext, read_all_notes, read_all_warnings, read_unlisted};
 use csvw_text::{Fault, Place, Seq};
 
 /// Those that columns inherit.
@@ -104,106 +108,120 @@ const GROUP: [&str; 9] = [
     "transformations",
 ];
 
-/// The warnings on a dialect of the table of this number, 0 for the group's. Each reader of warnings
-/// answers `NotSupported` at a common property.
-pub(crate) fn dialect_warnings(table: u32, part: &Part) -> Result<Seq<Fault>, Refusal>
-    ensures { Reads result (others (dialect_names ++ []) MetaCode.NotSupported (place_of table 0) (text_of part.now.at) (view part.now.value.now)) }
+/// What a group or a table is annotated with: its common properties, then its notes.
+pub(crate) fn read_notes(context: &Context, part: &Part) -> Result<Seq<Note>, Refusal>
+    ensures { Reads result (all_notes context.now.base context.now.language (text_of part.now.at) (view part.now.value.now)) }
 {
-    let listed = Listed {
-        names: &DIALECT,
-        shared: &[],
-        common: MetaCode::NotSupported,
-        place: Place {
-            table,
-            row: 0,
-            column: 0,
-        },
+    let notes = NoteContext {
+        base: &context.base,
+        language: &context.language,
     };
-    listed.read(part)
+    read_all_notes(&notes, part)
 }
 
-/// The warnings on the column of this number, of the table of that number or of the group where it is 0.
-pub(crate) fn column_warnings(table: u32, column: u32, part: &Part) -> Result<Seq<Fault>, Refusal>
-    ensures { Reads result (others (column_names ++ inherited_names) MetaCode.NotSupported (place_of table column)
+/// The warnings at a place on an object whose annotations give nothing.
+fn warnings_at(
+    context: &Context,
+    names: &[&str],
+    shared: &[&str],
+    place: Place,
+    part: &Part,
+) -> Result<Seq<Fault>, Refusal>
+    ensures { Reads result (unlisted context.now.base context.now.language (names_of names.now ++ names_of shared.now) place
         (text_of part.now.at) (view part.now.value.now)) }
 {
-    let listed = Listed {
-        names: &COLUMN,
-        shared: &INHERITED,
-        common: MetaCode::NotSupported,
-        place: Place {
-            table,
-            row: 0,
-            column,
-        },
+    let notes = NoteContext {
+        base: &context.base,
+        language: &context.language,
     };
-    listed.read(part)
+    read_unlisted(&notes, names, shared, place, part)
 }
 
-/// The warnings on a schema of the table of this number, 0 for the group's.
-pub(crate) fn schema_warnings(table: u32, part: &Part) -> Result<Seq<Fault>, Refusal>
-    ensures { Reads result (others (schema_names ++ inherited_names) MetaCode.NotSupported (place_of table 0) (text_of part.now.at) (view part.now.value.now)) }
+/// The warnings on a dialect of the table of this number, 0 for the group's; its annotations give nothing.
+pub(crate) fn dialect_warnings(
+    context: &Context,
+    table: u32,
+    part: &Part,
+) -> Result<Seq<Fault>, Refusal>
+    ensures { Reads result (unlisted context.now.base context.now.language (dialect_names ++ []) (place_of table 0)
+        (text_of part.now.at) (view part.now.value.now)) }
 {
-    let listed = Listed {
-        names: &SCHEMA,
-        shared: &INHERITED,
-        common: MetaCode::NotSupported,
-        place: Place {
-            table,
-            row: 0,
-            column: 0,
-        },
+    let place = Place {
+        table,
+        row: 0,
+        column: 0,
     };
-    listed.read(part)
+    warnings_at(context, &DIALECT, &[], place, part)
 }
 
-/// The warnings on the table of this number in its group.
+/// The warnings on the column of this number, of the table of that number or of the group where it is 0; its annotations give
+/// nothing.
+pub(crate) fn column_warnings(
+    context: &Context,
+    table: u32,
+    column: u32,
+    part: &Part,
+) -> Result<Seq<Fault>, Refusal>
+    ensures { Reads result (unlisted context.now.base context.now.language (column_names ++ inherited_names) (place_of table column)
+        (text_of part.now.at) (view part.now.value.now)) }
+{
+    let place = Place {
+        table,
+        row: 0,
+        column,
+    };
+    warnings_at(context, &COLUMN, &INHERITED, place, part)
+}
+
+/// The warnings on a schema of the table of this number, 0 for the group's; its annotations give nothing.
+pub(crate) fn schema_warnings(
+    context: &Context,
+    table: u32,
+    part: &Part,
+) -> Result<Seq<Fault>, Refusal>
+    ensures { Reads result (unlisted context.now.base context.now.language (schema_names ++ inherited_names) (place_of table 0)
+        (text_of part.now.at) (view part.now.value.now)) }
+{
+    let place = Place {
+        table,
+        row: 0,
+        column: 0,
+    };
+    warnings_at(context, &SCHEMA, &INHERITED, place, part)
+}
+
+/// The warnings on the table of this number in its group, and on its annotations.
 pub(crate) fn table_warnings(table: u32, part: &Part) -> Result<Seq<Fault>, Refusal>
-    ensures { Reads result (others (table_names ++ inherited_names) MetaCode.NotSupported (place_of table 0) (text_of part.now.at) (view part.now.value.now)) }
+    ensures { Reads result (all_warnings (table_names ++ inherited_names) (place_of table 0) (text_of part.now.at) (view part.now.value.now)) }
 {
-    let listed = Listed {
-        names: &TABLE,
-        shared: &INHERITED,
-        common: MetaCode::NotSupported,
-        place: Place {
-            table,
-            row: 0,
-            column: 0,
-        },
+    let place = Place {
+        table,
+        row: 0,
+        column: 0,
     };
-    listed.read(part)
+    read_all_warnings(&TABLE, &INHERITED, place, part)
 }
 
-/// The warnings on the table that is the document.
+/// The warnings on the table that is the document, and on its annotations.
 pub(crate) fn sole_table_warnings(part: &Part) -> Result<Seq<Fault>, Refusal>
-    ensures { Reads result (others (sole_table_names ++ inherited_names) MetaCode.NotSupported (place_of 1 0) (text_of part.now.at) (view part.now.value.now)) }
+    ensures { Reads result (all_warnings (sole_table_names ++ inherited_names) (place_of 1 0) (text_of part.now.at) (view part.now.value.now)) }
 {
-    let listed = Listed {
-        names: &SOLE_TABLE,
-        shared: &INHERITED,
-        common: MetaCode::NotSupported,
-        place: Place {
-            table: 1,
-            row: 0,
-            column: 0,
-        },
+    let place = Place {
+        table: 1,
+        row: 0,
+        column: 0,
     };
-    listed.read(part)
+    read_all_warnings(&SOLE_TABLE, &INHERITED, place, part)
 }
 
-/// The warnings on the group.
+/// The warnings on the group, and on its annotations.
 pub(crate) fn group_warnings(part: &Part) -> Result<Seq<Fault>, Refusal>
-    ensures { Reads result (others (group_names ++ inherited_names) MetaCode.NotSupported (place_of 0 0) (text_of part.now.at) (view part.now.value.now)) }
+    ensures { Reads result (all_warnings (group_names ++ inherited_names) (place_of 0 0) (text_of part.now.at) (view part.now.value.now)) }
 {
-    let listed = Listed {
-        names: &GROUP,
-        shared: &INHERITED,
-        common: MetaCode::NotSupported,
-        place: Place {
-            table: 0,
-            row: 0,
-            column: 0,
-        },
+    let place = Place {
+        table: 0,
+        row: 0,
+        column: 0,
     };
-    listed.read(part)
+    read_all_warnings(&GROUP, &INHERITED, place, part)
 }

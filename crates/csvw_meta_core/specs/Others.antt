@@ -8,7 +8,9 @@ use Rattle.csvw_text.specs.declared.fault.Place.{Place}
 use Rattle.csvw_text.specs.declared.fault.Fault.{Fault}
 use Rattle.csvw_text.specs.declared.fault.Code.TheVariants.{UnknownProperty}
 use Rattle.csvw_text.specs.declared.fault.Kind.TheVariants.{Warning}
-use Rattle.csvw_meta_core.specs.declared.fault.MetaCode.{MetaCode}
+use Rattle.csvw_meta_core.specs.declared.fault.MetaCode.TheVariants.{BadProperty}
+use Rattle.csvw_meta_core.specs.declared.others.CommonProperty.{CommonProperty}
+use Rattle.csvw_meta_core.specs.declared.others.CommonProperty.TheVariants.{Allowed, Refused}
 use Rattle.csvw_meta_core.specs.Pointer.{below}
 use Rattle.csvw_meta_core.specs.Read.{Read, fine, faulty, both}
 
@@ -25,19 +27,24 @@ is_among names name = list_any (λ n. bytes_eq n name) names
 abbrev pub warning_at : Place → Fault
 warning_at place = record { place = place; code = UnknownProperty; kind = Warning }
 
+-- A common property is never ignored.
+abbrev pub judged : CommonProperty → List ℕ → List ℕ → Read Bool
+judged Allowed at name = fine false
+judged Refused at name = faulty BadProperty (below at name) false
+
 -- whether a property is ignored
-abbrev pub other : List (List ℕ) → MetaCode → List ℕ → List ℕ → Read Bool
+abbrev pub other : List (List ℕ) → CommonProperty → List ℕ → List ℕ → Read Bool
 other names common at name =
     if is_among names name then fine false
-    else (if has_colon name then faulty common (below at name) false else fine true)
+    else (if has_colon name then judged common at name else fine true)
 
 -- a warning for each property that is ignored
-abbrev pub others_in : List (List ℕ) → MetaCode → Place → List ℕ → Members → Read (List Fault)
+abbrev pub others_in : List (List ℕ) → CommonProperty → Place → List ℕ → Members → Read (List Fault)
 others_in names common place at no_members = fine []
 others_in names common place at (member k d ms) =
     both (λ ignored rest. (if ignored then warning_at place ∷ [] else []) ++ rest) (other names common at k) (others_in names common place at ms)
 
-abbrev pub others : List (List ℕ) → MetaCode → Place → List ℕ → Data → Read (List Fault)
+abbrev pub others : List (List ℕ) → CommonProperty → Place → List ℕ → Data → Read (List Fault)
 others names common place at (object ms) = others_in names common place at ms
 others names common place at null = fine []
 others names common place at (boolean b) = fine []

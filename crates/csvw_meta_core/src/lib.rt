@@ -3,6 +3,7 @@
 #![tactic(auto)]
 
 mod fault;
+mod joining;
 mod kinds;
 mod links;
 mod numbered;
@@ -12,12 +13,13 @@ mod pointer;
 mod reader;
 
 pub use fault::{MetaCode, MetaFault, Refusal};
+pub use joining::joined;
 pub use kinds::{
     AnyText, AnyWhole, Character, Fixed, Language, SomeText, Texts, Truth, WholeU8, WholeU32,
 };
 pub use links::{IdReader, UrlReader};
 pub use numbered::{NumberedReader, each_numbered};
-pub use others::Listed;
+pub use others::{CommonProperty, Listed};
 pub use part::Part;
 pub use pointer::Pointer;
 pub use reader::{NotYet, OrNull, Reader, each};

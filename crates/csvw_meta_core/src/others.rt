@@ -4,7 +4,7 @@ ghost use Rattle.std.specs.Prelude.{◌≡◌};
 ghost use Rattle.serde_json.specs.View.{view, members_view};
 ghost use Rattle.csvw_meta_core.specs.Pointer.{text_of};
 ghost use Rattle.csvw_meta_core.specs.Reads.{Reads};
-ghost use Rattle.csvw_meta_core.specs.Others.{has_colon, is_among, names_of, other, others_in, others};
+ghost use Rattle.csvw_meta_core.specs.Others.{has_colon, is_among, names_of, judged, other, others_in, others};
 ghost use Rattle.csvw_meta_core.specs.Listed.{all_names};
 
 use crate::fault::{MetaCode, Refusal};
@@ -13,6 +13,15 @@ use crate::reader::Reader;
 use csvw_text::{Code, Fault, Kind, Place, Seq};
 use serde_json::{Map, Value};
 
+/// What becomes of a common property of an object, one that has a colon in its name and isn't listed.
+#[derive(Debug, Clone, Copy, Drop)]
+pub enum CommonProperty {
+    /// It is an annotation of the object, and no warning.
+    Allowed,
+    /// It is `BadProperty`.
+    Refused,
+}
+
 /// The warnings on the properties of an object that aren't listed for it.
 #[derive(Drop)]
 pub struct Listed<'a> {
@@ -20,8 +29,8 @@ pub struct Listed<'a> {
     pub names: &'a [&'a str],
     /// Those of the properties that it shares with other kinds.
     pub shared: &'a [&'a str],
-    /// What a common property is, one that has a colon in its name and isn't listed.
-    pub common: MetaCode,
+    /// What becomes of its common properties.
+    pub common: CommonProperty,
     /// Where the warnings are told.
     pub place: Place,
 }
@@ -66,9 +75,20 @@ fn is_ignored(part: &Part, listed: &Listed, name: &str) -> Result<bool, Refusal>
         return Ok(false);
     }
     if has_colon(name) {
-        return Err(part.member(name, part.value).refused(listed.common));
+        return judge_common(part, listed.common, name);
     }
     Ok(true)
+}
+
+fn judge_common(part: &Part, common: CommonProperty, name: &str) -> Result<bool, Refusal>
+    ensures { Reads result (judged common (text_of part.now.at) name.now) }
+{
+    match common {
+        CommonProperty::Allowed => Ok(false),
+        CommonProperty::Refused => {
+            Err(part.member(name, part.value).refused(MetaCode::BadProperty))
+        }
+    }
 }
 
 fn has_colon(name: &str) -> bool

@@ -7,13 +7,12 @@ use Rattle.csvw_datatype.specs.declared.simple.Simple.{Simple}
 use Rattle.csvw_datatype.specs.declared.simple.Simple.TheVariants.{Text}
 use Rattle.csvw_datatype.specs.declared.datatype.Datatype.{Datatype}
 use Rattle.csvw_datatype.specs.Breaks.{no_facets}
-use Rattle.csvw_meta_core.specs.declared.fault.MetaCode.TheVariants.{NotSupported}
 use Rattle.csvw_meta_core.specs.Read.{Read, fine, ◌>>=◌, over, under, property, optional}
 use Rattle.csvw_meta_core.specs.Kinds.{fixed}
 use Rattle.csvw_meta_core.specs.Links.{id}
-use Rattle.csvw_meta_core.specs.Others.{others}
 use Rattle.csvw_meta_facets.specs.Facets.{facets}
 use Rattle.csvw_meta_format.specs.Formats.{no_format, format}
+use Rattle.csvw_meta_notes.specs.Unlisted.{unlisted}
 use Rattle.csvw_meta_datatype.specs.declared.form.DatatypeFound.{DatatypeFound}
 use Rattle.csvw_meta_datatype.specs.Base.{base}
 use Rattle.csvw_meta_datatype.specs.Names.{datatype_names}
@@ -45,7 +44,7 @@ unfoldable pub form : Parts → Place → List ℕ → Data → Read DatatypeFou
 form against place at d = do
   iri ← optional (id against) at d (codes "@id")
   type ← optional (fixed (codes "Datatype")) at d (codes "@type")
-  warnings ← others (datatype_names ++ []) NotSupported place at d
+  warnings ← unlisted against None (datatype_names ++ []) place at d
   found ← based iri place at d
   fine (record { datatype = found.datatype; warnings = found.warnings ++ warnings })
 

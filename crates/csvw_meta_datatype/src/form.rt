@@ -1,19 +1,19 @@
 //! Datatypes that are described by objects (Metadata Vocabulary for Tabular Data, section 5.11.2).
-ghost use Rattle.std.specs.Prelude.{◌≡◌, ◌++◌, []};
+ghost use Rattle.std.specs.Prelude.{◌≡◌, ◌++◌, [], None};
 ghost use Rattle.serde_json.specs.View.{view};
 ghost use Rattle.csvw_meta_core.specs.Pointer.{text_of};
-ghost use Rattle.csvw_meta_core.specs.Others.{others};
 ghost use Rattle.csvw_meta_core.specs.Reads.{Reads};
+ghost use Rattle.csvw_meta_notes.specs.Unlisted.{unlisted};
 ghost use Rattle.csvw_meta_datatype.specs.Names.{datatype_names};
 ghost use Rattle.csvw_meta_datatype.specs.Datatypes.{based, form, of_type, plain};
 
 use crate::base::BaseReader;
-use crate::warnings::joined;
 use csvw_datatype::{Datatype, Facets, Simple};
 use csvw_iri::{Base, Iri};
-use csvw_meta_core::{Fixed, IdReader, Listed, MetaCode, Part, Reader, Refusal};
+use csvw_meta_core::{Fixed, IdReader, Part, Reader, Refusal, joined};
 use csvw_meta_facets::FacetsReader;
 use csvw_meta_format::{FormatFound, FormatReader};
+use csvw_meta_notes::{NoteContext, read_unlisted};
 use csvw_text::{Fault, Place, Seq};
 
 /// The properties that are listed for a datatype.
@@ -54,16 +54,15 @@ pub(crate) fn plain(simple: Simple, id: Option<Iri>) -> Datatype
     }
 }
 
-fn warnings_of(place: Place, part: &Part) -> Result<Seq<Fault>, Refusal>
-    ensures { Reads result (others (datatype_names ++ []) MetaCode.NotSupported place (text_of part.now.at) (view part.now.value.now)) }
+/// The warnings on a datatype. Its annotations give nothing, so that no language is theirs.
+fn warnings_of(base: &Base, place: Place, part: &Part) -> Result<Seq<Fault>, Refusal>
+    ensures { Reads result (unlisted base.now None (datatype_names ++ []) place (text_of part.now.at) (view part.now.value.now)) }
 {
-    let listed = Listed {
-        names: &DATATYPE,
-        shared: &[],
-        common: MetaCode::NotSupported,
-        place,
+    let context = NoteContext {
+        base,
+        language: &None,
     };
-    listed.read(part)
+    read_unlisted(&context, &DATATYPE, &[], place, part)
 }
 
 /// The datatype of a type, with the format and the facets that stand in the object.
@@ -109,7 +108,7 @@ pub(crate) fn read_form(base: &Base, place: Place, part: &Part) -> Result<Dataty
 {
     let id = part.optional(&IdReader { base }, "@id")?;
     part.optional(&Fixed { text: "Datatype" }, "@type")?;
-    let warnings = warnings_of(place, part)?;
+    let warnings = warnings_of(base, place, part)?;
     let found = read_based(id, place, part)?;
     let warnings = joined(found.warnings, warnings)?;
     Ok(DatatypeFound {

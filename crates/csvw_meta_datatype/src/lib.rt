@@ -6,9 +6,7 @@ mod base;
 mod form;
 mod laws;
 mod reader;
-mod warnings;
 
 pub use form::DatatypeFound;
 pub use laws::datatypes_fit;
 pub use reader::DatatypeReader;
-pub use warnings::joined;

@@ -6,8 +6,9 @@ use Rattle.serde_json.specs.Data.{Data}
 use Rattle.serde_json.specs.Find.{as_str}
 use Rattle.csvw_text.specs.declared.fault.Place.{Place}
 use Rattle.csvw_datatype.specs.declared.format.NumberFormat.{NumberFormat}
-use Rattle.csvw_meta_core.specs.declared.fault.MetaCode.TheVariants.{BadDatatype, BadProperty}
+use Rattle.csvw_meta_core.specs.declared.fault.MetaCode.TheVariants.{BadDatatype}
 use Rattle.csvw_meta_core.specs.Read.{Read, fine, faulty, ◌>>=◌, over, on_kind, property, optional, not_yet}
+use Rattle.csvw_meta_core.specs.declared.others.CommonProperty.TheVariants.{Refused}
 use Rattle.csvw_meta_core.specs.Others.{others}
 use Rattle.csvw_meta_format.specs.declared.number.NumberFound.{NumberFound}
 
@@ -58,5 +59,5 @@ format_names = codes "pattern" ∷ codes "decimalChar" ∷ codes "groupChar" ∷
 unfoldable pub number_form : Place → List ℕ → Data → Read NumberFound
 number_form place at d = do
   format ← lawful_number at d
-  warnings ← others (format_names ++ []) BadProperty place at d
+  warnings ← others (format_names ++ []) Refused place at d
   fine (record { format = format; warnings = warnings })

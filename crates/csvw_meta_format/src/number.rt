@@ -3,11 +3,12 @@ ghost use Rattle.std.specs.Prelude.{◌≡◌, ◌++◌, [], chars};
 ghost use Rattle.serde_json.specs.View.{view};
 ghost use Rattle.csvw_meta_core.specs.Pointer.{text_of};
 ghost use Rattle.csvw_meta_core.specs.Others.{others};
+ghost use Rattle.csvw_meta_core.specs.declared.others.CommonProperty.TheVariants.{Refused};
 ghost use Rattle.csvw_meta_core.specs.Reads.{Reads};
 ghost use Rattle.csvw_meta_format.specs.Numbers.{sole, is_free, character, clashes, format_names, number_parts, lawful_number, number_form};
 
 use csvw_datatype::NumberFormat;
-use csvw_meta_core::{Listed, MetaCode, NotYet, Part, Reader, Refusal};
+use csvw_meta_core::{CommonProperty, Listed, MetaCode, NotYet, Part, Reader, Refusal};
 use csvw_text::{Fault, Place, Seq};
 
 /// The properties that are listed for the format of a number.
@@ -96,12 +97,12 @@ fn lawful_number(part: &Part) -> Result<NumberFormat, Refusal>
 }
 
 fn warnings_of(place: Place, part: &Part) -> Result<Seq<Fault>, Refusal>
-    ensures { Reads result (others (format_names ++ []) MetaCode.BadProperty place (text_of part.now.at) (view part.now.value.now)) }
+    ensures { Reads result (others (format_names ++ []) Refused place (text_of part.now.at) (view part.now.value.now)) }
 {
     let listed = Listed {
         names: &FORMAT,
         shared: &[],
-        common: MetaCode::BadProperty,
+        common: CommonProperty::Refused,
         place,
     };
     listed.read(part)

@@ -4,8 +4,8 @@ use Rattle.serde_json.specs.Data.{Data, null, boolean, number, string, array, ob
 use Rattle.url.specs.Parts.{Parts}
 use Rattle.csvw_text.specs.declared.fault.Fault.{Fault}
 use Rattle.csvw_text.specs.declared.fault.Place.{Place}
-use Rattle.csvw_meta_core.specs.declared.fault.MetaCode.TheVariants.{BadProperty}
 use Rattle.csvw_meta_core.specs.Read.{Read, fine, wrong, ◌>>=◌, needed, on_object}
+use Rattle.csvw_meta_core.specs.declared.others.CommonProperty.TheVariants.{Refused}
 use Rattle.csvw_meta_core.specs.Others.{others}
 use Rattle.csvw_meta_keys.specs.declared.column_names.KeyName.{KeyName}
 use Rattle.csvw_meta_keys.specs.declared.foreign_key.ForeignKeyFound.{ForeignKeyFound}
@@ -29,7 +29,7 @@ joined at warnings columns reference = record {
 
 unfoldable pub foreign_key_of : Parts → Place → List ℕ → Data → Read ForeignKeyFound
 foreign_key_of base place at d = do
-  warnings ← others (foreign_key_names ++ []) BadProperty place at d
+  warnings ← others (foreign_key_names ++ []) Refused place at d
   columns ← needed column_names [] at d (codes "columnReference")
   reference ← needed (reference base place) no_reference at d (codes "reference")
   fine (joined at warnings columns reference)

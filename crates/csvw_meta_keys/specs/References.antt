@@ -4,9 +4,9 @@ use Rattle.serde_json.specs.Data.{Data}
 use Rattle.url.specs.Parts.{Parts}
 use Rattle.csvw_iri.specs.Link.{iri_of}
 use Rattle.csvw_text.specs.declared.fault.Place.{Place}
-use Rattle.csvw_meta_core.specs.declared.fault.MetaCode.TheVariants.{BadProperty}
 use Rattle.csvw_meta_core.specs.Read.{Read, fine, ◌>>=◌, under, needed, optional, on_object, not_yet}
 use Rattle.csvw_meta_core.specs.Links.{url}
+use Rattle.csvw_meta_core.specs.declared.others.CommonProperty.TheVariants.{Refused}
 use Rattle.csvw_meta_core.specs.Others.{others}
 use Rattle.csvw_meta_keys.specs.declared.reference.ReferenceFound.{ReferenceFound}
 use Rattle.csvw_meta_keys.specs.declared.reference.Resource.{Resource}
@@ -30,7 +30,7 @@ no_resource = record { url = []; at = [] }
 unfoldable pub reference_of : Parts → Place → List ℕ → Data → Read ReferenceFound
 reference_of base place at d = do
   schema ← optional not_yet at d (codes "schemaReference")
-  warnings ← others (reference_names ++ []) BadProperty place at d
+  warnings ← others (reference_names ++ []) Refused place at d
   resource ← needed (resource base) no_resource at d (codes "resource")
   columns ← needed column_names [] at d (codes "columnReference")
   fine (record { resource = resource; columns = columns; warnings = warnings })

@@ -3,13 +3,14 @@ ghost use Rattle.std.specs.Prelude.{◌≡◌, ◌++◌, [], IfOk};
 ghost use Rattle.serde_json.specs.View.{view};
 ghost use Rattle.csvw_meta_core.specs.Pointer.{text_of};
 ghost use Rattle.csvw_meta_core.specs.Others.{others};
+ghost use Rattle.csvw_meta_core.specs.declared.others.CommonProperty.TheVariants.{Refused};
 ghost use Rattle.csvw_meta_core.specs.Reads.{Reads};
 ghost use Rattle.csvw_meta_keys.specs.ForeignKeys.{foreign_key_names, foreign_key_of, joined};
 
 use crate::column_names::{ColumnNames, KeyName};
 use crate::reference::{ReferenceFound, ReferenceReader, Resource};
 use csvw_iri::Base;
-use csvw_meta_core::{Listed, MetaCode, Part, Reader, Refusal};
+use csvw_meta_core::{CommonProperty, Listed, Part, Reader, Refusal};
 use csvw_text::{Fault, Place, Seq, Text};
 use serde_json::Value;
 use std::alloc::AllocError;
@@ -33,12 +34,12 @@ pub struct ForeignKeyFound {
 }
 
 fn warnings_of(place: Place, part: &Part) -> Result<Seq<Fault>, Refusal>
-    ensures { Reads result (others (foreign_key_names ++ []) MetaCode.BadProperty place (text_of part.now.at) (view part.now.value.now)) }
+    ensures { Reads result (others (foreign_key_names ++ []) Refused place (text_of part.now.at) (view part.now.value.now)) }
 {
     let listed = Listed {
         names: &FOREIGN_KEY,
         shared: &[],
-        common: MetaCode::BadProperty,
+        common: CommonProperty::Refused,
         place,
     };
     listed.read(part)

@@ -3,12 +3,13 @@ ghost use Rattle.std.specs.Prelude.{◌≡◌, ◌++◌, []};
 ghost use Rattle.serde_json.specs.View.{view};
 ghost use Rattle.csvw_meta_core.specs.Pointer.{text_of};
 ghost use Rattle.csvw_meta_core.specs.Others.{others};
+ghost use Rattle.csvw_meta_core.specs.declared.others.CommonProperty.TheVariants.{Refused};
 ghost use Rattle.csvw_meta_core.specs.Reads.{Reads};
 ghost use Rattle.csvw_meta_keys.specs.References.{reference_names, reference_of, resource};
 
 use crate::column_names::{ColumnNames, KeyName};
 use csvw_iri::{Base, Iri};
-use csvw_meta_core::{Listed, MetaCode, NotYet, Part, Reader, Refusal, UrlReader};
+use csvw_meta_core::{CommonProperty, Listed, NotYet, Part, Reader, Refusal, UrlReader};
 use csvw_text::{Fault, Place, Seq, Text};
 use serde_json::Value;
 
@@ -57,12 +58,12 @@ impl<'a> Reader for ResourceReader<'a> {
 }
 
 fn warnings_of(place: Place, part: &Part) -> Result<Seq<Fault>, Refusal>
-    ensures { Reads result (others (reference_names ++ []) MetaCode.BadProperty place (text_of part.now.at) (view part.now.value.now)) }
+    ensures { Reads result (others (reference_names ++ []) Refused place (text_of part.now.at) (view part.now.value.now)) }
 {
     let listed = Listed {
         names: &REFERENCE,
         shared: &[],
-        common: MetaCode::BadProperty,
+        common: CommonProperty::Refused,
         place,
     };
     listed.read(part)

@@ -6,5 +6,6 @@ pub mod Names
 pub mod Nodes
 pub mod Notes
 pub mod Scalars
+pub mod Unlisted
 pub mod Vocabulary
 pub mod Warnings

@@ -6,9 +6,9 @@ ghost use Rattle.csvw_meta_core.specs.Pointer.{text_of};
 ghost use Rattle.csvw_meta_core.specs.Reads.{Reads};
 ghost use Rattle.csvw_meta_notes.specs.Notes.{annotations, note_items, notes};
 
-use csvw_description::Note;
 use crate::value::{Scope, add_items, add_members};
 use crate::vocabulary::Vocabulary;
+use csvw_description::Note;
 use csvw_iri::Base;
 use csvw_meta_core::{Part, Reader, Refusal};
 use csvw_text::{LanguageTag, Seq};
@@ -25,7 +25,7 @@ pub struct NoteContext<'a> {
 
 /// What the common properties of the object that the part is say, in the byte order of their keys; a fault that stands in
 /// them, or `Memory`.
-pub fn read_annotations(context: &NoteContext, part: &Part) -> Result<Seq<Note>, Refusal>
+pub(crate) fn read_annotations(context: &NoteContext, part: &Part) -> Result<Seq<Note>, Refusal>
     ensures { Reads result (annotations context.now.base.now context.now.language.now (text_of part.now.at) (view part.now.value.now)) }
 {
     let mut found = Vec::new(part.alloc);
@@ -78,7 +78,7 @@ impl<'a> Reader for NoteItems<'a> {
 
 /// What the items of the property `notes` of the object that the part is say, in order; a fault that stands in them, or
 /// `Memory`. `BadProperty` where the property is no array.
-pub fn read_notes(context: &NoteContext, part: &Part) -> Result<Seq<Note>, Refusal>
+pub(crate) fn read_notes(context: &NoteContext, part: &Part) -> Result<Seq<Note>, Refusal>
     ensures { Reads result (notes context.now.base.now context.now.language.now (text_of part.now.at) (view part.now.value.now)) }
 {
     let reader = NoteItems { context: *context };

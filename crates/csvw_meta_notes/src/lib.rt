@@ -9,10 +9,11 @@ mod members;
 mod name;
 mod node;
 mod scalar;
+mod unlisted;
 mod value;
 mod vocabulary;
 mod warnings;
 
-pub use annotations::{NoteContext, read_annotations, read_notes};
+pub use annotations::NoteContext;
 pub use laws::notes_fit;
-pub use warnings::{annotation_warnings, note_warnings};
+pub use unlisted::{read_all_notes, read_all_warnings, read_unlisted};

@@ -9,9 +9,9 @@ ghost use Rattle.csvw_meta_notes.specs.Literals.{one_of, is_no_text, for_text, w
 
 use crate::members::check_literal_members;
 use crate::name::TypeName;
-use csvw_description::NoteLiteral;
 use crate::scalar::{in_language, read_scalar, typed};
 use crate::vocabulary::Vocabulary;
+use csvw_description::NoteLiteral;
 use csvw_iri::Iri;
 use csvw_meta_core::{Language, MetaCode, Part, Refusal};
 use csvw_text::LanguageTag;

@@ -5,8 +5,8 @@ ghost use Rattle.csvw_meta_core.specs.Pointer.{text_of};
 ghost use Rattle.csvw_meta_core.specs.Reads.{Reads};
 ghost use Rattle.csvw_meta_notes.specs.Scalars.{typed, in_language, truth_text, whole_literal, scalar};
 
-use csvw_description::NoteLiteral;
 use crate::vocabulary::Vocabulary;
+use csvw_description::NoteLiteral;
 use csvw_iri::Iri;
 use csvw_meta_core::{MetaCode, Part, Refusal};
 use csvw_text::{LanguageTag, Text};

@@ -99,7 +99,7 @@ fn common_warnings(
 
 /// A warning at this place for each property that is ignored inside the common properties of an object; `AllocError` where
 /// there is no memory.
-pub fn annotation_warnings(
+pub(crate) fn annotation_warnings(
     alloc: Global,
     place: Place,
     object: &Value,
@@ -114,7 +114,11 @@ pub fn annotation_warnings(
 
 /// A warning at this place for each property that is ignored inside the property `notes` of an object; `AllocError` where
 /// there is no memory.
-pub fn note_warnings(alloc: Global, place: Place, object: &Value) -> Result<Seq<Fault>, AllocError>
+pub(crate) fn note_warnings(
+    alloc: Global,
+    place: Place,
+    object: &Value,
+) -> Result<Seq<Fault>, AllocError>
     ensures { IfOk result (λ w. w ≡ note_warnings place (view object.now)) }
 {
     let mut warnings = Vec::new(alloc);

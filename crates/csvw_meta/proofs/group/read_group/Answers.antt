@@ -13,26 +13,26 @@ returns-in_err-optional c =
     (group c.args.context.now (text_of c.args.part.now.at) (view c.args.part.now.value.now)) c.from_residual.ensures.1
     (fails_first _ _ _ c.in_err-optional.ensures)
 
-pub returns-in_err-optional-2 : goal.returns-in_err-optional-2
+pub returns-in_err-notes : goal.returns-in_err-notes
 unfolding group
-returns-in_err-optional-2 c =
-    refused c.from_residual-in_err-optional-2.result c.in_err-optional-2.field-0.0
-    (group c.args.context.now (text_of c.args.part.now.at) (view c.args.part.now.value.now)) c.from_residual-in_err-optional-2.ensures.1
-    (later _ _ _ _ c.in_ok-optional.ensures (fails_first _ _ _ c.in_err-optional-2.ensures))
+returns-in_err-notes c =
+    refused c.from_residual-in_err-notes.result c.in_err-notes.field-0.0
+    (group c.args.context.now (text_of c.args.part.now.at) (view c.args.part.now.value.now)) c.from_residual-in_err-notes.ensures.1
+    (later _ _ _ _ c.in_ok-optional.ensures (fails_first _ _ _ c.in_err-notes.ensures))
 
 pub returns-in_err-warnings : goal.returns-in_err-warnings
 unfolding group
 returns-in_err-warnings c =
     refused c.from_residual-in_err-warnings.result c.in_err-warnings.field-0.0
     (group c.args.context.now (text_of c.args.part.now.at) (view c.args.part.now.value.now)) c.from_residual-in_err-warnings.ensures.1
-    (later _ _ _ _ c.in_ok-optional.ensures (later _ _ _ _ c.in_ok-optional-2.ensures (fails_first _ _ _ c.in_err-warnings.ensures)))
+    (later _ _ _ _ c.in_ok-optional.ensures (later _ _ _ _ c.in_ok-notes.ensures (fails_first _ _ _ c.in_err-warnings.ensures)))
 
 pub returns-in_err-tables : goal.returns-in_err-tables
 unfolding group
 returns-in_err-tables c =
     refused c.from_residual-in_err-tables.result c.in_err-tables.field-0.0
     (group c.args.context.now (text_of c.args.part.now.at) (view c.args.part.now.value.now)) c.from_residual-in_err-tables.ensures.1
-    (later _ _ _ _ c.in_ok-optional.ensures (later _ _ _ _ c.in_ok-optional-2.ensures (later _ _ _ _ c.in_ok-warnings.ensures (
+    (later _ _ _ _ c.in_ok-optional.ensures (later _ _ _ _ c.in_ok-notes.ensures (later _ _ _ _ c.in_ok-warnings.ensures (
     fails_first _ _ _ (c.in_err-tables.ensures [])))))
 
 pub returns-in_err-id : goal.returns-in_err-id
@@ -40,5 +40,5 @@ unfolding group
 returns-in_err-id c =
     refused c.from_residual-in_err-id.result c.in_err-id.field-0.0
     (group c.args.context.now (text_of c.args.part.now.at) (view c.args.part.now.value.now)) c.from_residual-in_err-id.ensures.1
-    (later _ _ _ _ c.in_ok-optional.ensures (later _ _ _ _ c.in_ok-optional-2.ensures (later _ _ _ _ c.in_ok-warnings.ensures (
+    (later _ _ _ _ c.in_ok-optional.ensures (later _ _ _ _ c.in_ok-notes.ensures (later _ _ _ _ c.in_ok-warnings.ensures (
     later _ _ _ _ (c.in_ok-tables.ensures []) (fails_first _ _ _ c.in_err-id.ensures)))))

@@ -15,13 +15,13 @@ returns-in_err-optional c =
     (table_of c.args.context.now c.args.sole c.args.number (text_of c.args.part.now.at) (view c.args.part.now.value.now)) c.from_residual.ensures.1
     (fails_first _ _ _ c.in_err-optional.ensures)
 
-pub returns-in_err-optional-2 : goal.returns-in_err-optional-2
+pub returns-in_err-notes : goal.returns-in_err-notes
 unfolding table_of
-returns-in_err-optional-2 c =
-    refused c.from_residual-in_err-optional-2.result c.in_err-optional-2.field-0.0
+returns-in_err-notes c =
+    refused c.from_residual-in_err-notes.result c.in_err-notes.field-0.0
     (table_of c.args.context.now c.args.sole c.args.number (text_of c.args.part.now.at) (view c.args.part.now.value.now))
-    c.from_residual-in_err-optional-2.ensures.1
-    (later _ _ _ _ c.in_ok-optional.ensures (fails_first _ _ _ c.in_err-optional-2.ensures))
+    c.from_residual-in_err-notes.ensures.1
+    (later _ _ _ _ c.in_ok-optional.ensures (fails_first _ _ _ c.in_err-notes.ensures))
 
 pub returns-in_err-suppressed : goal.returns-in_err-suppressed
 unfolding table_of
@@ -29,7 +29,7 @@ returns-in_err-suppressed c =
     refused c.from_residual-in_err-suppressed.result c.in_err-suppressed.field-0.0
     (table_of c.args.context.now c.args.sole c.args.number (text_of c.args.part.now.at) (view c.args.part.now.value.now))
     c.from_residual-in_err-suppressed.ensures.1
-    (later _ _ _ _ c.in_ok-optional.ensures (later _ _ _ _ c.in_ok-optional-2.ensures (fails_first _ _ _ c.in_err-suppressed.ensures)))
+    (later _ _ _ _ c.in_ok-optional.ensures (later _ _ _ _ c.in_ok-notes.ensures (fails_first _ _ _ c.in_err-suppressed.ensures)))
 
 pub returns-in_err-warnings : goal.returns-in_err-warnings
 unfolding table_of
@@ -37,7 +37,7 @@ returns-in_err-warnings c =
     refused c.from_residual-in_err-warnings.result c.in_err-warnings.field-0.0
     (table_of c.args.context.now c.args.sole c.args.number (text_of c.args.part.now.at) (view c.args.part.now.value.now))
     c.from_residual-in_err-warnings.ensures.1
-    (later _ _ _ _ c.in_ok-optional.ensures (later _ _ _ _ c.in_ok-optional-2.ensures (later _ _ _ _ c.in_ok-suppressed.ensures (
+    (later _ _ _ _ c.in_ok-optional.ensures (later _ _ _ _ c.in_ok-notes.ensures (later _ _ _ _ c.in_ok-suppressed.ensures (
     fails_first _ _ _ c.in_err-warnings.ensures))))
 
 pub returns-in_err-url : goal.returns-in_err-url
@@ -45,7 +45,7 @@ unfolding table_of
 returns-in_err-url c =
     refused c.from_residual-in_err-url.result c.in_err-url.field-0.0
     (table_of c.args.context.now c.args.sole c.args.number (text_of c.args.part.now.at) (view c.args.part.now.value.now)) c.from_residual-in_err-url.ensures.1
-    (later _ _ _ _ c.in_ok-optional.ensures (later _ _ _ _ c.in_ok-optional-2.ensures (later _ _ _ _ c.in_ok-suppressed.ensures (
+    (later _ _ _ _ c.in_ok-optional.ensures (later _ _ _ _ c.in_ok-notes.ensures (later _ _ _ _ c.in_ok-suppressed.ensures (
     later _ _ _ _ c.in_ok-warnings.ensures (fails_first _ _ _ (c.in_err-url.ensures no_url))))))
 
 pub returns-in_err-id : goal.returns-in_err-id
@@ -53,7 +53,7 @@ unfolding table_of
 returns-in_err-id c =
     refused c.from_residual-in_err-id.result c.in_err-id.field-0.0
     (table_of c.args.context.now c.args.sole c.args.number (text_of c.args.part.now.at) (view c.args.part.now.value.now)) c.from_residual-in_err-id.ensures.1
-    (later _ _ _ _ c.in_ok-optional.ensures (later _ _ _ _ c.in_ok-optional-2.ensures (later _ _ _ _ c.in_ok-suppressed.ensures (
+    (later _ _ _ _ c.in_ok-optional.ensures (later _ _ _ _ c.in_ok-notes.ensures (later _ _ _ _ c.in_ok-suppressed.ensures (
     later _ _ _ _ c.in_ok-warnings.ensures (later _ _ _ _ (c.in_ok-url.ensures no_url) (fails_first _ _ _ c.in_err-id.ensures))))))
 
 pub returns-in_err-warnings-2 : goal.returns-in_err-warnings-2
@@ -67,7 +67,7 @@ unfolding table_of
 returns c =
     rw (
       c.in_ok-optional.ensures,
-      c.in_ok-optional-2.ensures,
+      c.in_ok-notes.ensures,
       c.in_ok-suppressed.ensures,
       c.in_ok-warnings.ensures,
       c.in_ok-url.ensures no_url,
@@ -75,6 +75,5 @@ returns c =
       c.in_ok-given.ensures,
       c.in_ok-body.ensures,
       c.in_ok-warnings-2.ensures,
-      c.new.ensures,
     )
     refl

@@ -1,11 +1,11 @@
-//! Warnings of several parts of a document.
+//! What several parts of a document give, in one list.
 ghost use Rattle.std.specs.Prelude.{◌≡◌, ◌++◌, IfOk};
 
-use csvw_text::{Fault, Seq};
+use csvw_text::Seq;
 use std::alloc::AllocError;
 
-/// Warnings, and then others; `AllocError` where there is no memory for them.
-pub fn joined(first: Seq<Fault>, then: Seq<Fault>) -> Result<Seq<Fault>, AllocError>
+/// A list, and then another; `AllocError` where there is no memory for both in one.
+pub fn joined<T: Drop>(first: Seq<T>, then: Seq<T>) -> Result<Seq<T>, AllocError>
     ensures { IfOk result (λ all. all ≡ first ++ then) }
 {
     let mut all = first.into_vec();

@@ -1,0 +1,185 @@
+//! Documents by their form and their context.
+use crate::reading::{Accepted, Refused, accepts, refuses};
+use csvw_meta_core::MetaCode;
+use std::test::Fail;
+
+/// Those that are read, with how many warnings.
+const ACCEPTED: [Accepted; 7] = [
+    Accepted {
+        text: r#"{"@context":"http://www.w3.org/ns/csvw","url":"p.csv"}"#,
+        warnings: 0,
+    },
+    Accepted {
+        text: r#"﻿{"@context":"http://www.w3.org/ns/csvw","url":"p.csv"}"#,
+        warnings: 0,
+    },
+    Accepted {
+        text: r#" 
+{"@context":"http://www.w3.org/ns/csvw" , "url":"p.csv"}
+"#,
+        warnings: 0,
+    },
+    Accepted {
+        text: r#"{"@context":["http://www.w3.org/ns/csvw"],"url":"p.csv"}"#,
+        warnings: 0,
+    },
+    Accepted {
+        text: r#"{"@context":["http://www.w3.org/ns/csvw",{}],"url":"p.csv"}"#,
+        warnings: 0,
+    },
+    Accepted {
+        text: r#"{"@context":["http://www.w3.org/ns/csvw",{"@language":"en-GB","@base":"b/"}],"url":"p.csv"}"#,
+        warnings: 0,
+    },
+    Accepted {
+        text: r#"{"@context":"http://www.w3.org/ns/csvw","tables":[{"url":"p.csv"}]}"#,
+        warnings: 0,
+    },
+];
+
+/// Those that are refused, each at its fault.
+const REFUSED: [Refused; 25] = [
+    Refused {
+        text: r#""#,
+        code: MetaCode::NotJson,
+        pointer: "",
+    },
+    Refused {
+        text: r#"{"#,
+        code: MetaCode::NotJson,
+        pointer: "",
+    },
+    Refused {
+        text: r#"{"url":"p.csv"} x"#,
+        code: MetaCode::NotJson,
+        pointer: "",
+    },
+    Refused {
+        text: r#"{'url':1}"#,
+        code: MetaCode::NotJson,
+        pointer: "",
+    },
+    Refused {
+        text: r#"[]"#,
+        code: MetaCode::BadContext,
+        pointer: "",
+    },
+    Refused {
+        text: r#""x""#,
+        code: MetaCode::BadContext,
+        pointer: "",
+    },
+    Refused {
+        text: r#"null"#,
+        code: MetaCode::BadContext,
+        pointer: "",
+    },
+    Refused {
+        text: r#"1.5"#,
+        code: MetaCode::NotSupported,
+        pointer: "",
+    },
+    Refused {
+        text: r#"{}"#,
+        code: MetaCode::BadContext,
+        pointer: "",
+    },
+    Refused {
+        text: r#"{"url":"p.csv"}"#,
+        code: MetaCode::BadContext,
+        pointer: "",
+    },
+    Refused {
+        text: r#"{"@context":"http://www.w3.org/ns/csvw#","url":"p.csv"}"#,
+        code: MetaCode::BadContext,
+        pointer: "/@context",
+    },
+    Refused {
+        text: r#"{"@context":null,"url":"p.csv"}"#,
+        code: MetaCode::BadContext,
+        pointer: "/@context",
+    },
+    Refused {
+        text: r#"{"@context":1.5,"url":"p.csv"}"#,
+        code: MetaCode::NotSupported,
+        pointer: "/@context",
+    },
+    Refused {
+        text: r#"{"@context":{},"url":"p.csv"}"#,
+        code: MetaCode::BadContext,
+        pointer: "/@context",
+    },
+    Refused {
+        text: r#"{"@context":[],"url":"p.csv"}"#,
+        code: MetaCode::BadContext,
+        pointer: "/@context",
+    },
+    Refused {
+        text: r#"{"@context":[{},"http://www.w3.org/ns/csvw"],"url":"p.csv"}"#,
+        code: MetaCode::BadContext,
+        pointer: "/@context",
+    },
+    Refused {
+        text: r#"{"@context":["http://www.w3.org/ns/csvw",{},{}],"url":"p.csv"}"#,
+        code: MetaCode::BadContext,
+        pointer: "/@context",
+    },
+    Refused {
+        text: r#"{"@context":["http://www.w3.org/ns/csvw","en"],"url":"p.csv"}"#,
+        code: MetaCode::BadContext,
+        pointer: "/@context",
+    },
+    Refused {
+        text: r#"{"@context":["http://www.w3.org/ns/csvw",{"@vocab":"x"}],"url":"p.csv"}"#,
+        code: MetaCode::BadContext,
+        pointer: "/@context/1/@vocab",
+    },
+    Refused {
+        text: r#"{"@context":["http://www.w3.org/ns/csvw",{"a/b~c":1}],"url":"p.csv"}"#,
+        code: MetaCode::BadContext,
+        pointer: "/@context/1/a~1b~0c",
+    },
+    Refused {
+        text: r#"{"@context":["http://www.w3.org/ns/csvw",{"@language":1}],"url":"p.csv"}"#,
+        code: MetaCode::BadContext,
+        pointer: "/@context/1/@language",
+    },
+    Refused {
+        text: r#"{"@context":["http://www.w3.org/ns/csvw",{"@language":1.5}],"url":"p.csv"}"#,
+        code: MetaCode::NotSupported,
+        pointer: "/@context/1/@language",
+    },
+    Refused {
+        text: r#"{"@context":["http://www.w3.org/ns/csvw",{"@language":"e n"}],"url":"p.csv"}"#,
+        code: MetaCode::BadContext,
+        pointer: "/@context/1/@language",
+    },
+    Refused {
+        text: r#"{"@context":["http://www.w3.org/ns/csvw",{"@base":1}],"url":"p.csv"}"#,
+        code: MetaCode::BadContext,
+        pointer: "/@context/1/@base",
+    },
+    Refused {
+        text: r#"{"@context":["http://www.w3.org/ns/csvw",{"@base":"http://["}],"url":"p.csv"}"#,
+        code: MetaCode::BadUrl,
+        pointer: "/@context/1/@base",
+    },
+];
+
+const FRAME: (&str, &str) = (r#""#, r#""#);
+
+#[test]
+fn contexts_are_read(rt: HostRuntime) -> Result<(), Fail> {
+    for case in &ACCEPTED {
+        assert!(rt; accepts(rt.alloc(), FRAME, case)?, "{}", case.text);
+    }
+    Ok(())
+}
+
+#[test]
+fn contexts_are_refused(rt: HostRuntime) -> Result<(), Fail> {
+    for case in &REFUSED {
+        assert!(rt; refuses(rt.alloc(), FRAME, "", case)?, "{}", case.text);
+    }
+    Ok(())
+}

@@ -1,0 +1,21 @@
+//! Tests of metadata documents, property by property: which are read, and at which fault the others are refused.
+#![tactic(auto)]
+
+#[cfg(test)]
+mod annotations;
+#[cfg(test)]
+mod columns;
+#[cfg(test)]
+mod contexts;
+#[cfg(test)]
+mod dialects;
+#[cfg(test)]
+mod groups;
+#[cfg(test)]
+mod inherited;
+#[cfg(test)]
+mod reading;
+#[cfg(test)]
+mod schemas;
+#[cfg(test)]
+mod tables;
