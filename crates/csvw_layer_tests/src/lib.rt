@@ -10,6 +10,8 @@ mod graphs;
 #[cfg(test)]
 mod groups;
 #[cfg(test)]
+mod notes;
+#[cfg(test)]
 mod reports;
 #[cfg(test)]
 mod standard;

@@ -10,10 +10,13 @@ use std::test::Fail;
 const BASE: &str = "http://example.org/metadata.json";
 
 /// A document, the texts of its tables, and the graph that a run in standard mode writes.
-struct Case {
-    meta: &'static str,
-    texts: &'static [&'static [u8]],
-    graph: &'static str,
+pub(crate) struct Case {
+    /// The document.
+    pub(crate) meta: &'static str,
+    /// The texts of its tables.
+    pub(crate) texts: &'static [&'static [u8]],
+    /// The graph, line by line.
+    pub(crate) graph: &'static str,
 }
 
 const CASES: [Case; 6] = [
@@ -105,7 +108,7 @@ const CASES: [Case; 6] = [
     },
     // a null cell is described
     Case {
-        meta: r#"{"@context":"http://www.w3.org/ns/csvw","url":"p.csv","tableSchema":{"columns":[{"name":"n","null":["","NA"],"default":"0"}]}}"#,
+        meta: r#"{"@context":"http://www.w3.org/ns/csvw","url":"p.csv","tableSchema":{"columns":[{"name":"n","datatype":"integer","null":["","NA"],"default":"0"}]}}"#,
         texts: &[b"n\n\nNA\n"],
         graph: concat!(
             "_:g <http://www.w3.org/1999/02/22-rdf-syntax-ns#type> <http://www.w3.org/ns/csvw#TableGroup> .\n",
@@ -117,7 +120,7 @@ const CASES: [Case; 6] = [
             "_:t1r1 <http://www.w3.org/ns/csvw#rownum> \"1\"^^<http://www.w3.org/2001/XMLSchema#integer> .\n",
             "_:t1r1 <http://www.w3.org/ns/csvw#url> <http://example.org/p.csv#row=2> .\n",
             "_:t1r1 <http://www.w3.org/ns/csvw#describes> _:t1r1s .\n",
-            "_:t1r1s <http://example.org/p.csv#n> \"0\" .\n",
+            "_:t1r1s <http://example.org/p.csv#n> \"0\"^^<http://www.w3.org/2001/XMLSchema#integer> .\n",
             "_:t1 <http://www.w3.org/ns/csvw#row> _:t1r2 .\n",
             "_:t1r2 <http://www.w3.org/1999/02/22-rdf-syntax-ns#type> <http://www.w3.org/ns/csvw#Row> .\n",
             "_:t1r2 <http://www.w3.org/ns/csvw#rownum> \"2\"^^<http://www.w3.org/2001/XMLSchema#integer> .\n",
@@ -130,7 +133,11 @@ const CASES: [Case; 6] = [
 const HEADING: &str = "kind,code,table,row,column\n";
 
 /// What a run in this mode writes, and its report.
-fn written(alloc: Global, case: &Case, mode: Mode) -> Result<(Vec<u8>, Vec<u8>), AllocError> {
+pub(crate) fn written(
+    alloc: Global,
+    case: &Case,
+    mode: Mode,
+) -> Result<(Vec<u8>, Vec<u8>), AllocError> {
     let mut readers = Vec::new(alloc);
     for text in case.texts {
         readers.push(Counted::new(*text))?;

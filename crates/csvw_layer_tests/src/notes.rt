@@ -1,0 +1,94 @@
+//! What annotations tell of groups and tables, by whole runs.
+
+use crate::standard::{Case, written};
+use csvw_triples_core::Mode;
+use std::test::Fail;
+
+const CASES: [Case; 4] = [
+    // a title in the language of the context, and a note with a type, a node and a literal
+    Case {
+        meta: r#"{"@context":["http://www.w3.org/ns/csvw",{"@language":"en"}],"url":"p.csv","dc:title":"T","notes":[{"@type":"oa:Annotation","oa:hasBody":{"@value":"ok"},"dc:creator":{"@id":"http://x.org/me","foaf:name":"Me"}}]}"#,
+        texts: &[b"id\n"],
+        graph: concat!(
+            "_:g <http://www.w3.org/1999/02/22-rdf-syntax-ns#type> <http://www.w3.org/ns/csvw#TableGroup> .\n",
+            "_:g <http://www.w3.org/ns/csvw#table> _:t1 .\n",
+            "_:t1 <http://www.w3.org/1999/02/22-rdf-syntax-ns#type> <http://www.w3.org/ns/csvw#Table> .\n",
+            "_:t1 <http://www.w3.org/ns/csvw#url> <http://example.org/p.csv> .\n",
+            "_:t1 <http://purl.org/dc/terms/title> \"T\"@en .\n",
+            "_:t1 <http://www.w3.org/ns/csvw#note> _:a1 .\n",
+            "_:a1 <http://www.w3.org/1999/02/22-rdf-syntax-ns#type> <http://www.w3.org/ns/oa#Annotation> .\n",
+            "_:a1 <http://purl.org/dc/terms/creator> <http://x.org/me> .\n",
+            "<http://x.org/me> <http://xmlns.com/foaf/0.1/name> \"Me\"@en .\n",
+            "_:a1 <http://www.w3.org/ns/oa#hasBody> \"ok\" .\n",
+        ),
+    },
+    // an array with a value of each kind
+    Case {
+        meta: r#"{"@context":"http://www.w3.org/ns/csvw","url":"p.csv","dc:subject":["a",3,true,null,{"@value":"x","@language":"de"},{"@value":"2024-01-01","@type":"xsd:date"}]}"#,
+        texts: &[b"id\n"],
+        graph: concat!(
+            "_:g <http://www.w3.org/1999/02/22-rdf-syntax-ns#type> <http://www.w3.org/ns/csvw#TableGroup> .\n",
+            "_:g <http://www.w3.org/ns/csvw#table> _:t1 .\n",
+            "_:t1 <http://www.w3.org/1999/02/22-rdf-syntax-ns#type> <http://www.w3.org/ns/csvw#Table> .\n",
+            "_:t1 <http://www.w3.org/ns/csvw#url> <http://example.org/p.csv> .\n",
+            "_:t1 <http://purl.org/dc/terms/subject> \"a\" .\n",
+            "_:t1 <http://purl.org/dc/terms/subject> \"3\"^^<http://www.w3.org/2001/XMLSchema#integer> .\n",
+            "_:t1 <http://purl.org/dc/terms/subject> \"true\"^^<http://www.w3.org/2001/XMLSchema#boolean> .\n",
+            "_:t1 <http://purl.org/dc/terms/subject> \"x\"@de .\n",
+            "_:t1 <http://purl.org/dc/terms/subject> \"2024-01-01\"^^<http://www.w3.org/2001/XMLSchema#date> .\n",
+        ),
+    },
+    // nodes are numbered over the group and the tables that give something; properties stand in byte order
+    Case {
+        meta: r#"{"@context":"http://www.w3.org/ns/csvw","@id":"g","urn:b":{"urn:c":{}},"urn:B":{"@value":-1},"tables":[{"url":"p.csv","suppressOutput":true,"urn:d":{}},{"url":"q.csv","notes":[[{"@type":["urn:t","urn:s"]}],"n"],"urn:a":{"@id":"p.csv#x"},"tableSchema":{"urn:d":{},"columns":[{"name":"k","urn:e":{}}]},"dialect":{"urn:f":{}}}]}"#,
+        texts: &[b"k\n", b"k\n"],
+        graph: concat!(
+            "<http://example.org/g> <http://www.w3.org/1999/02/22-rdf-syntax-ns#type> <http://www.w3.org/ns/csvw#TableGroup> .\n",
+            "<http://example.org/g> <urn:B> \"-1\"^^<http://www.w3.org/2001/XMLSchema#integer> .\n",
+            "<http://example.org/g> <urn:b> _:a1 .\n",
+            "_:a1 <urn:c> _:a2 .\n",
+            "<http://example.org/g> <http://www.w3.org/ns/csvw#table> _:t2 .\n",
+            "_:t2 <http://www.w3.org/1999/02/22-rdf-syntax-ns#type> <http://www.w3.org/ns/csvw#Table> .\n",
+            "_:t2 <http://www.w3.org/ns/csvw#url> <http://example.org/q.csv> .\n",
+            "_:t2 <urn:a> <http://example.org/p.csv#x> .\n",
+            "_:t2 <http://www.w3.org/ns/csvw#note> _:a3 .\n",
+            "_:a3 <http://www.w3.org/1999/02/22-rdf-syntax-ns#type> <urn:t> .\n",
+            "_:a3 <http://www.w3.org/1999/02/22-rdf-syntax-ns#type> <urn:s> .\n",
+            "_:t2 <http://www.w3.org/ns/csvw#note> \"n\" .\n",
+        ),
+    },
+    // a key that is no IRI as it stands is made safe; a datatype that annotates nothing
+    Case {
+        meta: r#"{"@context":"http://www.w3.org/ns/csvw","url":"p.csv","x:a b":"l\n","schema:name":{"@value":true,"@type":"x:y|z"},"tableSchema":{"columns":[{"name":"id","datatype":{"base":"string","dc:title":{}}}]}}"#,
+        texts: &[b"id\n"],
+        graph: concat!(
+            "_:g <http://www.w3.org/1999/02/22-rdf-syntax-ns#type> <http://www.w3.org/ns/csvw#TableGroup> .\n",
+            "_:g <http://www.w3.org/ns/csvw#table> _:t1 .\n",
+            "_:t1 <http://www.w3.org/1999/02/22-rdf-syntax-ns#type> <http://www.w3.org/ns/csvw#Table> .\n",
+            "_:t1 <http://www.w3.org/ns/csvw#url> <http://example.org/p.csv> .\n",
+            "_:t1 <http://schema.org/name> \"true\"^^<x:y%7Cz> .\n",
+            "_:t1 <x:a%20b> \"l\\n\" .\n",
+        ),
+    },
+];
+
+const HEADING: &str = "kind,code,table,row,column\n";
+
+#[test]
+fn annotations_are_told(rt: HostRuntime) -> Result<(), Fail> {
+    for case in &CASES {
+        let (graph, report) = written(rt.alloc(), case, Mode::Standard)?;
+        assert!(rt; graph.as_slice() == case.graph.as_bytes(), "{}", case.meta);
+        assert!(rt; report.as_slice() == HEADING.as_bytes(), "{}", case.meta);
+    }
+    Ok(())
+}
+
+#[test]
+fn minimal_mode_tells_no_annotation(rt: HostRuntime) -> Result<(), Fail> {
+    for case in &CASES {
+        let (graph, _) = written(rt.alloc(), case, Mode::Minimal)?;
+        assert!(rt; graph.is_empty(), "{}", case.meta);
+    }
+    Ok(())
+}
