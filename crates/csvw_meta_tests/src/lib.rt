@@ -14,6 +14,8 @@ mod groups;
 #[cfg(test)]
 mod inherited;
 #[cfg(test)]
+mod limits;
+#[cfg(test)]
 mod reading;
 #[cfg(test)]
 mod schemas;
