@@ -8,14 +8,13 @@ ghost use Rattle.csvw_annotate.specs.FieldAt.{field_at};
 use crate::linking::link_cells;
 use crate::row::{AnnCell, Row};
 use crate::row_stop::RowStop;
-use csvw_cell::{Cell, parse_into};
+use csvw_cell::parse_over;
 use csvw_columns_core::{Column, Columns};
 use csvw_datatype::values_of_texts;
 use csvw_links::RowNumbers;
 use csvw_rows::RawRow;
 use csvw_text::Seq;
 use std::alloc::{AllocError, Global};
-use std::mem;
 
 /// Makes it the cell of a text, in its memory.
 fn fill_cell(
@@ -27,17 +26,10 @@ fn fill_cell(
     requires { IsSound column.now.properties.datatype }
     ensures { OnOk result (IsCell column.now text.now cell.new) }
 {
-    let AnnCell {
-        value,
-        faults,
-        about: _,
-        property: _,
-        link: _,
-    } = mem::replace(cell, AnnCell::new(alloc));
-    let Cell { value, faults } = parse_into(alloc, column, text, Cell { value, faults })?;
-    cell.value = value;
-    cell.faults = faults;
-    Ok(())
+    cell.about = None;
+    cell.property = None;
+    cell.link = None;
+    parse_over(alloc, column, text, &mut cell.value, &mut cell.faults)
 }
 
 /// The text of a field, from 0; the empty one where there is no such field.

@@ -1,2 +1,3 @@
 pub mod CellOf
 pub mod Codes
+pub mod Plain

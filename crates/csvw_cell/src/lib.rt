@@ -6,6 +6,8 @@ mod codes;
 mod item;
 mod list;
 mod parsing;
+mod plain;
 
 pub use cell::{Cell, CellValue, Item};
 pub use parsing::{parse, parse_into};
+pub use plain::parse_over;

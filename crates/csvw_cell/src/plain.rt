@@ -1,0 +1,101 @@
+//! Cells whose text is their value, read over the cells before them.
+ghost use Rattle.std.specs.Prelude.{◌≡◌, OnOk};
+ghost use Rattle.csvw_datatype.specs.Breaks.{has_lengths};
+ghost use Rattle.csvw_datatype.specs.Sound.{IsSound};
+ghost use Rattle.csvw_cell.specs.CellOf.{CellOf};
+ghost use Rattle.csvw_cell.specs.Plain.{is_plain, text_item, the_text};
+
+use crate::cell::{Cell, CellValue, Item};
+use crate::item::is_string;
+use crate::list::{is_null, or_default};
+use crate::parsing::parse_into;
+use csvw_columns_core::{Column, Properties};
+use csvw_datatype::{Facets, Value};
+use csvw_text::{Code, Seq, Text};
+use std::alloc::{AllocError, Global};
+use std::mem;
+
+fn has_lengths(facets: &Facets) -> bool
+    ensures { result ≡ has_lengths facets.now }
+{
+    facets.length.is_some() || facets.min_length.is_some() || facets.max_length.is_some()
+}
+
+/// Whether the cells of such properties are their texts as they stand, but for null.
+fn is_plain(properties: &Properties) -> bool
+    ensures { result ≡ is_plain properties.now }
+{
+    let datatype = properties.datatype.get();
+    is_string(datatype) && properties.separator.is_none() && !has_lengths(&datatype.facets)
+}
+
+/// Makes it the item of a text, in its memory.
+fn refill_item(alloc: Global, item: &mut Item, text: &str) -> Result<(), AllocError>
+    ensures { OnOk result (item.new ≡ text_item text.now) }
+{
+    item.was_read = true;
+    match &mut item.value {
+        Value::Text(old) => old.refill(text),
+        Value::Truth(_) | Value::Number(_) | Value::Day(_) | Value::Moment(_) => {
+            item.value = Value::Text(Text::copied(alloc, text)?);
+            Ok(())
+        }
+    }
+}
+
+/// Makes it the value that is a text, in its memory.
+fn refill_value(alloc: Global, value: &mut CellValue, text: &str) -> Result<(), AllocError>
+    ensures { OnOk result (value.new ≡ the_text text.now) }
+{
+    match value {
+        CellValue::One(item) => refill_item(alloc, item, text),
+        CellValue::Null | CellValue::Many(_) => {
+            *value = CellValue::One(Item {
+                value: Value::Text(Text::copied(alloc, text)?),
+                was_read: true,
+            });
+            Ok(())
+        }
+    }
+}
+
+fn parse_again(
+    alloc: Global,
+    column: &Column,
+    text: &str,
+    value: &mut CellValue,
+    faults: &mut Seq<Code>,
+) -> Result<(), AllocError>
+    requires { IsSound column.now.properties.datatype }
+    ensures { OnOk result (CellOf column.now text.now (record { value = value.new; faults = faults.new })) }
+{
+    let spare = Cell {
+        value: mem::replace(value, CellValue::Null),
+        faults: mem::replace(faults, Seq::new(alloc)),
+    };
+    let cell = parse_into(alloc, column, text, spare)?;
+    *value = cell.value;
+    *faults = cell.faults;
+    Ok(())
+}
+
+/// Makes these the value and the faults of the cell that `parse` gives for the text, in their memory; `AllocError` where
+/// there is none, and then nothing is said of them.
+pub fn parse_over(
+    alloc: Global,
+    column: &Column,
+    text: &str,
+    value: &mut CellValue,
+    faults: &mut Seq<Code>,
+) -> Result<(), AllocError>
+    requires { IsSound column.now.properties.datatype }
+    ensures { OnOk result (CellOf column.now text.now (record { value = value.new; faults = faults.new })) }
+{
+    let properties = &column.properties;
+    let shown = or_default(properties.default.get().as_str(), text);
+    if is_plain(properties) && !is_null(properties.null.get().as_slice(), shown) {
+        *faults = Seq::new(alloc);
+        return refill_value(alloc, value, shown);
+    }
+    parse_again(alloc, column, text, value, faults)
+}
