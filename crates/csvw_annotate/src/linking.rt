@@ -5,7 +5,7 @@ ghost use Rattle.csvw_annotate.specs.Linked.{ArePlain, HaveForms, linked_cells, 
 use crate::row::AnnCell;
 use crate::scope::RowScope;
 use csvw_columns_core::Columns;
-use csvw_links::{Links, RowNumbers, has_template, links_of};
+use csvw_links::{Linker, Links, RowNumbers, has_template};
 use std::alloc::{AllocError, Global};
 
 /// Gives a cell its links, and the codes of what is wrong with them.
@@ -39,6 +39,7 @@ pub(crate) fn link_cells(
     ensures { OnOk result (cells.new ≡ linked_cells columns.now row cells.old) }
 {
     let all = columns.columns.as_slice();
+    let mut linker = Linker::new(alloc);
     for i in 0..all.len() {
         let column = &all[i];
         if has_template(column) {
@@ -49,7 +50,7 @@ pub(crate) fn link_cells(
                 columns: all,
                 cells: lent,
             };
-            let links = links_of(alloc, &columns.url, column, &lent[i].value, &scope)?;
+            let links = linker.links_of(&columns.url, column, &lent[i].value, &scope)?;
             put_links(&mut cells[i], links)?;
         }
     }

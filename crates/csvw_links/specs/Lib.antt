@@ -1,5 +1,6 @@
 pub mod CellVariables
 pub mod Found
 pub mod HasForm
+pub mod Kept
 pub mod Links
 pub mod Reserved

@@ -1,12 +1,14 @@
 //! The links of a cell: what names stand for in the templates of its column, and the IRIs that the templates give.
 #![tactic(auto)]
 
+mod linker;
 mod linking;
 mod names;
 mod numbers;
 mod values;
 
-pub use linking::{Links, has_template, links_of};
+pub use linker::Linker;
+pub use linking::{Links, has_template};
 pub use names::reserved;
 pub use numbers::RowNumbers;
 pub use values::variable;

@@ -2,13 +2,13 @@
 ghost use Rattle.std.specs.Prelude.{◌≡◌, ◌++◌, IfOk, OnOk};
 ghost use Rattle.csvw_iri.specs.Link.{link_of};
 ghost use Rattle.csvw_cell.specs.Codes.{told};
-ghost use Rattle.csvw_links.specs.Links.{no_link, outcome, link_by, has_value, value_link, links_of, codes_of, has_template};
+ghost use Rattle.csvw_links.specs.Links.{no_link, outcome, link_by, has_value, value_link, joined, codes_of, has_template};
 
 use csvw_cell::CellValue;
 use csvw_columns_core::Column;
 use csvw_iri::{Base, Iri, IriFault, link};
 use csvw_template::{Scope, Template};
-use csvw_text::{Code, Seq, Shared, both};
+use csvw_text::{Code, Seq, Shared, copied_option};
 use std::alloc::{AllocError, Global};
 
 /// A link, or what is wrong with it.
@@ -37,7 +37,7 @@ pub struct Links {
     pub is_too_long: bool,
 }
 
-fn no_link() -> Made
+pub(crate) fn no_link() -> Made
     ensures { result ≡ no_link }
 {
     Made {
@@ -47,7 +47,7 @@ fn no_link() -> Made
     }
 }
 
-fn linked(alloc: Global, base: &Base, text: &str) -> Result<Made, AllocError>
+pub(crate) fn linked(alloc: Global, base: &Base, text: &str) -> Result<Made, AllocError>
     ensures { IfOk result (λ l. l ≡ outcome (link_of base.now text.now)) }
 {
     match link(alloc, base, text) {
@@ -70,7 +70,7 @@ fn linked(alloc: Global, base: &Base, text: &str) -> Result<Made, AllocError>
     }
 }
 
-fn link_by<S: Scope>(
+pub(crate) fn link_by<S: Scope>(
     alloc: Global,
     base: &Base,
     template: &Option<Shared<Template>>,
@@ -97,7 +97,7 @@ fn has_value(value: &CellValue) -> bool
     }
 }
 
-fn value_link<S: Scope>(
+pub(crate) fn value_link<S: Scope>(
     alloc: Global,
     base: &Base,
     column: &Column,
@@ -124,31 +124,30 @@ pub fn has_template(column: &Column) -> bool
         || properties.value_url.is_some()
 }
 
-/// The links of a cell of the column with this value, in a table of this URL, under the variables of a scope: each the
-/// expansion of its template, with its prefix replaced and joined to the URL. There is no value link where the value is null
-/// or the empty list, unless the column is virtual (Metadata Vocabulary for Tabular Data, sections 5.1.3 and 5.7).
-/// `AllocError` where there is no memory.
-pub fn links_of<S: Scope>(
-    alloc: Global,
-    base: &Base,
-    column: &Column,
-    value: &CellValue,
-    scope: &S,
-) -> Result<Links, AllocError>
-    requires { S.can_look_up scope.now }
-    ensures { IfOk result (λ l. l ≡ links_of base.now (S.variables scope.now) column.now value.now) }
+/// Three links, and whether something is wrong with one of them.
+pub(crate) fn joined(about: Made, property: Made, value: Made) -> Links
+    ensures { result ≡ joined about property value }
 {
-    let about = link_by(alloc, base, &column.properties.about_url, scope);
-    let property = link_by(alloc, base, &column.properties.property_url, scope);
-    let value = value_link(alloc, base, column, value, scope);
-    let (about, (property, value)) = both(about, both(property, value))?;
-    Ok(Links {
+    Links {
         is_bad: about.is_bad || property.is_bad || value.is_bad,
         is_too_long: about.is_too_long || property.is_too_long || value.is_too_long,
         about: about.iri,
         property: property.iri,
         value: value.iri,
-    })
+    }
+}
+
+impl Made {
+    /// An equal link; `AllocError` where the count of the IRI's owners is at its greatest.
+    pub(crate) fn clone(&self, alloc: Global) -> Result<Made, AllocError>
+        ensures { IfOk result (λ made. made ≡ self.now) }
+    {
+        Ok(Made {
+            iri: copied_option(alloc, &self.iri)?,
+            is_bad: self.is_bad,
+            is_too_long: self.is_too_long,
+        })
+    }
 }
 
 fn tell(codes: &mut Seq<Code>, is_wrong: bool, code: Code) -> Result<(), AllocError>
