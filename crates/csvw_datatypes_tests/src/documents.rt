@@ -18,7 +18,7 @@ struct Case {
     faults: &'static str,
 }
 
-const CASES: [Case; 12] = [
+const CASES: [Case; 13] = [
     // an ordered list, and a list that is required and empty
     Case {
         members: r#""tableSchema":{"columns":[{"name":"v","separator":";","ordered":true,"required":true}]}"#,
@@ -43,6 +43,23 @@ const CASES: [Case; 12] = [
         mode: Mode::Minimal,
         graph: "_:t1r1s <http://example.org/p.csv#n> \"0\"^^<http://www.w3.org/2001/XMLSchema#integer> .\n",
         faults: "",
+    },
+    // strings between rows where they are null, or stand for an empty text
+    Case {
+        members: r#""tableSchema":{"columns":[{"name":"v","null":["NA"],"default":"d","required":true},{"name":"w"}]}"#,
+        text: "v,w\nNA,1\nlong text,2\n,3\nNA,4\nx,5\n",
+        mode: Mode::Minimal,
+        graph: concat!(
+            "_:t1r1s <http://example.org/p.csv#w> \"1\" .\n",
+            "_:t1r2s <http://example.org/p.csv#v> \"long text\" .\n",
+            "_:t1r2s <http://example.org/p.csv#w> \"2\" .\n",
+            "_:t1r3s <http://example.org/p.csv#v> \"d\" .\n",
+            "_:t1r3s <http://example.org/p.csv#w> \"3\" .\n",
+            "_:t1r4s <http://example.org/p.csv#w> \"4\" .\n",
+            "_:t1r5s <http://example.org/p.csv#v> \"x\" .\n",
+            "_:t1r5s <http://example.org/p.csv#w> \"5\" .\n",
+        ),
+        faults: "error,Required,1,2,1\nerror,Required,1,5,1\n",
     },
     // lists of numbers
     Case {

@@ -16,7 +16,7 @@ struct Case {
     faults: &'static str,
 }
 
-const CASES: [Case; 12] = [
+const CASES: [Case; 14] = [
     // about, property and value links
     Case {
         meta: r##"{"@context":"http://www.w3.org/ns/csvw","url":"p.csv","tableSchema":{"aboutUrl":"#{id}","columns":[{"name":"id"},{"name":"u","propertyUrl":"schema:name","valueUrl":"http://x.org/{+u}"}]}}"##,
@@ -96,6 +96,30 @@ const CASES: [Case; 12] = [
         text: "_row\nx\n",
         graph: "<http://example.org/p.csv#1> <http://example.org/p.csv#_row> \"x\" .\n",
         faults: "",
+    },
+    // cells of a row about two things in turn
+    Case {
+        meta: r##"{"@context":"http://www.w3.org/ns/csvw","url":"p.csv","tableSchema":{"aboutUrl":"#{id}","columns":[{"name":"id"},{"name":"b","aboutUrl":"#{id}-{_name}"},{"name":"c"}]}}"##,
+        text: "id,b,c\n1,x,y\n2,x,y\n",
+        graph: concat!(
+            "<http://example.org/p.csv#1> <http://example.org/p.csv#id> \"1\" .\n",
+            "<http://example.org/p.csv#1-b> <http://example.org/p.csv#b> \"x\" .\n",
+            "<http://example.org/p.csv#1> <http://example.org/p.csv#c> \"y\" .\n",
+            "<http://example.org/p.csv#2> <http://example.org/p.csv#id> \"2\" .\n",
+            "<http://example.org/p.csv#2-b> <http://example.org/p.csv#b> \"x\" .\n",
+            "<http://example.org/p.csv#2> <http://example.org/p.csv#c> \"y\" .\n",
+        ),
+        faults: "",
+    },
+    // an about link that is no URL is told of each cell
+    Case {
+        meta: r##"{"@context":"http://www.w3.org/ns/csvw","url":"p.csv","tableSchema":{"aboutUrl":"http://[{id}","columns":[{"name":"id"},{"name":"u"}]}}"##,
+        text: "id,u\n7,8\n",
+        graph: concat!(
+            "_:t1r1s <http://example.org/p.csv#id> \"7\" .\n",
+            "_:t1r1s <http://example.org/p.csv#u> \"8\" .\n",
+        ),
+        faults: "error,BadUrl,1,2,1\nerror,BadUrl,1,2,2\n",
     },
     // a suppressed table
     Case {

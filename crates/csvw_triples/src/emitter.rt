@@ -59,19 +59,35 @@ impl Emitter {
 
     pub(crate) fn put_object<S: TripleSink>(
         &mut self,
-        stem: &Stem,
+        stem: Stem,
         o: Term,
         sink: &mut S,
     ) -> Result<(), SinkFault>
-        ensures { Puts S.gains S.is_open S.failed sink.old (object_triple stem.now o ∷ []) sink.new result }
+        ensures { Puts S.gains S.is_open S.failed sink.old (object_triple stem o ∷ []) sink.new result }
     {
-        let triple = stem.triple(self.alloc, o)?;
+        let triple = stem.into_triple(o);
         let put = put_one(&triple, sink);
         self.keep(triple);
         put
     }
 
     fn emit_item<S: TripleSink>(
+        &mut self,
+        stem: Stem,
+        column: &Column,
+        item: &Item,
+        sink: &mut S,
+    ) -> Result<(), SinkFault>
+        requires { IsWritable item.now.value }
+        ensures { Puts S.gains S.is_open S.failed sink.old (literal_triple stem column.now item.now ∷ []) sink.new result }
+    {
+        let spare = mem::replace(&mut self.spare, Text::new(self.alloc));
+        let literal = literal_of(self.alloc, &self.names, column, item, spare)?;
+        self.put_object(stem, Term::Literal(literal), sink)
+    }
+
+    /// Puts the triple of one of several items.
+    fn emit_one<S: TripleSink>(
         &mut self,
         stem: &Stem,
         column: &Column,
@@ -81,9 +97,8 @@ impl Emitter {
         requires { IsWritable item.now.value }
         ensures { Puts S.gains S.is_open S.failed sink.old (literal_triple stem.now column.now item.now ∷ []) sink.new result }
     {
-        let spare = mem::replace(&mut self.spare, Text::new(self.alloc));
-        let literal = literal_of(self.alloc, &self.names, column, item, spare)?;
-        self.put_object(stem, Term::Literal(literal), sink)
+        let stem = stem.clone(self.alloc)?;
+        self.emit_item(stem, column, item, sink)
     }
 
     fn emit_items<S: TripleSink>(
@@ -97,7 +112,7 @@ impl Emitter {
         ensures { Puts S.gains S.is_open S.failed sink.old (map (literal_triple stem.now column.now) items.now) sink.new result }
     {
         for i in 0..items.len() {
-            self.emit_item(stem, column, &items[i], sink)?;
+            self.emit_one(stem, column, &items[i], sink)?;
         }
         Ok(())
     }
@@ -146,7 +161,7 @@ impl Emitter {
             (triple (node.Blank entry) rdf_first (term.Literal (literal_of column.now item.now)) ∷ []) sink.new result }
     {
         let stem = self.first_stem(entry)?;
-        self.emit_item(&stem, column, item, sink)
+        self.emit_item(stem, column, item, sink)
     }
 
     /// Puts what an entry's rest is.
@@ -159,7 +174,7 @@ impl Emitter {
         ensures { Puts S.gains S.is_open S.failed sink.old (triple (node.Blank entry) rdf_rest rest ∷ []) sink.new result }
     {
         let stem = self.rest_stem(entry)?;
-        self.put_object(&stem, rest, sink)
+        self.put_object(stem, rest, sink)
     }
 
     /// Puts the triples of an entry.
@@ -198,7 +213,7 @@ impl Emitter {
 
     fn emit_list<S: TripleSink>(
         &mut self,
-        stem: &Stem,
+        stem: Stem,
         place: ListPlace,
         column: &Column,
         items: &[Item],
@@ -206,7 +221,7 @@ impl Emitter {
     ) -> Result<(), SinkFault>
         requires { HaveForms items.now }
         ensures { Puts S.gains S.is_open S.failed sink.old
-            (object_triple stem.now (list_node (entries_in place) 1 items.now)
+            (object_triple stem (list_node (entries_in place) 1 items.now)
             ∷ list_triples (entries_in place) column.now 1 items.now) sink.new result }
     {
         let list = self.list_node(place, 1, items.is_empty())?;
@@ -216,7 +231,7 @@ impl Emitter {
 
     fn emit_many<S: TripleSink>(
         &mut self,
-        stem: &Stem,
+        stem: Stem,
         place: ListPlace,
         column: &Column,
         items: &[Item],
@@ -224,18 +239,18 @@ impl Emitter {
     ) -> Result<(), SinkFault>
         requires { HaveForms items.now }
         ensures { Puts S.gains S.is_open S.failed sink.old
-            (items_triples stem.now.s stem.now.p (entries_in place) column.now items.now) sink.new result }
+            (items_triples stem.s stem.p (entries_in place) column.now items.now) sink.new result }
     {
         if column.properties.ordered {
             self.emit_list(stem, place, column, items, sink)
         } else {
-            self.emit_items(stem, column, items, sink)
+            self.emit_items(&stem, column, items, sink)
         }
     }
 
     fn emit_value<S: TripleSink>(
         &mut self,
-        stem: &Stem,
+        stem: Stem,
         place: ListPlace,
         column: &Column,
         value: &CellValue,
@@ -243,7 +258,7 @@ impl Emitter {
     ) -> Result<(), SinkFault>
         requires { ValueHasForms value.now }
         ensures { Puts S.gains S.is_open S.failed sink.old
-            (value_triples stem.now.s stem.now.p (entries_in place) column.now value.now) sink.new result }
+            (value_triples stem.s stem.p (entries_in place) column.now value.now) sink.new result }
     {
         match value {
             CellValue::Null => Ok(()),
@@ -254,11 +269,11 @@ impl Emitter {
 
     fn emit_link<S: TripleSink>(
         &mut self,
-        stem: &Stem,
+        stem: Stem,
         link: &Iri,
         sink: &mut S,
     ) -> Result<(), SinkFault>
-        ensures { Puts S.gains S.is_open S.failed sink.old (object_triple stem.now (term.Named link.now) ∷ []) sink.new result }
+        ensures { Puts S.gains S.is_open S.failed sink.old (object_triple stem (term.Named link.now) ∷ []) sink.new result }
     {
         let o = Term::Named(link.clone(self.alloc)?);
         self.put_object(stem, o, sink)
@@ -266,7 +281,7 @@ impl Emitter {
 
     fn emit_objects<S: TripleSink>(
         &mut self,
-        stem: &Stem,
+        stem: Stem,
         place: ListPlace,
         column: &Column,
         cell: &AnnCell,
@@ -274,7 +289,7 @@ impl Emitter {
     ) -> Result<(), SinkFault>
         requires { ValueHasForms cell.now.value }
         ensures { Puts S.gains S.is_open S.failed sink.old
-            (object_triples stem.now.s stem.now.p (entries_in place) column.now cell.now.value cell.now.link) sink.new result }
+            (object_triples stem.s stem.p (entries_in place) column.now cell.now.value cell.now.link) sink.new result }
     {
         match &cell.link {
             Some(link) => self.emit_link(stem, link, sink),
@@ -301,7 +316,7 @@ impl Emitter {
             row: place.row,
             column: column.number,
         };
-        self.emit_objects(&stem, list, column, cell, sink)
+        self.emit_objects(stem, list, column, cell, sink)
     }
 
     fn emit_cells<S: TripleSink>(

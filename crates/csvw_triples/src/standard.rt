@@ -124,11 +124,7 @@ impl Emitter {
             s: table_node(self.alloc, place.table, &columns.id)?,
             p: self.csvw.member.clone(self.alloc)?,
         };
-        self.put_object(
-            &stem,
-            Term::Blank(Origin::Row(place.table, place.row)),
-            sink,
-        )
+        self.put_object(stem, Term::Blank(Origin::Row(place.table, place.row)), sink)
     }
 
     fn emit_class<S: TripleSink>(&mut self, place: RowPlace, sink: &mut S) -> Result<(), SinkFault>
@@ -136,7 +132,7 @@ impl Emitter {
     {
         let stem = row_stem(self.alloc, place, &self.csvw.kind)?;
         let o = Term::Named(self.csvw.class.clone(self.alloc)?);
-        self.put_object(&stem, o, sink)
+        self.put_object(stem, o, sink)
     }
 
     fn emit_number<S: TripleSink>(&mut self, place: RowPlace, sink: &mut S) -> Result<(), SinkFault>
@@ -144,7 +140,7 @@ impl Emitter {
     {
         let stem = row_stem(self.alloc, place, &self.csvw.number)?;
         let literal = self.number_literal(place.row)?;
-        self.put_object(&stem, Term::Literal(literal), sink)
+        self.put_object(stem, Term::Literal(literal), sink)
     }
 
     fn emit_url<S: TripleSink>(
@@ -162,7 +158,7 @@ impl Emitter {
         };
         let stem = row_stem(self.alloc, place, &self.csvw.address)?;
         let iri = self.row_url(columns, row)?;
-        self.put_object(&stem, Term::Named(iri), sink)
+        self.put_object(stem, Term::Named(iri), sink)
     }
 
     /// Puts that the table has the row, and the row's class.
@@ -230,7 +226,7 @@ impl Emitter {
         }
         let stem = row_stem(self.alloc, place, &self.csvw.describes)?;
         let o = subject_as_object(self.alloc, place, cell)?;
-        self.put_object(&stem, o, sink)
+        self.put_object(stem, o, sink)
     }
 
     /// Puts what a cell adds to what the row is about, and the cell's triples.

@@ -73,15 +73,22 @@ impl Stem {
         })
     }
 
-    /// The triple with this object; `AllocError` where there is no memory.
-    pub fn triple(&self, alloc: Global, o: Term) -> Result<Triple, AllocError>
-        ensures { IfOk result (λ x. x ≡ object_triple self.now o) }
+    /// An equal stem; `AllocError` where there is no memory.
+    pub fn clone(&self, alloc: Global) -> Result<Stem, AllocError>
+        ensures { IfOk result (λ stem. stem ≡ self.now) }
     {
-        Ok(Triple {
+        Ok(Stem {
             s: self.s.clone(alloc)?,
             p: self.p.clone(alloc)?,
-            o,
         })
+    }
+
+    /// The triple with this object. It takes no memory.
+    pub fn into_triple(self, o: Term) -> Triple
+        ensures { result ≡ object_triple self o }
+    {
+        let Stem { s, p } = self;
+        Triple { s, p, o }
     }
 }
 
