@@ -1,1 +1,2 @@
 pub mod ListLemmas
+pub mod NormalLemmas

@@ -1,6 +1,10 @@
 //! The text of a cell, read in nine steps.
-ghost use Rattle.std.specs.Prelude.{◌≡◌, IfOk, string_bytes};
+ghost use Rattle.std.specs.Prelude.{◌≡◌, IfOk, string_bytes, true, false};
+ghost use Rattle.std.specs.List.{list_any};
+ghost use Rattle.std.specs.Str.{chars};
+ghost use Rattle.csvw_text.specs.Collapse.{is_space};
 ghost use Rattle.csvw_datatype.specs.Sound.{IsSound};
+ghost use Rattle.csvw_cell.specs.Codes.{is_string};
 ghost use Rattle.csvw_cell.specs.CellOf.{missing, normalized, IsSingle, IsList, IsListOf, IsCellBy, CellOf, or_default};
 
 use crate::cell::{Cell, CellValue, Item};
@@ -8,7 +12,7 @@ use crate::codes::in_order;
 use crate::item::{is_string, judge};
 use crate::list::{is_null, judge_items, or_default, parts};
 use csvw_columns_core::{Column, Properties};
-use csvw_datatype::Value;
+use csvw_datatype::{Datatype, Value};
 use csvw_text::{Code, Seq, Text, collapse};
 use std::alloc::{AllocError, Global};
 
@@ -21,6 +25,26 @@ fn missing(alloc: Global, properties: &Properties) -> Result<Seq<Code>, AllocErr
         codes.push(Code::Required)?;
     }
     Ok(codes)
+}
+
+fn is_space(c: char) -> bool
+    ensures { result ≡ is_space c }
+{
+    matches!(c, '\r' | '\n' | '\t' | ' ')
+}
+
+fn has_space(text: &str) -> bool
+    ensures { result ≡ list_any is_space (chars text.now) }
+{
+    text.chars().any(|c| is_space(c))
+}
+
+/// Whether it is plain that steps 1 and 2 leave a text as it is.
+fn is_normal(datatype: &Datatype, text: &str) -> bool
+    ensures same { result ≡ true → normalized datatype.now text.now ≡ text.now }
+    ensures other { result ≡ false → is_string datatype.now ≡ false }
+{
+    is_string(datatype) || !has_space(text)
 }
 
 /// The text of a cell that is no longer needed, or the empty one.
@@ -129,7 +153,7 @@ pub fn parse_into(
 {
     let properties = &column.properties;
     let default = properties.default.get().as_str();
-    if is_string(properties.datatype.get()) {
+    if is_normal(properties.datatype.get(), text) {
         return by_separator(alloc, properties, or_default(default, text), spare);
     }
     let normalized = collapse(alloc, text)?;
