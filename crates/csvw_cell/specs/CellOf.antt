@@ -1,5 +1,5 @@
 -- What the text of a cell is (Model for Tabular Data, section 6.4.2, "Parsing Cells"), in nine steps.
-use Rattle.std.specs.Prelude.{◌≡◌, ℕ, ◌==◌, Bool, true, false, MatchBool, if◌then◌else◌, List, [], ◌∷◌, ◌++◌, length, map, take, drop, filter, bytes_eq, not, Option, Some, None, chars, encode_utf8_all, flat_map}
+use Rattle.std.specs.Prelude.{◌≡◌, ℕ, ◌==◌, Bool, MatchBool, if◌then◌else◌, List, [], ◌∷◌, ◌++◌, length, map, take, drop, filter, bytes_eq, not, Option, Some, None, chars, encode_utf8_all}
 use Rattle.std.specs.List.{list_any}
 use Rattle.std.specs.Str.Pattern.{FindsText}
 use Rattle.csvw_text.specs.Collapse.{collapse}
@@ -7,7 +7,6 @@ use Rattle.csvw_text.specs.Strip.{strip_start, strip_end}
 use Rattle.csvw_text.specs.declared.fault.Code.{Code}
 use Rattle.csvw_text.specs.declared.fault.Code.TheVariants.{Required}
 use Rattle.csvw_datatype.specs.declared.datatype.Datatype.{Datatype}
-use Rattle.csvw_datatype.specs.declared.value.Value.{Value}
 use Rattle.csvw_datatype.specs.declared.value.Value.TheVariants.{Text}
 use Rattle.csvw_datatype.specs.Reads.{Reads, Misread}
 use Rattle.csvw_datatype.specs.Breaks.{breaks}

@@ -1,5 +1,5 @@
 -- What may be wrong with a cell.
-use Rattle.std.specs.Prelude.{ℕ, Bool, true, false, List, [], ◌∷◌, ◌++◌, filter, bytes_eq, if◌then◌else◌}
+use Rattle.std.specs.Prelude.{Bool, true, false, List, [], ◌∷◌, ◌++◌, filter, bytes_eq, if◌then◌else◌}
 use Rattle.std.specs.List.{list_any}
 use Rattle.csvw_text.specs.declared.fault.Code.{Code}
 use Rattle.csvw_text.specs.declared.fault.Code.TheVariants.{Required, BadBoolean, BadInteger, BadDecimal, NumberTooLong, OutOfRange, BadDate, BadDateTime, WrongLength, TooShort, TooLong, BelowMinimum, AboveMaximum}

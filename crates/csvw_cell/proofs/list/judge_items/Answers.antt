@@ -1,5 +1,5 @@
 -- One more item.
-use Rattle.std.proofs.Common.{◌≡◌, ◌∙◌, ◌++◌, sym, ap, subst, List, ℕ}
+use Rattle.std.proofs.Common.{◌∙◌, ◌++◌, sym, ap, subst, List, ℕ}
 use Rattle.csvw_cell.specs.CellOf.{is_null}
 use Rattle.csvw_cell.specs.CellOf as cell
 use Rattle.csvw_datatype.specs.declared.datatype.Datatype.{Datatype}
