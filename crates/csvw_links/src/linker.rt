@@ -5,7 +5,7 @@ ghost use Rattle.csvw_iri.specs.Link.{link_of};
 ghost use Rattle.csvw_links.specs.Kept.{Keeps};
 ghost use Rattle.csvw_links.specs.Links.{outcome, link_by, links_of};
 
-use crate::linking::{Links, Made, joined, link_by, linked, no_link, value_link};
+use crate::linking::{LINK_ROOM, Links, Made, joined, link_by, linked, no_link, value_link};
 use csvw_cell::CellValue;
 use csvw_columns_core::Column;
 use csvw_iri::Base;
@@ -72,7 +72,7 @@ impl Linker {
         let Some(template) = template else {
             return Ok(no_link());
         };
-        let mut text = String::new(self.alloc);
+        let mut text = String::with_capacity(self.alloc, LINK_ROOM)?;
         template.get().expand_into(self.alloc, &mut text, scope)?;
         self.link_again(base, text)
     }

@@ -11,6 +11,9 @@ use csvw_template::{Scope, Template};
 use csvw_text::{Code, Seq, Shared, copied_option};
 use std::alloc::{AllocError, Global};
 
+/// For how many bytes there is room in the text of a link before it grows.
+pub(crate) const LINK_ROOM: usize = 64;
+
 /// A link, or what is wrong with it.
 #[derive(Drop)]
 pub struct Made {
@@ -82,7 +85,7 @@ pub(crate) fn link_by<S: Scope>(
     let Some(template) = template else {
         return Ok(no_link());
     };
-    let mut text = String::new(alloc);
+    let mut text = String::with_capacity(alloc, LINK_ROOM)?;
     template.get().expand_into(alloc, &mut text, scope)?;
     linked(alloc, base, text.as_str())
 }
