@@ -1,30 +1,100 @@
 -- What books tell is what is wrong with the rows that they keep.
-use Rattle.std.proofs.Common.{◌≡◌, ℕ, List, [], ◌∷◌, ◌++◌, refl, ap, ◌∙◌, All, flat_map, map, nat_eq, if◌then◌else◌}
-use Rattle.std.proofs.lemmas.List.Elements.{All-head, All-tail}
+use Rattle.std.proofs.Common.{◌≡◌, ℕ, List, [], ◌∷◌, ◌++◌, ◌||◌, Bool, true, false, Some, refl, sym, ap, ◌∙◌, All, flat_map, nat_eq, if◌then◌else◌}
+use Rattle.std.specs.Cmp.Lexicographic.{bytes_decides}
+use Rattle.std.specs.List.{list_any}
+use Rattle.std.proofs.lemmas.Bool.{and_parts, eqb-true, false≢true}
+use Rattle.std.proofs.lemmas.Grind.{flat_map-append}
+use Rattle.std.proofs.lemmas.List.{append-nil}
+use Rattle.std.proofs.lemmas.List.Elements.{All-cons, All-head, All-nil, All-tail}
 use Rattle.csvw_annotate.specs.declared.row.Row.{Row}
+use Rattle.csvw_keys.specs.contracts.held.HeldKeyOrd.TheImpl as derived
 use Rattle.csvw_keys.specs.declared.book.Book.{Book}
-use Rattle.csvw_keys.specs.declared.book.Book.TheVariants.{Primary, Reference}
-use Rattle.csvw_keys.specs.Books.{KeepsBook, first_told, rule_of, told}
+use Rattle.csvw_keys.specs.declared.book.Book.TheVariants.{Primary, Referenced, Reference}
+use Rattle.csvw_keys.specs.declared.held.HeldKey.{HeldKey}
+use Rattle.csvw_keys.specs.declared.reference.ReferenceBook.{ReferenceBook}
+use Rattle.csvw_keys.specs.Books.{KeepsBook, book_times, counts_in, first_told, is_served, purpose_of, purposes_of, rules_for, rules_in, times_in, told, told_by}
 use Rattle.csvw_keys.specs.Duplicates.{duplicate_faults}
-use Rattle.csvw_keys.specs.KeyRules.{duplicates_of, key_faults, rule_faults}
+use Rattle.csvw_keys.specs.Held.{held_keys}
+use Rattle.csvw_keys.specs.KeyRules.{KeyRule, duplicates_of, key_faults, rule_faults}
+use Rattle.csvw_keys.specs.ReferenceBooks.{KeepsReference}
+use Rattle.csvw_keys.specs.References.{reference_faults}
+use Rattle.csvw_keys.specs.Tallies.{count_of}
+use Rattle.csvw_keys.specs.Times.{times}
+use Rattle.csvw_text.specs.declared.fault.Fault.{Fault}
 use Rattle.csvw_keys.proofs.ReferenceLemmas.{all_faults}
 
+module _ {X : Type 0} (P : X → Type 0) where
+  front : (xs ys : List X) → All P (xs ++ ys) → All P xs
+  front [] ys all = All-nil P
+  front (x ∷ xs) ys all = All-cons P x xs (All-head P x (xs ++ ys) all) (front xs ys (All-tail P x (xs ++ ys) all))
+
+  back : (xs ys : List X) → All P (xs ++ ys) → All P ys
+  back [] ys all = all
+  back (x ∷ xs) ys all = back xs ys (All-tail P x (xs ++ ys) all)
+
 module _ (tables : ℕ → List Row) where
-  told_is : (b : Book) → KeepsBook b tables → told b ≡ rule_faults tables (rule_of b)
-  told_is (Primary book) keeps = keeps.faults
-  told_is (Reference book) keeps = all_faults book tables keeps
+  abbrev times_of : ℕ → List ℕ → HeldKey → ℕ
+  times_of table columns key = count_of derived.ghosts.cmp key (held_keys columns (tables table))
 
-  pub all_told_are : (bs : List Book) → All (λ b. KeepsBook b tables) bs → flat_map told bs ≡ key_faults (map rule_of bs) tables
-  all_told_are [] keeps = refl
-  all_told_are (b ∷ bs) keeps =
-      ap (λ fs. fs ++ flat_map told bs) (told_is b (All-head (λ x. KeepsBook x tables) b bs keeps))
-      ∙ ap (λ fs. rule_faults tables (rule_of b) ++ fs) (all_told_are bs (All-tail (λ x. KeepsBook x tables) b bs keeps))
+  moved : (a b : ℕ) (cs ds : List ℕ) (key : HeldKey) → a ≡ b → cs ≡ ds → times (times_of a cs key) ≡ times (times_of b ds key)
+  moved a b cs ds key tables_are columns_are =
+      ap (λ n. times (times_of n cs key)) tables_are ∙ ap (λ columns. times (times_of b columns key)) columns_are
 
-  pub first_told_is : (n : ℕ) (bs : List Book) → All (λ b. KeepsBook b tables) bs → first_told n bs ≡ duplicates_of n tables (map rule_of bs)
+  counts_are : (b : Book) (table : ℕ) (columns : List ℕ) → KeepsBook b tables → counts_in table columns (purpose_of b) ≡ true
+      → (key : HeldKey) → book_times b key ≡ times (times_of table columns key)
+  counts_are (Primary book) table columns keeps same key =
+      let parts = and_parts _ _ same in
+      keeps.tallies key ∙ moved book.table table book.columns columns key (eqb-true _ _ parts.0) ((bytes_decides _ _).0 parts.1)
+  counts_are (Referenced book) table columns keeps same key =
+      let parts = and_parts _ _ same in
+      keeps key ∙ moved book.table table book.columns columns key (eqb-true _ _ parts.0) ((bytes_decides _ _).0 parts.1)
+  counts_are (Reference book) table columns keeps same key = absurd (false≢true same)
+
+  module _ (book : ReferenceBook) (keeps_it : KeepsReference book tables) where
+    abbrev faults : List Fault
+    faults = reference_faults book.referring.table book.referring.columns (tables book.referring.table) book.columns (tables book.table)
+
+    by_test : (b : Book) (bs : List Book) (test : Bool) → counts_in book.table book.columns (purpose_of b) ≡ test → KeepsBook b tables
+        → (list_any (counts_in book.table book.columns) (purposes_of bs) ≡ true → told_by (times_in book.table book.columns bs) book ≡ faults)
+        → (test || list_any (counts_in book.table book.columns) (purposes_of bs)) ≡ true
+        → told_by (if test then Some (book_times b) else times_in book.table book.columns bs) book ≡ faults
+    by_test b bs true test keeps rest any = all_faults book tables keeps_it (book_times b) (counts_are b book.table book.columns keeps test)
+    by_test b bs false test keeps rest any = rest any
+
+    pub reference_told : (bs : List Book) → All (λ b. KeepsBook b tables) bs
+        → list_any (counts_in book.table book.columns) (purposes_of bs) ≡ true → told_by (times_in book.table book.columns bs) book ≡ faults
+    reference_told [] keeps any = absurd (false≢true any)
+    reference_told (b ∷ bs) keeps any =
+        by_test b bs (counts_in book.table book.columns (purpose_of b)) refl (All-head (λ x. KeepsBook x tables) b bs keeps)
+        (reference_told bs (All-tail (λ x. KeepsBook x tables) b bs keeps)) any
+
+  module _ (books : List Book) (keeps : All (λ b. KeepsBook b tables) books) where
+    abbrev IsServed : KeyRule → Type 0
+    IsServed rule = is_served (purposes_of books) rule ≡ true
+
+    told_is : (b : Book) → KeepsBook b tables → All IsServed (rules_for (purpose_of b)) → told books b ≡ key_faults (rules_for (purpose_of b)) tables
+    told_is (Primary book) kept served = kept.faults ∙ sym (append-nil (duplicate_faults book.table book.columns (tables book.table)))
+    told_is (Referenced book) kept served = refl
+    told_is (Reference book) kept served =
+        reference_told book kept books keeps (All-head IsServed _ [] served) ∙ sym (append-nil (faults book kept))
+
+    pub all_told_are : (bs : List Book) → All (λ b. KeepsBook b tables) bs → All IsServed (rules_in bs)
+        → flat_map (told books) bs ≡ key_faults (rules_in bs) tables
+    all_told_are [] kept served = refl
+    all_told_are (b ∷ bs) kept served =
+        let own = rules_for (purpose_of b) in
+        ap (λ fs. fs ++ flat_map (told books) bs)
+        (told_is b (All-head (λ x. KeepsBook x tables) b bs kept) (front IsServed own (rules_in bs) served))
+        ∙ ap (λ fs. key_faults own tables ++ fs)
+        (all_told_are bs (All-tail (λ x. KeepsBook x tables) b bs kept) (back IsServed own (rules_in bs) served))
+        ∙ sym (flat_map-append (rule_faults tables) own (rules_in bs))
+
+  pub first_told_is : (n : ℕ) (bs : List Book) → All (λ b. KeepsBook b tables) bs → first_told n bs ≡ duplicates_of n tables (rules_in bs)
   first_told_is n [] keeps = refl
   first_told_is n (Primary book ∷ bs) keeps =
       let first : KeepsBook (Primary book) tables = All-head (λ x. KeepsBook x tables) (Primary book) bs keeps in
       let rest = All-tail (λ x. KeepsBook x tables) (Primary book) bs keeps in
       ap (λ fs. if nat_eq book.table n then fs else first_told n bs) first.faults
       ∙ ap (λ fs. if nat_eq book.table n then duplicate_faults book.table book.columns (tables book.table) else fs) (first_told_is n bs rest)
+  first_told_is n (Referenced book ∷ bs) keeps = first_told_is n bs (All-tail (λ x. KeepsBook x tables) (Referenced book) bs keeps)
   first_told_is n (Reference book ∷ bs) keeps = first_told_is n bs (All-tail (λ x. KeepsBook x tables) (Reference book) bs keeps)

@@ -11,7 +11,7 @@ use Rattle.csvw_keys.specs.declared.key.KeyCell.{KeyCell}
 use Rattle.csvw_keys.specs.declared.key.KeyCell.TheVariants.{Null, One, Many}
 use Rattle.csvw_keys.specs.EqualKeys.{equal_cells, equal_keys, equal_values}
 
-truths_are : (a b : Bool) → equal_values (Truth a) (Truth b) ≡ is_eq (value.ghosts.cmp (Truth a) (Truth b))
+pub truths_are : (a b : Bool) → equal_values (Truth a) (Truth b) ≡ is_eq (value.ghosts.cmp (Truth a) (Truth b))
 truths_are true true = refl
 truths_are true false = refl
 truths_are false true = refl

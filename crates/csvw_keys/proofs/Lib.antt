@@ -1,7 +1,10 @@
 pub mod BookLemmas
 pub mod EqualLemmas
+pub mod HeldLemmas
 pub mod ListLemmas
 pub mod OrderLemmas
 pub mod PrimaryLemmas
 pub mod ReferenceLemmas
+pub mod ReferringLemmas
+pub mod ServingLemmas
 pub mod TallyLemmas

@@ -1,23 +1,24 @@
 -- One row more has a fault where its key is among those so far.
 use Rattle.std.proofs.Common.{◌≡◌, ℕ, ◌+◌, suc, List, [], ◌∷◌, ◌++◌, ◌||◌, Bool, true, false, refl, sym, ap, ◌∙◌, append_assoc, cond, map, arith, Some, if◌then◌else◌}
 use Rattle.std.specs.Ordering.{is_eq}
-use Rattle.std.specs.Cmp.Lexicographic.{slice_cmp}
 use Rattle.std.proofs.lemmas.List.{append-nil}
 use Rattle.std.proofs.lemmas.List.Sums.{sum_by-cons}
 use Rattle.csvw_annotate.specs.declared.row.Row.{Row}
 use Rattle.csvw_text.specs.declared.fault.Code.TheVariants.{DuplicateKey}
 use Rattle.csvw_text.specs.declared.fault.Fault.{Fault}
-use Rattle.csvw_keys.specs.contracts.key.KeyCellOrd.TheImpl as derived
+use Rattle.csvw_keys.specs.contracts.held.HeldKeyOrd.TheImpl as derived
+use Rattle.csvw_keys.specs.declared.held.HeldKey.{HeldKey}
 use Rattle.csvw_keys.specs.declared.key.KeyCell.{KeyCell}
 use Rattle.csvw_keys.specs.declared.times.Times.{Times}
 use Rattle.csvw_keys.specs.declared.times.Times.TheVariants.{Never, Once, Often}
 use Rattle.csvw_keys.specs.Duplicates.{duplicate, duplicate_faults, duplicates_behind, is_among}
+use Rattle.csvw_keys.specs.Held.{held}
 use Rattle.csvw_keys.specs.Key.{key_of}
 use Rattle.csvw_keys.specs.Places.{fault_of}
 use Rattle.csvw_keys.specs.PrimaryBooks.{noted}
 use Rattle.csvw_keys.specs.Tallies.{count_of}
 use Rattle.csvw_keys.specs.Times.{more, times}
-use Rattle.csvw_keys.proofs.EqualLemmas.{keys_are}
+use Rattle.csvw_keys.proofs.HeldLemmas.{held_are}
 
 noted_more : (t : Times) (fault : Fault) → noted (more t) fault ≡ fault ∷ []
 noted_more Never fault = refl
@@ -31,7 +32,7 @@ no_more : (n : ℕ) → 0 + n ≡ n
 no_more n = omega arith
 
 abbrev key_count : List KeyCell → List (List KeyCell) → ℕ
-key_count key keys = count_of (slice_cmp derived.ghosts.cmp) key keys
+key_count key keys = count_of derived.ghosts.cmp (held key) (map held keys)
 
 module _ (key : List KeyCell) (fault : Fault) where
   by_first : (b c : Bool) (n : ℕ) → noted (times n) fault ≡ (if c then fault ∷ [] else [])
@@ -42,10 +43,10 @@ module _ (key : List KeyCell) (fault : Fault) where
   pub told : (keys : List (List KeyCell)) → noted (times (key_count key keys)) fault ≡ (if is_among key keys then fault ∷ [] else [])
   told [] = refl
   told (k ∷ ks) =
-      let test = is_eq (slice_cmp derived.ghosts.cmp key k) in
-      ap (λ n. noted (times n) fault) (sum_by-cons (λ y. cond (is_eq (slice_cmp derived.ghosts.cmp key y)) 1 0) k ks)
+      let test = is_eq (derived.ghosts.cmp (held key) (held k)) in
+      ap (λ n. noted (times n) fault) (sum_by-cons (λ y. cond (is_eq (derived.ghosts.cmp (held key) y)) 1 0) (held k) (map held ks))
       ∙ by_first test (is_among key ks) (key_count key ks) (told ks)
-      ∙ ap (λ b. if b || is_among key ks then fault ∷ [] else []) (sym (keys_are key k))
+      ∙ ap (λ b. if b || is_among key ks then fault ∷ [] else []) (sym (held_are key k))
 
 module _ (table : ℕ) (columns : List ℕ) where
   pub at_end : (before : List (List KeyCell)) (rows : List Row) (row : Row)
@@ -75,5 +76,5 @@ module _ (table : ℕ) (columns : List ℕ) where
       ∙ ap (λ fs. duplicate_faults table columns rows ++ fs) (told key (fault_of DuplicateKey table columns row.source) keys)
       ∙ sym (at_end [] rows row)
 
-pub some_same : (a b : List KeyCell) → Some a ≡ Some b → a ≡ b
+pub some_same : (a b : HeldKey) → Some a ≡ Some b → a ≡ b
 some_same a b h = cc

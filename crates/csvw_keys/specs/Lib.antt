@@ -1,6 +1,7 @@
 pub mod Books
 pub mod Duplicates
 pub mod EqualKeys
+pub mod Held
 pub mod Key
 pub mod KeyRules
 pub mod Laws

@@ -5,17 +5,21 @@ use Rattle.csvw_annotate.specs.declared.row.Row.{Row}
 use Rattle.csvw_text.specs.declared.fault.Code.TheVariants.{NoReferencedRow, ManyReferencedRows}
 use Rattle.csvw_text.specs.declared.fault.Fault.{Fault}
 use Rattle.csvw_keys.specs.declared.key.KeyCell.{KeyCell}
-use Rattle.csvw_keys.specs.declared.referring.Referring.{Referring}
 use Rattle.csvw_keys.specs.EqualKeys.{equal_keys}
 use Rattle.csvw_keys.specs.Key.{is_null_key, key_of}
 use Rattle.csvw_keys.specs.Places.{fault_of}
 
+-- a row that refers to others: its key cells, and its number in its source
+pub record ReferringRow : Type 0 where
+  pub key : List KeyCell
+  pub source : ℕ
+
 -- a row with these key cells refers to others, but where all of them are null
-abbrev pub referring : List KeyCell → ℕ → List Referring
+abbrev pub referring : List KeyCell → ℕ → List ReferringRow
 referring key source = if is_null_key key then [] else record { key = key; source = source } ∷ []
 
 -- the rows that refer to others by the cells of these columns
-abbrev pub referring_of : List ℕ → List Row → List Referring
+abbrev pub referring_of : List ℕ → List Row → List ReferringRow
 referring_of columns rows = flat_map (λ row. referring (key_of columns row) row.source) rows
 
 -- what is wrong with a row that refers to so many rows: it refers to none, or to several
@@ -25,7 +29,7 @@ fault_by_count table columns source (suc zero) = []
 fault_by_count table columns source (suc (suc n)) = fault_of ManyReferencedRows table columns source ∷ []
 
 -- what is wrong with a row that refers to rows of these keys
-abbrev pub reference_fault : ℕ → List ℕ → List (List KeyCell) → Referring → List Fault
+abbrev pub reference_fault : ℕ → List ℕ → List (List KeyCell) → ReferringRow → List Fault
 reference_fault table columns keys row = fault_by_count table columns row.source (count_by (equal_keys row.key) keys)
 
 -- A fault for each row whose key cells aren't all null and that doesn't equal exactly one row of the referenced table in the

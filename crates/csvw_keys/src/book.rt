@@ -1,15 +1,20 @@
 //! What is kept of rows for one key.
-ghost use Rattle.std.specs.Prelude.{◌≡◌, ◌++◌, ℕ, true, false, List, IfOk, MatchOption, OnOk};
+ghost use Rattle.std.specs.Prelude.{◌≡◌, ◌++◌, ℕ, true, false, List, Some, None, IfOk, MatchOption, OnOk};
 ghost use Rattle.csvw_annotate.specs.declared.row.Row.{Row};
-ghost use Rattle.csvw_keys.specs.Books.{KeepsBook, IsRoomy, is_primary_of, no_rows, rule_of, told};
+ghost use Rattle.csvw_keys.specs.Books.{KeepsBook, IsRoomy, book_times, counts_in, duplicates_in, is_primary_of, no_rows, purpose_of, times_in, told, told_reference};
+ghost use Rattle.csvw_keys.specs.Books.{Counts, Keeps};
+ghost use Rattle.csvw_keys.specs.contracts.held.HeldKeyOrd.TheImpl as derived;
 ghost use Rattle.csvw_keys.specs.KeyRules.{KeyRule, reference_rule};
 ghost use Rattle.csvw_keys.specs.KeyRules.KeyRule.{Unique};
 ghost use Rattle.csvw_keys.specs.Tables.{with_row};
+ghost use Rattle.csvw_keys.specs.Tallies.{times_at};
 
+use crate::held::HeldKey;
 use crate::primary::PrimaryBook;
 use crate::reference::ReferenceBook;
 use crate::referenced::ReferencedBook;
 use crate::referring::ReferringBook;
+use crate::tally::Tally;
 use csvw_annotate::Row;
 use csvw_columns::ForeignKeyPlan;
 use csvw_text::{Fault, Seq};
@@ -20,6 +25,8 @@ use std::alloc::{AllocError, Global};
 pub(crate) enum Book {
     /// For a primary key.
     Primary(PrimaryBook),
+    /// For foreign keys to columns that are no primary key.
+    Referenced(ReferencedBook),
     /// For a foreign key.
     Reference(ReferenceBook),
 }
@@ -32,11 +39,24 @@ fn copied(alloc: Global, numbers: &[u32]) -> Result<Seq<u32>, AllocError>
 
 /// The book of a primary key and no row, in the columns of these numbers, from 1.
 pub(crate) fn primary_book(alloc: Global, table: u32, columns: &[u32]) -> Result<Book, AllocError>
-    ensures rule { IfOk result (λ b. rule_of b ≡ Unique table columns.now) }
+    ensures purpose { IfOk result (λ b. purpose_of b ≡ Keeps (Unique table columns.now)) }
     ensures keeps { IfOk result (λ b. KeepsBook b no_rows) }
 {
     let columns = copied(alloc, columns)?;
     Ok(Book::Primary(PrimaryBook::new(alloc, table, columns)))
+}
+
+/// The book of the keys of a table and no row, in the columns of these numbers, from 1.
+pub(crate) fn referenced_book(
+    alloc: Global,
+    table: u32,
+    columns: &[u32],
+) -> Result<Book, AllocError>
+    ensures purpose { IfOk result (λ b. purpose_of b ≡ Counts table columns.now) }
+    ensures keeps { IfOk result (λ b. KeepsBook b no_rows) }
+{
+    let columns = copied(alloc, columns)?;
+    Ok(Book::Referenced(ReferencedBook::new(alloc, table, columns)))
 }
 
 /// The book of a foreign key of a table and no row.
@@ -45,14 +65,30 @@ pub(crate) fn reference_book(
     table: u32,
     key: &ForeignKeyPlan,
 ) -> Result<Book, AllocError>
-    ensures rule { IfOk result (λ b. rule_of b ≡ reference_rule table key.now) }
+    ensures purpose { IfOk result (λ b. purpose_of b ≡ Keeps (reference_rule table key.now)) }
     ensures keeps { IfOk result (λ b. KeepsBook b no_rows) }
 {
     let columns = copied(alloc, key.columns.as_slice())?;
     let referenced = copied(alloc, key.referenced.as_slice())?;
     let referring = ReferringBook::new(alloc, table, columns);
-    let referenced = ReferencedBook::new(alloc, key.table, referenced);
-    Ok(Book::Reference(ReferenceBook::new(referring, referenced)))
+    Ok(Book::Reference(ReferenceBook::new(referring, key.table, referenced)))
+}
+
+/// How often each key of a table in these columns is there, where a book knows.
+pub(crate) fn tally_in<'a>(
+    books: &'a [Book],
+    table: u32,
+    columns: &[u32],
+) -> Option<&'a Tally<HeldKey>>
+    ensures { MatchOption result (times_in table columns.now books.now ≡ None)
+        (λ tally. times_in table columns.now books.now ≡ Some (times_at derived.ghosts.cmp tally.now.counts)) }
+{
+    for book in books {
+        if let Some(tally) = book.tally(table, columns) {
+            return Some(tally);
+        }
+    }
+    None
 }
 
 impl Book {
@@ -63,42 +99,74 @@ impl Book {
         table: u32,
         row: &Row,
     ) -> Result<(), AllocError>
-        ensures rule { rule_of self.new ≡ rule_of self.old }
+        ensures purpose { purpose_of self.new ≡ purpose_of self.old }
         ensures keeps { (tables : ℕ → List Row) → KeepsBook self.old tables → KeepsBook self.new tables }
         ensures roomy { OnOk result (IsRoomy self.new table row.now) }
     {
         match self {
             Book::Primary(book) => book.make_room(alloc, table, row),
+            Book::Referenced(book) => book.make_room(alloc, table, row),
             Book::Reference(book) => book.make_room(alloc, table, row),
         }
     }
 
     /// Adds the row that there is room for.
     pub(crate) fn add(&mut self, table: u32, row: &Row)
-        ensures rule { rule_of self.new ≡ rule_of self.old }
+        ensures purpose { purpose_of self.new ≡ purpose_of self.old }
         ensures keeps { IsRoomy self.old table row.now → (tables : ℕ → List Row) → KeepsBook self.old tables
             → KeepsBook self.new (with_row tables table row.now) }
     {
         match self {
             Book::Primary(book) => book.add(table, row),
+            Book::Referenced(book) => book.add(table, row),
             Book::Reference(book) => book.add(table, row),
         }
     }
 
-    /// Adds what it tells to these faults.
-    pub(crate) fn tell(&self, alloc: Global, faults: &mut Vec<Fault>) -> Result<(), AllocError>
-        ensures { OnOk result (faults.new.items ≡ faults.old.items ++ told self.now) }
+    /// How often each key of a table in these columns is there, where it knows.
+    fn tally(&self, table: u32, columns: &[u32]) -> Option<&Tally<HeldKey>>
+        ensures { MatchOption result (counts_in table columns.now (purpose_of self.now) ≡ false)
+            (λ tally. (counts_in table columns.now (purpose_of self.now) ≡ true) × (times_at derived.ghosts.cmp tally.now.counts ≡ book_times self.now)) }
+    {
+        match self {
+            Book::Primary(book) => {
+                if book.table == table && book.columns.as_slice() == columns {
+                    Some(&book.tally)
+                } else {
+                    None
+                }
+            }
+            Book::Referenced(book) => {
+                if book.table == table && book.columns.as_slice() == columns {
+                    Some(&book.tally)
+                } else {
+                    None
+                }
+            }
+            Book::Reference(_) => None,
+        }
+    }
+
+    /// Adds what it tells to these faults, beside all books.
+    pub(crate) fn tell(
+        &self,
+        alloc: Global,
+        books: &[Book],
+        faults: &mut Vec<Fault>,
+    ) -> Result<(), AllocError>
+        ensures { OnOk result (faults.new.items ≡ faults.old.items ++ told books.now self.now) }
     {
         match self {
             Book::Primary(book) => faults.extend_from_slice(book.faults()),
-            Book::Reference(book) => faults.append(&mut book.faults(alloc)?),
+            Book::Referenced(_) => Ok(()),
+            Book::Reference(book) => tell_reference(alloc, books, book, faults),
         }
     }
 
     /// What it tells where it is of the primary key of this table.
     pub(crate) fn duplicates(&self, table: u32) -> Option<&[Fault]>
         ensures { MatchOption result (is_primary_of table self.now ≡ false)
-            (λ faults. (is_primary_of table self.now ≡ true) × (faults.now ≡ told self.now)) }
+            (λ faults. (is_primary_of table self.now ≡ true) × (faults.now ≡ duplicates_in self.now)) }
     {
         match self {
             Book::Primary(book) => {
@@ -108,7 +176,22 @@ impl Book {
                     None
                 }
             }
-            Book::Reference(_) => None,
+            Book::Referenced(_) | Book::Reference(_) => None,
         }
+    }
+}
+
+/// Adds what is wrong with the rows that refer by a foreign key to these faults.
+fn tell_reference(
+    alloc: Global,
+    books: &[Book],
+    book: &ReferenceBook,
+    faults: &mut Vec<Fault>,
+) -> Result<(), AllocError>
+    ensures { OnOk result (faults.new.items ≡ faults.old.items ++ told_reference books.now book.now) }
+{
+    match tally_in(books, book.table, book.columns.as_slice()) {
+        Some(tally) => faults.append(&mut book.faults(alloc, tally)?),
+        None => Ok(()),
     }
 }

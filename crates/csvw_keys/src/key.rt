@@ -6,7 +6,7 @@ ghost use Rattle.csvw_keys.specs.Key.{values_of, key_cell, key_cell_at, key_of, 
 use csvw_annotate::Row;
 use csvw_cell::{CellValue, Item};
 use csvw_datatype::Value;
-use csvw_text::{Copied, Seq};
+use csvw_text::Seq;
 use std::alloc::{AllocError, Global};
 
 /// What is compared of a cell of a key: its value, whether it was read as one of its datatype or not.
@@ -24,17 +24,6 @@ pub enum KeyCell {
 pub type Key = Seq<KeyCell>;
 
 impl KeyCell {
-    /// An equal cell; `AllocError` where there is no memory.
-    pub fn clone(&self, alloc: Global) -> Result<KeyCell, AllocError>
-        ensures { IfOk result (λ k. k ≡ self.now) }
-    {
-        match self {
-            KeyCell::Null => Ok(KeyCell::Null),
-            KeyCell::One(value) => Ok(KeyCell::One(value.clone(alloc)?)),
-            KeyCell::Many(values) => Ok(KeyCell::Many(values.clone(alloc)?)),
-        }
-    }
-
     fn is_null(&self) -> bool
         ensures { result ≡ is_null self.now }
     {
@@ -42,12 +31,6 @@ impl KeyCell {
             KeyCell::Null => true,
             KeyCell::One(_) | KeyCell::Many(_) => false,
         }
-    }
-}
-
-impl Copied for KeyCell {
-    fn copied(&self, alloc: Global) -> Result<KeyCell, AllocError> {
-        self.clone(alloc)
     }
 }
 
@@ -62,7 +45,7 @@ fn values_of(alloc: Global, items: &[Item]) -> Result<Seq<Value>, AllocError>
     Ok(Seq::of(values))
 }
 
-fn key_cell(alloc: Global, value: &CellValue) -> Result<KeyCell, AllocError>
+pub(crate) fn key_cell(alloc: Global, value: &CellValue) -> Result<KeyCell, AllocError>
     ensures { IfOk result (λ k. k ≡ key_cell value.now) }
 {
     match value {

@@ -1,11 +1,13 @@
 //! The keys of a group.
-ghost use Rattle.std.specs.Prelude.{◌≡◌, ◌++◌, ℕ, List, All, IfOk, MatchResult, OnOk, flat_map, map};
+ghost use Rattle.std.specs.Prelude.{◌≡◌, ◌++◌, ℕ, true, List, All, IfOk, MatchResult, OnOk, flat_map, map};
+ghost use Rattle.std.specs.List.{list_any};
 ghost use Rattle.csvw_annotate.specs.declared.row.Row.{Row};
-ghost use Rattle.csvw_keys.specs.Books.{KeepsBook, KeepsKeys, IsRoomy, first_told, no_rows, rule_of, told};
+ghost use Rattle.csvw_keys.specs.Books.{KeepsBook, KeepsKeys, IsRoomy, counts_in, first_told, is_served, no_rows, purpose_of};
+ghost use Rattle.csvw_keys.specs.Books.{purposes_of, rules_in, told};
 ghost use Rattle.csvw_keys.specs.KeyRules.{KeyRule, AreKeyFaults, duplicates_of, primary_rules, reference_rule, rules_of, table_rules};
 ghost use Rattle.csvw_keys.specs.Tables.{with_row};
 
-use crate::book::{Book, primary_book, reference_book};
+use crate::book::{Book, primary_book, reference_book, referenced_book, tally_in};
 use csvw_annotate::Row;
 use csvw_columns::{ForeignKeyPlan, Plan, TablePlan};
 use csvw_report::sorted;
@@ -18,7 +20,8 @@ use std::alloc::{AllocError, Global};
 pub struct KeyBook {
     /// Gives the memory for what is kept.
     alloc: Global,
-    /// A book of each key, in the order of the tables: of each the primary key, then its foreign keys.
+    /// A book of each key, in the order of the tables: of each the primary key, then its foreign keys. Behind them one for each
+    /// table and columns that are referenced and are no primary key.
     books: Vec<Book>,
 }
 
@@ -28,7 +31,7 @@ fn push_primary(
     columns: &[u32],
     books: &mut Vec<Book>,
 ) -> Result<(), AllocError>
-    ensures rules { OnOk result (map rule_of books.new.items ≡ map rule_of books.old.items ++ primary_rules table columns.now) }
+    ensures rules { OnOk result (rules_in books.new.items ≡ rules_in books.old.items ++ primary_rules table columns.now) }
     ensures keeps { OnOk result (All (λ b. KeepsBook b no_rows) books.old.items → All (λ b. KeepsBook b no_rows) books.new.items) }
 {
     if columns.is_empty() {
@@ -45,7 +48,7 @@ fn push_references(
     keys: &[ForeignKeyPlan],
     books: &mut Vec<Book>,
 ) -> Result<(), AllocError>
-    ensures rules { OnOk result (map rule_of books.new.items ≡ map rule_of books.old.items ++ map (reference_rule table) keys.now) }
+    ensures rules { OnOk result (rules_in books.new.items ≡ rules_in books.old.items ++ map (reference_rule table) keys.now) }
     ensures keeps { OnOk result (All (λ b. KeepsBook b no_rows) books.old.items → All (λ b. KeepsBook b no_rows) books.new.items) }
 {
     for key in keys {
@@ -56,7 +59,7 @@ fn push_references(
 }
 
 fn push_table(alloc: Global, plan: &TablePlan, books: &mut Vec<Book>) -> Result<(), AllocError>
-    ensures rules { OnOk result (map rule_of books.new.items ≡ map rule_of books.old.items ++ table_rules plan.now) }
+    ensures rules { OnOk result (rules_in books.new.items ≡ rules_in books.old.items ++ table_rules plan.now) }
     ensures keeps { OnOk result (All (λ b. KeepsBook b no_rows) books.old.items → All (λ b. KeepsBook b no_rows) books.new.items) }
 {
     push_primary(alloc, plan.number, plan.primary_key.as_slice(), books)?;
@@ -64,7 +67,7 @@ fn push_table(alloc: Global, plan: &TablePlan, books: &mut Vec<Book>) -> Result<
 }
 
 fn books_of(alloc: Global, plans: &[TablePlan]) -> Result<Vec<Book>, AllocError>
-    ensures rules { IfOk result (λ v. map rule_of v.items ≡ flat_map table_rules plans.now) }
+    ensures rules { IfOk result (λ v. rules_in v.items ≡ flat_map table_rules plans.now) }
     ensures keeps { IfOk result (λ v. All (λ b. KeepsBook b no_rows) v.items) }
 {
     let mut books = Vec::new(alloc);
@@ -74,9 +77,59 @@ fn books_of(alloc: Global, plans: &[TablePlan]) -> Result<Vec<Book>, AllocError>
     Ok(books)
 }
 
+/// Sees that a book counts the keys of a table in these columns.
+fn serve(
+    alloc: Global,
+    table: u32,
+    columns: &[u32],
+    books: &mut Vec<Book>,
+) -> Result<(), AllocError>
+    ensures rules { OnOk result (rules_in books.new.items ≡ rules_in books.old.items) }
+    ensures keeps { OnOk result (All (λ b. KeepsBook b no_rows) books.old.items → All (λ b. KeepsBook b no_rows) books.new.items) }
+    ensures more { OnOk result ((rule : KeyRule) → is_served (purposes_of books.old.items) rule ≡ true → is_served (purposes_of books.new.items) rule ≡ true) }
+    ensures served { OnOk result (list_any (counts_in table columns.now) (purposes_of books.new.items) ≡ true) }
+{
+    if tally_in(books.as_slice(), table, columns).is_some() {
+        return Ok(());
+    }
+    let book = referenced_book(alloc, table, columns)?;
+    books.push(book)?;
+    Ok(())
+}
+
+/// Sees that a book counts what each of the foreign keys of a table refers to.
+fn serve_keys(
+    alloc: Global,
+    table: u32,
+    keys: &[ForeignKeyPlan],
+    books: &mut Vec<Book>,
+) -> Result<(), AllocError>
+    ensures rules { OnOk result (rules_in books.new.items ≡ rules_in books.old.items) }
+    ensures keeps { OnOk result (All (λ b. KeepsBook b no_rows) books.old.items → All (λ b. KeepsBook b no_rows) books.new.items) }
+    ensures more { OnOk result ((rule : KeyRule) → is_served (purposes_of books.old.items) rule ≡ true → is_served (purposes_of books.new.items) rule ≡ true) }
+    ensures served { OnOk result (All (λ rule. is_served (purposes_of books.new.items) rule ≡ true) (map (reference_rule table) keys.now)) }
+{
+    for key in keys {
+        serve(alloc, key.table, key.referenced.as_slice(), books)?;
+    }
+    Ok(())
+}
+
+/// Sees that a book counts what each of the foreign keys refers to.
+fn serve_tables(alloc: Global, plans: &[TablePlan], books: &mut Vec<Book>) -> Result<(), AllocError>
+    ensures rules { OnOk result (rules_in books.new.items ≡ rules_in books.old.items) }
+    ensures keeps { OnOk result (All (λ b. KeepsBook b no_rows) books.old.items → All (λ b. KeepsBook b no_rows) books.new.items) }
+    ensures served { OnOk result (All (λ rule. is_served (purposes_of books.new.items) rule ≡ true) (flat_map table_rules plans.now)) }
+{
+    for plan in plans {
+        serve_keys(alloc, plan.number, plan.foreign_keys.as_slice(), books)?;
+    }
+    Ok(())
+}
+
 /// Makes room for a row of a table in each book.
 fn make_room(alloc: Global, books: &mut [Book], table: u32, row: &Row) -> Result<(), AllocError>
-    ensures rules { map rule_of books.new ≡ map rule_of books.old }
+    ensures purposes { purposes_of books.new ≡ purposes_of books.old }
     ensures keeps { (tables : ℕ → List Row) → All (λ b. KeepsBook b tables) books.old → All (λ b. KeepsBook b tables) books.new }
     ensures roomy { OnOk result (All (λ b. IsRoomy b table row.now) books.new) }
 {
@@ -88,7 +141,7 @@ fn make_room(alloc: Global, books: &mut [Book], table: u32, row: &Row) -> Result
 
 /// Adds the row that there is room for to each book.
 fn add_to_each(books: &mut [Book], table: u32, row: &Row)
-    ensures rules { map rule_of books.new ≡ map rule_of books.old }
+    ensures purposes { purposes_of books.new ≡ purposes_of books.old }
     ensures keeps { All (λ b. IsRoomy b table row.now) books.old → (tables : ℕ → List Row)
         → All (λ b. KeepsBook b tables) books.old → All (λ b. KeepsBook b (with_row tables table row.now)) books.new }
 {
@@ -99,11 +152,11 @@ fn add_to_each(books: &mut [Book], table: u32, row: &Row)
 
 /// What the books tell, one after the other.
 fn all_told(alloc: Global, books: &[Book]) -> Result<Vec<Fault>, AllocError>
-    ensures { IfOk result (λ faults. faults.items ≡ flat_map told books.now) }
+    ensures { IfOk result (λ faults. faults.items ≡ flat_map (told books.now) books.now) }
 {
     let mut faults = Vec::new(alloc);
     for book in books {
-        book.tell(alloc, &mut faults)?;
+        book.tell(alloc, books, &mut faults)?;
     }
     Ok(faults)
 }
@@ -125,10 +178,9 @@ impl KeyBook {
     pub fn new(alloc: Global, plan: &Plan) -> Result<KeyBook, AllocError>
         ensures { IfOk result (λ book. KeepsKeys book (rules_of plan.now) no_rows) }
     {
-        Ok(KeyBook {
-            alloc,
-            books: books_of(alloc, plan.tables())?,
-        })
+        let mut books = books_of(alloc, plan.tables())?;
+        serve_tables(alloc, plan.tables(), &mut books)?;
+        Ok(KeyBook { alloc, books })
     }
 
     /// Adds a row at the end of the table of this number, from 1. `AllocError` where there is no memory; it then keeps the rows

@@ -1,7 +1,9 @@
 //! Which rows break a primary or a foreign key, over whole tables and whatever the order in which their rows come.
 #![tactic(auto)]
 
+mod apart;
 mod book;
+mod held;
 mod key;
 mod key_book;
 pub mod laws;

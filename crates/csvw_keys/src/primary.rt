@@ -7,7 +7,7 @@ ghost use Rattle.csvw_keys.specs.Places.{fault_of};
 ghost use Rattle.csvw_keys.specs.PrimaryBooks.{IsStaged, KeepsPrimary, noted};
 ghost use Rattle.csvw_keys.specs.Tables.{with_row};
 
-use crate::key::{Key, key_of};
+use crate::held::{HeldKey, held_of};
 use crate::places::fault_of;
 use crate::tally::Tally;
 use crate::times::Times;
@@ -23,10 +23,10 @@ pub struct PrimaryBook {
     pub(crate) table: u32,
     /// The numbers of its columns, from 1.
     pub(crate) columns: Seq<u32>,
-    tally: Tally<Key>,
+    pub(crate) tally: Tally<HeldKey>,
     found: Vec<Fault>,
     /// The key of the row that is added next.
-    next: Option<Key>,
+    next: Option<HeldKey>,
 }
 
 impl PrimaryBook {
@@ -87,7 +87,7 @@ impl PrimaryBook {
         ensures keeps { (rows : List Row) → KeepsPrimary self.old rows → KeepsPrimary self.new rows }
         ensures staged { OnOk result (IsStaged self.new row.now) }
     {
-        let key = key_of(alloc, self.columns.as_slice(), row)?;
+        let key = held_of(alloc, self.columns.as_slice(), row)?;
         self.tally.make_room(alloc, &key)?;
         self.found.reserve(1)?;
         self.next = Some(key);
@@ -104,8 +104,7 @@ impl PrimaryBook {
             return;
         };
         let fault = fault_of(Code::DuplicateKey, self.table, self.columns.as_slice(), row);
-        note(&mut self.found, self.tally.times(&key), fault);
-        self.tally.count(&key);
+        note(&mut self.found, self.tally.count(&key), fault);
     }
 }
 

@@ -1,25 +1,30 @@
 //! The rows of a table that refer to no row of another, or to several.
 ghost use Rattle.std.specs.Prelude.{◌≡◌, ◌++◌, ℕ, List, IfOk, OnOk, flat_map};
 ghost use Rattle.csvw_annotate.specs.declared.row.Row.{Row};
-ghost use Rattle.csvw_keys.specs.References.{reference_faults};
+ghost use Rattle.csvw_keys.specs.contracts.held.HeldKeyOrd.TheImpl as derived;
 ghost use Rattle.csvw_keys.specs.ReferenceBooks.{IsSameReference, IsStaged, KeepsReference, fault_by_times, row_fault};
 ghost use Rattle.csvw_keys.specs.Tables.{with_row};
+ghost use Rattle.csvw_keys.specs.Tallies.{times_at};
 
+use crate::held::HeldKey;
 use crate::places::fault_at;
-use crate::referenced::ReferencedBook;
 use crate::referring::ReferringBook;
+use crate::tally::Tally;
 use crate::times::Times;
 use csvw_annotate::Row;
-use csvw_text::{Code, Fault};
+use csvw_text::{Code, Fault, Seq};
 use std::alloc::{AllocError, Global};
 
-/// A foreign key with the rows so far of its table and of the table that it refers to, which may be one.
+/// A foreign key with the rows so far of its table. How often each key of the table that it refers to is there, another book
+/// knows.
 #[derive(Drop)]
 pub struct ReferenceBook {
     /// The rows that refer.
     pub(crate) referring: ReferringBook,
-    /// The rows that are referenced.
-    pub(crate) referenced: ReferencedBook,
+    /// The number of the table that is referenced, from 1.
+    pub(crate) table: u32,
+    /// The numbers of its columns that are referenced, from 1.
+    pub(crate) columns: Seq<u32>,
 }
 
 /// Adds what is wrong with a row that refers to rows of a key that is there so often.
@@ -42,12 +47,13 @@ fn push_fault(
 
 impl ReferenceBook {
     /// The book of no row. It takes no memory.
-    pub fn new(referring: ReferringBook, referenced: ReferencedBook) -> ReferenceBook
-        ensures { (result.referring ≡ referring) × (result.referenced ≡ referenced) }
+    pub fn new(referring: ReferringBook, table: u32, columns: Seq<u32>) -> ReferenceBook
+        ensures { (result.referring ≡ referring) × (result.table ≡ table) × (result.columns ≡ columns) }
     {
         ReferenceBook {
             referring,
-            referenced,
+            table,
+            columns,
         }
     }
 
@@ -57,8 +63,7 @@ impl ReferenceBook {
         ensures keeps { (tables : ℕ → List Row) → KeepsReference self.old tables → KeepsReference self.new tables }
         ensures staged { OnOk result (IsStaged self.new table row.now) }
     {
-        self.referring.make_room(alloc, table, row)?;
-        self.referenced.make_room(alloc, table, row)
+        self.referring.make_room(alloc, table, row)
     }
 
     /// Adds the row that there is room for.
@@ -68,29 +73,20 @@ impl ReferenceBook {
             → KeepsReference self.new (with_row tables table row.now) }
     {
         self.referring.add(table, row);
-        self.referenced.add(table, row);
     }
 
-    fn row_faults(&self, alloc: Global) -> Result<Vec<Fault>, AllocError>
-        ensures { IfOk result (λ v. v.items ≡ flat_map (row_fault self.now) self.now.referring.rows.items) }
+    /// The faults of the rows that refer, in order, where each key of the table that is referenced is there as often as this
+    /// says.
+    pub fn faults(&self, alloc: Global, tally: &Tally<HeldKey>) -> Result<Vec<Fault>, AllocError>
+        ensures { IfOk result (λ v. v.items ≡ flat_map (row_fault (times_at derived.ghosts.cmp tally.now.counts) self.now) self.now.referring.rows.items) }
     {
         let mut faults = Vec::new(alloc);
         let table = self.referring.table;
         let columns = self.referring.columns.as_slice();
         for row in &self.referring.rows {
-            let times = self.referenced.tally.times(&row.key);
+            let times = tally.times(&row.key);
             push_fault(&mut faults, times, table, columns, row.source)?;
         }
         Ok(faults)
-    }
-
-    /// The faults of the rows that refer, in order.
-    pub fn faults(&self, alloc: Global) -> Result<Vec<Fault>, AllocError>
-        ensures told { IfOk result (λ v. v.items ≡ flat_map (row_fault self.now) self.now.referring.rows.items) }
-        ensures keeps { IfOk result (λ v. (tables : ℕ → List Row) → KeepsReference self.now tables
-            → v.items ≡ reference_faults self.now.referring.table self.now.referring.columns (tables self.now.referring.table)
-            self.now.referenced.columns (tables self.now.referenced.table)) }
-    {
-        self.row_faults(alloc)
     }
 }

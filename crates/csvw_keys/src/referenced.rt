@@ -4,7 +4,7 @@ ghost use Rattle.csvw_annotate.specs.declared.row.Row.{Row};
 ghost use Rattle.csvw_keys.specs.ReferenceBooks.{IsReferencedStaged, KeepsReferenced};
 ghost use Rattle.csvw_keys.specs.Tables.{with_row};
 
-use crate::key::{Key, key_of};
+use crate::held::{HeldKey, held_of};
 use crate::tally::Tally;
 use csvw_annotate::Row;
 use csvw_text::Seq;
@@ -17,9 +17,9 @@ pub struct ReferencedBook {
     pub(crate) table: u32,
     /// The numbers of the columns that are referenced, from 1.
     pub(crate) columns: Seq<u32>,
-    pub(crate) tally: Tally<Key>,
+    pub(crate) tally: Tally<HeldKey>,
     /// The key of the row that is added next.
-    next: Option<Key>,
+    next: Option<HeldKey>,
 }
 
 impl ReferencedBook {
@@ -70,7 +70,7 @@ impl ReferencedBook {
         ensures keeps { (rows : List Row) → KeepsReferenced self.old rows → KeepsReferenced self.new rows }
         ensures staged { OnOk result (IsReferencedStaged self.new row.now) }
     {
-        let key = key_of(alloc, self.columns.as_slice(), row)?;
+        let key = held_of(alloc, self.columns.as_slice(), row)?;
         self.tally.make_room(alloc, &key)?;
         self.next = Some(key);
         Ok(())

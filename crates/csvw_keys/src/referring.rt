@@ -2,11 +2,10 @@
 ghost use Rattle.std.specs.Prelude.{◌≡◌, ◌<◌, ◌++◌, ◌∷◌, [], ℕ, List, OnOk};
 ghost use Rattle.std.specs.Vec.{vec_len, vec_capacity};
 ghost use Rattle.csvw_annotate.specs.declared.row.Row.{Row};
-ghost use Rattle.csvw_keys.specs.References.{referring, referring_of};
-ghost use Rattle.csvw_keys.specs.ReferenceBooks.{IsReferringStaged, KeepsReferring};
+ghost use Rattle.csvw_keys.specs.ReferenceBooks.{IsReferringStaged, KeepsReferring, kept};
 ghost use Rattle.csvw_keys.specs.Tables.{with_row};
 
-use crate::key::{Key, is_null_key, key_of};
+use crate::held::{HeldKey, held_of, is_null_held};
 use csvw_annotate::Row;
 use csvw_text::Seq;
 use std::alloc::{AllocError, Global};
@@ -14,8 +13,8 @@ use std::alloc::{AllocError, Global};
 /// A row that refers to others.
 #[derive(Debug, Drop)]
 pub struct Referring {
-    /// Its key cells.
-    pub(crate) key: Key,
+    /// Its key.
+    pub(crate) key: HeldKey,
     /// Its number in its source, from 1.
     pub(crate) source: u64,
 }
@@ -29,7 +28,7 @@ pub struct ReferringBook {
     pub(crate) columns: Seq<u32>,
     pub(crate) rows: Vec<Referring>,
     /// The key of the row that is added next.
-    next: Option<Key>,
+    next: Option<HeldKey>,
 }
 
 impl ReferringBook {
@@ -80,7 +79,7 @@ impl ReferringBook {
         ensures keeps { (rows : List Row) → KeepsReferring self.old rows → KeepsReferring self.new rows }
         ensures staged { OnOk result (IsReferringStaged self.new row.now) }
     {
-        let key = key_of(alloc, self.columns.as_slice(), row)?;
+        let key = held_of(alloc, self.columns.as_slice(), row)?;
         self.rows.reserve(1)?;
         self.next = Some(key);
         Ok(())
@@ -100,10 +99,10 @@ impl ReferringBook {
 }
 
 /// Adds a row to those that there is room behind, where its key refers to others.
-fn refer(rows: &mut Vec<Referring>, key: Key, source: u64)
-    ensures { vec_len rows.old < vec_capacity rows.old → rows.new.items ≡ rows.old.items ++ referring key source }
+fn refer(rows: &mut Vec<Referring>, key: HeldKey, source: u64)
+    ensures { vec_len rows.old < vec_capacity rows.old → rows.new.items ≡ rows.old.items ++ kept key source }
 {
-    if is_null_key(&key) {
+    if is_null_held(&key) {
         return;
     }
     let _ = rows.push(Referring { key, source });

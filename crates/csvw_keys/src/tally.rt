@@ -39,21 +39,24 @@ impl<K: Ord + Copied + Drop> Tally<K> {
         ensures room { OnOk result (IsSome (get K.cmp self.new.counts key.now)) }
         ensures counts { (q : K) → times_at K.cmp self.new.counts q ≡ times_at K.cmp self.old.counts q }
     {
-        if self.counts.contains_key(key) {
-            return Ok(());
-        }
         let key = key.copied(alloc)?;
-        self.counts.insert(key, Times::Never)?;
+        self.counts.entry(key)?.or_insert(Times::Never);
         Ok(())
     }
 
-    /// Counts a key that there is room for.
-    pub(crate) fn count(&mut self, key: &K)
-        ensures { IsSome (get K.cmp self.old.counts key.now) → (keys : List K) → Tallies K.cmp self.old.counts keys
+    /// Counts a key that there is room for, and tells how often it was there before.
+    pub(crate) fn count(&mut self, key: &K) -> Times
+        ensures before { result ≡ times_at K.cmp self.old.counts key.now }
+        ensures counts { IsSome (get K.cmp self.old.counts key.now) → (keys : List K) → Tallies K.cmp self.old.counts keys
             → Tallies K.cmp self.new.counts (keys ++ key.now ∷ []) }
     {
-        if let Some(times) = self.counts.get_mut(key) {
-            *times = times.more();
+        match self.counts.get_mut(key) {
+            Some(times) => {
+                let before = *times;
+                *times = before.more();
+                before
+            }
+            None => Times::Never,
         }
     }
 }

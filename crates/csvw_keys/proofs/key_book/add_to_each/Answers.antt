@@ -1,7 +1,7 @@
 use Rattle.std.proofs.Common.{◌<◌, ◌∙◌, length, arith}
 use Rattle.std.proofs.Math.ListN.{length-set}
 use Rattle.std.proofs.lemmas.List.Elements.{AllWithin-more_set}
-use Rattle.csvw_keys.specs.Books.{IsRoomy, KeepsBook, rule_of}
+use Rattle.csvw_keys.specs.Books.{IsRoomy, KeepsBook, purpose_of}
 use Rattle.csvw_keys.specs.Tables.{with_row}
 use Rattle.csvw_keys.proofs.ListLemmas.{rest_on, same_map, still}
 use Rattle.csvw_keys.proofs.key_book.add_to_each.Goals as goal
@@ -20,7 +20,7 @@ loop-i-preserved c =
     let there : i < length before = omega (arith, inv.places) in
     let same = still books i book new before inv.rest in
     record {
-      rules = same_map books i book new rule_of c.add.ensures.rule ∙ inv.rules;
+      purposes = same_map books i book new purpose_of c.add.ensures.purpose ∙ inv.purposes;
       places = length-set books i new ∙ inv.places;
       rest = rest_on books i book new before inv.rest;
       keeps = λ roomy tables all. AllWithin-more_set books i new lt (λ b. KeepsBook b (with_row tables table row)) (inv.keeps roomy tables all)

@@ -1,13 +1,13 @@
 use Rattle.std.proofs.Common.{◌<◌, ◌∙◌, length, arith}
 use Rattle.std.proofs.lemmas.List.Elements.{AllWithin-more_set}
-use Rattle.csvw_keys.specs.Books.{IsRoomy, KeepsBook, rule_of}
+use Rattle.csvw_keys.specs.Books.{IsRoomy, KeepsBook, purpose_of}
 use Rattle.csvw_keys.proofs.ListLemmas.{kept, same_map}
 use Rattle.csvw_keys.proofs.key_book.make_room.Goals as goal
 
-pub returns-in_err-make_room-clause-rules : goal.returns-in_err-make_room-clause-rules
-returns-in_err-make_room-clause-rules c =
-    same_map c.loop-i.books c.loop-i.i c.index-books-i.result c.make_room.new.self rule_of c.make_room.ensures.rule
-    ∙ c.loop-i.invariant.rules
+pub returns-in_err-make_room-clause-purposes : goal.returns-in_err-make_room-clause-purposes
+returns-in_err-make_room-clause-purposes c =
+    same_map c.loop-i.books c.loop-i.i c.index-books-i.result c.make_room.new.self purpose_of c.make_room.ensures.purpose
+    ∙ c.loop-i.invariant.purposes
 
 pub returns-in_err-make_room-clause-keeps : goal.returns-in_err-make_room-clause-keeps
 returns-in_err-make_room-clause-keeps c = λ tables all.
@@ -23,7 +23,7 @@ loop-i-preserved c =
     let new = c.make_room.new.self in
     let lt : i < length books = omega arith in
     record {
-      rules = same_map books i book new rule_of c.make_room.ensures.rule ∙ c.loop-i.invariant.rules;
+      purposes = same_map books i book new purpose_of c.make_room.ensures.purpose ∙ c.loop-i.invariant.purposes;
       keeps = λ tables all. kept books i book new (λ b. KeepsBook b tables) lt (c.make_room.ensures.keeps tables)
           (c.loop-i.invariant.keeps tables all);
       roomy = AllWithin-more_set books i new lt (λ b. IsRoomy b c.args.table c.args.row.now) c.loop-i.invariant.roomy c.in_ok-make_room.ensures.roomy;

@@ -1,6 +1,20 @@
-use Rattle.std.proofs.Common.{◌∙◌}
-use Rattle.csvw_keys.proofs.ReferenceLemmas.{all_faults, if_ok}
+use Rattle.std.proofs.Common.{◌∙◌, ◌++◌, sym, ap}
+use Rattle.csvw_keys.specs.contracts.held.HeldKeyOrd.TheImpl as derived
+use Rattle.csvw_keys.specs.ReferenceBooks.{fault_by_times, row_fault}
+use Rattle.csvw_keys.specs.Tallies.{times_at}
+use Rattle.csvw_keys.proofs.ReferenceLemmas.{one_row_more}
 use Rattle.csvw_keys.proofs.reference.ReferenceBook.faults.Goals as goal
 
-pub returns-clause-keeps : goal.returns-clause-keeps
-returns-clause-keeps c = if_ok c.row_faults.result c.row_faults.ensures (λ v is tables keeps. is ∙ all_faults c.args.self.now tables keeps)
+pub loop-row-preserved : goal.loop-row-preserved
+loop-row-preserved c =
+    let book = c.args.self.now in
+    let so_often = times_at derived.ghosts.cmp c.args.tally.now.counts in
+    let table = book.referring.table in
+    let row = c.row-item.result in
+    let so_far = c.loop-row.faults.items in
+    c.in_ok-push_fault.ensures
+    ∙ ap (λ t. so_far ++ fault_by_times t table c.as_slice-columns.result.now row.source) c.times-times.ensures
+    ∙ ap (λ columns. so_far ++ fault_by_times (so_often row.key) table columns row.source) c.as_slice-columns.ensures
+    ∙ ap (λ faults. faults ++ row_fault so_often book row) c.loop-row.invariant
+    ∙ sym (one_row_more (row_fault so_often book) book.referring.rows.items c.loop-row.row-index row
+    (rw c.deref-row-items.ensures.value at c.loop-row-test.true) (rw c.deref-row-items.ensures.value at c.row-item.is))
