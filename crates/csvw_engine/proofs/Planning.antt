@@ -1,18 +1,14 @@
 -- The plan of a document, or its fault.
-use Rattle.std.proofs.Common.{◌≡◌, ◌≢◌, ◌≤◌, ◌+◌, ℕ, zero, suc, List, [], ◌∷◌, length, refl, sym, ap, ◌∙◌, subst, arith, inl, inr, Contains, All, Some, None, Ok}
+use Rattle.std.proofs.Common.{◌≡◌, ◌≢◌, ◌≤◌, ◌+◌, ℕ, zero, suc, List, [], ◌∷◌, length, refl, sym, ap, ◌∙◌, subst, arith, inl, inr, Contains, Some, None, Ok}
 use Rattle.std.specs.Prelude.{slice_get}
-use Rattle.std.proofs.lemmas.List.Elements.{recursion_from_All}
-use Rattle.std.specs.List.{AllByRecursion}
 use Rattle.csvw_description.specs.declared.description.Description.{Description}
 use Rattle.csvw_description.specs.declared.table.TableDescription.{TableDescription}
 use Rattle.csvw_meta_core.specs.declared.fault.MetaCode.TheVariants.{Memory}
 use Rattle.csvw_meta_core.specs.declared.fault.MetaFault.{MetaFault}
 use Rattle.csvw_columns.specs.Plannable.{Builds}
 use Rattle.csvw_columns.specs.PlanOf.{targets_of, table_plan, table_plans}
-use Rattle.csvw_columns.specs.Ready.{IsReady}
 use Rattle.csvw_columns.specs.declared.plan.Plan.{Plan}
 use Rattle.csvw_columns.specs.declared.plan.TablePlan.{TablePlan}
-use Rattle.csvw_session.specs.Ready.{AreReady}
 use Rattle.csvw_session.specs.Sessions.{AreNumbered}
 use Rattle.csvw_session.specs.declared.stop.Stop.{Stop}
 use Rattle.csvw_engine.specs.Planning.{IsMetaStop, TellsFault}
@@ -20,13 +16,6 @@ use Rattle.csvw_engine.specs.Planning.{IsMetaStop, TellsFault}
 pub told : (faults : List MetaFault) (fault : MetaFault) (reason : Stop) → TellsFault fault reason → (fault.code ≢ Memory → Contains faults fault) → IsMetaStop faults reason
 told faults fault reason (inl (c, e)) h = rw e tt
 told faults fault reason (inr (apart, e)) h = rw e (h apart)
-
-ready_by_recursion : (plans : List TablePlan) → AllByRecursion IsReady plans → AreReady plans
-ready_by_recursion [] h = tt
-ready_by_recursion (p ∷ ps) h = (h.0, ready_by_recursion ps h.1)
-
-pub all_ready : (plans : List TablePlan) → All IsReady plans → AreReady plans
-all_ready plans h = ready_by_recursion plans (recursion_from_All IsReady plans h)
 
 -- a plan for each table
 as_many : (group d : Description) (n : ℕ) (tables : List TableDescription) → length (table_plans (targets_of group) d n tables) ≡ length tables

@@ -11,6 +11,7 @@ use csvw_columns::laws::described_can_be_planned;
 use csvw_meta::read;
 use csvw_meta_core::{MetaCode, MetaFault};
 use csvw_session::Stop;
+use csvw_session::laws::built_plans_are_ready;
 use std::alloc::Global;
 
 fn meta_stop(fault: MetaFault) -> Stop
@@ -31,6 +32,7 @@ pub(crate) fn planned(alloc: Global, meta: &[u8], base: &str) -> Result<Plan, St
     ensures stop { IfErr result (λ reason. IsMetaStop (document base.now meta.now).faults reason) }
 {
     described_can_be_planned();
+    built_plans_are_ready();
     match read(alloc, meta, base) {
         Ok(description) => match Plan::build(alloc, description) {
             Ok(plan) => Ok(plan),

@@ -55,8 +55,8 @@ pub refused_call : {S : Type 0} (gains : S → List Triple → S → Type 0) (is
     → Checks s t (Err e) → Takes gains is_open failed s s t event (Err e)
 refused_call gains is_open failed s t event stop.Failed k = (refl, k)
 refused_call gains is_open failed s t event stop.UnknownTable k = (refl, k.0, k.1)
-refused_call gains is_open failed s t event stop.AfterEnd (f, inl finished) = (refl, f, λ start events h. let wrong : state.Finished ≡ state.Open = sym finished ∙ h.state_is in cc)
-refused_call gains is_open failed s t event stop.AfterEnd (f, inr w) = (refl, f, λ start events h. ended_at gains is_open failed s t w.0 w.1 start events w.2 w.3 w.4 h)
+refused_call gains is_open failed s t event stop.AfterEnd (f, known, inl finished) = (refl, f, λ start events h. let wrong : state.Finished ≡ state.Open = sym finished ∙ h.state_is in cc)
+refused_call gains is_open failed s t event stop.AfterEnd (f, known, inr w) = (refl, f, λ start events h. ended_at gains is_open failed s t w.0 w.1 start events w.2 w.3 w.4 h)
 refused_call gains is_open failed s t event stop.Memory k = absurd k
 refused_call gains is_open failed s t event stop.Read k = absurd k
 refused_call gains is_open failed s t event stop.Write k = absurd k

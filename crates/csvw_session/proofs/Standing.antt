@@ -10,9 +10,8 @@ use Rattle.csvw_columns_core.specs.declared.columns.Columns.{Columns}
 use Rattle.csvw_columns.specs.declared.plan.TablePlan.{TablePlan}
 use Rattle.csvw_annotate.specs.declared.row.Row.{Row}
 use Rattle.csvw_keys.specs.Books.{KeepsKeys}
-use Rattle.csvw_keys.specs.KeyRules.{KeyRule, rules_of, table_rules}
+use Rattle.csvw_keys.specs.KeyRules.{rules_of, table_rules}
 use Rattle.csvw_keys.specs.Tables.{with_rows}
-use Rattle.csvw_keys.specs.declared.key_book.KeyBook.{KeyBook}
 use Rattle.csvw_triples_core.specs.Taking.{IsAsReady}
 use Rattle.csvw_triples_core.specs.declared.mode.Mode.{Mode}
 use Rattle.csvw_triples_core.specs.declared.term.Triple.{Triple}

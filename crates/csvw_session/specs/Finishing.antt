@@ -1,5 +1,5 @@
 -- How a session is finished.
-use Rattle.std.specs.Prelude.{◌≡◌, ℕ, List, true, false, ◌++◌, Result, Ok, Err}
+use Rattle.std.specs.Prelude.{◌≡◌, ◌↔◌, ℕ, List, true, false, ◌++◌, Result, Ok, Err}
 use Rattle.std.specs.List.{list_all}
 use Rattle.std.specs.List.Sorted.{IsPermutation, IsSorted}
 use Rattle.csvw_annotate.specs.declared.row.Row.{Row}
@@ -44,6 +44,12 @@ pub record ListsFaults {S : Type 0} (s : Session S) (faults : List Fault) : Type
   pub key_faults : List Fault
   pub told : TellsKeys s.keys key_faults
   pub all : faults ≡ (s.plan.warnings ++ all_faults s.tables.items) ++ key_faults
+
+-- exactly when a session isn't finished and goes on as it was, by what is asked first
+pub record IsUnfinishedInOrder {S : Type 0} (s : Session S) (result : Result Outcome Stop) : Type 0 where
+  pub failed : (result ≡ Err stop.Failed) ↔ (s.state ≡ state.Failed)
+  pub after_end : (result ≡ Err stop.AfterEnd) ↔ (s.state ≡ state.Finished)
+  pub not_ended : (result ≡ Err stop.NotEnded) ↔ ((s.state ≡ state.Open) × (list_all is_ended s.tables.items ≡ false))
 
 abbrev pub Finishes : {S : Type 0} → Session S → Session S → Result Outcome Stop → Type 0
 Finishes old new (Ok outcome) = IsIn old new state.Finished × HasOutcome old outcome

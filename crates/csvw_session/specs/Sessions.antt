@@ -1,5 +1,5 @@
 -- What a session stands for, and how each call goes on.
-use Rattle.std.specs.Prelude.{◌≡◌, ◌≢◌, ◌⊎◌, ◌<◌, ◌+◌, ◌-◌, ◌^◌, ◌≤◌, ℕ, zero, suc, Bool, true, false, List, [], ◌∷◌, ◌++◌, length, slice_get, Contains, Option, Some, Result, Ok, Err}
+use Rattle.std.specs.Prelude.{◌≡◌, ◌≢◌, ◌↔◌, ◌⊎◌, ◌<◌, ◌+◌, ◌-◌, ◌^◌, ◌≤◌, ℕ, zero, suc, Bool, true, false, List, [], ◌∷◌, ◌++◌, length, slice_get, Contains, Option, Some, Result, Ok, Err}
 use Rattle.csvw_rows.specs.RowValue.{Given}
 use Rattle.csvw_columns_core.specs.declared.columns.Columns.{Columns}
 use Rattle.csvw_columns.specs.declared.plan.Plan.{Plan}
@@ -79,13 +79,26 @@ pub record Starts {S : Type 0} (gains : S → List Triple → S → Type 0) (is_
   pub ready : IsAsReady is_open failed sink s.sink
   pub stands : Stands gains is_open failed s.sink [] s
 
+-- the session has no table of this number
+abbrev pub HasNoTable : {S : Type 0} → Session S → ℕ → Type 0
+HasNoTable s t = (t ≡ 0) ⊎ (length s.tables.items < t)
+
+-- the session was finished, or this table was ended
+abbrev pub IsOver : {S : Type 0} → Session S → ℕ → Type 0
+IsOver s t = (s.state ≡ state.Finished) ⊎ ((i : ℕ) × (table : Table) × (i + 1 ≡ t) × (slice_get s.tables.items i ≡ Some table) × (is_ended table ≡ true))
+
+-- exactly when an event of table t is refused without a look at it, by what is asked first
+pub record IsRefusedInOrder {S : Type 0} (s : Session S) (t : ℕ) (result : Result Unit Stop) : Type 0 where
+  pub failed : (result ≡ Err stop.Failed) ↔ (s.state ≡ state.Failed)
+  pub unknown : (result ≡ Err stop.UnknownTable) ↔ ((s.state ≢ state.Failed) × HasNoTable s t)
+  pub after_end : (result ≡ Err stop.AfterEnd) ↔ ((s.state ≢ state.Failed) × (HasNoTable s t → ⊥) × IsOver s t)
+
 -- whether table t, from 1, takes an event now
 abbrev pub Checks : {S : Type 0} → Session S → ℕ → Result ℕ Stop → Type 0
 Checks s t (Ok i) = (s.state ≡ state.Open) × (i + 1 ≡ t) × (i < length s.tables.items) × ((table : Table) → slice_get s.tables.items i ≡ Some table → is_ended table ≡ false)
 Checks s t (Err stop.Failed) = s.state ≡ state.Failed
-Checks s t (Err stop.UnknownTable) = (s.state ≢ state.Failed) × ((t ≡ 0) ⊎ (length s.tables.items < t))
-Checks s t (Err stop.AfterEnd) = (s.state ≢ state.Failed)
-    × ((s.state ≡ state.Finished) ⊎ ((i : ℕ) × (table : Table) × (i + 1 ≡ t) × (slice_get s.tables.items i ≡ Some table) × (is_ended table ≡ true)))
+Checks s t (Err stop.UnknownTable) = (s.state ≢ state.Failed) × HasNoTable s t
+Checks s t (Err stop.AfterEnd) = (s.state ≢ state.Failed) × (HasNoTable s t → ⊥) × IsOver s t
 Checks s t (Err stop.Memory) = ⊥
 Checks s t (Err stop.Read) = ⊥
 Checks s t (Err stop.Write) = ⊥
@@ -125,7 +138,7 @@ abbrev pub Takes : {S : Type 0} → (S → List Triple → S → Type 0) → (S 
 Takes {S} gains is_open failed old new t event (Ok u) =
     (start : S) (events : List Event) → Stands gains is_open failed start events old → Stands gains is_open failed start (events ++ event ∷ []) new
 Takes gains is_open failed old new t event (Err stop.Failed) = (new ≡ old) × (old.state ≡ state.Failed)
-Takes gains is_open failed old new t event (Err stop.UnknownTable) = (new ≡ old) × (old.state ≢ state.Failed) × ((t ≡ 0) ⊎ (length old.tables.items < t))
+Takes gains is_open failed old new t event (Err stop.UnknownTable) = (new ≡ old) × (old.state ≢ state.Failed) × HasNoTable old t
 Takes {S} gains is_open failed old new t event (Err stop.AfterEnd) = (new ≡ old) × (old.state ≢ state.Failed)
     × ((start : S) (events : List Event) → Stands gains is_open failed start events old → ended_in events t ≡ true)
 Takes {S} gains is_open failed old new t event (Err stop.Memory) = (new.state ≡ state.Failed) × ((start : S) (events : List Event) (h : Stands gains is_open failed start events old)

@@ -116,8 +116,8 @@ fn place_of(t: u32, count: usize) -> Option<usize>
 
 impl<S: TripleSink> Session<S> {
     ghost use Rattle.csvw_session.specs.Events.{Feed, End};
-    ghost use Rattle.csvw_session.specs.Sessions.{Checks, Starts, Takes};
-    ghost use Rattle.csvw_session.specs.Finishing.{Finishes, ListsFaults};
+    ghost use Rattle.csvw_session.specs.Sessions.{Checks, IsRefusedInOrder, Starts, Takes};
+    ghost use Rattle.csvw_session.specs.Finishing.{Finishes, IsUnfinishedInOrder, ListsFaults};
 
     /// A session over the tables of a plan as `Plan::build` gives it, of whose texts nothing was read. In mode `Standard` its sink
     /// takes what is told of the group and its tables (csv2rdf, section 4.2). `Refused` with `Memory` where there is none and with
@@ -180,9 +180,13 @@ impl<S: TripleSink> Session<S> {
         Ok(i)
     }
 
-    /// Takes a piece of table `t`, numbered from 1, and gives each row that is complete.
+    /// Takes a piece of table `t`, numbered from 1, and gives each row that is complete. `Failed` where the session stopped before,
+    /// else `UnknownTable` where it has no such table, else `AfterEnd` where it was finished or the table ended: these change
+    /// nothing. `Rows` or `Table` behind all rows in front of one that can't be read or annotated, `Write` where the sink's device
+    /// failed, and `Memory`: these stop the session.
     pub fn feed(&mut self, t: u32, piece: &[u8]) -> Result<(), Stop>
         ensures takes { Takes S.gains S.is_open S.failed self.old self.new t (Feed t piece.now) result }
+        ensures order { IsRefusedInOrder self.old t result }
         ensures same { (self.new.plan ≡ self.old.plan) × (self.new.mode ≡ self.old.mode) }
     {
         let i = self.check(t)?;
@@ -203,9 +207,10 @@ impl<S: TripleSink> Session<S> {
         }
     }
 
-    /// Takes the end of table `t`, numbered from 1, and gives each row that is left.
+    /// Takes the end of table `t`, numbered from 1, and gives each row that is left. It answers as `feed` does.
     pub fn end(&mut self, t: u32) -> Result<(), Stop>
         ensures takes { Takes S.gains S.is_open S.failed self.old self.new t (End t) result }
+        ensures order { IsRefusedInOrder self.old t result }
         ensures same { (self.new.plan ≡ self.old.plan) × (self.new.mode ≡ self.old.mode) }
     {
         let i = self.check(t)?;
@@ -237,9 +242,11 @@ impl<S: TripleSink> Session<S> {
         Ok(faults)
     }
 
-    /// Finishes the session, where each table was ended: its faults, in order.
+    /// Finishes the session, where each table was ended: its faults, in order. `Failed` where the session stopped before, else
+    /// `AfterEnd` where it was finished, else `NotEnded` where a table wasn't ended: these change nothing. `Memory` stops the session.
     pub fn finish(&mut self) -> Result<Outcome, Stop>
-        ensures { Finishes self.old self.new result }
+        ensures finishes { Finishes self.old self.new result }
+        ensures order { IsUnfinishedInOrder self.old result }
     {
         if self.is_failed() {
             return Err(Stop::Failed);

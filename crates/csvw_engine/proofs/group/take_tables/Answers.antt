@@ -19,4 +19,4 @@ returns g c =
     let start = c.args.session.now.sink in
     λ sink h many numbered.
     finished s.gains s.is_open s.failed g.R.Read.remaining g.met.S.TripleSink.goes_on sink start h.ready c.args.readers.now c.read_tables.new.readers c.args.session.now c.read_tables.new.session c.finish.new.self
-    (c.in_ok-read_tables.ensures.reads start h.stands many) many numbered h.opened (c.sessions_annotate.ensures sink start) c.finish.result c.finish.ensures
+    (c.in_ok-read_tables.ensures.reads start h.stands many) many numbered h.opened (c.sessions_annotate.ensures sink start) c.finish.result c.finish.ensures.finishes
