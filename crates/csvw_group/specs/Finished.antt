@@ -1,0 +1,29 @@
+-- A session each of whose tables was ended, and what its outcome tells.
+use Rattle.std.specs.Prelude.{ℕ, Bool, List}
+use Rattle.csvw_triples_core.specs.declared.term.Triple.{Triple}
+use Rattle.csvw_opening.specs.OpeningTriples.{opening}
+use Rattle.csvw_report.specs.declared.outcome.Outcome.{Outcome}
+use Rattle.csvw_session.specs.Events.{Event}
+use Rattle.csvw_session.specs.Finishing.{HasOutcome}
+use Rattle.csvw_session.specs.Sessions.{AreNumbered, Stands, TookGraph}
+use Rattle.csvw_session.specs.declared.session.Session.{Session}
+use Rattle.csvw_group.specs.Annotated.{Table, AreAnnotated}
+use Rattle.csvw_group.specs.Graph.{GraphOf}
+use Rattle.csvw_group.specs.Law.{texts_of}
+use Rattle.csvw_group.specs.Violations.{AreViolations}
+
+-- the session took these events since it was handed its sink, and no others; each of its tables was ended, and this is its outcome
+pub record IsAtItsEnd {S : Type 0} (gains : S → List Triple → S → Type 0) (is_open : S → Bool) (failed : S → ℕ) (sink : S) (events : List Event)
+    (s : Session S) (outcome : Outcome) : Type 0 where
+  pub start : S
+  pub opened : gains sink (opening s.mode s.plan) start
+  pub stands : Stands gains is_open failed start events s
+  pub numbered : AreNumbered s.plan.tables
+  pub outcome_is : HasOutcome s outcome
+
+-- the texts of the events are annotated tables, whose graph the sink took, and the outcome lists what they violate
+pub record EndsAnnotated {S : Type 0} (gains : S → List Triple → S → Type 0) (sink : S) (events : List Event) (s : Session S) (outcome : Outcome) : Type 0 where
+  pub tables : List Table
+  pub annotated : AreAnnotated s.plan.tables (texts_of events) tables
+  pub took : TookGraph gains sink s.sink (GraphOf s.mode s.plan tables)
+  pub violations : AreViolations s.plan tables outcome.faults
