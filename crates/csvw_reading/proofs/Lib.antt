@@ -1,3 +1,4 @@
 pub mod NextTable
 pub mod Readers
 pub mod Tables
+pub mod Turning

@@ -12,7 +12,7 @@ use Rattle.csvw_reading.specs.Reading.{Gave, GaveTexts, AreSteady}
 use Rattle.csvw_reading.specs.TableReading.{GoesOn}
 
 -- what stands at a place of a list of which one element was replaced
-set_same : {X : Type 0} (xs : List X) (i : ℕ) (x y : X) → i < length xs → slice_get (slice_set xs i x) i ≡ Some y → y ≡ x
+pub set_same : {X : Type 0} (xs : List X) (i : ℕ) (x y : X) → i < length xs → slice_get (slice_set xs i x) i ≡ Some y → y ≡ x
 set_same xs i x y below e = sym (get_or_from_slice_get (slice_set xs i x) i y x e) ∙ get_or-set_same xs i x x below
 
 pub set_other : {X : Type 0} (xs : List X) (i j : ℕ) (x y : X) → j ≢ i → slice_get (slice_set xs i x) j ≡ Some y → slice_get xs j ≡ Some y
@@ -28,7 +28,7 @@ set_there xs i x below =
     let here : i < length (slice_set xs i x) = omega arith in
     slice_get-get_or (slice_set xs i x) i x here ∙ ap Some (get_or-set_same xs i x x below)
 
-one_at : {X : Type 0} (xs : List X) (i : ℕ) (x y : X) → slice_get xs i ≡ Some x → slice_get xs i ≡ Some y → x ≡ y
+pub one_at : {X : Type 0} (xs : List X) (i : ℕ) (x y : X) → slice_get xs i ≡ Some x → slice_get xs i ≡ Some y → x ≡ y
 one_at xs i x y e f = let k : Some x ≡ Some y = sym e ∙ f in cc
 
 -- a place is this one or another

@@ -1,5 +1,5 @@
 -- An event of one table more.
-use Rattle.std.proofs.Common.{◌≡◌, ◌+◌, ℕ, Bool, true, false, List, [], ◌∷◌, ◌++◌, length, refl, sym, ap, ◌∙◌, subst, inl, inr, arith, length-append, Option, Result, Ok, Err}
+use Rattle.std.proofs.Common.{◌≡◌, ◌<◌, ◌≤◌, ◌+◌, ℕ, Bool, true, false, List, [], ◌∷◌, ◌++◌, length, refl, sym, ap, ◌∙◌, subst, inl, inr, arith, length-append, Option, Result, Ok, Err}
 use Rattle.csvw_text.specs.declared.counted.Counted.{Counted}
 use Rattle.csvw_text.specs.Counted.{failures_of}
 use Rattle.csvw_triples_core.specs.declared.term.Triple.{Triple}
@@ -40,6 +40,18 @@ module _ {S : Type 0} (gains : S → List Triple → S → Type 0) (is_open : S 
     stands = h;
   }
 
+  -- the events so far
+  pub took_so_far : (s : Session S) (reads : ℕ) → Stands gains is_open failed start events s → ended_in events t ≡ false → length events ≡ reads
+      → Took gains is_open failed start events t (text_of events t) false s reads
+  took_so_far s reads h going many = record {
+    later = events;
+    goes = record { text = λ u ne. refl; ended = λ u ne. refl };
+    text = refl;
+    ended_is = going;
+    many = many;
+    stands = h;
+  }
+
   pub took_piece : (old new : Session S) (bytes piece : List ℕ) (reads : ℕ) (u : Unit {0}) → Took gains is_open failed start events t bytes false old reads
       → Takes gains is_open failed old new t (Feed t piece) (Ok u) → Took gains is_open failed start events t (bytes ++ piece) false new (reads + 1)
   took_piece old new bytes piece reads u k takes = record {
@@ -62,7 +74,8 @@ module _ {S : Type 0} (gains : S → List Triple → S → Type 0) (is_open : S 
     stands = takes start k.later k.stands;
   }
 
-  module _ {R : Type 0} (remaining : R → Option (List ℕ)) (r s : Counted R) (first old new : Session S) (bytes : List ℕ) (reads : ℕ) (k : Took gains is_open failed start events t bytes false old reads) (same : IsSame first old) (next : IsNext first events t) where
+  module _ {R : Type 0} (remaining : R → Option (List ℕ)) (r s : Counted R) (first old new : Session S) (bytes : List ℕ) (reads : ℕ) (k : Took gains is_open failed start events t bytes false old reads)
+      (same : IsSame first old) (some : 0 < t) (within : t ≤ length first.plan.tables) where
     -- an event that was answered with a stop
     module _ (event : Event) (goes : GoesOn t events (k.later ++ event ∷ [])) (gave : Gave remaining r s (text_of (k.later ++ event ∷ []) t) (ended_in (k.later ++ event ∷ []) t)) (steady : failures_of s ≡ failures_of r) where
       stopped : (reason : Stop) → Takes gains is_open failed old new t event (Err reason) → TableStops gains is_open failed remaining start events t r s first new reason
@@ -81,10 +94,10 @@ module _ {S : Type 0} (gains : S → List Triple → S → Type 0) (is_open : S 
       stops (stop.Table u row reason) last takes = stopped (stop.Table u row reason) takes
       stops stop.Failed last takes = let is : old.state ≡ _ = takes.1 in let opened = k.stands.state_is in cc
       stops stop.UnknownTable last takes =
-          let some = next.some in
-          let within = next.within in
+          let least = some in
+          let most = within in
           let many : length old.tables.items ≡ length first.plan.tables = old.many ∙ ap (λ p. length p.tables) same.0 in
-          elim takes.2 [ inl none ↦ absurd (omega (arith, some, none)) | inr past ↦ absurd (omega (arith, within, many, past)) ]
+          elim takes.2 [ inl none ↦ absurd (omega (arith, least, none)) | inr past ↦ absurd (omega (arith, most, many, past)) ]
       stops stop.AfterEnd last takes = let is = takes.2 start k.later k.stands in let not = k.ended_is in cc
       stops stop.Read last takes = absurd takes
       stops (stop.Meta fault) last takes = absurd takes

@@ -1,3 +1,4 @@
 pub mod Reading
 pub mod TableReading
 pub mod TablesReading
+pub mod TurnsReading

@@ -12,7 +12,7 @@ use csvw_triples_core::TripleSink;
 use std::io::Read;
 
 /// How many reads one run makes at most.
-const MAX_READS: u64 = 1_099_511_627_776;
+pub(crate) const MAX_READS: u64 = 1_099_511_627_776;
 
 /// Reads the table `t`, from 1, to its end; `reads` counts the reads of the run.
 fn read_table<R: Read, S: TripleSink>(

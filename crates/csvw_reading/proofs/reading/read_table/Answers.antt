@@ -43,7 +43,7 @@ returns-then-n-eq0-clause-reads g c =
     let all = Consumes-trans (g.R.Read.remaining (inner_of c.args.reader.now)) (g.R.Read.remaining (inner_of c.loop-reads.reader)) (g.R.Read.remaining (inner_of c.read.new.self)) i.bytes [] i.consumed eaten in
     λ start events h next many.
     ends s.gains s.is_open s.failed c.texts_grow.ensures start events c.args.t g.R.Read.remaining c.args.reader.now c.read.new.self c.args.session.now c.loop-reads.session c.end.new.self i.bytes c.loop-reads.reads
-    (i.took start events h next many) i.same next
+    (i.took start events h next many) i.same next.some next.within
     (record {
       consumed = subst (λ (xs : List ℕ). Consumes (g.R.Read.remaining (inner_of c.args.reader.now)) (g.R.Read.remaining (inner_of c.read.new.self)) xs) (append-nil i.bytes) all;
       at_end = λ _. c.in-Ok.ensures.bytes.1 c.if-n-eq0.true (let room = i.room in let some = c.requires in omega (arith, room, some));
@@ -59,7 +59,7 @@ returns-in_err-feed-clause-reads g c =
     λ start events h next many.
     rw (p.1, p.2)
     (unfed s.gains s.is_open s.failed c.texts_grow.ensures start events c.args.t g.R.Read.remaining c.args.reader.now c.read.new.self c.args.session.now c.loop-reads.session c.feed.new.self i.bytes c.loop-reads.reads
-    (i.took start events h next many) i.same next piece
+    (i.took start events h next many) i.same next.some next.within piece
     (record {
       consumed = Consumes-trans (g.R.Read.remaining (inner_of c.args.reader.now)) (g.R.Read.remaining (inner_of c.loop-reads.reader)) (g.R.Read.remaining (inner_of c.read.new.self)) i.bytes piece i.consumed c.in-Ok.ensures.bytes.0;
       at_end = λ e. cc;

@@ -42,7 +42,7 @@ returns-in_err-read_table-clause-reads g c =
     let k = i.read start h many in
     let within : c.loop-i.i < length c.loop-i.session.plan.tables = (let test = c.loop-i-test.true in let m = many in let q = ap (λ p. length p.tables) i.same.0 in omega (arith, test, m, q)) in
     rw (p.1, p.2)
-    (ends_early s.gains s.is_open s.failed g.R.Read.remaining start n c.args.readers.now c.loop-i.readers c.loop-i.session c.loop-i.reads k r c.read_table.new.reader c.read_table.new.session below was
+    (ends_early s.gains s.is_open s.failed g.R.Read.remaining start n c.args.readers.now c.loop-i.readers c.loop-i.session k.events k.gave k.steady r c.read_table.new.reader c.read_table.new.session below was
     c.args.session.now i.same (t.same.0 ∙ i.same.0, t.same.1 ∙ i.same.1) c.in_err-read_table.field-0.0 c.read_table.new.reads
     (t.reads start k.events k.stands (is_next s.gains s.is_open s.failed g.R.Read.remaining start n c.args.readers.now c.loop-i.readers c.loop-i.session c.loop-i.reads k within) k.many))
 

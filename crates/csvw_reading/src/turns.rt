@@ -1,0 +1,96 @@
+//! Tables, read in turn.
+ghost use Rattle.std.specs.Prelude.{◌≡◌, ◌<◌, ◌+◌, ◌^◌, ◌-◌, ℕ, List, [], length, slice_get, MatchOption, Some, true, false};
+ghost use Rattle.csvw_text.specs.declared.counted.Counted.{Counted as TheReader};
+ghost use Rattle.csvw_text.specs.Counted.{failures_of};
+ghost use Rattle.csvw_session.specs.Events.{Event, text_of};
+ghost use Rattle.csvw_session.specs.Sessions.{Stands};
+ghost use Rattle.csvw_reading.specs.Reading.{Gave, IsSame, Reads};
+ghost use Rattle.csvw_reading.specs.TurnsReading.{AreOpen, IsOpen, NoneFrom, PieceReads};
+
+use crate::reading::MAX_READS;
+use csvw_session::laws::texts_grow;
+use csvw_session::{Session, Stop};
+use csvw_text::Counted;
+use csvw_triples_core::TripleSink;
+use std::io::Read;
+
+/// The first of the tables that are open, at this place from 0 or behind it.
+fn open_from(going: &[bool], from: usize) -> Option<usize>
+    ensures { MatchOption result (NoneFrom from going.now) (λ i. slice_get going.now i ≡ Some true) }
+{
+    for i in from..going.len() {
+        if going[i] {
+            return Some(i);
+        }
+    }
+    None
+}
+
+/// The next of the tables that are open, behind which the first one comes again.
+fn next_open(going: &[bool], from: usize) -> Option<usize>
+    ensures { MatchOption result (NoneFrom 0 going.now) (λ i. slice_get going.now i ≡ Some true) }
+{
+    match open_from(going, from) {
+        Some(i) => Some(i),
+        None => open_from(going, 0),
+    }
+}
+
+/// Takes what one read of the reader of table `t`, from 1, gives: a piece, or its end; whether the table goes on.
+fn read_piece<R: Read, S: TripleSink>(
+    session: &mut Session<S>,
+    t: u32,
+    reader: &mut Counted<R>,
+    piece: &mut [u8],
+) -> Result<bool, Stop>
+    requires { 0 < length piece.old }
+    ensures same { IsSame session.old session.new }
+    ensures room { length piece.new ≡ length piece.old }
+    ensures reads { (start : S) (events : List Event) (first : TheReader R) → Stands S.gains S.is_open S.failed start events session.old
+        → IsOpen session.old events t → Gave R.remaining first reader.old (text_of events t) false → failures_of reader.old ≡ failures_of first
+        → PieceReads S.gains S.is_open S.failed R.remaining start events t first reader.new session.old session.new (length events + 1) result }
+{
+    texts_grow();
+    let Ok(n) = reader.read(piece) else {
+        return Err(Stop::Read);
+    };
+    if n == 0 {
+        session.end(t)?;
+        return Ok(false);
+    }
+    session.feed(t, &piece[..n])?;
+    Ok(true)
+}
+
+/// Reads the readers of all tables of a session, each to its end, one piece of at most the length of `piece` of each in turn;
+/// `going` has a `true` for each of them. `Read` where a reader failed in this call, or 2^40 reads were made; else the stop of the
+/// session.
+pub fn read_turns<R: Read, S: TripleSink>(
+    session: &mut Session<S>,
+    readers: &mut [Counted<R>],
+    going: &mut [bool],
+    piece: &mut [u8],
+) -> Result<(), Stop>
+    requires room { 0 < length piece.old }
+    requires few { length readers.old < 2 ^ 32 - 1 }
+    requires many { length going.old ≡ length readers.old }
+    requires all_open { AreOpen going.old }
+    ensures same { IsSame session.old session.new }
+    ensures reads { (start : S) → Stands S.gains S.is_open S.failed start [] session.old
+        → length readers.old ≡ length session.old.plan.tables
+        → Reads S.gains S.is_open S.failed R.remaining start readers.old readers.new session.old session.new result }
+{
+    texts_grow();
+    let mut reads = 0;
+    let mut from = 0;
+    while reads < MAX_READS {
+        let Some(i) = next_open(going, from) else {
+            return Ok(());
+        };
+        reads += 1;
+        let goes_on = read_piece(session, i as u32 + 1, &mut readers[i], piece)?;
+        going[i] = goes_on;
+        from = i + 1;
+    }
+    Err(Stop::Read)
+}
