@@ -4,5 +4,6 @@ pub mod Halts
 pub mod Plain
 pub mod Planning
 pub mod Reporting
+pub mod Rooms
 pub mod Runs
 pub mod Tables

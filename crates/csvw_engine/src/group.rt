@@ -4,12 +4,12 @@ ghost use Rattle.csvw_text.specs.Streams.{stream_of};
 ghost use Rattle.csvw_session.specs.Ready.{AreReady};
 ghost use Rattle.csvw_session.specs.Sessions.{AreNumbered, Starts};
 ghost use Rattle.csvw_engine.specs.Groups.{Converts, TakesTables};
+ghost use Rattle.csvw_engine.specs.Rooms.{IsRoomFor};
 
-use crate::reading::{PIECE, buffer_of};
+use crate::room::{Order, Room, read_all};
 use csvw_columns::Plan;
 use csvw_group::laws::sessions_annotate;
 use csvw_ntriples::{NtSink, labels_name_one_to_one, written_denotes};
-use csvw_reading::read_tables;
 use csvw_report::Outcome;
 use csvw_session::{Refused, Session, Stop};
 use csvw_text::Counted;
@@ -17,20 +17,29 @@ use csvw_triples_core::{Mode, TripleSink};
 use std::alloc::Global;
 use std::io::{Read, Write};
 
+/// What is written of tables, and how they are read.
+#[derive(Clone, Copy)]
+pub(crate) struct Way {
+    /// Which triples are written.
+    pub(crate) mode: Mode,
+    /// The order in which the tables are read.
+    pub(crate) order: Order,
+}
+
 /// Reads the tables of a session at its start to their ends, and finishes it.
 fn take_tables<R: Read, S: TripleSink>(
     session: &mut Session<S>,
     readers: &mut [Counted<R>],
-    piece: &mut [u8],
+    room: &mut Room,
 ) -> Result<Outcome, Stop>
-    requires room { 0 < length piece.old }
+    requires room { IsRoomFor (length readers.old) room.old }
     requires few { length readers.old < 2 ^ 32 - 1 }
     ensures { (sink : S) → Starts S.gains S.is_open S.failed session.old.plan session.old.mode sink session.old
         → length readers.old ≡ length session.old.plan.tables → AreNumbered session.old.plan.tables
         → TakesTables S.gains S.is_open S.failed R.remaining session.old.mode session.old.plan readers.old readers.new sink session.new.sink result }
 {
     sessions_annotate::<S>();
-    read_tables(session, readers, piece)?;
+    read_all(session, readers, room)?;
     session.finish()
 }
 
@@ -38,7 +47,7 @@ fn take_tables<R: Read, S: TripleSink>(
 pub(crate) fn convert_tables<R: Read, W: Write>(
     alloc: Global,
     plan: Plan,
-    mode: Mode,
+    way: Way,
     readers: &mut [Counted<R>],
     out: &mut Counted<W>,
 ) -> Result<Outcome, Stop>
@@ -46,17 +55,17 @@ pub(crate) fn convert_tables<R: Read, W: Write>(
     requires numbered { AreNumbered plan.tables }
     requires many { length readers.old ≡ length plan.tables }
     requires few { length readers.old < 2 ^ 32 - 1 }
-    ensures { Converts R.remaining mode plan readers.old readers.new (stream_of W.contents out.old out.new) result }
+    ensures { Converts R.remaining way.mode plan readers.old readers.new (stream_of W.contents out.old out.new) result }
 {
     written_denotes();
     labels_name_one_to_one();
-    let Ok(mut piece) = buffer_of(alloc, PIECE) else {
+    let Ok(mut room) = Room::new(alloc, way.order, readers.len()) else {
         return Err(Stop::Memory);
     };
     let sink = NtSink::new(alloc, out);
-    match Session::start(alloc, plan, mode, sink) {
+    match Session::start(alloc, plan, way.mode, sink) {
         Ok(mut session) => {
-            let ran = take_tables(&mut session, readers, piece.as_mut_slice());
+            let ran = take_tables(&mut session, readers, &mut room);
             let _ = session.into_sink().into_inner();
             ran
         }

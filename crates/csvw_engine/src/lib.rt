@@ -1,4 +1,4 @@
-//! Whole runs: a table from a reader to a graph.
+//! Whole runs: tables from readers to a graph and a report.
 #![tactic(auto)]
 
 mod flush;
@@ -6,6 +6,7 @@ mod group;
 mod halt;
 mod plan;
 mod reading;
+mod room;
 mod run_group;
 mod running;
 mod table;
@@ -14,5 +15,5 @@ pub use csvw_columns::TableStop;
 pub use csvw_meta_core::{MetaCode, MetaFault};
 pub use csvw_report::Outcome;
 pub use csvw_session::Stop;
-pub use run_group::run;
+pub use run_group::{run, run_turns};
 pub use running::plain;

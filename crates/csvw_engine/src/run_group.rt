@@ -5,8 +5,9 @@ ghost use Rattle.csvw_engine.specs.Reporting.{Reports};
 ghost use Rattle.csvw_engine.specs.Runs.{Runs};
 
 use crate::flush::{flush, flush_behind};
-use crate::group::convert_tables;
+use crate::group::{Way, convert_tables};
 use crate::plan::planned;
+use crate::room::Order;
 use csvw_report::{Outcome, ReportStop, write_report};
 use csvw_session::Stop;
 use csvw_text::Counted;
@@ -30,6 +31,39 @@ fn tell<V: Write>(
     }
 }
 
+/// What is asked of a run over a group of tables.
+#[derive(Clone, Copy)]
+struct Asked<'a> {
+    /// The metadata document that describes the group.
+    meta: &'a [u8],
+    /// The URL of the document.
+    base: &'a str,
+    /// What is written, and how the tables are read.
+    way: Way,
+}
+
+/// Reads a group of tables and writes their graph and report.
+fn run_in<R: Read, W: Write, V: Write>(
+    alloc: Global,
+    asked: Asked<'_>,
+    readers: &mut [Counted<R>],
+    out: &mut Counted<W>,
+    report: &mut Counted<V>,
+) -> Result<Outcome, Stop>
+    ensures { Runs R.remaining asked.entry.meta.now asked.entry.base.now asked.entry.way.mode readers.old readers.new
+        (stream_of W.contents out.old out.new) (stream_of V.contents report.old report.new) result }
+{
+    let plan = planned(alloc, asked.meta, asked.base)?;
+    if readers.len() != plan.tables().len() {
+        return Err(Stop::TableCount);
+    }
+    let ran = convert_tables(alloc, plan, asked.way, readers, out);
+    let told = tell(alloc, ran, report);
+    let outcome = flush_behind(out, told)?;
+    flush(report)?;
+    Ok(outcome)
+}
+
 /// Reads a group of tables, as the metadata document `meta` at the URL `base` describes them: the nth reader has the text of the nth
 /// table. In mode `Minimal` it writes the graph of their cells to `out` (csv2rdf, section 4.2), in mode `Standard` also what is told
 /// of the group, its tables and their rows, in mode `Validate` nothing; then the faults to `report`, in order. Tables are read one
@@ -51,13 +85,30 @@ pub fn run<R: Read, W: Write, V: Write>(
     ensures { Runs R.remaining meta.now base.now mode readers.old readers.new
         (stream_of W.contents out.old out.new) (stream_of V.contents report.old report.new) result }
 {
-    let plan = planned(alloc, meta, base)?;
-    if readers.len() != plan.tables().len() {
-        return Err(Stop::TableCount);
-    }
-    let ran = convert_tables(alloc, plan, mode, readers, out);
-    let told = tell(alloc, ran, report);
-    let outcome = flush_behind(out, told)?;
-    flush(report)?;
-    Ok(outcome)
+    let way = Way {
+        mode,
+        order: Order::OneByOne,
+    };
+    run_in(alloc, Asked { meta, base, way }, readers, out, report)
+}
+
+/// Reads a group of tables as `run` does, but takes a read of each table in turn that isn't at its end, so that the rows of all tables
+/// are written as they come. What it answers means what it means in `run`; of several stops it tells the one that it meets first.
+pub fn run_turns<R: Read, W: Write, V: Write>(
+    alloc: Global,
+    meta: &[u8],
+    base: &str,
+    readers: &mut [Counted<R>],
+    mode: Mode,
+    out: &mut Counted<W>,
+    report: &mut Counted<V>,
+) -> Result<Outcome, Stop>
+    ensures { Runs R.remaining meta.now base.now mode readers.old readers.new
+        (stream_of W.contents out.old out.new) (stream_of V.contents report.old report.new) result }
+{
+    let way = Way {
+        mode,
+        order: Order::InTurn,
+    };
+    run_in(alloc, Asked { meta, base, way }, readers, out, report)
 }

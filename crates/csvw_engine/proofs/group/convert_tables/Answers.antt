@@ -18,13 +18,13 @@ returns-in-Ok-start g c =
     let now = c.take_tables-ran.new.session.sink in
     let many = c.requires.many ∙ ap (λ (p : Plan). length p.tables) (sym begun.plan_is) in
     let numbered = subst (λ (p : Plan). AreNumbered p.tables) (sym begun.plan_is) c.requires.numbered in
-    let ran = c.take_tables-ran.ensures start (starts_own (takes contents) sink_is_open failed_of c.args.plan c.args.mode start session begun) many numbered in
+    let ran = c.take_tables-ran.ensures start (starts_own (takes contents) sink_is_open failed_of c.args.plan c.args.way.mode start session begun) many numbered in
     let lent = ap (λ z. (sink_out z).ghost_name) c.into_sink.ensures ∙ same_lent contents remaining session.mode session.plan c.args.readers.now c.take_tables-ran.new.readers start now c.take_tables-ran.result ran in
     let final = c.out-1.given.1 (sym (c.into_inner.ensures.same_reference ∙ (lent ∙ c.new-sink.ensures.same_reference))) in
     let laws : LineLaws = record { denotes = c.written_denotes.ensures; names = c.labels_name_one_to_one.ensures } in
     converted_at contents laws _ start now
     (streams_of contents c.args.out.now _ start now c.new-sink.ensures.open c.new-sink.ensures.out (final ∙ (c.into_inner.ensures.value ∙ ap (λ z. (sink_out z).now) c.into_sink.ensures)))
-    remaining c.args.mode session.mode c.args.plan session.plan c.args.readers.now c.take_tables-ran.new.readers c.take_tables-ran.result begun.mode_is begun.plan_is ran
+    remaining c.args.way.mode session.mode c.args.plan session.plan c.args.readers.now c.take_tables-ran.new.readers c.take_tables-ran.result begun.mode_is begun.plan_is ran
 
 pub returns : goal.returns
 returns g c =
@@ -33,10 +33,10 @@ returns g c =
     let start = c.new-sink.result in
     let now = c.in-Err.field-0.sink in
     let reason = c.in-Err.field-0.stop in
-    let ran = refused (takes contents) sink_is_open failed_of remaining c.args.mode c.args.plan c.args.readers.now c.args.readers.now start now reason c.in-Err.ensures.refused in
-    let lent = same_lent contents remaining c.args.mode c.args.plan c.args.readers.now c.args.readers.now start now (Err reason) ran in
+    let ran = refused (takes contents) sink_is_open failed_of remaining c.args.way.mode c.args.plan c.args.readers.now c.args.readers.now start now reason c.in-Err.ensures.refused in
+    let lent = same_lent contents remaining c.args.way.mode c.args.plan c.args.readers.now c.args.readers.now start now (Err reason) ran in
     let final = c.out-in-Err-1.given.1 (sym (c.into_inner-in-Err.ensures.same_reference ∙ (lent ∙ c.new-sink.ensures.same_reference))) in
     let laws : LineLaws = record { denotes = c.written_denotes.ensures; names = c.labels_name_one_to_one.ensures } in
     converted contents laws _ start now
     (streams_of contents c.args.out.now _ start now c.new-sink.ensures.open c.new-sink.ensures.out (final ∙ c.into_inner-in-Err.ensures.value))
-    remaining c.args.mode c.args.plan c.args.readers.now c.args.readers.now (Err reason) ran
+    remaining c.args.way.mode c.args.plan c.args.readers.now c.args.readers.now (Err reason) ran

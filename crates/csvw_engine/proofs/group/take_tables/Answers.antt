@@ -3,20 +3,20 @@ use Rattle.std.proofs.lemmas.Result.{err_from_is_err_and}
 use Rattle.csvw_engine.proofs.Taking.{finished, stops}
 use Rattle.csvw_engine.proofs.group.take_tables.Goals as goal
 
-pub returns-in_err-read_tables : goal.returns-in_err-read_tables
-returns-in_err-read_tables g c =
+pub returns-in_err-read_all : goal.returns-in_err-read_all
+returns-in_err-read_all g c =
     let s = g.S.TripleSink in
     let p = err_from_is_err_and c.from_residual.result c.from_residual.ensures.1 in
     let start = c.args.session.now.sink in
     λ sink h many numbered.
     rw (p.1, p.2)
-    (stops s.gains s.is_open s.failed g.R.Read.remaining g.met.S.TripleSink.goes_on sink start h.ready c.args.readers.now c.read_tables.new.readers c.args.session.now c.read_tables.new.session
-    h.opened c.in_err-read_tables.field-0.0 (c.in_err-read_tables.ensures.reads start h.stands many))
+    (stops s.gains s.is_open s.failed g.R.Read.remaining g.met.S.TripleSink.goes_on sink start h.ready c.args.readers.now c.read_all.new.readers c.args.session.now c.read_all.new.session
+    h.opened c.in_err-read_all.field-0.0 (c.in_err-read_all.ensures.reads start h.stands many))
 
 pub returns : goal.returns
 returns g c =
     let s = g.S.TripleSink in
     let start = c.args.session.now.sink in
     λ sink h many numbered.
-    finished s.gains s.is_open s.failed g.R.Read.remaining g.met.S.TripleSink.goes_on sink start h.ready c.args.readers.now c.read_tables.new.readers c.args.session.now c.read_tables.new.session c.finish.new.self
-    (c.in_ok-read_tables.ensures.reads start h.stands many) many numbered h.opened (c.sessions_annotate.ensures sink start) c.finish.result c.finish.ensures.finishes
+    finished s.gains s.is_open s.failed g.R.Read.remaining g.met.S.TripleSink.goes_on sink start h.ready c.args.readers.now c.read_all.new.readers c.args.session.now c.read_all.new.session c.finish.new.self
+    (c.in_ok-read_all.ensures.reads start h.stands many) many numbered h.opened (c.sessions_annotate.ensures sink start) c.finish.result c.finish.ensures.finishes

@@ -1,0 +1,74 @@
+//! The order in which the tables of a session are read, and the room for it.
+ghost use Rattle.std.specs.Prelude.{◌≡◌, ◌<◌, ◌-◌, ◌^◌, ℕ, [], IfOk, length};
+ghost use Rattle.csvw_session.specs.Sessions.{Stands};
+ghost use Rattle.csvw_reading.specs.Reading.{IsSame, Reads};
+ghost use Rattle.csvw_reading.specs.TurnsReading.{AreOpen};
+ghost use Rattle.csvw_engine.specs.Rooms.{IsRoomFor};
+
+use crate::reading::{PIECE, buffer_of};
+use csvw_reading::{read_tables, read_turns};
+use csvw_session::{Session, Stop};
+use csvw_text::Counted;
+use csvw_triples_core::TripleSink;
+use std::alloc::{AllocError, Global};
+use std::io::Read;
+
+/// The order in which tables are read.
+#[derive(Clone, Copy)]
+pub(crate) enum Order {
+    /// One after the other.
+    OneByOne,
+    /// A piece of each in turn.
+    InTurn,
+}
+
+/// Room to read tables in.
+#[derive(Drop)]
+pub(crate) struct Room {
+    /// For a piece of a table.
+    piece: Vec<u8>,
+    /// Which tables are open, where they are read in turn.
+    going: Option<Vec<bool>>,
+}
+
+/// So many times `true`.
+fn all_open(alloc: Global, many: usize) -> Result<Vec<bool>, AllocError>
+    ensures many { IfOk result (λ v. length v.items ≡ many) }
+    ensures all_open { IfOk result (λ v. AreOpen v.items) }
+{
+    vec![in alloc; true; many]
+}
+
+impl Room {
+    /// Room for so many tables; `AllocError` where there is no memory.
+    pub(crate) fn new(alloc: Global, order: Order, many: usize) -> Result<Room, AllocError>
+        ensures { IfOk result (λ room. IsRoomFor many room) }
+    {
+        let piece = buffer_of(alloc, PIECE)?;
+        let going = match order {
+            Order::OneByOne => None,
+            Order::InTurn => Some(all_open(alloc, many)?),
+        };
+        Ok(Room { piece, going })
+    }
+}
+
+/// Reads the readers of all tables of a session, each to its end.
+pub(crate) fn read_all<R: Read, S: TripleSink>(
+    session: &mut Session<S>,
+    readers: &mut [Counted<R>],
+    room: &mut Room,
+) -> Result<(), Stop>
+    requires room { IsRoomFor (length readers.old) room.old }
+    requires few { length readers.old < 2 ^ 32 - 1 }
+    ensures same { IsSame session.old session.new }
+    ensures reads { (start : S) → Stands S.gains S.is_open S.failed start [] session.old
+        → length readers.old ≡ length session.old.plan.tables
+        → Reads S.gains S.is_open S.failed R.remaining start readers.old readers.new session.old session.new result }
+{
+    let piece = room.piece.as_mut_slice();
+    match &mut room.going {
+        None => read_tables(session, readers, piece),
+        Some(going) => read_turns(session, readers, going.as_mut_slice(), piece),
+    }
+}
