@@ -1,12 +1,13 @@
 //! Runs over the files of a group of tables.
 ghost use Rattle.std.specs.Prelude.{◌≡◌, ◌≤◌, IfErr, IfOk, map};
 ghost use Rattle.csvw.specs.Groups.{EndsSo, IsDocument, IsReadStop, OpensAll, OpensGroup, OpensNot, RunsGroup, StopsOpening, conversion};
+ghost use Rattle.csvw_engine.specs.Runs.{Runs};
 ghost use Rattle.csvw_text.specs.Streams.{stream_of};
 ghost use Rattle.csvw_triples_core.specs.declared.mode.Mode.TheVariants as mode;
 
 use crate::opener::Opener;
 use crate::tell::{outcome_status, tell_stop};
-use csvw_engine::{Outcome, Stop, run};
+use csvw_engine::{Outcome, Stop, run, run_turns};
 use csvw_text::Counted;
 use csvw_triples_core::Mode;
 use csvw_words::Group;
@@ -87,6 +88,42 @@ fn tell_end<V: Write>(alloc: Global, ran: &Result<Outcome, Stop>, err: &mut Coun
     }
 }
 
+/// What is asked of a run over a group.
+#[derive(Clone, Copy)]
+struct Asked<'a> {
+    /// The bytes of the metadata document.
+    meta: &'a [u8],
+    /// The URL of the document.
+    base: &'a str,
+    /// Which triples are written.
+    mode: Mode,
+    /// Whether a piece of each table is read in turn; else they are read one after the other.
+    turns: bool,
+}
+
+/// Reads the tables of a group one after the other or in turn, and writes their graph and report.
+fn run_over<R: Read, W: Write, V: Write>(
+    alloc: Global,
+    asked: Asked<'_>,
+    readers: &mut [Counted<R>],
+    out: &mut Counted<W>,
+    report: &mut Counted<V>,
+) -> Result<Outcome, Stop>
+    ensures { Runs R.remaining asked.entry.meta.now asked.entry.base.now asked.entry.mode readers.old readers.new
+        (stream_of W.contents out.old out.new) (stream_of V.contents report.old report.new) result }
+{
+    let Asked {
+        meta,
+        base,
+        mode,
+        turns,
+    } = asked;
+    match turns {
+        true => run_turns(alloc, meta, base, readers, mode, out, report),
+        false => run(alloc, meta, base, readers, mode, out, report),
+    }
+}
+
 /// Reports the faults of a group on `out`.
 pub fn validate<O: Opener, W: Write, V: Write>(
     alloc: Global,
@@ -102,15 +139,13 @@ pub fn validate<O: Opener, W: Write, V: Write>(
     match open_group(alloc, group, opener) {
         Ok(Opened { meta, mut readers }) => {
             let input = meta.as_slice();
-            let ran = run(
-                alloc,
-                input,
-                group.base,
-                readers.as_mut_slice(),
-                Mode::Validate,
-                err,
-                out,
-            );
+            let asked = Asked {
+                meta: input,
+                base: group.base,
+                mode: Mode::Validate,
+                turns: group.turns,
+            };
+            let ran = run_over(alloc, asked, readers.as_mut_slice(), err, out);
             tell_end(alloc, &ran, err)
         }
         Err(stop) => tell_stop(alloc, &stop, err),
@@ -144,15 +179,13 @@ pub fn convert<O: Opener, W: Write, V: Write>(
     match open_group(alloc, group, opener) {
         Ok(Opened { meta, mut readers }) => {
             let input = meta.as_slice();
-            let ran = run(
-                alloc,
-                input,
-                group.base,
-                readers.as_mut_slice(),
-                conversion(minimal),
-                out,
-                err,
-            );
+            let asked = Asked {
+                meta: input,
+                base: group.base,
+                mode: conversion(minimal),
+                turns: group.turns,
+            };
+            let ran = run_over(alloc, asked, readers.as_mut_slice(), out, err);
             tell_end(alloc, &ran, err)
         }
         Err(stop) => tell_stop(alloc, &stop, err),

@@ -1,5 +1,5 @@
 //! Documents whose keys are refused.
-use crate::running::run_over;
+use crate::running::{Order, run_over};
 use csvw_meta_core::MetaCode;
 use csvw_session::Stop;
 use std::alloc::{AllocError, Global};
@@ -98,7 +98,7 @@ fn is_refused(alloc: Global, case: &Case) -> Result<bool, AllocError> {
     let meta = format!(in alloc;
         "{{\"@context\":\"http://www.w3.org/ns/csvw\",\"url\":\"p.csv\",\"tableSchema\":{{{schema}}}}}"
     )?;
-    let ran = run_over(alloc, meta.as_str(), &[""])?;
+    let ran = run_over(alloc, meta.as_str(), &[""], Order::OneByOne)?;
     Ok(match &ran.stop {
         Some(Stop::Meta(fault)) => {
             fault.code == case.code && fault.pointer.as_str() == case.pointer

@@ -1,5 +1,5 @@
 //! Documents with keys, texts of their tables, and what is told of them.
-use crate::running::run_over;
+use crate::running::{Order, run_over};
 use std::alloc::{AllocError, Global};
 use std::test::Fail;
 
@@ -129,8 +129,8 @@ fn report_of(alloc: Global, faults: &str) -> Result<String, AllocError> {
     Ok(report)
 }
 
-fn is_told(alloc: Global, case: &Case) -> Result<bool, AllocError> {
-    let ran = run_over(alloc, case.meta, case.texts)?;
+fn is_told(alloc: Global, case: &Case, order: Order) -> Result<bool, AllocError> {
+    let ran = run_over(alloc, case.meta, case.texts, order)?;
     let report = report_of(alloc, case.faults)?;
     Ok(ran.stop.is_none() && ran.report.as_slice() == report.as_bytes())
 }
@@ -138,7 +138,8 @@ fn is_told(alloc: Global, case: &Case) -> Result<bool, AllocError> {
 #[test]
 fn broken_keys_are_told(rt: HostRuntime) -> Result<(), Fail> {
     for case in &CASES {
-        assert!(rt; is_told(rt.alloc(), case)?, "{}", case.about);
+        assert!(rt; is_told(rt.alloc(), case, Order::OneByOne)?, "{}", case.about);
+        assert!(rt; is_told(rt.alloc(), case, Order::InTurn)?, "{}", case.about);
     }
     Ok(())
 }

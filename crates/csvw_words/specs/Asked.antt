@@ -27,15 +27,15 @@ base_rule = record (required_rule (codes "base")) { long = Some (codes "base"); 
 abbrev pub files_rule : Rule
 files_rule = record (required_rule (codes "FILE")) { range = Some (record { start_inclusive = 1; end_inclusive = usize_max }) }
 
--- a subcommand `name --base URL META FILE..`
+-- a subcommand `name [--turns] --base URL META FILE..`
 abbrev pub group_app : Text → App
-group_app name = with_rule (with_rule (with_rule (new_app name) base_rule) (required_rule (codes "META"))) files_rule
+group_app name = with_rule (with_rule (with_rule (with_rule (new_app name) base_rule) (required_rule (codes "META"))) files_rule) (flag_rule (codes "turns"))
 
--- the subcommand `validate --base URL META FILE..`
+-- the subcommand `validate [--turns] --base URL META FILE..`
 abbrev pub validate_app : App
 validate_app = group_app (codes "validate")
 
--- the subcommand `convert [--minimal] [--line-buffered] --base URL META FILE..`
+-- the subcommand `convert [--turns] [--minimal] [--line-buffered] --base URL META FILE..`
 abbrev pub convert_app : App
 convert_app = with_rule (with_rule (group_app (codes "convert")) (flag_rule (codes "minimal"))) (flag_rule (codes "line-buffered"))
 
@@ -62,11 +62,12 @@ is_from_words _ = false
 abbrev pub flag_of : Text → List Row → Bool
 flag_of id rows = is_from_words (option_and_then (λ r. r.source) (find (λ r. bytes_eq r.id id) rows))
 
--- the URL, the metadata and all the files that the words of a subcommand name
+-- the URL, the metadata and all the files that the words of a subcommand name, and whether the files are read in turn
 pub record IsGroup (rows : List Row) (group : Group) : Type 0 where
   pub base_is : first_of (codes "base") rows ≡ Some group.base.now
   pub meta_is : first_of (codes "META") rows ≡ Some group.meta.now
   pub files_are : all_of (codes "FILE") rows ≡ Some (map (λ file. file.now) group.files.items)
+  pub turns_is : group.turns ≡ flag_of (codes "turns") rows
 
 pub record ReadsPlain (name : Text) (rows : List Row) (url file : Text) (line_buffered : Bool) : Type 0 where
   pub name_is : name ≡ codes "plain"

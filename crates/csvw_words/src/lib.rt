@@ -22,6 +22,8 @@ pub struct Group<'a> {
     pub meta: &'a str,
     /// The files of the tables, in the order of the words.
     pub files: Vec<&'a str>,
+    /// Whether a piece of each file is read in turn; else they are read one after the other.
+    pub turns: bool,
 }
 
 /// What the command line asks for.

@@ -26,6 +26,8 @@ pub(crate) const MINIMAL: &str = "minimal";
 
 pub(crate) const LINE_BUFFERED: &str = "line-buffered";
 
+pub(crate) const TURNS: &str = "turns";
+
 const VERSION: &str = "0.1.0 (rattle 0.0.0)";
 
 fn required_word<'a>(alloc: Global, id: &'a str, help: &'a str) -> Arg<'a>
@@ -89,11 +91,17 @@ fn group_command<'a>(
     ensures local { IfOk result (λ command. (out-Command command).has_globals ≡ false) }
 {
     let meta = required_word(alloc, META, "The file with the metadata document");
+    let turns = flag(
+        alloc,
+        TURNS,
+        "Reads a piece of each file in turn, as in `csvw convert --turns --base URL t.json a.csv b.csv`; the graph and the report are the same",
+    );
     Command::new(alloc, name)
         .about(about)
         .arg(base(alloc))?
         .arg(meta)?
-        .arg(files(alloc))
+        .arg(files(alloc))?
+        .arg(turns)
 }
 
 fn validate_command<'a>(alloc: Global) -> Result<Command<'a>, AllocError>

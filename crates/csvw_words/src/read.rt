@@ -3,7 +3,9 @@ ghost use Rattle.clap.specs.Words.{found_of, rows_of};
 ghost use Rattle.csvw_words.specs.Asked.{IsGroup, Reads, flag_of};
 ghost use Rattle.std.specs.Prelude.{◌≡◌, IfOk, IfSome, codes};
 
-use super::program::{BASE, CONVERT, FILE, LINE_BUFFERED, META, MINIMAL, PLAIN, URL, VALIDATE};
+use super::program::{
+    BASE, CONVERT, FILE, LINE_BUFFERED, META, MINIMAL, PLAIN, TURNS, URL, VALIDATE,
+};
 use super::{Group, Request};
 use clap::ArgMatches;
 use clap::parser::ValueSource;
@@ -26,7 +28,13 @@ fn group_in<'a>(alloc: Global, matches: &ArgMatches<'a>) -> Result<Option<Group<
         if let Some(meta) = matches.get_str(META) {
             if let Some(given) = matches.get_strs(FILE) {
                 let files = Vec::from_slice(alloc, given)?;
-                return Ok(Some(Group { base, meta, files }));
+                let turns = has_flag(matches, TURNS);
+                return Ok(Some(Group {
+                    base,
+                    meta,
+                    files,
+                    turns,
+                }));
             }
         }
     }

@@ -6,6 +6,7 @@ use crate::opener::Opener;
 use csvw_text::Counted;
 use std::alloc::{AllocError, Global};
 use std::io::{self, Write};
+use std::str;
 use std::test::Fail;
 
 /// A file in memory.
@@ -448,6 +449,70 @@ fn a_conversion_is_standard(rt: HostRuntime) -> Result<(), Fail> {
     let files = group(PLAIN_META, b"id\n");
     let ran = run(rt.alloc(), &words, &files)?;
     assert!(rt; ran.is(0, OPENING.as_bytes(), HEADING));
+    Ok(())
+}
+
+const KEYS_META: &[u8] = br#"{"@context":"http://www.w3.org/ns/csvw","tables":[
+{"url":"a.csv","tableSchema":{"columns":[{"name":"ref","datatype":"integer"}],
+"foreignKeys":[{"columnReference":"ref","reference":{"resource":"b.csv","columnReference":"k"}}]}},
+{"url":"b.csv","tableSchema":{"columns":[{"name":"k","datatype":"integer"}],"primaryKey":"k"}}]}"#;
+
+/// The graph of the two tables, its lines sorted.
+const KEYS_GRAPH: [&str; 6] = [
+    "_:t1r1s <http://example.org/a.csv#ref> \"9\"^^<http://www.w3.org/2001/XMLSchema#integer> .",
+    "_:t1r2s <http://example.org/a.csv#ref> \"1\"^^<http://www.w3.org/2001/XMLSchema#integer> .",
+    "_:t1r3s <http://example.org/a.csv#ref> \"2\"^^<http://www.w3.org/2001/XMLSchema#integer> .",
+    "_:t2r1s <http://example.org/b.csv#k> \"1\"^^<http://www.w3.org/2001/XMLSchema#integer> .",
+    "_:t2r2s <http://example.org/b.csv#k> \"1\"^^<http://www.w3.org/2001/XMLSchema#integer> .",
+    "_:t2r3s <http://example.org/b.csv#k> \"2\"^^<http://www.w3.org/2001/XMLSchema#integer> .",
+];
+
+const KEYS_REPORT: &[u8] =
+    b"kind,code,table,row,column\nerror,NoReferencedRow,1,2,1\nerror,ManyReferencedRows,1,3,1\nerror,DuplicateKey,2,3,1\n";
+
+/// The words of a run over two tables in turn.
+fn in_turn(alloc: Global, words: &[&'static str]) -> Result<Vec<&'static str>, AllocError> {
+    let mut all = Vec::from_slice(alloc, words)?;
+    for word in [
+        "--turns",
+        "--base",
+        "http://example.org/",
+        "m.json",
+        "a.csv",
+        "b.csv",
+    ] {
+        all.push(word)?;
+    }
+    Ok(all)
+}
+
+#[test]
+fn tables_are_read_in_turn(rt: HostRuntime) -> Result<(), Fail> {
+    let alloc = rt.alloc();
+    let files = [
+        File {
+            path: "m.json",
+            bytes: KEYS_META,
+        },
+        File {
+            path: "a.csv",
+            bytes: b"ref\n9\n1\n2\n\n",
+        },
+        File {
+            path: "b.csv",
+            bytes: b"k\n1\n01\n2\n",
+        },
+    ];
+    let words = in_turn(alloc, &["csvw", "validate"])?;
+    assert!(rt; run(alloc, words.as_slice(), &files)?.is(1, KEYS_REPORT, b""));
+    let words = in_turn(alloc, &["csvw", "convert", "--minimal"])?;
+    let ran = run(alloc, words.as_slice(), &files)?;
+    let mut lines = str::from_utf8(ran.out.as_slice())?
+        .lines()
+        .collect::<Vec<&str>>(alloc)?;
+    lines.sort()?;
+    assert!(rt; lines.as_slice() == KEYS_GRAPH.as_slice());
+    assert!(rt; ran.status == 1 && ran.err.as_slice() == KEYS_REPORT);
     Ok(())
 }
 
