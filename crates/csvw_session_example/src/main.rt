@@ -1,0 +1,70 @@
+//! Two tables that come in pieces, as over two connections, and a sink that counts their triples as they come.
+#![tactic(auto)]
+
+mod counter;
+mod session;
+
+use counter::Counter;
+use csvw_report::{Outcome, write_report};
+use csvw_session::{Session, Stop};
+use csvw_text::Counted;
+use session::session_over;
+use std::io;
+
+/// What comes over a connection.
+enum Arrived {
+    /// A piece of its text.
+    Piece(&'static str),
+    /// Its end.
+    End,
+}
+
+/// What comes, in this order: the number of its table from 1, and a piece or the end.
+const ARRIVED: [(u32, Arrived); 9] = [
+    (1, Arrived::Piece("Station,River,To")),
+    (
+        2,
+        Arrived::Piece("station;day;level\nBS;2024-05-01;612\nBS;20"),
+    ),
+    (1, Arrived::Piece("wns\nBS,Rhein,Basel;Birsfelden\n")),
+    (2, Arrived::Piece("24-05-02;-\nKO;2024")),
+    (1, Arrived::Piece("KO,Mosel,Koblenz")),
+    (2, Arrived::Piece("-05-01;198\n")),
+    (2, Arrived::End),
+    (1, Arrived::Piece("\n,Main,Frankfurt")),
+    (1, Arrived::End),
+];
+
+/// Hands on what came, and tells how many triples there are now.
+fn take(rt: &HostRuntime, session: &mut Session<Counter>) -> io::Result<Result<Outcome, Stop>> {
+    for (table, arrived) in &ARRIVED {
+        let taken = match arrived {
+            Arrived::Piece(piece) => session.feed(*table, piece.as_bytes()),
+            Arrived::End => session.end(*table),
+        };
+        if let Err(stop) = taken {
+            return Ok(Err(stop));
+        }
+        println!(rt; "table {table}: {} triples", session.sink().count())?;
+    }
+    Ok(session.finish())
+}
+
+/// Reports the faults of the tables.
+fn report(rt: &HostRuntime, outcome: &Outcome) -> io::Result<()> {
+    let mut out = Counted::new(rt.stdout());
+    match write_report(rt.alloc(), outcome.faults.as_slice(), &mut out) {
+        Ok(()) => Ok(()),
+        Err(stop) => eprintln!(rt; "no report: {stop:?}"),
+    }
+}
+
+fn main(rt: HostRuntime) -> io::Result<()> {
+    let Some(mut session) = session_over(rt.alloc()) else {
+        return eprintln!(rt; "the session did not start");
+    };
+    match take(&rt, &mut session)? {
+        Ok(outcome) => report(&rt, &outcome),
+        Err(stop) => eprintln!(rt; "the session stopped: {stop:?}"),
+    }
+}

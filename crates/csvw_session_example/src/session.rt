@@ -1,0 +1,37 @@
+//! The session over the tables that a document describes.
+ghost use Rattle.std.specs.Prelude.{IfSome};
+ghost use Rattle.csvw_session.specs.Ready.{AreReady};
+
+use crate::counter::Counter;
+use csvw_columns::Plan;
+use csvw_meta::read;
+use csvw_session::Session;
+use csvw_session::laws::built_plans_are_ready;
+use csvw_triples_core::Mode;
+use std::alloc::Global;
+
+/// The document, and its URL.
+const DOCUMENT: &str = r#"{"@context":"http://www.w3.org/ns/csvw","tables":[
+{"url":"stations.csv","tableSchema":{"columns":[
+{"name":"station","titles":"Station","required":true},
+{"name":"river","titles":"River","lang":"de"},
+{"name":"towns","titles":"Towns","separator":";"}]}},
+{"url":"levels.csv","dialect":{"delimiter":";"},"null":"-","tableSchema":{"columns":[
+{"titles":"station"},{"titles":"day"},{"titles":"level"}]}}]}"#;
+
+const URL: &str = "http://example.org/rivers/metadata.json";
+
+/// The plan of the group that the document describes.
+fn plan(alloc: Global) -> Option<Plan>
+    ensures { IfSome result (λ plan. AreReady plan.tables) }
+{
+    built_plans_are_ready();
+    let description = read(alloc, DOCUMENT.as_bytes(), URL).ok()?;
+    Plan::build(alloc, description).ok()
+}
+
+/// A session over its tables, whose sink counts the triples in minimal mode.
+pub(crate) fn session_over(alloc: Global) -> Option<Session<Counter>> {
+    let plan = plan(alloc)?;
+    Session::start(alloc, plan, Mode::Minimal, Counter::new()).ok()
+}

@@ -1,0 +1,15 @@
+//! Tests of sessions by their public calls: worked rows, the order of answers, and generated orders of events.
+#![tactic(auto)]
+
+#[cfg(test)]
+mod answers;
+#[cfg(test)]
+mod cuts;
+#[cfg(test)]
+mod examples;
+#[cfg(test)]
+mod full;
+#[cfg(test)]
+mod rows;
+#[cfg(test)]
+mod sessions;

@@ -1,0 +1,55 @@
+//! Sessions over the tables of a document.
+ghost use Rattle.std.specs.Prelude.{IfOk};
+ghost use Rattle.csvw_session.specs.Ready.{AreReady};
+
+use csvw_columns::Plan;
+use csvw_meta::read;
+use csvw_session::laws::built_plans_are_ready;
+use csvw_session::{Refused, Session, Stop};
+use csvw_triples_core::{Mode, TripleSink};
+use std::alloc::Global;
+use std::test::Fail;
+
+/// The URL of each document.
+pub(crate) const BASE: &str = "http://example.org/";
+
+/// The plan of the group that a document describes.
+fn plan_of(alloc: Global, meta: &str) -> Result<Plan, Fail>
+    ensures { IfOk result (λ plan. AreReady plan.tables) }
+{
+    built_plans_are_ready();
+    let description = read(alloc, meta.as_bytes(), BASE)?;
+    Ok(Plan::build(alloc, description)?)
+}
+
+/// A session over the tables of a document.
+pub(crate) fn started<S: TripleSink + Drop>(
+    alloc: Global,
+    meta: &str,
+    mode: Mode,
+    sink: S,
+) -> Result<Session<S>, Fail> {
+    let plan = plan_of(alloc, meta)?;
+    match Session::start(alloc, plan, mode, sink) {
+        Ok(session) => Ok(session),
+        Err(Refused { stop, sink: _ }) => Err(Fail::from(stop)),
+    }
+}
+
+/// Feeds a byte of each text in turn, the first table first, then ends each table; up to the first stop.
+pub(crate) fn by_bytes<S: TripleSink>(
+    session: &mut Session<S>,
+    texts: [&[u8]; 2],
+) -> Result<(), Stop> {
+    let [first, second] = texts;
+    for i in 0..first.len().max(second.len()) {
+        if let Some(byte) = first.get(i) {
+            session.feed(1, &[*byte])?;
+        }
+        if let Some(byte) = second.get(i) {
+            session.feed(2, &[*byte])?;
+        }
+    }
+    session.end(1)?;
+    session.end(2)
+}
