@@ -1,37 +1,16 @@
 -- What one run of the program does.
 use Rattle.std.specs.Prelude.{◌≡◌, ◌⊎◌, ℕ, List, [], Option, None, Some}
-use Rattle.std.specs.Io.KnownBytes.{Keeps}
 use Rattle.clap.specs.Words.{HasKind, Text, fault_of, kind_of}
 use Rattle.clap.specs.declared.error.Error.{Error}
-use Rattle.csvw_report.specs.declared.outcome.Outcome.{Outcome}
-use Rattle.csvw_session.specs.declared.stop.Stop.{Stop}
 use Rattle.csvw_session.specs.declared.stop.Stop.TheVariants as stop
 use Rattle.csvw_triples_core.specs.declared.mode.Mode.TheVariants as mode
 use Rattle.csvw_words.specs.Asked.{Asks, program_app}
 use Rattle.csvw_words.specs.declared.Request.{Request}
 use Rattle.csvw_words.specs.declared.Request.TheVariants.{Convert, Plain, Validate}
-use Rattle.csvw_engine.specs.Plain.{Run, AtUrl, Converts, PlainStops}
+use Rattle.csvw_engine.specs.Plain.{Run, RunsTable}
 use Rattle.csvw.specs.Answers.{Answers, TellsStop}
-use Rattle.csvw.specs.Groups.{RunsGroup, conversion}
-use Rattle.csvw.specs.Status.{outcome_status}
+use Rattle.csvw.specs.Groups.{ComesToEnd, RunsGroup, StopsEarly, conversion}
 use Rattle.csvw_text.specs.Streams.{Stream, IsIdle}
-
--- the table at this URL was converted, and nothing told
-pub record EndsWell (url : Text) (run : Run) (err : Stream) (status : ℕ) : Type 0 where
-  pub outcome : Outcome
-  pub no_faults : outcome.faults ≡ []
-  pub converts : AtUrl url (λ base. Converts base run)
-  pub told_nothing : Keeps err.held err.holds
-  pub status_is : status ≡ outcome_status outcome
-
--- the run stopped, and what `err` held and how often it had failed by then; the stop was told behind that
-pub record EndsEarly (url : Text) (run : Run) (err : Stream) (status : ℕ) : Type 0 where
-  pub reason : Stop
-  pub held : Option (List ℕ)
-  pub failures : ℕ
-  pub told_nothing : Keeps err.held held
-  pub stops : PlainStops url run err.failures failures reason
-  pub told : TellsStop reason (record err { held = held; failures = failures }) status
 
 -- a run that begins with these bytes to read, at a reader that hasn't failed
 abbrev pub run_from : Option (List ℕ) → Option (List ℕ) → ℕ → Stream → Run
@@ -46,10 +25,11 @@ run_from unread left failed out = record {
   out_failed = out.failed;
 }
 
+-- the table at this URL is read and converted; the report goes to `err`
 pub record RunsOver (url : Text) (unread : Option (List ℕ)) (out err : Stream) (status : ℕ) : Type 0 where
   pub left : Option (List ℕ)
   pub failed : ℕ
-  pub ends : EndsWell url (run_from unread left failed out) err status ⊎ EndsEarly url (run_from unread left failed out) err status
+  pub ends : ComesToEnd (RunsTable url (run_from unread left failed out)) err status ⊎ StopsEarly (RunsTable url (run_from unread left failed out)) err status
 
 -- what follows from the reader that a file's path gave
 abbrev pub RunsOn : {R : Type 0} → (R → Option (List ℕ)) → Text → Stream → Stream → ℕ → Option R → Type 0

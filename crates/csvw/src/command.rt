@@ -5,9 +5,9 @@ ghost use Rattle.csvw.specs.Answers.{Answers, GivesText};
 ghost use Rattle.csvw.specs.Commands.{Commands, RunsPlain, RunsRequest};
 ghost use Rattle.csvw_text.specs.Streams.{stream_of};
 
-use crate::group::{convert, validate};
+use crate::group::{convert, tell_end, validate};
 use crate::opener::Opener;
-use crate::tell::{SUCCESS, outcome_status, send, tell_mistake, tell_stop};
+use crate::tell::{SUCCESS, send, tell_mistake, tell_stop};
 use clap::Error;
 use clap::error::ErrorKind;
 use csvw_engine::{Stop, plain};
@@ -73,10 +73,8 @@ fn run_plain<O: Opener, W: Write, V: Write>(
         return tell_stop(alloc, &Stop::Read, err);
     };
     let mut input = Counted::new(reader);
-    match plain(alloc, url, &mut input, out, err) {
-        Ok(outcome) => outcome_status(&outcome),
-        Err(stop) => tell_stop(alloc, &stop, err),
-    }
+    let ran = plain(alloc, url, &mut input, out, err);
+    tell_end(alloc, &ran, err)
 }
 
 /// Does what the words ask for.
@@ -103,8 +101,8 @@ fn run_request<O: Opener, W: Write, V: Write>(
 /// Runs the program on its words, the first of which is its name, and answers its exit status: 0 where
 /// there is no fault of kind error or help was asked for, 1 where there are faults, 2 where the command
 /// line is refused, 3 where metadata or a table is, 4 where a file or a stream failed or memory ran out.
-/// Help, graphs and the report of `validate` go to `out`, everything else to `err`; on 3 and 4 its last
-/// line tells the stop.
+/// Help, graphs and the report of `validate` go to `out`, everything else to `err`, other reports among it;
+/// on 3 and 4 its last line tells the stop.
 pub fn command<O: Opener, W: Write, V: Write>(
     alloc: Global,
     words: &[String],

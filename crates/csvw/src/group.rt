@@ -78,7 +78,7 @@ fn open_group<O: Opener>(
 }
 
 /// The status of a run, whose stop is told.
-fn tell_end<V: Write>(alloc: Global, ran: &Result<Outcome, Stop>, err: &mut Counted<V>) -> u8
+pub fn tell_end<V: Write>(alloc: Global, ran: &Result<Outcome, Stop>, err: &mut Counted<V>) -> u8
     ensures end { EndsSo ran.now (stream_of V.contents err.old err.new) result }
     ensures bound { result ≤ 4 }
 {

@@ -11,10 +11,15 @@ use command::command;
 use csvw_engine::Stop;
 use csvw_text::Counted;
 use opener::FileOpener;
-use std::io::{self, BufWriter, Stderr};
+use std::io::{self, BufWriter, IsTerminal, Stderr, Stdout};
 use std::process::ExitCode;
 use std::{env, fs};
 use tell::{tell_mistake, tell_stop};
+
+/// Whether each line is to be sent when it is made: where it is asked for, or shown at a terminal.
+fn is_line_buffered(words: &[String], out: &Stdout) -> bool {
+    out.is_terminal() || words.iter().any(|word| word.as_str() == "--line-buffered")
+}
 
 /// Runs the program on the words and streams of its process. At the end the buffer of standard output is
 /// let go unsent: it is empty, or what a failed write left of it.
@@ -22,7 +27,13 @@ fn run(rt: &HostRuntime, err: &mut Counted<Stderr>) -> io::Result<u8> {
     let alloc = rt.alloc();
     let words = env::args(rt)?.collect::<Vec<String>>(alloc)?;
     let mut opener = FileOpener::new(rt);
-    let mut out = Counted::new(BufWriter::new(alloc, rt.stdout())?);
+    let out = rt.stdout();
+    if is_line_buffered(words.as_slice(), &out) {
+        // without a buffer: a line is one write
+        let mut out = Counted::new(out);
+        return Ok(command(alloc, words.as_slice(), &mut opener, &mut out, err));
+    }
+    let mut out = Counted::new(BufWriter::new(alloc, out)?);
     let status = command(alloc, words.as_slice(), &mut opener, &mut out, err);
     let (_, _) = out.into_inner().into_parts();
     Ok(status)

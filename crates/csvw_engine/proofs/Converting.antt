@@ -201,17 +201,16 @@ module _ {W : Type 0} (contents : W → Option (List ℕ)) (laws : Laws) (base :
   graph : (columns : Option Columns) (rows : List Row) → takes contents start (table_triples 1 columns rows) now → IsAsReady sink_is_open failed_of start now → WroteGraph run columns rows
   graph columns rows g r = wrote_graph laws run columns rows g.1 (whole_lines (table_triples 1 columns rows) g r)
 
-  pub converts : (d : Dialect) (bytes : List ℕ) → IsDefault d → Consumes run.unread run.left bytes → IsAtEnd run.left
-      → Finishes (takes contents) sink_is_open failed_of d start 1 base bytes true now → run.input_failed ≡ run.input_failures → Converts base run
-  converts d bytes default consumed at_end f none = record {
+  pub converts : (columns : Option Columns) (d : Dialect) (bytes : List ℕ) → IsDefault d → Consumes run.unread run.left bytes → IsAtEnd run.left
+      → Finishes (takes contents) sink_is_open failed_of d start 1 base columns bytes true now → run.input_failed ≡ run.input_failures → Converts base run columns
+  converts columns d bytes default consumed at_end f none = record {
     table = record {
       dialect = d;
       bytes = bytes;
       read = record { is_default = default; consumed = consumed; at_end = λ _. at_end };
-      columns = f.columns;
       rows = f.rows;
-      annotated = file_of d base f.columns bytes f.rows f.all (f.whole refl);
-      wrote = graph f.columns f.rows f.gained f.ready;
+      annotated = file_of d base columns bytes f.rows f.all (f.whole refl);
+      wrote = graph columns f.rows f.gained f.ready;
     };
     no_read_failed = none;
     no_write_failed = stays_at f.ready;
@@ -252,18 +251,18 @@ module _ {W : Type 0} (contents : W → Option (List ℕ)) (laws : Laws) (base :
     appended = a;
   }
 
-  halted : (reason : Stop) → HaltsSo base run reason → IsAsReady sink_is_open failed_of start now → Runs base run (Err reason)
-  halted reason so r = inl (record { so = so; no_write_failed = stays_at r })
+  halted : (columns : Option Columns) (reason : Stop) → HaltsSo base run reason → IsAsReady sink_is_open failed_of start now → Runs base run columns (Err reason)
+  halted columns reason so r = inl (record { so = so; no_write_failed = stays_at r })
 
-  halts : (d : Dialect) (bytes : List ℕ) (ended : Bool) → IsDefault d → Consumes run.unread run.left bytes → (ended ≡ true → IsAtEnd run.left)
-      → (reason : Halt) → tables.StopsSo (takes contents) sink_is_open failed_of d start 1 base bytes ended now reason → Runs base run (Err (of_table 1 reason))
+  halts : (columns : Option Columns) (d : Dialect) (bytes : List ℕ) (ended : Bool) → IsDefault d → Consumes run.unread run.left bytes → (ended ≡ true → IsAtEnd run.left)
+      → (reason : Halt) → tables.StopsSo (takes contents) sink_is_open failed_of d start 1 base bytes ended now reason → Runs base run columns (Err (of_table 1 reason))
   unfolding within sends_cut
-  halts d bytes ended default consumed at_end halt.Memory so =
-      halted stop.Memory
+  halts columns d bytes ended default consumed at_end halt.Memory so =
+      halted columns stop.Memory
       (within d bytes ended default consumed at_end so.0 so.0.took.front so.0.took.rest [] so.0.took.parts
       (subst (λ xs. Appends run.held run.holds xs) (sym (append-nil (written so.0.took.front))) (whole_lines so.0.took.front so.0.took.gained so.1))) so.1
-  halts d bytes ended default consumed at_end halt.Read so = absurd so
-  halts d bytes ended default consumed at_end halt.Write so =
+  halts columns d bytes ended default consumed at_end halt.Read so = absurd so
+  halts columns d bytes ended default consumed at_end halt.Write so =
       let cut = sends_cut (contents (inner_of (sink_out start).now)) (contents (inner_of (sink_out now).now)) (sink_is_open start) (sink_is_open now) _ so.0.took.front so.0.took.rest so.0.took.parts so.0.took.gained.1 spans.begun so.0.took.gained.2 in
       inr (
         refl,
@@ -274,10 +273,10 @@ module _ {W : Type 0} (contents : W → Option (List ℕ)) (laws : Laws) (base :
           failed = λ room. spans.failed ∙ (so.1 spans.begun (rw spans.failures at room) ∙ ap (λ n. n + 1) (sym spans.failures));
         },
       )
-  halts d bytes ended default consumed at_end (halt.Rows row reason) so =
-      halted (stop.Rows 1 row reason) (refl, behind (IsStoppedAt base row reason) d bytes ended so.columns so.rows default consumed at_end so.reason so.gained so.ready) so.ready
-  halts d bytes ended default consumed at_end (halt.Table row reason) so =
-      halted (stop.Table 1 row reason) (
+  halts columns d bytes ended default consumed at_end (halt.Rows row reason) so =
+      halted columns (stop.Rows 1 row reason) (refl, behind (IsStoppedAt base row reason) d bytes ended so.columns so.rows default consumed at_end so.reason so.gained so.ready) so.ready
+  halts columns d bytes ended default consumed at_end (halt.Table row reason) so =
+      halted columns (stop.Table 1 row reason) (
         refl,
         behind (IsRefusedAt base row reason) d bytes ended so.columns so.rows default consumed at_end
             (record {
@@ -297,15 +296,15 @@ module _ {W : Type 0} (contents : W → Option (List ℕ)) (laws : Laws) (base :
       (subst (λ z. tables.StopsSo (takes contents) sink_is_open failed_of d start t.number z bytes ended now reason) u so)
 
   pub finishes_at : (d : Dialect) (bytes : List ℕ) (ended : Bool) (t : Table) → t.number ≡ 1 → t.url ≡ base
-      → Finishes (takes contents) sink_is_open failed_of d start t.number t.url bytes ended now → Finishes (takes contents) sink_is_open failed_of d start 1 base bytes ended now
+      → Finishes (takes contents) sink_is_open failed_of d start t.number t.url t.columns bytes ended now → Finishes (takes contents) sink_is_open failed_of d start 1 base t.columns bytes ended now
   finishes_at d bytes ended t n u so =
-      subst (λ z. Finishes (takes contents) sink_is_open failed_of d start z base bytes ended now) n
-      (subst (λ z. Finishes (takes contents) sink_is_open failed_of d start t.number z bytes ended now) u so)
+      subst (λ z. Finishes (takes contents) sink_is_open failed_of d start z base t.columns bytes ended now) n
+      (subst (λ z. Finishes (takes contents) sink_is_open failed_of d start t.number z t.columns bytes ended now) u so)
 
   -- a reader that failed
   cut_short : (d : Dialect) (bytes : List ℕ) (t : Table) → IsDefault d → t.number ≡ 1 → t.url ≡ base → Consumes run.unread run.left bytes
       → (run.input_failed ≡ one_more run.input_failures) ⊎ (2 ^ 40 ≤ length bytes) → Stands (takes contents) sink_is_open failed_of d start t bytes false now
-      → (bytes ≡ []) ⊎ Finishes (takes contents) sink_is_open failed_of d start t.number t.url bytes false now → StopsBehind run (IsCutShort base run)
+      → (bytes ≡ []) ⊎ Finishes (takes contents) sink_is_open failed_of d start t.number t.url t.columns bytes false now → StopsBehind run (IsCutShort base run)
   cut_short d bytes t default n u consumed blame stands (inl e) =
       let none = no_rows laws.nothing d t bytes stands.rows e stands.holds in
       behind (IsCutShort base run) d bytes false t.columns stands.rows default consumed (λ q. cc)
@@ -313,14 +312,14 @@ module _ {W : Type 0} (contents : W → Option (List ℕ)) (laws : Laws) (base :
       (subst (λ z. takes contents start (table_triples z t.columns stands.rows) now) n stands.gained) stands.ready
   cut_short d bytes t default n u consumed blame stands (inr f) =
       let g = finishes_at d bytes false t n u f in
-      behind (IsCutShort base run) d bytes false g.columns g.rows default consumed (λ e. cc)
+      behind (IsCutShort base run) d bytes false t.columns g.rows default consumed (λ e. cc)
       (record { not_ended = refl; blame = blame; whole = inr g.all }) g.gained g.ready
 
   -- after the table was read
   pub stops : (d : Dialect) (t : Table) (reason : Halt) → IsDefault d → t.number ≡ 1 → t.url ≡ base
-      → Reads (takes contents) sink_is_open failed_of d run.unread run.left run.input_failures run.input_failed start t now (Err reason) → Runs base run (Err (of_table 1 reason))
-  stops d t halt.Read default n u r = halted stop.Read (cut_short d r.0 t default n u r.1 r.2 r.3 r.4) r.3.ready
-  stops d t halt.Memory default n u r = halts d r.0 r.1 default r.2 r.3 halt.Memory (at_base d r.0 r.1 t halt.Memory n u r.4)
-  stops d t halt.Write default n u r = halts d r.0 r.1 default r.2 r.3 halt.Write (at_base d r.0 r.1 t halt.Write n u r.4)
-  stops d t (halt.Rows row reason) default n u r = halts d r.0 r.1 default r.2 r.3 (halt.Rows row reason) (at_base d r.0 r.1 t (halt.Rows row reason) n u r.4)
-  stops d t (halt.Table row reason) default n u r = halts d r.0 r.1 default r.2 r.3 (halt.Table row reason) (at_base d r.0 r.1 t (halt.Table row reason) n u r.4)
+      → Reads (takes contents) sink_is_open failed_of d run.unread run.left run.input_failures run.input_failed start t now (Err reason) → Runs base run t.columns (Err (of_table 1 reason))
+  stops d t halt.Read default n u r = halted t.columns stop.Read (cut_short d r.0 t default n u r.1 r.2 r.3 r.4) r.3.ready
+  stops d t halt.Memory default n u r = halts t.columns d r.0 r.1 default r.2 r.3 halt.Memory (at_base d r.0 r.1 t halt.Memory n u r.4)
+  stops d t halt.Write default n u r = halts t.columns d r.0 r.1 default r.2 r.3 halt.Write (at_base d r.0 r.1 t halt.Write n u r.4)
+  stops d t (halt.Rows row reason) default n u r = halts t.columns d r.0 r.1 default r.2 r.3 (halt.Rows row reason) (at_base d r.0 r.1 t (halt.Rows row reason) n u r.4)
+  stops d t (halt.Table row reason) default n u r = halts t.columns d r.0 r.1 default r.2 r.3 (halt.Table row reason) (at_base d r.0 r.1 t (halt.Table row reason) n u r.4)

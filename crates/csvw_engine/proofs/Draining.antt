@@ -51,10 +51,10 @@ module _ {S : Type 0} (gains : S → List Triple → S → Type 0) (is_open : S 
 
   -- all rows that there are were given
   pub stands_whole : (d : Dialect) (bytes : List ℕ) (ended : Bool) (start now : S) (old : Table) → IsDrained old
-      → Stands gains is_open failed d start old bytes ended now → Finishes gains is_open failed d start old.number old.url bytes ended now
+      → Stands gains is_open failed d start old bytes ended now → Finishes gains is_open failed d start old.number old.url old.columns bytes ended now
   stands_whole d bytes ended start now old drained h =
       let k = drained d bytes ended h.rows h.holds in
-      record { columns = old.columns; rows = h.rows; all = k.0; no_stop = k.1; whole = k.2; gained = h.gained; ready = h.ready }
+      record { rows = h.rows; all = k.0; no_stop = k.1; whole = k.2; gained = h.gained; ready = h.ready }
 
   -- the rows so far come first
   begins : (d : Dialect) (bytes : List ℕ) (ended : Bool) (old : Table) (rows : List Row) → TableHolds d old bytes ended rows → BeginsWith d old.url old.columns bytes ended rows
@@ -158,11 +158,12 @@ module _ {S : Type 0} (gains : S → List Triple → S → Type 0) (is_open : S 
       subst (λ n. StopsSo gains is_open failed d start n new.url bytes ended now reason) (sym same.0)
       (subst (λ u. StopsSo gains is_open failed d start old.number u bytes ended now reason) (sym same.1) so)
 
-  pub finishes_same : (d : Dialect) (bytes : List ℕ) (ended : Bool) (start now : S) (old new : Table) → IsSameTable old new
-      → Finishes gains is_open failed d start old.number old.url bytes ended now → Finishes gains is_open failed d start new.number new.url bytes ended now
-  finishes_same d bytes ended start now old new same f =
-      subst (λ n. Finishes gains is_open failed d start n new.url bytes ended now) (sym same.0)
-      (subst (λ u. Finishes gains is_open failed d start old.number u bytes ended now) (sym same.1) f)
+  pub finishes_same : (d : Dialect) (bytes : List ℕ) (ended : Bool) (start now : S) (old new : Table) → IsSameTable old new → new.columns ≡ old.columns
+      → Finishes gains is_open failed d start old.number old.url old.columns bytes ended now → Finishes gains is_open failed d start new.number new.url new.columns bytes ended now
+  finishes_same d bytes ended start now old new same columns f =
+      subst (λ n. Finishes gains is_open failed d start n new.url new.columns bytes ended now) (sym same.0)
+      (subst (λ u. Finishes gains is_open failed d start old.number u new.columns bytes ended now) (sym same.1)
+      (subst (λ c. Finishes gains is_open failed d start old.number old.url c bytes ended now) (sym columns) f))
 
   -- the reader took more of the text, or its end
   pub stands_moved : (d : Dialect) (bytes more : List ℕ) (ended closed : Bool) (start now : S) (old new : Table) → IsSameTable old new → new.columns ≡ old.columns

@@ -1,13 +1,14 @@
 -- What flushes leave of a run.
-use Rattle.std.proofs.Common.{◌≡◌, ◌≢◌, ℕ, List, sym, ap, ◌∙◌, subst, arith, inl, inr, ◌⊎◌, Option, Some, None, Result, Ok, Err, IfErr}
+use Rattle.std.proofs.Common.{◌≡◌, ◌≢◌, ℕ, List, sym, ap, ◌∙◌, subst, arith, inl, inr, ◌⊎◌, Option, Some, None, Result, Ok, Err}
 use Rattle.std.specs.Io.KnownBytes.{Appends, Keeps}
 use Rattle.url.specs.Parts.{Parts}
 use Rattle.csvw_text.specs.Count.{one_more}
+use Rattle.csvw_text.specs.Streams.{Stream}
 use Rattle.csvw_iri.specs.Link.{base_of}
 use Rattle.csvw_dialect.specs.declared.dialect.Dialect.{Dialect}
 use Rattle.csvw_plain_columns.specs.declared.column.Columns.{Columns}
 use Rattle.csvw_plain_annotate.specs.declared.row.Row.{Row}
-use Rattle.csvw_engine.specs.Plain.{Run, Rose, HasRead, WroteGraph, WroteTable, Converts, StopsBehind, StopsWithin, IsStoppedAt, IsRefusedAt, IsCutShort, HaltsSo, Halts, IsCutOff, FlushFails, WriterFails, Runs, PlainStops}
+use Rattle.csvw_engine.specs.Plain.{Run, Rose, HasRead, WroteGraph, WroteTable, Converts, StopsBehind, StopsWithin, IsStoppedAt, IsRefusedAt, IsCutShort, HaltsSo, Halts, IsCutOff, FlushFails, OutFails, Runs, StopsInTable, StopsInReport, RunsTable}
 use Rattle.csvw_engine.specs.Flushes.{IsFlushed}
 use Rattle.csvw_report.specs.declared.outcome.Outcome.{Outcome}
 use Rattle.csvw_session.specs.declared.stop.Stop.{Stop}
@@ -44,15 +45,14 @@ module _ (run : Run) (holds : Option (List ℕ)) (failed : ℕ) (keeps : Keeps r
     same = w.same;
   }
 
-  table_kept : (base : Parts) → WroteTable base run → WroteTable base after
-  table_kept base t = record {
+  table_kept : (base : Parts) (columns : Option Columns) → WroteTable base run columns → WroteTable base after columns
+  table_kept base columns t = record {
     dialect = t.dialect;
     bytes = t.bytes;
     read = read_kept t.dialect t.bytes _ t.read;
-    columns = t.columns;
     rows = t.rows;
     annotated = t.annotated;
-    wrote = graph_kept t.columns t.rows t.wrote;
+    wrote = graph_kept columns t.rows t.wrote;
   }
 
   behind_kept : (Reason Other : Dialect → List ℕ → _ → Option Columns → List Row → Type 0) → ((d : Dialect) (bytes : List ℕ) (ended : _) (columns : Option Columns) (rows : List Row) → Reason d bytes ended columns rows → Other d bytes ended columns rows)
@@ -100,34 +100,36 @@ module _ (run : Run) (holds : Option (List ℕ)) (failed : ℕ) (keeps : Keeps r
   halt_kept base stop.Failed h = absurd h
 
   -- it succeeds
-  converts_kept : (base : Parts) → failed ≡ run.out_failed → Converts base run → Converts base after
-  converts_kept base e f = record { table = table_kept base f.table; no_read_failed = f.no_read_failed; no_write_failed = e ∙ f.no_write_failed }
+  converts_kept : (base : Parts) (columns : Option Columns) → failed ≡ run.out_failed → Converts base run columns → Converts base after columns
+  converts_kept base columns e f = record { table = table_kept base columns f.table; no_read_failed = f.no_read_failed; no_write_failed = e ∙ f.no_write_failed }
 
-  stop_kept : (base : Parts) (reason : Stop) (reports reported : ℕ) → failed ≡ run.out_failed → Halts base run reason ⊎ ((reason ≡ stop.Write) × IsCutOff base run)
-      → Halts base after reason ⊎ ((reason ≡ stop.Write) × WriterFails base after reports reported)
+  stop_kept : (base : Parts) (reason : Stop) → failed ≡ run.out_failed → Halts base run reason ⊎ ((reason ≡ stop.Write) × IsCutOff base run)
+      → Halts base after reason ⊎ ((reason ≡ stop.Write) × OutFails base after)
   unfolding within_kept
-  stop_kept base reason reports reported e (inl h) = inl (record { so = halt_kept base reason h.so; no_write_failed = e ∙ h.no_write_failed })
-  stop_kept base reason reports reported e (inr (w, c)) =
+  stop_kept base reason e (inl h) = inl (record { so = halt_kept base reason h.so; no_write_failed = e ∙ h.no_write_failed })
+  stop_kept base reason e (inr (w, c)) =
       inr (w, inl (record { more = c.more; within = within_kept base c.more c.within; is_cut = c.is_cut; failed = λ room. e ∙ c.failed room }))
 
   -- it fails, behind the whole graph or behind a stop
-  unsent : (base : Parts) (ran : Result Unit Stop) → failed ≡ one_more run.out_failed → ran ≢ Err stop.Write → Runs base run ran → FlushFails base after
-  unsent base (Ok u) e apart f = record { wrote = inl (table_kept base f.table); failed = rose run.out_failures run.out_failed failed f.no_write_failed e }
-  unsent base (Err reason) e apart (inl h) = record { wrote = inr (reason, halt_kept base reason h.so); failed = rose run.out_failures run.out_failed failed h.no_write_failed e }
-  unsent base (Err reason) e apart (inr (w, c)) = absurd (apart (ap Err w))
+  unsent : (base : Parts) (columns : Option Columns) (ran : Result Unit Stop) → failed ≡ one_more run.out_failed → ran ≢ Err stop.Write → Runs base run columns ran → FlushFails base after
+  unsent base columns (Ok u) e apart f =
+      record { wrote = inl (columns, table_kept base columns f.table); failed = rose run.out_failures run.out_failed failed f.no_write_failed e }
+  unsent base columns (Err reason) e apart (inl h) =
+      record { wrote = inr (reason, halt_kept base reason h.so); failed = rose run.out_failures run.out_failed failed h.no_write_failed e }
+  unsent base columns (Err reason) e apart (inr (w, c)) = absurd (apart (ap Err w))
 
-  pub flushed_ok : (base : Parts) (ran result : Result Unit Stop) (u : Unit {0}) → result ≡ Ok u → IsFlushed ran result run.out_failed failed → Runs base run ran → Converts base after
-  flushed_ok base ran result u p (inl (q, n)) r = converts_kept base n (subst (Runs base run) (sym q ∙ p) r)
-  flushed_ok base ran result u p (inr (apart, q, n)) r = let wrong : Ok u ≡ Err stop.Write = sym p ∙ q in cc
+  pub flushed_ok : (base : Parts) (columns : Option Columns) (ran result : Result Unit Stop) (u : Unit {0}) → result ≡ Ok u → IsFlushed ran result run.out_failed failed → Runs base run columns ran
+      → Converts base after columns
+  flushed_ok base columns ran result u p (inl (q, n)) r = converts_kept base columns n (subst (Runs base run columns) (sym q ∙ p) r)
+  flushed_ok base columns ran result u p (inr (apart, q, n)) r = let wrong : Ok u ≡ Err stop.Write = sym p ∙ q in cc
 
-  pub flushed_err : (base : Parts) (ran result : Result Unit Stop) (reason : Stop) (reports reported : ℕ) → result ≡ Err reason → IsFlushed ran result run.out_failed failed → Runs base run ran
-      → Halts base after reason ⊎ ((reason ≡ stop.Write) × WriterFails base after reports reported)
-  flushed_err base ran result reason reports reported p (inl (q, n)) r = stop_kept base reason reports reported n (subst (Runs base run) (sym q ∙ p) r)
-  flushed_err base ran result reason reports reported p (inr (apart, q, n)) r =
-      inr ((let same : Err reason ≡ Err stop.Write = sym p ∙ q in cc), inr (inl (unsent base ran n apart r)))
+  pub flushed_err : (base : Parts) (columns : Option Columns) (ran result : Result Unit Stop) (reason : Stop) → result ≡ Err reason → IsFlushed ran result run.out_failed failed
+      → Runs base run columns ran → Halts base after reason ⊎ ((reason ≡ stop.Write) × OutFails base after)
+  flushed_err base columns ran result reason p (inl (q, n)) r = stop_kept base reason n (subst (Runs base run columns) (sym q ∙ p) r)
+  flushed_err base columns ran result reason p (inr (apart, q, n)) r =
+      inr ((let same : Err reason ≡ Err stop.Write = sym p ∙ q in cc), inr (unsent base columns ran n apart r))
 
--- the answer of a run that stops
-pub stopped : (url : List ℕ) (base : Parts) (run : Run) (reports reported : ℕ) (r : Result Outcome Stop) (e f : Stop) → base_of None url ≡ Ok base → r ≡ Err e → e ≡ f
-    → Halts base run f ⊎ ((f ≡ stop.Write) × WriterFails base run reports reported) → IfErr r (λ reason. PlainStops url run reports reported reason)
-stopped url base run reports reported r e f is p q so =
-    subst (λ z. IfErr z (λ reason. PlainStops url run reports reported reason)) (sym (p ∙ ap Err q)) (inr (base, is, so))
+-- a run that stops
+pub stopped : (url : List ℕ) (base : Parts) (run : Run) (told : Stream) (r : Result Outcome Stop) (e f : Stop) → base_of None url ≡ Ok base → r ≡ Err e → e ≡ f
+    → StopsInTable base run told f ⊎ StopsInReport base run told f → RunsTable url run told r
+stopped url base run told r e f is p q so = subst (RunsTable url run told) (sym (p ∙ ap Err q)) (inr (base, is, so))

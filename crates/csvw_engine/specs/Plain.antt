@@ -1,9 +1,12 @@
 -- What a run over one table without a schema leaves (Generating RDF from Tabular Data on the Web, section 4.2, minimal mode).
-use Rattle.std.specs.Prelude.{◌≡◌, ◌⊎◌, ◌<◌, ◌≤◌, ◌+◌, ◌-◌, ◌^◌, ℕ, Bool, true, false, List, [], ◌∷◌, ◌++◌, codes, length, take, Option, None, Result, Ok, Err}
+use Rattle.std.specs.Prelude.{◌≡◌, ◌⊎◌, ◌<◌, ◌≤◌, ◌+◌, ◌-◌, ◌^◌, ℕ, Bool, true, false, List, [], ◌∷◌, ◌++◌, codes, length, take, Option, None, Some, Result, Ok, Err}
 use Rattle.std.specs.Io.KnownBytes.{Appends, Consumes, IsAtEnd}
 use Rattle.url.specs.Parts.{Parts}
 use Rattle.csvw_text.specs.declared.counted.Counted.{Counted}
 use Rattle.csvw_text.specs.Count.{one_more}
+use Rattle.csvw_text.specs.Streams.{Stream, IsIdle, Sends}
+use Rattle.csvw_text.specs.declared.fault.Fault.{Fault}
+use Rattle.csvw_text.specs.declared.fault.Code.TheVariants.{HeaderMissing}
 use Rattle.csvw_text.specs.Counted.{inner_of, failures_of}
 use Rattle.csvw_iri.specs.Link.{Refusal, too_long, bad, base_of, iri_of}
 use Rattle.csvw_dialect.specs.declared.dialect.Dialect.{Dialect}
@@ -14,6 +17,9 @@ use Rattle.csvw_rows.specs.RowValue.{Given}
 use Rattle.csvw_rows.specs.Stops.{StopOf}
 use Rattle.csvw_plain_columns.specs.declared.column.Columns.{Columns}
 use Rattle.csvw_columns.specs.declared.table_stop.TableStop.{TableStop}
+use Rattle.csvw_columns_core.specs.HeaderFits.{error_at}
+use Rattle.csvw_report.specs.Report.{report}
+use Rattle.csvw_report.specs.declared.outcome.Outcome.{Outcome}
 use Rattle.csvw_plain_annotate.specs.Tables.{IsAnnotated, IsTable, Refuses}
 use Rattle.csvw_plain_annotate.specs.declared.row.Row.{Row}
 use Rattle.csvw_triples_core.specs.declared.term.Triple.{Triple}
@@ -72,19 +78,18 @@ pub record HasRead (run : Run) (d : Dialect) (bytes : List ℕ) (ended : Bool) :
   pub consumed : Consumes run.unread run.left bytes
   pub at_end : ended ≡ true → IsAtEnd run.left
 
--- all bytes of the reader are a table at this URL, and its graph was written
-pub record WroteTable (base : Parts) (run : Run) : Type 0 where
+-- all bytes of the reader are a table at this URL with these columns, and its graph was written
+pub record WroteTable (base : Parts) (run : Run) (columns : Option Columns) : Type 0 where
   pub dialect : Dialect
   pub bytes : List ℕ
   pub read : HasRead run dialect bytes true
-  pub columns : Option Columns
   pub rows : List Row
   pub annotated : IsAnnotated dialect max_rows (iri_of base) bytes columns rows
   pub wrote : WroteGraph run columns rows
 
 -- so it is, and neither the reader nor the writer failed
-pub record Converts (base : Parts) (run : Run) : Type 0 where
-  pub table : WroteTable base run
+pub record Converts (base : Parts) (run : Run) (columns : Option Columns) : Type 0 where
+  pub table : WroteTable base run columns
   pub no_read_failed : run.input_failed ≡ run.input_failures
   pub no_write_failed : run.out_failed ≡ run.out_failures
 
@@ -171,24 +176,38 @@ pub record IsCutOff (base : Parts) (run : Run) : Type 0 where
   pub is_cut : IsCutLine within.rest more
   pub failed : Rose run.out_failures run.out_failed
 
--- a flush failed, behind the whole graph or behind what was written in front of a stop
+-- a flush of `out` failed, behind the whole graph or behind what was written in front of a stop
 pub record FlushFails (base : Parts) (run : Run) : Type 0 where
-  pub wrote : WroteTable base run ⊎ ((reason : Stop) × HaltsSo base run reason)
+  pub wrote : ((columns : Option Columns) × WroteTable base run columns) ⊎ ((reason : Stop) × HaltsSo base run reason)
   pub failed : Rose run.out_failures run.out_failed
 
--- a flush of the report failed, behind the whole graph
-pub record ReportFails (base : Parts) (run : Run) (reports reported : ℕ) : Type 0 where
-  pub converts : Converts base run
-  pub failed : Rose reports reported
-
--- how a writer failed
-abbrev pub WriterFails : Parts → Run → ℕ → ℕ → Type 0
-WriterFails base run reports reported = IsCutOff base run ⊎ (FlushFails base run ⊎ ReportFails base run reports reported)
+-- how `out` failed
+abbrev pub OutFails : Parts → Run → Type 0
+OutFails base run = IsCutOff base run ⊎ FlushFails base run
 
 -- after a run over the table at this URL, up to the flushes
-abbrev pub Runs : Parts → Run → Result Unit Stop → Type 0
-Runs base run (Ok u) = Converts base run
-Runs base run (Err reason) = Halts base run reason ⊎ ((reason ≡ stop.Write) × IsCutOff base run)
+abbrev pub Runs : Parts → Run → Option Columns → Result Unit Stop → Type 0
+Runs base run columns (Ok u) = Converts base run columns
+Runs base run columns (Err reason) = Halts base run reason ⊎ ((reason ≡ stop.Write) × IsCutOff base run)
+
+-- What such a table violates (Model for Tabular Data, section 8): its header is missing where no row names its columns. Each other
+-- row has a cell for each column, and a string without a schema breaks no constraint.
+abbrev pub violations : Option Columns → List Fault
+violations None = error_at 1 0 0 HeaderMissing ∷ []
+violations (Some columns) = []
+
+-- the bytes of the reader are a table, whose graph was written, and whose violations told and reported
+pub record ReportsTable (base : Parts) (run : Run) (told : Stream) (outcome : Outcome) : Type 0 where
+  pub columns : Option Columns
+  pub converts : Converts base run columns
+  pub violated : outcome.faults ≡ violations columns
+  pub reported : Sends told (report outcome.faults)
+
+-- behind the whole graph there was no memory for the report, or its writer failed
+pub record StopsInReport (base : Parts) (run : Run) (told : Stream) (reason : Stop) : Type 0 where
+  pub columns : Option Columns
+  pub converts : Converts base run columns
+  pub so : ((reason ≡ stop.Memory) × (told.failed ≡ told.failures)) ⊎ ((reason ≡ stop.Write) × Rose told.failures told.failed)
 
 -- the fault of a URL that is refused
 abbrev pub url_fault : Refusal → MetaFault
@@ -227,8 +246,17 @@ IsUrlStop url stop.Failed = ⊥
 abbrev pub AtUrl : List ℕ → (Parts → Type 0) → Type 0
 AtUrl url P = (base : Parts) × (base_of None url ≡ Ok base) × P base
 
--- Why a run stops: the URL is refused, which comes before all else; the table stops; or a writer failed.
-abbrev pub PlainStops : List ℕ → Run → ℕ → ℕ → Stop → Type 0
-PlainStops url run reports reported reason =
-    (IsUntouched run × IsUrlStop (base_of None url) reason)
-    ⊎ AtUrl url (λ base. Halts base run reason ⊎ ((reason ≡ stop.Write) × WriterFails base run reports reported))
+-- why the table at this URL stops, or that `out` failed; nothing was reported
+abbrev pub StopsInTable : Parts → Run → Stream → Stop → Type 0
+StopsInTable base run told reason = (Halts base run reason ⊎ ((reason ≡ stop.Write) × OutFails base run)) × IsIdle told
+
+-- Why a run stops: the URL is refused, which comes before all else; the table stops, or `out` failed; or the report stops.
+abbrev pub PlainStops : List ℕ → Run → Stream → Stop → Type 0
+PlainStops url run told reason =
+    (IsUntouched run × IsIdle told × IsUrlStop (base_of None url) reason)
+    ⊎ AtUrl url (λ base. StopsInTable base run told reason ⊎ StopsInReport base run told reason)
+
+-- what a run over the table at this URL leaves, by its answer
+abbrev pub RunsTable : List ℕ → Run → Stream → Result Outcome Stop → Type 0
+RunsTable url run told (Ok outcome) = AtUrl url (λ base. ReportsTable base run told outcome)
+RunsTable url run told (Err reason) = PlainStops url run told reason

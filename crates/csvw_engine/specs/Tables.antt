@@ -115,8 +115,7 @@ pub record Stands {S : Type 0} (gains : S → List Triple → S → Type 0) (is_
   pub ready : IsAsReady is_open failed start now
 
 -- the same, where these are all rows of the text so far, and no stop stands
-pub record Finishes {S : Type 0} (gains : S → List Triple → S → Type 0) (is_open : S → Bool) (failed : S → ℕ) (d : Dialect) (start : S) (number : ℕ) (url : Parts) (bytes : List ℕ) (ended : Bool) (now : S) : Type 0 where
-  pub columns : Option Columns
+pub record Finishes {S : Type 0} (gains : S → List Triple → S → Type 0) (is_open : S → Bool) (failed : S → ℕ) (d : Dialect) (start : S) (number : ℕ) (url : Parts) (columns : Option Columns) (bytes : List ℕ) (ended : Bool) (now : S) : Type 0 where
   pub rows : List Row
   pub all : HasAll d url columns bytes ended rows
   pub no_stop : NoStop d max_rows bytes ended
@@ -154,7 +153,7 @@ StopsSo gains is_open failed d start number url bytes ended now (halt.Table row 
 -- after the rows that are complete were given
 abbrev pub Drains : {S : Type 0} → (S → List Triple → S → Type 0) → (S → Bool) → (S → ℕ) → Dialect → List ℕ → Bool → S → Table → S → Result Unit Halt → Type 0
 Drains gains is_open failed d bytes ended start t now (Ok u) =
-    Stands gains is_open failed d start t bytes ended now × Finishes gains is_open failed d start t.number t.url bytes ended now
+    Stands gains is_open failed d start t bytes ended now × Finishes gains is_open failed d start t.number t.url t.columns bytes ended now
 Drains gains is_open failed d bytes ended start t now (Err reason) = StopsSo gains is_open failed d start t.number t.url bytes ended now reason
 
 -- after a row was given to the sink
@@ -167,9 +166,9 @@ GivesRow gains is_open failed triples old new (Err _) = ⊥
 -- after a reader was read to its end
 abbrev pub Reads : {S : Type 0} → (S → List Triple → S → Type 0) → (S → Bool) → (S → ℕ) → Dialect → Option (List ℕ) → Option (List ℕ) → ℕ → ℕ → S → Table → S → Result Unit Halt → Type 0
 Reads gains is_open failed d known rest failures now_failures start t now (Ok u) =
-    (bytes : List ℕ) × Consumes known rest bytes × IsAtEnd rest × Finishes gains is_open failed d start t.number t.url bytes true now × (now_failures ≡ failures)
+    (bytes : List ℕ) × Consumes known rest bytes × IsAtEnd rest × Finishes gains is_open failed d start t.number t.url t.columns bytes true now × (now_failures ≡ failures)
 Reads gains is_open failed d known rest failures now_failures start t now (Err halt.Read) =
     (bytes : List ℕ) × Consumes known rest bytes × ((now_failures ≡ one_more failures) ⊎ (2 ^ 40 ≤ length bytes))
-    × Stands gains is_open failed d start t bytes false now × ((bytes ≡ []) ⊎ Finishes gains is_open failed d start t.number t.url bytes false now)
+    × Stands gains is_open failed d start t bytes false now × ((bytes ≡ []) ⊎ Finishes gains is_open failed d start t.number t.url t.columns bytes false now)
 Reads gains is_open failed d known rest failures now_failures start t now (Err reason) =
     (bytes : List ℕ) × (ended : Bool) × Consumes known rest bytes × (ended ≡ true → IsAtEnd rest) × StopsSo gains is_open failed d start t.number t.url bytes ended now reason

@@ -16,7 +16,7 @@ use std::alloc::Global;
 use std::io::{Read, Write};
 
 /// Writes the report of what the tables gave, if they were read to their ends.
-fn tell<V: Write>(
+pub(crate) fn tell<V: Write>(
     alloc: Global,
     ran: Result<Outcome, Stop>,
     report: &mut Counted<V>,

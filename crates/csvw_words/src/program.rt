@@ -54,7 +54,7 @@ fn line_buffered<'a>(alloc: Global) -> Arg<'a>
     flag(
         alloc,
         LINE_BUFFERED,
-        "Is to send each line as soon as it is whole, as in `csvw plain --line-buffered URL t.csv`; so far it changes nothing",
+        "Sends each line when it is made, as in `csvw plain --line-buffered URL t.csv`; else lines wait for a full buffer, but at a terminal",
     )
 }
 

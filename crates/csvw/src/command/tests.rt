@@ -127,7 +127,7 @@ fn writes_a_triple_for_each_cell(rt: HostRuntime) -> Result<(), Fail> {
     let ran = plain(rt.alloc(), b"id,name\n1,Ann\n")?;
     let lines =
         b"_:t1r1s <http://example.org/p.csv#id> \"1\" .\n_:t1r1s <http://example.org/p.csv#name> \"Ann\" .\n";
-    assert!(rt; ran.is(0, lines, b""));
+    assert!(rt; ran.is(0, lines, HEADING));
     Ok(())
 }
 
@@ -136,13 +136,16 @@ fn escapes_quotes_and_line_breaks(rt: HostRuntime) -> Result<(), Fail> {
     let ran = plain(rt.alloc(), b"a,b\n\"p\"\"q\",\"x\ny\"\n")?;
     let lines =
         b"_:t1r1s <http://example.org/p.csv#a> \"p\\\"q\" .\n_:t1r1s <http://example.org/p.csv#b> \"x\\ny\" .\n";
-    assert!(rt; ran.is(0, lines, b""));
+    assert!(rt; ran.is(0, lines, HEADING));
     Ok(())
 }
 
 #[test]
-fn an_empty_file_gives_nothing(rt: HostRuntime) -> Result<(), Fail> {
-    assert!(rt; plain(rt.alloc(), b"")?.is(0, b"", b""));
+fn a_file_without_rows_has_no_header(rt: HostRuntime) -> Result<(), Fail> {
+    let report = b"kind,code,table,row,column\nerror,HeaderMissing,1,0,0\n";
+    for file in [b"".as_slice(), b"# x\n"] {
+        assert!(rt; plain(rt.alloc(), file)?.is(1, b"", report));
+    }
     Ok(())
 }
 
@@ -166,7 +169,7 @@ fn tells_a_row_that_is_too_long(rt: HostRuntime) -> Result<(), Fail> {
     let alloc = rt.alloc();
     let longest = letters(alloc, b"h\n", 1_048_576)?;
     let ran = plain(alloc, longest.as_slice())?;
-    assert!(rt; ran.status == 0 && ran.err.is_empty());
+    assert!(rt; ran.status == 0 && ran.err.as_slice() == HEADING);
     let longer = letters(alloc, b"h\n", 1_048_577)?;
     assert!(rt; plain(alloc, longer.as_slice())?.is(3, b"", b"csvw: RowTooLong table 1 row 2\n"));
     Ok(())
@@ -185,7 +188,7 @@ fn tells_a_header_that_names_no_columns(rt: HostRuntime) -> Result<(), Fail> {
     let alloc = rt.alloc();
     assert!(rt; plain(alloc, b"a,a\n")?.is(3, b"", b"csvw: DuplicateName table 1 row 1\n"));
     let widest = wide_header(alloc, 1023)?;
-    assert!(rt; plain(alloc, widest.as_slice())?.is(0, b"", b""));
+    assert!(rt; plain(alloc, widest.as_slice())?.is(0, b"", HEADING));
     let wider = wide_header(alloc, 1024)?;
     assert!(rt;
         plain(alloc, wider.as_slice())?.is(3, b"", b"csvw: TooManyColumns table 1 row 1\n")

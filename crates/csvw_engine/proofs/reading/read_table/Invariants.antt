@@ -19,5 +19,5 @@ invariant-loop-reads g l = record {
   stands : (d : Dialect) (start : _) → Stands g.S.TripleSink.gains g.S.TripleSink.is_open g.S.TripleSink.failed d start l.initial.table [] false l.initial.sink
       → Stands g.S.TripleSink.gains g.S.TripleSink.is_open g.S.TripleSink.failed d start l.table bytes false l.sink;
   finishes : (bytes ≡ []) ⊎ ((d : Dialect) (start : _) → Stands g.S.TripleSink.gains g.S.TripleSink.is_open g.S.TripleSink.failed d start l.initial.table [] false l.initial.sink
-      → Finishes g.S.TripleSink.gains g.S.TripleSink.is_open g.S.TripleSink.failed d start l.table.number l.table.url bytes false l.sink);
+      → Finishes g.S.TripleSink.gains g.S.TripleSink.is_open g.S.TripleSink.failed d start l.table.number l.table.url l.table.columns bytes false l.sink);
 }

@@ -53,6 +53,6 @@ returns-in-Nothing-clause-drains g c =
     let s = rw c.in-Nothing.is at c.in_ok-row.ensures in let i = c.loop-emitter.invariant in
     λ d bytes ended start h. (
       stands_on g.S.TripleSink.gains g.S.TripleSink.is_open g.S.TripleSink.failed g.met.S.TripleSink.stays g.met.S.TripleSink.goes_on d bytes ended start c.loop-emitter.sink c.loop-emitter.table c.next_row.new.table s.1 s.2 s.3 (i.stands d bytes ended start h),
-      finishes_same g.S.TripleSink.gains g.S.TripleSink.is_open g.S.TripleSink.failed g.met.S.TripleSink.stays g.met.S.TripleSink.goes_on d bytes ended start c.loop-emitter.sink c.loop-emitter.table c.next_row.new.table s.1
+      finishes_same g.S.TripleSink.gains g.S.TripleSink.is_open g.S.TripleSink.failed g.met.S.TripleSink.stays g.met.S.TripleSink.goes_on d bytes ended start c.loop-emitter.sink c.loop-emitter.table c.next_row.new.table s.1 s.2
           (stands_whole g.S.TripleSink.gains g.S.TripleSink.is_open g.S.TripleSink.failed g.met.S.TripleSink.stays g.met.S.TripleSink.goes_on d bytes ended start c.loop-emitter.sink c.loop-emitter.table s.4 (i.stands d bytes ended start h)),
     )
