@@ -1,3 +1,4 @@
+pub mod Counting
 pub mod Documents
 pub mod Ending
 pub mod Opening

@@ -1,5 +1,5 @@
 -- What one run of the program does.
-use Rattle.std.specs.Prelude.{◌≡◌, ◌⊎◌, ℕ, List, [], Option, None, Some}
+use Rattle.std.specs.Prelude.{◌≡◌, ◌⊎◌, ◌<◌, ◌≤◌, ℕ, List, [], Option, None, Some}
 use Rattle.clap.specs.Words.{HasKind, Text, fault_of, kind_of}
 use Rattle.clap.specs.declared.error.Error.{Error}
 use Rattle.csvw_session.specs.declared.stop.Stop.TheVariants as stop
@@ -8,7 +8,8 @@ use Rattle.csvw_words.specs.Asked.{Asks, program_app}
 use Rattle.csvw_words.specs.declared.Request.{Request}
 use Rattle.csvw_words.specs.declared.Request.TheVariants.{Convert, Plain, Validate}
 use Rattle.csvw_engine.specs.Plain.{Run, RunsTable}
-use Rattle.csvw.specs.Answers.{Answers, TellsStop}
+use Rattle.csvw.specs.Answers.{Answers, TellsMistake, TellsStop}
+use Rattle.csvw.specs.StandardInput.{inputs_of}
 use Rattle.csvw.specs.Groups.{ComesToEnd, RunsGroup, StopsEarly, conversion}
 use Rattle.csvw_text.specs.Streams.{Stream, IsIdle}
 
@@ -52,7 +53,16 @@ RunsRequest opens remaining (Convert group minimal line_buffered) old new out er
 pub record RunsAsked {O R : Type 0} (opens : O → Text → Option R → O → Type 0) (remaining : R → Option (List ℕ)) (words : List Text) (old new : O) (out err : Stream) (status : ℕ) : Type 0 where
   pub request : Request
   pub asks : Asks words request
+  pub once : inputs_of request ≤ 1
   pub runs : RunsRequest opens remaining request old new out err status
+
+-- the words ask for a run that reads standard input for two files, which is told; no file is opened
+pub record AsksTwice {O : Type 0} (words : List Text) (old new : O) (out err : Stream) (status : ℕ) : Type 0 where
+  pub request : Request
+  pub asks : Asks words request
+  pub twice : 1 < inputs_of request
+  pub opens_none : new ≡ old
+  pub told : TellsMistake out err status
 
 -- the words ask for no run, and they are answered; no file is opened
 pub record AnswersWords {O : Type 0} (words : List Text) (old new : O) (out err : Stream) (status : ℕ) : Type 0 where
@@ -64,4 +74,4 @@ pub record AnswersWords {O : Type 0} (words : List Text) (old new : O) (out err 
 -- What one run does with its words, its files and its two streams, and the status that it ends with.
 abbrev pub Commands : {O R : Type 0} → (O → Text → Option R → O → Type 0) → (R → Option (List ℕ)) → List Text → O → O → Stream → Stream → ℕ → Type 0
 Commands opens remaining words old new out err status =
-    RunsAsked opens remaining words old new out err status ⊎ AnswersWords words old new out err status
+    RunsAsked opens remaining words old new out err status ⊎ (AsksTwice words old new out err status ⊎ AnswersWords words old new out err status)

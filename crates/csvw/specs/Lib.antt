@@ -4,4 +4,5 @@ pub mod Groups
 pub mod Lines
 pub mod MetaNames
 pub mod Names
+pub mod StandardInput
 pub mod Status

@@ -7,6 +7,7 @@ ghost use Rattle.csvw_text.specs.Streams.{stream_of};
 
 use crate::group::{convert, tell_end, validate};
 use crate::opener::Opener;
+use crate::standard_input::reads_twice;
 use crate::tell::{SUCCESS, send, tell_mistake, tell_stop};
 use clap::Error;
 use clap::error::ErrorKind;
@@ -15,6 +16,9 @@ use csvw_text::Counted;
 use csvw_words::{Request, requested};
 use std::alloc::Global;
 use std::io::Write;
+
+/// What is told of a command line that names standard input twice.
+const TWICE: &str = "csvw: standard input is named for two files, and can be read for one\n";
 
 fn give_help<W: Write, V: Write>(
     alloc: Global,
@@ -100,7 +104,7 @@ fn run_request<O: Opener, W: Write, V: Write>(
 
 /// Runs the program on its words, the first of which is its name, and answers its exit status: 0 where
 /// there is no fault of kind error or help was asked for, 1 where there are faults, 2 where the command
-/// line is refused, 3 where metadata or a table is, 4 where a file or a stream failed or memory ran out.
+/// line is refused, as where it names standard input, `-`, for two files, 3 where metadata or a table is, 4 where a file or a stream failed or memory ran out.
 /// Help, graphs and the report of `validate` go to `out`, everything else to `err`, other reports among it;
 /// on 3 and 4 its last line tells the stop.
 pub fn command<O: Opener, W: Write, V: Write>(
@@ -115,6 +119,7 @@ pub fn command<O: Opener, W: Write, V: Write>(
     ensures bound { result ≤ 4 }
 {
     match requested(alloc, words) {
+        Ok(request) if reads_twice(&request) => tell_mistake(TWICE, err),
         Ok(request) => run_request(alloc, &request, opener, out, err),
         Err(answer) => tell_words(alloc, &answer, out, err),
     }

@@ -5,6 +5,7 @@ mod command;
 mod group;
 mod names;
 mod opener;
+mod standard_input;
 mod tell;
 
 use command::command;
@@ -26,7 +27,7 @@ fn is_line_buffered(words: &[String], out: &Stdout) -> bool {
 fn run(rt: &HostRuntime, err: &mut Counted<Stderr>) -> io::Result<u8> {
     let alloc = rt.alloc();
     let words = env::args(rt)?.collect::<Vec<String>>(alloc)?;
-    let mut opener = FileOpener::new(rt);
+    let mut opener = FileOpener::new(rt, rt.stdin());
     let out = rt.stdout();
     if is_line_buffered(words.as_slice(), &out) {
         // without a buffer: a line is one write

@@ -8,4 +8,5 @@ pub mod Pieces
 pub mod Planning
 pub mod Tables
 pub mod Taking
+pub mod Telling
 pub mod Writing

@@ -1,7 +1,7 @@
 //! Runs of the program over files in memory.
 ghost use Rattle.std.specs.Prelude.{◌≡◌};
 
-use crate::command::command;
+use crate::command::{TWICE, command};
 use crate::opener::Opener;
 use csvw_text::Counted;
 use std::alloc::{AllocError, Global};
@@ -436,6 +436,34 @@ fn tells_metadata_that_is_too_long(rt: HostRuntime) -> Result<(), Fail> {
     meta.push(b' ')?;
     let files = group(meta.as_slice(), b"id,name\n");
     assert!(rt; run(alloc, &VALIDATE, &files)?.is(3, b"", b"csvw: metadata TooLong \n"));
+    Ok(())
+}
+
+#[test]
+fn standard_input_is_named_once(rt: HostRuntime) -> Result<(), Fail> {
+    let alloc = rt.alloc();
+    let base = "http://example.org/";
+    for words in [
+        ["csvw", "validate", "--base", base, "-", "-"],
+        ["csvw", "convert", "--base", base, "-", "-"],
+    ] {
+        let ran = run(alloc, &words, &[])?;
+        assert!(rt; ran.is(2, b"", TWICE.as_bytes()));
+    }
+    let files = [
+        File {
+            path: "m.json",
+            bytes: PLAIN_META,
+        },
+        File {
+            path: "-",
+            bytes: b"id,name\n",
+        },
+    ];
+    let words = ["csvw", "validate", "--base", base, "m.json", "-"];
+    assert!(rt; run(alloc, &words, &files)?.is(0, HEADING, b""));
+    let words = ["csvw", "validate", "--base", base, "m.json", "-", "-"];
+    assert!(rt; run(alloc, &words, &files)?.is(2, b"", TWICE.as_bytes()));
     Ok(())
 }
 

@@ -15,8 +15,8 @@ returns-in-Ok g c =
     converts g.W.Write.contents laws c.args.table.now.url _ c.new-sink.result c.read_table-read.new.sink spans c.read_table-read.new.table.columns fresh.0 ran.0 fresh.1 ran.1 ran.2
     (finishes_at g.W.Write.contents laws c.args.table.now.url _ c.new-sink.result c.read_table-read.new.sink spans fresh.0 ran.0 true c.read_table-read.new.table (same.0 ∙ c.requires.number) same.1 ran.3) ran.4
 
-pub returns : goal.returns
-returns g c =
+pub returns-in-Err : goal.returns-in-Err
+returns-in-Err g c =
     let fresh = c.requires.fresh in
     let ran = c.in-Err.ensures.reads fresh.0 c.new-sink.result (begun g.W.Write.contents fresh.0 c.args.table.now c.new-sink.result c.new-sink.ensures.open fresh.2) in
     let same = c.in-Err.ensures.same in
