@@ -138,7 +138,11 @@ fn is_told(alloc: Global, case: &Case, order: Order) -> Result<bool, AllocError>
 #[test]
 fn broken_keys_are_told(rt: HostRuntime) -> Result<(), Fail> {
     for case in &CASES {
-        assert!(rt; is_told(rt.alloc(), case, Order::OneByOne)?, "{}", case.about);
+        assert!(rt;
+            is_told(rt.alloc(), case, Order::OneByOne)?,
+            "{}",
+            case.about
+        );
         assert!(rt; is_told(rt.alloc(), case, Order::InTurn)?, "{}", case.about);
     }
     Ok(())
