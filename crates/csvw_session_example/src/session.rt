@@ -26,8 +26,13 @@ fn plan(alloc: Global) -> Option<Plan>
     ensures { IfSome result (λ plan. AreReady plan.tables) }
 {
     built_plans_are_ready();
-    let description = read(alloc, DOCUMENT.as_bytes(), URL).ok()?;
-    Plan::build(alloc, description).ok()
+    let Ok(description) = read(alloc, DOCUMENT.as_bytes(), URL) else {
+        return None;
+    };
+    match Plan::build(alloc, description) {
+        Ok(plan) => Some(plan),
+        Err(_) => None,
+    }
 }
 
 /// A session over its tables, whose sink counts the triples in minimal mode.
