@@ -6,6 +6,7 @@ pub mod Decoded
 pub mod Denoted
 pub mod Documents
 pub mod EscapeLemmas
+pub mod Fronts
 pub mod Hex
 pub mod LabelParts
 pub mod LabelRuns

@@ -1,6 +1,7 @@
 pub mod Character
 pub mod Document
 pub mod Escape
+pub mod Front
 pub mod Grammar
 pub mod LabelLaw
 pub mod NtSink

@@ -2,6 +2,7 @@
 #![tactic(auto)]
 
 mod laws;
+mod line;
 mod nt_sink;
 mod reading;
 mod term;

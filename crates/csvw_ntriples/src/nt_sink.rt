@@ -2,7 +2,7 @@
 ghost use Rattle.std.specs.Prelude.{◌≡◌, true};
 ghost use Rattle.csvw_ntriples.specs.NtSink.{sink_out, sink_is_open};
 
-use crate::write::push_line;
+use crate::line::Line;
 use csvw_text::{Counted, write_out};
 use csvw_triples_core::{SinkFault, Triple, TripleSink};
 use std::alloc::Global;
@@ -13,7 +13,7 @@ use std::io::Write;
 #[derive(Drop)]
 pub struct NtSink<'a, W> {
     out: &'a mut Counted<W>,
-    line: Vec<u8>,
+    line: Line,
     is_open: bool,
 }
 
@@ -26,7 +26,7 @@ impl<'a, W: Write> NtSink<'a, W> {
     {
         NtSink {
             out,
-            line: Vec::new(alloc),
+            line: Line::new(alloc),
             is_open: true,
         }
     }
@@ -71,11 +71,10 @@ impl<'a, W: Write> TripleSink for NtSink<'a, W> {
         if !self.is_open {
             return Err(SinkFault::Closed);
         }
-        self.line.clear();
-        let Ok(()) = push_line(&mut self.line, triple) else {
+        let Ok(()) = self.line.refill(triple) else {
             return Err(SinkFault::Memory);
         };
-        match write_out(self.out, self.line.as_slice()) {
+        match write_out(self.out, self.line.bytes.as_slice()) {
             Ok(()) => Ok(()),
             Err(_) => {
                 self.is_open = false;

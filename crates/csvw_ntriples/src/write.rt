@@ -1,22 +1,23 @@
 //! The line of a triple.
 ghost use Rattle.std.specs.Prelude.{◌≡◌, ◌∷◌, [], ◌++◌, true, OnOk, flat_map, codes, decimal, Bool};
 ghost use Rattle.std.specs.List.{list_any};
-ghost use Rattle.csvw_ntriples.specs.Written.{label, escaped, iri_text, blank_text, string_text, node_text};
-ghost use Rattle.csvw_ntriples.specs.Written.{datatype_text, suffix_text, is_string_type, lit_text, term_text, line_text};
+ghost use Rattle.csvw_ntriples.specs.Written.{label, escaped, iri_text, blank_text, string_text};
+ghost use Rattle.csvw_ntriples.specs.Written.{datatype_text, suffix_text, is_string_type, lit_text, term_text};
 ghost use Rattle.csvw_ntriples.specs.Escape.{needs_escape};
+ghost use Rattle.csvw_ntriples.specs.Front.{rest_text};
 ghost use Rattle.csvw_ntriples.specs.LabelLaw.{IsOrigin};
-ghost use Rattle.csvw_ntriples.specs.Writable.{IriFits, NodeFits, SuffixFits, LitFits, TermFits, TripleFits};
+ghost use Rattle.csvw_ntriples.specs.Writable.{IriFits, SuffixFits, LitFits, TermFits};
 ghost use Rattle.csvw_text.specs.Language.{is_language_tag};
 
 use csvw_iri::Iri;
 use csvw_text::LanguageTag;
-use csvw_triples_core::{Lit, Node, Origin, Term, Triple};
+use csvw_triples_core::{Lit, Origin, Term, Triple};
 use itoa::{Buffer, Integer};
 use std::alloc::AllocError;
 
 const XSD_STRING: &str = "http://www.w3.org/2001/XMLSchema#string";
 
-fn push_iri(out: &mut Vec<u8>, iri: &Iri) -> Result<(), AllocError>
+pub(crate) fn push_iri(out: &mut Vec<u8>, iri: &Iri) -> Result<(), AllocError>
     ensures text { OnOk result (out.new.items ≡ out.old.items ++ iri_text iri.now) }
     ensures fits { OnOk result (IriFits iri.now) }
 {
@@ -118,22 +119,12 @@ fn push_label(out: &mut Vec<u8>, origin: Origin) -> Result<(), AllocError>
     }
 }
 
-fn push_blank(out: &mut Vec<u8>, origin: Origin) -> Result<(), AllocError>
+pub(crate) fn push_blank(out: &mut Vec<u8>, origin: Origin) -> Result<(), AllocError>
     ensures text { OnOk result (out.new.items ≡ out.old.items ++ blank_text origin) }
     ensures fits { OnOk result (IsOrigin origin) }
 {
     out.extend_from_slice(b"_:")?;
     push_label(out, origin)
-}
-
-fn push_node(out: &mut Vec<u8>, node: &Node) -> Result<(), AllocError>
-    ensures text { OnOk result (out.new.items ≡ out.old.items ++ node_text node.now) }
-    ensures fits { OnOk result (NodeFits node.now) }
-{
-    match node {
-        Node::Named(iri) => push_iri(out, iri),
-        Node::Blank(origin) => push_blank(out, *origin),
-    }
 }
 
 fn is_xsd_string(iri: &Iri) -> bool
@@ -195,13 +186,11 @@ fn push_term(out: &mut Vec<u8>, term: &Term) -> Result<(), AllocError>
     }
 }
 
-/// Adds the line of a triple.
-pub(crate) fn push_line(out: &mut Vec<u8>, triple: &Triple) -> Result<(), AllocError>
-    ensures text { OnOk result (out.new.items ≡ out.old.items ++ line_text triple.now) }
-    ensures fits { OnOk result (TripleFits triple.now) }
+/// Adds what stands in the line of a triple behind its subject and a space.
+pub(crate) fn push_rest(out: &mut Vec<u8>, triple: &Triple) -> Result<(), AllocError>
+    ensures text { OnOk result (out.new.items ≡ out.old.items ++ rest_text triple.now) }
+    ensures fits { OnOk result (IriFits triple.now.p × TermFits triple.now.o) }
 {
-    push_node(out, &triple.s)?;
-    out.push(b' ')?;
     push_iri(out, &triple.p)?;
     out.push(b' ')?;
     push_term(out, &triple.o)?;

@@ -1,10 +1,9 @@
 -- Where the line is cut off, a front of it was sent.
-use Rattle.std.proofs.Common.{◌∙◌, ◌++◌, ap, refl, rules}
-use Rattle.csvw_ntriples.specs.Written.{line_text}
+use Rattle.std.proofs.Common.{◌∙◌, refl, rules}
 use Rattle.csvw_ntriples.proofs.Cutting.{cut_sends}
 use Rattle.csvw_ntriples.proofs.nt_sink.NtSinkTripleSink.put.Goals as goal
 
 pub returns-in-Err-clause-cut : goal.returns-in-Err-clause-cut
 returns-in-Err-clause-cut g c =
-    let line = c.as_slice.ensures.value ∙ (c.in-Ok.ensures.text ∙ ap (λ front. front ++ line_text c.args.triple.now) c.clear.ensures.items) in
+    let line = c.as_slice.ensures.value ∙ c.in-Ok.ensures.text in
     λ device. (refl, (c.in-Ok.ensures.fits, tt), cut_sends _ _ _ c.args.triple.now c.in-Err.field-0.sent c.as_slice.result.now (search rules) line c.in-Err.ensures.cut_before_end c.in-Err.ensures.cut)

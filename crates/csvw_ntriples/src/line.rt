@@ -1,0 +1,110 @@
+//! The line of a triple, made over the one before it.
+ghost use Rattle.std.specs.Prelude.{◌≡◌, ◌∷◌, [], ◌++◌, true, OnOk};
+ghost use Rattle.csvw_ntriples.specs.Front.{IsFront, front_text};
+ghost use Rattle.csvw_ntriples.specs.Written.{blank_text, iri_text, node_text, line_text};
+ghost use Rattle.csvw_ntriples.specs.LabelLaw.{IsOrigin};
+ghost use Rattle.csvw_ntriples.specs.Writable.{IriFits, NodeFits, TripleFits};
+
+use crate::write::{push_blank, push_iri, push_rest};
+use csvw_iri::Iri;
+use csvw_triples_core::{Node, Origin, Triple};
+use std::alloc::{AllocError, Global};
+
+/// Makes the lines of triples, one over the other. Most triples have the subject of the one before: where that is a blank node, what
+/// the line begins with stays.
+#[derive(Drop)]
+pub(crate) struct Line {
+    /// The line that was made last.
+    pub(crate) bytes: Vec<u8>,
+    /// The blank node that it begins with, if it does.
+    subject: Option<Origin>,
+    /// How many bytes that node and the space behind it take.
+    front: usize,
+    ghost begins: { IsFront subject front bytes.items },
+}
+
+/// Whether nothing is too great for a label: no number is.
+fn fits(origin: Origin)
+    ensures { IsOrigin origin }
+{
+    match origin {
+        Origin::Group | Origin::Note(_) | Origin::Table(_) => (),
+        Origin::Row(_, _) | Origin::Subject(_, _) | Origin::Entry(_, _, _, _) => (),
+    }
+}
+
+impl Line {
+    /// No line. It takes no memory.
+    pub(crate) fn new(alloc: Global) -> Line {
+        Line {
+            bytes: Vec::new(alloc),
+            subject: None,
+            front: 0,
+        }
+    }
+
+    /// Cuts the line off behind its subject, where that is this blank node.
+    fn keeps(&mut self, origin: Origin) -> bool
+        ensures { result ≡ true → self.new.bytes.items ≡ front_text origin }
+    {
+        let subject = self.subject;
+        match subject {
+            Some(last) if last == origin => {
+                self.bytes.truncate(self.front);
+                true
+            }
+            Some(_) | None => false,
+        }
+    }
+
+    fn begin_blank(&mut self, origin: Origin) -> Result<(), AllocError>
+        ensures text { OnOk result (self.new.bytes.items ≡ blank_text origin ++ 32 ∷ []) }
+        ensures fits { OnOk result (IsOrigin origin) }
+    {
+        fits(origin);
+        if self.keeps(origin) {
+            return Ok(());
+        }
+        self.subject = None;
+        self.bytes.clear();
+        push_blank(&mut self.bytes, origin)?;
+        self.bytes.push(b' ')?;
+        self.front = self.bytes.len();
+        self.subject = Some(origin);
+        Ok(())
+    }
+
+    fn begin_named(&mut self, iri: &Iri) -> Result<(), AllocError>
+        ensures text { OnOk result (self.new.bytes.items ≡ iri_text iri.now ++ 32 ∷ []) }
+        ensures fits { OnOk result (IriFits iri.now) }
+    {
+        self.subject = None;
+        self.bytes.clear();
+        push_iri(&mut self.bytes, iri)?;
+        self.bytes.push(b' ')?;
+        Ok(())
+    }
+
+    fn begin(&mut self, node: &Node) -> Result<(), AllocError>
+        ensures text { OnOk result (self.new.bytes.items ≡ node_text node.now ++ 32 ∷ []) }
+        ensures fits { OnOk result (NodeFits node.now) }
+    {
+        match node {
+            Node::Named(iri) => self.begin_named(iri),
+            Node::Blank(origin) => self.begin_blank(*origin),
+        }
+    }
+
+    /// Becomes the line of a triple; after an error it may be a part of it.
+    pub(crate) fn refill(&mut self, triple: &Triple) -> Result<(), AllocError>
+        ensures text { OnOk result (self.new.bytes.items ≡ line_text triple.now) }
+        ensures fits { OnOk result (TripleFits triple.now) }
+    {
+        self.begin(&triple.s)?;
+        let subject = self.subject;
+        self.subject = None;
+        push_rest(&mut self.bytes, triple)?;
+        self.subject = subject;
+        Ok(())
+    }
+}
