@@ -14,7 +14,7 @@ ghost use Rattle.csvw_triples.specs.ModeTriples.{row_triples};
 ghost use Rattle.csvw_triples.specs.Vocabulary.{rdf_first, rdf_rest, rdf_nil};
 
 use crate::csvw_names::CsvwNames;
-use crate::literals::literal_of;
+use crate::literals::{literal_of, refill};
 use crate::putting::put_one;
 use crate::rdf::RdfNames;
 use crate::stem::{ListPlace, RowPlace, Stem};
@@ -27,34 +27,88 @@ use csvw_triples_core::{Mode, Node, Origin, SinkFault, Term, Triple, TripleSink}
 use std::alloc::{AllocError, Global};
 use std::mem;
 
-/// Puts the triples of rows into sinks, and keeps the memory of one literal and of one place from row to row.
+/// Puts the triples of rows into sinks, and keeps the memory of one triple and of one place from row to row.
 #[derive(Debug, Drop)]
 pub struct Emitter {
+    /// Where its memory comes from.
     pub(crate) alloc: Global,
+    /// The names of RDF.
     names: RdfNames,
+    /// The names of CSVW.
     pub(crate) csvw: CsvwNames,
-    pub(crate) spare: Text,
+    /// The triple that was put last, in whose memory the next is made.
+    draft: Triple,
+    /// The text of an earlier literal, where the draft has none.
+    spare: Text,
+    /// Where a row stands in its source.
     pub(crate) fragment: Text,
 }
 
 impl Emitter {
     /// An emitter; `AllocError` where there is no memory.
     pub fn new(alloc: Global) -> Result<Emitter, AllocError> {
+        let names = RdfNames::new(alloc)?;
+        let draft = Triple {
+            s: Node::Blank(Origin::Group),
+            p: names.first.clone(alloc)?,
+            o: Term::Blank(Origin::Group),
+        };
         Ok(Emitter {
             alloc,
-            names: RdfNames::new(alloc)?,
+            names,
             csvw: CsvwNames::new(alloc)?,
+            draft,
             spare: Text::new(alloc),
             fragment: Text::new(alloc),
         })
     }
 
-    /// Keeps the memory of the triple's literal.
-    fn keep(&mut self, triple: Triple) {
-        let Triple { s: _, p: _, o } = triple;
-        if let Term::Literal(lit) = o {
-            self.spare = lit.into_text();
+    /// Makes it the subject and the predicate of the draft.
+    fn aim(&mut self, stem: Stem)
+        ensures s { self.new.draft.s ≡ stem.s }
+        ensures p { self.new.draft.p ≡ stem.p }
+    {
+        let Stem { s, p } = stem;
+        self.draft.s = s;
+        self.draft.p = p;
+    }
+
+    /// The memory of an earlier literal's text.
+    pub(crate) fn take_spare(&mut self) -> Text
+        ensures s { self.new.draft.s ≡ self.old.draft.s }
+        ensures p { self.new.draft.p ≡ self.old.draft.p }
+    {
+        match mem::replace(&mut self.draft.o, Term::Blank(Origin::Group)) {
+            Term::Literal(literal) => literal.into_text(),
+            Term::Named(_) | Term::Blank(_) => mem::replace(&mut self.spare, Text::new(self.alloc)),
         }
+    }
+
+    /// Makes it the object of the draft.
+    fn set_object(&mut self, o: Term)
+        ensures s { self.new.draft.s ≡ self.old.draft.s }
+        ensures p { self.new.draft.p ≡ self.old.draft.p }
+        ensures o { self.new.draft.o ≡ o }
+    {
+        if let Term::Literal(literal) = mem::replace(&mut self.draft.o, o) {
+            self.spare = literal.into_text();
+        }
+    }
+
+    /// Makes the literal of a value the object of the draft.
+    fn set_literal(&mut self, column: &Column, item: &Item) -> Result<(), AllocError>
+        requires { IsWritable item.now.value }
+        ensures s { self.new.draft.s ≡ self.old.draft.s }
+        ensures p { self.new.draft.p ≡ self.old.draft.p }
+        ensures o { OnOk result (self.new.draft.o ≡ term.Literal (literal_of column.now item.now)) }
+    {
+        if refill(self.alloc, &mut self.draft.o, column, item)? {
+            return Ok(());
+        }
+        let spare = self.take_spare();
+        let literal = literal_of(self.alloc, &self.names, column, item, spare)?;
+        self.draft.o = Term::Literal(literal);
+        Ok(())
     }
 
     pub(crate) fn put_object<S: TripleSink>(
@@ -65,10 +119,9 @@ impl Emitter {
     ) -> Result<(), SinkFault>
         ensures { Puts S.gains S.is_open S.failed sink.old (object_triple stem o ∷ []) sink.new result }
     {
-        let triple = stem.into_triple(o);
-        let put = put_one(&triple, sink);
-        self.keep(triple);
-        put
+        self.aim(stem);
+        self.set_object(o);
+        put_one(&self.draft, sink)
     }
 
     fn emit_item<S: TripleSink>(
@@ -81,9 +134,9 @@ impl Emitter {
         requires { IsWritable item.now.value }
         ensures { Puts S.gains S.is_open S.failed sink.old (literal_triple stem column.now item.now ∷ []) sink.new result }
     {
-        let spare = mem::replace(&mut self.spare, Text::new(self.alloc));
-        let literal = literal_of(self.alloc, &self.names, column, item, spare)?;
-        self.put_object(stem, Term::Literal(literal), sink)
+        self.aim(stem);
+        self.set_literal(column, item)?;
+        put_one(&self.draft, sink)
     }
 
     /// Puts the triple of one of several items.

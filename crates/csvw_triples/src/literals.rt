@@ -1,16 +1,18 @@
 //! The literals of values.
-ghost use Rattle.std.specs.Prelude.{◌≡◌, IfOk};
+ghost use Rattle.std.specs.Prelude.{◌≡◌, true, false, None, IfOk, OnOk};
+ghost use Rattle.csvw_triples_core.specs.declared.term.Term.TheVariants as term;
 ghost use Rattle.csvw_datatype.specs.Lexical.{IsWritable, lexical_of};
 ghost use Rattle.csvw_cell.specs.Codes.{is_string};
-ghost use Rattle.csvw_triples_core.specs.Literal.{tagged_lit};
+ghost use Rattle.csvw_triples_core.specs.Literal.{tagged_lit, typed_lit};
 ghost use Rattle.csvw_triples.specs.Literals.{has_language, literal_of, read_literal};
 
 use crate::rdf::RdfNames;
 use csvw_cell::Item;
 use csvw_columns_core::{Column, Properties};
 use csvw_datatype::{Datatype, Simple, Value};
+use csvw_iri::Iri;
 use csvw_text::{LanguageTag, Text};
-use csvw_triples_core::Lit;
+use csvw_triples_core::{Lit, Term};
 use std::alloc::{AllocError, Global};
 
 fn is_string(datatype: &Datatype) -> bool
@@ -92,4 +94,44 @@ pub fn literal_of(
         return read_literal(alloc, names, column, text);
     }
     Ok(Lit::typed(text, names.string.clone(alloc)?))
+}
+
+/// Makes it the literal of a text and a datatype, in its memory.
+fn rewrite(alloc: Global, literal: &mut Lit, text: &str, datatype: &Iri) -> Result<(), AllocError>
+    requires { literal.old.lang ≡ None }
+    ensures { OnOk result (literal.new ≡ typed_lit text.now datatype.now) }
+{
+    literal.text.refill(text)?;
+    literal.datatype = datatype.clone(alloc)?;
+    Ok(())
+}
+
+/// Whether the literal of a value is its text with the datatype of its column.
+fn is_typed_text(column: &Column, item: &Item) -> bool
+    ensures { result ≡ true → (item.now.was_read ≡ true) × (has_language column.now.properties ≡ false) }
+{
+    item.was_read && !has_language(&column.properties)
+}
+
+/// Makes an object that is a literal that of a value, in its memory, where both are texts without a language; tells whether it
+/// did. `AllocError` where there is no memory.
+pub(crate) fn refill(
+    alloc: Global,
+    o: &mut Term,
+    column: &Column,
+    item: &Item,
+) -> Result<bool, AllocError>
+    ensures { IfOk result (λ b. b ≡ true → o.new ≡ term.Literal (literal_of column.now item.now)) }
+{
+    let Term::Literal(literal) = o else {
+        return Ok(false);
+    };
+    let Value::Text(text) = &item.value else {
+        return Ok(false);
+    };
+    if literal.lang.is_some() || !is_typed_text(column, item) {
+        return Ok(false);
+    }
+    rewrite(alloc, literal, text.as_str(), &column.literal_datatype)?;
+    Ok(true)
 }

@@ -21,7 +21,6 @@ use csvw_text::Text;
 use csvw_triples_core::{Lit, Node, Origin, SinkFault, Term, TripleSink};
 use itoa::Buffer;
 use std::alloc::{AllocError, Global};
-use std::mem;
 
 /// The node of table `t`: its `@id`, else its blank node; `AllocError` where there is no memory.
 pub fn table_node(alloc: Global, t: u32, id: &Option<Iri>) -> Result<Node, AllocError>
@@ -99,7 +98,7 @@ impl Emitter {
         ensures { IfOk result (λ lit. lit ≡ typed_lit (decimal number) xsd_integer) }
     {
         let mut digits = Buffer::new();
-        let mut text = mem::replace(&mut self.spare, Text::new(self.alloc));
+        let mut text = self.take_spare();
         text.refill(digits.format(number))?;
         Ok(Lit::typed(text, self.csvw.integer.clone(self.alloc)?))
     }
