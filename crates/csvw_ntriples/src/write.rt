@@ -36,7 +36,12 @@ fn needs_escape(b: u8) -> bool
 fn has_escape(bytes: &[u8]) -> bool
     ensures { result ≡ list_any needs_escape bytes.now }
 {
-    bytes.iter().any(|b| needs_escape(*b))
+    // without a way out of the loop, so that many bytes are looked at at once
+    let mut found = false;
+    for b in bytes {
+        found |= needs_escape(*b);
+    }
+    found
 }
 
 fn push_escape(out: &mut Vec<u8>, b: u8) -> Result<(), AllocError>
