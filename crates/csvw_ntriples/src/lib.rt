@@ -5,6 +5,7 @@ mod laws;
 mod line;
 mod nt_sink;
 mod reading;
+mod row_label;
 mod term;
 mod write;
 

@@ -5,6 +5,7 @@ ghost use Rattle.csvw_ntriples.specs.Written.{blank_text, iri_text, node_text, l
 ghost use Rattle.csvw_ntriples.specs.LabelLaw.{IsOrigin};
 ghost use Rattle.csvw_ntriples.specs.Writable.{IriFits, NodeFits, TripleFits};
 
+use crate::row_label::RowLabel;
 use crate::write::{push_blank, push_iri, push_rest};
 use csvw_iri::Iri;
 use csvw_triples_core::{Node, Origin, Triple};
@@ -20,6 +21,8 @@ pub(crate) struct Line {
     subject: Option<Origin>,
     /// How many bytes that node and the space behind it take.
     front: usize,
+    /// The row that was named last.
+    row: RowLabel,
     ghost begins: { IsFront subject front bytes.items },
 }
 
@@ -40,6 +43,7 @@ impl Line {
             bytes: Vec::new(alloc),
             subject: None,
             front: 0,
+            row: RowLabel::new(alloc),
         }
     }
 
@@ -67,7 +71,7 @@ impl Line {
         }
         self.subject = None;
         self.bytes.clear();
-        push_blank(&mut self.bytes, origin)?;
+        push_blank(&mut self.bytes, &mut self.row, origin)?;
         self.bytes.push(b' ')?;
         self.front = self.bytes.len();
         self.subject = Some(origin);
@@ -103,7 +107,7 @@ impl Line {
         self.begin(&triple.s)?;
         let subject = self.subject;
         self.subject = None;
-        push_rest(&mut self.bytes, triple)?;
+        push_rest(&mut self.bytes, &mut self.row, triple)?;
         self.subject = subject;
         Ok(())
     }

@@ -9,6 +9,7 @@ ghost use Rattle.csvw_ntriples.specs.LabelLaw.{IsOrigin};
 ghost use Rattle.csvw_ntriples.specs.Writable.{IriFits, SuffixFits, LitFits, TermFits};
 ghost use Rattle.csvw_text.specs.Language.{is_language_tag};
 
+use crate::row_label::RowLabel;
 use csvw_iri::Iri;
 use csvw_text::LanguageTag;
 use csvw_triples_core::{Lit, Origin, Term, Triple};
@@ -88,7 +89,11 @@ fn push_string(out: &mut Vec<u8>, text: &[u8]) -> Result<(), AllocError>
 }
 
 /// A letter of a label and the number after it.
-fn push_part<I: Integer>(out: &mut Vec<u8>, letter: u8, number: I) -> Result<(), AllocError>
+pub(crate) fn push_part<I: Integer>(
+    out: &mut Vec<u8>,
+    letter: u8,
+    number: I,
+) -> Result<(), AllocError>
     ensures { OnOk result (out.new.items ≡ out.old.items ++ letter ∷ I.text number) }
 {
     out.push(letter)?;
@@ -96,27 +101,21 @@ fn push_part<I: Integer>(out: &mut Vec<u8>, letter: u8, number: I) -> Result<(),
     out.extend_from_slice(buffer.format(number).as_bytes())
 }
 
-fn push_row_label(out: &mut Vec<u8>, table: u32, row: u64) -> Result<(), AllocError>
-    ensures { OnOk result (out.new.items ≡ out.old.items ++ label (Origin.Row table row)) }
-{
-    push_part(out, b't', table)?;
-    push_part(out, b'r', row)
-}
-
-fn push_label(out: &mut Vec<u8>, origin: Origin) -> Result<(), AllocError>
+/// Adds the label of a blank node, where another row was named last.
+fn push_label(out: &mut Vec<u8>, last: &mut RowLabel, origin: Origin) -> Result<(), AllocError>
     ensures text { OnOk result (out.new.items ≡ out.old.items ++ label origin) }
     ensures fits { OnOk result (IsOrigin origin) }
 {
     match origin {
         Origin::Group => out.extend_from_slice(b"g"),
         Origin::Table(table) => push_part(out, b't', table),
-        Origin::Row(table, row) => push_row_label(out, table, row),
+        Origin::Row(table, row) => last.push(out, table, row),
         Origin::Subject(table, row) => {
-            push_row_label(out, table, row)?;
+            last.push(out, table, row)?;
             out.extend_from_slice(b"s")
         }
         Origin::Entry(table, row, column, entry) => {
-            push_row_label(out, table, row)?;
+            last.push(out, table, row)?;
             push_part(out, b'c', column)?;
             push_part(out, b'i', entry)
         }
@@ -124,12 +123,16 @@ fn push_label(out: &mut Vec<u8>, origin: Origin) -> Result<(), AllocError>
     }
 }
 
-pub(crate) fn push_blank(out: &mut Vec<u8>, origin: Origin) -> Result<(), AllocError>
+pub(crate) fn push_blank(
+    out: &mut Vec<u8>,
+    last: &mut RowLabel,
+    origin: Origin,
+) -> Result<(), AllocError>
     ensures text { OnOk result (out.new.items ≡ out.old.items ++ blank_text origin) }
     ensures fits { OnOk result (IsOrigin origin) }
 {
     out.extend_from_slice(b"_:")?;
-    push_label(out, origin)
+    push_label(out, last, origin)
 }
 
 fn is_xsd_string(iri: &Iri) -> bool
@@ -180,24 +183,28 @@ fn push_lit(out: &mut Vec<u8>, lit: &Lit) -> Result<(), AllocError>
     push_suffix(out, &lit.lang, &lit.datatype)
 }
 
-fn push_term(out: &mut Vec<u8>, term: &Term) -> Result<(), AllocError>
+fn push_term(out: &mut Vec<u8>, last: &mut RowLabel, term: &Term) -> Result<(), AllocError>
     ensures text { OnOk result (out.new.items ≡ out.old.items ++ term_text term.now) }
     ensures fits { OnOk result (TermFits term.now) }
 {
     match term {
         Term::Named(iri) => push_iri(out, iri),
-        Term::Blank(origin) => push_blank(out, *origin),
+        Term::Blank(origin) => push_blank(out, last, *origin),
         Term::Literal(lit) => push_lit(out, lit),
     }
 }
 
 /// Adds what stands in the line of a triple behind its subject and a space.
-pub(crate) fn push_rest(out: &mut Vec<u8>, triple: &Triple) -> Result<(), AllocError>
+pub(crate) fn push_rest(
+    out: &mut Vec<u8>,
+    last: &mut RowLabel,
+    triple: &Triple,
+) -> Result<(), AllocError>
     ensures text { OnOk result (out.new.items ≡ out.old.items ++ rest_text triple.now) }
     ensures fits { OnOk result (IriFits triple.now.p × TermFits triple.now.o) }
 {
     push_iri(out, &triple.p)?;
     out.push(b' ')?;
-    push_term(out, &triple.o)?;
+    push_term(out, last, &triple.o)?;
     out.extend_from_slice(b" .\n")
 }
