@@ -39,7 +39,7 @@ pub(crate) fn link_cells(
     ensures { OnOk result (cells.new ≡ linked_cells columns.now row cells.old) }
 {
     let all = columns.columns.as_slice();
-    let mut linker = Linker::new(alloc);
+    let mut linker = Linker::new(alloc, &columns.url);
     for i in 0..all.len() {
         let column = &all[i];
         if has_template(column) {
@@ -50,7 +50,7 @@ pub(crate) fn link_cells(
                 columns: all,
                 cells: lent,
             };
-            let links = linker.links_of(&columns.url, column, &lent[i].value, &scope)?;
+            let links = linker.links_of(column, &lent[i].value, &scope)?;
             put_links(&mut cells[i], links)?;
         }
     }

@@ -1,6 +1,7 @@
 //! The links of a cell: what names stand for in the templates of its column, and the IRIs that the templates give.
 #![tactic(auto)]
 
+mod kept;
 mod linker;
 mod linking;
 mod names;
