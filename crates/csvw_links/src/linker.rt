@@ -1,15 +1,15 @@
 //! The links of cells, one after the other.
 ghost use Rattle.std.specs.Prelude.{◌≡◌, IfOk, string_bytes};
 ghost use Rattle.csvw_iri.specs.Link.{link_of};
-ghost use Rattle.csvw_links.specs.Links.{outcome, link_by, links_of};
+ghost use Rattle.csvw_links.specs.Links.{outcome, link_by, value_link, joined};
 
 use crate::kept::Kept;
 use crate::linking::{LINK_ROOM, Links, Made, joined, link_by, linked, no_link, value_link};
 use csvw_cell::CellValue;
 use csvw_columns_core::Column;
 use csvw_iri::Base;
-use csvw_template::{Scope, Template};
-use csvw_text::{Shared, Text, both};
+use csvw_template::Scope;
+use csvw_text::{Text, both};
 use std::alloc::{AllocError, Global};
 use std::marker::Model;
 
@@ -69,16 +69,14 @@ impl<'a> Linker<'a> {
         Ok(made)
     }
 
-    fn about_by<S: Scope>(
-        &mut self,
-        template: &Option<Shared<Template>>,
-        scope: &S,
-    ) -> Result<Made, AllocError>
+    /// The about link of a cell of the column under the variables of a scope: the expansion of its template, with its prefix
+    /// replaced and joined to the URL (Metadata Vocabulary for Tabular Data, section 5.1.3). `AllocError` where there is no memory.
+    pub fn about_of<S: Scope>(&mut self, column: &Column, scope: &S) -> Result<Made, AllocError>
         requires { S.can_look_up scope.now }
-        ensures made { IfOk result (λ l. l ≡ link_by self.old (S.variables scope.now) template.now) }
+        ensures made { IfOk result (λ l. l ≡ link_by self.old (S.variables scope.now) column.now.properties.about_url) }
         ensures url { self.new ≡ self.old }
     {
-        let Some(template) = template else {
+        let Some(template) = &column.properties.about_url else {
             return Ok(no_link());
         };
         let mut text = String::with_capacity(self.alloc, LINK_ROOM)?;
@@ -86,21 +84,20 @@ impl<'a> Linker<'a> {
         self.link_again(text)
     }
 
-    /// The links of a cell of the column with this value under the variables of a scope: each the expansion of its template,
-    /// with its prefix replaced and joined to the URL. There is no value link where the value is null or the empty list, unless
-    /// the column is virtual (Metadata Vocabulary for Tabular Data, sections 5.1.3 and 5.7). `AllocError` where there is no
-    /// memory.
-    pub fn links_of<S: Scope>(
-        &mut self,
+    /// The links of a cell of the column with this value and this about link under the variables of a scope. Its property and
+    /// value links are made as about links are. There is no value link where the value is null or the empty list, unless the
+    /// column is virtual (Metadata Vocabulary for Tabular Data, sections 5.1.3 and 5.7). `AllocError` where there is no memory.
+    pub fn links_with<S: Scope>(
+        &self,
+        about: Made,
         column: &Column,
         value: &CellValue,
         scope: &S,
     ) -> Result<Links, AllocError>
         requires { S.can_look_up scope.now }
-        ensures links { IfOk result (λ l. l ≡ links_of self.old (S.variables scope.now) column.now value.now) }
-        ensures url { self.new ≡ self.old }
+        ensures { IfOk result (λ l. l ≡ joined about (link_by self.now (S.variables scope.now) column.now.properties.property_url)
+            (value_link self.now (S.variables scope.now) column.now value.now)) }
     {
-        let about = self.about_by(&column.properties.about_url, scope)?;
         let property = link_by(
             self.alloc,
             self.base,
