@@ -14,6 +14,7 @@ use Rattle.csvw_columns_core.specs.declared.columns.Columns.{Columns}
 use Rattle.csvw_links.specs.CellVariables.{variables}
 use Rattle.csvw_links.specs.HasForm.{HasForm}
 use Rattle.csvw_links.specs.declared.linking.Links.{Links}
+use Rattle.csvw_links.specs.declared.linking.Made.{Made}
 use Rattle.csvw_links.specs.declared.numbers.RowNumbers.{RowNumbers}
 use Rattle.csvw_annotate.specs.declared.row.AnnCell.{AnnCell}
 use Rattle.csvw_annotate.specs.Linked.{IsPlain, ArePlain, HaveForms, values_of, with_links, linked, linked_in, each_linked}
@@ -103,6 +104,30 @@ linked_is columns row plain now all column lent cell new links e f g l n =
     ∙ ap (λ (vs : List CellValue). links_of columns.url (variables row column columns.columns vs) column lent.value) f
     ∙ ap (λ (x : AnnCell). links_of columns.url (variables row column columns.columns (values_of plain)) column x.value) g
     )
+
+-- a link by a template, where its table and its row are told in other words
+pub link_moved : (row : RowNumbers) (column : Column) (template : Option (List Part)) (url other : Parts) (all others : List Column) (values more : List CellValue)
+    → url ≡ other → all ≡ others → values ≡ more
+    → link_by url (variables row column all values) template ≡ link_by other (variables row column others more) template
+link_moved row column template url other all others values more e f g =
+    ap (λ (u : Parts). link_by u (variables row column all values) template) e
+    ∙ ap (λ (cs : List Column). link_by other (variables row column cs values) template) f
+    ∙ ap (λ (vs : List CellValue). link_by other (variables row column others vs) template) g
+
+-- what was made is the about link of the column before this place, in a row of these cells
+abbrev pub IsAbout : Columns → RowNumbers → List AnnCell → ℕ → Made → Type 0
+IsAbout columns row cells place made =
+    (i : ℕ) (column : Column) → i + 1 ≡ place → column ≡ get_or columns.columns i column
+    → made ≡ link_by columns.url (variables row column columns.columns (values_of cells)) column.properties.about_url
+
+pub about_next : (columns : Columns) (row : RowNumbers) (cells : List AnnCell) (i : ℕ) (column : Column) (made : Made) → i < length columns.columns
+    → column ≡ get_or columns.columns i column → made ≡ link_by columns.url (variables row column columns.columns (values_of cells)) column.properties.about_url
+    → IsAbout columns row cells (i + 1) made
+about_next columns row cells i column made lt at is j other e f =
+    let same : j ≡ i = omega arith in
+    let there = subst (λ k. other ≡ get_or columns.columns k other) same f in
+    subst (λ (k : Column). made ≡ link_by columns.url (variables row k columns.columns (values_of cells)) k.properties.about_url)
+    (same_at columns.columns i column other lt at there) is
 
 -- values that have forms are told by the values alone
 pub forms_of : (cells others : List AnnCell) → values_of cells ≡ values_of others → HaveForms others → HaveForms cells

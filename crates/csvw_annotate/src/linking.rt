@@ -1,11 +1,13 @@
 //! The links of a row's cells.
-ghost use Rattle.std.specs.Prelude.{◌≡◌, OnOk, length};
+ghost use Rattle.std.specs.Prelude.{◌≡◌, ◌≤◌, IfOk, OnOk, length};
+ghost use Rattle.csvw_links.specs.Links.{link_by};
+ghost use Rattle.csvw_annotate.specs.AboutBefore.{IsAboutBefore, variables_of};
 ghost use Rattle.csvw_annotate.specs.Linked.{ArePlain, HaveForms, linked_cells, with_links};
 
 use crate::row::AnnCell;
 use crate::scope::RowScope;
 use csvw_columns_core::Columns;
-use csvw_links::{Linker, Links, RowNumbers, has_template};
+use csvw_links::{Linker, Links, Made, RowNumbers, has_template, no_link, share_about};
 use std::alloc::{AllocError, Global};
 
 /// Gives a cell its links, and the codes of what is wrong with them.
@@ -26,6 +28,26 @@ fn put_links(cell: &mut AnnCell, links: Links) -> Result<(), AllocError>
     Ok(())
 }
 
+/// The about link of a cell of the column at this place, given that of the column before it, which is often the same.
+fn about_at(
+    linker: &mut Linker,
+    before: Made,
+    place: usize,
+    scope: &RowScope,
+) -> Result<Made, AllocError>
+    requires places { length scope.now.cells.now ≡ length scope.now.columns.now }
+    requires forms { HaveForms scope.now.cells.now }
+    requires place { place ≤ length scope.now.columns.now }
+    requires before { IsAboutBefore linker.old scope.now place before }
+    ensures made { IfOk result (λ l. l ≡ link_by linker.old (variables_of scope.now scope.now.column.now) scope.now.column.now.properties.about_url) }
+    ensures url { linker.new ≡ linker.old }
+{
+    if place > 0 && share_about(&scope.columns[place - 1], scope.column) {
+        return Ok(before);
+    }
+    linker.about_of(scope.column, scope)
+}
+
 /// Gives the cells of a row their links. A template may name any column of the row.
 pub(crate) fn link_cells(
     alloc: Global,
@@ -39,18 +61,20 @@ pub(crate) fn link_cells(
     ensures { OnOk result (cells.new ≡ linked_cells columns.now row cells.old) }
 {
     let all = columns.columns.as_slice();
-    let mut linker = Linker::new(alloc);
+    let mut linker = Linker::new(alloc, &columns.url);
+    let mut about = no_link();
     for i in 0..all.len() {
         let column = &all[i];
+        let lent = &cells[..];
+        let scope = RowScope {
+            row,
+            column,
+            columns: all,
+            cells: lent,
+        };
+        about = about_at(&mut linker, about, i, &scope)?;
         if has_template(column) {
-            let lent = &cells[..];
-            let scope = RowScope {
-                row,
-                column,
-                columns: all,
-                cells: lent,
-            };
-            let links = linker.links_of(&columns.url, column, &lent[i].value, &scope)?;
+            let links = linker.links_with(about.clone(alloc)?, column, &lent[i].value, &scope)?;
             put_links(&mut cells[i], links)?;
         }
     }

@@ -1,15 +1,10 @@
 -- The link that was made last, with its text.
-use Rattle.std.specs.Prelude.{◌≡◌, IfSome}
+use Rattle.std.specs.Prelude.{◌≡◌}
 use Rattle.url.specs.Parts.{Parts}
 use Rattle.csvw_iri.specs.Link.{link_of}
-use Rattle.csvw_links.specs.declared.linker.Kept.{Kept}
-use Rattle.csvw_links.specs.declared.linker.Linker.{Linker}
+use Rattle.csvw_links.specs.declared.kept.Kept.{Kept}
 use Rattle.csvw_links.specs.Links.{outcome}
 
 -- the link of the text in a table of this URL, or what is wrong with it
 abbrev pub IsLinkOf : Parts → Kept → Type 0
 IsLinkOf base kept = kept.made ≡ outcome (link_of base kept.text)
-
--- what was made last is a link in a table of this URL
-abbrev pub Keeps : Parts → Linker → Type 0
-Keeps base linker = IfSome linker.last (IsLinkOf base)

@@ -4,3 +4,4 @@ pub mod HasForm
 pub mod Kept
 pub mod Links
 pub mod Reserved
+pub mod Sharing

@@ -1,14 +1,17 @@
 //! The links of a cell: what names stand for in the templates of its column, and the IRIs that the templates give.
 #![tactic(auto)]
 
+mod kept;
 mod linker;
 mod linking;
 mod names;
 mod numbers;
+mod sharing;
 mod values;
 
 pub use linker::Linker;
-pub use linking::{Links, has_template};
+pub use linking::{Links, Made, has_template, no_link};
 pub use names::reserved;
 pub use numbers::RowNumbers;
+pub use sharing::share_about;
 pub use values::variable;

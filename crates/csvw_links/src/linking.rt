@@ -40,7 +40,8 @@ pub struct Links {
     pub is_too_long: bool,
 }
 
-pub(crate) fn no_link() -> Made
+/// No link: there is no template.
+pub fn no_link() -> Made
     ensures { result ≡ no_link }
 {
     Made {
@@ -142,7 +143,7 @@ pub(crate) fn joined(about: Made, property: Made, value: Made) -> Links
 
 impl Made {
     /// An equal link; `AllocError` where the count of the IRI's owners is at its greatest.
-    pub(crate) fn clone(&self, alloc: Global) -> Result<Made, AllocError>
+    pub fn clone(&self, alloc: Global) -> Result<Made, AllocError>
         ensures { IfOk result (λ made. made ≡ self.now) }
     {
         Ok(Made {

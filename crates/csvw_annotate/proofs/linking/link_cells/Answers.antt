@@ -1,15 +1,41 @@
 -- One cell more gets its links, or stays without.
-use Rattle.std.proofs.Common.{◌≡◌, ◌∙◌, ◌<◌, ◌≤◌, sym, subst, refl, ap, arith, length, get_or}
+use Rattle.std.proofs.Common.{◌≡◌, ◌∙◌, ◌<◌, ◌≤◌, sym, refl, ap, arith, length, get_or}
+use Rattle.url.specs.Parts.{Parts}
 use Rattle.csvw_annotate.specs.declared.row.AnnCell.{AnnCell}
+use Rattle.csvw_links.specs.declared.linking.Made.{Made}
+use Rattle.csvw_links.specs.Links.{joined, link_by, links_of, value_link}
 use Rattle.csvw_annotate.specs.Linked.{linked_in, values_of, with_links}
-use Rattle.csvw_links.specs.Kept.{Keeps}
 use Rattle.csvw_links.specs.CellVariables.{variables}
-use Rattle.csvw_annotate.proofs.LinkLemmas.{front_length, front_values, forms_of, goes_on, stays, whole, same_at, linked_is, no_links, plain_at}
+use Rattle.csvw_annotate.proofs.LinkLemmas.{about_next, front_length, front_values, forms_of, goes_on, link_moved, stays, whole, same_at, linked_is, no_links, plain_at}
 use Rattle.csvw_annotate.proofs.linking.link_cells.Goals as goal
-use Rattle.csvw_annotate.proofs.linking.link_cells.Goals.{then-has_template+in_ok-links+in_ok-put_links, else-has_template}
+use Rattle.csvw_annotate.proofs.linking.link_cells.Goals.{then-has_template+in_ok-clone+in_ok-links+in_ok-put_links, else-has_template}
 
-pub links_of-requires-clause-look_up : goal.links_of-requires-clause-look_up
-links_of-requires-clause-look_up c =
+pub about_at-requires-clause-places : goal.about_at-requires-clause-places
+about_at-requires-clause-places c =
+    let columns = c.args.columns.now in
+    let cells = c.args.cells.now in
+    let link = linked_in columns c.args.row (values_of cells) in
+    ap length c.loop-i.invariant.linked ∙ front_length link c.loop-i.i columns.columns cells ∙ c.requires.places ∙ ap length (sym c.as_slice-all.ensures)
+
+pub about_at-requires-clause-forms : goal.about_at-requires-clause-forms
+about_at-requires-clause-forms c =
+    let columns = c.args.columns.now in
+    let cells = c.args.cells.now in
+    let link = linked_in columns c.args.row (values_of cells) in
+    forms_of c.loop-i.cells cells (ap values_of c.loop-i.invariant.linked ∙ front_values link (λ column cell. refl) c.loop-i.i columns.columns cells) c.requires.forms
+
+pub about_at-requires-clause-before : goal.about_at-requires-clause-before
+about_at-requires-clause-before c = λ i column e f.
+    let columns = c.args.columns.now in
+    let cells = c.args.cells.now in
+    let link = linked_in columns c.args.row (values_of cells) in
+    let values = ap values_of c.loop-i.invariant.linked ∙ front_values link (λ column cell. refl) c.loop-i.i columns.columns cells in
+    let there = f ∙ ap (λ xs. get_or xs i column) c.as_slice-all.ensures in
+    c.loop-i.invariant.about i column e there
+    ∙ sym (link_moved c.args.row column column.properties.about_url c.loop-i.linker columns.url c.as_slice-all.result.now columns.columns (values_of c.loop-i.cells) (values_of cells) c.loop-i.invariant.url c.as_slice-all.ensures values)
+
+pub links_with-requires : goal.links_with-requires
+links_with-requires c =
     let columns = c.args.columns.now in
     let cells = c.args.cells.now in
     let link = linked_in columns c.args.row (values_of cells) in
@@ -33,28 +59,36 @@ loop-i-preserved c =
     let within : i < length cells = omega arith in
     let inside : i < length now = let n = ap length is ∙ front_length link i columns.columns cells in omega arith in
     let at = c.index-all-i.is ∙ ap (λ xs. get_or xs i column) c.as_slice-all.ensures in
-    elim c.if-has_template.branch [
-      | then-has_template+in_ok-links+in_ok-put_links w ↦
-          let cell = w.index-cells-i.result in
-          let values = ap values_of is ∙ front_values link (λ column cell. refl) i columns.columns cells in
-          let lent = get_or now i w.index-lent-i.result in
-          let alike : lent ≡ cell = sym w.index-lent-i.is ∙ same_at now i w.index-lent-i.result cell inside w.index-lent-i.is w.index-cells-i.is in
-          let put = w.in_ok-put_links.ensures ∙ ap (λ (x : AnnCell). with_links x w.in_ok-links.links) (sym w.index-cells-i.is) in
-          let new = linked_is columns c.args.row cells now c.as_slice-all.result.now column lent cell w.put_links.new.cell w.in_ok-links.links
-          c.as_slice-all.ensures values alike w.in_ok-links.ensures.links put in
-          record {
-            linked = goes_on link i columns.columns cells now c.if-has_template.cells column cell w.put_links.new.cell lt within at w.index-cells-i.is is new w.cells-is;
-            kept = subst (Keeps columns.url) (sym w.linker-is) w.in_ok-links.ensures.kept;
-          }
-      | else-has_template w ↦
-          let none = sym c.has_template.ensures ∙ w.if-has_template.false in
-          record {
-            linked = stays link i columns.columns cells now c.if-has_template.cells column lt within at
-                (λ cell f. no_links columns.url (variables c.args.row column columns.columns (values_of cells)) column cell none (plain_at cells i cell within f c.requires.plain))
-                is w.cells-is;
-            kept = subst (Keeps columns.url) (sym w.linker-is) c.loop-i.invariant.kept;
-          }
-    ]
+    let values = ap values_of is ∙ front_values link (λ column cell. refl) i columns.columns cells in
+    let linker = c.about_at.new.linker in
+    let url : linker ≡ columns.url = c.in_ok-about.ensures.url ∙ c.loop-i.invariant.url in
+    let vars = variables c.args.row column c.as_slice-all.result.now (values_of now) in
+    let about : c.in_ok-about.about ≡ link_by c.loop-i.linker vars column.properties.about_url = c.in_ok-about.ensures.made in
+    let about_here : c.in_ok-about.about ≡ link_by linker vars column.properties.about_url =
+    about ∙ ap (λ (u : Parts). link_by u vars column.properties.about_url) (sym c.in_ok-about.ensures.url) in
+    record {
+      linked = elim c.if-has_template.branch [
+        | then-has_template+in_ok-clone+in_ok-links+in_ok-put_links w ↦
+            let cell = w.index-cells-i.result in
+            let lent = get_or now i w.index-lent-i.result in
+            let alike : lent ≡ cell = sym w.index-lent-i.is ∙ same_at now i w.index-lent-i.result cell inside w.index-lent-i.is w.index-cells-i.is in
+            let put = w.in_ok-put_links.ensures ∙ ap (λ (x : AnnCell). with_links x w.in_ok-links.links) (sym w.index-cells-i.is) in
+            let by = λ (base : Parts). links_of base vars column lent.value in
+            let rest = λ (made : Made). joined made (link_by linker vars column.properties.property_url) (value_link linker vars column lent.value) in
+            let made : w.in_ok-links.links ≡ by columns.url = w.in_ok-links.ensures ∙ ap rest w.in_ok-clone.ensures ∙ ap rest about_here ∙ ap by url in
+            let new = linked_is columns c.args.row cells now c.as_slice-all.result.now column lent cell w.put_links.new.cell w.in_ok-links.links
+            c.as_slice-all.ensures values alike made put in
+            goes_on link i columns.columns cells now c.if-has_template.cells column cell w.put_links.new.cell lt within at w.index-cells-i.is is new w.cells-is
+        | else-has_template w ↦
+            let none = sym c.has_template.ensures ∙ w.if-has_template.false in
+            stays link i columns.columns cells now c.if-has_template.cells column lt within at
+            (λ cell f. no_links columns.url (variables c.args.row column columns.columns (values_of cells)) column cell none (plain_at cells i cell within f c.requires.plain))
+            is w.cells-is
+      ];
+      about = about_next columns c.args.row cells i column c.in_ok-about.about lt at
+          (about ∙ link_moved c.args.row column column.properties.about_url c.loop-i.linker columns.url c.as_slice-all.result.now columns.columns (values_of now) (values_of cells) c.loop-i.invariant.url c.as_slice-all.ensures values);
+      url = url;
+    }
 
 pub returns : goal.returns
 returns c =
