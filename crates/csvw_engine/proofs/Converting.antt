@@ -52,7 +52,7 @@ same_by X Y ys iff s = record {
   only = λ u c. let q = s.only u c in (q.0, (iff q.0).0 q.1, q.2);
 }
 
-none_in : {X : Type 0} (x : X) → Contains [] x → ⊥
+pub none_in : {X : Type 0} (x : X) → Contains [] x → ⊥
 none_in x h = let lt = h.1 in absurd (omega arith)
 
 -- a table without columns has no triples

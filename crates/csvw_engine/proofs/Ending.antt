@@ -1,5 +1,5 @@
 -- A run that ends or stops, its report and its flushes.
-use Rattle.std.proofs.Common.{◌≡◌, ◌≢◌, ℕ, List, [], length, refl, sym, ap, ◌∙◌, subst, inl, inr, Option, Result, Ok, Err}
+use Rattle.std.proofs.Common.{◌≡◌, ◌≢◌, ℕ, List, [], ◌++◌, length, refl, sym, ap, ◌∙◌, subst, inl, inr, Option, Result, Ok, Err}
 use Rattle.std.specs.Io.KnownBytes.{Keeps}
 use Rattle.csvw_text.specs.declared.counted.Counted.{Counted}
 use Rattle.csvw_text.specs.Count.{one_more}
@@ -8,6 +8,7 @@ use Rattle.csvw_columns.specs.declared.plan.Plan.{Plan}
 use Rattle.csvw_triples_core.specs.declared.mode.Mode.{Mode}
 use Rattle.csvw_triples_core.specs.declared.mode.Mode.TheVariants as mode
 use Rattle.csvw_triples_core.specs.declared.term.Triple.{Triple}
+use Rattle.csvw_ntriples.specs.Written.{written}
 use Rattle.csvw_report.specs.Report.{report}
 use Rattle.csvw_report.specs.declared.outcome.Outcome.{Outcome}
 use Rattle.csvw_session.specs.Events.{Event}
@@ -16,10 +17,11 @@ use Rattle.csvw_session.specs.declared.stop.Stop.TheVariants as stop
 use Rattle.csvw_group.specs.Annotated.{Table}
 use Rattle.csvw_group.specs.Graph.{GraphOf}
 use Rattle.csvw_engine.specs.Flushes.{IsFlushed}
-use Rattle.csvw_engine.specs.Groups.{Converts, TablesStop, TextsSoFar, IsSound}
+use Rattle.csvw_engine.specs.Groups.{Converts, EndsBy, HaveTables, TablesStop, TextsSoFar}
 use Rattle.csvw_engine.specs.Planning.{IsMetaStop}
 use Rattle.csvw_engine.specs.Reporting.{Reports, TellsOutcome}
-use Rattle.csvw_engine.specs.Runs.{IsPlanned, Succeeds, StopsSo, SoFar, Wrote, WroteGraph, Rises}
+use Rattle.csvw_engine.specs.Runs.{Halts, IsPlanned, IsReason, IsSound, Succeeds, StopsSo, WriteFails, Wrote, WroteGraph, WroteGroup, Rises}
+use Rattle.csvw_engine.specs.Stopped.{Added, Leaves, WroteAll, WroteLines, WroteSome}
 use Rattle.csvw_meta.specs.Document.{document}
 use Rattle.csvw_engine.proofs.Flushing.{appends_kept, rose}
 
@@ -74,75 +76,149 @@ no_stop reason outcome told result old new t r (inl (e, n)) = never outcome reas
 no_stop reason outcome told result old new t r (inr (apart, e, n)) = never outcome stop.Write result e r
 
 -- the document was refused
-pub refused : {R : Type 0} (remaining : R → Option (List ℕ)) (meta base : List ℕ) (olds : List (Counted R)) (out report_out : Stream) (reason : Stop) → IsIdle out → IsIdle report_out
-    → IsMetaStop (document base meta).faults reason → StopsSo remaining meta base olds olds out report_out reason
-refused remaining meta base olds out report_out stop.Memory p q h = tt
-refused remaining meta base olds out report_out (stop.Meta fault) p q h = (h, p, q)
-refused remaining meta base olds out report_out stop.Read p q h = absurd h
-refused remaining meta base olds out report_out stop.Write p q h = absurd h
-refused remaining meta base olds out report_out stop.TableCount p q h = absurd h
-refused remaining meta base olds out report_out (stop.Rows t row reason) p q h = absurd h
-refused remaining meta base olds out report_out (stop.Table t row reason) p q h = absurd h
-refused remaining meta base olds out report_out stop.UnknownTable p q h = absurd h
-refused remaining meta base olds out report_out stop.AfterEnd p q h = absurd h
-refused remaining meta base olds out report_out stop.NotEnded p q h = absurd h
-refused remaining meta base olds out report_out stop.Failed p q h = absurd h
+pub refused : {R : Type 0} (remaining : R → Option (List ℕ)) (meta base : List ℕ) (m : Mode) (olds : List (Counted R)) (out report_out : Stream) (reason : Stop) → IsIdle out → IsIdle report_out
+    → IsMetaStop (document base meta).faults reason → StopsSo remaining meta base m olds olds out report_out reason
+refused remaining meta base m olds out report_out stop.Memory p q h = inl (refl, p, q)
+refused remaining meta base m olds out report_out (stop.Meta fault) p q h = (h, p, q)
+refused remaining meta base m olds out report_out stop.Read p q h = absurd h
+refused remaining meta base m olds out report_out stop.Write p q h = absurd h
+refused remaining meta base m olds out report_out stop.TableCount p q h = absurd h
+refused remaining meta base m olds out report_out (stop.Rows t row reason) p q h = absurd h
+refused remaining meta base m olds out report_out (stop.Table t row reason) p q h = absurd h
+refused remaining meta base m olds out report_out stop.UnknownTable p q h = absurd h
+refused remaining meta base m olds out report_out stop.AfterEnd p q h = absurd h
+refused remaining meta base m olds out report_out stop.NotEnded p q h = absurd h
+refused remaining meta base m olds out report_out stop.Failed p q h = absurd h
 
 module _ {R : Type 0} (remaining : R → Option (List ℕ)) (meta base : List ℕ) (m : Mode) (olds news : List (Counted R)) (plan : Plan) (planned : IsPlanned meta base plan) (many : length olds ≡ length plan.tables)
     (out : Stream) (holds : Option (List ℕ)) (failed : ℕ) (keeps : Keeps out.holds holds) (report_out : Stream) where
   abbrev after : Stream
   after = flushed out holds failed
 
-  so_far : (P : List Event → Type 0) (Q : Plan → List Event → Type 0) → ((events : List Event) → P events → Q plan events) → TextsSoFar remaining olds news P → SoFar remaining meta base olds news Q
-  so_far P Q f h = (plan, h.0, record { planned = planned; many = many; gave = h.1 }, f h.0 h.2)
+  -- a flush keeps what was written
+  lines_kept : (Graph : Triple → Type 0) (more : List ℕ) → WroteLines out Graph more → WroteLines after Graph more
+  lines_kept Graph more h = record {
+    put = h.put;
+    added = appends_kept out.held out.holds holds (written h.put ++ more) h.added keeps;
+    triples = h.triples;
+    denotes = h.denotes;
+    same = h.same;
+  }
+
+  added_kept : (Graph : Triple → Type 0) (more : List ℕ) (z : Mode) → Added z out Graph more → Added z after Graph more
+  added_kept Graph more mode.Validate h = appends_kept out.held out.holds holds [] h keeps
+  added_kept Graph more mode.Minimal h = lines_kept Graph more h
+  added_kept Graph more mode.Standard h = lines_kept Graph more h
+
+  all_kept : (events : List Event) → WroteAll m plan out events → WroteAll m plan after events
+  all_kept events h = record { parts = h.parts; have = h.have; added = added_kept _ [] m h.added }
+
+  some_kept : (events : List Event) (more : List ℕ) → WroteSome m plan out events more → WroteSome m plan after events more
+  some_kept events more h = record { triples = h.triples; rest = h.rest; cut = h.cut; line = h.line; added = added_kept _ more m h.added }
+
+  leaves_kept : (reason : Stop) (events : List Event) → Leaves m plan out reason events → Leaves m plan after reason events
+  leaves_kept stop.Memory events h = some_kept events [] h
+  leaves_kept stop.Write events h = (h.0, some_kept events h.0 h.1)
+  leaves_kept stop.Read events h = all_kept events h
+  leaves_kept (stop.Rows t row reason) events h = all_kept events h
+  leaves_kept (stop.Table t row reason) events h = all_kept events h
+  leaves_kept (stop.Meta fault) events h = h
+  leaves_kept stop.TableCount events h = h
+  leaves_kept stop.UnknownTable events h = h
+  leaves_kept stop.AfterEnd events h = h
+  leaves_kept stop.NotEnded events h = h
+  leaves_kept stop.Failed events h = h
+
+  -- the texts so far, and what was written of them
+  abbrev InTexts : Stop → Type 0
+  InTexts reason = TextsSoFar remaining olds news (λ events. IsReason plan olds news reason events × Leaves m plan out reason events)
+
+  halts : (reason : Stop) → InTexts reason → Halts remaining meta base m olds news after reason
+  halts reason h = (plan, h.0, record { planned = planned; many = many; gave = h.1 }, (h.2.0, leaves_kept reason h.0 h.2.1))
+
+  -- the whole graph
+  group : HaveTables remaining plan olds news (λ tables. Added m out (GraphOf m plan tables) []) → WroteGroup remaining meta base m olds news after
+  group h = record {
+    plan = plan;
+    planned = planned;
+    many = many;
+    texts = h.texts;
+    read = h.read;
+    tables = h.tables;
+    annotated = h.annotated;
+    added = added_kept (GraphOf m plan h.tables) [] m h.gives;
+  }
+
+  whole_group : (outcome : Outcome) → Converts remaining m plan olds news out (Ok outcome) → WroteGroup remaining meta base m olds news after
+  whole_group outcome h = group (record { texts = h.texts; read = h.read; tables = h.tables; annotated = h.annotated; gives = h.gives.1 })
 
   -- a flush that fails
   rises : IsSound out → failed ≡ one_more out.failed → Rises after
   rises sound e = rose out.failures out.failed failed sound e
 
-  kept_stop : (reason : Stop) → failed ≡ out.failed → IsIdle report_out → TablesStop remaining plan olds news (IsSound out) (Rises out) reason → StopsSo remaining meta base olds news after report_out reason
-  kept_stop stop.Memory e quiet h = tt
-  kept_stop stop.Read e quiet h = (elim h.0 [ inl f ↦ inl f | inr s ↦ inr (so_far _ _ (λ events k. k) s) ], quiet)
-  kept_stop stop.Write e quiet h = inl (λ room. e ∙ h room)
-  kept_stop (stop.Rows t row reason) e quiet h = (so_far _ _ (λ events k. k) h.0, quiet)
-  kept_stop (stop.Table t row reason) e quiet h = (so_far _ _ (λ events k. k) h.0, quiet)
-  kept_stop (stop.Meta fault) e quiet h = absurd h
-  kept_stop stop.TableCount e quiet h = absurd h
-  kept_stop stop.UnknownTable e quiet h = absurd h
-  kept_stop stop.AfterEnd e quiet h = absurd h
-  kept_stop stop.NotEnded e quiet h = absurd h
-  kept_stop stop.Failed e quiet h = absurd h
+  not_memory : (reason : Stop) → reason ≢ stop.Memory → TablesStop remaining plan olds news (Leaves m plan out) (λ tables. Added m out (GraphOf m plan tables) []) reason
+      → InTexts reason
+  not_memory reason apart h = elim h [ inl s ↦ s | inr w ↦ absurd (apart w.0) ]
 
-  stop_sound : (reason : Stop) → reason ≢ stop.Write → TablesStop remaining plan olds news (IsSound out) (Rises out) reason → IsSound out
-  stop_sound stop.Memory ne h = h
-  stop_sound stop.Read ne h = h.1
+  kept_stop : (reason : Stop) → failed ≡ out.failed → IsIdle report_out → Converts remaining m plan olds news out (Err reason)
+      → StopsSo remaining meta base m olds news after report_out reason
+  kept_stop stop.Memory e quiet h = elim h.0 [
+    | inl s ↦ inr (inl (halts stop.Memory s, e ∙ h.1, quiet))
+    | inr w ↦ inr (inr (group w.1, e ∙ h.1))
+  ]
+  kept_stop stop.Read e quiet h = (halts stop.Read (not_memory stop.Read (λ k. cc) h.0), e ∙ h.1, quiet)
+  kept_stop stop.Write e quiet h = inl ((stop.Write, halts stop.Write (not_memory stop.Write (λ k. cc) h.0)), (λ room. e ∙ h.1 room), quiet)
+  kept_stop (stop.Rows t row reason) e quiet h =
+      (halts (stop.Rows t row reason) (not_memory (stop.Rows t row reason) (λ k. cc) h.0), e ∙ h.1, quiet)
+  kept_stop (stop.Table t row reason) e quiet h =
+      (halts (stop.Table t row reason) (not_memory (stop.Table t row reason) (λ k. cc) h.0), e ∙ h.1, quiet)
+  kept_stop (stop.Meta fault) e quiet h = let s = not_memory (stop.Meta fault) (λ k. cc) h.0 in absurd s.2.0
+  kept_stop stop.TableCount e quiet h = let s = not_memory stop.TableCount (λ k. cc) h.0 in absurd s.2.0
+  kept_stop stop.UnknownTable e quiet h = let s = not_memory stop.UnknownTable (λ k. cc) h.0 in absurd s.2.0
+  kept_stop stop.AfterEnd e quiet h = let s = not_memory stop.AfterEnd (λ k. cc) h.0 in absurd s.2.0
+  kept_stop stop.NotEnded e quiet h = let s = not_memory stop.NotEnded (λ k. cc) h.0 in absurd s.2.0
+  kept_stop stop.Failed e quiet h = let s = not_memory stop.Failed (λ k. cc) h.0 in absurd s.2.0
+
+  stop_sound : (reason : Stop) → reason ≢ stop.Write → EndsBy (IsSound out) (Rises out) reason → IsSound out
   stop_sound stop.Write ne h = absurd (ne refl)
-  stop_sound (stop.Rows t row reason) ne h = h.1
-  stop_sound (stop.Table t row reason) ne h = h.1
-  stop_sound (stop.Meta fault) ne h = absurd h
-  stop_sound stop.TableCount ne h = absurd h
-  stop_sound stop.UnknownTable ne h = absurd h
-  stop_sound stop.AfterEnd ne h = absurd h
-  stop_sound stop.NotEnded ne h = absurd h
-  stop_sound stop.Failed ne h = absurd h
+  stop_sound stop.Memory ne h = h
+  stop_sound stop.Read ne h = h
+  stop_sound (stop.Rows t row reason) ne h = h
+  stop_sound (stop.Table t row reason) ne h = h
+  stop_sound (stop.Meta fault) ne h = h
+  stop_sound stop.TableCount ne h = h
+  stop_sound stop.UnknownTable ne h = h
+  stop_sound stop.AfterEnd ne h = h
+  stop_sound stop.NotEnded ne h = h
+  stop_sound stop.Failed ne h = h
 
   -- an answer that is a stop
   abbrev StopsWith : Result Outcome Stop → Type 0
   StopsWith (Ok outcome) = Unit {0}
-  StopsWith (Err reason) = StopsSo remaining meta base olds news after report_out reason
+  StopsWith (Err reason) = StopsSo remaining meta base m olds news after report_out reason
 
-  behind_stop : (reason : Stop) (result : Result Outcome Stop) → TablesStop remaining plan olds news (IsSound out) (Rises out) reason → IsIdle report_out → IsFlushed (Err reason) result out.failed failed → StopsWith result
+  unflushed : (reason : Stop) → Converts remaining m plan olds news out (Err reason) → IsIdle report_out → Rises after → WriteFails remaining meta base m olds news after report_out
+  unflushed reason h quiet fails = elim h.0 [
+    | inl s ↦ inl ((reason, halts reason s), fails, quiet)
+    | inr w ↦ inr (group w.1, inl fails)
+  ]
+
+  behind_stop : (reason : Stop) (result : Result Outcome Stop) → Converts remaining m plan olds news out (Err reason) → IsIdle report_out
+      → IsFlushed (Err reason) result out.failed failed → StopsWith result
   behind_stop reason result h quiet (inl (e, n)) = subst StopsWith (sym e) (kept_stop reason n quiet h)
-  behind_stop reason result h quiet (inr (apart, e, n)) = subst StopsWith (sym e) (inl (rises (stop_sound reason (λ w. apart (ap Err w)) h) n))
+  behind_stop reason result h quiet (inr (apart, e, n)) =
+      subst StopsWith (sym e) (unflushed reason h quiet (rises (stop_sound reason (λ w. apart (ap Err w)) h.1) n))
 
-  behind_report : (outcome : Outcome) (told result : Result Outcome Stop) → IsSound out → TellsOutcome outcome report_out told → IsFlushed told result out.failed failed → StopsWith result
-  behind_report outcome told result sound (inl (t, s)) (inl (e, n)) = subst StopsWith (sym (e ∙ t)) tt
-  behind_report outcome told result sound (inr (inl (t, s))) (inl (e, n)) = subst StopsWith (sym (e ∙ t)) tt
-  behind_report outcome told result sound (inr (inr (t, s))) (inl (e, n)) = subst StopsWith (sym (e ∙ t)) (inr (rose report_out.failures report_out.failures report_out.failed refl s))
-  behind_report outcome told result sound t (inr (apart, e, n)) = subst StopsWith (sym e) (inl (rises sound n))
+  behind_report : (outcome : Outcome) (told result : Result Outcome Stop) → Converts remaining m plan olds news out (Ok outcome) → IsSound out
+      → TellsOutcome outcome report_out told → IsFlushed told result out.failed failed → StopsWith result
+  behind_report outcome told result h sound (inl (t, s)) (inl (e, n)) = subst StopsWith (sym (e ∙ t)) tt
+  behind_report outcome told result h sound (inr (inl (t, s))) (inl (e, n)) = subst StopsWith (sym (e ∙ t)) (inr (inr (whole_group outcome h, n ∙ sound)))
+  behind_report outcome told result h sound (inr (inr (t, s))) (inl (e, n)) =
+      subst StopsWith (sym (e ∙ t)) (inr (whole_group outcome h, inr (rose report_out.failures report_out.failures report_out.failed refl s)))
+  behind_report outcome told result h sound t (inr (apart, e, n)) = subst StopsWith (sym e) (inr (whole_group outcome h, inl (rises sound n)))
 
   pub stops : (ran told result : Result Outcome Stop) → Converts remaining m plan olds news out ran → Reports ran report_out told → IsFlushed told result out.failed failed → StopsWith result
-  stops (Ok outcome) told result h t f = behind_report outcome told result (wrote_soundly m out plan h.tables h.gives) t f
+  stops (Ok outcome) told result h t f = behind_report outcome told result h (wrote_soundly m out plan h.tables h.gives.0) t f
   stops (Err reason) told result h t f = behind_stop reason result h t.1 (subst (λ z. IsFlushed z result out.failed failed) t.0 f)
 
   succeeded : (outcome : Outcome) → Converts remaining m plan olds news out (Ok outcome) → failed ≡ out.failed → Sends report_out (report outcome.faults)
@@ -156,7 +232,7 @@ module _ {R : Type 0} (remaining : R → Option (List ℕ)) (meta base : List �
     steady = h.steady;
     tables = h.tables;
     annotated = h.annotated;
-    wrote = wrote_kept m out holds failed plan h.tables keeps e h.gives;
+    wrote = wrote_kept m out holds failed plan h.tables keeps e h.gives.0;
     violations = h.violations;
     reported = s;
   }
@@ -172,8 +248,15 @@ module _ {R : Type 0} (remaining : R → Option (List ℕ)) (meta base : List �
   succeeds (Ok first) told result outcome r h t f = reported outcome first told result r h t f
   succeeds (Err reason) told result outcome r h t f = absurd (no_stop reason outcome told result out.failed failed t.0 r f)
 
+  -- the whole graph was written, and reported
+  pub ends_whole : (ran told result : Result Outcome Stop) (outcome : Outcome) → result ≡ Ok outcome → Converts remaining m plan olds news out ran
+      → Reports ran report_out told → IsFlushed told result out.failed failed → WroteGroup remaining meta base m olds news after × IsSound report_out
+  ends_whole (Ok first) told result outcome r h t f =
+      let k = told_ok outcome first report_out told result out.failed failed r t f in (whole_group first h, k.sent.1)
+  ends_whole (Err reason) told result outcome r h t f = absurd (no_stop reason outcome told result out.failed failed t.0 r f)
+
   pub stops_with : (ran told result : Result Outcome Stop) (reason : Stop) → result ≡ Err reason → Converts remaining m plan olds news out ran → Reports ran report_out told → IsFlushed told result out.failed failed
-      → StopsSo remaining meta base olds news after report_out reason
+      → StopsSo remaining meta base m olds news after report_out reason
   stops_with ran told result reason r h t f = subst StopsWith r (stops ran told result h t f)
 
 -- the report was flushed
@@ -192,3 +275,10 @@ report_kept remaining meta base m olds news out report_out outcome holds failed 
   violations = h.violations;
   reported = sends_kept report_out holds failed (report outcome.faults) keeps e h.reported;
 }
+
+-- the flush of the report failed, behind the whole graph
+pub report_unsent : {R : Type 0} (remaining : R → Option (List ℕ)) (meta base : List ℕ) (m : Mode) (olds news : List (Counted R)) (out report_out : Stream)
+    (holds : Option (List ℕ)) (failed : ℕ) (reason : Stop) → reason ≡ stop.Write → failed ≡ one_more report_out.failed → IsSound report_out
+    → WroteGroup remaining meta base m olds news out → StopsSo remaining meta base m olds news out (flushed report_out holds failed) reason
+report_unsent remaining meta base m olds news out report_out holds failed reason is more sound group =
+    rw is (inr (group, inr (rose report_out.failures report_out.failed failed sound more)))

@@ -1,37 +1,45 @@
 -- The tables of a session, read to their ends.
-use Rattle.std.proofs.Common.{◌≡◌, ◌<◌, ◌+◌, ◌-◌, ◌^◌, ℕ, suc, Bool, true, false, List, [], ◌∷◌, ◌++◌, length, refl, sym, ap, ◌∙◌, subst, inl, inr, arith, Option, Some, Result, Ok, Err}
+use Rattle.std.proofs.Common.{◌≡◌, ◌↔◌, ◌<◌, ◌+◌, ◌-◌, ◌^◌, ℕ, suc, Bool, true, false, List, [], ◌∷◌, ◌++◌, length, refl, sym, ap, ◌∙◌, subst, inl, inr, arith, Contains, Option, Some, Result, Ok, Err}
 use Rattle.std.specs.Prelude.{slice_get}
 use Rattle.std.specs.List.{list_all}
 use Rattle.std.proofs.lemmas.Option.{slice_get_within}
 use Rattle.std.specs.List.Sorted.{IsPermutation}
 use Rattle.std.proofs.lemmas.List.Sorted.{IsPermutation-trans, IsPermutation-append_right}
+use Rattle.std.proofs.KnownBytes.{Consumes-nil}
+use Rattle.std.proofs.lemmas.List.Elements.{Contains-append_left, Contains-append_right}
+use Rattle.csvw_text.specs.Counted.{inner_of}
 use Rattle.csvw_text.specs.declared.counted.Counted.{Counted}
 use Rattle.csvw_text.specs.declared.fault.Fault.{Fault}
 use Rattle.csvw_columns.specs.declared.plan.Plan.{Plan}
 use Rattle.csvw_columns.specs.declared.plan.TablePlan.{TablePlan}
-use Rattle.csvw_triples_core.specs.Taking.{IsAsReady}
+use Rattle.csvw_rows.specs.declared.stop.RowStop.{RowStop}
+use Rattle.csvw_columns.specs.declared.table_stop.TableStop.{TableStop}
+use Rattle.csvw_triples_core.specs.Taking.{FrontOf, IsAsReady}
 use Rattle.csvw_triples_core.specs.declared.mode.Mode.{Mode}
 use Rattle.csvw_triples_core.specs.declared.term.Triple.{Triple}
+use Rattle.csvw_opening.specs.Opening.{Opening}
 use Rattle.csvw_opening.specs.OpeningTriples.{opening}
 use Rattle.csvw_engine_core.specs.Tables.{is_ended}
 use Rattle.csvw_engine_core.specs.declared.table.Table.{Table}
 use Rattle.csvw_report.specs.declared.outcome.Outcome.{Outcome}
-use Rattle.csvw_session.specs.Events.{Event, text_of, ended_in}
+use Rattle.csvw_session.specs.Events.{Event, table_of, text_of, ended_in}
 use Rattle.csvw_keys.specs.KeyRules.{key_faults, rules_of}
 use Rattle.csvw_session.specs.Faults.{all_faults}
 use Rattle.csvw_session.specs.Finishing.{Finishes}
 use Rattle.csvw_session.specs.Refusing.{Refuses}
-use Rattle.csvw_session.specs.Sessions.{AreNumbered, Stands, Starts, TableStands, TookGraph}
+use Rattle.csvw_session.specs.Sessions.{AreNumbered, Stands, Starts, TableStands, Takes, TookGraph}
 use Rattle.csvw_session.specs.declared.session.Session.{Session}
 use Rattle.csvw_session.specs.declared.stop.Stop.{Stop}
 use Rattle.csvw_session.specs.declared.stop.Stop.TheVariants as stop
 use Rattle.csvw_group.specs.Annotated.{AreAnnotated}
 use Rattle.csvw_group.specs.Graph.{GraphOf}
 use Rattle.csvw_group.specs.Law.{Annotates, texts_of}
+use Rattle.csvw_group.specs.Part.{IsCutInOpening}
+use Rattle.csvw_group.specs.Stopped.{TookAll, TookBy, TookSome}
 use Rattle.csvw_group.specs.Violations.{rows_of, tables_violations, AreViolations}
-use Rattle.csvw_reading.specs.Reading.{Gave, GaveTexts, Reads, ReadsAll}
-use Rattle.csvw_engine.specs.Groups.{GainsSome, TablesStop, TakesTables}
-use Rattle.csvw_engine.specs.Runs.{ReadWhole}
+use Rattle.csvw_reading.specs.Reading.{Gave, GaveTexts, IsSame, Reads, ReadsAll, StopsAt}
+use Rattle.csvw_engine.specs.Groups.{EndsBy, GainsSome, HaveTables, SinkLeaves, TablesStop, TakesTables, TookTables}
+use Rattle.csvw_engine.specs.Runs.{ReadWhole, StopsInText, RefusedInText}
 
 -- each of the tables has ended
 all_ended : (plans : List TablePlan) (tables : List Table) → length tables ≡ length plans
@@ -69,43 +77,65 @@ module _ {R S : Type 0} (gains : S → List Triple → S → Type 0) (is_open : 
     still_numbered : AreNumbered middle.plan.tables
     still_numbered = subst (λ (p : Plan). AreNumbered p.tables) (sym all.same.0) numbered
 
-    whole : (outcome : Outcome) → Finishes middle new (Ok outcome) → TakesTables gains is_open failed remaining old.mode old.plan olds news sink new.sink (Ok outcome)
-    whole outcome fin =
-        let here : gains sink (opening middle.mode middle.plan) start =
-        subst (λ (p : Plan). gains sink (opening middle.mode p) start) (sym all.same.0) (subst (λ m. gains sink (opening m old.plan) start) (sym all.same.1) opened) in
-        let a = law all.events middle here all.stands fin.1.ended in record {
-          texts = texts_of all.events;
-          read = read_whole all.events all.gave all.ended;
-          steady = all.steady;
-          tables = a.tables;
-          annotated = subst (λ (p : Plan). AreAnnotated p.tables (texts_of all.events) a.tables) all.same.0 a.annotated;
-          violations = subst (λ (p : Plan). AreViolations p a.tables outcome.faults) all.same.0 (record {
-            same = with_keys (middle.plan.warnings ++ all_faults middle.tables.items)
-                (middle.plan.warnings ++ tables_violations middle.plan.tables a.tables) (key_faults (rules_of middle.plan) (rows_of a.tables))
-                fin.1.key_faults outcome.faults (ap (λ (fs : List Fault). middle.plan.warnings ++ fs) a.faults)
-                (fin.1.told (rules_of middle.plan) (rows_of a.tables) (a.keys still_numbered)).same fin.1.faults;
-            sorted = fin.1.sorted;
-          });
-          gives = record {
-            took = subst (λ (z : S). TookGraph gains sink z (GraphOf old.mode old.plan a.tables)) (sym fin.0.sink)
-                (subst (λ (p : Plan). TookGraph gains sink middle.sink (GraphOf old.mode p a.tables)) all.same.0
-                (subst (λ (m : Mode). TookGraph gains sink middle.sink (GraphOf m middle.plan a.tables)) all.same.1 a.took));
-            ready = rw fin.0.sink (ready_on is_open failed sink start middle.sink as_ready all.stands.ready);
-          };
-        }
-
-    none_open : list_all is_ended middle.tables.items ≡ false → ⊥
-    none_open e =
-        let ended : list_all is_ended middle.tables.items ≡ true = all_ended middle.plan.tables middle.tables.items middle.many
+    each_ended : list_all is_ended middle.tables.items ≡ true
+    each_ended =
+        all_ended middle.plan.tables middle.tables.items middle.many
         (λ i plan table p q.
         let below : i < length olds = let k = slice_get_within middle.plan.tables i plan p in let m = ap (λ (z : Plan). length z.tables) all.same.0 in omega (arith, k, m, many) in
-        ended_stands plan middle.mode table (text_of all.events (i + 1)) (ended_in all.events (i + 1)) _ (all.ended i below) (all.stands.tables i plan table (p, q)).stands) in
-        cc
+        ended_stands plan middle.mode table (text_of all.events (i + 1)) (ended_in all.events (i + 1)) _ (all.ended i below) (all.stands.tables i plan table (p, q)).stands)
+
+    -- the tables that were read
+    abbrev read_tables : Annotates gains sink all.events middle
+    read_tables =
+        law all.events middle
+        (subst (λ (p : Plan). gains sink (opening middle.mode p) start) (sym all.same.0)
+        (subst (λ m. gains sink (opening m old.plan) start) (sym all.same.1) opened)) all.stands each_ended
+
+    annotated : AreAnnotated old.plan.tables (texts_of all.events) read_tables.tables
+    annotated = subst (λ (p : Plan). AreAnnotated p.tables (texts_of all.events) read_tables.tables) all.same.0 read_tables.annotated
+
+    took_tables : new.sink ≡ middle.sink → TookTables gains is_open failed old.mode old.plan sink new.sink read_tables.tables
+    took_tables e = record {
+      took = subst (λ (z : S). TookGraph gains sink z (GraphOf old.mode old.plan read_tables.tables)) (sym e)
+          (subst (λ (p : Plan). TookGraph gains sink middle.sink (GraphOf old.mode p read_tables.tables)) all.same.0
+          (subst (λ (m : Mode). TookGraph gains sink middle.sink (GraphOf m middle.plan read_tables.tables)) all.same.1 read_tables.took));
+      ready = rw e (ready_on is_open failed sink start middle.sink as_ready all.stands.ready);
+    }
+
+    whole : (outcome : Outcome) → Finishes middle new (Ok outcome) → TakesTables gains is_open failed remaining old.mode old.plan olds news sink new.sink (Ok outcome)
+    whole outcome fin = record {
+      texts = texts_of all.events;
+      read = read_whole all.events all.gave all.ended;
+      steady = all.steady;
+      tables = read_tables.tables;
+      annotated = annotated;
+      violations = subst (λ (p : Plan). AreViolations p read_tables.tables outcome.faults) all.same.0 (record {
+        same = with_keys (middle.plan.warnings ++ all_faults middle.tables.items)
+            (middle.plan.warnings ++ tables_violations middle.plan.tables read_tables.tables) (key_faults (rules_of middle.plan) (rows_of read_tables.tables))
+            fin.1.key_faults outcome.faults (ap (λ (fs : List Fault). middle.plan.warnings ++ fs) read_tables.faults)
+            (fin.1.told (rules_of middle.plan) (rows_of read_tables.tables) (read_tables.keys still_numbered)).same fin.1.faults;
+        sorted = fin.1.sorted;
+      });
+      gives = took_tables fin.0.sink;
+    }
+
+    unfinished : new.sink ≡ middle.sink → HaveTables remaining old.plan olds news (TookTables gains is_open failed old.mode old.plan sink new.sink)
+    unfinished e = record {
+      texts = texts_of all.events;
+      read = read_whole all.events all.gave all.ended;
+      tables = read_tables.tables;
+      annotated = annotated;
+      gives = took_tables e;
+    }
+
+    none_open : list_all is_ended middle.tables.items ≡ false → ⊥
+    none_open e = let ended = each_ended in cc
 
     pub finished : (result : Result Outcome Stop) → Finishes middle new result → TakesTables gains is_open failed remaining old.mode old.plan olds news sink new.sink result
     finished (Ok outcome) fin = whole outcome fin
     finished (Err stop.Memory) fin = (
       (opening old.mode old.plan ++ all.stands.took.taken, rw fin.sink (goes_on sink start middle.sink (opening old.mode old.plan) all.stands.took.taken opened all.stands.took.gained)),
+      inr (refl, unfinished fin.sink),
       rw fin.sink (ready_on is_open failed sink start middle.sink as_ready all.stands.ready),
     )
     finished (Err stop.Failed) fin = let is = fin.1 in let opened = all.stands.state_is in cc
@@ -120,7 +150,27 @@ module _ {R S : Type 0} (gains : S → List Triple → S → Type 0) (is_open : 
     finished (Err stop.UnknownTable) fin = absurd fin
 
   -- or it stopped before
-  module _ (old new : Session S) (opened : gains sink (opening old.mode old.plan) start) where
+  module _ (old new : Session S) (opened : gains sink (opening old.mode old.plan) start)
+      (all_law : (events : List Event) (s : Session S) → gains sink (opening s.mode s.plan) start → Stands gains is_open failed start events s
+      → TookAll gains s.mode s.plan events sink s.sink)
+      (part_law : (events : List Event) (event : Event) (s t : Session S) (n : ℕ) (reason : Stop) → gains sink (opening s.mode s.plan) start
+      → IsAsReady is_open failed sink start → Stands gains is_open failed start events s → table_of event ≡ n → Takes gains is_open failed s t n event (Err reason)
+      → TookBy gains is_open failed s.mode s.plan (events ++ event ∷ []) sink t.sink reason) where
+    -- the same by the plan and the mode of the session at its start
+    at_own : (P : Mode → Plan → Type 0) (s : Session S) → IsSame old s → P s.mode s.plan → P old.mode old.plan
+    at_own P s same p = subst (λ (z : Plan). P old.mode z) same.0 (subst (λ m. P m s.plan) same.1 p)
+
+    opened_at : (s : Session S) → IsSame old s → gains sink (opening s.mode s.plan) start
+    opened_at s same =
+        subst (λ (p : Plan). gains sink (opening s.mode p) start) (sym same.0) (subst (λ m. gains sink (opening m old.plan) start) (sym same.1) opened)
+
+    behind_event : (events : List Event) (reason : Stop) → StopsAt gains is_open failed start old new events reason
+        → TookBy gains is_open failed old.mode old.plan events sink new.sink reason
+    behind_event events reason s =
+        at_own (λ m p. TookBy gains is_open failed m p events sink new.sink reason) s.session s.same
+        (subst (λ es. TookBy gains is_open failed s.session.mode s.session.plan es sink new.sink reason) (sym s.all)
+        (part_law s.before s.event s.session new s.t reason (opened_at s.session s.same) as_ready s.stands s.of_table s.takes))
+
     -- what its sink took by then
     some_gained : (reason : Stop) → Reads gains is_open failed remaining start olds news old new (Err reason) → GainsSome gains start new.sink
     some_gained stop.Memory h =
@@ -153,54 +203,51 @@ module _ {R S : Type 0} (gains : S → List Triple → S → Type 0) (is_open : 
     ready_at : (between : S) → IsAsReady is_open failed start between → IsAsReady is_open failed between new.sink → IsAsReady is_open failed sink new.sink
     ready_at between x y = ready_on is_open failed sink start new.sink as_ready (ready_on is_open failed start between new.sink x y)
 
+    in_text : (events : List Event) (t row : ℕ) (reason : RowStop) → StopsAt gains is_open failed start old new events (stop.Rows t row reason)
+        → StopsInText old.plan events t row reason
+    in_text events t row reason s =
+        let at = (s.takes.2 start s.before s.stands).0 in record {
+          i = at.i;
+          number = at.number ∙ sym s.takes.1;
+          table = at.plan;
+          is_at = subst (λ (p : Plan). slice_get p.tables at.i ≡ Some at.plan) s.same.0 at.is_at.0;
+          given = at.given ++ at.leaves.raws;
+          stopped = rw (s.all, s.takes.1) at.leaves.why;
+        }
+
+    refused_in : (events : List Event) (t row : ℕ) (reason : TableStop) → StopsAt gains is_open failed start old new events (stop.Table t row reason)
+        → RefusedInText old.plan events t row reason
+    refused_in events t row reason s =
+        let at = (s.takes.2 start s.before s.stands).0 in record {
+          i = at.i;
+          number = at.number ∙ sym s.takes.1;
+          table = at.plan;
+          is_at = subst (λ (p : Plan). slice_get p.tables at.i ≡ Some at.plan) s.same.0 at.is_at.0;
+          given = at.given ++ at.leaves.raws;
+          columns = at.leaves.columns;
+          faults = at.leaves.faults;
+          rows = _;
+          in_front = at.leaves.table;
+          refused = rw (s.all, s.takes.1) at.leaves.why;
+        }
+
     stopped : (reason : Stop) → Reads gains is_open failed remaining start olds news old new (Err reason)
-        → TablesStop remaining old.plan olds news (IsAsReady is_open failed sink new.sink) (is_open sink ≡ true → failed sink < 2 ^ 64 - 1 → failed new.sink ≡ failed sink + 1) reason
-    stopped stop.Memory h = let s = h.stops in ready_at s.session.sink s.stands.ready (s.takes.1 start s.before s.stands).1
-    stopped stop.Read h = (elim h.blame [ inl f ↦ inl f | inr m ↦ inr (h.events, h.gave, m.0) ], ready_on is_open failed sink start new.sink as_ready h.stands.ready)
-    stopped stop.Write h =
-        let s = h.stops in
-        let r = ready_on is_open failed sink start s.session.sink as_ready s.stands.ready in
-        λ begun room. (s.takes.1 start s.before s.stands).1 (r.0 ∙ begun) (rw r.1 room) ∙ ap (λ n. n + 1) r.1
+        → TablesStop remaining old.plan olds news (SinkLeaves gains is_open failed old.mode old.plan sink new.sink)
+        (TookTables gains is_open failed old.mode old.plan sink new.sink) reason
+    stopped stop.Memory h = inl (h.events, h.gave, (tt, behind_event h.events stop.Memory h.stops))
+    stopped stop.Write h = inl (h.events, h.gave, (tt, behind_event h.events stop.Write h.stops))
+    stopped stop.Read h = inl (
+      h.events,
+      h.gave,
+      (
+        elim h.blame [ inl f ↦ inl f | inr m ↦ inr m.0 ],
+        at_own (λ m p. TookAll gains m p h.events sink new.sink) new h.same (all_law h.events new (opened_at new h.same) h.stands),
+      ),
+    )
     stopped (stop.Rows t row reason) h =
-        let s = h.stops in
-        let k = s.takes.2 start s.before s.stands in
-        let at = k.0 in (
-          (
-            h.events,
-            h.gave,
-            record {
-              i = at.i;
-              number = at.number ∙ sym s.takes.1;
-              table = at.plan;
-              is_at = subst (λ (p : Plan). slice_get p.tables at.i ≡ Some at.plan) s.same.0 at.is_at.0;
-              given = at.given ++ at.leaves.raws;
-              stopped = rw (s.all, s.takes.1) at.leaves.why;
-            },
-          ),
-          ready_at s.session.sink s.stands.ready k.1,
-        )
+        inl (h.events, h.gave, (in_text h.events t row reason h.stops, behind_event h.events (stop.Rows t row reason) h.stops))
     stopped (stop.Table t row reason) h =
-        let s = h.stops in
-        let k = s.takes.2 start s.before s.stands in
-        let at = k.0 in (
-          (
-            h.events,
-            h.gave,
-            record {
-              i = at.i;
-              number = at.number ∙ sym s.takes.1;
-              table = at.plan;
-              is_at = subst (λ (p : Plan). slice_get p.tables at.i ≡ Some at.plan) s.same.0 at.is_at.0;
-              given = at.given ++ at.leaves.raws;
-              columns = at.leaves.columns;
-              faults = at.leaves.faults;
-              rows = _;
-              in_front = at.leaves.table;
-              refused = rw (s.all, s.takes.1) at.leaves.why;
-            },
-          ),
-          ready_at s.session.sink s.stands.ready k.1,
-        )
+        inl (h.events, h.gave, (refused_in h.events t row reason h.stops, behind_event h.events (stop.Table t row reason) h.stops))
     stopped (stop.Meta fault) h = absurd h
     stopped stop.TableCount h = absurd h
     stopped stop.UnknownTable h = absurd h
@@ -208,24 +255,76 @@ module _ {R S : Type 0} (gains : S → List Triple → S → Type 0) (is_open : 
     stopped stop.NotEnded h = absurd h
     stopped stop.Failed h = absurd h
 
+    ends_by : (reason : Stop) → Reads gains is_open failed remaining start olds news old new (Err reason)
+        → EndsBy (IsAsReady is_open failed sink new.sink) (is_open sink ≡ true → failed sink < 2 ^ 64 - 1 → failed new.sink ≡ failed sink + 1) reason
+    ends_by stop.Memory h = let s = h.stops in ready_at s.session.sink s.stands.ready (s.takes.1 start s.before s.stands).1
+    ends_by stop.Read h = ready_on is_open failed sink start new.sink as_ready h.stands.ready
+    ends_by stop.Write h =
+        let s = h.stops in
+        let r = ready_on is_open failed sink start s.session.sink as_ready s.stands.ready in
+        λ begun room. (s.takes.1 start s.before s.stands).1 (r.0 ∙ begun) (rw r.1 room) ∙ ap (λ n. n + 1) r.1
+    ends_by (stop.Rows t row reason) h = let s = h.stops in ready_at s.session.sink s.stands.ready (s.takes.2 start s.before s.stands).1
+    ends_by (stop.Table t row reason) h = let s = h.stops in ready_at s.session.sink s.stands.ready (s.takes.2 start s.before s.stands).1
+    ends_by (stop.Meta fault) h = absurd h
+    ends_by stop.TableCount h = absurd h
+    ends_by stop.UnknownTable h = absurd h
+    ends_by stop.AfterEnd h = absurd h
+    ends_by stop.NotEnded h = absurd h
+    ends_by stop.Failed h = absurd h
+
     pub stops : (reason : Stop) → Reads gains is_open failed remaining start olds news old new (Err reason)
         → TakesTables gains is_open failed remaining old.mode old.plan olds news sink new.sink (Err reason)
-    stops reason h = (gained_behind (some_gained reason h), stopped reason h)
+    stops reason h = (gained_behind (some_gained reason h), stopped reason h, ends_by reason h)
+
+-- what is told of the group
+abbrev pub OpeningIsGraph : Type 0
+OpeningIsGraph = (m : Mode) (plan : Plan) (x : Triple) → Contains (opening m plan) x ↔ Opening m plan x
+
+opening_cut : OpeningIsGraph → (m : Mode) (plan : Plan) (front rest : List Triple) → opening m plan ≡ front ++ rest → IsCutInOpening m plan [] front rest
+opening_cut law m plan front rest e = record {
+  none = refl;
+  within = λ x c. (law m plan x).0 (subst (λ ts. Contains ts x) (sym e) (Contains-append_left front rest x c));
+  next = λ x xs f. (law m plan x).0
+      (subst (λ ts. Contains ts x) (sym e) (Contains-append_right front rest x (subst (λ ts. Contains ts x) (sym f) (0, omega arith, refl))));
+}
+
+same_place : {X : Type 0} (xs : List X) (i : ℕ) (x y : X) → slice_get xs i ≡ Some x → slice_get xs i ≡ Some y → x ≡ y
+same_place xs i x y e f = let k : Some x ≡ Some y = sym e ∙ f in cc
+
+-- no reader was read
+pub none_read : {R : Type 0} (remaining : R → Option (List ℕ)) (olds : List (Counted R)) → GaveTexts remaining olds olds []
+none_read remaining olds = record {
+  many = refl;
+  each = λ i r s p q. subst (λ z. Gave remaining r z [] false) (same_place olds i r s p q)
+      (record { consumed = Consumes-nil (remaining (inner_of r)); at_end = λ e. cc });
+}
 
 -- a session that did not start
-pub refused : {R S : Type 0} (gains : S → List Triple → S → Type 0) (is_open : S → Bool) (failed : S → ℕ) (remaining : R → Option (List ℕ)) (m : Mode) (plan : Plan) (olds news : List (Counted R)) (sink now : S)
-    → (reason : Stop) → Refuses gains is_open failed plan m sink now reason → TakesTables gains is_open failed remaining m plan olds news sink now (Err reason)
-refused gains is_open failed remaining m plan olds news sink now stop.Memory h = ((h.0.front, h.0.gained), h.1)
-refused gains is_open failed remaining m plan olds news sink now stop.Write h = ((h.0.front, h.0.gained), h.1)
-refused gains is_open failed remaining m plan olds news sink now stop.Read h = absurd h
-refused gains is_open failed remaining m plan olds news sink now (stop.Meta fault) h = absurd h
-refused gains is_open failed remaining m plan olds news sink now stop.TableCount h = absurd h
-refused gains is_open failed remaining m plan olds news sink now (stop.Rows t row reason) h = absurd h
-refused gains is_open failed remaining m plan olds news sink now (stop.Table t row reason) h = absurd h
-refused gains is_open failed remaining m plan olds news sink now stop.UnknownTable h = absurd h
-refused gains is_open failed remaining m plan olds news sink now stop.AfterEnd h = absurd h
-refused gains is_open failed remaining m plan olds news sink now stop.NotEnded h = absurd h
-refused gains is_open failed remaining m plan olds news sink now stop.Failed h = absurd h
+module _ {R S : Type 0} (gains : S → List Triple → S → Type 0) (is_open : S → Bool) (failed : S → ℕ) (remaining : R → Option (List ℕ)) (law : OpeningIsGraph)
+    (m : Mode) (plan : Plan) (olds : List (Counted R)) (sink now : S) (stays : gains sink [] sink) where
+  took_opening : FrontOf gains sink (opening m plan) now → TookSome gains is_open failed m plan [] sink now
+  took_opening h = record {
+    taken = [];
+    middle = sink;
+    gained = stays;
+    ready = (refl, refl);
+    more = opening m plan;
+    took = h;
+    cut = λ front rest e. inl (opening_cut law m plan front rest e);
+  }
+
+  pub refused : (reason : Stop) → Refuses gains is_open failed plan m sink now reason → TakesTables gains is_open failed remaining m plan olds olds sink now (Err reason)
+  refused stop.Memory h = ((h.0.front, h.0.gained), inl ([], none_read remaining olds, (tt, took_opening h.0)), h.1)
+  refused stop.Write h = ((h.0.front, h.0.gained), inl ([], none_read remaining olds, (tt, took_opening h.0)), h.1)
+  refused stop.Read h = absurd h
+  refused (stop.Meta fault) h = absurd h
+  refused stop.TableCount h = absurd h
+  refused (stop.Rows t row reason) h = absurd h
+  refused (stop.Table t row reason) h = absurd h
+  refused stop.UnknownTable h = absurd h
+  refused stop.AfterEnd h = absurd h
+  refused stop.NotEnded h = absurd h
+  refused stop.Failed h = absurd h
 
 -- a session at its start has its own plan and mode
 pub starts_own : {S : Type 0} (gains : S → List Triple → S → Type 0) (is_open : S → Bool) (failed : S → ℕ) (plan : Plan) (m : Mode) (sink : S) (s : Session S)

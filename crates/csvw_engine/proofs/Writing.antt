@@ -1,11 +1,14 @@
 -- The graph of a group, as N-Triples.
-use Rattle.std.proofs.Common.{◌≡◌, ◌+◌, ℕ, true, List, [], ◌∷◌, refl, sym, ap, ◌∙◌, subst, arith, inl, inr, map, Contains, Option, Result, Ok, Err}
+use Rattle.std.proofs.Common.{◌≡◌, ◌↔◌, ◌<◌, ◌+◌, ◌-◌, ◌^◌, ℕ, Bool, true, false, List, [], ◌∷◌, ◌++◌, refl, sym, ap, ◌∙◌, subst, arith, inl, inr, append-nil, append_assoc, length, map, take, Contains, Option, Some, None, Result, Ok, Err}
+use Rattle.std.proofs.KnownBytes.{Appends-nil, Appends-trans}
 use Rattle.std.specs.List.{AllByRecursion}
 use Rattle.std.specs.Io.KnownBytes.{Appends}
 use Rattle.csvw_text.specs.declared.counted.Counted.{Counted}
 use Rattle.csvw_text.specs.Counted.{inner_of, failures_of}
 use Rattle.csvw_text.specs.Streams.{Stream, stream_of}
+use Rattle.csvw_columns_core.specs.declared.columns.Columns.{Columns}
 use Rattle.csvw_columns.specs.declared.plan.Plan.{Plan}
+use Rattle.csvw_annotate.specs.declared.row.Row.{Row}
 use Rattle.csvw_triples_core.specs.Taking.{IsAsReady}
 use Rattle.csvw_triples_core.specs.declared.mode.Mode.{Mode}
 use Rattle.csvw_triples_core.specs.declared.mode.Mode.TheVariants as mode
@@ -14,17 +17,24 @@ use Rattle.csvw_ntriples.specs.declared.nt_sink.NtSink.{NtSink}
 use Rattle.csvw_ntriples.specs.Grammar.{Denotes}
 use Rattle.csvw_ntriples.specs.NtSink.{sink_out, sink_is_open}
 use Rattle.csvw_ntriples.specs.SameUpTo.{SameUpTo}
+use Rattle.csvw_ntriples.specs.Sending.{Sends}
+use Rattle.csvw_ntriples.specs.SendingLaws.{all_fit, written-append}
 use Rattle.csvw_ntriples.specs.Writable.{TripleFits}
 use Rattle.csvw_ntriples.specs.Written.{written, said}
 use Rattle.csvw_report.specs.declared.outcome.Outcome.{Outcome}
+use Rattle.csvw_session.specs.Events.{Event}
 use Rattle.csvw_session.specs.Sessions.{TookGraph}
 use Rattle.csvw_session.specs.declared.stop.Stop.{Stop}
 use Rattle.csvw_session.specs.declared.stop.Stop.TheVariants as stop
 use Rattle.csvw_group.specs.Annotated.{Table}
 use Rattle.csvw_group.specs.Graph.{GraphOf}
-use Rattle.csvw_engine.specs.Groups.{Converts, TablesStop, TakesTables}
-use Rattle.csvw_engine.specs.Runs.{Wrote, WroteGraph}
-use Rattle.csvw_engine.proofs.Converting.{takes, failed_of, same_by, sends_whole}
+use Rattle.csvw_group.specs.Part.{TablePart, FirstRowGraph, PartGraph, IsCutShort}
+use Rattle.csvw_group.specs.Stopped.{TookAll, TookSome}
+use Rattle.csvw_engine.specs.Groups.{Converts, EndsBy, SinkLeaves, TakesTables}
+use Rattle.csvw_engine.specs.Runs.{IsReason, Wrote, WroteGraph}
+use Rattle.csvw_engine.specs.Stopped.{Added, IsFrontOfLine, Leaves, WroteAll, WroteLines, WroteSome}
+use Rattle.csvw_engine.proofs.Converting.{takes, failed_of, none_in, same_by, sends_whole}
+use Rattle.csvw_engine.proofs.Taking.{none_read}
 
 -- what the lines of triples denote
 pub record LineLaws : Type 0 where
@@ -36,20 +46,81 @@ nothing_in : (ts : List Triple) → ((x : Triple) → Contains ts x → ⊥) →
 nothing_in [] none = refl
 nothing_in (t ∷ ts) none = absurd (none t (0, omega arith, refl))
 
--- what stops the tables, with other words for their sink
-pub stops_by : {R : Type 0} (remaining : R → Option (List ℕ)) (plan : Plan) (olds news : List (Counted R)) (Ready Fails Ready' Fails' : Type 0) → (Ready → Ready') → (Fails → Fails') → (reason : Stop)
-    → TablesStop remaining plan olds news Ready Fails reason → TablesStop remaining plan olds news Ready' Fails' reason
-stops_by remaining plan olds news a b c d f g stop.Memory h = f h
-stops_by remaining plan olds news a b c d f g stop.Read h = (h.0, f h.1)
-stops_by remaining plan olds news a b c d f g stop.Write h = g h
-stops_by remaining plan olds news a b c d f g (stop.Rows t row reason) h = (h.0, f h.1)
-stops_by remaining plan olds news a b c d f g (stop.Table t row reason) h = (h.0, f h.1)
-stops_by remaining plan olds news a b c d f g (stop.Meta fault) h = absurd h
-stops_by remaining plan olds news a b c d f g stop.TableCount h = absurd h
-stops_by remaining plan olds news a b c d f g stop.UnknownTable h = absurd h
-stops_by remaining plan olds news a b c d f g stop.AfterEnd h = absurd h
-stops_by remaining plan olds news a b c d f g stop.NotEnded h = absurd h
-stops_by remaining plan olds news a b c d f g stop.Failed h = absurd h
+-- as ready as before or a failed write, by other words
+pub ends_as : (Ready Fails Ready' Fails' : Type 0) → (Ready → Ready') → (Fails → Fails') → (reason : Stop) → EndsBy Ready Fails reason → EndsBy Ready' Fails' reason
+ends_as a b c d f g stop.Write h = g h
+ends_as a b c d f g stop.Memory h = f h
+ends_as a b c d f g stop.Read h = f h
+ends_as a b c d f g (stop.Rows t row reason) h = f h
+ends_as a b c d f g (stop.Table t row reason) h = f h
+ends_as a b c d f g (stop.Meta fault) h = f h
+ends_as a b c d f g stop.TableCount h = f h
+ends_as a b c d f g stop.UnknownTable h = f h
+ends_as a b c d f g stop.AfterEnd h = f h
+ends_as a b c d f g stop.NotEnded h = f h
+ends_as a b c d f g stop.Failed h = f h
+
+-- validation gives no triples
+no_row : (t : ℕ) (columns : Option Columns) (rows : List Row) (x : Triple) → FirstRowGraph mode.Validate t columns rows x → ⊥
+no_row t None rows x h = h
+no_row t (Some columns) [] x h = h
+no_row t (Some columns) (row ∷ rows) x h = h
+
+no_part : (plan : Plan) (parts : ℕ → TablePart) (x : Triple) → PartGraph mode.Validate plan parts x → ⊥
+no_part plan parts x h = elim h [ inl k ↦ k | inr k ↦ k.3 ]
+
+none_cut : (plan : Plan) (events : List Event) (ts rest : List Triple) → IsCutShort mode.Validate plan events ts rest → (x : Triple) → Contains ts x → ⊥
+none_cut plan events ts rest (inl h) x c = h.within x c
+none_cut plan events ts rest (inr h) x c = elim (h.within x c) [
+  | inl g ↦ no_part plan h.parts x g
+  | inr g ↦ no_row h.have.plan.number (h.parts h.i).columns h.behind x g
+]
+
+none_next : (plan : Plan) (events : List Event) (ts rest : List Triple) → IsCutShort mode.Validate plan events ts rest → (x : Triple) (xs : List Triple) → rest ≡ x ∷ xs → ⊥
+none_next plan events ts rest (inl h) x xs e = h.next x xs e
+none_next plan events ts rest (inr h) x xs e = no_row h.have.plan.number (h.parts h.i).columns h.behind x (h.next x xs e)
+
+no_line : (plan : Plan) (events : List Event) (ts rest : List Triple) (more : List ℕ) → IsCutShort mode.Validate plan events ts rest → IsFrontOfLine rest more → more ≡ []
+no_line plan events ts [] more h line = line
+no_line plan events ts (x ∷ xs) more h line = absurd (none_next plan events ts (x ∷ xs) h x xs refl)
+
+-- what a sink that was open did to the bytes of its writer: whole lines of a front, and perhaps a front of the next line
+record CutFrom (held holds : Option (List ℕ)) (all : List Triple) : Type 0 where
+  pub front : List Triple
+  pub rest : List Triple
+  pub more : List ℕ
+  pub parts : all ≡ front ++ rest
+  pub line : IsFrontOfLine rest more
+  pub fits : AllByRecursion TripleFits front
+  pub added : Appends held holds (written front ++ more)
+
+no_more : (rest : List Triple) → IsFrontOfLine rest []
+no_more [] = refl
+no_more (next ∷ rest) = inl refl
+
+first_fit : (front : List Triple) (cut : Triple) → AllByRecursion TripleFits (front ++ cut ∷ []) → AllByRecursion TripleFits front
+first_fit [] cut h = tt
+first_fit (x ∷ front) cut h = (h.0, first_fit front cut h.1)
+
+last_fits : (front : List Triple) (cut : Triple) → AllByRecursion TripleFits (front ++ cut ∷ []) → TripleFits cut
+last_fits [] cut h = h.0
+last_fits (x ∷ front) cut h = last_fits front cut h.1
+
+cut_from : (held holds : Option (List ℕ)) (a b : Bool) (all ts rest : List Triple) → all ≡ ts ++ rest → AllByRecursion TripleFits ts → a ≡ true → Sends held a ts holds b
+    → CutFrom held holds all
+cut_from held holds true true all ts rest p fit q s =
+    record { front = ts; rest = rest; more = []; parts = p; line = no_more rest; fits = fit; added = subst (λ xs. Appends held holds xs) (sym (append-nil (written ts))) s }
+cut_from held holds true false all ts rest p fit q s =
+    let fits = subst (AllByRecursion TripleFits) s.3 fit in record {
+      front = s.0;
+      rest = s.1 ∷ rest;
+      more = take s.2 (written (s.1 ∷ []));
+      parts = p ∙ ap (λ z. z ++ rest) s.3 ∙ append_assoc s.0 (s.1 ∷ []) rest;
+      line = inr (last_fits s.0 s.1 fits, s.2, s.4, refl);
+      fits = first_fit s.0 s.1 fits;
+      added = s.5;
+    }
+cut_from held holds false b all ts rest p fit q s = cc
 
 -- a stream that a sink writes to, from one state to another
 pub record Streams {W : Type 0} (contents : W → Option (List ℕ)) (out : Stream) (start now : NtSink W) : Type 0 where
@@ -92,6 +163,96 @@ module _ {W : Type 0} (contents : W → Option (List ℕ)) (laws : LineLaws) (ou
     same = same_by (Contains k.taken) Graph (map said k.taken) (λ x. (k.within x, k.whole x)) (laws.names k.taken k.gained.1);
   }
 
+  -- whole lines of these triples, and these bytes, by the mode
+  lines_added : (m : Mode) (Graph : Triple → Type 0) (ts : List Triple) (more : List ℕ) → AllByRecursion TripleFits ts → Appends out.held out.holds (written ts ++ more)
+      → (m ≡ mode.Validate → ts ≡ []) → (m ≡ mode.Validate → more ≡ []) → ((x : Triple) → Contains ts x ↔ Graph x) → Added m out Graph more
+  lines_added mode.Validate Graph ts more fits a none no_more same =
+      subst (λ xs. Appends out.held out.holds (written xs)) (none refl)
+      (subst (λ xs. Appends out.held out.holds xs) (ap (λ bs. written ts ++ bs) (no_more refl) ∙ append-nil (written ts)) a)
+  lines_added mode.Minimal Graph ts more fits a none no_more same = record {
+    put = ts;
+    added = a;
+    triples = map said ts;
+    denotes = laws.denotes ts fits;
+    same = same_by (Contains ts) Graph (map said ts) same (laws.names ts fits);
+  }
+  lines_added mode.Standard Graph ts more fits a none no_more same = record {
+    put = ts;
+    added = a;
+    triples = map said ts;
+    denotes = laws.denotes ts fits;
+    same = same_by (Contains ts) Graph (map said ts) same (laws.names ts fits);
+  }
+
+  graph_added : (m : Mode) (Graph : Mode → Triple → Type 0) → ((x : Triple) → Graph mode.Validate x → ⊥) → TookGraph (takes contents) start now (Graph m)
+      → IsAsReady sink_is_open failed_of start now → Added m out (Graph m) []
+  graph_added m Graph none k r =
+      lines_added m (Graph m) k.taken [] k.gained.1 (subst (λ xs. Appends out.held out.holds xs) (sym (append-nil (written k.taken))) (lines k.taken k.gained r))
+      (λ e. nothing_in k.taken (λ x c. none x (subst (λ z. Graph z x) e (k.within x c)))) (λ e. refl) (λ x. (k.within x, k.whole x))
+
+  pub all_written : (m : Mode) (plan : Plan) (events : List Event) → TookAll (takes contents) m plan events start now → IsAsReady sink_is_open failed_of start now
+      → WroteAll m plan out events
+  all_written m plan events k r =
+      record { parts = k.parts; have = k.have; added = graph_added m (λ z. PartGraph z plan k.parts) (no_part plan k.parts) k.took r }
+
+  module _ (m : Mode) (plan : Plan) (events : List Event) (k : TookSome (takes contents) sink_is_open failed_of m plan events start now) where
+    -- up to the last call
+    before : Appends out.held (contents (inner_of (sink_out k.middle).now)) (written k.taken)
+    before = rw streams.held
+        (sends_whole (contents (inner_of (sink_out start).now)) (contents (inner_of (sink_out k.middle).now)) (sink_is_open start) (sink_is_open k.middle) k.taken
+        streams.begun (k.ready.0 ∙ streams.begun) k.gained.2)
+
+    both : (front : List Triple) (more : List ℕ) → Appends (contents (inner_of (sink_out k.middle).now)) out.holds (written front ++ more)
+        → Appends out.held out.holds (written (k.taken ++ front) ++ more)
+    both front more a =
+        subst (λ xs. Appends out.held out.holds xs)
+        (sym (append_assoc (written k.taken) (written front) more) ∙ ap (λ xs. xs ++ more) (sym (written-append k.taken front)))
+        (Appends-trans out.held (contents (inner_of (sink_out k.middle).now)) out.holds (written k.taken) (written front ++ more) before a)
+
+    some_written : (front rest : List Triple) (more : List ℕ) → k.more ≡ front ++ rest → IsFrontOfLine rest more → AllByRecursion TripleFits front
+        → Appends (contents (inner_of (sink_out k.middle).now)) out.holds (written front ++ more) → WroteSome m plan out events more
+    some_written front rest more e line fits a =
+        let cut = k.cut front rest e in record {
+          triples = k.taken ++ front;
+          rest = rest;
+          cut = cut;
+          line = line;
+          added = lines_added m (Contains (k.taken ++ front)) (k.taken ++ front) more (all_fit k.taken front k.gained.1 fits) (both front more a)
+              (λ v. nothing_in (k.taken ++ front) (none_cut plan events (k.taken ++ front) rest (subst (λ z. IsCutShort z plan events (k.taken ++ front) rest) v cut)))
+              (λ v. no_line plan events (k.taken ++ front) rest more (subst (λ z. IsCutShort z plan events (k.taken ++ front) rest) v cut) line)
+              (λ x. (λ c. c, λ c. c));
+        }
+
+    pub lacking : IsAsReady sink_is_open failed_of start now → WroteSome m plan out events []
+    lacking r =
+        some_written k.took.front k.took.rest [] k.took.parts (no_more k.took.rest) k.took.gained.1
+        (subst (λ xs. Appends (contents (inner_of (sink_out k.middle).now)) out.holds xs) (sym (append-nil (written k.took.front)))
+        (rw streams.holds
+        (sends_whole (contents (inner_of (sink_out k.middle).now)) (contents (inner_of (sink_out now).now)) (sink_is_open k.middle) (sink_is_open now) k.took.front
+        (k.ready.0 ∙ streams.begun) (r.0 ∙ streams.begun) k.took.gained.2)))
+
+    pub failing : (more : List ℕ) × WroteSome m plan out events more
+    failing =
+        let c = cut_from (contents (inner_of (sink_out k.middle).now)) (contents (inner_of (sink_out now).now)) (sink_is_open k.middle) (sink_is_open now)
+        k.more k.took.front k.took.rest k.took.parts k.took.gained.1 (k.ready.0 ∙ streams.begun) k.took.gained.2 in
+        (c.more, some_written c.front c.rest c.more c.parts c.line c.fits (rw streams.holds c.added))
+
+  leaves : (m : Mode) (plan : Plan) (reason : Stop) (events : List Event) → {R : Type 0} (olds news : List (Counted R)) → IsReason plan olds news reason events
+      → SinkLeaves (takes contents) sink_is_open failed_of m plan start now reason events
+      → EndsBy (IsAsReady sink_is_open failed_of start now) (sink_is_open start ≡ true → failed_of start < 2 ^ 64 - 1 → failed_of now ≡ failed_of start + 1) reason
+      → Leaves m plan out reason events
+  leaves m plan stop.Memory events olds news because k r = lacking m plan events k r
+  leaves m plan stop.Write events olds news because k r = failing m plan events k
+  leaves m plan stop.Read events olds news because k r = all_written m plan events k r
+  leaves m plan (stop.Rows t row reason) events olds news because k r = all_written m plan events k r
+  leaves m plan (stop.Table t row reason) events olds news because k r = all_written m plan events k r
+  leaves m plan (stop.Meta fault) events olds news because k r = absurd because
+  leaves m plan stop.TableCount events olds news because k r = absurd because
+  leaves m plan stop.UnknownTable events olds news because k r = absurd because
+  leaves m plan stop.AfterEnd events olds news because k r = absurd because
+  leaves m plan stop.NotEnded events olds news because k r = absurd because
+  leaves m plan stop.Failed events olds news because k r = absurd because
+
   -- validation gives no triples
   no_graph : (plan : Plan) (tables : List Table) (x : Triple) → GraphOf mode.Validate plan tables x → ⊥
   no_graph plan tables x h = elim h [ inl k ↦ k | inr k ↦ k.5 ]
@@ -102,6 +263,10 @@ module _ {W : Type 0} (contents : W → Option (List ℕ)) (laws : LineLaws) (ou
   wrote mode.Minimal plan tables k r = wrote_graph (GraphOf mode.Minimal plan tables) k r
   wrote mode.Standard plan tables k r = wrote_graph (GraphOf mode.Standard plan tables) k r
 
+  graph_of : (m : Mode) (plan : Plan) (tables : List Table) → TookGraph (takes contents) start now (GraphOf m plan tables) → IsAsReady sink_is_open failed_of start now
+      → Added m out (GraphOf m plan tables) []
+  graph_of m plan tables k r = graph_added m (λ z. GraphOf z plan tables) (no_graph plan tables) k r
+
   pub converted : {R : Type 0} (remaining : R → Option (List ℕ)) (m : Mode) (plan : Plan) (olds news : List (Counted R)) (result : Result Outcome Stop)
       → TakesTables (takes contents) sink_is_open failed_of remaining m plan olds news start now result → Converts remaining m plan olds news out result
   converted remaining m plan olds news (Ok outcome) h = record {
@@ -111,10 +276,24 @@ module _ {W : Type 0} (contents : W → Option (List ℕ)) (laws : LineLaws) (ou
     tables = h.tables;
     annotated = h.annotated;
     violations = h.violations;
-    gives = wrote m plan h.tables h.gives.took h.gives.ready;
+    gives = (wrote m plan h.tables h.gives.took h.gives.ready, graph_of m plan h.tables h.gives.took h.gives.ready);
   }
-  converted remaining m plan olds news (Err reason) h =
-      stops_by remaining plan olds news _ _ _ _ steady (λ fails room. streams.failed ∙ (fails streams.begun (rw streams.failures at room) ∙ ap (λ n. n + 1) (sym streams.failures))) reason h.1
+  converted remaining m plan olds news (Err reason) h = (
+    elim h.1 [
+      | inl s ↦ inl (s.0, s.1, (s.2.0, leaves m plan reason s.0 olds news s.2.0 s.2.1 h.2))
+      | inr w ↦ inr (
+        w.0,
+        record {
+          texts = w.1.texts;
+          read = w.1.read;
+          tables = w.1.tables;
+          annotated = w.1.annotated;
+          gives = graph_of m plan w.1.tables w.1.gives.took w.1.gives.ready;
+        },
+      )
+    ],
+    ends_as _ _ _ _ steady (λ fails room. streams.failed ∙ (fails streams.begun (rw streams.failures at room) ∙ ap (λ n. n + 1) (sym streams.failures))) reason h.2,
+  )
 
   -- at a plan and a mode that are these
   pub converted_at : {R : Type 0} (remaining : R → Option (List ℕ)) (m n : Mode) (plan other : Plan) (olds news : List (Counted R)) (result : Result Outcome Stop) → n ≡ m → other ≡ plan
@@ -123,3 +302,36 @@ module _ {W : Type 0} (contents : W → Option (List ℕ)) (laws : LineLaws) (ou
       converted remaining m plan olds news result
       (subst (λ z. TakesTables (takes contents) sink_is_open failed_of remaining z plan olds news start now result) e
       (subst (λ z. TakesTables (takes contents) sink_is_open failed_of remaining n z olds news start now result) f h))
+
+-- a stream that was left alone
+abbrev pub untouched : Option (List ℕ) → ℕ → Stream
+untouched known n = record { held = known; holds = known; failures = n; failed = n }
+
+-- nothing was written, for want of memory before the tables
+pub nothing_written : {R : Type 0} (laws : LineLaws) (remaining : R → Option (List ℕ)) (m : Mode) (plan : Plan) (olds : List (Counted R)) (known : Option (List ℕ)) (n : ℕ)
+    → Converts remaining m plan olds olds (untouched known n) (Err stop.Memory)
+nothing_written laws remaining m plan olds known n = (
+  inl (
+    [],
+    none_read remaining olds,
+    (
+      tt,
+      record {
+        triples = [];
+        rest = [];
+        cut = inl (record { none = refl; within = λ x c. absurd (none_in x c); next = λ x xs e. cc });
+        line = refl;
+        added = by_mode m;
+      },
+    ),
+  ),
+  refl,
+)
+  where
+    none : WroteLines (untouched known n) (Contains []) []
+    none = record { put = []; added = Appends-nil known; triples = []; denotes = laws.denotes [] tt; same = laws.names [] tt }
+
+    by_mode : (z : Mode) → Added z (untouched known n) (Contains []) []
+    by_mode mode.Validate = Appends-nil known
+    by_mode mode.Minimal = none
+    by_mode mode.Standard = none

@@ -1,5 +1,5 @@
 -- What the tables of a group give to a sink, and to N-Triples.
-use Rattle.std.specs.Prelude.{◌≡◌, ◌⊎◌, ◌<◌, ◌+◌, ◌-◌, ◌^◌, ℕ, Bool, true, List, Option, Result, Ok, Err}
+use Rattle.std.specs.Prelude.{◌≡◌, ◌⊎◌, ◌<◌, ◌+◌, ◌-◌, ◌^◌, ℕ, Bool, true, List, [], Option, Result, Ok, Err}
 use Rattle.csvw_text.specs.declared.counted.Counted.{Counted}
 use Rattle.csvw_text.specs.Streams.{Stream}
 use Rattle.csvw_columns.specs.declared.plan.Plan.{Plan}
@@ -13,9 +13,11 @@ use Rattle.csvw_session.specs.declared.stop.Stop.{Stop}
 use Rattle.csvw_session.specs.declared.stop.Stop.TheVariants as stop
 use Rattle.csvw_group.specs.Annotated.{Table, AreAnnotated}
 use Rattle.csvw_group.specs.Graph.{GraphOf}
+use Rattle.csvw_group.specs.Stopped.{TookBy}
 use Rattle.csvw_group.specs.Violations.{AreViolations}
-use Rattle.csvw_reading.specs.Reading.{GaveTexts, AreSteady, OneFailed, AreMany}
-use Rattle.csvw_engine.specs.Runs.{ReadWhole, StopsInText, RefusedInText, Rises, Wrote}
+use Rattle.csvw_reading.specs.Reading.{GaveTexts, AreSteady}
+use Rattle.csvw_engine.specs.Runs.{ReadWhole, IsReason, Rises, Wrote, IsSound}
+use Rattle.csvw_engine.specs.Stopped.{Added, Leaves}
 
 -- the texts of the readers are annotated tables, whose violations were told
 pub record AnnotatesTexts {R : Type 0} (remaining : R → Option (List ℕ)) (plan : Plan) (olds news : List (Counted R)) (outcome : Outcome) (Gives : List Table → Type 0) : Type 0 where
@@ -31,19 +33,25 @@ pub record AnnotatesTexts {R : Type 0} (remaining : R → Option (List ℕ)) (pl
 abbrev pub TextsSoFar : {R : Type 0} → (R → Option (List ℕ)) → List (Counted R) → List (Counted R) → (List Event → Type 0) → Type 0
 TextsSoFar remaining olds news P = (events : List Event) × GaveTexts remaining olds news events × P events
 
--- Why the tables stop, and what their sink is then: as ready as it was, or a device failed.
-abbrev pub TablesStop : {R : Type 0} → (R → Option (List ℕ)) → Plan → List (Counted R) → List (Counted R) → Type 0 → Type 0 → Stop → Type 0
-TablesStop remaining plan olds news Ready Fails stop.Memory = Ready
-TablesStop remaining plan olds news Ready Fails stop.Read = (OneFailed olds news ⊎ TextsSoFar remaining olds news AreMany) × Ready
-TablesStop remaining plan olds news Ready Fails stop.Write = Fails
-TablesStop remaining plan olds news Ready Fails (stop.Rows t row reason) = TextsSoFar remaining olds news (λ events. StopsInText plan events t row reason) × Ready
-TablesStop remaining plan olds news Ready Fails (stop.Table t row reason) = TextsSoFar remaining olds news (λ events. RefusedInText plan events t row reason) × Ready
-TablesStop remaining plan olds news Ready Fails (stop.Meta fault) = ⊥
-TablesStop remaining plan olds news Ready Fails stop.TableCount = ⊥
-TablesStop remaining plan olds news Ready Fails stop.UnknownTable = ⊥
-TablesStop remaining plan olds news Ready Fails stop.AfterEnd = ⊥
-TablesStop remaining plan olds news Ready Fails stop.NotEnded = ⊥
-TablesStop remaining plan olds news Ready Fails stop.Failed = ⊥
+-- the texts of the readers are annotated tables, of which this holds
+pub record HaveTables {R : Type 0} (remaining : R → Option (List ℕ)) (plan : Plan) (olds news : List (Counted R)) (Gives : List Table → Type 0) : Type 0 where
+  pub texts : ℕ → List ℕ
+  pub read : ReadWhole remaining olds news texts
+  pub tables : List Table
+  pub annotated : AreAnnotated plan.tables texts tables
+  pub gives : Gives tables
+
+-- as ready as before, but after a failed write
+abbrev pub EndsBy : Type 0 → Type 0 → Stop → Type 0
+EndsBy Ready Fails stop.Write = Fails
+EndsBy Ready Fails reason = Ready
+
+-- Why the tables stop, what is left behind the events by then, or for want of memory behind whole tables, and how their sink is.
+abbrev pub TablesStop : {R : Type 0} → (R → Option (List ℕ)) → Plan → List (Counted R) → List (Counted R) → (Stop → List Event → Type 0) → (List Table → Type 0)
+    → Stop → Type 0
+TablesStop remaining plan olds news Left Whole reason =
+    TextsSoFar remaining olds news (λ events. IsReason plan olds news reason events × Left reason events)
+    ⊎ ((reason ≡ stop.Memory) × HaveTables remaining plan olds news Whole)
 
 -- the sink took the graph of the group, and is as ready as it was
 pub record TookTables {S : Type 0} (gains : S → List Triple → S → Type 0) (is_open : S → Bool) (failed : S → ℕ) (mode : Mode) (plan : Plan) (start now : S) (tables : List Table) : Type 0 where
@@ -54,18 +62,23 @@ pub record TookTables {S : Type 0} (gains : S → List Triple → S → Type 0) 
 abbrev pub GainsSome : {S : Type 0} → (S → List Triple → S → Type 0) → S → S → Type 0
 GainsSome gains start now = (taken : List Triple) × gains start taken now
 
+-- what a sink took by a stop of the tables behind these events
+abbrev pub SinkLeaves : {S : Type 0} → (S → List Triple → S → Type 0) → (S → Bool) → (S → ℕ) → Mode → Plan → S → S → Stop → List Event → Type 0
+SinkLeaves gains is_open failed mode plan start now reason events = TookBy gains is_open failed mode plan events start now reason
+
 -- after the tables of a session were read to their ends, and it was finished
 abbrev pub TakesTables : {R S : Type 0} → (S → List Triple → S → Type 0) → (S → Bool) → (S → ℕ) → (R → Option (List ℕ)) → Mode → Plan → List (Counted R) → List (Counted R) → S → S → Result Outcome Stop → Type 0
 TakesTables gains is_open failed remaining mode plan olds news start now (Ok outcome) =
     AnnotatesTexts remaining plan olds news outcome (λ tables. TookTables gains is_open failed mode plan start now tables)
 TakesTables gains is_open failed remaining mode plan olds news start now (Err reason) =
-    GainsSome gains start now × TablesStop remaining plan olds news (IsAsReady is_open failed start now) (is_open start ≡ true → failed start < 2 ^ 64 - 1 → failed now ≡ failed start + 1) reason
-
--- no write failed
-abbrev pub IsSound : Stream → Type 0
-IsSound out = out.failed ≡ out.failures
+    GainsSome gains start now
+    × TablesStop remaining plan olds news (SinkLeaves gains is_open failed mode plan start now) (TookTables gains is_open failed mode plan start now) reason
+    × EndsBy (IsAsReady is_open failed start now) (is_open start ≡ true → failed start < 2 ^ 64 - 1 → failed now ≡ failed start + 1) reason
 
 -- after the tables were written as N-Triples
 abbrev pub Converts : {R : Type 0} → (R → Option (List ℕ)) → Mode → Plan → List (Counted R) → List (Counted R) → Stream → Result Outcome Stop → Type 0
-Converts remaining mode plan olds news out (Ok outcome) = AnnotatesTexts remaining plan olds news outcome (λ tables. Wrote mode out plan tables)
-Converts remaining mode plan olds news out (Err reason) = TablesStop remaining plan olds news (IsSound out) (Rises out) reason
+Converts remaining mode plan olds news out (Ok outcome) =
+    AnnotatesTexts remaining plan olds news outcome (λ tables. Wrote mode out plan tables × Added mode out (GraphOf mode plan tables) [])
+Converts remaining mode plan olds news out (Err reason) =
+    TablesStop remaining plan olds news (Leaves mode plan out) (λ tables. Added mode out (GraphOf mode plan tables) []) reason
+    × EndsBy (IsSound out) (Rises out) reason

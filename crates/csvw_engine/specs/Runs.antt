@@ -33,10 +33,15 @@ use Rattle.csvw_group.specs.Annotated.{Table, AreAnnotated}
 use Rattle.csvw_group.specs.Graph.{GraphOf}
 use Rattle.csvw_group.specs.Violations.{AreViolations}
 use Rattle.csvw_reading.specs.Reading.{Gave, GaveTexts, AreSteady, OneFailed, AreMany}
+use Rattle.csvw_engine.specs.Stopped.{Added, Leaves, WroteAll}
 
 -- a count of failures rose by one, where it had room
 abbrev pub Rises : Stream → Type 0
 Rises s = s.failures < 2 ^ 64 - 1 → s.failed ≡ s.failures + 1
+
+-- no write failed
+abbrev pub IsSound : Stream → Type 0
+IsSound s = s.failed ≡ s.failures
 
 -- the document at this URL describes the group of this plan
 pub record IsPlanned (meta base : List ℕ) (plan : Plan) : Type 0 where
@@ -109,9 +114,53 @@ pub record RefusedInText (plan : Plan) (events : List Event) (t row : ℕ) (reas
 abbrev pub SoFar : {R : Type 0} → (R → Option (List ℕ)) → List ℕ → List ℕ → List (Counted R) → List (Counted R) → (Plan → List Event → Type 0) → Type 0
 SoFar remaining meta base olds news P = (plan : Plan) × (events : List Event) × ReadsGroup remaining meta base olds news plan events × P plan events
 
--- a reader failed, or many reads were made
-abbrev pub ReadsFail : {R : Type 0} → (R → Option (List ℕ)) → List ℕ → List ℕ → List (Counted R) → List (Counted R) → Type 0
-ReadsFail remaining meta base olds news = OneFailed olds news ⊎ SoFar remaining meta base olds news (λ plan events. AreMany events)
+-- why the tables stop behind these events; of want of memory and of a failed write nothing is said here
+abbrev pub IsReason : {R : Type 0} → Plan → List (Counted R) → List (Counted R) → Stop → List Event → Type 0
+IsReason plan olds news stop.Memory events = Unit {0}
+IsReason plan olds news stop.Write events = Unit {0}
+IsReason plan olds news stop.Read events = OneFailed olds news ⊎ AreMany events
+IsReason plan olds news (stop.Rows t row reason) events = StopsInText plan events t row reason
+IsReason plan olds news (stop.Table t row reason) events = RefusedInText plan events t row reason
+IsReason plan olds news (stop.Meta fault) events = ⊥
+IsReason plan olds news stop.TableCount events = ⊥
+IsReason plan olds news stop.UnknownTable events = ⊥
+IsReason plan olds news stop.AfterEnd events = ⊥
+IsReason plan olds news stop.NotEnded events = ⊥
+IsReason plan olds news stop.Failed events = ⊥
+
+-- behind the texts so far there is this reason to stop, and what was written of their graph is as it leaves it
+abbrev pub Halts : {R : Type 0} → (R → Option (List ℕ)) → List ℕ → List ℕ → Mode → List (Counted R) → List (Counted R) → Stream → Stop → Type 0
+Halts remaining meta base mode olds news out reason =
+    SoFar remaining meta base olds news (λ plan events. IsReason plan olds news reason events × Leaves mode plan out reason events)
+
+-- the texts of the readers are the annotated tables of the group that the document describes, and their whole graph was written
+pub record WroteGroup {R : Type 0} (remaining : R → Option (List ℕ)) (meta base : List ℕ) (mode : Mode) (olds news : List (Counted R))
+    (out : Stream) : Type 0 where
+  pub plan : Plan
+  pub planned : IsPlanned meta base plan
+  pub many : length olds ≡ length plan.tables
+  pub texts : ℕ → List ℕ
+  pub read : ReadWhole remaining olds news texts
+  pub tables : List Table
+  pub annotated : AreAnnotated plan.tables texts tables
+  pub added : Added mode out (GraphOf mode plan tables) []
+
+-- nothing was read, written or reported
+abbrev pub IsUntouched : {R : Type 0} → List (Counted R) → List (Counted R) → Stream → Stream → Type 0
+IsUntouched olds news out report_out = (news ≡ olds) × IsIdle out × IsIdle report_out
+
+-- there was no memory: before the tables, in one of them, or behind the whole graph; no write to `out` failed
+abbrev pub LacksMemory : {R : Type 0} → (R → Option (List ℕ)) → List ℕ → List ℕ → Mode → List (Counted R) → List (Counted R) → Stream → Stream → Type 0
+LacksMemory remaining meta base mode olds news out report_out =
+    IsUntouched olds news out report_out
+    ⊎ ((Halts remaining meta base mode olds news out stop.Memory × IsSound out × IsIdle report_out)
+    ⊎ (WroteGroup remaining meta base mode olds news out × IsSound out))
+
+-- a write failed: of `out` within a line or between two, or in the flush behind a stop; or a flush or the report behind the whole graph
+abbrev pub WriteFails : {R : Type 0} → (R → Option (List ℕ)) → List ℕ → List ℕ → Mode → List (Counted R) → List (Counted R) → Stream → Stream → Type 0
+WriteFails remaining meta base mode olds news out report_out =
+    (((reason : Stop) × Halts remaining meta base mode olds news out reason) × Rises out × IsIdle report_out)
+    ⊎ (WroteGroup remaining meta base mode olds news out × (Rises out ⊎ Rises report_out))
 
 -- readers and tables differ in number
 pub record Differ {R : Type 0} (meta base : List ℕ) (olds : List (Counted R)) : Type 0 where
@@ -119,23 +168,27 @@ pub record Differ {R : Type 0} (meta base : List ℕ) (olds : List (Counted R)) 
   pub planned : IsPlanned meta base plan
   pub apart : length olds ≢ length plan.tables
 
--- Why a run stops. Of want of memory nothing is said.
-abbrev pub StopsSo : {R : Type 0} → (R → Option (List ℕ)) → List ℕ → List ℕ → List (Counted R) → List (Counted R) → Stream → Stream → Stop → Type 0
-StopsSo remaining meta base olds news out report_out stop.Memory = Unit {0}
-StopsSo remaining meta base olds news out report_out stop.Read = ReadsFail remaining meta base olds news × IsIdle report_out
-StopsSo remaining meta base olds news out report_out stop.Write = Rises out ⊎ Rises report_out
-StopsSo remaining meta base olds news out report_out (stop.Meta fault) = Contains (document base meta).faults fault × IsIdle out × IsIdle report_out
-StopsSo remaining meta base olds news out report_out stop.TableCount = Differ meta base olds × IsIdle out × IsIdle report_out
-StopsSo remaining meta base olds news out report_out (stop.Rows t row reason) =
-    SoFar remaining meta base olds news (λ plan events. StopsInText plan events t row reason) × IsIdle report_out
-StopsSo remaining meta base olds news out report_out (stop.Table t row reason) =
-    SoFar remaining meta base olds news (λ plan events. RefusedInText plan events t row reason) × IsIdle report_out
-StopsSo remaining meta base olds news out report_out stop.UnknownTable = ⊥
-StopsSo remaining meta base olds news out report_out stop.AfterEnd = ⊥
-StopsSo remaining meta base olds news out report_out stop.NotEnded = ⊥
-StopsSo remaining meta base olds news out report_out stop.Failed = ⊥
+-- why a run stops, and what it has written by then
+abbrev pub StopsSo : {R : Type 0} → (R → Option (List ℕ)) → List ℕ → List ℕ → Mode → List (Counted R) → List (Counted R) → Stream → Stream → Stop → Type 0
+StopsSo remaining meta base mode olds news out report_out stop.Memory = LacksMemory remaining meta base mode olds news out report_out
+StopsSo remaining meta base mode olds news out report_out stop.Write = WriteFails remaining meta base mode olds news out report_out
+StopsSo remaining meta base mode olds news out report_out stop.Read =
+    SoFar remaining meta base olds news (λ plan events. (OneFailed olds news ⊎ AreMany events) × WroteAll mode plan out events)
+    × IsSound out × IsIdle report_out
+StopsSo remaining meta base mode olds news out report_out (stop.Rows t row reason) =
+    SoFar remaining meta base olds news (λ plan events. StopsInText plan events t row reason × WroteAll mode plan out events)
+    × IsSound out × IsIdle report_out
+StopsSo remaining meta base mode olds news out report_out (stop.Table t row reason) =
+    SoFar remaining meta base olds news (λ plan events. RefusedInText plan events t row reason × WroteAll mode plan out events)
+    × IsSound out × IsIdle report_out
+StopsSo remaining meta base mode olds news out report_out (stop.Meta fault) = Contains (document base meta).faults fault × IsIdle out × IsIdle report_out
+StopsSo remaining meta base mode olds news out report_out stop.TableCount = Differ meta base olds × IsIdle out × IsIdle report_out
+StopsSo remaining meta base mode olds news out report_out stop.UnknownTable = ⊥
+StopsSo remaining meta base mode olds news out report_out stop.AfterEnd = ⊥
+StopsSo remaining meta base mode olds news out report_out stop.NotEnded = ⊥
+StopsSo remaining meta base mode olds news out report_out stop.Failed = ⊥
 
 -- what a run over the document and the readers leaves, by its answer
 abbrev pub Runs : {R : Type 0} → (R → Option (List ℕ)) → List ℕ → List ℕ → Mode → List (Counted R) → List (Counted R) → Stream → Stream → Result Outcome Stop → Type 0
 Runs remaining meta base mode olds news out report_out (Ok outcome) = Succeeds remaining meta base mode olds news out report_out outcome
-Runs remaining meta base mode olds news out report_out (Err reason) = StopsSo remaining meta base olds news out report_out reason
+Runs remaining meta base mode olds news out report_out (Err reason) = StopsSo remaining meta base mode olds news out report_out reason

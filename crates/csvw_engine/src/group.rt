@@ -8,8 +8,9 @@ ghost use Rattle.csvw_engine.specs.Rooms.{IsRoomFor};
 
 use crate::room::{Order, Room, read_all};
 use csvw_columns::Plan;
-use csvw_group::laws::sessions_annotate;
+use csvw_group::laws::{sessions_annotate, sessions_give_all, stopped_sessions_give_parts};
 use csvw_ntriples::{NtSink, labels_name_one_to_one, written_denotes};
+use csvw_opening::opening_is_the_graphs;
 use csvw_report::Outcome;
 use csvw_session::{Refused, Session, Stop};
 use csvw_text::Counted;
@@ -39,6 +40,8 @@ fn take_tables<R: Read, S: TripleSink>(
         → TakesTables S.gains S.is_open S.failed R.remaining session.old.mode session.old.plan readers.old readers.new sink session.new.sink result }
 {
     sessions_annotate::<S>();
+    sessions_give_all::<S>();
+    stopped_sessions_give_parts::<S>();
     read_all(session, readers, room)?;
     session.finish()
 }
@@ -59,6 +62,7 @@ pub(crate) fn convert_tables<R: Read, W: Write>(
 {
     written_denotes();
     labels_name_one_to_one();
+    opening_is_the_graphs();
     let Ok(mut room) = Room::new(alloc, way.order, readers.len()) else {
         return Err(Stop::Memory);
     };

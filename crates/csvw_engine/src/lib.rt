@@ -4,6 +4,7 @@
 mod flush;
 mod group;
 mod halt;
+pub mod laws;
 mod plan;
 mod reading;
 mod room;

@@ -83,7 +83,7 @@ rows_are plans ts texts rows tables are beyond zero = refl
 rows_are plans ts texts rows tables are beyond (suc i) = rows_here plans ts texts rows tables are beyond i (slice_get_cases tables i).1
 
 -- the triples of all rows behind others, by other words
-took_behind : {S : Type 0} (gains : S → List Triple → S → Type 0) (goes_on : (a b c : S) (xs ys : List Triple) → gains a xs b → gains b ys c → gains a (xs ++ ys) c)
+pub took_behind : {S : Type 0} (gains : S → List Triple → S → Type 0) (goes_on : (a b c : S) (xs ys : List Triple) → gains a xs b → gains b ys c → gains a (xs ++ ys) c)
     → (sink start now : S) (front : List Triple) (O X Y : Triple → Type 0) → gains sink front start → ((x : Triple) → Contains front x ↔ O x)
     → ((x : Triple) → X x → Y x) → ((x : Triple) → Y x → X x) → TookGraph gains start now X → TookGraph gains sink now (λ x. O x ⊎ Y x)
 took_behind gains goes_on sink start now front O X Y opened is to from h = record {

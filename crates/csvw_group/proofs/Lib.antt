@@ -1,7 +1,11 @@
 pub mod Annotating
 pub mod AnyOrder
 pub mod Ending
+pub mod Headers
 pub mod Listing
 pub mod OneCell
 pub mod OneTable
+pub mod Parts
 pub mod SoundColumns
+pub mod Splitting
+pub mod Stopping

@@ -4,4 +4,6 @@ pub mod Finished
 pub mod Graph
 pub mod Law
 pub mod OneTable
+pub mod Part
+pub mod Stopped
 pub mod Violations

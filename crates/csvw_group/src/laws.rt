@@ -1,22 +1,26 @@
 //! Laws that bind the definitions by which the contracts speak. The calls do nothing.
-ghost use Rattle.std.specs.Prelude.{◌≡◌, true, List};
+ghost use Rattle.std.specs.Prelude.{◌≡◌, ◌++◌, ◌∷◌, ℕ, true, List, [], Err};
 ghost use Rattle.std.specs.List.{list_all};
 ghost use Rattle.csvw_engine_core.specs.Tables.{is_ended};
 ghost use Rattle.csvw_opening.specs.OpeningTriples.{opening};
-ghost use Rattle.csvw_session.specs.Events.{Event};
-ghost use Rattle.csvw_session.specs.Sessions.{Stands};
+ghost use Rattle.csvw_session.specs.Events.{Event, table_of};
+ghost use Rattle.csvw_session.specs.Sessions.{Stands, Takes};
 ghost use Rattle.csvw_session.specs.declared.session.Session.{Session as TheSession};
+ghost use Rattle.csvw_session.specs.declared.stop.Stop.{Stop};
+ghost use Rattle.csvw_triples_core.specs.Taking.{IsAsReady};
 ghost use Rattle.csvw_report.specs.declared.outcome.Outcome.{Outcome as TheOutcome};
 ghost use Rattle.csvw_group.specs.AnyOrder.{HaveSameTexts, EndTheSame};
 ghost use Rattle.csvw_group.specs.Finished.{IsAtItsEnd, EndsAnnotated};
 ghost use Rattle.csvw_group.specs.Law.{Annotates};
 ghost use Rattle.csvw_group.specs.OneTable.{HaveOneAnnotation};
+ghost use Rattle.csvw_group.specs.Stopped.{TookAll, TookBy};
 
 use csvw_datatype::{one_code, one_value, value_or_code};
 use csvw_opening::opening_is_the_graphs;
 use csvw_report::laws::sorts_to_one;
-use csvw_rows::laws::have_one_list;
-use csvw_triples::rows_triples_are_table_graph;
+use csvw_rows::laws::{have_one_list, nothing_given};
+use csvw_session::laws::texts_grow;
+use csvw_triples::{row_triples_are_row_graph, rows_triples_are_table_graph};
 use csvw_triples_core::TripleSink;
 
 /// Where each table of a session was ended, the texts of its events are annotated tables; its sink, which took what is told of
@@ -27,6 +31,33 @@ pub fn sessions_annotate<S: TripleSink>()
 {
     opening_is_the_graphs();
     rows_triples_are_table_graph();
+}
+
+/// What the sink of a session took, with what is told of the group in front, is the graph of the group with all rows that are
+/// complete in the texts so far: each row is given as soon as it is complete.
+pub fn sessions_give_all<S: TripleSink>()
+    ensures { (sink start : S) (events : List Event) (s : TheSession S) → S.gains sink (opening s.mode s.plan) start
+        → Stands S.gains S.is_open S.failed start events s → TookAll S.gains s.mode s.plan events sink s.sink }
+{
+    opening_is_the_graphs();
+    rows_triples_are_table_graph();
+    nothing_given();
+}
+
+/// What the sink of a session took by a stop: after `Rows` and `Table` the graph with all rows in front of the stop; after `Memory`
+/// and `Write` that with all rows of each other table, and of the table of the event with some, at least those that it had before,
+/// and some triples of its next row.
+pub fn stopped_sessions_give_parts<S: TripleSink>()
+    ensures { (sink start : S) (events : List Event) (event : Event) (old new : TheSession S) (t : ℕ) (reason : Stop)
+        → S.gains sink (opening old.mode old.plan) start → IsAsReady S.is_open S.failed sink start → Stands S.gains S.is_open S.failed start events old
+        → table_of event ≡ t → Takes S.gains S.is_open S.failed old new t event (Err reason)
+        → TookBy S.gains S.is_open S.failed old.mode old.plan (events ++ event ∷ []) sink new.sink reason }
+{
+    opening_is_the_graphs();
+    rows_triples_are_table_graph();
+    row_triples_are_row_graph();
+    nothing_given();
+    texts_grow();
 }
 
 /// Texts are at most one list of annotated tables.

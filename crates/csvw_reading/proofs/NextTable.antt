@@ -69,6 +69,7 @@ module _ {R S : Type 0} (gains : S → List Triple → S → Type 0) (is_open : 
       event = h.event;
       all = h.all;
       t = h.t;
+      of_table = h.of_table;
       session = h.session;
       same = (h.same.0 ∙ same.0, h.same.1 ∙ same.1);
       stands = h.stands;

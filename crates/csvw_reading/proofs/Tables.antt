@@ -3,7 +3,7 @@ use Rattle.std.proofs.Common.{◌≡◌, ◌<◌, ◌≤◌, ◌+◌, ℕ, Bool,
 use Rattle.csvw_text.specs.declared.counted.Counted.{Counted}
 use Rattle.csvw_text.specs.Counted.{failures_of}
 use Rattle.csvw_triples_core.specs.declared.term.Triple.{Triple}
-use Rattle.csvw_session.specs.Events.{Event, Feed, End, text_of, ended_in}
+use Rattle.csvw_session.specs.Events.{Event, Feed, End, table_of, text_of, ended_in}
 use Rattle.csvw_session.specs.Laws.{TextsGrow}
 use Rattle.csvw_session.specs.Sessions.{Stands, Takes}
 use Rattle.csvw_session.specs.declared.session.Session.{Session}
@@ -77,12 +77,12 @@ module _ {S : Type 0} (gains : S → List Triple → S → Type 0) (is_open : S 
   module _ {R : Type 0} (remaining : R → Option (List ℕ)) (r s : Counted R) (first old new : Session S) (bytes : List ℕ) (reads : ℕ) (k : Took gains is_open failed start events t bytes false old reads)
       (same : IsSame first old) (some : 0 < t) (within : t ≤ length first.plan.tables) where
     -- an event that was answered with a stop
-    module _ (event : Event) (goes : GoesOn t events (k.later ++ event ∷ [])) (gave : Gave remaining r s (text_of (k.later ++ event ∷ []) t) (ended_in (k.later ++ event ∷ []) t)) (steady : failures_of s ≡ failures_of r) where
+    module _ (event : Event) (is_of : table_of event ≡ t) (goes : GoesOn t events (k.later ++ event ∷ [])) (gave : Gave remaining r s (text_of (k.later ++ event ∷ []) t) (ended_in (k.later ++ event ∷ []) t)) (steady : failures_of s ≡ failures_of r) where
       stopped : (reason : Stop) → Takes gains is_open failed old new t event (Err reason) → TableStops gains is_open failed remaining start events t r s first new reason
       stopped reason takes = record {
         later = k.later ++ event ∷ [];
         goes = goes;
-        stops = record { before = k.later; event = event; all = refl; t = t; session = old; same = same; stands = k.stands; takes = takes };
+        stops = record { before = k.later; event = event; all = refl; t = t; of_table = is_of; session = old; same = same; stands = k.stands; takes = takes };
         gave = gave;
         steady = steady;
       }
@@ -109,7 +109,7 @@ module _ {S : Type 0} (gains : S → List Triple → S → Type 0) (is_open : S 
         → TableReads gains is_open failed remaining start events t r s first new (reads + 1) result
     ends gave steady (Ok u) takes = record { bytes = bytes; took = took_end old new bytes reads u k takes; gave = gave; steady = steady }
     ends gave steady (Err reason) takes =
-        stops (End t) (goes_ended grow t events k.later k.goes)
+        stops (End t) refl (goes_ended grow t events k.later k.goes)
         (subst (λ b. Gave remaining r s (text_of (k.later ++ End t ∷ []) t) b) (sym (grow.end_same k.later t)) (subst (λ xs. Gave remaining r s xs true) (sym (grow.end_text k.later t t ∙ k.text)) gave))
         steady reason (reads + 1) takes
 
@@ -117,7 +117,7 @@ module _ {S : Type 0} (gains : S → List Triple → S → Type 0) (is_open : S 
     pub unfed : (piece : List ℕ) → Gave remaining r s (bytes ++ piece) false → failures_of s ≡ failures_of r → (reason : Stop) (last : ℕ) → Takes gains is_open failed old new t (Feed t piece) (Err reason)
         → TableReads gains is_open failed remaining start events t r s first new last (Err reason)
     unfed piece gave steady reason last takes =
-        stops (Feed t piece) (goes_fed grow t piece events k.later k.goes)
+        stops (Feed t piece) refl (goes_fed grow t piece events k.later k.goes)
         (subst (λ b. Gave remaining r s (text_of (k.later ++ Feed t piece ∷ []) t) b) (sym (grow.fed_ended k.later t t piece ∙ k.ended_is))
         (subst (λ xs. Gave remaining r s xs false) (sym (grow.fed k.later t piece ∙ ap (λ z. z ++ piece) k.text)) gave))
         steady reason last takes

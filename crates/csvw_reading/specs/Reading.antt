@@ -5,7 +5,7 @@ use Rattle.csvw_text.specs.declared.counted.Counted.{Counted}
 use Rattle.csvw_text.specs.Count.{one_more}
 use Rattle.csvw_text.specs.Counted.{inner_of, failures_of}
 use Rattle.csvw_triples_core.specs.declared.term.Triple.{Triple}
-use Rattle.csvw_session.specs.Events.{Event, text_of, ended_in}
+use Rattle.csvw_session.specs.Events.{Event, table_of, text_of, ended_in}
 use Rattle.csvw_session.specs.Sessions.{Stands, Takes}
 use Rattle.csvw_session.specs.declared.session.Session.{Session}
 use Rattle.csvw_session.specs.declared.stop.Stop.{Stop}
@@ -44,6 +44,7 @@ pub record StopsAt {S : Type 0} (gains : S → List Triple → S → Type 0) (is
   pub event : Event
   pub all : events ≡ before ++ event ∷ []
   pub t : ℕ
+  pub of_table : table_of event ≡ t
   pub session : Session S
   pub same : IsSame old session
   pub stands : Stands gains is_open failed start before session

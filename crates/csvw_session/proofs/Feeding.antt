@@ -105,6 +105,7 @@ module _ {S : Type 0} (gains : S → List Triple → S → Type 0) (is_open : S 
             table = t;
             is_at = is_at;
             given = k.1.given;
+            was = record { head = k.1.holds.head.known; has = k.1.holds.has };
             leaves = rw (fed_same events (i + 1) piece, fed_ended events (i + 1) (i + 1) piece, k.0) all.0;
           },
           all.1,
@@ -122,6 +123,7 @@ module _ {S : Type 0} (gains : S → List Triple → S → Type 0) (is_open : S 
             table = t;
             is_at = is_at;
             given = k.1.given;
+            was = record { head = k.1.holds.head.known; has = k.1.holds.has };
             leaves = rw (fed_same events (i + 1) piece, fed_ended events (i + 1) (i + 1) piece, k.0) all.0;
           },
           all.1,
@@ -140,6 +142,7 @@ module _ {S : Type 0} (gains : S → List Triple → S → Type 0) (is_open : S 
             table = t;
             is_at = is_at;
             given = k.1.given;
+            was = record { head = k.1.holds.head.known; has = k.1.holds.has };
             leaves = rw (fed_same events (i + 1) piece, fed_ended events (i + 1) (i + 1) piece, k.0) all.0;
           },
           all.1,
@@ -161,6 +164,7 @@ module _ {S : Type 0} (gains : S → List Triple → S → Type 0) (is_open : S 
             table = t;
             is_at = is_at;
             given = k.1.given;
+            was = record { head = k.1.holds.head.known; has = k.1.holds.has };
             leaves = rw (fed_same events (i + 1) piece, fed_ended events (i + 1) (i + 1) piece, k.0) front;
           },
           all.1,
@@ -184,6 +188,7 @@ module _ {S : Type 0} (gains : S → List Triple → S → Type 0) (is_open : S 
             table = t;
             is_at = is_at;
             given = k.1.given;
+            was = record { head = k.1.holds.head.known; has = k.1.holds.has };
             leaves = rw (end_text events (i + 1) (i + 1), end_same events (i + 1)) all.0;
           },
           all.1,
@@ -201,6 +206,7 @@ module _ {S : Type 0} (gains : S → List Triple → S → Type 0) (is_open : S 
             table = t;
             is_at = is_at;
             given = k.1.given;
+            was = record { head = k.1.holds.head.known; has = k.1.holds.has };
             leaves = rw (end_text events (i + 1) (i + 1), end_same events (i + 1)) all.0;
           },
           all.1,
@@ -219,6 +225,7 @@ module _ {S : Type 0} (gains : S → List Triple → S → Type 0) (is_open : S 
             table = t;
             is_at = is_at;
             given = k.1.given;
+            was = record { head = k.1.holds.head.known; has = k.1.holds.has };
             leaves = rw (end_text events (i + 1) (i + 1), end_same events (i + 1)) all.0;
           },
           all.1,
@@ -240,6 +247,7 @@ module _ {S : Type 0} (gains : S → List Triple → S → Type 0) (is_open : S 
             table = t;
             is_at = is_at;
             given = k.1.given;
+            was = record { head = k.1.holds.head.known; has = k.1.holds.has };
             leaves = rw (end_text events (i + 1) (i + 1), end_same events (i + 1)) front;
           },
           all.1,

@@ -6,6 +6,11 @@ pub data Event : Type 0 where
   Feed : ℕ → List ℕ → Event
   End : ℕ → Event
 
+-- the table that an event is of
+abbrev pub table_of : Event → ℕ
+table_of (Feed t piece) = t
+table_of (End t) = t
+
 -- the pieces of table t, joined
 abbrev pub text_of : List Event → ℕ → List ℕ
 text_of [] t = []

@@ -12,8 +12,9 @@ use Rattle.csvw_triples_core.specs.Taking.{IsAsReady}
 use Rattle.csvw_triples_core.specs.declared.mode.Mode.{Mode}
 use Rattle.csvw_triples_core.specs.declared.term.Triple.{Triple}
 use Rattle.csvw_opening.specs.OpeningTriples.{opening}
+use Rattle.csvw_engine_core.specs.Annotated.{IsTable}
 use Rattle.csvw_engine_core.specs.Faults.{table_faults}
-use Rattle.csvw_engine_core.specs.Tables.{TableHolds, HoldsWhole, IsAtRest, IsStopped, IsRefused, IsRefusedAtEnd, GivesSome, GivesFront, table_triples, columns_of, faults_of, is_ended}
+use Rattle.csvw_engine_core.specs.Tables.{TableHolds, HoldsWhole, IsAtRest, IsStopped, IsRefused, IsRefusedAtEnd, GivesSome, GivesFront, table_triples, columns_of, faults_of, header_faults_of, is_ended}
 use Rattle.csvw_engine_core.specs.declared.table.Table.{Table}
 use Rattle.csvw_session.specs.Events.{Event, text_of, ended_in}
 use Rattle.csvw_session.specs.declared.session.Session.{Session}
@@ -108,14 +109,15 @@ Checks s t (Err (stop.Rows table row reason)) = ⊥
 Checks s t (Err (stop.Table table row reason)) = ⊥
 Checks s t (Err stop.NotEnded) = ⊥
 
--- a table of the session, and the rows of the source that it was given before the call
-pub record AtTable {S : Type 0} (s : Session S) (t : ℕ) (Leaves : ℕ → TablePlan → List Given → Type 0) : Type 0 where
+-- a table of the session, and the rows of the source that it was given before the call, which were these rows of it
+pub record AtTable {S : Type 0} (s : Session S) (t : ℕ) (rows : ℕ → List Row) (Leaves : ℕ → TablePlan → List Given → Type 0) : Type 0 where
   pub i : ℕ
   pub number : i + 1 ≡ t
   pub plan : TablePlan
   pub table : Table
   pub is_at : IsTableAt s i plan table
   pub given : List Given
+  pub was : IsTable plan given (columns_of table) (header_faults_of table) (rows i)
   pub leaves : Leaves i plan given
 
 -- the table refuses the next row, or at the end of its text the header that it has
@@ -126,12 +128,12 @@ IsRefusedHere plan columns bytes ended given row stop =
 -- what the sink gained in a call that was cut short: triples of some of the rows more of the table, and a part of the next row's
 abbrev pub GainsSome : {S : Type 0} → (S → List Triple → S → Type 0) → Session S → Session S → ℕ → List Event → (ℕ → List Row) → Type 0
 GainsSome gains old new t events rows =
-    AtTable old t (λ i plan given. GivesSome gains plan old.mode (text_of events t) (ended_in events t) given (rows i) old.sink new.sink)
+    AtTable old t rows (λ i plan given. GivesSome gains plan old.mode (text_of events t) (ended_in events t) given (rows i) old.sink new.sink)
 
 -- what it gained in a call that stopped in the text: the triples of all rows in front of the stop
 abbrev pub GainsFront : {S : Type 0} → (S → List Triple → S → Type 0) → Session S → Session S → ℕ → List Event → (ℕ → List Row) → (TablePlan → Option Columns → List Given → Type 0) → Type 0
 GainsFront gains old new t events rows Why =
-    AtTable old t (λ i plan given. GivesFront gains plan old.mode (text_of events t) (ended_in events t) given (rows i) old.sink new.sink (λ columns all. Why plan columns all))
+    AtTable old t rows (λ i plan given. GivesFront gains plan old.mode (text_of events t) (ended_in events t) given (rows i) old.sink new.sink (λ columns all. Why plan columns all))
 
 -- An event of table t was taken, or why not. A stop in the text and want of memory leave the session failed.
 abbrev pub Takes : {S : Type 0} → (S → List Triple → S → Type 0) → (S → Bool) → (S → ℕ) → Session S → Session S → ℕ → Event → Result Unit Stop → Type 0

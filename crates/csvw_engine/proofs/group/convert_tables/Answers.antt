@@ -1,11 +1,12 @@
 -- What the tables gave to the sink stands in its writer.
-use Rattle.std.proofs.Common.{sym, ap, subst, ◌∙◌, length, Err}
+use Rattle.std.proofs.Common.{refl, sym, ap, subst, ◌∙◌, length, Err}
 use Rattle.csvw_columns.specs.declared.plan.Plan.{Plan}
 use Rattle.csvw_session.specs.Sessions.{AreNumbered}
+use Rattle.csvw_text.specs.Counted.{inner_of, failures_of}
 use Rattle.csvw_ntriples.specs.NtSink.{sink_out, sink_is_open}
-use Rattle.csvw_engine.proofs.Converting.{takes, failed_of}
+use Rattle.csvw_engine.proofs.Converting.{takes, failed_of, sends_nothing}
 use Rattle.csvw_engine.proofs.Taking.{refused, starts_own}
-use Rattle.csvw_engine.proofs.Writing.{LineLaws, converted, converted_at, same_lent, streams_of}
+use Rattle.csvw_engine.proofs.Writing.{LineLaws, converted, converted_at, nothing_written, same_lent, streams_of}
 use Rattle.csvw_engine.proofs.group.convert_tables.Goals as goal
 
 pub returns-in-Ok-start : goal.returns-in-Ok-start
@@ -33,10 +34,16 @@ returns g c =
     let start = c.new-sink.result in
     let now = c.in-Err.field-0.sink in
     let reason = c.in-Err.field-0.stop in
-    let ran = refused (takes contents) sink_is_open failed_of remaining c.args.way.mode c.args.plan c.args.readers.now c.args.readers.now start now reason c.in-Err.ensures.refused in
+    let ran = refused (takes contents) sink_is_open failed_of remaining c.opening_is_the_graphs.ensures c.args.way.mode c.args.plan c.args.readers.now start now
+    (refl, tt, sends_nothing (contents (inner_of (sink_out start).now)) (sink_is_open start) c.new-sink.ensures.open) reason c.in-Err.ensures.refused in
     let lent = same_lent contents remaining c.args.way.mode c.args.plan c.args.readers.now c.args.readers.now start now (Err reason) ran in
     let final = c.out-in-Err-1.given.1 (sym (c.into_inner-in-Err.ensures.same_reference ∙ (lent ∙ c.new-sink.ensures.same_reference))) in
     let laws : LineLaws = record { denotes = c.written_denotes.ensures; names = c.labels_name_one_to_one.ensures } in
     converted contents laws _ start now
     (streams_of contents c.args.out.now _ start now c.new-sink.ensures.open c.new-sink.ensures.out (final ∙ c.into_inner-in-Err.ensures.value))
     remaining c.args.way.mode c.args.plan c.args.readers.now c.args.readers.now (Err reason) ran
+
+pub returns-in_default : goal.returns-in_default
+returns-in_default g c =
+    let laws : LineLaws = record { denotes = c.written_denotes.ensures; names = c.labels_name_one_to_one.ensures } in
+    nothing_written laws g.R.Read.remaining c.args.way.mode c.args.plan c.args.readers.now (g.W.Write.contents (inner_of c.args.out.now)) (failures_of c.args.out.now)

@@ -1,0 +1,47 @@
+//! Laws about sessions and what they write. The calls do nothing.
+ghost use Rattle.std.specs.Prelude.{◌≡◌, ℕ, true, List, [], Result};
+ghost use Rattle.csvw_columns.specs.declared.plan.Plan.{Plan as ThePlan};
+ghost use Rattle.csvw_triples_core.specs.Taking.{IsAsReady};
+ghost use Rattle.csvw_triples_core.specs.declared.mode.Mode.{Mode as TheMode};
+ghost use Rattle.csvw_ntriples.specs.NtSink.{sink_is_open};
+ghost use Rattle.csvw_ntriples.specs.declared.nt_sink.NtSink.{NtSink as TheSink};
+ghost use Rattle.csvw_report.specs.declared.outcome.Outcome.{Outcome as TheOutcome};
+ghost use Rattle.csvw_session.specs.Events.{Event};
+ghost use Rattle.csvw_session.specs.Finishing.{Finishes, IsUnfinishedInOrder};
+ghost use Rattle.csvw_session.specs.Sessions.{IsRefusedInOrder, Takes};
+ghost use Rattle.csvw_session.specs.declared.session.Session.{Session as TheSession};
+ghost use Rattle.csvw_session.specs.declared.state.State.TheVariants as state;
+ghost use Rattle.csvw_session.specs.declared.stop.Stop.{Stop as TheStop};
+ghost use Rattle.csvw_group.specs.Stopped.{TookAll, TookSome};
+ghost use Rattle.csvw_engine.specs.Lines.{gains_lines, line_failures, writer_of};
+ghost use Rattle.csvw_engine.specs.Stopped.{WroteAll, WroteSome};
+
+use csvw_ntriples::{labels_name_one_to_one, written_denotes};
+use csvw_triples_core::TripleSink;
+use std::io::Write;
+
+/// What a session has written over an N-Triples sink that was open, by what `csvw_group::laws` say that its sink took: whole lines
+/// that denote these triples, and after a failed write perhaps a front of the line of one more.
+pub fn sessions_write_lines<W: Write>()
+    ensures all { (m : TheMode) (plan : ThePlan) (events : List Event) (sink now : TheSink W) → sink_is_open sink ≡ true
+        → TookAll (gains_lines W.contents) m plan events sink now → IsAsReady sink_is_open line_failures sink now
+        → WroteAll m plan (writer_of W.contents sink now) events }
+    ensures memory { (m : TheMode) (plan : ThePlan) (events : List Event) (sink now : TheSink W) → sink_is_open sink ≡ true
+        → TookSome (gains_lines W.contents) sink_is_open line_failures m plan events sink now → IsAsReady sink_is_open line_failures sink now
+        → WroteSome m plan (writer_of W.contents sink now) events [] }
+    ensures write { (m : TheMode) (plan : ThePlan) (events : List Event) (sink now : TheSink W) → sink_is_open sink ≡ true
+        → TookSome (gains_lines W.contents) sink_is_open line_failures m plan events sink now
+        → (more : List ℕ) × WroteSome m plan (writer_of W.contents sink now) events more }
+{
+    written_denotes();
+    labels_name_one_to_one();
+}
+
+/// A later call of a session that stopped changes nothing: its sink takes no triple, and so the writer of an N-Triples sink gains no
+/// byte.
+pub fn stopped_sessions_stay<S: TripleSink>()
+    ensures event { (old new : TheSession S) (t : ℕ) (event : Event) (result : Result Unit TheStop) → old.state ≡ state.Failed
+        → Takes S.gains S.is_open S.failed old new t event result → IsRefusedInOrder old t result → new ≡ old }
+    ensures finish { (old new : TheSession S) (result : Result TheOutcome TheStop) → old.state ≡ state.Failed
+        → Finishes old new result → IsUnfinishedInOrder old result → new ≡ old }
+{}

@@ -1,0 +1,42 @@
+-- What the sink of a session took so far, and by a stop.
+use Rattle.std.specs.Prelude.{◌≡◌, ℕ, Bool, List, ◌++◌}
+use Rattle.csvw_columns.specs.declared.plan.Plan.{Plan}
+use Rattle.csvw_triples_core.specs.Taking.{FrontOf, IsAsReady}
+use Rattle.csvw_triples_core.specs.declared.mode.Mode.{Mode}
+use Rattle.csvw_triples_core.specs.declared.term.Triple.{Triple}
+use Rattle.csvw_session.specs.Events.{Event}
+use Rattle.csvw_session.specs.Sessions.{TookGraph}
+use Rattle.csvw_session.specs.declared.stop.Stop.{Stop}
+use Rattle.csvw_session.specs.declared.stop.Stop.TheVariants as stop
+use Rattle.csvw_group.specs.Part.{TablePart, HaveAllRows, PartGraph, IsCutShort}
+
+-- the graph of the group with all rows of the texts so far
+pub record TookAll {S : Type 0} (gains : S → List Triple → S → Type 0) (m : Mode) (plan : Plan) (events : List Event) (sink now : S) : Type 0 where
+  pub parts : ℕ → TablePart
+  pub have : HaveAllRows plan.tables events parts
+  pub took : TookGraph gains sink now (PartGraph m plan parts)
+
+-- Triples up to the last call, whose sink was ready, and a front of more in that call, of whose last only a part where the device
+-- failed; whichever front that is, with the triples before it stands what is left of the graph.
+pub record TookSome {S : Type 0} (gains : S → List Triple → S → Type 0) (is_open : S → Bool) (failed : S → ℕ) (m : Mode) (plan : Plan) (events : List Event) (sink now : S) : Type 0 where
+  pub taken : List Triple
+  pub middle : S
+  pub gained : gains sink taken middle
+  pub ready : IsAsReady is_open failed sink middle
+  pub more : List Triple
+  pub took : FrontOf gains middle more now
+  pub cut : (front rest : List Triple) → more ≡ front ++ rest → IsCutShort m plan events (taken ++ front) rest
+
+-- by the stop behind these events
+abbrev pub TookBy : {S : Type 0} → (S → List Triple → S → Type 0) → (S → Bool) → (S → ℕ) → Mode → Plan → List Event → S → S → Stop → Type 0
+TookBy gains is_open failed m plan events sink now stop.Memory = TookSome gains is_open failed m plan events sink now
+TookBy gains is_open failed m plan events sink now stop.Write = TookSome gains is_open failed m plan events sink now
+TookBy gains is_open failed m plan events sink now stop.Read = TookAll gains m plan events sink now
+TookBy gains is_open failed m plan events sink now (stop.Rows t row reason) = TookAll gains m plan events sink now
+TookBy gains is_open failed m plan events sink now (stop.Table t row reason) = TookAll gains m plan events sink now
+TookBy gains is_open failed m plan events sink now (stop.Meta fault) = Unit {0}
+TookBy gains is_open failed m plan events sink now stop.TableCount = Unit {0}
+TookBy gains is_open failed m plan events sink now stop.UnknownTable = Unit {0}
+TookBy gains is_open failed m plan events sink now stop.AfterEnd = Unit {0}
+TookBy gains is_open failed m plan events sink now stop.NotEnded = Unit {0}
+TookBy gains is_open failed m plan events sink now stop.Failed = Unit {0}
