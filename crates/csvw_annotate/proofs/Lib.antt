@@ -2,3 +2,4 @@ pub mod CellsLemmas
 pub mod FormsLemmas
 pub mod LinkLemmas
 pub mod NamedLemmas
+pub mod Unlinked

@@ -5,7 +5,7 @@ ghost use Rattle.csvw_datatype.specs.Sound.{IsSound};
 ghost use Rattle.csvw_annotate.specs.Annotated.{IsCell, AreCells, Annotates, AreSound};
 ghost use Rattle.csvw_annotate.specs.FieldAt.{field_at};
 
-use crate::linking::link_cells;
+use crate::linking::link_row;
 use crate::row::{AnnCell, Row};
 use crate::row_stop::RowStop;
 use csvw_cell::parse_over;
@@ -107,7 +107,7 @@ pub fn annotate_into(
         source: row.source(),
     };
     values_of_texts();
-    link_cells(alloc, columns, numbers, cells.as_mut_slice())?;
+    link_row(alloc, columns, numbers, cells.as_mut_slice())?;
     Ok(Row {
         number: numbers.number,
         source: numbers.source,

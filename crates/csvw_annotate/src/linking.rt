@@ -1,12 +1,13 @@
 //! The links of a row's cells.
 ghost use Rattle.std.specs.Prelude.{◌≡◌, ◌≤◌, IfOk, OnOk, length};
-ghost use Rattle.csvw_links.specs.Links.{link_by};
+ghost use Rattle.std.specs.List.{list_any};
+ghost use Rattle.csvw_links.specs.Links.{has_template, link_by};
 ghost use Rattle.csvw_annotate.specs.AboutBefore.{IsAboutBefore, variables_of};
 ghost use Rattle.csvw_annotate.specs.Linked.{ArePlain, HaveForms, linked_cells, with_links};
 
 use crate::row::AnnCell;
 use crate::scope::RowScope;
-use csvw_columns_core::Columns;
+use csvw_columns_core::{Column, Columns};
 use csvw_links::{Linker, Links, Made, RowNumbers, has_template, no_link, share_about};
 use std::alloc::{AllocError, Global};
 
@@ -48,8 +49,14 @@ fn about_at(
     linker.about_of(scope.column, scope)
 }
 
-/// Gives the cells of a row their links. A template may name any column of the row.
-pub(crate) fn link_cells(
+fn any_has_template(columns: &[Column]) -> bool
+    ensures { result ≡ list_any has_template columns.now }
+{
+    columns.iter().any(|column| has_template(column))
+}
+
+/// Gives the cells of a row of columns with templates their links.
+fn link_cells(
     alloc: Global,
     columns: &Columns,
     row: RowNumbers,
@@ -79,4 +86,23 @@ pub(crate) fn link_cells(
         }
     }
     Ok(())
+}
+
+/// Gives the cells of a row their links. A template may name any column of the row.
+pub(crate) fn link_row(
+    alloc: Global,
+    columns: &Columns,
+    row: RowNumbers,
+    cells: &mut [AnnCell],
+) -> Result<(), AllocError>
+    requires places { length cells.old ≡ length columns.now.columns }
+    requires plain { ArePlain cells.old }
+    requires forms { HaveForms cells.old }
+    ensures { OnOk result (cells.new ≡ linked_cells columns.now row cells.old) }
+{
+    if any_has_template(columns.columns.as_slice()) {
+        link_cells(alloc, columns, row, cells)
+    } else {
+        Ok(())
+    }
 }

@@ -1,7 +1,7 @@
 //! The line of a triple, made over the one before it.
-ghost use Rattle.std.specs.Prelude.{◌≡◌, ◌∷◌, [], ◌++◌, true, OnOk};
+ghost use Rattle.std.specs.Prelude.{◌≡◌, ◌++◌, true, codes, OnOk};
 ghost use Rattle.csvw_ntriples.specs.Front.{IsFront, front_text};
-ghost use Rattle.csvw_ntriples.specs.Written.{blank_text, iri_text, node_text, line_text};
+ghost use Rattle.csvw_ntriples.specs.Written.{iri_text, node_text, line_text};
 ghost use Rattle.csvw_ntriples.specs.LabelLaw.{IsOrigin};
 ghost use Rattle.csvw_ntriples.specs.Writable.{IriFits, NodeFits, TripleFits};
 
@@ -19,7 +19,7 @@ pub(crate) struct Line {
     pub(crate) bytes: Vec<u8>,
     /// The blank node that it begins with, if it does.
     subject: Option<Origin>,
-    /// How many bytes that node and the space behind it take.
+    /// How many bytes stand in front of the text of the predicate.
     front: usize,
     /// The row that was named last.
     row: RowLabel,
@@ -47,7 +47,7 @@ impl Line {
         }
     }
 
-    /// Cuts the line off behind its subject, where that is this blank node.
+    /// Cuts the line off in front of the text of the predicate, where its subject is this blank node.
     fn keeps(&mut self, origin: Origin) -> bool
         ensures { result ≡ true → self.new.bytes.items ≡ front_text origin }
     {
@@ -62,7 +62,7 @@ impl Line {
     }
 
     fn begin_blank(&mut self, origin: Origin) -> Result<(), AllocError>
-        ensures text { OnOk result (self.new.bytes.items ≡ blank_text origin ++ 32 ∷ []) }
+        ensures text { OnOk result (self.new.bytes.items ≡ front_text origin) }
         ensures fits { OnOk result (IsOrigin origin) }
     {
         fits(origin);
@@ -72,25 +72,25 @@ impl Line {
         self.subject = None;
         self.bytes.clear();
         push_blank(&mut self.bytes, &mut self.row, origin)?;
-        self.bytes.push(b' ')?;
+        self.bytes.extend_from_slice(b" <")?;
         self.front = self.bytes.len();
         self.subject = Some(origin);
         Ok(())
     }
 
     fn begin_named(&mut self, iri: &Iri) -> Result<(), AllocError>
-        ensures text { OnOk result (self.new.bytes.items ≡ iri_text iri.now ++ 32 ∷ []) }
+        ensures text { OnOk result (self.new.bytes.items ≡ iri_text iri.now ++ codes " <") }
         ensures fits { OnOk result (IriFits iri.now) }
     {
         self.subject = None;
         self.bytes.clear();
         push_iri(&mut self.bytes, iri)?;
-        self.bytes.push(b' ')?;
+        self.bytes.extend_from_slice(b" <")?;
         Ok(())
     }
 
     fn begin(&mut self, node: &Node) -> Result<(), AllocError>
-        ensures text { OnOk result (self.new.bytes.items ≡ node_text node.now ++ 32 ∷ []) }
+        ensures text { OnOk result (self.new.bytes.items ≡ node_text node.now ++ codes " <") }
         ensures fits { OnOk result (NodeFits node.now) }
     {
         match node {

@@ -194,7 +194,7 @@ fn push_term(out: &mut Vec<u8>, last: &mut RowLabel, term: &Term) -> Result<(), 
     }
 }
 
-/// Adds what stands in the line of a triple behind its subject and a space.
+/// Adds what stands in the line of a triple from the text of its predicate on.
 pub(crate) fn push_rest(
     out: &mut Vec<u8>,
     last: &mut RowLabel,
@@ -203,8 +203,8 @@ pub(crate) fn push_rest(
     ensures text { OnOk result (out.new.items ≡ out.old.items ++ rest_text triple.now) }
     ensures fits { OnOk result (IriFits triple.now.p × TermFits triple.now.o) }
 {
-    push_iri(out, &triple.p)?;
-    out.push(b' ')?;
+    out.extend_from_slice(triple.p.as_str().as_bytes())?;
+    out.extend_from_slice(b"> ")?;
     push_term(out, last, &triple.o)?;
     out.extend_from_slice(b" .\n")
 }
