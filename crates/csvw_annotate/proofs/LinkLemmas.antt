@@ -105,15 +105,6 @@ linked_is columns row plain now all column lent cell new links e f g l n =
     ∙ ap (λ (x : AnnCell). links_of columns.url (variables row column columns.columns (values_of plain)) column x.value) g
     )
 
--- a link by a template, where its table and its row are told in other words
-pub link_moved : (row : RowNumbers) (column : Column) (template : Option (List Part)) (url other : Parts) (all others : List Column) (values more : List CellValue)
-    → url ≡ other → all ≡ others → values ≡ more
-    → link_by url (variables row column all values) template ≡ link_by other (variables row column others more) template
-link_moved row column template url other all others values more e f g =
-    ap (λ (u : Parts). link_by u (variables row column all values) template) e
-    ∙ ap (λ (cs : List Column). link_by other (variables row column cs values) template) f
-    ∙ ap (λ (vs : List CellValue). link_by other (variables row column others vs) template) g
-
 -- what was made is the about link of the column before this place, in a row of these cells
 abbrev pub IsAbout : Columns → RowNumbers → List AnnCell → ℕ → Made → Type 0
 IsAbout columns row cells place made =
@@ -139,6 +130,26 @@ forms_of cells others e h = of_values cells (subst (λ vs. AllByRecursion HasFor
   of_values : (xs : List AnnCell) → AllByRecursion HasForm (values_of xs) → HaveForms xs
   of_values [] k = tt
   of_values (x ∷ xs) k = (k.0, of_values xs k.1)
+
+-- cells of which so many have their links
+module _ (columns : Columns) (row : RowNumbers) (i : ℕ) (cells now : List AnnCell)
+    (is : now ≡ front (linked_in columns row (values_of cells)) i columns.columns cells) where
+  pub same_values : values_of now ≡ values_of cells
+  same_values = ap values_of is ∙ front_values (linked_in columns row (values_of cells)) (λ column cell. refl) i columns.columns cells
+
+  pub same_places : (all : List Column) → all ≡ columns.columns → length cells ≡ length columns.columns → length now ≡ length all
+  same_places all e places = ap length is ∙ front_length (linked_in columns row (values_of cells)) i columns.columns cells ∙ places ∙ ap length (sym e)
+
+  pub same_forms : HaveForms cells → HaveForms now
+  same_forms h = forms_of now cells same_values h
+
+  -- a link by a template is that in the row as it was
+  pub same_link : (url : Parts) (all : List Column) (column : Column) (template : Option (List Part)) → url ≡ columns.url → all ≡ columns.columns
+      → link_by url (variables row column all (values_of now)) template ≡ link_by columns.url (variables row column columns.columns (values_of cells)) template
+  same_link url all column template e f =
+      ap (λ (u : Parts). link_by u (variables row column all (values_of now)) template) e
+      ∙ ap (λ (cs : List Column). link_by columns.url (variables row column cs (values_of now)) template) f
+      ∙ ap (λ (vs : List CellValue). link_by columns.url (variables row column columns.columns vs) template) same_values
 
 pub plain_at : (cells : List AnnCell) (i : ℕ) (cell : AnnCell) → i < length cells → cell ≡ get_or cells i cell → ArePlain cells → IsPlain cell
 plain_at [] i cell lt e h = absurd (omega (arith, lt))

@@ -43,7 +43,8 @@ module _ (row : RowNumbers) (one other : Column) (rest : Variables) where
       ∙ ap (λ vs. cons_option (value operator (lookup (reserved row other ++ rest) name)) vs) (same_values operator names k.1)
 
   -- the column says nothing where its own variables aren't named
-  pub same_for_columns : (parts : List Part) → list_any names_column parts ≡ false → expand (reserved row one ++ rest) parts ≡ expand (reserved row other ++ rest) parts
+  pub same_for_columns : (parts : List Part) → list_any names_column parts ≡ false
+      → expand (reserved row one ++ rest) parts ≡ expand (reserved row other ++ rest) parts
   unfolding expand
   same_for_columns [] e = refl
   same_for_columns (Literal text ∷ parts) e = ap (λ x. kept text ++ x) (same_for_columns parts e)

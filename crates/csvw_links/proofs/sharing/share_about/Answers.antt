@@ -12,4 +12,5 @@ returns-then-are_equal_parts c = λ h base row columns values.
     let others = c.parts.ensures ∙ c.get-in-Some-Some.ensures in
     let same = sym parts ∙ c.are_equal_parts.ensures c.if-are_equal_parts.true ∙ others in
     let none = ap (list_any names_column) (sym parts) ∙ sym c.any_names_column.ensures ∙ fails c.any_names_column.result h in
-    shared base row c.args.one.now c.args.other.now (named columns values) c.in-Some-Some.one c.in-Some-Some.other c.in-Some-Some.is-0 c.in-Some-Some.is-1 same none
+    shared base row c.args.one.now c.args.other.now (named columns values)
+    c.in-Some-Some.one c.in-Some-Some.other c.in-Some-Some.is-0 c.in-Some-Some.is-1 same none
