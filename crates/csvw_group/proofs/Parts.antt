@@ -1,5 +1,5 @@
 -- A session stands for all rows of its texts so far.
-use Rattle.std.proofs.Common.{◌≡◌, ◌↔◌, ◌⊎◌, ◌<◌, ◌≤◌, ◌+◌, ℕ, Bool, true, false, List, [], ◌∷◌, ◌++◌, chars, refl, sym, ap, ◌∙◌, subst, arith, inl, inr, length, Contains, Option, Some, None, flat_map}
+use Rattle.std.proofs.Common.{◌≡◌, ◌↔◌, ◌⊎◌, ◌<◌, ◌≤◌, ◌+◌, ℕ, Bool, true, false, List, [], ◌∷◌, ◌++◌, chars, refl, sym, ap, ◌∙◌, subst, arith, inl, inr, length, Contains, Option, Some, None}
 use Rattle.std.specs.Prelude.{slice_get}
 use Rattle.std.specs.Str.Lossy.{utf8_valid_len}
 use Rattle.std.proofs.Math.Seq.{take-nil}
@@ -71,7 +71,8 @@ nothing d max = record {
   all = refl;
 }
 
-all_given : NothingGiven → (plan : TablePlan) (m : Mode) (t : State) (text : List ℕ) (given : List Given) (rows : List Row) → TableHolds plan m t text false given rows
+all_given : NothingGiven → (plan : TablePlan) (m : Mode) (t : State) (text : List ℕ) (given : List Given) (rows : List Row)
+    → TableHolds plan m t text false given rows
     → (text ≡ []) ⊎ IsAtRest plan text false given → HasGiven plan.dialect max_rows text false given
 all_given law plan m t text given rows h (inr rest) = rest.all
 all_given law plan m t text given rows h (inl e) =

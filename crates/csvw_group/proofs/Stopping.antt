@@ -1,5 +1,5 @@
 -- What a session took by a stop.
-use Rattle.std.proofs.Common.{◌≡◌, ◌≢◌, ◌↔◌, ◌⊎◌, ◌+◌, ℕ, Bool, List, [], ◌∷◌, ◌++◌, refl, sym, ap, ◌∙◌, subst, arith, inl, inr, append-nil, append_assoc, Contains, Option, Some, None, Err}
+use Rattle.std.proofs.Common.{◌≡◌, ◌≢◌, ◌⊎◌, ◌+◌, ℕ, Bool, List, [], ◌∷◌, ◌++◌, refl, sym, ap, ◌∙◌, subst, arith, inl, inr, append-nil, append_assoc, Contains, Option, Some, None, Err}
 use Rattle.std.specs.Prelude.{slice_get}
 use Rattle.std.proofs.lemmas.Bool.Decides.{eqb_tells}
 use Rattle.std.proofs.lemmas.List.Concat.{flat_map-append}
@@ -25,12 +25,12 @@ use Rattle.csvw_session.specs.Sessions.{IsTableAt, Stands, Takes, TookGraph, Gai
 use Rattle.csvw_session.specs.declared.session.Session.{Session}
 use Rattle.csvw_session.specs.declared.stop.Stop.{Stop}
 use Rattle.csvw_session.specs.declared.stop.Stop.TheVariants as stop
-use Rattle.csvw_group.specs.Part.{TablePart, HasAllRows, HasSomeRows, HaveAllRows, PartGraph, PartRows, FirstRowGraph, IsCutInTable, RefusesNext}
+use Rattle.csvw_group.specs.Part.{TablePart, HasAllRows, HasSomeRows, HaveAllRows, PartGraph, PartRows, FirstRowGraph, IsCutInTable}
 use Rattle.csvw_group.specs.Stopped.{TookAll, TookSome, TookBy}
 use Rattle.csvw_group.proofs.Annotating.{OpeningIsGraph, RowsAreGraph}
 use Rattle.csvw_group.proofs.Headers.{same_columns, same_triples}
 use Rattle.csvw_group.proofs.Parts.{part_at, columns_at, have_all, took_graph, triples_are_graph}
-use Rattle.csvw_group.proofs.Splitting.{RowIsGraph, Splits, splits, none_in}
+use Rattle.csvw_group.proofs.Splitting.{RowIsGraph, splits, none_in}
 
 -- one part in the place of another
 abbrev chosen : (j i : ℕ) → (j ≡ i) ⊎ (j ≢ i) → TablePart → TablePart → TablePart
@@ -201,7 +201,8 @@ module _ {S : Type 0} (gains : S → List Triple → S → Type 0) (is_open : S 
       shown first = with_part had at.i (record { columns = at.leaves.columns; rows = h.rows at.i ++ first })
 
       some_rows : (first behind : List Row) → at.leaves.more ≡ first ++ behind
-          → HasSomeRows at.plan (text_of later (at.i + 1)) (ended_in later (at.i + 1)) (record { columns = at.leaves.columns; rows = h.rows at.i ++ first }) behind
+          → HasSomeRows at.plan (text_of later (at.i + 1)) (ended_in later (at.i + 1))
+          (record { columns = at.leaves.columns; rows = h.rows at.i ++ first }) behind
       some_rows first behind parted = rw at.number (record {
         given = at.given ++ at.leaves.raws;
         first = at.leaves.first;
@@ -214,7 +215,8 @@ module _ {S : Type 0} (gains : S → List Triple → S → Type 0) (is_open : S 
           → IsCutInTable old.mode old.plan later (before.taken ++ front) rest
       cut_in_table front rest e =
           let s = splits row_law old.mode at.plan.number at.leaves.columns at.leaves.more front rest e in
-          let here = now_here at.i at.plan at.table at.is_at at.given at.leaves.raws at.was at.leaves.columns at.leaves.faults at.leaves.more at.leaves.table s.first in
+          let here = now_here at.i at.plan at.table at.is_at at.given at.leaves.raws at.was at.leaves.columns at.leaves.faults
+          at.leaves.more at.leaves.table s.first in
           record {
             before = events;
             event = event;
@@ -225,7 +227,8 @@ module _ {S : Type 0} (gains : S → List Triple → S → Type 0) (is_open : S 
             behind = s.behind;
             have = record {
               others = λ j plan p apart. subst (HasAllRows plan (text_of later (j + 1)) (ended_in later (j + 1)))
-                  (sym (now_other at.i at.plan at.table at.is_at at.given at.leaves.raws at.was at.leaves.columns at.leaves.faults at.leaves.more at.leaves.table s.first j apart))
+                  (sym (now_other at.i at.plan at.table at.is_at at.given at.leaves.raws at.was at.leaves.columns at.leaves.faults
+                  at.leaves.more at.leaves.table s.first j apart))
                   (others_stay at.i j plan number p apart);
               plan = at.plan;
               is_at = at.is_at.0;
@@ -233,11 +236,14 @@ module _ {S : Type 0} (gains : S → List Triple → S → Type 0) (is_open : S 
               had = have_all gains is_open failed goes_on openings rows_law nothing_given start events old h at.i at.plan at.is_at.0;
               more = s.first;
               rows = ap (λ (p : TablePart). p.rows) here;
-              has = subst (λ (p : TablePart). HasSomeRows at.plan (text_of later (at.i + 1)) (ended_in later (at.i + 1)) p s.behind) (sym here) (some_rows s.first s.behind s.parts);
+              has = subst (λ (p : TablePart). HasSomeRows at.plan (text_of later (at.i + 1)) (ended_in later (at.i + 1)) p s.behind) (sym here)
+                  (some_rows s.first s.behind s.parts);
             };
-            whole = whole at.i at.plan at.table at.is_at at.given at.leaves.raws at.was at.leaves.columns at.leaves.faults at.leaves.more at.leaves.table s.first front s.some s.front_is;
+            whole = whole at.i at.plan at.table at.is_at at.given at.leaves.raws at.was at.leaves.columns at.leaves.faults at.leaves.more
+                at.leaves.table s.first front s.some s.front_is;
             within = λ x c.
-                elim (within at.i at.plan at.table at.is_at at.given at.leaves.raws at.was at.leaves.columns at.leaves.faults at.leaves.more at.leaves.table s.first front s.some s.front_is x c) [
+                elim (within at.i at.plan at.table at.is_at at.given at.leaves.raws at.was at.leaves.columns at.leaves.faults
+                at.leaves.more at.leaves.table s.first front s.some s.front_is x c) [
                   | inl g ↦ inl g
                   | inr k ↦ inr (subst (λ (p : TablePart). FirstRowGraph old.mode at.plan.number p.columns s.behind x) (sym here) (s.within x k))
                 ];
@@ -267,12 +273,14 @@ module _ {S : Type 0} (gains : S → List Triple → S → Type 0) (is_open : S 
       shown_front = with_part had at.i (record { columns = at.leaves.columns; rows = h.rows at.i ++ at.leaves.more })
 
       front_here : shown_front at.i ≡ record { columns = at.leaves.columns; rows = h.rows at.i ++ at.leaves.more }
-      front_here = now_here at.i at.plan at.table at.is_at at.given at.leaves.raws at.was at.leaves.columns at.leaves.faults at.leaves.more at.leaves.table at.leaves.more
+      front_here = now_here at.i at.plan at.table at.is_at at.given at.leaves.raws at.was at.leaves.columns at.leaves.faults at.leaves.more
+          at.leaves.table at.leaves.more
 
       all_here : HasAllRows at.plan (text_of later (at.i + 1)) (ended_in later (at.i + 1)) (shown_front at.i)
       all_here =
           subst (HasAllRows at.plan (text_of later (at.i + 1)) (ended_in later (at.i + 1))) (sym front_here)
-          (rw at.number (tells at.plan at.leaves.columns (at.given ++ at.leaves.raws) at.leaves.why (h.rows at.i ++ at.leaves.more) at.leaves.faults at.leaves.table))
+          (rw at.number (tells at.plan at.leaves.columns (at.given ++ at.leaves.raws) at.leaves.why (h.rows at.i ++ at.leaves.more)
+          at.leaves.faults at.leaves.table))
 
       all_at : (j : ℕ) → j ≡ at.i → (plan : TablePlan) → slice_get old.plan.tables j ≡ Some plan
           → HasAllRows plan (text_of later (j + 1)) (ended_in later (j + 1)) (shown_front j)
@@ -285,7 +293,8 @@ module _ {S : Type 0} (gains : S → List Triple → S → Type 0) (is_open : S 
       have_front j plan e = elim (here_or_not j at.i) [
         | inl same ↦ all_at j same plan e
         | inr apart ↦ subst (HasAllRows plan (text_of later (j + 1)) (ended_in later (j + 1)))
-            (sym (now_other at.i at.plan at.table at.is_at at.given at.leaves.raws at.was at.leaves.columns at.leaves.faults at.leaves.more at.leaves.table at.leaves.more j apart))
+            (sym (now_other at.i at.plan at.table at.is_at at.given at.leaves.raws at.was at.leaves.columns at.leaves.faults at.leaves.more
+            at.leaves.table at.leaves.more j apart))
             (others_stay at.i j plan number_front e apart)
       ]
 
@@ -300,19 +309,23 @@ module _ {S : Type 0} (gains : S → List Triple → S → Type 0) (is_open : S 
           taken = before.taken ++ of_rows;
           gained = goes_on sink old.sink new.sink before.taken of_rows before.gained at.leaves.took;
           within = λ x c.
-              elim (within at.i at.plan at.table at.is_at at.given at.leaves.raws at.was at.leaves.columns at.leaves.faults at.leaves.more at.leaves.table at.leaves.more of_rows [] (sym (append-nil of_rows)) x c) [
+              elim (within at.i at.plan at.table at.is_at at.given at.leaves.raws at.was at.leaves.columns at.leaves.faults at.leaves.more
+              at.leaves.table at.leaves.more of_rows [] (sym (append-nil of_rows)) x c) [
                 | inl g ↦ g
                 | inr none ↦ absurd (none_in x none)
               ];
-          whole = whole at.i at.plan at.table at.is_at at.given at.leaves.raws at.was at.leaves.columns at.leaves.faults at.leaves.more at.leaves.table at.leaves.more of_rows [] (sym (append-nil of_rows));
+          whole = whole at.i at.plan at.table at.is_at at.given at.leaves.raws at.was at.leaves.columns at.leaves.faults at.leaves.more
+              at.leaves.table at.leaves.more of_rows [] (sym (append-nil of_rows));
         };
       }
 
-    pub took_by : (reason : Stop) → Takes gains is_open failed old new t event (Err reason) → TookBy gains is_open failed old.mode old.plan later sink new.sink reason
+    pub took_by : (reason : Stop) → Takes gains is_open failed old new t event (Err reason)
+        → TookBy gains is_open failed old.mode old.plan later sink new.sink reason
     took_by stop.Memory k = took_some (k.1 start events h).0
     took_by stop.Write k = took_some (k.1 start events h).0
     took_by (stop.Rows u row reason) k =
-        took_front _ (k.2 start events h).0 (λ plan columns given why rows faults table. record { given = given; faults = faults; table = inl table; all = inl why.all })
+        took_front _ (k.2 start events h).0
+        (λ plan columns given why rows faults table. record { given = given; faults = faults; table = inl table; all = inl why.all })
     took_by (stop.Table u row reason) k =
         took_front _ (k.2 start events h).0
         (λ plan columns given why rows faults table. record { given = given; faults = faults; table = inl table; all = inr (row, reason, why) })

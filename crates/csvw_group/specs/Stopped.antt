@@ -18,7 +18,8 @@ pub record TookAll {S : Type 0} (gains : S → List Triple → S → Type 0) (m 
 
 -- Triples up to the last call, whose sink was ready, and a front of more in that call, of whose last only a part where the device
 -- failed; whichever front that is, with the triples before it stands what is left of the graph.
-pub record TookSome {S : Type 0} (gains : S → List Triple → S → Type 0) (is_open : S → Bool) (failed : S → ℕ) (m : Mode) (plan : Plan) (events : List Event) (sink now : S) : Type 0 where
+pub record TookSome {S : Type 0} (gains : S → List Triple → S → Type 0) (is_open : S → Bool) (failed : S → ℕ) (m : Mode) (plan : Plan)
+    (events : List Event) (sink now : S) : Type 0 where
   pub taken : List Triple
   pub middle : S
   pub gained : gains sink taken middle

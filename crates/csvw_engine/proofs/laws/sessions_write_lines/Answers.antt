@@ -1,6 +1,6 @@
 -- By the lines of triples.
-use Rattle.std.proofs.Common.{◌≡◌, refl, true}
-use Rattle.csvw_ntriples.specs.NtSink.{sink_is_open, sink_out}
+use Rattle.std.proofs.Common.{refl}
+use Rattle.csvw_ntriples.specs.NtSink.{sink_out}
 use Rattle.csvw_engine.specs.Lines.{writer_of}
 use Rattle.csvw_engine.proofs.Writing.{LineLaws, streams_of, all_written, lacking, failing}
 use Rattle.csvw_engine.proofs.laws.sessions_write_lines.Goals as goal
