@@ -7,6 +7,7 @@ use Rattle.csvw_text.specs.Streams.{Stream}
 use Rattle.csvw_engine.specs.Runs.{Runs}
 use Rattle.csvw.specs.Groups.{ComesToEnd, EndsSo, StopsEarly, Leaves, conversion}
 use Rattle.csvw.proofs.Sending.{stream}
+use Rattle.csvw_meta.specs.Document.{document}
 
 pub ends : (L : Stream → Result Outcome Stop → Type 0) (a b c : Option (List ℕ)) (n m k : ℕ) (r : Result Outcome Stop) (status : ℕ)
     → L (stream a b n m) r → EndsSo r (stream b c m k) status → ComesToEnd L (stream a c n k) status ⊎ StopsEarly L (stream a c n k) status
@@ -25,6 +26,6 @@ ends L a b c n m k (Err reason) status leaves end = inr (record {
 
 -- what a conversion leaves, its graph on `out` in both modes
 pub converts : {R : Type 0} (remaining : R → Option (List ℕ)) (minimal : Bool) (meta base : List ℕ) (readers left : List (Counted R)) (out err : Stream) (result : Result Outcome Stop)
-    → Runs remaining meta base (conversion minimal) readers left out err result → Leaves remaining (conversion minimal) meta base readers left out err result
+    → Runs remaining (document base meta) (conversion minimal) readers left out err result → Leaves remaining (conversion minimal) meta base readers left out err result
 converts remaining true meta base readers left out err result h = h
 converts remaining false meta base readers left out err result h = h

@@ -13,6 +13,7 @@ use Rattle.csvw_engine.specs.Runs.{Runs}
 use Rattle.csvw_words.specs.declared.Group.{Group}
 use Rattle.csvw.specs.Answers.{TellsStop}
 use Rattle.csvw.specs.Status.{outcome_status}
+use Rattle.csvw_meta.specs.Document.{document}
 
 -- the bytes that a reader has, as far as they show whether a document is too long, which is at most 2^20 bytes
 abbrev pub IsDocument : Option (List ℕ) → List ℕ → Type 0
@@ -108,9 +109,9 @@ pub record StopsEarly (Leaves : Stream → Result Outcome Stop → Type 0) (err 
 
 -- The graph goes to `out`, and the report to `err`; where there is no graph, the report goes to `out`.
 abbrev pub Leaves : {R : Type 0} → (R → Option (List ℕ)) → Mode → List ℕ → List ℕ → List (Counted R) → List (Counted R) → Stream → Stream → Result Outcome Stop → Type 0
-Leaves remaining mode.Validate meta base readers left out err result = Runs remaining meta base mode.Validate readers left err out result
-Leaves remaining mode.Minimal meta base readers left out err result = Runs remaining meta base mode.Minimal readers left out err result
-Leaves remaining mode.Standard meta base readers left out err result = Runs remaining meta base mode.Standard readers left out err result
+Leaves remaining mode.Validate meta base readers left out err result = Runs remaining (document base meta) mode.Validate readers left err out result
+Leaves remaining mode.Minimal meta base readers left out err result = Runs remaining (document base meta) mode.Minimal readers left out err result
+Leaves remaining mode.Standard meta base readers left out err result = Runs remaining (document base meta) mode.Standard readers left out err result
 
 -- the mode of a conversion, minimal or not
 abbrev pub conversion : Bool → Mode

@@ -4,6 +4,7 @@ ghost use Rattle.csvw.specs.Groups.{EndsSo, IsDocument, IsReadStop, OpensAll, Op
 ghost use Rattle.csvw_engine.specs.Runs.{Runs};
 ghost use Rattle.csvw_text.specs.Streams.{stream_of};
 ghost use Rattle.csvw_triples_core.specs.declared.mode.Mode.TheVariants as mode;
+ghost use Rattle.csvw_meta.specs.Document.{document};
 
 use crate::opener::Opener;
 use crate::tell::{outcome_status, tell_stop};
@@ -109,7 +110,7 @@ fn run_over<R: Read, W: Write, V: Write>(
     out: &mut Counted<W>,
     report: &mut Counted<V>,
 ) -> Result<Outcome, Stop>
-    ensures { Runs R.remaining asked.entry.meta.now asked.entry.base.now asked.entry.mode readers.old readers.new
+    ensures { Runs R.remaining (document asked.entry.base.now asked.entry.meta.now) asked.entry.mode readers.old readers.new
         (stream_of W.contents out.old out.new) (stream_of V.contents report.old report.new) result }
 {
     let Asked {

@@ -22,8 +22,9 @@ use Rattle.csvw_engine.specs.Planning.{IsMetaStop}
 use Rattle.csvw_engine.specs.Reporting.{Reports, TellsOutcome}
 use Rattle.csvw_engine.specs.Runs.{Halts, IsPlanned, IsReason, IsSound, Succeeds, StopsSo, WriteFails, Wrote, WroteGraph, WroteGroup, Rises}
 use Rattle.csvw_engine.specs.Stopped.{Added, Leaves, WroteAll, WroteLines, WroteSome}
-use Rattle.csvw_meta.specs.Document.{document}
 use Rattle.csvw_engine.proofs.Flushing.{appends_kept, rose}
+use Rattle.csvw_meta_core.specs.Read.{Read}
+use Rattle.csvw_description.specs.declared.description.Description.{Description}
 
 -- a stream, after a flush
 abbrev pub flushed : Stream → Option (List ℕ) → ℕ → Stream
@@ -76,21 +77,21 @@ no_stop reason outcome told result old new t r (inl (e, n)) = never outcome reas
 no_stop reason outcome told result old new t r (inr (apart, e, n)) = never outcome stop.Write result e r
 
 -- the document was refused
-pub refused : {R : Type 0} (remaining : R → Option (List ℕ)) (meta base : List ℕ) (m : Mode) (olds : List (Counted R)) (out report_out : Stream) (reason : Stop) → IsIdle out → IsIdle report_out
-    → IsMetaStop (document base meta).faults reason → StopsSo remaining meta base m olds olds out report_out reason
-refused remaining meta base m olds out report_out stop.Memory p q h = inl (refl, p, q)
-refused remaining meta base m olds out report_out (stop.Meta fault) p q h = (h, p, q)
-refused remaining meta base m olds out report_out stop.Read p q h = absurd h
-refused remaining meta base m olds out report_out stop.Write p q h = absurd h
-refused remaining meta base m olds out report_out stop.TableCount p q h = absurd h
-refused remaining meta base m olds out report_out (stop.Rows t row reason) p q h = absurd h
-refused remaining meta base m olds out report_out (stop.Table t row reason) p q h = absurd h
-refused remaining meta base m olds out report_out stop.UnknownTable p q h = absurd h
-refused remaining meta base m olds out report_out stop.AfterEnd p q h = absurd h
-refused remaining meta base m olds out report_out stop.NotEnded p q h = absurd h
-refused remaining meta base m olds out report_out stop.Failed p q h = absurd h
+pub refused : {R : Type 0} (remaining : R → Option (List ℕ)) (described : Read Description) (m : Mode) (olds : List (Counted R)) (out report_out : Stream) (reason : Stop) → IsIdle out → IsIdle report_out
+    → IsMetaStop described.faults reason → StopsSo remaining described m olds olds out report_out reason
+refused remaining described m olds out report_out stop.Memory p q h = inl (refl, p, q)
+refused remaining described m olds out report_out (stop.Meta fault) p q h = (h, p, q)
+refused remaining described m olds out report_out stop.Read p q h = absurd h
+refused remaining described m olds out report_out stop.Write p q h = absurd h
+refused remaining described m olds out report_out stop.TableCount p q h = absurd h
+refused remaining described m olds out report_out (stop.Rows t row reason) p q h = absurd h
+refused remaining described m olds out report_out (stop.Table t row reason) p q h = absurd h
+refused remaining described m olds out report_out stop.UnknownTable p q h = absurd h
+refused remaining described m olds out report_out stop.AfterEnd p q h = absurd h
+refused remaining described m olds out report_out stop.NotEnded p q h = absurd h
+refused remaining described m olds out report_out stop.Failed p q h = absurd h
 
-module _ {R : Type 0} (remaining : R → Option (List ℕ)) (meta base : List ℕ) (m : Mode) (olds news : List (Counted R)) (plan : Plan) (planned : IsPlanned meta base plan) (many : length olds ≡ length plan.tables)
+module _ {R : Type 0} (remaining : R → Option (List ℕ)) (described : Read Description) (m : Mode) (olds news : List (Counted R)) (plan : Plan) (planned : IsPlanned described plan) (many : length olds ≡ length plan.tables)
     (out : Stream) (holds : Option (List ℕ)) (failed : ℕ) (keeps : Keeps out.holds holds) (report_out : Stream) where
   abbrev after : Stream
   after = flushed out holds failed
@@ -133,11 +134,11 @@ module _ {R : Type 0} (remaining : R → Option (List ℕ)) (meta base : List �
   abbrev InTexts : Stop → Type 0
   InTexts reason = TextsSoFar remaining olds news (λ events. IsReason plan olds news reason events × Leaves m plan out reason events)
 
-  halts : (reason : Stop) → InTexts reason → Halts remaining meta base m olds news after reason
+  halts : (reason : Stop) → InTexts reason → Halts remaining described m olds news after reason
   halts reason h = (plan, h.0, record { planned = planned; many = many; gave = h.1 }, (h.2.0, leaves_kept reason h.0 h.2.1))
 
   -- the whole graph
-  group : HaveTables remaining plan olds news (λ tables. Added m out (GraphOf m plan tables) []) → WroteGroup remaining meta base m olds news after
+  group : HaveTables remaining plan olds news (λ tables. Added m out (GraphOf m plan tables) []) → WroteGroup remaining described m olds news after
   group h = record {
     plan = plan;
     planned = planned;
@@ -149,7 +150,7 @@ module _ {R : Type 0} (remaining : R → Option (List ℕ)) (meta base : List �
     added = added_kept (GraphOf m plan h.tables) [] m h.gives;
   }
 
-  whole_group : (outcome : Outcome) → Converts remaining m plan olds news out (Ok outcome) → WroteGroup remaining meta base m olds news after
+  whole_group : (outcome : Outcome) → Converts remaining m plan olds news out (Ok outcome) → WroteGroup remaining described m olds news after
   whole_group outcome h = group (record { texts = h.texts; read = h.read; tables = h.tables; annotated = h.annotated; gives = h.gives.1 })
 
   -- a flush that fails
@@ -161,7 +162,7 @@ module _ {R : Type 0} (remaining : R → Option (List ℕ)) (meta base : List �
   not_memory reason apart h = elim h [ inl s ↦ s | inr w ↦ absurd (apart w.0) ]
 
   kept_stop : (reason : Stop) → failed ≡ out.failed → IsIdle report_out → Converts remaining m plan olds news out (Err reason)
-      → StopsSo remaining meta base m olds news after report_out reason
+      → StopsSo remaining described m olds news after report_out reason
   kept_stop stop.Memory e quiet h = elim h.0 [
     | inl s ↦ inr (inl (halts stop.Memory s, e ∙ h.1, quiet))
     | inr w ↦ inr (inr (group w.1, e ∙ h.1))
@@ -195,9 +196,9 @@ module _ {R : Type 0} (remaining : R → Option (List ℕ)) (meta base : List �
   -- an answer that is a stop
   abbrev StopsWith : Result Outcome Stop → Type 0
   StopsWith (Ok outcome) = Unit {0}
-  StopsWith (Err reason) = StopsSo remaining meta base m olds news after report_out reason
+  StopsWith (Err reason) = StopsSo remaining described m olds news after report_out reason
 
-  unflushed : (reason : Stop) → Converts remaining m plan olds news out (Err reason) → IsIdle report_out → Rises after → WriteFails remaining meta base m olds news after report_out
+  unflushed : (reason : Stop) → Converts remaining m plan olds news out (Err reason) → IsIdle report_out → Rises after → WriteFails remaining described m olds news after report_out
   unflushed reason h quiet fails = elim h.0 [
     | inl s ↦ inl ((reason, halts reason s), fails, quiet)
     | inr w ↦ inr (group w.1, inl fails)
@@ -222,7 +223,7 @@ module _ {R : Type 0} (remaining : R → Option (List ℕ)) (meta base : List �
   stops (Err reason) told result h t f = behind_stop reason result h t.1 (subst (λ z. IsFlushed z result out.failed failed) t.0 f)
 
   succeeded : (outcome : Outcome) → Converts remaining m plan olds news out (Ok outcome) → failed ≡ out.failed → Sends report_out (report outcome.faults)
-      → Succeeds remaining meta base m olds news after report_out outcome
+      → Succeeds remaining described m olds news after report_out outcome
   succeeded outcome h e s = record {
     plan = plan;
     planned = planned;
@@ -238,31 +239,31 @@ module _ {R : Type 0} (remaining : R → Option (List ℕ)) (meta base : List �
   }
 
   reported : (outcome first : Outcome) (told result : Result Outcome Stop) → result ≡ Ok outcome → Converts remaining m plan olds news out (Ok first) → TellsOutcome first report_out told
-      → IsFlushed told result out.failed failed → Succeeds remaining meta base m olds news after report_out outcome
+      → IsFlushed told result out.failed failed → Succeeds remaining described m olds news after report_out outcome
   reported outcome first told result r h t f =
       let k = told_ok outcome first report_out told result out.failed failed r t f in
-      subst (λ z. Succeeds remaining meta base m olds news after report_out z) k.same (succeeded first h k.steady k.sent)
+      subst (λ z. Succeeds remaining described m olds news after report_out z) k.same (succeeded first h k.steady k.sent)
 
   pub succeeds : (ran told result : Result Outcome Stop) (outcome : Outcome) → result ≡ Ok outcome → Converts remaining m plan olds news out ran → Reports ran report_out told
-      → IsFlushed told result out.failed failed → Succeeds remaining meta base m olds news after report_out outcome
+      → IsFlushed told result out.failed failed → Succeeds remaining described m olds news after report_out outcome
   succeeds (Ok first) told result outcome r h t f = reported outcome first told result r h t f
   succeeds (Err reason) told result outcome r h t f = absurd (no_stop reason outcome told result out.failed failed t.0 r f)
 
   -- the whole graph was written, and reported
   pub ends_whole : (ran told result : Result Outcome Stop) (outcome : Outcome) → result ≡ Ok outcome → Converts remaining m plan olds news out ran
-      → Reports ran report_out told → IsFlushed told result out.failed failed → WroteGroup remaining meta base m olds news after × IsSound report_out
+      → Reports ran report_out told → IsFlushed told result out.failed failed → WroteGroup remaining described m olds news after × IsSound report_out
   ends_whole (Ok first) told result outcome r h t f =
       let k = told_ok outcome first report_out told result out.failed failed r t f in (whole_group first h, k.sent.1)
   ends_whole (Err reason) told result outcome r h t f = absurd (no_stop reason outcome told result out.failed failed t.0 r f)
 
   pub stops_with : (ran told result : Result Outcome Stop) (reason : Stop) → result ≡ Err reason → Converts remaining m plan olds news out ran → Reports ran report_out told → IsFlushed told result out.failed failed
-      → StopsSo remaining meta base m olds news after report_out reason
+      → StopsSo remaining described m olds news after report_out reason
   stops_with ran told result reason r h t f = subst StopsWith r (stops ran told result h t f)
 
 -- the report was flushed
-pub report_kept : {R : Type 0} (remaining : R → Option (List ℕ)) (meta base : List ℕ) (m : Mode) (olds news : List (Counted R)) (out report_out : Stream) (outcome : Outcome) (holds : Option (List ℕ)) (failed : ℕ)
-    → Keeps report_out.holds holds → failed ≡ report_out.failed → Succeeds remaining meta base m olds news out report_out outcome → Succeeds remaining meta base m olds news out (flushed report_out holds failed) outcome
-report_kept remaining meta base m olds news out report_out outcome holds failed keeps e h = record {
+pub report_kept : {R : Type 0} (remaining : R → Option (List ℕ)) (described : Read Description) (m : Mode) (olds news : List (Counted R)) (out report_out : Stream) (outcome : Outcome) (holds : Option (List ℕ)) (failed : ℕ)
+    → Keeps report_out.holds holds → failed ≡ report_out.failed → Succeeds remaining described m olds news out report_out outcome → Succeeds remaining described m olds news out (flushed report_out holds failed) outcome
+report_kept remaining described m olds news out report_out outcome holds failed keeps e h = record {
   plan = h.plan;
   planned = h.planned;
   many = h.many;
@@ -277,8 +278,8 @@ report_kept remaining meta base m olds news out report_out outcome holds failed 
 }
 
 -- the flush of the report failed, behind the whole graph
-pub report_unsent : {R : Type 0} (remaining : R → Option (List ℕ)) (meta base : List ℕ) (m : Mode) (olds news : List (Counted R)) (out report_out : Stream)
+pub report_unsent : {R : Type 0} (remaining : R → Option (List ℕ)) (described : Read Description) (m : Mode) (olds news : List (Counted R)) (out report_out : Stream)
     (holds : Option (List ℕ)) (failed : ℕ) (reason : Stop) → reason ≡ stop.Write → failed ≡ one_more report_out.failed → IsSound report_out
-    → WroteGroup remaining meta base m olds news out → StopsSo remaining meta base m olds news out (flushed report_out holds failed) reason
-report_unsent remaining meta base m olds news out report_out holds failed reason is more sound group =
+    → WroteGroup remaining described m olds news out → StopsSo remaining described m olds news out (flushed report_out holds failed) reason
+report_unsent remaining described m olds news out report_out holds failed reason is more sound group =
     rw is (inr (group, inr (rose report_out.failures report_out.failed failed sound more)))

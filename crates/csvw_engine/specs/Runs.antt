@@ -7,8 +7,7 @@ use Rattle.csvw_text.specs.Streams.{Stream, Sends, IsIdle}
 use Rattle.csvw_rows.specs.RowValue.{Given}
 use Rattle.csvw_rows.specs.declared.stop.RowStop.{RowStop}
 use Rattle.csvw_description.specs.declared.description.Description.{Description}
-use Rattle.csvw_meta_core.specs.Read.{fine}
-use Rattle.csvw_meta.specs.Document.{document}
+use Rattle.csvw_meta_core.specs.Read.{Read, fine}
 use Rattle.csvw_columns_core.specs.declared.columns.Columns.{Columns}
 use Rattle.csvw_columns.specs.PlanOf.{plan_of}
 use Rattle.csvw_columns.specs.declared.plan.Plan.{Plan}
@@ -43,10 +42,10 @@ Rises s = s.failures < 2 ^ 64 - 1 → s.failed ≡ s.failures + 1
 abbrev pub IsSound : Stream → Type 0
 IsSound s = s.failed ≡ s.failures
 
--- the document at this URL describes the group of this plan
-pub record IsPlanned (meta base : List ℕ) (plan : Plan) : Type 0 where
+-- what is described is the group of this plan
+pub record IsPlanned (described : Read Description) (plan : Plan) : Type 0 where
   pub description : Description
-  pub described : document base meta ≡ fine description
+  pub is_described : described ≡ fine description
   pub planned : plan ≡ plan_of description
 
 -- the bytes that the writer gained denote the graph, with a name of its own for each blank node
@@ -67,11 +66,11 @@ Wrote mode.Standard out plan tables = WroteGraph out (GraphOf mode.Standard plan
 abbrev pub ReadWhole : {R : Type 0} → (R → Option (List ℕ)) → List (Counted R) → List (Counted R) → (ℕ → List ℕ) → Type 0
 ReadWhole {R} remaining olds news texts = (i : ℕ) (r s : Counted R) → slice_get olds i ≡ Some r → slice_get news i ≡ Some s → Gave remaining r s (texts i) true
 
--- The texts of the readers are the annotated tables of the group that the document describes; their graph was written, their
+-- The texts of the readers are the annotated tables of the group that is described; their graph was written, their
 -- violations told and reported, and nothing failed.
-pub record Succeeds {R : Type 0} (remaining : R → Option (List ℕ)) (meta base : List ℕ) (mode : Mode) (olds news : List (Counted R)) (out report_out : Stream) (outcome : Outcome) : Type 0 where
+pub record Succeeds {R : Type 0} (remaining : R → Option (List ℕ)) (described : Read Description) (mode : Mode) (olds news : List (Counted R)) (out report_out : Stream) (outcome : Outcome) : Type 0 where
   pub plan : Plan
-  pub planned : IsPlanned meta base plan
+  pub planned : IsPlanned described plan
   pub many : length olds ≡ length plan.tables
   pub texts : ℕ → List ℕ
   pub read : ReadWhole remaining olds news texts
@@ -83,8 +82,8 @@ pub record Succeeds {R : Type 0} (remaining : R → Option (List ℕ)) (meta bas
   pub reported : Sends report_out (report outcome.faults)
 
 -- the texts so far of the tables of the group
-pub record ReadsGroup {R : Type 0} (remaining : R → Option (List ℕ)) (meta base : List ℕ) (olds news : List (Counted R)) (plan : Plan) (events : List Event) : Type 0 where
-  pub planned : IsPlanned meta base plan
+pub record ReadsGroup {R : Type 0} (remaining : R → Option (List ℕ)) (described : Read Description) (olds news : List (Counted R)) (plan : Plan) (events : List Event) : Type 0 where
+  pub planned : IsPlanned described plan
   pub many : length olds ≡ length plan.tables
   pub gave : GaveTexts remaining olds news events
 
@@ -111,8 +110,8 @@ pub record RefusedInText (plan : Plan) (events : List Event) (t row : ℕ) (reas
   pub refused : IsRefusedHere table columns (text_of events t) (ended_in events t) given row reason
 
 -- the texts so far, of which this holds
-abbrev pub SoFar : {R : Type 0} → (R → Option (List ℕ)) → List ℕ → List ℕ → List (Counted R) → List (Counted R) → (Plan → List Event → Type 0) → Type 0
-SoFar remaining meta base olds news P = (plan : Plan) × (events : List Event) × ReadsGroup remaining meta base olds news plan events × P plan events
+abbrev pub SoFar : {R : Type 0} → (R → Option (List ℕ)) → Read Description → List (Counted R) → List (Counted R) → (Plan → List Event → Type 0) → Type 0
+SoFar remaining described olds news P = (plan : Plan) × (events : List Event) × ReadsGroup remaining described olds news plan events × P plan events
 
 -- why the tables stop behind these events; of want of memory and of a failed write nothing is said here
 abbrev pub IsReason : {R : Type 0} → Plan → List (Counted R) → List (Counted R) → Stop → List Event → Type 0
@@ -129,15 +128,15 @@ IsReason plan olds news stop.NotEnded events = ⊥
 IsReason plan olds news stop.Failed events = ⊥
 
 -- behind the texts so far there is this reason to stop, and what was written of their graph is as it leaves it
-abbrev pub Halts : {R : Type 0} → (R → Option (List ℕ)) → List ℕ → List ℕ → Mode → List (Counted R) → List (Counted R) → Stream → Stop → Type 0
-Halts remaining meta base mode olds news out reason =
-    SoFar remaining meta base olds news (λ plan events. IsReason plan olds news reason events × Leaves mode plan out reason events)
+abbrev pub Halts : {R : Type 0} → (R → Option (List ℕ)) → Read Description → Mode → List (Counted R) → List (Counted R) → Stream → Stop → Type 0
+Halts remaining described mode olds news out reason =
+    SoFar remaining described olds news (λ plan events. IsReason plan olds news reason events × Leaves mode plan out reason events)
 
--- the texts of the readers are the annotated tables of the group that the document describes, and their whole graph was written
-pub record WroteGroup {R : Type 0} (remaining : R → Option (List ℕ)) (meta base : List ℕ) (mode : Mode) (olds news : List (Counted R))
+-- the texts of the readers are the annotated tables of the group that is described, and their whole graph was written
+pub record WroteGroup {R : Type 0} (remaining : R → Option (List ℕ)) (described : Read Description) (mode : Mode) (olds news : List (Counted R))
     (out : Stream) : Type 0 where
   pub plan : Plan
-  pub planned : IsPlanned meta base plan
+  pub planned : IsPlanned described plan
   pub many : length olds ≡ length plan.tables
   pub texts : ℕ → List ℕ
   pub read : ReadWhole remaining olds news texts
@@ -150,45 +149,45 @@ abbrev pub IsUntouched : {R : Type 0} → List (Counted R) → List (Counted R) 
 IsUntouched olds news out report_out = (news ≡ olds) × IsIdle out × IsIdle report_out
 
 -- there was no memory: before the tables, in one of them, or behind the whole graph; no write to `out` failed
-abbrev pub LacksMemory : {R : Type 0} → (R → Option (List ℕ)) → List ℕ → List ℕ → Mode → List (Counted R) → List (Counted R) → Stream → Stream → Type 0
-LacksMemory remaining meta base mode olds news out report_out =
+abbrev pub LacksMemory : {R : Type 0} → (R → Option (List ℕ)) → Read Description → Mode → List (Counted R) → List (Counted R) → Stream → Stream → Type 0
+LacksMemory remaining described mode olds news out report_out =
     IsUntouched olds news out report_out
-    ⊎ ((Halts remaining meta base mode olds news out stop.Memory × IsSound out × IsIdle report_out)
-    ⊎ (WroteGroup remaining meta base mode olds news out × IsSound out))
+    ⊎ ((Halts remaining described mode olds news out stop.Memory × IsSound out × IsIdle report_out)
+    ⊎ (WroteGroup remaining described mode olds news out × IsSound out))
 
 -- a write failed: of `out` within a line or between two, or in the flush behind a stop; or a flush or the report behind the whole graph
-abbrev pub WriteFails : {R : Type 0} → (R → Option (List ℕ)) → List ℕ → List ℕ → Mode → List (Counted R) → List (Counted R) → Stream → Stream → Type 0
-WriteFails remaining meta base mode olds news out report_out =
-    (((reason : Stop) × Halts remaining meta base mode olds news out reason) × Rises out × IsIdle report_out)
-    ⊎ (WroteGroup remaining meta base mode olds news out × (Rises out ⊎ Rises report_out))
+abbrev pub WriteFails : {R : Type 0} → (R → Option (List ℕ)) → Read Description → Mode → List (Counted R) → List (Counted R) → Stream → Stream → Type 0
+WriteFails remaining described mode olds news out report_out =
+    (((reason : Stop) × Halts remaining described mode olds news out reason) × Rises out × IsIdle report_out)
+    ⊎ (WroteGroup remaining described mode olds news out × (Rises out ⊎ Rises report_out))
 
 -- readers and tables differ in number
-pub record Differ {R : Type 0} (meta base : List ℕ) (olds : List (Counted R)) : Type 0 where
+pub record Differ {R : Type 0} (described : Read Description) (olds : List (Counted R)) : Type 0 where
   pub plan : Plan
-  pub planned : IsPlanned meta base plan
+  pub planned : IsPlanned described plan
   pub apart : length olds ≢ length plan.tables
 
 -- why a run stops, and what it has written by then
-abbrev pub StopsSo : {R : Type 0} → (R → Option (List ℕ)) → List ℕ → List ℕ → Mode → List (Counted R) → List (Counted R) → Stream → Stream → Stop → Type 0
-StopsSo remaining meta base mode olds news out report_out stop.Memory = LacksMemory remaining meta base mode olds news out report_out
-StopsSo remaining meta base mode olds news out report_out stop.Write = WriteFails remaining meta base mode olds news out report_out
-StopsSo remaining meta base mode olds news out report_out stop.Read =
-    SoFar remaining meta base olds news (λ plan events. (OneFailed olds news ⊎ AreMany events) × WroteAll mode plan out events)
+abbrev pub StopsSo : {R : Type 0} → (R → Option (List ℕ)) → Read Description → Mode → List (Counted R) → List (Counted R) → Stream → Stream → Stop → Type 0
+StopsSo remaining described mode olds news out report_out stop.Memory = LacksMemory remaining described mode olds news out report_out
+StopsSo remaining described mode olds news out report_out stop.Write = WriteFails remaining described mode olds news out report_out
+StopsSo remaining described mode olds news out report_out stop.Read =
+    SoFar remaining described olds news (λ plan events. (OneFailed olds news ⊎ AreMany events) × WroteAll mode plan out events)
     × IsSound out × IsIdle report_out
-StopsSo remaining meta base mode olds news out report_out (stop.Rows t row reason) =
-    SoFar remaining meta base olds news (λ plan events. StopsInText plan events t row reason × WroteAll mode plan out events)
+StopsSo remaining described mode olds news out report_out (stop.Rows t row reason) =
+    SoFar remaining described olds news (λ plan events. StopsInText plan events t row reason × WroteAll mode plan out events)
     × IsSound out × IsIdle report_out
-StopsSo remaining meta base mode olds news out report_out (stop.Table t row reason) =
-    SoFar remaining meta base olds news (λ plan events. RefusedInText plan events t row reason × WroteAll mode plan out events)
+StopsSo remaining described mode olds news out report_out (stop.Table t row reason) =
+    SoFar remaining described olds news (λ plan events. RefusedInText plan events t row reason × WroteAll mode plan out events)
     × IsSound out × IsIdle report_out
-StopsSo remaining meta base mode olds news out report_out (stop.Meta fault) = Contains (document base meta).faults fault × IsIdle out × IsIdle report_out
-StopsSo remaining meta base mode olds news out report_out stop.TableCount = Differ meta base olds × IsIdle out × IsIdle report_out
-StopsSo remaining meta base mode olds news out report_out stop.UnknownTable = ⊥
-StopsSo remaining meta base mode olds news out report_out stop.AfterEnd = ⊥
-StopsSo remaining meta base mode olds news out report_out stop.NotEnded = ⊥
-StopsSo remaining meta base mode olds news out report_out stop.Failed = ⊥
+StopsSo remaining described mode olds news out report_out (stop.Meta fault) = Contains described.faults fault × IsIdle out × IsIdle report_out
+StopsSo remaining described mode olds news out report_out stop.TableCount = Differ described olds × IsIdle out × IsIdle report_out
+StopsSo remaining described mode olds news out report_out stop.UnknownTable = ⊥
+StopsSo remaining described mode olds news out report_out stop.AfterEnd = ⊥
+StopsSo remaining described mode olds news out report_out stop.NotEnded = ⊥
+StopsSo remaining described mode olds news out report_out stop.Failed = ⊥
 
 -- what a run over the document and the readers leaves, by its answer
-abbrev pub Runs : {R : Type 0} → (R → Option (List ℕ)) → List ℕ → List ℕ → Mode → List (Counted R) → List (Counted R) → Stream → Stream → Result Outcome Stop → Type 0
-Runs remaining meta base mode olds news out report_out (Ok outcome) = Succeeds remaining meta base mode olds news out report_out outcome
-Runs remaining meta base mode olds news out report_out (Err reason) = StopsSo remaining meta base mode olds news out report_out reason
+abbrev pub Runs : {R : Type 0} → (R → Option (List ℕ)) → Read Description → Mode → List (Counted R) → List (Counted R) → Stream → Stream → Result Outcome Stop → Type 0
+Runs remaining described mode olds news out report_out (Ok outcome) = Succeeds remaining described mode olds news out report_out outcome
+Runs remaining described mode olds news out report_out (Err reason) = StopsSo remaining described mode olds news out report_out reason

@@ -25,7 +25,7 @@ fn meta_stop(fault: MetaFault) -> Stop
 
 /// The plan of the group that a document at this URL describes.
 pub(crate) fn planned(alloc: Global, meta: &[u8], base: &str) -> Result<Plan, Stop>
-    ensures plan { IfOk result (λ plan. IsPlanned meta.now base.now plan) }
+    ensures plan { IfOk result (λ plan. IsPlanned (document base.now meta.now) plan) }
     ensures ready { IfOk result (λ plan. AreReady plan.tables) }
     ensures numbered { IfOk result (λ plan. AreNumbered plan.tables) }
     ensures few { IfOk result (λ plan. length plan.tables ≤ 64) }

@@ -3,6 +3,7 @@ ghost use Rattle.std.specs.Prelude.{◌≡◌};
 ghost use Rattle.csvw_text.specs.Streams.{stream_of};
 ghost use Rattle.csvw_engine.specs.Reporting.{Reports};
 ghost use Rattle.csvw_engine.specs.Runs.{Runs};
+ghost use Rattle.csvw_meta.specs.Document.{document};
 
 use crate::flush::{flush, flush_behind};
 use crate::group::{Way, convert_tables};
@@ -50,7 +51,7 @@ fn run_in<R: Read, W: Write, V: Write>(
     out: &mut Counted<W>,
     report: &mut Counted<V>,
 ) -> Result<Outcome, Stop>
-    ensures { Runs R.remaining asked.entry.meta.now asked.entry.base.now asked.entry.way.mode readers.old readers.new
+    ensures { Runs R.remaining (document asked.entry.base.now asked.entry.meta.now) asked.entry.way.mode readers.old readers.new
         (stream_of W.contents out.old out.new) (stream_of V.contents report.old report.new) result }
 {
     let plan = planned(alloc, asked.meta, asked.base)?;
@@ -82,7 +83,7 @@ pub fn run<R: Read, W: Write, V: Write>(
     out: &mut Counted<W>,
     report: &mut Counted<V>,
 ) -> Result<Outcome, Stop>
-    ensures { Runs R.remaining meta.now base.now mode readers.old readers.new
+    ensures { Runs R.remaining (document base.now meta.now) mode readers.old readers.new
         (stream_of W.contents out.old out.new) (stream_of V.contents report.old report.new) result }
 {
     let way = Way {
@@ -103,7 +104,7 @@ pub fn run_turns<R: Read, W: Write, V: Write>(
     out: &mut Counted<W>,
     report: &mut Counted<V>,
 ) -> Result<Outcome, Stop>
-    ensures { Runs R.remaining meta.now base.now mode readers.old readers.new
+    ensures { Runs R.remaining (document base.now meta.now) mode readers.old readers.new
         (stream_of W.contents out.old out.new) (stream_of V.contents report.old report.new) result }
 {
     let way = Way {

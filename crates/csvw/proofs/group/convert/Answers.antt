@@ -7,6 +7,7 @@ use Rattle.csvw.specs.Groups.{Leaves, conversion}
 use Rattle.csvw.proofs.Ending.{ends, converts}
 use Rattle.csvw.proofs.Opening.{opened_as}
 use Rattle.csvw.proofs.group.convert.Goals as goal
+use Rattle.csvw_meta.specs.Document.{document}
 
 pub returns-in-Ok-clause-runs : goal.returns-in-Ok-clause-runs
 returns-in-Ok-clause-runs g c =
@@ -26,7 +27,7 @@ returns-in-Ok-clause-runs g c =
           (told (inner_of c.args.err.now)) (told (inner_of c.run_over-ran.new.report)) (told (inner_of c.tell_end.new.err)) (failures_of c.args.err.now) (failures_of c.run_over-ran.new.report) (failures_of c.tell_end.new.err)
           c.run_over-ran.result c.tell_end.result
           (converts g.O.Reader.Read.remaining c.args.minimal bytes c.args.group.now.base.now readers c.run_over-ran.new.readers out (stream_of told c.args.err.now c.run_over-ran.new.report) c.run_over-ran.result
-          (subst (λ m. Runs g.O.Reader.Read.remaining bytes c.args.group.now.base.now m readers c.run_over-ran.new.readers out (stream_of told c.args.err.now c.run_over-ran.new.report) c.run_over-ran.result)
+          (subst (λ m. Runs g.O.Reader.Read.remaining (document c.args.group.now.base.now bytes) m readers c.run_over-ran.new.readers out (stream_of told c.args.err.now c.run_over-ran.new.report) c.run_over-ran.result)
           c.conversion.ensures c.run_over-ran.ensures))
           c.tell_end.ensures.end;
     })
