@@ -1,5 +1,5 @@
 -- What one run of the program does.
-use Rattle.std.specs.Prelude.{◌≡◌, ◌⊎◌, ◌<◌, ◌≤◌, ℕ, List, [], Option, None, Some}
+use Rattle.std.specs.Prelude.{◌≡◌, ◌⊎◌, ◌<◌, ◌≤◌, ℕ, List, [], ◌∷◌, Option, None, Some}
 use Rattle.clap.specs.Words.{HasKind, Text, fault_of, kind_of}
 use Rattle.clap.specs.declared.error.Error.{Error}
 use Rattle.csvw_session.specs.declared.stop.Stop.TheVariants as stop
@@ -7,35 +7,28 @@ use Rattle.csvw_triples_core.specs.declared.mode.Mode.TheVariants as mode
 use Rattle.csvw_words.specs.Asked.{Asks, program_app}
 use Rattle.csvw_words.specs.declared.Request.{Request}
 use Rattle.csvw_words.specs.declared.Request.TheVariants.{Convert, Plain, Validate}
-use Rattle.csvw_engine.specs.Plain.{Run, RunsTable}
+use Rattle.csvw_meta.specs.UrlAlone.{plain_description}
+use Rattle.csvw_engine.specs.Runs.{Runs}
 use Rattle.csvw.specs.Answers.{Answers, TellsMistake, TellsStop}
 use Rattle.csvw.specs.StandardInput.{inputs_of}
 use Rattle.csvw.specs.Groups.{ComesToEnd, RunsGroup, StopsEarly, conversion}
+use Rattle.csvw_text.specs.declared.counted.Counted.{Counted}
+use Rattle.csvw_text.specs.Counted.{inner_of, failures_of}
 use Rattle.csvw_text.specs.Streams.{Stream, IsIdle}
 
--- a run that begins with these bytes to read, at a reader that hasn't failed
-abbrev pub run_from : Option (List ℕ) → Option (List ℕ) → ℕ → Stream → Run
-run_from unread left failed out = record {
-  unread = unread;
-  left = left;
-  input_failures = 0;
-  input_failed = failed;
-  held = out.held;
-  holds = out.holds;
-  out_failures = out.failures;
-  out_failed = out.failed;
-}
-
--- the table at this URL is read and converted; the report goes to `err`
-pub record RunsOver (url : Text) (unread : Option (List ℕ)) (out err : Stream) (status : ℕ) : Type 0 where
-  pub left : Option (List ℕ)
-  pub failed : ℕ
-  pub ends : ComesToEnd (RunsTable url (run_from unread left failed out)) err status ⊎ StopsEarly (RunsTable url (run_from unread left failed out)) err status
+-- the table at this URL is read from a reader that hasn't failed, and converted; the report goes to `err`
+pub record RunsOver {R : Type 0} (remaining : R → Option (List ℕ)) (url : Text) (reader : R) (out err : Stream) (status : ℕ) : Type 0 where
+  pub input : Counted R
+  pub is_reader : inner_of input ≡ reader
+  pub steady : failures_of input ≡ 0
+  pub left : Counted R
+  pub runs : ComesToEnd (Runs remaining (plain_description url) mode.Minimal (input ∷ []) (left ∷ []) out) err status
+      ⊎ StopsEarly (Runs remaining (plain_description url) mode.Minimal (input ∷ []) (left ∷ []) out) err status
 
 -- what follows from the reader that a file's path gave
 abbrev pub RunsOn : {R : Type 0} → (R → Option (List ℕ)) → Text → Stream → Stream → ℕ → Option R → Type 0
 RunsOn remaining url out err status None = IsIdle out × TellsStop stop.Read err status
-RunsOn remaining url out err status (Some reader) = RunsOver url (remaining reader) out err status
+RunsOn remaining url out err status (Some reader) = RunsOver remaining url reader out err status
 
 -- the file is opened, once, and its reader read as the table at this URL
 pub record RunsPlain {O R : Type 0} (opens : O → Text → Option R → O → Type 0) (remaining : R → Option (List ℕ)) (url file : Text) (old new : O) (out err : Stream) (status : ℕ) : Type 0 where

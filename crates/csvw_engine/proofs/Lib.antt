@@ -1,12 +1,7 @@
 pub mod Converting
-pub mod Dialects
-pub mod Draining
 pub mod Ending
 pub mod Flushing
-pub mod Lists
-pub mod Pieces
+pub mod Lone
 pub mod Planning
-pub mod Tables
 pub mod Taking
-pub mod Telling
 pub mod Writing

@@ -1,21 +1,27 @@
 -- The plan of a document, or its fault.
-use Rattle.std.proofs.Common.{◌≡◌, ◌≢◌, ◌≤◌, ◌+◌, ℕ, zero, suc, List, [], ◌∷◌, length, refl, sym, ap, ◌∙◌, subst, arith, inl, inr, Contains, Some, None, Ok}
+use Rattle.std.proofs.Common.{◌≡◌, ◌≢◌, ◌≤◌, ◌+◌, ℕ, zero, suc, List, [], ◌∷◌, length, refl, sym, ap, ◌∙◌, subst, arith, inl, inr, Contains, Some, None, Ok, Err}
 use Rattle.std.specs.Prelude.{slice_get}
 use Rattle.csvw_description.specs.declared.description.Description.{Description}
 use Rattle.csvw_description.specs.declared.table.TableDescription.{TableDescription}
 use Rattle.csvw_meta_core.specs.declared.fault.MetaCode.TheVariants.{Memory}
 use Rattle.csvw_meta_core.specs.declared.fault.MetaFault.{MetaFault}
-use Rattle.csvw_columns.specs.Plannable.{Builds}
+use Rattle.csvw_columns.specs.Plannable.{Builds, IsPlannable}
 use Rattle.csvw_columns.specs.PlanOf.{targets_of, table_plan, table_plans}
 use Rattle.csvw_columns.specs.declared.plan.Plan.{Plan}
 use Rattle.csvw_columns.specs.declared.plan.TablePlan.{TablePlan}
 use Rattle.csvw_session.specs.Sessions.{AreNumbered}
 use Rattle.csvw_session.specs.declared.stop.Stop.{Stop}
+use Rattle.csvw_session.specs.declared.stop.Stop.TheVariants as stop
 use Rattle.csvw_engine.specs.Planning.{IsMetaStop, TellsFault}
 
 pub told : (faults : List MetaFault) (fault : MetaFault) (reason : Stop) → TellsFault fault reason → (fault.code ≢ Memory → Contains faults fault) → IsMetaStop faults reason
 told faults fault reason (inl (c, e)) h = rw e tt
 told faults fault reason (inr (apart, e)) h = rw e (h apart)
+
+-- what can be planned lacks nothing but memory
+pub lacks_memory : (d : Description) (fault : MetaFault) (reason : Stop) → IsPlannable d → Builds d (Err fault) → TellsFault fault reason → reason ≡ stop.Memory
+lacks_memory d fault reason can h (inl (c, e)) = e
+lacks_memory d fault reason can h (inr (apart, e)) = absurd (h.1 apart can)
 
 -- a plan for each table
 as_many : (group d : Description) (n : ℕ) (tables : List TableDescription) → length (table_plans (targets_of group) d n tables) ≡ length tables

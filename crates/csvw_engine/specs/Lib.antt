@@ -1,11 +1,8 @@
 pub mod Flushes
 pub mod Groups
-pub mod Halts
 pub mod Lines
-pub mod Plain
 pub mod Planning
 pub mod Reporting
 pub mod Rooms
 pub mod Runs
 pub mod Stopped
-pub mod Tables

@@ -1,14 +1,19 @@
 //! The plan of the group that a metadata document describes.
-ghost use Rattle.std.specs.Prelude.{◌≤◌, IfOk, IfErr, length};
+ghost use Rattle.std.specs.Prelude.{◌≡◌, ◌≤◌, IfOk, IfErr, length};
+ghost use Rattle.csvw_columns.specs.PlanOf.{plan_of};
+ghost use Rattle.csvw_description.specs.Plannable.{IsPlannable};
 ghost use Rattle.csvw_meta.specs.Document.{document};
+ghost use Rattle.csvw_meta.specs.UrlAlone.{plain_description};
 ghost use Rattle.csvw_session.specs.Ready.{AreReady};
 ghost use Rattle.csvw_session.specs.Sessions.{AreNumbered};
+ghost use Rattle.csvw_session.specs.declared.stop.Stop.TheVariants as stop;
 ghost use Rattle.csvw_engine.specs.Planning.{IsMetaStop, TellsFault};
 ghost use Rattle.csvw_engine.specs.Runs.{IsPlanned};
 
 use csvw_columns::Plan;
 use csvw_columns::laws::described_can_be_planned;
-use csvw_meta::read;
+use csvw_description::Description;
+use csvw_meta::{plain, read};
 use csvw_meta_core::{MetaCode, MetaFault};
 use csvw_session::Stop;
 use csvw_session::laws::built_plans_are_ready;
@@ -23,6 +28,23 @@ fn meta_stop(fault: MetaFault) -> Stop
     }
 }
 
+/// The plan of a description that was read, which lacks nothing but memory.
+fn built(alloc: Global, description: Description) -> Result<Plan, Stop>
+    requires { IsPlannable description }
+    ensures plan { IfOk result (λ plan. plan ≡ plan_of description) }
+    ensures ready { IfOk result (λ plan. AreReady plan.tables) }
+    ensures numbered { IfOk result (λ plan. AreNumbered plan.tables) }
+    ensures few { IfOk result (λ plan. length plan.tables ≤ 64) }
+    ensures memory { IfErr result (λ reason. reason ≡ stop.Memory) }
+{
+    described_can_be_planned();
+    built_plans_are_ready();
+    match Plan::build(alloc, description) {
+        Ok(plan) => Ok(plan),
+        Err(fault) => Err(meta_stop(fault)),
+    }
+}
+
 /// The plan of the group that a document at this URL describes.
 pub(crate) fn planned(alloc: Global, meta: &[u8], base: &str) -> Result<Plan, Stop>
     ensures plan { IfOk result (λ plan. IsPlanned (document base.now meta.now) plan) }
@@ -31,13 +53,22 @@ pub(crate) fn planned(alloc: Global, meta: &[u8], base: &str) -> Result<Plan, St
     ensures few { IfOk result (λ plan. length plan.tables ≤ 64) }
     ensures stop { IfErr result (λ reason. IsMetaStop (document base.now meta.now).faults reason) }
 {
-    described_can_be_planned();
-    built_plans_are_ready();
     match read(alloc, meta, base) {
-        Ok(description) => match Plan::build(alloc, description) {
-            Ok(plan) => Ok(plan),
-            Err(fault) => Err(meta_stop(fault)),
-        },
+        Ok(description) => built(alloc, description),
+        Err(fault) => Err(meta_stop(fault)),
+    }
+}
+
+/// The plan of the table of this URL, without a document.
+pub(crate) fn planned_alone(alloc: Global, url: &str) -> Result<Plan, Stop>
+    ensures plan { IfOk result (λ plan. IsPlanned (plain_description url.now) plan) }
+    ensures ready { IfOk result (λ plan. AreReady plan.tables) }
+    ensures numbered { IfOk result (λ plan. AreNumbered plan.tables) }
+    ensures few { IfOk result (λ plan. length plan.tables ≤ 64) }
+    ensures stop { IfErr result (λ reason. IsMetaStop (plain_description url.now).faults reason) }
+{
+    match plain(alloc, url) {
+        Ok(description) => built(alloc, description),
         Err(fault) => Err(meta_stop(fault)),
     }
 }

@@ -5,7 +5,6 @@ ghost use Rattle.csvw_reading.specs.Reading.{IsSame, Reads};
 ghost use Rattle.csvw_reading.specs.TurnsReading.{AreOpen};
 ghost use Rattle.csvw_engine.specs.Rooms.{IsRoomFor};
 
-use crate::reading::{PIECE, buffer_of};
 use csvw_reading::{read_tables, read_turns};
 use csvw_session::{Session, Stop};
 use csvw_text::Counted;
@@ -29,6 +28,15 @@ pub(crate) struct Room {
     piece: Vec<u8>,
     /// Which tables are open, where they are read in turn.
     going: Option<Vec<bool>>,
+}
+
+/// How many bytes one read takes at most.
+const PIECE: usize = 65_536;
+
+fn buffer_of(alloc: Global, len: usize) -> Result<Vec<u8>, AllocError>
+    ensures { IfOk result (λ v. length v.items ≡ len) }
+{
+    vec![in alloc; 0u8; len]
 }
 
 /// So many times `true`.

@@ -1,20 +1,29 @@
 //! Runs over a group of tables.
-ghost use Rattle.std.specs.Prelude.{◌≡◌};
+ghost use Rattle.std.specs.Prelude.{◌≡◌, ◌≤◌, ◌∷◌, [], length};
+ghost use Rattle.csvw_description.specs.declared.description.Description.{Description as TheDescription};
+ghost use Rattle.csvw_meta_core.specs.Read.{Read as Described};
+ghost use Rattle.csvw_meta.specs.UrlAlone.{plain_description};
+ghost use Rattle.csvw_session.specs.Ready.{AreReady};
+ghost use Rattle.csvw_session.specs.Sessions.{AreNumbered};
+ghost use Rattle.csvw_triples_core.specs.declared.mode.Mode.TheVariants as mode;
 ghost use Rattle.csvw_text.specs.Streams.{stream_of};
 ghost use Rattle.csvw_engine.specs.Reporting.{Reports};
-ghost use Rattle.csvw_engine.specs.Runs.{Runs};
+ghost use Rattle.csvw_engine.specs.Runs.{IsPlanned, Runs};
 ghost use Rattle.csvw_meta.specs.Document.{document};
 
 use crate::flush::{flush, flush_behind};
 use crate::group::{Way, convert_tables};
-use crate::plan::planned;
+use crate::plan::{planned, planned_alone};
 use crate::room::Order;
+use csvw_columns::Plan;
 use csvw_report::{Outcome, ReportStop, write_report};
 use csvw_session::Stop;
 use csvw_text::Counted;
 use csvw_triples_core::Mode;
 use std::alloc::Global;
 use std::io::{Read, Write};
+use std::slice;
+use std_alloc::room::may_hold;
 
 /// Writes the report of what the tables gave, if they were read to their ends.
 pub(crate) fn tell<V: Write>(
@@ -43,6 +52,40 @@ struct Asked<'a> {
     way: Way,
 }
 
+/// A run over the tables of a plan.
+#[derive(Drop)]
+struct PlannedRun {
+    /// The plan of the group.
+    plan: Plan,
+    /// What is written, and how the tables are read.
+    way: Way,
+}
+
+/// Reads the tables of a plan, and writes their graph and report.
+fn run_planned<R: Read, W: Write, V: Write>(
+    alloc: Global,
+    run: PlannedRun,
+    readers: &mut [Counted<R>],
+    out: &mut Counted<W>,
+    report: &mut Counted<V>,
+) -> Result<Outcome, Stop>
+    requires ready { AreReady run.plan.tables }
+    requires numbered { AreNumbered run.plan.tables }
+    requires few { length run.plan.tables ≤ 64 }
+    ensures { (described : Described TheDescription) → IsPlanned described run.plan → Runs R.remaining described run.way.mode readers.old readers.new
+        (stream_of W.contents out.old out.new) (stream_of V.contents report.old report.new) result }
+{
+    let PlannedRun { plan, way } = run;
+    if readers.len() != plan.tables().len() {
+        return Err(Stop::TableCount);
+    }
+    let ran = convert_tables(alloc, plan, way, readers, out);
+    let told = tell(alloc, ran, report);
+    let outcome = flush_behind(out, told)?;
+    flush(report)?;
+    Ok(outcome)
+}
+
 /// Reads a group of tables and writes their graph and report.
 fn run_in<R: Read, W: Write, V: Write>(
     alloc: Global,
@@ -55,14 +98,8 @@ fn run_in<R: Read, W: Write, V: Write>(
         (stream_of W.contents out.old out.new) (stream_of V.contents report.old report.new) result }
 {
     let plan = planned(alloc, asked.meta, asked.base)?;
-    if readers.len() != plan.tables().len() {
-        return Err(Stop::TableCount);
-    }
-    let ran = convert_tables(alloc, plan, asked.way, readers, out);
-    let told = tell(alloc, ran, report);
-    let outcome = flush_behind(out, told)?;
-    flush(report)?;
-    Ok(outcome)
+    let way = asked.way;
+    run_planned(alloc, PlannedRun { plan, way }, readers, out, report)
 }
 
 /// Reads a group of tables, as the metadata document `meta` at the URL `base` describes them: the nth reader has the text of the nth
@@ -112,4 +149,33 @@ pub fn run_turns<R: Read, W: Write, V: Write>(
         order: Order::InTurn,
     };
     run_in(alloc, Asked { meta, base, way }, readers, out, report)
+}
+
+/// Reads one table without a document: its URL is `url`, its dialect the default one, and its header names its columns, whose cells are
+/// strings. It runs as `run` does over a document that has that `url` alone, in mode `Minimal`: the graph of the cells goes to `out`, then
+/// the faults to `report`, `HeaderMissing` where the file has no row.
+///
+/// `Meta` with `BadUrl` or `UrlTooLong` at `/url` where the URL is refused; each other stop comes as in `run`.
+pub fn plain<R: Read, W: Write, V: Write>(
+    alloc: Global,
+    url: &str,
+    input: &mut Counted<R>,
+    out: &mut Counted<W>,
+    report: &mut Counted<V>,
+) -> Result<Outcome, Stop>
+    ensures { Runs R.remaining (plain_description url.now) mode.Minimal (input.old ∷ []) (input.new ∷ [])
+        (stream_of W.contents out.old out.new) (stream_of V.contents report.old report.new) result }
+{
+    let plan = planned_alone(alloc, url)?;
+    let way = Way {
+        mode: Mode::Minimal,
+        order: Order::OneByOne,
+    };
+    let run = PlannedRun { plan, way };
+    // a slice is below 2^63 bytes, as a reader is that is one
+    if !may_hold::<Counted<R>>(1) {
+        return Err(Stop::Memory);
+    }
+    let readers = slice::from_mut(input);
+    run_planned(alloc, run, readers, out, report)
 }

@@ -1,5 +1,6 @@
 -- The reader is that of the file, and what `plain` says of it holds.
 use Rattle.std.proofs.Common.{Some}
+use Rattle.csvw_text.specs.Streams.{stream_of}
 use Rattle.csvw.proofs.Running.{runs_over}
 use Rattle.csvw.proofs.command.run_plain.Goals as goal
 
@@ -7,6 +8,6 @@ pub returns-clause-runs : goal.returns-clause-runs
 returns-clause-runs g c = record {
   opened = Some c.in-Some.reader;
   is_opened = c.in-Some.ensures;
-  runs = runs_over g.O.Reader.Read.remaining g.W.Write.contents g.V.Write.contents c.args.url.now c.new-input.result c.plain-ran.new.input c.in-Some.reader c.args.out.now c.plain-ran.new.out c.args.err.now c.plain-ran.new.report c.tell_end.new.err
-      c.plain-ran.result c.tell_end.result c.new-input.ensures.inner c.new-input.ensures.failures c.plain-ran.ensures c.tell_end.ensures.end;
+  runs = runs_over g.O.Reader.Read.remaining g.V.Write.contents c.args.url.now c.new-input.result c.plain-ran.new.input c.in-Some.reader (stream_of g.W.Write.contents c.args.out.now c.plain-ran.new.out)
+      c.args.err.now c.plain-ran.new.report c.tell_end.new.err c.plain-ran.result c.tell_end.result c.new-input.ensures.inner c.new-input.ensures.failures c.plain-ran.ensures c.tell_end.ensures.end;
 }

@@ -1,2 +1,0 @@
-pub mod Annotated
-pub mod Tables

@@ -1,2 +1,0 @@
-pub mod ColumnLemmas
-pub mod NameLemmas

@@ -1,3 +1,0 @@
-pub mod Columns
-pub mod Name
-pub mod Outcome

@@ -1,5 +1,0 @@
-use Rattle.csvw_plain_triples.proofs.Graphs.{row_graph}
-use Rattle.csvw_plain_triples.proofs.laws.row_triples_are_row_graph.Goals as goal
-
-pub returns : goal.returns
-returns c = row_graph

@@ -1,5 +1,0 @@
-use Rattle.csvw_plain_triples.proofs.Graphs.{table_graph}
-use Rattle.csvw_plain_triples.proofs.laws.rows_triples_are_minimal.Goals as goal
-
-pub returns : goal.returns
-returns c = table_graph

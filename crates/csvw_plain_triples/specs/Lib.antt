@@ -1,2 +1,0 @@
-pub mod Graph
-pub mod RowTriples
