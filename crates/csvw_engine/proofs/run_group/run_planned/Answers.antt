@@ -19,7 +19,7 @@ returns-in_err-outcome g c =
 
 pub returns-in_err-flush : goal.returns-in_err-flush
 returns-in_err-flush g c =
-    let p = err_from_is_err_and c.from_residual.result c.from_residual.ensures.1 in
+    let p = err_from_is_err_and c.from_residual-in_err-flush.result c.from_residual-in_err-flush.ensures.1 in
     let many : length c.args.readers.now ≡ length c.args.run.plan.tables = search rules in
     λ described is.
     let done = ends_whole g.R.Read.remaining described c.args.run.way.mode c.args.readers.now c.convert_tables-ran.new.readers c.args.run.plan is many
