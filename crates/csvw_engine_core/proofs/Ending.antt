@@ -4,13 +4,13 @@ use Rattle.std.proofs.lemmas.List.{take_all, drop_all}
 use Rattle.csvw_rows.specs.Laws.{GivenFirst}
 use Rattle.csvw_rows.specs.RowValue.{Given}
 use Rattle.csvw_columns_core.specs.declared.columns.Columns.{Columns}
-use Rattle.csvw_columns.specs.HeaderMatch.{IsMatch, Matches}
+use Rattle.csvw_columns.specs.HeaderMatch.{IsMatch}
 use Rattle.csvw_columns.specs.declared.plan.TablePlan.{TablePlan}
 use Rattle.csvw_annotate.specs.declared.row.Row.{Row}
 use Rattle.csvw_triples_core.specs.Taking.{IsAsReady}
 use Rattle.csvw_triples_core.specs.declared.mode.Mode.{Mode}
 use Rattle.csvw_triples_core.specs.declared.term.Triple.{Triple}
-use Rattle.csvw_engine_core.specs.Annotated.{header_count, header_row, header_rows, data_rows, first_width, first_source, source_of, needed, IsHead, HasRows, AreAnnotated}
+use Rattle.csvw_engine_core.specs.Annotated.{header_count, header_row, header_rows, data_rows, first_width, first_source, source_of, needed, IsHead, HasRows, AreAnnotated, GivesNone}
 use Rattle.csvw_engine_core.specs.Heads.{Settled}
 use Rattle.csvw_engine_core.specs.Tables.{Outlets, Gone, GivesAll, GivesWhole, TableOutcome, EndOutcome, SettlesHead, SettlesTable, is_ended}
 use Rattle.csvw_engine_core.specs.declared.halt.Halt.{Halt}
@@ -138,8 +138,8 @@ module _ {S : Type 0} (gains : S → List Triple → S → Type 0) (is_open : S 
             none,
             record {
               short = short;
-              refused = subst (λ z. Matches plan z (first_width (header_count plan) (given ++ g.raws)) (Err stop)) (sym heads_all)
-                  (subst (λ w. Matches plan mid.head.rows w (Err stop)) (sym (short_width (header_count plan) (given ++ g.raws) short)) s.1.0);
+              refused = subst (λ z. GivesNone plan z (first_width (header_count plan) (given ++ g.raws)) stop) (sym heads_all)
+                  (subst (λ w. GivesNone plan mid.head.rows w stop) (sym (short_width (header_count plan) (given ++ g.raws) short)) s.1.0);
               row_is = s.1.1 ∙ (ap (λ z. source_of z 0) (g.holds.head.waits none) ∙ first_at_end (given ++ g.raws));
             },
           );

@@ -4,9 +4,9 @@ use Rattle.std.proofs.lemmas.List.{take_all, take-append-le, length-append, map-
 use Rattle.csvw_text.specs.declared.fault.Fault.{Fault}
 use Rattle.csvw_rows.specs.RowValue.{Given}
 use Rattle.csvw_columns_core.specs.declared.columns.Columns.{Columns}
-use Rattle.csvw_columns.specs.HeaderMatch.{IsMatch, Matches}
+use Rattle.csvw_columns.specs.HeaderMatch.{IsMatch}
 use Rattle.csvw_columns.specs.declared.plan.TablePlan.{TablePlan}
-use Rattle.csvw_engine_core.specs.Annotated.{header_count, header_row, header_rows, first_width, first_source, source_of, needed, Heads, IsHead}
+use Rattle.csvw_engine_core.specs.Annotated.{header_count, header_row, header_rows, first_width, first_source, source_of, needed, Heads, IsHead, GivesNone}
 use Rattle.csvw_engine_core.specs.Heads.{HeadHolds, Settled, Settles, TakesHeader}
 use Rattle.csvw_engine_core.specs.declared.halt.Halt.{Halt}
 use Rattle.csvw_engine_core.specs.declared.halt.Halt.TheVariants as halt
@@ -109,7 +109,7 @@ takes_last plan raw old mid new (Err (halt.Table row stop)) rows whole s = λ gi
     let front : header_rows plan (given ++ raw ∷ []) ≡ mid.rows =
     ap (map header_row) (take_all (header_count plan) (given ++ raw ∷ []) (let m = many in omega arith)) ∙ sym all in (
       sym (length_more given raw) ∙ many,
-      subst (λ z. Matches plan z (first_width (header_count plan) (given ++ raw ∷ [])) (Err stop)) (sym front)
-          (subst (λ w. Matches plan mid.rows w (Err stop)) (sym (width_none (header_count plan) (given ++ raw ∷ []) some)) s.0),
+      subst (λ z. GivesNone plan z (first_width (header_count plan) (given ++ raw ∷ [])) stop) (sym front)
+          (subst (λ w. GivesNone plan mid.rows w stop) (sym (width_none (header_count plan) (given ++ raw ∷ []) some)) s.0),
       s.1 ∙ (ap (λ z. source_of z 0) all ∙ first_of_rows given raw),
     )

@@ -9,7 +9,7 @@ use Rattle.csvw_rows.specs.declared.rows.Rows.{Rows}
 use Rattle.csvw_rows.specs.declared.stop.RowStop.{RowStop}
 use Rattle.csvw_rows.specs.declared.stop.RowStop.TheVariants as row_stop
 use Rattle.csvw_columns_core.specs.declared.columns.Columns.{Columns}
-use Rattle.csvw_columns.specs.HeaderMatch.{IsMatch, Matches}
+use Rattle.csvw_columns.specs.HeaderMatch.{IsMatch}
 use Rattle.csvw_columns.specs.declared.plan.TablePlan.{TablePlan}
 use Rattle.csvw_columns.specs.declared.table_stop.TableStop.{TableStop}
 use Rattle.csvw_triples_core.specs.declared.mode.Mode.{Mode}
@@ -19,7 +19,7 @@ use Rattle.csvw_annotate.specs.Linked.{each_linked, linked_in, values_of}
 use Rattle.csvw_annotate.specs.declared.row.AnnCell.{AnnCell}
 use Rattle.csvw_columns_core.specs.declared.column.Column.{Column}
 use Rattle.csvw_annotate.specs.declared.row.Row.{Row}
-use Rattle.csvw_engine_core.specs.Annotated.{header_count, header_row, data_rows, first_width, first_source, source_of, needed, Heads, IsHead, HasRows, AreAnnotated, RefusesHeader, Refuses}
+use Rattle.csvw_engine_core.specs.Annotated.{header_count, header_row, data_rows, first_width, first_source, source_of, needed, Heads, IsHead, HasRows, AreAnnotated, RefusesHeader, Refuses, GivesNone}
 use Rattle.csvw_engine_core.specs.Halts.{of_row_stop}
 use Rattle.csvw_engine_core.specs.Heads.{HeadHolds, IsNewHead, Settled, Settles, TakesHeader}
 use Rattle.csvw_engine_core.specs.Tables.{max_rows, TableHolds, IsAtRest, IsStopped, IsRefused, HaltsSo, Goes, Keeps, RowFits, Steps, is_ended}
@@ -235,8 +235,8 @@ module _ (plan : TablePlan) (old : Table) (new : Rows) (raw : Given) (gives : Gi
       let one : length given + 1 ≡ needed (header_count plan) = ap (λ (g : List Given). length g + 1) k.0 ∙ sym (ap needed without) in
       let why : RefusesHeader plan (given ++ raw ∷ []) stop =
       subst (λ g. RefusesHeader plan (g ++ raw ∷ []) stop) (sym k.0)
-      (subst (λ n. Matches plan (map header_row (take n (raw ∷ []))) (first_width n (raw ∷ [])) (Err stop)) (sym without)
-      (subst (λ z. Matches plan z (Some (length raw.fields)) (Err stop)) k.1 refusal.0)) in
+      (subst (λ n. GivesNone plan (map header_row (take n (raw ∷ []))) (first_width n (raw ∷ [])) stop) (sym without)
+      (subst (λ z. GivesNone plan z (Some (length raw.fields)) stop) k.1 refusal.0)) in
       let at : row ≡ first_source (given ++ raw ∷ []) =
       refusal.1 ∙ (ap (λ z. source_of z raw.source) k.1 ∙ sym (ap (λ g. first_source (g ++ raw ∷ [])) k.0)) in
       refused mode bytes ended given rows row stop (subst (λ z. Refuses plan given z raw row stop) (sym none) (one, inl (why, at))) h
@@ -253,7 +253,7 @@ module _ (plan : TablePlan) (old : Table) (new : Rows) (raw : Given) (gives : Gi
       let heads : Heads plan (given ++ raw ∷ []) columns head.faults =
       first_head_at plan 0 given raw columns head.faults without refl k.0
       (subst (λ z. IsMatch plan z (Some (length raw.fields)) columns head.faults) k.1 (subst (λ z. IsMatch plan old.head.rows (Some (length raw.fields)) z head.faults) same s.gives)) in
-      refused mode bytes ended given rows row stop (subst (λ z. Refuses plan given z raw row stop) (sym none) (one, inr (columns, head.faults, heads, refusal))) h
+      refused mode bytes ended given rows row stop (subst (λ z. Refuses plan given z raw row stop) (sym none) (one, inr (without, columns, head.faults, heads, refusal))) h
 
 -- the table where a row came before the columns were known
 module _ (plan : TablePlan) (old new : Table) (raw : Given) (gives : GivesRow old.rows new.rows raw) (law : GivenFirst) (forms : FormsLaw) (none : old.head.columns ≡ None)

@@ -1,5 +1,5 @@
 -- Annotated tables, and which rows a table refuses (Model for Tabular Data, sections 4.1 to 4.5 and 8).
-use Rattle.std.specs.Prelude.{◌≡◌, ◌⊎◌, ◌<◌, ◌≤◌, ◌+◌, ℕ, zero, suc, List, [], ◌∷◌, ◌++◌, length, map, take, drop, Option, Some, None, Err}
+use Rattle.std.specs.Prelude.{◌≡◌, ◌⊎◌, ◌<◌, ◌≤◌, ◌+◌, ℕ, zero, suc, List, [], ◌∷◌, ◌++◌, length, map, take, drop, Option, Some, None}
 use Rattle.csvw_text.specs.declared.fault.Fault.{Fault}
 use Rattle.csvw_rows.specs.RowValue.{Given}
 use Rattle.csvw_columns_core.specs.declared.header.HeaderRow.{HeaderRow}
@@ -7,7 +7,7 @@ use Rattle.csvw_columns_core.specs.declared.columns.Columns.{Columns}
 use Rattle.csvw_columns.specs.declared.plan.TablePlan.{TablePlan}
 use Rattle.csvw_columns.specs.declared.table_stop.TableStop.{TableStop}
 use Rattle.csvw_columns.specs.declared.table_stop.TableStop.TheVariants as table_stop
-use Rattle.csvw_columns.specs.HeaderMatch.{IsMatch, Matches}
+use Rattle.csvw_columns.specs.HeaderMatch.{IsMatch, IsRepeated, IsWithin}
 use Rattle.csvw_annotate.specs.Annotated.{IsRow, Fits}
 use Rattle.csvw_annotate.specs.declared.row.Row.{Row}
 
@@ -45,9 +45,16 @@ source_of (row ∷ rows) source = row.source
 abbrev pub Heads : TablePlan → List Given → Columns → List Fault → Type 0
 Heads plan given columns faults = IsMatch plan (header_rows plan given) (first_width (header_count plan) given) columns faults
 
+-- these header rows give no columns, and this is why
+abbrev pub GivesNone : TablePlan → List HeaderRow → Option ℕ → TableStop → Type 0
+GivesNone plan rows width table_stop.TooManyColumns = IsWithin plan rows width → ⊥
+GivesNone plan rows width table_stop.DuplicateName = IsRepeated plan rows width
+GivesNone plan rows width table_stop.RaggedRow = ⊥
+GivesNone plan rows width table_stop.Memory = ⊥
+
 -- the header of these rows is refused
 abbrev pub RefusesHeader : TablePlan → List Given → TableStop → Type 0
-RefusesHeader plan given stop = Matches plan (header_rows plan given) (first_width (header_count plan) given) (Err stop)
+RefusesHeader plan given stop = GivesNone plan (header_rows plan given) (first_width (header_count plan) given) stop
 
 -- each data row is annotated, in order
 abbrev pub AreAnnotated : Columns → List Given → List Row → Type 0
@@ -86,11 +93,12 @@ pub record IsRagged (columns : Columns) (raw : Given) (row : ℕ) (stop : TableS
   pub stop_is : stop ≡ table_stop.RaggedRow
   pub row_is : row ≡ raw.source
 
--- with the next row the header is there, and is refused in its first row; or it gives columns that this row doesn't fit
+-- with the next row the header is there, and is refused in its first row; or without header rows it gives columns that this row, the first,
+-- doesn't fit
 abbrev pub RefusesFirst : TablePlan → List Given → Given → ℕ → TableStop → Type 0
 RefusesFirst plan given raw row stop =
     (RefusesHeader plan (given ++ raw ∷ []) stop × (row ≡ first_source (given ++ raw ∷ [])))
-    ⊎ ((columns : Columns) × (faults : List Fault) × Heads plan (given ++ raw ∷ []) columns faults × IsRagged columns raw row stop)
+    ⊎ ((header_count plan ≡ 0) × (columns : Columns) × (faults : List Fault) × Heads plan (given ++ raw ∷ []) columns faults × IsRagged columns raw row stop)
 
 -- the next row of the source is refused
 abbrev pub Refuses : TablePlan → List Given → Option Columns → Given → ℕ → TableStop → Type 0

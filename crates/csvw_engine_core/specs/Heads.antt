@@ -3,8 +3,8 @@ use Rattle.std.specs.Prelude.{◌≡◌, ◌<◌, ◌+◌, ℕ, List, [], ◌∷
 use Rattle.csvw_rows.specs.RowValue.{Given}
 use Rattle.csvw_columns_core.specs.declared.columns.Columns.{Columns}
 use Rattle.csvw_columns.specs.declared.plan.TablePlan.{TablePlan}
-use Rattle.csvw_columns.specs.HeaderMatch.{IsMatch, Matches}
-use Rattle.csvw_engine_core.specs.Annotated.{header_count, header_row, source_of, IsHead, RefusesHeader, first_source}
+use Rattle.csvw_columns.specs.HeaderMatch.{IsMatch}
+use Rattle.csvw_engine_core.specs.Annotated.{header_count, header_row, source_of, GivesNone, IsHead, RefusesHeader, first_source}
 use Rattle.csvw_engine_core.specs.declared.halt.Halt.{Halt}
 use Rattle.csvw_engine_core.specs.declared.halt.Halt.TheVariants as halt
 use Rattle.csvw_engine_core.specs.declared.head.Head.{Head}
@@ -31,7 +31,7 @@ Settles plan width source old new (Ok u) = Settled plan width old new
 Settles plan width source old new (Err halt.Memory) = Unit {0}
 Settles plan width source old new (Err halt.Write) = ⊥
 Settles plan width source old new (Err (halt.Rows row stop)) = ⊥
-Settles plan width source old new (Err (halt.Table row stop)) = Matches plan old.rows width (Err stop) × (row ≡ source_of old.rows source)
+Settles plan width source old new (Err (halt.Table row stop)) = GivesNone plan old.rows width stop × (row ≡ source_of old.rows source)
 
 -- after a header row
 abbrev pub TakesHeader : TablePlan → Given → Head → Head → Result Unit Halt → Type 0
