@@ -1,6 +1,7 @@
 -- What a line begins with that was made over another one.
-use Rattle.std.specs.Prelude.{◌≡◌, ◌++◌, ℕ, List, Option, Some, codes, length, take}
+use Rattle.std.specs.Prelude.{◌≡◌, ◌++◌, ℕ, List, codes, length, take}
 use Rattle.csvw_triples_core.specs.declared.origin.Origin.{Origin}
+use Rattle.csvw_triples_core.specs.declared.term.Term.{Term}
 use Rattle.csvw_triples_core.specs.declared.term.Triple.{Triple}
 use Rattle.csvw_ntriples.specs.Written.{blank_text, term_text}
 
@@ -8,10 +9,14 @@ use Rattle.csvw_ntriples.specs.Written.{blank_text, term_text}
 abbrev pub front_text : Origin → List ℕ
 front_text o = blank_text o ++ codes " <"
 
--- where there is a blank node, it is the first n bytes
-abbrev pub IsFront : Option Origin → ℕ → List ℕ → Type 0
-IsFront subject n bytes = (o : Origin) → subject ≡ Some o → (take n bytes ≡ front_text o) × (n ≡ length (front_text o))
+-- it is the first n bytes
+abbrev pub IsFront : Origin → ℕ → List ℕ → Type 0
+IsFront subject n bytes = (take n bytes ≡ front_text subject) × (n ≡ length (front_text subject))
+
+-- what stands behind the text of a predicate
+abbrev pub object_text : Term → List ℕ
+object_text o = codes "> " ++ term_text o ++ codes " .\n"
 
 -- what stands behind it
 abbrev pub rest_text : Triple → List ℕ
-rest_text t = t.p ++ codes "> " ++ term_text t.o ++ codes " .\n"
+rest_text t = t.p ++ object_text t.o

@@ -6,6 +6,7 @@ mod line;
 mod nt_sink;
 mod reading;
 mod row_label;
+mod scratch;
 mod term;
 mod write;
 

@@ -6,6 +6,7 @@ ghost use Rattle.csvw_ntriples.specs.LabelLaw.{IsOrigin};
 ghost use Rattle.csvw_ntriples.specs.Writable.{IriFits, NodeFits, TripleFits};
 
 use crate::row_label::RowLabel;
+use crate::scratch::Scratch;
 use crate::write::{push_blank, push_iri, push_rest};
 use csvw_iri::Iri;
 use csvw_triples_core::{Node, Origin, Triple};
@@ -16,14 +17,16 @@ use std::alloc::{AllocError, Global};
 #[derive(Drop)]
 pub(crate) struct Line {
     /// The line that was made last.
-    pub(crate) bytes: Vec<u8>,
-    /// The blank node that it begins with, if it does.
-    subject: Option<Origin>,
+    pub(crate) bytes: Scratch,
+    /// Whether it begins with a blank node.
+    is_kept: bool,
+    /// The blank node.
+    subject: Origin,
     /// How many bytes stand in front of the text of the predicate.
     front: usize,
     /// The row that was named last.
     row: RowLabel,
-    ghost begins: { IsFront subject front bytes.items },
+    ghost begins: { is_kept ≡ true → IsFront subject front bytes },
 }
 
 /// Whether nothing is too great for a label: no number is.
@@ -40,8 +43,9 @@ impl Line {
     /// No line. It takes no memory.
     pub(crate) fn new(alloc: Global) -> Line {
         Line {
-            bytes: Vec::new(alloc),
-            subject: None,
+            bytes: Scratch::new(alloc),
+            is_kept: false,
+            subject: Origin::Group,
             front: 0,
             row: RowLabel::new(alloc),
         }
@@ -49,48 +53,46 @@ impl Line {
 
     /// Cuts the line off in front of the text of the predicate, where its subject is this blank node.
     fn keeps(&mut self, origin: Origin) -> bool
-        ensures { result ≡ true → self.new.bytes.items ≡ front_text origin }
+        ensures { result ≡ true → self.new.bytes ≡ front_text origin }
     {
-        let subject = self.subject;
-        match subject {
-            Some(last) if last == origin => {
-                self.bytes.truncate(self.front);
-                true
-            }
-            Some(_) | None => false,
+        if self.is_kept && self.subject == origin {
+            self.bytes.truncate(self.front);
+            return true;
         }
+        false
     }
 
     fn begin_blank(&mut self, origin: Origin) -> Result<(), AllocError>
-        ensures text { OnOk result (self.new.bytes.items ≡ front_text origin) }
+        ensures text { OnOk result (self.new.bytes ≡ front_text origin) }
         ensures fits { OnOk result (IsOrigin origin) }
     {
         fits(origin);
         if self.keeps(origin) {
             return Ok(());
         }
-        self.subject = None;
-        self.bytes.clear();
+        self.is_kept = false;
+        self.bytes.truncate(0);
         push_blank(&mut self.bytes, &mut self.row, origin)?;
-        self.bytes.extend_from_slice(b" <")?;
+        self.bytes.push(b" <")?;
         self.front = self.bytes.len();
-        self.subject = Some(origin);
+        self.subject = origin;
+        self.is_kept = true;
         Ok(())
     }
 
     fn begin_named(&mut self, iri: &Iri) -> Result<(), AllocError>
-        ensures text { OnOk result (self.new.bytes.items ≡ iri_text iri.now ++ codes " <") }
+        ensures text { OnOk result (self.new.bytes ≡ iri_text iri.now ++ codes " <") }
         ensures fits { OnOk result (IriFits iri.now) }
     {
-        self.subject = None;
-        self.bytes.clear();
+        self.is_kept = false;
+        self.bytes.truncate(0);
+        self.bytes.push(b"<")?;
         push_iri(&mut self.bytes, iri)?;
-        self.bytes.extend_from_slice(b" <")?;
-        Ok(())
+        self.bytes.push(b"> <")
     }
 
     fn begin(&mut self, node: &Node) -> Result<(), AllocError>
-        ensures text { OnOk result (self.new.bytes.items ≡ node_text node.now ++ codes " <") }
+        ensures text { OnOk result (self.new.bytes ≡ node_text node.now ++ codes " <") }
         ensures fits { OnOk result (NodeFits node.now) }
     {
         match node {
@@ -101,14 +103,14 @@ impl Line {
 
     /// Becomes the line of a triple; after an error it may be a part of it.
     pub(crate) fn refill(&mut self, triple: &Triple) -> Result<(), AllocError>
-        ensures text { OnOk result (self.new.bytes.items ≡ line_text triple.now) }
+        ensures text { OnOk result (self.new.bytes ≡ line_text triple.now) }
         ensures fits { OnOk result (TripleFits triple.now) }
     {
         self.begin(&triple.s)?;
-        let subject = self.subject;
-        self.subject = None;
+        let is_kept = self.is_kept;
+        self.is_kept = false;
         push_rest(&mut self.bytes, &mut self.row, triple)?;
-        self.subject = subject;
+        self.is_kept = is_kept;
         Ok(())
     }
 }

@@ -1,12 +1,13 @@
-//! The label of the row that was named last.
+//! The blank node of the row that was named last.
 ghost use Rattle.std.specs.Prelude.{◌≡◌, ◌++◌, true, OnOk};
-ghost use Rattle.csvw_ntriples.specs.Written.{label};
+ghost use Rattle.csvw_ntriples.specs.Written.{blank_text};
 ghost use Rattle.csvw_triples_core.specs.declared.origin.Origin.TheVariants as origin;
 
+use crate::scratch::Scratch;
 use crate::write::push_part;
 use std::alloc::{AllocError, Global};
 
-/// Keeps the label of the row that was named last: most blank nodes are of the row of the one before.
+/// Keeps the blank node of the row that was named last: most blank nodes are of the row of the one before.
 #[derive(Drop)]
 pub(crate) struct RowLabel {
     /// Whether a row was named.
@@ -15,9 +16,9 @@ pub(crate) struct RowLabel {
     table: u32,
     /// Its number among the data rows, from 1.
     row: u64,
-    /// Its label.
-    text: Vec<u8>,
-    ghost is_label: { is_known ≡ true → text.items ≡ label (origin.Row table row) },
+    /// Its blank node.
+    text: Scratch,
+    ghost is_label: { is_known ≡ true → text ≡ blank_text (origin.Row table row) },
 }
 
 impl RowLabel {
@@ -27,19 +28,20 @@ impl RowLabel {
             is_known: false,
             table: 0,
             row: 0,
-            text: Vec::new(alloc),
+            text: Scratch::new(alloc),
         }
     }
 
-    /// Becomes the label of a row.
+    /// Becomes the blank node of a row.
     fn name(&mut self, table: u32, row: u64) -> Result<(), AllocError>
-        ensures { OnOk result (self.new.text.items ≡ label (origin.Row table row)) }
+        ensures { OnOk result (self.new.text ≡ blank_text (origin.Row table row)) }
     {
         if self.is_known && self.table == table && self.row == row {
             return Ok(());
         }
         self.is_known = false;
-        self.text.clear();
+        self.text.truncate(0);
+        self.text.push(b"_:")?;
         push_part(&mut self.text, b't', table)?;
         push_part(&mut self.text, b'r', row)?;
         self.table = table;
@@ -48,11 +50,11 @@ impl RowLabel {
         Ok(())
     }
 
-    /// Adds the label of a row.
-    pub(crate) fn push(&mut self, out: &mut Vec<u8>, table: u32, row: u64) -> Result<(), AllocError>
-        ensures { OnOk result (out.new.items ≡ out.old.items ++ label (origin.Row table row)) }
+    /// Adds the blank node of a row.
+    pub(crate) fn push(&mut self, out: &mut Scratch, table: u32, row: u64) -> Result<(), AllocError>
+        ensures { OnOk result (out.new ≡ out.old ++ blank_text (origin.Row table row)) }
     {
         self.name(table, row)?;
-        out.extend_from_slice(self.text.as_slice())
+        out.push(self.text.as_slice())
     }
 }

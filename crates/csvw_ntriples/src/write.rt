@@ -4,12 +4,14 @@ ghost use Rattle.std.specs.List.{list_any};
 ghost use Rattle.csvw_ntriples.specs.Written.{label, escaped, iri_text, blank_text, string_text};
 ghost use Rattle.csvw_ntriples.specs.Written.{datatype_text, suffix_text, is_string_type, lit_text, term_text};
 ghost use Rattle.csvw_ntriples.specs.Escape.{needs_escape};
-ghost use Rattle.csvw_ntriples.specs.Front.{rest_text};
+ghost use Rattle.csvw_ntriples.specs.Front.{rest_text, object_text};
 ghost use Rattle.csvw_ntriples.specs.LabelLaw.{IsOrigin};
 ghost use Rattle.csvw_ntriples.specs.Writable.{IriFits, SuffixFits, LitFits, TermFits};
+ghost use Rattle.csvw_triples_core.specs.declared.term.Term.TheVariants as term;
 ghost use Rattle.csvw_text.specs.Language.{is_language_tag};
 
 use crate::row_label::RowLabel;
+use crate::scratch::Scratch;
 use csvw_iri::Iri;
 use csvw_text::LanguageTag;
 use csvw_triples_core::{Lit, Origin, Term, Triple};
@@ -18,14 +20,12 @@ use std::alloc::AllocError;
 
 const XSD_STRING: &str = "http://www.w3.org/2001/XMLSchema#string";
 
-pub(crate) fn push_iri(out: &mut Vec<u8>, iri: &Iri) -> Result<(), AllocError>
-    ensures text { OnOk result (out.new.items ≡ out.old.items ++ iri_text iri.now) }
+/// Adds an IRI without its brackets.
+pub(crate) fn push_iri(out: &mut Scratch, iri: &Iri) -> Result<(), AllocError>
+    ensures text { OnOk result (out.new ≡ out.old ++ iri.now) }
     ensures fits { OnOk result (IriFits iri.now) }
 {
-    out.push(b'<')?;
-    out.extend_from_slice(iri.as_str().as_bytes())?;
-    out.push(b'>')?;
-    Ok(())
+    out.push(iri.as_str().as_bytes())
 }
 
 fn needs_escape(b: u8) -> bool
@@ -45,23 +45,20 @@ fn has_escape(bytes: &[u8]) -> bool
     found
 }
 
-fn push_escape(out: &mut Vec<u8>, b: u8) -> Result<(), AllocError>
-    ensures { OnOk result (out.new.items ≡ out.old.items ++ escaped b) }
+fn push_escape(out: &mut Scratch, b: u8) -> Result<(), AllocError>
+    ensures { OnOk result (out.new ≡ out.old ++ escaped b) }
 {
     match b {
-        b'"' => out.extend_from_slice(b"\\\""),
-        b'\\' => out.extend_from_slice(b"\\\\"),
-        b'\n' => out.extend_from_slice(b"\\n"),
-        b'\r' => out.extend_from_slice(b"\\r"),
-        _ => {
-            out.push(b)?;
-            Ok(())
-        }
+        b'"' => out.push(b"\\\""),
+        b'\\' => out.push(b"\\\\"),
+        b'\n' => out.push(b"\\n"),
+        b'\r' => out.push(b"\\r"),
+        _ => out.push(&[b]),
     }
 }
 
-fn push_each_escaped(out: &mut Vec<u8>, bytes: &[u8]) -> Result<(), AllocError>
-    ensures { OnOk result (out.new.items ≡ out.old.items ++ flat_map escaped bytes.now) }
+fn push_each_escaped(out: &mut Scratch, bytes: &[u8]) -> Result<(), AllocError>
+    ensures { OnOk result (out.new ≡ out.old ++ flat_map escaped bytes.now) }
 {
     for b in bytes {
         push_escape(out, *b)?;
@@ -69,70 +66,59 @@ fn push_each_escaped(out: &mut Vec<u8>, bytes: &[u8]) -> Result<(), AllocError>
     Ok(())
 }
 
-fn push_escaped(out: &mut Vec<u8>, bytes: &[u8]) -> Result<(), AllocError>
-    ensures { OnOk result (out.new.items ≡ out.old.items ++ flat_map escaped bytes.now) }
+fn push_escaped(out: &mut Scratch, bytes: &[u8]) -> Result<(), AllocError>
+    ensures { OnOk result (out.new ≡ out.old ++ flat_map escaped bytes.now) }
 {
     if has_escape(bytes) {
         push_each_escaped(out, bytes)
     } else {
-        out.extend_from_slice(bytes)
+        out.push(bytes)
     }
-}
-
-fn push_string(out: &mut Vec<u8>, text: &[u8]) -> Result<(), AllocError>
-    ensures { OnOk result (out.new.items ≡ out.old.items ++ string_text text.now) }
-{
-    out.push(b'"')?;
-    push_escaped(out, text)?;
-    out.push(b'"')?;
-    Ok(())
 }
 
 /// A letter of a label and the number after it.
 pub(crate) fn push_part<I: Integer>(
-    out: &mut Vec<u8>,
+    out: &mut Scratch,
     letter: u8,
     number: I,
 ) -> Result<(), AllocError>
-    ensures { OnOk result (out.new.items ≡ out.old.items ++ letter ∷ I.text number) }
+    ensures { OnOk result (out.new ≡ out.old ++ letter ∷ I.text number) }
 {
-    out.push(letter)?;
+    out.push(&[letter])?;
     let mut buffer = Buffer::new();
-    out.extend_from_slice(buffer.format(number).as_bytes())
+    out.push(buffer.format(number).as_bytes())
 }
 
-/// Adds the label of a blank node, where another row was named last.
-fn push_label(out: &mut Vec<u8>, last: &mut RowLabel, origin: Origin) -> Result<(), AllocError>
-    ensures text { OnOk result (out.new.items ≡ out.old.items ++ label origin) }
+/// Adds a blank node, where another row was named last.
+pub(crate) fn push_blank(
+    out: &mut Scratch,
+    last: &mut RowLabel,
+    origin: Origin,
+) -> Result<(), AllocError>
+    ensures text { OnOk result (out.new ≡ out.old ++ blank_text origin) }
     ensures fits { OnOk result (IsOrigin origin) }
 {
     match origin {
-        Origin::Group => out.extend_from_slice(b"g"),
-        Origin::Table(table) => push_part(out, b't', table),
+        Origin::Group => out.push(b"_:g"),
+        Origin::Table(table) => {
+            out.push(b"_:")?;
+            push_part(out, b't', table)
+        }
         Origin::Row(table, row) => last.push(out, table, row),
         Origin::Subject(table, row) => {
             last.push(out, table, row)?;
-            out.extend_from_slice(b"s")
+            out.push(b"s")
         }
         Origin::Entry(table, row, column, entry) => {
             last.push(out, table, row)?;
             push_part(out, b'c', column)?;
             push_part(out, b'i', entry)
         }
-        Origin::Note(number) => push_part(out, b'a', number),
+        Origin::Note(number) => {
+            out.push(b"_:")?;
+            push_part(out, b'a', number)
+        }
     }
-}
-
-pub(crate) fn push_blank(
-    out: &mut Vec<u8>,
-    last: &mut RowLabel,
-    origin: Origin,
-) -> Result<(), AllocError>
-    ensures text { OnOk result (out.new.items ≡ out.old.items ++ blank_text origin) }
-    ensures fits { OnOk result (IsOrigin origin) }
-{
-    out.extend_from_slice(b"_:")?;
-    push_label(out, last, origin)
 }
 
 fn is_xsd_string(iri: &Iri) -> bool
@@ -142,69 +128,95 @@ fn is_xsd_string(iri: &Iri) -> bool
     iri.as_str() == XSD_STRING
 }
 
-fn push_datatype(out: &mut Vec<u8>, iri: &Iri) -> Result<(), AllocError>
-    ensures text { OnOk result (out.new.items ≡ out.old.items ++ datatype_text iri.now) }
+/// Ends a literal that has a datatype, and its line.
+fn end_typed(out: &mut Scratch, iri: &Iri) -> Result<(), AllocError>
+    ensures text { OnOk result (out.new ≡ out.old ++ 34 ∷ datatype_text iri.now ++ codes " .\n") }
     ensures fits { OnOk result (IriFits iri.now) }
 {
     if is_xsd_string(iri) {
-        return Ok(());
+        return out.push(b"\" .\n");
     }
-    out.extend_from_slice(b"^^")?;
-    push_iri(out, iri)
+    out.push(b"\"^^<")?;
+    push_iri(out, iri)?;
+    out.push(b"> .\n")
 }
 
-fn push_language(out: &mut Vec<u8>, tag: &LanguageTag) -> Result<(), AllocError>
-    ensures text { OnOk result (out.new.items ≡ out.old.items ++ 64 ∷ tag.now) }
+/// Ends a literal that has a language, and its line.
+fn end_tagged(out: &mut Scratch, tag: &LanguageTag) -> Result<(), AllocError>
+    ensures text { OnOk result (out.new ≡ out.old ++ 34 ∷ 64 ∷ tag.now ++ codes " .\n") }
     ensures fits { OnOk result (is_language_tag tag.now ≡ true) }
 {
-    out.push(b'@')?;
-    out.extend_from_slice(tag.as_str().as_bytes())
+    out.push(b"\"@")?;
+    out.push(tag.as_str().as_bytes())?;
+    out.push(b" .\n")
 }
 
-fn push_suffix(
-    out: &mut Vec<u8>,
+/// Ends a literal and its line.
+fn end_literal(
+    out: &mut Scratch,
     lang: &Option<LanguageTag>,
     datatype: &Iri,
 ) -> Result<(), AllocError>
-    ensures text { OnOk result (out.new.items ≡ out.old.items ++ suffix_text lang.now datatype.now) }
+    ensures text { OnOk result (out.new ≡ out.old ++ 34 ∷ suffix_text lang.now datatype.now ++ codes " .\n") }
     ensures fits { OnOk result (SuffixFits lang.now datatype.now) }
 {
     match lang {
-        None => push_datatype(out, datatype),
-        Some(tag) => push_language(out, tag),
+        None => end_typed(out, datatype),
+        Some(tag) => end_tagged(out, tag),
     }
 }
 
-fn push_lit(out: &mut Vec<u8>, lit: &Lit) -> Result<(), AllocError>
-    ensures text { OnOk result (out.new.items ≡ out.old.items ++ lit_text lit.now) }
-    ensures fits { OnOk result (LitFits lit.now) }
+/// Adds what stands behind the text of a predicate, where the object is an IRI.
+fn push_named(out: &mut Scratch, iri: &Iri) -> Result<(), AllocError>
+    ensures text { OnOk result (out.new ≡ out.old ++ object_text (term.Named iri.now)) }
+    ensures fits { OnOk result (IriFits iri.now) }
 {
-    push_string(out, lit.text.as_str().as_bytes())?;
-    push_suffix(out, &lit.lang, &lit.datatype)
+    out.push(b"> <")?;
+    push_iri(out, iri)?;
+    out.push(b"> .\n")
 }
 
-fn push_term(out: &mut Vec<u8>, last: &mut RowLabel, term: &Term) -> Result<(), AllocError>
-    ensures text { OnOk result (out.new.items ≡ out.old.items ++ term_text term.now) }
+/// Adds what stands behind the text of a predicate, where the object is a blank node.
+fn push_labelled(out: &mut Scratch, last: &mut RowLabel, origin: Origin) -> Result<(), AllocError>
+    ensures text { OnOk result (out.new ≡ out.old ++ object_text (term.Blank origin)) }
+    ensures fits { OnOk result (IsOrigin origin) }
+{
+    out.push(b"> ")?;
+    push_blank(out, last, origin)?;
+    out.push(b" .\n")
+}
+
+/// Adds what stands behind the text of a predicate, where the object is a literal.
+fn push_literal(out: &mut Scratch, lit: &Lit) -> Result<(), AllocError>
+    ensures text { OnOk result (out.new ≡ out.old ++ object_text (term.Literal lit.now)) }
+    ensures fits { OnOk result (LitFits lit.now) }
+{
+    out.push(b"> \"")?;
+    push_escaped(out, lit.text.as_str().as_bytes())?;
+    end_literal(out, &lit.lang, &lit.datatype)
+}
+
+/// Adds what stands behind the text of a predicate.
+fn push_object(out: &mut Scratch, last: &mut RowLabel, term: &Term) -> Result<(), AllocError>
+    ensures text { OnOk result (out.new ≡ out.old ++ object_text term.now) }
     ensures fits { OnOk result (TermFits term.now) }
 {
     match term {
-        Term::Named(iri) => push_iri(out, iri),
-        Term::Blank(origin) => push_blank(out, last, *origin),
-        Term::Literal(lit) => push_lit(out, lit),
+        Term::Named(iri) => push_named(out, iri),
+        Term::Blank(origin) => push_labelled(out, last, *origin),
+        Term::Literal(lit) => push_literal(out, lit),
     }
 }
 
 /// Adds what stands in the line of a triple from the text of its predicate on.
 pub(crate) fn push_rest(
-    out: &mut Vec<u8>,
+    out: &mut Scratch,
     last: &mut RowLabel,
     triple: &Triple,
 ) -> Result<(), AllocError>
-    ensures text { OnOk result (out.new.items ≡ out.old.items ++ rest_text triple.now) }
+    ensures text { OnOk result (out.new ≡ out.old ++ rest_text triple.now) }
     ensures fits { OnOk result (IriFits triple.now.p × TermFits triple.now.o) }
 {
-    out.extend_from_slice(triple.p.as_str().as_bytes())?;
-    out.extend_from_slice(b"> ")?;
-    push_term(out, last, &triple.o)?;
-    out.extend_from_slice(b" .\n")
+    push_iri(out, &triple.p)?;
+    push_object(out, last, &triple.o)
 }

@@ -4,4 +4,4 @@ use Rattle.csvw_ntriples.specs.Written.{escaped}
 use Rattle.csvw_ntriples.proofs.write.push_each_escaped.Given as goal
 
 abbrev pub invariant-loop-b : goal.invariant-loop-b
-invariant-loop-b l = l.out.items ≡ l.fn.out.items ++ flat_map escaped (take l.b-index l.bytes)
+invariant-loop-b l = l.out ≡ l.fn.out ++ flat_map escaped (take l.b-index l.bytes)

@@ -1,0 +1,90 @@
+//! Bytes that are made anew again and again.
+ghost use Rattle.std.specs.Prelude.{◌≡◌, ◌+◌, ◌≤◌, ◌∷◌, [], ◌++◌, length, take, OnOk};
+
+use std::alloc::{AllocError, Global};
+use std::marker::Model;
+
+/// Bytes that are made anew again and again, in memory that stays. It has room to spare, so that what is added is mostly
+/// one comparison and one copy.
+#[derive(Drop)]
+pub(crate) struct Scratch {
+    /// The room, which begins with the bytes.
+    room: Vec<u8>,
+    /// How many bytes there are.
+    len: usize,
+}
+
+impl Model for Scratch {
+    ghost use Rattle.std.specs.Prelude.{ℕ, List, ◌≤◌, length, take};
+
+    ghost Value = { List ℕ };
+
+    ghost view = { λ s. take s.len s.room.items };
+
+    ghost invariant = { λ s. s.len ≤ length s.room.items };
+}
+
+/// Makes room for so many bytes behind the first ones.
+#[cold]
+#[inline(never)]
+fn widen(room: &mut Vec<u8>, len: usize, more: usize) -> Result<(), AllocError>
+    requires { len ≤ length room.old.items }
+    ensures same { take len room.new.items ≡ take len room.old.items }
+    ensures long { len ≤ length room.new.items }
+    ensures room { OnOk result (len + more ≤ length room.new.items) }
+{
+    let Some(least) = len.checked_add(more) else {
+        return Err(AllocError);
+    };
+    room.resize(least.saturating_mul(2), 0)
+}
+
+impl Scratch {
+    /// No bytes. It takes no memory.
+    pub(crate) fn new(alloc: Global) -> Scratch
+        ensures { result ≡ [] }
+    {
+        Scratch {
+            room: Vec::new(alloc),
+            len: 0,
+        }
+    }
+
+    /// The bytes.
+    pub(crate) fn as_slice(&self) -> &[u8]
+        ensures value { result.now ≡ self.now }
+    {
+        &self.room.as_slice()[..self.len]
+    }
+
+    /// How many bytes there are.
+    pub(crate) fn len(&self) -> usize
+        ensures { result ≡ length self.now }
+    {
+        self.len
+    }
+
+    /// Keeps so many of the first bytes.
+    pub(crate) fn truncate(&mut self, n: usize)
+        ensures { self.new ≡ take n self.old }
+    {
+        if n < self.len {
+            self.len = n;
+        }
+    }
+
+    /// Adds bytes at the end.
+    #[inline(always)]
+    pub(crate) fn push(&mut self, bytes: &[u8]) -> Result<(), AllocError>
+        ensures { OnOk result (self.new ≡ self.old ++ bytes.now) }
+    {
+        let start = self.len;
+        if self.room.len() - start < bytes.len() {
+            widen(&mut self.room, start, bytes.len())?;
+        }
+        let end = start + bytes.len();
+        self.room.as_mut_slice()[start..end].copy_from_slice(bytes);
+        self.len = end;
+        Ok(())
+    }
+}
