@@ -73,7 +73,7 @@ impl Line {
         self.is_kept = false;
         self.bytes.truncate(0);
         push_blank(&mut self.bytes, &mut self.row, origin)?;
-        self.bytes.push(b" <")?;
+        self.bytes.push_fixed(b" <")?;
         self.front = self.bytes.len();
         self.subject = origin;
         self.is_kept = true;
@@ -86,9 +86,9 @@ impl Line {
     {
         self.is_kept = false;
         self.bytes.truncate(0);
-        self.bytes.push(b"<")?;
+        self.bytes.push_fixed(b"<")?;
         push_iri(&mut self.bytes, iri)?;
-        self.bytes.push(b"> <")
+        self.bytes.push_fixed(b"> <")
     }
 
     fn begin(&mut self, node: &Node) -> Result<(), AllocError>

@@ -41,7 +41,7 @@ impl RowLabel {
         }
         self.is_known = false;
         self.text.truncate(0);
-        self.text.push(b"_:")?;
+        self.text.push_fixed(b"_:")?;
         push_part(&mut self.text, b't', table)?;
         push_part(&mut self.text, b'r', row)?;
         self.table = table;

@@ -87,4 +87,19 @@ impl Scratch {
         self.len = end;
         Ok(())
     }
+
+    /// Adds bytes whose number is known where it is called, so that no call is needed to copy them.
+    #[inline(always)]
+    pub(crate) fn push_fixed<const N: usize>(&mut self, bytes: &[u8; N]) -> Result<(), AllocError>
+        ensures { OnOk result (self.new ≡ self.old ++ bytes.now) }
+    {
+        let start = self.len;
+        if self.room.len() - start < N {
+            widen(&mut self.room, start, N)?;
+        }
+        let end = start + N;
+        self.room.as_mut_slice()[start..end].copy_from_slice(bytes.as_slice());
+        self.len = end;
+        Ok(())
+    }
 }

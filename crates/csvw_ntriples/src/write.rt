@@ -49,11 +49,11 @@ fn push_escape(out: &mut Scratch, b: u8) -> Result<(), AllocError>
     ensures { OnOk result (out.new ≡ out.old ++ escaped b) }
 {
     match b {
-        b'"' => out.push(b"\\\""),
-        b'\\' => out.push(b"\\\\"),
-        b'\n' => out.push(b"\\n"),
-        b'\r' => out.push(b"\\r"),
-        _ => out.push(&[b]),
+        b'"' => out.push_fixed(b"\\\""),
+        b'\\' => out.push_fixed(b"\\\\"),
+        b'\n' => out.push_fixed(b"\\n"),
+        b'\r' => out.push_fixed(b"\\r"),
+        _ => out.push_fixed(&[b]),
     }
 }
 
@@ -84,7 +84,7 @@ pub(crate) fn push_part<I: Integer>(
 ) -> Result<(), AllocError>
     ensures { OnOk result (out.new ≡ out.old ++ letter ∷ I.text number) }
 {
-    out.push(&[letter])?;
+    out.push_fixed(&[letter])?;
     let mut buffer = Buffer::new();
     out.push(buffer.format(number).as_bytes())
 }
@@ -99,15 +99,15 @@ pub(crate) fn push_blank(
     ensures fits { OnOk result (IsOrigin origin) }
 {
     match origin {
-        Origin::Group => out.push(b"_:g"),
+        Origin::Group => out.push_fixed(b"_:g"),
         Origin::Table(table) => {
-            out.push(b"_:")?;
+            out.push_fixed(b"_:")?;
             push_part(out, b't', table)
         }
         Origin::Row(table, row) => last.push(out, table, row),
         Origin::Subject(table, row) => {
             last.push(out, table, row)?;
-            out.push(b"s")
+            out.push_fixed(b"s")
         }
         Origin::Entry(table, row, column, entry) => {
             last.push(out, table, row)?;
@@ -115,7 +115,7 @@ pub(crate) fn push_blank(
             push_part(out, b'i', entry)
         }
         Origin::Note(number) => {
-            out.push(b"_:")?;
+            out.push_fixed(b"_:")?;
             push_part(out, b'a', number)
         }
     }
@@ -134,11 +134,11 @@ fn end_typed(out: &mut Scratch, iri: &Iri) -> Result<(), AllocError>
     ensures fits { OnOk result (IriFits iri.now) }
 {
     if is_xsd_string(iri) {
-        return out.push(b"\" .\n");
+        return out.push_fixed(b"\" .\n");
     }
-    out.push(b"\"^^<")?;
+    out.push_fixed(b"\"^^<")?;
     push_iri(out, iri)?;
-    out.push(b"> .\n")
+    out.push_fixed(b"> .\n")
 }
 
 /// Ends a literal that has a language, and its line.
@@ -146,9 +146,9 @@ fn end_tagged(out: &mut Scratch, tag: &LanguageTag) -> Result<(), AllocError>
     ensures text { OnOk result (out.new ≡ out.old ++ 34 ∷ 64 ∷ tag.now ++ codes " .\n") }
     ensures fits { OnOk result (is_language_tag tag.now ≡ true) }
 {
-    out.push(b"\"@")?;
+    out.push_fixed(b"\"@")?;
     out.push(tag.as_str().as_bytes())?;
-    out.push(b" .\n")
+    out.push_fixed(b" .\n")
 }
 
 /// Ends a literal and its line.
@@ -171,9 +171,9 @@ fn push_named(out: &mut Scratch, iri: &Iri) -> Result<(), AllocError>
     ensures text { OnOk result (out.new ≡ out.old ++ object_text (term.Named iri.now)) }
     ensures fits { OnOk result (IriFits iri.now) }
 {
-    out.push(b"> <")?;
+    out.push_fixed(b"> <")?;
     push_iri(out, iri)?;
-    out.push(b"> .\n")
+    out.push_fixed(b"> .\n")
 }
 
 /// Adds what stands behind the text of a predicate, where the object is a blank node.
@@ -181,9 +181,9 @@ fn push_labelled(out: &mut Scratch, last: &mut RowLabel, origin: Origin) -> Resu
     ensures text { OnOk result (out.new ≡ out.old ++ object_text (term.Blank origin)) }
     ensures fits { OnOk result (IsOrigin origin) }
 {
-    out.push(b"> ")?;
+    out.push_fixed(b"> ")?;
     push_blank(out, last, origin)?;
-    out.push(b" .\n")
+    out.push_fixed(b" .\n")
 }
 
 /// Adds what stands behind the text of a predicate, where the object is a literal.
@@ -191,7 +191,7 @@ fn push_literal(out: &mut Scratch, lit: &Lit) -> Result<(), AllocError>
     ensures text { OnOk result (out.new ≡ out.old ++ object_text (term.Literal lit.now)) }
     ensures fits { OnOk result (LitFits lit.now) }
 {
-    out.push(b"> \"")?;
+    out.push_fixed(b"> \"")?;
     push_escaped(out, lit.text.as_str().as_bytes())?;
     end_literal(out, &lit.lang, &lit.datatype)
 }
