@@ -9,6 +9,8 @@ use std::io::{self, Write};
 use std::str;
 use std::test::Fail;
 
+mod examples;
+
 /// A file in memory.
 #[derive(Clone, Copy)]
 struct File<'a> {
