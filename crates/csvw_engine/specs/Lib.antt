@@ -1,4 +1,5 @@
 pub mod Flushes
+pub mod GoodRuns
 pub mod Groups
 pub mod Lines
 pub mod Planning

@@ -25,6 +25,7 @@ use Rattle.csvw_ntriples.specs.SameUpTo.{SameUpTo}
 use Rattle.csvw_report.specs.Report.{report}
 use Rattle.csvw_report.specs.declared.outcome.Outcome.{Outcome}
 use Rattle.csvw_session.specs.Events.{Event, text_of, ended_in}
+use Rattle.csvw_session.specs.Ready.{AreReady}
 use Rattle.csvw_session.specs.Sessions.{IsRefusedHere}
 use Rattle.csvw_session.specs.declared.stop.Stop.{Stop}
 use Rattle.csvw_session.specs.declared.stop.Stop.TheVariants as stop
@@ -42,11 +43,12 @@ Rises s = s.failures < 2 ^ 64 - 1 → s.failed ≡ s.failures + 1
 abbrev pub IsSound : Stream → Type 0
 IsSound s = s.failed ≡ s.failures
 
--- what is described is the group of this plan
+-- what is described is the group of this plan, whose tables can be read
 pub record IsPlanned (described : Read Description) (plan : Plan) : Type 0 where
   pub description : Description
   pub is_described : described ≡ fine description
   pub planned : plan ≡ plan_of description
+  pub ready : AreReady plan.tables
 
 -- the bytes that the writer gained denote the graph, with a name of its own for each blank node
 pub record WroteGraph (out : Stream) (Graph : Triple → Type 0) : Type 0 where

@@ -1,5 +1,9 @@
-//! Laws about sessions and what they write. The calls do nothing.
+//! Laws about sessions and runs, and what they write. The calls do nothing.
 ghost use Rattle.std.specs.Prelude.{◌≡◌, ℕ, true, List, [], Result};
+ghost use Rattle.csvw_text.specs.Streams.{Stream};
+ghost use Rattle.csvw_text.specs.declared.counted.Counted.{Counted as TheCounted};
+ghost use Rattle.csvw_description.specs.declared.description.Description.{Description as TheDescription};
+ghost use Rattle.csvw_meta_core.specs.Read.{Read as Described};
 ghost use Rattle.csvw_columns.specs.declared.plan.Plan.{Plan as ThePlan};
 ghost use Rattle.csvw_triples_core.specs.Taking.{IsAsReady};
 ghost use Rattle.csvw_triples_core.specs.declared.mode.Mode.{Mode as TheMode};
@@ -13,12 +17,15 @@ ghost use Rattle.csvw_session.specs.declared.session.Session.{Session as TheSess
 ghost use Rattle.csvw_session.specs.declared.state.State.TheVariants as state;
 ghost use Rattle.csvw_session.specs.declared.stop.Stop.{Stop as TheStop};
 ghost use Rattle.csvw_group.specs.Stopped.{TookAll, TookSome};
+ghost use Rattle.csvw_engine.specs.GoodRuns.{IsOkOrLacks, ReadGoodTables};
 ghost use Rattle.csvw_engine.specs.Lines.{gains_lines, line_failures, writer_of};
+ghost use Rattle.csvw_engine.specs.Runs.{Runs};
 ghost use Rattle.csvw_engine.specs.Stopped.{WroteAll, WroteSome};
 
+use csvw_group::laws::good_texts_are_accepted;
 use csvw_ntriples::{labels_name_one_to_one, written_denotes};
 use csvw_triples_core::TripleSink;
-use std::io::Write;
+use std::io::{Read, Write};
 
 /// What a session has written over an N-Triples sink that was open, by what `csvw_group::laws` say that its sink took: whole lines
 /// that denote these triples, and after a failed write perhaps a front of the line of one more.
@@ -45,3 +52,13 @@ pub fn stopped_sessions_stay<S: TripleSink>()
     ensures finish { (old new : TheSession S) (result : Result TheOutcome TheStop) → old.state ≡ state.Failed
         → Finishes old new result → IsUnfinishedInOrder old result → new ≡ old }
 {}
+
+/// A run over good tables is Ok: where there are as many readers as tables of the group that is described, and their bytes are the texts
+/// of annotated tables, it stops for want of memory, a reader or a writer that failed, or after 2^40 reads alone.
+pub fn good_runs_succeed<R: Read>()
+    ensures { (described : Described TheDescription) (m : TheMode) (olds news : List (TheCounted R)) (out report_out : Stream)
+        (result : Result TheOutcome TheStop) → ReadGoodTables R.remaining described olds
+        → Runs R.remaining described m olds news out report_out result → IsOkOrLacks result }
+{
+    good_texts_are_accepted();
+}

@@ -21,7 +21,7 @@ pub record EndsAs (plan : TablePlan) (t : State) (text : List ℕ) (rows : List 
   pub faults : faults_of t ≡ table_faults plan.number (Some table.columns) table.rows
 
 -- all rows of an ended text without a stop are those of its file
-file_of : (d : Dialect) (max : ℕ) (bytes : List ℕ) (rows : List FileRow) → Front d max bytes true rows → IsWhole d max bytes → File d max bytes rows
+pub file_of : (d : Dialect) (max : ℕ) (bytes : List ℕ) (rows : List FileRow) → Front d max bytes true rows → IsWhole d max bytes → File d max bytes rows
 file_of d max bytes rows (inl f) whole = f.1
 file_of d max bytes rows (inr f) whole = absurd (f.0 refl whole.0 whole.1)
 

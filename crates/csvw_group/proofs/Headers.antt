@@ -12,9 +12,10 @@ use Rattle.csvw_triples_core.specs.declared.mode.Mode.{Mode}
 use Rattle.csvw_engine_core.specs.Annotated.{IsTable, Heads, needed, first_width, header_count, header_row, header_rows}
 use Rattle.csvw_engine_core.specs.Tables.{table_triples}
 
-fits : (n k : ℕ) → needed n ≤ k → n ≤ k
-fits zero k h = omega arith
-fits (suc n) k h = h
+-- so many rows have all header rows
+pub enough : (n k : ℕ) → needed n ≤ k → n ≤ k
+enough zero k h = omega arith
+enough (suc n) k h = h
 
 width_same : (n : ℕ) (given raws : List Given) → needed n ≤ length given → first_width n (given ++ raws) ≡ first_width n given
 width_same zero [] raws h = let bound = h in absurd (omega (arith, bound))
@@ -26,14 +27,18 @@ none_in_front [] ys e = refl
 none_in_front (x ∷ xs) ys e = cc
 
 module _ (plan : TablePlan) (given raws : List Given) where
-  columns_same : (c d : Columns) (f g : List Fault) → needed (header_count plan) ≤ length given → Heads plan given c f → Heads plan (given ++ raws) d g → c ≡ d
-  columns_same c d f g enough h k =
+  -- the header of rows is that of the first of them, where these are enough
+  pub heads_of_first : (c : Columns) (f : List Fault) → needed (header_count plan) ≤ length given → Heads plan (given ++ raws) c f → Heads plan given c f
+  heads_of_first c f some h =
       let rows : header_rows plan (given ++ raws) ≡ header_rows plan given =
-      ap (λ gs. map header_row gs) (take-append-le (header_count plan) given raws (fits (header_count plan) (length given) enough)) in
-      let width = width_same (header_count plan) given raws enough in
-      let own : Heads plan given d g =
-      subst (λ w. IsMatch plan (header_rows plan given) w d g) width
-      (subst (λ (rs : List HeaderRow). IsMatch plan rs (first_width (header_count plan) (given ++ raws)) d g) rows k) in
+      ap (λ gs. map header_row gs) (take-append-le (header_count plan) given raws (enough (header_count plan) (length given) some)) in
+      subst (λ w. IsMatch plan (header_rows plan given) w c f) (width_same (header_count plan) given raws some)
+      (subst (λ (rs : List HeaderRow). IsMatch plan rs (first_width (header_count plan) (given ++ raws)) c f) rows h)
+
+  pub columns_same : (c d : Columns) (f g : List Fault) → needed (header_count plan) ≤ length given → Heads plan given c f
+      → Heads plan (given ++ raws) d g → c ≡ d
+  columns_same c d f g some h k =
+      let own : Heads plan given d g = heads_of_first d g some k in
       h.columns ∙ sym own.columns
 
   pub same_columns : (a b : Option Columns) (f g : List Fault) (rows more : List Row) → IsTable plan given a f rows

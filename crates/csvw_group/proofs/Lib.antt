@@ -1,5 +1,8 @@
+pub mod Accepting
 pub mod Annotating
 pub mod AnyOrder
+pub mod Bodies
+pub mod Courses
 pub mod Ending
 pub mod Headers
 pub mod Listing

@@ -97,12 +97,12 @@ all_rows law plan m t text true rows h =
       all = inl whole.at_rest.all;
     }
 
--- each place of plans has a state
-pub state_of : (plans : List TablePlan) (ts : List State) (i : ℕ) (plan : TablePlan) → length ts ≡ length plans → slice_get plans i ≡ Some plan
-    → (t : State) × (slice_get ts i ≡ Some t)
-state_of plans ts i plan many e = elim (slice_get_cases ts i).1 [
+-- each place of a list is one of another that is as long
+pub at_place : {X Y : Type 0} (xs : List X) (ys : List Y) (i : ℕ) (x : X) → length ys ≡ length xs → slice_get xs i ≡ Some x
+    → (y : Y) × (slice_get ys i ≡ Some y)
+at_place xs ys i x many e = elim (slice_get_cases ys i).1 [
   | inl k ↦ (k.0, k.2)
-  | inr past ↦ let below = slice_get_within plans i plan e in let over = past.0 in absurd (omega (arith, many, below, over))
+  | inr past ↦ let below = slice_get_within xs i x e in let over = past.0 in absurd (omega (arith, many, below, over))
 ]
 
 -- the triples of rows of a table, whose columns may not be known
@@ -125,7 +125,7 @@ module _ {S : Type 0} (rows_law : RowsAreGraph) (s : Session S) (rows : ℕ → 
 
   from_parts : (x : Triple) → PartRows s.mode s.plan.tables (part_at s.tables.items rows) x → RowsGraph s rows x
   from_parts x h =
-      let at = state_of s.plan.tables s.tables.items h.0 h.1 s.many h.2 in (
+      let at = at_place s.plan.tables s.tables.items h.0 h.1 s.many h.2 in (
         h.0,
         h.1,
         at.0,
@@ -140,7 +140,7 @@ module _ {S : Type 0} (gains : S → List Triple → S → Type 0) (is_open : S 
   pub have_all : (start : S) (events : List Event) (s : Session S) (h : Stands gains is_open failed start events s)
       → HaveAllRows s.plan.tables events (part_at s.tables.items h.rows)
   have_all start events s h i plan e =
-      let at = state_of s.plan.tables s.tables.items i plan s.many e in
+      let at = at_place s.plan.tables s.tables.items i plan s.many e in
       subst (λ c. HasAllRows plan (text_of events (i + 1)) (ended_in events (i + 1)) (record { columns = c; rows = h.rows i })) (sym (ap columns_at at.1))
       (all_rows nothing_given plan s.mode at.0 (text_of events (i + 1)) (ended_in events (i + 1)) (h.rows i) (h.tables i plan at.0 (e, at.1)))
 

@@ -1,6 +1,8 @@
 pub mod Annotated
 pub mod AnyOrder
 pub mod Finished
+pub mod GoodEvents
+pub mod GoodTexts
 pub mod Graph
 pub mod Law
 pub mod OneTable

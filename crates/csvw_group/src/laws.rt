@@ -1,24 +1,29 @@
 //! Laws that bind the definitions by which the contracts speak. The calls do nothing.
-ghost use Rattle.std.specs.Prelude.{◌≡◌, ◌++◌, ◌∷◌, ℕ, true, List, [], Err};
+ghost use Rattle.std.specs.Prelude.{◌≡◌, ◌⊎◌, ◌++◌, ◌∷◌, ℕ, true, List, [], length, Result, Err};
 ghost use Rattle.std.specs.List.{list_all};
+ghost use Rattle.csvw_columns.specs.declared.plan.Plan.{Plan as ThePlan};
 ghost use Rattle.csvw_engine_core.specs.Tables.{is_ended};
 ghost use Rattle.csvw_opening.specs.OpeningTriples.{opening};
 ghost use Rattle.csvw_session.specs.Events.{Event, table_of};
-ghost use Rattle.csvw_session.specs.Sessions.{Stands, Takes};
+ghost use Rattle.csvw_session.specs.Sessions.{Stands, Starts, Takes};
 ghost use Rattle.csvw_session.specs.declared.session.Session.{Session as TheSession};
 ghost use Rattle.csvw_session.specs.declared.stop.Stop.{Stop};
 ghost use Rattle.csvw_triples_core.specs.Taking.{IsAsReady};
+ghost use Rattle.csvw_triples_core.specs.declared.mode.Mode.{Mode as TheMode};
 ghost use Rattle.csvw_report.specs.declared.outcome.Outcome.{Outcome as TheOutcome};
+ghost use Rattle.csvw_group.specs.Annotated.{Table, AreAnnotated};
 ghost use Rattle.csvw_group.specs.AnyOrder.{HaveSameTexts, EndTheSame};
 ghost use Rattle.csvw_group.specs.Finished.{IsAtItsEnd, EndsAnnotated};
-ghost use Rattle.csvw_group.specs.Law.{Annotates};
+ghost use Rattle.csvw_group.specs.GoodEvents.{AreGood, AreInOrder, EndsWell, Goes, IsTakenOrLacks, LacksFirst};
+ghost use Rattle.csvw_group.specs.GoodTexts.{GoodTextsAreAccepted};
+ghost use Rattle.csvw_group.specs.Law.{Annotates, texts_of};
 ghost use Rattle.csvw_group.specs.OneTable.{HaveOneAnnotation};
 ghost use Rattle.csvw_group.specs.Stopped.{TookAll, TookBy};
 
 use csvw_datatype::{one_code, one_value, value_or_code};
 use csvw_opening::opening_is_the_graphs;
 use csvw_report::laws::sorts_to_one;
-use csvw_rows::laws::{have_one_list, nothing_given};
+use csvw_rows::laws::{files_have_no_stop, first_begin, first_stay, have_one_list, nothing_given};
 use csvw_session::laws::texts_grow;
 use csvw_triples::{row_triples_are_row_graph, rows_triples_are_table_graph};
 use csvw_triples_core::TripleSink;
@@ -89,4 +94,38 @@ pub fn any_order<S: TripleSink>()
     finished_sessions_annotate::<S>();
     texts_have_one_annotation();
     sorts_to_one();
+}
+
+/// A text that goes on to that of an annotated table doesn't stop, and the table refuses neither a row of it nor its header.
+pub fn good_texts_are_accepted()
+    ensures { GoodTextsAreAccepted }
+{
+    have_one_list();
+    first_begin();
+    first_stay();
+    files_have_no_stop();
+}
+
+/// A session refuses no event of a good list: where the texts of all events, those to come too, are annotated tables, each table
+/// has its pieces before its end, and the session took the events in front of this one, then it is taken, or memory is wanting, or
+/// the sink's device failed.
+pub fn good_events_are_taken<S: TripleSink>()
+    ensures { (start : S) (events more : List Event) (event : Event) (old new : TheSession S) (tables : List Table) (answer : Result Unit Stop)
+        → Stands S.gains S.is_open S.failed start events old → AreInOrder (length old.plan.tables) (events ++ event ∷ more)
+        → AreAnnotated old.plan.tables (texts_of (events ++ event ∷ more)) tables
+        → Takes S.gains S.is_open S.failed old new (table_of event) event answer → IsTakenOrLacks answer }
+{
+    good_texts_are_accepted();
+}
+
+/// Every session that is given a good list of events ends well: where each table is ended once, after its pieces, and the texts are
+/// annotated tables, then each call answers Ok, the session stands for all events, and `finish` answers Ok or `Memory`; or memory
+/// was wanting or the sink's device failed at the first call that doesn't answer Ok.
+pub fn good_sessions_finish<S: TripleSink>()
+    ensures { (plan : ThePlan) (mode : TheMode) (sink : S) (s last : TheSession S) (events : List Event) (answers : List (Result Unit Stop)) (tables : List Table)
+        → Starts S.gains S.is_open S.failed plan mode sink s → AreGood (length plan.tables) events → AreAnnotated plan.tables (texts_of events) tables
+        → Goes S.gains S.is_open S.failed s events answers last
+        → LacksFirst answers ⊎ EndsWell S.gains S.is_open S.failed s.sink events answers last }
+{
+    good_events_are_taken::<S>();
 }

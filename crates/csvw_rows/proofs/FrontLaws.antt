@@ -8,7 +8,7 @@ use Rattle.csvw_rows.specs.Files.{Row, IsRow, AreRows, AreAllRows, EndsOpen, Kee
 use Rattle.csvw_rows.specs.SourceState.{rest_of}
 use Rattle.csvw_rows.specs.RowValue.{Given}
 use Rattle.csvw_rows.specs.Stops.{Begins}
-use Rattle.csvw_rows.specs.Laws.{HaveOneList, FrontsGrow, StopsPart, ComeFirst, FirstBegin, GivenBegin, GivenBeginLater, GivenFirst, GivenFirstLater, NothingGiven}
+use Rattle.csvw_rows.specs.Laws.{HaveOneList, FrontsGrow, StopsPart, ComeFirst, FirstBegin, GivenBegin, GivenBeginLater, GivenFirst, GivenFirstLater, NothingGiven, FirstStay}
 use Rattle.csvw_rows.proofs.RowLaws.{row_unique, rows_prefix}
 use Rattle.csvw_rows.proofs.Lookahead.{rows_again}
 use Rattle.csvw_rows.proofs.Stands.{no_more, no_row_in_last, begins_front}
@@ -170,6 +170,10 @@ given_first_later s d max bytes more ended before h = record { rows = h.rows; co
         × (rest_of s.source ≡ []) × Begins d max (content bytes)) → ComeFirst d max (bytes ++ more) ended h.rows
     by_reached (inl are) = let a = rows_later d bytes more h.rows (rest_of s.source) are in inl (record { rest = a.0; are_rows = a.1; limits = h.read.limits })
     by_reached (inr (e, t, o, z, b)) = absurd cc
+
+pub first_stay : FirstStay
+first_stay d max bytes more ended rows (inl b) = let a = rows_later d bytes more rows b.rest b.are_rows in inl (record { rest = a.0; are_rows = a.1; limits = b.limits })
+first_stay d max bytes more ended rows (inr (e, k)) = absurd cc
 
 pub nothing_given : NothingGiven
 nothing_given s d max before h = h.given_is ∙ by_rows h.rows h.read.reached

@@ -20,6 +20,7 @@ pub mod Readings
 pub mod Bodies
 pub mod States
 pub mod FrontLaws
+pub mod GoodTexts
 pub mod BoundLemmas
 pub mod DraftLemmas
 pub mod CleanLemmas

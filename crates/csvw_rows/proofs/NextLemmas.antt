@@ -310,6 +310,24 @@ module _ (whole : Bool) (d : Dialect) (max i : ℕ) (text : List ℕ) (len : ℕ
       by_end (inl goes) = let r = by_stands goes g.stands in inr (r.0, goes, r.1)
       by_end (inr e) = inl (long_text none breaks e)
 
+-- a last row that isn't too long goes on to one with its terminator
+pub last_goes : (d : Dialect) (max i : ℕ) (row : Row) → IsLawful d → i < max → IsRow d i row [] → byte_len row.text ≤ row_limit → Goes d max i row.text
+last_goes d max i row w few is_row fits = by_seen (sees d i row.text w)
+  where
+    found : next_row true d i row.text ≡ Some (row.fields, [])
+    found = ap (next_row true d i) (sym (append-nil row.text)) ∙ row_complete true d i row [] w is_row (inr (refl, refl))
+
+    by_seen : Sees d i row.text → Goes d max i row.text
+    by_seen (inl r) =
+        let same = row_unique true d i r.row row r.after [] w (sym r.spelled ∙ sym (append-nil row.text)) r.is_row (inl r.ends) is_row (inr (refl, refl)) in
+        absurd (nothing_ends d (let P : List ℕ → Type 0 = λ x. 0 < terminator_len d x in subst P same.rest r.ends))
+    by_seen (inr (inl (n, c))) =
+        let k = byte_len_take n row.text in
+        inr (few, record { row = c.row; more = c.more; spelled = c.spelled; is_row = c.is_row; short = omega (arith, k, fits, ap byte_len c.fits) })
+    by_seen (inr (inr (stop, b))) =
+        let whole = take_all (length row.text) row.text (omega arith) in
+        let z = sym (breaks_next true d i row.text (length row.text) stop (subst (λ l. Breaks d i l stop) (sym whole) b)) ∙ found in cc
+
 -- a row that is taken
 pub found_takes : (whole : Bool) (d : Dialect) (max i : ℕ) (text behind : List ℕ) (len t : ℕ) (fields : Option (List (List ℕ))) → IsLawful d → i < max → text ≢ [] → IsFound whole d i text len fields
     → byte_len (take len text) ≤ row_limit → behind ≡ drop len text → t ≡ terminator_len d behind → t ≤ length behind → TakesRow whole d max i text (length (take len text) + t) fields
@@ -367,23 +385,8 @@ found_takes whole d max i text behind len t fields w few some f short eb et with
         long_enough : 0 < length (take len text) + t
         long_enough = let k = length_some text some in omega (arith, k, ap length all, ap length s.text_is)
 
-        fits : byte_len text ≤ row_limit
-        fits = omega (arith, row_short, ap byte_len all)
-
-        found : next_row true d i text ≡ Some (s.row.fields, [])
-        found = ap (next_row true d i) (all ∙ sym (append-nil s.row.text)) ∙ row_complete true d i s.row [] w (subst (IsRow d i s.row) e s.is_row) (inr (refl, refl))
-
         goes : Goes d max i text
-        goes = by_seen (sees d i text w)
-          where
-            by_seen : Sees d i text → Goes d max i text
-            by_seen (inl r) =
-                let same = row_unique true d i r.row s.row r.after [] w (sym r.spelled ∙ all ∙ sym (append-nil s.row.text)) r.is_row (inl r.ends) (subst (IsRow d i s.row) e s.is_row) (inr (refl, refl)) in
-                absurd (nothing_ends d (let P : List ℕ → Type 0 = λ x. 0 < terminator_len d x in subst P same.rest r.ends))
-            by_seen (inr (inl (n, c))) = let k = byte_len_take n text in inr (few, record { row = c.row; more = c.more; spelled = c.spelled; is_row = c.is_row; short = omega (arith, k, fits, ap byte_len c.fits) })
-            by_seen (inr (inr (stop, b))) =
-                let whole_text = take_all (length text) text (omega arith) in
-                let z = sym (breaks_next true d i text (length text) stop (subst (λ l. Breaks d i l stop) (sym whole_text) b)) ∙ found in absurd cc
+        goes = subst (Goes d max i) (sym all) (last_goes d max i s.row w few (subst (IsRow d i s.row) e s.is_row) row_short)
 
 pub open_waits : (d : Dialect) (max i : ℕ) (text : List ℕ) (len : ℕ) → IsLawful d → i < max → Continues d i text len → byte_len (take len text) ≤ row_limit → Goes d max i text × NoRow d max i text
 open_waits d max i text len w few c short =

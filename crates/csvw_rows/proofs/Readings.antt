@@ -26,7 +26,7 @@ rows_snoc d i text (x ∷ xs) rest after row (later, e', r, h, rows) e is_row en
     (later, e', r, h, rows_snoc d (i + 1) (drop (terminator_len d later) later) xs rest after row rows e (subst (λ (n : ℕ). IsRow d n row after) place is_row) ends)
 
 -- the content begins a file where what is left goes on
-goes_on_begins : (d : Dialect) (max : ℕ) (text : List ℕ) (rows : List Row) (rest : List ℕ) → IsLawful d → AreRows d 0 text rows rest → KeepsLimits max rows → Goes d max (length rows) rest → Begins d max text
+pub goes_on_begins : (d : Dialect) (max : ℕ) (text : List ℕ) (rows : List Row) (rest : List ℕ) → IsLawful d → AreRows d 0 text rows rest → KeepsLimits max rows → Goes d max (length rows) rest → Begins d max text
 goes_on_begins d max text rows rest w are k g =
     let a = rows_again d 0 text rows rest are in
     subst (Begins d max) (sym a.spelled) (goes_begins d max text rows rest rest w a k g)
@@ -78,7 +78,7 @@ not_some : (o : Option ℕ) → is_some o ≡ false → IsSome o → ⊥
 not_some None e s = absurd cc
 not_some (Some x) e s = cc
 
-no_stop : (d : Dialect) (max : ℕ) (bytes : List ℕ) (ended : Bool) → Begins d max (content bytes) → (is_text bytes ≡ false → (ended ≡ false) × (is_some (utf8_error_len (drop (utf8_valid_len bytes) bytes)) ≡ false))
+pub no_stop : (d : Dialect) (max : ℕ) (bytes : List ℕ) (ended : Bool) → Begins d max (content bytes) → (is_text bytes ≡ false → (ended ≡ false) × (is_some (utf8_error_len (drop (utf8_valid_len bytes) bytes)) ≡ false))
     → (ended ≡ true → IsWhole d max bytes) → (stop : RowStop) (row : ℕ) → StopOf d max bytes ended stop row → ⊥
 no_stop d max bytes ended b text file stop row s = by_place s.stands
   where

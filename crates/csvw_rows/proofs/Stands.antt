@@ -144,11 +144,11 @@ rows_before d text rows rest n a =
     subst (λ (l : List ℕ). AreRows d 0 l rows (take n rest)) (sym (ap (take (length a.front + n)) a.spelled ∙ take_past a.front rest n)) (a.again (take n rest))
 
 -- of rows some come behind others
-All-behind : (xs ys : List Row) → All IsShort (xs ++ ys) → All IsShort ys
+pub All-behind : (xs ys : List Row) → All IsShort (xs ++ ys) → All IsShort ys
 All-behind [] ys h = h
 All-behind (x ∷ xs) ys h = All-behind xs ys (All-tail IsShort x (xs ++ ys) h)
 
-All-before : (xs ys : List Row) → All IsShort (xs ++ ys) → All IsShort xs
+pub All-before : (xs ys : List Row) → All IsShort (xs ++ ys) → All IsShort xs
 All-before [] ys h = All-nil IsShort
 All-before (x ∷ xs) ys h = All-cons IsShort x xs (All-head IsShort x (xs ++ ys) h) (All-before xs ys (All-tail IsShort x (xs ++ ys) h))
 

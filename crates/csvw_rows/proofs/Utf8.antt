@@ -38,7 +38,7 @@ pub front_valid : (bs : List ℕ) → IsUtf8 (take (utf8_valid_len bs) bs)
 unfolding utf8_valid_len
 front_valid bs = up_to_valid bs (length bs)
 
-front_longest : (bs : List ℕ) (m : ℕ) → utf8_valid_len bs < m → m ≤ length bs → IsUtf8 (take m bs) → ⊥
+pub front_longest : (bs : List ℕ) (m : ℕ) → utf8_valid_len bs < m → m ≤ length bs → IsUtf8 (take m bs) → ⊥
 unfolding utf8_valid_len
 front_longest bs m h k u = up_to_longest bs (length bs) m h k u
 

@@ -2,10 +2,11 @@
 use Rattle.std.specs.Prelude.{◌≡◌, ◌⊎◌, ℕ, ◌<◌, ◌≤◌, Bool, false, IsTrue, List, [], ◌++◌, take}
 use Rattle.csvw_dialect.specs.declared.dialect.Dialect.{Dialect}
 use Rattle.csvw_rows.specs.declared.rows.Rows.{Rows}
+use Rattle.csvw_rows.specs.declared.stop.RowStop.{RowStop}
 use Rattle.csvw_dialect.specs.Lawful.{IsLawful}
 use Rattle.csvw_rows.specs.Files.{Row, File, BeginsWithRows, Front, Body, content}
 use Rattle.csvw_rows.specs.RowValue.{Given}
-use Rattle.csvw_rows.specs.Stops.{Begins, StopsAt}
+use Rattle.csvw_rows.specs.Stops.{Begins, StopsAt, StopOf}
 use Rattle.csvw_rows.specs.RowsState.{Holds}
 
 -- bytes are a file of at most one list of rows
@@ -57,3 +58,12 @@ GivenFirstLater = (s : Rows) (d : Dialect) (max : ℕ) (bytes more : List ℕ) (
 -- of nothing read nothing was given
 abbrev pub NothingGiven : Type 0
 NothingGiven = (s : Rows) (d : Dialect) (max : ℕ) (given : List Given) → Holds s d max [] false given → given ≡ []
+
+-- rows that come first in bytes that haven't ended come first in all that they go on to
+abbrev pub FirstStay : Type 0
+FirstStay = (d : Dialect) (max : ℕ) (bytes more : List ℕ) (ended : Bool) (rows : List Row) → ComeFirst d max bytes false rows → ComeFirst d max (bytes ++ more) ended rows
+
+-- bytes that go on to a file, or are one, have no stop
+abbrev pub FilesHaveNoStop : Type 0
+FilesHaveNoStop = (d : Dialect) (max : ℕ) (bytes more : List ℕ) (ended : Bool) (rows : List Row) (stop : RowStop) (row : ℕ) → IsLawful d → (IsTrue ended → more ≡ [])
+    → File d max (bytes ++ more) rows → StopOf d max bytes ended stop row → ⊥

@@ -1,5 +1,6 @@
 //! Laws that bind the definitions by which the contracts speak. The calls do nothing.
-ghost use Rattle.csvw_rows.specs.Laws.{HaveOneList, FrontsGrow, StopsPart, FirstBegin, GivenBegin, GivenBeginLater, GivenFirst, GivenFirstLater, NothingGiven};
+ghost use Rattle.csvw_rows.specs.Laws.{HaveOneList, FrontsGrow, StopsPart, FirstBegin, GivenBegin, GivenBeginLater};
+ghost use Rattle.csvw_rows.specs.Laws.{GivenFirst, GivenFirstLater, NothingGiven, FirstStay, FilesHaveNoStop};
 
 /// Bytes are a file of at most one list of rows.
 pub fn have_one_list()
@@ -46,4 +47,14 @@ pub fn given_first_later()
 /// Of nothing read nothing was given.
 pub fn nothing_given()
     ensures { NothingGiven }
+{}
+
+/// Rows that come first in bytes that haven't ended come first in all that they go on to.
+pub fn first_stay()
+    ensures { FirstStay }
+{}
+
+/// Bytes that go on to a file, or are one, have no stop.
+pub fn files_have_no_stop()
+    ensures { FilesHaveNoStop }
 {}

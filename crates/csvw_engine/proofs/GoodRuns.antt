@@ -1,0 +1,119 @@
+-- A run over good tables stops neither for its document nor in a text.
+use Rattle.std.proofs.Common.{◌≡◌, ◌+◌, ℕ, zero, suc, Bool, true, List, [], ◌∷◌, ◌++◌, refl, sym, ap, ◌∙◌, subst, arith, inl, inr, length, Contains, Option, Some, None, Result, Ok, Err}
+use Rattle.std.specs.Prelude.{slice_get}
+use Rattle.std.specs.Io.KnownBytes.{Consumes, IsAtEnd}
+use Rattle.std.proofs.lemmas.Option.{slice_get_cases, slice_get_within}
+use Rattle.csvw_dialect.specs.Lawful.{IsLawful}
+use Rattle.csvw_text.specs.Counted.{inner_of}
+use Rattle.csvw_text.specs.Streams.{Stream}
+use Rattle.csvw_text.specs.declared.counted.Counted.{Counted}
+use Rattle.csvw_description.specs.declared.description.Description.{Description}
+use Rattle.csvw_meta_core.specs.Read.{Read}
+use Rattle.csvw_meta_core.specs.declared.fault.MetaFault.{MetaFault}
+use Rattle.csvw_columns.specs.PlanOf.{plan_of}
+use Rattle.csvw_columns.specs.declared.plan.Plan.{Plan}
+use Rattle.csvw_columns.specs.declared.plan.TablePlan.{TablePlan}
+use Rattle.csvw_triples_core.specs.declared.mode.Mode.{Mode}
+use Rattle.csvw_report.specs.declared.outcome.Outcome.{Outcome}
+use Rattle.csvw_session.specs.Events.{Event, text_of, ended_in}
+use Rattle.csvw_session.specs.Ready.{AreReady}
+use Rattle.csvw_session.specs.declared.stop.Stop.{Stop}
+use Rattle.csvw_session.specs.declared.stop.Stop.TheVariants as stop
+use Rattle.csvw_group.specs.Annotated.{IsAnnotated, AreAnnotated}
+use Rattle.csvw_group.specs.GoodTexts.{GoesOnToTable, GoodTextsAreAccepted}
+use Rattle.csvw_reading.specs.Reading.{Gave}
+use Rattle.csvw_engine.specs.GoodRuns.{IsOkOrLacks, ReadGoodTables}
+use Rattle.csvw_engine.specs.Runs.{IsPlanned, ReadsGroup, RefusedInText, Runs, StopsInText}
+
+none_in : {X : Type 0} (x : X) → Contains [] x → ⊥
+none_in x h = let lt = h.1 in absurd (omega arith)
+
+lawful_at : (plans : List TablePlan) (i : ℕ) (plan : TablePlan) → AreReady plans → slice_get plans i ≡ Some plan → IsLawful plan.dialect
+lawful_at [] i plan ready e = cc
+lawful_at (p ∷ plans) zero plan ready e = let same : p ≡ plan = cc in subst (λ (z : TablePlan). IsLawful z.dialect) same ready.0.dialect
+lawful_at (p ∷ plans) (suc i) plan ready e = lawful_at plans i plan ready.1 e
+
+-- each place of a list is one of another that is as long
+at_place : {X Y : Type 0} (xs : List X) (ys : List Y) (i : ℕ) (x : X) → length ys ≡ length xs → slice_get xs i ≡ Some x → (y : Y) × (slice_get ys i ≡ Some y)
+at_place xs ys i x many e = elim (slice_get_cases ys i).1 [
+  | inl k ↦ (k.0, k.2)
+  | inr past ↦ let below = slice_get_within xs i x e in let over = past.0 in absurd (omega (arith, many, below, over))
+]
+
+-- what is left of known bytes
+record IsLeft (whole bytes : List ℕ) (ended : Bool) : Type 0 where
+  pub more : List ℕ
+  pub parted : whole ≡ bytes ++ more
+  pub none : ended ≡ true → more ≡ []
+
+left_of : (whole bytes : List ℕ) (now : Option (List ℕ)) (ended : Bool) → Consumes (Some whole) now bytes
+    → (ended ≡ true → IsAtEnd now) → IsLeft whole bytes ended
+left_of whole bytes None ended consumed at_end = absurd consumed
+left_of whole bytes (Some rest) ended consumed at_end = record { more = rest; parted = consumed; none = at_end }
+
+module _ (accepted : GoodTextsAreAccepted) {R : Type 0} (remaining : R → Option (List ℕ)) (described : Read Description) (olds news : List (Counted R))
+    (good : ReadGoodTables remaining described olds) where
+  no_fault : (fault : MetaFault) → Contains described.faults fault → ⊥
+  no_fault fault c = none_in fault (subst (λ (d : Read Description). Contains d.faults fault) good.is_described c)
+
+  plan_is : (plan : Plan) → IsPlanned described plan → plan ≡ plan_of good.description
+  plan_is plan planned =
+      let same : planned.description ≡ good.description =
+      ap (λ (d : Read Description). d.value) (sym planned.is_described ∙ good.is_described) in
+      planned.planned ∙ ap plan_of same
+
+  as_many : (plan : Plan) → IsPlanned described plan → length olds ≡ length plan.tables
+  as_many plan planned = good.many ∙ ap (λ (p : Plan). length p.tables) (sym (plan_is plan planned))
+
+  module _ (plan : Plan) (events : List Event) (reads : ReadsGroup remaining described olds news plan events) where
+    annotated : AreAnnotated plan.tables good.texts good.tables
+    annotated = subst (λ (p : Plan). AreAnnotated p.tables good.texts good.tables) (sym (plan_is plan reads.planned)) good.annotated
+
+    gave_at : (t i : ℕ) (r s : Counted R) → i + 1 ≡ t → slice_get olds i ≡ Some r → slice_get news i ≡ Some s
+        → Gave remaining r s (text_of events t) (ended_in events t)
+    gave_at t i r s number was is = subst (λ n. Gave remaining r s (text_of events n) (ended_in events n)) number (reads.gave.each i r s was is)
+
+    left_at : (t i : ℕ) (r s : Counted R) → i + 1 ≡ t → slice_get olds i ≡ Some r → slice_get news i ≡ Some s
+        → IsLeft (good.texts i) (text_of events t) (ended_in events t)
+    left_at t i r s number was is =
+        let gave = gave_at t i r s number was is in
+        left_of (good.texts i) (text_of events t) (remaining (inner_of s)) (ended_in events t)
+        (subst (λ o. Consumes o (remaining (inner_of s)) (text_of events t)) (good.known i r was) gave.consumed) gave.at_end
+
+    goes_on : (t i : ℕ) (table : TablePlan) → i + 1 ≡ t → slice_get plan.tables i ≡ Some table → GoesOnToTable table (text_of events t) (ended_in events t)
+    goes_on t i table number e =
+        let reader = at_place plan.tables olds i table reads.many e in
+        let now = at_place olds news i reader.0 reads.gave.many reader.1 in
+        let own = at_place plan.tables good.tables i table annotated.many e in
+        let left = left_at t i reader.0 now.0 number reader.1 now.1 in
+        record {
+          more = left.more;
+          none_left = left.none;
+          table = own.0;
+          annotated = subst (λ text. IsAnnotated table text own.0) left.parted (annotated.each i table own.0 e own.1);
+        }
+
+    not_stopped : (t row : ℕ) (reason : _) → StopsInText plan events t row reason → ⊥
+    not_stopped t row reason h =
+        accepted.stops h.table (text_of events t) (ended_in events t) h.given row reason (lawful_at plan.tables h.i h.table reads.planned.ready h.is_at)
+        (goes_on t h.i h.table h.number h.is_at) h.stopped
+
+    not_refused : (t row : ℕ) (reason : _) → RefusedInText plan events t row reason → ⊥
+    not_refused t row reason h =
+        accepted.refuses h.table (text_of events t) (ended_in events t) h.given h.columns h.faults h.rows row reason
+        (lawful_at plan.tables h.i h.table reads.planned.ready h.is_at) (goes_on t h.i h.table h.number h.is_at) h.in_front h.refused
+
+  pub ok_or_lacks : (mode : Mode) (out report_out : Stream) (result : Result Outcome Stop) → Runs remaining described mode olds news out report_out result
+      → IsOkOrLacks result
+  ok_or_lacks mode out report_out (Ok outcome) h = tt
+  ok_or_lacks mode out report_out (Err stop.Memory) h = inl refl
+  ok_or_lacks mode out report_out (Err stop.Read) h = inr (inl refl)
+  ok_or_lacks mode out report_out (Err stop.Write) h = inr (inr refl)
+  ok_or_lacks mode out report_out (Err (stop.Meta fault)) h = absurd (no_fault fault h.0)
+  ok_or_lacks mode out report_out (Err stop.TableCount) h = absurd (h.0.apart (as_many h.0.plan h.0.planned))
+  ok_or_lacks mode out report_out (Err (stop.Rows t row reason)) h = absurd (not_stopped h.0.0 h.0.1 h.0.2 t row reason h.0.3.0)
+  ok_or_lacks mode out report_out (Err (stop.Table t row reason)) h = absurd (not_refused h.0.0 h.0.1 h.0.2 t row reason h.0.3.0)
+  ok_or_lacks mode out report_out (Err stop.UnknownTable) h = absurd h
+  ok_or_lacks mode out report_out (Err stop.AfterEnd) h = absurd h
+  ok_or_lacks mode out report_out (Err stop.NotEnded) h = absurd h
+  ok_or_lacks mode out report_out (Err stop.Failed) h = absurd h

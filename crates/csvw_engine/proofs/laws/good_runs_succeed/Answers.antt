@@ -1,0 +1,7 @@
+-- By the texts that the readers have left.
+use Rattle.csvw_engine.proofs.GoodRuns.{ok_or_lacks}
+use Rattle.csvw_engine.proofs.laws.good_runs_succeed.Goals as goal
+
+pub returns : goal.returns
+returns g c = λ described mode olds news out report_out result good h.
+    ok_or_lacks c.good_texts_are_accepted.ensures g.R.Read.remaining described olds news good mode out report_out result h

@@ -1,0 +1,67 @@
+-- Good lists of events, and what a session answers to them.
+use Rattle.std.specs.Prelude.{◌≡◌, ◌⊎◌, ◌≤◌, ℕ, Bool, true, false, List, [], ◌∷◌, ◌++◌, Contains, Result, Ok, Err}
+use Rattle.std.specs.List.{list_all}
+use Rattle.csvw_triples_core.specs.declared.term.Triple.{Triple}
+use Rattle.csvw_report.specs.declared.outcome.Outcome.{Outcome}
+use Rattle.csvw_engine_core.specs.Tables.{is_ended}
+use Rattle.csvw_session.specs.Events.{Event, table_of, ended_in}
+use Rattle.csvw_session.specs.Finishing.{Finishes}
+use Rattle.csvw_session.specs.Sessions.{Stands, Takes}
+use Rattle.csvw_session.specs.declared.session.Session.{Session}
+use Rattle.csvw_session.specs.declared.stop.Stop.{Stop}
+use Rattle.csvw_session.specs.declared.stop.Stop.TheVariants as stop
+
+-- each event is of one of so many tables, which have numbers from 1, and comes before the end of that table was told
+pub record AreInOrder (many : ℕ) (events : List Event) : Type 0 where
+  pub known : (event : Event) → Contains events event → (1 ≤ table_of event) × (table_of event ≤ many)
+  pub before_end : (front rest : List Event) (event : Event) → events ≡ front ++ event ∷ rest → ended_in front (table_of event) ≡ false
+
+-- each table is ended once, after its pieces
+pub record AreGood (many : ℕ) (events : List Event) : Type 0 where
+  pub in_order : AreInOrder many events
+  pub ended : (t : ℕ) → 1 ≤ t → t ≤ many → ended_in events t ≡ true
+
+-- memory was wanting, or the sink's device failed
+abbrev pub Lacks : Stop → Type 0
+Lacks reason = (reason ≡ stop.Memory) ⊎ (reason ≡ stop.Write)
+
+-- a call's answer: Ok, or what was lacking
+abbrev pub IsTakenOrLacks : Result Unit Stop → Type 0
+IsTakenOrLacks (Ok u) = Unit {0}
+IsTakenOrLacks (Err reason) = Lacks reason
+
+-- what a call of `feed` or `end` says of its event
+pub record Calls {S : Type 0} (gains : S → List Triple → S → Type 0) (is_open : S → Bool) (failed : S → ℕ) (old new : Session S) (event : Event)
+    (answer : Result Unit Stop) : Type 0 where
+  pub takes : Takes gains is_open failed old new (table_of event) event answer
+  pub plan_is : new.plan ≡ old.plan
+
+-- calls for these events, one after the other, with these answers, which leave the session so
+abbrev pub Goes : {S : Type 0} → (S → List Triple → S → Type 0) → (S → Bool) → (S → ℕ) → Session S → List Event → List (Result Unit Stop) → Session S → Type 0
+Goes gains is_open failed s [] answers last = (answers ≡ []) × (last ≡ s)
+Goes gains is_open failed s (event ∷ events) [] last = ⊥
+Goes {S} gains is_open failed s (event ∷ events) (answer ∷ answers) last =
+    (next : Session S) × Calls gains is_open failed s next event answer × Goes gains is_open failed next events answers last
+
+-- each call answered Ok
+abbrev pub AllTaken : List (Result Unit Stop) → Type 0
+AllTaken answers = (answer : Result Unit Stop) → Contains answers answer → answer ≡ Ok tt
+
+-- the first answer that isn't Ok tells that memory was wanting, or that the sink's device failed
+pub record LacksFirst (answers : List (Result Unit Stop)) : Type 0 where
+  pub front : List (Result Unit Stop)
+  pub reason : Stop
+  pub rest : List (Result Unit Stop)
+  pub all : answers ≡ front ++ Err reason ∷ rest
+  pub taken : AllTaken front
+  pub lacks : Lacks reason
+
+-- Each call answered Ok, so that the session took these events since the start and each of its tables was ended; and to finish it
+-- answers Ok, or that memory was wanting.
+pub record EndsWell {S : Type 0} (gains : S → List Triple → S → Type 0) (is_open : S → Bool) (failed : S → ℕ) (start : S) (events : List Event)
+    (answers : List (Result Unit Stop)) (last : Session S) : Type 0 where
+  pub taken : AllTaken answers
+  pub stands : Stands gains is_open failed start events last
+  pub ended : list_all is_ended last.tables.items ≡ true
+  pub finish : (finished : Session S) (result : Result Outcome Stop) → Finishes last finished result
+      → ((outcome : Outcome) × (result ≡ Ok outcome)) ⊎ (result ≡ Err stop.Memory)
