@@ -1,2 +1,3 @@
 pub mod ListLemmas
 pub mod NormalLemmas
+pub mod TypedLemmas

@@ -1,9 +1,12 @@
 -- Texts without white space, which steps 1 and 2 leave as they are.
-use Rattle.std.proofs.Common.{◌≡◌, ◌∙◌, ℕ, Bool, true, false, List, [], ◌∷◌, refl, sym, ap, arith, ◌==◌}
-use Rattle.std.specs.Prelude.{◌||◌, not, if◌then◌else◌}
+use Rattle.std.proofs.Common.{◌≡◌, ◌∙◌, ◌<◌, ◌≤◌, ℕ, Bool, true, false, List, [], ◌∷◌, refl, sym, ap, arith, ◌==◌, ◌+◌, ◌/◌, ◌%◌, cond, nat_lt, ⊎_elim}
+use Rattle.std.specs.Prelude.{◌||◌, not, if◌then◌else◌, IsUtf8, chars, encode_utf8, encode_utf8_all}
+use lib.Utf8.{encode}
 use Rattle.std.specs.List.{list_any}
-use Rattle.std.proofs.lemmas.Bool.{false≢true, cond-false}
+use Rattle.std.proofs.lemmas.Bool.{false≢true, cond-false, cases_lt}
 use Rattle.std.proofs.lemmas.Bool.Decides.{nat_tests}
+use Rattle.std.proofs.lemmas.List.Folds.{list_any-append}
+use Rattle.std.proofs.lemmas.Str.{encode_ascii, encodes-chars}
 use Rattle.csvw_text.specs.Collapse.{is_break, is_space, spaced, unled, single, collapse}
 
 neither : (a b : Bool) → (a || b) ≡ false → (a ≡ false) × (b ≡ false)
@@ -31,3 +34,61 @@ unled_same (c ∷ cs) e = cond-false _ _ _ (other c (neither (is_space c) (list_
 
 pub collapse_same : (cs : List ℕ) → list_any is_space cs ≡ false → collapse cs ≡ cs
 collapse_same cs e = ap unled (single_same cs e) ∙ unled_same cs e
+
+-- no byte of a character outside ASCII is white space
+high_byte : (b : ℕ) → 128 ≤ b → is_space b ≡ false
+high_byte b h = grind (arith, nat_tests)
+
+lead : (k n : ℕ) → 128 ≤ k → is_space (k + n) ≡ false
+lead k n h = high_byte (k + n) (omega arith)
+
+next : (n : ℕ) → is_space (128 + n) ≡ false
+next n = high_byte (128 + n) (omega arith)
+
+chosen : (b : Bool) (x y : List ℕ) → list_any is_space x ≡ false → list_any is_space y ≡ false → list_any is_space (cond b x y) ≡ false
+chosen true x y p q = p
+chosen false x y p q = q
+
+two : (x y : ℕ) → is_space x ≡ false → is_space y ≡ false → list_any is_space (x ∷ y ∷ []) ≡ false
+two x y p q = rw (p, q) refl
+
+three : (x y z : ℕ) → is_space x ≡ false → is_space y ≡ false → is_space z ≡ false → list_any is_space (x ∷ y ∷ z ∷ []) ≡ false
+three x y z p q r = rw (p, q, r) refl
+
+four : (w x y z : ℕ) → is_space w ≡ false → is_space x ≡ false → is_space y ≡ false → is_space z ≡ false → list_any is_space (w ∷ x ∷ y ∷ z ∷ []) ≡ false
+four w x y z p q r s = rw (p, q, r, s) refl
+
+not_below : (c : ℕ) → 128 ≤ c → nat_lt c 128 ≡ false
+not_below c h = grind (arith, nat_tests)
+
+high_encode : (c : ℕ) → 128 ≤ c → list_any is_space (encode c) ≡ false
+unfolding encode
+high_encode c h =
+    let last = 128 + c % 64 in
+    let third = 128 + (c / 64) % 64 in
+    let second = 128 + (c / 4096) % 64 in
+    rw (not_below c h)
+    (chosen (nat_lt c 2048) _ _ (two (192 + c / 64) last (lead 192 (c / 64) (omega arith)) (next (c % 64)))
+    (chosen (nat_lt c 65536) _ _ (three (224 + c / 4096) third last (lead 224 (c / 4096) (omega arith)) (next ((c / 64) % 64)) (next (c % 64)))
+    (four (240 + c / 262144) second third last (lead 240 (c / 262144) (omega arith)) (next ((c / 4096) % 64)) (next ((c / 64) % 64)) (next (c % 64)))))
+
+or_false : (b : Bool) → (b || false) ≡ b
+or_false true = refl
+or_false false = refl
+
+char_same : (c : ℕ) → list_any is_space (encode_utf8 c) ≡ is_space c
+char_same c =
+    ⊎_elim
+    (λ (low : c < 128). ap (list_any is_space) (encode_ascii c low) ∙ or_false (is_space c))
+    (λ (high : 128 ≤ c). high_encode c high ∙ sym (high_byte c high))
+    (cases_lt c 128)
+
+chars_same : (cs : List ℕ) → list_any is_space (encode_utf8_all cs) ≡ list_any is_space cs
+chars_same [] = refl
+chars_same (c ∷ cs) =
+    list_any-append is_space (encode_utf8 c) (encode_utf8_all cs)
+    ∙ (ap (λ x. x || list_any is_space (encode_utf8_all cs)) (char_same c) ∙ ap (λ x. is_space c || x) (chars_same cs))
+
+-- the bytes of a text tell whether it has white space
+pub space_bytes : (text : List ℕ) → IsUtf8 text → list_any is_space text ≡ list_any is_space (chars text)
+space_bytes text utf8 = sym (ap (list_any is_space) (encodes-chars text utf8)) ∙ chars_same (chars text)

@@ -17,7 +17,7 @@ use csvw_text::{Code, Seq, Text, collapse};
 use std::alloc::{AllocError, Global};
 
 /// What is wrong with a cell without a value: `Required` where the column asks for one.
-fn missing(alloc: Global, properties: &Properties) -> Result<Seq<Code>, AllocError>
+pub(crate) fn missing(alloc: Global, properties: &Properties) -> Result<Seq<Code>, AllocError>
     ensures { IfOk result (λ s. s ≡ missing properties.now) }
 {
     let mut codes = Seq::new(alloc);
@@ -27,20 +27,27 @@ fn missing(alloc: Global, properties: &Properties) -> Result<Seq<Code>, AllocErr
     Ok(codes)
 }
 
-fn is_space(c: char) -> bool
-    ensures { result ≡ is_space c }
+fn is_space(b: u8) -> bool
+    ensures { result ≡ is_space b }
 {
-    matches!(c, '\r' | '\n' | '\t' | ' ')
+    matches!(b, b'\r' | b'\n' | b'\t' | b' ')
 }
 
+fn has_space_byte(bytes: &[u8]) -> bool
+    ensures { result ≡ list_any is_space bytes.now }
+{
+    bytes.iter().any(|b| is_space(*b))
+}
+
+/// Whether some character is white space. All white space is ASCII, so the bytes tell it.
 fn has_space(text: &str) -> bool
     ensures { result ≡ list_any is_space (chars text.now) }
 {
-    text.chars().any(|c| is_space(c))
+    has_space_byte(text.as_bytes())
 }
 
 /// Whether it is plain that steps 1 and 2 leave a text as it is.
-fn is_normal(datatype: &Datatype, text: &str) -> bool
+pub(crate) fn is_normal(datatype: &Datatype, text: &str) -> bool
     ensures same { result ≡ true → normalized datatype.now text.now ≡ text.now }
     ensures other { result ≡ false → is_string datatype.now ≡ false }
 {

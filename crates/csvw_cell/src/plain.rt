@@ -1,14 +1,15 @@
-//! Cells whose text is their value, read over the cells before them.
-ghost use Rattle.std.specs.Prelude.{◌≡◌, OnOk};
+//! Cells read over the cells before them.
+ghost use Rattle.std.specs.Prelude.{◌≡◌, true, OnOk};
 ghost use Rattle.csvw_datatype.specs.Breaks.{has_lengths};
 ghost use Rattle.csvw_datatype.specs.Sound.{IsSound};
-ghost use Rattle.csvw_cell.specs.CellOf.{CellOf};
-ghost use Rattle.csvw_cell.specs.Plain.{is_plain, text_item, the_text};
+ghost use Rattle.csvw_cell.specs.CellOf.{CellOf, IsSingle, normalized};
+ghost use Rattle.csvw_cell.specs.Plain.{is_plain, is_typed, text_item, the_text};
 
 use crate::cell::{Cell, CellValue, Item};
-use crate::item::is_string;
+use crate::codes::in_order;
+use crate::item::{is_string, judge};
 use crate::list::{is_null, or_default};
-use crate::parsing::parse_into;
+use crate::parsing::{is_normal, missing, parse_into};
 use csvw_columns_core::{Column, Properties};
 use csvw_datatype::{Facets, Value};
 use csvw_text::{Code, Seq, Text};
@@ -59,6 +60,53 @@ fn refill_value(alloc: Global, value: &mut CellValue, text: &str) -> Result<(), 
     }
 }
 
+/// Makes these the value and the faults of a text that is no list.
+fn single_over(
+    alloc: Global,
+    properties: &Properties,
+    text: &str,
+    value: &mut CellValue,
+    faults: &mut Seq<Code>,
+) -> Result<(), AllocError>
+    requires { IsSound properties.now.datatype }
+    ensures { OnOk result (IsSingle properties.now text.now (record { value = value.new; faults = faults.new })) }
+{
+    if is_null(properties.null.get().as_slice(), text) {
+        *value = CellValue::Null;
+        *faults = missing(alloc, properties)?;
+        return Ok(());
+    }
+    let judged = judge(alloc, properties.datatype.get(), text, Text::new(alloc))?;
+    *faults = in_order(alloc, judged.causes.as_slice())?;
+    *value = CellValue::One(judged.item);
+    Ok(())
+}
+
+/// Whether the cells of such properties are no strings and no lists.
+fn is_typed(properties: &Properties) -> bool
+    ensures { result ≡ is_typed properties.now }
+{
+    !is_string(properties.datatype.get()) && properties.separator.is_none()
+}
+
+/// Makes these the value and the faults of the cell of a text that steps 1 and 2 leave as it is, which is no list.
+fn parse_typed(
+    alloc: Global,
+    column: &Column,
+    text: &str,
+    value: &mut CellValue,
+    faults: &mut Seq<Code>,
+) -> Result<(), AllocError>
+    requires sound { IsSound column.now.properties.datatype }
+    requires typed { is_typed column.now.properties ≡ true }
+    requires normal { normalized column.now.properties.datatype text.now ≡ text.now }
+    ensures { OnOk result (CellOf column.now text.now (record { value = value.new; faults = faults.new })) }
+{
+    let properties = &column.properties;
+    let shown = or_default(properties.default.get().as_str(), text);
+    single_over(alloc, properties, shown, value, faults)
+}
+
 fn parse_again(
     alloc: Global,
     column: &Column,
@@ -96,6 +144,9 @@ pub fn parse_over(
     if is_plain(properties) && !is_null(properties.null.get().as_slice(), shown) {
         *faults = Seq::new(alloc);
         return refill_value(alloc, value, shown);
+    }
+    if is_typed(properties) && is_normal(properties.datatype.get(), text) {
+        return parse_typed(alloc, column, text, value, faults);
     }
     parse_again(alloc, column, text, value, faults)
 }

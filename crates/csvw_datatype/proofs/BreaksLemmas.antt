@@ -1,9 +1,9 @@
--- Where no facet asks for a length, none is broken.
-use Rattle.std.proofs.Common.{◌≡◌, ℕ, ◌||◌, Bool, true, false, Option, Some, None, is_some, ◌==◌, not, nat_lt, refl}
+-- Where no facet asks for a length, none is broken, and where no facet is a bound, none of these is.
+use Rattle.std.proofs.Common.{◌≡◌, ℕ, ◌||◌, Bool, true, false, Option, Some, None, is_some, ◌==◌, not, nat_lt, refl, sym, ap, ◌∙◌}
 use Rattle.csvw_datatype.specs.declared.value.Value.{Value}
 use Rattle.csvw_datatype.specs.declared.datatype.Facets.{Facets}
 use Rattle.csvw_datatype.specs.declared.facets.Broken.{Broken}
-use Rattle.csvw_datatype.specs.Breaks.{fails, length_of, has_lengths, length_breaks}
+use Rattle.csvw_datatype.specs.Breaks.{fails, is_over, is_not_under, length_of, has_lengths, has_bounds, length_breaks, breaks}
 
 or_none : (a b : Bool) → (a || b) ≡ false → (a ≡ false) × (b ≡ false)
 or_none true b h = cc
@@ -29,3 +29,27 @@ unmeasured v f h =
     (absent (λ n k. not (n == k)) (length_of v) f.length q.0)
     (absent (λ n k. nat_lt n k) (length_of v) f.min_length q.1)
     (absent (λ n k. nat_lt k n) (length_of v) f.max_length p.1)
+
+not_below : (v : Value) (a b c : Option Value) → (is_some a || is_some b || is_some c) ≡ false → (is_over a (Some v) || is_over b (Some v) || is_not_under c (Some v)) ≡ false
+not_below v None None None h = refl
+not_below v None None (Some z) h = cc
+not_below v None (Some y) c h = cc
+not_below v (Some x) b c h = cc
+
+not_above : (v : Value) (a b c : Option Value) → (is_some a || is_some b || is_some c) ≡ false → (is_over (Some v) a || is_over (Some v) b || is_not_under (Some v) c) ≡ false
+not_above v None None None h = refl
+not_above v None None (Some z) h = cc
+not_above v None (Some y) c h = cc
+not_above v (Some x) b c h = cc
+
+with_sides : Broken → Bool → Bool → Broken
+with_sides b low high = record b { below_minimum = low; above_maximum = high }
+
+pub unbounded : (v : Value) (f : Facets) → has_bounds f ≡ false → length_breaks v f ≡ breaks v f
+unfolding with_sides
+unbounded v f h =
+    let p = or_none (is_some f.minimum || is_some f.min_inclusive || is_some f.min_exclusive) (is_some f.maximum || is_some f.max_inclusive || is_some f.max_exclusive) h in
+    let low = not_below v f.minimum f.min_inclusive f.min_exclusive p.0 in
+    let high = not_above v f.maximum f.max_inclusive f.max_exclusive p.1 in
+    sym (ap (λ b. with_sides (length_breaks v f) b (is_over (Some v) f.maximum || is_over (Some v) f.max_inclusive || is_not_under (Some v) f.max_exclusive)) low
+    ∙ ap (λ b. with_sides (length_breaks v f) false b) high)

@@ -57,6 +57,12 @@ is_not_under a b = fails (λ a b. is_up_to b a) a b
 abbrev pub has_lengths : Facets → Bool
 has_lengths f = is_some f.length || is_some f.min_length || is_some f.max_length
 
+-- a facet is a bound
+abbrev pub has_bounds : Facets → Bool
+has_bounds f =
+    (is_some f.minimum || is_some f.min_inclusive || is_some f.min_exclusive)
+    || (is_some f.maximum || is_some f.max_inclusive || is_some f.max_exclusive)
+
 -- the lengths alone
 abbrev pub length_breaks : Value → Facets → Broken
 length_breaks v f = record {

@@ -1,7 +1,7 @@
 //! The facets that a value breaks.
-ghost use Rattle.std.specs.Prelude.{◌≡◌, length, ◌==◌, nat_lt, not, option_copied, Some};
+ghost use Rattle.std.specs.Prelude.{◌≡◌, length, ◌==◌, nat_lt, not, option_copied, is_some, Some, ◌||◌};
 ghost use Rattle.std.specs.Str.{chars};
-ghost use Rattle.csvw_datatype.specs.Breaks.{breaks, length_breaks, has_lengths, is_below, is_up_to, length_of, fails, is_over, is_not_under};
+ghost use Rattle.csvw_datatype.specs.Breaks.{breaks, length_breaks, has_lengths, has_bounds, is_below, is_up_to, length_of, fails, is_over, is_not_under};
 
 use crate::datatype::{Datatype, Facets};
 use crate::value::Value;
@@ -23,6 +23,10 @@ impl Datatype {
     {
         let facets = &self.facets;
         let lengths = broken_lengths(value, facets);
+        // most datatypes have no bounds
+        if !has_bounds(facets) {
+            return lengths;
+        }
         let value = Some(value);
         Broken {
             below_minimum: is_over(facets.minimum.as_ref(), value)
@@ -34,6 +38,26 @@ impl Datatype {
             ..lengths
         }
     }
+}
+
+fn is_one_there(a: &Option<Value>, b: &Option<Value>, c: &Option<Value>) -> bool
+    ensures { result ≡ (is_some a.now || is_some b.now || is_some c.now) }
+{
+    a.is_some() || b.is_some() || c.is_some()
+}
+
+fn has_bounds(facets: &Facets) -> bool
+    ensures { result ≡ has_bounds facets.now }
+{
+    is_one_there(
+        &facets.minimum,
+        &facets.min_inclusive,
+        &facets.min_exclusive,
+    ) || is_one_there(
+        &facets.maximum,
+        &facets.max_inclusive,
+        &facets.max_exclusive,
+    )
 }
 
 // A text is measured only where a facet asks for its length.

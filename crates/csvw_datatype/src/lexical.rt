@@ -4,7 +4,10 @@ ghost use Rattle.csvw_datatype.specs.Lexical.{IsWritable, IsLexical, lexical_of,
 ghost use Rattle.csvw_datatype.specs.Reads.{ReadsAs};
 
 use crate::value::Value;
-use csvw_datatype_core::{date_text, moment_text, number_text};
+use csvw_datatype_core::{
+    date_text, moment_text, number_text, refill_date, refill_moment, refill_number,
+};
+use csvw_text::Text;
 use std::alloc::{AllocError, Global};
 
 impl Value {
@@ -26,6 +29,42 @@ impl Value {
             Value::Moment(moment) => moment_text(alloc, *moment),
         }
     }
+
+    /// The lexical form of a value, as `lexical` gives it, in the memory of a text that is no longer needed; `AllocError` where
+    /// there is none.
+    pub fn lexical_over(&self, spare: Text) -> Result<Text, AllocError>
+        requires { IsWritable self.now }
+        ensures { IfOk result (λ text. text ≡ lexical_of self.now) }
+    {
+        match self {
+            Value::Text(text) => refilled(spare, text.as_str()),
+            Value::Truth(truth) => refilled(spare, truth_text(*truth)),
+            Value::Number(number) => {
+                let mut out = spare.into_string();
+                refill_number(&mut out, *number)?;
+                Ok(Text::of(out))
+            }
+            Value::Day(day) => {
+                let mut out = spare.into_string();
+                refill_date(&mut out, *day)?;
+                Ok(Text::of(out))
+            }
+            Value::Moment(moment) => {
+                let mut out = spare.into_string();
+                refill_moment(&mut out, *moment)?;
+                Ok(Text::of(out))
+            }
+        }
+    }
+}
+
+/// A copy of a text, in the memory of another.
+fn refilled(spare: Text, text: &str) -> Result<Text, AllocError>
+    ensures { IfOk result (λ t. t ≡ text.now) }
+{
+    let mut copy = spare;
+    copy.refill(text)?;
+    Ok(copy)
 }
 
 fn truth_text(truth: bool) -> &'static str

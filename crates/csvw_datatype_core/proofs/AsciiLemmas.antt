@@ -10,7 +10,7 @@ use Rattle.csvw_datatype_core.specs.Numbers.{Sign, NoSign, Plus, Minus, sign_tex
 use Rattle.csvw_datatype_core.specs.LexicalNumbers.{plain_rules, IsLexicalNumber}
 
 -- all bytes are below 128
-AllAscii : List ℕ → Type 0
+unfoldable pub AllAscii : List ℕ → Type 0
 AllAscii cs = AllByRecursion (λ c. c < 128) cs
 
 appended : (xs ys : List ℕ) → AllAscii xs → AllAscii ys → AllAscii (xs ++ ys)
@@ -57,7 +57,7 @@ number cs z r =
     let P : List ℕ → Type 0 = λ cs. AllAscii cs in
     subst P (sym r.spelled) (appended _ _ (sign p.sign) (appended _ _ (whole p.whole n.whole) (appended _ _ (fraction p.fraction n.fraction) (mark p.mark n.mark))))
 
-is_ascii : (cs : List ℕ) → AllAscii cs → IsAscii cs
+pub is_ascii : (cs : List ℕ) → AllAscii cs → IsAscii cs
 unfolding AllAscii
 is_ascii [] h i = omega arith
 is_ascii (c ∷ cs) h zero = h.0

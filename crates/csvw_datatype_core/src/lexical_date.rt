@@ -1,5 +1,6 @@
 //! The lexical forms of days and moments.
 ghost use Rattle.std.specs.Prelude.{◌≡◌, ◌≤◌, ◌+◌, ◌*◌, ◌<◌, ◌++◌, [], ◌∷◌, IfOk, OnOk, string_bytes, List, ℕ, ℤ, pos, ◌+ℤ◌, ◌*ℤ◌};
+ghost use Rattle.std.specs.Str.{IsAscii};
 ghost use Rattle.csvw_datatype_core.specs.declared.date.DateFormat.TheVariants.{YearFirst};
 ghost use Rattle.csvw_datatype_core.specs.declared.moment.MomentFormat.TheVariants.{Seconds};
 ghost use Rattle.csvw_datatype_core.specs.Dates.{IsDay, day_number, ReadsDate};
@@ -11,6 +12,17 @@ ghost use Rattle.csvw_datatype_core.specs.Forms.{date_form, moment_form};
 use jiff_core::civil::Date;
 use std::alloc::{AllocError, Global};
 
+/// Makes a text the lexical form `yyyy-MM-dd` of a day, in days since 1 January 1970, of the years 0001 to 9999, in its memory;
+/// `AllocError` where there is none (XML Schema 1.1 part 2, section 3.3.9).
+pub fn refill_date(out: &mut String, day: i32) -> Result<(), AllocError>
+    requires { IsDayNumber day }
+    ensures { OnOk result (string_bytes out.new ≡ date_form day) }
+{
+    out.clear();
+    push_date(out, day)?;
+    Ok(())
+}
+
 /// The lexical form `yyyy-MM-dd` of a day, in days since 1 January 1970, of the years 0001 to 9999;
 /// `AllocError` where there is no memory (XML Schema 1.1 part 2, section 3.3.9).
 pub fn date_text(alloc: Global, day: i32) -> Result<String, AllocError>
@@ -19,8 +31,21 @@ pub fn date_text(alloc: Global, day: i32) -> Result<String, AllocError>
     ensures text { IfOk result (λ s. string_bytes s ≡ date_form day) }
 {
     let mut out = String::new(alloc);
-    push_date(&mut out, day)?;
+    refill_date(&mut out, day)?;
     Ok(out)
+}
+
+/// Makes a text the lexical form `yyyy-MM-ddTHH:mm:ss` of a moment, in seconds since 1 January 1970, of the years 0001 to 9999,
+/// in its memory; `AllocError` where there is none (XML Schema 1.1 part 2, section 3.3.7).
+pub fn refill_moment(out: &mut String, moment: i64) -> Result<(), AllocError>
+    requires { IsMomentNumber moment }
+    ensures { OnOk result (string_bytes out.new ≡ moment_form moment) }
+{
+    let (day, second) = day_and_second(moment);
+    out.clear();
+    push_date(out, day)?;
+    push_time(out, second)?;
+    Ok(())
 }
 
 /// The lexical form `yyyy-MM-ddTHH:mm:ss` of a moment, in seconds since 1 January 1970, of the years 0001 to
@@ -30,10 +55,8 @@ pub fn moment_text(alloc: Global, moment: i64) -> Result<String, AllocError>
     ensures form { IfOk result (λ s. ReadsMoment Seconds (string_bytes s) moment) }
     ensures text { IfOk result (λ s. string_bytes s ≡ moment_form moment) }
 {
-    let (day, second) = day_and_second(moment);
     let mut out = String::new(alloc);
-    push_date(&mut out, day)?;
-    push_time(&mut out, second)?;
+    refill_moment(&mut out, moment)?;
     Ok(out)
 }
 
@@ -75,12 +98,30 @@ fn push_date_digits(out: &mut String, year: u16, month: u8, date: u8) -> Result<
     requires date { date < 100 }
     ensures { OnOk result (string_bytes out.new ≡ string_bytes out.old ++ date_digits year month date) }
 {
-    push_two(out, (year / 100) as u8)?;
-    push_two(out, (year % 100) as u8)?;
-    out.push_str("-")?;
-    push_two(out, month)?;
-    out.push_str("-")?;
-    push_two(out, date)
+    push_ascii(out, &date_bytes(year, month, date))
+}
+
+fn date_bytes(year: u16, month: u8, date: u8) -> [u8; 10]
+    requires year { year < 10_000 }
+    requires month { month < 100 }
+    requires date { date < 100 }
+    ensures text { result ≡ date_digits year month date }
+    ensures ascii { IsAscii result }
+{
+    let high = (year / 100) as u8;
+    let low = (year % 100) as u8;
+    [
+        48 + high / 10,
+        48 + high % 10,
+        48 + low / 10,
+        48 + low % 10,
+        b'-',
+        48 + month / 10,
+        48 + month % 10,
+        b'-',
+        48 + date / 10,
+        48 + date % 10,
+    ]
 }
 
 fn push_time(out: &mut String, second: u32) -> Result<(), AllocError>
@@ -101,27 +142,35 @@ fn push_time_digits(out: &mut String, hour: u8, minute: u8, second: u8) -> Resul
     requires second { second < 100 }
     ensures { OnOk result (string_bytes out.new ≡ string_bytes out.old ++ time_digits hour minute second) }
 {
-    out.push_str("T")?;
-    push_two(out, hour)?;
-    out.push_str(":")?;
-    push_two(out, minute)?;
-    out.push_str(":")?;
-    push_two(out, second)
+    push_ascii(out, &time_bytes(hour, minute, second))
 }
 
-fn push_two(out: &mut String, n: u8) -> Result<(), AllocError>
-    requires { n < 100 }
-    ensures { OnOk result (string_bytes out.new ≡ string_bytes out.old ++ two_digits n) }
+fn time_bytes(hour: u8, minute: u8, second: u8) -> [u8; 9]
+    requires hour { hour < 100 }
+    requires minute { minute < 100 }
+    requires second { second < 100 }
+    ensures text { result ≡ time_digits hour minute second }
+    ensures ascii { IsAscii result }
 {
-    push_digit(out, n / 10)?;
-    push_digit(out, n % 10)
+    [
+        b'T',
+        48 + hour / 10,
+        48 + hour % 10,
+        b':',
+        48 + minute / 10,
+        48 + minute % 10,
+        b':',
+        48 + second / 10,
+        48 + second % 10,
+    ]
 }
 
-fn push_digit(out: &mut String, digit: u8) -> Result<(), AllocError>
-    requires { digit < 10 }
-    ensures { OnOk result (string_bytes out.new ≡ string_bytes out.old ++ (48 + digit) ∷ []) }
+/// Adds bytes that are all ASCII, and so are text.
+fn push_ascii(out: &mut String, bytes: &[u8]) -> Result<(), AllocError>
+    requires { IsAscii bytes.now }
+    ensures { OnOk result (string_bytes out.new ≡ string_bytes out.old ++ bytes.now) }
 {
-    out.push((48 + digit) as char)
+    out.push_str(unsafe { str::from_utf8_unchecked(bytes) })
 }
 
 /// A law: a day has one text in the form `yyyy-MM-dd`.

@@ -1,5 +1,6 @@
 //! The lexical form of a number.
-ghost use Rattle.std.specs.Prelude.{◌≡◌, ◌≤◌, ◌+◌, ◌*◌, ◌^◌, ◌<◌, ◌++◌, IfOk, OnOk, OnErr, string_bytes, unsigned_abs, List, ℕ, ℤ, [], ◌∷◌, if◌then◌else◌, encode_utf8_all};
+ghost use Rattle.std.specs.Prelude.{◌≡◌, ◌≤◌, ◌+◌, ◌*◌, ◌^◌, ◌<◌, ◌++◌, IfOk, OnOk, OnErr};
+ghost use Rattle.std.specs.Prelude.{string_bytes, unsigned_abs, List, ℕ, ℤ, [], ◌∷◌, if◌then◌else◌, encode_utf8_all};
 ghost use Rattle.std.specs.Fmt.{decimal};
 ghost use Rattle.std.specs.Str.{chars};
 ghost use Rattle.csvw_datatype_core.specs.LexicalNumbers.{AppendsPart, AppendsFraction, IsLexicalNumber};
@@ -10,6 +11,20 @@ use std::fmt::Write;
 
 const UNIT: u128 = 1_000_000_000_000_000_000;
 
+/// Makes a text the lexical form of a number in units of 10^-18, below 10^38 of them in size, in its memory: `-` only below zero,
+/// no zero that could be left out, no point where it is whole; `AllocError` where there is no memory.
+pub fn refill_number(out: &mut String, number: i128) -> Result<(), AllocError>
+    requires { unsigned_abs number < 10 ^ 38 }
+    ensures { OnOk result (string_bytes out.new ≡ number_form number) }
+{
+    let count = number.unsigned_abs();
+    out.clear();
+    push_sign(out, number < 0)?;
+    push_decimal(out, count / UNIT)?;
+    push_point_and_fraction(out, (count % UNIT) as u64)?;
+    Ok(())
+}
+
 /// The lexical form of a number in units of 10^-18, below 10^38 of them in size: `-` only below zero, no zero
 /// that could be left out, no point where it is whole; `AllocError` where there is no memory.
 pub fn number_text(alloc: Global, number: i128) -> Result<String, AllocError>
@@ -17,11 +32,8 @@ pub fn number_text(alloc: Global, number: i128) -> Result<String, AllocError>
     ensures form { IfOk result (λ s. IsLexicalNumber (chars (string_bytes s)) number) }
     ensures text { IfOk result (λ s. string_bytes s ≡ number_form number) }
 {
-    let count = number.unsigned_abs();
     let mut out = String::new(alloc);
-    push_sign(&mut out, number < 0)?;
-    push_decimal(&mut out, count / UNIT)?;
-    push_point_and_fraction(&mut out, (count % UNIT) as u64)?;
+    refill_number(&mut out, number)?;
     Ok(out)
 }
 

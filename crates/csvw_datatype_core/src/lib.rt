@@ -10,8 +10,10 @@ mod number;
 mod values;
 
 pub use date::{DateFormat, FieldDigits, Separator, one_date, read_date};
-pub use lexical_date::{date_forms, date_text, moment_text, one_date_text, one_moment_text};
-pub use lexical_number::{number_forms, number_text, one_number_text};
+pub use lexical_date::{
+    date_forms, date_text, moment_text, one_date_text, one_moment_text, refill_date, refill_moment,
+};
+pub use lexical_number::{number_forms, number_text, one_number_text, refill_number};
 pub use moment::{MomentFormat, one_moment, read_moment};
 pub use number::{NumberFault, NumberRules, one_number, read_number};
 pub use values::values_read;

@@ -1,12 +1,14 @@
-use Rattle.std.proofs.Common.{FitsSigned}
-use mir.Syntax.{w32, w64}
+use Rattle.std.proofs.Common.{ℕ, List, sym, subst, FitsSigned}
+use mir.Syntax.{w64}
 use Rattle.std.proofs.lemmas.Int.{to_z-of_z}
-use Rattle.csvw_datatype_core.proofs.FormLemmas.{written_moment, fits_day}
+use Rattle.csvw_datatype_core.specs.declared.moment.MomentFormat.TheVariants.{Seconds}
+use Rattle.csvw_datatype_core.specs.Moments.{ReadsMoment}
+use Rattle.csvw_datatype_core.proofs.EveryDay.{form_is_moment}
 use Rattle.csvw_datatype_core.proofs.lexical_date.moment_text.Goals as goal
 
-pub returns-clause-text : goal.returns-clause-text
-returns-clause-text c =
+pub returns : goal.returns
+returns c =
     let fits : FitsSigned w64 c.args.moment = c.ranges.moment in
-    let parts = simp to_z-of_z at c.day_and_second-day.ensures in
-    let fits32 : FitsSigned w32 c.day_and_second-day.result.0 = fits_day _ parts.is_day in
-    written_moment _ _ _ c.args.moment _ _ c.new-out.ensures.bytes parts (simp to_z-of_z at c.in_ok-push_date.ensures) c.in_ok-push_time.ensures
+    let same = simp to_z-of_z at c.in_ok-refill_moment.ensures in
+    let P : List ℕ → Type 0 = λ text. ReadsMoment Seconds text c.args.moment in
+    record { form = subst P (sym same) (form_is_moment c.args.moment c.requires); text = same }
