@@ -1,2 +1,5 @@
 pub mod SafeLemmas
 pub mod LinkLemmas
+pub mod OwnLemmas
+pub mod OwnLinks
+pub mod FragmentLinks

@@ -21,10 +21,13 @@ kept : (set : AsciiSet) (q : Option (List ℕ)) → IfSome q (All (IsKept set)) 
 kept set None h = refl
 kept set (Some q) h = ap Some (percent_encode_unchanged set q h)
 
-pub with_tail-same : (url : Parts) → IsValid url → with_tail url url.query None ≡ without_fragment url
-with_tail-same url valid = ap (λ q. record url { query = q; fragment = None }) (kept (query_set (kind_of url)) url.query valid.query)
+pub kept_query : (url : Parts) → IsValid url → option_map (percent_encode (query_set (kind_of url))) url.query ≡ url.query
+kept_query url valid = kept (query_set (kind_of url)) url.query valid.query
 
-no_fragment_text : (url : Parts) → url.fragment ≡ None → serialize url ≡ text_before url AfterQuery
+pub with_tail-same : (url : Parts) → IsValid url → with_tail url url.query None ≡ without_fragment url
+with_tail-same url valid = ap (λ q. record url { query = q; fragment = None }) (kept_query url valid)
+
+pub no_fragment_text : (url : Parts) → url.fragment ≡ None → serialize url ≡ text_before url AfterQuery
 no_fragment_text url e =
     fragment_text url
     ∙ ap (λ (f : Option (List ℕ)). text_before url AfterQuery ++ (when (is_some f) (35 ∷ []) ++ (unwrap_or f [] ++ []))) e

@@ -1,7 +1,7 @@
 -- Laws of a text made safe.
-use Rattle.std.proofs.Common.{◌≡◌, ℕ, ◌<◌, ◌≤◌, List, [], ◌∷◌, ◌++◌, true, false, cond, refl, ap, sym, ◌∙◌, arith, flat_map, nat_lt, encode_utf8, encode_utf8_all, ⊎_elim, not, All, ◌&&◌, append-nil, ◌==◌}
+use Rattle.std.proofs.Common.{◌≡◌, ℕ, ◌<◌, ◌≤◌, List, [], ◌∷◌, ◌++◌, Bool, true, false, cond, refl, ap, sym, ◌∙◌, arith, flat_map, nat_lt, encode_utf8, encode_utf8_all, ⊎_elim, not, All, ◌&&◌, append-nil, ◌==◌}
 use lib.Utf8.{encode}
-use Rattle.std.proofs.lemmas.Bool.{cases_Bool, cond-true, cond-false, cond_both, cases_lt, ne_eqb}
+use Rattle.std.proofs.lemmas.Bool.{cases_Bool, cond-true, cond-false, cond_both, cases_lt, ne_eqb, and_parts}
 use Rattle.std.proofs.lemmas.Bool.Decides.{nat_tests}
 use Rattle.std.proofs.lemmas.Str.{encode_ascii}
 use Rattle.std.proofs.lemmas.Grind.{flat_map-append}
@@ -15,6 +15,10 @@ use Rattle.csvw_iri.specs.Safe.{is_forbidden, is_iri, safe, safe_byte, has_hash}
 -- what a character becomes
 abbrev pub safe_char : ℕ → List ℕ
 safe_char c = cond (is_forbidden c) (percent_encode_byte c) (encode_utf8 c)
+
+not_true : (x : Bool) → not x ≡ true → x ≡ false
+not_true true e = sym e
+not_true false e = refl
 
 high_is_kept : (b : ℕ) → 128 ≤ b → is_forbidden b ≡ false
 high_is_kept b h = grind (arith, nat_tests)
@@ -72,6 +76,14 @@ is_iri-safe (b ∷ bs) =
     list_all-append _ (safe_byte b) (flat_map safe_byte bs)
     ∙ ap (λ x. x && is_iri (flat_map safe_byte bs)) (is_iri-safe_byte b)
     ∙ is_iri-safe bs
+
+-- a text of which each character may stand raw stays as it is
+pub unchanged : (text : List ℕ) → is_iri text ≡ true → safe text ≡ text
+unfolding safe
+unchanged [] h = refl
+unchanged (b ∷ bs) h =
+    let both = and_parts _ _ h in
+    ap (λ x. x ++ flat_map safe_byte bs) (cond-false _ _ _ (not_true (is_forbidden b) both.0)) ∙ ap (λ x. b ∷ x) (unchanged bs both.1)
 
 -- no `#` comes in where there was none
 escape_is_no_hash : (b : ℕ) → IsEscapeByte b → IsNot 35 b

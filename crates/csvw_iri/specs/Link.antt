@@ -1,6 +1,6 @@
 -- Links, by the URL Standard as the crate `url` defines it.
 use Rattle.std.specs.Prelude.{◌≡◌, ℕ, List, Option, Some, None, Result, Ok, Err, false, nat_lt, length, if◌then◌else◌}
-use Rattle.url.specs.Parts.{Parts, serialize}
+use Rattle.url.specs.Parts.{Parts, serialize, IsValid}
 use Rattle.url.specs.Parser.{parse_url, Parsed}
 use Rattle.csvw_iri.specs.Prefix.{expanded}
 use Rattle.csvw_iri.specs.Safe.{safe, has_hash}
@@ -27,8 +27,9 @@ without_fragment url = record url { fragment = None }
 abbrev pub iri_of : Parts → List ℕ
 iri_of url = safe (serialize url)
 
--- the URL has no fragment, and its IRI no `#`
+-- the URL is valid and has no fragment, and its IRI no `#`
 pub record IsBase (url : Parts) (iri : List ℕ) : Type 0 where
+  pub valid : IsValid url
   pub no_fragment : url.fragment ≡ None
   pub made : iri ≡ iri_of url
   pub no_hash : has_hash iri ≡ false

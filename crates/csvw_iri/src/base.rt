@@ -1,7 +1,8 @@
 //! URLs without a fragment, against which texts resolve.
-ghost use Rattle.std.specs.Prelude.{◌≡◌, IfOk, Some, None, false};
-ghost use Rattle.csvw_iri.specs.Safe.{has_hash};
-ghost use Rattle.csvw_iri.specs.Link.{base_of, iri_of, url_of, without_fragment};
+ghost use Rattle.std.specs.Prelude.{◌≡◌, IfOk, Some, None, Ok, true, false};
+ghost use Rattle.csvw_iri.specs.Safe.{is_iri, has_hash};
+ghost use Rattle.csvw_iri.specs.Link.{base_of, iri_of, link_of, url_of, without_fragment};
+ghost use Rattle.csvw_iri.specs.Own.{IsFragmentLink};
 ghost use Rattle.csvw_iri.specs.Fault.{Gives};
 
 use crate::fault::IriFault;
@@ -13,7 +14,7 @@ use std::marker::Model;
 use url::{ParseError, Url};
 
 /// How many bytes a text to resolve has at most.
-const MAX_TEXT: usize = 65536;
+pub(crate) const MAX_TEXT: usize = 65536;
 
 /// A URL without a fragment.
 #[derive(Debug, Drop)]
@@ -76,6 +77,19 @@ impl Base {
             url: self.url.clone()?,
             iri: self.iri.clone(alloc)?,
         })
+    }
+
+    /// The link of a fragment with its `#`, as `is_fragment` knows it: the IRI and then the text.
+    pub(crate) fn fragment_link(&self, alloc: Global, text: &str) -> Result<Iri, AllocError>
+        requires link { IsFragmentLink text.now }
+        requires raw { is_iri text.now ≡ true }
+        ensures { IfOk result (λ i. link_of self.now text.now ≡ Ok i) }
+    {
+        let iri = self.iri.as_str();
+        let mut joined = String::with_capacity(alloc, iri.len() + text.len())?;
+        joined.push_str(iri)?;
+        joined.push_str(text)?;
+        Iri::of(alloc, joined)
     }
 
     fn of(alloc: Global, url: Url) -> Result<Base, AllocError>

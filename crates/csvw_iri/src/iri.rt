@@ -1,5 +1,5 @@
 //! A shared text whose characters may all stand raw in an IRIREF.
-ghost use Rattle.std.specs.Prelude.{◌≡◌, ◌++◌, true, false, codes, string_bytes, IfOk};
+ghost use Rattle.std.specs.Prelude.{◌≡◌, ◌++◌, true, false, codes, string_bytes, IfOk, OnOk};
 ghost use Rattle.csvw_iri.specs.Safe.{is_iri, has_hash};
 
 use csvw_text::{Copied, Text};
@@ -45,6 +45,25 @@ impl Iri {
         self.shared.as_ref().as_str()
     }
 
+    /// Becomes another IRI, `#` and the text, in its memory where no clone shares it; `AllocError` where there is no memory: it
+    /// may then be a part of them. The text is ready for it where `is_raw_text` says so, and `Base::iri` has no `#`.
+    pub fn refill_with_fragment(
+        &mut self,
+        alloc: Global,
+        iri: &Iri,
+        text: &str,
+    ) -> Result<(), AllocError>
+        requires no_hash { has_hash iri.now ≡ false }
+        requires raw { is_iri text.now ≡ true }
+        ensures { OnOk result (self.new ≡ iri.now ++ codes "#" ++ text.now) }
+    {
+        if let Some(shared) = Rc::get_mut(&mut self.shared) {
+            return refill_joined(shared, iri.as_str(), text);
+        }
+        *self = with_fragment(alloc, iri, text)?;
+        Ok(())
+    }
+
     /// An equal IRI, which shares the text: it takes no memory, and is an `AllocError` only where the
     /// count of the owners is at its greatest.
     pub fn clone(&self, _alloc: Global) -> Result<Iri, AllocError>
@@ -60,6 +79,18 @@ impl Copied for Iri {
     fn copied(&self, alloc: Global) -> Result<Iri, AllocError> {
         self.clone(alloc)
     }
+}
+
+/// Writes an IRI, `#` and a text over another text, which is a part of them after an error.
+fn refill_joined(joined: &mut Text, iri: &str, text: &str) -> Result<(), AllocError>
+    requires iri { is_iri iri.now ≡ true }
+    requires raw { is_iri text.now ≡ true }
+    ensures value { OnOk result (joined.new ≡ iri.now ++ codes "#" ++ text.now) }
+    ensures raw { is_iri joined.new ≡ true }
+{
+    joined.refill(iri)?;
+    joined.push_str("#")?;
+    joined.push_str(text)
 }
 
 /// The IRI, `#` and the text; `AllocError` where there is no memory. The text is ready for it where

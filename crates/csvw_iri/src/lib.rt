@@ -6,12 +6,13 @@ mod compared;
 mod fault;
 mod iri;
 mod links;
+mod own;
 mod prefix;
 mod safe;
 
 pub use base::Base;
 pub use fault::IriFault;
 pub use iri::{Iri, with_fragment};
-pub use links::{link, resolve};
+pub use links::{link, link_of_text, resolve};
 pub use prefix::expand_prefix;
 pub use safe::{is_raw, is_raw_text, made_safe};

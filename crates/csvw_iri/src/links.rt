@@ -1,11 +1,12 @@
 //! Links: the IRI that a text means against a base.
-ghost use Rattle.std.specs.Prelude.{◌≡◌};
+ghost use Rattle.std.specs.Prelude.{◌≡◌, string_bytes};
 ghost use Rattle.csvw_iri.specs.Link.{resolved, link_of};
 ghost use Rattle.csvw_iri.specs.Fault.{Gives};
 
 use crate::base::Base;
 use crate::fault::IriFault;
 use crate::iri::Iri;
+use crate::own::{is_fragment, is_own};
 use crate::prefix::expand_prefix;
 use crate::safe::made_safe;
 use std::alloc::Global;
@@ -25,6 +26,31 @@ pub fn resolve(alloc: Global, base: &Base, text: &str) -> Result<Iri, IriFault>
 pub fn link(alloc: Global, base: &Base, text: &str) -> Result<Iri, IriFault>
     ensures { Gives (λ i. i) result (link_of base.now text.now) }
 {
+    if is_own(text) {
+        return Ok(Iri::of(alloc, String::from_str(alloc, text)?)?);
+    }
+    link_by_base(alloc, base, text)
+}
+
+/// The same link, of a text that is handed over: where the text is its own link, it isn't copied.
+pub fn link_of_text(alloc: Global, base: &Base, text: String) -> Result<Iri, IriFault>
+    ensures { Gives (λ i. i) result (link_of base.now (string_bytes text)) }
+{
+    if is_own(text.as_str()) {
+        return Ok(Iri::of(alloc, text)?);
+    }
+    link_by_base(alloc, base, text.as_str())
+}
+
+fn link_by_base(alloc: Global, base: &Base, text: &str) -> Result<Iri, IriFault>
+    ensures { Gives (λ i. i) result (link_of base.now text.now) }
+{
+    if is_fragment(text) {
+        return Ok(base.fragment_link(alloc, text)?);
+    }
     let expanded = expand_prefix(alloc, text)?;
+    if is_own(expanded.as_str()) {
+        return Ok(Iri::of(alloc, expanded)?);
+    }
     resolve(alloc, base, expanded.as_str())
 }

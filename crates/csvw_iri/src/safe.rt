@@ -35,9 +35,14 @@ pub fn made_safe(alloc: Global, text: &str) -> Result<Iri, AllocError>
     Iri::of(alloc, safe_text(alloc, text)?)
 }
 
+#[tactic(auto, using(crate::proofs::SafeLemmas::unchanged))]
 fn safe_text(alloc: Global, text: &str) -> Result<String, AllocError>
     ensures { IfOk result (λ s. string_bytes s ≡ safe text.now) }
 {
+    // Most texts are safe already.
+    if is_raw_text(text) {
+        return String::from_str(alloc, text);
+    }
     let mut out = String::new(alloc);
     for c in text.chars() {
         push_safe(&mut out, c)?;

@@ -11,4 +11,6 @@ mod limits;
 #[cfg(test)]
 mod links;
 #[cfg(test)]
+mod own;
+#[cfg(test)]
 mod telling;

@@ -1,12 +1,13 @@
 //! The links of a cell.
-ghost use Rattle.std.specs.Prelude.{◌≡◌, ◌++◌, IfOk, OnOk};
-ghost use Rattle.csvw_iri.specs.Link.{link_of};
+ghost use Rattle.std.specs.Prelude.{◌≡◌, ◌++◌, ℕ, List, Result, IfOk, OnOk, string_bytes};
+ghost use Rattle.csvw_iri.specs.Link.{Refusal, link_of};
+ghost use Rattle.csvw_iri.specs.Fault.{Gives};
 ghost use Rattle.csvw_cell.specs.Codes.{told};
 ghost use Rattle.csvw_links.specs.Links.{no_link, outcome, link_by, has_value, value_link, joined, codes_of, has_template};
 
 use csvw_cell::CellValue;
 use csvw_columns_core::Column;
-use csvw_iri::{Base, Iri, IriFault, link};
+use csvw_iri::{Base, Iri, IriFault, link, link_of_text};
 use csvw_template::{Scope, Template};
 use csvw_text::{Code, Seq, Shared, copied_option};
 use std::alloc::{AllocError, Global};
@@ -54,7 +55,19 @@ pub fn no_link() -> Made
 pub(crate) fn linked(alloc: Global, base: &Base, text: &str) -> Result<Made, AllocError>
     ensures { IfOk result (λ l. l ≡ outcome (link_of base.now text.now)) }
 {
-    match link(alloc, base, text) {
+    outcome(link(alloc, base, text))
+}
+
+fn linked_text(alloc: Global, base: &Base, text: String) -> Result<Made, AllocError>
+    ensures { IfOk result (λ l. l ≡ outcome (link_of base.now (string_bytes text))) }
+{
+    outcome(link_of_text(alloc, base, text))
+}
+
+fn outcome(answer: Result<Iri, IriFault>) -> Result<Made, AllocError>
+    ensures { IfOk result (λ l. (expected : Result (List ℕ) Refusal) → Gives (λ i. i) answer expected → l ≡ outcome expected) }
+{
+    match answer {
         Ok(iri) => Ok(Made {
             iri: Some(iri),
             is_bad: false,
@@ -88,7 +101,7 @@ pub(crate) fn link_by<S: Scope>(
     };
     let mut text = String::with_capacity(alloc, LINK_ROOM)?;
     template.get().expand_into(alloc, &mut text, scope)?;
-    linked(alloc, base, text.as_str())
+    linked_text(alloc, base, text)
 }
 
 fn has_value(value: &CellValue) -> bool

@@ -4,6 +4,8 @@
 #[cfg(test)]
 mod groups;
 #[cfg(test)]
+mod hostile;
+#[cfg(test)]
 mod refusals;
 #[cfg(test)]
 mod running;

@@ -10,7 +10,7 @@ kept-triplet (b ∷ []) e = cc
 kept-triplet (b ∷ c ∷ []) e = cc
 kept-triplet (b ∷ c ∷ d ∷ rest) e = cond-true _ _ _ e
 
-kept-cons : (b : ℕ) (bs : List ℕ) → begins_triplet (b ∷ bs) ≡ false → kept (b ∷ bs) ≡ kept_byte b ++ kept bs
+pub kept-cons : (b : ℕ) (bs : List ℕ) → begins_triplet (b ∷ bs) ≡ false → kept (b ∷ bs) ≡ kept_byte b ++ kept bs
 unfolding kept
 kept-cons b [] e = refl
 kept-cons b (c ∷ []) e = refl

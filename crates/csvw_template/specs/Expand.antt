@@ -16,9 +16,13 @@ use Rattle.csvw_template.specs.Variables.{Variables, lookup}
 abbrev pub encoded_byte : ℕ → List ℕ
 encoded_byte b = if is_unreserved_char b then b ∷ [] else percent_encode_byte b
 
+-- an unreserved or a reserved character
+abbrev pub is_plain : ℕ → Bool
+is_plain b = is_unreserved_char b || is_reserved_char b
+
 -- reserved characters stay too
 abbrev pub kept_byte : ℕ → List ℕ
-kept_byte b = if is_unreserved_char b || is_reserved_char b then b ∷ [] else percent_encode_byte b
+kept_byte b = if is_plain b then b ∷ [] else percent_encode_byte b
 
 abbrev pub begins_triplet : List ℕ → Bool
 begins_triplet [] = false

@@ -1,7 +1,8 @@
 //! Texts percent-encoded, with and without reserved characters and triplets kept.
 ghost use Rattle.std.specs.Prelude.{◌≡◌, ◌≤◌, ◌++◌, OnOk, string_bytes, length, take, drop, true};
-ghost use Rattle.std.specs.List.{flat_map};
-ghost use Rattle.csvw_template.specs.Expand.{encoded, encoded_byte, kept, kept_byte, begins_triplet};
+ghost use Rattle.std.specs.List.{flat_map, list_all};
+ghost use Rattle.csvw_text.specs.Class.{is_unreserved_char};
+ghost use Rattle.csvw_template.specs.Expand.{is_plain, encoded, encoded_byte, kept, kept_byte, begins_triplet};
 
 use crate::names::is_hex;
 use crate::part::Operator;
@@ -23,13 +24,30 @@ pub(crate) fn push_encoded(
     }
 }
 
+#[tactic(auto, using(crate::proofs::PlainLemmas::unreserved_stays))]
 fn push_plain(out: &mut String, text: &str) -> Result<(), AllocError>
     ensures { OnOk result (string_bytes out.new ≡ string_bytes out.old ++ flat_map encoded_byte text.now) }
 {
+    // Most texts have nothing to encode.
+    if is_unreserved_text(text) {
+        return out.push_str(text);
+    }
     for b in text.as_bytes() {
         push_plain_byte(out, *b)?;
     }
     Ok(())
+}
+
+fn is_unreserved_text(text: &str) -> bool
+    ensures { result ≡ list_all is_unreserved_char text.now }
+{
+    let bytes = text.as_bytes();
+    for b in bytes {
+        if !is_unreserved(*b as char) {
+            return false;
+        }
+    }
+    true
 }
 
 fn push_plain_byte(out: &mut String, b: u8) -> Result<(), AllocError>
@@ -43,10 +61,13 @@ fn push_plain_byte(out: &mut String, b: u8) -> Result<(), AllocError>
 }
 
 /// Adds a text with reserved characters and triplets as they are.
-#[tactic(auto, using(crate::proofs::KeptLemmas::keeping))]
+#[tactic(auto, using(crate::proofs::KeptLemmas::keeping, crate::proofs::PlainLemmas::plain_stays))]
 pub(crate) fn push_kept(out: &mut String, text: &str) -> Result<(), AllocError>
     ensures { OnOk result (string_bytes out.new ≡ string_bytes out.old ++ kept text.now) }
 {
+    if is_plain_text(text) {
+        return out.push_str(text);
+    }
     let mut rest = text.as_bytes();
     while !rest.is_empty() {
         if is_triplet(rest) {
@@ -58,6 +79,25 @@ pub(crate) fn push_kept(out: &mut String, text: &str) -> Result<(), AllocError>
         }
     }
     Ok(())
+}
+
+/// Whether each character is unreserved or reserved.
+fn is_plain_text(text: &str) -> bool
+    ensures { result ≡ list_all is_plain text.now }
+{
+    let bytes = text.as_bytes();
+    for b in bytes {
+        if !is_plain(*b) {
+            return false;
+        }
+    }
+    true
+}
+
+fn is_plain(b: u8) -> bool
+    ensures { result ≡ is_plain b }
+{
+    is_unreserved(b as char) || is_reserved(b as char)
 }
 
 fn skip(text: &[u8], n: usize) -> &[u8]
@@ -89,7 +129,7 @@ fn is_triplet(text: &[u8]) -> bool
 fn push_kept_byte(out: &mut String, b: u8) -> Result<(), AllocError>
     ensures { OnOk result (string_bytes out.new ≡ string_bytes out.old ++ kept_byte b) }
 {
-    if is_unreserved(b as char) || is_reserved(b as char) {
+    if is_plain(b) {
         out.push(b as char)
     } else {
         out.push_str(percent_encode_byte(b))

@@ -1,0 +1,192 @@
+//! Texts whose links are seen in one pass over their bytes: URLs as the URL Standard writes them, and fragments.
+ghost use Rattle.std.specs.Prelude.{◌≡◌, ◌++◌, true, Some, IfSome, codes};
+ghost use Rattle.csvw_iri.specs.Safe.{is_iri};
+ghost use Rattle.csvw_iri.specs.Own.{IsOwnLink, IsFragmentLink, IsOfScheme};
+ghost use Rattle.csvw_iri.specs.Own.{is_plain, is_lower, is_of_label, of_label, of_path, of_query, step, is_end, goes_on};
+
+use crate::base::MAX_TEXT;
+use crate::safe::is_raw;
+
+/// Where a pass over the bytes behind `http://` stands.
+#[derive(Clone, Copy, Debug, PartialEq, Eq)]
+pub(crate) enum Place {
+    /// Before a label of the host.
+    Front,
+    /// In a label.
+    Label,
+    /// Before a segment of the path.
+    Segment,
+    /// After a `%` that begins a segment.
+    Percent,
+    /// In a segment.
+    Path,
+    /// In the query.
+    Query,
+    /// In the fragment.
+    Fragment,
+}
+
+/// Whether the byte is an ASCII character that may stand raw in an IRIREF.
+fn is_plain(b: u8) -> bool
+    ensures { result ≡ is_plain b }
+{
+    b < 127 && is_raw(b as char)
+}
+
+fn is_lower(b: u8) -> bool
+    ensures { result ≡ is_lower b }
+{
+    matches!(b, b'a'..=b'z')
+}
+
+fn is_of_label(b: u8) -> bool
+    ensures { result ≡ is_of_label b }
+{
+    matches!(b, b'a'..=b'z' | b'0'..=b'9' | b'-')
+}
+
+fn of_label(b: u8) -> Option<Place>
+    ensures { result ≡ of_label b }
+{
+    if is_of_label(b) {
+        Some(Place::Label)
+    } else if b == b'.' {
+        Some(Place::Front)
+    } else if b == b'/' {
+        Some(Place::Segment)
+    } else {
+        None
+    }
+}
+
+fn of_path(b: u8) -> Option<Place>
+    ensures { result ≡ of_path b }
+{
+    if b == b'/' {
+        Some(Place::Segment)
+    } else if b == b'?' {
+        Some(Place::Query)
+    } else if b == b'#' {
+        Some(Place::Fragment)
+    } else if is_plain(b) {
+        Some(Place::Path)
+    } else {
+        None
+    }
+}
+
+fn of_query(b: u8) -> Option<Place>
+    ensures { result ≡ of_query b }
+{
+    if b == b'#' {
+        Some(Place::Fragment)
+    } else if is_plain(b) && b != b'\'' {
+        Some(Place::Query)
+    } else {
+        None
+    }
+}
+
+/// The place after the byte; `None` where the URL Standard might write it in another way.
+fn step(place: Place, b: u8) -> Option<Place>
+    ensures { result ≡ step place b }
+{
+    match place {
+        Place::Front if is_lower(b) => Some(Place::Label),
+        Place::Front => None,
+        Place::Label => of_label(b),
+        Place::Segment if b == b'.' => None,
+        Place::Segment if b == b'%' => Some(Place::Percent),
+        Place::Segment => of_path(b),
+        Place::Percent if b == b'2' => None,
+        Place::Percent => of_path(b),
+        Place::Path => of_path(b),
+        Place::Query => of_query(b),
+        Place::Fragment if is_plain(b) => Some(Place::Fragment),
+        Place::Fragment => None,
+    }
+}
+
+fn is_end(place: Place) -> bool
+    ensures { result ≡ is_end place }
+{
+    !matches!(place, Place::Front | Place::Label)
+}
+
+/// Whether the byte is seen at once to leave the place as it is: in a label, a segment, the query or the fragment a letter in lower
+/// case or a digit.
+fn stays(place: Place, b: u8) -> bool
+    ensures { result ≡ true → step place b ≡ Some place }
+{
+    match place {
+        Place::Label | Place::Path | Place::Query | Place::Fragment => {
+            matches!(b, b'a'..=b'z' | b'0'..=b'9')
+        }
+        Place::Front | Place::Segment | Place::Percent => false,
+    }
+}
+
+/// Whether the bytes go on from the place to an end.
+fn goes_on(from: Place, bytes: &[u8]) -> bool
+    ensures { result ≡ goes_on (Some from) bytes.now }
+{
+    let mut place = from;
+    for b in bytes {
+        // Most bytes stay in their label, segment, query or fragment.
+        if stays(place, *b) {
+            continue;
+        }
+        match step(place, *b) {
+            None => return false,
+            Some(next) => place = next,
+        }
+    }
+    is_end(place)
+}
+
+/// What follows `http://` or `https://`.
+fn behind_scheme(text: &[u8]) -> Option<&[u8]>
+    ensures { IfSome result (λ rest. IsOfScheme text.now rest.now) }
+{
+    match text.strip_prefix(b"http://") {
+        Some(rest) => Some(rest),
+        None => text.strip_prefix(b"https://"),
+    }
+}
+
+/// What follows `#`.
+fn behind_hash(text: &[u8]) -> Option<&[u8]>
+    ensures { IfSome result (λ rest. text.now ≡ codes "#" ++ rest.now) }
+{
+    text.strip_prefix(b"#")
+}
+
+/// Whether the text is short enough, and seen at once to be an absolute URL as the URL Standard writes it, with nothing that IRIREF
+/// forbids: it is its own link.
+pub(crate) fn is_own(text: &str) -> bool
+    ensures link { result ≡ true → IsOwnLink text.now }
+    ensures raw { result ≡ true → is_iri text.now ≡ true }
+{
+    if text.len() > MAX_TEXT {
+        return false;
+    }
+    match behind_scheme(text.as_bytes()) {
+        Some(rest) => goes_on(Place::Front, rest),
+        None => false,
+    }
+}
+
+/// Whether the text is short enough, and `#` and ASCII characters that may stand raw in an IRIREF: its link is the base's IRI and then
+/// the text.
+pub(crate) fn is_fragment(text: &str) -> bool
+    ensures link { result ≡ true → IsFragmentLink text.now }
+    ensures raw { result ≡ true → is_iri text.now ≡ true }
+{
+    if text.len() > MAX_TEXT {
+        return false;
+    }
+    match behind_hash(text.as_bytes()) {
+        Some(rest) => goes_on(Place::Fragment, rest),
+        None => false,
+    }
+}

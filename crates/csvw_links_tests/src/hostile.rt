@@ -1,0 +1,139 @@
+//! A table of as many columns as there may be, each with three templates of as many expressions as there may be: together they
+//! name all columns, whose cells have characters of every kind.
+use crate::running::run_over;
+use csvw_triples_core::Mode;
+use std::alloc::{AllocError, Global};
+use std::process::Abort;
+use std::str;
+use std::test::Fail;
+
+/// How many columns there are.
+const COLUMNS: u32 = 1_024;
+
+/// How many variables each template has.
+const VARIABLES: u32 = 32;
+
+/// Characters beyond U+00FF: the ends of each length in UTF-8, those beside the surrogates, and some that are none.
+const BEYOND: [char; 9] = [
+    '\u{100}',
+    '\u{7ff}',
+    '\u{800}',
+    '\u{d7ff}',
+    '\u{e000}',
+    '\u{fffe}',
+    '\u{ffff}',
+    '\u{10000}',
+    '\u{10ffff}',
+];
+
+/// The character in the cell of a column, from 0: those from U+0001 to U+00FF, then those beyond.
+fn character(column: u32) -> char {
+    match u8::try_from(column % 264) {
+        Ok(code) if code < 255 => char::from(code.wrapping_add(1)),
+        _ => BEYOND
+            .get((column % 9) as usize)
+            .copied()
+            .unwrap_or('\u{100}'),
+    }
+}
+
+/// The columns, from 0, that a template names which begins with this one.
+fn named(first: u32) -> [u32; 2] {
+    [first % COLUMNS, (first % COLUMNS).wrapping_add(VARIABLES)]
+}
+
+fn push_expressions(alloc: Global, out: &mut String, first: u32) -> Result<(), AllocError> {
+    let [from, to] = named(first);
+    for column in from..to {
+        out.push_str(format!(in alloc; "{{c{column}}}")?.as_str())?;
+    }
+    Ok(())
+}
+
+/// The document, whose columns have about, property and value links.
+fn document(alloc: Global) -> Result<String, AllocError> {
+    let mut out = String::new(alloc);
+    out.push_str(
+        r#"{"@context":"http://www.w3.org/ns/csvw","url":"p.csv","dialect":{"header":false},"tableSchema":{"columns":["#,
+    )?;
+    for column in 0..COLUMNS {
+        if column > 0 {
+            out.push(',')?;
+        }
+        let first = column.wrapping_mul(96);
+        out.push_str(format!(in alloc; r##"{{"name":"c{column}","aboutUrl":"#"##)?.as_str())?;
+        push_expressions(alloc, &mut out, first)?;
+        out.push_str(r#"","propertyUrl":"http://example.org/p?"#)?;
+        push_expressions(alloc, &mut out, first.wrapping_add(32))?;
+        out.push_str(r#"","valueUrl":"v/"#)?;
+        push_expressions(alloc, &mut out, first.wrapping_add(64))?;
+        out.push_str(r#""}"#)?;
+    }
+    out.push_str("]}}")?;
+    Ok(out)
+}
+
+/// The one row of the table, each field in quotes.
+fn text(alloc: Global) -> Result<String, AllocError> {
+    let mut out = String::new(alloc);
+    for column in 0..COLUMNS {
+        out.push_str(if column > 0 { ",\"" } else { "\"" })?;
+        let c = character(column);
+        out.push(c)?;
+        if c == '"' {
+            out.push(c)?;
+        }
+        out.push('"')?;
+    }
+    out.push('\n')?;
+    Ok(out)
+}
+
+/// A character as an expression of a template gives it: all but unreserved ones as their bytes in UTF-8, each after a `%`.
+fn push_encoded(alloc: Global, out: &mut String, c: char) -> Result<(), AllocError> {
+    if c.is_ascii_alphanumeric() || matches!(c, '-' | '.' | '_' | '~') {
+        return out.push(c);
+    }
+    let mut one = String::new(alloc);
+    one.push(c)?;
+    for byte in one.as_str().as_bytes() {
+        out.push_str(format!(in alloc; "%{byte:02X}")?.as_str())?;
+    }
+    Ok(())
+}
+
+fn push_values(alloc: Global, out: &mut String, first: u32) -> Result<(), AllocError> {
+    let [from, to] = named(first);
+    for column in from..to {
+        push_encoded(alloc, out, character(column))?;
+    }
+    Ok(())
+}
+
+/// A triple for each column.
+fn graph(alloc: Global) -> Result<String, AllocError> {
+    let mut out = String::new(alloc);
+    for column in 0..COLUMNS {
+        let first = column.wrapping_mul(96);
+        out.push_str("<http://example.org/p.csv#")?;
+        push_values(alloc, &mut out, first)?;
+        out.push_str("> <http://example.org/p?")?;
+        push_values(alloc, &mut out, first.wrapping_add(32))?;
+        out.push_str("> <http://example.org/v/")?;
+        push_values(alloc, &mut out, first.wrapping_add(64))?;
+        out.push_str("> .\n")?;
+    }
+    Ok(out)
+}
+
+#[test]
+fn columns_and_templates_at_their_limits_have_links(rt: HostRuntime) -> Result<(), Fail> {
+    let alloc = rt.alloc();
+    let meta = document(alloc)?;
+    let text = text(alloc)?;
+    let ran = run_over(alloc, meta.as_str(), text.as_str(), Mode::Minimal)?;
+    assert!(rt; ran.stop.is_none());
+    assert!(rt; str::from_utf8(ran.graph.as_slice())? == graph(alloc)?.as_str());
+    assert!(rt; ran.report.as_slice() == b"kind,code,table,row,column\n".as_slice());
+    Ok(())
+}
