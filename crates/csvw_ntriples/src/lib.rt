@@ -4,6 +4,7 @@
 mod laws;
 mod line;
 mod nt_sink;
+mod plain;
 mod reading;
 mod row_label;
 mod scratch;

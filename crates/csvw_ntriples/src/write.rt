@@ -1,15 +1,14 @@
 //! The line of a triple.
 ghost use Rattle.std.specs.Prelude.{◌≡◌, ◌∷◌, [], ◌++◌, true, OnOk, flat_map, codes, decimal, Bool};
-ghost use Rattle.std.specs.List.{list_any};
 ghost use Rattle.csvw_ntriples.specs.Written.{label, escaped, iri_text, blank_text, string_text};
 ghost use Rattle.csvw_ntriples.specs.Written.{datatype_text, suffix_text, is_string_type, lit_text, term_text};
-ghost use Rattle.csvw_ntriples.specs.Escape.{needs_escape};
 ghost use Rattle.csvw_ntriples.specs.Front.{rest_text, object_text};
 ghost use Rattle.csvw_ntriples.specs.LabelLaw.{IsOrigin};
 ghost use Rattle.csvw_ntriples.specs.Writable.{IriFits, SuffixFits, LitFits, TermFits};
 ghost use Rattle.csvw_triples_core.specs.declared.term.Term.TheVariants as term;
 ghost use Rattle.csvw_text.specs.Language.{is_language_tag};
 
+use crate::plain::is_plain;
 use crate::row_label::RowLabel;
 use crate::scratch::Scratch;
 use csvw_iri::Iri;
@@ -26,23 +25,6 @@ pub(crate) fn push_iri(out: &mut Scratch, iri: &Iri) -> Result<(), AllocError>
     ensures fits { OnOk result (IriFits iri.now) }
 {
     out.push(iri.as_str().as_bytes())
-}
-
-fn needs_escape(b: u8) -> bool
-    ensures { result ≡ needs_escape b }
-{
-    matches!(b, b'"' | b'\\' | b'\n' | b'\r')
-}
-
-fn has_escape(bytes: &[u8]) -> bool
-    ensures { result ≡ list_any needs_escape bytes.now }
-{
-    // without a way out of the loop, so that many bytes are looked at at once
-    let mut found = false;
-    for b in bytes {
-        found |= needs_escape(*b);
-    }
-    found
 }
 
 fn push_escape(out: &mut Scratch, b: u8) -> Result<(), AllocError>
@@ -69,10 +51,10 @@ fn push_each_escaped(out: &mut Scratch, bytes: &[u8]) -> Result<(), AllocError>
 fn push_escaped(out: &mut Scratch, bytes: &[u8]) -> Result<(), AllocError>
     ensures { OnOk result (out.new ≡ out.old ++ flat_map escaped bytes.now) }
 {
-    if has_escape(bytes) {
-        push_each_escaped(out, bytes)
-    } else {
+    if is_plain(bytes) {
         out.push(bytes)
+    } else {
+        push_each_escaped(out, bytes)
     }
 }
 

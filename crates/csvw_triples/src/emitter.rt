@@ -42,6 +42,8 @@ pub struct Emitter {
     spare: Text,
     /// Where a row stands in its source.
     pub(crate) fragment: Text,
+    /// The IRI of the row that was told last, in whose memory the next is made.
+    pub(crate) address: Iri,
 }
 
 impl Emitter {
@@ -53,6 +55,7 @@ impl Emitter {
             p: names.first.clone(alloc)?,
             o: Term::Blank(Origin::Group),
         };
+        let address = names.first.clone(alloc)?;
         Ok(Emitter {
             alloc,
             names,
@@ -60,6 +63,7 @@ impl Emitter {
             draft,
             spare: Text::new(alloc),
             fragment: Text::new(alloc),
+            address,
         })
     }
 

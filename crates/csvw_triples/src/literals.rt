@@ -14,6 +14,7 @@ use csvw_iri::Iri;
 use csvw_text::{LanguageTag, Text};
 use csvw_triples_core::{Lit, Term};
 use std::alloc::{AllocError, Global};
+use std::mem;
 
 fn is_string(datatype: &Datatype) -> bool
     ensures { result ≡ is_string datatype.now }
@@ -35,21 +36,6 @@ fn has_language(properties: &Properties) -> bool
 {
     let datatype = properties.datatype.get();
     is_string(datatype) && datatype.id.is_none() && properties.lang.get().as_str() != "und"
-}
-
-/// The lexical form of a value, in the memory of another text where the value is a text.
-fn form_of(alloc: Global, value: &Value, spare: Text) -> Result<Text, AllocError>
-    requires { IsWritable value.now }
-    ensures { IfOk result (λ text. text ≡ lexical_of value.now) }
-{
-    match value {
-        Value::Text(text) => {
-            let mut copy = spare;
-            copy.refill(text.as_str())?;
-            Ok(copy)
-        }
-        _ => Ok(Text::of(value.lexical(alloc)?)),
-    }
 }
 
 fn tagged(alloc: Global, names: &RdfNames, text: Text, tag: &LanguageTag) -> Result<Lit, AllocError>
@@ -78,7 +64,7 @@ fn read_literal(
     Ok(Lit::typed(text, column.literal_datatype.clone(alloc)?))
 }
 
-/// The literal of a value, in the memory of another text where the value is a text; `AllocError` where there is no memory.
+/// The literal of a value, its text in the memory of another; `AllocError` where there is no memory.
 pub fn literal_of(
     alloc: Global,
     names: &RdfNames,
@@ -89,49 +75,66 @@ pub fn literal_of(
     requires { IsWritable item.now.value }
     ensures { IfOk result (λ lit. lit ≡ literal_of column.now item.now) }
 {
-    let text = form_of(alloc, &item.value, spare)?;
+    let text = item.value.lexical_over(spare)?;
     if item.was_read {
         return read_literal(alloc, names, column, text);
     }
     Ok(Lit::typed(text, names.string.clone(alloc)?))
 }
 
-/// Makes it the literal of a text and a datatype, in its memory.
-fn rewrite(alloc: Global, literal: &mut Lit, text: &str, datatype: &Iri) -> Result<(), AllocError>
-    requires { literal.old.lang ≡ None }
-    ensures { OnOk result (literal.new ≡ typed_lit text.now datatype.now) }
+/// Makes a text the lexical form of a value, in its memory.
+fn rewrite_text(alloc: Global, text: &mut Text, value: &Value) -> Result<(), AllocError>
+    requires { IsWritable value.now }
+    ensures { OnOk result (text.new ≡ lexical_of value.now) }
 {
-    literal.text.refill(text)?;
+    if let Value::Text(form) = value {
+        return text.refill(form.as_str());
+    }
+    let spare = mem::replace(text, Text::new(alloc));
+    *text = value.lexical_over(spare)?;
+    Ok(())
+}
+
+/// Makes it the literal of a value and a datatype, in its memory.
+fn rewrite(
+    alloc: Global,
+    literal: &mut Lit,
+    value: &Value,
+    datatype: &Iri,
+) -> Result<(), AllocError>
+    requires lang { literal.old.lang ≡ None }
+    requires form { IsWritable value.now }
+    ensures { OnOk result (literal.new ≡ typed_lit (lexical_of value.now) datatype.now) }
+{
+    rewrite_text(alloc, &mut literal.text, value)?;
     literal.datatype = datatype.clone(alloc)?;
     Ok(())
 }
 
-/// Whether the literal of a value is its text with the datatype of its column.
+/// Whether the literal of a value is its form with the datatype of its column.
 fn is_typed_text(column: &Column, item: &Item) -> bool
     ensures { result ≡ true → (item.now.was_read ≡ true) × (has_language column.now.properties ≡ false) }
 {
     item.was_read && !has_language(&column.properties)
 }
 
-/// Makes an object that is a literal that of a value, in its memory, where both are texts without a language; tells whether it
-/// did. `AllocError` where there is no memory.
+/// Makes an object that is a literal that of a value, in its memory, where neither has a language; tells whether it did.
+/// `AllocError` where there is no memory.
 pub(crate) fn refill(
     alloc: Global,
     o: &mut Term,
     column: &Column,
     item: &Item,
 ) -> Result<bool, AllocError>
+    requires { IsWritable item.now.value }
     ensures { IfOk result (λ b. b ≡ true → o.new ≡ term.Literal (literal_of column.now item.now)) }
 {
     let Term::Literal(literal) = o else {
         return Ok(false);
     };
-    let Value::Text(text) = &item.value else {
-        return Ok(false);
-    };
     if literal.lang.is_some() || !is_typed_text(column, item) {
         return Ok(false);
     }
-    rewrite(alloc, literal, text.as_str(), &column.literal_datatype)?;
+    rewrite(alloc, literal, &item.value, &column.literal_datatype)?;
     Ok(true)
 }

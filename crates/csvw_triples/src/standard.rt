@@ -16,7 +16,7 @@ use crate::emitter::Emitter;
 use crate::stem::{RowPlace, Stem};
 use csvw_annotate::{AnnCell, Row};
 use csvw_columns_core::{Column, Columns};
-use csvw_iri::{Iri, with_fragment};
+use csvw_iri::Iri;
 use csvw_text::Text;
 use csvw_triples_core::{Lit, Node, Origin, SinkFault, Term, TripleSink};
 use itoa::Buffer;
@@ -108,7 +108,10 @@ impl Emitter {
         ensures { IfOk result (λ iri. iri ≡ row_url columns.now row.now) }
     {
         refill_fragment(&mut self.fragment, row.source)?;
-        with_fragment(self.alloc, columns.url.iri(), self.fragment.as_str())
+        let url = columns.url.iri();
+        self.address
+            .refill_with_fragment(self.alloc, url, self.fragment.as_str())?;
+        self.address.clone(self.alloc)
     }
 
     fn emit_member<S: TripleSink>(
