@@ -17,3 +17,7 @@ mod reports;
 mod standard;
 #[cfg(test)]
 mod templates;
+#[cfg(test)]
+mod texts;
+#[cfg(test)]
+mod writing;

@@ -133,25 +133,3 @@ fn is_tag(alloc: Global, text: &str) -> Result<bool, AllocError>
     let words = words(alloc, text)?;
     Ok(are_subtags(words.as_slice()))
 }
-
-#[cfg(test)]
-mod tests {
-    use super::*;
-    use std::test::Fail;
-
-    fn is_a_tag(alloc: Global, text: &str) -> Result<bool, AllocError> {
-        Ok(LanguageTag::of(alloc, Text::copied(alloc, text)?)?.is_some())
-    }
-
-    #[test]
-    fn tags_are_words_parted_by_dashes(rt: HostRuntime) -> Result<(), Fail> {
-        let alloc = rt.alloc();
-        for tag in ["en", "en-GB", "x-1a", "de-Latn-DE-1996"] {
-            assert!(rt; is_a_tag(alloc, tag)?);
-        }
-        for text in ["", "-", "en-", "-en", "en--GB", "e1", "en GB", "en-\u{e9}"] {
-            assert!(rt; !is_a_tag(alloc, text)?);
-        }
-        Ok(())
-    }
-}

@@ -11,8 +11,11 @@ pub fn both<A: Drop, B: Drop>(
 ) -> Result<(A, B), AllocError>
     ensures { IfOk result (λ both. (first ≡ Ok both.0) × (second ≡ Ok both.1)) }
 {
-    match (first, second) {
-        (Ok(a), Ok(b)) => Ok((a, b)),
-        _ => Err(AllocError),
+    match first {
+        Ok(first) => match second {
+            Ok(second) => Ok((first, second)),
+            Err(error) => Err(error),
+        },
+        Err(error) => Err(error),
     }
 }

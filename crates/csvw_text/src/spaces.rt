@@ -60,18 +60,3 @@ pub fn collapse(alloc: Global, text: &str) -> Result<String, AllocError>
     }
     Ok(out)
 }
-
-#[cfg(test)]
-mod tests {
-    use super::*;
-    use std::test::Fail;
-
-    #[test]
-    fn runs_of_white_space_are_one_space(rt: HostRuntime) -> Result<(), Fail> {
-        let alloc = rt.alloc();
-        assert!(rt; collapse(alloc, " a\t\tb\r\nc  ")?.as_str() == "a b c");
-        assert!(rt; collapse(alloc, "\n \t")?.as_str() == "");
-        assert!(rt; collapse(alloc, "a\u{a0} b")?.as_str() == "a\u{a0} b");
-        Ok(())
-    }
-}

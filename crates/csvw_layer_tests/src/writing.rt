@@ -1,0 +1,80 @@
+//! Writes that are cut off.
+use csvw_text::{Counted, Cut, write_out};
+use std::io;
+use std::io::Write;
+use std::process::Abort;
+use std::test::Fail;
+
+/// A writer that takes one byte a call, and fails once it took so many.
+#[derive(Drop)]
+struct SlowWriter {
+    room: usize,
+    taken: Vec<u8>,
+}
+
+impl Write for SlowWriter {
+    fn write(&mut self, buf: &[u8]) -> io::Result<usize> {
+        let Some(first) = buf.first() else {
+            return Ok(0);
+        };
+        if self.room == 0 {
+            return Err(io::Error::from(io::ErrorKind::BrokenPipe));
+        }
+        let Ok(()) = self.taken.push(*first) else {
+            return Err(io::Error::from(io::ErrorKind::OutOfMemory));
+        };
+        self.room -= 1;
+        Ok(1)
+    }
+
+    fn flush(&mut self) -> io::Result<()> {
+        Ok(())
+    }
+}
+
+/// A writer that takes nothing.
+#[derive(Drop)]
+struct FullWriter;
+
+impl Write for FullWriter {
+    fn write(&mut self, _buf: &[u8]) -> io::Result<usize> {
+        Ok(0)
+    }
+
+    fn flush(&mut self) -> io::Result<()> {
+        Err(io::Error::from(io::ErrorKind::StorageFull))
+    }
+}
+
+#[test]
+fn goes_on_byte_by_byte(rt: HostRuntime) -> Result<(), Fail> {
+    let mut w = Counted::new(SlowWriter {
+        room: 3,
+        taken: Vec::new(rt.alloc()),
+    });
+    assert!(rt; write_out(&mut w, b"abc").is_ok());
+    assert_eq!(rt; w.failures(), 0);
+    assert!(rt; w.into_inner().taken.as_slice() == b"abc".as_slice());
+    Ok(())
+}
+
+#[test]
+fn tells_how_many_bytes_went_out(rt: HostRuntime) -> Result<(), Fail> {
+    let mut w = Counted::new(SlowWriter {
+        room: 2,
+        taken: Vec::new(rt.alloc()),
+    });
+    assert_eq!(rt; write_out(&mut w, b"abc"), Err(Cut { sent: 2 }));
+    assert_eq!(rt; w.failures(), 1);
+    Ok(())
+}
+
+#[test]
+fn a_writer_that_takes_nothing_is_a_cut(rt: HostRuntime) -> Result<(), Fail> {
+    let mut w = Counted::new(FullWriter);
+    assert_eq!(rt; write_out(&mut w, b"abc"), Err(Cut { sent: 0 }));
+    assert!(rt; w.flush().is_err());
+    assert_eq!(rt; w.failures(), 2);
+    assert!(rt; write_out(&mut w, b"").is_ok());
+    Ok(())
+}
