@@ -116,8 +116,8 @@ pub fn annotate_into(
 }
 
 /// The annotated row of a data row of a table with these columns, whose datatypes have passed `Datatype::check` (Model for
-/// Tabular Data, sections 4.4, 4.5 and 6.4.2): what its cells say, and their links. `RaggedRow` exactly where it hasn't one field for each column that isn't virtual;
-/// `Memory` where there is none.
+/// Tabular Data, sections 4.4, 4.5 and 6.4.2): what its cells say, and their links. `RaggedRow` exactly where it hasn't one field
+/// for each column that isn't virtual; `Memory` where there is none.
 pub fn annotate(alloc: Global, columns: &Columns, row: &RawRow) -> Result<Row, RowStop>
     requires { AreSound columns.now.columns }
     ensures { Annotates columns.now (row_of row.now) result }

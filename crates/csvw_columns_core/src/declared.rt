@@ -93,7 +93,8 @@ impl Frame {
         requires defaults { IsDefaults defaults.now }
         requires skipped { self.now.skip_columns ≤ column_limit }
         requires limit { length descriptions.now ≤ column_limit }
-        ensures { IfOk result (λ cs. cs ≡ declared_columns (iri_of self.now.url) self.now.skip_columns self.now.schema self.now.table group.now descriptions.now) }
+        ensures { IfOk result (λ cs. cs ≡ declared_columns (iri_of self.now.url) self.now.skip_columns
+            self.now.schema self.now.table group.now descriptions.now) }
     {
         let mut columns = Vec::new(alloc);
         for (i, description) in descriptions.iter().enumerate() {

@@ -1,7 +1,8 @@
 //! How a header fits the columns of its table.
 ghost use Rattle.std.specs.Prelude.{◌≡◌, ◌++◌, IfOk, OnOk, bytes_eq, [], ◌∷◌, if◌then◌else◌};
 ghost use Rattle.std.specs.List.{list_any};
-ghost use Rattle.csvw_columns_core.specs.HeaderFits.{cell_at, has_title, encoded_cells, has_name, fits, fits_alone, error_at, mismatches_from, mismatches, count_faults, last_source, header_faults};
+ghost use Rattle.csvw_columns_core.specs.HeaderFits.{cell_at, has_title, encoded_cells, has_name, fits, fits_alone};
+ghost use Rattle.csvw_columns_core.specs.HeaderFits.{error_at, mismatches_from, mismatches, count_faults, last_source, header_faults};
 
 use crate::column::Column;
 use crate::columns::count_fields;

@@ -1,7 +1,8 @@
 //! What is kept of rows for one key.
 ghost use Rattle.std.specs.Prelude.{◌≡◌, ◌++◌, ℕ, true, false, List, Some, None, IfOk, MatchOption, OnOk};
 ghost use Rattle.csvw_annotate.specs.declared.row.Row.{Row};
-ghost use Rattle.csvw_keys.specs.Books.{KeepsBook, IsRoomy, book_times, counts_in, duplicates_in, is_primary_of, no_rows, purpose_of, times_in, told, told_reference};
+ghost use Rattle.csvw_keys.specs.Books.{KeepsBook, IsRoomy, book_times, counts_in, duplicates_in, is_primary_of};
+ghost use Rattle.csvw_keys.specs.Books.{no_rows, purpose_of, times_in, told, told_reference};
 ghost use Rattle.csvw_keys.specs.Books.{Counts, Keeps};
 ghost use Rattle.csvw_keys.specs.contracts.held.HeldKeyOrd.TheImpl as derived;
 ghost use Rattle.csvw_keys.specs.KeyRules.{KeyRule, reference_rule};

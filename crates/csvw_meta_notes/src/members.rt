@@ -4,7 +4,8 @@ ghost use Rattle.serde_json.specs.View.{view, members_view};
 ghost use Rattle.csvw_meta_core.specs.Others.{has_colon};
 ghost use Rattle.csvw_meta_core.specs.Pointer.{text_of};
 ghost use Rattle.csvw_meta_core.specs.Reads.{Reads};
-ghost use Rattle.csvw_meta_notes.specs.Members.{has_at, is_plain, plain_member, is_literal_keyword, literal_member, no_keyword, no_list, node_member, each_member};
+ghost use Rattle.csvw_meta_notes.specs.Members.{has_at, is_plain, plain_member, is_literal_keyword, literal_member};
+ghost use Rattle.csvw_meta_notes.specs.Members.{no_keyword, no_list, node_member, each_member};
 
 use csvw_meta_core::{MetaCode, Part, Refusal};
 use serde_json::{Map, Value};
