@@ -168,8 +168,13 @@ pub struct Scan {
 
 const WHOLE_LIMIT: u128 = 100_000_000_000_000_000_000_000;
 
+/// Ten times a whole part below it fits in 64 bits.
+const SHORT_LIMIT: u128 = 1_000_000_000_000_000_000;
+
 impl Scan {
-    ghost use Rattle.csvw_datatype_core.specs.Step.{begun, step, push_whole, push_fraction, run, count_of, IsSmall};
+    ghost use Rattle.csvw_datatype_core.specs.declared.number.Kind.TheVariants as kinds;
+    ghost use Rattle.csvw_datatype_core.specs.Scan.{next};
+    ghost use Rattle.csvw_datatype_core.specs.Step.{begun, step, push, push_whole, push_fraction, run, count_of, IsSmall};
     ghost use Rattle.std.specs.Str.{chars};
 
     fn new() -> Scan
@@ -193,7 +198,12 @@ impl Scan {
         ensures value { result ≡ push_whole self digit }
         ensures small { IsSmall result }
     {
-        let whole = (self.whole * 10 + digit as u128).min(WHOLE_LIMIT);
+        // Most numbers are small.
+        let whole = if self.whole < SHORT_LIMIT {
+            (self.whole as u64 * 10 + digit as u64) as u128
+        } else {
+            (self.whole * 10 + digit as u128).min(WHOLE_LIMIT)
+        };
         Scan { whole, ..self }
     }
 
@@ -214,35 +224,63 @@ impl Scan {
         }
     }
 
+    fn push_digit(self, digit: u8) -> Scan
+        requires digit { digit < 10 }
+        requires small { IsSmall self }
+        ensures value { result ≡ push (record self { place = next self.place (kinds.Digit digit) }) (kinds.Digit digit) }
+        ensures small { IsSmall result }
+    {
+        match self.place {
+            Place::Start | Place::Sign | Place::Whole | Place::Group => Scan {
+                place: Place::Whole,
+                ..self
+            }
+            .push_whole(digit),
+            Place::BarePoint | Place::Fraction => Scan {
+                place: Place::Fraction,
+                ..self
+            }
+            .push_fraction(digit),
+            Place::Mark | Place::Bad => Scan {
+                place: Place::Bad,
+                ..self
+            }
+            .push_fraction(digit),
+        }
+    }
+
+    fn moved(self, kind: Kind) -> Scan
+        requires { IsSmall self }
+        ensures value { result ≡ record self { place = next self.place kind } }
+        ensures small { IsSmall result }
+    {
+        Scan {
+            place: self.place.after(kind),
+            ..self
+        }
+    }
+
     fn step(self, rules: &NumberRules, c: char) -> Scan
         requires { IsSmall self }
         ensures value { result ≡ step rules.now self c }
         ensures small { IsSmall result }
     {
         let kind = rules.kind(c);
-        let place = self.place.after(kind);
-        let next = Scan { place, ..self };
         match kind {
-            Kind::Digit(digit) => {
-                if matches!(place, Place::Whole) {
-                    next.push_whole(digit)
-                } else {
-                    next.push_fraction(digit)
-                }
-            }
+            Kind::Digit(digit) => self.push_digit(digit),
             Kind::Minus => Scan {
                 minus: true,
-                ..next
+                ..self.moved(kind)
             },
             Kind::Percent => Scan {
                 mark: Mark::Percent,
-                ..next
+                ..self.moved(kind)
             },
             Kind::PerMille => Scan {
                 mark: Mark::PerMille,
-                ..next
+                ..self.moved(kind)
             },
-            _ => next,
+            Kind::Plus | Kind::Point | Kind::Group | Kind::Other => self.moved(kind),
         }
     }
 

@@ -17,7 +17,7 @@ pub(crate) struct Case {
     pub(crate) pointer: &'static str,
 }
 
-const CASES: [Case; 31] = [
+const CASES: [Case; 32] = [
     Case {
         datatype: r#""float""#,
         code: MetaCode::NotSupported,
@@ -157,6 +157,11 @@ const CASES: [Case; 31] = [
     Case {
         datatype: r#"{"base":"decimal","format":{"groupChar":",","x:y":1}}"#,
         code: MetaCode::BadProperty,
+        pointer: "/format/x:y",
+    },
+    Case {
+        datatype: r#"{"base":"decimal","format":{"groupChar":",","x:y":1.5}}"#,
+        code: MetaCode::NotSupported,
         pointer: "/format/x:y",
     },
     Case {

@@ -15,7 +15,7 @@ struct Case {
     pointer: &'static str,
 }
 
-const CASES: [Case; 15] = [
+const CASES: [Case; 17] = [
     Case {
         schema: r#""columns":[{"name":"k"},{"name":"l"}],"primaryKey":"m""#,
         code: MetaCode::BadReference,
@@ -80,6 +80,16 @@ const CASES: [Case; 15] = [
         schema: r#""columns":[{"name":"k"},{"name":"l"}],"foreignKeys":[{"columnReference":"k","dc:title":"x","reference":{"resource":"p.csv","columnReference":"k"}}]"#,
         code: MetaCode::BadProperty,
         pointer: "/tableSchema/foreignKeys/0/dc:title",
+    },
+    Case {
+        schema: r#""columns":[{"name":"k"},{"name":"l"}],"foreignKeys":[{"columnReference":"k","dc:title":1.5,"reference":{"resource":"p.csv","columnReference":"k"}}]"#,
+        code: MetaCode::NotSupported,
+        pointer: "/tableSchema/foreignKeys/0/dc:title",
+    },
+    Case {
+        schema: r#""columns":[{"name":"k"},{"name":"l"}],"foreignKeys":[{"columnReference":"k","reference":{"resource":"p.csv","dc:title":1.5,"columnReference":"k"}}]"#,
+        code: MetaCode::NotSupported,
+        pointer: "/tableSchema/foreignKeys/0/reference/dc:title",
     },
     Case {
         schema: r#""columns":[{"name":"k"},{"name":"l"}],"foreignKeys":[{"columnReference":"k","reference":{"resource":"p.csv","schemaReference":"s","columnReference":"k"}}]"#,

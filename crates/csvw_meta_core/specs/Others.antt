@@ -8,11 +8,10 @@ use Rattle.csvw_text.specs.declared.fault.Place.{Place}
 use Rattle.csvw_text.specs.declared.fault.Fault.{Fault}
 use Rattle.csvw_text.specs.declared.fault.Code.TheVariants.{UnknownProperty}
 use Rattle.csvw_text.specs.declared.fault.Kind.TheVariants.{Warning}
-use Rattle.csvw_meta_core.specs.declared.fault.MetaCode.TheVariants.{BadProperty}
 use Rattle.csvw_meta_core.specs.declared.others.CommonProperty.{CommonProperty}
 use Rattle.csvw_meta_core.specs.declared.others.CommonProperty.TheVariants.{Allowed, Refused}
 use Rattle.csvw_meta_core.specs.Pointer.{below}
-use Rattle.csvw_meta_core.specs.Read.{Read, fine, faulty, both}
+use Rattle.csvw_meta_core.specs.Read.{Read, fine, wrong, both}
 
 -- texts that are lent
 abbrev pub names_of : List (Bor (List ℕ)) → List (List ℕ)
@@ -27,22 +26,22 @@ is_among names name = list_any (λ n. bytes_eq n name) names
 abbrev pub warning_at : Place → Fault
 warning_at place = record { place = place; code = UnknownProperty; kind = Warning }
 
--- A common property is never ignored.
-abbrev pub judged : CommonProperty → List ℕ → List ℕ → Read Bool
-judged Allowed at name = fine false
-judged Refused at name = faulty BadProperty (below at name) false
+-- A common property is never ignored. Where none may stand, it is of a wrong kind.
+abbrev pub judged : CommonProperty → List ℕ → Data → Read Bool
+judged Allowed at d = fine false
+judged Refused at d = wrong at d false
 
--- whether a property is ignored
-abbrev pub other : List (List ℕ) → CommonProperty → List ℕ → List ℕ → Read Bool
-other names common at name =
+-- whether a property of this value is ignored
+abbrev pub other : List (List ℕ) → CommonProperty → List ℕ → List ℕ → Data → Read Bool
+other names common at name d =
     if is_among names name then fine false
-    else (if has_colon name then judged common at name else fine true)
+    else (if has_colon name then judged common (below at name) d else fine true)
 
 -- a warning for each property that is ignored
 abbrev pub others_in : List (List ℕ) → CommonProperty → Place → List ℕ → Members → Read (List Fault)
 others_in names common place at no_members = fine []
 others_in names common place at (member k d ms) =
-    both (λ ignored rest. (if ignored then warning_at place ∷ [] else []) ++ rest) (other names common at k) (others_in names common place at ms)
+    both (λ ignored rest. (if ignored then warning_at place ∷ [] else []) ++ rest) (other names common at k d) (others_in names common place at ms)
 
 abbrev pub others : List (List ℕ) → CommonProperty → Place → List ℕ → Data → Read (List Fault)
 others names common place at (object ms) = others_in names common place at ms

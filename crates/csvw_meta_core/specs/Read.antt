@@ -32,7 +32,7 @@ under f r = record { faults = r.faults; value = f r.value }
 abbrev pub both : {A B C : Type 0} → (A → B → C) → Read A → Read B → Read C
 both f r s = record { faults = r.faults ++ s.faults; value = f r.value s.value }
 
--- The faults of a rule over several values are told only where each of the values could be read.
+-- The faults of a rule over several values are told only where no fault stands in what holds them.
 abbrev pub unless_faulty : List MetaFault → List MetaFault → List MetaFault
 unless_faulty [] more = more
 unless_faulty (f ∷ fs) more = f ∷ fs

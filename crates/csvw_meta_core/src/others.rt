@@ -7,7 +7,7 @@ ghost use Rattle.csvw_meta_core.specs.Reads.{Reads};
 ghost use Rattle.csvw_meta_core.specs.Others.{has_colon, is_among, names_of, judged, other, others_in, others};
 ghost use Rattle.csvw_meta_core.specs.Listed.{all_names};
 
-use crate::fault::{MetaCode, Refusal};
+use crate::fault::Refusal;
 use crate::part::Part;
 use crate::reader::Reader;
 use csvw_text::{Code, Fault, Kind, Place, Seq};
@@ -18,7 +18,7 @@ use serde_json::{Map, Value};
 pub enum CommonProperty {
     /// It is an annotation of the object, and no warning.
     Allowed,
-    /// It is `BadProperty`.
+    /// It is `BadProperty`, or `NotSupported` where its value is a number that isn't whole.
     Refused,
 }
 
@@ -56,8 +56,8 @@ fn others_in(
     ensures { Reads result (others_in (all_names listed.now) listed.now.common listed.now.place (text_of part.now.at) (members_view members.now.entries)) }
 {
     let mut warnings = Vec::new(part.alloc);
-    for (name, _) in members.iter() {
-        if is_ignored(part, listed, name.as_str())? {
+    for (name, value) in members.iter() {
+        if is_ignored(part, listed, name.as_str(), value)? {
             warnings.push(Fault {
                 place: listed.place,
                 code: Code::UnknownProperty,
@@ -68,26 +68,24 @@ fn others_in(
     Ok(Seq::of(warnings))
 }
 
-fn is_ignored(part: &Part, listed: &Listed, name: &str) -> Result<bool, Refusal>
-    ensures { Reads result (other (all_names listed.now) listed.now.common (text_of part.now.at) name.now) }
+fn is_ignored(part: &Part, listed: &Listed, name: &str, value: &Value) -> Result<bool, Refusal>
+    ensures { Reads result (other (all_names listed.now) listed.now.common (text_of part.now.at) name.now (view value.now)) }
 {
     if is_among(listed.names, name) || is_among(listed.shared, name) {
         return Ok(false);
     }
     if has_colon(name) {
-        return judge_common(part, listed.common, name);
+        return judge_common(listed.common, &part.member(name, value));
     }
     Ok(true)
 }
 
-fn judge_common(part: &Part, common: CommonProperty, name: &str) -> Result<bool, Refusal>
-    ensures { Reads result (judged common (text_of part.now.at) name.now) }
+fn judge_common(common: CommonProperty, property: &Part) -> Result<bool, Refusal>
+    ensures { Reads result (judged common (text_of property.now.at) (view property.now.value.now)) }
 {
     match common {
         CommonProperty::Allowed => Ok(false),
-        CommonProperty::Refused => {
-            Err(part.member(name, part.value).refused(MetaCode::BadProperty))
-        }
+        CommonProperty::Refused => Err(property.wrong()),
     }
 }
 
