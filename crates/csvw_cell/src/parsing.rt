@@ -30,7 +30,8 @@ pub(crate) fn missing(alloc: Global, properties: &Properties) -> Result<Seq<Code
 fn is_space(b: u8) -> bool
     ensures { result ≡ is_space b }
 {
-    matches!(b, b'\r' | b'\n' | b'\t' | b' ')
+    // Most bytes are greater than all white space.
+    b <= b' ' && matches!(b, b'\r' | b'\n' | b'\t' | b' ')
 }
 
 fn has_space_byte(bytes: &[u8]) -> bool

@@ -1,5 +1,5 @@
 //! Texts whose links are seen in one pass over their bytes: URLs as the URL Standard writes them, and fragments.
-ghost use Rattle.std.specs.Prelude.{◌≡◌, ◌++◌, true, Some, IfSome, codes};
+ghost use Rattle.std.specs.Prelude.{◌≡◌, ◌≤◌, ◌++◌, true, Some, IfSome, codes, length, drop};
 ghost use Rattle.csvw_iri.specs.Safe.{is_iri};
 ghost use Rattle.csvw_iri.specs.Own.{IsOwnLink, IsFragmentLink, IsOfScheme};
 ghost use Rattle.csvw_iri.specs.Own.{is_plain, is_lower, is_of_label, of_label, of_path, of_query, step, is_end, goes_on};
@@ -113,17 +113,34 @@ fn is_end(place: Place) -> bool
     !matches!(place, Place::Front | Place::Label)
 }
 
-/// Whether the byte is seen at once to leave the place as it is: in a label, a segment, the query or the fragment a letter in lower
-/// case or a digit.
+/// Whether the byte is seen at once to leave the place as it is: in a label a letter in lower case or a digit, in a segment, the query
+/// or the fragment a character that is unreserved in a URI or `%`.
 fn stays(place: Place, b: u8) -> bool
     ensures { result ≡ true → step place b ≡ Some place }
 {
     match place {
-        Place::Label | Place::Path | Place::Query | Place::Fragment => {
-            matches!(b, b'a'..=b'z' | b'0'..=b'9')
+        Place::Label => matches!(b, b'a'..=b'z' | b'0'..=b'9'),
+        Place::Path | Place::Query | Place::Fragment => {
+            matches!(
+                b,
+                b'a'..=b'z' | b'A'..=b'Z' | b'0'..=b'9' | b'%' | b'-' | b'.' | b'_' | b'~'
+            )
         }
         Place::Front | Place::Segment | Place::Percent => false,
     }
+}
+
+/// How many bytes in front are seen at once to leave the place as it is.
+fn staying(place: Place, bytes: &[u8]) -> usize
+    ensures within { result ≤ length bytes.now }
+    ensures stays { goes_on (Some place) (drop result bytes.now) ≡ goes_on (Some place) bytes.now }
+{
+    for (i, b) in bytes.iter().enumerate() {
+        if !stays(place, *b) {
+            return i;
+        }
+    }
+    bytes.len()
 }
 
 /// Whether the bytes go on from the place to an end.
@@ -131,15 +148,14 @@ fn goes_on(from: Place, bytes: &[u8]) -> bool
     ensures { result ≡ goes_on (Some from) bytes.now }
 {
     let mut place = from;
-    for b in bytes {
-        // Most bytes stay in their label, segment, query or fragment.
-        if stays(place, *b) {
-            continue;
-        }
+    let mut rest = bytes;
+    while let Some((b, behind)) = rest.split_first() {
         match step(place, *b) {
             None => return false,
             Some(next) => place = next,
         }
+        // Most bytes stay in their label, segment, query or fragment.
+        rest = &behind[staying(place, behind)..];
     }
     is_end(place)
 }

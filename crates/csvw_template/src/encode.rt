@@ -1,14 +1,24 @@
 //! Texts percent-encoded, with and without reserved characters and triplets kept.
 ghost use Rattle.std.specs.Prelude.{◌≡◌, ◌≤◌, ◌++◌, OnOk, string_bytes, length, take, drop, true};
 ghost use Rattle.std.specs.List.{flat_map, list_all};
-ghost use Rattle.csvw_text.specs.Class.{is_unreserved_char};
 ghost use Rattle.csvw_template.specs.Expand.{is_plain, encoded, encoded_byte, kept, kept_byte, begins_triplet};
 
 use crate::names::is_hex;
 use crate::part::Operator;
 use csvw_text::{is_reserved, is_unreserved};
-use percent_encoding::percent_encode_byte;
+use percent_encoding::{
+    AsciiSet, NON_ALPHANUMERIC, ascii_set, percent_encode_byte, utf8_percent_encode,
+};
 use std::alloc::AllocError;
+
+/// All of ASCII but the unreserved characters (RFC 3986, section 2.3).
+const BUT_UNRESERVED: AsciiSet = ascii_set!(
+    NON_ALPHANUMERIC
+        .remove(b'-')
+        .remove(b'.')
+        .remove(b'_')
+        .remove(b'~')
+);
 
 /// Adds a text as the operator encodes it.
 pub(crate) fn push_encoded(
@@ -24,40 +34,12 @@ pub(crate) fn push_encoded(
     }
 }
 
-#[tactic(auto, using(crate::proofs::PlainLemmas::unreserved_stays))]
+/// Adds a text with all but its unreserved characters encoded.
+#[tactic(auto, using(crate::proofs::PlainLemmas::all_but_unreserved))]
 fn push_plain(out: &mut String, text: &str) -> Result<(), AllocError>
     ensures { OnOk result (string_bytes out.new ≡ string_bytes out.old ++ flat_map encoded_byte text.now) }
 {
-    // Most texts have nothing to encode.
-    if is_unreserved_text(text) {
-        return out.push_str(text);
-    }
-    for b in text.as_bytes() {
-        push_plain_byte(out, *b)?;
-    }
-    Ok(())
-}
-
-fn is_unreserved_text(text: &str) -> bool
-    ensures { result ≡ list_all is_unreserved_char text.now }
-{
-    let bytes = text.as_bytes();
-    for b in bytes {
-        if !is_unreserved(*b as char) {
-            return false;
-        }
-    }
-    true
-}
-
-fn push_plain_byte(out: &mut String, b: u8) -> Result<(), AllocError>
-    ensures { OnOk result (string_bytes out.new ≡ string_bytes out.old ++ encoded_byte b) }
-{
-    if is_unreserved(b as char) {
-        out.push(b as char)
-    } else {
-        out.push_str(percent_encode_byte(b))
-    }
+    utf8_percent_encode(text, BUT_UNRESERVED).append_to(out)
 }
 
 /// Adds a text with reserved characters and triplets as they are.
@@ -82,7 +64,7 @@ pub(crate) fn push_kept(out: &mut String, text: &str) -> Result<(), AllocError>
 }
 
 /// Whether each character is unreserved or reserved.
-fn is_plain_text(text: &str) -> bool
+pub(crate) fn is_plain_text(text: &str) -> bool
     ensures { result ≡ list_all is_plain text.now }
 {
     let bytes = text.as_bytes();

@@ -1,7 +1,8 @@
 //! The expansion of a template's parts.
-ghost use Rattle.std.specs.Prelude.{◌≡◌, ◌++◌, IfOk, OnOk, string_bytes};
+ghost use Rattle.std.specs.Prelude.{◌≡◌, ◌++◌, IfOk, OnOk, string_bytes, true};
 ghost use Rattle.csvw_template.specs.Name.{after_comma};
 ghost use Rattle.csvw_template.specs.Expand.{expand, expand_part, encoded, signed, value, values, lead, Adds};
+ghost use Rattle.csvw_template.specs.Plain.{are_plain, is_plain_part};
 
 use crate::encode::{push_encoded, push_kept};
 use crate::part::{Operator, Part};
@@ -15,27 +16,34 @@ pub(crate) fn push_parts<S: Scope>(
     alloc: Global,
     out: &mut String,
     parts: &[Part],
+    is_plain: bool,
     scope: &S,
 ) -> Result<(), AllocError>
-    requires { S.can_look_up scope.now }
+    requires look_up { S.can_look_up scope.now }
+    requires plain { is_plain ≡ are_plain parts.now }
     ensures { OnOk result (string_bytes out.new ≡ string_bytes out.old ++ expand (S.variables scope.now) parts.now) }
 {
     for part in parts {
-        push_part(alloc, out, part, scope)?;
+        push_part(alloc, out, part, is_plain, scope)?;
     }
     Ok(())
 }
 
+/// Adds what a part expands to, which is the part itself where it is a literal of plain characters.
+#[tactic(auto, using(crate::proofs::PlainLemmas::plain_stays))]
 fn push_part<S: Scope>(
     alloc: Global,
     out: &mut String,
     part: &Part,
+    is_plain: bool,
     scope: &S,
 ) -> Result<(), AllocError>
-    requires { S.can_look_up scope.now }
+    requires look_up { S.can_look_up scope.now }
+    requires plain { is_plain ≡ true → is_plain_part part.now ≡ true }
     ensures { OnOk result (string_bytes out.new ≡ string_bytes out.old ++ expand_part (S.variables scope.now) part.now) }
 {
     match part {
+        Part::Literal(text) if is_plain => out.push_str(text.as_str()),
         Part::Literal(text) => push_kept(out, text.as_str()),
         Part::Expression(operator, names) => {
             push_values(alloc, out, *operator, names.as_slice(), scope)
@@ -56,12 +64,31 @@ fn push_values<S: Scope>(
 {
     let mut is_first = true;
     for name in names {
-        let var = scope.var(alloc, name.as_str())?;
+        let name = name.as_str();
+        if let Some(text) = scope.text(name) {
+            push_one(out, operator, is_first, text)?;
+            is_first = false;
+            continue;
+        }
+        let var = scope.var(alloc, name)?;
         if push_value(out, operator, is_first, &var)? {
             is_first = false;
         }
     }
     Ok(())
+}
+
+/// Adds a text, after the sign or a comma.
+fn push_one(
+    out: &mut String,
+    operator: Operator,
+    is_first: bool,
+    text: &str,
+) -> Result<(), AllocError>
+    ensures { OnOk result (string_bytes out.new ≡ string_bytes out.old ++ (lead operator is_first ++ encoded operator text.now)) }
+{
+    push_lead(out, operator, is_first)?;
+    push_encoded(out, operator, text)
 }
 
 /// Adds what a variable gives, after the sign or a comma, and tells whether it is defined.
@@ -77,8 +104,7 @@ fn push_value(
     match var {
         Var::Undefined => Ok(false),
         Var::One(text) => {
-            push_lead(out, operator, is_first)?;
-            push_encoded(out, operator, text.as_str())?;
+            push_one(out, operator, is_first, text.as_str())?;
             Ok(true)
         }
         Var::Many(items) => push_list(out, operator, is_first, items.as_slice()),

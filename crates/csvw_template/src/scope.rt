@@ -1,6 +1,7 @@
 //! What names stand for, wherever it is kept.
-ghost use Rattle.std.specs.Prelude.{◌≡◌, IfOk};
+ghost use Rattle.std.specs.Prelude.{◌≡◌, IfOk, IfSome};
 ghost use Rattle.csvw_template.specs.Variables.{Variables, lookup};
+ghost use Rattle.csvw_template.specs.declared.vars.Var.TheVariants.{One};
 
 use crate::vars::{Var, Vars};
 use std::alloc::{AllocError, Global};
@@ -17,6 +18,14 @@ pub trait Scope {
     fn var(&self, alloc: Global, name: &str) -> Result<Var, AllocError>
         requires { can_look_up self.now }
         ensures { IfOk result (λ v. v ≡ lookup (variables self.now) name.now) };
+
+    /// The text that a name stands for, where it can be lent. `None` says nothing of the name.
+    fn text(&self, name: &str) -> Option<&str>
+        requires { can_look_up self.now }
+        ensures { IfSome result (λ text. lookup (variables self.now) name.now ≡ One text.now) }
+    {
+        None
+    }
 }
 
 impl Scope for Vars {
@@ -26,5 +35,12 @@ impl Scope for Vars {
 
     fn var(&self, alloc: Global, name: &str) -> Result<Var, AllocError> {
         self.get(name).clone(alloc)
+    }
+
+    fn text(&self, name: &str) -> Option<&str> {
+        match self.get(name) {
+            Var::One(text) => Some(text.as_str()),
+            Var::Undefined | Var::Many(_) => None,
+        }
     }
 }

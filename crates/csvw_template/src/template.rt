@@ -1,17 +1,19 @@
 //! URI templates.
-ghost use Rattle.std.specs.Prelude.{◌≡◌, ◌++◌, IfOk, OnOk, string_bytes};
+ghost use Rattle.std.specs.Prelude.{◌≡◌, ◌++◌, IfOk, OnOk, string_bytes, true};
 ghost use Rattle.csvw_template.specs.Fault.{Gives};
 ghost use Rattle.csvw_template.specs.Expand.{expand};
 ghost use Rattle.csvw_template.specs.Grammar.{IsTheReading};
+ghost use Rattle.csvw_template.specs.Plain.{are_plain, is_plain_part};
 ghost use Rattle.csvw_template.specs.Reading.{template, is_past};
 
+use crate::encode::is_plain_text;
 use crate::expand::push_parts;
 use crate::fault::TemplateFault;
 use crate::part::Part;
 use crate::read::{count_open, of_pieces, pieces};
 use crate::scope::Scope;
 use crate::vars::Vars;
-use csvw_text::{Copied, Seq};
+use csvw_text::{Copied, Seq, Text};
 use std::alloc::{AllocError, Global};
 use std::marker::Model;
 
@@ -24,16 +26,25 @@ const MAX_OPEN: usize = 32;
 /// A URI template, which a contract sees as its parts.
 #[derive(Debug, Drop)]
 pub struct Template {
+    /// The text that it was read from.
+    text: Text,
+    /// Its parts, in order.
     parts: Seq<Part>,
+    /// Whether its literals expand to themselves, as most do.
+    is_plain: bool,
 }
 
 impl Model for Template {
-    ghost use Rattle.std.specs.Prelude.{List};
+    ghost use Rattle.std.specs.Prelude.{◌≡◌, List, Ok};
     ghost use Rattle.csvw_template.specs.declared.part.Part.{Part};
+    ghost use Rattle.csvw_template.specs.Plain.{are_plain};
+    ghost use Rattle.csvw_template.specs.Reading.{template};
 
     ghost Value = { List Part };
 
     ghost view = { λ t. t.parts };
+
+    ghost invariant = { λ t. (template t.text ≡ Ok t.parts) × (t.is_plain ≡ are_plain t.parts) };
 }
 
 impl Template {
@@ -55,6 +66,8 @@ impl Template {
         let pieces = pieces(alloc, text)?;
         let parts = of_pieces(alloc, pieces.as_slice())?;
         Ok(Template {
+            text: Text::copied(alloc, text)?,
+            is_plain: are_plain(parts.as_slice()),
             parts: Seq::of(parts),
         })
     }
@@ -79,7 +92,7 @@ impl Template {
         requires { S.can_look_up scope.now }
         ensures { OnOk result (string_bytes out.new ≡ string_bytes out.old ++ expand (S.variables scope.now) self.now) }
     {
-        push_parts(alloc, out, self.parts.as_slice(), scope)
+        push_parts(alloc, out, self.parts.as_slice(), self.is_plain, scope)
     }
 
     /// Its parts, in order.
@@ -89,12 +102,21 @@ impl Template {
         self.parts.as_slice()
     }
 
+    /// Whether it is read from the same text as another template, and so equal to it.
+    pub fn is_same(&self, other: &Template) -> bool
+        ensures { result ≡ true → self.now ≡ other.now }
+    {
+        self.text.as_str() == other.text.as_str()
+    }
+
     /// An equal template; `AllocError` where there is no memory.
     pub fn clone(&self, alloc: Global) -> Result<Template, AllocError>
         ensures { IfOk result (λ t. t ≡ self.now) }
     {
         Ok(Template {
+            text: self.text.clone(alloc)?,
             parts: self.parts.clone(alloc)?,
+            is_plain: self.is_plain,
         })
     }
 }
@@ -102,6 +124,21 @@ impl Template {
 impl Copied for Template {
     fn copied(&self, alloc: Global) -> Result<Template, AllocError> {
         self.clone(alloc)
+    }
+}
+
+fn are_plain(parts: &[Part]) -> bool
+    ensures { result ≡ are_plain parts.now }
+{
+    parts.iter().all(|part| is_plain_part(part))
+}
+
+fn is_plain_part(part: &Part) -> bool
+    ensures { result ≡ is_plain_part part.now }
+{
+    match part {
+        Part::Literal(text) => is_plain_text(text.as_str()),
+        Part::Expression(_, _) => true,
     }
 }
 
