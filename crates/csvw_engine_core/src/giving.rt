@@ -23,7 +23,8 @@ fn give<S: TripleSink>(
     sink: &mut S,
 ) -> Result<(), Halt>
     requires { RowFits table.now.head.columns row.now }
-    ensures { Gives S.gains S.is_open S.failed (table_triples table.now.mode table.now.number table.now.head.columns (row.now ∷ [])) sink.old sink.new result }
+    ensures { Gives S.gains S.is_open S.failed (table_triples table.now.mode table.now.number table.now.head.columns (row.now ∷ []))
+        sink.old sink.new result }
 {
     match &table.head.columns {
         Some(columns) => {
@@ -43,8 +44,10 @@ fn drain<S: TripleSink>(
 ) -> Result<(), Halt>
     requires { IsReady plan.now }
     ensures ended { is_ended table.new ≡ is_ended table.old }
-    ensures drains { (mode : TheMode) (bytes : List ℕ) (ended : Bool) (given : List Given) (rows : List TheRow) → TableHolds plan.now mode table.old bytes ended given rows
-        → TableOutcome S.gains S.is_open S.failed plan.now mode bytes ended given rows table.old table.new (outlets sink.old keys.old) (outlets sink.new keys.new) result }
+    ensures drains { (mode : TheMode) (bytes : List ℕ) (ended : Bool) (given : List Given) (rows : List TheRow)
+        → TableHolds plan.now mode table.old bytes ended given rows
+        → TableOutcome S.gains S.is_open S.failed plan.now mode bytes ended given rows table.old table.new
+        (outlets sink.old keys.old) (outlets sink.new keys.new) result }
 {
     let alloc = table.alloc;
     given_first();
@@ -75,8 +78,10 @@ pub fn feed_table<S: TripleSink>(
     requires ready { IsReady plan.now }
     requires not_ended { is_ended table.old ≡ false }
     ensures ended { is_ended table.new ≡ false }
-    ensures feeds { (mode : TheMode) (bytes : List ℕ) (given : List Given) (rows : List TheRow) → TableHolds plan.now mode table.old bytes false given rows
-        → TableOutcome S.gains S.is_open S.failed plan.now mode (bytes ++ piece.now) false given rows table.old table.new (outlets sink.old keys.old) (outlets sink.new keys.new) result }
+    ensures feeds { (mode : TheMode) (bytes : List ℕ) (given : List Given) (rows : List TheRow)
+        → TableHolds plan.now mode table.old bytes false given rows
+        → TableOutcome S.gains S.is_open S.failed plan.now mode (bytes ++ piece.now) false given rows table.old table.new
+        (outlets sink.old keys.old) (outlets sink.new keys.new) result }
 {
     given_first_later();
     match table.rows.feed(piece) {
@@ -94,8 +99,10 @@ pub fn end_table<S: TripleSink>(
 ) -> Result<(), Halt>
     requires ready { IsReady plan.now }
     requires not_ended { is_ended table.old ≡ false }
-    ensures ends { (mode : TheMode) (bytes : List ℕ) (given : List Given) (rows : List TheRow) → TableHolds plan.now mode table.old bytes false given rows
-        → EndOutcome S.gains S.is_open S.failed plan.now mode bytes given rows table.old table.new (outlets sink.old keys.old) (outlets sink.new keys.new) result }
+    ensures ends { (mode : TheMode) (bytes : List ℕ) (given : List Given) (rows : List TheRow)
+        → TableHolds plan.now mode table.old bytes false given rows
+        → EndOutcome S.gains S.is_open S.failed plan.now mode bytes given rows table.old table.new
+        (outlets sink.old keys.old) (outlets sink.new keys.new) result }
 {
     given_first();
     match table.rows.end() {

@@ -122,7 +122,8 @@ pub fn good_events_are_taken<S: TripleSink>()
 /// annotated tables, then each call answers Ok, the session stands for all events, and `finish` answers Ok or `Memory`; or memory
 /// was wanting or the sink's device failed at the first call that doesn't answer Ok.
 pub fn good_sessions_finish<S: TripleSink>()
-    ensures { (plan : ThePlan) (mode : TheMode) (sink : S) (s last : TheSession S) (events : List Event) (answers : List (Result Unit Stop)) (tables : List Table)
+    ensures { (plan : ThePlan) (mode : TheMode) (sink : S) (s last : TheSession S) (events : List Event)
+        (answers : List (Result Unit Stop)) (tables : List Table)
         → Starts S.gains S.is_open S.failed plan mode sink s → AreGood (length plan.tables) events → AreAnnotated plan.tables (texts_of events) tables
         → Goes S.gains S.is_open S.failed s events answers last
         → LacksFirst answers ⊎ EndsWell S.gains S.is_open S.failed s.sink events answers last }
