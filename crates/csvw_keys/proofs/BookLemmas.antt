@@ -44,10 +44,10 @@ module _ (tables : ℕ → List Row) where
       → (key : HeldKey) → book_times b key ≡ times (times_of table columns key)
   counts_are (Primary book) table columns keeps same key =
       let parts = and_parts _ _ same in
-      keeps.tallies key ∙ moved book.table table book.columns columns key (eqb-true _ _ parts.0) ((bytes_decides _ _).0 parts.1)
+      keeps.tallies.each key ∙ moved book.table table book.columns columns key (eqb-true _ _ parts.0) ((bytes_decides _ _).0 parts.1)
   counts_are (Referenced book) table columns keeps same key =
       let parts = and_parts _ _ same in
-      keeps key ∙ moved book.table table book.columns columns key (eqb-true _ _ parts.0) ((bytes_decides _ _).0 parts.1)
+      keeps.each key ∙ moved book.table table book.columns columns key (eqb-true _ _ parts.0) ((bytes_decides _ _).0 parts.1)
   counts_are (Reference book) table columns keeps same key = absurd (false≢true same)
 
   module _ (book : ReferenceBook) (keeps_it : KeepsReference book tables) where

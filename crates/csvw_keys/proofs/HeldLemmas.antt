@@ -9,17 +9,18 @@ use Rattle.std.proofs.lemmas.Nat.{div-add-mod'}
 use Rattle.csvw_annotate.specs.declared.row.Row.{Row}
 use Rattle.csvw_datatype.specs.declared.value.Value.{Value}
 use Rattle.csvw_datatype.specs.declared.value.Value.TheVariants.{Text, Truth, Number, Day, Moment}
-use Rattle.csvw_keys.specs.contracts.held.HeldKeyOrd.TheImpl as derived
-use Rattle.csvw_keys.specs.declared.held.HeldKey.{HeldKey}
-use Rattle.csvw_keys.specs.declared.held.HeldKey.TheVariants.{Cells}
+use Rattle.csvw_keys.specs.contracts.held.HeldKeyOrd.TheImpl as key_order
+use Rattle.csvw_keys.specs.contracts.held_value.HeldValueOrd.TheImpl as derived
+use Rattle.csvw_keys.specs.declared.held_value.HeldValue.{HeldValue}
+use Rattle.csvw_keys.specs.declared.held_value.HeldValue.TheVariants.{Cells}
 use Rattle.csvw_keys.specs.declared.key.KeyCell.{KeyCell}
 use Rattle.csvw_keys.specs.declared.key.KeyCell.TheVariants.{Null, One, Many}
 use Rattle.csvw_keys.specs.EqualKeys.{equal_cells, equal_keys, equal_values}
-use Rattle.csvw_keys.specs.Held.{held, held_cell, held_keys, held_number, held_value, is_null_held}
+use Rattle.csvw_keys.specs.Held.{held, held_cell, held_cells, held_keys, held_number, held_value, is_null_held, is_null_value}
 use Rattle.csvw_keys.specs.Key.{is_null_key, key_of}
 use Rattle.csvw_keys.proofs.EqualLemmas.{keys_are, truths_are}
 
-abbrev is_same : HeldKey → HeldKey → Bool
+abbrev is_same : HeldValue → HeldValue → Bool
 is_same a b = is_eq (derived.ghosts.cmp a b)
 
 -- ---- numbers
@@ -104,7 +105,7 @@ values_are (Moment a) (Moment b) = refl
 
 -- ---- cells
 
-abbrev as_cells : List KeyCell → HeldKey
+abbrev as_cells : List KeyCell → HeldValue
 as_cells key = Cells (record { value = key })
 
 null_value : (v : Value) → false ≡ is_same (held_cell Null) (held_value v)
@@ -169,16 +170,19 @@ apart_one key Null unequal = unequal
 apart_one key (One v) unequal = unequal ∙ cells_value key v
 apart_one key (Many vs) unequal = keys_are key (Many vs ∷ [])
 
-pub held_are : (a b : List KeyCell) → equal_keys a b ≡ is_same (held a) (held b)
-held_are [] [] = refl
-held_are [] (d ∷ []) = apart_one [] d refl
-held_are [] (d ∷ e ∷ ds) = refl
-held_are (c ∷ []) [] = one_apart c [] refl
-held_are (c ∷ []) (d ∷ []) = singles c d
-held_are (c ∷ []) (d ∷ e ∷ ds) = one_apart c (d ∷ e ∷ ds) (and_false (equal_cells c d))
-held_are (c ∷ b ∷ cs) [] = refl
-held_are (c ∷ b ∷ cs) (d ∷ []) = apart_one (c ∷ b ∷ cs) d (and_false (equal_cells c d))
-held_are (c ∷ b ∷ cs) (d ∷ e ∷ ds) = keys_are (c ∷ b ∷ cs) (d ∷ e ∷ ds)
+cells_are : (a b : List KeyCell) → equal_keys a b ≡ is_same (held_cells a) (held_cells b)
+cells_are [] [] = refl
+cells_are [] (d ∷ []) = apart_one [] d refl
+cells_are [] (d ∷ e ∷ ds) = refl
+cells_are (c ∷ []) [] = one_apart c [] refl
+cells_are (c ∷ []) (d ∷ []) = singles c d
+cells_are (c ∷ []) (d ∷ e ∷ ds) = one_apart c (d ∷ e ∷ ds) (and_false (equal_cells c d))
+cells_are (c ∷ b ∷ cs) [] = refl
+cells_are (c ∷ b ∷ cs) (d ∷ []) = apart_one (c ∷ b ∷ cs) d (and_false (equal_cells c d))
+cells_are (c ∷ b ∷ cs) (d ∷ e ∷ ds) = keys_are (c ∷ b ∷ cs) (d ∷ e ∷ ds)
+
+pub held_are : (a b : List KeyCell) → equal_keys a b ≡ is_eq (key_order.ghosts.cmp (held a) (held b))
+held_are a b = cells_are a b
 
 -- ---- rows
 
@@ -187,7 +191,7 @@ pub one_key_more : (columns : List ℕ) (rows : List Row) (row : Row)
 one_key_more columns rows row =
     ap (map held) (map-append (key_of columns) rows (row ∷ [])) ∙ map-append held (map (key_of columns) rows) (key_of columns row ∷ [])
 
-no_null : (v : Value) → false ≡ is_null_held (held_value v)
+no_null : (v : Value) → false ≡ is_null_value (held_value v)
 no_null (Text t) = refl
 no_null (Truth t) = refl
 no_null (Number (pos n)) = refl
@@ -202,7 +206,7 @@ null_held (One v ∷ []) = no_null v
 null_held (Many vs ∷ []) = refl
 null_held (c ∷ d ∷ key) = refl
 
-pub several : (key : List KeyCell) → (length key ≡ 1 → ⊥) → held key ≡ as_cells key
+pub several : (key : List KeyCell) → (length key ≡ 1 → ⊥) → held_cells key ≡ as_cells key
 several [] apart = refl
 several (c ∷ []) apart = absurd (apart refl)
 several (c ∷ d ∷ key) apart = refl

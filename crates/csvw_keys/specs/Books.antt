@@ -15,7 +15,7 @@ use Rattle.csvw_keys.specs.PrimaryBooks.{KeepsPrimary}
 use Rattle.csvw_keys.specs.PrimaryBooks as primary
 use Rattle.csvw_keys.specs.ReferenceBooks.{IsReferencedStaged, KeepsReference, KeepsReferenced, row_fault}
 use Rattle.csvw_keys.specs.ReferenceBooks as reference
-use Rattle.csvw_keys.specs.Tallies.{times_at}
+use Rattle.csvw_keys.specs.Tallies.{tally_times}
 use Rattle.csvw_text.specs.declared.fault.Fault.{Fault}
 
 -- what a book is for: a key, or to count the keys of the table of a number in the columns of these numbers
@@ -58,8 +58,8 @@ IsRoomy (Reference book) table row = reference.IsStaged book table row
 
 -- how often each key is there by its counts
 abbrev pub book_times : Book → HeldKey → Times
-book_times (Primary book) = times_at derived.ghosts.cmp book.tally.counts
-book_times (Referenced book) = times_at derived.ghosts.cmp book.tally.counts
+book_times (Primary book) = tally_times derived.ghosts.cmp book.tally.ahead book.tally.counts
+book_times (Referenced book) = tally_times derived.ghosts.cmp book.tally.ahead book.tally.counts
 book_times (Reference book) = λ key. Never
 
 -- how often each key of a table in these columns is there, by the first of the books that counts them

@@ -4,33 +4,38 @@ use Rattle.csvw_annotate.specs.declared.row.Row.{Row}
 use Rattle.csvw_datatype.specs.declared.value.Value.{Value}
 use Rattle.csvw_datatype.specs.declared.value.Value.TheVariants as value
 use Rattle.csvw_keys.specs.declared.held.HeldKey.{HeldKey}
-use Rattle.csvw_keys.specs.declared.held.HeldKey.TheVariants.{Null, Text, Truth, Natural, Negative, Day, Moment, Cells}
+use Rattle.csvw_keys.specs.declared.held_value.HeldValue.{HeldValue}
+use Rattle.csvw_keys.specs.declared.held_value.HeldValue.TheVariants.{Null, Text, Truth, Natural, Negative, Day, Moment, Cells}
 use Rattle.csvw_keys.specs.declared.key.KeyCell.{KeyCell}
 use Rattle.csvw_keys.specs.declared.key.KeyCell.TheVariants as cell
 use Rattle.csvw_keys.specs.Key.{is_null_key, key_of}
 
 -- a number by its sign and the halves of its size
-abbrev pub held_number : ℤ → HeldKey
+abbrev pub held_number : ℤ → HeldValue
 held_number (pos n) = Natural (n / 2 ^ 64) (n % 2 ^ 64)
 held_number (negsuc n) = Negative (suc n / 2 ^ 64) (suc n % 2 ^ 64)
 
-abbrev pub held_value : Value → HeldKey
+abbrev pub held_value : Value → HeldValue
 held_value (value.Text text) = Text (record { value = text })
 held_value (value.Truth truth) = Truth truth
 held_value (value.Number number) = held_number number
 held_value (value.Day day) = Day day
 held_value (value.Moment moment) = Moment moment
 
-abbrev pub held_cell : KeyCell → HeldKey
+abbrev pub held_cell : KeyCell → HeldValue
 held_cell cell.Null = Null
 held_cell (cell.One value) = held_value value
 held_cell (cell.Many values) = Cells (record { value = cell.Many values ∷ [] })
 
--- The key of these cells as it is kept: that of one cell that is no list is its value.
+-- what is kept of these cells: of one that is no list its value
+abbrev pub held_cells : List KeyCell → HeldValue
+held_cells [] = Cells (record { value = [] })
+held_cells (c ∷ []) = held_cell c
+held_cells (c ∷ d ∷ cells) = Cells (record { value = c ∷ d ∷ cells })
+
+-- the key of these cells as it is kept
 abbrev pub held : List KeyCell → HeldKey
-held [] = Cells (record { value = [] })
-held (c ∷ []) = held_cell c
-held (c ∷ d ∷ cells) = Cells (record { value = c ∷ d ∷ cells })
+held key = record { value = held_cells key }
 
 -- the key of a row in these columns as it is kept
 abbrev pub held_of : List ℕ → Row → HeldKey
@@ -40,8 +45,12 @@ held_of columns row = held (key_of columns row)
 abbrev pub held_keys : List ℕ → List Row → List HeldKey
 held_keys columns rows = map held (map (key_of columns) rows)
 
+-- nothing but null cells is kept
+abbrev pub is_null_value : HeldValue → Bool
+is_null_value Null = true
+is_null_value (Cells cells) = is_null_key cells.value
+is_null_value _ = false
+
 -- each cell is null
 abbrev pub is_null_held : HeldKey → Bool
-is_null_held Null = true
-is_null_held (Cells cells) = is_null_key cells.value
-is_null_held _ = false
+is_null_held key = is_null_value key.value

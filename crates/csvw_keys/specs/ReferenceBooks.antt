@@ -1,6 +1,5 @@
 -- What the books of a foreign key stand for.
-use Rattle.std.specs.Prelude.{◌≡◌, ◌<◌, ℕ, List, [], ◌∷◌, Some, IsSome, map, if◌then◌else◌}
-use Rattle.std.specs.BTreeMap.{get}
+use Rattle.std.specs.Prelude.{◌≡◌, ◌<◌, ℕ, List, [], ◌∷◌, Some, map, if◌then◌else◌}
 use Rattle.std.specs.Vec.{vec_len, vec_capacity}
 use Rattle.csvw_annotate.specs.declared.row.Row.{Row}
 use Rattle.csvw_keys.specs.contracts.held.HeldKeyOrd.TheImpl as derived
@@ -14,7 +13,7 @@ use Rattle.csvw_keys.specs.declared.times.Times.TheVariants.{Never, Once, Often}
 use Rattle.csvw_keys.specs.Held.{held, held_keys, held_of, is_null_held}
 use Rattle.csvw_keys.specs.Places.{fault_of}
 use Rattle.csvw_keys.specs.References.{ReferringRow, referring_of}
-use Rattle.csvw_keys.specs.Tallies.{Tallies}
+use Rattle.csvw_keys.specs.Tallies.{IsAheadAt, Tallies}
 use Rattle.csvw_text.specs.declared.fault.Code.TheVariants.{NoReferencedRow, ManyReferencedRows}
 use Rattle.csvw_text.specs.declared.fault.Fault.{Fault}
 
@@ -37,12 +36,11 @@ pub record IsReferringStaged (book : ReferringBook) (row : Row) : Type 0 where
 
 -- it counts the keys of these rows
 abbrev pub KeepsReferenced : ReferencedBook → List Row → Type 0
-KeepsReferenced book rows = Tallies derived.ghosts.cmp book.tally.counts (held_keys book.columns rows)
+KeepsReferenced book rows = Tallies derived.ghosts.cmp book.tally.ahead book.tally.counts (held_keys book.columns rows)
 
--- there is room in it for a row, whose key it has at hand
-pub record IsReferencedStaged (book : ReferencedBook) (row : Row) : Type 0 where
-  pub key : book.next ≡ Some (held_of book.columns row)
-  pub room : IsSome (get derived.ghosts.cmp book.tally.counts (held_of book.columns row))
+-- there is room in it for a row, by whose key its counts are ahead
+abbrev pub IsReferencedStaged : ReferencedBook → Row → Type 0
+IsReferencedStaged book row = IsAheadAt book.tally.ahead (held_of book.columns row)
 
 -- it has the rows of its table that refer to others
 abbrev pub KeepsReference : ReferenceBook → (ℕ → List Row) → Type 0

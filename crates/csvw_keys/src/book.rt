@@ -8,7 +8,7 @@ ghost use Rattle.csvw_keys.specs.contracts.held.HeldKeyOrd.TheImpl as derived;
 ghost use Rattle.csvw_keys.specs.KeyRules.{KeyRule, reference_rule};
 ghost use Rattle.csvw_keys.specs.KeyRules.KeyRule.{Unique};
 ghost use Rattle.csvw_keys.specs.Tables.{with_row};
-ghost use Rattle.csvw_keys.specs.Tallies.{times_at};
+ghost use Rattle.csvw_keys.specs.Tallies.{tally_times};
 
 use crate::held::HeldKey;
 use crate::primary::PrimaryBook;
@@ -82,7 +82,7 @@ pub(crate) fn tally_in<'a>(
     columns: &[u32],
 ) -> Option<&'a Tally<HeldKey>>
     ensures { MatchOption result (times_in table columns.now books.now ≡ None)
-        (λ tally. times_in table columns.now books.now ≡ Some (times_at derived.ghosts.cmp tally.now.counts)) }
+        (λ tally. times_in table columns.now books.now ≡ Some (tally_times derived.ghosts.cmp tally.now.ahead tally.now.counts)) }
 {
     for book in books {
         if let Some(tally) = book.tally(table, columns) {
@@ -127,7 +127,7 @@ impl Book {
     /// How often each key of a table in these columns is there, where it knows.
     fn tally(&self, table: u32, columns: &[u32]) -> Option<&Tally<HeldKey>>
         ensures { MatchOption result (counts_in table columns.now (purpose_of self.now) ≡ false)
-            (λ tally. (counts_in table columns.now (purpose_of self.now) ≡ true) × (times_at derived.ghosts.cmp tally.now.counts ≡ book_times self.now)) }
+            (λ tally. (counts_in table columns.now (purpose_of self.now) ≡ true) × (tally_times derived.ghosts.cmp tally.now.ahead tally.now.counts ≡ book_times self.now)) }
     {
         match self {
             Book::Primary(book) => {

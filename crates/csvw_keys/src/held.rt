@@ -1,127 +1,105 @@
 //! Keys as they are kept.
 ghost use Rattle.std.specs.Prelude.{◌≡◌, IfOk};
-ghost use Rattle.csvw_keys.specs.Held.{held_cell, held_number, held_of, held_value, is_null_held};
-ghost use Rattle.csvw_keys.specs.Key.{key_cell, key_cell_at};
+ghost use Rattle.std.specs.Cmp.{on_total};
+ghost use Rattle.std.specs.Ordering.{nat_cmp, ordering_then};
+ghost use Rattle.csvw_keys.specs.contracts.held_value.HeldValueOrd.TheImpl as of_value;
+ghost use Rattle.csvw_keys.specs.contracts.held_value.HeldValueOrd.TheImpl.Laws as law;
+ghost use Rattle.csvw_keys.specs.Held.{held_cells, held_of, is_null_held};
+ghost use Rattle.csvw_keys.specs.Key.{key_of};
 
 use crate::apart::Apart;
-use crate::key::{Key, is_null_key, key_cell, key_of};
+use crate::held_value::{HeldValue, held_cell_at};
+use crate::key::{is_null_key, key_of};
 use csvw_annotate::Row;
-use csvw_cell::CellValue;
-use csvw_datatype::Value;
-use csvw_text::{Copied, Seq, Text};
+use csvw_text::Copied;
 use std::alloc::{AllocError, Global};
+use std::cmp::Ordering;
 
-/// A key as it is kept: that of one column that is no list is its value. It takes 24 bytes, since a number is in halves and
-/// what is long lies apart.
-#[derive(Debug, Drop, PartialEq, Eq, PartialOrd, Ord)]
-pub enum HeldKey {
-    /// A null cell.
-    Null,
-    /// A text.
-    Text(Apart<Text>),
-    /// A truth.
-    Truth(bool),
-    /// A number from 0, in units of 10^-18: its high and its low 64 bits.
-    Natural(u64, u64),
-    /// A number below 0, in units of 10^-18: the high and the low 64 bits of its size.
-    Negative(u64, u64),
-    /// A day.
-    Day(i32),
-    /// A moment.
-    Moment(i64),
-    /// The cells of several columns, or of a list.
-    Cells(Apart<Key>),
+/// A key as it is kept. It is compared as its value.
+#[derive(Debug, Drop, PartialEq, Eq, PartialOrd)]
+pub struct HeldKey {
+    /// Its value.
+    pub(crate) value: HeldValue,
 }
 
 impl Copied for HeldKey {
     fn copied(&self, alloc: Global) -> Result<HeldKey, AllocError> {
-        match self {
-            HeldKey::Null => Ok(HeldKey::Null),
-            HeldKey::Text(text) => Ok(HeldKey::Text(text.copied(alloc)?)),
-            HeldKey::Truth(truth) => Ok(HeldKey::Truth(*truth)),
-            HeldKey::Natural(high, low) => Ok(HeldKey::Natural(*high, *low)),
-            HeldKey::Negative(high, low) => Ok(HeldKey::Negative(*high, *low)),
-            HeldKey::Day(day) => Ok(HeldKey::Day(*day)),
-            HeldKey::Moment(moment) => Ok(HeldKey::Moment(*moment)),
-            HeldKey::Cells(cells) => Ok(HeldKey::Cells(cells.copied(alloc)?)),
-        }
+        Ok(HeldKey {
+            value: self.value.copied(alloc)?,
+        })
     }
 }
 
-/// The size of half a number.
-const HALF: u128 = 1 << 64;
-
-fn held_number(number: i128) -> HeldKey
-    ensures { result ≡ held_number number }
+/// How two numbers compare by their high and their low halves.
+#[inline(always)]
+fn by_halves(high: u64, low: u64, other_high: u64, other_low: u64) -> Ordering
+    ensures { result ≡ ordering_then (nat_cmp high other_high) (nat_cmp low other_low) }
 {
-    let size = number.unsigned_abs();
-    let high = (size / HALF) as u64;
-    let low = (size % HALF) as u64;
-    if number < 0 {
-        HeldKey::Negative(high, low)
+    if high < other_high {
+        Ordering::Less
+    } else if high > other_high {
+        Ordering::Greater
     } else {
-        HeldKey::Natural(high, low)
+        low.cmp(&other_low)
     }
 }
 
-fn held_value(alloc: Global, value: &Value) -> Result<HeldKey, AllocError>
-    ensures { IfOk result (λ key. key ≡ held_value value.now) }
+/// How two values compare, whatever they are.
+#[inline(never)]
+fn of_any_kind(value: &HeldValue, other: &HeldValue) -> Ordering
+    ensures { result ≡ of_value.ghosts.cmp value.now other.now }
 {
-    match value {
-        Value::Text(text) => Ok(HeldKey::Text(Apart::new(alloc, text.clone(alloc)?)?)),
-        Value::Truth(truth) => Ok(HeldKey::Truth(*truth)),
-        Value::Number(number) => Ok(held_number(*number)),
-        Value::Day(day) => Ok(HeldKey::Day(*day)),
-        Value::Moment(moment) => Ok(HeldKey::Moment(*moment)),
-    }
+    value.cmp(other)
 }
 
-fn held_cell(alloc: Global, value: &CellValue) -> Result<HeldKey, AllocError>
-    ensures { IfOk result (λ key. key ≡ held_cell (key_cell value.now)) }
-{
-    match value {
-        CellValue::Null => Ok(HeldKey::Null),
-        CellValue::One(item) => held_value(alloc, &item.value),
-        CellValue::Many(_) => {
-            let mut cells = Vec::new(alloc);
-            cells.push(key_cell(alloc, value)?)?;
-            Ok(HeldKey::Cells(Apart::new(alloc, Seq::of(cells))?))
+impl Ord for HeldKey {
+    ghost cmp = { λ x y. of_value.ghosts.cmp x.value y.value };
+
+    ghost total = { on_total (λ x. x.value) law.total-law };
+
+    ghost matches_partial_cmp = { λ x y. law.matches_partial_cmp-law x.value y.value };
+
+    ghost matches_eq = { λ x y. law.matches_eq-law x.value y.value };
+
+    // Most keys are numbers from 0, so these are compared in place, with no call.
+    #[inline(always)]
+    fn cmp(&self, other: &HeldKey) -> Ordering {
+        if let HeldValue::Natural(high, low) = &self.value {
+            if let HeldValue::Natural(other_high, other_low) = &other.value {
+                return by_halves(*high, *low, *other_high, *other_low);
+            }
         }
+        of_any_kind(&self.value, &other.value)
     }
 }
 
-/// The key of the column of this number, from 1.
-fn held_cell_at(alloc: Global, row: &Row, column: u32) -> Result<HeldKey, AllocError>
-    ensures { IfOk result (λ key. key ≡ held_cell (key_cell_at row.now column)) }
+/// What is kept of a row in the columns of these numbers, from 1.
+fn held_cells(alloc: Global, columns: &[u32], row: &Row) -> Result<HeldValue, AllocError>
+    ensures { IfOk result (λ held. held ≡ held_cells (key_of columns.now row.now)) }
 {
-    if column == 0 {
-        return Ok(HeldKey::Null);
+    if columns.len() == 1 {
+        return held_cell_at(alloc, row, columns[0]);
     }
-    match row.cells.as_slice().get((column - 1) as usize) {
-        Some(cell) => held_cell(alloc, &cell.value),
-        None => Ok(HeldKey::Null),
-    }
+    let cells = key_of(alloc, columns, row)?;
+    Ok(HeldValue::Cells(Apart::new(alloc, cells)?))
 }
 
 /// The key of a row in the columns of these numbers, from 1.
 pub(crate) fn held_of(alloc: Global, columns: &[u32], row: &Row) -> Result<HeldKey, AllocError>
     ensures { IfOk result (λ key. key ≡ held_of columns.now row.now) }
 {
-    if columns.len() == 1 {
-        return held_cell_at(alloc, row, columns[0]);
-    }
-    let cells = key_of(alloc, columns, row)?;
-    Ok(HeldKey::Cells(Apart::new(alloc, cells)?))
+    let value = held_cells(alloc, columns, row)?;
+    Ok(HeldKey { value })
 }
 
 /// Whether each cell of a key is null.
 pub(crate) fn is_null_held(key: &HeldKey) -> bool
     ensures { result ≡ is_null_held key.now }
 {
-    match key {
-        HeldKey::Null => true,
-        HeldKey::Cells(cells) => is_null_key(cells.value.get()),
-        HeldKey::Text(_) | HeldKey::Truth(_) | HeldKey::Day(_) | HeldKey::Moment(_) => false,
-        HeldKey::Natural(_, _) | HeldKey::Negative(_, _) => false,
+    match &key.value {
+        HeldValue::Null => true,
+        HeldValue::Cells(cells) => is_null_key(cells.value.get()),
+        HeldValue::Text(_) | HeldValue::Truth(_) | HeldValue::Day(_) => false,
+        HeldValue::Natural(_, _) | HeldValue::Negative(_, _) | HeldValue::Moment(_) => false,
     }
 }

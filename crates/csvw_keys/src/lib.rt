@@ -4,6 +4,7 @@
 mod apart;
 mod book;
 mod held;
+mod held_value;
 mod key;
 mod key_book;
 pub mod laws;

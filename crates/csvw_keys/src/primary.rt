@@ -25,8 +25,6 @@ pub struct PrimaryBook {
     pub(crate) columns: Seq<u32>,
     pub(crate) tally: Tally<HeldKey>,
     found: Vec<Fault>,
-    /// The key of the row that is added next.
-    next: Option<HeldKey>,
 }
 
 impl PrimaryBook {
@@ -41,7 +39,6 @@ impl PrimaryBook {
             columns,
             tally: Tally::new(alloc),
             found: Vec::new(alloc),
-            next: None,
         }
     }
 
@@ -88,9 +85,8 @@ impl PrimaryBook {
         ensures staged { OnOk result (IsStaged self.new row.now) }
     {
         let key = held_of(alloc, self.columns.as_slice(), row)?;
-        self.tally.make_room(alloc, &key)?;
+        self.tally.make_room(alloc, key)?;
         self.found.reserve(1)?;
-        self.next = Some(key);
         Ok(())
     }
 
@@ -100,11 +96,8 @@ impl PrimaryBook {
         ensures keeps { IsStaged self.old row.now → (rows : List Row) → KeepsPrimary self.old rows
             → KeepsPrimary self.new (rows ++ row.now ∷ []) }
     {
-        let Some(key) = self.next.take() else {
-            return;
-        };
         let fault = fault_of(Code::DuplicateKey, self.table, self.columns.as_slice(), row);
-        note(&mut self.found, self.tally.count(&key), fault);
+        note(&mut self.found, self.tally.count(), fault);
     }
 }
 

@@ -4,7 +4,7 @@ ghost use Rattle.csvw_annotate.specs.declared.row.Row.{Row};
 ghost use Rattle.csvw_keys.specs.contracts.held.HeldKeyOrd.TheImpl as derived;
 ghost use Rattle.csvw_keys.specs.ReferenceBooks.{IsSameReference, IsStaged, KeepsReference, fault_by_times, row_fault};
 ghost use Rattle.csvw_keys.specs.Tables.{with_row};
-ghost use Rattle.csvw_keys.specs.Tallies.{times_at};
+ghost use Rattle.csvw_keys.specs.Tallies.{tally_times};
 
 use crate::held::HeldKey;
 use crate::places::fault_at;
@@ -78,7 +78,7 @@ impl ReferenceBook {
     /// The faults of the rows that refer, in order, where each key of the table that is referenced is there as often as this
     /// says.
     pub fn faults(&self, alloc: Global, tally: &Tally<HeldKey>) -> Result<Vec<Fault>, AllocError>
-        ensures { IfOk result (λ v. v.items ≡ flat_map (row_fault (times_at derived.ghosts.cmp tally.now.counts) self.now) self.now.referring.rows.items) }
+        ensures { IfOk result (λ v. v.items ≡ flat_map (row_fault (tally_times derived.ghosts.cmp tally.now.ahead tally.now.counts) self.now) self.now.referring.rows.items) }
     {
         let mut faults = Vec::new(alloc);
         let table = self.referring.table;

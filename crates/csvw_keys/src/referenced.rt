@@ -18,8 +18,6 @@ pub struct ReferencedBook {
     /// The numbers of the columns that are referenced, from 1.
     pub(crate) columns: Seq<u32>,
     pub(crate) tally: Tally<HeldKey>,
-    /// The key of the row that is added next.
-    next: Option<HeldKey>,
 }
 
 impl ReferencedBook {
@@ -33,7 +31,6 @@ impl ReferencedBook {
             table,
             columns,
             tally: Tally::new(alloc),
-            next: None,
         }
     }
 
@@ -60,7 +57,7 @@ impl ReferencedBook {
             → KeepsReferenced self.new (with_row tables table row.now self.old.table) }
     {
         if table == self.table {
-            self.add_own(row);
+            self.add_own();
         }
     }
 
@@ -71,20 +68,15 @@ impl ReferencedBook {
         ensures staged { OnOk result (IsReferencedStaged self.new row.now) }
     {
         let key = held_of(alloc, self.columns.as_slice(), row)?;
-        self.tally.make_room(alloc, &key)?;
-        self.next = Some(key);
-        Ok(())
+        self.tally.make_room(alloc, key)
     }
 
-    fn add_own(&mut self, row: &Row)
+    fn add_own(&mut self)
         ensures table { self.new.table ≡ self.old.table }
         ensures columns { self.new.columns ≡ self.old.columns }
-        ensures keeps { IsReferencedStaged self.old row.now → (rows : List Row) → KeepsReferenced self.old rows
-            → KeepsReferenced self.new (rows ++ row.now ∷ []) }
+        ensures keeps { (row : Row) → IsReferencedStaged self.old row → (rows : List Row) → KeepsReferenced self.old rows
+            → KeepsReferenced self.new (rows ++ row ∷ []) }
     {
-        let Some(key) = self.next.take() else {
-            return;
-        };
-        self.tally.count(&key);
+        let _ = self.tally.count();
     }
 }

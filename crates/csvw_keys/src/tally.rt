@@ -1,33 +1,55 @@
 //! How often each key is there.
-ghost use Rattle.std.specs.Prelude.{◌≡◌, ◌++◌, ◌∷◌, [], List, OnOk, IsSome};
-ghost use Rattle.std.specs.BTreeMap.{get};
-ghost use Rattle.csvw_keys.specs.Tallies.{times_at, Tallies};
+ghost use Rattle.std.specs.Prelude.{◌≡◌, ◌++◌, ◌∷◌, [], List, None, Some, IfOk, OnErr, OnOk};
+ghost use Rattle.std.specs.BTreeMap.{BTreeMap, get};
+ghost use Rattle.csvw_keys.specs.Tallies.{IsAheadAt, IsCounted, IsRaised, Tallies, tally_times, times_at};
 
 use crate::times::Times;
 use csvw_text::Copied;
 use std::alloc::{AllocError, Global};
+use std::cmp::Ordering;
 use std::collections::BTreeMap;
 
-/// How often each key is there. A key is counted in two steps, the first of which alone needs memory.
+/// How often each key is there. A key is counted in two steps, the first of which alone needs memory and looks it up.
 #[derive(Drop)]
 pub(crate) struct Tally<K: Ord> {
+    /// How often each key is there; a missing one is never there.
     counts: BTreeMap<K, Times>,
+    /// A key that the counts have already, though it isn't counted yet, and how often it is there so far.
+    ahead: Option<(K, Times)>,
+}
+
+/// Counts a key once more, and answers how often it was there before.
+fn raise<K: Ord + Drop>(counts: &mut BTreeMap<K, Times>, key: K) -> Result<Times, AllocError>
+    ensures before { IfOk result (λ before. before ≡ times_at K.cmp counts.old key) }
+    ensures raised { IfOk result (λ before. IsRaised K.cmp counts.old counts.new key before) }
+    ensures err { OnErr result ((q : K) → get K.cmp counts.new q ≡ get K.cmp counts.old q) }
+{
+    let times = counts.entry(key)?.or_insert(Times::Never);
+    let before = *times;
+    *times = before.more();
+    Ok(before)
 }
 
 impl<K: Ord + Copied + Drop> Tally<K> {
     /// No key. It takes no memory.
     pub(crate) fn new(alloc: Global) -> Tally<K>
-        ensures { Tallies K.cmp result.counts [] }
+        ensures { Tallies K.cmp result.ahead result.counts [] }
     {
         Tally {
             counts: BTreeMap::new(alloc),
+            ahead: None,
         }
     }
 
     /// How often a key is there.
     pub(crate) fn times(&self, key: &K) -> Times
-        ensures { result ≡ times_at K.cmp self.now.counts key.now }
+        ensures { result ≡ tally_times K.cmp self.now.ahead self.now.counts key.now }
     {
+        if let Some((ahead, before)) = &self.ahead {
+            if let Ordering::Equal = ahead.cmp(key) {
+                return *before;
+            }
+        }
         match self.counts.get(key) {
             Some(times) => *times,
             None => Times::Never,
@@ -35,27 +57,37 @@ impl<K: Ord + Copied + Drop> Tally<K> {
     }
 
     /// Makes room for a key. It changes no count.
-    pub(crate) fn make_room(&mut self, alloc: Global, key: &K) -> Result<(), AllocError>
-        ensures room { OnOk result (IsSome (get K.cmp self.new.counts key.now)) }
-        ensures counts { (q : K) → times_at K.cmp self.new.counts q ≡ times_at K.cmp self.old.counts q }
+    pub(crate) fn make_room(&mut self, alloc: Global, key: K) -> Result<(), AllocError>
+        ensures ahead { OnOk result (IsAheadAt self.new.ahead key) }
+        ensures keeps { (keys : List K) → Tallies K.cmp self.old.ahead self.old.counts keys → Tallies K.cmp self.new.ahead self.new.counts keys }
     {
-        let key = key.copied(alloc)?;
-        self.counts.entry(key)?.or_insert(Times::Never);
+        self.fall_back();
+        let copy = key.copied(alloc)?;
+        let before = raise(&mut self.counts, copy)?;
+        self.ahead = Some((key, before));
         Ok(())
     }
 
-    /// Counts a key that there is room for, and tells how often it was there before.
-    pub(crate) fn count(&mut self, key: &K) -> Times
-        ensures before { result ≡ times_at K.cmp self.old.counts key.now }
-        ensures counts { IsSome (get K.cmp self.old.counts key.now) → (keys : List K) → Tallies K.cmp self.old.counts keys
-            → Tallies K.cmp self.new.counts (keys ++ key.now ∷ []) }
+    /// Takes the key that it is ahead by out of its counts.
+    fn fall_back(&mut self)
+        ensures ahead { self.new.ahead ≡ None }
+        ensures keeps { (keys : List K) → Tallies K.cmp self.old.ahead self.old.counts keys → Tallies K.cmp self.new.ahead self.new.counts keys }
     {
-        match self.counts.get_mut(key) {
-            Some(times) => {
-                let before = *times;
-                *times = before.more();
-                before
-            }
+        let Some((key, before)) = self.ahead.take() else {
+            return;
+        };
+        if let Some(times) = self.counts.get_mut(&key) {
+            *times = before;
+        }
+    }
+
+    /// Counts the key that there is room for, and tells how often it was there before.
+    pub(crate) fn count(&mut self) -> Times
+        ensures { (key : K) → IsAheadAt self.old.ahead key → (keys : List K) → Tallies K.cmp self.old.ahead self.old.counts keys
+            → IsCounted K.cmp result self.new.ahead self.new.counts keys key }
+    {
+        match self.ahead.take() {
+            Some((_, before)) => before,
             None => Times::Never,
         }
     }

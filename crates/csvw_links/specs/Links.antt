@@ -59,5 +59,9 @@ links_of base vars column value =
 abbrev pub codes_of : Links → List Code
 codes_of links = told links.is_bad BadUrl ++ told links.is_too_long UrlTooLong
 
+-- a template for a property or a value link
+abbrev pub has_own_template : Column → Bool
+has_own_template column = is_some column.properties.property_url || is_some column.properties.value_url
+
 abbrev pub has_template : Column → Bool
 has_template column = is_some column.properties.about_url || is_some column.properties.property_url || is_some column.properties.value_url

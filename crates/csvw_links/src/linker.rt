@@ -4,7 +4,10 @@ ghost use Rattle.csvw_iri.specs.Link.{link_of};
 ghost use Rattle.csvw_links.specs.Links.{outcome, link_by, value_link, joined};
 
 use crate::kept::Kept;
-use crate::linking::{LINK_ROOM, Links, Made, joined, link_by, linked, no_link, value_link};
+use crate::linking::{
+    LINK_ROOM, Links, Made, about_alone, has_own_template, joined, link_by, linked, no_link,
+    value_link,
+};
 use csvw_cell::CellValue;
 use csvw_columns_core::Column;
 use csvw_iri::Base;
@@ -98,6 +101,10 @@ impl<'a> Linker<'a> {
         ensures { IfOk result (λ l. l ≡ joined about (link_by self.now (S.variables scope.now) column.now.properties.property_url)
             (value_link self.now (S.variables scope.now) column.now value.now)) }
     {
+        // Most columns have no template of their own.
+        if !has_own_template(column) {
+            return Ok(about_alone(about));
+        }
         let property = link_by(
             self.alloc,
             self.base,

@@ -3,7 +3,7 @@ ghost use Rattle.std.specs.Prelude.{◌≡◌, ◌++◌, ℕ, List, Result, IfOk
 ghost use Rattle.csvw_iri.specs.Link.{Refusal, link_of};
 ghost use Rattle.csvw_iri.specs.Fault.{Gives};
 ghost use Rattle.csvw_cell.specs.Codes.{told};
-ghost use Rattle.csvw_links.specs.Links.{no_link, outcome, link_by, has_value, value_link, joined, codes_of, has_template};
+ghost use Rattle.csvw_links.specs.Links.{no_link, outcome, link_by, has_value, value_link, joined, codes_of, has_template, has_own_template};
 
 use csvw_cell::CellValue;
 use csvw_columns_core::Column;
@@ -139,6 +139,27 @@ pub fn has_template(column: &Column) -> bool
     properties.about_url.is_some()
         || properties.property_url.is_some()
         || properties.value_url.is_some()
+}
+
+/// Whether a column has a template for a property or a value link.
+pub(crate) fn has_own_template(column: &Column) -> bool
+    ensures { result ≡ has_own_template column.now }
+{
+    let properties = &column.properties;
+    properties.property_url.is_some() || properties.value_url.is_some()
+}
+
+/// The links of a cell that has no others than its about link.
+pub(crate) fn about_alone(about: Made) -> Links
+    ensures { result ≡ joined about no_link no_link }
+{
+    Links {
+        is_bad: about.is_bad,
+        is_too_long: about.is_too_long,
+        about: about.iri,
+        property: None,
+        value: None,
+    }
 }
 
 /// Three links, and whether something is wrong with one of them.

@@ -1,23 +1,19 @@
-use Rattle.std.proofs.Common.{◌≡◌, ◌∙◌, sym, ap, subst, IsSome}
-use Rattle.std.specs.BTreeMap.{get}
+use Rattle.std.proofs.Common.{◌∙◌, sym, subst}
 use Rattle.csvw_keys.specs.contracts.held.HeldKeyOrd.TheImpl as derived
 use Rattle.csvw_keys.specs.Held.{held_keys, held_of}
-use Rattle.csvw_keys.specs.Tallies.{Tallies, times_at}
+use Rattle.csvw_keys.specs.Tallies.{Tallies}
 use Rattle.csvw_keys.proofs.HeldLemmas.{one_key_more}
-use Rattle.csvw_keys.proofs.PrimaryLemmas.{faults_after, some_same}
+use Rattle.csvw_keys.proofs.PrimaryLemmas.{faults_after}
 use Rattle.csvw_keys.proofs.primary.PrimaryBook.add_own.Goals as goal
 
 pub returns-clause-keeps : goal.returns-clause-keeps
 returns-clause-keeps c = λ staged rows keeps.
+    let row = c.args.row.now in
     let columns = c.args.self.now.columns in
-    let cmp = derived.ghosts.cmp in
-    let key = held_of columns c.args.row.now in
-    let is : c.in-Some.key ≡ key = some_same _ _ (sym c.in-Some.is ∙ c.take.ensures.value ∙ staged.key) in
-    let room = subst (λ k. IsSome (get cmp c.args.self.now.tally.counts k)) (sym is) staged.count in
-    let after = c.count.ensures.counts room (held_keys columns rows) keeps.tallies in
-    let times_are = c.count.ensures.before ∙ ap (times_at cmp c.args.self.now.tally.counts) is ∙ keeps.tallies key in
+    let after = c.count.ensures (held_of columns row) staged.key (held_keys columns rows) keeps.tallies in
     record {
-      tallies = subst (Tallies cmp c.count.new.self.counts) (sym (one_key_more columns rows c.args.row.now)) (rw is at after);
+      tallies = subst (Tallies derived.ghosts.cmp c.count.new.self.ahead c.count.new.self.counts) (sym (one_key_more columns rows row)) after.with_it;
       faults = c.note.ensures staged.fault
-          ∙ faults_after c.args.self.now.table columns rows c.args.row.now c.count.result c.fault_of-fault.result _ times_are (rw c.as_slice.ensures at c.fault_of-fault.ensures) keeps.faults;
+          ∙ faults_after c.args.self.now.table columns rows row c.count.result c.fault_of-fault.result _ after.before_it
+          (rw c.as_slice.ensures at c.fault_of-fault.ensures) keeps.faults;
     }

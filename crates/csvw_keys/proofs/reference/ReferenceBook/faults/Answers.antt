@@ -1,14 +1,14 @@
 use Rattle.std.proofs.Common.{◌∙◌, ◌++◌, sym, ap}
 use Rattle.csvw_keys.specs.contracts.held.HeldKeyOrd.TheImpl as derived
 use Rattle.csvw_keys.specs.ReferenceBooks.{fault_by_times, row_fault}
-use Rattle.csvw_keys.specs.Tallies.{times_at}
+use Rattle.csvw_keys.specs.Tallies.{tally_times}
 use Rattle.csvw_keys.proofs.ReferenceLemmas.{one_row_more}
 use Rattle.csvw_keys.proofs.reference.ReferenceBook.faults.Goals as goal
 
 pub loop-row-preserved : goal.loop-row-preserved
 loop-row-preserved c =
     let book = c.args.self.now in
-    let so_often = times_at derived.ghosts.cmp c.args.tally.now.counts in
+    let so_often = tally_times derived.ghosts.cmp c.args.tally.now.ahead c.args.tally.now.counts in
     let table = book.referring.table in
     let row = c.row-item.result in
     let so_far = c.loop-row.faults.items in

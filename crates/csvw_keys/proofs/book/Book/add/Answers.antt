@@ -1,0 +1,14 @@
+use Rattle.std.proofs.Common.{sym, subst}
+use Rattle.csvw_keys.specs.Books.{IsRoomy, KeepsBook}
+use Rattle.csvw_keys.specs.ReferenceBooks.{KeepsReferenced}
+use Rattle.csvw_keys.specs.Tables.{with_row}
+use Rattle.csvw_keys.proofs.book.Book.add.Goals as goal
+
+pub returns-in-Referenced-clause-keeps : goal.returns-in-Referenced-clause-keeps
+returns-in-Referenced-clause-keeps c = λ roomy tables keeps.
+    let table = c.args.table in
+    let row = c.args.row.now in
+    let added = c.add-in-Referenced in
+    let staged = subst (λ b. IsRoomy b table row) c.in-Referenced.is roomy in
+    let before = subst (λ b. KeepsBook b tables) c.in-Referenced.is keeps in
+    subst (λ n. KeepsReferenced added.new.self (with_row tables table row n)) (sym added.ensures.table) (added.ensures.keeps staged tables before)
