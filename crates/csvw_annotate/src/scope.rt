@@ -1,12 +1,13 @@
 //! The cells of a row as the variables of one of them.
-ghost use Rattle.std.specs.Prelude.{◌≡◌, IfOk, length};
+ghost use Rattle.std.specs.Prelude.{◌≡◌, IfOk, IfSome, length};
 ghost use Rattle.csvw_template.specs.Variables.{lookup};
+ghost use Rattle.csvw_template.specs.declared.vars.Var.TheVariants.{One};
 ghost use Rattle.csvw_links.specs.CellVariables.{named, variables};
 ghost use Rattle.csvw_annotate.specs.Linked.{HaveForms, values_of};
 
 use crate::row::AnnCell;
 use csvw_columns_core::Column;
-use csvw_links::{RowNumbers, reserved, variable};
+use csvw_links::{RowNumbers, may_be_reserved, reserved, text_of, variable};
 use csvw_template::{Scope, Var};
 use std::alloc::{AllocError, Global};
 
@@ -38,6 +39,26 @@ impl<'a, 'b> Scope for RowScope<'a, 'b> {
             None => named(alloc, self.columns, self.cells, name),
         }
     }
+
+    fn text(&self, name: &str) -> Option<&str> {
+        if may_be_reserved(name) {
+            return None;
+        }
+        named_text(self.columns, self.cells, name)
+    }
+}
+
+/// The text that the name of a column stands for, where it can be lent.
+fn named_text<'a>(columns: &[Column], cells: &'a [AnnCell], name: &str) -> Option<&'a str>
+    requires { length cells.now ≡ length columns.now }
+    ensures { IfSome result (λ text. lookup (named columns.now (values_of cells.now)) name.now ≡ One text.now) }
+{
+    for i in 0..columns.len() {
+        if columns[i].name.as_str() == name {
+            return text_of(&cells[i].value);
+        }
+    }
+    None
 }
 
 /// What the name of a column stands for.

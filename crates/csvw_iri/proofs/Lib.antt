@@ -3,3 +3,4 @@ pub mod LinkLemmas
 pub mod OwnLemmas
 pub mod OwnLinks
 pub mod FragmentLinks
+pub mod StayingLemmas

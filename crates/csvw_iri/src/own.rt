@@ -6,6 +6,17 @@ ghost use Rattle.csvw_iri.specs.Own.{is_plain, is_lower, is_of_label, of_label, 
 
 use crate::base::MAX_TEXT;
 use crate::safe::is_raw;
+use percent_encoding::{AsciiSet, NON_ALPHANUMERIC, ascii_set};
+
+/// All of ASCII but `%` and the characters that are unreserved in a URI (RFC 3986, section 2.3).
+const BUT_STAYING: AsciiSet = ascii_set!(
+    NON_ALPHANUMERIC
+        .remove(b'%')
+        .remove(b'-')
+        .remove(b'.')
+        .remove(b'_')
+        .remove(b'~')
+);
 
 /// Where a pass over the bytes behind `http://` stands.
 #[derive(Clone, Copy, Debug, PartialEq, Eq)]
@@ -115,17 +126,13 @@ fn is_end(place: Place) -> bool
 
 /// Whether the byte is seen at once to leave the place as it is: in a label a letter in lower case or a digit, in a segment, the query
 /// or the fragment a character that is unreserved in a URI or `%`.
+#[tactic(auto, using(crate::proofs::StayingLemmas::staying))]
 fn stays(place: Place, b: u8) -> bool
     ensures { result ≡ true → step place b ≡ Some place }
 {
     match place {
         Place::Label => matches!(b, b'a'..=b'z' | b'0'..=b'9'),
-        Place::Path | Place::Query | Place::Fragment => {
-            matches!(
-                b,
-                b'a'..=b'z' | b'A'..=b'Z' | b'0'..=b'9' | b'%' | b'-' | b'.' | b'_' | b'~'
-            )
-        }
+        Place::Path | Place::Query | Place::Fragment => !BUT_STAYING.should_percent_encode(b),
         Place::Front | Place::Segment | Place::Percent => false,
     }
 }

@@ -1,1 +1,2 @@
+mod ReservedLemmas
 mod SharingLemmas

@@ -1,9 +1,8 @@
 -- Templates whose expansions don't depend on the column.
-use Rattle.std.proofs.Common.{◌≡◌, ◌∙◌, ℕ, ◌+◌, ◌<◌, ◌≤◌, List, [], ◌∷◌, ◌++◌, Bool, true, false, length, take, get_or, refl, sym, ap, bytes_eq, codes, Some}
+use Rattle.std.proofs.Common.{◌≡◌, ◌∙◌, ℕ, List, [], ◌∷◌, ◌++◌, Bool, true, false, refl, sym, ap, bytes_eq, codes, Some}
 use Rattle.std.specs.Prelude.{◌||◌, not}
 use Rattle.std.specs.List.{list_any, cons_option}
 use Rattle.std.proofs.lemmas.Bool.{false≢true}
-use Rattle.std.proofs.lemmas.List.{take_more, take_all}
 use Rattle.url.specs.Parts.{Parts}
 use Rattle.csvw_iri.specs.Link.{link_of}
 use Rattle.csvw_template.specs.declared.part.Operator.{Operator}
@@ -60,12 +59,3 @@ pub shared : (base : Parts) (row : RowNumbers) (one other : Column) (rest : Vari
 shared base row one other rest parts others e f same none =
     ap (link_by base (reserved row one ++ rest)) e ∙ ap (λ x. outcome (link_of base x)) (same_for_columns row one other rest parts none)
     ∙ ap (λ ps. link_by base (reserved row other ++ rest) (Some ps)) same ∙ ap (link_by base (reserved row other ++ rest)) (sym f)
-
--- lists that are equal so far
-pub one_more : {A : Type 0} (xs ys : List A) (i : ℕ) (x y : A) → i < length xs → i < length ys → x ≡ get_or xs i x → y ≡ get_or ys i y → x ≡ y
-    → take i xs ≡ take i ys → take (i + 1) xs ≡ take (i + 1) ys
-one_more xs ys i x y lt within e f same so_far =
-    take_more xs i x lt ∙ ap (λ z. take i xs ++ z ∷ []) (sym e ∙ same ∙ f) ∙ ap (λ zs. zs ++ get_or ys i y ∷ []) so_far ∙ sym (take_more ys i y within)
-
-pub whole : {A : Type 0} (xs ys : List A) (i : ℕ) → length xs ≤ i → length ys ≤ i → take i xs ≡ take i ys → xs ≡ ys
-whole xs ys i le within so_far = sym (take_all i xs le) ∙ so_far ∙ take_all i ys within

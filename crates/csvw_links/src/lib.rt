@@ -11,7 +11,7 @@ mod values;
 
 pub use linker::Linker;
 pub use linking::{Links, Made, has_template, no_link};
-pub use names::reserved;
+pub use names::{may_be_reserved, reserved};
 pub use numbers::RowNumbers;
 pub use sharing::share_about;
-pub use values::variable;
+pub use values::{text_of, variable};

@@ -1,7 +1,8 @@
 //! The variables that each cell has.
-ghost use Rattle.std.specs.Prelude.{◌≡◌, IfOk, Some, decimal};
+ghost use Rattle.std.specs.Prelude.{◌≡◌, IfOk, Some, None, false, decimal};
 ghost use Rattle.csvw_template.specs.declared.vars.Var.TheVariants.{One};
 ghost use Rattle.csvw_links.specs.Found.{found};
+ghost use Rattle.csvw_links.specs.LowLine.{begins_with_low_line};
 ghost use Rattle.csvw_links.specs.Reserved.{decoded, reserved, source_column};
 
 use crate::numbers::RowNumbers;
@@ -33,6 +34,20 @@ fn decoded(alloc: Global, name: &str) -> Result<Text, AllocError>
     let mut bytes = Vec::new(alloc);
     percent_decode(name.as_bytes()).append_to(&mut bytes)?;
     Ok(Text::of(String::from_utf8_lossy(alloc, bytes.as_slice())?))
+}
+
+/// Whether a name may be one that each cell has: those begin with `_`.
+#[tactic(auto, using(crate::proofs::ReservedLemmas::none_reserved))]
+pub fn may_be_reserved(name: &str) -> bool
+    ensures { result ≡ false → (row : RowNumbers) (column : Column) → found (reserved row column) name.now ≡ None }
+{
+    begins_with_low_line(name.as_bytes())
+}
+
+pub(crate) fn begins_with_low_line(name: &[u8]) -> bool
+    ensures { result ≡ begins_with_low_line name.now }
+{
+    matches!(name, [b'_', ..])
 }
 
 /// What a name stands for that each cell has: `_row`, `_sourceRow`, `_column`, `_sourceColumn` or `_name`; `None` for

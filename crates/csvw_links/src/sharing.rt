@@ -3,59 +3,19 @@ ghost use Rattle.std.specs.Prelude.{◌≡◌, true};
 ghost use Rattle.std.specs.List.{list_any};
 ghost use Rattle.csvw_links.specs.Sharing.{ShareAbout, is_of_column, names_column};
 
+use crate::names::begins_with_low_line;
 use csvw_columns_core::Column;
 use csvw_template::Part;
 use csvw_text::Text;
 
-fn are_equal_texts(one: &Text, other: &Text) -> bool
-    ensures { result ≡ true → one.now ≡ other.now }
-{
-    one.as_str() == other.as_str()
-}
-
-fn are_equal_names(one: &[Text], other: &[Text]) -> bool
-    ensures { result ≡ true → one.now ≡ other.now }
-{
-    if one.len() != other.len() {
-        return false;
-    }
-    for i in 0..one.len() {
-        if !are_equal_texts(&one[i], &other[i]) {
-            return false;
-        }
-    }
-    true
-}
-
-fn are_equal(one: &Part, other: &Part) -> bool
-    ensures { result ≡ true → one.now ≡ other.now }
-{
-    match (one, other) {
-        (Part::Literal(text), Part::Literal(other)) => are_equal_texts(text, other),
-        (Part::Expression(operator, names), Part::Expression(other, others)) => {
-            *operator == *other && are_equal_names(names.as_slice(), others.as_slice())
-        }
-        _ => false,
-    }
-}
-
-fn are_equal_parts(one: &[Part], other: &[Part]) -> bool
-    ensures { result ≡ true → one.now ≡ other.now }
-{
-    if one.len() != other.len() {
-        return false;
-    }
-    for i in 0..one.len() {
-        if !are_equal(&one[i], &other[i]) {
-            return false;
-        }
-    }
-    true
-}
-
+#[tactic(auto, using(crate::proofs::ReservedLemmas::none_of_column))]
 fn is_of_column(name: &str) -> bool
     ensures { result ≡ is_of_column name.now }
 {
+    // Few names begin like those.
+    if !begins_with_low_line(name.as_bytes()) {
+        return false;
+    }
     "_column" == name || "_sourceColumn" == name || "_name" == name
 }
 
@@ -97,8 +57,8 @@ pub fn share_about(one: &Column, other: &Column) -> bool
 {
     match (&one.properties.about_url, &other.properties.about_url) {
         (Some(one), Some(other)) => {
-            let parts = one.get().parts();
-            are_equal_parts(parts, other.get().parts()) && !any_names_column(parts)
+            let one = one.get();
+            one.is_same(other.get()) && !any_names_column(one.parts())
         }
         _ => false,
     }

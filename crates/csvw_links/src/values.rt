@@ -1,9 +1,11 @@
 //! What the values of cells are in templates.
-ghost use Rattle.std.specs.Prelude.{◌≡◌, IfOk, map};
+ghost use Rattle.std.specs.Prelude.{◌≡◌, IfOk, IfSome, map};
+ghost use Rattle.csvw_template.specs.declared.vars.Var.TheVariants.{One};
 ghost use Rattle.csvw_links.specs.HasForm.{HasForm, HaveForms};
 ghost use Rattle.csvw_links.specs.CellVariables.{item_text, variable};
 
 use csvw_cell::{CellValue, Item};
+use csvw_datatype::Value;
 use csvw_template::Var;
 use csvw_text::{Seq, Text};
 use std::alloc::{AllocError, Global};
@@ -17,6 +19,25 @@ fn item_texts(alloc: Global, items: &[Item]) -> Result<Seq<Text>, AllocError>
         texts.push(Text::of(item.value.lexical(alloc)?))?;
     }
     Ok(texts)
+}
+
+/// The text that the name of a column stands for, where it can be lent: that of a cell whose value is a text. `None` says nothing.
+pub fn text_of(value: &CellValue) -> Option<&str>
+    ensures { IfSome result (λ text. variable value.now ≡ One text.now) }
+{
+    match value {
+        CellValue::One(item) => text_of_item(item),
+        CellValue::Null | CellValue::Many(_) => None,
+    }
+}
+
+fn text_of_item(item: &Item) -> Option<&str>
+    ensures { IfSome result (λ text. item_text item.now ≡ text.now) }
+{
+    match &item.value {
+        Value::Text(text) => Some(text.as_str()),
+        _ => None,
+    }
 }
 
 /// What the name of a column stands for: the lexical form of the cell's value, or those of its items; nothing for a null cell

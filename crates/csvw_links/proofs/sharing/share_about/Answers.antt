@@ -6,11 +6,12 @@ use Rattle.csvw_links.specs.Sharing.{names_column}
 use Rattle.csvw_links.proofs.SharingLemmas.{fails, shared}
 use Rattle.csvw_links.proofs.sharing.share_about.Goals as goal
 
-pub returns-then-are_equal_parts : goal.returns-then-are_equal_parts
-returns-then-are_equal_parts c = λ h base row columns values.
-    let parts = c.parts-parts.ensures ∙ c.get.ensures in
-    let others = c.parts.ensures ∙ c.get-in-Some-Some.ensures in
-    let same = sym parts ∙ c.are_equal_parts.ensures c.if-are_equal_parts.true ∙ others in
+pub returns-then-is_same : goal.returns-then-is_same
+returns-then-is_same c = λ h base row columns values.
+    let one = c.get-one.ensures in
+    let other = c.get.ensures in
+    let same = sym one ∙ c.is_same.ensures c.if-is_same.true ∙ other in
+    let parts = c.parts.ensures ∙ one in
     let none = ap (list_any names_column) (sym parts) ∙ sym c.any_names_column.ensures ∙ fails c.any_names_column.result h in
     shared base row c.args.one.now c.args.other.now (named columns values)
     c.in-Some-Some.one c.in-Some-Some.other c.in-Some-Some.is-0 c.in-Some-Some.is-1 same none
