@@ -8,7 +8,7 @@ ghost use Rattle.csvw_triples.specs.HasForms.{HaveForms, ValueHasForms, CellsHav
 ghost use Rattle.csvw_triples.specs.Literals.{literal_of};
 ghost use Rattle.csvw_triples.specs.Puts.{Puts};
 ghost use Rattle.csvw_triples.specs.Stems.{object_triple, literal_triple, entries_in, entry_triples};
-ghost use Rattle.csvw_triples.specs.RowTriples.{triple, list_node, list_triples, items_triples, value_triples};
+ghost use Rattle.csvw_triples.specs.RowTriples.{triple, subject_of, predicate_of, entries_of, list_node, list_triples, items_triples, value_triples};
 ghost use Rattle.csvw_triples.specs.RowTriples.{object_triples, cell_triples, cells_triples, minimal_triples};
 ghost use Rattle.csvw_triples.specs.ModeTriples.{row_triples};
 ghost use Rattle.csvw_triples.specs.Vocabulary.{rdf_first, rdf_rest, rdf_nil};
@@ -17,7 +17,7 @@ use crate::csvw_names::CsvwNames;
 use crate::literals::{literal_of, refill};
 use crate::putting::put_one;
 use crate::rdf::RdfNames;
-use crate::stem::{ListPlace, RowPlace, Stem};
+use crate::stem::{ListPlace, RowPlace, Stem, predicate_of, subject_of};
 use csvw_annotate::{AnnCell, Row};
 use csvw_cell::{CellValue, Item};
 use csvw_columns_core::{Column, Columns};
@@ -68,6 +68,7 @@ impl Emitter {
     }
 
     /// Makes it the subject and the predicate of the draft.
+    #[inline(always)]
     fn aim(&mut self, stem: Stem)
         ensures s { self.new.draft.s ≡ stem.s }
         ensures p { self.new.draft.p ≡ stem.p }
@@ -77,7 +78,19 @@ impl Emitter {
         self.draft.p = p;
     }
 
+    /// Makes what a cell is about and its predicate the subject and the predicate of the draft.
+    #[inline(always)]
+    fn aim_at(&mut self, place: RowPlace, column: &Column, cell: &AnnCell) -> Result<(), AllocError>
+        ensures s { OnOk result (self.new.draft.s ≡ subject_of place.table place.row cell.now) }
+        ensures p { OnOk result (self.new.draft.p ≡ predicate_of column.now cell.now) }
+    {
+        self.draft.s = subject_of(self.alloc, place, cell)?;
+        self.draft.p = predicate_of(self.alloc, column, cell)?;
+        Ok(())
+    }
+
     /// The memory of an earlier literal's text.
+    #[inline(always)]
     pub(crate) fn take_spare(&mut self) -> Text
         ensures s { self.new.draft.s ≡ self.old.draft.s }
         ensures p { self.new.draft.p ≡ self.old.draft.p }
@@ -89,14 +102,16 @@ impl Emitter {
     }
 
     /// Makes it the object of the draft.
+    #[inline(always)]
     fn set_object(&mut self, o: Term)
         ensures s { self.new.draft.s ≡ self.old.draft.s }
         ensures p { self.new.draft.p ≡ self.old.draft.p }
         ensures o { self.new.draft.o ≡ o }
     {
-        if let Term::Literal(literal) = mem::replace(&mut self.draft.o, o) {
-            self.spare = literal.into_text();
+        if matches!(self.draft.o, Term::Literal(_)) {
+            self.spare = self.take_spare();
         }
+        self.draft.o = o;
     }
 
     /// Makes the literal of a value the object of the draft.
@@ -354,6 +369,47 @@ impl Emitter {
         }
     }
 
+    /// Puts the triples of a cell whose column isn't suppressed.
+    fn emit_any<S: TripleSink>(
+        &mut self,
+        place: RowPlace,
+        column: &Column,
+        cell: &AnnCell,
+        sink: &mut S,
+    ) -> Result<(), SinkFault>
+        requires { ValueHasForms cell.now.value }
+        ensures { Puts S.gains S.is_open S.failed sink.old
+            (object_triples (subject_of place.table place.row cell.now) (predicate_of column.now cell.now)
+            (entries_of place.table place.row column.now) column.now cell.now.value cell.now.link) sink.new result }
+    {
+        let stem = Stem::of(self.alloc, place, column, cell)?;
+        let list = ListPlace {
+            table: place.table,
+            row: place.row,
+            column: column.number,
+        };
+        self.emit_objects(stem, list, column, cell, sink)
+    }
+
+    /// Puts the triple of a cell that has one value.
+    fn emit_single<S: TripleSink>(
+        &mut self,
+        place: RowPlace,
+        column: &Column,
+        cell: &AnnCell,
+        item: &Item,
+        sink: &mut S,
+    ) -> Result<(), SinkFault>
+        requires { IsWritable item.now.value }
+        ensures { Puts S.gains S.is_open S.failed sink.old
+            (triple (subject_of place.table place.row cell.now) (predicate_of column.now cell.now)
+            (term.Literal (literal_of column.now item.now)) ∷ []) sink.new result }
+    {
+        self.aim_at(place, column, cell)?;
+        self.set_literal(column, item)?;
+        put_one(&self.draft, sink)
+    }
+
     pub(crate) fn emit_cell<S: TripleSink>(
         &mut self,
         place: RowPlace,
@@ -367,13 +423,11 @@ impl Emitter {
         if column.suppressed {
             return Ok(());
         }
-        let stem = Stem::of(self.alloc, place, column, cell)?;
-        let list = ListPlace {
-            table: place.table,
-            row: place.row,
-            column: column.number,
-        };
-        self.emit_objects(stem, list, column, cell, sink)
+        // Most cells have one value, and no value link.
+        match (&cell.link, &cell.value) {
+            (None, CellValue::One(item)) => self.emit_single(place, column, cell, item, sink),
+            _ => self.emit_any(place, column, cell, sink),
+        }
     }
 
     fn emit_cells<S: TripleSink>(

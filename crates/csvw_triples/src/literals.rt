@@ -1,5 +1,5 @@
 //! The literals of values.
-ghost use Rattle.std.specs.Prelude.{◌≡◌, true, false, None, IfOk, OnOk};
+ghost use Rattle.std.specs.Prelude.{◌≡◌, true, false, None, IfOk, OnOk, bytes_eq, codes};
 ghost use Rattle.csvw_triples_core.specs.declared.term.Term.TheVariants as term;
 ghost use Rattle.csvw_datatype.specs.Lexical.{IsWritable, lexical_of};
 ghost use Rattle.csvw_cell.specs.Codes.{is_string};
@@ -31,11 +31,18 @@ fn is_string(datatype: &Datatype) -> bool
     }
 }
 
+/// Whether the tag is that of an undetermined language.
+fn is_undetermined(tag: &LanguageTag) -> bool
+    ensures { result ≡ bytes_eq tag.now (codes "und") }
+{
+    matches!(tag.as_str().as_bytes(), [b'u', b'n', b'd'])
+}
+
 fn has_language(properties: &Properties) -> bool
     ensures { result ≡ has_language properties.now }
 {
     let datatype = properties.datatype.get();
-    is_string(datatype) && datatype.id.is_none() && properties.lang.get().as_str() != "und"
+    is_string(datatype) && datatype.id.is_none() && !is_undetermined(properties.lang.get())
 }
 
 fn tagged(alloc: Global, names: &RdfNames, text: Text, tag: &LanguageTag) -> Result<Lit, AllocError>

@@ -6,6 +6,7 @@ ghost use Rattle.csvw_triples.specs.Puts.{Puts};
 use csvw_triples_core::{SinkFault, Triple, TripleSink};
 
 /// Puts a triple.
+#[inline(always)]
 pub(crate) fn put_one<S: TripleSink>(triple: &Triple, sink: &mut S) -> Result<(), SinkFault>
     ensures { Puts S.gains S.is_open S.failed sink.old (triple.now ∷ []) sink.new result }
 {

@@ -38,7 +38,8 @@ pub struct ListPlace {
     pub column: u32,
 }
 
-fn subject_of(alloc: Global, place: RowPlace, cell: &AnnCell) -> Result<Node, AllocError>
+#[inline(always)]
+pub(crate) fn subject_of(alloc: Global, place: RowPlace, cell: &AnnCell) -> Result<Node, AllocError>
     ensures { IfOk result (λ s. s ≡ subject_of place.table place.row cell.now) }
 {
     match &cell.about {
@@ -47,7 +48,12 @@ fn subject_of(alloc: Global, place: RowPlace, cell: &AnnCell) -> Result<Node, Al
     }
 }
 
-fn predicate_of(alloc: Global, column: &Column, cell: &AnnCell) -> Result<Iri, AllocError>
+#[inline(always)]
+pub(crate) fn predicate_of(
+    alloc: Global,
+    column: &Column,
+    cell: &AnnCell,
+) -> Result<Iri, AllocError>
     ensures { IfOk result (λ p. p ≡ predicate_of column.now cell.now) }
 {
     match &cell.property {
@@ -58,6 +64,7 @@ fn predicate_of(alloc: Global, column: &Column, cell: &AnnCell) -> Result<Iri, A
 
 impl Stem {
     /// The subject and the predicate of a cell; `AllocError` where there is no memory.
+    #[inline(always)]
     pub fn of(
         alloc: Global,
         place: RowPlace,
