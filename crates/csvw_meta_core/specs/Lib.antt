@@ -5,3 +5,4 @@ pub mod Others
 pub mod Pointer
 pub mod Read
 pub mod Reads
+pub mod Rules

@@ -32,15 +32,7 @@ under f r = record { faults = r.faults; value = f r.value }
 abbrev pub both : {A B C : Type 0} → (A → B → C) → Read A → Read B → Read C
 both f r s = record { faults = r.faults ++ s.faults; value = f r.value s.value }
 
--- The faults of a rule over several values are told only where no fault stands in what holds them.
-abbrev pub unless_faulty : List MetaFault → List MetaFault → List MetaFault
-unless_faulty [] more = more
-unless_faulty (f ∷ fs) more = f ∷ fs
-
-abbrev pub also : {A : Type 0} → Read A → (A → List MetaFault) → Read A
-also r rule = record { faults = unless_faulty r.faults (rule r.value); value = r.value }
-
--- What follows from a value that has to be there first: where it isn't, only its own faults are told.
+-- What has no meaning without a value: where that can't be read, only its own faults are told.
 abbrev pub over_faults : {A B : Type 0} → B → List MetaFault → A → (A → Read B) → Read B
 over_faults dummy [] a next = next a
 over_faults dummy (f ∷ fs) a next = record { faults = f ∷ fs; value = dummy }
