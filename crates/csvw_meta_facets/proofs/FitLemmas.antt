@@ -10,9 +10,8 @@ use Rattle.csvw_datatype.specs.Bounds.{bound_of, bound_of_whole}
 use Rattle.csvw_datatype.specs.Breaks.{no_facets, has_lengths}
 use Rattle.csvw_datatype.specs.Sound.{IsBoundOf, AreBoundsOf, is_text, lengths_apply, lengths_agree, bounds_agree, agree}
 use Rattle.csvw_meta_core.specs.declared.fault.MetaCode.TheVariants.{BadDatatype, BadProperty}
-use Rattle.csvw_meta_core.specs.declared.fault.MetaFault.{MetaFault}
 use Rattle.csvw_meta_core.specs.Pointer.{below}
-use Rattle.csvw_meta_core.specs.Read.{fine, faulty, wrong, given, on_kind_as, over_faults}
+use Rattle.csvw_meta_core.specs.Read.{fine, faulty, wrong, given, on_kind_as}
 use Rattle.csvw_meta_facets.specs.Bounds.{is_dated, bound_found, bound_of_integer, bound, bounds}
 use Rattle.csvw_meta_facets.specs.Facets.{each_facet, facets}
 use Rattle.csvw_meta_facets.specs.Fit.{FacetsFit}
@@ -116,10 +115,5 @@ module _ (texts : TextBoundsFit) (wholes : WholeBoundsFit) where
       record { bounds = bounds; lengths_apply = lengths; lengths_agree = h.0; bounds_agree = h.1 }
   agreeing_fit s at f false is bounds lengths = none_fit s
 
-  over_fit : (s : Simple) (at : List ℕ) (faults : List MetaFault) (f : Facets) → AreBoundsOf s f → lengths_apply s f ≡ true
-      → FacetsFit s (over_faults no_facets faults f (λ f. if agree f then fine f else faulty BadDatatype at no_facets)).value
-  over_fit s at [] f bounds lengths = agreeing_fit s at f _ refl bounds lengths
-  over_fit s at (x ∷ xs) f bounds lengths = none_fit s
-
   pub facets_fit : (s : Simple) (at : List ℕ) (d : Data) → FacetsFit s (facets s at d).value
-  facets_fit s at d = over_fit s at (each_facet s at d).faults (each_facet s at d).value (each_bound s at d) (each_length s at d)
+  facets_fit s at d = agreeing_fit s at (each_facet s at d).value _ refl (each_bound s at d) (each_length s at d)

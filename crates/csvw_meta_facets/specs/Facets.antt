@@ -6,7 +6,7 @@ use Rattle.csvw_datatype.specs.declared.datatype.Facets.{Facets}
 use Rattle.csvw_datatype.specs.Breaks.{no_facets}
 use Rattle.csvw_datatype.specs.Sound.{agree}
 use Rattle.csvw_meta_core.specs.declared.fault.MetaCode.TheVariants.{BadDatatype}
-use Rattle.csvw_meta_core.specs.Read.{Read, fine, faulty, ◌>>=◌, over}
+use Rattle.csvw_meta_core.specs.Read.{Read, fine, faulty, ◌>>=◌}
 use Rattle.csvw_meta_facets.specs.declared.bounds.Bounds.{Bounds}
 use Rattle.csvw_meta_facets.specs.declared.lengths.Lengths.{Lengths}
 use Rattle.csvw_meta_facets.specs.Bounds.{bounds}
@@ -32,6 +32,6 @@ each_facet s at d = do
   bounds ← bounds s at d
   fine (together lengths bounds)
 
--- facets that agree: none rules out what another asks for
+-- Facets that agree: none rules out what another asks for. One that can't be read is as one that is missing, and asks for nothing.
 abbrev pub facets : Simple → List ℕ → Data → Read Facets
-facets s at d = over no_facets (each_facet s at d) (λ f. if agree f then fine f else faulty BadDatatype at no_facets)
+facets s at d = each_facet s at d >>= (λ f. if agree f then fine f else faulty BadDatatype at no_facets)

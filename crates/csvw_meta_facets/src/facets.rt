@@ -44,7 +44,7 @@ impl Reader for FacetsReader {
 
     ghost reads = { λ r. facets r.simple };
 
-    #[tactic(auto, using(crate::proofs::ReadLemmas::fails_over))]
+    #[tactic(auto, using(crate::proofs::ReadLemmas::fails_first))]
     fn read(&self, part: &Part) -> Result<Facets, Refusal> {
         let facets = each_facet(self.simple, part)?;
         if !facets.agree() {
