@@ -14,9 +14,8 @@ use Rattle.csvw_datatype.specs.declared.format.NumberFormat.{NumberFormat}
 use Rattle.csvw_datatype.specs.declared.format.Format.{Format}
 use Rattle.csvw_datatype.specs.declared.format.Format.TheVariants as formats
 use Rattle.csvw_meta_core.specs.declared.fault.MetaCode.TheVariants.{BadDatatype}
-use Rattle.csvw_meta_core.specs.declared.fault.MetaFault.{MetaFault}
 use Rattle.csvw_meta_core.specs.Pointer.{below}
-use Rattle.csvw_meta_core.specs.Read.{fine, faulty, given, under, on_kind, over_faults}
+use Rattle.csvw_meta_core.specs.Read.{fine, faulty, given, under, on_kind}
 use Rattle.csvw_meta_format.specs.Formats.{number_found, number_format, format}
 use Rattle.csvw_meta_format.specs.Numbers.{is_free, character_found, character, sole, number_parts, no_characters, is_character, clashes, lawful_number, number_form}
 use Rattle.csvw_meta_format.specs.Truths.{is_truth_text, are_truth_texts, truth_texts, truth_format_of, no_truths, truths_found, truth_format, before_bar, behind_bar}
@@ -126,18 +125,12 @@ lawful_of f free h = record { decimal_char = free.0; group_char = free.1; differ
 default_lawful : IsLawful (format_rules no_characters)
 default_lawful = lawful_of no_characters (point_free, tt) refl
 
-chosen_lawful : (at : List ℕ) (f : NumberFormat) → AreFree f → (b : Bool) → clashes f ≡ b
-    → IsLawful (format_rules (if b then faulty BadDatatype at no_characters else fine f).value)
-chosen_lawful at f free true h = default_lawful
-chosen_lawful at f free false h = lawful_of f free h
-
-over_lawful : (at : List ℕ) (faults : List MetaFault) (f : NumberFormat) → AreFree f
-    → IsLawful (format_rules (over_faults no_characters faults f (λ g. if clashes g then faulty BadDatatype at no_characters else fine g)).value)
-over_lawful at [] f free = chosen_lawful at f free (clashes f) refl
-over_lawful at (x ∷ xs) f free = default_lawful
+chosen_lawful : (f : NumberFormat) → AreFree f → (b : Bool) → clashes f ≡ b → IsLawful (format_rules (if b then no_characters else f))
+chosen_lawful f free true h = default_lawful
+chosen_lawful f free false h = lawful_of f free h
 
 lawful_sound : (at : List ℕ) (d : Data) → IsLawful (format_rules (lawful_number at d).value)
-lawful_sound at d = over_lawful at (number_parts at d).faults (number_parts at d).value (parts_free at d)
+lawful_sound at d = chosen_lawful (number_parts at d).value (parts_free at d) (clashes (number_parts at d).value) refl
 
 -- the format of a number, where there is one, has lawful characters
 abbrev IsOfNumbers : Option Format → Type 0

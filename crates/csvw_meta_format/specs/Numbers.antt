@@ -7,7 +7,10 @@ use Rattle.serde_json.specs.Find.{as_str}
 use Rattle.csvw_text.specs.declared.fault.Place.{Place}
 use Rattle.csvw_datatype.specs.declared.format.NumberFormat.{NumberFormat}
 use Rattle.csvw_meta_core.specs.declared.fault.MetaCode.TheVariants.{BadDatatype}
-use Rattle.csvw_meta_core.specs.Read.{Read, fine, faulty, ◌>>=◌, over, on_kind, property, optional, not_yet}
+use Rattle.csvw_meta_core.specs.declared.fault.MetaFault.{MetaFault}
+use Rattle.csvw_meta_core.specs.Pointer.{below}
+use Rattle.csvw_meta_core.specs.Read.{Read, fine, faulty, ◌>>=◌, under, on_kind, property, optional, not_yet}
+use Rattle.csvw_meta_core.specs.Rules.{also, could_read}
 use Rattle.csvw_meta_core.specs.declared.others.CommonProperty.TheVariants.{Refused}
 use Rattle.csvw_meta_core.specs.Others.{others}
 use Rattle.csvw_meta_format.specs.declared.number.NumberFound.{NumberFound}
@@ -50,8 +53,18 @@ is_character c (Some g) = g == c
 abbrev pub clashes : NumberFormat → Bool
 clashes f = is_character f.decimal_char f.group_char
 
+-- It is told where both characters could be read.
+abbrev pub clash_faults : List ℕ → List MetaFault → NumberFormat → List MetaFault
+clash_faults at faults f =
+    if could_read faults (below at (codes "decimalChar")) && (could_read faults (below at (codes "groupChar")) && clashes f)
+    then record { code = BadDatatype; pointer = at } ∷ [] else []
+
+-- characters that differ, whichever could be read
+abbrev pub apart : NumberFormat → NumberFormat
+apart f = if clashes f then no_characters else f
+
 abbrev pub lawful_number : List ℕ → Data → Read NumberFormat
-lawful_number at d = over no_characters (number_parts at d) (λ f. if clashes f then faulty BadDatatype at no_characters else fine f)
+lawful_number at d = under apart (also (number_parts at d) (clash_faults at))
 
 abbrev pub format_names : List (List ℕ)
 format_names = codes "pattern" ∷ codes "decimalChar" ∷ codes "groupChar" ∷ []

@@ -85,7 +85,7 @@ fn number_parts(part: &Part) -> Result<NumberFormat, Refusal>
     })
 }
 
-#[tactic(auto, using(crate::proofs::ReadLemmas::fails_over))]
+#[tactic(auto, using(crate::proofs::ReadLemmas::fails_first))]
 fn lawful_number(part: &Part) -> Result<NumberFormat, Refusal>
     ensures { Reads result (lawful_number (text_of part.now.at) (view part.now.value.now)) }
 {
