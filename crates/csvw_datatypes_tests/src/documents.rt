@@ -102,7 +102,8 @@ const CASES: [Case; 13] = [
     },
     // an IRI of its own, also of strings with a language; what failed is a string
     Case {
-        members: r#""lang":"fr","tableSchema":{"columns":[{"name":"a","datatype":{"@id":"t#i","base":"integer"}},{"name":"b","datatype":{"@id":"http://x.org/s"}}]}"#,
+        members: r#""lang":"fr","tableSchema":{"columns":[{"name":"a","datatype":{"@id":"t#i","base":"integer"}},
+            {"name":"b","datatype":{"@id":"http://x.org/s"}}]}"#,
         text: "a,b\n07,u\nx,v\n",
         mode: Mode::Minimal,
         graph: concat!(

@@ -127,7 +127,8 @@ impl Book {
     /// How often each key of a table in these columns is there, where it knows.
     fn tally(&self, table: u32, columns: &[u32]) -> Option<&Tally<HeldKey>>
         ensures { MatchOption result (counts_in table columns.now (purpose_of self.now) ≡ false)
-            (λ tally. (counts_in table columns.now (purpose_of self.now) ≡ true) × (tally_times derived.ghosts.cmp tally.now.ahead tally.now.counts ≡ book_times self.now)) }
+            (λ tally. (counts_in table columns.now (purpose_of self.now) ≡ true)
+            × (tally_times derived.ghosts.cmp tally.now.ahead tally.now.counts ≡ book_times self.now)) }
     {
         match self {
             Book::Primary(book) => {

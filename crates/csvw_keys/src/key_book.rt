@@ -86,7 +86,8 @@ fn serve(
 ) -> Result<(), AllocError>
     ensures rules { OnOk result (rules_in books.new.items ≡ rules_in books.old.items) }
     ensures keeps { OnOk result (All (λ b. KeepsBook b no_rows) books.old.items → All (λ b. KeepsBook b no_rows) books.new.items) }
-    ensures more { OnOk result ((rule : KeyRule) → is_served (purposes_of books.old.items) rule ≡ true → is_served (purposes_of books.new.items) rule ≡ true) }
+    ensures more { OnOk result ((rule : KeyRule)
+        → is_served (purposes_of books.old.items) rule ≡ true → is_served (purposes_of books.new.items) rule ≡ true) }
     ensures served { OnOk result (list_any (counts_in table columns.now) (purposes_of books.new.items) ≡ true) }
 {
     if tally_in(books.as_slice(), table, columns).is_some() {
@@ -106,7 +107,8 @@ fn serve_keys(
 ) -> Result<(), AllocError>
     ensures rules { OnOk result (rules_in books.new.items ≡ rules_in books.old.items) }
     ensures keeps { OnOk result (All (λ b. KeepsBook b no_rows) books.old.items → All (λ b. KeepsBook b no_rows) books.new.items) }
-    ensures more { OnOk result ((rule : KeyRule) → is_served (purposes_of books.old.items) rule ≡ true → is_served (purposes_of books.new.items) rule ≡ true) }
+    ensures more { OnOk result ((rule : KeyRule)
+        → is_served (purposes_of books.old.items) rule ≡ true → is_served (purposes_of books.new.items) rule ≡ true) }
     ensures served { OnOk result (All (λ rule. is_served (purposes_of books.new.items) rule ≡ true) (map (reference_rule table) keys.now)) }
 {
     for key in keys {

@@ -78,7 +78,8 @@ impl ReferenceBook {
     /// The faults of the rows that refer, in order, where each key of the table that is referenced is there as often as this
     /// says.
     pub fn faults(&self, alloc: Global, tally: &Tally<HeldKey>) -> Result<Vec<Fault>, AllocError>
-        ensures { IfOk result (λ v. v.items ≡ flat_map (row_fault (tally_times derived.ghosts.cmp tally.now.ahead tally.now.counts) self.now) self.now.referring.rows.items) }
+        ensures { IfOk result (λ v. v.items
+            ≡ flat_map (row_fault (tally_times derived.ghosts.cmp tally.now.ahead tally.now.counts) self.now) self.now.referring.rows.items) }
     {
         let mut faults = Vec::new(alloc);
         let table = self.referring.table;

@@ -83,7 +83,8 @@ const CASES: [Case; 8] = [
         faults: "error,HeaderMissing,1,0,0\n",
     },
     Case {
-        meta: r#"{"@context":"http://www.w3.org/ns/csvw","url":"p.csv","tableSchema":{"columns":[{"name":"v","separator":";","ordered":true,"required":true}]}}"#,
+        meta: r#"{"@context":"http://www.w3.org/ns/csvw","url":"p.csv","tableSchema":{"columns":[{"name":"v","separator":";","ordered":true,
+            "required":true}]}}"#,
         texts: &[b"v\nb;a;b\n\n"],
         graph: concat!(
             "_:t1r1s <http://example.org/p.csv#v> _:t1r1c1i1 .\n",

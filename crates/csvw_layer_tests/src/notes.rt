@@ -7,7 +7,8 @@ use std::test::Fail;
 const CASES: [Case; 4] = [
     // a title in the language of the context, and a note with a type, a node and a literal
     Case {
-        meta: r#"{"@context":["http://www.w3.org/ns/csvw",{"@language":"en"}],"url":"p.csv","dc:title":"T","notes":[{"@type":"oa:Annotation","oa:hasBody":{"@value":"ok"},"dc:creator":{"@id":"http://x.org/me","foaf:name":"Me"}}]}"#,
+        meta: r#"{"@context":["http://www.w3.org/ns/csvw",{"@language":"en"}],"url":"p.csv","dc:title":"T",
+            "notes":[{"@type":"oa:Annotation","oa:hasBody":{"@value":"ok"},"dc:creator":{"@id":"http://x.org/me","foaf:name":"Me"}}]}"#,
         texts: &[b"id\n"],
         graph: concat!(
             "_:g <http://www.w3.org/1999/02/22-rdf-syntax-ns#type> <http://www.w3.org/ns/csvw#TableGroup> .\n",
@@ -24,7 +25,8 @@ const CASES: [Case; 4] = [
     },
     // an array with a value of each kind
     Case {
-        meta: r#"{"@context":"http://www.w3.org/ns/csvw","url":"p.csv","dc:subject":["a",3,true,null,{"@value":"x","@language":"de"},{"@value":"2024-01-01","@type":"xsd:date"}]}"#,
+        meta: r#"{"@context":"http://www.w3.org/ns/csvw","url":"p.csv","dc:subject":["a",3,true,null,{"@value":"x","@language":"de"},
+            {"@value":"2024-01-01","@type":"xsd:date"}]}"#,
         texts: &[b"id\n"],
         graph: concat!(
             "_:g <http://www.w3.org/1999/02/22-rdf-syntax-ns#type> <http://www.w3.org/ns/csvw#TableGroup> .\n",
@@ -40,7 +42,10 @@ const CASES: [Case; 4] = [
     },
     // nodes are numbered over the group and the tables that give something; properties stand in byte order
     Case {
-        meta: r#"{"@context":"http://www.w3.org/ns/csvw","@id":"g","urn:b":{"urn:c":{}},"urn:B":{"@value":-1},"tables":[{"url":"p.csv","suppressOutput":true,"urn:d":{}},{"url":"q.csv","notes":[[{"@type":["urn:t","urn:s"]}],"n"],"urn:a":{"@id":"p.csv#x"},"tableSchema":{"urn:d":{},"columns":[{"name":"k","urn:e":{}}]},"dialect":{"urn:f":{}}}]}"#,
+        meta: r#"{"@context":"http://www.w3.org/ns/csvw","@id":"g","urn:b":{"urn:c":{}},"urn:B":{"@value":-1},
+            "tables":[{"url":"p.csv","suppressOutput":true,"urn:d":{}},
+            {"url":"q.csv","notes":[[{"@type":["urn:t","urn:s"]}],"n"],"urn:a":{"@id":"p.csv#x"},
+            "tableSchema":{"urn:d":{},"columns":[{"name":"k","urn:e":{}}]},"dialect":{"urn:f":{}}}]}"#,
         texts: &[b"k\n", b"k\n"],
         graph: concat!(
             "<http://example.org/g> <http://www.w3.org/1999/02/22-rdf-syntax-ns#type> <http://www.w3.org/ns/csvw#TableGroup> .\n",
@@ -59,7 +64,8 @@ const CASES: [Case; 4] = [
     },
     // a key that is no IRI as it stands is made safe; a datatype that annotates nothing
     Case {
-        meta: r#"{"@context":"http://www.w3.org/ns/csvw","url":"p.csv","x:a b":"l\n","schema:name":{"@value":true,"@type":"x:y|z"},"tableSchema":{"columns":[{"name":"id","datatype":{"base":"string","dc:title":{}}}]}}"#,
+        meta: r#"{"@context":"http://www.w3.org/ns/csvw","url":"p.csv","x:a b":"l\n","schema:name":{"@value":true,"@type":"x:y|z"},
+            "tableSchema":{"columns":[{"name":"id","datatype":{"base":"string","dc:title":{}}}]}}"#,
         texts: &[b"id\n"],
         graph: concat!(
             "_:g <http://www.w3.org/1999/02/22-rdf-syntax-ns#type> <http://www.w3.org/ns/csvw#TableGroup> .\n",

@@ -66,9 +66,11 @@ fn faults_are_lines(rt: HostRuntime) -> Result<(), Fail> {
     ];
     let mut w = Counted::new(Vec::new(rt.alloc()));
     assert_eq!(rt; write_report(rt.alloc(), &faults, &mut w), Ok(()));
-    let text =
-        b"kind,code,table,row,column\nwarning,UnknownProperty,1,0,0\nerror,HeaderMissing,1,0,0\nerror,ManyReferencedRows,4294967295,18446744073709551615,1024\n";
-    assert!(rt; w.into_inner().as_slice() == text.as_slice());
+    let text = "kind,code,table,row,column\n\
+         warning,UnknownProperty,1,0,0\n\
+         error,HeaderMissing,1,0,0\n\
+         error,ManyReferencedRows,4294967295,18446744073709551615,1024\n";
+    assert!(rt; w.into_inner().as_slice() == text.as_bytes());
     Ok(())
 }
 

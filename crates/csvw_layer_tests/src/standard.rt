@@ -108,7 +108,8 @@ const CASES: [Case; 6] = [
     },
     // a null cell is described
     Case {
-        meta: r#"{"@context":"http://www.w3.org/ns/csvw","url":"p.csv","tableSchema":{"columns":[{"name":"n","datatype":"integer","null":["","NA"],"default":"0"}]}}"#,
+        meta: r#"{"@context":"http://www.w3.org/ns/csvw","url":"p.csv","tableSchema":{"columns":[{"name":"n","datatype":"integer",
+            "null":["","NA"],"default":"0"}]}}"#,
         texts: &[b"n\n\nNA\n"],
         graph: concat!(
             "_:g <http://www.w3.org/1999/02/22-rdf-syntax-ns#type> <http://www.w3.org/ns/csvw#TableGroup> .\n",

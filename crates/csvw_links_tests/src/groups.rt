@@ -19,7 +19,8 @@ struct Case {
 const CASES: [Case; 14] = [
     // about, property and value links
     Case {
-        meta: r##"{"@context":"http://www.w3.org/ns/csvw","url":"p.csv","tableSchema":{"aboutUrl":"#{id}","columns":[{"name":"id"},{"name":"u","propertyUrl":"schema:name","valueUrl":"http://x.org/{+u}"}]}}"##,
+        meta: r##"{"@context":"http://www.w3.org/ns/csvw","url":"p.csv","tableSchema":{"aboutUrl":"#{id}",
+            "columns":[{"name":"id"},{"name":"u","propertyUrl":"schema:name","valueUrl":"http://x.org/{+u}"}]}}"##,
         text: "id,u\n7,a b%20|\n",
         graph: concat!(
             "<http://example.org/p.csv#7> <http://example.org/p.csv#id> \"7\" .\n",
@@ -29,7 +30,8 @@ const CASES: [Case; 14] = [
     },
     // a virtual column behind a suppressed one
     Case {
-        meta: r##"{"@context":"http://www.w3.org/ns/csvw","url":"p.csv","tableSchema":{"columns":[{"name":"id","suppressOutput":true},{"virtual":true,"propertyUrl":"rdf:type","valueUrl":"schema:Person"}]}}"##,
+        meta: r##"{"@context":"http://www.w3.org/ns/csvw","url":"p.csv","tableSchema":{"columns":[{"name":"id","suppressOutput":true},
+            {"virtual":true,"propertyUrl":"rdf:type","valueUrl":"schema:Person"}]}}"##,
         text: "id\n1\n",
         graph: "_:t1r1s <http://www.w3.org/1999/02/22-rdf-syntax-ns#type> <http://schema.org/Person> .\n",
         faults: "",
@@ -50,21 +52,24 @@ const CASES: [Case; 14] = [
     },
     // the numbers of a column
     Case {
-        meta: r##"{"@context":"http://www.w3.org/ns/csvw","url":"p.csv","tableSchema":{"columns":[{"name":"id","suppressOutput":true},{"virtual":true,"valueUrl":"x{_sourceColumn}{_column}"}]}}"##,
+        meta: r##"{"@context":"http://www.w3.org/ns/csvw","url":"p.csv","tableSchema":{"columns":[{"name":"id","suppressOutput":true},
+            {"virtual":true,"valueUrl":"x{_sourceColumn}{_column}"}]}}"##,
         text: "id\n1\n",
         graph: "_:t1r1s <http://example.org/p.csv#_col.2> <http://example.org/x2> .\n",
         faults: "",
     },
     // no value link of a null cell
     Case {
-        meta: r##"{"@context":"http://www.w3.org/ns/csvw","url":"p.csv","tableSchema":{"columns":[{"name":"id"},{"name":"u","valueUrl":"http://x.org/{id}"}]}}"##,
+        meta: r##"{"@context":"http://www.w3.org/ns/csvw","url":"p.csv","tableSchema":{"columns":[{"name":"id"},
+            {"name":"u","valueUrl":"http://x.org/{id}"}]}}"##,
         text: "id,u\n1,\n",
         graph: "_:t1r1s <http://example.org/p.csv#id> \"1\" .\n",
         faults: "",
     },
     // a named virtual column is no mismatch
     Case {
-        meta: r##"{"@context":"http://www.w3.org/ns/csvw","url":"p.csv","tableSchema":{"columns":[{"name":"id"},{"virtual":true,"name":"t","propertyUrl":"rdf:type","valueUrl":"schema:Person"}]}}"##,
+        meta: r##"{"@context":"http://www.w3.org/ns/csvw","url":"p.csv","tableSchema":{"columns":[{"name":"id"},
+            {"virtual":true,"name":"t","propertyUrl":"rdf:type","valueUrl":"schema:Person"}]}}"##,
         text: "id\n1\n",
         graph: concat!(
             "_:t1r1s <http://example.org/p.csv#id> \"1\" .\n",
@@ -74,7 +79,8 @@ const CASES: [Case; 14] = [
     },
     // a column of a later place, and a list
     Case {
-        meta: r##"{"@context":"http://www.w3.org/ns/csvw","url":"p.csv","tableSchema":{"aboutUrl":"#{tags}","columns":[{"name":"id"},{"name":"tags","separator":";"}]}}"##,
+        meta: r##"{"@context":"http://www.w3.org/ns/csvw","url":"p.csv","tableSchema":{"aboutUrl":"#{tags}",
+            "columns":[{"name":"id"},{"name":"tags","separator":";"}]}}"##,
         text: "id,tags\n1,a;b\n",
         graph: concat!(
             "<http://example.org/p.csv#a,b> <http://example.org/p.csv#id> \"1\" .\n",
@@ -99,7 +105,8 @@ const CASES: [Case; 14] = [
     },
     // cells of a row about two things in turn
     Case {
-        meta: r##"{"@context":"http://www.w3.org/ns/csvw","url":"p.csv","tableSchema":{"aboutUrl":"#{id}","columns":[{"name":"id"},{"name":"b","aboutUrl":"#{id}-{_name}"},{"name":"c"}]}}"##,
+        meta: r##"{"@context":"http://www.w3.org/ns/csvw","url":"p.csv","tableSchema":{"aboutUrl":"#{id}",
+            "columns":[{"name":"id"},{"name":"b","aboutUrl":"#{id}-{_name}"},{"name":"c"}]}}"##,
         text: "id,b,c\n1,x,y\n2,x,y\n",
         graph: concat!(
             "<http://example.org/p.csv#1> <http://example.org/p.csv#id> \"1\" .\n",
@@ -123,14 +130,16 @@ const CASES: [Case; 14] = [
     },
     // a suppressed table
     Case {
-        meta: r##"{"@context":"http://www.w3.org/ns/csvw","url":"p.csv","suppressOutput":true,"tableSchema":{"columns":[{"name":"id","valueUrl":"http://[{id}"}]}}"##,
+        meta: r##"{"@context":"http://www.w3.org/ns/csvw","url":"p.csv","suppressOutput":true,
+            "tableSchema":{"columns":[{"name":"id","valueUrl":"http://[{id}"}]}}"##,
         text: "id\n7\n",
         graph: "",
         faults: "error,BadUrl,1,2,1\n",
     },
     // the name of a column
     Case {
-        meta: r##"{"@context":"http://www.w3.org/ns/csvw","url":"p.csv","dialect":{"header":false},"tableSchema":{"columns":[{"name":"First%20Name","valueUrl":"{#_name}"}]}}"##,
+        meta: r##"{"@context":"http://www.w3.org/ns/csvw","url":"p.csv","dialect":{"header":false},
+            "tableSchema":{"columns":[{"name":"First%20Name","valueUrl":"{#_name}"}]}}"##,
         text: "x\n",
         graph: "_:t1r1s <http://example.org/p.csv#First%20Name> <http://example.org/p.csv#First%20Name> .\n",
         faults: "",

@@ -55,7 +55,9 @@ const LIMITS: [Limit; 9] = [
     },
     // columns of a key
     Limit {
-        front: r#"{"@context":"http://www.w3.org/ns/csvw","url":"p.csv","tableSchema":{"columns":[{"name":"k0"},{"name":"k1"},{"name":"k2"},{"name":"k3"},{"name":"k4"},{"name":"k5"},{"name":"k6"},{"name":"k7"},{"name":"k8"},{"name":"k9"},{"name":"k10"},{"name":"k11"},{"name":"k12"},{"name":"k13"},{"name":"k14"},{"name":"k15"},{"name":"k16"}],"primaryKey":["#,
+        front: r#"{"@context":"http://www.w3.org/ns/csvw","url":"p.csv","tableSchema":{"columns":[
+            {"name":"k0"},{"name":"k1"},{"name":"k2"},{"name":"k3"},{"name":"k4"},{"name":"k5"},{"name":"k6"},{"name":"k7"},{"name":"k8"},
+            {"name":"k9"},{"name":"k10"},{"name":"k11"},{"name":"k12"},{"name":"k13"},{"name":"k14"},{"name":"k15"},{"name":"k16"}],"primaryKey":["#,
         part: r#""k"#,
         numbered: Some(r#"""#),
         between: ",",

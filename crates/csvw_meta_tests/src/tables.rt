@@ -82,7 +82,8 @@ const ACCEPTED: [Accepted; 20] = [
         warnings: 1,
     },
     Accepted {
-        text: r##""url":"p.csv","aboutUrl":"#{id}","propertyUrl":"p","valueUrl":"{+v}","default":"x","lang":"de","null":[],"ordered":true,"required":false,"separator":";""##,
+        text: r##""url":"p.csv","aboutUrl":"#{id}","propertyUrl":"p","valueUrl":"{+v}","default":"x","lang":"de","null":[],"ordered":true,
+            "required":false,"separator":";""##,
         warnings: 0,
     },
 ];
