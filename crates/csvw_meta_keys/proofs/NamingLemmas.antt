@@ -1,12 +1,15 @@
 -- Looking for the first fault of a list of things.
-use Rattle.std.proofs.Common.{◌≡◌, ℕ, ◌+◌, ◌<◌, List, [], ◌∷◌, ◌++◌, length, take, drop, get_or, flat_map, ap, sym, ◌∙◌, subst, suc, add-one, drop-cons, Result, Ok, Err, MatchResult}
+use Rattle.std.proofs.Common.{◌≡◌, ℕ, ◌+◌, ◌<◌, List, [], ◌∷◌, ◌++◌, length, take, drop, get_or, flat_map, Option, None, ap, sym, ◌∙◌, subst, suc, add-one, drop-cons, Result, Ok, Err, MatchResult}
 use Rattle.std.specs.Result.{IsErrAnd}
 use Rattle.std.proofs.lemmas.Grind.{flat_map-append}
 use Rattle.std.proofs.lemmas.List.{append-nil, take_more, take-append-drop}
 use Rattle.csvw_meta_core.specs.declared.fault.MetaFault.{MetaFault}
 use Rattle.csvw_meta_core.specs.declared.fault.Refusal.{Refusal}
 use Rattle.csvw_meta_core.specs.Reads.{Fails}
-use Rattle.csvw_meta_keys.proofs.ReadLemmas.{fails_first}
+use Rattle.csvw_meta_keys.specs.declared.foreign_key.ForeignKeyFound.{ForeignKeyFound}
+use Rattle.csvw_meta_keys.specs.declared.naming.Target.{Target}
+use Rattle.csvw_meta_keys.specs.Naming.{all_known, bad_reference, faults_to, foreign_faults, name_faults, side_faults, target_of}
+use Rattle.csvw_meta_keys.proofs.ReadLemmas.{fails_first, fails_last}
 
 module _ {X : Type 0} (f : X → List MetaFault) (xs : List X) (i : ℕ) (x : X) (lt : i < length xs) (is : x ≡ get_or xs i x)
     (none : flat_map f (take i xs) ≡ []) where
@@ -36,3 +39,11 @@ pub told : {A : Type 0} (result : Result A Refusal) (e : Refusal) (none : Type 0
     → IsErrAnd result (λ y. y ≡ e) → Fails e faults → MatchResult result (λ _. none) (λ y. Fails y faults)
 told (Ok a) e none faults h f = absurd h
 told (Err y) e none faults h f = subst (λ z. Fails z faults) (sym h) f
+
+-- A table that isn't there is told beside what else is wrong with the key.
+pub missing : (e : Refusal) (own : List (List ℕ)) (targets : List Target) (key : ForeignKeyFound) → target_of targets key.resource.url ≡ None
+    → Fails e (bad_reference key.resource.at ∷ []) → Fails e (foreign_faults all_known own targets key)
+missing e own targets key none h =
+    let P : Option Target → Type 0 = λ found. Fails e (faults_to all_known own key found) in
+    let told = fails_first e (bad_reference key.resource.at ∷ []) (side_faults all_known key) h in
+    subst P (sym none) (fails_last e (name_faults all_known own key.columns) ((bad_reference key.resource.at ∷ []) ++ side_faults all_known key) told)

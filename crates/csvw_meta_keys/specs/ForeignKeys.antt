@@ -31,14 +31,14 @@ unfoldable pub foreign_key_of : Parts → Place → List ℕ → Data → Read F
 foreign_key_of base place at d = do
   warnings ← others (foreign_key_names ++ []) Refused place at d
   columns ← needed column_names [] at d (codes "columnReference")
-  reference ← needed (reference base place) no_reference at d (codes "reference")
+  reference ← needed (reference base place) (no_reference at) at d (codes "reference")
   fine (joined at warnings columns reference)
 
-abbrev pub no_foreign_key : ForeignKeyFound
-no_foreign_key = record { at = []; columns = []; resource = no_resource; referenced = []; warnings = [] }
+abbrev pub no_foreign_key : List ℕ → ForeignKeyFound
+no_foreign_key at = record { at = at; columns = []; resource = no_resource at; referenced = []; warnings = [] }
 
 abbrev pub foreign_key : Parts → Place → List ℕ → Data → Read ForeignKeyFound
-foreign_key base place at d = on_object at d no_foreign_key (foreign_key_of base place at d)
+foreign_key base place at d = on_object at d (no_foreign_key at) (foreign_key_of base place at d)
 
 -- an array of at most 64 foreign keys
 abbrev pub foreign_keys : Parts → Place → List ℕ → Data → Read (List ForeignKeyFound)

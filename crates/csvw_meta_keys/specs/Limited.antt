@@ -1,15 +1,20 @@
--- Arrays of a limited number of items.
-use Rattle.std.specs.Prelude.{ℕ, ◌+◌, List, [], nat_lt, if◌then◌else◌}
+-- Arrays of a limited number of items. Where there are too many, each is judged all the same.
+use Rattle.std.specs.Prelude.{ℕ, ◌+◌, List, [], ◌∷◌, nat_lt, if◌then◌else◌}
 use Rattle.serde_json.specs.Data.{Data, Items, no_items, item}
 use Rattle.csvw_meta_core.specs.declared.fault.MetaCode.TheVariants.{BadProperty, TooMany}
-use Rattle.csvw_meta_core.specs.Read.{Read, faulty, each}
+use Rattle.csvw_meta_core.specs.declared.fault.MetaFault.{MetaFault}
+use Rattle.csvw_meta_core.specs.Read.{Read, each}
+use Rattle.csvw_meta_core.specs.Rules.{also}
 
 abbrev pub items_len : Items → ℕ
 items_len no_items = 0
 items_len (item d ds) = 1 + items_len ds
 
 -- so many items at least, and so many at most
+abbrev pub count_faults : ℕ → ℕ → List ℕ → Items → List MetaFault
+count_faults least most at ds =
+    if nat_lt (items_len ds) least then record { code = BadProperty; pointer = at } ∷ []
+    else (if nat_lt most (items_len ds) then record { code = TooMany; pointer = at } ∷ [] else [])
+
 abbrev pub limited_items : {A : Type 0} → ℕ → ℕ → (List ℕ → Data → Read A) → List ℕ → Items → Read (List A)
-limited_items least most reads at ds =
-    if nat_lt (items_len ds) least then faulty BadProperty at []
-    else (if nat_lt most (items_len ds) then faulty TooMany at [] else each reads at 0 ds)
+limited_items least most reads at ds = also (each reads at 0 ds) (λ faults xs. count_faults least most at ds)

@@ -1,5 +1,5 @@
 -- What keys name (Metadata Vocabulary for Tabular Data, sections 5.5.1 and 5.5.2).
-use Rattle.std.specs.Prelude.{ℕ, nat_eq, List, [], ◌∷◌, ◌++◌, Bool, bytes_eq, length, flat_map, Option, Some, None, if◌then◌else◌}
+use Rattle.std.specs.Prelude.{ℕ, ◌&&◌, nat_eq, List, [], ◌∷◌, ◌++◌, Bool, true, false, bytes_eq, length, flat_map, Option, Some, None, if◌then◌else◌}
 use Rattle.std.specs.List.{list_any}
 use Rattle.csvw_meta_core.specs.declared.fault.MetaCode.TheVariants.{BadReference}
 use Rattle.csvw_meta_core.specs.declared.fault.MetaFault.{MetaFault}
@@ -8,6 +8,28 @@ use Rattle.csvw_meta_keys.specs.declared.foreign_key.ForeignKeyFound.{ForeignKey
 use Rattle.csvw_meta_keys.specs.declared.keys.KeysFound.{KeysFound}
 use Rattle.csvw_meta_keys.specs.declared.naming.Target.{Target}
 
+-- What could be read of that which the keys of a schema name.
+pub record Known : Type 0 where
+  -- the names of all columns of the schema
+  pub own : Bool
+  -- the URLs of all tables of the group
+  pub urls : Bool
+  -- the names of all columns of the table of a URL
+  pub names : List ℕ → Bool
+  -- what stands at a pointer
+  pub at : List ℕ → Bool
+  -- how many names both sides of a foreign key have
+  pub sides : ForeignKeyFound → Bool
+
+-- all of it
+abbrev pub all_known : Known
+all_known = record { own = true; urls = true; names = λ url. true; at = λ at. true; sides = λ key. true }
+
+-- faults that are told where what is judged could be read
+abbrev pub told_if : Bool → List MetaFault → List MetaFault
+told_if true faults = faults
+told_if false faults = []
+
 abbrev pub bad_reference : List ℕ → MetaFault
 bad_reference at = record { code = BadReference; pointer = at }
 
@@ -15,33 +37,35 @@ abbrev pub has_name : List (List ℕ) → List ℕ → Bool
 has_name names name = list_any (λ n. bytes_eq n name) names
 
 -- A name of a key that isn't one of these is told where it stands.
-abbrev pub name_fault : List (List ℕ) → KeyName → List MetaFault
-name_fault names k = if has_name names k.name then [] else bad_reference k.at ∷ []
+abbrev pub name_fault : Known → List (List ℕ) → KeyName → List MetaFault
+name_fault known names k = told_if (known.at k.at) (if has_name names k.name then [] else bad_reference k.at ∷ [])
 
-abbrev pub name_faults : List (List ℕ) → List KeyName → List MetaFault
-name_faults names key = flat_map (name_fault names) key
+abbrev pub name_faults : Known → List (List ℕ) → List KeyName → List MetaFault
+name_faults known names key = flat_map (name_fault known names) key
 
 -- the first of the tables that has the URL
 abbrev pub target_of : List Target → List ℕ → Option Target
 target_of [] url = None
 target_of (t ∷ ts) url = if bytes_eq t.url url then Some t else target_of ts url
 
+-- A table that isn't there is told at its URL, and names that are no columns of one that is there where they stand.
+abbrev pub found_faults : Known → ForeignKeyFound → Option Target → List MetaFault
+found_faults known key None = told_if (known.urls && known.at key.resource.at) (bad_reference key.resource.at ∷ [])
+found_faults known key (Some target) = told_if (known.names target.url) (name_faults known target.names key.referenced)
+
 -- Sides of unequal length are told at the key.
-abbrev pub side_faults : ForeignKeyFound → List MetaFault
-side_faults key = if nat_eq (length key.columns) (length key.referenced) then [] else bad_reference key.at ∷ []
+abbrev pub side_faults : Known → ForeignKeyFound → List MetaFault
+side_faults known key =
+    told_if (known.sides key) (if nat_eq (length key.columns) (length key.referenced) then [] else bad_reference key.at ∷ [])
 
--- what is wrong with a foreign key from columns of these names to a table
-abbrev pub table_faults : List (List ℕ) → Target → ForeignKeyFound → List MetaFault
-table_faults own target key = name_faults own key.columns ++ (name_faults target.names key.referenced ++ side_faults key)
+-- what is wrong with a foreign key from columns of these names to the table that is found by its URL
+abbrev pub faults_to : Known → List (List ℕ) → ForeignKeyFound → Option Target → List MetaFault
+faults_to known own key found = told_if known.own (name_faults known own key.columns) ++ (found_faults known key found ++ side_faults known key)
 
--- A table that isn't there is told alone.
-abbrev pub found_faults : List (List ℕ) → ForeignKeyFound → Option Target → List MetaFault
-found_faults own key None = bad_reference key.resource.at ∷ []
-found_faults own key (Some target) = table_faults own target key
-
-abbrev pub foreign_faults : List (List ℕ) → List Target → ForeignKeyFound → List MetaFault
-foreign_faults own targets key = found_faults own key (target_of targets key.resource.url)
+abbrev pub foreign_faults : Known → List (List ℕ) → List Target → ForeignKeyFound → List MetaFault
+foreign_faults known own targets key = faults_to known own key (target_of targets key.resource.url)
 
 -- what is wrong with the keys of a schema with columns of these names, in a group of these tables
-abbrev pub key_faults : List (List ℕ) → List Target → KeysFound → List MetaFault
-key_faults own targets keys = name_faults own keys.primary ++ flat_map (foreign_faults own targets) keys.foreign
+abbrev pub key_faults : Known → List (List ℕ) → List Target → KeysFound → List MetaFault
+key_faults known own targets keys =
+    told_if known.own (name_faults known own keys.primary) ++ flat_map (foreign_faults known own targets) keys.foreign

@@ -23,20 +23,21 @@ resource_at at table = record { url = iri_of table; at = at }
 abbrev pub resource : Parts → List ℕ → Data → Read Resource
 resource base at d = under (resource_at at) (url base at d)
 
-abbrev pub no_resource : Resource
-no_resource = record { url = []; at = [] }
+-- The value in place of one that can't be read stands where the fault stands.
+abbrev pub no_resource : List ℕ → Resource
+no_resource at = record { url = []; at = at }
 
 -- A schema that is referenced is not supported.
 unfoldable pub reference_of : Parts → Place → List ℕ → Data → Read ReferenceFound
 reference_of base place at d = do
   schema ← optional not_yet at d (codes "schemaReference")
   warnings ← others (reference_names ++ []) Refused place at d
-  resource ← needed (resource base) no_resource at d (codes "resource")
+  resource ← needed (resource base) (no_resource at) at d (codes "resource")
   columns ← needed column_names [] at d (codes "columnReference")
   fine (record { resource = resource; columns = columns; warnings = warnings })
 
-abbrev pub no_reference : ReferenceFound
-no_reference = record { resource = no_resource; columns = []; warnings = [] }
+abbrev pub no_reference : List ℕ → ReferenceFound
+no_reference at = record { resource = no_resource at; columns = []; warnings = [] }
 
 abbrev pub reference : Parts → Place → List ℕ → Data → Read ReferenceFound
-reference base place at d = on_object at d no_reference (reference_of base place at d)
+reference base place at d = on_object at d (no_reference at) (reference_of base place at d)

@@ -2,7 +2,7 @@
 //! Data, sections 5.5.1 and 5.5.2).
 ghost use Rattle.std.specs.Prelude.{◌≡◌, ◌∷◌, [], MatchOption, MatchResult, None, Some, flat_map};
 ghost use Rattle.csvw_meta_core.specs.Reads.{Fails};
-ghost use Rattle.csvw_meta_keys.specs.Naming.{bad_reference, foreign_faults, has_name, key_faults, name_faults, side_faults, table_faults, target_of};
+ghost use Rattle.csvw_meta_keys.specs.Naming.{all_known, bad_reference, foreign_faults, has_name, key_faults, name_faults, side_faults, faults_to, target_of};
 
 use crate::column_names::KeyName;
 use crate::foreign_key::ForeignKeyFound;
@@ -42,7 +42,7 @@ fn has_name(names: &[Text], name: &str) -> bool
 
 /// Each name of a key is one of these; else `BadReference` at it.
 fn check_names(alloc: Global, names: &[Text], key: &[KeyName]) -> Result<(), Refusal>
-    ensures { MatchResult result (λ _. name_faults names.now key.now ≡ []) (λ e. Fails e (name_faults names.now key.now)) }
+    ensures { MatchResult result (λ _. name_faults all_known names.now key.now ≡ []) (λ e. Fails e (name_faults all_known names.now key.now)) }
 {
     for name in key {
         if !has_name(names, name.name.as_str()) {
@@ -66,7 +66,7 @@ fn target_of<'a>(targets: &'a [Target], url: &str) -> Option<&'a Target>
 
 /// Both sides of a foreign key have equally many columns; else `BadReference` at the key.
 fn check_sides(alloc: Global, key: &ForeignKeyFound) -> Result<(), Refusal>
-    ensures { MatchResult result (λ _. side_faults key.now ≡ []) (λ e. Fails e (side_faults key.now)) }
+    ensures { MatchResult result (λ _. side_faults all_known key.now ≡ []) (λ e. Fails e (side_faults all_known key.now)) }
 {
     if key.columns.len() == key.referenced.len() {
         Ok(())
@@ -82,20 +82,21 @@ fn check_table(
     target: &Target,
     key: &ForeignKeyFound,
 ) -> Result<(), Refusal>
-    ensures { MatchResult result (λ _. table_faults own.now target.now key.now ≡ []) (λ e. Fails e (table_faults own.now target.now key.now)) }
+    ensures { MatchResult result (λ _. faults_to all_known own.now key.now (Some target.now) ≡ []) (λ e. Fails e (faults_to all_known own.now key.now (Some target.now))) }
 {
     check_names(alloc, own, key.columns.as_slice())?;
     check_names(alloc, target.names.as_slice(), key.referenced.as_slice())?;
     check_sides(alloc, key)
 }
 
+#[tactic(auto, using(crate::proofs::NamingLemmas::missing))]
 fn check_foreign(
     alloc: Global,
     own: &[Text],
     targets: &[Target],
     key: &ForeignKeyFound,
 ) -> Result<(), Refusal>
-    ensures { MatchResult result (λ _. foreign_faults own.now targets.now key.now ≡ []) (λ e. Fails e (foreign_faults own.now targets.now key.now)) }
+    ensures { MatchResult result (λ _. foreign_faults all_known own.now targets.now key.now ≡ []) (λ e. Fails e (foreign_faults all_known own.now targets.now key.now)) }
 {
     match target_of(targets, key.resource.url.as_str()) {
         Some(target) => check_table(alloc, own, target, key),
@@ -109,8 +110,8 @@ fn check_each(
     targets: &[Target],
     keys: &[ForeignKeyFound],
 ) -> Result<(), Refusal>
-    ensures { MatchResult result (λ _. flat_map (foreign_faults own.now targets.now) keys.now ≡ [])
-        (λ e. Fails e (flat_map (foreign_faults own.now targets.now) keys.now)) }
+    ensures { MatchResult result (λ _. flat_map (foreign_faults all_known own.now targets.now) keys.now ≡ [])
+        (λ e. Fails e (flat_map (foreign_faults all_known own.now targets.now) keys.now)) }
 {
     for key in keys {
         check_foreign(alloc, own, targets, key)?;
@@ -128,7 +129,7 @@ pub fn check_keys(
     targets: &[Target],
     keys: &KeysFound,
 ) -> Result<(), Refusal>
-    ensures { MatchResult result (λ _. key_faults own.now targets.now keys.now ≡ []) (λ e. Fails e (key_faults own.now targets.now keys.now)) }
+    ensures { MatchResult result (λ _. key_faults all_known own.now targets.now keys.now ≡ []) (λ e. Fails e (key_faults all_known own.now targets.now keys.now)) }
 {
     check_names(alloc, own, keys.primary.as_slice())?;
     check_each(alloc, own, targets, keys.foreign.as_slice())
