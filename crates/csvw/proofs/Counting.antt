@@ -1,5 +1,6 @@
 -- How often standard input is among the files of a group.
-use Rattle.std.proofs.Common.{◌≡◌, ◌∙◌, ◌<◌, ◌≤◌, ◌+◌, ℕ, Bool, true, false, List, [], ◌∷◌, ◌++◌, refl, sym, ap, subst, arith, drop, get_or, length, map, take, take-append-drop, length-append}
+use Rattle.std.proofs.Common.{◌≡◌, ◌∙◌, ◌<◌, ◌≤◌, ◌+◌, ℕ, Bool, true, false, List, [], ◌∷◌, ◌++◌, refl, sym, ap, subst, arith, drop, get_or, length}
+use Rattle.std.proofs.Common.{map, take, take-append-drop, length-append}
 use Rattle.std.specs.Prelude.{filter, if◌then◌else◌}
 use Rattle.std.proofs.Math.Seq.{take-length}
 use Rattle.std.proofs.lemmas.List.{map-append}
@@ -38,14 +39,16 @@ Met path meta files i seen = met (meta ∷ map path (take i files)) ≡ (if seen
 
 module _ {A : Type 0} (path : A → Text) (meta : Text) (files items : List A) (same : items ≡ files) (i : ℕ) (d : A) where
   -- the next file isn't standard input
-  pub met_other : (seen after : Bool) → i < length items → Met path meta files i seen → is_standard (path (get_or items i d)) ≡ false → after ≡ seen → Met path meta files (i + 1) after
+  pub met_other : (seen after : Bool) → i < length items → Met path meta files i seen → is_standard (path (get_or items i d)) ≡ false → after ≡ seen
+      → Met path meta files (i + 1) after
   met_other seen after below h e same_seen =
       let one = met_one (path (get_or files i d)) false (subst (λ xs. is_standard (path (get_or xs i d)) ≡ false) same e) in
       let next = met_next path meta files i d (subst (λ xs. i < length xs) same below) in
       subst (Met path meta files (i + 1)) (sym same_seen) (omega (arith, one, next, h))
 
   -- it is, for the first time
-  pub met_first : (seen after : Bool) → i < length items → Met path meta files i seen → seen ≡ false → is_standard (path (get_or items i d)) ≡ true → after ≡ true
+  pub met_first : (seen after : Bool) → i < length items → Met path meta files i seen → seen ≡ false → is_standard (path (get_or items i d)) ≡ true
+      → after ≡ true
       → Met path meta files (i + 1) after
   met_first seen after below h none e is =
       let one = met_one (path (get_or files i d)) true (subst (λ xs. is_standard (path (get_or xs i d)) ≡ true) same e) in
@@ -54,7 +57,8 @@ module _ {A : Type 0} (path : A → Text) (meta : Text) (files items : List A) (
       subst (Met path meta files (i + 1)) (sym is) (omega (arith, one, next, before))
 
   -- it is, once more
-  pub met_twice : (seen : Bool) → i < length items → Met path meta files i seen → seen ≡ true → is_standard (path (get_or items i d)) ≡ true → 1 < met (meta ∷ map path files)
+  pub met_twice : (seen : Bool) → i < length items → Met path meta files i seen → seen ≡ true → is_standard (path (get_or items i d)) ≡ true
+      → 1 < met (meta ∷ map path files)
   met_twice seen below h once e =
       let one = met_one (path (get_or files i d)) true (subst (λ xs. is_standard (path (get_or xs i d)) ≡ true) same e) in
       let next = met_next path meta files i d (subst (λ xs. i < length xs) same below) in
@@ -67,7 +71,8 @@ at_most_one true = omega arith
 at_most_one false = omega arith
 
 -- all files were met
-pub met_all : {A : Type 0} (path : A → Text) (meta : Text) (files items : List A) (i : ℕ) (seen : Bool) → items ≡ files → i ≡ length items → Met path meta files i seen
+pub met_all : {A : Type 0} (path : A → Text) (meta : Text) (files items : List A) (i : ℕ) (seen : Bool) → items ≡ files → i ≡ length items
+    → Met path meta files i seen
     → met (meta ∷ map path files) ≤ 1
 met_all path meta files items i seen same end h =
     let whole : take i files ≡ files = ap (λ n. take n files) (end ∙ ap length same) ∙ take-length files in

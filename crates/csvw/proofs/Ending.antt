@@ -25,7 +25,9 @@ ends L a b c n m k (Err reason) status leaves end = inr (record {
 })
 
 -- what a conversion leaves, its graph on `out` in both modes
-pub converts : {R : Type 0} (remaining : R → Option (List ℕ)) (minimal : Bool) (meta base : List ℕ) (readers left : List (Counted R)) (out err : Stream) (result : Result Outcome Stop)
-    → Runs remaining (document base meta) (conversion minimal) readers left out err result → Leaves remaining (conversion minimal) meta base readers left out err result
+pub converts : {R : Type 0} (remaining : R → Option (List ℕ)) (minimal : Bool) (meta base : List ℕ) (readers left : List (Counted R))
+    (out err : Stream) (result : Result Outcome Stop)
+    → Runs remaining (document base meta) (conversion minimal) readers left out err result
+    → Leaves remaining (conversion minimal) meta base readers left out err result
 converts remaining true meta base readers left out err result h = h
 converts remaining false meta base readers left out err result h = h

@@ -12,15 +12,18 @@ use Rattle.csvw.specs.Commands.{RunsOver}
 use Rattle.csvw.specs.Groups.{EndsSo}
 use Rattle.csvw.proofs.Ending.{ends}
 
-pub runs_over : {R V : Type 0} (remaining : R → Option (List ℕ)) (told : V → Option (List ℕ)) (url : List ℕ) (input left : Counted R) (reader : R) (out : Stream) (err reported last : Counted V) (result : Result Outcome Stop)
+pub runs_over : {R V : Type 0} (remaining : R → Option (List ℕ)) (told : V → Option (List ℕ)) (url : List ℕ) (input left : Counted R) (reader : R)
+    (out : Stream) (err reported last : Counted V) (result : Result Outcome Stop)
     → (status : ℕ) → inner_of input ≡ reader → failures_of input ≡ 0
-    → Runs remaining (plain_description url) mode.Minimal (input ∷ []) (left ∷ []) out (stream_of told err reported) result → EndsSo result (stream_of told reported last) status
+    → Runs remaining (plain_description url) mode.Minimal (input ∷ []) (left ∷ []) out (stream_of told err reported) result
+    → EndsSo result (stream_of told reported last) status
     → RunsOver remaining url reader out (stream_of told err last) status
 runs_over remaining told url input left reader out err reported last result status inner failures runs end = record {
   input = input;
   is_reader = inner;
   steady = failures;
   left = left;
-  runs = ends (Runs remaining (plain_description url) mode.Minimal (input ∷ []) (left ∷ []) out) (told (inner_of err)) (told (inner_of reported)) (told (inner_of last))
+  runs = ends (Runs remaining (plain_description url) mode.Minimal (input ∷ []) (left ∷ []) out) (told (inner_of err)) (told (inner_of reported))
+      (told (inner_of last))
       (failures_of err) (failures_of reported) (failures_of last) result status runs end;
 }

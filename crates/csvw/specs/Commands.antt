@@ -31,7 +31,8 @@ RunsOn remaining url out err status None = IsIdle out × TellsStop stop.Read err
 RunsOn remaining url out err status (Some reader) = RunsOver remaining url reader out err status
 
 -- the file is opened, once, and its reader read as the table at this URL
-pub record RunsPlain {O R : Type 0} (opens : O → Text → Option R → O → Type 0) (remaining : R → Option (List ℕ)) (url file : Text) (old new : O) (out err : Stream) (status : ℕ) : Type 0 where
+pub record RunsPlain {O R : Type 0} (opens : O → Text → Option R → O → Type 0) (remaining : R → Option (List ℕ)) (url file : Text) (old new : O)
+    (out err : Stream) (status : ℕ) : Type 0 where
   pub opened : Option R
   pub is_opened : opens old file opened new
   pub runs : RunsOn remaining url out err status opened
@@ -40,10 +41,12 @@ pub record RunsPlain {O R : Type 0} (opens : O → Text → Option R → O → T
 abbrev pub RunsRequest : {O R : Type 0} → (O → Text → Option R → O → Type 0) → (R → Option (List ℕ)) → Request → O → O → Stream → Stream → ℕ → Type 0
 RunsRequest opens remaining (Plain url file line_buffered) old new out err status = RunsPlain opens remaining url.now file.now old new out err status
 RunsRequest opens remaining (Validate group) old new out err status = RunsGroup opens remaining mode.Validate group old new out err status
-RunsRequest opens remaining (Convert group minimal line_buffered) old new out err status = RunsGroup opens remaining (conversion minimal) group old new out err status
+RunsRequest opens remaining (Convert group minimal line_buffered) old new out err status =
+    RunsGroup opens remaining (conversion minimal) group old new out err status
 
 -- the words ask for something, and it is done
-pub record RunsAsked {O R : Type 0} (opens : O → Text → Option R → O → Type 0) (remaining : R → Option (List ℕ)) (words : List Text) (old new : O) (out err : Stream) (status : ℕ) : Type 0 where
+pub record RunsAsked {O R : Type 0} (opens : O → Text → Option R → O → Type 0) (remaining : R → Option (List ℕ)) (words : List Text) (old new : O)
+    (out err : Stream) (status : ℕ) : Type 0 where
   pub request : Request
   pub asks : Asks words request
   pub once : inputs_of request ≤ 1

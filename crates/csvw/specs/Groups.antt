@@ -56,7 +56,8 @@ abbrev pub paths_of : Group → List Text
 paths_of group = map (λ file. file.now) group.files.items
 
 -- the metadata is opened and read, and the files are opened behind it
-pub record OpensGroup {O R : Type 0} (opens : O → Text → Option R → O → Type 0) (remaining : R → Option (List ℕ)) (group : Group) (old new : O) (bytes : List ℕ) (readers : List (Counted R)) : Type 0 where
+pub record OpensGroup {O R : Type 0} (opens : O → Text → Option R → O → Type 0) (remaining : R → Option (List ℕ)) (group : Group) (old new : O)
+    (bytes : List ℕ) (readers : List (Counted R)) : Type 0 where
   pub reader : R
   pub between : O
   pub meta_opened : opens old group.meta.now (Some reader) between
@@ -108,7 +109,8 @@ pub record StopsEarly (Leaves : Stream → Result Outcome Stop → Type 0) (err 
   pub told : TellsStop reason (record err { held = held; failures = failures }) status
 
 -- The graph goes to `out`, and the report to `err`; where there is no graph, the report goes to `out`.
-abbrev pub Leaves : {R : Type 0} → (R → Option (List ℕ)) → Mode → List ℕ → List ℕ → List (Counted R) → List (Counted R) → Stream → Stream → Result Outcome Stop → Type 0
+abbrev pub Leaves : {R : Type 0} → (R → Option (List ℕ)) → Mode → List ℕ → List ℕ → List (Counted R) → List (Counted R) → Stream → Stream
+    → Result Outcome Stop → Type 0
 Leaves remaining mode.Validate meta base readers left out err result = Runs remaining (document base meta) mode.Validate readers left err out result
 Leaves remaining mode.Minimal meta base readers left out err result = Runs remaining (document base meta) mode.Minimal readers left out err result
 Leaves remaining mode.Standard meta base readers left out err result = Runs remaining (document base meta) mode.Standard readers left out err result
@@ -119,7 +121,8 @@ conversion true = mode.Minimal
 conversion false = mode.Standard
 
 -- the group is opened, and a run made over its readers
-pub record RunsOpened {O R : Type 0} (opens : O → Text → Option R → O → Type 0) (remaining : R → Option (List ℕ)) (mode : Mode) (group : Group) (old new : O) (out err : Stream) (status : ℕ) : Type 0 where
+pub record RunsOpened {O R : Type 0} (opens : O → Text → Option R → O → Type 0) (remaining : R → Option (List ℕ)) (mode : Mode) (group : Group)
+    (old new : O) (out err : Stream) (status : ℕ) : Type 0 where
   pub bytes : List ℕ
   pub readers : List (Counted R)
   pub opened : OpensGroup opens remaining group old new bytes readers

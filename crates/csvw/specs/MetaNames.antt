@@ -1,7 +1,9 @@
 -- The names of a metadata document's faults, as the program's lines spell them.
 use Rattle.std.specs.Prelude.{ℕ, List, codes}
 use Rattle.csvw_meta_core.specs.declared.fault.MetaCode.{MetaCode}
-use Rattle.csvw_meta_core.specs.declared.fault.MetaCode.TheVariants.{Memory, TooLong, NotJson, BadContext, BadProperty, BadId, BadUrl, UrlTooLong, NotSupported, BadDialect, BadDatatype, BadTemplate, TemplateLevel, BadName, DuplicateName, VirtualOrder, DuplicateTable, BadReference, TooMany}
+use Rattle.csvw_meta_core.specs.declared.fault.MetaCode.TheVariants.{Memory, TooLong, NotJson, BadContext, BadProperty, BadId, BadUrl, UrlTooLong}
+use Rattle.csvw_meta_core.specs.declared.fault.MetaCode.TheVariants.{NotSupported, BadDialect, BadDatatype, BadTemplate, TemplateLevel, BadName}
+use Rattle.csvw_meta_core.specs.declared.fault.MetaCode.TheVariants.{DuplicateName, VirtualOrder, DuplicateTable, BadReference, TooMany}
 
 -- the name of the variant
 abbrev pub meta_code_name : MetaCode → List ℕ

@@ -1,5 +1,6 @@
 -- What a document describes is fit, and what its keys name is there.
-use Rattle.std.proofs.Common.{◌≡◌, ◌≢◌, ◌∙◌, ℕ, ◌+◌, ◌<◌, zero, suc, List, [], ◌∷◌, length, map, get_or, refl, sym, ap, subst, arith, Bool, true, false, cond, ◌||◌}
+use Rattle.std.proofs.Common.{◌≡◌, ◌≢◌, ◌∙◌, ℕ, ◌+◌, ◌<◌, zero, suc, List, [], ◌∷◌, length, map, get_or, refl, sym, ap, subst, arith, Bool, true}
+use Rattle.std.proofs.Common.{false, cond, ◌||◌}
 use Rattle.std.specs.Prelude.{Option, Some, None, IfSome, All, Contains, bytes_eq}
 use Rattle.std.specs.List.{list_any, position_from}
 use Rattle.std.proofs.lemmas.Bool.{cond-true, cond-false}

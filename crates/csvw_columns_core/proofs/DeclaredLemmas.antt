@@ -17,10 +17,13 @@ module _ (url : List ℕ) (skipped : ℕ) (schema table group : Inherited) where
   from_more n (c ∷ cs) (suc i) d h =
       ap (λ xs. declared url skipped schema table group n c ∷ xs)
       (from_more (n + 1) cs i d (omega (arith, h))
-      ∙ ap (λ k. declared_from url skipped schema table group (n + 1) (take i cs) ++ declared url skipped schema table group k (get_or cs i d) ∷ []) (same_number n i))
+      ∙ ap (λ k. declared_from url skipped schema table group (n + 1) (take i cs) ++ declared url skipped schema table group k (get_or cs i d) ∷ [])
+      (same_number n i))
 
-  pub one_more : (cs : List ColumnDescription) (i : ℕ) (c : ColumnDescription) (columns more : List Column) (column : Column) → i < length cs → c ≡ get_or cs i c
-      → columns ≡ declared_columns url skipped schema table group (take i cs) → more ≡ columns ++ column ∷ [] → column ≡ declared url skipped schema table group (i + 1) c
+  pub one_more : (cs : List ColumnDescription) (i : ℕ) (c : ColumnDescription) (columns more : List Column) (column : Column) → i < length cs
+      → c ≡ get_or cs i c
+      → columns ≡ declared_columns url skipped schema table group (take i cs) → more ≡ columns ++ column ∷ []
+      → column ≡ declared url skipped schema table group (i + 1) c
       → more ≡ declared_columns url skipped schema table group (take (i + 1) cs)
   one_more cs i c columns more column h is so_far e one =
       let number : 1 + i ≡ i + 1 = omega arith in

@@ -1,5 +1,6 @@
 -- The faults of a header, one row or column after the other.
-use Rattle.std.proofs.Common.{◌≡◌, ◌∙◌, ℕ, ◌+◌, ◌<◌, zero, suc, List, [], ◌∷◌, ◌++◌, length, take, get_or, refl, sym, ap, arith, add-one, add-zero, append_assoc}
+use Rattle.std.proofs.Common.{◌≡◌, ◌∙◌, ℕ, ◌+◌, ◌<◌, zero, suc, List, [], ◌∷◌, ◌++◌, length, take, get_or, refl, sym, ap, arith, add-one, add-zero}
+use Rattle.std.proofs.Common.{append_assoc}
 use Rattle.std.specs.Prelude.{if◌then◌else◌}
 use Rattle.std.proofs.Math.Seq.{take-suc}
 use Rattle.csvw_text.specs.declared.fault.Fault.{Fault}
@@ -15,7 +16,8 @@ last_of (r ∷ s ∷ rows) row = last_of (s ∷ rows) row
 
 pub last_more : (rows : List HeaderRow) (i : ℕ) (row : HeaderRow) → i < length rows → row ≡ get_or rows i row → row.source ≡ last_source (take (i + 1) rows)
 last_more rows i row lt e =
-    sym (last_of (take i rows) row) ∙ ap (λ (r : HeaderRow). last_source (take i rows ++ r ∷ [])) e ∙ ap last_source (sym (take-suc rows i row lt)) ∙ ap (λ n. last_source (take n rows)) (sym (add-one i))
+    sym (last_of (take i rows) row) ∙ ap (λ (r : HeaderRow). last_source (take i rows ++ r ∷ [])) e ∙ ap last_source (sym (take-suc rows i row lt))
+    ∙ ap (λ n. last_source (take n rows)) (sym (add-one i))
 
 module _ (table source : ℕ) (rows : List HeaderRow) where
   abbrev pub told_at : Column → ℕ → List Fault

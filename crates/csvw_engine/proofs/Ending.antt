@@ -30,10 +30,12 @@ use Rattle.csvw_description.specs.declared.description.Description.{Description}
 abbrev pub flushed : Stream → Option (List ℕ) → ℕ → Stream
 flushed s holds failed = record s { holds = holds; failed = failed }
 
-sends_kept : (s : Stream) (holds : Option (List ℕ)) (failed : ℕ) (text : List ℕ) → Keeps s.holds holds → failed ≡ s.failed → Sends s text → Sends (flushed s holds failed) text
+sends_kept : (s : Stream) (holds : Option (List ℕ)) (failed : ℕ) (text : List ℕ) → Keeps s.holds holds → failed ≡ s.failed → Sends s text
+    → Sends (flushed s holds failed) text
 sends_kept s holds failed text keeps e h = (appends_kept s.held s.holds holds text h.0 keeps, e ∙ h.1)
 
-graph_kept : (Graph : Triple → Type 0) (s : Stream) (holds : Option (List ℕ)) (failed : ℕ) → Keeps s.holds holds → failed ≡ s.failed → WroteGraph s Graph → WroteGraph (flushed s holds failed) Graph
+graph_kept : (Graph : Triple → Type 0) (s : Stream) (holds : Option (List ℕ)) (failed : ℕ) → Keeps s.holds holds → failed ≡ s.failed
+    → WroteGraph s Graph → WroteGraph (flushed s holds failed) Graph
 graph_kept Graph s holds failed keeps e h = record {
   added = h.added;
   sent = sends_kept s holds failed h.added keeps e h.sent;
@@ -42,7 +44,8 @@ graph_kept Graph s holds failed keeps e h = record {
   same = h.same;
 }
 
-wrote_kept : (m : Mode) (s : Stream) (holds : Option (List ℕ)) (failed : ℕ) (plan : Plan) (tables : List Table) → Keeps s.holds holds → failed ≡ s.failed → Wrote m s plan tables
+wrote_kept : (m : Mode) (s : Stream) (holds : Option (List ℕ)) (failed : ℕ) (plan : Plan) (tables : List Table) → Keeps s.holds holds
+    → failed ≡ s.failed → Wrote m s plan tables
     → Wrote m (flushed s holds failed) plan tables
 wrote_kept mode.Validate s holds failed plan tables keeps e h = sends_kept s holds failed [] keeps e h
 wrote_kept mode.Minimal s holds failed plan tables keeps e h = graph_kept (GraphOf mode.Minimal plan tables) s holds failed keeps e h
@@ -66,18 +69,21 @@ record ToldOk (outcome first : Outcome) (s : Stream) (old new : ℕ) : Type 0 wh
   pub sent : Sends s (report first.faults)
   pub steady : new ≡ old
 
-told_ok : (outcome first : Outcome) (s : Stream) (told result : Result Outcome Stop) (old new : ℕ) → result ≡ Ok outcome → TellsOutcome first s told → IsFlushed told result old new → ToldOk outcome first s old new
+told_ok : (outcome first : Outcome) (s : Stream) (told result : Result Outcome Stop) (old new : ℕ) → result ≡ Ok outcome → TellsOutcome first s told
+    → IsFlushed told result old new → ToldOk outcome first s old new
 told_ok outcome first s told result old new r (inl (t, k)) (inl (e, n)) = record { same = ok_same first outcome result (e ∙ t) r; sent = k; steady = n }
 told_ok outcome first s told result old new r (inr (inl (t, k))) (inl (e, n)) = absurd (never outcome stop.Memory result (e ∙ t) r)
 told_ok outcome first s told result old new r (inr (inr (t, k))) (inl (e, n)) = absurd (never outcome stop.Write result (e ∙ t) r)
 told_ok outcome first s told result old new r t (inr (apart, e, n)) = absurd (never outcome stop.Write result e r)
 
-no_stop : (reason : Stop) (outcome : Outcome) (told result : Result Outcome Stop) (old new : ℕ) → told ≡ Err reason → result ≡ Ok outcome → IsFlushed told result old new → ⊥
+no_stop : (reason : Stop) (outcome : Outcome) (told result : Result Outcome Stop) (old new : ℕ) → told ≡ Err reason → result ≡ Ok outcome
+    → IsFlushed told result old new → ⊥
 no_stop reason outcome told result old new t r (inl (e, n)) = never outcome reason result (e ∙ t) r
 no_stop reason outcome told result old new t r (inr (apart, e, n)) = never outcome stop.Write result e r
 
 -- the document was refused
-pub refused : {R : Type 0} (remaining : R → Option (List ℕ)) (described : Read Description) (m : Mode) (olds : List (Counted R)) (out report_out : Stream) (reason : Stop) → IsIdle out → IsIdle report_out
+pub refused : {R : Type 0} (remaining : R → Option (List ℕ)) (described : Read Description) (m : Mode) (olds : List (Counted R))
+    (out report_out : Stream) (reason : Stop) → IsIdle out → IsIdle report_out
     → IsMetaStop described.faults reason → StopsSo remaining described m olds olds out report_out reason
 refused remaining described m olds out report_out stop.Memory p q h = inl (refl, p, q)
 refused remaining described m olds out report_out (stop.Meta fault) p q h = (h, p, q)
@@ -91,7 +97,8 @@ refused remaining described m olds out report_out stop.AfterEnd p q h = absurd h
 refused remaining described m olds out report_out stop.NotEnded p q h = absurd h
 refused remaining described m olds out report_out stop.Failed p q h = absurd h
 
-module _ {R : Type 0} (remaining : R → Option (List ℕ)) (described : Read Description) (m : Mode) (olds news : List (Counted R)) (plan : Plan) (planned : IsPlanned described plan) (many : length olds ≡ length plan.tables)
+module _ {R : Type 0} (remaining : R → Option (List ℕ)) (described : Read Description) (m : Mode) (olds news : List (Counted R)) (plan : Plan)
+    (planned : IsPlanned described plan) (many : length olds ≡ length plan.tables)
     (out : Stream) (holds : Option (List ℕ)) (failed : ℕ) (keeps : Keeps out.holds holds) (report_out : Stream) where
   abbrev after : Stream
   after = flushed out holds failed
@@ -157,7 +164,8 @@ module _ {R : Type 0} (remaining : R → Option (List ℕ)) (described : Read De
   rises : IsSound out → failed ≡ one_more out.failed → Rises after
   rises sound e = rose out.failures out.failed failed sound e
 
-  not_memory : (reason : Stop) → reason ≢ stop.Memory → TablesStop remaining plan olds news (Leaves m plan out) (λ tables. Added m out (GraphOf m plan tables) []) reason
+  not_memory : (reason : Stop) → reason ≢ stop.Memory
+      → TablesStop remaining plan olds news (Leaves m plan out) (λ tables. Added m out (GraphOf m plan tables) []) reason
       → InTexts reason
   not_memory reason apart h = elim h [ inl s ↦ s | inr w ↦ absurd (apart w.0) ]
 
@@ -198,7 +206,8 @@ module _ {R : Type 0} (remaining : R → Option (List ℕ)) (described : Read De
   StopsWith (Ok outcome) = Unit {0}
   StopsWith (Err reason) = StopsSo remaining described m olds news after report_out reason
 
-  unflushed : (reason : Stop) → Converts remaining m plan olds news out (Err reason) → IsIdle report_out → Rises after → WriteFails remaining described m olds news after report_out
+  unflushed : (reason : Stop) → Converts remaining m plan olds news out (Err reason) → IsIdle report_out → Rises after
+      → WriteFails remaining described m olds news after report_out
   unflushed reason h quiet fails = elim h.0 [
     | inl s ↦ inl ((reason, halts reason s), fails, quiet)
     | inr w ↦ inr (group w.1, inl fails)
@@ -218,7 +227,8 @@ module _ {R : Type 0} (remaining : R → Option (List ℕ)) (described : Read De
       subst StopsWith (sym (e ∙ t)) (inr (whole_group outcome h, inr (rose report_out.failures report_out.failures report_out.failed refl s)))
   behind_report outcome told result h sound t (inr (apart, e, n)) = subst StopsWith (sym e) (inr (whole_group outcome h, inl (rises sound n)))
 
-  pub stops : (ran told result : Result Outcome Stop) → Converts remaining m plan olds news out ran → Reports ran report_out told → IsFlushed told result out.failed failed → StopsWith result
+  pub stops : (ran told result : Result Outcome Stop) → Converts remaining m plan olds news out ran → Reports ran report_out told
+      → IsFlushed told result out.failed failed → StopsWith result
   stops (Ok outcome) told result h t f = behind_report outcome told result h (wrote_soundly m out plan h.tables h.gives.0) t f
   stops (Err reason) told result h t f = behind_stop reason result h t.1 (subst (λ z. IsFlushed z result out.failed failed) t.0 f)
 
@@ -238,13 +248,15 @@ module _ {R : Type 0} (remaining : R → Option (List ℕ)) (described : Read De
     reported = s;
   }
 
-  reported : (outcome first : Outcome) (told result : Result Outcome Stop) → result ≡ Ok outcome → Converts remaining m plan olds news out (Ok first) → TellsOutcome first report_out told
+  reported : (outcome first : Outcome) (told result : Result Outcome Stop) → result ≡ Ok outcome → Converts remaining m plan olds news out (Ok first)
+      → TellsOutcome first report_out told
       → IsFlushed told result out.failed failed → Succeeds remaining described m olds news after report_out outcome
   reported outcome first told result r h t f =
       let k = told_ok outcome first report_out told result out.failed failed r t f in
       subst (λ z. Succeeds remaining described m olds news after report_out z) k.same (succeeded first h k.steady k.sent)
 
-  pub succeeds : (ran told result : Result Outcome Stop) (outcome : Outcome) → result ≡ Ok outcome → Converts remaining m plan olds news out ran → Reports ran report_out told
+  pub succeeds : (ran told result : Result Outcome Stop) (outcome : Outcome) → result ≡ Ok outcome → Converts remaining m plan olds news out ran
+      → Reports ran report_out told
       → IsFlushed told result out.failed failed → Succeeds remaining described m olds news after report_out outcome
   succeeds (Ok first) told result outcome r h t f = reported outcome first told result r h t f
   succeeds (Err reason) told result outcome r h t f = absurd (no_stop reason outcome told result out.failed failed t.0 r f)
@@ -256,13 +268,16 @@ module _ {R : Type 0} (remaining : R → Option (List ℕ)) (described : Read De
       let k = told_ok outcome first report_out told result out.failed failed r t f in (whole_group first h, k.sent.1)
   ends_whole (Err reason) told result outcome r h t f = absurd (no_stop reason outcome told result out.failed failed t.0 r f)
 
-  pub stops_with : (ran told result : Result Outcome Stop) (reason : Stop) → result ≡ Err reason → Converts remaining m plan olds news out ran → Reports ran report_out told → IsFlushed told result out.failed failed
+  pub stops_with : (ran told result : Result Outcome Stop) (reason : Stop) → result ≡ Err reason → Converts remaining m plan olds news out ran
+      → Reports ran report_out told → IsFlushed told result out.failed failed
       → StopsSo remaining described m olds news after report_out reason
   stops_with ran told result reason r h t f = subst StopsWith r (stops ran told result h t f)
 
 -- the report was flushed
-pub report_kept : {R : Type 0} (remaining : R → Option (List ℕ)) (described : Read Description) (m : Mode) (olds news : List (Counted R)) (out report_out : Stream) (outcome : Outcome) (holds : Option (List ℕ)) (failed : ℕ)
-    → Keeps report_out.holds holds → failed ≡ report_out.failed → Succeeds remaining described m olds news out report_out outcome → Succeeds remaining described m olds news out (flushed report_out holds failed) outcome
+pub report_kept : {R : Type 0} (remaining : R → Option (List ℕ)) (described : Read Description) (m : Mode) (olds news : List (Counted R))
+    (out report_out : Stream) (outcome : Outcome) (holds : Option (List ℕ)) (failed : ℕ)
+    → Keeps report_out.holds holds → failed ≡ report_out.failed → Succeeds remaining described m olds news out report_out outcome
+    → Succeeds remaining described m olds news out (flushed report_out holds failed) outcome
 report_kept remaining described m olds news out report_out outcome holds failed keeps e h = record {
   plan = h.plan;
   planned = h.planned;
@@ -278,7 +293,8 @@ report_kept remaining described m olds news out report_out outcome holds failed 
 }
 
 -- the flush of the report failed, behind the whole graph
-pub report_unsent : {R : Type 0} (remaining : R → Option (List ℕ)) (described : Read Description) (m : Mode) (olds news : List (Counted R)) (out report_out : Stream)
+pub report_unsent : {R : Type 0} (remaining : R → Option (List ℕ)) (described : Read Description) (m : Mode) (olds news : List (Counted R))
+    (out report_out : Stream)
     (holds : Option (List ℕ)) (failed : ℕ) (reason : Stop) → reason ≡ stop.Write → failed ≡ one_more report_out.failed → IsSound report_out
     → WroteGroup remaining described m olds news out → StopsSo remaining described m olds news out (flushed report_out holds failed) reason
 report_unsent remaining described m olds news out report_out holds failed reason is more sound group =

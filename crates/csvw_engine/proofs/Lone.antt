@@ -15,7 +15,8 @@ lone [] d e = cc
 lone (x ∷ []) d e = refl
 lone (x ∷ (y ∷ xs)) d e = absurd (omega (arith, e))
 
-pub runs_lone : {R : Type 0} (remaining : R → Option (List ℕ)) (described : Read Description) (m : Mode) (old : Counted R) (olds given news : List (Counted R)) (out report_out : Stream)
+pub runs_lone : {R : Type 0} (remaining : R → Option (List ℕ)) (described : Read Description) (m : Mode) (old : Counted R)
+    (olds given news : List (Counted R)) (out report_out : Stream)
     → (result : Result Outcome Stop) → olds ≡ old ∷ [] → given ≡ news → length news ≡ 1 → Runs remaining described m olds news out report_out result
     → Runs remaining described m (old ∷ []) (slice_index_or given 0 old ∷ []) out report_out result
 runs_lone remaining described m old olds given news out report_out result is final one runs =

@@ -1,5 +1,6 @@
 -- The plan of a document, or its fault.
-use Rattle.std.proofs.Common.{◌≡◌, ◌≢◌, ◌≤◌, ◌+◌, ℕ, zero, suc, List, [], ◌∷◌, length, refl, sym, ap, ◌∙◌, subst, arith, inl, inr, Contains, Some, None, Ok, Err}
+use Rattle.std.proofs.Common.{◌≡◌, ◌≢◌, ◌≤◌, ◌+◌, ℕ, zero, suc, List, [], ◌∷◌, length, refl, sym, ap, ◌∙◌, subst, arith, inl, inr, Contains, Some}
+use Rattle.std.proofs.Common.{None, Ok, Err}
 use Rattle.std.specs.Prelude.{slice_get}
 use Rattle.csvw_description.specs.declared.description.Description.{Description}
 use Rattle.csvw_description.specs.declared.table.TableDescription.{TableDescription}
@@ -14,7 +15,8 @@ use Rattle.csvw_session.specs.declared.stop.Stop.{Stop}
 use Rattle.csvw_session.specs.declared.stop.Stop.TheVariants as stop
 use Rattle.csvw_engine.specs.Planning.{IsMetaStop, TellsFault}
 
-pub told : (faults : List MetaFault) (fault : MetaFault) (reason : Stop) → TellsFault fault reason → (fault.code ≢ Memory → Contains faults fault) → IsMetaStop faults reason
+pub told : (faults : List MetaFault) (fault : MetaFault) (reason : Stop) → TellsFault fault reason → (fault.code ≢ Memory → Contains faults fault)
+    → IsMetaStop faults reason
 told faults fault reason (inl (c, e)) h = rw e tt
 told faults fault reason (inr (apart, e)) h = rw e (h apart)
 

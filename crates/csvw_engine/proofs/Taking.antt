@@ -1,5 +1,6 @@
 -- The tables of a session, read to their ends.
-use Rattle.std.proofs.Common.{◌≡◌, ◌↔◌, ◌<◌, ◌+◌, ◌-◌, ◌^◌, ℕ, suc, Bool, true, false, List, [], ◌∷◌, ◌++◌, length, refl, sym, ap, ◌∙◌, subst, inl, inr, arith, Contains, Option, Some, Result, Ok, Err}
+use Rattle.std.proofs.Common.{◌≡◌, ◌↔◌, ◌<◌, ◌+◌, ◌-◌, ◌^◌, ℕ, suc, Bool, true, false, List, [], ◌∷◌, ◌++◌, length, refl, sym, ap, ◌∙◌, subst, inl}
+use Rattle.std.proofs.Common.{inr, arith, Contains, Option, Some, Result, Ok, Err}
 use Rattle.std.specs.Prelude.{slice_get}
 use Rattle.std.specs.List.{list_all}
 use Rattle.std.proofs.lemmas.Option.{slice_get_within}
@@ -43,15 +44,18 @@ use Rattle.csvw_engine.specs.Runs.{ReadWhole, StopsInText, RefusedInText}
 
 -- each of the tables has ended
 all_ended : (plans : List TablePlan) (tables : List Table) → length tables ≡ length plans
-    → ((i : ℕ) (plan : TablePlan) (table : Table) → slice_get plans i ≡ Some plan → slice_get tables i ≡ Some table → is_ended table ≡ true) → list_all is_ended tables ≡ true
+    → ((i : ℕ) (plan : TablePlan) (table : Table) → slice_get plans i ≡ Some plan → slice_get tables i ≡ Some table → is_ended table ≡ true)
+    → list_all is_ended tables ≡ true
 all_ended plans [] e h = refl
 all_ended [] (t ∷ ts) e h = cc
 all_ended (p ∷ ps) (t ∷ ts) e h = rw (h 0 p t refl refl) (all_ended ps ts (let f = e in omega (arith, f)) (λ i plan table x y. h (suc i) plan table x y))
 
-ready_on : {S : Type 0} (is_open : S → Bool) (failed : S → ℕ) (a b c : S) → IsAsReady is_open failed a b → IsAsReady is_open failed b c → IsAsReady is_open failed a c
+ready_on : {S : Type 0} (is_open : S → Bool) (failed : S → ℕ) (a b c : S) → IsAsReady is_open failed a b → IsAsReady is_open failed b c
+    → IsAsReady is_open failed a c
 ready_on is_open failed a b c x y = (y.0 ∙ x.0, y.1 ∙ x.1)
 
-ended_stands : (plan : TablePlan) (mode : Mode) (table : Table) (bytes : List ℕ) (ended : Bool) (rows : List _) → ended ≡ true → TableStands plan mode table bytes ended rows → is_ended table ≡ true
+ended_stands : (plan : TablePlan) (mode : Mode) (table : Table) (bytes : List ℕ) (ended : Bool) (rows : List _) → ended ≡ true
+    → TableStands plan mode table bytes ended rows → is_ended table ≡ true
 ended_stands plan mode table bytes true rows e h = h.ended
 ended_stands plan mode table bytes false rows e h = cc
 
@@ -63,16 +67,19 @@ with_keys given violated keys told listed same order all =
     (subst (λ fs. IsPermutation (fs ++ told) listed) same all)
 
 module _ {R S : Type 0} (gains : S → List Triple → S → Type 0) (is_open : S → Bool) (failed : S → ℕ) (remaining : R → Option (List ℕ))
-    (goes_on : (a b c : S) (xs ys : List Triple) → gains a xs b → gains b ys c → gains a (xs ++ ys) c) (sink start : S) (as_ready : IsAsReady is_open failed sink start) (olds news : List (Counted R)) where
+    (goes_on : (a b c : S) (xs ys : List Triple) → gains a xs b → gains b ys c → gains a (xs ++ ys) c) (sink start : S)
+    (as_ready : IsAsReady is_open failed sink start) (olds news : List (Counted R)) where
   -- texts that were read whole
-  read_whole : (events : List Event) → GaveTexts remaining olds news events → ((i : ℕ) → i < length olds → ended_in events (i + 1) ≡ true) → ReadWhole remaining olds news (texts_of events)
+  read_whole : (events : List Event) → GaveTexts remaining olds news events → ((i : ℕ) → i < length olds → ended_in events (i + 1) ≡ true)
+      → ReadWhole remaining olds news (texts_of events)
   read_whole events gave ended i r s p q =
       subst (λ b. Gave remaining r s (text_of events (i + 1)) b) (ended i (slice_get_within olds i r p)) (gave.each i r s p q)
 
   -- the session was read to its end
   module _ (old middle new : Session S) (all : ReadsAll gains is_open failed remaining start olds news old middle) (many : length olds ≡ length old.plan.tables)
       (numbered : AreNumbered old.plan.tables) (opened : gains sink (opening old.mode old.plan) start)
-      (law : (events : List Event) (s : Session S) → gains sink (opening s.mode s.plan) start → Stands gains is_open failed start events s → list_all is_ended s.tables.items ≡ true
+      (law : (events : List Event) (s : Session S) → gains sink (opening s.mode s.plan) start → Stands gains is_open failed start events s
+      → list_all is_ended s.tables.items ≡ true
       → Annotates gains sink events s) where
     still_numbered : AreNumbered middle.plan.tables
     still_numbered = subst (λ (p : Plan). AreNumbered p.tables) (sym all.same.0) numbered
@@ -81,8 +88,10 @@ module _ {R S : Type 0} (gains : S → List Triple → S → Type 0) (is_open : 
     each_ended =
         all_ended middle.plan.tables middle.tables.items middle.many
         (λ i plan table p q.
-        let below : i < length olds = let k = slice_get_within middle.plan.tables i plan p in let m = ap (λ (z : Plan). length z.tables) all.same.0 in omega (arith, k, m, many) in
-        ended_stands plan middle.mode table (text_of all.events (i + 1)) (ended_in all.events (i + 1)) _ (all.ended i below) (all.stands.tables i plan table (p, q)).stands)
+        let below : i < length olds = let k = slice_get_within middle.plan.tables i plan p in let m = ap (λ (z : Plan). length z.tables) all.same.0 in
+        omega (arith, k, m, many) in
+        ended_stands plan middle.mode table (text_of all.events (i + 1)) (ended_in all.events (i + 1)) _ (all.ended i below)
+        (all.stands.tables i plan table (p, q)).stands)
 
     -- the tables that were read
     abbrev read_tables : Annotates gains sink all.events middle
@@ -102,7 +111,8 @@ module _ {R S : Type 0} (gains : S → List Triple → S → Type 0) (is_open : 
       ready = rw e (ready_on is_open failed sink start middle.sink as_ready all.stands.ready);
     }
 
-    whole : (outcome : Outcome) → Finishes middle new (Ok outcome) → TakesTables gains is_open failed remaining old.mode old.plan olds news sink new.sink (Ok outcome)
+    whole : (outcome : Outcome) → Finishes middle new (Ok outcome)
+        → TakesTables gains is_open failed remaining old.mode old.plan olds news sink new.sink (Ok outcome)
     whole outcome fin = record {
       texts = texts_of all.events;
       read = read_whole all.events all.gave all.ended;
@@ -131,10 +141,14 @@ module _ {R S : Type 0} (gains : S → List Triple → S → Type 0) (is_open : 
     none_open : list_all is_ended middle.tables.items ≡ false → ⊥
     none_open e = let ended = each_ended in cc
 
-    pub finished : (result : Result Outcome Stop) → Finishes middle new result → TakesTables gains is_open failed remaining old.mode old.plan olds news sink new.sink result
+    pub finished : (result : Result Outcome Stop) → Finishes middle new result
+        → TakesTables gains is_open failed remaining old.mode old.plan olds news sink new.sink result
     finished (Ok outcome) fin = whole outcome fin
     finished (Err stop.Memory) fin = (
-      (opening old.mode old.plan ++ all.stands.took.taken, rw fin.sink (goes_on sink start middle.sink (opening old.mode old.plan) all.stands.took.taken opened all.stands.took.gained)),
+      (
+        opening old.mode old.plan ++ all.stands.took.taken,
+        rw fin.sink (goes_on sink start middle.sink (opening old.mode old.plan) all.stands.took.taken opened all.stands.took.gained),
+      ),
       inr (refl, unfinished fin.sink),
       rw fin.sink (ready_on is_open failed sink start middle.sink as_ready all.stands.ready),
     )
@@ -154,7 +168,8 @@ module _ {R S : Type 0} (gains : S → List Triple → S → Type 0) (is_open : 
       (all_law : (events : List Event) (s : Session S) → gains sink (opening s.mode s.plan) start → Stands gains is_open failed start events s
       → TookAll gains s.mode s.plan events sink s.sink)
       (part_law : (events : List Event) (event : Event) (s t : Session S) (n : ℕ) (reason : Stop) → gains sink (opening s.mode s.plan) start
-      → IsAsReady is_open failed sink start → Stands gains is_open failed start events s → table_of event ≡ n → Takes gains is_open failed s t n event (Err reason)
+      → IsAsReady is_open failed sink start → Stands gains is_open failed start events s → table_of event ≡ n
+      → Takes gains is_open failed s t n event (Err reason)
       → TookBy gains is_open failed s.mode s.plan (events ++ event ∷ []) sink t.sink reason) where
     -- the same by the plan and the mode of the session at its start
     at_own : (P : Mode → Plan → Type 0) (s : Session S) → IsSame old s → P s.mode s.plan → P old.mode old.plan
@@ -175,13 +190,17 @@ module _ {R S : Type 0} (gains : S → List Triple → S → Type 0) (is_open : 
     some_gained : (reason : Stop) → Reads gains is_open failed remaining start olds news old new (Err reason) → GainsSome gains start new.sink
     some_gained stop.Memory h =
         let s = h.stops in
-        let k = s.takes.1 start s.before s.stands in
-        (s.stands.took.taken ++ k.0.leaves.took.front, goes_on start s.session.sink new.sink s.stands.took.taken k.0.leaves.took.front s.stands.took.gained k.0.leaves.took.gained)
+        let k = s.takes.1 start s.before s.stands in (
+          s.stands.took.taken ++ k.0.leaves.took.front,
+          goes_on start s.session.sink new.sink s.stands.took.taken k.0.leaves.took.front s.stands.took.gained k.0.leaves.took.gained,
+        )
     some_gained stop.Read h = (h.stands.took.taken, h.stands.took.gained)
     some_gained stop.Write h =
         let s = h.stops in
-        let k = s.takes.1 start s.before s.stands in
-        (s.stands.took.taken ++ k.0.leaves.took.front, goes_on start s.session.sink new.sink s.stands.took.taken k.0.leaves.took.front s.stands.took.gained k.0.leaves.took.gained)
+        let k = s.takes.1 start s.before s.stands in (
+          s.stands.took.taken ++ k.0.leaves.took.front,
+          goes_on start s.session.sink new.sink s.stands.took.taken k.0.leaves.took.front s.stands.took.gained k.0.leaves.took.gained,
+        )
     some_gained (stop.Rows t row reason) h =
         let s = h.stops in
         let k = s.takes.2 start s.before s.stands in
@@ -313,7 +332,8 @@ module _ {R S : Type 0} (gains : S → List Triple → S → Type 0) (is_open : 
     cut = λ front rest e. inl (opening_cut law m plan front rest e);
   }
 
-  pub refused : (reason : Stop) → Refuses gains is_open failed plan m sink now reason → TakesTables gains is_open failed remaining m plan olds olds sink now (Err reason)
+  pub refused : (reason : Stop) → Refuses gains is_open failed plan m sink now reason
+      → TakesTables gains is_open failed remaining m plan olds olds sink now (Err reason)
   refused stop.Memory h = ((h.0.front, h.0.gained), inl ([], none_read remaining olds, (tt, took_opening h.0)), h.1)
   refused stop.Write h = ((h.0.front, h.0.gained), inl ([], none_read remaining olds, (tt, took_opening h.0)), h.1)
   refused stop.Read h = absurd h
@@ -332,7 +352,8 @@ pub starts_own : {S : Type 0} (gains : S → List Triple → S → Type 0) (is_o
 starts_own gains is_open failed plan m sink s h = record {
   plan_is = refl;
   mode_is = refl;
-  opened = subst (λ (p : Plan). gains sink (opening s.mode p) s.sink) (sym h.plan_is) (subst (λ n. gains sink (opening n plan) s.sink) (sym h.mode_is) h.opened);
+  opened = subst (λ (p : Plan). gains sink (opening s.mode p) s.sink) (sym h.plan_is)
+      (subst (λ n. gains sink (opening n plan) s.sink) (sym h.mode_is) h.opened);
   ready = h.ready;
   stands = h.stands;
 }

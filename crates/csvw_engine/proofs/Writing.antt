@@ -1,5 +1,6 @@
 -- The graph of a group, as N-Triples.
-use Rattle.std.proofs.Common.{◌≡◌, ◌↔◌, ◌<◌, ◌+◌, ◌-◌, ◌^◌, ℕ, Bool, true, false, List, [], ◌∷◌, ◌++◌, refl, sym, ap, ◌∙◌, subst, arith, inl, inr, append-nil, append_assoc, map, take, Contains, Option, Some, None, Result, Ok, Err}
+use Rattle.std.proofs.Common.{◌≡◌, ◌↔◌, ◌<◌, ◌+◌, ◌-◌, ◌^◌, ℕ, Bool, true, false, List, [], ◌∷◌, ◌++◌, refl, sym, ap, ◌∙◌, subst, arith, inl, inr}
+use Rattle.std.proofs.Common.{append-nil, append_assoc, map, take, Contains, Option, Some, None, Result, Ok, Err}
 use Rattle.std.proofs.KnownBytes.{Appends-nil, Appends-trans}
 use Rattle.std.specs.List.{AllByRecursion}
 use Rattle.std.specs.Io.KnownBytes.{Appends}
@@ -47,7 +48,8 @@ nothing_in [] none = refl
 nothing_in (t ∷ ts) none = absurd (none t (0, omega arith, refl))
 
 -- as ready as before or a failed write, by other words
-pub ends_as : (Ready Fails Ready' Fails' : Type 0) → (Ready → Ready') → (Fails → Fails') → (reason : Stop) → EndsBy Ready Fails reason → EndsBy Ready' Fails' reason
+pub ends_as : (Ready Fails Ready' Fails' : Type 0) → (Ready → Ready') → (Fails → Fails') → (reason : Stop) → EndsBy Ready Fails reason
+    → EndsBy Ready' Fails' reason
 ends_as a b c d f g stop.Write h = g h
 ends_as a b c d f g stop.Memory h = f h
 ends_as a b c d f g stop.Read h = f h
@@ -76,11 +78,13 @@ none_cut plan events ts rest (inr h) x c = elim (h.within x c) [
   | inr g ↦ no_row h.have.plan.number (h.parts h.i).columns h.behind x g
 ]
 
-none_next : (plan : Plan) (events : List Event) (ts rest : List Triple) → IsCutShort mode.Validate plan events ts rest → (x : Triple) (xs : List Triple) → rest ≡ x ∷ xs → ⊥
+none_next : (plan : Plan) (events : List Event) (ts rest : List Triple) → IsCutShort mode.Validate plan events ts rest
+    → (x : Triple) (xs : List Triple) → rest ≡ x ∷ xs → ⊥
 none_next plan events ts rest (inl h) x xs e = h.next x xs e
 none_next plan events ts rest (inr h) x xs e = no_row h.have.plan.number (h.parts h.i).columns h.behind x (h.next x xs e)
 
-no_line : (plan : Plan) (events : List Event) (ts rest : List Triple) (more : List ℕ) → IsCutShort mode.Validate plan events ts rest → IsFrontOfLine rest more → more ≡ []
+no_line : (plan : Plan) (events : List Event) (ts rest : List Triple) (more : List ℕ) → IsCutShort mode.Validate plan events ts rest
+    → IsFrontOfLine rest more → more ≡ []
 no_line plan events ts [] more h line = line
 no_line plan events ts (x ∷ xs) more h line = absurd (none_next plan events ts (x ∷ xs) h x xs refl)
 
@@ -106,10 +110,19 @@ last_fits : (front : List Triple) (cut : Triple) → AllByRecursion TripleFits (
 last_fits [] cut h = h.0
 last_fits (x ∷ front) cut h = last_fits front cut h.1
 
-cut_from : (held holds : Option (List ℕ)) (a b : Bool) (all ts rest : List Triple) → all ≡ ts ++ rest → AllByRecursion TripleFits ts → a ≡ true → Sends held a ts holds b
+cut_from : (held holds : Option (List ℕ)) (a b : Bool) (all ts rest : List Triple) → all ≡ ts ++ rest → AllByRecursion TripleFits ts → a ≡ true
+    → Sends held a ts holds b
     → CutFrom held holds all
 cut_from held holds true true all ts rest p fit q s =
-    record { front = ts; rest = rest; more = []; parts = p; line = no_more rest; fits = fit; added = subst (λ xs. Appends held holds xs) (sym (append-nil (written ts))) s }
+    record {
+      front = ts;
+      rest = rest;
+      more = [];
+      parts = p;
+      line = no_more rest;
+      fits = fit;
+      added = subst (λ xs. Appends held holds xs) (sym (append-nil (written ts))) s;
+    }
 cut_from held holds true false all ts rest p fit q s =
     let fits = subst (AllByRecursion TripleFits) s.3 fit in record {
       front = s.0;
@@ -130,7 +143,8 @@ pub record Streams {W : Type 0} (contents : W → Option (List ℕ)) (out : Stre
   pub failures : out.failures ≡ failed_of start
   pub failed : out.failed ≡ failed_of now
 
-pub streams_of : {W : Type 0} (contents : W → Option (List ℕ)) (out wrote : Counted W) (start now : NtSink W) → sink_is_open start ≡ true → (sink_out start).now ≡ out → wrote ≡ (sink_out now).now
+pub streams_of : {W : Type 0} (contents : W → Option (List ℕ)) (out wrote : Counted W) (start now : NtSink W) → sink_is_open start ≡ true
+    → (sink_out start).now ≡ out → wrote ≡ (sink_out now).now
     → Streams contents (stream_of contents out wrote) start now
 streams_of contents out wrote start now o p q = record {
   begun = o;
@@ -141,7 +155,8 @@ streams_of contents out wrote start now o p q = record {
 }
 
 -- the sink lends the same writer
-pub same_lent : {R W : Type 0} (contents : W → Option (List ℕ)) (remaining : R → Option (List ℕ)) (m : Mode) (plan : Plan) (olds news : List (Counted R)) (start now : NtSink W) (result : Result Outcome Stop)
+pub same_lent : {R W : Type 0} (contents : W → Option (List ℕ)) (remaining : R → Option (List ℕ)) (m : Mode) (plan : Plan)
+    (olds news : List (Counted R)) (start now : NtSink W) (result : Result Outcome Stop)
     → TakesTables (takes contents) sink_is_open failed_of remaining m plan olds news start now result → (sink_out now).ghost_name ≡ (sink_out start).ghost_name
 same_lent contents remaining m plan olds news start now (Ok outcome) h = h.gives.took.gained.0
 same_lent contents remaining m plan olds news start now (Err reason) h = h.0.1.0
@@ -152,7 +167,8 @@ module _ {W : Type 0} (contents : W → Option (List ℕ)) (laws : LineLaws) (ou
 
   lines : (ts : List Triple) → takes contents start ts now → IsAsReady sink_is_open failed_of start now → Appends out.held out.holds (written ts)
   lines ts g r = rw (streams.held, streams.holds)
-      (sends_whole (contents (inner_of (sink_out start).now)) (contents (inner_of (sink_out now).now)) (sink_is_open start) (sink_is_open now) ts streams.begun (r.0 ∙ streams.begun) g.2)
+      (sends_whole (contents (inner_of (sink_out start).now)) (contents (inner_of (sink_out now).now)) (sink_is_open start)
+      (sink_is_open now) ts streams.begun (r.0 ∙ streams.begun) g.2)
 
   wrote_graph : (Graph : Triple → Type 0) → TookGraph (takes contents) start now Graph → IsAsReady sink_is_open failed_of start now → WroteGraph out Graph
   wrote_graph Graph k r = record {
@@ -164,7 +180,8 @@ module _ {W : Type 0} (contents : W → Option (List ℕ)) (laws : LineLaws) (ou
   }
 
   -- whole lines of these triples, and these bytes, by the mode
-  lines_added : (m : Mode) (Graph : Triple → Type 0) (ts : List Triple) (more : List ℕ) → AllByRecursion TripleFits ts → Appends out.held out.holds (written ts ++ more)
+  lines_added : (m : Mode) (Graph : Triple → Type 0) (ts : List Triple) (more : List ℕ) → AllByRecursion TripleFits ts
+      → Appends out.held out.holds (written ts ++ more)
       → (m ≡ mode.Validate → ts ≡ []) → (m ≡ mode.Validate → more ≡ []) → ((x : Triple) → Contains ts x ↔ Graph x) → Added m out Graph more
   lines_added mode.Validate Graph ts more fits a none no_more same =
       subst (λ xs. Appends out.held out.holds (written xs)) (none refl)
@@ -187,10 +204,12 @@ module _ {W : Type 0} (contents : W → Option (List ℕ)) (laws : LineLaws) (ou
   graph_added : (m : Mode) (Graph : Mode → Triple → Type 0) → ((x : Triple) → Graph mode.Validate x → ⊥) → TookGraph (takes contents) start now (Graph m)
       → IsAsReady sink_is_open failed_of start now → Added m out (Graph m) []
   graph_added m Graph none k r =
-      lines_added m (Graph m) k.taken [] k.gained.1 (subst (λ xs. Appends out.held out.holds xs) (sym (append-nil (written k.taken))) (lines k.taken k.gained r))
+      lines_added m (Graph m) k.taken [] k.gained.1
+      (subst (λ xs. Appends out.held out.holds xs) (sym (append-nil (written k.taken))) (lines k.taken k.gained r))
       (λ e. nothing_in k.taken (λ x c. none x (subst (λ z. Graph z x) e (k.within x c)))) (λ e. refl) (λ x. (k.within x, k.whole x))
 
-  pub all_written : (m : Mode) (plan : Plan) (events : List Event) → TookAll (takes contents) m plan events start now → IsAsReady sink_is_open failed_of start now
+  pub all_written : (m : Mode) (plan : Plan) (events : List Event) → TookAll (takes contents) m plan events start now
+      → IsAsReady sink_is_open failed_of start now
       → WroteAll m plan out events
   all_written m plan events k r =
       record { parts = k.parts; have = k.have; added = graph_added m (λ z. PartGraph z plan k.parts) (no_part plan k.parts) k.took r }
@@ -199,7 +218,8 @@ module _ {W : Type 0} (contents : W → Option (List ℕ)) (laws : LineLaws) (ou
     -- up to the last call
     before : Appends out.held (contents (inner_of (sink_out k.middle).now)) (written k.taken)
     before = rw streams.held
-        (sends_whole (contents (inner_of (sink_out start).now)) (contents (inner_of (sink_out k.middle).now)) (sink_is_open start) (sink_is_open k.middle) k.taken
+        (sends_whole (contents (inner_of (sink_out start).now)) (contents (inner_of (sink_out k.middle).now)) (sink_is_open start)
+        (sink_is_open k.middle) k.taken
         streams.begun (k.ready.0 ∙ streams.begun) k.gained.2)
 
     both : (front : List Triple) (more : List ℕ) → Appends (contents (inner_of (sink_out k.middle).now)) out.holds (written front ++ more)
@@ -218,7 +238,8 @@ module _ {W : Type 0} (contents : W → Option (List ℕ)) (laws : LineLaws) (ou
           cut = cut;
           line = line;
           added = lines_added m (Contains (k.taken ++ front)) (k.taken ++ front) more (all_fit k.taken front k.gained.1 fits) (both front more a)
-              (λ v. nothing_in (k.taken ++ front) (none_cut plan events (k.taken ++ front) rest (subst (λ z. IsCutShort z plan events (k.taken ++ front) rest) v cut)))
+              (λ v. nothing_in (k.taken ++ front)
+              (none_cut plan events (k.taken ++ front) rest (subst (λ z. IsCutShort z plan events (k.taken ++ front) rest) v cut)))
               (λ v. no_line plan events (k.taken ++ front) rest more (subst (λ z. IsCutShort z plan events (k.taken ++ front) rest) v cut) line)
               (λ x. (λ c. c, λ c. c));
         }
@@ -228,7 +249,8 @@ module _ {W : Type 0} (contents : W → Option (List ℕ)) (laws : LineLaws) (ou
         some_written k.took.front k.took.rest [] k.took.parts (no_more k.took.rest) k.took.gained.1
         (subst (λ xs. Appends (contents (inner_of (sink_out k.middle).now)) out.holds xs) (sym (append-nil (written k.took.front)))
         (rw streams.holds
-        (sends_whole (contents (inner_of (sink_out k.middle).now)) (contents (inner_of (sink_out now).now)) (sink_is_open k.middle) (sink_is_open now) k.took.front
+        (sends_whole (contents (inner_of (sink_out k.middle).now)) (contents (inner_of (sink_out now).now)) (sink_is_open k.middle)
+        (sink_is_open now) k.took.front
         (k.ready.0 ∙ streams.begun) (r.0 ∙ streams.begun) k.took.gained.2)))
 
     pub failing : (more : List ℕ) × WroteSome m plan out events more
@@ -239,7 +261,8 @@ module _ {W : Type 0} (contents : W → Option (List ℕ)) (laws : LineLaws) (ou
 
   leaves : (m : Mode) (plan : Plan) (reason : Stop) (events : List Event) → {R : Type 0} (olds news : List (Counted R)) → IsReason plan olds news reason events
       → SinkLeaves (takes contents) sink_is_open failed_of m plan start now reason events
-      → EndsBy (IsAsReady sink_is_open failed_of start now) (sink_is_open start ≡ true → failed_of start < 2 ^ 64 - 1 → failed_of now ≡ failed_of start + 1) reason
+      → EndsBy (IsAsReady sink_is_open failed_of start now)
+      (sink_is_open start ≡ true → failed_of start < 2 ^ 64 - 1 → failed_of now ≡ failed_of start + 1) reason
       → Leaves m plan out reason events
   leaves m plan stop.Memory events olds news because k r = lacking m plan events k r
   leaves m plan stop.Write events olds news because k r = failing m plan events k
@@ -257,13 +280,18 @@ module _ {W : Type 0} (contents : W → Option (List ℕ)) (laws : LineLaws) (ou
   no_graph : (plan : Plan) (tables : List Table) (x : Triple) → GraphOf mode.Validate plan tables x → ⊥
   no_graph plan tables x h = elim h [ inl k ↦ k | inr k ↦ k.5 ]
 
-  wrote : (m : Mode) (plan : Plan) (tables : List Table) → TookGraph (takes contents) start now (GraphOf m plan tables) → IsAsReady sink_is_open failed_of start now → Wrote m out plan tables
-  wrote mode.Validate plan tables k r =
-      (subst (λ ts. Appends out.held out.holds (written ts)) (nothing_in k.taken (λ x c. no_graph plan tables x (k.within x c))) (lines k.taken k.gained r), steady r)
+  wrote : (m : Mode) (plan : Plan) (tables : List Table) → TookGraph (takes contents) start now (GraphOf m plan tables)
+      → IsAsReady sink_is_open failed_of start now → Wrote m out plan tables
+  wrote mode.Validate plan tables k r = (
+    subst (λ ts. Appends out.held out.holds (written ts)) (nothing_in k.taken (λ x c. no_graph plan tables x (k.within x c)))
+        (lines k.taken k.gained r),
+    steady r,
+  )
   wrote mode.Minimal plan tables k r = wrote_graph (GraphOf mode.Minimal plan tables) k r
   wrote mode.Standard plan tables k r = wrote_graph (GraphOf mode.Standard plan tables) k r
 
-  graph_of : (m : Mode) (plan : Plan) (tables : List Table) → TookGraph (takes contents) start now (GraphOf m plan tables) → IsAsReady sink_is_open failed_of start now
+  graph_of : (m : Mode) (plan : Plan) (tables : List Table) → TookGraph (takes contents) start now (GraphOf m plan tables)
+      → IsAsReady sink_is_open failed_of start now
       → Added m out (GraphOf m plan tables) []
   graph_of m plan tables k r = graph_added m (λ z. GraphOf z plan tables) (no_graph plan tables) k r
 
@@ -292,11 +320,13 @@ module _ {W : Type 0} (contents : W → Option (List ℕ)) (laws : LineLaws) (ou
         },
       )
     ],
-    ends_as _ _ _ _ steady (λ fails room. streams.failed ∙ (fails streams.begun (rw streams.failures at room) ∙ ap (λ n. n + 1) (sym streams.failures))) reason h.2,
+    ends_as _ _ _ _ steady (λ fails room. streams.failed
+        ∙ (fails streams.begun (rw streams.failures at room) ∙ ap (λ n. n + 1) (sym streams.failures))) reason h.2,
   )
 
   -- at a plan and a mode that are these
-  pub converted_at : {R : Type 0} (remaining : R → Option (List ℕ)) (m n : Mode) (plan other : Plan) (olds news : List (Counted R)) (result : Result Outcome Stop) → n ≡ m → other ≡ plan
+  pub converted_at : {R : Type 0} (remaining : R → Option (List ℕ)) (m n : Mode) (plan other : Plan) (olds news : List (Counted R))
+      (result : Result Outcome Stop) → n ≡ m → other ≡ plan
       → TakesTables (takes contents) sink_is_open failed_of remaining n other olds news start now result → Converts remaining m plan olds news out result
   converted_at remaining m n plan other olds news result e f h =
       converted remaining m plan olds news result
@@ -308,7 +338,8 @@ abbrev pub untouched : Option (List ℕ) → ℕ → Stream
 untouched known n = record { held = known; holds = known; failures = n; failed = n }
 
 -- nothing was written, for want of memory before the tables
-pub nothing_written : {R : Type 0} (laws : LineLaws) (remaining : R → Option (List ℕ)) (m : Mode) (plan : Plan) (olds : List (Counted R)) (known : Option (List ℕ)) (n : ℕ)
+pub nothing_written : {R : Type 0} (laws : LineLaws) (remaining : R → Option (List ℕ)) (m : Mode) (plan : Plan) (olds : List (Counted R))
+    (known : Option (List ℕ)) (n : ℕ)
     → Converts remaining m plan olds olds (untouched known n) (Err stop.Memory)
 nothing_written laws remaining m plan olds known n = (
   inl (

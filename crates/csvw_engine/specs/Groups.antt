@@ -20,7 +20,8 @@ use Rattle.csvw_engine.specs.Runs.{ReadWhole, IsReason, Rises, Wrote, IsSound}
 use Rattle.csvw_engine.specs.Stopped.{Added, Leaves}
 
 -- the texts of the readers are annotated tables, whose violations were told
-pub record AnnotatesTexts {R : Type 0} (remaining : R → Option (List ℕ)) (plan : Plan) (olds news : List (Counted R)) (outcome : Outcome) (Gives : List Table → Type 0) : Type 0 where
+pub record AnnotatesTexts {R : Type 0} (remaining : R → Option (List ℕ)) (plan : Plan) (olds news : List (Counted R)) (outcome : Outcome)
+    (Gives : List Table → Type 0) : Type 0 where
   pub texts : ℕ → List ℕ
   pub read : ReadWhole remaining olds news texts
   pub steady : AreSteady olds news
@@ -54,7 +55,8 @@ TablesStop remaining plan olds news Left Whole reason =
     ⊎ ((reason ≡ stop.Memory) × HaveTables remaining plan olds news Whole)
 
 -- the sink took the graph of the group, and is as ready as it was
-pub record TookTables {S : Type 0} (gains : S → List Triple → S → Type 0) (is_open : S → Bool) (failed : S → ℕ) (mode : Mode) (plan : Plan) (start now : S) (tables : List Table) : Type 0 where
+pub record TookTables {S : Type 0} (gains : S → List Triple → S → Type 0) (is_open : S → Bool) (failed : S → ℕ) (mode : Mode) (plan : Plan)
+    (start now : S) (tables : List Table) : Type 0 where
   pub took : TookGraph gains start now (GraphOf mode plan tables)
   pub ready : IsAsReady is_open failed start now
 
@@ -67,7 +69,8 @@ abbrev pub SinkLeaves : {S : Type 0} → (S → List Triple → S → Type 0) �
 SinkLeaves gains is_open failed mode plan start now reason events = TookBy gains is_open failed mode plan events start now reason
 
 -- after the tables of a session were read to their ends, and it was finished
-abbrev pub TakesTables : {R S : Type 0} → (S → List Triple → S → Type 0) → (S → Bool) → (S → ℕ) → (R → Option (List ℕ)) → Mode → Plan → List (Counted R) → List (Counted R) → S → S → Result Outcome Stop → Type 0
+abbrev pub TakesTables : {R S : Type 0} → (S → List Triple → S → Type 0) → (S → Bool) → (S → ℕ) → (R → Option (List ℕ)) → Mode → Plan
+    → List (Counted R) → List (Counted R) → S → S → Result Outcome Stop → Type 0
 TakesTables gains is_open failed remaining mode plan olds news start now (Ok outcome) =
     AnnotatesTexts remaining plan olds news outcome (λ tables. TookTables gains is_open failed mode plan start now tables)
 TakesTables gains is_open failed remaining mode plan olds news start now (Err reason) =

@@ -70,7 +70,8 @@ ReadWhole {R} remaining olds news texts = (i : ℕ) (r s : Counted R) → slice_
 
 -- The texts of the readers are the annotated tables of the group that is described; their graph was written, their
 -- violations told and reported, and nothing failed.
-pub record Succeeds {R : Type 0} (remaining : R → Option (List ℕ)) (described : Read Description) (mode : Mode) (olds news : List (Counted R)) (out report_out : Stream) (outcome : Outcome) : Type 0 where
+pub record Succeeds {R : Type 0} (remaining : R → Option (List ℕ)) (described : Read Description) (mode : Mode) (olds news : List (Counted R))
+    (out report_out : Stream) (outcome : Outcome) : Type 0 where
   pub plan : Plan
   pub planned : IsPlanned described plan
   pub many : length olds ≡ length plan.tables
@@ -84,7 +85,8 @@ pub record Succeeds {R : Type 0} (remaining : R → Option (List ℕ)) (describe
   pub reported : Sends report_out (report outcome.faults)
 
 -- the texts so far of the tables of the group
-pub record ReadsGroup {R : Type 0} (remaining : R → Option (List ℕ)) (described : Read Description) (olds news : List (Counted R)) (plan : Plan) (events : List Event) : Type 0 where
+pub record ReadsGroup {R : Type 0} (remaining : R → Option (List ℕ)) (described : Read Description) (olds news : List (Counted R)) (plan : Plan)
+    (events : List Event) : Type 0 where
   pub planned : IsPlanned described plan
   pub many : length olds ≡ length plan.tables
   pub gave : GaveTexts remaining olds news events
@@ -190,6 +192,7 @@ StopsSo remaining described mode olds news out report_out stop.NotEnded = ⊥
 StopsSo remaining described mode olds news out report_out stop.Failed = ⊥
 
 -- what a run over the document and the readers leaves, by its answer
-abbrev pub Runs : {R : Type 0} → (R → Option (List ℕ)) → Read Description → Mode → List (Counted R) → List (Counted R) → Stream → Stream → Result Outcome Stop → Type 0
+abbrev pub Runs : {R : Type 0} → (R → Option (List ℕ)) → Read Description → Mode → List (Counted R) → List (Counted R) → Stream → Stream
+    → Result Outcome Stop → Type 0
 Runs remaining described mode olds news out report_out (Ok outcome) = Succeeds remaining described mode olds news out report_out outcome
 Runs remaining described mode olds news out report_out (Err reason) = StopsSo remaining described mode olds news out report_out reason

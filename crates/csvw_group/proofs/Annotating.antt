@@ -1,5 +1,6 @@
 -- A session whose tables were all ended stands for annotated tables.
-use Rattle.std.proofs.Common.{◌≡◌, ◌↔◌, ◌⊎◌, ◌<◌, ◌≤◌, ℕ, zero, suc, ◌+◌, Bool, true, List, [], ◌++◌, length, refl, sym, ap, ◌∙◌, subst, arith, get_or, None, inl, inr, Contains, Some, flat_map}
+use Rattle.std.proofs.Common.{◌≡◌, ◌↔◌, ◌⊎◌, ◌<◌, ◌≤◌, ℕ, zero, suc, ◌+◌, Bool, true, List, [], ◌++◌, length, refl, sym, ap, ◌∙◌, subst, arith}
+use Rattle.std.proofs.Common.{get_or, None, inl, inr, Contains, Some, flat_map}
 use Rattle.std.specs.Prelude.{slice_get}
 use Rattle.std.specs.List.{list_all}
 use Rattle.std.proofs.lemmas.List.Elements.{Contains-append_left, Contains-append_right, Contains-append_cases}
@@ -48,7 +49,8 @@ module _ (law : RowsAreGraph) (plans : List TablePlan) (ts : List State) (texts 
   into_graph m x h =
       let k = table_at plans ts texts rows tables are h.0 h.1 h.2 h.3.0 h.3.1 in
       let c = subst (λ z. Contains (table_triples m h.1.number z (rows h.0)) x) k.ends_as.columns h.4 in
-      let own = subst (λ rs. TableGraph m h.1.number (Some k.table.columns) rs x) (sym k.ends_as.rows_are) ((law m h.1.number k.table.columns (rows h.0) x).0 c) in
+      let own = subst (λ rs. TableGraph m h.1.number (Some k.table.columns) rs x) (sym k.ends_as.rows_are)
+      ((law m h.1.number k.table.columns (rows h.0) x).0 c) in
       (h.0, h.1, k.table, h.3.0, k.is_at, own)
 
   from_graph : (m : Mode) (x : Triple) → RowsOf m plans tables x → TableIn plans ts m rows x
@@ -61,12 +63,14 @@ module _ (law : RowsAreGraph) (plans : List TablePlan) (ts : List State) (texts 
 -- the rows of a place, and of the table that stands there
 rows_here : (plans : List TablePlan) (ts : List State) (texts : ℕ → List ℕ) (rows : ℕ → List Row) (tables : List Table)
     → AreEnded plans ts texts rows tables → ((i : ℕ) → length plans ≤ i → rows i ≡ []) → (i : ℕ)
-    → ((table : Table) × (i < length tables) × (slice_get tables i ≡ Some table) × (get_or tables i table ≡ table)) ⊎ ((length tables ≤ i) × (slice_get tables i ≡ None))
+    → ((table : Table) × (i < length tables) × (slice_get tables i ≡ Some table) × (get_or tables i table ≡ table)) ⊎
+    ((length tables ≤ i) × (slice_get tables i ≡ None))
     → rows i ≡ rows_at (slice_get tables i)
 rows_here plans ts texts rows tables are beyond i (inl at) =
     ended_here (slice_get_cases plans i).1
   where
-    ended_here : ((p : TablePlan) × (i < length plans) × (slice_get plans i ≡ Some p) × (get_or plans i p ≡ p)) ⊎ ((length plans ≤ i) × (slice_get plans i ≡ None))
+    ended_here : ((p : TablePlan) × (i < length plans) × (slice_get plans i ≡ Some p) × (get_or plans i p ≡ p)) ⊎
+        ((length plans ≤ i) × (slice_get plans i ≡ None))
         → rows i ≡ rows_at (slice_get tables i)
     ended_here (inl p) = sym (state_at plans ts texts rows tables are i p.0 at.0 p.2 at.2).ends_as.rows_are ∙ sym (ap rows_at at.2)
     ended_here (inr past) =
@@ -83,7 +87,8 @@ rows_are plans ts texts rows tables are beyond zero = refl
 rows_are plans ts texts rows tables are beyond (suc i) = rows_here plans ts texts rows tables are beyond i (slice_get_cases tables i).1
 
 -- the triples of all rows behind others, by other words
-pub took_behind : {S : Type 0} (gains : S → List Triple → S → Type 0) (goes_on : (a b c : S) (xs ys : List Triple) → gains a xs b → gains b ys c → gains a (xs ++ ys) c)
+pub took_behind : {S : Type 0} (gains : S → List Triple → S → Type 0)
+    (goes_on : (a b c : S) (xs ys : List Triple) → gains a xs b → gains b ys c → gains a (xs ++ ys) c)
     → (sink start now : S) (front : List Triple) (O X Y : Triple → Type 0) → gains sink front start → ((x : Triple) → Contains front x ↔ O x)
     → ((x : Triple) → X x → Y x) → ((x : Triple) → Y x → X x) → TookGraph gains start now X → TookGraph gains sink now (λ x. O x ⊎ Y x)
 took_behind gains goes_on sink start now front O X Y opened is to from h = record {
@@ -109,7 +114,8 @@ module _ {S : Type 0} (gains : S → List Triple → S → Type 0) (is_open : S 
           many = as_many s.plan.tables s.tables.items (texts_of events) h.rows all.0 all.1;
           each = λ i plan table e f. (state_at s.plan.tables s.tables.items (texts_of events) h.rows all.0 all.1 i plan table e f).ends_as.annotated;
         };
-        took = took_behind gains goes_on sink start s.sink (opening s.mode s.plan) (Opening s.mode s.plan) (RowsGraph s h.rows) (RowsOf s.mode s.plan.tables all.0)
+        took = took_behind gains goes_on sink start s.sink (opening s.mode s.plan) (Opening s.mode s.plan) (RowsGraph s h.rows)
+            (RowsOf s.mode s.plan.tables all.0)
             opened (openings s.mode s.plan)
             (into_graph law s.plan.tables s.tables.items (texts_of events) h.rows all.0 all.1 s.mode)
             (from_graph law s.plan.tables s.tables.items (texts_of events) h.rows all.0 all.1 s.mode) h.took;

@@ -1,5 +1,6 @@
 -- A text is one cell at most.
-use Rattle.std.proofs.Common.{◌≡◌, ◌<◌, ◌+◌, ℕ, Bool, true, false, List, [], ◌∷◌, ◌++◌, refl, sym, ap, ◌∙◌, subst, length, take, drop, arith, inl, inr, Option, Some, None}
+use Rattle.std.proofs.Common.{◌≡◌, ◌<◌, ◌+◌, ℕ, Bool, true, false, List, [], ◌∷◌, ◌++◌, refl, sym, ap, ◌∙◌, subst, length, take, drop, arith, inl}
+use Rattle.std.proofs.Common.{inr, Option, Some, None}
 use Rattle.std.specs.Prelude.{MatchBool, ◌==◌}
 use Rattle.std.proofs.lemmas.Bool.{cases_lt}
 use Rattle.std.specs.Str.Pattern.{FindsText}
@@ -13,7 +14,8 @@ use Rattle.csvw_datatype.specs.declared.simple.Simple.{Simple}
 use Rattle.csvw_datatype.specs.declared.value.Value.{Value}
 use Rattle.csvw_columns_core.specs.declared.column.Column.{Column}
 use Rattle.csvw_columns_core.specs.declared.properties.Properties.{Properties}
-use Rattle.csvw_cell.specs.CellOf.{ArePartsBy, AreParts, IsItem, AreItems, IsSingle, IsListOf, IsList, IsCellBy, CellOf, texts_of, is_null, missing, or_default, normalized}
+use Rattle.csvw_cell.specs.CellOf.{ArePartsBy, AreParts, IsItem, AreItems, IsSingle, IsListOf, IsList, IsCellBy, CellOf, texts_of, is_null, missing}
+use Rattle.csvw_cell.specs.CellOf.{or_default, normalized}
 use Rattle.csvw_cell.specs.Codes.{in_order, broken_codes}
 use Rattle.csvw_cell.specs.declared.cell.Cell.{Cell}
 use Rattle.csvw_cell.specs.declared.cell.CellValue.{CellValue}

@@ -12,7 +12,8 @@ use Rattle.csvw_keys.specs.declared.book.Book.{Book}
 use Rattle.csvw_keys.specs.declared.book.Book.TheVariants.{Primary, Referenced, Reference}
 use Rattle.csvw_keys.specs.declared.held.HeldKey.{HeldKey}
 use Rattle.csvw_keys.specs.declared.reference.ReferenceBook.{ReferenceBook}
-use Rattle.csvw_keys.specs.Books.{KeepsBook, book_times, counts_in, first_told, is_served, purpose_of, purposes_of, rules_for, rules_in, times_in, told, told_by}
+use Rattle.csvw_keys.specs.Books.{KeepsBook, book_times, counts_in, first_told, is_served, purpose_of, purposes_of, rules_for, rules_in, times_in}
+use Rattle.csvw_keys.specs.Books.{told, told_by}
 use Rattle.csvw_keys.specs.Duplicates.{duplicate_faults}
 use Rattle.csvw_keys.specs.Held.{held_keys}
 use Rattle.csvw_keys.specs.KeyRules.{KeyRule, duplicates_of, key_faults, rule_faults}

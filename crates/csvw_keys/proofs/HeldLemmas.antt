@@ -1,5 +1,6 @@
 -- Keys that are kept compare as equal exactly where their cells are equal.
-use Rattle.std.proofs.Common.{◌≡◌, ℕ, zero, suc, ◌/◌, ◌%◌, ◌^◌, ◌*◌, ◌+◌, ◌++◌, List, length, map, [], ◌∷◌, ℤ, pos, negsuc, Bool, true, false, ◌&&◌, refl, sym, ap, ◌∙◌, nat_eq, unsigned_abs}
+use Rattle.std.proofs.Common.{◌≡◌, ℕ, zero, suc, ◌/◌, ◌%◌, ◌^◌, ◌*◌, ◌+◌, ◌++◌, List, length, map, [], ◌∷◌, ℤ, pos, negsuc, Bool, true, false, ◌&&◌}
+use Rattle.std.proofs.Common.{refl, sym, ap, ◌∙◌, nat_eq, unsigned_abs}
 use Rattle.std.specs.Cmp.{both_tied, unsigned_ties, signed_Decides}
 use Rattle.std.specs.Ordering.{is_eq, int_eq, nat_cmp, ordering_then}
 use Rattle.std.proofs.lemmas.Bool.{and_from, and_parts, eq-eqb, eqb-true}

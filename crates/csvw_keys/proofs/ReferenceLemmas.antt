@@ -31,7 +31,8 @@ one_row_more f xs i x lt is =
 
 -- ---- counts
 
-by_more : (t : Times) (table : ℕ) (columns : List ℕ) (source : ℕ) → fault_by_times (more (more t)) table columns source ≡ fault_by_times Often table columns source
+by_more : (t : Times) (table : ℕ) (columns : List ℕ) (source : ℕ)
+    → fault_by_times (more (more t)) table columns source ≡ fault_by_times Often table columns source
 by_more Never table columns source = refl
 by_more Once table columns source = refl
 by_more Often table columns source = refl

@@ -1,5 +1,6 @@
 -- Books count what keys refer to, and one book more takes nothing away.
-use Rattle.std.proofs.Common.{◌≡◌, ℕ, List, [], ◌∷◌, ◌++◌, Bool, true, false, Option, Some, refl, ap, ◌∙◌, All, flat_map, is_some, nat_eq, bytes_eq, ◌||◌, None, if◌then◌else◌, MatchOption}
+use Rattle.std.proofs.Common.{◌≡◌, ℕ, List, [], ◌∷◌, ◌++◌, Bool, true, false, Option, Some, refl, ap, ◌∙◌, All, flat_map, is_some, nat_eq, bytes_eq}
+use Rattle.std.proofs.Common.{◌||◌, None, if◌then◌else◌, MatchOption}
 use Rattle.std.specs.Cmp.Lexicographic.{bytes_decides}
 use Rattle.std.specs.List.{list_any}
 use Rattle.std.proofs.lemmas.Bool.{and_from, eq-eqb, or_left, or_right, false≢true}
@@ -32,7 +33,8 @@ module _ (books : List Book) (b : Book) where
 
     counts_itself : counts_in table columns (purpose_of b) ≡ true
     counts_itself =
-        ap (counts_in table columns) is ∙ and_from (nat_eq table table) (bytes_eq columns columns) (eq-eqb table table refl) ((bytes_decides columns columns).1 refl)
+        ap (counts_in table columns) is
+        ∙ and_from (nat_eq table table) (bytes_eq columns columns) (eq-eqb table table refl) ((bytes_decides columns columns).1 refl)
 
     pub counted_now : list_any (counts_in table columns) (purposes_of (books ++ b ∷ [])) ≡ true
     counted_now =

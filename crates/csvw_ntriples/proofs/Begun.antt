@@ -1,5 +1,6 @@
 -- What stands at the front of a text, past spaces and tabs.
-use Rattle.std.proofs.Common.{◌≡◌, ℕ, List, [], ◌∷◌, ◌++◌, refl, sym, ap, ◌∙◌, subst, arith, true, false, length, append_assoc, inl, inr, Option, Some, None, Bor, MatchOption, Result, Ok, Err}
+use Rattle.std.proofs.Common.{◌≡◌, ℕ, List, [], ◌∷◌, ◌++◌, refl, sym, ap, ◌∙◌, subst, arith, true, false, length, append_assoc, inl, inr, Option}
+use Rattle.std.proofs.Common.{Some, None, Bor, MatchOption, Result, Ok, Err}
 use Rattle.std.proofs.lemmas.Bool.{and_parts}
 use Rattle.std.specs.Prelude.{codes}
 use Rattle.std.specs.List.{list_all}
@@ -16,7 +17,8 @@ use Rattle.csvw_ntriples.proofs.Runs.{dark_run}
 use Rattle.csvw_ntriples.proofs.Spelled.{iri_longest, string_longest, mark_longest, bytes_longest}
 
 -- past a gap the text begins so, in any reading
-pub past_gap : (text gap rest other after : List ℕ) (c : ℕ) → IsRun is_blank text gap rest → list_all is_blank other ≡ true → is_blank c ≡ false → text ≡ other ++ c ∷ after → rest ≡ c ∷ after
+pub past_gap : (text gap rest other after : List ℕ) (c : ℕ) → IsRun is_blank text gap rest → list_all is_blank other ≡ true → is_blank c ≡ false
+    → text ≡ other ++ c ∷ after → rest ≡ c ∷ after
 past_gap text gap [] other after c r h k e =
     let none : dark text ≡ None = dark_run text gap [] r in
     let some = dark_run text other (c ∷ after) (e, h, k) in
@@ -25,24 +27,39 @@ past_gap text gap (x ∷ rest) other after c r h k e =
     gap_once gap other x c rest after r.1 h r.2 k (sym r.0 ∙ e)
 
 -- a text between marks, past a gap
-pub iri_takes : (text gap rest after v end : List ℕ) → IsRun is_blank text gap rest → rest ≡ 60 ∷ after → ReadsBytes enclosed.Iri after v end → TakesIri v text end
+pub iri_takes : (text gap rest after v end : List ℕ) → IsRun is_blank text gap rest → rest ≡ 60 ∷ after → ReadsBytes enclosed.Iri after v end
+    → TakesIri v text end
 iri_takes text gap rest after v end r e b =
     let value = b.0 in let body = b.1.0 in
     let whole : IsIriref (60 ∷ body ++ 62 ∷ []) value = (body, refl, to_iri body value b.1.2) in
     let spelled : text ≡ gap ++ ((60 ∷ body ++ 62 ∷ []) ++ end) =
-    r.0 ∙ ap (λ z. gap ++ z) (e ∙ ap (λ z. 60 ∷ z) (b.1.1 ∙ sym (append_assoc body (62 ∷ []) end))) in
-    (gap, 60 ∷ body ++ 62 ∷ [], spelled, r.1, (value, whole, b.2), bytes_longest IsIriref (60 ∷ body ++ 62 ∷ []) end (iri_longest (60 ∷ body ++ 62 ∷ []) value end whole))
+    r.0 ∙ ap (λ z. gap ++ z) (e ∙ ap (λ z. 60 ∷ z) (b.1.1 ∙ sym (append_assoc body (62 ∷ []) end))) in (
+      gap,
+      60 ∷ body ++ 62 ∷ [],
+      spelled,
+      r.1,
+      (value, whole, b.2),
+      bytes_longest IsIriref (60 ∷ body ++ 62 ∷ []) end (iri_longest (60 ∷ body ++ 62 ∷ []) value end whole),
+    )
 
-pub string_takes : (text gap rest after v end : List ℕ) → IsRun is_blank text gap rest → rest ≡ 34 ∷ after → ReadsBytes enclosed.Literal after v end → Takes (InBytes IsString) v text end
+pub string_takes : (text gap rest after v end : List ℕ) → IsRun is_blank text gap rest → rest ≡ 34 ∷ after → ReadsBytes enclosed.Literal after v end
+    → Takes (InBytes IsString) v text end
 string_takes text gap rest after v end r e b =
     let value = b.0 in let body = b.1.0 in
     let whole : IsString (34 ∷ body ++ 34 ∷ []) value = (body, refl, b.1.2) in
     let spelled : text ≡ gap ++ ((34 ∷ body ++ 34 ∷ []) ++ end) =
-    r.0 ∙ ap (λ z. gap ++ z) (e ∙ ap (λ z. 34 ∷ z) (b.1.1 ∙ sym (append_assoc body (34 ∷ []) end))) in
-    (gap, 34 ∷ body ++ 34 ∷ [], spelled, r.1, (value, whole, b.2), bytes_longest IsString (34 ∷ body ++ 34 ∷ []) end (string_longest (34 ∷ body ++ 34 ∷ []) value end whole))
+    r.0 ∙ ap (λ z. gap ++ z) (e ∙ ap (λ z. 34 ∷ z) (b.1.1 ∙ sym (append_assoc body (34 ∷ []) end))) in (
+      gap,
+      34 ∷ body ++ 34 ∷ [],
+      spelled,
+      r.1,
+      (value, whole, b.2),
+      bytes_longest IsString (34 ∷ body ++ 34 ∷ []) end (string_longest (34 ∷ body ++ 34 ∷ []) value end whole),
+    )
 
 -- and back
-iri_taken : (text gap rest v end : List ℕ) → IsRun is_blank text gap rest → TakesIri v text end → (after : List ℕ) × (rest ≡ 60 ∷ after) × ReadsBytes enclosed.Iri after v end
+iri_taken : (text gap rest v end : List ℕ) → IsRun is_blank text gap rest → TakesIri v text end
+    → (after : List ℕ) × (rest ≡ 60 ∷ after) × ReadsBytes enclosed.Iri after v end
 iri_taken text gap rest v end r t =
     let value = t.4.0 in let body = t.4.1.0 in
     let piece : t.1 ++ end ≡ 60 ∷ (body ++ 62 ∷ end) = ap (λ z. z ++ end) t.4.1.1 ∙ ap (λ z. 60 ∷ z) (append_assoc body (62 ∷ []) end) in (
@@ -51,7 +68,8 @@ iri_taken text gap rest v end r t =
       (value, (body, refl, from_iri body value t.4.1.2), t.4.2),
     )
 
-string_taken : (text gap rest v end : List ℕ) → IsRun is_blank text gap rest → Takes (InBytes IsString) v text end → (after : List ℕ) × (rest ≡ 34 ∷ after) × ReadsBytes enclosed.Literal after v end
+string_taken : (text gap rest v end : List ℕ) → IsRun is_blank text gap rest → Takes (InBytes IsString) v text end
+    → (after : List ℕ) × (rest ≡ 34 ∷ after) × ReadsBytes enclosed.Literal after v end
 string_taken text gap rest v end r t =
     let value = t.4.0 in let body = t.4.1.0 in
     let piece : t.1 ++ end ≡ 34 ∷ (body ++ 34 ∷ end) = ap (λ z. z ++ end) t.4.1.1 ∙ ap (λ z. 34 ∷ z) (append_assoc body (34 ∷ []) end) in (
@@ -64,31 +82,36 @@ string_taken text gap rest v end r t =
 tails : (x y : ℕ) (xs ys rest : List ℕ) → rest ≡ x ∷ xs → rest ≡ y ∷ ys → xs ≡ ys
 tails x y xs ys rest e f = let k : x ∷ xs ≡ y ∷ ys = sym e ∙ f in cc
 
-pub iri_found : (text gap rest after : List ℕ) (r : Result (List ℕ × Bor (List ℕ)) NtFault) → IsRun is_blank text gap rest → rest ≡ 60 ∷ after → Finds (ReadsBytes enclosed.Iri after) r → Finds (λ v end. TakesIri v text end) r
+pub iri_found : (text gap rest after : List ℕ) (r : Result (List ℕ × Bor (List ℕ)) NtFault) → IsRun is_blank text gap rest → rest ≡ 60 ∷ after
+    → Finds (ReadsBytes enclosed.Iri after) r → Finds (λ v end. TakesIri v text end) r
 iri_found text gap rest after (Ok v) run e f = iri_takes text gap rest after v.0 v.1.now run e f
 iri_found text gap rest after (Err Memory) run e f = tt
 iri_found text gap rest after (Err Syntax) run e f = λ v end t.
     let k = iri_taken text gap rest v end run t in
     f v end (subst (λ z. ReadsBytes enclosed.Iri z v end) (tails 60 60 k.0 after rest k.1 e) k.2)
 
-pub string_found : (text gap rest after : List ℕ) (r : Result (List ℕ × Bor (List ℕ)) NtFault) → IsRun is_blank text gap rest → rest ≡ 34 ∷ after → Finds (ReadsBytes enclosed.Literal after) r → Finds (λ v end. Takes (InBytes IsString) v text end) r
+pub string_found : (text gap rest after : List ℕ) (r : Result (List ℕ × Bor (List ℕ)) NtFault) → IsRun is_blank text gap rest → rest ≡ 34 ∷ after
+    → Finds (ReadsBytes enclosed.Literal after) r → Finds (λ v end. Takes (InBytes IsString) v text end) r
 string_found text gap rest after (Ok v) run e f = string_takes text gap rest after v.0 v.1.now run e f
 string_found text gap rest after (Err Memory) run e f = tt
 string_found text gap rest after (Err Syntax) run e f = λ v end t.
     let k = string_taken text gap rest v end run t in
     f v end (subst (λ z. ReadsBytes enclosed.Literal z v end) (tails 34 34 k.0 after rest k.1 e) k.2)
 
-pub iri_missing : (text gap rest : List ℕ) → IsRun is_blank text gap rest → ((after : List ℕ) → rest ≡ 60 ∷ after → ⊥) → (v end : List ℕ) → TakesIri v text end → ⊥
+pub iri_missing : (text gap rest : List ℕ) → IsRun is_blank text gap rest → ((after : List ℕ) → rest ≡ 60 ∷ after → ⊥) → (v end : List ℕ)
+    → TakesIri v text end → ⊥
 iri_missing text gap rest run none v end t = let k = iri_taken text gap rest v end run t in none k.0 k.1
 
-pub string_missing : (text gap rest : List ℕ) → IsRun is_blank text gap rest → ((after : List ℕ) → rest ≡ 34 ∷ after → ⊥) → (v end : List ℕ) → Takes (InBytes IsString) v text end → ⊥
+pub string_missing : (text gap rest : List ℕ) → IsRun is_blank text gap rest → ((after : List ℕ) → rest ≡ 34 ∷ after → ⊥) → (v end : List ℕ)
+    → Takes (InBytes IsString) v text end → ⊥
 string_missing text gap rest run none v end t = let k = string_taken text gap rest v end run t in none k.0 k.1
 
 -- dots
 pub dot_takes : (text gap rest after : List ℕ) → IsRun is_blank text gap rest → rest ≡ 46 ∷ after → Takes (IsMark (codes ".")) tt text after
 dot_takes text gap rest after r e = (gap, 46 ∷ [], r.0 ∙ ap (λ z. gap ++ z) e, r.1, refl, mark_longest (46 ∷ []) after)
 
-pub dot_missing : (text gap rest : List ℕ) → IsRun is_blank text gap rest → ((after : List ℕ) → rest ≡ 46 ∷ after → ⊥) → (end : List ℕ) → Takes (IsMark (codes ".")) tt text end → ⊥
+pub dot_missing : (text gap rest : List ℕ) → IsRun is_blank text gap rest → ((after : List ℕ) → rest ≡ 46 ∷ after → ⊥) → (end : List ℕ)
+    → Takes (IsMark (codes ".")) tt text end → ⊥
 dot_missing text gap rest r none end t =
     none end (past_gap text gap rest t.0 end 46 r t.3 refl (t.2 ∙ ap (λ z. t.0 ++ (z ++ end)) t.4))
 

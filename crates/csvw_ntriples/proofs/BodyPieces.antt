@@ -1,5 +1,6 @@
 -- Pieces at the front of a text, up to a mark.
-use Rattle.std.proofs.Common.{◌≡◌, ◌<◌, ℕ, List, [], ◌∷◌, ◌++◌, refl, sym, ap, ◌∙◌, subst, arith, true, false, length, append_assoc, append-nil, inl, inr, ◌⊎◌, Option, Some, None, Bor, length-append}
+use Rattle.std.proofs.Common.{◌≡◌, ◌<◌, ℕ, List, [], ◌∷◌, ◌++◌, refl, sym, ap, ◌∙◌, subst, arith, true, false, length, append_assoc, append-nil, inl}
+use Rattle.std.proofs.Common.{inr, ◌⊎◌, Option, Some, None, Bor, length-append}
 use Rattle.std.specs.Prelude.{MatchOption, encode_utf8_all, encode_utf8}
 use Rattle.csvw_ntriples.specs.Terminal.{IriPiece, Spells}
 use Rattle.csvw_ntriples.specs.Reading.{mark_of, is_raw_in, escape_in, PieceOf, Begins, BeginsDigits, ReadsBytes}
@@ -50,11 +51,14 @@ escape_no_mark kind m c h (inl e) = let k : None ≡ Some c = sym (no_escape kin
 escape_no_mark kind m c h (inr e) = let k : None ≡ Some c = sym (no_escape kind).1 ∙ (sym (ap (escape_in kind) e) ∙ h) in cc
 
 -- one piece
-pub raw_piece : (kind : Enclosed) (text rest : List ℕ) (c : ℕ) → text ≡ c ∷ rest → is_raw_in kind c ≡ true → Begins kind text c rest × (length rest < length text)
+pub raw_piece : (kind : Enclosed) (text rest : List ℕ) (c : ℕ) → text ≡ c ∷ rest → is_raw_in kind c ≡ true
+    → Begins kind text c rest × (length rest < length text)
 raw_piece kind text rest c e h = let n = ap length e in let k : length rest < length text = omega arith in ((c ∷ [], e, inl (refl, h)), k)
 
-pub escape_piece : (kind : Enclosed) (text rest : List ℕ) (c letter : ℕ) → text ≡ 92 ∷ letter ∷ rest → escape_in kind letter ≡ Some c → Begins kind text c rest × (length rest < length text)
-escape_piece kind text rest c letter e h = let n = ap length e in let k : length rest < length text = omega arith in ((92 ∷ letter ∷ [], e, inr (inl (letter, refl, h))), k)
+pub escape_piece : (kind : Enclosed) (text rest : List ℕ) (c letter : ℕ) → text ≡ 92 ∷ letter ∷ rest → escape_in kind letter ≡ Some c
+    → Begins kind text c rest × (length rest < length text)
+escape_piece kind text rest c letter e h = let n = ap length e in let k : length rest < length text = omega arith in
+    ((92 ∷ letter ∷ [], e, inr (inl (letter, refl, h))), k)
 
 lengths : (m count : ℕ) (n : ℕ) → ((m ≡ 117) × (count ≡ 4)) ⊎ ((m ≡ 85) × (count ≡ 8)) → n ≡ count → ((m ≡ 117) × (n ≡ 4)) ⊎ ((m ≡ 85) × (n ≡ 8))
 lengths m count n (inl f) e = inl (f.0, e ∙ f.1)
@@ -83,7 +87,8 @@ no_numbered kind text inner m count e k none c rest (p, f, inr (inr g)) =
     let same : m ≡ g.0 = cc in let digits : inner ≡ g.1 ++ rest = cc in
     none c rest (g.1, digits, same_count m g.0 count (length g.1) same k g.3, g.4, g.5, g.6)
 
-numbered_piece : (kind : Enclosed) (text inner : List ℕ) (m count : ℕ) (c : ℕ) (rest : List ℕ) → text ≡ 92 ∷ m ∷ inner → ((m ≡ 117) × (count ≡ 4)) ⊎ ((m ≡ 85) × (count ≡ 8))
+numbered_piece : (kind : Enclosed) (text inner : List ℕ) (m count : ℕ) (c : ℕ) (rest : List ℕ) → text ≡ 92 ∷ m ∷ inner
+    → ((m ≡ 117) × (count ≡ 4)) ⊎ ((m ≡ 85) × (count ≡ 8))
     → BeginsDigits count inner c rest → Begins kind text c rest × (length rest < length text)
 numbered_piece kind text inner m count c rest e k b =
     let whole : text ≡ 92 ∷ m ∷ (b.0 ++ rest) = e ∙ ap (λ x. 92 ∷ m ∷ x) b.1 in
@@ -91,14 +96,16 @@ numbered_piece kind text inner m count c rest e k b =
     let small : length rest < length text = omega (arith, n, length-append b.0 rest) in
     ((92 ∷ m ∷ b.0, whole, inr (inr (m, b.0, refl, lengths m count (length b.0) k b.2, b.3, b.4, b.5))), small)
 
-pub numbered_result : (kind : Enclosed) (text inner : List ℕ) (m count : ℕ) (r : Option (ℕ × Bor (List ℕ))) → text ≡ 92 ∷ m ∷ inner → ((m ≡ 117) × (count ≡ 4)) ⊎ ((m ≡ 85) × (count ≡ 8))
+pub numbered_result : (kind : Enclosed) (text inner : List ℕ) (m count : ℕ) (r : Option (ℕ × Bor (List ℕ))) → text ≡ 92 ∷ m ∷ inner
+    → ((m ≡ 117) × (count ≡ 4)) ⊎ ((m ≡ 85) × (count ≡ 8))
     → MatchOption r ((c : ℕ) (rest : List ℕ) → BeginsDigits count inner c rest → ⊥) (λ x. BeginsDigits count inner x.0 x.1.now)
     → MatchOption r ((c : ℕ) (rest : List ℕ) → Begins kind text c rest → ⊥) (λ x. Begins kind text x.0 x.1.now × (length x.1.now < length text))
 numbered_result kind text inner m count None e k h = no_numbered kind text inner m count e k h
 numbered_result kind text inner m count (Some x) e k h = numbered_piece kind text inner m count x.0 x.1.now e k h
 
 -- no piece
-pub not_begun : (kind : Enclosed) (text rest : List ℕ) (x : ℕ) → text ≡ x ∷ rest → is_raw_in kind x ≡ false → (x ≡ 92 → ⊥) → (c : ℕ) (after : List ℕ) → Begins kind text c after → ⊥
+pub not_begun : (kind : Enclosed) (text rest : List ℕ) (x : ℕ) → text ≡ x ∷ rest → is_raw_in kind x ≡ false → (x ≡ 92 → ⊥) → (c : ℕ) (after : List ℕ)
+    → Begins kind text c after → ⊥
 not_begun kind text rest x e h n c after (p, f, inl g) =
     let whole : c ∷ after ≡ x ∷ rest = ap (λ z. z ++ after) (sym g.0) ∙ (sym f ∙ e) in
     let same : c ≡ x = cc in let wrong : is_raw_in kind x ≡ true = subst (λ z. is_raw_in kind z ≡ true) same g.1 in cc
@@ -110,7 +117,8 @@ not_begun kind text rest x e h n c after (p, f, inr (inr g)) =
     let same : x ≡ 92 = cc in n same
 
 -- a backslash alone
-pub lone_backslash : (kind : Enclosed) (text rest : List ℕ) (x : ℕ) → text ≡ x ∷ rest → x ≡ 92 → length rest ≡ 0 → (c : ℕ) (after : List ℕ) → Begins kind text c after → ⊥
+pub lone_backslash : (kind : Enclosed) (text rest : List ℕ) (x : ℕ) → text ≡ x ∷ rest → x ≡ 92 → length rest ≡ 0 → (c : ℕ) (after : List ℕ)
+    → Begins kind text c after → ⊥
 lone_backslash kind text rest x e b z c after (p, f, inl g) =
     let whole : c ∷ after ≡ x ∷ rest = ap (λ y. y ++ after) (sym g.0) ∙ (sym f ∙ e) in
     let same : c ≡ 92 = cc in no_backslash kind c g.1 same
@@ -122,7 +130,8 @@ lone_backslash kind text rest x e b z c after (p, f, inr (inr g)) =
     let n = ap length whole in absurd (omega arith)
 
 -- no escape of the letter
-pub no_escaped : (kind : Enclosed) (text rest : List ℕ) (letter : ℕ) → text ≡ 92 ∷ letter ∷ rest → escape_in kind letter ≡ None → (letter ≡ 117 → ⊥) → (letter ≡ 85 → ⊥)
+pub no_escaped : (kind : Enclosed) (text rest : List ℕ) (letter : ℕ) → text ≡ 92 ∷ letter ∷ rest → escape_in kind letter ≡ None → (letter ≡ 117 → ⊥)
+    → (letter ≡ 85 → ⊥)
     → (c : ℕ) (after : List ℕ) → Begins kind text c after → ⊥
 no_escaped kind text rest letter e h n m c after (p, f, inl g) =
     let whole : c ∷ after ≡ 92 ∷ letter ∷ rest = ap (λ z. z ++ after) (sym g.0) ∙ (sym f ∙ e) in
@@ -138,7 +147,8 @@ no_escaped kind text rest letter e h n m c after (p, f, inr (inr g)) =
 
 -- what is left of a text that is read as pieces up to a mark, after some of them
 module _ (P : List ℕ → ℕ → Type 0) (mark : ℕ) (once : Once P) (begins : BeginsNot P mark) where
-  body_rest : (m n : List ℕ) (a b rest x : List ℕ) → Spells P a m → Spells P b n → a ++ rest ≡ b ++ mark ∷ x → (k : List ℕ) × (body : List ℕ) × (rest ≡ body ++ mark ∷ x) × Spells P body k
+  body_rest : (m n : List ℕ) (a b rest x : List ℕ) → Spells P a m → Spells P b n → a ++ rest ≡ b ++ mark ∷ x
+      → (k : List ℕ) × (body : List ℕ) × (rest ≡ body ++ mark ∷ x) × Spells P body k
   body_rest [] n a b rest x f g e = (n, b, ap (λ z. z ++ rest) (sym f) ∙ e, g)
   body_rest (c ∷ m) [] a b rest x f g e =
       let whole : f.0 ++ (f.1 ++ rest) ≡ mark ∷ x = sym (append_assoc f.0 f.1 rest) ∙ (ap (λ z. z ++ rest) (sym f.2) ∙ (e ∙ ap (λ z. z ++ mark ∷ x) g)) in
@@ -150,10 +160,12 @@ module _ (P : List ℕ → ℕ → Type 0) (mark : ℕ) (once : Once P) (begins 
       body_rest m n f.1 g.1 rest x f.4 g.4 one.2
 
 -- nothing is read where the rest begins neither with the mark nor with a piece
-no_body : (kind : Enclosed) (rest k x body : List ℕ) → ((c : ℕ) (after : List ℕ) → Begins kind rest c after → ⊥) → ((after : List ℕ) → rest ≡ mark_of kind ∷ after → ⊥)
+no_body : (kind : Enclosed) (rest k x body : List ℕ) → ((c : ℕ) (after : List ℕ) → Begins kind rest c after → ⊥)
+    → ((after : List ℕ) → rest ≡ mark_of kind ∷ after → ⊥)
     → rest ≡ body ++ mark_of kind ∷ x → Spells (PieceOf kind) body k → ⊥
 no_body kind rest [] x b no_piece no_mark e s = no_mark x (e ∙ ap (λ z. z ++ mark_of kind ∷ x) s)
-no_body kind rest (c ∷ k) x b no_piece no_mark e s = no_piece c (s.1 ++ mark_of kind ∷ x) (s.0, e ∙ (ap (λ z. z ++ mark_of kind ∷ x) s.2 ∙ append_assoc s.0 s.1 (mark_of kind ∷ x)), s.3)
+no_body kind rest (c ∷ k) x b no_piece no_mark e s =
+    no_piece c (s.1 ++ mark_of kind ∷ x) (s.0, e ∙ (ap (λ z. z ++ mark_of kind ∷ x) s.2 ∙ append_assoc s.0 s.1 (mark_of kind ∷ x)), s.3)
 
 -- one piece more
 spells_more : (P : List ℕ → ℕ → Type 0) (m : List ℕ) (a p : List ℕ) (c : ℕ) → Spells P a m → P p c → Spells P (a ++ p) (m ++ c ∷ [])
@@ -164,7 +176,8 @@ pub two_heads : (text after rest : List ℕ) (x y c d : ℕ) → text ≡ x ∷ 
 two_heads text after rest x y c d e f g h = cc
 
 -- the loop's invariant after one more piece
-pub body_more : (kind : Enclosed) (text front rest next : List ℕ) (m : List ℕ) (c : ℕ) (bytes more : List ℕ) → text ≡ front ++ rest → Spells (PieceOf kind) front m → bytes ≡ encode_utf8_all m
+pub body_more : (kind : Enclosed) (text front rest next : List ℕ) (m : List ℕ) (c : ℕ) (bytes more : List ℕ) → text ≡ front ++ rest
+    → Spells (PieceOf kind) front m → bytes ≡ encode_utf8_all m
     → Begins kind rest c next → more ≡ bytes ++ encode_utf8 c
     → (so_far : List ℕ) × (before : List ℕ) × (text ≡ before ++ next) × Spells (PieceOf kind) before so_far × (more ≡ encode_utf8_all so_far)
 body_more kind text front rest next m c bytes more e s b p q = (
@@ -176,13 +189,15 @@ body_more kind text front rest next m c bytes more e s b p q = (
 )
 
 -- the body is read
-pub body_found : (kind : Enclosed) (text front rest after m bytes : List ℕ) (c : ℕ) → text ≡ front ++ rest → rest ≡ c ∷ after → c ≡ mark_of kind → Spells (PieceOf kind) front m → bytes ≡ encode_utf8_all m
+pub body_found : (kind : Enclosed) (text front rest after m bytes : List ℕ) (c : ℕ) → text ≡ front ++ rest → rest ≡ c ∷ after → c ≡ mark_of kind
+    → Spells (PieceOf kind) front m → bytes ≡ encode_utf8_all m
     → ReadsBytes kind text bytes after
 body_found kind text front rest after m bytes c e f g s b =
     (m, (front, e ∙ ap (λ z. front ++ z) (f ∙ ap (λ z. z ∷ after) g), s), b)
 
 -- nothing is read
-body_none : (kind : Enclosed) (text front rest m : List ℕ) → text ≡ front ++ rest → Spells (PieceOf kind) front m → ((c : ℕ) (after : List ℕ) → Begins kind rest c after → ⊥)
+body_none : (kind : Enclosed) (text front rest m : List ℕ) → text ≡ front ++ rest → Spells (PieceOf kind) front m
+    → ((c : ℕ) (after : List ℕ) → Begins kind rest c after → ⊥)
     → ((after : List ℕ) → rest ≡ mark_of kind ∷ after → ⊥) → (bytes after : List ℕ) → ReadsBytes kind text bytes after → ⊥
 body_none kind text front rest m e s no_piece no_mark bytes after (value, r, same) =
     let left = body_rest (PieceOf kind) (mark_of kind) (piece_once kind) (begins_not kind) m value front r.0 rest after s r.2 (sym e ∙ r.1) in
@@ -193,9 +208,12 @@ no_empty_piece kind text z c after (p, e, inl f) = let n = ap length (e ∙ ap (
 no_empty_piece kind text z c after (p, e, inr (inl f)) = let n = ap length (e ∙ ap (λ x. x ++ after) f.1) in absurd (omega arith)
 no_empty_piece kind text z c after (p, e, inr (inr f)) = let n = ap length (e ∙ ap (λ x. x ++ after) f.2) in absurd (omega arith)
 
-pub body_end : (kind : Enclosed) (text front rest m : List ℕ) → text ≡ front ++ rest → Spells (PieceOf kind) front m → length rest ≡ 0 → (bytes after : List ℕ) → ReadsBytes kind text bytes after → ⊥
-body_end kind text front rest m e s z = body_none kind text front rest m e s (no_empty_piece kind rest z) (λ after f. let n = ap length f in absurd (omega arith))
+pub body_end : (kind : Enclosed) (text front rest m : List ℕ) → text ≡ front ++ rest → Spells (PieceOf kind) front m → length rest ≡ 0
+    → (bytes after : List ℕ) → ReadsBytes kind text bytes after → ⊥
+body_end kind text front rest m e s z =
+    body_none kind text front rest m e s (no_empty_piece kind rest z) (λ after f. let n = ap length f in absurd (omega arith))
 
-pub body_stuck : (kind : Enclosed) (text front rest m : List ℕ) (x : ℕ) (others : List ℕ) → text ≡ front ++ rest → Spells (PieceOf kind) front m → rest ≡ x ∷ others → (x ≡ mark_of kind → ⊥)
+pub body_stuck : (kind : Enclosed) (text front rest m : List ℕ) (x : ℕ) (others : List ℕ) → text ≡ front ++ rest → Spells (PieceOf kind) front m
+    → rest ≡ x ∷ others → (x ≡ mark_of kind → ⊥)
     → ((c : ℕ) (after : List ℕ) → Begins kind rest c after → ⊥) → (bytes after : List ℕ) → ReadsBytes kind text bytes after → ⊥
 body_stuck kind text front rest m x others e s f g none = body_none kind text front rest m e s none (λ after h. let same : x ≡ mark_of kind = cc in g same)

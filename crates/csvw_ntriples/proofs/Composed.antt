@@ -17,7 +17,8 @@ use Rattle.csvw_ntriples.specs.declared.term.NtTerm.{NtTerm}
 use Rattle.csvw_ntriples.specs.declared.term.NtTerm.TheVariants as term
 use Rattle.csvw_ntriples.specs.declared.term.NtTriple.{NtTriple}
 use Rattle.csvw_ntriples.proofs.Begun.{past_gap}
-use Rattle.csvw_ntriples.proofs.Once.{node_once, iri_once, string_once, blank_once, dot_once, iri_dark, blank_dark, lit_dark, tag_dark, hats_dark, dot_dark, apart, differ}
+use Rattle.csvw_ntriples.proofs.Once.{node_once, iri_once, string_once, blank_once, dot_once, iri_dark, blank_dark, lit_dark, tag_dark, hats_dark}
+use Rattle.csvw_ntriples.proofs.Once.{dot_dark, apart, differ}
 use Rattle.csvw_ntriples.proofs.Runs.{first_of, dark_run}
 use Rattle.csvw_ntriples.proofs.Spelled.{mark_longest}
 
@@ -33,11 +34,13 @@ err_on_dot R S r e Memory p q g h = subst (FindsBeforeDot S) (sym (p ∙ ap Err 
 err_on_dot R S r e Syntax p q g h = subst (FindsBeforeDot S) (sym (p ∙ ap Err q)) (h g)
 
 pub dot_on_dot : {V W : Type 0} (R : V → List ℕ → Type 0) (S : W → List ℕ → Type 0) (r : Result (W × Bor (List ℕ)) NtFault) (e f : NtFault) → r ≡ Err e → e ≡ f
-    → FindsBeforeDot R (Err f) → (((v : V) (rest : List ℕ) → R v rest → dark rest ≡ Some 46 → ⊥) → (w : W) (rest : List ℕ) → S w rest → dark rest ≡ Some 46 → ⊥) → FindsBeforeDot S r
+    → FindsBeforeDot R (Err f) → (((v : V) (rest : List ℕ) → R v rest → dark rest ≡ Some 46 → ⊥) → (w : W) (rest : List ℕ) → S w rest
+    → dark rest ≡ Some 46 → ⊥) → FindsBeforeDot S r
 dot_on_dot R S r e Memory p q g h = subst (FindsBeforeDot S) (sym (p ∙ ap Err q)) tt
 dot_on_dot R S r e Syntax p q g h = subst (FindsBeforeDot S) (sym (p ∙ ap Err q)) (h g)
 
-pub memory_on_dot : {W : Type 0} (S : W → List ℕ → Type 0) (r : Result (W × Bor (List ℕ)) NtFault) (e f : NtFault) → r ≡ Err e → e ≡ f → f ≡ Memory → FindsBeforeDot S r
+pub memory_on_dot : {W : Type 0} (S : W → List ℕ → Type 0) (r : Result (W × Bor (List ℕ)) NtFault) (e f : NtFault) → r ≡ Err e → e ≡ f → f ≡ Memory
+    → FindsBeforeDot S r
 memory_on_dot S r e f p q m = subst (FindsBeforeDot S) (sym (p ∙ ap Err (q ∙ m))) tt
 
 pub err_answer : {V W : Type 0} (R : V → List ℕ → Type 0) (S : W → Type 0) (r : Result W NtFault) (e f : NtFault) → r ≡ Err e → e ≡ f
@@ -60,7 +63,8 @@ pub no_named : (text : List ℕ) → dark text ≡ Some 60 → ((v rest : List �
 no_named text d none (node.Named v) rest t = none v rest t
 no_named text d none (node.Blank v) rest t = apart text 95 60 (blank_dark v text rest t) d (differ 95 60 refl)
 
-pub no_blank : (text : List ℕ) → dark text ≡ Some 95 → ((v rest : List ℕ) → TakesBlank v text rest → ⊥) → (n : NtNode) (rest : List ℕ) → TakesNode n text rest → ⊥
+pub no_blank : (text : List ℕ) → dark text ≡ Some 95 → ((v rest : List ℕ) → TakesBlank v text rest → ⊥) → (n : NtNode) (rest : List ℕ)
+    → TakesNode n text rest → ⊥
 no_blank text d none (node.Named v) rest t = apart text 60 95 (iri_dark v text rest t) d (differ 60 95 refl)
 no_blank text d none (node.Blank v) rest t = none v rest t
 
@@ -72,33 +76,39 @@ pub literal_no_node : (text : List ℕ) → dark text ≡ Some 34 → (n : NtNod
 literal_no_node text d = no_node text (λ e. apart text 60 34 e d (differ 60 34 refl)) (λ e. apart text 95 34 e d (differ 95 34 refl))
 
 -- terms
-pub no_named_term : (text : List ℕ) → dark text ≡ Some 60 → ((v rest : List ℕ) → TakesIri v text rest → ⊥) → (t : NtTerm) (rest : List ℕ) → TakesTerm t text rest → dark rest ≡ Some 46 → ⊥
+pub no_named_term : (text : List ℕ) → dark text ≡ Some 60 → ((v rest : List ℕ) → TakesIri v text rest → ⊥) → (t : NtTerm) (rest : List ℕ)
+    → TakesTerm t text rest → dark rest ≡ Some 46 → ⊥
 no_named_term text d none (term.Named v) rest t _ = none v rest t
 no_named_term text d none (term.Blank v) rest t _ = apart text 95 60 (blank_dark v text rest t) d (differ 95 60 refl)
 no_named_term text d none (term.Literal l) rest t _ = apart text 34 60 (lit_dark l text rest t) d (differ 34 60 refl)
 
-pub no_blank_term : (text : List ℕ) → dark text ≡ Some 95 → ((v rest : List ℕ) → TakesBlank v text rest → ⊥) → (t : NtTerm) (rest : List ℕ) → TakesTerm t text rest → dark rest ≡ Some 46 → ⊥
+pub no_blank_term : (text : List ℕ) → dark text ≡ Some 95 → ((v rest : List ℕ) → TakesBlank v text rest → ⊥) → (t : NtTerm) (rest : List ℕ)
+    → TakesTerm t text rest → dark rest ≡ Some 46 → ⊥
 no_blank_term text d none (term.Named v) rest t _ = apart text 60 95 (iri_dark v text rest t) d (differ 60 95 refl)
 no_blank_term text d none (term.Blank v) rest t _ = none v rest t
 no_blank_term text d none (term.Literal l) rest t _ = apart text 34 95 (lit_dark l text rest t) d (differ 34 95 refl)
 
-pub no_literal_term : (text : List ℕ) → dark text ≡ Some 34 → ((l : NtLit) (rest : List ℕ) → TakesLit l text rest → dark rest ≡ Some 46 → ⊥) → (t : NtTerm) (rest : List ℕ) → TakesTerm t text rest → dark rest ≡ Some 46 → ⊥
+pub no_literal_term : (text : List ℕ) → dark text ≡ Some 34 → ((l : NtLit) (rest : List ℕ) → TakesLit l text rest → dark rest ≡ Some 46 → ⊥)
+    → (t : NtTerm) (rest : List ℕ) → TakesTerm t text rest → dark rest ≡ Some 46 → ⊥
 no_literal_term text d none (term.Named v) rest t _ = apart text 60 34 (iri_dark v text rest t) d (differ 60 34 refl)
 no_literal_term text d none (term.Blank v) rest t _ = apart text 95 34 (blank_dark v text rest t) d (differ 95 34 refl)
 no_literal_term text d none (term.Literal l) rest t dot = none l rest t dot
 
-pub no_term : (text : List ℕ) → (dark text ≡ Some 60 → ⊥) → (dark text ≡ Some 95 → ⊥) → (dark text ≡ Some 34 → ⊥) → (t : NtTerm) (rest : List ℕ) → TakesTerm t text rest → dark rest ≡ Some 46 → ⊥
+pub no_term : (text : List ℕ) → (dark text ≡ Some 60 → ⊥) → (dark text ≡ Some 95 → ⊥) → (dark text ≡ Some 34 → ⊥) → (t : NtTerm) (rest : List ℕ)
+    → TakesTerm t text rest → dark rest ≡ Some 46 → ⊥
 no_term text a b e (term.Named v) rest t _ = a (iri_dark v text rest t)
 no_term text a b e (term.Blank v) rest t _ = b (blank_dark v text rest t)
 no_term text a b e (term.Literal l) rest t _ = e (lit_dark l text rest t)
 
 -- before a dot there is one term
-pub named_term_once : (text v end : List ℕ) → dark text ≡ Some 60 → TakesIri v text end → (t : NtTerm) (rest : List ℕ) → TakesTerm t text rest → dark rest ≡ Some 46 → rest ≡ end
+pub named_term_once : (text v end : List ℕ) → dark text ≡ Some 60 → TakesIri v text end → (t : NtTerm) (rest : List ℕ) → TakesTerm t text rest
+    → dark rest ≡ Some 46 → rest ≡ end
 named_term_once text v end d f (term.Named w) rest t _ = (iri_once w v text rest end t f).1
 named_term_once text v end d f (term.Blank w) rest t _ = absurd (apart text 95 60 (blank_dark w text rest t) d (differ 95 60 refl))
 named_term_once text v end d f (term.Literal l) rest t _ = absurd (apart text 34 60 (lit_dark l text rest t) d (differ 34 60 refl))
 
-pub blank_term_once : (text v end : List ℕ) → dark text ≡ Some 95 → TakesBlank v text end → (t : NtTerm) (rest : List ℕ) → TakesTerm t text rest → dark rest ≡ Some 46 → rest ≡ end
+pub blank_term_once : (text v end : List ℕ) → dark text ≡ Some 95 → TakesBlank v text end → (t : NtTerm) (rest : List ℕ) → TakesTerm t text rest
+    → dark rest ≡ Some 46 → rest ≡ end
 blank_term_once text v end d f (term.Named w) rest t _ = absurd (apart text 60 95 (iri_dark w text rest t) d (differ 60 95 refl))
 blank_term_once text v end d f (term.Blank w) rest t _ = (blank_once w v text rest end t f).1
 blank_term_once text v end d f (term.Literal l) rest t _ = absurd (apart text 34 95 (lit_dark l text rest t) d (differ 34 95 refl))
@@ -110,7 +120,8 @@ literal_term_once text end d once (term.Blank w) rest t _ = absurd (apart text 9
 literal_term_once text end d once (term.Literal l) rest t dot = once l rest t dot
 
 -- languages and datatypes
-tag_takes : (text gap rest after v end : List ℕ) → IsRun is_blank text gap rest → rest ≡ 64 ∷ after → TagBefore v after end → Takes (InBytes IsLangtag) v text end
+tag_takes : (text gap rest after v end : List ℕ) → IsRun is_blank text gap rest → rest ≡ 64 ∷ after → TagBefore v after end
+    → Takes (InBytes IsLangtag) v text end
 tag_takes text gap rest after v end r e t = (
   gap,
   64 ∷ t.0,
@@ -122,7 +133,8 @@ tag_takes text gap rest after v end r e t = (
       t.3 more others (t.0 ++ more) g (ap is_language_tag inner ∙ f.1.1, refl),
 )
 
-tag_taken : (text gap rest v end : List ℕ) → IsRun is_blank text gap rest → Takes (InBytes IsLangtag) v text end → (after : List ℕ) × (rest ≡ 64 ∷ after) × TagBefore v after end
+tag_taken : (text gap rest v end : List ℕ) → IsRun is_blank text gap rest → Takes (InBytes IsLangtag) v text end
+    → (after : List ℕ) × (rest ≡ 64 ∷ after) × TagBefore v after end
 tag_taken text gap rest v end r t =
     let tag = t.4.0 in (
       tag ++ end,
@@ -151,7 +163,8 @@ two_tails xs ys rest e f = let k : 94 ∷ 94 ∷ xs ≡ 94 ∷ 94 ∷ ys = sym e
 begins_dark : (text gap rest after : List ℕ) (c : ℕ) → IsRun is_blank text gap rest → rest ≡ c ∷ after → dark text ≡ Some c
 begins_dark text gap rest after c r e = dark_run text gap rest r ∙ ap first_of e
 
-pub typed_takes : (text gap rest after v end : List ℕ) → IsRun is_blank text gap rest → rest ≡ 94 ∷ 94 ∷ after → TakesIri v after end → TakesSuffix None v text end
+pub typed_takes : (text gap rest after v end : List ℕ) → IsRun is_blank text gap rest → rest ≡ 94 ∷ 94 ∷ after → TakesIri v after end
+    → TakesSuffix None v text end
 typed_takes text gap rest after v end r e t = inr (after, hats_take text gap rest after r e, t)
 
 pub typed_once : (text gap rest after v end : List ℕ) → IsRun is_blank text gap rest → rest ≡ 94 ∷ 94 ∷ after → TakesIri v after end
@@ -174,12 +187,14 @@ no_typed text gap rest after r e none None datatype other (inr f) d =
 no_typed text gap rest after r e none (Some tag) datatype other f d =
     apart text 64 94 (tag_dark tag text other f.1) (begins_dark text gap rest (94 ∷ after) 94 r e) (differ 64 94 refl)
 
-pub tagged_takes : (text gap rest after v end : List ℕ) (lang : Option (List ℕ)) (datatype : List ℕ) → IsRun is_blank text gap rest → rest ≡ 64 ∷ after → TagBefore v after end
+pub tagged_takes : (text gap rest after v end : List ℕ) (lang : Option (List ℕ)) (datatype : List ℕ) → IsRun is_blank text gap rest
+    → rest ≡ 64 ∷ after → TagBefore v after end
     → lang ≡ Some v → datatype ≡ lang_string → TakesSuffix lang datatype text end
 tagged_takes text gap rest after v end lang datatype r e t p q =
     subst (λ (z : Option (List ℕ)). TakesSuffix z datatype text end) (sym p) (q, tag_takes text gap rest after v end r e t)
 
-pub tagged_once : (text gap rest after end : List ℕ) → IsRun is_blank text gap rest → rest ≡ 64 ∷ after → ((v other : List ℕ) → TagBefore v after other → dark other ≡ Some 46 → other ≡ end)
+pub tagged_once : (text gap rest after end : List ℕ) → IsRun is_blank text gap rest → rest ≡ 64 ∷ after
+    → ((v other : List ℕ) → TagBefore v after other → dark other ≡ Some 46 → other ≡ end)
     → (lang : Option (List ℕ)) (datatype other : List ℕ) → TakesSuffix lang datatype text other → dark other ≡ Some 46 → other ≡ end
 tagged_once text gap rest after end r e once None datatype other (inl f) d =
     absurd (apart text 46 64 (ap dark f.1 ∙ d) (begins_dark text gap rest after 64 r e) (differ 46 64 refl))
@@ -189,7 +204,8 @@ tagged_once text gap rest after end r e once (Some tag) datatype other f d =
     let k = tag_taken text gap rest tag other r f.1 in
     once tag other (subst (λ z. TagBefore tag z other) (one_tail 64 64 k.0 after rest k.1 e) k.2) d
 
-pub no_tagged : (text gap rest after : List ℕ) → IsRun is_blank text gap rest → rest ≡ 64 ∷ after → ((v other : List ℕ) → TagBefore v after other → dark other ≡ Some 46 → ⊥)
+pub no_tagged : (text gap rest after : List ℕ) → IsRun is_blank text gap rest → rest ≡ 64 ∷ after
+    → ((v other : List ℕ) → TagBefore v after other → dark other ≡ Some 46 → ⊥)
     → (lang : Option (List ℕ)) (datatype other : List ℕ) → TakesSuffix lang datatype text other → dark other ≡ Some 46 → ⊥
 no_tagged text gap rest after r e none None datatype other (inl f) d =
     apart text 46 64 (ap dark f.1 ∙ d) (begins_dark text gap rest after 64 r e) (differ 46 64 refl)
@@ -202,20 +218,23 @@ no_tagged text gap rest after r e none (Some tag) datatype other f d =
 pub plain_takes : (text : List ℕ) (lang : Option (List ℕ)) (datatype : List ℕ) → lang ≡ None → datatype ≡ xsd_string → TakesSuffix lang datatype text text
 plain_takes text lang datatype p q = subst (λ (z : Option (List ℕ)). TakesSuffix z datatype text text) (sym p) (inl (q, refl))
 
-pub plain_once : (text gap rest : List ℕ) → IsRun is_blank text gap rest → ((after : List ℕ) → rest ≡ 94 ∷ 94 ∷ after → ⊥) → ((after : List ℕ) → rest ≡ 64 ∷ after → ⊥)
+pub plain_once : (text gap rest : List ℕ) → IsRun is_blank text gap rest → ((after : List ℕ) → rest ≡ 94 ∷ 94 ∷ after → ⊥)
+    → ((after : List ℕ) → rest ≡ 64 ∷ after → ⊥)
     → (lang : Option (List ℕ)) (datatype other : List ℕ) → TakesSuffix lang datatype text other → dark other ≡ Some 46 → other ≡ text
 plain_once text gap rest r hats at None datatype other (inl f) d = sym f.1
 plain_once text gap rest r hats at None datatype other (inr f) d = absurd (hats f.0 (hats_taken text gap rest f.0 r f.1))
 plain_once text gap rest r hats at (Some tag) datatype other f d = let k = tag_taken text gap rest tag other r f.1 in absurd (at k.0 k.1)
 
 -- literals
-pub no_lit : (text after value : List ℕ) → Takes (InBytes IsString) value text after → ((s : Suffix) (rest : List ℕ) → TakesSuffix s.lang s.datatype after rest → dark rest ≡ Some 46 → ⊥)
+pub no_lit : (text after value : List ℕ) → Takes (InBytes IsString) value text after
+    → ((s : Suffix) (rest : List ℕ) → TakesSuffix s.lang s.datatype after rest → dark rest ≡ Some 46 → ⊥)
     → (l : NtLit) (rest : List ℕ) → TakesLit l text rest → dark rest ≡ Some 46 → ⊥
 no_lit text after value f none l rest t d =
     let s = string_once l.text value text t.0 after t.1 f in
     none (record { lang = l.lang; datatype = l.datatype }) rest (subst (λ z. TakesSuffix l.lang l.datatype z rest) s.1 t.2) d
 
-pub lit_once_before : (text after value end : List ℕ) → Takes (InBytes IsString) value text after → ((s : Suffix) (rest : List ℕ) → TakesSuffix s.lang s.datatype after rest → dark rest ≡ Some 46 → rest ≡ end)
+pub lit_once_before : (text after value end : List ℕ) → Takes (InBytes IsString) value text after
+    → ((s : Suffix) (rest : List ℕ) → TakesSuffix s.lang s.datatype after rest → dark rest ≡ Some 46 → rest ≡ end)
     → (l : NtLit) (rest : List ℕ) → TakesLit l text rest → dark rest ≡ Some 46 → rest ≡ end
 lit_once_before text after value end f once l rest t d =
     let s = string_once l.text value text t.0 after t.1 f in
@@ -232,16 +251,19 @@ object_at text a b p s f h t g =
     let i = iri_once t.p p a g.1 b (subst (λ z. TakesIri t.p z g.1) n.1 g.5) h in
     subst (λ z. TakesTerm t.o z g.2) i.1 g.6
 
-pub no_object : (text a b p : List ℕ) (s : NtNode) → TakesNode s text a → TakesIri p a b → ((o : NtTerm) (rest : List ℕ) → TakesTerm o b rest → dark rest ≡ Some 46 → ⊥) → (t : NtTriple) → IsTripleLine text t → ⊥
+pub no_object : (text a b p : List ℕ) (s : NtNode) → TakesNode s text a → TakesIri p a b
+    → ((o : NtTerm) (rest : List ℕ) → TakesTerm o b rest → dark rest ≡ Some 46 → ⊥) → (t : NtTriple) → IsTripleLine text t → ⊥
 no_object text a b p s f h none t g = none t.o g.2 (object_at text a b p s f h t g) (dot_dark g.2 g.3 g.7)
 
-pub no_dot : (text a b e p : List ℕ) (s : NtNode) → TakesNode s text a → TakesIri p a b → ((o : NtTerm) (rest : List ℕ) → TakesTerm o b rest → dark rest ≡ Some 46 → rest ≡ e)
+pub no_dot : (text a b e p : List ℕ) (s : NtNode) → TakesNode s text a → TakesIri p a b
+    → ((o : NtTerm) (rest : List ℕ) → TakesTerm o b rest → dark rest ≡ Some 46 → rest ≡ e)
     → ((end : List ℕ) → Takes (IsMark (codes ".")) tt e end → ⊥) → (t : NtTriple) → IsTripleLine text t → ⊥
 no_dot text a b e p s f h once none t g =
     let same = once t.o g.2 (object_at text a b p s f h t g) (dot_dark g.2 g.3 g.7) in
     none g.3 (subst (λ z. Takes (IsMark (codes ".")) tt z g.3) same g.7)
 
-pub no_end : (text a b e end p : List ℕ) (s : NtNode) → TakesNode s text a → TakesIri p a b → ((o : NtTerm) (rest : List ℕ) → TakesTerm o b rest → dark rest ≡ Some 46 → rest ≡ e)
+pub no_end : (text a b e end p : List ℕ) (s : NtNode) → TakesNode s text a → TakesIri p a b
+    → ((o : NtTerm) (rest : List ℕ) → TakesTerm o b rest → dark rest ≡ Some 46 → rest ≡ e)
     → Takes (IsMark (codes ".")) tt e end → (IsIdle end → ⊥) → (t : NtTriple) → IsTripleLine text t → ⊥
 no_end text a b e end p s f h once dot none t g =
     let same = once t.o g.2 (object_at text a b p s f h t g) (dot_dark g.2 g.3 g.7) in

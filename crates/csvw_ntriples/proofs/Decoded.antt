@@ -1,5 +1,6 @@
 -- The bytes of a text, and its characters.
-use Rattle.std.proofs.Common.{◌≡◌, ◌<◌, ◌≤◌, ◌+◌, ℕ, List, [], ◌∷◌, ◌++◌, refl, sym, ap, ◌∙◌, subst, arith, true, false, Bool, cond, not, ◌/◌, ◌%◌, ◌&&◌, append-nil}
+use Rattle.std.proofs.Common.{◌≡◌, ◌<◌, ◌≤◌, ◌+◌, ℕ, List, [], ◌∷◌, ◌++◌, refl, sym, ap, ◌∙◌, subst, arith, true, false, Bool, cond, not, ◌/◌, ◌%◌}
+use Rattle.std.proofs.Common.{◌&&◌, append-nil}
 use Rattle.std.proofs.lemmas.Bool.{and_parts}
 use Rattle.std.proofs.lemmas.Bool.Decides.{nat_tests}
 use Rattle.std.proofs.lemmas.Str.{encode_ascii, encodes-append}
@@ -74,7 +75,8 @@ above c h = grind (arith, nat_tests)
 
 raw_one : (c : ℕ) (b : Bool) → nat_lt c 128 ≡ b → list_all (λ x. not (is_forbidden x)) (encode c) ≡ true → is_raw_in_iri c ≡ true
 raw_one c true e h =
-    let alone : list_all (λ x. not (is_forbidden x)) (c ∷ []) ≡ true = subst (λ (z : List ℕ). list_all (λ x. not (is_forbidden x)) z ≡ true) (encode_ascii c (below c e)) h in
+    let alone : list_all (λ x. not (is_forbidden x)) (c ∷ []) ≡ true =
+    subst (λ (z : List ℕ). list_all (λ x. not (is_forbidden x)) z ≡ true) (encode_ascii c (below c e)) h in
     raw_low c (and_parts (not (is_forbidden c)) true alone).0
 raw_one c false e h = raw_high c (above c e)
 
@@ -82,7 +84,8 @@ raw_one c false e h = raw_high c (above c e)
 pub raw_chars : (cs : List ℕ) → is_iri (encode_utf8_all cs) ≡ true → list_all is_raw_in_iri cs ≡ true
 raw_chars [] h = refl
 raw_chars (c ∷ cs) h =
-    let both = and_parts (list_all (λ x. not (is_forbidden x)) (encode c)) (is_iri (encode_utf8_all cs)) (sym (list_all-append (λ x. not (is_forbidden x)) (encode c) (encode_utf8_all cs)) ∙ h) in
+    let both = and_parts (list_all (λ x. not (is_forbidden x)) (encode c)) (is_iri (encode_utf8_all cs))
+    (sym (list_all-append (λ x. not (is_forbidden x)) (encode c) (encode_utf8_all cs)) ∙ h) in
     and_true _ _ (raw_one c (nat_lt c 128) refl both.0) (raw_chars cs both.1)
 
 -- literals

@@ -1,5 +1,6 @@
 -- What is written denotes the triples.
-use Rattle.std.proofs.Common.{◌≡◌, ◌<◌, ℕ, List, [], ◌∷◌, ◌++◌, refl, sym, ap, ◌∙◌, subst, arith, true, false, Bool, cond, not, ◌&&◌, append_assoc, inl, inr, map, Option, Some, None}
+use Rattle.std.proofs.Common.{◌≡◌, ◌<◌, ℕ, List, [], ◌∷◌, ◌++◌, refl, sym, ap, ◌∙◌, subst, arith, true, false, Bool, cond, not, ◌&&◌, append_assoc}
+use Rattle.std.proofs.Common.{inl, inr, map, Option, Some, None}
 use Rattle.std.proofs.lemmas.Bool.{and_parts}
 use Rattle.std.proofs.lemmas.Str.{chars-encodes, encodes-append}
 use Rattle.std.proofs.lemmas.Slice.Eq.{bytes_eq-Decides}
@@ -21,10 +22,12 @@ use Rattle.csvw_triples_core.specs.declared.term.Triple.{Triple}
 use Rattle.csvw_ntriples.specs.Character.{is_blank, is_break, is_raw_in_iri}
 use Rattle.csvw_ntriples.specs.Terminal.{InBytes, IsString, IsIriref, IsLangtag, IsBlankNode}
 use Rattle.csvw_ntriples.specs.Grammar.{Takes, TakesIri, TakesBlank, TakesNode, TakesSuffix, TakesTerm, IsTripleLine, AreLines, Denotes, DenotesText}
-use Rattle.csvw_ntriples.specs.Written.{iri_text, blank_text, string_text, node_text, is_string_type, suffix_text, lit_text, term_text, line_text, written, node_named, term_named, said, label, escaped}
+use Rattle.csvw_ntriples.specs.Written.{iri_text, blank_text, string_text, node_text, is_string_type, suffix_text, lit_text, term_text, line_text}
+use Rattle.csvw_ntriples.specs.Written.{written, node_named, term_named, said, label, escaped}
 use Rattle.csvw_ntriples.specs.Writable.{IriFits, NodeFits, SuffixFits, LitFits, TermFits, TripleFits}
 use Rattle.csvw_ntriples.proofs.Decoded.{raw_chars, escaped_chars, encodes_low}
-use Rattle.csvw_ntriples.proofs.Spelled.{iri_written, string_written, blank_written, iri_longest, string_longest, mark_longest, blank_longest, tag_longest, bytes_longest, and_both, in_tag, tag_chars}
+use Rattle.csvw_ntriples.proofs.Spelled.{iri_written, string_written, blank_written, iri_longest, string_longest, mark_longest, blank_longest}
+use Rattle.csvw_ntriples.proofs.Spelled.{tag_longest, bytes_longest, and_both, in_tag, tag_chars}
 use Rattle.csvw_ntriples.proofs.Labels.{label_plain, encodes-label}
 
 -- a character that is one of Unicode and no line break
@@ -131,7 +134,9 @@ tag_good tag h = low_good in_tag tag_13 tag_10 tag (low_scalars tag (tag_low tag
     tag_10 : in_tag 10 ≡ false
     tag_10 = unfold in_tag in refl
 
-good_marks : (list_all good (34 ∷ []) ≡ true) × (list_all good (60 ∷ []) ≡ true) × (list_all good (62 ∷ []) ≡ true) × (list_all good (codes "_:") ≡ true) × (list_all good (codes "^^") ≡ true) × (list_all good (64 ∷ []) ≡ true) × (list_all good (32 ∷ []) ≡ true) × (list_all good (32 ∷ 46 ∷ []) ≡ true)
+good_marks : (list_all good (34 ∷ []) ≡ true) × (list_all good (60 ∷ []) ≡ true) × (list_all good (62 ∷ []) ≡ true)
+    × (list_all good (codes "_:") ≡ true) × (list_all good (codes "^^") ≡ true) × (list_all good (64 ∷ []) ≡ true) × (list_all good (32 ∷ []) ≡ true)
+    × (list_all good (32 ∷ 46 ∷ []) ≡ true)
 unfolding good
 good_marks = (refl, refl, refl, refl, refl, refl, refl, refl)
 
@@ -167,7 +172,14 @@ iri_says iri h =
       text = iri_text cs;
       same = between (60 ∷ []) (62 ∷ []) cs iri refl refl same;
       clean = good_between (60 ∷ []) (62 ∷ []) cs good_marks.1 good_marks.2 (low_good is_raw_in_iri refl refl cs h.0.1.0 raw);
-      holds = λ gap after b. (gap, iri_text cs, refl, b, (cs, whole, sym same), bytes_longest IsIriref (iri_text cs) after (iri_longest (iri_text cs) cs after whole));
+      holds = λ gap after b. (
+        gap,
+        iri_text cs,
+        refl,
+        b,
+        (cs, whole, sym same),
+        bytes_longest IsIriref (iri_text cs) after (iri_longest (iri_text cs) cs after whole),
+      );
     }
 
 string_says : (value : List ℕ) → IsUtf8 value → Says (StringStands value) (string_text value)
@@ -179,7 +191,14 @@ string_says value u =
       text = string_text cs;
       same = between (34 ∷ []) (34 ∷ []) (flat_map escaped cs) (flat_map escaped value) refl refl (sym (escaped_chars cs) ∙ ap (flat_map escaped) same);
       clean = good_between (34 ∷ []) (34 ∷ []) (flat_map escaped cs) good_marks.0 good_marks.0 (flat_good cs u.1.0);
-      holds = λ gap after b. (gap, string_text cs, refl, b, (cs, whole, sym same), bytes_longest IsString (string_text cs) after (string_longest (string_text cs) cs after whole));
+      holds = λ gap after b. (
+        gap,
+        string_text cs,
+        refl,
+        b,
+        (cs, whole, sym same),
+        bytes_longest IsString (string_text cs) after (string_longest (string_text cs) cs after whole),
+      );
     }
 
 blank_says : (o : Origin) → Says (BlankStands (label o)) (blank_text o)
@@ -187,7 +206,14 @@ blank_says o = record {
   text = blank_text o;
   same = low_append (codes "_:") (label o) refl ∙ ap (λ z. codes "_:" ++ z) (encodes-label o);
   clean = good-append (codes "_:") (label o) good_marks.3 (label_good o);
-  holds = λ gap after b. (gap, blank_text o, refl, b, (label o, blank_written o, sym (encodes-label o)), bytes_longest IsBlankNode (blank_text o) (32 ∷ after) (blank_longest (blank_text o) after));
+  holds = λ gap after b. (
+    gap,
+    blank_text o,
+    refl,
+    b,
+    (label o, blank_written o, sym (encodes-label o)),
+    bytes_longest IsBlankNode (blank_text o) (32 ∷ after) (blank_longest (blank_text o) after),
+  );
 }
 
 node_says : (n : Node) → NodeFits n → Says (NodeStands n) (node_text n)
@@ -209,7 +235,11 @@ type_says iri false e h =
       text = codes "^^" ++ s.text;
       same = low_append (codes "^^") s.text refl ∙ ap (λ z. codes "^^" ++ z) s.same;
       clean = good-append (codes "^^") s.text good_marks.4 s.clean;
-      holds = λ after. inr (s.text ++ 32 ∷ after, ([], codes "^^", refl, refl, refl, mark_longest (codes "^^") (s.text ++ 32 ∷ after)), s.holds [] (32 ∷ after) refl);
+      holds = λ after. inr (
+        s.text ++ 32 ∷ after,
+        ([], codes "^^", refl, refl, refl, mark_longest (codes "^^") (s.text ++ 32 ∷ after)),
+        s.holds [] (32 ∷ after) refl,
+      );
     }
 
 suffix_says : (lang : Option (List ℕ)) (datatype : List ℕ) → (is_some lang ≡ true → datatype ≡ lang_string) → SuffixFits lang datatype
@@ -221,7 +251,17 @@ suffix_says (Some tag) datatype tagged h =
       text = 64 ∷ tag;
       same = low_append (64 ∷ []) tag refl ∙ ap (λ z. 64 ∷ z) (encodes_low tag low);
       clean = good-append (64 ∷ []) tag good_marks.5 (tag_good tag inside);
-      holds = λ after. (tagged refl, ([], 64 ∷ tag, refl, refl, (tag, (refl, h), sym (encodes_low tag low)), bytes_longest IsLangtag (64 ∷ tag) (32 ∷ after) (tag_longest (64 ∷ tag) after)));
+      holds = λ after. (
+        tagged refl,
+        (
+          [],
+          64 ∷ tag,
+          refl,
+          refl,
+          (tag, (refl, h), sym (encodes_low tag low)),
+          bytes_longest IsLangtag (64 ∷ tag) (32 ∷ after) (tag_longest (64 ∷ tag) after),
+        ),
+      );
     }
 
 lit_says : (l : Lit) → LitFits l → Says (TermStands (term.Literal l)) (lit_text l)
@@ -233,7 +273,8 @@ lit_says l h =
       same = encodes-append s.text t.text ∙ (ap (λ z. z ++ encode_utf8_all t.text) s.same ∙ ap (λ z. string_text l.text ++ z) t.same);
       clean = good-append s.text t.text s.clean t.clean;
       holds = λ gap after b.
-          let split : gap ++ ((s.text ++ t.text) ++ 32 ∷ after) ≡ gap ++ (s.text ++ (t.text ++ 32 ∷ after)) = ap (λ z. gap ++ z) (append_assoc s.text t.text (32 ∷ after)) in (
+          let split : gap ++ ((s.text ++ t.text) ++ 32 ∷ after) ≡ gap ++ (s.text ++ (t.text ++ 32 ∷ after)) =
+          ap (λ z. gap ++ z) (append_assoc s.text t.text (32 ∷ after)) in (
             t.text ++ 32 ∷ after,
             subst (λ (z : List ℕ). Takes (InBytes IsString) l.text z (t.text ++ 32 ∷ after)) (sym split) (s.holds gap (t.text ++ 32 ∷ after) b),
             t.holds after,
@@ -261,9 +302,11 @@ line_says t h =
     let s = node_says t.s h.0 in let p = iri_says t.p h.1 in let o = term_says t.o h.2 in
     let c = o.text ++ 32 ∷ 46 ∷ [] in
     let b = p.text ++ (32 ∷ [] ++ c) in
-    let c_same : encode_utf8_all (32 ∷ [] ++ c) ≡ 32 ∷ [] ++ (term_text t.o ++ 32 ∷ 46 ∷ []) = between (32 ∷ []) (32 ∷ 46 ∷ []) o.text (term_text t.o) refl refl o.same in
+    let c_same : encode_utf8_all (32 ∷ [] ++ c) ≡ 32 ∷ [] ++ (term_text t.o ++ 32 ∷ 46 ∷ []) =
+    between (32 ∷ []) (32 ∷ 46 ∷ []) o.text (term_text t.o) refl refl o.same in
     let b_same : encode_utf8_all (32 ∷ [] ++ b) ≡ 32 ∷ [] ++ (iri_text t.p ++ (32 ∷ [] ++ (term_text t.o ++ 32 ∷ 46 ∷ []))) =
-    low_append (32 ∷ []) b refl ∙ ap (λ z. 32 ∷ [] ++ z) (encodes-append p.text (32 ∷ [] ++ c) ∙ (ap (λ z. z ++ encode_utf8_all (32 ∷ [] ++ c)) p.same ∙ ap (λ z. iri_text t.p ++ z) c_same)) in
+    low_append (32 ∷ []) b refl ∙ ap (λ z. 32 ∷ [] ++ z)
+    (encodes-append p.text (32 ∷ [] ++ c) ∙ (ap (λ z. z ++ encode_utf8_all (32 ∷ [] ++ c)) p.same ∙ ap (λ z. iri_text t.p ++ z) c_same)) in
     record {
       text = s.text ++ (32 ∷ [] ++ b);
       same = encodes-append s.text (32 ∷ [] ++ b) ∙ (ap (λ z. z ++ encode_utf8_all (32 ∷ [] ++ b)) s.same ∙ ap (λ z. node_text t.s ++ z) b_same);

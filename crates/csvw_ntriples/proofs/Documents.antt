@@ -1,5 +1,6 @@
 -- A document by its production is its lines, each with a triple or none.
-use Rattle.std.proofs.Common.{◌≡◌, ◌↔◌, ℕ, List, [], ◌∷◌, ◌++◌, refl, sym, ap, ◌∙◌, subst, true, false, Bool, not, append_assoc, append-nil, inl, inr, Option, Some, None, option_to_list, IsTrue}
+use Rattle.std.proofs.Common.{◌≡◌, ◌↔◌, ℕ, List, [], ◌∷◌, ◌++◌, refl, sym, ap, ◌∙◌, subst, true, false, Bool, not, append_assoc, append-nil, inl, inr}
+use Rattle.std.proofs.Common.{Option, Some, None, option_to_list, IsTrue}
 use Rattle.std.proofs.lemmas.Bool.{and_parts}
 use Rattle.std.specs.List.{list_all, slice_split}
 use Rattle.csvw_ntriples.specs.Character.{is_break}

@@ -1,5 +1,6 @@
 -- a label gives its origin back
-use Rattle.std.proofs.Common.{◌≡◌, ◌<◌, ◌%◌, ◌/◌, ◌^◌, ℕ, zero, suc, List, [], ◌∷◌, ◌++◌, refl, sym, ap, ◌∙◌, arith, true, false, Bool, cond, append_assoc, append-nil, subst, length, Option, Some, None}
+use Rattle.std.proofs.Common.{◌≡◌, ◌<◌, ◌%◌, ◌/◌, ◌^◌, ℕ, zero, suc, List, [], ◌∷◌, ◌++◌, refl, sym, ap, ◌∙◌, arith, true, false, Bool, cond}
+use Rattle.std.proofs.Common.{append_assoc, append-nil, subst, length, Option, Some, None}
 use Rattle.std.proofs.lemmas.Bool.Decides.{nat_tests}
 use Rattle.std.proofs.lemmas.Bool.{and_parts}
 use Rattle.std.proofs.lemmas.Fmt.{decimal_injective, decimal_nonempty}
@@ -36,7 +37,8 @@ abbrev Stops : List ℕ → Type 0
 Stops [] = Unit {0}
 Stops (c ∷ cs) = is_digit_char c ≡ false
 
-digits_then : (xs ys a b : List ℕ) → list_all is_digit_char xs ≡ true → list_all is_digit_char ys ≡ true → Stops a → Stops b → xs ++ a ≡ ys ++ b → (xs ≡ ys) × (a ≡ b)
+digits_then : (xs ys a b : List ℕ) → list_all is_digit_char xs ≡ true → list_all is_digit_char ys ≡ true → Stops a → Stops b → xs ++ a ≡ ys ++ b
+    → (xs ≡ ys) × (a ≡ b)
 digits_then [] [] a b h k f g e = (refl, e)
 digits_then [] (y ∷ ys) [] b h k f g e = cc
 digits_then [] (y ∷ ys) (c ∷ a) b h k f g e =
@@ -96,7 +98,8 @@ spell_once (p ∷ ps) [] f g e = cc
 spell_once ((c, m) ∷ ps) ((d, n) ∷ qs) f g e =
     let letter : c ≡ d = cc in
     let tails : number m ++ spell ps ≡ number n ++ spell qs = cc in
-    let parts = digits_then (number m) (number n) (spell ps) (spell qs) (number_is_digits m) (number_is_digits n) (Stops-spell ps f.2) (Stops-spell qs g.2) tails in
+    let parts = digits_then (number m) (number n) (spell ps) (spell qs) (number_is_digits m) (number_is_digits n) (Stops-spell ps f.2)
+    (Stops-spell qs g.2) tails in
     let same : m ≡ n = number_once m n f.1 g.1 parts.0 in
     let rest : ps ≡ qs = spell_once ps qs f.2 g.2 parts.1 in
     cc

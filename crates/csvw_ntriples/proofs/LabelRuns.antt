@@ -1,5 +1,6 @@
 -- Labels of blank nodes and language tags as runs of characters.
-use Rattle.std.proofs.Common.{◌≡◌, ◌<◌, ◌≤◌, ◌+◌, ℕ, zero, suc, List, [], ◌∷◌, ◌++◌, refl, sym, ap, ◌∙◌, subst, arith, true, false, Bool, ◌||◌, length, take, drop, get_or, append_assoc, Some, cond, Bor, Result, Ok, Err, length-append, add-one}
+use Rattle.std.proofs.Common.{◌≡◌, ◌<◌, ◌≤◌, ◌+◌, ℕ, zero, suc, List, [], ◌∷◌, ◌++◌, refl, sym, ap, ◌∙◌, subst, arith, true, false, Bool, ◌||◌}
+use Rattle.std.proofs.Common.{length, take, drop, get_or, append_assoc, Some, cond, Bor, Result, Ok, Err, length-append, add-one}
 use Rattle.std.proofs.lemmas.Bool.{and_parts}
 use Rattle.std.proofs.lemmas.Bool.Decides.{Decides-eqb, nat_tests}
 use Rattle.std.proofs.lemmas.List.Folds.{list_all-append}
@@ -99,7 +100,8 @@ tail_ok (c ∷ d ∷ cs) h none =
     let both = and_parts (is_label_char c || c == 46) (list_all (is_in class.Label) (d ∷ cs)) h in
     (both.0, tail_ok (d ∷ cs) both.1 (λ xs e. none (c ∷ xs) (ap (λ z. c ∷ z) e)))
 
-dots_front : (p : ℕ → Bool) (dots rest more after : List ℕ) → list_all is_dot dots ≡ true → Stops p rest → list_all p more ≡ true → dots ++ rest ≡ more ++ after → list_all is_dot more ≡ true
+dots_front : (p : ℕ → Bool) (dots rest more after : List ℕ) → list_all is_dot dots ≡ true → Stops p rest → list_all p more ≡ true
+    → dots ++ rest ≡ more ++ after → list_all is_dot more ≡ true
 dots_front p [] rest [] after h s k e = refl
 dots_front p [] [] (m ∷ more) after h s k e = cc
 dots_front p [] (x ∷ rest) (m ∷ more) after h s k e =
@@ -171,7 +173,8 @@ cut_at [] ys (suc n) h = absurd (omega arith)
 cut_at (x ∷ xs) ys zero h = absurd (omega arith)
 cut_at (x ∷ xs) ys (suc n) h = let r = cut_at xs ys n (omega arith) in (ap (λ z. x ∷ z) r.0, r.1)
 
-pub label_found : (text name dots end bytes : List ℕ) → Parts text name dots end → BeginsLabel name → bytes ≡ encode_utf8_all name → TakesLabel bytes text (dots ++ end)
+pub label_found : (text name dots end bytes : List ℕ) → Parts text name dots end → BeginsLabel name → bytes ≡ encode_utf8_all name
+    → TakesLabel bytes text (dots ++ end)
 label_found text name dots end bytes p b e =
     (name, p.0, label_is name b (front_of (is_in class.Label) name dots p.1) p.4, label_longest name dots end b p.3 p.2, e)
 
@@ -204,7 +207,8 @@ blank_takes text gap rest after v end r e t = (
       t.3 more others (t.0 ++ more) g (subst IsLabel (sym inner) f.1.1, refl),
 )
 
-blank_taken : (text gap rest v end : List ℕ) → IsRun is_blank text gap rest → TakesBlank v text end → (after : List ℕ) × (rest ≡ 95 ∷ 58 ∷ after) × TakesLabel v after end
+blank_taken : (text gap rest v end : List ℕ) → IsRun is_blank text gap rest → TakesBlank v text end
+    → (after : List ℕ) × (rest ≡ 95 ∷ 58 ∷ after) × TakesLabel v after end
 blank_taken text gap rest v end r t =
     let name = t.4.0 in
     let whole : t.1 ++ end ≡ 95 ∷ 58 ∷ (name ++ end) = ap (λ z. z ++ end) t.4.1.0 in (
@@ -230,7 +234,8 @@ blank_found text gap rest after (Err Syntax) run e f = λ v end t.
     let k = blank_taken text gap rest v end run t in
     f v end (subst (λ z. TakesLabel v z end) (two_tails k.0 after rest k.1 e) k.2)
 
-pub blank_missing : (text gap rest : List ℕ) → IsRun is_blank text gap rest → ((after : List ℕ) → rest ≡ 95 ∷ 58 ∷ after → ⊥) → (v end : List ℕ) → TakesBlank v text end → ⊥
+pub blank_missing : (text gap rest : List ℕ) → IsRun is_blank text gap rest → ((after : List ℕ) → rest ≡ 95 ∷ 58 ∷ after → ⊥) → (v end : List ℕ)
+    → TakesBlank v text end → ⊥
 blank_missing text gap rest run none v end t = let k = blank_taken text gap rest v end run t in none k.0 k.1
 
 -- language tags
@@ -252,7 +257,8 @@ none_more p (x ∷ end) (m ∷ more) after s h e =
     let same : x ≡ m = cc in let yes = (and_parts (p m) (list_all p more) h).0 in
     let wrong : p m ≡ false = subst (λ z. p z ≡ false) same s in cc
 
-pub tag_found : (text front end bytes tag : List ℕ) → IsRun (is_in class.Tag) text front end → bytes ≡ encode_utf8_all front → tag ≡ bytes → is_language_tag bytes ≡ true → TagBefore tag text end
+pub tag_found : (text front end bytes tag : List ℕ) → IsRun (is_in class.Tag) text front end → bytes ≡ encode_utf8_all front → tag ≡ bytes
+    → is_language_tag bytes ≡ true → TagBefore tag text end
 tag_found text front end bytes tag r e f h =
     let plain : bytes ≡ front = e ∙ encodes_low front (tag_low front r.1) in
     let is : is_language_tag front ≡ true = subst (λ (z : List ℕ). is_language_tag z ≡ true) plain h in (
@@ -287,12 +293,14 @@ tag_missing text front end bytes r e h v rest t d =
     let same : is_language_tag bytes ≡ true = subst (λ (z : List ℕ). is_language_tag z ≡ true) (sym (plain ∙ once.0)) t.2 in cc
 
 -- the text cut behind the label
-pub label_split : (text name dots end a b : List ℕ) (n : ℕ) → Parts text name dots end → length name ≡ n → a ≡ take n text → b ≡ drop n text → (a ≡ name) × (b ≡ dots ++ end)
+pub label_split : (text name dots end a b : List ℕ) (n : ℕ) → Parts text name dots end → length name ≡ n → a ≡ take n text → b ≡ drop n text
+    → (a ≡ name) × (b ≡ dots ++ end)
 label_split text name dots end a b n p size e f =
     let cut = cut_at name (dots ++ end) n size in
     (e ∙ (ap (λ z. take n z) p.0 ∙ cut.0), f ∙ (ap (λ z. drop n z) p.0 ∙ cut.1))
 
-pub label_there : (text name dots end a b bytes : List ℕ) (n : ℕ) → Parts text name dots end → length name ≡ n → a ≡ take n text → b ≡ drop n text → BeginsLabel a → bytes ≡ encode_utf8_all a
+pub label_there : (text name dots end a b bytes : List ℕ) (n : ℕ) → Parts text name dots end → length name ≡ n → a ≡ take n text → b ≡ drop n text
+    → BeginsLabel a → bytes ≡ encode_utf8_all a
     → TakesLabel bytes text b
 label_there text name dots end a b bytes n p size e f begins g =
     let s = label_split text name dots end a b n p size e f in
@@ -300,7 +308,8 @@ label_there text name dots end a b bytes n p size e f begins g =
     let same : bytes ≡ encode_utf8_all name = g ∙ ap encode_utf8_all s.0 in
     subst (λ z. TakesLabel bytes text z) (sym s.1) (label_found text name dots end bytes p begun same)
 
-pub label_not_there : (text name dots end a b : List ℕ) (n : ℕ) → Parts text name dots end → length name ≡ n → a ≡ take n text → b ≡ drop n text → (BeginsLabel a → ⊥)
+pub label_not_there : (text name dots end a b : List ℕ) (n : ℕ) → Parts text name dots end → length name ≡ n → a ≡ take n text → b ≡ drop n text
+    → (BeginsLabel a → ⊥)
     → (v rest : List ℕ) → TakesLabel v text rest → ⊥
 label_not_there text name dots end a b n p size e f none =
     let s = label_split text name dots end a b n p size e f in

@@ -14,7 +14,8 @@ use Rattle.csvw_triples_core.specs.declared.origin.Origin.TheVariants.{Group, Ta
 digit_plain : (d : ℕ) → d < 10 → is_letter_or_digit_char (digit_glyph false d) ≡ true
 digit_plain d h = grind (arith, nat_tests)
 
-chosen_plain : (b : Bool) (x y : List ℕ) → list_all is_letter_or_digit_char x ≡ true → list_all is_letter_or_digit_char y ≡ true → list_all is_letter_or_digit_char (cond b x y) ≡ true
+chosen_plain : (b : Bool) (x y : List ℕ) → list_all is_letter_or_digit_char x ≡ true → list_all is_letter_or_digit_char y ≡ true
+    → list_all is_letter_or_digit_char (cond b x y) ≡ true
 chosen_plain true x y p q = p
 chosen_plain false x y p q = q
 

@@ -1,5 +1,6 @@
 -- What a line takes, the text takes that goes on behind the line, and the other way round.
-use Rattle.std.proofs.Common.{◌≡◌, ℕ, List, [], ◌∷◌, ◌++◌, refl, sym, ap, ◌∙◌, subst, true, false, Bool, not, append_assoc, inl, inr, Option, Some, None, IsTrue}
+use Rattle.std.proofs.Common.{◌≡◌, ℕ, List, [], ◌∷◌, ◌++◌, refl, sym, ap, ◌∙◌, subst, true, false, Bool, not, append_assoc, inl, inr, Option, Some}
+use Rattle.std.proofs.Common.{None, IsTrue}
 use Rattle.std.proofs.lemmas.Bool.{and_parts}
 use Rattle.std.specs.Prelude.{codes}
 use Rattle.std.specs.List.{list_all}
@@ -13,7 +14,8 @@ use Rattle.csvw_ntriples.specs.declared.term.NtLit.{NtLit}
 use Rattle.csvw_ntriples.specs.declared.term.NtTerm.{NtTerm}
 use Rattle.csvw_ntriples.specs.declared.term.NtTerm.TheVariants as term
 use Rattle.csvw_ntriples.specs.declared.term.NtTriple.{NtTriple}
-use Rattle.csvw_ntriples.proofs.Unbroken.{Unbroken, in_line-append, in_line-parts, blank_in_line, string_bytes_unbroken, iri_bytes_unbroken, blank_bytes_unbroken, tag_bytes_unbroken}
+use Rattle.csvw_ntriples.proofs.Unbroken.{Unbroken, in_line-append, in_line-parts, blank_in_line, string_bytes_unbroken, iri_bytes_unbroken}
+use Rattle.csvw_ntriples.proofs.Unbroken.{blank_bytes_unbroken, tag_bytes_unbroken}
 
 -- a line ends before it: it is empty, or begins with a break
 abbrev pub Ends : List ℕ → Type 0

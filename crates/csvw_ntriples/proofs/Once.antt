@@ -6,7 +6,8 @@ use Rattle.std.proofs.lemmas.Bool.Decides.{Decides-eqb}
 use Rattle.std.specs.List.{list_all}
 use Rattle.csvw_ntriples.specs.Character.{is_blank}
 use Rattle.csvw_ntriples.specs.Terminal.{InBytes, IsString, IsIriref, IsLangtag, IsBlankNode, StringPiece, IriPiece}
-use Rattle.csvw_ntriples.specs.Grammar.{Takes, IsLongest, IsMark, TakesIri, TakesBlank, TakesNode, TakesSuffix, TakesLit, TakesTerm, IsIdle, IsTripleLine, AreLines, Denotes}
+use Rattle.csvw_ntriples.specs.Grammar.{Takes, IsLongest, IsMark, TakesIri, TakesBlank, TakesNode, TakesSuffix, TakesLit, TakesTerm, IsIdle}
+use Rattle.csvw_ntriples.specs.Grammar.{IsTripleLine, AreLines, Denotes}
 use Rattle.csvw_ntriples.specs.Reading.{dark}
 use Rattle.csvw_ntriples.specs.declared.term.NtNode.{NtNode}
 use Rattle.csvw_ntriples.specs.declared.term.NtNode.TheVariants as node
@@ -21,7 +22,8 @@ dark_after [] c rest h k = rw k refl
 dark_after (b ∷ gap) c rest h k = let both = and_parts (is_blank b) (list_all is_blank gap) h in rw both.0 (dark_after gap c rest both.1 k)
 
 -- past the spaces and tabs there is one text
-pub gap_once : (g h : List ℕ) (c d : ℕ) (x y : List ℕ) → list_all is_blank g ≡ true → list_all is_blank h ≡ true → is_blank c ≡ false → is_blank d ≡ false → g ++ c ∷ x ≡ h ++ d ∷ y → c ∷ x ≡ d ∷ y
+pub gap_once : (g h : List ℕ) (c d : ℕ) (x y : List ℕ) → list_all is_blank g ≡ true → list_all is_blank h ≡ true → is_blank c ≡ false
+    → is_blank d ≡ false → g ++ c ∷ x ≡ h ++ d ∷ y → c ∷ x ≡ d ∷ y
 gap_once [] [] c d x y p q k l e = e
 gap_once [] (b ∷ h) c d x y p q k l e =
     let both = and_parts (is_blank b) (list_all is_blank h) q in let same : c ≡ b = cc in

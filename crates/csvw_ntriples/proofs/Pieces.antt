@@ -23,7 +23,8 @@ Once P = (p q r s : List ℕ) (c d : ℕ) → P p c → P q d → p ++ r ≡ q +
 abbrev pub BeginsNot : (List ℕ → ℕ → Type 0) → ℕ → Type 0
 BeginsNot P mark = (p r s : List ℕ) (c : ℕ) → P p c → p ++ r ≡ mark ∷ s → ⊥
 
-same_lengths : (m n : ℕ) (ds es : List ℕ) → m ≡ n → ((m ≡ 117) × (length ds ≡ 4)) ⊎ ((m ≡ 85) × (length ds ≡ 8)) → ((n ≡ 117) × (length es ≡ 4)) ⊎ ((n ≡ 85) × (length es ≡ 8)) → length ds ≡ length es
+same_lengths : (m n : ℕ) (ds es : List ℕ) → m ≡ n → ((m ≡ 117) × (length ds ≡ 4)) ⊎ ((m ≡ 85) × (length ds ≡ 8))
+    → ((n ≡ 117) × (length es ≡ 4)) ⊎ ((n ≡ 85) × (length es ≡ 8)) → length ds ≡ length es
 same_lengths m n ds es e (inl f) (inl g) = f.1 ∙ sym g.1
 same_lengths m n ds es e (inl f) (inr g) = let a : m ≡ 117 = f.0 in let b : n ≡ 85 = g.0 in absurd (omega arith)
 same_lengths m n ds es e (inr f) (inl g) = let a : m ≡ 85 = f.0 in let b : n ≡ 117 = g.0 in absurd (omega arith)
@@ -128,11 +129,13 @@ module _ (P : List ℕ → ℕ → Type 0) (mark : ℕ) (once : Once P) (begins 
       let t : x ≡ y = cc in (refl, f ∙ sym g, t)
   body_once [] (d ∷ n) a b x y f g e =
       let piece = g.0 in let rest = g.1 in
-      let whole : piece ++ (rest ++ mark ∷ y) ≡ mark ∷ x = sym (append_assoc piece rest (mark ∷ y)) ∙ (ap (λ z. z ++ mark ∷ y) (sym g.2) ∙ (sym e ∙ ap (λ z. z ++ mark ∷ x) f)) in
+      let whole : piece ++ (rest ++ mark ∷ y) ≡ mark ∷ x = sym (append_assoc piece rest (mark ∷ y))
+      ∙ (ap (λ z. z ++ mark ∷ y) (sym g.2) ∙ (sym e ∙ ap (λ z. z ++ mark ∷ x) f)) in
       absurd (begins piece (rest ++ mark ∷ y) x d g.3 whole)
   body_once (c ∷ m) [] a b x y f g e =
       let piece = f.0 in let rest = f.1 in
-      let whole : piece ++ (rest ++ mark ∷ x) ≡ mark ∷ y = sym (append_assoc piece rest (mark ∷ x)) ∙ (ap (λ z. z ++ mark ∷ x) (sym f.2) ∙ (e ∙ ap (λ z. z ++ mark ∷ y) g)) in
+      let whole : piece ++ (rest ++ mark ∷ x) ≡ mark ∷ y = sym (append_assoc piece rest (mark ∷ x))
+      ∙ (ap (λ z. z ++ mark ∷ x) (sym f.2) ∙ (e ∙ ap (λ z. z ++ mark ∷ y) g)) in
       absurd (begins piece (rest ++ mark ∷ x) y c f.3 whole)
   body_once (c ∷ m) (d ∷ n) a b x y f g e =
       let whole : f.0 ++ (f.1 ++ mark ∷ x) ≡ g.0 ++ (g.1 ++ mark ∷ y) =

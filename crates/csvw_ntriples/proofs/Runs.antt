@@ -1,5 +1,6 @@
 -- Runs of characters.
-use Rattle.std.proofs.Common.{◌≡◌, ◌<◌, ◌≤◌, ◌+◌, ℕ, zero, suc, List, [], ◌∷◌, ◌++◌, refl, sym, ap, ◌∙◌, subst, arith, true, false, Bool, length, take, drop, get_or, add-one, take_all, Option, Some, None}
+use Rattle.std.proofs.Common.{◌≡◌, ◌<◌, ◌≤◌, ◌+◌, ℕ, zero, suc, List, [], ◌∷◌, ◌++◌, refl, sym, ap, ◌∙◌, subst, arith, true, false, Bool, length}
+use Rattle.std.proofs.Common.{take, drop, get_or, add-one, take_all, Option, Some, None}
 use Rattle.std.proofs.lemmas.Bool.{and_parts}
 use Rattle.std.specs.List.{list_all}
 use Rattle.csvw_ntriples.specs.Character.{is_blank}
@@ -7,7 +8,8 @@ use Rattle.csvw_ntriples.specs.Reading.{Stops, IsRun, dark}
 use Rattle.csvw_ntriples.proofs.Spelled.{and_both}
 
 -- a run that ends at a character
-pub run_at : (p : ℕ → Bool) (text : List ℕ) (i c : ℕ) → i < length text → list_all p (take i text) ≡ true → c ≡ get_or text i c → p c ≡ false → IsRun p text (take i text) (drop i text)
+pub run_at : (p : ℕ → Bool) (text : List ℕ) (i c : ℕ) → i < length text → list_all p (take i text) ≡ true → c ≡ get_or text i c → p c ≡ false
+    → IsRun p text (take i text) (drop i text)
 run_at p [] i c l h e b = absurd (omega arith)
 run_at p (x ∷ xs) zero c l h e b = (refl, refl, subst (λ z. p z ≡ false) e b)
 run_at p (x ∷ xs) (suc i) c l h e b =
@@ -16,7 +18,8 @@ run_at p (x ∷ xs) (suc i) c l h e b =
     (ap (λ z. x ∷ z) rest.0, and_both _ _ both.0 rest.1, rest.2)
 
 -- one character more
-pub run_on : (p : ℕ → Bool) (text : List ℕ) (i c : ℕ) → i < length text → list_all p (take i text) ≡ true → c ≡ get_or text i c → p c ≡ true → list_all p (take (i + 1) text) ≡ true
+pub run_on : (p : ℕ → Bool) (text : List ℕ) (i c : ℕ) → i < length text → list_all p (take i text) ≡ true → c ≡ get_or text i c → p c ≡ true
+    → list_all p (take (i + 1) text) ≡ true
 run_on p text i c l h e b = rw add-one (go text i l h e)
   where
     go : (ys : List ℕ) (k : ℕ) → k < length ys → list_all p (take k ys) ≡ true → c ≡ get_or ys k c → list_all p (take (suc k) ys) ≡ true
@@ -25,7 +28,8 @@ run_on p text i c l h e b = rw add-one (go text i l h e)
     go (y ∷ ys) (suc k) l h e = let both = and_parts (p y) (list_all p (take k ys)) h in and_both _ _ both.0 (go ys k (omega arith) both.1 e)
 
 -- a run of the whole text
-pub run_all : (p : ℕ → Bool) (text : List ℕ) (i : ℕ) → length text ≤ i → list_all p (take i text) ≡ true → IsRun p text (take (length text) text) (drop (length text) text)
+pub run_all : (p : ℕ → Bool) (text : List ℕ) (i : ℕ) → length text ≤ i → list_all p (take i text) ≡ true
+    → IsRun p text (take (length text) text) (drop (length text) text)
 run_all p text i l h =
     let whole : list_all p text ≡ true = subst (λ (z : List ℕ). list_all p z ≡ true) (take_all i text l) h in
     go text whole

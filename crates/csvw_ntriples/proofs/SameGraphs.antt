@@ -1,6 +1,7 @@
 -- The triples with their labels are the graph of the triples.
 use Rattle.std.proofs.Common.{◌≡◌, List, [], ◌∷◌, sym, subst, arith, inl, inr, Contains, map}
-use Rattle.std.proofs.lemmas.List.Elements.{Contains-append_left, Contains-append_right, Contains-append_cases, Contains-push, Contains-push_cases, All-contains, All-from_recursion}
+use Rattle.std.proofs.lemmas.List.Elements.{Contains-append_left, Contains-append_right, Contains-append_cases, Contains-push, Contains-push_cases}
+use Rattle.std.proofs.lemmas.List.Elements.{All-contains, All-from_recursion}
 use Rattle.std.specs.List.{AllByRecursion}
 use Rattle.csvw_triples_core.specs.declared.origin.Origin.{Origin}
 use Rattle.csvw_triples_core.specs.declared.term.Triple.{Triple}

@@ -1,5 +1,6 @@
 -- What is written is a terminal, and the longest.
-use Rattle.std.proofs.Common.{◌≡◌, ℕ, List, [], ◌∷◌, ◌++◌, refl, sym, ap, ◌∙◌, subst, arith, true, false, Bool, cond, not, ◌&&◌, ◌||◌, append_assoc, inl, inr, length, length-append}
+use Rattle.std.proofs.Common.{◌≡◌, ℕ, List, [], ◌∷◌, ◌++◌, refl, sym, ap, ◌∙◌, subst, arith, true, false, Bool, cond, not, ◌&&◌, ◌||◌, append_assoc}
+use Rattle.std.proofs.Common.{inl, inr, length, length-append}
 use Rattle.std.proofs.lemmas.Bool.{and_parts}
 use Rattle.std.proofs.lemmas.Bool.Decides.{Decides-eqb}
 use Rattle.std.specs.Prelude.{codes, ◌==◌, flat_map}
@@ -57,7 +58,8 @@ string_written value = (flat_map escaped value, refl, spells_string value)
 
 -- a terminal between marks is the longest
 module _ (P : List ℕ → ℕ → Type 0) (mark : ℕ) where
-  between_longest : (v w b c more : List ℕ) → Spells P b v → Spells P c w → (b ++ mark ∷ []) ++ more ≡ c ++ mark ∷ [] → ((m n a d x y : List ℕ) → Spells P a m → Spells P d n → a ++ mark ∷ x ≡ d ++ mark ∷ y → (m ≡ n) × (a ≡ d) × (x ≡ y)) → more ≡ []
+  between_longest : (v w b c more : List ℕ) → Spells P b v → Spells P c w → (b ++ mark ∷ []) ++ more ≡ c ++ mark ∷ []
+      → ((m n a d x y : List ℕ) → Spells P a m → Spells P d n → a ++ mark ∷ x ≡ d ++ mark ∷ y → (m ≡ n) × (a ≡ d) × (x ≡ y)) → more ≡ []
   between_longest v w b c more f g e once =
       let whole : b ++ mark ∷ more ≡ c ++ mark ∷ [] = sym (append_assoc b (mark ∷ []) more) ∙ e in
       (once v w b c more [] f g whole).2
@@ -110,7 +112,12 @@ char_of false true false false z h = refl
 char_of false false x y z h = cc
 
 label_char : (c : ℕ) → is_letter_or_digit_char c ≡ true → is_label_char c ≡ true
-label_char c h = char_of (is_letter_char c) (is_digit_char c) (c == 95 || (c == 58 || (is_within 0xC0 0xD6 c || (is_within 0xD8 0xF6 c || (is_within 0xF8 0x2FF c || (is_within 0x370 0x37D c || (is_within 0x37F 0x1FFF c || (is_within 0x200C 0x200D c || (is_within 0x2070 0x218F c || (is_within 0x2C00 0x2FEF c || (is_within 0x3001 0xD7FF c || (is_within 0xF900 0xFDCF c || (is_within 0xFDF0 0xFFFD c || is_within 0x10000 0xEFFFF c))))))))))))) (c == 45) (c == 0xB7 || (is_within 0x300 0x36F c || is_within 0x203F 0x2040 c)) h
+label_char c h = char_of (is_letter_char c) (is_digit_char c) (c == 95
+    || (c == 58 || (is_within 0xC0 0xD6 c || (is_within 0xD8 0xF6 c || (is_within 0xF8 0x2FF c
+    || (is_within 0x370 0x37D c || (is_within 0x37F 0x1FFF c || (is_within 0x200C 0x200D c
+    || (is_within 0x2070 0x218F c || (is_within 0x2C00 0x2FEF c || (is_within 0x3001 0xD7FF c
+    || (is_within 0xF900 0xFDCF c || (is_within 0xFDF0 0xFFFD c || is_within 0x10000 0xEFFFF c))))))))))))) (c == 45)
+    (c == 0xB7 || (is_within 0x300 0x36F c || is_within 0x203F 0x2040 c)) h
 
 or_left : (a b : Bool) → a ≡ true → (a || b) ≡ true
 or_left true b h = refl
@@ -149,7 +156,8 @@ swap_or false false x y h = cc
 
 pub start_in_label : (c : ℕ) → is_label_start c ≡ true → in_label c ≡ true
 unfolding in_label
-start_in_label c h = or_left (is_label_char c) (c == 46) (swap_or (is_label_letter c) (is_digit_char c) (c == 45) (c == 0xB7 || (is_within 0x300 0x36F c || is_within 0x203F 0x2040 c)) h)
+start_in_label c h = or_left (is_label_char c) (c == 46)
+    (swap_or (is_label_letter c) (is_digit_char c) (c == 45) (c == 0xB7 || (is_within 0x300 0x36F c || is_within 0x203F 0x2040 c)) h)
 
 pub and_both : (a b : Bool) → a ≡ true → b ≡ true → (a && b) ≡ true
 and_both true b h k = k
@@ -194,7 +202,8 @@ onto_parts : (x : ℕ) (parts : List (List ℕ)) → AllPlain (onto_first x part
 onto_parts x [] h = ((and_parts (is_letter_or_digit_char x) true h.0).0, tt)
 onto_parts x (part ∷ parts) h = let both = and_parts (is_letter_or_digit_char x) (list_all is_letter_or_digit_char part) h.0 in (both.0, (both.1, h.1))
 
-split_at_dash : (x : ℕ) (xs : List ℕ) (b : Bool) → (x == 45) ≡ b → AllPlain (cond b ([] ∷ slice_split is_dash xs) (onto_first x (slice_split is_dash xs))) → (in_tag x ≡ true) × AllPlain (slice_split is_dash xs)
+split_at_dash : (x : ℕ) (xs : List ℕ) (b : Bool) → (x == 45) ≡ b
+    → AllPlain (cond b ([] ∷ slice_split is_dash xs) (onto_first x (slice_split is_dash xs))) → (in_tag x ≡ true) × AllPlain (slice_split is_dash xs)
 unfolding in_tag
 split_at_dash x xs true e h = (or_right (is_letter_or_digit_char x) (x == 45) e, h.1)
 split_at_dash x xs false e h = let k = onto_parts x (slice_split is_dash xs) h in (or_left (is_letter_or_digit_char x) (x == 45) k.0, k.1)

@@ -1,5 +1,6 @@
 -- What the parts of the reader find at the front of a text of characters.
-use Rattle.std.specs.Prelude.{ℕ, ◌≡◌, ◌||◌, ◌==◌, List, [], ◌∷◌, ◌++◌, Bool, false, true, if◌then◌else◌, Option, Some, None, Result, Ok, Err, ◌⊎◌, IsTrue, length, encode_utf8_all}
+use Rattle.std.specs.Prelude.{ℕ, ◌≡◌, ◌||◌, ◌==◌, List, [], ◌∷◌, ◌++◌, Bool, false, true, if◌then◌else◌, Option, Some, None, Result, Ok, Err, ◌⊎◌}
+use Rattle.std.specs.Prelude.{IsTrue, length, encode_utf8_all}
 use Rattle.std.specs.Borrow.{Bor}
 use Rattle.std.specs.Char.{IsScalar}
 use Rattle.std.specs.List.{list_all}
@@ -122,5 +123,6 @@ TakesLabel bytes text rest =
 -- the text is the longest language tag, of these bytes, and a rest
 abbrev pub TagBefore : List ℕ → List ℕ → List ℕ → Type 0
 TagBefore bytes text rest =
-    (tag : List ℕ) × (text ≡ tag ++ rest) × (is_language_tag tag ≡ true) × IsLongest (λ piece (v : List ℕ). (is_language_tag piece ≡ true) × (v ≡ piece)) tag rest
+    (tag : List ℕ) × (text ≡ tag ++ rest) × (is_language_tag tag ≡ true)
+    × IsLongest (λ piece (v : List ℕ). (is_language_tag piece ≡ true) × (v ≡ piece)) tag rest
     × (bytes ≡ encode_utf8_all tag)

@@ -1,5 +1,6 @@
 -- Objects of annotations are numbered as triples lead to them.
-use Rattle.std.proofs.Common.{◌≡◌, ℕ, ◌+◌, zero, suc, Bool, true, false, cond, List, [], ◌∷◌, ◌++◌, map, length, Option, Some, None, refl, sym, ap, ◌∙◌, append_assoc, arith}
+use Rattle.std.proofs.Common.{◌≡◌, ℕ, ◌+◌, zero, suc, Bool, true, false, cond, List, [], ◌∷◌, ◌++◌, map, length, Option, Some, None, refl, sym, ap}
+use Rattle.std.proofs.Common.{◌∙◌, append_assoc, arith}
 use Rattle.std.proofs.lemmas.List.Concat.{flat_map-append}
 use Rattle.csvw_columns.specs.declared.plan.Plan.{Plan}
 use Rattle.csvw_columns.specs.declared.plan.TablePlan.{TablePlan}
@@ -12,7 +13,8 @@ use Rattle.csvw_opening.specs.Annotations.{Said, literal, object, Annotations, n
 use Rattle.csvw_opening.specs.Blanks.{blanks_of, blanks, object_node}
 use Rattle.csvw_opening.specs.NotesTriples.{term_of, kind_triple, object_triples, notes_triples}
 use Rattle.csvw_opening.specs.Numbering.{number_in, note_numbers, counted}
-use Rattle.csvw_opening.specs.OpeningTriples.{group_node, node_of, about_group, about_table, notes_of, table_triples, table_blanks, tables_blanks, tables_triples, group_blanks, opening}
+use Rattle.csvw_opening.specs.OpeningTriples.{group_node, node_of, about_group, about_table, notes_of, table_triples, table_blanks, tables_blanks}
+use Rattle.csvw_opening.specs.OpeningTriples.{tables_triples, group_blanks, opening}
 
 -- counting
 

@@ -14,11 +14,13 @@ use Rattle.csvw_reading.proofs.Readers.{gave_next, steady_next, set_there, here_
 
 -- what a reader gave, by the events
 pub gave_as : {R : Type 0} (remaining : R → Option (List ℕ)) (n : ℕ) (r s : Counted R) (later : List Event) (bytes : List ℕ) (ended : Bool)
-    → text_of later (n + 1) ≡ bytes → ended_in later (n + 1) ≡ ended → Gave remaining r s bytes ended → Gave remaining r s (text_of later (n + 1)) (ended_in later (n + 1))
+    → text_of later (n + 1) ≡ bytes → ended_in later (n + 1) ≡ ended → Gave remaining r s bytes ended
+    → Gave remaining r s (text_of later (n + 1)) (ended_in later (n + 1))
 gave_as remaining n r s later bytes ended t e g =
     subst (λ b. Gave remaining r s (text_of later (n + 1)) b) (sym e) (subst (λ xs. Gave remaining r s xs ended) (sym t) g)
 
-module _ {R S : Type 0} (gains : S → List Triple → S → Type 0) (is_open : S → Bool) (failed : S → ℕ) (remaining : R → Option (List ℕ)) (start : S) (n : ℕ) (olds news : List (Counted R)) (old : Session S) (reads : ℕ) (k : ReadFirst gains is_open failed remaining start n olds news old reads) where
+module _ {R S : Type 0} (gains : S → List Triple → S → Type 0) (is_open : S → Bool) (failed : S → ℕ) (remaining : R → Option (List ℕ)) (start : S)
+    (n : ℕ) (olds news : List (Counted R)) (old : Session S) (reads : ℕ) (k : ReadFirst gains is_open failed remaining start n olds news old reads) where
   pub is_next : n < length old.plan.tables → IsNext old k.events (n + 1)
   is_next below = record {
     some = omega arith;
@@ -31,12 +33,14 @@ module _ {R S : Type 0} (gains : S → List Triple → S → Type 0) (is_open : 
     other : (i : ℕ) → i ≢ n → i + 1 ≢ n + 1
     other i ne e = ne (omega (arith, e))
 
-    pub read_next : (last : ℕ) → TableEnds gains is_open failed remaining start k.events (n + 1) r s new last → ReadFirst gains is_open failed remaining start (n + 1) olds (slice_set news n s) new last
+    pub read_next : (last : ℕ) → TableEnds gains is_open failed remaining start k.events (n + 1) r s new last
+        → ReadFirst gains is_open failed remaining start (n + 1) olds (slice_set news n s) new last
     read_next last e = record {
       events = e.took.later;
       stands = e.took.stands;
       many = e.took.many;
-      gave = gave_next remaining olds news n r s below was k.events e.took.later k.gave e.took.goes (gave_as remaining n r s e.took.later e.bytes true e.took.text e.took.ended_is e.gave);
+      gave = gave_next remaining olds news n r s below was k.events e.took.later k.gave e.took.goes
+          (gave_as remaining n r s e.took.later e.bytes true e.took.text e.took.ended_is e.gave);
       steady = steady_next remaining olds news n r s below was k.steady e.steady;
       ended = λ i lt. elim (here_or_not i n) [
         | inl same ↦ subst (λ j. ended_in e.took.later (j + 1) ≡ true) (sym same) e.took.ended_is
@@ -51,19 +55,22 @@ module _ {R S : Type 0} (gains : S → List Triple → S → Type 0) (is_open : 
     (olds news : List (Counted R)) (old : Session S) (events : List Event) (gave : GaveTexts remaining olds news events) (steady : AreSteady olds news)
     (r s : Counted R) (new : Session S) (below : n < length news) (was : slice_get olds n ≡ Some r) where
   module _ (first : Session S) (same : IsSame first old) (now_same : IsSame first new) where
-    fails : TableFails gains is_open failed remaining start events (n + 1) r s new → ReadFails gains is_open failed remaining start olds (slice_set news n s) first new
+    fails : TableFails gains is_open failed remaining start events (n + 1) r s new
+        → ReadFails gains is_open failed remaining start olds (slice_set news n s) first new
     fails e = record {
       events = e.took.later;
       same = now_same;
       stands = e.took.stands;
-      gave = gave_next remaining olds news n r s below was events e.took.later gave e.took.goes (gave_as remaining n r s e.took.later e.bytes false e.took.text e.took.ended_is e.gave);
+      gave = gave_next remaining olds news n r s below was events e.took.later gave e.took.goes
+          (gave_as remaining n r s e.took.later e.bytes false e.took.text e.took.ended_is e.gave);
       blame = elim e.blame [
         | inl f ↦ inl (record { i = n; before = r; after = s; was = was; is = set_there news n s below; failed = f })
         | inr m ↦ inr (subst (λ c. 2 ^ 40 ≤ c) (sym e.took.many) m.0, steady_next remaining olds news n r s below was steady m.1)
       ];
     }
 
-    stops_at : (later : List Event) (reason : Stop) → StopsAt gains is_open failed start old new later reason → StopsAt gains is_open failed start first new later reason
+    stops_at : (later : List Event) (reason : Stop) → StopsAt gains is_open failed start old new later reason
+        → StopsAt gains is_open failed start first new later reason
     stops_at later reason h = record {
       before = h.before;
       event = h.event;
@@ -76,7 +83,8 @@ module _ {R S : Type 0} (gains : S → List Triple → S → Type 0) (is_open : 
       takes = h.takes;
     }
 
-    stops : (reason : Stop) → TableStops gains is_open failed remaining start events (n + 1) r s old new reason → EventStops gains is_open failed remaining start olds (slice_set news n s) first new reason
+    stops : (reason : Stop) → TableStops gains is_open failed remaining start events (n + 1) r s old new reason
+        → EventStops gains is_open failed remaining start olds (slice_set news n s) first new reason
     stops reason e = record {
       events = e.later;
       stops = stops_at e.later reason e.stops;
@@ -84,7 +92,8 @@ module _ {R S : Type 0} (gains : S → List Triple → S → Type 0) (is_open : 
       steady = steady_next remaining olds news n r s below was steady e.steady;
     }
 
-    pub ends_early : (reason : Stop) (last : ℕ) → TableReads gains is_open failed remaining start events (n + 1) r s old new last (Err reason) → Reads gains is_open failed remaining start olds (slice_set news n s) first new (Err reason)
+    pub ends_early : (reason : Stop) (last : ℕ) → TableReads gains is_open failed remaining start events (n + 1) r s old new last (Err reason)
+        → Reads gains is_open failed remaining start olds (slice_set news n s) first new (Err reason)
     ends_early stop.Memory last h = stops stop.Memory h
     ends_early stop.Write last h = stops stop.Write h
     ends_early stop.Read last h = fails h

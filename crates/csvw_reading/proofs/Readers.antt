@@ -35,15 +35,18 @@ one_at xs i x y e f = let k : Some x ≡ Some y = sym e ∙ f in cc
 pub here_or_not : (j i : ℕ) → (j ≡ i) ⊎ (j ≢ i)
 here_or_not j i = elim (eqb_tells j i) [ inl p ↦ inl p.1 | inr q ↦ inr q.1 ]
 
-module _ {R : Type 0} (remaining : R → Option (List ℕ)) (olds news : List (Counted R)) (i : ℕ) (r s : Counted R) (below : i < length news) (was : slice_get olds i ≡ Some r) where
-  pub gave_next : (events later : List Event) → GaveTexts remaining olds news events → GoesOn (i + 1) events later → Gave remaining r s (text_of later (i + 1)) (ended_in later (i + 1))
+module _ {R : Type 0} (remaining : R → Option (List ℕ)) (olds news : List (Counted R)) (i : ℕ) (r s : Counted R) (below : i < length news)
+    (was : slice_get olds i ≡ Some r) where
+  pub gave_next : (events later : List Event) → GaveTexts remaining olds news events → GoesOn (i + 1) events later
+      → Gave remaining r s (text_of later (i + 1)) (ended_in later (i + 1))
       → GaveTexts remaining olds (slice_set news i s) later
   gave_next events later g goes gave = record {
     many = length-set news i s ∙ g.many;
     each = λ j a b p q. elim (here_or_not j i) [ inl e ↦ here j a b e p q | inr ne ↦ there j a b ne p q ];
   }
     where
-      here : (j : ℕ) (a b : Counted R) → j ≡ i → slice_get olds j ≡ Some a → slice_get (slice_set news i s) j ≡ Some b → Gave remaining a b (text_of later (j + 1)) (ended_in later (j + 1))
+      here : (j : ℕ) (a b : Counted R) → j ≡ i → slice_get olds j ≡ Some a → slice_get (slice_set news i s) j ≡ Some b
+          → Gave remaining a b (text_of later (j + 1)) (ended_in later (j + 1))
       here j a b e p q =
           let first : r ≡ a = one_at olds i r a was (subst (λ n. slice_get olds n ≡ Some a) e p) in
           let second : b ≡ s = set_same news i s b below (subst (λ n. slice_get (slice_set news i s) n ≡ Some b) e q) in
@@ -51,7 +54,8 @@ module _ {R : Type 0} (remaining : R → Option (List ℕ)) (olds news : List (C
           (subst (λ z. Gave remaining z b (text_of later (i + 1)) (ended_in later (i + 1))) first
           (subst (λ z. Gave remaining r z (text_of later (i + 1)) (ended_in later (i + 1))) (sym second) gave))
 
-      there : (j : ℕ) (a b : Counted R) → j ≢ i → slice_get olds j ≡ Some a → slice_get (slice_set news i s) j ≡ Some b → Gave remaining a b (text_of later (j + 1)) (ended_in later (j + 1))
+      there : (j : ℕ) (a b : Counted R) → j ≢ i → slice_get olds j ≡ Some a → slice_get (slice_set news i s) j ≡ Some b
+          → Gave remaining a b (text_of later (j + 1)) (ended_in later (j + 1))
       there j a b ne p q =
           let apart : j + 1 ≢ i + 1 = λ e. ne (omega (arith, e)) in
           subst (λ z. Gave remaining a b (text_of later (j + 1)) z) (sym (goes.ended (j + 1) apart))

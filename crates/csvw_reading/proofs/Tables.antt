@@ -1,5 +1,6 @@
 -- An event of one table more.
-use Rattle.std.proofs.Common.{◌≡◌, ◌<◌, ◌≤◌, ◌+◌, ℕ, Bool, true, false, List, [], ◌∷◌, ◌++◌, length, refl, sym, ap, ◌∙◌, subst, inl, inr, arith, length-append, Option, Result, Ok, Err}
+use Rattle.std.proofs.Common.{◌≡◌, ◌<◌, ◌≤◌, ◌+◌, ℕ, Bool, true, false, List, [], ◌∷◌, ◌++◌, length, refl, sym, ap, ◌∙◌, subst, inl, inr, arith}
+use Rattle.std.proofs.Common.{length-append, Option, Result, Ok, Err}
 use Rattle.csvw_text.specs.declared.counted.Counted.{Counted}
 use Rattle.csvw_text.specs.Counted.{failures_of}
 use Rattle.csvw_triples_core.specs.declared.term.Triple.{Triple}
@@ -28,9 +29,11 @@ goes_ended grow t events later h = record {
 one_longer : (events : List Event) (event : Event) (n : ℕ) → length events ≡ n → length (events ++ event ∷ []) ≡ n + 1
 one_longer events event n e = length-append events (event ∷ []) ∙ ap (λ k. k + 1) e
 
-module _ {S : Type 0} (gains : S → List Triple → S → Type 0) (is_open : S → Bool) (failed : S → ℕ) (grow : TextsGrow) (start : S) (events : List Event) (t : ℕ) where
+module _ {S : Type 0} (gains : S → List Triple → S → Type 0) (is_open : S → Bool) (failed : S → ℕ) (grow : TextsGrow) (start : S)
+    (events : List Event) (t : ℕ) where
   -- before any
-  pub took_none : (s : Session S) (reads : ℕ) → Stands gains is_open failed start events s → IsNext s events t → length events ≡ reads → Took gains is_open failed start events t [] false s reads
+  pub took_none : (s : Session S) (reads : ℕ) → Stands gains is_open failed start events s → IsNext s events t → length events ≡ reads
+      → Took gains is_open failed start events t [] false s reads
   took_none s reads h next many = record {
     later = events;
     goes = record { text = λ u ne. refl; ended = λ u ne. refl };
@@ -74,11 +77,14 @@ module _ {S : Type 0} (gains : S → List Triple → S → Type 0) (is_open : S 
     stands = takes start k.later k.stands;
   }
 
-  module _ {R : Type 0} (remaining : R → Option (List ℕ)) (r s : Counted R) (first old new : Session S) (bytes : List ℕ) (reads : ℕ) (k : Took gains is_open failed start events t bytes false old reads)
+  module _ {R : Type 0} (remaining : R → Option (List ℕ)) (r s : Counted R) (first old new : Session S) (bytes : List ℕ) (reads : ℕ)
+      (k : Took gains is_open failed start events t bytes false old reads)
       (same : IsSame first old) (some : 0 < t) (within : t ≤ length first.plan.tables) where
     -- an event that was answered with a stop
-    module _ (event : Event) (is_of : table_of event ≡ t) (goes : GoesOn t events (k.later ++ event ∷ [])) (gave : Gave remaining r s (text_of (k.later ++ event ∷ []) t) (ended_in (k.later ++ event ∷ []) t)) (steady : failures_of s ≡ failures_of r) where
-      stopped : (reason : Stop) → Takes gains is_open failed old new t event (Err reason) → TableStops gains is_open failed remaining start events t r s first new reason
+    module _ (event : Event) (is_of : table_of event ≡ t) (goes : GoesOn t events (k.later ++ event ∷ []))
+        (gave : Gave remaining r s (text_of (k.later ++ event ∷ []) t) (ended_in (k.later ++ event ∷ []) t)) (steady : failures_of s ≡ failures_of r) where
+      stopped : (reason : Stop) → Takes gains is_open failed old new t event (Err reason)
+          → TableStops gains is_open failed remaining start events t r s first new reason
       stopped reason takes = record {
         later = k.later ++ event ∷ [];
         goes = goes;
@@ -87,7 +93,8 @@ module _ {S : Type 0} (gains : S → List Triple → S → Type 0) (is_open : S 
         steady = steady;
       }
 
-      pub stops : (reason : Stop) (last : ℕ) → Takes gains is_open failed old new t event (Err reason) → TableReads gains is_open failed remaining start events t r s first new last (Err reason)
+      pub stops : (reason : Stop) (last : ℕ) → Takes gains is_open failed old new t event (Err reason)
+          → TableReads gains is_open failed remaining start events t r s first new last (Err reason)
       stops stop.Memory last takes = stopped stop.Memory takes
       stops stop.Write last takes = stopped stop.Write takes
       stops (stop.Rows u row reason) last takes = stopped (stop.Rows u row reason) takes
@@ -110,11 +117,13 @@ module _ {S : Type 0} (gains : S → List Triple → S → Type 0) (is_open : S 
     ends gave steady (Ok u) takes = record { bytes = bytes; took = took_end old new bytes reads u k takes; gave = gave; steady = steady }
     ends gave steady (Err reason) takes =
         stops (End t) refl (goes_ended grow t events k.later k.goes)
-        (subst (λ b. Gave remaining r s (text_of (k.later ++ End t ∷ []) t) b) (sym (grow.end_same k.later t)) (subst (λ xs. Gave remaining r s xs true) (sym (grow.end_text k.later t t ∙ k.text)) gave))
+        (subst (λ b. Gave remaining r s (text_of (k.later ++ End t ∷ []) t) b) (sym (grow.end_same k.later t))
+        (subst (λ xs. Gave remaining r s xs true) (sym (grow.end_text k.later t t ∙ k.text)) gave))
         steady reason (reads + 1) takes
 
     -- a piece that was answered with a stop
-    pub unfed : (piece : List ℕ) → Gave remaining r s (bytes ++ piece) false → failures_of s ≡ failures_of r → (reason : Stop) (last : ℕ) → Takes gains is_open failed old new t (Feed t piece) (Err reason)
+    pub unfed : (piece : List ℕ) → Gave remaining r s (bytes ++ piece) false → failures_of s ≡ failures_of r → (reason : Stop) (last : ℕ)
+        → Takes gains is_open failed old new t (Feed t piece) (Err reason)
         → TableReads gains is_open failed remaining start events t r s first new last (Err reason)
     unfed piece gave steady reason last takes =
         stops (Feed t piece) refl (goes_fed grow t piece events k.later k.goes)

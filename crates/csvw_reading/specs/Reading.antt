@@ -19,7 +19,8 @@ pub record Gave {R : Type 0} (remaining : R → Option (List ℕ)) (old new : Co
 -- the reader of each table gave its text
 pub record GaveTexts {R : Type 0} (remaining : R → Option (List ℕ)) (old new : List (Counted R)) (events : List Event) : Type 0 where
   pub many : length new ≡ length old
-  pub each : (i : ℕ) (r s : Counted R) → slice_get old i ≡ Some r → slice_get new i ≡ Some s → Gave remaining r s (text_of events (i + 1)) (ended_in events (i + 1))
+  pub each : (i : ℕ) (r s : Counted R) → slice_get old i ≡ Some r → slice_get new i ≡ Some s
+      → Gave remaining r s (text_of events (i + 1)) (ended_in events (i + 1))
 
 -- no reader failed
 abbrev pub AreSteady : {R : Type 0} → List (Counted R) → List (Counted R) → Type 0
@@ -39,7 +40,8 @@ abbrev pub IsSame : {S : Type 0} → Session S → Session S → Type 0
 IsSame old new = (new.plan ≡ old.plan) × (new.mode ≡ old.mode)
 
 -- the session took these events, but the last, which it answered with a stop
-pub record StopsAt {S : Type 0} (gains : S → List Triple → S → Type 0) (is_open : S → Bool) (failed : S → ℕ) (start : S) (old new : Session S) (events : List Event) (reason : Stop) : Type 0 where
+pub record StopsAt {S : Type 0} (gains : S → List Triple → S → Type 0) (is_open : S → Bool) (failed : S → ℕ) (start : S) (old new : Session S)
+    (events : List Event) (reason : Stop) : Type 0 where
   pub before : List Event
   pub event : Event
   pub all : events ≡ before ++ event ∷ []
@@ -55,7 +57,8 @@ abbrev pub AreMany : List Event → Type 0
 AreMany events = 2 ^ 40 ≤ length events
 
 -- each table was read to its end
-pub record ReadsAll {R S : Type 0} (gains : S → List Triple → S → Type 0) (is_open : S → Bool) (failed : S → ℕ) (remaining : R → Option (List ℕ)) (start : S) (olds news : List (Counted R)) (old new : Session S) : Type 0 where
+pub record ReadsAll {R S : Type 0} (gains : S → List Triple → S → Type 0) (is_open : S → Bool) (failed : S → ℕ) (remaining : R → Option (List ℕ))
+    (start : S) (olds news : List (Counted R)) (old new : Session S) : Type 0 where
   pub events : List Event
   pub same : IsSame old new
   pub stands : Stands gains is_open failed start events new
@@ -64,7 +67,8 @@ pub record ReadsAll {R S : Type 0} (gains : S → List Triple → S → Type 0) 
   pub ended : (i : ℕ) → i < length olds → ended_in events (i + 1) ≡ true
 
 -- a read failed, or too many were made; all rows of the texts so far were given
-pub record ReadFails {R S : Type 0} (gains : S → List Triple → S → Type 0) (is_open : S → Bool) (failed : S → ℕ) (remaining : R → Option (List ℕ)) (start : S) (olds news : List (Counted R)) (old new : Session S) : Type 0 where
+pub record ReadFails {R S : Type 0} (gains : S → List Triple → S → Type 0) (is_open : S → Bool) (failed : S → ℕ) (remaining : R → Option (List ℕ))
+    (start : S) (olds news : List (Counted R)) (old new : Session S) : Type 0 where
   pub events : List Event
   pub same : IsSame old new
   pub stands : Stands gains is_open failed start events new
@@ -72,14 +76,16 @@ pub record ReadFails {R S : Type 0} (gains : S → List Triple → S → Type 0)
   pub blame : OneFailed olds news ⊎ (AreMany events × AreSteady olds news)
 
 -- an event was answered with a stop
-pub record EventStops {R S : Type 0} (gains : S → List Triple → S → Type 0) (is_open : S → Bool) (failed : S → ℕ) (remaining : R → Option (List ℕ)) (start : S) (olds news : List (Counted R)) (old new : Session S) (reason : Stop) : Type 0 where
+pub record EventStops {R S : Type 0} (gains : S → List Triple → S → Type 0) (is_open : S → Bool) (failed : S → ℕ) (remaining : R → Option (List ℕ))
+    (start : S) (olds news : List (Counted R)) (old new : Session S) (reason : Stop) : Type 0 where
   pub events : List Event
   pub stops : StopsAt gains is_open failed start old new events reason
   pub gave : GaveTexts remaining olds news events
   pub steady : AreSteady olds news
 
 -- after all tables were read, or why not
-abbrev pub Reads : {R S : Type 0} → (S → List Triple → S → Type 0) → (S → Bool) → (S → ℕ) → (R → Option (List ℕ)) → S → List (Counted R) → List (Counted R) → Session S → Session S → Result Unit Stop → Type 0
+abbrev pub Reads : {R S : Type 0} → (S → List Triple → S → Type 0) → (S → Bool) → (S → ℕ) → (R → Option (List ℕ)) → S → List (Counted R)
+    → List (Counted R) → Session S → Session S → Result Unit Stop → Type 0
 Reads gains is_open failed remaining start olds news old new (Ok u) = ReadsAll gains is_open failed remaining start olds news old new
 Reads gains is_open failed remaining start olds news old new (Err stop.Read) = ReadFails gains is_open failed remaining start olds news old new
 Reads gains is_open failed remaining start olds news old new (Err stop.Memory) = EventStops gains is_open failed remaining start olds news old new stop.Memory

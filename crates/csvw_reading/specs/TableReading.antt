@@ -24,7 +24,8 @@ pub record GoesOn (t : ℕ) (events later : List Event) : Type 0 where
   pub ended : (u : ℕ) → u ≢ t → ended_in later u ≡ ended_in events u
 
 -- the session took these bytes of table t, and perhaps its end
-pub record Took {S : Type 0} (gains : S → List Triple → S → Type 0) (is_open : S → Bool) (failed : S → ℕ) (start : S) (events : List Event) (t : ℕ) (bytes : List ℕ) (ended : Bool) (now : Session S) (reads : ℕ) : Type 0 where
+pub record Took {S : Type 0} (gains : S → List Triple → S → Type 0) (is_open : S → Bool) (failed : S → ℕ) (start : S) (events : List Event) (t : ℕ)
+    (bytes : List ℕ) (ended : Bool) (now : Session S) (reads : ℕ) : Type 0 where
   pub later : List Event
   pub goes : GoesOn t events later
   pub text : text_of later t ≡ bytes
@@ -33,14 +34,16 @@ pub record Took {S : Type 0} (gains : S → List Triple → S → Type 0) (is_op
   pub stands : Stands gains is_open failed start later now
 
 -- the reader of the table was read to its end
-pub record TableEnds {R S : Type 0} (gains : S → List Triple → S → Type 0) (is_open : S → Bool) (failed : S → ℕ) (remaining : R → Option (List ℕ)) (start : S) (events : List Event) (t : ℕ) (r s : Counted R) (new : Session S) (reads : ℕ) : Type 0 where
+pub record TableEnds {R S : Type 0} (gains : S → List Triple → S → Type 0) (is_open : S → Bool) (failed : S → ℕ) (remaining : R → Option (List ℕ))
+    (start : S) (events : List Event) (t : ℕ) (r s : Counted R) (new : Session S) (reads : ℕ) : Type 0 where
   pub bytes : List ℕ
   pub took : Took gains is_open failed start events t bytes true new reads
   pub gave : Gave remaining r s bytes true
   pub steady : failures_of s ≡ failures_of r
 
 -- it failed, or too many reads were made
-pub record TableFails {R S : Type 0} (gains : S → List Triple → S → Type 0) (is_open : S → Bool) (failed : S → ℕ) (remaining : R → Option (List ℕ)) (start : S) (events : List Event) (t : ℕ) (r s : Counted R) (new : Session S) : Type 0 where
+pub record TableFails {R S : Type 0} (gains : S → List Triple → S → Type 0) (is_open : S → Bool) (failed : S → ℕ) (remaining : R → Option (List ℕ))
+    (start : S) (events : List Event) (t : ℕ) (r s : Counted R) (new : Session S) : Type 0 where
   pub bytes : List ℕ
   pub reads : ℕ
   pub took : Took gains is_open failed start events t bytes false new reads
@@ -48,18 +51,22 @@ pub record TableFails {R S : Type 0} (gains : S → List Triple → S → Type 0
   pub blame : (failures_of s ≡ one_more (failures_of r)) ⊎ ((2 ^ 40 ≤ reads) × (failures_of s ≡ failures_of r))
 
 -- an event of the table was answered with a stop
-pub record TableStops {R S : Type 0} (gains : S → List Triple → S → Type 0) (is_open : S → Bool) (failed : S → ℕ) (remaining : R → Option (List ℕ)) (start : S) (events : List Event) (t : ℕ) (r s : Counted R) (old new : Session S) (reason : Stop) : Type 0 where
+pub record TableStops {R S : Type 0} (gains : S → List Triple → S → Type 0) (is_open : S → Bool) (failed : S → ℕ) (remaining : R → Option (List ℕ))
+    (start : S) (events : List Event) (t : ℕ) (r s : Counted R) (old new : Session S) (reason : Stop) : Type 0 where
   pub later : List Event
   pub goes : GoesOn t events later
   pub stops : StopsAt gains is_open failed start old new later reason
   pub gave : Gave remaining r s (text_of later t) (ended_in later t)
   pub steady : failures_of s ≡ failures_of r
 
-abbrev pub TableReads : {R S : Type 0} → (S → List Triple → S → Type 0) → (S → Bool) → (S → ℕ) → (R → Option (List ℕ)) → S → List Event → ℕ → Counted R → Counted R → Session S → Session S → ℕ → Result Unit Stop → Type 0
+abbrev pub TableReads : {R S : Type 0} → (S → List Triple → S → Type 0) → (S → Bool) → (S → ℕ) → (R → Option (List ℕ)) → S → List Event → ℕ
+    → Counted R → Counted R → Session S → Session S → ℕ → Result Unit Stop → Type 0
 TableReads gains is_open failed remaining start events t r s old new reads (Ok u) = TableEnds gains is_open failed remaining start events t r s new reads
 TableReads gains is_open failed remaining start events t r s old new reads (Err stop.Read) = TableFails gains is_open failed remaining start events t r s new
-TableReads gains is_open failed remaining start events t r s old new reads (Err stop.Memory) = TableStops gains is_open failed remaining start events t r s old new stop.Memory
-TableReads gains is_open failed remaining start events t r s old new reads (Err stop.Write) = TableStops gains is_open failed remaining start events t r s old new stop.Write
+TableReads gains is_open failed remaining start events t r s old new reads (Err stop.Memory) =
+    TableStops gains is_open failed remaining start events t r s old new stop.Memory
+TableReads gains is_open failed remaining start events t r s old new reads (Err stop.Write) =
+    TableStops gains is_open failed remaining start events t r s old new stop.Write
 TableReads gains is_open failed remaining start events t r s old new reads (Err (stop.Rows u row reason)) =
     TableStops gains is_open failed remaining start events t r s old new (stop.Rows u row reason)
 TableReads gains is_open failed remaining start events t r s old new reads (Err (stop.Table u row reason)) =

@@ -8,7 +8,8 @@ use Rattle.csvw_session.specs.declared.session.Session.{Session}
 use Rattle.csvw_reading.specs.Reading.{GaveTexts, AreSteady}
 
 -- the first n tables were read to their ends, and no event of the others came
-pub record ReadFirst {R S : Type 0} (gains : S → List Triple → S → Type 0) (is_open : S → Bool) (failed : S → ℕ) (remaining : R → Option (List ℕ)) (start : S) (n : ℕ) (olds news : List (Counted R)) (now : Session S) (reads : ℕ) : Type 0 where
+pub record ReadFirst {R S : Type 0} (gains : S → List Triple → S → Type 0) (is_open : S → Bool) (failed : S → ℕ) (remaining : R → Option (List ℕ))
+    (start : S) (n : ℕ) (olds news : List (Counted R)) (now : Session S) (reads : ℕ) : Type 0 where
   pub events : List Event
   pub stands : Stands gains is_open failed start events now
   pub many : length events ≡ reads

@@ -3,7 +3,10 @@ use Rattle.std.specs.Prelude.{ℕ, Bool, true, false}
 use Rattle.std.specs.Ordering.{nat_cmp, ordering_then}
 use Rattle.std.specs.declared.cmp.Ordering.{Ordering}
 use Rattle.csvw_text.specs.declared.fault.Code.{Code}
-use Rattle.csvw_text.specs.declared.fault.Code.TheVariants.{UnknownProperty, HeaderMissing, HeaderCount, HeaderMismatch, Required, BadBoolean, BadInteger, BadDecimal, NumberTooLong, OutOfRange, BadDate, BadDateTime, WrongLength, TooShort, TooLong, BelowMinimum, AboveMaximum, BadUrl, UrlTooLong, DuplicateKey, NoReferencedRow, ManyReferencedRows}
+use Rattle.csvw_text.specs.declared.fault.Code.TheVariants.{UnknownProperty, HeaderMissing, HeaderCount, HeaderMismatch, Required, BadBoolean}
+use Rattle.csvw_text.specs.declared.fault.Code.TheVariants.{BadInteger, BadDecimal, NumberTooLong, OutOfRange, BadDate, BadDateTime, WrongLength}
+use Rattle.csvw_text.specs.declared.fault.Code.TheVariants.{TooShort, TooLong, BelowMinimum, AboveMaximum, BadUrl, UrlTooLong, DuplicateKey}
+use Rattle.csvw_text.specs.declared.fault.Code.TheVariants.{NoReferencedRow, ManyReferencedRows}
 use Rattle.csvw_text.specs.declared.fault.Fault.{Fault}
 use Rattle.csvw_text.specs.declared.fault.Place.{Place}
 use Rattle.csvw_text.specs.declared.fault.Kind.{Kind}

@@ -1,10 +1,12 @@
 -- Bytes and characters at a symbol that is ASCII.
-use Rattle.std.proofs.Common.{◌≡◌, ◌∙◌, ℕ, zero, suc, ◌+◌, ◌-◌, ◌<◌, Bool, true, false, ◌&&◌, ◌==◌, if◌then◌else◌, List, [], ◌∷◌, ◌++◌, length, take, drop, get_or, refl, sym, ap, subst, arith, length-append, drop-cons, add-one, ◌⊎◌, inl, inr, chars, nat_eq}
+use Rattle.std.proofs.Common.{◌≡◌, ◌∙◌, ℕ, zero, suc, ◌+◌, ◌-◌, ◌<◌, Bool, true, false, ◌&&◌, ◌==◌, if◌then◌else◌, List, [], ◌∷◌, ◌++◌, length, take}
+use Rattle.std.proofs.Common.{drop, get_or, refl, sym, ap, subst, arith, length-append, drop-cons, add-one, ◌⊎◌, inl, inr, chars, nat_eq}
 use Rattle.std.specs.Prelude.{IsUtf8, encode_utf8_all}
 use Rattle.std.proofs.lemmas.Bool.Decides.{nat_tests}
 use Rattle.std.proofs.lemmas.List.{take-append-drop}
 use Rattle.std.proofs.Math.Seq.{get_or-append_seam}
-use Rattle.std.proofs.lemmas.Str.{IsUtf8-take, IsUtf8-drop, IsUtf8-from_ascii, IsCharBoundary-before_ascii, IsCharBoundary-after_ascii, chars-append, chars-IsAscii, chars-nil, encodes-chars, encodes-append, encode_ascii}
+use Rattle.std.proofs.lemmas.Str.{IsUtf8-take, IsUtf8-drop, IsUtf8-from_ascii, IsCharBoundary-before_ascii, IsCharBoundary-after_ascii, chars-append}
+use Rattle.std.proofs.lemmas.Str.{chars-IsAscii, chars-nil, encodes-chars, encodes-append, encode_ascii}
 use Rattle.csvw_dialect.specs.declared.dialect.Dialect.{Dialect}
 use Rattle.csvw_rows.specs.Grammar.{terminator_len}
 use Rattle.csvw_rows.specs.Looks.{unsettled}
@@ -55,7 +57,8 @@ one_term d c cs (l, e) =
     let P : ℕ → Type 0 = λ k. TermAt d (k ∷ cs) in
     subst P (sym x) (record {
       same = ap (terminator_len d) (chars_ascii 10 cs (omega arith)) ∙ lf_again d (chars cs) l ∙ sym (lf_again d cs l);
-      behind = ap (λ n. chars (drop n (10 ∷ cs))) (lf_again d cs l) ∙ sym (ap (drop 1) (chars_ascii 10 cs (omega arith))) ∙ ap (λ n. drop n (chars (10 ∷ cs))) (sym (lf_again d cs l));
+      behind = ap (λ n. chars (drop n (10 ∷ cs))) (lf_again d cs l) ∙ sym (ap (drop 1) (chars_ascii 10 cs (omega arith)))
+          ∙ ap (λ n. drop n (chars (10 ∷ cs))) (sym (lf_again d cs l));
     })
 
 two_term : (d : Dialect) (c e : ℕ) (cs : List ℕ) → (d.line_terminators.crlf && (nat_eq 13 c && (nat_eq 10 e && true))) ≡ true → TermAt d (c ∷ e ∷ cs)
@@ -65,12 +68,14 @@ two_term d c e cs k =
     let both : c ∷ e ∷ cs ≡ 13 ∷ 10 ∷ cs = ap (λ x. x ∷ e ∷ cs) (is_char 13 c p.1) ∙ ap (λ x. 13 ∷ x ∷ cs) (is_char 10 e p.2) in
     subst (TermAt d) (sym both) (record {
       same = ap (terminator_len d) spelled ∙ crlf_again d (chars cs) p.0 ∙ sym (crlf_again d cs p.0);
-      behind = ap (λ n. chars (drop n (13 ∷ 10 ∷ cs))) (crlf_again d cs p.0) ∙ sym (ap (drop 2) spelled) ∙ ap (λ n. drop n (chars (13 ∷ 10 ∷ cs))) (sym (crlf_again d cs p.0));
+      behind = ap (λ n. chars (drop n (13 ∷ 10 ∷ cs))) (crlf_again d cs p.0) ∙ sym (ap (drop 2) spelled)
+          ∙ ap (λ n. drop n (chars (13 ∷ 10 ∷ cs))) (sym (crlf_again d cs p.0));
     })
 
 pub term_chars : (d : Dialect) (r : List ℕ) → 0 < terminator_len d r → TermAt d r
 term_chars d [] h = absurd (nothing_ends d h)
-term_chars d (c ∷ []) h = one_term d c [] (one_end d.line_terminators.crlf d.line_terminators.lf (nat_eq 13 c) (nat_eq 10 c) false false h (none d.line_terminators.crlf (nat_eq 13 c)))
+term_chars d (c ∷ []) h = one_term d c []
+    (one_end d.line_terminators.crlf d.line_terminators.lf (nat_eq 13 c) (nat_eq 10 c) false false h (none d.line_terminators.crlf (nat_eq 13 c)))
   where
     none : (a b : Bool) → (a && (b && false)) ≡ false
     none a b = grind arith
@@ -114,7 +119,8 @@ last_cr d (c ∷ []) = by_test (d.line_terminators.crlf && (c == 13)) refl
     split : (a b : Bool) → (a && b) ≡ true → (a ≡ true) × (b ≡ true)
     split a b e = (grind arith, grind arith)
 
-    by_test : (b : Bool) → (d.line_terminators.crlf && (c == 13)) ≡ b → ((if b then c ∷ [] else []) ≡ []) ⊎ ((d.line_terminators.crlf ≡ true) × ((front : List ℕ) × (c ∷ [] ≡ front ++ 13 ∷ [])))
+    by_test : (b : Bool) → (d.line_terminators.crlf && (c == 13)) ≡ b
+        → ((if b then c ∷ [] else []) ≡ []) ⊎ ((d.line_terminators.crlf ≡ true) × ((front : List ℕ) × (c ∷ [] ≡ front ++ 13 ∷ [])))
     by_test false e = inl refl
     by_test true e =
         let p = split d.line_terminators.crlf (c == 13) e in
@@ -130,11 +136,13 @@ last_byte xs n l e h =
     let k : n - 1 ≡ length xs = omega (arith, h, ap length e, length-append xs (13 ∷ [])) in
     (omega (arith, h, ap length e, length-append xs (13 ∷ [])), ap (λ i. get_or l i 0) k ∙ ap (λ y. get_or y (length xs) 0) e ∙ get_or-append_seam xs 13 [] 0)
 
-pub no_cr : (d : Dialect) (l : List ℕ) → IsUtf8 l → (d.line_terminators.crlf ≡ true → 0 < length l → get_or l (length l - 1) 0 ≡ 13 → ⊥) → unsettled d (chars l) ≡ []
+pub no_cr : (d : Dialect) (l : List ℕ) → IsUtf8 l → (d.line_terminators.crlf ≡ true → 0 < length l → get_or l (length l - 1) 0 ≡ 13 → ⊥)
+    → unsettled d (chars l) ≡ []
 no_cr d l u none = elim (last_cr d (chars l)) [
   | inl h ↦ h
   | inr h ↦
-      let spelled : l ≡ encode_utf8_all h.1.0 ++ 13 ∷ [] = sym (encodes-chars l u) ∙ ap encode_utf8_all h.1.1 ∙ encodes-append h.1.0 (13 ∷ []) ∙ ap (λ l. encode_utf8_all h.1.0 ++ (l ++ [])) (encode_ascii 13 (omega arith)) in
+      let spelled : l ≡ encode_utf8_all h.1.0 ++ 13 ∷ [] = sym (encodes-chars l u) ∙ ap encode_utf8_all h.1.1 ∙ encodes-append h.1.0 (13 ∷ [])
+      ∙ ap (λ l. encode_utf8_all h.1.0 ++ (l ++ [])) (encode_ascii 13 (omega arith)) in
       let b = last_byte (encode_utf8_all h.1.0) (length l) l spelled refl in
       absurd (none h.0 b.0 b.1)
 ]
@@ -155,21 +163,25 @@ text_empty (b ∷ bs) u = by_chars (chars (b ∷ bs)) (encodes-chars (b ∷ bs) 
 text_behind : (r : List ℕ) (n b : ℕ) → IsUtf8 r → n < length r → get_or r n 0 ≡ b → b < 128 → (m : ℕ) → m ≡ n + 1 → IsUtf8 (drop m r)
 text_behind r n b u h e low m same = subst (λ (k : ℕ). IsUtf8 (drop k r)) (sym same) (ascii_at r n b u h e low).back
 
-one_text : (d : Dialect) (c : ℕ) (cs : List ℕ) → (d.line_terminators.lf ≡ true) × (nat_eq 10 c ≡ true) → IsUtf8 (c ∷ cs) → IsUtf8 (drop (terminator_len d (c ∷ cs)) (c ∷ cs))
+one_text : (d : Dialect) (c : ℕ) (cs : List ℕ) → (d.line_terminators.lf ≡ true) × (nat_eq 10 c ≡ true) → IsUtf8 (c ∷ cs)
+    → IsUtf8 (drop (terminator_len d (c ∷ cs)) (c ∷ cs))
 one_text d c cs (l, e) u =
     let x = is_char 10 c e in
     text_behind (c ∷ cs) 0 c u (omega arith) refl (omega (arith, x)) (terminator_len d (c ∷ cs)) (ap (λ k. terminator_len d (k ∷ cs)) x ∙ lf_again d cs l)
 
-two_text : (d : Dialect) (c e : ℕ) (cs : List ℕ) → (d.line_terminators.crlf && (nat_eq 13 c && (nat_eq 10 e && true))) ≡ true → IsUtf8 (c ∷ e ∷ cs) → IsUtf8 (drop (terminator_len d (c ∷ e ∷ cs)) (c ∷ e ∷ cs))
+two_text : (d : Dialect) (c e : ℕ) (cs : List ℕ) → (d.line_terminators.crlf && (nat_eq 13 c && (nat_eq 10 e && true))) ≡ true → IsUtf8 (c ∷ e ∷ cs)
+    → IsUtf8 (drop (terminator_len d (c ∷ e ∷ cs)) (c ∷ e ∷ cs))
 two_text d c e cs k u =
     let p = and_three d.line_terminators.crlf (nat_eq 13 c) (nat_eq 10 e) k in
     let x = is_char 13 c p.1 in
     let y = is_char 10 e p.2 in
-    text_behind (c ∷ e ∷ cs) 1 e u (omega arith) refl (omega (arith, y)) (terminator_len d (c ∷ e ∷ cs)) (ap (λ k. terminator_len d (k ∷ e ∷ cs)) x ∙ ap (λ k. terminator_len d (13 ∷ k ∷ cs)) y ∙ crlf_again d cs p.0)
+    text_behind (c ∷ e ∷ cs) 1 e u (omega arith) refl (omega (arith, y)) (terminator_len d (c ∷ e ∷ cs))
+    (ap (λ k. terminator_len d (k ∷ e ∷ cs)) x ∙ ap (λ k. terminator_len d (13 ∷ k ∷ cs)) y ∙ crlf_again d cs p.0)
 
 pub term_text : (d : Dialect) (r : List ℕ) → 0 < terminator_len d r → IsUtf8 r → IsUtf8 (drop (terminator_len d r) r)
 term_text d [] h u = absurd (nothing_ends d h)
-term_text d (c ∷ []) h u = one_text d c [] (one_end d.line_terminators.crlf d.line_terminators.lf (nat_eq 13 c) (nat_eq 10 c) false false h (none d.line_terminators.crlf (nat_eq 13 c))) u
+term_text d (c ∷ []) h u = one_text d c []
+    (one_end d.line_terminators.crlf d.line_terminators.lf (nat_eq 13 c) (nat_eq 10 c) false false h (none d.line_terminators.crlf (nat_eq 13 c))) u
   where
     none : (a b : Bool) → (a && (b && false)) ≡ false
     none a b = grind arith
@@ -177,4 +189,5 @@ term_text d (c ∷ e ∷ cs) h u = by_crlf (d.line_terminators.crlf && (nat_eq 1
   where
     by_crlf : (b : Bool) → (d.line_terminators.crlf && (nat_eq 13 c && (nat_eq 10 e && true))) ≡ b → IsUtf8 (drop (terminator_len d (c ∷ e ∷ cs)) (c ∷ e ∷ cs))
     by_crlf true k = two_text d c e cs k u
-    by_crlf false k = one_text d c (e ∷ cs) (one_end d.line_terminators.crlf d.line_terminators.lf (nat_eq 13 c) (nat_eq 10 c) (nat_eq 10 e && true) false h k) u
+    by_crlf false k = one_text d c (e ∷ cs)
+        (one_end d.line_terminators.crlf d.line_terminators.lf (nat_eq 13 c) (nat_eq 10 c) (nat_eq 10 e && true) false h k) u

@@ -1,5 +1,6 @@
 -- How many bytes characters take.
-use Rattle.std.proofs.Common.{◌≡◌, ℕ, ◌+◌, ◌<◌, ◌≤◌, List, [], ◌∷◌, ◌++◌, length, take, get_or, ap, ◌∙◌, arith, append-nil, length-append, encode_utf8_all, drop}
+use Rattle.std.proofs.Common.{◌≡◌, ℕ, ◌+◌, ◌<◌, ◌≤◌, List, [], ◌∷◌, ◌++◌, length, take, get_or, ap, ◌∙◌, arith, append-nil, length-append}
+use Rattle.std.proofs.Common.{encode_utf8_all, drop}
 use Rattle.std.proofs.lemmas.Grind.{common_steps}
 use Rattle.std.proofs.lemmas.Str.{encodes-append, length-encode}
 use Rattle.std.proofs.lemmas.List.{take_more, take-append-drop}
@@ -11,7 +12,8 @@ pub byte_len_more : (xs : List ℕ) (i : ℕ) → i < length xs → byte_len (ta
 byte_len_more xs i h =
     let c = get_or xs i 0 in
     let one : length (encode_utf8_all (c ∷ [])) ≡ len_utf8 c = ap length (append-nil (encode_utf8 c)) ∙ length-encode c in
-    ap byte_len (take_more xs i 0 h) ∙ ap length (encodes-append (take i xs) (c ∷ [])) ∙ length-append (encode_utf8_all (take i xs)) (encode_utf8_all (c ∷ [])) ∙ ap (λ n. byte_len (take i xs) + n) one
+    ap byte_len (take_more xs i 0 h) ∙ ap length (encodes-append (take i xs) (c ∷ []))
+    ∙ length-append (encode_utf8_all (take i xs)) (encode_utf8_all (c ∷ [])) ∙ ap (λ n. byte_len (take i xs) + n) one
 
 take_all : (l : List ℕ) → take (length l) l ≡ l
 take_all l = grind (arith, common_steps)

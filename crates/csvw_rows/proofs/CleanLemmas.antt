@@ -1,5 +1,6 @@
 -- Text in which no symbol stands, as none of its bytes begins one.
-use Rattle.std.proofs.Common.{◌≡◌, ◌≢◌, ◌∙◌, ℕ, ◌-◌, ◌<◌, ◌≤◌, Bool, true, false, ◌&&◌, ◌==◌, not, if◌then◌else◌, List, [], ◌∷◌, ◌++◌, length, take, get_or, Option, Some, None, refl, sym, ap, subst, arith, append_assoc, append-nil, length-take, inl, inr, chars, nat_eq}
+use Rattle.std.proofs.Common.{◌≡◌, ◌≢◌, ◌∙◌, ℕ, ◌-◌, ◌<◌, ◌≤◌, Bool, true, false, ◌&&◌, ◌==◌, not, if◌then◌else◌, List, [], ◌∷◌, ◌++◌, length, take}
+use Rattle.std.proofs.Common.{get_or, Option, Some, None, refl, sym, ap, subst, arith, append_assoc, append-nil, length-take, inl, inr, chars, nat_eq}
 use Rattle.std.specs.Prelude.{IsUtf8, encode_utf8, encode_utf8_all, slice_index, unwrap_or}
 use Rattle.std.proofs.lemmas.Bool.Decides.{nat_tests}
 use Rattle.std.proofs.lemmas.List.{get_or-take}
@@ -19,11 +20,13 @@ use Rattle.csvw_rows.proofs.CutLemmas.{not_true, no_term, unsettled_last}
 use Rattle.csvw_rows.proofs.RunSteps.{ends_at, act_run, run_plain, differs}
 
 -- the bytes before the first place
-pub first_free : (test : ℕ → Bool) (l : List ℕ) (o : Option ℕ) → IsFirstByte test l o → (unwrap_or o (length l) ≤ length l) × ((k : ℕ) → k < unwrap_or o (length l) → test (slice_index l k) ≡ false)
+pub first_free : (test : ℕ → Bool) (l : List ℕ) (o : Option ℕ) → IsFirstByte test l o
+    → (unwrap_or o (length l) ≤ length l) × ((k : ℕ) → k < unwrap_or o (length l) → test (slice_index l k) ≡ false)
 first_free test l None h = (omega arith, λ k m. not_true (test (slice_index l k)) (h k (omega arith) m))
 first_free test l (Some n) h = ((let k = h.0.high in omega (arith, k)), λ k m. not_true (test (slice_index l k)) (h.0.before k (omega arith) m))
 
-pub bytes_fail : (test : ℕ → Bool) (l : List ℕ) (n at : ℕ) → n ≤ at → at ≤ length l → ((k : ℕ) → k < at → test (slice_index l k) ≡ false) → Fails test (take n l)
+pub bytes_fail : (test : ℕ → Bool) (l : List ℕ) (n at : ℕ) → n ≤ at → at ≤ length l → ((k : ℕ) → k < at → test (slice_index l k) ≡ false)
+    → Fails test (take n l)
 bytes_fail test l n at h w free =
     fails_at test (take n l) (λ i k. let m : i < n = omega (arith, k, length-take n l) in ap test (get_or-take n l i 0 m) ∙ free i (omega (arith, m, h)))
 
@@ -42,7 +45,8 @@ no_char test s b c rest e t f same =
 low_lead : (b : ℕ) → b < 128 → take 1 (encode_utf8 b) ≡ b ∷ []
 low_lead b h = ap (take 1) (encode_ascii b h)
 
-no_quote : (o : Option ℕ) (test : ℕ → Bool) (b c : ℕ) (rest : List ℕ) → ((q : ℕ) → o ≡ Some q → take 1 (encode_utf8 q) ≡ b ∷ []) → test b ≡ true → Fails test (encode_utf8 c ++ rest) → quote_is o c ≡ false
+no_quote : (o : Option ℕ) (test : ℕ → Bool) (b c : ℕ) (rest : List ℕ) → ((q : ℕ) → o ≡ Some q → take 1 (encode_utf8 q) ≡ b ∷ []) → test b ≡ true
+    → Fails test (encode_utf8 c ++ rest) → quote_is o c ≡ false
 no_quote None test b c rest e t f = refl
 no_quote (Some q) test b c rest e t f = differs c q (no_char test q b c rest (e q refl) t f)
 
@@ -76,12 +80,14 @@ escapes_none d l [] y f = tt
 escapes_none d l (c ∷ cs) y f =
     let test = is_byte2 l.quote l.escape in (
       no_quote d.quote_char test l.quote c (encode_utf8_all cs) y.quote (test_one l.quote l.escape) f,
-      (λ e. no_char test 92 92 c (encode_utf8_all cs) (low_lead 92 (omega arith)) (ap (is_byte2 l.quote l.escape) (sym (y.escape e)) ∙ test_two l.quote l.escape) f),
+      (λ e. no_char test 92 92 c (encode_utf8_all cs) (low_lead 92 (omega arith))
+          (ap (is_byte2 l.quote l.escape) (sym (y.escape e)) ∙ test_two l.quote l.escape) f),
       escapes_none d l cs y (fails_right test (encode_utf8 c) (encode_utf8_all cs) f),
     )
 
 -- what stands before the first place is clean
-pub plain_clean : (d : Dialect) (l : Leads) (text : List ℕ) (o : Option ℕ) (n : ℕ) → IsLeads d l → IsUtf8 (take n text) → IsFirstByte (is_byte3 l.delimiter l.quote 10) text o → n ≤ unwrap_or o (length text)
+pub plain_clean : (d : Dialect) (l : Leads) (text : List ℕ) (o : Option ℕ) (n : ℕ) → IsLeads d l → IsUtf8 (take n text)
+    → IsFirstByte (is_byte3 l.delimiter l.quote 10) text o → n ≤ unwrap_or o (length text)
     → (0 < n → slice_index text (n - 1) ≢ 13) → IsClean d Plain (chars (take n text))
 plain_clean d l text o n y u h w last =
     let f = first_free (is_byte3 l.delimiter l.quote 10) text o h in
@@ -93,7 +99,8 @@ plain_clean d l text o n y u h w last =
           last m (sym (get_or-take n text (n - 1) 0 (omega (arith, m))) ∙ ap (λ k. get_or (take n text) (k - 1) 0) (sym long) ∙ e)),
     )
 
-pub inside_clean : (d : Dialect) (l : Leads) (text : List ℕ) (o : Option ℕ) (n : ℕ) → IsLeads d l → IsUtf8 (take n text) → IsFirstByte (is_byte2 l.quote l.escape) text o → n ≤ unwrap_or o (length text) → IsClean d Inside (chars (take n text))
+pub inside_clean : (d : Dialect) (l : Leads) (text : List ℕ) (o : Option ℕ) (n : ℕ) → IsLeads d l → IsUtf8 (take n text)
+    → IsFirstByte (is_byte2 l.quote l.escape) text o → n ≤ unwrap_or o (length text) → IsClean d Inside (chars (take n text))
 inside_clean d l text o n y u h w =
     let f = first_free (is_byte2 l.quote l.escape) text o h in
     escapes_none d l (chars (take n text)) y (subst (Fails (is_byte2 l.quote l.escape)) (sym (encodes-chars (take n text) u))
@@ -135,19 +142,23 @@ inside_keeps d c ends q n = rw q (tests d.double_quote (c == 92) (λ e. differs 
     tests true b h = refl
     tests false b h = rw (h refl) refl
 
-inside_runs : (d : Dialect) (vs : List (List ℕ)) (cur cs after : List ℕ) → HasNoEscape d cs → run d Inside vs cur (cs ++ after) ≡ run d Inside vs (cur ++ cs) after
+inside_runs : (d : Dialect) (vs : List (List ℕ)) (cur cs after : List ℕ) → HasNoEscape d cs
+    → run d Inside vs cur (cs ++ after) ≡ run d Inside vs (cur ++ cs) after
 inside_runs d vs cur [] after h = ap (λ l. run d Inside vs l after) (sym (append-nil cur))
 inside_runs d vs cur (c ∷ cs) after h =
     ap (act_run d vs cur c (cs ++ after)) (inside_keeps d c (ends_at d (c ∷ cs ++ after)) h.0 h.1)
     ∙ inside_runs d vs (cur ++ c ∷ []) cs after h.2 ∙ ap (λ l. run d Inside vs l after) (append_assoc cur (c ∷ []) cs)
 
 nothing_runs : (d : Dialect) (st : State) (vs : List (List ℕ)) (cur cs after : List ℕ) → cs ≡ [] → run d st vs cur (cs ++ after) ≡ run d st vs (cur ++ cs) after
-nothing_runs d st vs cur cs after e = ap (λ l. run d st vs cur (l ++ after)) e ∙ ap (λ l. run d st vs l after) (sym (append-nil cur)) ∙ ap (λ l. run d st vs (cur ++ l) after) (sym e)
+nothing_runs d st vs cur cs after e = ap (λ l. run d st vs cur (l ++ after)) e ∙ ap (λ l. run d st vs l after) (sym (append-nil cur))
+    ∙ ap (λ l. run d st vs (cur ++ l) after) (sym e)
 
-pub clean_runs : (d : Dialect) (st : State) (vs : List (List ℕ)) (cur cs after : List ℕ) → IsClean d st cs → run d st vs cur (cs ++ after) ≡ run d st vs (cur ++ cs) after
+pub clean_runs : (d : Dialect) (st : State) (vs : List (List ℕ)) (cur cs after : List ℕ) → IsClean d st cs
+    → run d st vs cur (cs ++ after) ≡ run d st vs (cur ++ cs) after
 clean_runs d Start vs cur cs after h = nothing_runs d Start vs cur cs after h
 clean_runs d Plain vs cur cs after h =
-    sym (finish_open (run d Plain vs cur (cs ++ after))) ∙ run_plain false d vs cur cs after (plain_chunk d cs after h.0 h.1) ∙ finish_open (run d Plain vs (cur ++ cs) after)
+    sym (finish_open (run d Plain vs cur (cs ++ after))) ∙ run_plain false d vs cur cs after (plain_chunk d cs after h.0 h.1)
+    ∙ finish_open (run d Plain vs (cur ++ cs) after)
 clean_runs d Inside vs cur cs after h = inside_runs d vs cur cs after h
 clean_runs d Escaped vs cur cs after h = nothing_runs d Escaped vs cur cs after h
 clean_runs d Closed vs cur cs after h = nothing_runs d Closed vs cur cs after h

@@ -1,5 +1,7 @@
 -- A part of a row goes on to a row, or breaks a rule, or a row is complete in it.
-use Rattle.std.proofs.Common.{◌≡◌, ℕ, ◌+◌, ◌<◌, ◌≤◌, Bool, true, false, ◌&&◌, ◌||◌, ◌==◌, if◌then◌else◌, List, [], ◌∷◌, ◌++◌, length, take, Option, Some, None, option_map, refl, sym, ap, ◌∙◌, subst, arith, append_assoc, append-nil, length-append, ◌⊎◌, inl, inr, nat_lt, nat_eq}
+use Rattle.std.proofs.Common.{◌≡◌, ℕ, ◌+◌, ◌<◌, ◌≤◌, Bool, true, false, ◌&&◌, ◌||◌, ◌==◌, if◌then◌else◌, List, [], ◌∷◌, ◌++◌, length, take, Option}
+use Rattle.std.proofs.Common.{Some, None, option_map, refl, sym, ap, ◌∙◌, subst, arith, append_assoc, append-nil, length-append, ◌⊎◌, inl, inr}
+use Rattle.std.proofs.Common.{nat_lt, nat_eq}
 use Rattle.std.specs.List.{starts_with}
 use Rattle.std.proofs.lemmas.Bool.Decides.{nat_tests}
 use Rattle.std.proofs.lemmas.Grind.{common_steps}
@@ -25,7 +27,8 @@ use Rattle.csvw_rows.proofs.Sound.{sound}
 term_crlf : (d : Dialect) → d.line_terminators.crlf ≡ true → (terminator_of d ≡ 13 ∷ 10 ∷ []) × (terminator_len d (terminator_of d) ≡ 2)
 term_crlf d e = rw e (refl, refl)
 
-term_lf : (d : Dialect) → d.line_terminators.crlf ≡ false → d.line_terminators.lf ≡ true → (terminator_of d ≡ 10 ∷ []) × (terminator_len d (terminator_of d) ≡ 1)
+term_lf : (d : Dialect) → d.line_terminators.crlf ≡ false → d.line_terminators.lf ≡ true
+    → (terminator_of d ≡ 10 ∷ []) × (terminator_len d (terminator_of d) ≡ 1)
 term_lf d e f = rw (e, f) (refl, refl)
 
 or_second : (a b : Bool) → (a || b) ≡ true → a ≡ false → b ≡ true
@@ -47,7 +50,8 @@ pub term_some : (d : Dialect) → IsLawful d → 0 < terminator_len d (terminato
 term_some d w = let h = some_crlf d d.line_terminators.crlf refl in omega (arith, term_len d w)
 
 -- what isn't settled is a CR that begins a terminator
-one_unsettled : (crlf : Bool) (c : ℕ) (b : Bool) → (crlf && (c == 13)) ≡ b → ((if b then c ∷ [] else []) ≡ []) ⊎ (((if b then c ∷ [] else []) ≡ 13 ∷ []) × (crlf ≡ true))
+one_unsettled : (crlf : Bool) (c : ℕ) (b : Bool) → (crlf && (c == 13)) ≡ b
+    → ((if b then c ∷ [] else []) ≡ []) ⊎ (((if b then c ∷ [] else []) ≡ 13 ∷ []) × (crlf ≡ true))
 one_unsettled crlf c false e = inl refl
 one_unsettled crlf c true e = let same : c ≡ 13 = grind (arith, nat_tests) in let k : crlf ≡ true = grind (arith, nat_tests) in inr (ap (λ x. x ∷ []) same, k)
 
@@ -83,23 +87,27 @@ no_end_there d row after text e h = elim (unsettled_is d text) [
     none (r ∷ rs) after e h = absurd cc
 
     one : (row after : List ℕ) → 13 ∷ [] ≡ row ++ after → 0 < terminator_len d after → ⊥
-    one [] after e h = let k : 0 < terminator_len d (13 ∷ []) = (let P : List ℕ → Type 0 = λ x. 0 < terminator_len d x in subst P (sym e) h) in omega (arith, nil_tests d.line_terminators.crlf d.line_terminators.lf)
+    one [] after e h = let k : 0 < terminator_len d (13 ∷ []) = (let P : List ℕ → Type 0 = λ x. 0 < terminator_len d x in subst P (sym e) h) in
+        omega (arith, nil_tests d.line_terminators.crlf d.line_terminators.lf)
     one (r ∷ rs) after e h = none rs after (cc) h
 
 -- a pass that finds a row finds its end in the text
 pub found_within : (d : Dialect) (st : State) (vs : List (List ℕ)) (cur text : List ℕ) (values : List (List ℕ)) (after : List ℕ)
     → finish (run d st vs cur text) false ≡ Found values after → length after ≤ length text
-found_within d st vs cur text values after h = let r = sound false d st vs cur text values after h in omega (arith, ap length r.spelled, length-append r.row after)
+found_within d st vs cur text values after h = let r = sound false d st vs cur text values after h in
+    omega (arith, ap length r.spelled, length-append r.row after)
 
 ends_false : (d : Dialect) (after : List ℕ) → EndsRow false d after → 0 < terminator_len d after
 ends_false d after (inl h) = h
 ends_false d after (inr (t, e)) = absurd (grind arith)
 
-pub not_in_unsettled : (d : Dialect) (st : State) (vs : List (List ℕ)) (cur text : List ℕ) → found_row d (finish (run d st vs cur (unsettled d text)) false) ≡ None
+pub not_in_unsettled : (d : Dialect) (st : State) (vs : List (List ℕ)) (cur text : List ℕ)
+    → found_row d (finish (run d st vs cur (unsettled d text)) false) ≡ None
 not_in_unsettled d st vs cur text = by_outcome (finish (run d st vs cur (unsettled d text)) false) refl
   where
     by_outcome : (o : Outcome) → finish (run d st vs cur (unsettled d text)) false ≡ o → found_row d o ≡ None
-    by_outcome (Found values after) e = let r = sound false d st vs cur (unsettled d text) values after e in absurd (no_end_there d r.row after text r.spelled (ends_false d after r.ends))
+    by_outcome (Found values after) e = let r = sound false d st vs cur (unsettled d text) values after e in
+        absurd (no_end_there d r.row after text r.spelled (ends_false d after r.ends))
     by_outcome (Broken stop rest) e = refl
     by_outcome (Unfinished st vs cur) e = refl
 
@@ -126,19 +134,23 @@ settled_fits d part =
     take_long (length part) s n ∙ sym (take_front s (unsettled d part)) ∙ ap (take (length s)) (settled_all d part)
 
 -- a row as it is found, with its text
-pub found_is_row : (d : Dialect) (i : ℕ) (text after : List ℕ) (fields : Option (List (List ℕ))) → IsLawful d → next_row false d i (text ++ after) ≡ Some (fields, after)
+pub found_is_row : (d : Dialect) (i : ℕ) (text after : List ℕ) (fields : Option (List (List ℕ))) → IsLawful d
+    → next_row false d i (text ++ after) ≡ Some (fields, after)
     → IsRow d i (record { text = text; fields = fields }) after
 found_is_row d i text after fields w h =
     let r = row_sound false d i (text ++ after) fields after w h in
     subst (λ (x : List ℕ). IsRow d i (record { text = x; fields = fields }) after) (sym (append_cancel_right text r.row after r.spelled)) r.is_row
 
 -- a row that is there, by what is found
-pub other_found : (d : Dialect) (i : ℕ) (part rest after : List ℕ) (other : Row) → IsLawful d → part ++ rest ≡ other.text ++ after → IsRow d i other after → 0 < terminator_len d after
+pub other_found : (d : Dialect) (i : ℕ) (part rest after : List ℕ) (other : Row) → IsLawful d → part ++ rest ≡ other.text ++ after
+    → IsRow d i other after → 0 < terminator_len d after
     → next_row false d i (part ++ rest) ≡ Some (other.fields, after)
 other_found d i part rest after other w e r h = ap (next_row false d i) e ∙ row_complete false d i other after w r (inl h)
 
-pub note_next : (d : Dialect) (i : ℕ) (text : List ℕ) → is_note d i text ≡ true → next_row false d i text ≡ option_map (λ after. (None, after)) (line_of false d text)
-note_next d i text e = ap (λ (b : Bool). if b then option_map (λ after. (None, after)) (line_of false d text) else found_row d (pass false d Start [] [] text)) e
+pub note_next : (d : Dialect) (i : ℕ) (text : List ℕ) → is_note d i text ≡ true
+    → next_row false d i text ≡ option_map (λ after. (None, after)) (line_of false d text)
+note_next d i text e = ap (λ (b : Bool). if b then option_map (λ after. (None, after)) (line_of false d text) else found_row d
+    (pass false d Start [] [] text)) e
 
 pub fields_next : (f : Bool) (d : Dialect) (i : ℕ) (text : List ℕ) → is_note d i text ≡ false → next_row f d i text ≡ found_row d (pass f d Start [] [] text)
 fields_next f d i text e = ap (λ (b : Bool). if b then option_map (λ after. (None, after)) (line_of f d text) else found_row d (pass f d Start [] [] text)) e
@@ -149,7 +161,8 @@ line_none d text = by_line (line_of false d (unsettled d text)) refl
   where
     by_line : (o : Option (List ℕ)) → line_of false d (unsettled d text) ≡ o → o ≡ None
     by_line None e = refl
-    by_line (Some after) e = let r = line_sound false d (unsettled d text) after e in absurd (no_end_there d r.line after text r.spelled (ends_false d after r.ends))
+    by_line (Some after) e = let r = line_sound false d (unsettled d text) after e in
+        absurd (no_end_there d r.line after text r.spelled (ends_false d after r.ends))
 
 line_term : (d : Dialect) → IsLawful d → line_of false d (terminator_of d) ≡ Some (terminator_of d)
 line_term d w = line_complete false d [] (terminator_of d) tt (inl (term_some d w))
@@ -157,7 +170,8 @@ line_term d w = line_complete false d [] (terminator_of d) tt (inl (term_some d 
 pub clear_all : (d : Dialect) (part : List ℕ) → Clear d (settled d part) (unsettled d part)
 clear_all d part = subst (Clear d (settled d part)) (append-nil (unsettled d part)) (settled_clear d part [])
 
-pub continues_note : (d : Dialect) (i : ℕ) (part : List ℕ) → IsLawful d → is_note d i part ≡ true → line_of false d (settled d part) ≡ None → Continues d i part (length (settled d part))
+pub continues_note : (d : Dialect) (i : ℕ) (part : List ℕ) → IsLawful d → is_note d i part ≡ true → line_of false d (settled d part) ≡ None
+    → Continues d i part (length (settled d part))
 continues_note d i part w n e = record {
   within = omega (arith, settled_len d part);
   row = record { text = s; fields = None };
@@ -166,7 +180,8 @@ continues_note d i part w n e = record {
   is_row = found_is_row d i s (terminator_of d) None w found;
   fits = settled_fits d part;
   sure = sure;
-  incomplete = note_next d i part n ∙ ap (option_map (λ l. (None, l))) (ap (line_of false d) (sym (settled_all d part)) ∙ line_join d false s (unsettled d part) (clear_all d part) e ∙ line_none d part);
+  incomplete = note_next d i part n ∙ ap (option_map (λ l. (None, l)))
+      (ap (line_of false d) (sym (settled_all d part)) ∙ line_join d false s (unsettled d part) (clear_all d part) e ∙ line_none d part);
 }
   where
     s : List ℕ
@@ -185,14 +200,16 @@ continues_note d i part w n e = record {
     found = note_next d i (s ++ terminator_of d) (note_stays d i s (terminator_of d) note_s)
         ∙ ap (option_map (λ l. (None, l))) (line_join d false s (terminator_of d) (subst (Clear d s) closed (settled_clear d part more)) e ∙ line_term d w)
 
-    sure : (other : Row) (rest after : List ℕ) → part ++ rest ≡ other.text ++ after → IsRow d i other after → 0 < terminator_len d after → length s ≤ length other.text
+    sure : (other : Row) (rest after : List ℕ) → part ++ rest ≡ other.text ++ after → IsRow d i other after → 0 < terminator_len d after
+        → length s ≤ length other.text
     sure other rest after e' r h =
         let found = sym (note_next d i (part ++ rest) (note_stays d i part rest n)) ∙ other_found d i part rest after other w e' r h in
         let line = (line_some (line_of false d (part ++ rest)) other.fields after found).0 in
         let joined : line_of false d (unsettled d part ++ rest) ≡ Some after =
         sym (ap (line_of false d) (regroup d part rest) ∙ line_join d false s (unsettled d part ++ rest) (settled_clear d part rest) e) ∙ line in
         let l = line_sound false d (unsettled d part ++ rest) after joined in
-        row_reaches s (unsettled d part ++ rest) other.text after (sym (regroup d part rest) ∙ e') (omega (arith, ap length l.spelled, length-append l.line after))
+        row_reaches s (unsettled d part ++ rest) other.text after (sym (regroup d part rest) ∙ e')
+        (omega (arith, ap length l.spelled, length-append l.line after))
 
 -- a text that may become a comment
 pub starts_split : (prefix text : List ℕ) → starts_with nat_eq prefix text ≡ true → (tail : List ℕ) × (prefix ≡ text ++ tail)
@@ -207,7 +224,8 @@ starts_split (p ∷ ps) (c ∷ cs) h = joined (starts_split ps cs) (both (nat_eq
     same : (a b : ℕ) → nat_eq a b ≡ true → a ≡ b
     same a b e = grind (arith, nat_tests)
 
-    joined : (starts_with nat_eq ps cs ≡ true → (tail : List ℕ) × (ps ≡ cs ++ tail)) → (nat_eq c p ≡ true) × (starts_with nat_eq ps cs ≡ true) → (tail : List ℕ) × (p ∷ ps ≡ c ∷ cs ++ tail)
+    joined : (starts_with nat_eq ps cs ≡ true → (tail : List ℕ) × (ps ≡ cs ++ tail)) → (nat_eq c p ≡ true) × (starts_with nat_eq ps cs ≡ true)
+        → (tail : List ℕ) × (p ∷ ps ≡ c ∷ cs ++ tail)
     joined ih (e, f) = let t = ih f in (t.0, ap (λ x. x ∷ ps) (sym (same c p e)) ∙ ap (λ l. c ∷ l) t.1)
 
 pub starts_itself : (prefix : List ℕ) → starts_with nat_eq prefix prefix ≡ true
@@ -232,10 +250,12 @@ no_terminators : (d : Dialect) (text after : List ℕ) → has_break text ≡ fa
 no_terminators d [] after h = refl
 no_terminators d (c ∷ cs) after h =
     let p = break_parts (is_break c) (has_break cs) h in
-    ap (λ b. if b then Some (c ∷ cs ++ after) else line_of false d (cs ++ after)) (no_end d (c ∷ cs ++ after) (no_break_here d c (cs ++ after) p.0)) ∙ no_terminators d cs after p.1
+    ap (λ b. if b then Some (c ∷ cs ++ after) else line_of false d (cs ++ after)) (no_end d (c ∷ cs ++ after) (no_break_here d c (cs ++ after) p.0))
+    ∙ no_terminators d cs after p.1
 
 -- no row ends inside a text without line breaks
-not_inside : (d : Dialect) (part rest row after : List ℕ) → has_break part ≡ false → part ++ rest ≡ row ++ after → 0 < terminator_len d after → length part ≤ length row
+not_inside : (d : Dialect) (part rest row after : List ℕ) → has_break part ≡ false → part ++ rest ≡ row ++ after → 0 < terminator_len d after
+    → length part ≤ length row
 not_inside d [] rest row after b e h = omega arith
 not_inside d (c ∷ cs) rest [] [] b e h = absurd cc
 not_inside d (c ∷ cs) rest [] (a ∷ as') b e h =
@@ -248,7 +268,8 @@ not_inside d (c ∷ cs) rest (r ∷ rs) after b e h =
     let tails : cs ++ rest ≡ rs ++ after = cc in
     let k = not_inside d cs rest rs after p.1 tails h in omega arith
 
-found_not_here : (d : Dialect) (st : State) (vs : List (List ℕ)) (cur part : List ℕ) → has_break part ≡ false → found_row d (finish (run d st vs cur part) false) ≡ None
+found_not_here : (d : Dialect) (st : State) (vs : List (List ℕ)) (cur part : List ℕ) → has_break part ≡ false
+    → found_row d (finish (run d st vs cur part) false) ≡ None
 found_not_here d st vs cur part b = by_outcome (finish (run d st vs cur part) false) refl
   where
     by_outcome : (o : Outcome) → finish (run d st vs cur part) false ≡ o → found_row d o ≡ None
@@ -269,7 +290,8 @@ or_right : (a b : Bool) → b ≡ true → (a || b) ≡ true
 or_right true b h = refl
 or_right false b h = h
 
-pub continues_prefix : (d : Dialect) (i : ℕ) (part prefix : List ℕ) → IsLawful d → prefix_of d ≡ Some prefix → is_note d i part ≡ false → starts_with nat_eq prefix part ≡ true → Continues d i part (length part)
+pub continues_prefix : (d : Dialect) (i : ℕ) (part prefix : List ℕ) → IsLawful d → prefix_of d ≡ Some prefix → is_note d i part ≡ false
+    → starts_with nat_eq prefix part ≡ true → Continues d i part (length part)
 continues_prefix d i part prefix w o n m = record {
   within = omega arith;
   row = record { text = prefix; fields = None };
@@ -300,7 +322,8 @@ continues_prefix d i part prefix w o n m = record {
     found = note_next d i (prefix ++ terminator_of d) (note_stays d i prefix (terminator_of d) note)
         ∙ ap (option_map (λ l. (None, l))) (no_terminators d prefix (terminator_of d) whole ∙ line_term d w)
 
-pub continues_maybe : (d : Dialect) (i : ℕ) (part : List ℕ) → IsLawful d → is_note d i part ≡ false → may_be_note d part ≡ true → Continues d i part (length part)
+pub continues_maybe : (d : Dialect) (i : ℕ) (part : List ℕ) → IsLawful d → is_note d i part ≡ false → may_be_note d part ≡ true
+    → Continues d i part (length part)
 continues_maybe d i part w n m = by_prefix (prefix_of d) refl m
   where
     by_prefix : (o : Option (List ℕ)) → prefix_of d ≡ o → begins_prefix part o ≡ true → Continues d i part (length part)

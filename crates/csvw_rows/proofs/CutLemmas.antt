@@ -1,5 +1,7 @@
 -- Fields that are cut out of the bytes are fields of the grammar.
-use Rattle.std.proofs.Common.{◌≡◌, ◌≢◌, ◌∙◌, ℕ, ◌+◌, ◌-◌, ◌<◌, ◌≤◌, Bool, true, false, ◌&&◌, ◌||◌, ◌==◌, if◌then◌else◌, List, [], ◌∷◌, ◌++◌, length, take, drop, get_or, refl, sym, ap, subst, arith, append_assoc, length-take, length-drop, ◌⊎◌, inl, inr, chars, nat_eq, Some, None, Option}
+use Rattle.std.proofs.Common.{◌≡◌, ◌≢◌, ◌∙◌, ℕ, ◌+◌, ◌-◌, ◌<◌, ◌≤◌, Bool, true, false, ◌&&◌, ◌||◌, ◌==◌, if◌then◌else◌, List, [], ◌∷◌, ◌++◌, length}
+use Rattle.std.proofs.Common.{take, drop, get_or, refl, sym, ap, subst, arith, append_assoc, length-take, length-drop, ◌⊎◌, inl, inr, chars, nat_eq}
+use Rattle.std.proofs.Common.{Some, None, Option}
 use Rattle.std.specs.Prelude.{IsUtf8, encode_utf8_all, slice_range, slice_index, IfSome}
 use Rattle.std.specs.Str.{is_utf8}
 use Rattle.std.proofs.lemmas.Grind.{common_steps}
@@ -44,13 +46,15 @@ symbols_low d s y c e = elim (or_cases (c == s.delimiter) (c == s.quote) (c == 1
 ]
 
 -- no terminator begins at a character
-term_tests : (crlf lf a b x : Bool) → (crlf && (a && (x && true))) ≡ false → b ≡ false → ◌≡◌ {A = ℕ} (if crlf && (a && (x && true)) then 2 else (if lf && (b && true) then 1 else 0)) 0
+term_tests : (crlf lf a b x : Bool) → (crlf && (a && (x && true))) ≡ false → b ≡ false
+    → ◌≡◌ {A = ℕ} (if crlf && (a && (x && true)) then 2 else (if lf && (b && true) then 1 else 0)) 0
 term_tests crlf lf a b x e f = grind arith
 
 flip_false : (a b : ℕ) → a ≢ b → nat_eq b a ≡ false
 flip_false a b n = grind (arith, nat_tests)
 
-pub no_term : (d : Dialect) (c x : ℕ) (rest : List ℕ) → c ≢ 10 → (x ≢ 10) ⊎ ((d.line_terminators.crlf && (c == 13)) ≡ false) → terminator_len d (c ∷ x ∷ rest) ≡ 0
+pub no_term : (d : Dialect) (c x : ℕ) (rest : List ℕ) → c ≢ 10 → (x ≢ 10) ⊎ ((d.line_terminators.crlf && (c == 13)) ≡ false)
+    → terminator_len d (c ∷ x ∷ rest) ≡ 0
 no_term d c x rest n why = term_tests d.line_terminators.crlf d.line_terminators.lf (nat_eq 13 c) (nat_eq 10 c) (nat_eq 10 x) (by_why why) (flip_false c 10 n)
   where
     last_false : (crlf a : Bool) → (crlf && (a && (false && true))) ≡ false
@@ -112,12 +116,15 @@ range_from_zero : (r : List ℕ) (n : ℕ) → slice_range r 0 n ≡ take n r
 range_from_zero r n = grind (arith, common_steps)
 
 -- what comes behind a field
-behind_here : (d : Dialect) (s : Symbols) (r : List ℕ) (bound : Bound) (at : ℕ) (cut : Cut) → IsUtf8 r → IsSymbols d s → IsUtf8 (drop at r) → at ≤ length r → IsBehind d s r bound at cut
-    → (cut.next ≤ length r) × (at ≤ cut.next) × (is_utf8 (drop cut.next r) ≡ true) × (cut.ends ≡ false → (0 < cut.next) × (chars (drop at r) ≡ d.delimiter ∷ chars (drop cut.next r)))
+behind_here : (d : Dialect) (s : Symbols) (r : List ℕ) (bound : Bound) (at : ℕ) (cut : Cut) → IsUtf8 r → IsSymbols d s → IsUtf8 (drop at r)
+    → at ≤ length r → IsBehind d s r bound at cut
+    → (cut.next ≤ length r) × (at ≤ cut.next) × (is_utf8 (drop cut.next r) ≡ true)
+    × (cut.ends ≡ false → (0 < cut.next) × (chars (drop at r) ≡ d.delimiter ∷ chars (drop cut.next r)))
     × (cut.ends ≡ true → (0 < terminator_len d (drop cut.next r)) × (chars (drop at r) ≡ chars (drop cut.next r)))
 behind_here d s r bound at cut u y ua within b = by_ends cut.ends refl
   where
-    by_ends : (e : Bool) → cut.ends ≡ e → (cut.next ≤ length r) × (at ≤ cut.next) × (is_utf8 (drop cut.next r) ≡ true) × (cut.ends ≡ false → (0 < cut.next) × (chars (drop at r) ≡ d.delimiter ∷ chars (drop cut.next r)))
+    by_ends : (e : Bool) → cut.ends ≡ e → (cut.next ≤ length r) × (at ≤ cut.next) × (is_utf8 (drop cut.next r) ≡ true)
+        × (cut.ends ≡ false → (0 < cut.next) × (chars (drop at r) ≡ d.delimiter ∷ chars (drop cut.next r)))
         × (cut.ends ≡ true → (0 < terminator_len d (drop cut.next r)) × (chars (drop at r) ≡ chars (drop cut.next r)))
     by_ends true e =
         let h = b.ends e in
@@ -142,7 +149,8 @@ behind_here d s r bound at cut u y ua within b = by_ends cut.ends refl
 -- a field without quotes
 pub plain_cut : (d : Dialect) (s : Symbols) (r spare : List ℕ) (at : ℕ) (cut : Cut) → IsLawful d → IsSymbols d s → is_utf8 r ≡ true → at < length r
     → (slice_index r at ≡ 10) ⊎ (slice_index r at ≡ s.delimiter) → NoneBefore s r at
-    → (d.line_terminators.crlf ≡ true → 0 < at → slice_index r at ≡ 10 → slice_index r (at - 1) ≡ 13 → ⊥) → IsBehind d s r (lent_bound 0 at) at cut → IsCut d r spare cut
+    → (d.line_terminators.crlf ≡ true → 0 < at → slice_index r at ≡ 10 → slice_index r (at - 1) ≡ 13 → ⊥) → IsBehind d s r (lent_bound 0 at) at cut
+    → IsCut d r spare cut
 plain_cut d s r spare at cut w y ur within stands none no_crlf b = by_stands stands
   where
     u : IsUtf8 r
@@ -168,7 +176,8 @@ plain_cut d s r spare at cut w y ur within stands none no_crlf b = by_stands sta
           spelled = a.spelled;
           field = inl (subst (IsPlain d cs) (sym a.here_chars) plain, refl);
           text = encodes-chars (take at r) a.front ∙ sym (ap (bytes_at r spare) b.bound_is ∙ text);
-          bounded = ap (is_bound r spare) b.bound_is ∙ lent_is r spare 0 at (omega arith) (omega (arith, within)) (ap is_utf8 text ∙ is_utf8-from_IsUtf8 (take at r) a.front);
+          bounded = ap (is_bound r spare) b.bound_is
+              ∙ lent_is r spare 0 at (omega arith) (omega (arith, within)) (ap is_utf8 text ∙ is_utf8-from_IsUtf8 (take at r) a.front);
           inside = h.0;
           rest_text = h.2;
           goes_on = h.3;
@@ -210,7 +219,8 @@ crlf_cut d s r spare at cut w y ur within none crlf some lf cr bound next ends =
     let cs = chars (take n r) in
     let plain = plain_of d s cs 13 (chars (drop (n + 1) r)) y (none_before d s r at n y a.front (omega arith) none) (inl (λ h. omega (arith, h))) in
     let text = range_from_zero r n in
-    let term : terminator_len d (drop cut.next r) ≡ 2 = ap (λ k. terminator_len d (drop k r)) next ∙ ap (terminator_len d) two ∙ crlf_again d (drop (at + 1) r) crlf in
+    let term : terminator_len d (drop cut.next r) ≡ 2 = ap (λ k. terminator_len d (drop k r)) next ∙ ap (terminator_len d) two
+    ∙ crlf_again d (drop (at + 1) r) crlf in
     record {
       source = cs;
       value = cs;
@@ -218,7 +228,8 @@ crlf_cut d s r spare at cut w y ur within none crlf some lf cr bound next ends =
       spelled = a.spelled;
       field = inl (subst (IsPlain d cs) (sym a.here_chars) plain, refl);
       text = encodes-chars (take n r) a.front ∙ sym (ap (bytes_at r spare) bound ∙ text);
-      bounded = ap (is_bound r spare) bound ∙ lent_is r spare 0 n (omega arith) (omega (arith, within)) (ap is_utf8 text ∙ is_utf8-from_IsUtf8 (take n r) a.front);
+      bounded = ap (is_bound r spare) bound
+          ∙ lent_is r spare 0 n (omega arith) (omega (arith, within)) (ap is_utf8 text ∙ is_utf8-from_IsUtf8 (take n r) a.front);
       inside = omega (arith, next, within);
       rest_text = ap (λ k. is_utf8 (drop k r)) next ∙ is_utf8-from_IsUtf8 (drop n r) a.at;
       goes_on = λ f. absurd (let z = sym ends ∙ f in cc);
@@ -240,7 +251,8 @@ range_from_one : (r : List ℕ) (m : ℕ) → slice_range r 1 (m + 1) ≡ take m
 range_from_one r m = ap (λ k. take k (drop 1 r)) (let e : m + 1 - 1 ≡ m = omega arith in e)
 
 -- a field in quotes, the closing one so far behind the opening one
-module _ (d : Dialect) (s : Symbols) (r spare : List ℕ) (m : ℕ) (cut : Cut) (y : IsSymbols d s) (ur : is_utf8 r ≡ true) (some : 0 < length r) (quoted : s.quoted ≡ true) (opens : slice_index r 0 ≡ s.quote)
+module _ (d : Dialect) (s : Symbols) (r spare : List ℕ) (m : ℕ) (cut : Cut) (y : IsSymbols d s) (ur : is_utf8 r ≡ true) (some : 0 < length r)
+    (quoted : s.quoted ≡ true) (opens : slice_index r 0 ≡ s.quote)
     (within : m < length (drop 1 r)) (closes : slice_index (drop 1 r) m ≡ s.quote) where
   opened : AsciiAt r 0 s.quote
   opened = ascii_at r 0 s.quote (IsUtf8-from_is_utf8 r ur) some opens y.quote_ascii
@@ -251,7 +263,8 @@ module _ (d : Dialect) (s : Symbols) (r spare : List ℕ) (m : ℕ) (cut : Cut) 
   far : m + 1 < length r
   far = omega (arith, within, length-drop 1 r)
 
-  pub quoted_is : (bound : Bound) (value : List ℕ) → AreUnits d s.quote (chars (take m (drop 1 r))) value → encode_utf8_all value ≡ bytes_at r spare bound → is_bound r spare bound ≡ true
+  pub quoted_is : (bound : Bound) (value : List ℕ) → AreUnits d s.quote (chars (take m (drop 1 r))) value
+      → encode_utf8_all value ≡ bytes_at r spare bound → is_bound r spare bound ≡ true
       → IsBehind d s r bound (m + 2) cut → IsCut d r spare cut
   quoted_is bound value units text bounded b =
       let u = IsUtf8-from_is_utf8 r ur in
@@ -262,7 +275,8 @@ module _ (d : Dialect) (s : Symbols) (r spare : List ℕ) (m : ℕ) (cut : Cut) 
       let k = far in
       let h = behind_here d s r bound (m + 2) cut u y (subst IsUtf8 same closed.back) (omega (arith, k)) b in
       let whole : chars r ≡ q ∷ cs ++ q ∷ [] ++ chars (drop (m + 2) r) =
-      opened.here_chars ∙ ap (λ l. q ∷ l) (closed.spelled ∙ ap (λ l. cs ++ l) (closed.here_chars ∙ ap (λ l. q ∷ chars l) same)) ∙ sym (append_assoc (q ∷ cs) (q ∷ []) (chars (drop (m + 2) r))) in
+      opened.here_chars ∙ ap (λ l. q ∷ l) (closed.spelled ∙ ap (λ l. cs ++ l) (closed.here_chars ∙ ap (λ l. q ∷ chars l) same))
+      ∙ sym (append_assoc (q ∷ cs) (q ∷ []) (chars (drop (m + 2) r))) in
       let is_quote : d.quote_char ≡ Some q = y.quote ∙ ap (λ (b : Bool). if b then Some q else None) quoted in
       record {
         source = q ∷ cs ++ q ∷ [];
@@ -279,13 +293,15 @@ module _ (d : Dialect) (s : Symbols) (r spare : List ℕ) (m : ℕ) (cut : Cut) 
       }
 
   -- no quote stands inside
-  pub quoted_cut : ((k : ℕ) → k < m → is_byte s.quote (slice_index (drop 1 r) k) ≡ false) → IsBehind d s r (lent_bound 1 (m + 1)) (m + 2) cut → IsCut d r spare cut
+  pub quoted_cut : ((k : ℕ) → k < m → is_byte s.quote (slice_index (drop 1 r) k) ≡ false) → IsBehind d s r (lent_bound 1 (m + 1)) (m + 2) cut
+      → IsCut d r spare cut
   quoted_cut none b =
       let inside = drop 1 r in
       let q = s.quote in
       let k = far in
       let units = units_of d q (chars (take m inside)) y.double (none_pass (is_byte q) (byte_low q y.quote_ascii) (take m inside) closed.front
-      (fails_at (is_byte q) (take m inside) (λ i k. let l : i < m = omega (arith, k, length-take m inside) in ap (is_byte q) (get_or-take m inside i 0 l) ∙ none i l))) in
+      (fails_at (is_byte q) (take m inside)
+      (λ i k. let l : i < m = omega (arith, k, length-take m inside) in ap (is_byte q) (get_or-take m inside i 0 l) ∙ none i l))) in
       let text = range_from_one r m in
       quoted_is (lent_bound 1 (m + 1)) (chars (take m inside)) units (encodes-chars (take m inside) closed.front ∙ sym text)
       (lent_is r spare 1 (m + 1) (omega arith) (omega (arith, k)) (ap is_utf8 text ∙ is_utf8-from_IsUtf8 (take m inside) closed.front)) b

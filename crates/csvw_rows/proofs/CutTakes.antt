@@ -1,5 +1,6 @@
 -- A row whose fields were cut out of the bytes is a row that is taken.
-use Rattle.std.proofs.Common.{◌≡◌, ◌∙◌, ℕ, ◌+◌, ◌-◌, ◌<◌, ◌≤◌, Bool, true, false, List, ◌++◌, map, length, drop, Some, refl, sym, ap, arith, length-append, length-drop, inl, chars, nat_eq, nat_lt, ◌||◌}
+use Rattle.std.proofs.Common.{◌≡◌, ◌∙◌, ℕ, ◌+◌, ◌-◌, ◌<◌, ◌≤◌, Bool, true, false, List, ◌++◌, map, length, drop, Some, refl, sym, ap, arith}
+use Rattle.std.proofs.Common.{length-append, length-drop, inl, chars, nat_eq, nat_lt, ◌||◌}
 use Rattle.std.specs.Prelude.{IsUtf8, encode_utf8_all}
 use Rattle.std.specs.Str.{is_utf8}
 use Rattle.std.specs.List.{starts_with}
@@ -25,7 +26,8 @@ use Rattle.csvw_rows.proofs.Ascii.{term_chars, term_text}
 use Rattle.csvw_rows.proofs.Lookahead.{term_within}
 use Rattle.csvw_rows.proofs.Utf8.{drop_past}
 
-module _ (d : Dialect) (text : List ℕ) (start at : ℕ) (spare : List ℕ) (bounds : List Bound) (ut : is_utf8 (drop start text) ≡ true) (k : IsCutRow d text start at spare bounds) where
+module _ (d : Dialect) (text : List ℕ) (start at : ℕ) (spare : List ℕ) (bounds : List Bound) (ut : is_utf8 (drop start text) ≡ true)
+    (k : IsCutRow d text start at spare bounds) where
   row_bytes : byte_len k.row ≡ at - start
   row_bytes =
       let rest = drop at text in
@@ -59,7 +61,8 @@ module _ (d : Dialect) (text : List ℕ) (start at : ℕ) (spare : List ℕ) (bo
           s,
           (rw mine (map (trimmed d.trim) k.values, refl, (k.values, k.fields, refl))),
           ends,
-          ap (drop (length k.row + terminator_len d (drop at text))) s ∙ drop_past k.row after (terminator_len d (drop at text)) ∙ ap (λ n. drop n after) (sym same),
+          ap (drop (length k.row + terminator_len d (drop at text))) s ∙ drop_past k.row after (terminator_len d (drop at text))
+              ∙ ap (λ n. drop n after) (sym same),
         );
       }
 
@@ -68,24 +71,28 @@ module _ (d : Dialect) (text : List ℕ) (start at : ℕ) (spare : List ℕ) (bo
   cut_rest =
       let t = terminator_len d (drop at text) in
       let f = k.from_start in
-      drop-drop ((at - start) + t) start text ∙ ap (λ n. drop n text) (let e : start + ((at - start) + t) ≡ at + t = omega (arith, f) in e) ∙ sym (drop-drop t at text)
+      drop-drop ((at - start) + t) start text ∙ ap (λ n. drop n text) (let e : start + ((at - start) + t) ≡ at + t = omega (arith, f) in e)
+      ∙ sym (drop-drop t at text)
 
   pub cut_text : is_utf8 (drop ((at - start) + terminator_len d (drop at text)) (drop start text)) ≡ true
   cut_text =
       let rest = drop at text in
       ap is_utf8 cut_rest ∙ is_utf8-from_IsUtf8 (drop (terminator_len d rest) rest) (term_text d rest k.ends (IsUtf8-from_is_utf8 rest k.rest_text))
 
-  pub cut_same : chars (drop ((at - start) + terminator_len d (drop at text)) (drop start text)) ≡ drop (length k.row + terminator_len d (drop at text)) (chars (drop start text))
+  pub cut_same : chars (drop ((at - start) + terminator_len d (drop at text)) (drop start text))
+      ≡ drop (length k.row + terminator_len d (drop at text)) (chars (drop start text))
   cut_same =
       let after = chars (drop at text) in
       let t = term_chars d (drop at text) k.ends in
-      ap chars cut_rest ∙ t.behind ∙ sym (ap (drop (length k.row + terminator_len d (drop at text))) k.spelled ∙ drop_past k.row after (terminator_len d (drop at text)))
+      ap chars cut_rest ∙ t.behind
+      ∙ sym (ap (drop (length k.row + terminator_len d (drop at text))) k.spelled ∙ drop_past k.row after (terminator_len d (drop at text)))
 
   pub cut_within : terminator_len d (drop at text) ≤ length (drop at text) → (at - start) + terminator_len d (drop at text) ≤ length (drop start text)
   cut_within h = let f = k.from_start in let w = k.within in omega (arith, h, f, w, length-drop at text, length-drop start text)
 
 -- a text that doesn't begin with the bytes of the prefix doesn't begin with its characters
-pub no_prefix : (rest prefix : List ℕ) → IsUtf8 rest → IsUtf8 prefix → starts_with nat_eq rest prefix ≡ false → starts_with nat_eq (chars rest) (chars prefix) ≡ false
+pub no_prefix : (rest prefix : List ℕ) → IsUtf8 rest → IsUtf8 prefix → starts_with nat_eq rest prefix ≡ false
+    → starts_with nat_eq (chars rest) (chars prefix) ≡ false
 no_prefix rest prefix u v e = by_test (starts_with nat_eq (chars rest) (chars prefix)) refl
   where
     by_test : (b : Bool) → starts_with nat_eq (chars rest) (chars prefix) ≡ b → b ≡ false
@@ -107,7 +114,8 @@ no_note d i rest h e = neither (nat_lt i d.skip_rows) (begins_with (chars rest) 
 
 -- the fields of the row at the front of a reader's text were cut
 pub cut_has : (t : Rows) (at n : ℕ) → t.rules.dialect.trim ≡ No → t.row < t.max_rows → is_note t.rules.dialect t.row (rest_of t.source) ≡ false
-    → IsCutRow t.rules.dialect (text_items t.source) (taken_of t.source) at t.spare.items t.fields.items → IsRowLen t.rules.dialect (text_items t.source) (taken_of t.source) at n → HasFields t n
+    → IsCutRow t.rules.dialect (text_items t.source) (taken_of t.source) at t.spare.items t.fields.items
+    → IsRowLen t.rules.dialect (text_items t.source) (taken_of t.source) at n → HasFields t n
 cut_has t at n trim few note k l =
     let d = t.rules.dialect in
     let text = text_items t.source in

@@ -19,4 +19,5 @@ unfolding utf8_error_len
 no_error = refl
 
 pub whole_is_good : (bytes : List ℕ) → IsUtf8 bytes → false ≡ is_some (utf8_error_len (drop (utf8_valid_len bytes) bytes))
-whole_is_good bytes u = sym (ap (λ n. is_some (utf8_error_len (drop n bytes))) (utf8_valid_len-IsUtf8 bytes u) ∙ ap (λ l. is_some (utf8_error_len l)) (drop_all bytes) ∙ no_error)
+whole_is_good bytes u = sym (ap (λ n. is_some (utf8_error_len (drop n bytes))) (utf8_valid_len-IsUtf8 bytes u)
+    ∙ ap (λ l. is_some (utf8_error_len l)) (drop_all bytes) ∙ no_error)

@@ -1,12 +1,14 @@
 -- The front of a row that was read, and what reading it on does.
-use Rattle.std.proofs.Common.{◌≡◌, ◌∙◌, ℕ, zero, suc, ◌+◌, ◌-◌, ◌<◌, ◌≤◌, Bool, true, false, ◌&&◌, if◌then◌else◌, List, [], ◌∷◌, ◌++◌, map, length, take, drop, refl, sym, ap, subst, arith, append-nil, length-append, ◌⊎◌, inl, inr, chars, nat_lt, nat_eq}
+use Rattle.std.proofs.Common.{◌≡◌, ◌∙◌, ℕ, zero, suc, ◌+◌, ◌-◌, ◌<◌, ◌≤◌, Bool, true, false, ◌&&◌, if◌then◌else◌, List, [], ◌∷◌, ◌++◌, map, length}
+use Rattle.std.proofs.Common.{take, drop, refl, sym, ap, subst, arith, append-nil, length-append, ◌⊎◌, inl, inr, chars, nat_lt, nat_eq}
 use Rattle.std.specs.Prelude.{IsUtf8, encode_utf8, encode_utf8_all, slice_range, slice_index, nat_le, Result, Ok, Err, is_ok, OnOk}
 use Rattle.std.specs.Str.{is_utf8}
 use Rattle.std.proofs.lemmas.Grind.{common_steps}
 use Rattle.std.proofs.lemmas.Bool.Decides.{nat_tests}
 use Rattle.std.proofs.lemmas.List.{take-append-drop, drop-drop, map-append}
 use Rattle.std.proofs.lemmas.List.Folds.{list_all-append}
-use Rattle.std.proofs.lemmas.Str.{chars-nil, IsUtf8-nil, IsUtf8-append, IsUtf8-from_is_utf8, is_utf8-from_IsUtf8, chars-append, encodes-chars, chars_past_char, encode_ascii, IsUtf8-take, IsCharBoundary-from_drop}
+use Rattle.std.proofs.lemmas.Str.{chars-nil, IsUtf8-nil, IsUtf8-append, IsUtf8-from_is_utf8, is_utf8-from_IsUtf8, chars-append, encodes-chars}
+use Rattle.std.proofs.lemmas.Str.{chars_past_char, encode_ascii, IsUtf8-take, IsCharBoundary-from_drop}
 use Rattle.csvw_dialect.specs.declared.dialect.Dialect.{Dialect}
 use Rattle.csvw_rows.specs.declared.bound.Bound.{Bound}
 use Rattle.csvw_rows.specs.declared.draft.Draft.{Draft}
@@ -48,18 +50,23 @@ drop_front n a b h = grind (arith, common_steps)
 pub kept_text : {T E : Type 0} (r : Result T E) (from : ℕ) (old piece new : List ℕ) → from ≤ length old → is_utf8 (drop from old) ≡ true → IsUtf8 piece
     → new ≡ (if is_ok r then old ++ piece else old) → is_utf8 (drop from new) ≡ true
 kept_text (Ok x) from old piece new h u v e =
-    ap (λ l. is_utf8 (drop from l)) e ∙ ap is_utf8 (drop_front from old piece h) ∙ is_utf8-from_IsUtf8 (drop from old ++ piece) (IsUtf8-append (drop from old) piece (IsUtf8-from_is_utf8 (drop from old) u) v)
+    ap (λ l. is_utf8 (drop from l)) e ∙ ap is_utf8 (drop_front from old piece h)
+    ∙ is_utf8-from_IsUtf8 (drop from old ++ piece) (IsUtf8-append (drop from old) piece (IsUtf8-from_is_utf8 (drop from old) u) v)
 kept_text (Err x) from old piece new h u v e = ap (λ l. is_utf8 (drop from l)) e ∙ u
 
-pub kept_apart : {T E : Type 0} (r : Result T E) (old piece new : List ℕ) (bounds : List Bound) → apart_all old bounds ≡ true → new ≡ (if is_ok r then old ++ piece else old)
+pub kept_apart : {T E : Type 0} (r : Result T E) (old piece new : List ℕ) (bounds : List Bound) → apart_all old bounds ≡ true
+    → new ≡ (if is_ok r then old ++ piece else old)
     → (apart_all new bounds ≡ true) × (texts_apart new bounds ≡ texts_apart old bounds)
-kept_apart (Ok x) old piece new bounds a e = let m = all_more old piece bounds a in (ap (λ l. apart_all l bounds) e ∙ m.0, ap (λ l. texts_apart l bounds) e ∙ m.1)
+kept_apart (Ok x) old piece new bounds a e = let m = all_more old piece bounds a in
+    (ap (λ l. apart_all l bounds) e ∙ m.0, ap (λ l. texts_apart l bounds) e ∙ m.1)
 kept_apart (Err x) old piece new bounds a e = (ap (λ l. apart_all l bounds) e ∙ a, ap (λ l. texts_apart l bounds) e)
 
-pub kept_current : {T E : Type 0} (r : Result T E) (from c : ℕ) (old piece new : List ℕ) → from ≤ length old → is_utf8 (drop from old) ≡ true → IsUtf8 piece → chars piece ≡ c ∷ []
+pub kept_current : {T E : Type 0} (r : Result T E) (from c : ℕ) (old piece new : List ℕ) → from ≤ length old → is_utf8 (drop from old) ≡ true
+    → IsUtf8 piece → chars piece ≡ c ∷ []
     → new ≡ (if is_ok r then old ++ piece else old) → OnOk r (chars (drop from new) ≡ chars (drop from old) ++ c ∷ [])
 kept_current (Ok x) from c old piece new h u v p e =
-    ap (λ l. chars (drop from l)) e ∙ ap chars (drop_front from old piece h) ∙ chars-append (drop from old) piece (IsUtf8-from_is_utf8 (drop from old) u) ∙ ap (λ l. chars (drop from old) ++ l) p
+    ap (λ l. chars (drop from l)) e ∙ ap chars (drop_front from old piece h)
+    ∙ chars-append (drop from old) piece (IsUtf8-from_is_utf8 (drop from old) u) ∙ ap (λ l. chars (drop from old) ++ l) p
 kept_current (Err x) from c old piece new h u v p e = tt
 
 -- one more field that is whole
@@ -69,19 +76,23 @@ two_parts a b c d e f g h i j = rw (f, g, h, i, j) refl
 range_to_end : (l : List ℕ) (from to : ℕ) → to ≡ length l → from ≤ to → slice_range l from to ≡ drop from l
 range_to_end l from to e h = grind (arith, common_steps)
 
-pub closed_apart : {T E : Type 0} (r : Result T E) (texts : List ℕ) (bounds new : List Bound) (b : Bound) → apart_all texts bounds ≡ true → b.from ≤ length texts → b.to ≡ length texts → b.apart ≡ true
+pub closed_apart : {T E : Type 0} (r : Result T E) (texts : List ℕ) (bounds new : List Bound) (b : Bound) → apart_all texts bounds ≡ true
+    → b.from ≤ length texts → b.to ≡ length texts → b.apart ≡ true
     → is_utf8 (drop b.from texts) ≡ true → new ≡ (if is_ok r then bounds ++ b ∷ [] else bounds) → apart_all texts new ≡ true
 closed_apart (Ok x) texts bounds new b a h t p u e =
     ap (apart_all texts) e ∙ list_all-append (λ b. is_apart texts b) bounds (b ∷ [])
-    ∙ two_parts _ _ _ _ _ a p (let k : b.from ≤ b.to = omega (arith, h, t) in grind (arith, nat_tests)) (let k : b.to ≤ length texts = omega (arith, t) in grind (arith, nat_tests))
+    ∙ two_parts _ _ _ _ _ a p (let k : b.from ≤ b.to = omega (arith, h, t) in grind (arith, nat_tests))
+    (let k : b.to ≤ length texts = omega (arith, t) in grind (arith, nat_tests))
     (ap is_utf8 (range_to_end texts b.from b.to t (omega (arith, h, t))) ∙ u)
 closed_apart (Err x) texts bounds new b a h t p u e = ap (apart_all texts) e ∙ a
 
 pub closed_values : {T E : Type 0} (r : Result T E) (texts : List ℕ) (bounds new : List Bound) (b : Bound) → b.from ≤ length texts → b.to ≡ length texts
-    → new ≡ (if is_ok r then bounds ++ b ∷ [] else bounds) → OnOk r (map chars (texts_apart texts new) ≡ map chars (texts_apart texts bounds) ++ chars (drop b.from texts) ∷ [])
+    → new ≡ (if is_ok r then bounds ++ b ∷ [] else bounds)
+    → OnOk r (map chars (texts_apart texts new) ≡ map chars (texts_apart texts bounds) ++ chars (drop b.from texts) ∷ [])
 closed_values (Ok x) texts bounds new b h t e =
     ap (λ l. map chars (texts_apart texts l)) e ∙ ap (map chars) (map-append (λ b. slice_range texts b.from b.to) bounds (b ∷ []))
-    ∙ map-append chars (texts_apart texts bounds) (slice_range texts b.from b.to ∷ []) ∙ ap (λ l. map chars (texts_apart texts bounds) ++ chars l ∷ []) (range_to_end texts b.from b.to t (omega (arith, h, t)))
+    ∙ map-append chars (texts_apart texts bounds) (slice_range texts b.from b.to ∷ [])
+    ∙ ap (λ l. map chars (texts_apart texts bounds) ++ chars l ∷ []) (range_to_end texts b.from b.to t (omega (arith, h, t)))
 closed_values (Err x) texts bounds new b h t e = tt
 
 pub closed_current : {T E : Type 0} (r : Result T E) (texts : List ℕ) (to : ℕ) → to ≡ length texts → OnOk r (chars (drop to texts) ≡ [])
@@ -101,7 +112,8 @@ pub one_char : (text : List ℕ) (c : ℕ) → IsUtf8 text → text ≡ encode_u
 one_char text c u e = chars_past_char text [] c u (e ∙ sym (append-nil (encode_utf8 c))) ∙ ap (λ l. c ∷ l) chars-nil
 
 -- quotes that open
-pub open_runs : (d : Dialect) (st : State) (vs : List (List ℕ)) (cur new : List ℕ) (c : ℕ) (cs : List ℕ) (ends : Bool) → nat_lt 0 (terminator_len d (c ∷ cs)) ≡ ends → step_of d st c ends ≡ Open → new ≡ []
+pub open_runs : (d : Dialect) (st : State) (vs : List (List ℕ)) (cur new : List ℕ) (c : ℕ) (cs : List ℕ) (ends : Bool)
+    → nat_lt 0 (terminator_len d (c ∷ cs)) ≡ ends → step_of d st c ends ≡ Open → new ≡ []
     → run d st vs cur (c ∷ cs) ≡ run d Inside vs new cs
 open_runs d st vs cur new c cs ends e f g = ap (act_run d vs cur c cs) (ap (step_of d st c) e ∙ f) ∙ ap (λ l. run d Inside vs l cs) (sym g)
 
@@ -111,7 +123,8 @@ settled_snoc d [] e = rw e refl
 settled_snoc d (c ∷ []) e = ap (λ l. c ∷ l) (settled_snoc d [] e)
 settled_snoc d (c ∷ x ∷ cs) e = ap (λ l. c ∷ l) (settled_snoc d (x ∷ cs) e)
 
-pub settled_cut : (d : Dialect) (r : List ℕ) → IsUtf8 r → d.line_terminators.crlf ≡ true → 0 < length r → slice_index r (length r - 1) ≡ 13 → chars (take (length r - 1) r) ≡ settled d (chars r)
+pub settled_cut : (d : Dialect) (r : List ℕ) → IsUtf8 r → d.line_terminators.crlf ≡ true → 0 < length r → slice_index r (length r - 1) ≡ 13
+    → chars (take (length r - 1) r) ≡ settled d (chars r)
 settled_cut d r u crlf some cr =
     let n = length r - 1 in
     let a = ascii_at r n 13 u (omega (arith, some)) cr (omega arith) in
@@ -122,11 +135,13 @@ settled_cut d r u crlf some cr =
     gone : (l : List ℕ) (n : ℕ) → n ≡ length l → drop n l ≡ []
     gone l n e = grind (arith, common_steps)
 
-pub settled_none : (d : Dialect) (r : List ℕ) → IsUtf8 r → (d.line_terminators.crlf ≡ true → 0 < length r → slice_index r (length r - 1) ≡ 13 → ⊥) → chars r ≡ settled d (chars r)
+pub settled_none : (d : Dialect) (r : List ℕ) → IsUtf8 r → (d.line_terminators.crlf ≡ true → 0 < length r → slice_index r (length r - 1) ≡ 13 → ⊥)
+    → chars r ≡ settled d (chars r)
 settled_none d r u n = sym (settled_all d (chars r)) ∙ ap (λ l. settled d (chars r) ++ l) (no_cr d r u n) ∙ append-nil (settled d (chars r))
 
 -- the texts of fields that are whole
-pub encoded_all : (texts : List ℕ) (bounds : List Bound) → apart_all texts bounds ≡ true → texts_apart texts bounds ≡ map encode_utf8_all (map chars (texts_apart texts bounds))
+pub encoded_all : (texts : List ℕ) (bounds : List Bound) → apart_all texts bounds ≡ true
+    → texts_apart texts bounds ≡ map encode_utf8_all (map chars (texts_apart texts bounds))
 encoded_all texts [] e = refl
 encoded_all texts (b ∷ bs) e =
     let t = both (is_apart texts b) (apart_all texts bs) e in
@@ -149,17 +164,20 @@ one_code d c cs (l, e) =
     let P : ℕ → Type 0 = λ k. 0 < terminator_len d (encode_utf8_all (k ∷ cs)) in
     subst P (sym (is_char 10 c e)) (omega (arith, ap (terminator_len d) (enc_low 10 cs (omega arith)), lf_again d (encode_utf8_all cs) l))
 
-two_codes : (d : Dialect) (c e : ℕ) (cs : List ℕ) → (d.line_terminators.crlf && (nat_eq 13 c && (nat_eq 10 e && true))) ≡ true → 0 < terminator_len d (encode_utf8_all (c ∷ e ∷ cs))
+two_codes : (d : Dialect) (c e : ℕ) (cs : List ℕ) → (d.line_terminators.crlf && (nat_eq 13 c && (nat_eq 10 e && true))) ≡ true
+    → 0 < terminator_len d (encode_utf8_all (c ∷ e ∷ cs))
 two_codes d c e cs k =
     let p = and_three d.line_terminators.crlf (nat_eq 13 c) (nat_eq 10 e) k in
-    let spelled : encode_utf8_all (13 ∷ 10 ∷ cs) ≡ 13 ∷ 10 ∷ encode_utf8_all cs = enc_low 13 (10 ∷ cs) (omega arith) ∙ ap (λ l. 13 ∷ l) (enc_low 10 cs (omega arith)) in
+    let spelled : encode_utf8_all (13 ∷ 10 ∷ cs) ≡ 13 ∷ 10 ∷ encode_utf8_all cs = enc_low 13 (10 ∷ cs) (omega arith)
+    ∙ ap (λ l. 13 ∷ l) (enc_low 10 cs (omega arith)) in
     let both : c ∷ e ∷ cs ≡ 13 ∷ 10 ∷ cs = ap (λ x. x ∷ e ∷ cs) (is_char 13 c p.1) ∙ ap (λ x. 13 ∷ x ∷ cs) (is_char 10 e p.2) in
     let P : List ℕ → Type 0 = λ l. 0 < terminator_len d (encode_utf8_all l) in
     subst P (sym both) (omega (arith, ap (terminator_len d) spelled, crlf_again d (encode_utf8_all cs) p.0))
 
 pub term_codes : (d : Dialect) (cs : List ℕ) → 0 < terminator_len d cs → 0 < terminator_len d (encode_utf8_all cs)
 term_codes d [] h = absurd (nothing_ends d h)
-term_codes d (c ∷ []) h = one_code d c [] (one_end d.line_terminators.crlf d.line_terminators.lf (nat_eq 13 c) (nat_eq 10 c) false false h (none d.line_terminators.crlf (nat_eq 13 c)))
+term_codes d (c ∷ []) h = one_code d c []
+    (one_end d.line_terminators.crlf d.line_terminators.lf (nat_eq 13 c) (nat_eq 10 c) false false h (none d.line_terminators.crlf (nat_eq 13 c)))
   where
     none : (a b : Bool) → (a && (b && false)) ≡ false
     none a b = grind arith
@@ -210,11 +228,14 @@ pub map_twice : {X Y Z : Type 0} (f : Y → Z) (g : X → Y) (l : List X) → ma
 map_twice f g [] = refl
 map_twice f g (x ∷ xs) = ap (λ l. f (g x) ∷ l) (map_twice f g xs)
 
-pub kept_texts : (from : ℕ) (old piece new : List ℕ) → from ≤ length old → is_utf8 (drop from old) ≡ true → new ≡ old ++ piece → chars (drop from new) ≡ chars (drop from old) ++ chars piece
-kept_texts from old piece new h u e = ap (λ l. chars (drop from l)) e ∙ ap chars (drop_front from old piece h) ∙ chars-append (drop from old) piece (IsUtf8-from_is_utf8 (drop from old) u)
+pub kept_texts : (from : ℕ) (old piece new : List ℕ) → from ≤ length old → is_utf8 (drop from old) ≡ true → new ≡ old ++ piece
+    → chars (drop from new) ≡ chars (drop from old) ++ chars piece
+kept_texts from old piece new h u e = ap (λ l. chars (drop from l)) e ∙ ap chars (drop_front from old piece h)
+    ∙ chars-append (drop from old) piece (IsUtf8-from_is_utf8 (drop from old) u)
 
 -- the end of a text behind what was kept of it
-pub back_kept : (text rest left : List ℕ) → length rest ≤ length text → drop (length text - length rest) text ≡ rest → drop (length rest - length left) rest ≡ left
+pub back_kept : (text rest left : List ℕ) → length rest ≤ length text → drop (length text - length rest) text ≡ rest
+    → drop (length rest - length left) rest ≡ left
     → (length left ≤ length text) × (drop (length text - length left) text ≡ left)
 back_kept text rest left h e f =
     let n = length rest - length left in

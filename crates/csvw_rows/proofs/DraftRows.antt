@@ -1,5 +1,6 @@
 -- A row at the front that was read on to its end is a row that is taken, or one that is too long.
-use Rattle.std.proofs.Common.{◌≡◌, ◌≢◌, ◌∙◌, ℕ, ◌+◌, ◌<◌, ◌≤◌, Bool, true, if◌then◌else◌, List, [], ◌++◌, map, length, take, drop, Option, Some, None, option_map, sym, ap, arith, length-append, length-drop, length-take, ◌⊎◌, inl, inr, chars}
+use Rattle.std.proofs.Common.{◌≡◌, ◌≢◌, ◌∙◌, ℕ, ◌+◌, ◌<◌, ◌≤◌, Bool, true, if◌then◌else◌, List, [], ◌++◌, map, length, take, drop, Option, Some, None}
+use Rattle.std.proofs.Common.{option_map, sym, ap, arith, length-append, length-drop, length-take, ◌⊎◌, inl, inr, chars}
 use Rattle.std.specs.Prelude.{IsUtf8}
 use Rattle.std.specs.Str.{is_utf8}
 use Rattle.std.proofs.lemmas.Bool.{cases_lt}
@@ -50,7 +51,8 @@ term_inside d after = by_end (cases_lt 0 (terminator_len d after))
     by_end (inr z) = omega (arith, z)
 
 -- a row at the front of a reader's text, which ends behind so many bytes
-module _ (t : Rows) (len : ℕ) (fields : Option (List (List ℕ))) (few : t.row < t.max_rows) (some : rest_of t.source ≢ []) (within : len ≤ length (rest_bytes t.source)) (back : is_utf8 (drop len (rest_bytes t.source)) ≡ true)
+module _ (t : Rows) (len : ℕ) (fields : Option (List (List ℕ))) (few : t.row < t.max_rows) (some : rest_of t.source ≢ [])
+    (within : len ≤ length (rest_bytes t.source)) (back : is_utf8 (drop len (rest_bytes t.source)) ≡ true)
     (next_is : next_row (is_last (after_of t)) t.rules.dialect t.row (rest_of t.source) ≡ Some (fields, chars (drop len (rest_bytes t.source)))) where
   abbrev d : Dialect
   d = t.rules.dialect
@@ -89,7 +91,8 @@ module _ (t : Rows) (len : ℕ) (fields : Option (List (List ℕ))) (few : t.row
       past a b = grind (arith, common_steps)
 
   bytes : byte_len (take count text) ≡ len
-  bytes = ap byte_len taken ∙ ap length (encodes-chars (take len rest) (front_text rest len u within back)) ∙ (let k = length-take len rest in omega (arith, k, within))
+  bytes = ap byte_len taken ∙ ap length (encodes-chars (take len rest) (front_text rest len u within back))
+      ∙ (let k = length-take len rest in omega (arith, k, within))
 
   found : IsFound (is_last (after_of t)) d t.row text count fields
   found = record { within = omega (arith, ap length spelled, length-append front after); found = next_is ∙ ap (λ l. Some (fields, l)) (sym dropped) }
@@ -103,7 +106,8 @@ module _ (t : Rows) (len : ℕ) (fields : Option (List (List ℕ))) (few : t.row
     front = record {
       within = omega (arith, inside, value, within, length-drop len rest);
       is_text = ap is_utf8 behind ∙ behind_text d (drop len rest) back;
-      same = ap chars behind ∙ behind_chars d (drop len rest) ∙ sym (ap (λ k. drop (k + term) text) (ap length taken) ∙ sym (drop-drop term count text) ∙ ap (drop term) dropped);
+      same = ap chars behind ∙ behind_chars d (drop len rest)
+          ∙ sym (ap (λ k. drop (k + term) text) (ap length taken) ∙ sym (drop-drop term count text) ∙ ap (drop term) dropped);
     };
     takes = found_takes (is_last (after_of t)) d t.max_rows t.row text after count term fields t.rules.lawful few some found
         (omega (arith, short, bytes)) (sym dropped) (sym same) (let k = term_inside d after in omega (arith, k, same));
@@ -113,13 +117,17 @@ module _ (t : Rows) (len : ℕ) (fields : Option (List (List ℕ))) (few : t.row
       behind = ap (λ m. drop m rest) value ∙ sym (drop-drop term len rest)
 
   row_stops : row_limit < len → StopsHere (is_last (after_of t)) d t.max_rows t.row text RowTooLong
-  row_stops long = found_stops (is_last (after_of t)) d t.max_rows t.row text count t.rules.lawful few some (omega (arith, long, bytes)) fields (seen_of (is_last (after_of t)) d t.row text count fields t.rules.lawful found) found
+  row_stops long = found_stops (is_last (after_of t)) d t.max_rows t.row text count t.rules.lawful few some (omega (arith, long, bytes)) fields
+      (seen_of (is_last (after_of t)) d t.row text count fields t.rules.lawful found) found
 
 -- the row that was read
-read_next : (t : Rows) (len : ℕ) → IsReadable t → (r : IsReadRow t len) → next_row (is_last (after_of t)) t.rules.dialect t.row (rest_of t.source) ≡ Some (Some (map (trimmed t.rules.dialect.trim) r.values), chars (drop len (rest_bytes t.source)))
+read_next : (t : Rows) (len : ℕ) → IsReadable t → (r : IsReadRow t len)
+    → next_row (is_last (after_of t)) t.rules.dialect t.row (rest_of t.source)
+    ≡ Some (Some (map (trimmed t.rules.dialect.trim) r.values), chars (drop len (rest_bytes t.source)))
 read_next t len k r = fields_next (is_last (after_of t)) t.rules.dialect t.row (rest_of t.source) k.note ∙ ap (found_row t.rules.dialect) r.found
 
-pub read_has : (t : Rows) (len n : ℕ) → IsReadable t → IsReadRow t len → len ≤ row_limit → n ≡ len + terminator_len t.rules.dialect (drop len (rest_bytes t.source))
+pub read_has : (t : Rows) (len n : ℕ) → IsReadable t → IsReadRow t len → len ≤ row_limit
+    → n ≡ len + terminator_len t.rules.dialect (drop len (rest_bytes t.source))
     → terminator_len t.rules.dialect (drop len (rest_bytes t.source)) ≤ length (drop len (rest_bytes t.source)) → HasFields t n
 read_has t len n k r short value inside =
     record {
@@ -128,25 +136,31 @@ read_has t len n k r short value inside =
       texts = r.texts;
     }
 
-pub read_stops : (t : Rows) (len : ℕ) → IsReadable t → IsReadRow t len → row_limit < len → StopsHere (is_last (after_of t)) t.rules.dialect t.max_rows t.row (rest_of t.source) RowTooLong
+pub read_stops : (t : Rows) (len : ℕ) → IsReadable t → IsReadRow t len → row_limit < len
+    → StopsHere (is_last (after_of t)) t.rules.dialect t.max_rows t.row (rest_of t.source) RowTooLong
 read_stops t len k r long = row_stops t len (Some (map (trimmed t.rules.dialect.trim) r.values)) k.few k.some r.within r.back (read_next t len k r) long
 
 -- and so is one without fields
-note_finds : (f : Bool) (d : Dialect) (i : ℕ) (text : List ℕ) → is_note d i text ≡ true → next_row f d i text ≡ option_map (λ after. (None, after)) (line_of f d text)
+note_finds : (f : Bool) (d : Dialect) (i : ℕ) (text : List ℕ) → is_note d i text ≡ true
+    → next_row f d i text ≡ option_map (λ after. (None, after)) (line_of f d text)
 note_finds f d i text e = ap (λ (b : Bool). if b then option_map (λ after. (None, after)) (line_of f d text) else found_row d (pass f d Start [] [] text)) e
 
-note_next_is : (t : Rows) (len : ℕ) → IsNoteNext t → IsNoteRead t len → next_row (is_last (after_of t)) t.rules.dialect t.row (rest_of t.source) ≡ Some (None, chars (drop len (rest_bytes t.source)))
+note_next_is : (t : Rows) (len : ℕ) → IsNoteNext t → IsNoteRead t len
+    → next_row (is_last (after_of t)) t.rules.dialect t.row (rest_of t.source) ≡ Some (None, chars (drop len (rest_bytes t.source)))
 note_next_is t len k r = note_finds (is_last (after_of t)) t.rules.dialect t.row (rest_of t.source) k.note ∙ ap (option_map (λ l. (None, l))) r.line
 
-pub note_has : (t : Rows) (len n : ℕ) → IsNoteNext t → IsNoteRead t len → len ≤ row_limit → n ≡ len + terminator_len t.rules.dialect (drop len (rest_bytes t.source))
+pub note_has : (t : Rows) (len n : ℕ) → IsNoteNext t → IsNoteRead t len → len ≤ row_limit
+    → n ≡ len + terminator_len t.rules.dialect (drop len (rest_bytes t.source))
     → terminator_len t.rules.dialect (drop len (rest_bytes t.source)) ≤ length (drop len (rest_bytes t.source)) → HasRow t n None
 note_has t len n k r short value inside = row_has t len None k.few k.some r.within r.back (note_next_is t len k r) n short value inside
 
-pub note_stops : (t : Rows) (len : ℕ) → IsNoteNext t → IsNoteRead t len → row_limit < len → StopsHere (is_last (after_of t)) t.rules.dialect t.max_rows t.row (rest_of t.source) RowTooLong
+pub note_stops : (t : Rows) (len : ℕ) → IsNoteNext t → IsNoteRead t len → row_limit < len
+    → StopsHere (is_last (after_of t)) t.rules.dialect t.max_rows t.row (rest_of t.source) RowTooLong
 note_stops t len k r long = row_stops t len None k.few k.some r.within r.back (note_next_is t len k r) long
 
 -- the line at the front ends there
-pub line_ends : (t : Rows) (at : ℕ) → (t.note ≤ at) × (at < length (rest_bytes t.source)) × (0 < terminator_len t.rules.dialect (drop at (rest_bytes t.source))) × NoneBegins t.rules.dialect (rest_bytes t.source) t.note at → IsNoteRead t at
+pub line_ends : (t : Rows) (at : ℕ) → (t.note ≤ at) × (at < length (rest_bytes t.source))
+    × (0 < terminator_len t.rules.dialect (drop at (rest_bytes t.source))) × NoneBegins t.rules.dialect (rest_bytes t.source) t.note at → IsNoteRead t at
 line_ends t at (_, within, ends, none) =
     let d = t.rules.dialect in
     let rest = rest_bytes t.source in
@@ -155,7 +169,8 @@ line_ends t at (_, within, ends, none) =
     record {
       within = omega (arith, within);
       back = back;
-      line = line_here (is_last (after_of t)) d rest at u (omega (arith, within)) back (none_before d rest t.note at t.noted none) (omega (arith, ends, term_same d (drop at rest) (IsUtf8-from_is_utf8 (drop at rest) back)));
+      line = line_here (is_last (after_of t)) d rest at u (omega (arith, within)) back (none_before d rest t.note at t.noted none)
+          (omega (arith, ends, term_same d (drop at rest) (IsUtf8-from_is_utf8 (drop at rest) back)));
     }
 
 pub none_ends : (t : Rows) → NoneBegins t.rules.dialect (rest_bytes t.source) t.note (length (rest_bytes t.source)) → HasNoEnd t

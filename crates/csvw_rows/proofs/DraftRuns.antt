@@ -1,11 +1,13 @@
 -- A text that is read on from where it was left.
-use Rattle.std.proofs.Common.{◌≡◌, ◌∙◌, ℕ, zero, suc, ◌+◌, ◌<◌, ◌≤◌, Bool, true, false, ◌&&◌, if◌then◌else◌, List, [], ◌∷◌, ◌++◌, length, take, drop, refl, sym, ap, subst, arith, append_assoc, append-nil, length-append, length-drop, length-take, inl, inr, chars}
+use Rattle.std.proofs.Common.{◌≡◌, ◌∙◌, ℕ, zero, suc, ◌+◌, ◌<◌, ◌≤◌, Bool, true, false, ◌&&◌, if◌then◌else◌, List, [], ◌∷◌, ◌++◌, length, take, drop}
+use Rattle.std.proofs.Common.{refl, sym, ap, subst, arith, append_assoc, append-nil, length-append, length-drop, length-take, inl, inr, chars}
 use Rattle.std.specs.Prelude.{IsUtf8, encode_utf8_all, Result, Ok, Err, IfOk}
 use Rattle.std.specs.Str.{is_utf8}
 use Rattle.std.proofs.lemmas.Grind.{common_steps}
 use Rattle.std.proofs.lemmas.List.{take-append-drop, drop-drop, append_cancel_left}
 use Rattle.std.proofs.Math.Seq.{take-append-add}
-use Rattle.std.proofs.lemmas.Str.{IsUtf8-append, IsUtf8-from_is_utf8, is_utf8-from_IsUtf8, IsUtf8-drop, IsCharBoundary-from_take, chars-nil, chars-append, encodes-chars, encodes-append}
+use Rattle.std.proofs.lemmas.Str.{IsUtf8-append, IsUtf8-from_is_utf8, is_utf8-from_IsUtf8, IsUtf8-drop, IsCharBoundary-from_take, chars-nil}
+use Rattle.std.proofs.lemmas.Str.{chars-append, encodes-chars, encodes-append}
 use Rattle.csvw_dialect.specs.declared.dialect.Dialect.{Dialect}
 use Rattle.csvw_rows.specs.declared.draft.Draft.{Draft}
 use Rattle.csvw_rows.specs.declared.draft.Reading.{Reading}
@@ -13,7 +15,8 @@ use Rattle.csvw_rows.specs.declared.draft.Reading.TheVariants as reading
 use Rattle.csvw_rows.specs.declared.scan.State.TheVariants.{Start}
 use Rattle.csvw_rows.specs.declared.stop.RowStop.{RowStop}
 use Rattle.csvw_rows.specs.declared.stop.RowStop.TheVariants.{UnclosedQuote}
-use Rattle.csvw_rows.specs.Drafts.{read_of, state_of, values_of, current_of, runs_on, NoneArises, IsFresh, IsDraft, IsEnded, IsBrokenOff, IsOpen, IsRowRead, IsBrokenThere, IsLeftInQuotes, Reads, GoesOn}
+use Rattle.csvw_rows.specs.Drafts.{read_of, state_of, values_of, current_of, runs_on, NoneArises, IsFresh, IsDraft, IsEnded, IsBrokenOff, IsOpen}
+use Rattle.csvw_rows.specs.Drafts.{IsRowRead, IsBrokenThere, IsLeftInQuotes, Reads, GoesOn}
 use Rattle.csvw_rows.specs.Grammar.{terminator_len}
 use Rattle.csvw_rows.specs.Looks.{settled, unsettled}
 use Rattle.csvw_rows.specs.Scan.{Found, Broken, Unfinished, run, finish, is_quoted}
@@ -77,7 +80,8 @@ settled_same d front clear = elim (unsettled_is d front) [
       absurd (omega (arith, k.0, cr_alone d, crlf_again d [] p.1))
 ]
 
-pub settled_behind : (d : Dialect) (front behind : List ℕ) → ((more : List ℕ) → Clear d front (behind ++ more)) → settled d (front ++ behind) ≡ front ++ settled d behind
+pub settled_behind : (d : Dialect) (front behind : List ℕ) → ((more : List ℕ) → Clear d front (behind ++ more))
+    → settled d (front ++ behind) ≡ front ++ settled d behind
 settled_behind d front [] clear = ap (settled d) (append-nil front) ∙ settled_same d front clear ∙ sym (append-nil front)
 settled_behind d front (b ∷ bs) clear = settled_one_more d front b bs
 
@@ -87,7 +91,8 @@ fresh_draft d s rest f u = record {
   within = (let r = f.read in omega (arith, r));
   back = ap (λ n. is_utf8 (drop n rest)) f.read ∙ u;
   clear = λ more k l. absurd (omega (arith, l, ap length none));
-  runs = ap (run d Start [] []) none ∙ ap (λ st. Unfinished st [] []) (sym f.state) ∙ ap (λ vs. Unfinished (state_of s) vs []) (sym f.values) ∙ ap (λ cur. Unfinished (state_of s) (values_of s) cur) (sym f.current);
+  runs = ap (run d Start [] []) none ∙ ap (λ st. Unfinished st [] []) (sym f.state) ∙ ap (λ vs. Unfinished (state_of s) vs []) (sym f.values)
+      ∙ ap (λ cur. Unfinished (state_of s) (values_of s) cur) (sym f.current);
 }
   where
     none : chars (take (read_of s) rest) ≡ []
@@ -113,15 +118,18 @@ draft_grows d s rest more i u =
       within = omega (arith, w, length-append rest more);
       back = ap is_utf8 dropped ∙ is_utf8-from_IsUtf8 (back ++ more) (IsUtf8-append back more ub u);
       clear = λ x. subst (λ (l : List ℕ). NoneArises d (chars (take n (rest ++ more))) (l ++ x)) (sym joined)
-          (subst (λ (l : List ℕ). NoneArises d (chars l) ((chars back ++ chars more) ++ x)) (sym taken) (subst (NoneArises d (chars (take n rest))) (sym (append_assoc (chars back) (chars more) x)) (i.clear (chars more ++ x))));
+          (subst (λ (l : List ℕ). NoneArises d (chars l) ((chars back ++ chars more) ++ x)) (sym taken)
+          (subst (NoneArises d (chars (take n rest))) (sym (append_assoc (chars back) (chars more) x)) (i.clear (chars more ++ x))));
       runs = ap (λ l. run d Start [] [] (chars l)) taken ∙ i.runs;
     }
 
-pub bytes_more : (old new more : List ℕ) → is_utf8 old ≡ true → is_utf8 new ≡ true → chars new ≡ chars old ++ more → (new ≡ old ++ encode_utf8_all more) × IsUtf8 (encode_utf8_all more)
+pub bytes_more : (old new more : List ℕ) → is_utf8 old ≡ true → is_utf8 new ≡ true → chars new ≡ chars old ++ more
+    → (new ≡ old ++ encode_utf8_all more) × IsUtf8 (encode_utf8_all more)
 bytes_more old new more u v e =
     let uo = IsUtf8-from_is_utf8 old u in
     let un = IsUtf8-from_is_utf8 new v in
-    let spelled : new ≡ old ++ encode_utf8_all more = sym (encodes-chars new un) ∙ ap encode_utf8_all e ∙ encodes-append (chars old) more ∙ ap (λ l. l ++ encode_utf8_all more) (encodes-chars old uo) in
+    let spelled : new ≡ old ++ encode_utf8_all more = sym (encodes-chars new un) ∙ ap encode_utf8_all e ∙ encodes-append (chars old) more
+    ∙ ap (λ l. l ++ encode_utf8_all more) (encodes-chars old uo) in
     let front : take (length old) new ≡ old = ap (take (length old)) spelled ∙ fronts old (encode_utf8_all more) in
     let back : drop (length old) new ≡ encode_utf8_all more = ap (drop (length old)) spelled ∙ backs old (encode_utf8_all more) in
     let h : length old ≤ length new = (let k = ap length spelled in omega (arith, k, length-append old (encode_utf8_all more))) in
@@ -139,7 +147,8 @@ pieces a b l h =
     ap (λ m. take (m + b) l) len ∙ ap (take (length (take a l) + b)) (sym (take-append-drop a l)) ∙ take-append-add (take a l) (drop a l) b
 
 -- what is settled of the text behind was read
-module _ (d : Dialect) (s : Draft) (rest text : List ℕ) (ur : IsUtf8 rest) (ut : IsUtf8 text) (i : IsDraft d s rest) (front : text ≡ take (length text) (drop (read_of s) rest)) (same : chars text ≡ settled d (chars (drop (read_of s) rest))) where
+module _ (d : Dialect) (s : Draft) (rest text : List ℕ) (ur : IsUtf8 rest) (ut : IsUtf8 text) (i : IsDraft d s rest)
+    (front : text ≡ take (length text) (drop (read_of s) rest)) (same : chars text ≡ settled d (chars (drop (read_of s) rest))) where
   abbrev n : ℕ
   n = read_of s
 
@@ -178,7 +187,9 @@ module _ (d : Dialect) (s : Draft) (rest text : List ℕ) (ur : IsUtf8 rest) (ut
   further k h = sym (drop-drop k n rest) ∙ ap (drop k) whole ∙ drop_more k text tail h
 
   clears : (more : List ℕ) → Clear d before (chars text ++ (unsettled d (chars behind) ++ more))
-  clears more = subst (Clear d before) (ap (λ l. l ++ more) (sym (settled_all d (chars behind)) ∙ ap (λ l. l ++ unsettled d (chars behind)) (sym same)) ∙ append_assoc (chars text) (unsettled d (chars behind)) more) (clear_of d before (chars behind ++ more) (i.clear more))
+  clears more = subst (Clear d before) (ap (λ l. l ++ more) (sym (settled_all d (chars behind))
+      ∙ ap (λ l. l ++ unsettled d (chars behind)) (sym same)) ∙ append_assoc (chars text) (unsettled d (chars behind)) more)
+      (clear_of d before (chars behind ++ more) (i.clear more))
 
   clear_text : Clear d before (chars text)
   clear_text = clear_front d before (chars text) (unsettled d (chars behind) ++ []) (clears [])
@@ -187,24 +198,28 @@ module _ (d : Dialect) (s : Draft) (rest text : List ℕ) (ur : IsUtf8 rest) (ut
   clear_tail more = subst (λ (l : List ℕ). Clear d l (unsettled d (chars behind) ++ more)) (sym same) (settled_clear d (chars behind) more)
 
   taken : chars (take (n + length text) rest) ≡ before ++ chars text
-  taken = ap chars (pieces n (length text) rest i.within) ∙ chars-append (take n rest) (take (length text) behind) (front_text rest n ur i.within i.back) ∙ ap (λ l. before ++ chars l) (sym front)
+  taken = ap chars (pieces n (length text) rest i.within)
+      ∙ chars-append (take n rest) (take (length text) behind) (front_text rest n ur i.within i.back) ∙ ap (λ l. before ++ chars l) (sym front)
 
   all_settled : before ++ chars text ≡ settled d (chars rest)
-  all_settled = ap (λ l. before ++ l) same ∙ sym (settled_behind d before (chars behind) (λ more. clear_of d before (chars behind ++ more) (i.clear more))) ∙ ap (settled d) (sym split)
+  all_settled = ap (λ l. before ++ l) same
+      ∙ sym (settled_behind d before (chars behind) (λ more. clear_of d before (chars behind ++ more) (i.clear more))) ∙ ap (settled d) (sym split)
 
   pieces_all : chars rest ≡ before ++ (chars text ++ chars tail)
   pieces_all = split ∙ ap (λ l. before ++ l) (ap chars whole ∙ chars-append text tail ut)
 
   pub reads_open : (t : Draft) → read_of t ≡ n + length text → runs_on d s (chars text) ≡ Unfinished (state_of t) (values_of t) (current_of t) → IsOpen d t rest
   reads_open t r e =
-      let gone : drop (read_of t) rest ≡ tail = ap (λ k. drop k rest) r ∙ further (length text) (omega arith) ∙ ap (λ l. l ++ tail) (none (length text) text refl) in
+      let gone : drop (read_of t) rest ≡ tail = ap (λ k. drop k rest) r ∙ further (length text) (omega arith)
+      ∙ ap (λ l. l ++ tail) (none (length text) text refl) in
       let here : chars (take (read_of t) rest) ≡ before ++ chars text = ap (λ k. chars (take k rest)) r ∙ taken in
       record {
         draft = record {
           within = (let k = long.1 in omega (arith, r, k));
           back = ap is_utf8 gone ∙ is_utf8-from_IsUtf8 tail utail;
           clear = λ more. subst (λ (l : List ℕ). NoneArises d (chars (take (read_of t) rest)) (l ++ more)) (sym (ap chars gone ∙ left))
-              (subst (λ (l : List ℕ). NoneArises d l (unsettled d (chars behind) ++ more)) (sym here) (clear_at d (before ++ chars text) (unsettled d (chars behind) ++ more)
+              (subst (λ (l : List ℕ). NoneArises d l (unsettled d (chars behind) ++ more)) (sym here)
+              (clear_at d (before ++ chars text) (unsettled d (chars behind) ++ more)
               (clear_join d before (chars text) (unsettled d (chars behind) ++ more) (clears more) clear_text (clear_tail more))));
           runs = ap (run d Start [] []) here ∙ run_join d Start [] [] before (chars text) clear_text ∙ ap (λ o. goes_on d o (chars text)) i.runs ∙ e;
         };
@@ -223,9 +238,11 @@ module _ (d : Dialect) (s : Draft) (rest text : List ℕ) (ur : IsUtf8 rest) (ut
         within = (let r = k.read in let l = long.1 in omega (arith, r, l, w));
         back = ap is_utf8 gone ∙ is_utf8-from_IsUtf8 (drop len text ++ tail) (IsUtf8-append (drop len text) tail uk utail);
         found = ap (λ o. finish o false) (ap (run d Start [] []) pieces_all
-            ∙ run_join d Start [] [] before (chars text ++ chars tail) (subst (λ (l : List ℕ). Clear d before (chars text ++ l)) (append-nil (unsettled d (chars behind)) ∙ sym left) (clears []))
+            ∙ run_join d Start [] [] before (chars text ++ chars tail)
+            (subst (λ (l : List ℕ). Clear d before (chars text ++ l)) (append-nil (unsettled d (chars behind)) ∙ sym left) (clears []))
             ∙ ap (λ o. goes_on d o (chars text ++ chars tail)) i.runs
-            ∙ run_join d (state_of s) (values_of s) (current_of s) (chars text) (chars tail) (subst (Clear d (chars text)) (append-nil (unsettled d (chars behind)) ∙ sym left) (clear_tail []))
+            ∙ run_join d (state_of s) (values_of s) (current_of s) (chars text) (chars tail)
+            (subst (Clear d (chars text)) (append-nil (unsettled d (chars behind)) ∙ sym left) (clear_tail []))
             ∙ ap (λ o. goes_on d o (chars tail)) k.found
             ∙ ap (Found (values_of t)) (sym (ap chars gone ∙ chars-append (drop len text) tail uk)));
       }
@@ -243,14 +260,17 @@ module _ (d : Dialect) (s : Draft) (rest text : List ℕ) (ur : IsUtf8 rest) (ut
       let there = is_utf8-from_IsUtf8 (drop len text ++ tail) (IsUtf8-append (drop len text) tail uk utail) in
       let back : is_utf8 (drop (read_of t) rest) ≡ true = ap is_utf8 gone ∙ there in
       let inside : read_of t < length rest = omega (arith, more, w, r, l, length-drop len text) in
-      let taken_chars : chars rest ≡ chars (take (read_of t) rest) ++ chars (drop (read_of t) rest) = split_chars rest (read_of t) (front_text rest (read_of t) ur (omega (arith, inside)) back) in
+      let taken_chars : chars rest ≡ chars (take (read_of t) rest) ++ chars (drop (read_of t) rest) =
+      split_chars rest (read_of t) (front_text rest (read_of t) ur (omega (arith, inside)) back) in
       record {
         within = inside;
         back = back;
         broken = ap (run d Start [] []) pieces_all
-            ∙ run_join d Start [] [] before (chars text ++ chars tail) (subst (λ (l : List ℕ). Clear d before (chars text ++ l)) (append-nil (unsettled d (chars behind)) ∙ sym left) (clears []))
+            ∙ run_join d Start [] [] before (chars text ++ chars tail)
+            (subst (λ (l : List ℕ). Clear d before (chars text ++ l)) (append-nil (unsettled d (chars behind)) ∙ sym left) (clears []))
             ∙ ap (λ o. goes_on d o (chars text ++ chars tail)) i.runs
-            ∙ run_join d (state_of s) (values_of s) (current_of s) (chars text) (chars tail) (subst (Clear d (chars text)) (append-nil (unsettled d (chars behind)) ∙ sym left) (clear_tail []))
+            ∙ run_join d (state_of s) (values_of s) (current_of s) (chars text) (chars tail)
+            (subst (Clear d (chars text)) (append-nil (unsettled d (chars behind)) ∙ sym left) (clear_tail []))
             ∙ ap (λ o. goes_on d o (chars tail)) k.broken
             ∙ ap (Broken stop) (sym left_chars);
         settled = λ e.
@@ -269,7 +289,8 @@ module _ (d : Dialect) (s : Draft) (rest text : List ℕ) (ur : IsUtf8 rest) (ut
             );
       }
 
-pub reads_goes : {E : Type 0} (d : Dialect) (s t : Draft) (rest text : List ℕ) (r : Result Reading E) → IsUtf8 rest → IsUtf8 text → IsDraft d s rest → text ≡ take (length text) (drop (read_of s) rest)
+pub reads_goes : {E : Type 0} (d : Dialect) (s t : Draft) (rest text : List ℕ) (r : Result Reading E) → IsUtf8 rest → IsUtf8 text → IsDraft d s rest
+    → text ≡ take (length text) (drop (read_of s) rest)
     → chars text ≡ settled d (chars (drop (read_of s) rest)) → IfOk r (Reads d s t text) → IfOk r (GoesOn d false t rest)
 reads_goes d s t rest text (Ok reading.Unfinished) ur ut i front same e = (refl, reads_open d s rest text ur ut i front same t e.0 e.1)
 reads_goes d s t rest text (Ok reading.Ended) ur ut i front same e = reads_row d s rest text ur ut i front same t e.0 e.1
@@ -285,7 +306,8 @@ module _ (d : Dialect) (s : Draft) (rest : List ℕ) (ur : IsUtf8 rest) (i : IsD
   runs_all =
       let read = chars (take (read_of s) rest) in
       ap (run d Start [] []) (split_chars rest (read_of s) (front_text rest (read_of s) ur i.within i.back))
-      ∙ run_join d Start [] [] read (chars all_behind) (subst (λ (l : List ℕ). Clear d read l) (append-nil (chars all_behind)) (clear_of d read (chars all_behind ++ []) (i.clear [])))
+      ∙ run_join d Start [] [] read (chars all_behind)
+      (subst (λ (l : List ℕ). Clear d read l) (append-nil (chars all_behind)) (clear_of d read (chars all_behind ++ []) (i.clear [])))
       ∙ ap (λ o. goes_on d o (chars all_behind)) i.runs
 
   all_long : read_of s + length all_behind ≡ length rest
@@ -300,7 +322,8 @@ module _ (d : Dialect) (s : Draft) (rest : List ℕ) (ur : IsUtf8 rest) (i : IsD
         found = ap (λ o. finish o true) (runs_all ∙ k.found ∙ ap (λ l. Found (values_of t) (chars l)) (sym gone));
       }
 
-  pub last_open : (t u : Draft) → read_of t ≡ read_of s + length all_behind → runs_on d s (chars all_behind) ≡ Unfinished (state_of t) (values_of t) (current_of t) → is_quoted (state_of t) ≡ false
+  pub last_open : (t u : Draft) → read_of t ≡ read_of s + length all_behind
+      → runs_on d s (chars all_behind) ≡ Unfinished (state_of t) (values_of t) (current_of t) → is_quoted (state_of t) ≡ false
       → read_of u ≡ read_of t → values_of u ≡ values_of t ++ current_of t ∷ [] → IsRowRead d true u rest
   last_open t u r e q ru vu =
       let all : read_of u ≡ length rest = (let l = all_long in omega (arith, r, ru, l)) in
@@ -317,7 +340,8 @@ module _ (d : Dialect) (s : Draft) (rest : List ℕ) (ur : IsUtf8 rest) (i : IsD
   pub last_broken : (t : Draft) (stop : RowStop) (len : ℕ) → IsBrokenOff d s t all_behind stop len → IsBrokenThere d true t rest stop
   last_broken t stop len k =
       let gone : drop (read_of t) rest ≡ drop len all_behind = ap (λ n. drop n rest) k.read ∙ sym (drop-drop len (read_of s) rest) in
-      let more = some_bytes (drop len all_behind) ((broken_within d (state_of s) (values_of s) (current_of s) (chars all_behind) stop (chars (drop len all_behind)) k.broken).1) in
+      let more = some_bytes (drop len all_behind)
+      ((broken_within d (state_of s) (values_of s) (current_of s) (chars all_behind) stop (chars (drop len all_behind)) k.broken).1) in
       record {
         within = (let r = k.read in let w = k.within in let l = all_long in omega (arith, r, w, l, more, length-drop len all_behind));
         back = ap is_utf8 gone ∙ k.back;
@@ -325,6 +349,7 @@ module _ (d : Dialect) (s : Draft) (rest : List ℕ) (ur : IsUtf8 rest) (i : IsD
         settled = λ e. absurd cc;
       }
 
-  pub last_left : (t : Draft) → read_of t ≡ read_of s + length all_behind → runs_on d s (chars all_behind) ≡ Unfinished (state_of t) (values_of t) (current_of t) → is_quoted (state_of t) ≡ true
+  pub last_left : (t : Draft) → read_of t ≡ read_of s + length all_behind
+      → runs_on d s (chars all_behind) ≡ Unfinished (state_of t) (values_of t) (current_of t) → is_quoted (state_of t) ≡ true
       → IsLeftInQuotes d true t rest UnclosedQuote
   last_left t r e q = record { ended = refl; all = (let l = all_long in omega (arith, r, l)); name = refl; runs = runs_all ∙ e; quoted = q }

@@ -1,10 +1,12 @@
 -- Fields in quotes whose quotes are doubled.
-use Rattle.std.proofs.Common.{◌≡◌, ◌∙◌, ℕ, zero, suc, ◌+◌, ◌<◌, ◌≤◌, Bool, true, false, if◌then◌else◌, List, [], ◌∷◌, ◌++◌, length, take, drop, get_or, refl, sym, ap, subst, arith, append_assoc, append-nil, length-take, length-drop, inr, chars}
+use Rattle.std.proofs.Common.{◌≡◌, ◌∙◌, ℕ, zero, suc, ◌+◌, ◌<◌, ◌≤◌, Bool, true, false, if◌then◌else◌, List, [], ◌∷◌, ◌++◌, length, take, drop}
+use Rattle.std.proofs.Common.{get_or, refl, sym, ap, subst, arith, append_assoc, append-nil, length-take, length-drop, inr, chars}
 use Rattle.std.specs.Prelude.{IsUtf8, slice_range, slice_index}
 use Rattle.std.specs.Str.{is_utf8}
 use Rattle.std.proofs.Math.Seq.{take-add}
 use Rattle.std.proofs.lemmas.List.{take_more, get_or-take, get_or-drop, drop-drop}
-use Rattle.std.proofs.lemmas.Str.{IsUtf8-from_is_utf8, is_utf8-from_IsUtf8, IsUtf8-append, IsUtf8-nil, IsUtf8-from_ascii, chars-append, encodes-chars, chars-nil}
+use Rattle.std.proofs.lemmas.Str.{IsUtf8-from_is_utf8, is_utf8-from_IsUtf8, IsUtf8-append, IsUtf8-nil, IsUtf8-from_ascii, chars-append, encodes-chars}
+use Rattle.std.proofs.lemmas.Str.{chars-nil}
 use Rattle.memchr.specs.Find.{is_byte}
 use Rattle.csvw_rows.specs.Marked.{is_quote, StandsAhead}
 use Rattle.csvw_dialect.specs.declared.dialect.Dialect.{Dialect}
@@ -34,7 +36,8 @@ one_text q h = IsUtf8-from_ascii (q ∷ []) low
 abbrev pub IsFirstQuote : ℕ → List ℕ → ℕ → Type 0
 IsFirstQuote q rest len = (len < length rest) × (slice_index rest len ≡ q) × ((k : ℕ) → k < len → is_byte q (slice_index rest k) ≡ false)
 
-pub quote_ahead : (s : Symbols) (text : List ℕ) (start at len : ℕ) → start + at ≤ length text → StandsAhead (is_quote s) text (start + at) (length text) len → IsFirstQuote s.quote (drop at (drop start text)) len
+pub quote_ahead : (s : Symbols) (text : List ℕ) (start at len : ℕ) → start + at ≤ length text
+    → StandsAhead (is_quote s) text (start + at) (length text) len → IsFirstQuote s.quote (drop at (drop start text)) len
 quote_ahead s text start at len within a = subst (λ l. IsFirstQuote s.quote l len) (sym (drop-drop at start text)) (
   (let h = a.0.high in omega (arith, h, length-drop (start + at) text)),
   get_or-drop (start + at) text len 0 ∙ same_of _ s.quote a.1,
@@ -58,8 +61,10 @@ none_written q inside old = record {
 }
 
 -- one more part of what stands in quotes
-module _ (q : ℕ) (inside : List ℕ) (at found : ℕ) (low : q < 128) (within : at ≤ length inside) (front : is_utf8 (take at inside) ≡ true) (back : is_utf8 (drop at inside) ≡ true)
-    (long : found < length (drop at inside)) (quote : slice_index (drop at inside) found ≡ q) (none : (k : ℕ) → k < found → is_byte q (slice_index (drop at inside) k) ≡ false) where
+module _ (q : ℕ) (inside : List ℕ) (at found : ℕ) (low : q < 128) (within : at ≤ length inside) (front : is_utf8 (take at inside) ≡ true)
+    (back : is_utf8 (drop at inside) ≡ true)
+    (long : found < length (drop at inside)) (quote : slice_index (drop at inside) found ≡ q)
+    (none : (k : ℕ) → k < found → is_byte q (slice_index (drop at inside) k) ≡ false) where
   abbrev rest : List ℕ
   rest = drop at inside
 
@@ -71,7 +76,8 @@ module _ (q : ℕ) (inside : List ℕ) (at found : ℕ) (low : q < 128) (within 
 
   plain_units : (d : Dialect) → d.double_quote ≡ true → AreUnits d q (chars (take found rest)) (chars (take found rest))
   plain_units d e = units_of d q (chars (take found rest)) e (none_pass (is_byte q) (byte_low q low) (take found rest) here.front
-      (fails_at (is_byte q) (take found rest) (λ i k. let l : i < found = omega (arith, k, length-take found rest) in ap (is_byte q) (get_or-take found rest i 0 l) ∙ none i l)))
+      (fails_at (is_byte q) (take found rest)
+      (λ i k. let l : i < found = omega (arith, k, length-take found rest) in ap (is_byte q) (get_or-take found rest i 0 l) ∙ none i l)))
 
   part_more : (n : ℕ) (text old new : List ℕ) → IsUtf8 text → ((d : Dialect) → d.double_quote ≡ true → AreUnits d q (chars (take n rest)) (chars text))
       → Unescapes q (take at inside) old new → Unescapes q (take (at + n) inside) old (new ++ text)
@@ -84,7 +90,8 @@ module _ (q : ℕ) (inside : List ℕ) (at found : ℕ) (low : q < 128) (within 
         text = p.text ++ text;
         is_text = is_utf8-from_IsUtf8 (p.text ++ text) (IsUtf8-append p.text text u t);
         written = ap (λ l. l ++ text) p.written ∙ append_assoc old p.text text;
-        units = λ d e. subst (λ l. AreUnits d q l (chars (p.text ++ text))) (sym source) (subst (AreUnits d q (chars (take at inside) ++ chars (take n rest))) (sym value)
+        units = λ d e. subst (λ l. AreUnits d q l (chars (p.text ++ text))) (sym source)
+            (subst (AreUnits d q (chars (take at inside) ++ chars (take n rest))) (sym value)
             (units_join d q (chars (take at inside)) (chars p.text) (chars (take n rest)) (chars text) (p.units d e) (units d e)));
       }
 
@@ -105,19 +112,23 @@ module _ (q : ℕ) (inside : List ℕ) (at found : ℕ) (low : q < 128) (within 
     one = chars_ascii q [] low ∙ ap (λ l. q ∷ l) chars-nil
 
     value_is : chars (take (found + 1) rest) ≡ chars (take found rest) ++ q ∷ []
-    value_is = ap chars (take_more rest found 0 long ∙ ap (λ x. take found rest ++ x ∷ []) quote) ∙ chars-append (take found rest) (q ∷ []) here.front ∙ ap (λ l. chars (take found rest) ++ l) one
+    value_is = ap chars (take_more rest found 0 long ∙ ap (λ x. take found rest ++ x ∷ []) quote) ∙ chars-append (take found rest) (q ∷ []) here.front
+        ∙ ap (λ l. chars (take found rest) ++ l) one
 
     two : take (found + 2) rest ≡ take (found + 1) rest ++ q ∷ []
-    two = ap (λ n. take n rest) (let e : found + 2 ≡ (found + 1) + 1 = omega arith in e) ∙ take_more rest (found + 1) 0 more ∙ ap (λ x. take (found + 1) rest ++ x ∷ []) again
+    two = ap (λ n. take n rest) (let e : found + 2 ≡ (found + 1) + 1 = omega arith in e) ∙ take_more rest (found + 1) 0 more
+        ∙ ap (λ x. take (found + 1) rest ++ x ∷ []) again
 
     source_is : chars (take (found + 2) rest) ≡ chars (take found rest) ++ q ∷ q ∷ []
-    source_is = ap chars two ∙ chars-append (take (found + 1) rest) (q ∷ []) there.front ∙ ap (λ l. l ++ chars (q ∷ [])) value_is ∙ append_assoc (chars (take found rest)) (q ∷ []) (chars (q ∷ [])) ∙ ap (λ l. chars (take found rest) ++ q ∷ l) one
+    source_is = ap chars two ∙ chars-append (take (found + 1) rest) (q ∷ []) there.front ∙ ap (λ l. l ++ chars (q ∷ [])) value_is
+        ∙ append_assoc (chars (take found rest)) (q ∷ []) (chars (q ∷ [])) ∙ ap (λ l. chars (take found rest) ++ q ∷ l) one
 
     quote_units : (d : Dialect) → d.double_quote ≡ true → AreUnits d q (q ∷ q ∷ []) (q ∷ [])
     quote_units d e = (q ∷ q ∷ [], [], inr (ap (λ (b : Bool). (if b then q else 92) ∷ q ∷ []) (sym e), λ t. refl), refl, refl)
 
     doubled_units : (d : Dialect) → d.double_quote ≡ true → AreUnits d q (chars (take (found + 2) rest)) (chars (take (found + 1) rest))
-    doubled_units d e = subst (λ l. AreUnits d q l (chars (take (found + 1) rest))) (sym source_is) (subst (AreUnits d q (chars (take found rest) ++ q ∷ q ∷ [])) (sym value_is)
+    doubled_units d e = subst (λ l. AreUnits d q l (chars (take (found + 1) rest))) (sym source_is)
+        (subst (AreUnits d q (chars (take found rest) ++ q ∷ q ∷ [])) (sym value_is)
         (units_join d q (chars (take found rest)) (chars (take found rest)) (q ∷ q ∷ []) (q ∷ []) (plain_units d e) (quote_units d e)))
 
     pub doubled_within : at + (found + 2) ≤ length inside
@@ -126,22 +137,27 @@ module _ (q : ℕ) (inside : List ℕ) (at found : ℕ) (low : q < 128) (within 
     pub doubled_front : is_utf8 (take (at + (found + 2)) inside) ≡ true
     doubled_front =
         let last : IsUtf8 (take (found + 2) rest) = subst IsUtf8 (sym two) (IsUtf8-append (take (found + 1) rest) (q ∷ []) there.front (one_text q low)) in
-        ap is_utf8 (take-add at (found + 2) inside) ∙ is_utf8-from_IsUtf8 (take at inside ++ take (found + 2) rest) (IsUtf8-append (take at inside) (take (found + 2) rest) (IsUtf8-from_is_utf8 (take at inside) front) last)
+        ap is_utf8 (take-add at (found + 2) inside) ∙ is_utf8-from_IsUtf8 (take at inside ++ take (found + 2) rest)
+        (IsUtf8-append (take at inside) (take (found + 2) rest) (IsUtf8-from_is_utf8 (take at inside) front) last)
 
     pub doubled_back : is_utf8 (drop (at + (found + 2)) inside) ≡ true
     doubled_back =
-        let same : drop (found + 1 + 1) rest ≡ drop (at + (found + 2)) inside = drop-drop (found + 1 + 1) at inside ∙ ap (λ n. drop n inside) (let e : at + (found + 1 + 1) ≡ at + (found + 2) = omega arith in e) in
+        let same : drop (found + 1 + 1) rest ≡ drop (at + (found + 2)) inside = drop-drop (found + 1 + 1) at inside
+        ∙ ap (λ n. drop n inside) (let e : at + (found + 1 + 1) ≡ at + (found + 2) = omega arith in e) in
         ap is_utf8 (sym same) ∙ is_utf8-from_IsUtf8 (drop (found + 1 + 1) rest) there.back
 
-    pub part_doubled : (old new : List ℕ) → Unescapes q (take at inside) old new → Unescapes q (take (at + (found + 2)) inside) old (new ++ take (found + 1) rest)
+    pub part_doubled : (old new : List ℕ) → Unescapes q (take at inside) old new
+        → Unescapes q (take (at + (found + 2)) inside) old (new ++ take (found + 1) rest)
     part_doubled old new p = part_more (found + 2) (take (found + 1) rest) old new there.front doubled_units p
 
 pub inside_text : (r : List ℕ) (q : ℕ) → is_utf8 r ≡ true → 0 < length r → slice_index r 0 ≡ q → q < 128 → is_utf8 (drop 1 r) ≡ true
 inside_text r q u some opens low = is_utf8-from_IsUtf8 (drop 1 r) (ascii_at r 0 q (IsUtf8-from_is_utf8 r u) some opens low).back
 
 -- the field whose text was written
-pub escaped_cut : (d : Dialect) (s : Symbols) (r old new : List ℕ) (m from to : ℕ) (cut : Cut) → IsSymbols d s → is_utf8 r ≡ true → 0 < length r → s.quoted ≡ true → slice_index r 0 ≡ s.quote
-    → IsUnescaped s.quote (drop 1 r) old new m → from ≡ length old → to ≡ length new → IsBehind d s r (record { from = from; to = to; apart = true }) (m + 2) cut → IsCut d r new cut
+pub escaped_cut : (d : Dialect) (s : Symbols) (r old new : List ℕ) (m from to : ℕ) (cut : Cut) → IsSymbols d s → is_utf8 r ≡ true → 0 < length r
+    → s.quoted ≡ true → slice_index r 0 ≡ s.quote
+    → IsUnescaped s.quote (drop 1 r) old new m → from ≡ length old → to ≡ length new
+    → IsBehind d s r (record { from = from; to = to; apart = true }) (m + 2) cut → IsCut d r new cut
 escaped_cut d s r old new m from to cut y ur some quoted opens k f t b =
     let p = k.front in
     let bound : Bound = record { from = from; to = to; apart = true } in

@@ -1,5 +1,6 @@
 -- Bytes that go on to a file begin one, and have no stop.
-use Rattle.std.proofs.Common.{◌≡◌, ℕ, suc, ◌+◌, ◌<◌, ◌≤◌, Bool, true, false, ◌&&◌, nat_lt, List, [], ◌∷◌, ◌++◌, length, take, drop, refl, sym, ap, ◌∙◌, subst, arith, append_assoc, append-nil, length-append, length-drop, take-append-drop, ◌⊎◌, inl, inr, IsTrue}
+use Rattle.std.proofs.Common.{◌≡◌, ℕ, suc, ◌+◌, ◌<◌, ◌≤◌, Bool, true, false, ◌&&◌, nat_lt, List, [], ◌∷◌, ◌++◌, length, take, drop, refl, sym, ap}
+use Rattle.std.proofs.Common.{◌∙◌, subst, arith, append_assoc, append-nil, length-append, length-drop, take-append-drop, ◌⊎◌, inl, inr, IsTrue}
 use Rattle.std.specs.Prelude.{IsUtf8, is_some, encode_utf8_all}
 use Rattle.std.specs.Char.{IsScalar, encode_utf8}
 use Rattle.std.specs.Str.Lossy.{utf8_valid_len, utf8_error_len}
@@ -153,7 +154,8 @@ ends_inside bytes more whole none = cut_text rest more tail.0 some tail.1.0 tail
       where
         take_on : (a : List ℕ) → take (length a + k) (a ++ rest) ≡ a ++ take k rest
         take_on [] = ap (λ j. take j rest) (let e : length (let e : List ℕ = [] in e) + k ≡ k = omega arith in e)
-        take_on (x ∷ xs) = ap (λ j. take j (x ∷ xs ++ rest)) (let e : length (x ∷ xs) + k ≡ suc (length xs + k) = omega arith in e) ∙ ap (λ l. x ∷ l) (take_on xs)
+        take_on (x ∷ xs) = ap (λ j. take j (x ∷ xs ++ rest)) (let e : length (x ∷ xs) + k ≡ suc (length xs + k) = omega arith in e)
+            ∙ ap (λ l. x ∷ l) (take_on xs)
 
 -- a file begins one
 file_begins : (d : Dialect) (max : ℕ) (bytes : List ℕ) (rows : List Row) → IsLawful d → File d max bytes rows → Begins d max (content bytes)

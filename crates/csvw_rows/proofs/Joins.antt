@@ -1,5 +1,6 @@
 -- A text that goes on: what a pass over its front says of the whole.
-use Rattle.std.proofs.Common.{◌≡◌, ◌≢◌, ℕ, Bool, true, false, ◌&&◌, ◌==◌, if◌then◌else◌, List, [], ◌∷◌, ◌++◌, Some, None, refl, ap, ◌∙◌, arith, ◌⊎◌, inl, inr, nat_lt, nat_eq}
+use Rattle.std.proofs.Common.{◌≡◌, ◌≢◌, ℕ, Bool, true, false, ◌&&◌, ◌==◌, if◌then◌else◌, List, [], ◌∷◌, ◌++◌, Some, None, refl, ap, ◌∙◌, arith, ◌⊎◌}
+use Rattle.std.proofs.Common.{inl, inr, nat_lt, nat_eq}
 use Rattle.std.proofs.lemmas.Bool.Decides.{nat_tests}
 use Rattle.csvw_dialect.specs.declared.dialect.Dialect.{Dialect}
 use Rattle.csvw_rows.specs.declared.scan.State.{State}
@@ -49,14 +50,16 @@ line_join d f (c ∷ cs) q h e =
     ap (λ n. if nat_lt 0 n then Some (c ∷ cs ++ q) else line_of f d (cs ++ q)) h.0 ∙ line_step d f c cs q (ends_at d (c ∷ cs)) e (line_join d f cs q h.1)
 
 line_found : (d : Dialect) (f : Bool) (c : ℕ) (cs q after : List ℕ) (b : Bool) → (if b then Some (c ∷ cs) else line_of false d cs) ≡ Some after
-    → (line_of false d cs ≡ Some after → line_of f d (cs ++ q) ≡ Some (after ++ q)) → (if b then Some (c ∷ cs ++ q) else line_of f d (cs ++ q)) ≡ Some (after ++ q)
+    → (line_of false d cs ≡ Some after → line_of f d (cs ++ q) ≡ Some (after ++ q))
+    → (if b then Some (c ∷ cs ++ q) else line_of f d (cs ++ q)) ≡ Some (after ++ q)
 line_found d f c cs q after true e ih = let same : c ∷ cs ≡ after = cc in ap (λ (l : List ℕ). Some (l ++ q)) same
 line_found d f c cs q after false e ih = ih e
 
 pub line_joins : (d : Dialect) (f : Bool) (p q after : List ℕ) → Clear d p q → line_of false d p ≡ Some after → line_of f d (p ++ q) ≡ Some (after ++ q)
 line_joins d f [] q after h e = absurd cc
 line_joins d f (c ∷ cs) q after h e =
-    ap (λ n. if nat_lt 0 n then Some (c ∷ cs ++ q) else line_of f d (cs ++ q)) h.0 ∙ line_found d f c cs q after (ends_at d (c ∷ cs)) e (line_joins d f cs q after h.1)
+    ap (λ n. if nat_lt 0 n then Some (c ∷ cs ++ q) else line_of f d (cs ++ q)) h.0
+    ∙ line_found d f c cs q after (ends_at d (c ∷ cs)) e (line_joins d f cs q after h.1)
 
 -- a text is what is settled of it and the rest
 one_cut : (b : Bool) (c : ℕ) → (if b then [] else c ∷ []) ++ (if b then c ∷ [] else []) ≡ c ∷ []
@@ -68,7 +71,8 @@ settled_all d [] = refl
 settled_all d (c ∷ []) = one_cut (d.line_terminators.crlf && (c == 13)) c
 settled_all d (c ∷ e ∷ cs) = ap (λ l. c ∷ l) (settled_all d (e ∷ cs))
 
-last_tests : (crlf lf a b x y z w : Bool) → (crlf && a) ≡ false → ◌≡◌ {A = ℕ} (if crlf && (b && x) then 2 else (if lf && (z && true) then 1 else 0)) (if crlf && (b && y) then 2 else (if lf && (z && true) then 1 else 0)) ⊎ (a ≢ b)
+last_tests : (crlf lf a b x y z w : Bool) → (crlf && a) ≡ false → ◌≡◌ {A = ℕ} (if crlf && (b && x) then 2 else (if lf && (z && true) then 1 else 0))
+    (if crlf && (b && y) then 2 else (if lf && (z && true) then 1 else 0)) ⊎ (a ≢ b)
 last_tests true lf true b x y z w h = absurd cc
 last_tests true lf false true x y z w h = inr (λ e. absurd cc)
 last_tests true lf false false x y z w h = inl refl
@@ -89,7 +93,8 @@ settled_one : (d : Dialect) (c e : ℕ) (more : List ℕ) (b : Bool) → (d.line
 settled_one d c e more false h = refl
 settled_one d c e more true h = let k : e ≡ 13 = grind (arith, nat_tests) in ap (λ x. terminator_len d (c ∷ x ∷ more)) k ∙ cr_next d c more
 
-last_clear : (d : Dialect) (c : ℕ) (more : List ℕ) (b : Bool) → (d.line_terminators.crlf && (c == 13)) ≡ b → Clear d (if b then [] else c ∷ []) ((if b then c ∷ [] else []) ++ more)
+last_clear : (d : Dialect) (c : ℕ) (more : List ℕ) (b : Bool) → (d.line_terminators.crlf && (c == 13)) ≡ b
+    → Clear d (if b then [] else c ∷ []) ((if b then c ∷ [] else []) ++ more)
 last_clear d c more true e = tt
 last_clear d c more false e = (one_clear d c more e, tt)
 

@@ -1,5 +1,6 @@
 -- What stands at the front of a text, from one pass over it.
-use Rattle.std.proofs.Common.{◌≡◌, ℕ, zero, suc, ◌+◌, ◌-◌, ◌<◌, ◌≤◌, Bool, true, false, ◌&&◌, ◌==◌, if◌then◌else◌, List, [], ◌∷◌, ◌++◌, length, take, drop, get_or, refl, sym, ap, ◌∙◌, arith, append-nil}
+use Rattle.std.proofs.Common.{◌≡◌, ℕ, zero, suc, ◌+◌, ◌-◌, ◌<◌, ◌≤◌, Bool, true, false, ◌&&◌, ◌==◌, if◌then◌else◌, List, [], ◌∷◌, ◌++◌, length, take}
+use Rattle.std.proofs.Common.{drop, get_or, refl, sym, ap, ◌∙◌, arith, append-nil}
 use Rattle.std.proofs.lemmas.Bool.Decides.{nat_tests}
 use Rattle.std.proofs.lemmas.Grind.{common_steps}
 use Rattle.std.proofs.lemmas.List.{take_more}
@@ -40,7 +41,8 @@ last_of text h =
     let e : length text - 1 + 1 ≡ length text = omega arith in
     sym (take_all (length text) text (omega arith)) ∙ ap (λ n. take n text) (sym e) ∙ take_more text (length text - 1) 0 (omega (arith, h))
 
-pub settled_last : (d : Dialect) (text : List ℕ) → d.line_terminators.crlf ≡ true → 0 < length text → get_or text (length text - 1) 0 ≡ 13 → take (length text - 1) text ≡ settled d text
+pub settled_last : (d : Dialect) (text : List ℕ) → d.line_terminators.crlf ≡ true → 0 < length text → get_or text (length text - 1) 0 ≡ 13
+    → take (length text - 1) text ≡ settled d text
 settled_last d text e h c =
     let p = take (length text - 1) text in
     let x = get_or text (length text - 1) 0 in
@@ -55,7 +57,8 @@ test_false true x n = not_thirteen (x == 13) refl
     not_thirteen false e = refl
     not_thirteen true e = absurd (n refl (grind (arith, nat_tests)))
 
-pub settled_same : (d : Dialect) (text : List ℕ) → (d.line_terminators.crlf ≡ true → 0 < length text → get_or text (length text - 1) 0 ≡ 13 → ⊥) → text ≡ settled d text
+pub settled_same : (d : Dialect) (text : List ℕ) → (d.line_terminators.crlf ≡ true → 0 < length text → get_or text (length text - 1) 0 ≡ 13 → ⊥)
+    → text ≡ settled d text
 settled_same d [] n = refl
 settled_same d (c ∷ cs) n =
     let text = c ∷ cs in
@@ -70,7 +73,8 @@ settled_same d (c ∷ cs) n =
 -- rows with fields
 
 pub run_whole : (d : Dialect) (text : List ℕ) → run d Start [] [] text ≡ goes_on d (run d Start [] [] (settled d text)) (unsettled d text)
-run_whole d text = ap (run d Start [] []) (sym (append-nil text)) ∙ run_on d text [] ∙ ap (goes_on d (run d Start [] [] (settled d text))) (append-nil (unsettled d text))
+run_whole d text = ap (run d Start [] []) (sym (append-nil text)) ∙ run_on d text []
+    ∙ ap (goes_on d (run d Start [] [] (settled d text))) (append-nil (unsettled d text))
 
 pub unquoted_ends : (st : State) (vs : List (List ℕ)) (cur : List ℕ) → is_quoted st ≡ false → finish (Unfinished st vs cur) true ≡ Found (vs ++ cur ∷ []) []
 unquoted_ends Start vs cur q = refl
@@ -83,19 +87,25 @@ unquoted_ends Escaped vs cur q = absurd cc
 act_broken : (d : Dialect) (vs : List (List ℕ)) (cur : List ℕ) (c : ℕ) (cs : List ℕ) (s : Step) (stop : RowStop) (rest : List ℕ)
     → ((st : State) (vs : List (List ℕ)) (cur : List ℕ) → run d st vs cur cs ≡ Broken stop rest → (length rest ≤ length cs) × (0 < length rest))
     → act_run d vs cur c cs s ≡ Broken stop rest → (length rest ≤ length (c ∷ cs)) × (0 < length rest)
-act_broken d vs cur c cs (Keep next) stop rest ih e = let r = ih next vs (cur ++ c ∷ []) e in ((let k = r.0 in let h : length rest ≤ length (c ∷ cs) = omega (arith, k) in h), r.1)
-act_broken d vs cur c cs (Skip next) stop rest ih e = let r = ih next vs cur e in ((let k = r.0 in let h : length rest ≤ length (c ∷ cs) = omega (arith, k) in h), r.1)
-act_broken d vs cur c cs Open stop rest ih e = let r = ih Inside vs [] e in ((let k = r.0 in let h : length rest ≤ length (c ∷ cs) = omega (arith, k) in h), r.1)
-act_broken d vs cur c cs Next stop rest ih e = let r = ih Start (vs ++ cur ∷ []) [] e in ((let k = r.0 in let h : length rest ≤ length (c ∷ cs) = omega (arith, k) in h), r.1)
+act_broken d vs cur c cs (Keep next) stop rest ih e = let r = ih next vs (cur ++ c ∷ []) e in
+    ((let k = r.0 in let h : length rest ≤ length (c ∷ cs) = omega (arith, k) in h), r.1)
+act_broken d vs cur c cs (Skip next) stop rest ih e = let r = ih next vs cur e in
+    ((let k = r.0 in let h : length rest ≤ length (c ∷ cs) = omega (arith, k) in h), r.1)
+act_broken d vs cur c cs Open stop rest ih e = let r = ih Inside vs [] e in
+    ((let k = r.0 in let h : length rest ≤ length (c ∷ cs) = omega (arith, k) in h), r.1)
+act_broken d vs cur c cs Next stop rest ih e = let r = ih Start (vs ++ cur ∷ []) [] e in
+    ((let k = r.0 in let h : length rest ≤ length (c ∷ cs) = omega (arith, k) in h), r.1)
 act_broken d vs cur c cs End stop rest ih e = absurd cc
 act_broken d vs cur c cs (Stop s) stop rest ih e =
     let same : c ∷ cs ≡ rest = cc in
     let n = ap length same in
     ((let h : length rest ≤ length (c ∷ cs) = omega (arith, n) in h), (let h : 0 < length rest = omega (arith, n) in h))
 
-pub broken_within : (d : Dialect) (st : State) (vs : List (List ℕ)) (cur text : List ℕ) (stop : RowStop) (rest : List ℕ) → run d st vs cur text ≡ Broken stop rest → (length rest ≤ length text) × (0 < length rest)
+pub broken_within : (d : Dialect) (st : State) (vs : List (List ℕ)) (cur text : List ℕ) (stop : RowStop) (rest : List ℕ)
+    → run d st vs cur text ≡ Broken stop rest → (length rest ≤ length text) × (0 < length rest)
 broken_within d st vs cur [] stop rest e = absurd cc
-broken_within d st vs cur (c ∷ cs) stop rest e = act_broken d vs cur c cs (step_of d st c (ends_at d (c ∷ cs))) stop rest (λ st vs cur. broken_within d st vs cur cs stop rest) e
+broken_within d st vs cur (c ∷ cs) stop rest e =
+    act_broken d vs cur c cs (step_of d st c (ends_at d (c ∷ cs))) stop rest (λ st vs cur. broken_within d st vs cur cs stop rest) e
 
 pub get_any : (l : List ℕ) (k a b : ℕ) → k < length l → get_or l k a ≡ get_or l k b
 get_any [] k a b h = absurd (omega arith)

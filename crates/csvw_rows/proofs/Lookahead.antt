@@ -1,5 +1,6 @@
 -- A row doesn't depend on what comes behind its terminator.
-use Rattle.std.proofs.Common.{◌≡◌, ℕ, ◌+◌, ◌<◌, ◌≤◌, Bool, true, false, ◌&&◌, if◌then◌else◌, List, [], ◌∷◌, ◌++◌, length, drop, Some, None, refl, sym, ap, ◌∙◌, subst, arith, append_assoc, length-append, inl, inr, nat_eq, MatchBool}
+use Rattle.std.proofs.Common.{◌≡◌, ℕ, ◌+◌, ◌<◌, ◌≤◌, Bool, true, false, ◌&&◌, if◌then◌else◌, List, [], ◌∷◌, ◌++◌, length, drop, Some, None, refl, sym}
+use Rattle.std.proofs.Common.{ap, ◌∙◌, subst, arith, append_assoc, length-append, inl, inr, nat_eq, MatchBool}
 use Rattle.std.proofs.lemmas.Bool.Decides.{nat_tests}
 use Rattle.std.proofs.Math.Seq.{drop-append_seam}
 use Rattle.csvw_dialect.specs.declared.dialect.Dialect.{Dialect}
@@ -30,8 +31,10 @@ fields_again d row (v ∷ u ∷ us) x r q (source, more, e, f, a) =
 pub row_again : (d : Dialect) (i : ℕ) (row : Row) (x : ℕ) (r q : List ℕ) → IsRow d i row (x ∷ r) → IsRow d i row (x ∷ q)
 row_again d i row x r q h = by_kind (is_note d i row.text) h
   where
-    by_kind : (b : Bool) → MatchBool b ((row.fields ≡ None) × HasNoTerminator d row.text (x ∷ r)) ((fields : List (List ℕ)) × (row.fields ≡ Some fields) × RowText d row.text fields (x ∷ r))
-        → MatchBool b ((row.fields ≡ None) × HasNoTerminator d row.text (x ∷ q)) ((fields : List (List ℕ)) × (row.fields ≡ Some fields) × RowText d row.text fields (x ∷ q))
+    by_kind : (b : Bool) → MatchBool b ((row.fields ≡ None) × HasNoTerminator d row.text (x ∷ r))
+        ((fields : List (List ℕ)) × (row.fields ≡ Some fields) × RowText d row.text fields (x ∷ r))
+        → MatchBool b ((row.fields ≡ None) × HasNoTerminator d row.text (x ∷ q))
+        ((fields : List (List ℕ)) × (row.fields ≡ Some fields) × RowText d row.text fields (x ∷ q))
     by_kind true (none, line) = (none, line_again d row.text x r q line)
     by_kind false (fields, some, (values, are, all)) = (fields, some, (values, fields_again d row.text values x r q are, all))
 
@@ -43,7 +46,8 @@ pub record Term (d : Dialect) (after : List ℕ) : Type 0 where
   pub spelled : after ≡ first ∷ others ++ rest
   pub again : (more : List ℕ) → terminator_len d (first ∷ others ++ more) ≡ length (first ∷ others)
 
-pub one_end : (crlf lf a b x y : Bool) → 0 < (if crlf && (a && x) then 2 else (if lf && (b && true) then 1 else 0)) → (crlf && (a && x)) ≡ false → (lf ≡ true) × (b ≡ true)
+pub one_end : (crlf lf a b x y : Bool) → 0 < (if crlf && (a && x) then 2 else (if lf && (b && true) then 1 else 0)) → (crlf && (a && x)) ≡ false
+    → (lf ≡ true) × (b ≡ true)
 one_end crlf lf a b x y h e = (grind (arith, nat_tests), grind (arith, nat_tests))
 
 pub is_char : (a c : ℕ) → nat_eq a c ≡ true → c ≡ a
@@ -70,7 +74,8 @@ and_three false b c h = absurd cc
 
 pub term_view : (d : Dialect) (after : List ℕ) → 0 < terminator_len d after → Term d after
 term_view d [] h = absurd (nothing_ends d h)
-term_view d (c ∷ []) h = lf_term d c [] (one_end d.line_terminators.crlf d.line_terminators.lf (nat_eq 13 c) (nat_eq 10 c) false false h (none d.line_terminators.crlf (nat_eq 13 c)))
+term_view d (c ∷ []) h = lf_term d c []
+    (one_end d.line_terminators.crlf d.line_terminators.lf (nat_eq 13 c) (nat_eq 10 c) false false h (none d.line_terminators.crlf (nat_eq 13 c)))
   where
     none : (a b : Bool) → (a && (b && false)) ≡ false
     none a b = grind arith
@@ -79,7 +84,14 @@ term_view d (c ∷ e ∷ cs) h = by_crlf (d.line_terminators.crlf && (nat_eq 13 
     by_crlf : (b : Bool) → (d.line_terminators.crlf && (nat_eq 13 c && (nat_eq 10 e && true))) ≡ b → Term d (c ∷ e ∷ cs)
     by_crlf true k =
         let p = and_three d.line_terminators.crlf (nat_eq 13 c) (nat_eq 10 e) k in
-        record { first = 13; others = 10 ∷ []; rest = cs; spelled = ap (λ x. x ∷ e ∷ cs) (is_char 13 c p.1) ∙ ap (λ x. 13 ∷ x ∷ cs) (is_char 10 e p.2); again = λ more. crlf_again d more p.0 }
+        record {
+          first = 13;
+          others = 10 ∷ [];
+          rest = cs;
+          spelled = ap (λ x. x ∷ e ∷ cs) (is_char 13 c p.1)
+              ∙ ap (λ x. 13 ∷ x ∷ cs) (is_char 10 e p.2);
+          again = λ more. crlf_again d more p.0;
+        }
     by_crlf false k = lf_term d c (e ∷ cs) (one_end d.line_terminators.crlf d.line_terminators.lf (nat_eq 13 c) (nat_eq 10 c) (nat_eq 10 e && true) false h k)
 
 pub term_is : (d : Dialect) (after : List ℕ) (t : Term d after) → terminator_len d after ≡ length (t.first ∷ t.others)
@@ -103,7 +115,8 @@ pub term_more : (d : Dialect) (after more : List ℕ) (t : Term d after) → t.f
 term_more d after more t = sym (append_assoc (t.first ∷ t.others) t.rest more) ∙ ap (λ l. l ++ more) (sym t.spelled)
 
 pub row_stays : (d : Dialect) (i : ℕ) (row : Row) (after more : List ℕ) → IsRow d i row after → 0 < terminator_len d after → IsRow d i row (after ++ more)
-row_stays d i row after more r h = let t = term_view d after h in subst (IsRow d i row) (term_more d after more t) (row_before d i row after (t.rest ++ more) t r)
+row_stays d i row after more r h = let t = term_view d after h in
+    subst (IsRow d i row) (term_more d after more t) (row_before d i row after (t.rest ++ more) t r)
 
 pub term_stays : (d : Dialect) (after more : List ℕ) → 0 < terminator_len d after → terminator_len d (after ++ more) ≡ terminator_len d after
 term_stays d after more h =
@@ -121,18 +134,21 @@ pub record Again (d : Dialect) (i : ℕ) (text : List ℕ) (rows : List Row) (re
 
 pub rows_again : (d : Dialect) (i : ℕ) (text : List ℕ) (rows : List Row) (rest : List ℕ) → AreRows d i text rows rest → Again d i text rows rest
 rows_again d i text [] rest e = record { front = []; spelled = e; again = λ more. refl }
-rows_again d i text (row ∷ rows) rest (after, e, r, h, are) = more_rows (term_view d after h) (rows_again d (i + 1) (drop (terminator_len d after) after) rows rest are)
+rows_again d i text (row ∷ rows) rest (after, e, r, h, are) =
+    more_rows (term_view d after h) (rows_again d (i + 1) (drop (terminator_len d after) after) rows rest are)
   where
     more_rows : Term d after → Again d (i + 1) (drop (terminator_len d after) after) rows rest → Again d i text (row ∷ rows) rest
     more_rows t a = record {
       front = row.text ++ (t.first ∷ t.others ++ a.front);
-      spelled = e ∙ ap (λ l. row.text ++ l) (t.spelled ∙ ap (λ l. t.first ∷ t.others ++ l) (sym (behind_term d after t) ∙ a.spelled) ∙ sym (append_assoc (t.first ∷ t.others) a.front rest))
+      spelled = e ∙ ap (λ l. row.text ++ l) (t.spelled ∙ ap (λ l. t.first ∷ t.others ++ l) (sym (behind_term d after t) ∙ a.spelled)
+          ∙ sym (append_assoc (t.first ∷ t.others) a.front rest))
           ∙ sym (append_assoc row.text (t.first ∷ t.others ++ a.front) rest);
       again = λ more. (
         t.first ∷ t.others ++ (a.front ++ more),
         append_assoc row.text (t.first ∷ t.others ++ a.front) more ∙ ap (λ l. row.text ++ l) (append_assoc (t.first ∷ t.others) a.front more),
         row_before d i row after (a.front ++ more) t r,
         is_some (terminator_len d (t.first ∷ t.others ++ (a.front ++ more))) t.first t.others (t.again (a.front ++ more)),
-        subst (λ (l : List ℕ). AreRows d (i + 1) l rows more) (sym (behind_front (t.first ∷ t.others) (a.front ++ more) (terminator_len d (t.first ∷ t.others ++ (a.front ++ more))) (t.again (a.front ++ more)))) (a.again more),
+        subst (λ (l : List ℕ). AreRows d (i + 1) l rows more) (sym (behind_front (t.first ∷ t.others) (a.front ++ more)
+            (terminator_len d (t.first ∷ t.others ++ (a.front ++ more))) (t.again (a.front ++ more)))) (a.again more),
       );
     }

@@ -1,5 +1,6 @@
 -- The mask of the symbols among some bytes, and the first of them.
-use Rattle.std.proofs.Common.{◌≡◌, ◌≢◌, ◌∙◌, ℕ, zero, suc, ◌+◌, ◌-◌, ◌*◌, ◌/◌, ◌%◌, ◌^◌, ◌<◌, ◌≤◌, Bool, true, false, cond, not, ◌||◌, List, [], ◌∷◌, length, take, drop, map, refl, sym, ap, arith, inl, inr, bit_or, eqb, length-drop}
+use Rattle.std.proofs.Common.{◌≡◌, ◌≢◌, ◌∙◌, ℕ, zero, suc, ◌+◌, ◌-◌, ◌*◌, ◌/◌, ◌%◌, ◌^◌, ◌<◌, ◌≤◌, Bool, true, false, cond, not, ◌||◌, List, [], ◌∷◌}
+use Rattle.std.proofs.Common.{length, take, drop, map, refl, sym, ap, arith, inl, inr, bit_or, eqb, length-drop}
 use Rattle.std.specs.Prelude.{slice_index}
 use Rattle.std.specs.List.{prefix_len}
 use Rattle.std.proofs.lemmas.Nat.{shr-shr, shr_high}
@@ -26,14 +27,16 @@ mask_shr : (s : ℕ) (ms : List Bool) → mask_l ms / 2 ^ s ≡ mask_l (drop s m
 mask_shr zero ms = div-one (mask_l ms)
 mask_shr (suc s) [] = zero_shr (suc s)
 mask_shr (suc s) (b ∷ bs) =
-    ap (λ k. mask_l (b ∷ bs) / 2 ^ k) (let e : suc s ≡ 1 + s = omega arith in e) ∙ sym (shr-shr (mask_l (b ∷ bs)) 1 s) ∙ ap (λ n. n / 2 ^ s) (mask_half b (mask_l bs)) ∙ mask_shr s bs
+    ap (λ k. mask_l (b ∷ bs) / 2 ^ k) (let e : suc s ≡ 1 + s = omega arith in e) ∙ sym (shr-shr (mask_l (b ∷ bs)) 1 s)
+    ∙ ap (λ n. n / 2 ^ s) (mask_half b (mask_l bs)) ∙ mask_shr s bs
 
 -- no bit is set where no byte passes
 none_set : (test : ℕ → Bool) (xs : List ℕ) → prefix_len (λ x. not (test x)) xs ≡ length xs → mask_l (map test xs) ≡ 0
 none_set test [] e = refl
 none_set test (x ∷ xs) e = by_test (test x) refl e (none_set test xs)
   where
-    by_test : (b : Bool) → test x ≡ b → cond (not b) (1 + prefix_len (λ x. not (test x)) xs) 0 ≡ suc (length xs) → (prefix_len (λ x. not (test x)) xs ≡ length xs → mask_l (map test xs) ≡ 0)
+    by_test : (b : Bool) → test x ≡ b → cond (not b) (1 + prefix_len (λ x. not (test x)) xs) 0 ≡ suc (length xs)
+        → (prefix_len (λ x. not (test x)) xs ≡ length xs → mask_l (map test xs) ≡ 0)
         → cond b 1 0 + 2 * mask_l (map test xs) ≡ 0
     by_test true h k rest = omega (arith, k)
     by_test false h k rest = (let y = rest (let z : prefix_len (λ x. not (test x)) xs ≡ length xs = omega (arith, k) in z) in omega (arith, y))
@@ -63,14 +66,16 @@ module _ (test : ℕ → Bool) (text : List ℕ) (m : Marks) (seen at : ℕ) (a 
   none_ahead e k lo hi p =
       let z = sym p ∙ none_from_empty_mask test text at left 0 room (sym ahead_is ∙ e) k lo (omega (arith, hi, to_is)) in absurd cc
 
-  pub some_ahead : m.mask / 2 ^ seen ≢ 0 → let n = count_trailing_zeros 64 (m.mask / 2 ^ seen) in NoneBefore (Passes test text) at (m.from + m.len) (at + n) × Passes test text (at + n)
+  pub some_ahead : m.mask / 2 ^ seen ≢ 0 → let n = count_trailing_zeros 64 (m.mask / 2 ^ seen) in
+      NoneBefore (Passes test text) at (m.from + m.len) (at + n) × Passes test text (at + n)
   some_ahead some =
       let mask = m.mask / 2 ^ seen in
       let n = count_trailing_zeros 64 mask in
       let few = a.few in
       let long : length part ≡ left = length-chunk at left text room in
       let set : 0 < mask_l (map test part) = (let e = ahead_is in let h : mask ≢ 0 = some in omega (arith, e, h)) in
-      let counted : n ≡ prefix_len (λ x. not (test x)) part = ap (count_trailing_zeros 64) ahead_is ∙ trailing_mask_l test 64 part (omega (arith, few, long)) set in
+      let counted : n ≡ prefix_len (λ x. not (test x)) part = ap (count_trailing_zeros 64) ahead_is
+      ∙ trailing_mask_l test 64 part (omega (arith, few, long)) set in
       let short : n < left = short_of n counted long set in (
         record {
           low = omega arith;
@@ -88,14 +93,16 @@ module _ (test : ℕ → Bool) (text : List ℕ) (m : Marks) (seen at : ℕ) (a 
 
 -- the first behind a part where none is
 pub far_ahead : (test : ℕ → Bool) (text : List ℕ) (at mid n k : ℕ) → at ≤ mid → k ≡ mid + n → Nowhere (Passes test text) at mid
-    → NoneBefore (Passes test (drop mid text)) 0 (length (drop mid text)) n → Passes test (drop mid text) n → NoneBefore (Passes test text) at (length text) k × Passes test text k
+    → NoneBefore (Passes test (drop mid text)) 0 (length (drop mid text)) n → Passes test (drop mid text) n
+    → NoneBefore (Passes test text) at (length text) k × Passes test text k
 far_ahead test text at mid n k le e none first here = (
   record {
     low = omega (arith, le, e);
     high = (let h = first.high in omega (arith, e, h, length-drop mid text));
     before = λ i lo hi p. elim (cases_lt i mid) [
       | inl near ↦ none i lo near p
-      | inr far ↦ first.before (i - mid) (omega arith) (omega (arith, e, hi, far)) (ap test (get_or-drop mid text (i - mid) 0 ∙ ap (slice_index text) (let z : mid + (i - mid) ≡ i = omega (arith, far) in z)) ∙ p)
+      | inr far ↦ first.before (i - mid) (omega arith) (omega (arith, e, hi, far))
+          (ap test (get_or-drop mid text (i - mid) 0 ∙ ap (slice_index text) (let z : mid + (i - mid) ≡ i = omega (arith, far) in z)) ∙ p)
     ];
   },
   ap test (ap (slice_index text) e ∙ sym (get_or-drop mid text n 0)) ∙ here,

@@ -1,5 +1,6 @@
 -- What stands at the front, from the line there.
-use Rattle.std.proofs.Common.{◌≡◌, ◌≢◌, ℕ, zero, suc, ◌+◌, ◌<◌, ◌≤◌, Bool, true, false, List, [], ◌∷◌, ◌++◌, length, take, drop, Option, Some, None, refl, sym, ap, ◌∙◌, subst, arith, append_assoc, append-nil, length-append, length-drop, ◌⊎◌, inl, inr, ◌==◌}
+use Rattle.std.proofs.Common.{◌≡◌, ◌≢◌, ℕ, zero, suc, ◌+◌, ◌<◌, ◌≤◌, Bool, true, false, List, [], ◌∷◌, ◌++◌, length, take, drop, Option, Some, None}
+use Rattle.std.proofs.Common.{refl, sym, ap, ◌∙◌, subst, arith, append_assoc, append-nil, length-append, length-drop, ◌⊎◌, inl, inr, ◌==◌}
 use Rattle.std.proofs.lemmas.Grind.{common_steps}
 use Rattle.std.proofs.lemmas.Bool.Decides.{nat_tests}
 use Rattle.std.proofs.lemmas.Bool.{cases_lt}
@@ -41,7 +42,8 @@ take_all n l h = grind (arith, common_steps)
 breaks_next : (f : Bool) (d : Dialect) (i : ℕ) (text : List ℕ) (k : ℕ) (stop : RowStop) → Breaks d i (take k text) stop → next_row f d i text ≡ None
 breaks_next f d i text k stop b =
     let note = ap (is_note d i) (sym (take-append-drop k text)) ∙ note_never d i (take k text) (drop k text) b.no_note b.may_not in
-    let passed = ap (run d Start [] []) (sym (take-append-drop k text)) ∙ run_on d (take k text) (drop k text) ∙ ap (λ o. goes_on d o (unsettled d (take k text) ++ drop k text)) b.broken in
+    let passed = ap (run d Start [] []) (sym (take-append-drop k text)) ∙ run_on d (take k text) (drop k text)
+    ∙ ap (λ o. goes_on d o (unsettled d (take k text) ++ drop k text)) b.broken in
     fields_next f d i text note ∙ ap (λ o. found_row d (finish o f)) passed
 
 -- which rule
@@ -57,7 +59,8 @@ breaks_named d i part stop b = by_stop stop (subst (Tells d part) (run_whole d p
     by_stop UnclosedQuote r = absurd r
     by_stop TooManyRows r = r
 
-named_of : (d : Dialect) (max i : ℕ) (part : List ℕ) (ended : Bool) (stop : RowStop) → byte_len part ≤ row_limit → IsBroken d i part ended stop → IsNamed d max i part ended stop
+named_of : (d : Dialect) (max i : ℕ) (part : List ℕ) (ended : Bool) (stop : RowStop) → byte_len part ≤ row_limit → IsBroken d i part ended stop
+    → IsNamed d max i part ended stop
 named_of d max i part ended Memory h b = b
 named_of d max i part ended NotUtf8 h b = b
 named_of d max i part ended RowTooLong h b = absurd b
@@ -81,18 +84,27 @@ end_named : (d : Dialect) (max i : ℕ) (text : List ℕ) (k : ℕ) → IsLawful
     → (row_limit < byte_len (take k text)) ⊎ ((stop : RowStop) × Breaks d i (take k text) stop)
 end_named d max i text k w few none e = by_length (cases_le (byte_len (take k text)) row_limit)
   where
-    by_seen : byte_len (take k text) ≤ row_limit → Sees d i (take k text) → (row_limit < byte_len (take k text)) ⊎ ((stop : RowStop) × Breaks d i (take k text) stop)
+    by_seen : byte_len (take k text) ≤ row_limit → Sees d i (take k text)
+        → (row_limit < byte_len (take k text)) ⊎ ((stop : RowStop) × Breaks d i (take k text) stop)
     by_seen h (inl r) =
         let whole = row_in d i text k r in
         let fits : byte_len r.row.text ≤ byte_len (take k text) = (let n = byte_len_take (length r.row.text) (take k text) in
-        omega (arith, n, ap byte_len (same_front (take k text) [] r.row.text r.after (length r.row.text) (append-nil (take k text) ∙ r.spelled) (omega (arith, ap length r.spelled, length-append r.row.text r.after)) (omega arith)), ap byte_len (take_all (length r.row.text) r.row.text (omega arith)))) in
+        omega (
+          arith,
+          n,
+          ap byte_len (same_front (take k text) [] r.row.text r.after (length r.row.text) (append-nil (take k text) ∙ r.spelled)
+              (omega (arith, ap length r.spelled, length-append r.row.text r.after)) (omega arith)),
+          ap byte_len (take_all (length r.row.text) r.row.text (omega arith)),
+        )) in
         absurd (none few whole.row whole.after whole.spelled whole.is_row whole.ends (omega (arith, fits, h)))
     by_seen h (inr (inl (len, c))) =
         let n = byte_len_take len (take k text) in
-        absurd (not_both d max i (take k text) w (inr (few, record { row = c.row; more = c.more; spelled = c.spelled; is_row = c.is_row; short = omega (arith, h, n, ap byte_len c.fits) })) e)
+        absurd (not_both d max i (take k text) w (inr
+        (few, record { row = c.row; more = c.more; spelled = c.spelled; is_row = c.is_row; short = omega (arith, h, n, ap byte_len c.fits) })) e)
     by_seen h (inr (inr b)) = inr b
 
-    by_length : (byte_len (take k text) ≤ row_limit) ⊎ (row_limit < byte_len (take k text)) → (row_limit < byte_len (take k text)) ⊎ ((stop : RowStop) × Breaks d i (take k text) stop)
+    by_length : (byte_len (take k text) ≤ row_limit) ⊎ (row_limit < byte_len (take k text))
+        → (row_limit < byte_len (take k text)) ⊎ ((stop : RowStop) × Breaks d i (take k text) stop)
     by_length (inr h) = inl h
     by_length (inl h) = by_seen h (sees d i (take k text) w)
 
@@ -113,7 +125,8 @@ none_last d max i text w e few row spelled r short =
     let found = sym e ∙ ap (next_row true d i) (spelled ∙ sym (append-nil row.text)) ∙ row_complete true d i row [] w r (inr (refl, refl)) in absurd cc
 
 -- a broken rule
-pub wrong_stops : (whole : Bool) (d : Dialect) (max i : ℕ) (text : List ℕ) (len : ℕ) (stop : RowStop) → IsLawful d → i < max → text ≢ [] → IsWrong whole d i text len stop
+pub wrong_stops : (whole : Bool) (d : Dialect) (max i : ℕ) (text : List ℕ) (len : ℕ) (stop : RowStop) → IsLawful d → i < max → text ≢ []
+    → IsWrong whole d i text len stop
     → byte_len (take len text) ≤ row_limit → StopsHere whole d max i text stop
 wrong_stops whole d max i text len stop w few some g short = record {
   some = some;
@@ -147,29 +160,34 @@ wrong_stops whole d max i text len stop w few some g short = record {
         empty e = let z = ap (λ l. run d Start [] [] (settled d l)) (sym e) ∙ b.broken in cc
 
     by_end : Goes d max i text ⊎ Ends d max i (take (length text) text)
-        → ((f : FirstEnd d max i text (length text)) × IsNamed d max i (take f.at text) false stop) ⊎ ((whole ≡ true) × Goes d max i text × IsNamed d max i text true stop)
+        → ((f : FirstEnd d max i text (length text)) × IsNamed d max i (take f.at text) false stop) ⊎
+        ((whole ≡ true) × Goes d max i text × IsNamed d max i text true stop)
     by_end (inl goes) = by_stands g.stands
       where
         by_stands : Breaks d i (take len text) stop ⊎ ((whole ≡ true) × (len ≡ length text))
-            → ((f : FirstEnd d max i text (length text)) × IsNamed d max i (take f.at text) false stop) ⊎ ((whole ≡ true) × Goes d max i text × IsNamed d max i text true stop)
+            → ((f : FirstEnd d max i text (length text)) × IsNamed d max i (take f.at text) false stop) ⊎
+            ((whole ≡ true) × Goes d max i text × IsNamed d max i text true stop)
         by_stands (inl b) =
             let f = first_end d max i text len w none (at_len b) in
             let within = f.within in
             let inside = g.within in
             let full : FirstEnd d max i text (length text) = record { at = f.at; within = omega (arith, within, inside); ends = f.ends; before = f.before } in
             inl (full, in_text full within)
-        by_stands (inr (t, e)) = inr (t, goes, named_of d max i text true stop (omega (arith, short, ap byte_len (take_all len text (omega (arith, e))))) (g.is_broken t))
+        by_stands (inr (t, e)) = inr
+            (t, goes, named_of d max i text true stop (omega (arith, short, ap byte_len (take_all len text (omega (arith, e))))) (g.is_broken t))
     by_end (inr ends) = by_stands g.stands
       where
         by_stands : Breaks d i (take len text) stop ⊎ ((whole ≡ true) × (len ≡ length text))
-            → ((f : FirstEnd d max i text (length text)) × IsNamed d max i (take f.at text) false stop) ⊎ ((whole ≡ true) × Goes d max i text × IsNamed d max i text true stop)
+            → ((f : FirstEnd d max i text (length text)) × IsNamed d max i (take f.at text) false stop) ⊎
+            ((whole ≡ true) × Goes d max i text × IsNamed d max i text true stop)
         by_stands (inl b) =
             let f = first_end d max i text len w none (at_len b) in
             let within = f.within in
             let inside = g.within in
             let full : FirstEnd d max i text (length text) = record { at = f.at; within = omega (arith, within, inside); ends = f.ends; before = f.before } in
             inl (full, in_text full within)
-        by_stands (inr (t, e)) = let f = first_end d max i text (length text) w none ends in let within = f.within in inl (f, in_text f (omega (arith, within, e)))
+        by_stands (inr (t, e)) = let f = first_end d max i text (length text) w none ends in let within = f.within in
+            inl (f, in_text f (omega (arith, within, e)))
 
 -- too many rows
 pub many_stops : (whole : Bool) (d : Dialect) (max i : ℕ) (text : List ℕ) → i ≡ max → text ≢ [] → StopsHere whole d max i text TooManyRows
@@ -200,7 +218,8 @@ pub record Seen (whole : Bool) (d : Dialect) (i : ℕ) (text : List ℕ) (len : 
   pub is_row : IsRow d i row rest
   pub ends : EndsRow whole d rest
 
-pub seen_of : (whole : Bool) (d : Dialect) (i : ℕ) (text : List ℕ) (len : ℕ) (fields : Option (List (List ℕ))) → IsLawful d → IsFound whole d i text len fields → Seen whole d i text len fields
+pub seen_of : (whole : Bool) (d : Dialect) (i : ℕ) (text : List ℕ) (len : ℕ) (fields : Option (List (List ℕ))) → IsLawful d
+    → IsFound whole d i text len fields → Seen whole d i text len fields
 seen_of whole d i text len fields w f =
     let r = row_sound whole d i text fields (drop len text) w f.found in
     record {
@@ -226,17 +245,20 @@ seen_same whole d i text len fields w s row after e r h =
     ap (λ (x : Row). x.text) same.row ∙ s.text_is
 
 -- a row that is too long
-module _ (whole : Bool) (d : Dialect) (max i : ℕ) (text : List ℕ) (len : ℕ) (w : IsLawful d) (few : i < max) (some : text ≢ []) (long : row_limit < byte_len (take len text)) where
+module _ (whole : Bool) (d : Dialect) (max i : ℕ) (text : List ℕ) (len : ℕ) (w : IsLawful d) (few : i < max) (some : text ≢ [])
+    (long : row_limit < byte_len (take len text)) where
   InText : Type 0
   InText = (f : FirstEnd d max i text (length text)) × IsNamed d max i (take f.at text) false RowTooLong
 
-  long_text : NoRow d max i text → ((k : ℕ) (stop : RowStop) → k ≤ length text → Breaks d i (take k text) stop → row_limit < byte_len (take k text)) → Ends d max i (take (length text) text) → InText
+  long_text : NoRow d max i text → ((k : ℕ) (stop : RowStop) → k ≤ length text → Breaks d i (take k text) stop → row_limit < byte_len (take k text))
+      → Ends d max i (take (length text) text) → InText
   unfolding InText
   long_text none breaks e =
       let f = first_end d max i text (length text) w none e in
       (f, elim (end_named d max i text f.at w few none f.ends) [ inl h ↦ h | inr b ↦ breaks f.at b.0 (let h = f.within in omega (arith, h)) b.1 ])
 
-  pub found_stops : (fields : Option (List (List ℕ))) → Seen whole d i text len fields → IsFound whole d i text len fields → StopsHere whole d max i text RowTooLong
+  pub found_stops : (fields : Option (List (List ℕ))) → Seen whole d i text len fields → IsFound whole d i text len fields
+      → StopsHere whole d max i text RowTooLong
   unfolding InText
   found_stops fields s f = record { some = some; no_row = none; no_last = λ t. last; stands = by_end (whole_goes d max i text w none) }
     where
@@ -244,7 +266,8 @@ module _ (whole : Bool) (d : Dialect) (max i : ℕ) (text : List ℕ) (len : ℕ
       none few row after e r h short = omega (arith, long, short, ap byte_len (seen_same whole d i text len fields w s row after e r (inl h)))
 
       last : NoLast d max i text
-      last few row e r short = omega (arith, long, short, ap byte_len (seen_same whole d i text len fields w s row [] (e ∙ sym (append-nil row.text)) r (inr (refl, refl))))
+      last few row e r short = omega
+          (arith, long, short, ap byte_len (seen_same whole d i text len fields w s row [] (e ∙ sym (append-nil row.text)) r (inr (refl, refl))))
 
       breaks : (k : ℕ) (stop : RowStop) → k ≤ length text → Breaks d i (take k text) stop → row_limit < byte_len (take k text)
       breaks k stop h b = let z = sym (breaks_next whole d i text k stop b) ∙ f.found in absurd cc
@@ -255,12 +278,20 @@ module _ (whole : Bool) (d : Dialect) (max i : ℕ) (text : List ℕ) (len : ℕ
           complete : Goes d max i text → ⊥
           complete (inl e) = some e
           complete (inr (few, t)) =
-              let same = row_unique false d i s.row t.row (s.rest ++ t.more) (terminator_of d) w (sym (append_assoc s.row.text s.rest t.more) ∙ ap (λ l. l ++ t.more) (sym s.spelled) ∙ t.spelled)
-              (row_stays d i s.row s.rest t.more s.is_row h) (inl (let k = h in omega (arith, k, term_stays d s.rest t.more h))) t.is_row (inl (term_some d w)) in
-              let whole_row : take (length text) t.row.text ≡ t.row.text = take_all (length text) t.row.text (omega (arith, ap length s.spelled, length-append s.row.text s.rest, ap (λ (x : Row). length x.text) same.row)) in
+              let same = row_unique false d i s.row t.row (s.rest ++ t.more) (terminator_of d) w
+              (sym (append_assoc s.row.text s.rest t.more) ∙ ap (λ l. l ++ t.more) (sym s.spelled) ∙ t.spelled)
+              (row_stays d i s.row s.rest t.more s.is_row h) (inl (let k = h in omega (arith, k, term_stays d s.rest t.more h))) t.is_row
+              (inl (term_some d w)) in
+              let whole_row : take (length text) t.row.text ≡ t.row.text =
+              take_all (length text) t.row.text
+              (omega (arith, ap length s.spelled, length-append s.row.text s.rest, ap (λ (x : Row). length x.text) same.row)) in
               let short = t.short in
               omega (arith, long, short, ap byte_len whole_row, ap (λ (x : Row). byte_len x.text) same.row, ap byte_len s.text_is)
-      by_rest g (inr (t, e)) = (t, (let z : row_limit < byte_len text = omega (arith, long, ap byte_len (sym s.text_is), ap byte_len (s.spelled ∙ ap (λ l. s.row.text ++ l) e ∙ append-nil s.row.text)) in z))
+      by_rest g (inr (t, e)) = (
+        t,
+        (let z : row_limit < byte_len text =
+            omega (arith, long, ap byte_len (sym s.text_is), ap byte_len (s.spelled ∙ ap (λ l. s.row.text ++ l) e ∙ append-nil s.row.text)) in z),
+      )
 
       by_end : Goes d max i text ⊎ Ends d max i (take (length text) text) → InText ⊎ ((whole ≡ true) × Goes d max i text × IsNamed d max i text true RowTooLong)
       by_end (inl g) = let r = by_rest g s.ends in inr (r.0, g, r.1)
@@ -292,7 +323,13 @@ module _ (whole : Bool) (d : Dialect) (max i : ℕ) (text : List ℕ) (len : ℕ
 
   pub wrong_long : (stop : RowStop) → IsWrong whole d i text len stop → StopsHere whole d max i text RowTooLong
   unfolding InText
-  wrong_long stop g = record { some = some; no_row = none; no_last = λ t. none_last d max i text w (ap (λ b. next_row b d i text) (sym t) ∙ g.no_row.0); stands = by_end (whole_goes d max i text w none) }
+  wrong_long stop g = record {
+    some = some;
+    no_row = none;
+    no_last =
+        λ t. none_last d max i text w (ap (λ b. next_row b d i text) (sym t) ∙ g.no_row.0);
+    stands = by_end (whole_goes d max i text w none);
+  }
     where
       none : NoRow d max i text
       none = none_complete d max i text w g.no_row.1
@@ -329,15 +366,18 @@ last_goes d max i row w few is_row fits = by_seen (sees d i row.text w)
         let z = sym (breaks_next true d i row.text (length row.text) stop (subst (λ l. Breaks d i l stop) (sym whole) b)) ∙ found in cc
 
 -- a row that is taken
-pub found_takes : (whole : Bool) (d : Dialect) (max i : ℕ) (text behind : List ℕ) (len t : ℕ) (fields : Option (List (List ℕ))) → IsLawful d → i < max → text ≢ [] → IsFound whole d i text len fields
-    → byte_len (take len text) ≤ row_limit → behind ≡ drop len text → t ≡ terminator_len d behind → t ≤ length behind → TakesRow whole d max i text (length (take len text) + t) fields
+pub found_takes : (whole : Bool) (d : Dialect) (max i : ℕ) (text behind : List ℕ) (len t : ℕ) (fields : Option (List (List ℕ))) → IsLawful d → i < max
+    → text ≢ [] → IsFound whole d i text len fields
+    → byte_len (take len text) ≤ row_limit → behind ≡ drop len text → t ≡ terminator_len d behind → t ≤ length behind
+    → TakesRow whole d max i text (length (take len text) + t) fields
 found_takes whole d max i text behind len t fields w few some f short eb et within = by_ends s.ends
   where
     s : Seen whole d i text len fields
     s = seen_of whole d i text len fields w f
 
     count : length (take len text) ≡ len
-    count = let h = f.within in omega (arith, h, ap length s.text_is, ap length s.spelled, length-append s.row.text s.rest, ap length s.rest_is, length-drop len text)
+    count = let h = f.within in
+        omega (arith, h, ap length s.text_is, ap length s.spelled, length-append s.row.text s.rest, ap length s.rest_is, length-drop len text)
 
     tl : t ≡ terminator_len d s.rest
     tl = et ∙ ap (terminator_len d) (eb ∙ sym s.rest_is)
@@ -388,18 +428,23 @@ found_takes whole d max i text behind len t fields w few some f short eb et with
         goes : Goes d max i text
         goes = subst (Goes d max i) (sym all) (last_goes d max i s.row w few (subst (IsRow d i s.row) e s.is_row) row_short)
 
-pub open_waits : (d : Dialect) (max i : ℕ) (text : List ℕ) (len : ℕ) → IsLawful d → i < max → Continues d i text len → byte_len (take len text) ≤ row_limit → Goes d max i text × NoRow d max i text
-open_waits d max i text len w few c short =
-    (inr (few, record { row = c.row; more = c.more; spelled = c.spelled; is_row = c.is_row; short = omega (arith, short, ap byte_len c.fits) }), none_complete d max i text w c.incomplete)
+pub open_waits : (d : Dialect) (max i : ℕ) (text : List ℕ) (len : ℕ) → IsLawful d → i < max → Continues d i text len
+    → byte_len (take len text) ≤ row_limit → Goes d max i text × NoRow d max i text
+open_waits d max i text len w few c short = (
+  inr (few, record { row = c.row; more = c.more; spelled = c.spelled; is_row = c.is_row; short = omega (arith, short, ap byte_len c.fits) }),
+  none_complete d max i text w c.incomplete,
+)
 
 pub nothing_complete : (d : Dialect) (max i : ℕ) (text : List ℕ) → text ≡ [] → NoRow d max i text
-nothing_complete d max i text e few row after spelled r h short = nothing_ends d (let P : List ℕ → Type 0 = λ x. 0 < terminator_len d x in subst P (back row.text after (sym e ∙ spelled)) h)
+nothing_complete d max i text e few row after spelled r h short =
+    nothing_ends d (let P : List ℕ → Type 0 = λ x. 0 < terminator_len d x in subst P (back row.text after (sym e ∙ spelled)) h)
   where
     back : (a b : List ℕ) → [] ≡ a ++ b → b ≡ []
     back [] b e = sym e
     back (c ∷ cs) b e = absurd cc
 
-stop_gives : (after : After) (d : Dialect) (max i : ℕ) (text : List ℕ) (stop : RowStop) → ((stop ≡ NotUtf8) → ⊥) → StopsHere (is_last after) d max i text stop → StopGives after d max i text stop
+stop_gives : (after : After) (d : Dialect) (max i : ℕ) (text : List ℕ) (stop : RowStop) → ((stop ≡ NotUtf8) → ⊥)
+    → StopsHere (is_last after) d max i text stop → StopGives after d max i text stop
 stop_gives after d max i text Memory n s = tt
 stop_gives after d max i text NotUtf8 n s = absurd (n refl)
 stop_gives after d max i text RowTooLong n s = s
@@ -411,9 +456,11 @@ stop_gives after d max i text TooManyRows n s = s
 never_bytes : (d : Dialect) (i : ℕ) (text : List ℕ) (b : Bool) (stop : RowStop) → IsBroken d i text b stop → stop ≡ NotUtf8 → ⊥
 never_bytes d i text b stop k e = subst (IsBroken d i text b) e k
 
-pub wrong_gives : (after : After) (d : Dialect) (max i : ℕ) (text : List ℕ) (len : ℕ) (stop : RowStop) → IsLawful d → i < max → text ≢ [] → IsWrong (is_last after) d i text len stop
+pub wrong_gives : (after : After) (d : Dialect) (max i : ℕ) (text : List ℕ) (len : ℕ) (stop : RowStop) → IsLawful d → i < max → text ≢ []
+    → IsWrong (is_last after) d i text len stop
     → byte_len (take len text) ≤ row_limit → StopGives after d max i text stop
-wrong_gives after d max i text len stop w few some g short = stop_gives after d max i text stop (by_stands g.stands) (wrong_stops (is_last after) d max i text len stop w few some g short)
+wrong_gives after d max i text len stop w few some g short =
+    stop_gives after d max i text stop (by_stands g.stands) (wrong_stops (is_last after) d max i text len stop w few some g short)
   where
     by_stands : Breaks d i (take len text) stop ⊎ ((is_last after ≡ true) × (len ≡ length text)) → stop ≡ NotUtf8 → ⊥
     by_stands (inl b) = never_bytes d i (take len text) false stop (breaks_named d i (take len text) stop b)

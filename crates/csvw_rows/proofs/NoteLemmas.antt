@@ -1,5 +1,7 @@
 -- A line among the bytes and among the characters.
-use Rattle.std.proofs.Common.{◌≡◌, ◌∙◌, ℕ, suc, ◌<◌, ◌≤◌, if◌then◌else◌, Bool, false, true, List, [], ◌∷◌, ◌++◌, length, take, drop, get_or, Option, Some, None, refl, sym, ap, subst, arith, append_assoc, append-nil, length-append, drop-cons, ◌⊎◌, inl, inr, chars, nat_lt, nat_eq}
+use Rattle.std.proofs.Common.{◌≡◌, ◌∙◌, ℕ, suc, ◌<◌, ◌≤◌, if◌then◌else◌, Bool, false, true, List, [], ◌∷◌, ◌++◌, length, take, drop, get_or, Option}
+use Rattle.std.proofs.Common.{Some, None, refl, sym, ap, subst, arith, append_assoc, append-nil, length-append, drop-cons, ◌⊎◌, inl, inr, chars}
+use Rattle.std.proofs.Common.{nat_lt, nat_eq}
 use Rattle.std.specs.Prelude.{IsUtf8, encode_utf8_all}
 use Rattle.std.specs.List.{starts_with}
 use Rattle.std.specs.Str.{is_utf8}
@@ -43,7 +45,8 @@ before_end front k h = omega (arith, byte_len_past front k h, some_bytes (get_or
 take_of : (a b : List ℕ) (k : ℕ) → k < length a → take k (a ++ b) ≡ take k a
 take_of a b k h = grind (arith, common_steps)
 
-module _ (d : Dialect) (rest : List ℕ) (n : ℕ) (u : IsUtf8 rest) (within : n ≤ length rest) (back : is_utf8 (drop n rest) ≡ true) (none : NoneBegins d rest 0 n) where
+module _ (d : Dialect) (rest : List ℕ) (n : ℕ) (u : IsUtf8 rest) (within : n ≤ length rest) (back : is_utf8 (drop n rest) ≡ true)
+    (none : NoneBegins d rest 0 n) where
   abbrev front : List ℕ
   front = chars (take n rest)
 
@@ -74,7 +77,8 @@ module _ (d : Dialect) (rest : List ℕ) (n : ℕ) (u : IsUtf8 rest) (within : n
       here : drop j rest ≡ encode_utf8_all (drop k (front ++ after))
       here = ap (drop j) (sym whole) ∙ front_past (front ++ after) k
 
-      by_end : (0 < terminator_len d (drop k (front ++ after))) ⊎ (terminator_len d (drop k (front ++ after)) ≤ 0) → terminator_len d (drop k (front ++ after)) ≡ 0
+      by_end : (0 < terminator_len d (drop k (front ++ after))) ⊎ (terminator_len d (drop k (front ++ after)) ≤ 0)
+          → terminator_len d (drop k (front ++ after)) ≡ 0
       by_end (inl e) = let t = term_codes d (drop k (front ++ after)) e in absurd (omega (arith, t, ap (terminator_len d) here, none j (omega arith) low))
       by_end (inr z) = omega (arith, z)
 
@@ -82,12 +86,15 @@ module _ (d : Dialect) (rest : List ℕ) (n : ℕ) (u : IsUtf8 rest) (within : n
   pub line_past : (f : Bool) → line_of f d (chars rest) ≡ line_of f d after
   line_past f = ap (line_of f d) spelled ∙ places front after none_char
     where
-      places : (front after : List ℕ) → ((k : ℕ) → k < length front → terminator_len d (drop k (front ++ after)) ≡ 0) → line_of f d (front ++ after) ≡ line_of f d after
+      places : (front after : List ℕ) → ((k : ℕ) → k < length front → terminator_len d (drop k (front ++ after)) ≡ 0)
+          → line_of f d (front ++ after) ≡ line_of f d after
       places [] after h = refl
-      places (c ∷ cs) after h = ap (λ n. if nat_lt 0 n then Some (c ∷ cs ++ after) else line_of f d (cs ++ after)) (h 0 (omega arith)) ∙ places cs after (λ k l. h (suc k) (omega (arith, l)))
+      places (c ∷ cs) after h = ap (λ n. if nat_lt 0 n then Some (c ∷ cs ++ after) else line_of f d (cs ++ after)) (h 0 (omega arith))
+          ∙ places cs after (λ k l. h (suc k) (omega (arith, l)))
 
 -- the line ends there
-pub line_here : (f : Bool) (d : Dialect) (rest : List ℕ) (n : ℕ) → IsUtf8 rest → n ≤ length rest → is_utf8 (drop n rest) ≡ true → NoneBegins d rest 0 n → 0 < terminator_len d (chars (drop n rest))
+pub line_here : (f : Bool) (d : Dialect) (rest : List ℕ) (n : ℕ) → IsUtf8 rest → n ≤ length rest → is_utf8 (drop n rest) ≡ true
+    → NoneBegins d rest 0 n → 0 < terminator_len d (chars (drop n rest))
     → line_of f d (chars rest) ≡ Some (chars (drop n rest))
 line_here f d rest n u within back none ends = line_past d rest n u within back none f ∙ line_complete f d [] (chars (drop n rest)) tt (inl ends)
 
@@ -96,9 +103,11 @@ gone : (l : List ℕ) → drop (length l) l ≡ []
 gone l = grind (arith, common_steps)
 
 pub line_whole : (f : Bool) (d : Dialect) (rest : List ℕ) → IsUtf8 rest → NoneBegins d rest 0 (length rest) → line_of f d (chars rest) ≡ line_of f d []
-line_whole f d rest u none = line_past d rest (length rest) u (omega arith) (text_gone rest (length rest) refl) none f ∙ ap (line_of f d) (ap chars (gone rest) ∙ chars-nil)
+line_whole f d rest u none = line_past d rest (length rest) u (omega arith) (text_gone rest (length rest) refl) none f
+    ∙ ap (line_of f d) (ap chars (gone rest) ∙ chars-nil)
 
-pub line_last : (d : Dialect) (rest : List ℕ) → IsUtf8 rest → NoneBegins d rest 0 (length rest) → line_of true d (chars rest) ≡ Some (chars (drop (length rest) rest))
+pub line_last : (d : Dialect) (rest : List ℕ) → IsUtf8 rest → NoneBegins d rest 0 (length rest)
+    → line_of true d (chars rest) ≡ Some (chars (drop (length rest) rest))
 line_last d rest u none = line_whole true d rest u none ∙ ap Some (sym (ap chars (gone rest) ∙ chars-nil))
 
 -- a terminator begins between two characters
@@ -118,7 +127,8 @@ line_open d rest u none = by_line (line_of false d (settled d (chars rest))) ref
     by_line : (o : Option (List ℕ)) → line_of false d (settled d (chars rest)) ≡ o → o ≡ None
     by_line None e = refl
     by_line (Some after) e =
-        let z = sym (line_whole false d rest u none) ∙ ap (line_of false d) (sym (settled_all d (chars rest))) ∙ line_joins d false (settled d (chars rest)) (unsettled d (chars rest)) after (clear_all d (chars rest)) e in
+        let z = sym (line_whole false d rest u none) ∙ ap (line_of false d) (sym (settled_all d (chars rest)))
+        ∙ line_joins d false (settled d (chars rest)) (unsettled d (chars rest)) after (clear_all d (chars rest)) e in
         absurd cc
 
 -- nothing that follows makes a terminator of what is settled
@@ -129,7 +139,8 @@ settled_noted d rest n e none more k h l =
     let low : k < length s = omega (arith, l, e) in
     let all : rest ≡ s ++ t = sym (settled_all d rest) in
     let here : drop k rest ≡ drop k s ++ (t ++ []) = ap (drop k) (all ∙ ap (λ l. s ++ l) (sym (append-nil t))) ∙ drop_more k s (t ++ []) (omega (arith, low)) in
-    let grown : drop k (rest ++ more) ≡ drop k s ++ (t ++ more) = ap (drop k) (ap (λ l. l ++ more) all ∙ append_assoc s t more) ∙ drop_more k s (t ++ more) (omega (arith, low)) in
+    let grown : drop k (rest ++ more) ≡ drop k s ++ (t ++ more) = ap (drop k) (ap (λ l. l ++ more) all ∙ append_assoc s t more)
+    ∙ drop_more k s (t ++ more) (omega (arith, low)) in
     ap (terminator_len d) grown ∙ clear_at d s (t ++ more) (settled_clear d rest more) k low ∙ sym (clear_at d s (t ++ []) (settled_clear d rest []) k low)
     ∙ ap (terminator_len d) (sym here) ∙ none k (omega arith) (omega (arith, low, ap length all, length-append s t))
 
@@ -153,4 +164,5 @@ same_start rest prefix u v = by_test (starts_with nat_eq rest prefix) refl
     by_test false e = sym (no_prefix rest prefix u v e)
     by_test true e =
         let s = starts_split rest prefix e in
-        sym (ap (λ l. starts_with nat_eq l (chars prefix)) (ap chars s.1 ∙ chars-append prefix s.0 v) ∙ starts_stays (chars prefix) (chars prefix) (chars s.0) (starts_itself (chars prefix)))
+        sym (ap (λ l. starts_with nat_eq l (chars prefix)) (ap chars s.1 ∙ chars-append prefix s.0 v)
+        ∙ starts_stays (chars prefix) (chars prefix) (chars s.0) (starts_itself (chars prefix)))

@@ -1,5 +1,6 @@
 -- Whether a row is a comment shows in the row itself.
-use Rattle.std.proofs.Common.{◌≡◌, ℕ, ◌<◌, Bool, true, false, ◌&&◌, ◌||◌, ◌==◌, if◌then◌else◌, List, [], ◌∷◌, ◌++◌, Option, Some, None, refl, sym, ap, ◌∙◌, arith, inl, inr, nat_lt, nat_eq}
+use Rattle.std.proofs.Common.{◌≡◌, ℕ, ◌<◌, Bool, true, false, ◌&&◌, ◌||◌, ◌==◌, if◌then◌else◌, List, [], ◌∷◌, ◌++◌, Option, Some, None, refl, sym, ap}
+use Rattle.std.proofs.Common.{◌∙◌, arith, inl, inr, nat_lt, nat_eq}
 use Rattle.std.specs.List.{starts_with}
 use Rattle.std.proofs.lemmas.Bool.Decides.{nat_tests}
 use Rattle.csvw_dialect.specs.declared.dialect.Dialect.{Dialect}
@@ -26,7 +27,8 @@ same_order a b = grind (arith, nat_tests)
 
 pub terminator_breaks : (d : Dialect) (after : List ℕ) → 0 < terminator_len d after → BeginsBreak after
 terminator_breaks d [] h = tt
-terminator_breaks d (c ∷ cs) h = heads d.line_terminators.crlf d.line_terminators.lf (nat_eq 13 c) _ _ (nat_eq 10 c) (c == 13) (c == 10) (same_order 13 c) (same_order 10 c) h
+terminator_breaks d (c ∷ cs) h =
+    heads d.line_terminators.crlf d.line_terminators.lf (nat_eq 13 c) _ _ (nat_eq 10 c) (c == 13) (c == 10) (same_order 13 c) (same_order 10 c) h
 
 pub ends_break : (f : Bool) (d : Dialect) (after : List ℕ) → EndsRow f d after → BeginsBreak after
 ends_break f d after (inl h) = terminator_breaks d after h
@@ -40,7 +42,8 @@ rest_breaks : (a b : Bool) → (a || b) ≡ false → b ≡ false
 rest_breaks true b h = absurd cc
 rest_breaks false b h = h
 
-pub starts_same : (prefix row after : List ℕ) → has_break prefix ≡ false → BeginsBreak after → starts_with nat_eq (row ++ after) prefix ≡ starts_with nat_eq row prefix
+pub starts_same : (prefix row after : List ℕ) → has_break prefix ≡ false → BeginsBreak after
+    → starts_with nat_eq (row ++ after) prefix ≡ starts_with nat_eq row prefix
 starts_same [] row after h b = refl
 starts_same (p ∷ ps) [] [] h b = refl
 starts_same (p ∷ ps) [] (c ∷ cs) h b = ap (λ x. x && starts_with nat_eq cs ps) (apart p c (has_break ps) h b)
@@ -72,10 +75,12 @@ begins_stays None text more h = absurd cc
 begins_stays (Some prefix) text more h = starts_stays prefix text more h
 
 pub note_stays : (d : Dialect) (i : ℕ) (text more : List ℕ) → is_note d i text ≡ true → is_note d i (text ++ more) ≡ true
-note_stays d i text more h = or_stays (nat_lt i d.skip_rows) (begins_with text (prefix_of d)) (begins_with (text ++ more) (prefix_of d)) h (begins_stays (prefix_of d) text more)
+note_stays d i text more h = or_stays (nat_lt i d.skip_rows) (begins_with text (prefix_of d)) (begins_with (text ++ more) (prefix_of d)) h
+    (begins_stays (prefix_of d) text more)
 
 -- where the text is no comment and can't become one, nothing behind it makes it one
-starts_never : (prefix text more : List ℕ) → starts_with nat_eq text prefix ≡ false → starts_with nat_eq prefix text ≡ false → starts_with nat_eq (text ++ more) prefix ≡ false
+starts_never : (prefix text more : List ℕ) → starts_with nat_eq text prefix ≡ false → starts_with nat_eq prefix text ≡ false
+    → starts_with nat_eq (text ++ more) prefix ≡ false
 starts_never [] text more h k = absurd cc
 starts_never (p ∷ ps) [] more h k = absurd cc
 starts_never (p ∷ ps) (c ∷ cs) more h k = neither (nat_eq p c) (nat_eq c p) _ _ _ (λ e. sym (order p c) ∙ e) h k (starts_never ps cs more)

@@ -1,5 +1,6 @@
 -- What a reader's next step says of all bytes so far.
-use Rattle.std.proofs.Common.{◌≡◌, ℕ, ◌+◌, ◌<◌, ◌≤◌, Bool, true, false, List, [], ◌∷◌, ◌++◌, length, take, drop, Option, Some, None, refl, sym, ap, ◌∙◌, subst, arith, length-append, ◌⊎◌, inl, inr, IsTrue, zero-add}
+use Rattle.std.proofs.Common.{◌≡◌, ℕ, ◌+◌, ◌<◌, ◌≤◌, Bool, true, false, List, [], ◌∷◌, ◌++◌, length, take, drop, Option, Some, None, refl, sym, ap}
+use Rattle.std.proofs.Common.{◌∙◌, subst, arith, length-append, ◌⊎◌, inl, inr, IsTrue, zero-add}
 use Rattle.std.specs.Prelude.{is_some, IsSome}
 use Rattle.std.specs.Str.Lossy.{utf8_valid_len, utf8_error_len}
 use Rattle.std.proofs.lemmas.List.Elements.{All-push}
@@ -20,28 +21,47 @@ use Rattle.csvw_rows.proofs.Stands.{goes_begins, begins_front, stops_at, rows_be
 -- a row at the end of rows
 rows_snoc : (d : Dialect) (i : ℕ) (text : List ℕ) (xs : List Row) (rest after : List ℕ) (row : Row) → AreRows d i text xs rest → rest ≡ row.text ++ after
     → IsRow d (i + length xs) row after → 0 < terminator_len d after → AreRows d i text (xs ++ row ∷ []) (drop (terminator_len d after) after)
-rows_snoc d i text [] rest after row r e is_row ends = (after, r ∙ e, subst (λ (n : ℕ). IsRow d n row after) (let z : i + length (let e : List Row = [] in e) ≡ i = omega arith in z) is_row, ends, refl)
+rows_snoc d i text [] rest after row r e is_row ends = (
+  after,
+  r ∙ e,
+  subst (λ (n : ℕ). IsRow d n row after) (let z : i + length (let e : List Row = [] in e) ≡ i = omega arith in z) is_row,
+  ends,
+  refl,
+)
 rows_snoc d i text (x ∷ xs) rest after row (later, e', r, h, rows) e is_row ends =
-    let place : i + length (x ∷ xs) ≡ i + 1 + length xs = omega arith in
-    (later, e', r, h, rows_snoc d (i + 1) (drop (terminator_len d later) later) xs rest after row rows e (subst (λ (n : ℕ). IsRow d n row after) place is_row) ends)
+    let place : i + length (x ∷ xs) ≡ i + 1 + length xs = omega arith in (
+      later,
+      e',
+      r,
+      h,
+      rows_snoc d (i + 1) (drop (terminator_len d later) later) xs rest after row rows e
+          (subst (λ (n : ℕ). IsRow d n row after) place is_row) ends,
+    )
 
 -- the content begins a file where what is left goes on
-pub goes_on_begins : (d : Dialect) (max : ℕ) (text : List ℕ) (rows : List Row) (rest : List ℕ) → IsLawful d → AreRows d 0 text rows rest → KeepsLimits max rows → Goes d max (length rows) rest → Begins d max text
+pub goes_on_begins : (d : Dialect) (max : ℕ) (text : List ℕ) (rows : List Row) (rest : List ℕ) → IsLawful d → AreRows d 0 text rows rest
+    → KeepsLimits max rows → Goes d max (length rows) rest → Begins d max text
 goes_on_begins d max text rows rest w are k g =
     let a = rows_again d 0 text rows rest are in
     subst (Begins d max) (sym a.spelled) (goes_begins d max text rows rest rest w a k g)
 
 -- one row more
-pub takes_reads : (d : Dialect) (max : ℕ) (bytes : List ℕ) (ended whole : Bool) (rest : List ℕ) (rows : List Row) (len i : ℕ) (fields : Option (List (List ℕ))) → IsLawful d
-    → (whole ≡ true → (ended ≡ true) × (is_text bytes ≡ true)) → HasRead d max bytes ended rest rows → i ≡ length rows → (t : TakesRow whole d max i rest len fields)
+pub takes_reads : (d : Dialect) (max : ℕ) (bytes : List ℕ) (ended whole : Bool) (rest : List ℕ) (rows : List Row) (len i : ℕ)
+    (fields : Option (List (List ℕ))) → IsLawful d
+    → (whole ≡ true → (ended ≡ true) × (is_text bytes ≡ true)) → HasRead d max bytes ended rest rows → i ≡ length rows
+    → (t : TakesRow whole d max i rest len fields)
     → HasRead d max bytes ended (drop len rest) (rows ++ t.row ∷ [])
 takes_reads d max bytes ended whole rest rows len i fields w known h place t = record { limits = limits; reached = by_reached h.reached }
   where
     limits : KeepsLimits max (rows ++ t.row ∷ [])
-    limits = (let few = t.few in let c : length (rows ++ t.row ∷ []) ≤ max = omega (arith, few, place, length-append rows (t.row ∷ [])) in c, All-push IsShort rows t.row h.limits.1 t.short)
+    limits = (
+      let few = t.few in let c : length (rows ++ t.row ∷ []) ≤ max = omega (arith, few, place, length-append rows (t.row ∷ [])) in c,
+      All-push IsShort rows t.row h.limits.1 t.short,
+    )
 
     by_stands : AreRows d 0 (content bytes) rows rest → StandsThere whole d max i rest len t.row
-        → AreRows d 0 (content bytes) (rows ++ t.row ∷ []) (drop len rest) ⊎ ((ended ≡ true) × (is_text bytes ≡ true) × EndsOpen d (content bytes) (rows ++ t.row ∷ []) × (drop len rest ≡ []) × Begins d max (content bytes))
+        → AreRows d 0 (content bytes) (rows ++ t.row ∷ []) (drop len rest) ⊎
+        ((ended ≡ true) × (is_text bytes ≡ true) × EndsOpen d (content bytes) (rows ++ t.row ∷ []) × (drop len rest ≡ []) × Begins d max (content bytes))
     by_stands are (inl (after, e, r, k, behind)) =
         inl (subst (AreRows d 0 (content bytes) (rows ++ t.row ∷ [])) (sym behind)
         (rows_snoc d 0 (content bytes) rows rest after t.row are e (subst (λ (n : ℕ). IsRow d n t.row after) (place ∙ sym (zero-add (length rows))) r) k))
@@ -63,8 +83,10 @@ takes_reads d max bytes ended whole rest rows len i fields w known h place t = r
           goes_on_begins d max (content bytes) rows rest w are h.limits (subst (λ (n : ℕ). Goes d max n rest) place g),
         )
 
-    by_reached : AreRows d 0 (content bytes) rows rest ⊎ ((ended ≡ true) × (is_text bytes ≡ true) × EndsOpen d (content bytes) rows × (rest ≡ []) × Begins d max (content bytes))
-        → AreRows d 0 (content bytes) (rows ++ t.row ∷ []) (drop len rest) ⊎ ((ended ≡ true) × (is_text bytes ≡ true) × EndsOpen d (content bytes) (rows ++ t.row ∷ []) × (drop len rest ≡ []) × Begins d max (content bytes))
+    by_reached : AreRows d 0 (content bytes) rows rest ⊎
+        ((ended ≡ true) × (is_text bytes ≡ true) × EndsOpen d (content bytes) rows × (rest ≡ []) × Begins d max (content bytes))
+        → AreRows d 0 (content bytes) (rows ++ t.row ∷ []) (drop len rest) ⊎
+        ((ended ≡ true) × (is_text bytes ≡ true) × EndsOpen d (content bytes) (rows ++ t.row ∷ []) × (drop len rest ≡ []) × Begins d max (content bytes))
     by_reached (inl are) = by_stands are t.stands
     by_reached (inr (a, b, o, e, g)) = absurd (let some = t.some in let within = t.within in omega (arith, some, within, ap length e))
 
@@ -78,7 +100,8 @@ not_some : (o : Option ℕ) → is_some o ≡ false → IsSome o → ⊥
 not_some None e s = absurd cc
 not_some (Some x) e s = cc
 
-pub no_stop : (d : Dialect) (max : ℕ) (bytes : List ℕ) (ended : Bool) → Begins d max (content bytes) → (is_text bytes ≡ false → (ended ≡ false) × (is_some (utf8_error_len (drop (utf8_valid_len bytes) bytes)) ≡ false))
+pub no_stop : (d : Dialect) (max : ℕ) (bytes : List ℕ) (ended : Bool) → Begins d max (content bytes)
+    → (is_text bytes ≡ false → (ended ≡ false) × (is_some (utf8_error_len (drop (utf8_valid_len bytes) bytes)) ≡ false))
     → (ended ≡ true → IsWhole d max bytes) → (stop : RowStop) (row : ℕ) → StopOf d max bytes ended stop row → ⊥
 no_stop d max bytes ended b text file stop row s = by_place s.stands
   where
@@ -106,7 +129,8 @@ waits_done d max bytes ended rest rows w h g none at_end text = by_reached h.rea
     by_ended true e are = inl (e, file_of e (inl (subst (AreRows d 0 (content bytes) rows) (at_end e).1 are)))
     by_ended false e are = inr ((λ t others f. let z = sym t ∙ e in absurd cc), are_longest d max (content bytes) rows rest w are h.limits none)
 
-    by_reached : AreRows d 0 (content bytes) rows rest ⊎ ((ended ≡ true) × (is_text bytes ≡ true) × EndsOpen d (content bytes) rows × (rest ≡ []) × Begins d max (content bytes)) → Done d max bytes ended rows
+    by_reached : AreRows d 0 (content bytes) rows rest ⊎ ((ended ≡ true) × (is_text bytes ≡ true) × EndsOpen d (content bytes) rows × (rest ≡ [])
+        × Begins d max (content bytes)) → Done d max bytes ended rows
     by_reached (inl are) = record {
       is_front = by_ended ended refl are;
       none = no_stop d max bytes ended (goes_on_begins d max (content bytes) rows rest w are h.limits g) text (whole_of are);
@@ -137,7 +161,8 @@ here_stopped d max bytes ended whole rest rows stop w known back h s = by_reache
         is_front : Front d max bytes ended rows
         is_front = inr (no_file, are_longest d max (content bytes) rows rest w are h.limits s.no_row)
 
-        by_stands : ((f : FirstEnd d max (length rows) rest (length rest)) × IsNamed d max (length rows) (take f.at rest) false stop) ⊎ ((whole ≡ true) × Goes d max (length rows) rest × IsNamed d max (length rows) rest true stop)
+        by_stands : ((f : FirstEnd d max (length rows) rest (length rest)) × IsNamed d max (length rows) (take f.at rest) false stop) ⊎
+            ((whole ≡ true) × Goes d max (length rows) rest × IsNamed d max (length rows) rest true stop)
             → StopsInText d max bytes rows stop ⊎ (StopsInBytes d max bytes ended stop ⊎ StopsAtEnd d max bytes ended rows stop)
         by_stands (inl (f, name)) = inl (record {
           n = length again.front + f.at;
@@ -156,12 +181,14 @@ here_stopped d max bytes ended whole rest rows stop w known back h s = by_reache
           is_named = name;
         }))
 
-    by_reached : AreRows d 0 (content bytes) rows rest ⊎ ((ended ≡ true) × (is_text bytes ≡ true) × EndsOpen d (content bytes) rows × (rest ≡ []) × Begins d max (content bytes)) → Stopped d max bytes ended rows stop
+    by_reached : AreRows d 0 (content bytes) rows rest ⊎ ((ended ≡ true) × (is_text bytes ≡ true) × EndsOpen d (content bytes) rows × (rest ≡ [])
+        × Begins d max (content bytes)) → Stopped d max bytes ended rows stop
     by_reached (inl are) = by_are are
     by_reached (inr (a, b, o, e, k)) = absurd (s.some e)
 
 pub bytes_stopped : (d : Dialect) (max : ℕ) (bytes : List ℕ) (ended : Bool) (rest : List ℕ) (rows : List Row) → IsLawful d → HasRead d max bytes ended rest rows
-    → Goes d max (length rows) rest → NoRow d max (length rows) rest → is_text bytes ≡ false → (ended ≡ true) ⊎ (is_some (utf8_error_len (drop (utf8_valid_len bytes) bytes)) ≡ true) → Stopped d max bytes ended rows NotUtf8
+    → Goes d max (length rows) rest → NoRow d max (length rows) rest → is_text bytes ≡ false
+    → (ended ≡ true) ⊎ (is_some (utf8_error_len (drop (utf8_valid_len bytes) bytes)) ≡ true) → Stopped d max bytes ended rows NotUtf8
 bytes_stopped d max bytes ended rest rows w h g none text bad = by_reached h.reached
   where
     some_of : (o : Option ℕ) → is_some o ≡ true → IsSome o
@@ -187,6 +214,7 @@ bytes_stopped d max bytes ended rest rows w h g none text bad = by_reached h.rea
         is_front : Front d max bytes ended rows
         is_front = inr ((λ t others f. let z = sym f.is_utf8 ∙ text in absurd cc), are_longest d max (content bytes) rows rest w are h.limits none)
 
-    by_reached : AreRows d 0 (content bytes) rows rest ⊎ ((ended ≡ true) × (is_text bytes ≡ true) × EndsOpen d (content bytes) rows × (rest ≡ []) × Begins d max (content bytes)) → Stopped d max bytes ended rows NotUtf8
+    by_reached : AreRows d 0 (content bytes) rows rest ⊎ ((ended ≡ true) × (is_text bytes ≡ true) × EndsOpen d (content bytes) rows × (rest ≡ [])
+        × Begins d max (content bytes)) → Stopped d max bytes ended rows NotUtf8
     by_reached (inl are) = by_are are
     by_reached (inr (a, b, o, e, k)) = let z = sym b ∙ text in absurd cc

@@ -1,5 +1,6 @@
 -- The fields of a row, one cut after another.
-use Rattle.std.proofs.Common.{◌≡◌, ◌∙◌, ℕ, ◌+◌, ◌<◌, ◌≤◌, Bool, true, false, ◌&&◌, List, [], ◌∷◌, ◌++◌, length, drop, map, refl, sym, ap, subst, arith, append_assoc, length-drop, chars}
+use Rattle.std.proofs.Common.{◌≡◌, ◌∙◌, ℕ, ◌+◌, ◌<◌, ◌≤◌, Bool, true, false, ◌&&◌, List, [], ◌∷◌, ◌++◌, length, drop, map, refl, sym, ap, subst}
+use Rattle.std.proofs.Common.{arith, append_assoc, length-drop, chars}
 use Rattle.std.specs.Prelude.{encode_utf8_all, slice_index}
 use Rattle.std.specs.Str.{is_utf8}
 use Rattle.std.proofs.lemmas.List.{drop-drop, get_or-drop, map-append}
@@ -22,7 +23,8 @@ pub cut_none : (d : Dialect) (text spare : List ℕ) (start : ℕ) → IsCutTo d
 cut_none d text spare start = record { values = []; texts = refl; goes_on = λ row more after e a. (row, e, a) }
 
 -- the second buffer grows
-pub cut_grows : (d : Dialect) (text old new : List ℕ) (start at : ℕ) (bounds : List Bound) → Grows old new → are_bounds text old bounds ≡ true → IsCutTo d text start at old bounds
+pub cut_grows : (d : Dialect) (text old new : List ℕ) (start at : ℕ) (bounds : List Bound) → Grows old new → are_bounds text old bounds ≡ true
+    → IsCutTo d text start at old bounds
     → (are_bounds text new bounds ≡ true) × IsCutTo d text start at new bounds
 cut_grows d text old new start at bounds (more, e) a c =
     let h = bounds_more text old more bounds a in (
@@ -48,7 +50,8 @@ cut_before d s text spare at n w y u within a stands =
 -- where a field of the rest lies in the whole
 module _ (d : Dialect) (text spare : List ℕ) (at : ℕ) (cut : Cut) (within : at ≤ length text) (k : IsCut d (drop at text) spare cut) where
   pub bounds_one : (bounds : List Bound) → are_bounds text spare bounds ≡ true → are_bounds text spare (bounds ++ moved at cut.bound ∷ []) ≡ true
-  bounds_one bounds h = list_all-append (λ b. is_bound text spare b) bounds (moved at cut.bound ∷ []) ∙ both _ _ h (moved_is text spare at cut.bound within k.bounded).0
+  bounds_one bounds h = list_all-append (λ b. is_bound text spare b) bounds (moved at cut.bound ∷ [])
+      ∙ both _ _ h (moved_is text spare at cut.bound within k.bounded).0
     where
       both : (a b : Bool) → a ≡ true → b ≡ true → (a && (b && true)) ≡ true
       both a b e f = rw (e, f) refl
@@ -71,7 +74,8 @@ module _ (d : Dialect) (text spare : List ℕ) (at : ℕ) (cut : Cut) (within : 
   next_within = let i = k.inside in omega (arith, i, within, length-drop at text)
 
   -- a field with a delimiter behind it
-  pub cut_more : (start : ℕ) (bounds : List Bound) → cut.ends ≡ false → IsCutTo d text start at spare bounds → IsCutTo d text start (at + cut.next) spare (bounds ++ moved at cut.bound ∷ [])
+  pub cut_more : (start : ℕ) (bounds : List Bound) → cut.ends ≡ false → IsCutTo d text start at spare bounds
+      → IsCutTo d text start (at + cut.next) spare (bounds ++ moved at cut.bound ∷ [])
   cut_more start bounds e c = record { values = c.values ++ k.value ∷ []; texts = texts_more c.values bounds c.texts; goes_on = goes }
     where
       behind : k.after ≡ d.delimiter ∷ chars (drop (at + cut.next) text)
@@ -82,7 +86,8 @@ module _ (d : Dialect) (text spare : List ℕ) (at : ℕ) (cut : Cut) (within : 
       goes row [] after h a = absurd a
       goes row (v ∷ vs) after h a =
           let here : k.after ≡ d.delimiter ∷ row ++ after = behind ∙ ap (λ l. d.delimiter ∷ l) h in
-          let spelled : chars (drop at text) ≡ (k.source ++ d.delimiter ∷ row) ++ after = k.spelled ∙ ap (λ l. k.source ++ l) here ∙ sym (append_assoc k.source (d.delimiter ∷ row) after) in
+          let spelled : chars (drop at text) ≡ (k.source ++ d.delimiter ∷ row) ++ after = k.spelled ∙ ap (λ l. k.source ++ l) here
+          ∙ sym (append_assoc k.source (d.delimiter ∷ row) after) in
           let w = c.goes_on (k.source ++ d.delimiter ∷ row) (k.value ∷ v ∷ vs) after spelled
           (k.source, row, refl, subst (λ l. IsField d k.source k.value l) here k.field, a) in
           (w.0, w.1, subst (λ l. AreFields d w.0 l after) (sym (append_assoc c.values (k.value ∷ []) (v ∷ vs))) w.2)

@@ -1,5 +1,6 @@
 -- A text begins with at most one row, and with at most one list of rows of a length.
-use Rattle.std.proofs.Common.{◌≡◌, ℕ, ◌+◌, ◌≤◌, Bool, true, false, if◌then◌else◌, List, [], ◌∷◌, ◌++◌, map, length, Option, Some, None, option_map, refl, sym, ap, ◌∙◌, subst, arith, inl, inr, MatchBool, drop, add-zero, unwrap_or}
+use Rattle.std.proofs.Common.{◌≡◌, ℕ, ◌+◌, ◌≤◌, Bool, true, false, if◌then◌else◌, List, [], ◌∷◌, ◌++◌, map, length, Option, Some, None, option_map}
+use Rattle.std.proofs.Common.{refl, sym, ap, ◌∙◌, subst, arith, inl, inr, MatchBool, drop, add-zero, unwrap_or}
 use Rattle.csvw_dialect.specs.declared.dialect.Dialect.{Dialect}
 use Rattle.csvw_rows.specs.declared.scan.State.TheVariants.{Start}
 use Rattle.csvw_rows.specs.Grammar.{terminator_len, trimmed, AreFields, RowText}
@@ -27,7 +28,8 @@ pub record ReadsLine (f : Bool) (d : Dialect) (text after : List ℕ) : Type 0 w
   pub none : HasNoTerminator d line after
   pub ends : EndsRow f d after
 
-line_step : (f : Bool) (d : Dialect) (c : ℕ) (cs after : List ℕ) (b : Bool) → ends_at d (c ∷ cs) ≡ b → (if b then Some (c ∷ cs) else line_of f d cs) ≡ Some after
+line_step : (f : Bool) (d : Dialect) (c : ℕ) (cs after : List ℕ) (b : Bool) → ends_at d (c ∷ cs) ≡ b
+    → (if b then Some (c ∷ cs) else line_of f d cs) ≡ Some after
     → (line_of f d cs ≡ Some after → ReadsLine f d cs after) → ReadsLine f d (c ∷ cs) after
 line_step f d c cs after true e h ih =
     let same : c ∷ cs ≡ after = cc in
@@ -48,13 +50,16 @@ line_sound f d (c ∷ cs) after h = line_step f d c cs after (ends_at d (c ∷ c
 
 -- a row that is there is found
 by_kind : (f : Bool) (d : Dialect) (i : ℕ) (row : Row) (after : List ℕ) (b : Bool) → is_note d i (row.text ++ after) ≡ b → IsLawful d
-    → MatchBool b ((row.fields ≡ None) × HasNoTerminator d row.text after) ((fields : List (List ℕ)) × (row.fields ≡ Some fields) × RowText d row.text fields after)
-    → EndsRow f d after → (if b then option_map (λ after. (None, after)) (line_of f d (row.text ++ after)) else found_row d (pass f d Start [] [] (row.text ++ after))) ≡ Some (row.fields, after)
+    → MatchBool b ((row.fields ≡ None) × HasNoTerminator d row.text after)
+    ((fields : List (List ℕ)) × (row.fields ≡ Some fields) × RowText d row.text fields after)
+    → EndsRow f d after → (if b then option_map (λ after. (None, after)) (line_of f d (row.text ++ after)) else found_row d
+    (pass f d Start [] [] (row.text ++ after))) ≡ Some (row.fields, after)
 by_kind f d i row after true e w (none, line) h = rw (line_complete f d row.text after line h) (ap (λ x. Some (x, after)) (sym none))
 by_kind f d i row after false e w (fields, some, (values, are, all)) h =
     rw (run_fields f d [] row.text values after w are h) (ap (λ x. Some (x, after)) (ap Some (sym all) ∙ sym some))
 
-pub row_complete : (f : Bool) (d : Dialect) (i : ℕ) (row : Row) (after : List ℕ) → IsLawful d → IsRow d i row after → EndsRow f d after → next_row f d i (row.text ++ after) ≡ Some (row.fields, after)
+pub row_complete : (f : Bool) (d : Dialect) (i : ℕ) (row : Row) (after : List ℕ) → IsLawful d → IsRow d i row after → EndsRow f d after
+    → next_row f d i (row.text ++ after) ≡ Some (row.fields, after)
 row_complete f d i row after w r h =
     let same = note_same d i row.text after w (ends_break f d after h) in
     ap (λ (b : Bool). if b then option_map (λ l. (None, l)) (line_of f d (row.text ++ after)) else found_row d (pass f d Start [] [] (row.text ++ after))) same
@@ -75,7 +80,8 @@ row_unique f d i a b after later w e r h s k =
     record { row = ap (λ x. record { text = x; fields = a.fields }) text ∙ ap (λ x. record { text = b.text; fields = x }) fields; rest = rest }
 
 -- of two lists of rows of one text, the shorter begins the longer
-pub rows_prefix : (d : Dialect) (i : ℕ) (text : List ℕ) (xs ys : List Row) (rest later : List ℕ) → IsLawful d → AreRows d i text xs rest → AreRows d i text ys later → length xs ≤ length ys
+pub rows_prefix : (d : Dialect) (i : ℕ) (text : List ℕ) (xs ys : List Row) (rest later : List ℕ) → IsLawful d → AreRows d i text xs rest
+    → AreRows d i text ys later → length xs ≤ length ys
     → (more : List Row) × (ys ≡ xs ++ more) × AreRows d (i + length xs) rest more later
 rows_prefix d i text [] ys rest later w r s h =
     (ys, refl, subst (λ (n : ℕ). AreRows d n rest ys later) (sym (add-zero i)) (subst (λ (x : List ℕ). AreRows d i x ys later) r s))
@@ -95,7 +101,8 @@ pub record ReadsRow (f : Bool) (d : Dialect) (i : ℕ) (text : List ℕ) (fields
   pub is_row : IsRow d i (record { text = row; fields = fields }) after
   pub ends : EndsRow f d after
 
-pub found_sound : (f : Bool) (d : Dialect) (text : List ℕ) (o : Outcome) (fields : Option (List (List ℕ))) (after : List ℕ) → pass f d Start [] [] text ≡ o → found_row d o ≡ Some (fields, after)
+pub found_sound : (f : Bool) (d : Dialect) (text : List ℕ) (o : Outcome) (fields : Option (List (List ℕ))) (after : List ℕ)
+    → pass f d Start [] [] text ≡ o → found_row d o ≡ Some (fields, after)
     → (values : List (List ℕ)) × (pass f d Start [] [] text ≡ Found values after) × (fields ≡ Some (map (trimmed d.trim) values))
 found_sound f d text (Found values rest) fields after e h =
     let r : rest ≡ after = ap (λ (o : Option (Option (List (List ℕ)) × List ℕ)). (unwrap_or o (fields, after)).1) h in
@@ -104,15 +111,18 @@ found_sound f d text (Found values rest) fields after e h =
 found_sound f d text (Broken stop rest) fields after e h = absurd cc
 found_sound f d text (Unfinished st vs cur) fields after e h = absurd cc
 
-pub line_some : (o : Option (List ℕ)) (fields : Option (List (List ℕ))) (after : List ℕ) → ◌≡◌ {A = Option (Option (List (List ℕ)) × List ℕ)} (option_map (λ l. (None, l)) o) (Some (fields, after)) → (o ≡ Some after) × (fields ≡ None)
+pub line_some : (o : Option (List ℕ)) (fields : Option (List (List ℕ))) (after : List ℕ)
+    → ◌≡◌ {A = Option (Option (List (List ℕ)) × List ℕ)} (option_map (λ l. (None, l)) o) (Some (fields, after)) → (o ≡ Some after) × (fields ≡ None)
 line_some None fields after h = absurd cc
 line_some (Some l) fields after h =
     let r : l ≡ after = ap (λ (o : Option (Option (List (List ℕ)) × List ℕ)). (unwrap_or o (fields, after)).1) h in
     let s : None ≡ fields = ap (λ (o : Option (Option (List (List ℕ)) × List ℕ)). (unwrap_or o (fields, after)).0) h in
     (ap Some r, sym s)
 
-row_sound_by : (f : Bool) (d : Dialect) (i : ℕ) (text : List ℕ) (fields : Option (List (List ℕ))) (after : List ℕ) (b : Bool) → IsLawful d → is_note d i text ≡ b
-    → ◌≡◌ {A = Option (Option (List (List ℕ)) × List ℕ)} (if b then option_map (λ l. (None, l)) (line_of f d text) else found_row d (pass f d Start [] [] text)) (Some (fields, after))
+row_sound_by : (f : Bool) (d : Dialect) (i : ℕ) (text : List ℕ) (fields : Option (List (List ℕ))) (after : List ℕ) (b : Bool) → IsLawful d
+    → is_note d i text ≡ b
+    → ◌≡◌ {A = Option (Option (List (List ℕ)) × List ℕ)}
+    (if b then option_map (λ l. (None, l)) (line_of f d text) else found_row d (pass f d Start [] [] text)) (Some (fields, after))
     → ReadsRow f d i text fields after
 row_sound_by f d i text fields after true w e h =
     let found = line_some (line_of f d text) fields after h in
@@ -123,8 +133,10 @@ row_sound_by f d i text fields after false w e h =
     let found = found_sound f d text (pass f d Start [] [] text) fields after refl h in
     let r = sound f d Start [] [] text found.0 after found.1 in
     let note : is_note d i r.row ≡ false = sym (note_same d i r.row after w (ends_break f d after r.ends)) ∙ ap (is_note d i) (sym r.spelled) ∙ e in
-    let are : AreFields d r.row found.0 after = subst (λ (l : List (List ℕ)). AreFields d r.row l after) (sym r.all) (start_is_fields d r.row r.new after r.fields) in
+    let are : AreFields d r.row found.0 after =
+    subst (λ (l : List (List ℕ)). AreFields d r.row l after) (sym r.all) (start_is_fields d r.row r.new after r.fields) in
     record { row = r.row; spelled = r.spelled; is_row = rw note (map (trimmed d.trim) found.0, found.2, (found.0, are, refl)); ends = r.ends }
 
-pub row_sound : (f : Bool) (d : Dialect) (i : ℕ) (text : List ℕ) (fields : Option (List (List ℕ))) (after : List ℕ) → IsLawful d → next_row f d i text ≡ Some (fields, after) → ReadsRow f d i text fields after
+pub row_sound : (f : Bool) (d : Dialect) (i : ℕ) (text : List ℕ) (fields : Option (List (List ℕ))) (after : List ℕ) → IsLawful d
+    → next_row f d i text ≡ Some (fields, after) → ReadsRow f d i text fields after
 row_sound f d i text fields after w h = row_sound_by f d i text fields after (is_note d i text) w refl h

@@ -28,12 +28,22 @@ refills_unread s t r = ap (λ x. length (rest_of x)) r.source
 
 -- a turn from there is one from where it was
 pub turns_from : (s t u : Rows) (x : Result Turn RowStop) → Refills s t → Turns t u x → Turns s u x
-turns_from s t u (Ok turn.Given) r (ended, less, gives) =
-    (ended ∙ r.ended, (let e = refills_unread s t r in omega (arith, less, e)), (λ d max bytes ended given h. gives d max bytes ended given (refills_stay s t r d max bytes ended given h)))
-turns_from s t u (Ok turn.Passed) r (ended, less, stays) =
-    (ended ∙ r.ended, (let e = refills_unread s t r in omega (arith, less, e)), (λ d max bytes ended given h. stays d max bytes ended given (refills_stay s t r d max bytes ended given h)))
-turns_from s t u (Ok turn.Waits) r (ended, stays, done, reading) =
-    (ended ∙ r.ended, (λ d max bytes ended given h. stays d max bytes ended given (refills_stay s t r d max bytes ended given h)), (λ d max bytes ended given h. done d max bytes ended given (refills_stay s t r d max bytes ended given h)), (λ d max bytes ended given h. reading d max bytes ended given (refills_stay s t r d max bytes ended given h)))
+turns_from s t u (Ok turn.Given) r (ended, less, gives) = (
+  ended ∙ r.ended,
+  (let e = refills_unread s t r in omega (arith, less, e)),
+  (λ d max bytes ended given h. gives d max bytes ended given (refills_stay s t r d max bytes ended given h)),
+)
+turns_from s t u (Ok turn.Passed) r (ended, less, stays) = (
+  ended ∙ r.ended,
+  (let e = refills_unread s t r in omega (arith, less, e)),
+  (λ d max bytes ended given h. stays d max bytes ended given (refills_stay s t r d max bytes ended given h)),
+)
+turns_from s t u (Ok turn.Waits) r (ended, stays, done, reading) = (
+  ended ∙ r.ended,
+  (λ d max bytes ended given h. stays d max bytes ended given (refills_stay s t r d max bytes ended given h)),
+  (λ d max bytes ended given h. done d max bytes ended given (refills_stay s t r d max bytes ended given h)),
+  (λ d max bytes ended given h. reading d max bytes ended given (refills_stay s t r d max bytes ended given h)),
+)
 turns_from s t u (Err e) r (ended, stopped) =
     (ended ∙ r.ended, (λ n d max bytes ended given h. stopped n d max bytes ended given (refills_stay s t r d max bytes ended given h)))
 
@@ -57,5 +67,6 @@ pub waits_turns : (s t : Rows) → Refills s t → Waits (after_of t) t.rules.di
 waits_turns s t r g = turns_from s t t (Ok turn.Waits) r (refl, (λ d max bytes ended given h. h), is_done t g, is_reading t g)
 
 -- a stop stands where it was
-pub stop_turns : (s t : Rows) (stop : RowStop) → Refills s t → StopGives (after_of t) t.rules.dialect t.max_rows t.row (rest_of t.source) stop → Turns s t (Err stop)
+pub stop_turns : (s t : Rows) (stop : RowStop) → Refills s t → StopGives (after_of t) t.rules.dialect t.max_rows t.row (rest_of t.source) stop
+    → Turns s t (Err stop)
 stop_turns s t stop r g = turns_from s t t (Err stop) r (refl, is_stopped t stop g)

@@ -1,5 +1,6 @@
 -- One step of the pass, by what the step is.
-use Rattle.std.proofs.Common.{◌≡◌, ◌≢◌, ℕ, Bool, false, ◌==◌, if◌then◌else◌, List, [], ◌∷◌, ◌++◌, nat_lt, Option, Some, None, refl, sym, ap, ◌∙◌, arith, append_assoc, append-nil}
+use Rattle.std.proofs.Common.{◌≡◌, ◌≢◌, ℕ, Bool, false, ◌==◌, if◌then◌else◌, List, [], ◌∷◌, ◌++◌, nat_lt, Option, Some, None, refl, sym, ap, ◌∙◌}
+use Rattle.std.proofs.Common.{arith, append_assoc, append-nil}
 use Rattle.csvw_dialect.specs.declared.dialect.Dialect.{Dialect}
 use Rattle.csvw_rows.specs.declared.stop.RowStop.TheVariants.{BadQuote}
 use Rattle.csvw_rows.specs.declared.scan.State.{State}
@@ -31,7 +32,8 @@ act_run d vs cur c cs Next = run d Start (vs ++ cur ∷ []) [] cs
 act_run d vs cur c cs End = Found (vs ++ cur ∷ []) (c ∷ cs)
 act_run d vs cur c cs (Stop stop) = Broken stop (c ∷ cs)
 
-act_finish : (f : Bool) (d : Dialect) (vs : List (List ℕ)) (cur : List ℕ) (c : ℕ) (cs : List ℕ) (s : Step) → finish (act_run d vs cur c cs s) f ≡ act f d vs cur c cs s
+act_finish : (f : Bool) (d : Dialect) (vs : List (List ℕ)) (cur : List ℕ) (c : ℕ) (cs : List ℕ) (s : Step)
+    → finish (act_run d vs cur c cs s) f ≡ act f d vs cur c cs s
 act_finish f d vs cur c cs (Keep next) = refl
 act_finish f d vs cur c cs (Skip next) = refl
 act_finish f d vs cur c cs Open = refl
@@ -54,7 +56,8 @@ no_quote (Some q) c n = differs c q (λ e. n (ap Some e))
 pub no_end : (d : Dialect) (text : List ℕ) → terminator_len d text ≡ 0 → ends_at d text ≡ false
 no_end d text e = ap (λ n. nat_lt 0 n) e
 
-plain_is : (ends b q : Bool) → ends ≡ false → b ≡ false → q ≡ false → (if ends then End else (if b then Next else (if q then Stop BadQuote else Keep Plain))) ≡ Keep Plain
+plain_is : (ends b q : Bool) → ends ≡ false → b ≡ false → q ≡ false
+    → (if ends then End else (if b then Next else (if q then Stop BadQuote else Keep Plain))) ≡ Keep Plain
 plain_is ends b q e f g = grind arith
 
 -- plain text is kept
@@ -62,6 +65,7 @@ pub run_plain : (f : Bool) (d : Dialect) (vs : List (List ℕ)) (cur source afte
     → pass f d Plain vs cur (source ++ after) ≡ pass f d Plain vs (cur ++ source) after
 run_plain f d vs cur [] after p = ap (λ l. pass f d Plain vs l after) (sym (append-nil cur))
 run_plain f d vs cur (c ∷ cs) after p =
-    run_by f d Plain vs cur c (cs ++ after) (Keep Plain) (plain_is _ _ _ (no_end d (c ∷ cs ++ after) p.2) (differs c d.delimiter p.0) (no_quote d.quote_char c p.1))
+    run_by f d Plain vs cur c (cs ++ after) (Keep Plain)
+    (plain_is _ _ _ (no_end d (c ∷ cs ++ after) p.2) (differs c d.delimiter p.0) (no_quote d.quote_char c p.1))
     ∙ run_plain f d vs (cur ++ c ∷ []) cs after p.3
     ∙ ap (λ l. pass f d Plain vs l after) (append_assoc cur (c ∷ []) cs)

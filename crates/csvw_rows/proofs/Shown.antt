@@ -1,5 +1,6 @@
 -- How many characters show that a rule is broken.
-use Rattle.std.proofs.Common.{◌≡◌, ℕ, zero, suc, ◌+◌, ◌-◌, ◌<◌, ◌≤◌, Bool, true, false, ◌&&◌, List, [], ◌∷◌, ◌++◌, length, take, drop, get_or, Option, Some, None, refl, sym, ap, ◌∙◌, subst, arith, append-nil, length-append, length-drop, ◌⊎◌, inl, inr, nat_eq}
+use Rattle.std.proofs.Common.{◌≡◌, ℕ, zero, suc, ◌+◌, ◌-◌, ◌<◌, ◌≤◌, Bool, true, false, ◌&&◌, List, [], ◌∷◌, ◌++◌, length, take, drop, get_or, Option}
+use Rattle.std.proofs.Common.{Some, None, refl, sym, ap, ◌∙◌, subst, arith, append-nil, length-append, length-drop, ◌⊎◌, inl, inr, nat_eq}
 use Rattle.std.specs.List.{starts_with}
 use Rattle.std.proofs.lemmas.Bool.{cases_lt}
 use Rattle.std.proofs.lemmas.Grind.{common_steps}
@@ -36,7 +37,8 @@ get_end : (a : List ℕ) (c : ℕ) → get_or (a ++ c ∷ []) (length a) 0 ≡ c
 get_end [] c = refl
 get_end (x ∷ xs) c = get_end xs c
 
-split : (d : Dialect) (text : List ℕ) (k : ℕ) → run d Start [] [] text ≡ goes_on d (run d Start [] [] (settled d (take k text))) (unsettled d (take k text) ++ drop k text)
+split : (d : Dialect) (text : List ℕ) (k : ℕ)
+    → run d Start [] [] text ≡ goes_on d (run d Start [] [] (settled d (take k text))) (unsettled d (take k text) ++ drop k text)
 split d text k = ap (run d Start [] []) (sym (take-append-drop k text)) ∙ run_on d (take k text) (drop k text)
 
 -- a text that ends in a CR that isn't settled
@@ -47,7 +49,8 @@ cr_unsettled d text at e (crlf, c) =
     let s = settled_last d text crlf some (ap (λ n. get_or text n 0) (sym place) ∙ c) in
     omega (arith, settled_len d text, ap length s, take_len (length text - 1) text (omega arith))
 
-unsettled_cr : (d : Dialect) (text : List ℕ) → 0 < length (unsettled d text) → (length (unsettled d text) ≡ 1) × ((d.line_terminators.crlf ≡ true) × (get_or text (length text - 1) 0 ≡ 13))
+unsettled_cr : (d : Dialect) (text : List ℕ) → 0 < length (unsettled d text)
+    → (length (unsettled d text) ≡ 1) × ((d.line_terminators.crlf ≡ true) × (get_or text (length text - 1) 0 ≡ 13))
 unsettled_cr d text h = elim (unsettled_is d text) [
   | inl e ↦ absurd (omega (arith, h, ap length e))
   | inr p ↦ (
@@ -62,7 +65,8 @@ unsettled_cr d text h = elim (unsettled_is d text) [
 ]
 
 -- the text in front of a character by which the row is no comment
-may_not_be : (d : Dialect) (text : List ℕ) (common len : ℕ) → IsPrefixLen (prefix_of d) text common → common < len → len ≤ length text → may_be_note d (take len text) ≡ false
+may_not_be : (d : Dialect) (text : List ℕ) (common len : ℕ) → IsPrefixLen (prefix_of d) text common → common < len → len ≤ length text
+    → may_be_note d (take len text) ≡ false
 may_not_be d text common len p h w = by_prefix (prefix_of d) p
   where
     by_start : (prefix : List ℕ) → IsCommon prefix text common → (b : Bool) → starts_with nat_eq prefix (take len text) ≡ b → b ≡ false
@@ -101,16 +105,19 @@ may_be d text common k p some h = by_prefix (prefix_of d) p
     by_prefix (Some prefix) c = ap (starts_with nat_eq prefix) (sym (take_less k common prefix text h c.same)) ∙ starts_take k prefix
 
 -- a rule that is broken in a front of the text is broken in the text
-breaks_on : (d : Dialect) (i : ℕ) (text : List ℕ) (k : ℕ) (other stop : RowStop) (at : ℕ) → run d Start [] [] text ≡ Broken stop (drop at text) → (b : Breaks d i (take k text) other)
+breaks_on : (d : Dialect) (i : ℕ) (text : List ℕ) (k : ℕ) (other stop : RowStop) (at : ℕ) → run d Start [] [] text ≡ Broken stop (drop at text)
+    → (b : Breaks d i (take k text) other)
     → (other ≡ stop) × (b.rest ++ (unsettled d (take k text) ++ drop k text) ≡ drop at text)
 breaks_on d i text k other stop at e b =
     let both : Broken other (b.rest ++ (unsettled d (take k text) ++ drop k text)) ≡ Broken stop (drop at text) =
     sym (split d text k ∙ ap (λ o. goes_on d o (unsettled d (take k text) ++ drop k text)) b.broken) ∙ e in
     (cc, cc)
 
-module _ (d : Dialect) (i : ℕ) (text : List ℕ) (stop : RowStop) (at : ℕ) (n : is_note d i text ≡ false) (e : run d Start [] [] text ≡ Broken stop (drop at text)) (within : at < length text) where
+module _ (d : Dialect) (i : ℕ) (text : List ℕ) (stop : RowStop) (at : ℕ) (n : is_note d i text ≡ false)
+    (e : run d Start [] [] text ≡ Broken stop (drop at text)) (within : at < length text) where
   -- the part that shows it
-  shown_breaks : (here common len : ℕ) → ((here ≡ at + 1) × IsCr d text at) ⊎ ((here ≡ at) × (IsCr d text at → ⊥)) → IsPrefixLen (prefix_of d) text common → len ≤ length text → here < len → common < len
+  shown_breaks : (here common len : ℕ) → ((here ≡ at + 1) × IsCr d text at) ⊎ ((here ≡ at) × (IsCr d text at → ⊥))
+      → IsPrefixLen (prefix_of d) text common → len ≤ length text → here < len → common < len
       → Breaks d i (take len text) stop
   shown_breaks here common len h p w past over = by_outcome (run d Start [] [] (settled d (take len text))) refl
     where
@@ -122,13 +129,15 @@ module _ (d : Dialect) (i : ℕ) (text : List ℕ) (stop : RowStop) (at : ℕ) (
         where
           by_note : (b : Bool) → is_note d i part ≡ b → b ≡ false
           by_note false f = refl
-          by_note true f = let stays = note_stays d i part (drop len text) f in let z : true ≡ false = sym stays ∙ ap (is_note d i) (take-append-drop len text) ∙ n in absurd cc
+          by_note true f = let stays = note_stays d i part (drop len text) f in let z : true ≡ false = sym stays
+              ∙ ap (is_note d i) (take-append-drop len text) ∙ n in absurd cc
 
       not_short : (st : State) (vs : List (List ℕ)) (cur : List ℕ) → run d Start [] [] (settled d part) ≡ Unfinished st vs cur → ⊥
       not_short st vs cur o =
           let later = sym (split d text len ∙ ap (λ o. goes_on d o (unsettled d part ++ drop len text)) o) ∙ e in
           let reach = (broken_within d st vs cur (unsettled d part ++ drop len text) stop (drop at text) later).0 in
-          let count : len ≤ at + length (unsettled d part) = omega (arith, reach, length-append (unsettled d part) (drop len text), length-drop len text, length-drop at text, within, w) in
+          let count : len ≤ at + length (unsettled d part) =
+          omega (arith, reach, length-append (unsettled d part) (drop len text), length-drop len text, length-drop at text, within, w) in
           by_here h count
         where
           by_here : ((here ≡ at + 1) × IsCr d text at) ⊎ ((here ≡ at) × (IsCr d text at → ⊥)) → len ≤ at + length (unsettled d part) → ⊥
@@ -148,7 +157,8 @@ module _ (d : Dialect) (i : ℕ) (text : List ℕ) (stop : RowStop) (at : ℕ) (
       by_outcome : (o : Outcome) → run d Start [] [] (settled d part) ≡ o → Breaks d i part stop
       by_outcome (Found values after) o = let z = sym (split d text len ∙ ap (λ o. goes_on d o (unsettled d part ++ drop len text)) o) ∙ e in absurd cc
       by_outcome (Broken s rest) o =
-          let z : Broken s (rest ++ (unsettled d part ++ drop len text)) ≡ Broken stop (drop at text) = sym (split d text len ∙ ap (λ o. goes_on d o (unsettled d part ++ drop len text)) o) ∙ e in
+          let z : Broken s (rest ++ (unsettled d part ++ drop len text)) ≡ Broken stop (drop at text) =
+          sym (split d text len ∙ ap (λ o. goes_on d o (unsettled d part ++ drop len text)) o) ∙ e in
           let same : s ≡ stop = cc in
           record { rest = rest; no_note = no_note; may_not = may_not_be d text common len p over w; broken = o ∙ ap (λ x. Broken x rest) same }
       by_outcome (Unfinished st vs cur) o = absurd (not_short st vs cur o)
@@ -164,7 +174,17 @@ module _ (d : Dialect) (i : ℕ) (text : List ℕ) (stop : RowStop) (at : ℕ) (
       some = (broken_within d Start [] [] (settled d (take k text)) other b.rest b.broken).1
 
       count : at + 1 + length (unsettled d (take k text)) ≤ k
-      count = omega (arith, some, h, within, ap length on.1, length-append b.rest (unsettled d (take k text) ++ drop k text), length-append (unsettled d (take k text)) (drop k text), length-drop k text, length-drop at text)
+      count = omega (
+        arith,
+        some,
+        h,
+        within,
+        ap length on.1,
+        length-append b.rest (unsettled d (take k text) ++ drop k text),
+        length-append (unsettled d (take k text)) (drop k text),
+        length-drop k text,
+        length-drop at text,
+      )
 
       past_here : s.here + 1 ≤ k
       past_here = by_here s.is_here
@@ -214,7 +234,8 @@ module _ (d : Dialect) (i : ℕ) (text : List ℕ) (stop : RowStop) (at : ℕ) (
     is_broken = λ w. is_rule true;
   }
     where
-      by_places : (s.here < len) ⊎ (len ≡ length text) → (s.common < len) ⊎ (len ≡ length text) → Breaks d i (take len text) stop ⊎ ((true ≡ true) × (len ≡ length text))
+      by_places : (s.here < len) ⊎ (len ≡ length text) → (s.common < len) ⊎ (len ≡ length text)
+          → Breaks d i (take len text) stop ⊎ ((true ≡ true) × (len ≡ length text))
       by_places (inl a) (inl b) = inl (shown_breaks s.here s.common len s.is_here s.is_common s.within a b)
       by_places (inr a) b = inr (refl, a)
       by_places (inl a) (inr b) = inr (refl, b)
@@ -235,7 +256,8 @@ module _ (d : Dialect) (i : ℕ) (text : List ℕ) (stop : RowStop) (at : ℕ) (
       past_common (inl a) = a
       past_common (inr a) = elim (cases_lt s.common len) [
         | inl b ↦ b
-        | inr b ↦ let z : true ≡ false = sym (may_be d text s.common (length text) s.is_common (omega (arith, within)) (omega (arith, a, b))) ∙ ap (may_be_note d) whole ∙ m in absurd cc
+        | inr b ↦ let z : true ≡ false = sym (may_be d text s.common (length text) s.is_common (omega (arith, within)) (omega (arith, a, b)))
+            ∙ ap (may_be_note d) whole ∙ m in absurd cc
       ]
 
       past_here : (s.here < len) ⊎ (len ≡ length text) → s.here < len
@@ -252,15 +274,21 @@ module _ (d : Dialect) (i : ℕ) (text : List ℕ) (stop : RowStop) (at : ℕ) (
           ]
 
 -- a quote that isn't closed where the text has ended
-pub left_open : (d : Dialect) (i : ℕ) (text : List ℕ) (st : State) (vs : List (List ℕ)) (cur : List ℕ) → is_note d i text ≡ false → run d Start [] [] text ≡ Unfinished st vs cur → is_quoted st ≡ true
+pub left_open : (d : Dialect) (i : ℕ) (text : List ℕ) (st : State) (vs : List (List ℕ)) (cur : List ℕ) → is_note d i text ≡ false
+    → run d Start [] [] text ≡ Unfinished st vs cur → is_quoted st ≡ true
     → IsWrong true d i text (length text) UnclosedQuote
 left_open d i text st vs cur n e q = record {
   within = omega arith;
   stands = inr (refl, refl);
   first = λ k other h b.
-      let z : Broken other (b.rest ++ (unsettled d (take k text) ++ drop k text)) ≡ Unfinished st vs cur = sym (split d text k ∙ ap (λ o. goes_on d o (unsettled d (take k text) ++ drop k text)) b.broken) ∙ e in
+      let z : Broken other (b.rest ++ (unsettled d (take k text) ++ drop k text)) ≡ Unfinished st vs cur =
+      sym (split d text k ∙ ap (λ o. goes_on d o (unsettled d (take k text) ++ drop k text)) b.broken) ∙ e in
       absurd cc;
-  no_row = (fields_next true d i text n ∙ ap (λ o. found_row d (finish o true)) e ∙ ended st q, fields_next false d i text n ∙ ap (λ o. found_row d (finish o false)) e ∙ open_end st);
+  no_row = (
+    fields_next true d i text n ∙ ap (λ o. found_row d (finish o true)) e ∙ ended st q,
+    fields_next false d i text n
+        ∙ ap (λ o. found_row d (finish o false)) e ∙ open_end st,
+  );
   is_broken = λ w. (n, refl, by_state st q (subst (Tells d text) e (run_tells d text)));
 }
   where
@@ -279,9 +307,25 @@ left_open d i text st vs cur n e q = record {
     open_end Closed = refl
 
     by_state : (st : State) → is_quoted st ≡ true → Tells d text (Unfinished st vs cur) → IsLeftOpen d text
-    by_state Inside q (values, src, a, o) = record { values = values; source = src; value = cur; escape = []; before = subst (λ l. AfterFields d text values l) (sym (append-nil src)) a; opened = o; last = inl refl }
+    by_state Inside q (values, src, a, o) = record {
+      values = values;
+      source = src;
+      value = cur;
+      escape = [];
+      before = subst (λ l. AfterFields d text values l) (sym (append-nil src)) a;
+      opened = o;
+      last = inl refl;
+    }
     by_state Escaped q (values, src, a, (opened, o, f, single)) =
-        record { values = values; source = opened; value = cur; escape = 92 ∷ []; before = subst (λ l. AfterFields d text values l) f a; opened = o; last = inr (refl, single) }
+        record {
+          values = values;
+          source = opened;
+          value = cur;
+          escape = 92 ∷ [];
+          before = subst (λ l. AfterFields d text values l) f a;
+          opened = o;
+          last = inr (refl, single);
+        }
     by_state Start q x = absurd cc
     by_state Plain q x = absurd cc
     by_state Closed q x = absurd cc

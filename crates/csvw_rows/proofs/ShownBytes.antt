@@ -1,5 +1,6 @@
 -- How many bytes show that a rule is broken.
-use Rattle.std.proofs.Common.{◌≡◌, ◌∙◌, ℕ, ◌+◌, ◌<◌, ◌≤◌, Bool, true, false, ◌&&◌, ◌==◌, List, [], ◌∷◌, ◌++◌, length, take, drop, get_or, refl, sym, ap, arith, length-take, ◌⊎◌, inl, inr, chars}
+use Rattle.std.proofs.Common.{◌≡◌, ◌∙◌, ℕ, ◌+◌, ◌<◌, ◌≤◌, Bool, true, false, ◌&&◌, ◌==◌, List, [], ◌∷◌, ◌++◌, length, take, drop, get_or, refl, sym}
+use Rattle.std.proofs.Common.{ap, arith, length-take, ◌⊎◌, inl, inr, chars}
 use Rattle.std.specs.Prelude.{IsUtf8, max}
 use Rattle.std.specs.Str.{is_utf8}
 use Rattle.std.proofs.lemmas.Bool.{cases_lt}
@@ -33,9 +34,14 @@ module _ (d : Dialect) (rest : List ℕ) (at : ℕ) (u : IsUtf8 rest) (within : 
   here_is = ap (λ l. get_or l (length (chars (take at rest))) 0) spelled ∙ get_at (chars (take at rest)) (chars (drop at rest))
 
   pub at_end : (count : ℕ) → count ≡ length (chars (take at rest)) → length (drop at rest) ≡ 0 → IsShownAt d (chars rest) (length (chars (take at rest))) count
-  at_end count e z = inr (e, λ (c : IsCr d (chars rest) (length (chars (take at rest)))). let f = sym c.1 ∙ here_is ∙ ap (λ l. get_or l 0 0) (no_chars (drop at rest) z) in absurd (omega (arith, f)))
+  at_end count e z = inr (
+    e,
+    λ (c : IsCr d (chars rest) (length (chars (take at rest)))). let f = sym c.1 ∙ here_is
+        ∙ ap (λ l. get_or l 0 0) (no_chars (drop at rest) z) in absurd (omega (arith, f)),
+  )
 
-  pub at_cr : (count c : ℕ) (cs : List ℕ) → count ≡ length (chars (take at rest)) → chars (drop at rest) ≡ c ∷ cs → (d.line_terminators.crlf && (c == 13)) ≡ true → IsShownAt d (chars rest) (length (chars (take at rest))) (count + 1)
+  pub at_cr : (count c : ℕ) (cs : List ℕ) → count ≡ length (chars (take at rest)) → chars (drop at rest) ≡ c ∷ cs
+      → (d.line_terminators.crlf && (c == 13)) ≡ true → IsShownAt d (chars rest) (length (chars (take at rest))) (count + 1)
   at_cr count c cs e f h =
       let both = and_both d.line_terminators.crlf (c == 13) h in
       let same : c ≡ 13 = (let t = both.1 in grind (arith, nat_tests)) in
@@ -45,15 +51,21 @@ module _ (d : Dialect) (rest : List ℕ) (at : ℕ) (u : IsUtf8 rest) (within : 
       and_both true b h = (refl, h)
       and_both false b h = absurd cc
 
-  pub at_other : (count c : ℕ) (cs : List ℕ) → count ≡ length (chars (take at rest)) → chars (drop at rest) ≡ c ∷ cs → (d.line_terminators.crlf && (c == 13)) ≡ false → IsShownAt d (chars rest) (length (chars (take at rest))) count
-  at_other count c cs e f h = inr (e, λ (k : IsCr d (chars rest) (length (chars (take at rest)))). neither d.line_terminators.crlf h k.0 (sym (ap (λ l. get_or l 0 0) f) ∙ sym here_is ∙ k.1))
+  pub at_other : (count c : ℕ) (cs : List ℕ) → count ≡ length (chars (take at rest)) → chars (drop at rest) ≡ c ∷ cs
+      → (d.line_terminators.crlf && (c == 13)) ≡ false → IsShownAt d (chars rest) (length (chars (take at rest))) count
+  at_other count c cs e f h = inr (
+    e,
+    λ (k : IsCr d (chars rest) (length (chars (take at rest)))). neither d.line_terminators.crlf h k.0
+        (sym (ap (λ l. get_or l 0 0) f) ∙ sym here_is ∙ k.1),
+  )
     where
       neither : (b : Bool) → (b && (c == 13)) ≡ false → b ≡ true → c ≡ 13 → ⊥
       neither false h e g = absurd cc
       neither true h e g = let z : (13 == 13) ≡ false = ap (λ n. n == 13) (sym g) ∙ h in absurd cc
 
 -- all that it takes to see that a rule is broken
-module _ (d : Dialect) (rest : List ℕ) (at here common place : ℕ) (u : IsUtf8 rest) (is_here : IsShownAt d (chars rest) (length (chars (take at rest))) here) (is_common : IsPrefixLen (prefix_of d) (chars rest) common)
+module _ (d : Dialect) (rest : List ℕ) (at here common place : ℕ) (u : IsUtf8 rest)
+    (is_here : IsShownAt d (chars rest) (length (chars (take at rest))) here) (is_common : IsPrefixLen (prefix_of d) (chars rest) common)
     (no_less : (here ≤ place) × (common ≤ place)) (no_more : (place ≤ here) ⊎ (place ≤ common)) where
   abbrev text : List ℕ
   text = chars rest
@@ -87,12 +99,14 @@ module _ (d : Dialect) (rest : List ℕ) (at here common place : ℕ) (u : IsUtf
   shows_front len inside back left =
       let front = take (place + 1) text in
       let same : chars (take len rest) ≡ front = append_cancel_right (chars (take len rest)) front (drop (place + 1) text)
-      (ap (λ l. chars (take len rest) ++ l) (sym left) ∙ sym (split_chars rest len (front_text rest len u inside back)) ∙ sym (take-append-drop (place + 1) text)) in
+      (ap (λ l. chars (take len rest) ++ l) (sym left) ∙ sym (split_chars rest len (front_text rest len u inside back))
+      ∙ sym (take-append-drop (place + 1) text)) in
       let count = length-take (place + 1) text in
       record {
         count = length front;
         shown = shows (length front) (short (place + 1) text) (by_count (cases_lt place (length text))) (less (place + 1) text);
-        bytes = ap byte_len (again (place + 1) text) ∙ ap byte_len (sym same) ∙ ap length (encodes-chars (take len rest) (front_text rest len u inside back)) ∙ (let k = length-take len rest in omega (arith, k, inside));
+        bytes = ap byte_len (again (place + 1) text) ∙ ap byte_len (sym same)
+            ∙ ap length (encodes-chars (take len rest) (front_text rest len u inside back)) ∙ (let k = length-take len rest in omega (arith, k, inside));
       }
     where
       short : (n : ℕ) (l : List ℕ) → length (take n l) ≤ length l
@@ -119,7 +133,8 @@ shown_whole d rest at len u e s =
     whole : (l : List ℕ) → take (length l) l ≡ l
     whole l = grind (arith, common_steps)
 
-    by_places : length (chars (take at rest)) ≡ length (chars rest) → IsShownAt d (chars rest) (length (chars (take at rest))) s.shown.here → (s.shown.here < s.count) ⊎ (s.count ≡ length (chars rest)) → s.count ≡ length (chars rest)
+    by_places : length (chars (take at rest)) ≡ length (chars rest) → IsShownAt d (chars rest) (length (chars (take at rest))) s.shown.here
+        → (s.shown.here < s.count) ⊎ (s.count ≡ length (chars rest)) → s.count ≡ length (chars rest)
     by_places n h (inr f) = f
     by_places n (inl (f, c)) (inl g) = (let w = s.shown.within in absurd (omega (arith, f, g, n, w)))
     by_places n (inr (f, c)) (inl g) = (let w = s.shown.within in absurd (omega (arith, f, g, n, w)))

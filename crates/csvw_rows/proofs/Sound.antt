@@ -1,5 +1,6 @@
 -- What is read as a row is a row.
-use Rattle.std.proofs.Common.{◌≡◌, ◌≢◌, ℕ, ◌<◌, Bool, true, false, ◌&&◌, ◌==◌, not, if◌then◌else◌, List, [], ◌∷◌, ◌++◌, Option, Some, None, refl, sym, ap, ◌∙◌, subst, arith, append_assoc, append-nil, ◌⊎◌, inl, inr}
+use Rattle.std.proofs.Common.{◌≡◌, ◌≢◌, ℕ, ◌<◌, Bool, true, false, ◌&&◌, ◌==◌, not, if◌then◌else◌, List, [], ◌∷◌, ◌++◌, Option, Some, None, refl, sym}
+use Rattle.std.proofs.Common.{ap, ◌∙◌, subst, arith, append_assoc, append-nil, ◌⊎◌, inl, inr}
 use Rattle.csvw_dialect.specs.declared.dialect.Dialect.{Dialect}
 use Rattle.csvw_rows.specs.declared.stop.RowStop.TheVariants.{BadQuote, TextAfterQuote}
 use Rattle.csvw_rows.specs.declared.scan.State.{State}
@@ -72,12 +73,18 @@ start_is_field d source value after (inr o) =
       units = subst (AreUnits d o.quote o.inside.inside) (sym o.inside.all) o.inside.units;
       spelled = refl;
     } in
-    inr (o.spaces ++ o.quote ∷ o.inside.inside, opened, o.spelled ∙ ap (λ l. o.spaces ++ o.quote ∷ l) o.inside.spelled ∙ sym (append_assoc o.spaces (o.quote ∷ o.inside.inside) (o.quote ∷ [])))
+    inr (
+      o.spaces ++ o.quote ∷ o.inside.inside,
+      opened,
+      o.spelled ∙ ap (λ l. o.spaces ++ o.quote ∷ l) o.inside.spelled
+          ∙ sym (append_assoc o.spaces (o.quote ∷ o.inside.inside) (o.quote ∷ [])),
+    )
 
 pub start_is_fields : (d : Dialect) (row : List ℕ) (new : List (List ℕ)) (after : List ℕ) → RowRest d Start [] row new after → AreFields d row new after
 start_is_fields d row [] after r = r
 start_is_fields d row (v ∷ []) after r = start_is_field d row v after r
-start_is_fields d row (v ∷ u ∷ us) after (source, more, spelled, field, fields) = (source, more, spelled, start_is_field d source v (d.delimiter ∷ more ++ after) field, fields)
+start_is_fields d row (v ∷ u ∷ us) after (source, more, spelled, field, fields) =
+    (source, more, spelled, start_is_field d source v (d.delimiter ∷ more ++ after) field, fields)
 
 -- what a pass found
 pub record Reads (f : Bool) (d : Dialect) (st : State) (vs : List (List ℕ)) (cur text : List ℕ) (values : List (List ℕ)) (after : List ℕ) : Type 0 where
@@ -127,13 +134,21 @@ reads_move f d st to vs cur moved c cs values after r back = move r.row r.new r.
     move : (row : List ℕ) (new : List (List ℕ)) → values ≡ vs ++ new → cs ≡ row ++ after → RowRest d to moved row new after → EndsRow f d after
         → Reads f d st vs cur (c ∷ cs) values after
     move row [] all spelled fields ends = absurd fields
-    move row (v ∷ []) all spelled fields ends = record { row = c ∷ row; new = v ∷ []; all = all; spelled = ap (λ l. c ∷ l) spelled; fields = back row v after spelled fields; ends = ends }
+    move row (v ∷ []) all spelled fields ends =
+        record { row = c ∷ row; new = v ∷ []; all = all; spelled = ap (λ l. c ∷ l) spelled; fields = back row v after spelled fields; ends = ends }
     move row (v ∷ u ∷ us) all spelled (source, more, joined, field, fields) ends = record {
       row = c ∷ row;
       new = v ∷ u ∷ us;
       all = all;
       spelled = ap (λ l. c ∷ l) spelled;
-      fields = (c ∷ source, more, ap (λ l. c ∷ l) joined, back source v (d.delimiter ∷ more ++ after) (spelled ∙ ap (λ l. l ++ after) joined ∙ append_assoc source (d.delimiter ∷ more) after) field, fields);
+      fields = (
+        c ∷ source,
+        more,
+        ap (λ l. c ∷ l) joined,
+        back source v (d.delimiter ∷ more ++ after)
+            (spelled ∙ ap (λ l. l ++ after) joined ∙ append_assoc source (d.delimiter ∷ more) after) field,
+        fields,
+      );
       ends = ends;
     }
 
@@ -194,14 +209,16 @@ not_true true e = absurd (grind arith)
 not_true false e = refl
 
 -- one more character of plain text
-plain_back : (d : Dialect) (cur : List ℕ) (c : ℕ) (cs source value l : List ℕ) → ends_at d (c ∷ cs) ≡ false → (c == d.delimiter) ≡ false → quote_is d.quote_char c ≡ false
+plain_back : (d : Dialect) (cur : List ℕ) (c : ℕ) (cs source value l : List ℕ) → ends_at d (c ∷ cs) ≡ false → (c == d.delimiter) ≡ false
+    → quote_is d.quote_char c ≡ false
     → cs ≡ source ++ l → IsPlain d source l × (value ≡ (cur ++ c ∷ []) ++ source) → IsPlain d (c ∷ source) l × (value ≡ cur ++ c ∷ source)
 plain_back d cur c cs source value l e b q spelled (p, v) =
     let here : terminator_len d (c ∷ source ++ l) ≡ 0 = subst (λ (x : List ℕ). terminator_len d (c ∷ x) ≡ 0) spelled (no_ends_is d (c ∷ cs) e) in
     ((not_same c d.delimiter b, no_quote_here d.quote_char c q, here, p), v ∙ append_assoc cur (c ∷ []) source)
 
 -- one more unit inside quotes
-unit_back : (d : Dialect) (q c : ℕ) (cur source value unit : List ℕ) → IsUnit d q unit c → InsideRest d q (cur ++ c ∷ []) source value → InsideRest d q cur (unit ++ source) value
+unit_back : (d : Dialect) (q c : ℕ) (cur source value unit : List ℕ) → IsUnit d q unit c → InsideRest d q (cur ++ c ∷ []) source value
+    → InsideRest d q cur (unit ++ source) value
 unit_back d q c cur source value unit u r = record {
   inside = unit ++ r.inside;
   more = c ∷ r.more;
@@ -226,8 +243,10 @@ Ind f d cs values after = (st : State) (vs : List (List ℕ)) (cur : List ℕ) �
 pub same_quote : (d : Dialect) (a b : ℕ) → d.quote_char ≡ Some a → d.quote_char ≡ Some b → a ≡ b
 same_quote d a b e f = let g : Some a ≡ Some b = sym e ∙ f in cc
 
-start_back : (d : Dialect) (cur : List ℕ) (c : ℕ) (cs source value l : List ℕ) → ends_at d (c ∷ cs) ≡ false → (c == d.delimiter) ≡ false → quote_is d.quote_char c ≡ false
-    → (d.skip_initial_space && (c == 32)) ≡ true → cs ≡ source ++ l → FieldRest d Start (cur ++ c ∷ []) source value l → FieldRest d Start cur (c ∷ source) value l
+start_back : (d : Dialect) (cur : List ℕ) (c : ℕ) (cs source value l : List ℕ) → ends_at d (c ∷ cs) ≡ false → (c == d.delimiter) ≡ false
+    → quote_is d.quote_char c ≡ false
+    → (d.skip_initial_space && (c == 32)) ≡ true → cs ≡ source ++ l → FieldRest d Start (cur ++ c ∷ []) source value l
+    → FieldRest d Start cur (c ∷ source) value l
 start_back d cur c cs source value l e b q s spelled (inl p) = inl (plain_back d cur c cs source value l e b q spelled p)
 start_back d cur c cs source value l e b q s spelled (inr o) =
     let skips = and_both d.skip_initial_space (c == 32) s in
@@ -247,7 +266,8 @@ sound_start f d vs cur c cs values after h ih =
     elim (start_view (ends_at d (c ∷ cs)) (c == d.delimiter) (quote_is d.quote_char c) (d.skip_initial_space && (c == 32))) [
       | inl p ↦ reads_end f d Start vs cur c cs values after (sym (run_by f d Start vs cur c cs End p.1) ∙ h) p.0 (λ l. inl (tt, sym (append-nil cur)))
       | inr r ↦ elim r [
-        | inl p ↦ reads_next f d Start vs cur c cs values after (ih Start (vs ++ cur ∷ []) [] (sym (run_by f d Start vs cur c cs Next p.2) ∙ h)) (is_same c d.delimiter p.1) (λ l. inl (tt, sym (append-nil cur)))
+        | inl p ↦ reads_next f d Start vs cur c cs values after (ih Start (vs ++ cur ∷ []) [] (sym (run_by f d Start vs cur c cs Next p.2) ∙ h))
+            (is_same c d.delimiter p.1) (λ l. inl (tt, sym (append-nil cur)))
         | inr r ↦ elim r [
           | inl p ↦ reads_move f d Start Inside vs cur [] c cs values after (ih Inside vs [] (sym (run_by f d Start vs cur c cs Open p.3) ∙ h))
               (λ source value l spelled field. inr (record {
@@ -260,9 +280,11 @@ sound_start f d vs cur c cs values after h ih =
                 inside = field.2;
               }))
           | inr r ↦ elim r [
-            | inl p ↦ reads_move f d Start Start vs cur (cur ++ c ∷ []) c cs values after (ih Start vs (cur ++ c ∷ []) (sym (run_by f d Start vs cur c cs (Keep Start) p.4) ∙ h))
+            | inl p ↦ reads_move f d Start Start vs cur (cur ++ c ∷ []) c cs values after
+                (ih Start vs (cur ++ c ∷ []) (sym (run_by f d Start vs cur c cs (Keep Start) p.4) ∙ h))
                 (λ source value l spelled field. start_back d cur c cs source value l p.0 p.1 p.2 p.3 spelled field)
-            | inr p ↦ reads_move f d Start Plain vs cur (cur ++ c ∷ []) c cs values after (ih Plain vs (cur ++ c ∷ []) (sym (run_by f d Start vs cur c cs (Keep Plain) p.4) ∙ h))
+            | inr p ↦ reads_move f d Start Plain vs cur (cur ++ c ∷ []) c cs values after
+                (ih Plain vs (cur ++ c ∷ []) (sym (run_by f d Start vs cur c cs (Keep Plain) p.4) ∙ h))
                 (λ source value l spelled field. inl (plain_back d cur c cs source value l p.0 p.1 p.2 spelled field))
           ]
         ]
@@ -275,26 +297,39 @@ sound_plain f d vs cur c cs values after h ih =
     elim (plain_view (ends_at d (c ∷ cs)) (c == d.delimiter) (quote_is d.quote_char c)) [
       | inl p ↦ reads_end f d Plain vs cur c cs values after (sym (run_by f d Plain vs cur c cs End p.1) ∙ h) p.0 (λ l. (tt, sym (append-nil cur)))
       | inr r ↦ elim r [
-        | inl p ↦ reads_next f d Plain vs cur c cs values after (ih Start (vs ++ cur ∷ []) [] (sym (run_by f d Plain vs cur c cs Next p.2) ∙ h)) (is_same c d.delimiter p.1) (λ l. (tt, sym (append-nil cur)))
+        | inl p ↦ reads_next f d Plain vs cur c cs values after (ih Start (vs ++ cur ∷ []) [] (sym (run_by f d Plain vs cur c cs Next p.2) ∙ h))
+            (is_same c d.delimiter p.1) (λ l. (tt, sym (append-nil cur)))
         | inr r ↦ elim r [
           | inl p ↦ let bad : Broken BadQuote (c ∷ cs) ≡ Found values after = sym (run_by f d Plain vs cur c cs (Stop BadQuote) p) ∙ h in absurd cc
-          | inr p ↦ reads_move f d Plain Plain vs cur (cur ++ c ∷ []) c cs values after (ih Plain vs (cur ++ c ∷ []) (sym (run_by f d Plain vs cur c cs (Keep Plain) p.3) ∙ h))
+          | inr p ↦ reads_move f d Plain Plain vs cur (cur ++ c ∷ []) c cs values after
+              (ih Plain vs (cur ++ c ∷ []) (sym (run_by f d Plain vs cur c cs (Keep Plain) p.3) ∙ h))
               (λ source value l spelled field. plain_back d cur c cs source value l p.0 p.1 p.2 spelled field)
         ]
       ]
     ]
 
-closing_back : (d : Dialect) (cur : List ℕ) (c : ℕ) (source value l : List ℕ) → d.quote_char ≡ Some c → FieldRest d Closed cur source value l → FieldRest d Inside cur (c ∷ source) value l
+closing_back : (d : Dialect) (cur : List ℕ) (c : ℕ) (source value l : List ℕ) → d.quote_char ≡ Some c → FieldRest d Closed cur source value l
+    → FieldRest d Inside cur (c ∷ source) value l
 closing_back d cur c source value l is_quote (inl (empty, same)) =
     (c, is_quote, record { inside = []; more = []; units = refl; spelled = ap (λ x. c ∷ x) empty; all = same ∙ sym (append-nil cur) })
 closing_back d cur c source value l is_quote (inr o) =
-    let joined : o.quote ∷ o.quote ∷ o.rest ≡ c ∷ source = ap (λ x. x ∷ o.quote ∷ o.rest) (same_quote d o.quote c o.is_quote is_quote) ∙ ap (λ x. c ∷ x) (sym o.spelled) in
-    (o.quote, o.is_quote, subst (λ (x : List ℕ). InsideRest d o.quote cur x value) joined (unit_back d o.quote o.quote cur o.rest value (o.quote ∷ o.quote ∷ []) (double_unit d o.quote o.double) o.inside))
+    let joined : o.quote ∷ o.quote ∷ o.rest ≡ c ∷ source = ap (λ x. x ∷ o.quote ∷ o.rest) (same_quote d o.quote c o.is_quote is_quote)
+    ∙ ap (λ x. c ∷ x) (sym o.spelled) in (
+      o.quote,
+      o.is_quote,
+      subst (λ (x : List ℕ). InsideRest d o.quote cur x value) joined
+          (unit_back d o.quote o.quote cur o.rest value (o.quote ∷ o.quote ∷ []) (double_unit d o.quote o.double) o.inside),
+    )
 
-escape_back : (d : Dialect) (cur : List ℕ) (c : ℕ) (source value l : List ℕ) → c ≡ 92 → d.double_quote ≡ false → FieldRest d Escaped cur source value l → FieldRest d Inside cur (c ∷ source) value l
+escape_back : (d : Dialect) (cur : List ℕ) (c : ℕ) (source value l : List ℕ) → c ≡ 92 → d.double_quote ≡ false
+    → FieldRest d Escaped cur source value l → FieldRest d Inside cur (c ∷ source) value l
 escape_back d cur c source value l slash double o =
-    let joined : 92 ∷ o.c ∷ o.rest ≡ c ∷ source = ap (λ x. x ∷ o.c ∷ o.rest) (sym slash) ∙ ap (λ x. c ∷ x) (sym o.spelled) in
-    (o.quote, o.is_quote, subst (λ (x : List ℕ). InsideRest d o.quote cur x value) joined (unit_back d o.quote o.c cur o.rest value (92 ∷ o.c ∷ []) (escape_unit d o.quote o.c double) o.inside))
+    let joined : 92 ∷ o.c ∷ o.rest ≡ c ∷ source = ap (λ x. x ∷ o.c ∷ o.rest) (sym slash) ∙ ap (λ x. c ∷ x) (sym o.spelled) in (
+      o.quote,
+      o.is_quote,
+      subst (λ (x : List ℕ). InsideRest d o.quote cur x value) joined
+          (unit_back d o.quote o.c cur o.rest value (92 ∷ o.c ∷ []) (escape_unit d o.quote o.c double) o.inside),
+    )
 
 sound_inside : (f : Bool) (d : Dialect) (vs : List (List ℕ)) (cur : List ℕ) (c : ℕ) (cs : List ℕ) (values : List (List ℕ)) (after : List ℕ)
     → pass f d Inside vs cur (c ∷ cs) ≡ Found values after → Ind f d cs values after → Reads f d Inside vs cur (c ∷ cs) values after
@@ -306,7 +341,8 @@ sound_inside f d vs cur c cs values after h ih =
         | inl p ↦ let both = and_both (not d.double_quote) (c == 92) p.1 in
             reads_move f d Inside Escaped vs cur cur c cs values after (ih Escaped vs cur (sym (run_by f d Inside vs cur c cs (Skip Escaped) p.2) ∙ h))
             (λ source value l spelled field. escape_back d cur c source value l (is_same c 92 both.1) (not_true d.double_quote both.0) field)
-        | inr p ↦ reads_move f d Inside Inside vs cur (cur ++ c ∷ []) c cs values after (ih Inside vs (cur ++ c ∷ []) (sym (run_by f d Inside vs cur c cs (Keep Inside) p.2) ∙ h))
+        | inr p ↦ reads_move f d Inside Inside vs cur (cur ++ c ∷ []) c cs values after
+            (ih Inside vs (cur ++ c ∷ []) (sym (run_by f d Inside vs cur c cs (Keep Inside) p.2) ∙ h))
             (λ source value l spelled field. (
               field.0,
               field.1,
@@ -322,18 +358,21 @@ sound_closed f d vs cur c cs values after h ih =
     elim (closed_view (ends_at d (c ∷ cs)) (c == d.delimiter) (d.double_quote && quote_is d.quote_char c)) [
       | inl p ↦ reads_end f d Closed vs cur c cs values after (sym (run_by f d Closed vs cur c cs End p.1) ∙ h) p.0 (λ l. inl (refl, refl))
       | inr r ↦ elim r [
-        | inl p ↦ reads_next f d Closed vs cur c cs values after (ih Start (vs ++ cur ∷ []) [] (sym (run_by f d Closed vs cur c cs Next p.2) ∙ h)) (is_same c d.delimiter p.1) (λ l. inl (refl, refl))
+        | inl p ↦ reads_next f d Closed vs cur c cs values after (ih Start (vs ++ cur ∷ []) [] (sym (run_by f d Closed vs cur c cs Next p.2) ∙ h))
+            (is_same c d.delimiter p.1) (λ l. inl (refl, refl))
         | inr r ↦ elim r [
           | inl p ↦ let bad : Broken TextAfterQuote (c ∷ cs) ≡ Found values after = sym (run_by f d Closed vs cur c cs (Stop TextAfterQuote) p) ∙ h in absurd cc
           | inr p ↦ let both = and_both d.double_quote (quote_is d.quote_char c) p.0 in
-              reads_move f d Closed Inside vs cur (cur ++ c ∷ []) c cs values after (ih Inside vs (cur ++ c ∷ []) (sym (run_by f d Closed vs cur c cs (Keep Inside) p.1) ∙ h))
+              reads_move f d Closed Inside vs cur (cur ++ c ∷ []) c cs values after
+              (ih Inside vs (cur ++ c ∷ []) (sym (run_by f d Closed vs cur c cs (Keep Inside) p.1) ∙ h))
               (λ source value l spelled field. inr (record {
                 rest = source;
                 quote = c;
                 is_quote = quote_here d.quote_char c both.1;
                 double = both.0;
                 spelled = refl;
-                inside = subst (λ (x : ℕ). InsideRest d x (cur ++ c ∷ []) source value) (same_quote d field.0 c field.1 (quote_here d.quote_char c both.1)) field.2;
+                inside = subst (λ (x : ℕ). InsideRest d x (cur ++ c ∷ []) source value)
+                    (same_quote d field.0 c field.1 (quote_here d.quote_char c both.1)) field.2;
               }))
         ]
       ]
@@ -347,8 +386,10 @@ sound_end false d Plain vs cur values after h = absurd cc
 sound_end false d Inside vs cur values after h = absurd cc
 sound_end false d Escaped vs cur values after h = absurd cc
 sound_end false d Closed vs cur values after h = absurd cc
-sound_end true d Start vs cur values after h = record { row = []; new = cur ∷ []; all = cc; spelled = cc; fields = inl (tt, sym (append-nil cur)); ends = inr (refl, cc) }
-sound_end true d Plain vs cur values after h = record { row = []; new = cur ∷ []; all = cc; spelled = cc; fields = (tt, sym (append-nil cur)); ends = inr (refl, cc) }
+sound_end true d Start vs cur values after h =
+    record { row = []; new = cur ∷ []; all = cc; spelled = cc; fields = inl (tt, sym (append-nil cur)); ends = inr (refl, cc) }
+sound_end true d Plain vs cur values after h =
+    record { row = []; new = cur ∷ []; all = cc; spelled = cc; fields = (tt, sym (append-nil cur)); ends = inr (refl, cc) }
 sound_end true d Inside vs cur values after h = absurd cc
 sound_end true d Escaped vs cur values after h = absurd cc
 sound_end true d Closed vs cur values after h = record { row = []; new = cur ∷ []; all = cc; spelled = cc; fields = inl (refl, refl); ends = inr (refl, cc) }
@@ -360,6 +401,7 @@ sound f d Start vs cur (c ∷ cs) values after h = sound_start f d vs cur c cs v
 sound f d Plain vs cur (c ∷ cs) values after h = sound_plain f d vs cur c cs values after h (λ st vs cur. sound f d st vs cur cs values after)
 sound f d Inside vs cur (c ∷ cs) values after h = sound_inside f d vs cur c cs values after h (λ st vs cur. sound f d st vs cur cs values after)
 sound f d Escaped vs cur (c ∷ cs) values after h =
-    reads_move f d Escaped Inside vs cur (cur ++ c ∷ []) c cs values after (sound f d Inside vs (cur ++ c ∷ []) cs values after (sym (run_by f d Escaped vs cur c cs (Keep Inside) refl) ∙ h))
+    reads_move f d Escaped Inside vs cur (cur ++ c ∷ []) c cs values after
+    (sound f d Inside vs (cur ++ c ∷ []) cs values after (sym (run_by f d Escaped vs cur c cs (Keep Inside) refl) ∙ h))
     (λ source value l spelled field. record { c = c; rest = source; quote = field.0; is_quote = field.1; spelled = refl; inside = field.2 })
 sound f d Closed vs cur (c ∷ cs) values after h = sound_closed f d vs cur c cs values after h (λ st vs cur. sound f d st vs cur cs values after)

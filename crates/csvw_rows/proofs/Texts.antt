@@ -1,5 +1,6 @@
 -- Where a text stops to begin a file, by the row at which its rows end.
-use Rattle.std.proofs.Common.{◌≡◌, ◌≢◌, ℕ, zero, suc, ◌+◌, ◌-◌, ◌<◌, ◌≤◌, false, List, [], ◌∷◌, ◌++◌, length, take, drop, refl, sym, ap, ◌∙◌, subst, arith, append_assoc, length-append, length-drop, ◌⊎◌, inl, inr, encode_utf8_all}
+use Rattle.std.proofs.Common.{◌≡◌, ◌≢◌, ℕ, zero, suc, ◌+◌, ◌-◌, ◌<◌, ◌≤◌, false, List, [], ◌∷◌, ◌++◌, length, take, drop, refl, sym, ap, ◌∙◌, subst}
+use Rattle.std.proofs.Common.{arith, append_assoc, length-append, length-drop, ◌⊎◌, inl, inr, encode_utf8_all}
 use Rattle.std.proofs.lemmas.Grind.{common_steps}
 use Rattle.std.proofs.lemmas.Bool.{cases_lt}
 use Rattle.std.proofs.lemmas.Str.{encodes-append}
@@ -50,7 +51,8 @@ pub breaks_none : (d : Dialect) (i : ℕ) (part : List ℕ) (stop : RowStop) →
     → (row : Row) (more after : List ℕ) → part ++ more ≡ row.text ++ after → IsRow d i row after → 0 < terminator_len d after → ⊥
 breaks_none d i part stop w b row more after e r h =
     let passed = run_on d part more ∙ ap (λ o. goes_on d o (unsettled d part ++ more)) b.broken in
-    let found = sym (fields_next false d i (part ++ more) (note_never d i part more b.no_note b.may_not) ∙ ap (λ o. found_row d (finish o false)) passed) ∙ other_found d i part more after row w e r h in
+    let found = sym (fields_next false d i (part ++ more) (note_never d i part more b.no_note b.may_not)
+    ∙ ap (λ o. found_row d (finish o false)) passed) ∙ other_found d i part more after row w e r h in
     absurd cc
 
 cases_le : (a b : ℕ) → (a ≤ b) ⊎ (b < a)
@@ -64,7 +66,8 @@ decide_seen d max i part rest w some few free (inl r) = inr (record {
   none = λ h row more after e is ends short.
       let same = row_unique false d i r.row row (r.after ++ more) after w (sym (append_assoc r.row.text r.after more) ∙ ap (λ l. l ++ more) (sym r.spelled) ∙ e)
       (row_stays d i r.row r.after more r.is_row r.ends) (inl (let k = r.ends in omega (arith, term_stays d r.after more r.ends))) is (inl ends) in
-      let fits : length row.text ≤ length part = omega (arith, ap length r.spelled, length-append r.row.text r.after, ap (λ (x : Row). length x.text) same.row) in
+      let fits : length row.text ≤ length part =
+      omega (arith, ap length r.spelled, length-append r.row.text r.after, ap (λ (x : Row). length x.text) same.row) in
       let whole : byte_len row.text ≤ row_limit = omega (arith, short, ap byte_len (take_all (length part) row.text fits)) in
       free few r.row (r.after ++ rest) (ap (λ l. l ++ rest) r.spelled ∙ append_assoc r.row.text r.after rest) (row_stays d i r.row r.after rest r.is_row r.ends)
       (let k = r.ends in omega (arith, term_stays d r.after rest r.ends)) (omega (arith, whole, ap (λ (x : Row). byte_len x.text) same.row));
@@ -105,7 +108,8 @@ search P Q test (suc n) = step (search P Q test n) (test n)
     last : (k : ℕ) → k < suc n → ((j : ℕ) → j < n → P j) → P n → P k
     last k h f p = elim (cases_lt k n) [ inl b ↦ f k b | inr b ↦ subst P (let e : n ≡ k = omega arith in e) p ]
 
-    step : ((k : ℕ) → k < n → P k) ⊎ ((m : ℕ) × (m < n) × Q m × ((k : ℕ) → k < m → P k)) → P n ⊎ Q n → ((k : ℕ) → k < suc n → P k) ⊎ ((m : ℕ) × (m < suc n) × Q m × ((k : ℕ) → k < m → P k))
+    step : ((k : ℕ) → k < n → P k) ⊎ ((m : ℕ) × (m < n) × Q m × ((k : ℕ) → k < m → P k)) → P n ⊎ Q n
+        → ((k : ℕ) → k < suc n → P k) ⊎ ((m : ℕ) × (m < suc n) × Q m × ((k : ℕ) → k < m → P k))
     step (inl f) (inl p) = inl (λ k h. last k h f p)
     step (inl f) (inr q) = inr (n, (let h : n < suc n = omega arith in h), q, f)
     step (inr (m, h, q, f)) t = inr (m, (let k : m < suc n = omega arith in k), q, f)
@@ -113,7 +117,8 @@ search P Q test (suc n) = step (search P Q test n) (test n)
 pub first_end : (d : Dialect) (max i : ℕ) (text : List ℕ) (n : ℕ) → IsLawful d → NoRow d max i text → Ends d max i (take n text) → FirstEnd d max i text n
 first_end d max i text n w free e = found (search (λ k. Goes d max i (take k text)) (λ k. Ends d max i (take k text)) (decide d max i text w free) (suc n))
   where
-    found : ((k : ℕ) → k < suc n → Goes d max i (take k text)) ⊎ ((m : ℕ) × (m < suc n) × Ends d max i (take m text) × ((k : ℕ) → k < m → Goes d max i (take k text))) → FirstEnd d max i text n
+    found : ((k : ℕ) → k < suc n → Goes d max i (take k text)) ⊎
+        ((m : ℕ) × (m < suc n) × Ends d max i (take m text) × ((k : ℕ) → k < m → Goes d max i (take k text))) → FirstEnd d max i text n
     found (inl f) = absurd (not_both d max i (take n text) w (f n (omega arith)) e)
     found (inr (m, h, q, f)) = record { at = m; within = omega (arith, h); ends = q; before = f }
 
@@ -129,7 +134,8 @@ pub within_of : (d : Dialect) (i m : ℕ) (text : List ℕ) (rows more : List Ro
 within_of d i m text [] more rest a s ms =
     let place : i + length (let e : List Row = [] in e) ≡ i = omega arith in
     let count : m ≡ length text - length rest + m = omega (arith, ap length a) in
-    subst (λ (n : ℕ). AreRowsWithin d i n text more) count (subst (λ (l : List ℕ). AreRowsWithin d i m l more) (sym a) (subst (λ (n : ℕ). AreRowsWithin d n m rest more) place ms))
+    subst (λ (n : ℕ). AreRowsWithin d i n text more) count
+    (subst (λ (l : List ℕ). AreRowsWithin d i m l more) (sym a) (subst (λ (n : ℕ). AreRowsWithin d n m rest more) place ms))
 within_of d i m text (row ∷ rows) more rest (after, e, r, h, are) s ms =
     let behind = drop (terminator_len d after) after in
     let place : i + length (row ∷ rows) ≡ i + 1 + length rows = omega arith in
@@ -139,7 +145,8 @@ within_of d i m text (row ∷ rows) more rest (after, e, r, h, are) s ms =
     let inner = within_of d (i + 1) m behind rows more rest are (All-tail IsShort row rows s) (subst (λ (n : ℕ). AreRowsWithin d n m rest more) place ms) in
     let reach = rows_len d (i + 1) behind rows rest are in
     let tl = term_within d after h in
-    let count : length behind - length rest + m ≡ n - (length row.text + terminator_len d after) = omega (arith, reach, tl, length-drop (terminator_len d after) after, ap length e, length-append row.text after) in
+    let count : length behind - length rest + m ≡ n - (length row.text + terminator_len d after) =
+    omega (arith, reach, tl, length-drop (terminator_len d after) after, ap length e, length-append row.text after) in
     (after, e, r, h, fits, subst (λ (n : ℕ). AreRowsWithin d (i + 1) n behind (rows ++ more)) count inner)
 
 pub within_less : (d : Dialect) (i n m : ℕ) (text : List ℕ) (rows : List Row) → AreRowsWithin d i n text rows → m ≤ n → AreRowsWithin d i m text rows
@@ -151,20 +158,24 @@ within_less d i n m text (row ∷ rows) (after, e, r, t, s, a) h =
       r,
       t,
       (let x : byte_len (take m row.text) ≤ row_limit = omega (arith, k, s) in x),
-      within_less d (i + 1) (n - (length row.text + terminator_len d after)) (m - (length row.text + terminator_len d after)) (drop (terminator_len d after) after) rows a (omega arith),
+      within_less d (i + 1) (n - (length row.text + terminator_len d after)) (m - (length row.text + terminator_len d after))
+          (drop (terminator_len d after) after) rows a (omega arith),
     )
 
 pub within_are : (d : Dialect) (i n : ℕ) (text : List ℕ) (rows : List Row) → AreRowsWithin d i n text rows → AreRows d i text rows []
 within_are d i n text [] a = a
-within_are d i n text (row ∷ rows) (after, e, r, t, s, a) = (after, e, r, t, within_are d (i + 1) (n - (length row.text + terminator_len d after)) (drop (terminator_len d after) after) rows a)
+within_are d i n text (row ∷ rows) (after, e, r, t, s, a) =
+    (after, e, r, t, within_are d (i + 1) (n - (length row.text + terminator_len d after)) (drop (terminator_len d after) after) rows a)
 
 -- the rows behind others
-pub within_behind : (d : Dialect) (i n : ℕ) (text : List ℕ) (rows more : List Row) (rest : List ℕ) → AreRows d i text rows rest → AreRowsWithin d i n text (rows ++ more)
+pub within_behind : (d : Dialect) (i n : ℕ) (text : List ℕ) (rows more : List Row) (rest : List ℕ) → AreRows d i text rows rest
+    → AreRowsWithin d i n text (rows ++ more)
     → AreRowsWithin d (i + length rows) (n - (length text - length rest)) rest more
 within_behind d i n text [] more rest e a =
     let place : i ≡ i + length (let e : List Row = [] in e) = omega arith in
     let count : n ≡ n - (length text - length rest) = omega (arith, ap length e) in
-    subst (λ (k : ℕ). AreRowsWithin d k (n - (length text - length rest)) rest more) place (subst (λ (k : ℕ). AreRowsWithin d i k rest more) count (subst (λ (l : List ℕ). AreRowsWithin d i n l more) e a))
+    subst (λ (k : ℕ). AreRowsWithin d k (n - (length text - length rest)) rest more) place
+    (subst (λ (k : ℕ). AreRowsWithin d i k rest more) count (subst (λ (l : List ℕ). AreRowsWithin d i n l more) e a))
 within_behind d i n text (row ∷ rows) more rest (after, e, r, h, are) (after', e', r', h', s, a) =
     let same : after' ≡ after = append_cancel_left row.text after' after (sym e' ∙ e) in
     let behind = drop (terminator_len d after) after in
@@ -175,5 +186,7 @@ within_behind d i n text (row ∷ rows) more rest (after, e, r, h, are) (after',
     let place : i + 1 + length rows ≡ i + length (row ∷ rows) = omega arith in
     let reach = rows_len d (i + 1) behind rows rest are in
     let tl = term_within d after h in
-    let count : k - (length behind - length rest) ≡ n - (length text - length rest) = omega (arith, reach, tl, length-drop (terminator_len d after) after, ap length e, length-append row.text after) in
-    subst (λ (x : ℕ). AreRowsWithin d x (n - (length text - length rest)) rest more) place (subst (λ (x : ℕ). AreRowsWithin d (i + 1 + length rows) x rest more) count deeper)
+    let count : k - (length behind - length rest) ≡ n - (length text - length rest) =
+    omega (arith, reach, tl, length-drop (terminator_len d after) after, ap length e, length-append row.text after) in
+    subst (λ (x : ℕ). AreRowsWithin d x (n - (length text - length rest)) rest more) place
+    (subst (λ (x : ℕ). AreRowsWithin d (i + 1 + length rows) x rest more) count deeper)

@@ -1,5 +1,6 @@
 -- Texts without the white space at their start and end.
-use Rattle.std.proofs.Common.{◌≡◌, ◌∙◌, ℕ, ◌+◌, ◌-◌, ◌≤◌, Bool, true, false, ◌&&◌, List, [], ◌∷◌, ◌++◌, length, take, drop, reverse, refl, sym, ap, subst, arith, length-append, chars}
+use Rattle.std.proofs.Common.{◌≡◌, ◌∙◌, ℕ, ◌+◌, ◌-◌, ◌≤◌, Bool, true, false, ◌&&◌, List, [], ◌∷◌, ◌++◌, length, take, drop, reverse, refl, sym, ap}
+use Rattle.std.proofs.Common.{subst, arith, length-append, chars}
 use Rattle.std.specs.Prelude.{IsUtf8, encode_utf8, encode_utf8_all, slice_range, nat_le}
 use Rattle.std.specs.Str.{is_utf8}
 use Rattle.std.proofs.lemmas.Grind.{common_steps}
@@ -25,7 +26,8 @@ range_kept texts from to start len h w k =
     let n : from + start + len - (from + start) ≡ len = omega arith in
     let whole : to - from ≡ start + (to - from - start) = omega (arith, k, size) in (
       inside,
-      ap (λ m. take m (drop (from + start) texts)) n ∙ ap (take len) (sym (drop-drop start from texts)) ∙ sym (taken_twice len (to - from - start) (drop start (drop from texts)) part)
+      ap (λ m. take m (drop (from + start) texts)) n ∙ ap (take len) (sym (drop-drop start from texts))
+          ∙ sym (taken_twice len (to - from - start) (drop start (drop from texts)) part)
           ∙ ap (take len) (sym (ap (λ m. drop start (take m (drop from texts))) whole ∙ drop-take start (to - from - start) (drop from texts))),
     )
 
@@ -57,10 +59,20 @@ lies_apart texts b l = four _ _ _ _ l.apart (let o = l.ordered in grind (arith, 
 pub text_itself : (text : List ℕ) → IsUtf8 text → text ≡ encode_utf8_all (chars text)
 text_itself text u = sym (encodes-chars text u)
 
-pub kept_range : (texts : List ℕ) (b new : Bound) (start len : ℕ) → is_apart texts b ≡ true → start + len ≤ length (slice_range texts b.from b.to) → is_utf8 (take len (drop start (slice_range texts b.from b.to))) ≡ true
-    → new.from ≡ b.from + start → new.to ≡ b.from + start + len → new.apart ≡ true → (is_apart texts new ≡ true) × (slice_range texts new.from new.to ≡ take len (drop start (slice_range texts b.from b.to)))
+pub kept_range : (texts : List ℕ) (b new : Bound) (start len : ℕ) → is_apart texts b ≡ true → start + len ≤ length (slice_range texts b.from b.to)
+    → is_utf8 (take len (drop start (slice_range texts b.from b.to))) ≡ true
+    → new.from ≡ b.from + start → new.to ≡ b.from + start + len → new.apart ≡ true
+    → (is_apart texts new ≡ true) × (slice_range texts new.from new.to ≡ take len (drop start (slice_range texts b.from b.to)))
 kept_range texts b new start len e k u f t a =
     let l = lies texts b e in
     let r = range_kept texts b.from b.to start len l.ordered l.within k in
-    let here : slice_range texts new.from new.to ≡ take len (drop start (slice_range texts b.from b.to)) = ap (λ n. slice_range texts n new.to) f ∙ ap (slice_range texts (b.from + start)) t ∙ r.1 in
-    (lies_apart texts new (record { apart = a; ordered = omega (arith, f, t); within = (let w = l.within in let i = r.0 in omega (arith, t, w, i)); text = ap is_utf8 here ∙ u }), here)
+    let here : slice_range texts new.from new.to ≡ take len (drop start (slice_range texts b.from b.to)) = ap (λ n. slice_range texts n new.to) f
+    ∙ ap (slice_range texts (b.from + start)) t ∙ r.1 in (
+      lies_apart texts new (record {
+        apart = a;
+        ordered = omega (arith, f, t);
+        within = (let w = l.within in let i = r.0 in omega (arith, t, w, i));
+        text = ap is_utf8 here ∙ u;
+      }),
+      here,
+    )

@@ -1,5 +1,6 @@
 -- The text of bytes that go on.
-use Rattle.std.proofs.Common.{◌≡◌, ℕ, zero, suc, ◌+◌, ◌-◌, ◌<◌, ◌≤◌, Bool, true, false, not, ◌==◌, if◌then◌else◌, List, [], ◌∷◌, ◌++◌, length, take, drop, refl, sym, ap, ◌∙◌, subst, arith, append_assoc, length-append, length-drop, inl, inr, chars}
+use Rattle.std.proofs.Common.{◌≡◌, ℕ, zero, suc, ◌+◌, ◌-◌, ◌<◌, ◌≤◌, Bool, true, false, not, ◌==◌, if◌then◌else◌, List, [], ◌∷◌, ◌++◌, length, take}
+use Rattle.std.proofs.Common.{drop, refl, sym, ap, ◌∙◌, subst, arith, append_assoc, length-append, length-drop, inl, inr, chars}
 use Rattle.std.specs.Prelude.{IsUtf8, is_some}
 use Rattle.std.specs.Str.{is_utf8}
 use Rattle.std.specs.Str.Lossy.{valid_len_up_to, utf8_valid_len, utf8_error_len}
@@ -7,7 +8,8 @@ use Rattle.std.proofs.lemmas.Grind.{common_steps}
 use Rattle.std.proofs.lemmas.Bool.{cases_lt}
 use Rattle.std.proofs.lemmas.Bool.Decides.{nat_tests}
 use Rattle.std.proofs.lemmas.List.{take-append-drop}
-use Rattle.std.proofs.lemmas.Str.{IsUtf8-from_is_utf8, is_utf8-from_IsUtf8, IsUtf8-nil, IsUtf8-append, IsUtf8-drop, IsCharBoundary-from_take, utf8_valid_len_le, chars-append, chars-nil}
+use Rattle.std.proofs.lemmas.Str.{IsUtf8-from_is_utf8, is_utf8-from_IsUtf8, IsUtf8-nil, IsUtf8-append, IsUtf8-drop, IsCharBoundary-from_take}
+use Rattle.std.proofs.lemmas.Str.{utf8_valid_len_le, chars-append, chars-nil}
 use Rattle.csvw_rows.specs.declared.source.Source.{Source}
 use Rattle.csvw_rows.specs.Files.{text_of, content, without_mark, is_text, is_empty}
 use Rattle.csvw_rows.specs.SourceState.{Decodes, rest_of, is_bad_of, pending_of, begun_of}
@@ -17,7 +19,8 @@ up_to_valid : (bs : List ℕ) (n : ℕ) → IsUtf8 (take (valid_len_up_to bs n) 
 up_to_valid bs zero = IsUtf8-nil
 up_to_valid bs (suc n) = by_test (is_utf8 (take (suc n) bs)) refl (up_to_valid bs n)
   where
-    by_test : (b : Bool) → is_utf8 (take (suc n) bs) ≡ b → IsUtf8 (take (valid_len_up_to bs n) bs) → IsUtf8 (take (if b then suc n else valid_len_up_to bs n) bs)
+    by_test : (b : Bool) → is_utf8 (take (suc n) bs) ≡ b → IsUtf8 (take (valid_len_up_to bs n) bs)
+        → IsUtf8 (take (if b then suc n else valid_len_up_to bs n) bs)
     by_test true e h = IsUtf8-from_is_utf8 (take (suc n) bs) e
     by_test false e h = h
 
@@ -59,7 +62,8 @@ take_len n l h = grind (arith, common_steps)
 
 take_past : (front rest : List ℕ) (n : ℕ) → take (length front + n) (front ++ rest) ≡ front ++ take n rest
 take_past [] rest n = ap (λ k. take k rest) (let e : length (let e : List ℕ = [] in e) + n ≡ n = omega arith in e)
-take_past (x ∷ xs) rest n = ap (λ k. take k (x ∷ xs ++ rest)) (let e : length (x ∷ xs) + n ≡ suc (length xs + n) = omega arith in e) ∙ ap (λ l. x ∷ l) (take_past xs rest n)
+take_past (x ∷ xs) rest n = ap (λ k. take k (x ∷ xs ++ rest)) (let e : length (x ∷ xs) + n ≡ suc (length xs + n) = omega arith in e)
+    ∙ ap (λ l. x ∷ l) (take_past xs rest n)
 
 pub drop_past : (front rest : List ℕ) (n : ℕ) → drop (length front + n) (front ++ rest) ≡ drop n rest
 drop_past [] rest n = ap (λ k. drop k rest) (let e : length (let e : List ℕ = [] in e) + n ≡ n = omega arith in e)
@@ -84,18 +88,24 @@ module _ (front more : List ℕ) (u : IsUtf8 front) where
           let e : m ≡ length front + n = omega (arith, h) in
           let full = front ++ take n more in
           let whole : IsUtf8 full = subst IsUtf8 (ap (λ j. take j (front ++ more)) e ∙ take_past front more n) v in
-          let seam = IsCharBoundary-from_take full (length front) whole (omega (arith, length-append front (take n more))) (subst IsUtf8 (sym (take_seam front (take n more))) u) in
+          let seam = IsCharBoundary-from_take full (length front) whole (omega (arith, length-append front (take n more)))
+          (subst IsUtf8 (sym (take_seam front (take n more))) u) in
           let tail = IsUtf8-drop full (length front) whole seam in
-          front_longest more n (omega (arith, h, e)) (omega (arith, k, e, length-append front more)) (subst IsUtf8 (behind_front front (take n more) (length front) refl) tail)
+          front_longest more n (omega (arith, h, e)) (omega (arith, k, e, length-append front more))
+          (subst IsUtf8 (behind_front front (take n more) (length front) refl) tail)
 
 -- the text of bytes with a piece behind them
 split : (bytes piece : List ℕ) → bytes ++ piece ≡ take (utf8_valid_len bytes) bytes ++ (drop (utf8_valid_len bytes) bytes ++ piece)
-split bytes piece = ap (λ l. l ++ piece) (sym (take-append-drop (utf8_valid_len bytes) bytes)) ∙ append_assoc (take (utf8_valid_len bytes) bytes) (drop (utf8_valid_len bytes) bytes) piece
+split bytes piece = ap (λ l. l ++ piece) (sym (take-append-drop (utf8_valid_len bytes) bytes))
+    ∙ append_assoc (take (utf8_valid_len bytes) bytes) (drop (utf8_valid_len bytes) bytes) piece
 
-valid_on : (bytes piece : List ℕ) → utf8_valid_len (bytes ++ piece) ≡ length (take (utf8_valid_len bytes) bytes) + utf8_valid_len (drop (utf8_valid_len bytes) bytes ++ piece)
-valid_on bytes piece = ap utf8_valid_len (split bytes piece) ∙ text_on (take (utf8_valid_len bytes) bytes) (drop (utf8_valid_len bytes) bytes ++ piece) (front_valid bytes)
+valid_on : (bytes piece : List ℕ)
+    → utf8_valid_len (bytes ++ piece) ≡ length (take (utf8_valid_len bytes) bytes) + utf8_valid_len (drop (utf8_valid_len bytes) bytes ++ piece)
+valid_on bytes piece = ap utf8_valid_len (split bytes piece)
+    ∙ text_on (take (utf8_valid_len bytes) bytes) (drop (utf8_valid_len bytes) bytes ++ piece) (front_valid bytes)
 
-pub pending_on : (bytes piece : List ℕ) → drop (utf8_valid_len (bytes ++ piece)) (bytes ++ piece) ≡ drop (utf8_valid_len (drop (utf8_valid_len bytes) bytes ++ piece)) (drop (utf8_valid_len bytes) bytes ++ piece)
+pub pending_on : (bytes piece : List ℕ) → drop (utf8_valid_len (bytes ++ piece)) (bytes ++ piece)
+    ≡ drop (utf8_valid_len (drop (utf8_valid_len bytes) bytes ++ piece)) (drop (utf8_valid_len bytes) bytes ++ piece)
 pending_on bytes piece =
     ap (λ n. drop n (bytes ++ piece)) (valid_on bytes piece)
     ∙ ap (drop (length (take (utf8_valid_len bytes) bytes) + utf8_valid_len (drop (utf8_valid_len bytes) bytes ++ piece))) (split bytes piece)
@@ -105,7 +115,8 @@ pub text_more : (bytes piece : List ℕ) → text_of (bytes ++ piece) ≡ text_o
 text_more bytes piece =
     let front = take (utf8_valid_len bytes) bytes in
     let rest = drop (utf8_valid_len bytes) bytes ++ piece in
-    ap chars (ap (λ n. take n (bytes ++ piece)) (valid_on bytes piece) ∙ ap (take (length front + utf8_valid_len rest)) (split bytes piece) ∙ take_past front rest (utf8_valid_len rest))
+    ap chars (ap (λ n. take n (bytes ++ piece)) (valid_on bytes piece) ∙ ap (take (length front + utf8_valid_len rest)) (split bytes piece)
+    ∙ take_past front rest (utf8_valid_len rest))
     ∙ chars-append front (take (utf8_valid_len rest) rest) (front_valid bytes)
 
 by_begun : (t c : List ℕ) → without_mark (t ++ c) ≡ without_mark t ++ (if not (is_empty t) then c else without_mark c)
@@ -122,7 +133,8 @@ empty_more begun [] [] e = rw e refl
 empty_more begun [] (y ∷ ys) e = rw e (let z : (length (y ∷ ys) == 0) ≡ false = grind (arith, nat_tests) in ap not z)
 
 -- a source that decodes a piece
-pub pushes : (old new : Source) (piece bytes text : List ℕ) → Decodes old bytes → text ≡ take (utf8_valid_len (pending_of old ++ piece)) (pending_of old ++ piece)
+pub pushes : (old new : Source) (piece bytes text : List ℕ) → Decodes old bytes
+    → text ≡ take (utf8_valid_len (pending_of old ++ piece)) (pending_of old ++ piece)
     → begun_of new ≡ (if begun_of old then true else not (length (chars text) == 0)) → pending_of new ≡ drop (length text) (pending_of old ++ piece)
     → is_bad_of new ≡ is_some (utf8_error_len (drop (utf8_valid_len (pending_of old ++ piece)) (pending_of old ++ piece)))
     → rest_of new ≡ rest_of old ++ (if begun_of old then chars text else without_mark (chars text))
@@ -131,17 +143,20 @@ pushes old new piece bytes text h t begun pending bad rest =
     let p = drop (utf8_valid_len bytes) bytes ++ piece in
     let same : pending_of old ++ piece ≡ p = ap (λ l. l ++ piece) h.pending in
     let c : chars text ≡ text_of p = ap chars (t ∙ ap (λ l. take (utf8_valid_len l) l) same) in
-    let len : length text ≡ utf8_valid_len p = (let k = utf8_valid_len_le p in ap length (t ∙ ap (λ l. take (utf8_valid_len l) l) same) ∙ take_len (utf8_valid_len p) p k) in
+    let len : length text ≡ utf8_valid_len p =
+    (let k = utf8_valid_len_le p in ap length (t ∙ ap (λ l. take (utf8_valid_len l) l) same) ∙ take_len (utf8_valid_len p) p k) in
     let all = text_more bytes piece in (
       record {
-        begun = begun ∙ empty_more (begun_of old) (text_of bytes) (chars text) h.begun ∙ ap (λ l. not (is_empty (text_of bytes ++ l))) c ∙ ap (λ l. not (is_empty l)) (sym all);
+        begun = begun ∙ empty_more (begun_of old) (text_of bytes) (chars text) h.begun ∙ ap (λ l. not (is_empty (text_of bytes ++ l))) c
+            ∙ ap (λ l. not (is_empty l)) (sym all);
         pending = pending ∙ ap (λ n. drop n (pending_of old ++ piece)) len ∙ ap (drop (utf8_valid_len p)) same ∙ sym (pending_on bytes piece);
         bad = bad ∙ ap (λ l. is_some (utf8_error_len (drop (utf8_valid_len l) l))) same ∙ ap (λ l. is_some (utf8_error_len l)) (sym (pending_on bytes piece));
       },
       (
         (if begun_of old then chars text else without_mark (chars text)),
         rest,
-        ap without_mark all ∙ by_begun (text_of bytes) (text_of p) ∙ ap (λ (b : Bool). content bytes ++ (if b then text_of p else without_mark (text_of p))) (sym h.begun)
+        ap without_mark all ∙ by_begun (text_of bytes) (text_of p)
+            ∙ ap (λ (b : Bool). content bytes ++ (if b then text_of p else without_mark (text_of p))) (sym h.begun)
             ∙ ap (λ l. content bytes ++ (if begun_of old then l else without_mark l)) (sym c),
       ),
     )

@@ -1,5 +1,6 @@
 -- The fields of a row as they are cut out of its bytes.
-use Rattle.std.specs.Prelude.{◌≡◌, ℕ, ◌+◌, ◌-◌, ◌<◌, ◌≤◌, true, false, List, ◌∷◌, ◌++◌, length, take, drop, map, Some, None, chars, encode_utf8_all, if◌then◌else◌, slice_index}
+use Rattle.std.specs.Prelude.{◌≡◌, ℕ, ◌+◌, ◌-◌, ◌<◌, ◌≤◌, true, false, List, ◌∷◌, ◌++◌, length, take, drop, map, Some, None, chars, encode_utf8_all}
+use Rattle.std.specs.Prelude.{if◌then◌else◌, slice_index}
 use Rattle.std.specs.Str.{is_utf8}
 use Rattle.memchr.specs.Find.{is_byte3}
 use Rattle.csvw_dialect.specs.declared.dialect.Dialect.{Dialect}

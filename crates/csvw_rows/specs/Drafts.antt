@@ -81,7 +81,8 @@ pub record IsBrokenOff (d : Dialect) (old new : Draft) (text : List ℕ) (stop :
 
 -- after a text
 abbrev pub Reads : Dialect → Draft → Draft → List ℕ → Reading → Type 0
-Reads d old new text reading.Unfinished = (read_of new ≡ read_of old + length text) × (runs_on d old (chars text) ≡ Unfinished (state_of new) (values_of new) (current_of new))
+Reads d old new text reading.Unfinished = (read_of new ≡ read_of old + length text)
+    × (runs_on d old (chars text) ≡ Unfinished (state_of new) (values_of new) (current_of new))
 Reads d old new text reading.Ended = (len : ℕ) × IsEnded d old new text len
 Reads d old new text (reading.Broken stop) = (len : ℕ) × IsBrokenOff d old new text stop len
 

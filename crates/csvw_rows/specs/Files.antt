@@ -1,5 +1,6 @@
 -- The rows of a text, and which of them a reader gives (RFC 4180, section 2; Model for Tabular Data, section 8).
-use Rattle.std.specs.Prelude.{◌≡◌, ◌≢◌, ◌⊎◌, ℕ, ◌+◌, ◌-◌, ◌<◌, ◌≤◌, Bool, true, false, ◌&&◌, ◌||◌, ◌==◌, nat_eq, nat_lt, if◌then◌else◌, IsTrue, List, [], ◌∷◌, ◌++◌, map, length, take, drop, filter_map, Option, Some, None, option_map, MatchBool, encode_utf8_all, chars}
+use Rattle.std.specs.Prelude.{◌≡◌, ◌≢◌, ◌⊎◌, ℕ, ◌+◌, ◌-◌, ◌<◌, ◌≤◌, Bool, true, false, ◌&&◌, ◌||◌, ◌==◌, nat_eq, nat_lt, if◌then◌else◌, IsTrue, List}
+use Rattle.std.specs.Prelude.{[], ◌∷◌, ◌++◌, map, length, take, drop, filter_map, Option, Some, None, option_map, MatchBool, encode_utf8_all, chars}
 use Rattle.std.specs.List.{starts_with, enumerate_from, list_all, All}
 use Rattle.std.specs.Str.Lossy.{utf8_valid_len}
 use Rattle.csvw_dialect.specs.declared.dialect.Dialect.{Dialect}
@@ -110,7 +111,8 @@ remaining_fields d source (Some fields) = if d.skip_blank_rows && list_all is_em
 
 -- what is given of the row at this place, from 0, among those that remain: the header rows come first
 abbrev pub given : Dialect → ℕ × (ℕ × List (List ℕ)) → Given
-given d (place, (source, fields)) = record { fields = map encode_utf8_all (drop d.skip_columns fields); source = source; number = (place + 1) - d.header_row_count }
+given d (place, (source, fields)) =
+    record { fields = map encode_utf8_all (drop d.skip_columns fields); source = source; number = (place + 1) - d.header_row_count }
 
 -- the rows that remain, with their source numbers, which go on from the first
 abbrev pub remaining : Dialect → ℕ → List Row → List (ℕ × List (List ℕ))

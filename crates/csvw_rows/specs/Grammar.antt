@@ -8,7 +8,8 @@ use Rattle.csvw_dialect.specs.declared.dialect.Trim.TheVariants.{No, Start, End,
 
 -- how many characters at the front of a text are a terminator: CR LF, or LF, where the dialect has it; 0 where none stands there
 abbrev pub terminator_len : Dialect → List ℕ → ℕ
-terminator_len d text = if d.line_terminators.crlf && starts_with nat_eq text (13 ∷ 10 ∷ []) then 2 else (if d.line_terminators.lf && starts_with nat_eq text (10 ∷ []) then 1 else 0)
+terminator_len d text = if d.line_terminators.crlf
+    && starts_with nat_eq text (13 ∷ 10 ∷ []) then 2 else (if d.line_terminators.lf && starts_with nat_eq text (10 ∷ []) then 1 else 0)
 
 -- Plain text, before what comes after it: at none of its places stands a delimiter, a quote or a terminator.
 abbrev pub IsPlain : Dialect → List ℕ → List ℕ → Type 0

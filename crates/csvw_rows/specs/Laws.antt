@@ -15,21 +15,25 @@ HaveOneList = (d : Dialect) (max : ℕ) (bytes : List ℕ) (rows others : List R
 
 -- the front of bytes that haven't ended begins the front of all that they go on to
 abbrev pub FrontsGrow : Type 0
-FrontsGrow = (d : Dialect) (max : ℕ) (bytes more : List ℕ) (ended : Bool) (front later : List Row) → IsLawful d → Front d max bytes false front → Front d max (bytes ++ more) ended later
+FrontsGrow = (d : Dialect) (max : ℕ) (bytes more : List ℕ) (ended : Bool) (front later : List Row) → IsLawful d → Front d max bytes false front
+    → Front d max (bytes ++ more) ended later
     → (rest : List Row) × (later ≡ front ++ rest)
 
 -- the place of a stop parts the fronts that begin a file from those that don't
 abbrev pub StopsPart : Type 0
-StopsPart = (d : Dialect) (max : ℕ) (text : List ℕ) (n : ℕ) → StopsAt d max text n → ((k : ℕ) → k < n → Begins d max (take k text)) × ((k : ℕ) → n ≤ k → Begins d max (take k text) → ⊥)
+StopsPart = (d : Dialect) (max : ℕ) (text : List ℕ) (n : ℕ) → StopsAt d max text n
+    → ((k : ℕ) → k < n → Begins d max (take k text)) × ((k : ℕ) → n ≤ k → Begins d max (take k text) → ⊥)
 
 -- each front has one list, of which those that were given are the first
 abbrev pub GivenBegin : Type 0
-GivenBegin = (s : Rows) (d : Dialect) (max : ℕ) (bytes : List ℕ) (ended : Bool) (given : List Given) (front : List Row) → Holds s d max bytes ended given → Front d max bytes ended front
+GivenBegin = (s : Rows) (d : Dialect) (max : ℕ) (bytes : List ℕ) (ended : Bool) (given : List Given) (front : List Row)
+    → Holds s d max bytes ended given → Front d max bytes ended front
     → (rest : List Given) × (Body d front ≡ given ++ rest)
 
 -- the same of all that bytes go on to which haven't ended
 abbrev pub GivenBeginLater : Type 0
-GivenBeginLater = (s : Rows) (d : Dialect) (max : ℕ) (bytes more : List ℕ) (ended : Bool) (given : List Given) (later : List Row) → Holds s d max bytes false given → Front d max (bytes ++ more) ended later
+GivenBeginLater = (s : Rows) (d : Dialect) (max : ℕ) (bytes more : List ℕ) (ended : Bool) (given : List Given) (later : List Row)
+    → Holds s d max bytes false given → Front d max (bytes ++ more) ended later
     → (rest : List Given) × (Body d later ≡ given ++ rest)
 
 -- these rows come first: the bytes begin with them, each with its terminator, or are a file of them
@@ -44,16 +48,19 @@ pub record AreFirst (d : Dialect) (max : ℕ) (bytes : List ℕ) (ended : Bool) 
 
 -- rows that come first begin the front
 abbrev pub FirstBegin : Type 0
-FirstBegin = (d : Dialect) (max : ℕ) (bytes : List ℕ) (ended : Bool) (rows front : List Row) → IsLawful d → ComeFirst d max bytes ended rows → Front d max bytes ended front
+FirstBegin = (d : Dialect) (max : ℕ) (bytes : List ℕ) (ended : Bool) (rows front : List Row) → IsLawful d → ComeFirst d max bytes ended rows
+    → Front d max bytes ended front
     → (rest : List Row) × (front ≡ rows ++ rest)
 
 -- what was given comes first
 abbrev pub GivenFirst : Type 0
-GivenFirst = (s : Rows) (d : Dialect) (max : ℕ) (bytes : List ℕ) (ended : Bool) (given : List Given) → Holds s d max bytes ended given → AreFirst d max bytes ended given
+GivenFirst = (s : Rows) (d : Dialect) (max : ℕ) (bytes : List ℕ) (ended : Bool) (given : List Given) → Holds s d max bytes ended given
+    → AreFirst d max bytes ended given
 
 -- the same of all that bytes go on to which haven't ended
 abbrev pub GivenFirstLater : Type 0
-GivenFirstLater = (s : Rows) (d : Dialect) (max : ℕ) (bytes more : List ℕ) (ended : Bool) (given : List Given) → Holds s d max bytes false given → AreFirst d max (bytes ++ more) ended given
+GivenFirstLater = (s : Rows) (d : Dialect) (max : ℕ) (bytes more : List ℕ) (ended : Bool) (given : List Given) → Holds s d max bytes false given
+    → AreFirst d max (bytes ++ more) ended given
 
 -- of nothing read nothing was given
 abbrev pub NothingGiven : Type 0
@@ -61,9 +68,11 @@ NothingGiven = (s : Rows) (d : Dialect) (max : ℕ) (given : List Given) → Hol
 
 -- rows that come first in bytes that haven't ended come first in all that they go on to
 abbrev pub FirstStay : Type 0
-FirstStay = (d : Dialect) (max : ℕ) (bytes more : List ℕ) (ended : Bool) (rows : List Row) → ComeFirst d max bytes false rows → ComeFirst d max (bytes ++ more) ended rows
+FirstStay = (d : Dialect) (max : ℕ) (bytes more : List ℕ) (ended : Bool) (rows : List Row) → ComeFirst d max bytes false rows
+    → ComeFirst d max (bytes ++ more) ended rows
 
 -- bytes that go on to a file, or are one, have no stop
 abbrev pub FilesHaveNoStop : Type 0
-FilesHaveNoStop = (d : Dialect) (max : ℕ) (bytes more : List ℕ) (ended : Bool) (rows : List Row) (stop : RowStop) (row : ℕ) → IsLawful d → (IsTrue ended → more ≡ [])
+FilesHaveNoStop = (d : Dialect) (max : ℕ) (bytes more : List ℕ) (ended : Bool) (rows : List Row) (stop : RowStop) (row : ℕ) → IsLawful d
+    → (IsTrue ended → more ≡ [])
     → File d max (bytes ++ more) rows → StopOf d max bytes ended stop row → ⊥

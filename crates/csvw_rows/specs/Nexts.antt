@@ -19,7 +19,8 @@ is_last NoText = false
 
 -- a row with its terminator, or the last one, which may lack it
 abbrev pub StandsThere : Bool → Dialect → ℕ → ℕ → List ℕ → ℕ → Row → Type 0
-StandsThere whole d max i text len row = ((rest : List ℕ) × (text ≡ row.text ++ rest) × IsRow d i row rest × (0 < terminator_len d rest) × (drop len text ≡ drop (terminator_len d rest) rest))
+StandsThere whole d max i text len row = ((rest : List ℕ) × (text ≡ row.text ++ rest) × IsRow d i row rest × (0 < terminator_len d rest)
+    × (drop len text ≡ drop (terminator_len d rest) rest))
     ⊎ ((whole ≡ true) × (text ≡ row.text) × IsRow d i row [] × (drop len text ≡ []) × Goes d max i text)
 
 pub record TakesRow (whole : Bool) (d : Dialect) (max i : ℕ) (text : List ℕ) (len : ℕ) (fields : Option (List (List ℕ))) : Type 0 where
@@ -36,7 +37,8 @@ pub record StopsHere (whole : Bool) (d : Dialect) (max i : ℕ) (text : List ℕ
   pub some : text ≢ []
   pub no_row : NoRow d max i text
   pub no_last : whole ≡ true → NoLast d max i text
-  pub stands : ((f : FirstEnd d max i text (length text)) × IsNamed d max i (take f.at text) false stop) ⊎ ((whole ≡ true) × Goes d max i text × IsNamed d max i text true stop)
+  pub stands : ((f : FirstEnd d max i text (length text)) × IsNamed d max i (take f.at text) false stop) ⊎
+      ((whole ≡ true) × Goes d max i text × IsNamed d max i text true stop)
 
 abbrev pub StopGives : After → Dialect → ℕ → ℕ → List ℕ → RowStop → Type 0
 StopGives after d max i text Memory = Unit {0}

@@ -17,7 +17,8 @@ pub record Continues (d : Dialect) (i : ℕ) (part : List ℕ) (len : ℕ) : Typ
   pub spelled : part ++ more ≡ row.text ++ terminator_of d
   pub is_row : IsRow d i row (terminator_of d)
   pub fits : take (length part) row.text ≡ take len part
-  pub sure : (other : Row) (rest after : List ℕ) → part ++ rest ≡ other.text ++ after → IsRow d i other after → 0 < terminator_len d after → len ≤ length other.text
+  pub sure : (other : Row) (rest after : List ℕ) → part ++ rest ≡ other.text ++ after → IsRow d i other after → 0 < terminator_len d after
+      → len ≤ length other.text
   pub incomplete : next_row false d i part ≡ None
 
 -- a rule on quotes is broken in the part, whatever follows

@@ -11,9 +11,12 @@ use mathlib.Core.Option.{none}
 
 -- the row is given; or all were, no stop stands, an ended text is a file, and the row that is being read is known; or the stop stands behind all rows
 abbrev pub Reads : Rows → Rows → Result (Option RawRow) RowStop → Type 0
-Reads old new (Ok (Some row)) = (is_ended_of new ≡ is_ended_of old) × (unread new < unread old) × Gives old new (row_of row) × (stop_of old ≡ None) × (stop_of new ≡ None)
-Reads old new (Ok None) = (is_ended_of new ≡ is_ended_of old) × Stays old new × IsDone old × (stop_of old ≡ None) × (stop_of new ≡ None) × IsReading old (reading_of new)
-Reads old new (Err e) = (is_ended_of new ≡ is_ended_of old) × IsStopped old e (reading_of new) × (stop_of new ≡ Some e) × ((stop : RowStop) → stop_of old ≡ Some stop → stop ≡ e)
+Reads old new (Ok (Some row)) = (is_ended_of new ≡ is_ended_of old) × (unread new < unread old) × Gives old new (row_of row) × (stop_of old ≡ None)
+    × (stop_of new ≡ None)
+Reads old new (Ok None) = (is_ended_of new ≡ is_ended_of old) × Stays old new × IsDone old × (stop_of old ≡ None) × (stop_of new ≡ None)
+    × IsReading old (reading_of new)
+Reads old new (Err e) = (is_ended_of new ≡ is_ended_of old) × IsStopped old e (reading_of new) × (stop_of new ≡ Some e)
+    × ((stop : RowStop) → stop_of old ≡ Some stop → stop ≡ e)
 
 abbrev pub RestsAdvanced : MutBor Rows → Result (Option RawRow) RowStop → Fml
 RestsAdvanced s r = follows_so the_row the_row s.ghost_name none (λ _ _. ⊤) (λ v. Reads s.now v r)

@@ -1,5 +1,6 @@
 -- What a reader of rows stands for: all bytes so far, whether they ended, and the rows given.
-use Rattle.std.specs.Prelude.{◌≡◌, ◌≢◌, ◌⊎◌, ℕ, ◌+◌, ◌-◌, ◌<◌, ◌≤◌, Bool, true, false, not, ◌&&◌, ◌||◌, ◌==◌, if◌then◌else◌, List, [], ◌∷◌, ◌++◌, take, drop, length, map, chars, encode_utf8_all, Option, Some, None, Result, Ok, Err}
+use Rattle.std.specs.Prelude.{◌≡◌, ◌≢◌, ◌⊎◌, ℕ, ◌+◌, ◌-◌, ◌<◌, ◌≤◌, Bool, true, false, not, ◌&&◌, ◌||◌, ◌==◌, if◌then◌else◌, List, [], ◌∷◌, ◌++◌}
+use Rattle.std.specs.Prelude.{take, drop, length, map, chars, encode_utf8_all, Option, Some, None, Result, Ok, Err}
 use Rattle.csvw_dialect.specs.declared.dialect.Dialect.{Dialect}
 use Rattle.csvw_rows.specs.declared.rows.Rows.{Rows}
 use Rattle.csvw_rows.specs.declared.stop.RowStop.{RowStop}
@@ -85,11 +86,13 @@ NoStop d max bytes ended = (stop : RowStop) (row : ℕ) → StopOf d max bytes e
 
 -- what it stands for where nothing changes
 abbrev pub Stays : Rows → Rows → Type 0
-Stays old new = (d : Dialect) (max : ℕ) (bytes : List ℕ) (ended : Bool) (given : List Given) → Holds old d max bytes ended given → Holds new d max bytes ended given
+Stays old new = (d : Dialect) (max : ℕ) (bytes : List ℕ) (ended : Bool) (given : List Given) → Holds old d max bytes ended given
+    → Holds new d max bytes ended given
 
 -- one more row is given
 abbrev pub Gives : Rows → Rows → Given → Type 0
-Gives old new row = (d : Dialect) (max : ℕ) (bytes : List ℕ) (ended : Bool) (given : List Given) → Holds old d max bytes ended given → Holds new d max bytes ended (given ++ row ∷ [])
+Gives old new row = (d : Dialect) (max : ℕ) (bytes : List ℕ) (ended : Bool) (given : List Given) → Holds old d max bytes ended given
+    → Holds new d max bytes ended (given ++ row ∷ [])
 
 -- all rows were given, no stop stands, and at the end the bytes are a file
 abbrev pub IsDone : Rows → Type 0
@@ -113,7 +116,8 @@ KeepsStop old new (Err e) = (stop_of new ≡ Some e) × ((stop : RowStop) → st
 
 -- after a call that takes some more bytes
 abbrev pub Feeds : Rows → Rows → List ℕ → Result Unit RowStop → Type 0
-Feeds old new piece (Ok x) = (d : Dialect) (max : ℕ) (bytes : List ℕ) (given : List Given) → Holds old d max bytes false given → Holds new d max (bytes ++ piece) false given
+Feeds old new piece (Ok x) = (d : Dialect) (max : ℕ) (bytes : List ℕ) (given : List Given) → Holds old d max bytes false given
+    → Holds new d max (bytes ++ piece) false given
 Feeds old new piece (Err e) = (stop_of old ≡ Some e) ⊎ (e ≡ Memory)
 
 -- after a call that ends the text
@@ -197,7 +201,8 @@ pub record IsWrongRow (s : Rows) (len : ℕ) (stop : RowStop) : Type 0 where
 
 -- no row is complete at the front, and what is there may go on to one
 abbrev pub WaitsThere : Rows → Type 0
-WaitsThere s = Goes s.rules.dialect s.max_rows s.row (rest_of s.source) × NoRow s.rules.dialect s.max_rows s.row (rest_of s.source) × (after_of s ≡ Nothing → rest_of s.source ≡ [])
+WaitsThere s = Goes s.rules.dialect s.max_rows s.row (rest_of s.source) × NoRow s.rules.dialect s.max_rows s.row (rest_of s.source)
+    × (after_of s ≡ Nothing → rest_of s.source ≡ [])
 
 -- no row is complete at the front, and so many bytes are sure to be the next one's
 pub record IsOpenFront (s : Rows) (len : ℕ) : Type 0 where

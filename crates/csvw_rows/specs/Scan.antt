@@ -14,11 +14,13 @@ quote_is None c = false
 quote_is (Some q) c = c == q
 
 abbrev pub step_of : Dialect → State → ℕ → Bool → Step
-step_of d Start c ends = if ends then End else (if c == d.delimiter then Next else (if quote_is d.quote_char c then Open else (if d.skip_initial_space && (c == 32) then Keep Start else Keep Plain)))
+step_of d Start c ends = if ends then End else (if c == d.delimiter then Next else (if quote_is d.quote_char
+    c then Open else (if d.skip_initial_space && (c == 32) then Keep Start else Keep Plain)))
 step_of d Plain c ends = if ends then End else (if c == d.delimiter then Next else (if quote_is d.quote_char c then Stop BadQuote else Keep Plain))
 step_of d Inside c ends = if quote_is d.quote_char c then Skip Closed else (if not d.double_quote && (c == 92) then Skip Escaped else Keep Inside)
 step_of d Escaped c ends = Keep Inside
-step_of d Closed c ends = if ends then End else (if c == d.delimiter then Next else (if d.double_quote && quote_is d.quote_char c then Keep Inside else Stop TextAfterQuote))
+step_of d Closed c ends = if ends then End else (if
+    c == d.delimiter then Next else (if d.double_quote && quote_is d.quote_char c then Keep Inside else Stop TextAfterQuote))
 
 -- what a pass gives: the values of the fields and what comes after the row, a broken rule and the text from the character on that breaks it,
 -- or where in a field the text ended

@@ -13,7 +13,8 @@ use Rattle.csvw_rows.specs.Lengths.{byte_len, row_limit}
 abbrev pub AreRowsWithin : Dialect → ℕ → ℕ → List ℕ → List Row → Type 0
 AreRowsWithin d i n text [] = text ≡ []
 AreRowsWithin d i n text (row ∷ rows) = (after : List ℕ) × (text ≡ row.text ++ after) × IsRow d i row after × (0 < terminator_len d after)
-    × (byte_len (take n row.text) ≤ row_limit) × AreRowsWithin d (i + 1) (n - (length row.text + terminator_len d after)) (drop (terminator_len d after) after) rows
+    × (byte_len (take n row.text) ≤ row_limit)
+    × AreRowsWithin d (i + 1) (n - (length row.text + terminator_len d after)) (drop (terminator_len d after) after) rows
 
 -- the text begins a file: with more behind it, it is rows. What is behind it doesn't count towards the length of a row.
 pub record Begins (d : Dialect) (max : ℕ) (text : List ℕ) : Type 0 where
@@ -31,7 +32,8 @@ pub record StopsAt (d : Dialect) (max : ℕ) (text : List ℕ) (n : ℕ) : Type 
 -- text is fields of these values, each with a delimiter behind it, and then rest
 abbrev pub AfterFields : Dialect → List ℕ → List (List ℕ) → List ℕ → Type 0
 AfterFields d text [] rest = text ≡ rest
-AfterFields d text (v ∷ vs) rest = (source more : List ℕ) × (text ≡ source ++ d.delimiter ∷ more) × IsField d source v (d.delimiter ∷ more) × AfterFields d more vs rest
+AfterFields d text (v ∷ vs) rest = (source more : List ℕ) × (text ≡ source ++ d.delimiter ∷ more) × IsField d source v (d.delimiter ∷ more)
+    × AfterFields d more vs rest
 
 -- a quote stands in a field that isn't quoted
 pub record HasBadQuote (d : Dialect) (part : List ℕ) : Type 0 where

@@ -22,16 +22,19 @@ use Rattle.csvw_session.proofs.Standing.{stands_on, same_faults, faults_more}
 use Rattle.csvw_session.proofs.Texts.{fed_same, fed_other, fed_ended, end_text, end_same, end_other}
 
 -- a table whose text hasn't ended
-pub is_going : (plan : TablePlan) (mode : Mode) (t : Table) (bytes : List ℕ) (ended : Bool) (rows : List Row) → Told plan mode t bytes ended rows → is_ended t ≡ false
+pub is_going : (plan : TablePlan) (mode : Mode) (t : Table) (bytes : List ℕ) (ended : Bool) (rows : List Row) → Told plan mode t bytes ended rows
+    → is_ended t ≡ false
     → (ended ≡ false) × IsOpenTable plan mode t bytes rows
 is_going plan mode t bytes false rows h e = (refl, h.stands)
 is_going plan mode t bytes true rows h e = let wrong : true ≡ false = sym h.stands.ended ∙ e in cc
 
-none_of : (plan : TablePlan) (mode : Mode) (t : Table) (bytes : List ℕ) (given : List Given) (rows : List Row) → TableHolds plan mode t bytes false given rows → columns_of t ≡ None → rows ≡ []
+none_of : (plan : TablePlan) (mode : Mode) (t : Table) (bytes : List ℕ) (given : List Given) (rows : List Row)
+    → TableHolds plan mode t bytes false given rows → columns_of t ≡ None → rows ≡ []
 none_of plan mode t bytes given rows h e = subst (λ z. HasRows plan z given rows) e h.has
 
 -- the faults of rows more
-faults_on : (plan : TablePlan) (t u : Table) (rows more : List Row) → KeepsColumns t u → (columns_of t ≡ None → rows ≡ []) → faults_of t ≡ table_faults plan.number (columns_of t) rows
+faults_on : (plan : TablePlan) (t u : Table) (rows more : List Row) → KeepsColumns t u → (columns_of t ≡ None → rows ≡ [])
+    → faults_of t ≡ table_faults plan.number (columns_of t) rows
     → faults_of u ≡ faults_of t ++ table_faults plan.number (columns_of u) more → faults_of u ≡ table_faults plan.number (columns_of u) (rows ++ more)
 faults_on plan t u rows more keeps none before told =
     told
@@ -40,7 +43,8 @@ faults_on plan t u rows more keeps none before told =
 
 module _ {S : Type 0} (gains : S → List Triple → S → Type 0) (is_open : S → Bool) (failed : S → ℕ)
     (goes_on : (a b c : S) (xs ys : List Triple) → gains a xs b → gains b ys c → gains a (xs ++ ys) c)
-    (old new : Session S) (i : ℕ) (plan : TablePlan) (t u : Table) (is_at : IsTableAt old i plan t) (below : i < length old.tables.items) (going : is_ended t ≡ false)
+    (old new : Session S) (i : ℕ) (plan : TablePlan) (t u : Table) (is_at : IsTableAt old i plan t) (below : i < length old.tables.items)
+    (going : is_ended t ≡ false)
     (plans : new.plan.tables ≡ old.plan.tables) (mode_is : new.mode ≡ old.mode) (tables : new.tables.items ≡ slice_set old.tables.items i u) where
   -- the text of the table so far
   here : (start : S) (events : List Event) → (h : Stands gains is_open failed start events old)
@@ -51,7 +55,8 @@ module _ {S : Type 0} (gains : S → List Triple → S → Type 0) (is_open : S 
   pub fed : (piece : List ℕ) → new.state ≡ state.Open
       → ((bytes : List ℕ) (given : List Given) (rows : List Row) → TableHolds plan old.mode t bytes false given rows
       → TableOutcome gains is_open failed plan old.mode (bytes ++ piece) false given rows t u (outlets old.sink old.keys) (outlets new.sink new.keys) (Ok tt))
-      → (start : S) (events : List Event) → Stands gains is_open failed start events old → Stands gains is_open failed start (events ++ Feed (i + 1) piece ∷ []) new
+      → (start : S) (events : List Event) → Stands gains is_open failed start events old
+      → Stands gains is_open failed start (events ++ Feed (i + 1) piece ∷ []) new
   fed piece state_is feeds start events h =
       let k = here start events h in
       let bytes : List ℕ = text_of events (i + 1) in
@@ -91,7 +96,8 @@ module _ {S : Type 0} (gains : S → List Triple → S → Type 0) (is_open : S 
   -- a piece was not taken in full
   pub unfed : (piece : List ℕ) (reason : Halt) → new.state ≡ state.Failed
       → ((bytes : List ℕ) (given : List Given) (rows : List Row) → TableHolds plan old.mode t bytes false given rows
-      → TableOutcome gains is_open failed plan old.mode (bytes ++ piece) false given rows t u (outlets old.sink old.keys) (outlets new.sink new.keys) (Err reason))
+      → TableOutcome gains is_open failed plan old.mode (bytes ++ piece) false given rows t u (outlets old.sink old.keys) (outlets new.sink new.keys)
+      (Err reason))
       → Takes gains is_open failed old new (i + 1) (Feed (i + 1) piece) (Err (stop_of (i + 1) reason))
   unfed piece halt.Memory state_is feeds = (
     state_is,
@@ -155,8 +161,17 @@ module _ {S : Type 0} (gains : S → List Triple → S → Type 0) (is_open : S 
         let k = here start events h in
         let bytes : List ℕ = text_of events (i + 1) in
         let all = feeds bytes k.1.given (h.rows i) k.1.holds in
-        let front : GivesFront gains plan old.mode (bytes ++ piece) false k.1.given (h.rows i) old.sink new.sink (λ columns rows. IsRefusedHere plan columns (bytes ++ piece) false rows row stop) =
-        record { raws = all.0.raws; more = all.0.more; columns = all.0.columns; faults = all.0.faults; table = all.0.table; why = inl all.0.why; took = all.0.took } in (
+        let front : GivesFront gains plan old.mode (bytes ++ piece) false k.1.given (h.rows i) old.sink new.sink
+        (λ columns rows. IsRefusedHere plan columns (bytes ++ piece) false rows row stop) =
+        record {
+          raws = all.0.raws;
+          more = all.0.more;
+          columns = all.0.columns;
+          faults = all.0.faults;
+          table = all.0.table;
+          why = inl all.0.why;
+          took = all.0.took;
+        } in (
           record {
             i = i;
             number = refl;
@@ -238,8 +253,17 @@ module _ {S : Type 0} (gains : S → List Triple → S → Type 0) (is_open : S 
         let k = here start events h in
         let bytes : List ℕ = text_of events (i + 1) in
         let all = ends bytes k.1.given (h.rows i) k.1.holds in
-        let front : GivesFront gains plan old.mode bytes true k.1.given (h.rows i) old.sink new.sink (λ columns rows. IsRefusedHere plan columns bytes true rows row stop) =
-        record { raws = all.0.raws; more = all.0.more; columns = all.0.columns; faults = all.0.faults; table = all.0.table; why = inr (refl, all.0.why); took = all.0.took } in (
+        let front : GivesFront gains plan old.mode bytes true k.1.given (h.rows i) old.sink new.sink
+        (λ columns rows. IsRefusedHere plan columns bytes true rows row stop) =
+        record {
+          raws = all.0.raws;
+          more = all.0.more;
+          columns = all.0.columns;
+          faults = all.0.faults;
+          table = all.0.table;
+          why = inr (refl, all.0.why);
+          took = all.0.took;
+        } in (
           record {
             i = i;
             number = refl;
@@ -259,7 +283,8 @@ module _ {S : Type 0} (gains : S → List Triple → S → Type 0) (is_open : S 
       → ((bytes : List ℕ) (given : List Given) (rows : List Row) → TableHolds plan old.mode t bytes false given rows
       → TableOutcome gains is_open failed plan old.mode (bytes ++ piece) false given rows t u (outlets old.sink old.keys) (outlets new.sink new.keys) (Ok tt))
       → (start : S) (events : List Event) → Stands gains is_open failed start events old → Stands gains is_open failed start (events ++ Feed n piece ∷ []) new
-  fed_at n e piece state_is feeds start events h = subst (λ m. Stands gains is_open failed start (events ++ Feed m piece ∷ []) new) e (fed piece state_is feeds start events h)
+  fed_at n e piece state_is feeds start events h =
+      subst (λ m. Stands gains is_open failed start (events ++ Feed m piece ∷ []) new) e (fed piece state_is feeds start events h)
 
   pub ended_at : (n : ℕ) → i + 1 ≡ n → new.state ≡ state.Open
       → ((bytes : List ℕ) (given : List Given) (rows : List Row) → TableHolds plan old.mode t bytes false given rows
@@ -269,7 +294,8 @@ module _ {S : Type 0} (gains : S → List Triple → S → Type 0) (is_open : S 
 
   pub unfed_at : (n : ℕ) → i + 1 ≡ n → (piece : List ℕ) (reason : Halt) (told : Stop) → told ≡ stop_of n reason → new.state ≡ state.Failed
       → ((bytes : List ℕ) (given : List Given) (rows : List Row) → TableHolds plan old.mode t bytes false given rows
-      → TableOutcome gains is_open failed plan old.mode (bytes ++ piece) false given rows t u (outlets old.sink old.keys) (outlets new.sink new.keys) (Err reason))
+      → TableOutcome gains is_open failed plan old.mode (bytes ++ piece) false given rows t u (outlets old.sink old.keys) (outlets new.sink new.keys)
+      (Err reason))
       → Takes gains is_open failed old new n (Feed n piece) (Err told)
   unfed_at n e piece reason told f state_is feeds =
       subst (λ z. Takes gains is_open failed old new n (Feed n piece) (Err z)) (sym f)

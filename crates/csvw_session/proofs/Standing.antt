@@ -1,5 +1,6 @@
 -- How a session goes on by an event of one of its tables.
-use Rattle.std.proofs.Common.{◌≡◌, ◌≢◌, ◌⊎◌, ◌<◌, ◌≤◌, ◌+◌, ℕ, zero, suc, Bool, true, false, List, [], ◌++◌, refl, sym, ap, ◌∙◌, subst, arith, add-one, length, inl, inr, Option, Some, None}
+use Rattle.std.proofs.Common.{◌≡◌, ◌≢◌, ◌⊎◌, ◌<◌, ◌≤◌, ◌+◌, ℕ, zero, suc, Bool, true, false, List, [], ◌++◌, refl, sym, ap, ◌∙◌, subst, arith}
+use Rattle.std.proofs.Common.{add-one, length, inl, inr, Option, Some, None}
 use Rattle.std.specs.Prelude.{slice_get, slice_set, Contains, if◌then◌else◌, nat_eq, flat_map, ◌==◌}
 use Rattle.std.proofs.lemmas.Bool.{eq-eqb, eqb-true}
 use Rattle.std.proofs.lemmas.Bool.Decides.{eqb_tells}
@@ -39,7 +40,8 @@ pub no_triples : (mode : Mode) (t : ℕ) (columns : Option Columns) → table_tr
 no_triples mode t None = refl
 no_triples mode t (Some columns) = refl
 
-pub triples_more : (mode : Mode) (t : ℕ) (columns : Option Columns) (rows more : List Row) → table_triples mode t columns (rows ++ more) ≡ table_triples mode t columns rows ++ table_triples mode t columns more
+pub triples_more : (mode : Mode) (t : ℕ) (columns : Option Columns) (rows more : List Row)
+    → table_triples mode t columns (rows ++ more) ≡ table_triples mode t columns rows ++ table_triples mode t columns more
 triples_more mode t None rows more = refl
 triples_more mode t (Some columns) rows more = flat_map-append (row_triples mode t columns) rows more
 
@@ -47,16 +49,19 @@ pub no_faults : (t : ℕ) (columns : Option Columns) → table_faults t columns 
 no_faults t None = refl
 no_faults t (Some columns) = refl
 
-pub faults_more : (t : ℕ) (columns : Option Columns) (rows more : List Row) → table_faults t columns (rows ++ more) ≡ table_faults t columns rows ++ table_faults t columns more
+pub faults_more : (t : ℕ) (columns : Option Columns) (rows more : List Row)
+    → table_faults t columns (rows ++ more) ≡ table_faults t columns rows ++ table_faults t columns more
 faults_more t None rows more = refl
 faults_more t (Some columns) rows more = flat_map-append (row_faults t columns.columns) rows more
 
-pub same_triples : (mode : Mode) (t : ℕ) (old new : Option Columns) (rows : List Row) → ((columns : Columns) → old ≡ Some columns → new ≡ Some columns) → (old ≡ None → rows ≡ [])
+pub same_triples : (mode : Mode) (t : ℕ) (old new : Option Columns) (rows : List Row)
+    → ((columns : Columns) → old ≡ Some columns → new ≡ Some columns) → (old ≡ None → rows ≡ [])
     → table_triples mode t new rows ≡ table_triples mode t old rows
 same_triples mode t None new rows stay none = ap (table_triples mode t new) (none refl) ∙ no_triples mode t new
 same_triples mode t (Some columns) new rows stay none = ap (λ z. table_triples mode t z rows) (stay columns refl)
 
-pub same_faults : (t : ℕ) (old new : Option Columns) (rows : List Row) → ((columns : Columns) → old ≡ Some columns → new ≡ Some columns) → (old ≡ None → rows ≡ [])
+pub same_faults : (t : ℕ) (old new : Option Columns) (rows : List Row) → ((columns : Columns) → old ≡ Some columns → new ≡ Some columns)
+    → (old ≡ None → rows ≡ [])
     → table_faults t new rows ≡ table_faults t old rows
 same_faults t None new rows stay none = ap (table_faults t new) (none refl) ∙ no_faults t new
 same_faults t (Some columns) new rows stay none = ap (λ z. table_faults t z rows) (stay columns refl)
@@ -122,7 +127,8 @@ module _ {S : Type 0} (gains : S → List Triple → S → Type 0) (is_open : S 
   other_number j ne e = ne (omega arith)
 
   -- each table
-  at_table : (j : ℕ) (plan' : TablePlan) (u' : Table) → (j ≡ i) ⊎ (j ≢ i) → IsTableAt new j plan' u' → Told plan' new.mode u' (text_of events (j + 1)) (ended_in events (j + 1)) (rows j)
+  at_table : (j : ℕ) (plan' : TablePlan) (u' : Table) → (j ≡ i) ⊎ (j ≢ i) → IsTableAt new j plan' u'
+      → Told plan' new.mode u' (text_of events (j + 1)) (ended_in events (j + 1)) (rows j)
   at_table j plan' u' (inl e) h =
       let here : IsTableAt new i plan' u' = subst (λ k. IsTableAt new k plan' u') e h in
       subst (λ k. Told plan' new.mode u' (text_of events (k + 1)) (ended_in events (k + 1)) (rows k)) (sym e)
@@ -164,12 +170,25 @@ module _ {S : Type 0} (gains : S → List Triple → S → Type 0) (is_open : S 
       let k : Contains (table_triples old.mode plan.number (columns_of t) (stands.rows i)) x =
       subst (λ z. Contains (table_triples old.mode plan.number (columns_of z) (stands.rows i)) x) same_table
       (subst (λ (z : TablePlan). Contains (table_triples old.mode z.number (columns_of u') (stands.rows i)) x) same_plan
-      (subst (λ l. Contains (table_triples old.mode plan'.number (columns_of u') (stands.rows l)) x) e c)) in
-      (i, plan, u, new_at, subst (λ ts. Contains ts x) (sym all_triples) (Contains-append_left (table_triples old.mode plan.number (columns_of t) (stands.rows i)) more_triples x k))
+      (subst (λ l. Contains (table_triples old.mode plan'.number (columns_of u') (stands.rows l)) x) e c)) in (
+        i,
+        plan,
+        u,
+        new_at,
+        subst (λ ts. Contains ts x) (sym all_triples)
+            (Contains-append_left (table_triples old.mode plan.number (columns_of t) (stands.rows i)) more_triples x k),
+      )
   stays_in x j plan' u' (inr ne) h c = (j, plan', u', still_at j plan' u' ne h, subst (λ ts. Contains ts x) (sym (other_triples j plan' u' ne)) c)
 
   comes_in : (x : Triple) → Contains more_triples x → RowsGraph new rows x
-  comes_in x c = (i, plan, u, new_at, subst (λ ts. Contains ts x) (sym all_triples) (Contains-append_right (table_triples old.mode plan.number (columns_of t) (stands.rows i)) more_triples x c))
+  comes_in x c = (
+    i,
+    plan,
+    u,
+    new_at,
+    subst (λ ts. Contains ts x) (sym all_triples)
+        (Contains-append_right (table_triples old.mode plan.number (columns_of t) (stands.rows i)) more_triples x c),
+  )
 
   -- what is in the graph was taken
   taken_of : (x : Triple) (j : ℕ) (plan' : TablePlan) (u' : Table) → (j ≡ i) ⊎ (j ≢ i) → IsTableAt new j plan' u'
@@ -180,9 +199,11 @@ module _ {S : Type 0} (gains : S → List Triple → S → Type 0) (is_open : S 
       subst (λ z. Contains (table_triples new.mode plan.number (columns_of z) (rows i)) x) (the_table u' here.1)
       (subst (λ (z : TablePlan). Contains (table_triples new.mode z.number (columns_of u') (rows i)) x) (the_plan plan' here.0)
       (subst (λ l. Contains (table_triples new.mode plan'.number (columns_of u') (rows l)) x) e c)) in
-      parted x (Contains-append_cases (table_triples old.mode plan.number (columns_of t) (stands.rows i)) more_triples x (subst (λ ts. Contains ts x) all_triples k))
+      parted x (Contains-append_cases (table_triples old.mode plan.number (columns_of t) (stands.rows i)) more_triples x
+      (subst (λ ts. Contains ts x) all_triples k))
     where
-      parted : (y : Triple) → Contains (table_triples old.mode plan.number (columns_of t) (stands.rows i)) y ⊎ Contains more_triples y → Contains (stands.took.taken ++ more_triples) y
+      parted : (y : Triple) → Contains (table_triples old.mode plan.number (columns_of t) (stands.rows i)) y ⊎ Contains more_triples y
+          → Contains (stands.took.taken ++ more_triples) y
       parted y (inl a) = Contains-append_left stands.took.taken more_triples y (stands.took.whole y (i, plan, t, is_at, a))
       parted y (inr b) = Contains-append_right stands.took.taken more_triples y b
   taken_of x j plan' u' (inr ne) h c =
@@ -212,7 +233,8 @@ module _ {S : Type 0} (gains : S → List Triple → S → Type 0) (is_open : S 
       (subst (λ n. KeepsKeys new.keys (rules_of old.plan) (with_rows (by_number stands.rows) n more)) number keeps_more))
 
   -- the session stands for one event more
-  pub stands_on : new.state ≡ state.Open → gains old.sink more_triples new.sink → IsAsReady is_open failed old.sink new.sink → Stands gains is_open failed start events new
+  pub stands_on : new.state ≡ state.Open → gains old.sink more_triples new.sink → IsAsReady is_open failed old.sink new.sink
+      → Stands gains is_open failed start events new
   stands_on state_is gained ready = record {
     rows = rows;
     tables = λ j plan' u' h. at_table j plan' u' (same_place j i) h;

@@ -22,7 +22,8 @@ use Rattle.csvw_session.specs.declared.state.State.TheVariants as state
 use Rattle.csvw_session.specs.declared.stop.Stop.TheVariants as stop
 use Rattle.csvw_session.proofs.Standing.{no_triples, no_faults}
 
-pub one_more_new : (mode : Mode) (plans : List TablePlan) (tables : List Table) (plan : TablePlan) (t : Table) → AreNew mode plans tables → IsNewTable plan mode t → AreNew mode (plans ++ plan ∷ []) (tables ++ t ∷ [])
+pub one_more_new : (mode : Mode) (plans : List TablePlan) (tables : List Table) (plan : TablePlan) (t : Table) → AreNew mode plans tables
+    → IsNewTable plan mode t → AreNew mode (plans ++ plan ∷ []) (tables ++ t ∷ [])
 one_more_new mode [] [] plan t h is = (is, tt)
 one_more_new mode [] (u ∷ tables) plan t h is = absurd h
 one_more_new mode (p ∷ plans) [] plan t h is = absurd h
@@ -40,7 +41,8 @@ same_item x y e = cc
 no_item : {X : Type 0} (x : X) → None ≡ Some x → ⊥
 no_item x e = cc
 
-new_at : (mode : Mode) (plans : List TablePlan) (tables : List Table) (i : ℕ) (plan : TablePlan) (t : Table) → AreNew mode plans tables → slice_get plans i ≡ Some plan → slice_get tables i ≡ Some t → IsNewTable plan mode t
+new_at : (mode : Mode) (plans : List TablePlan) (tables : List Table) (i : ℕ) (plan : TablePlan) (t : Table) → AreNew mode plans tables
+    → slice_get plans i ≡ Some plan → slice_get tables i ≡ Some t → IsNewTable plan mode t
 new_at mode [] tables i plan t h e f = absurd (no_item plan e)
 new_at mode (p ∷ plans) [] i plan t h e f = absurd h
 new_at mode (p ∷ plans) (u ∷ tables) zero plan t h e f =
@@ -86,7 +88,8 @@ module _ {S : Type 0} (gains : S → List Triple → S → Type 0) (is_open : S 
   never_open : (sink : S) → is_open sink ≡ false → is_open sink ≡ true → ⊥
   never_open sink e f = let wrong : false ≡ true = sym e ∙ f in cc
 
-  pub refused_by : (sink now : S) (f : SinkFault) → FrontOf gains sink (opening mode plan) now → Ends is_open failed sink now (Err f) → Refuses gains is_open failed plan mode sink now (stop_of_fault f)
+  pub refused_by : (sink now : S) (f : SinkFault) → FrontOf gains sink (opening mode plan) now → Ends is_open failed sink now (Err f)
+      → Refuses gains is_open failed plan mode sink now (stop_of_fault f)
   refused_by sink now fault.Memory front ends = (front, ends)
   refused_by sink now fault.Device front ends = (front, λ begun room. ends room)
   refused_by sink now fault.Closed front ends = (front, λ begun room. absurd (never_open sink ends begun))

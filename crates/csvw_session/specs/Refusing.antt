@@ -11,7 +11,8 @@ use Rattle.csvw_session.specs.declared.stop.Stop.TheVariants as stop
 -- Why a session does not start, and what its sink took by then: a front of what is told of the group.
 abbrev pub Refuses : {S : Type 0} → (S → List Triple → S → Type 0) → (S → Bool) → (S → ℕ) → Plan → Mode → S → S → Stop → Type 0
 Refuses gains is_open failed plan mode sink now stop.Memory = FrontOf gains sink (opening mode plan) now × IsAsReady is_open failed sink now
-Refuses gains is_open failed plan mode sink now stop.Write = FrontOf gains sink (opening mode plan) now × (is_open sink ≡ true → failed sink < 2 ^ 64 - 1 → failed now ≡ failed sink + 1)
+Refuses gains is_open failed plan mode sink now stop.Write = FrontOf gains sink (opening mode plan) now
+    × (is_open sink ≡ true → failed sink < 2 ^ 64 - 1 → failed now ≡ failed sink + 1)
 Refuses gains is_open failed plan mode sink now stop.Read = ⊥
 Refuses gains is_open failed plan mode sink now (stop.Meta fault) = ⊥
 Refuses gains is_open failed plan mode sink now stop.TableCount = ⊥

@@ -1,5 +1,6 @@
 -- What a session stands for, and how each call goes on.
-use Rattle.std.specs.Prelude.{◌≡◌, ◌≢◌, ◌↔◌, ◌⊎◌, ◌<◌, ◌+◌, ◌-◌, ◌^◌, ◌≤◌, ℕ, zero, suc, Bool, true, false, List, [], ◌∷◌, ◌++◌, length, slice_get, Contains, Option, Some, Result, Ok, Err}
+use Rattle.std.specs.Prelude.{◌≡◌, ◌≢◌, ◌↔◌, ◌⊎◌, ◌<◌, ◌+◌, ◌-◌, ◌^◌, ◌≤◌, ℕ, zero, suc, Bool, true, false, List, [], ◌∷◌, ◌++◌, length, slice_get}
+use Rattle.std.specs.Prelude.{Contains, Option, Some, Result, Ok, Err}
 use Rattle.csvw_rows.specs.RowValue.{Given}
 use Rattle.csvw_columns_core.specs.declared.columns.Columns.{Columns}
 use Rattle.csvw_columns.specs.declared.plan.Plan.{Plan}
@@ -14,7 +15,8 @@ use Rattle.csvw_triples_core.specs.declared.term.Triple.{Triple}
 use Rattle.csvw_opening.specs.OpeningTriples.{opening}
 use Rattle.csvw_engine_core.specs.Annotated.{IsTable}
 use Rattle.csvw_engine_core.specs.Faults.{table_faults}
-use Rattle.csvw_engine_core.specs.Tables.{TableHolds, HoldsWhole, IsAtRest, IsStopped, IsRefused, IsRefusedAtEnd, GivesSome, GivesFront, table_triples, columns_of, faults_of, header_faults_of, is_ended}
+use Rattle.csvw_engine_core.specs.Tables.{TableHolds, HoldsWhole, IsAtRest, IsStopped, IsRefused, IsRefusedAtEnd, GivesSome, GivesFront}
+use Rattle.csvw_engine_core.specs.Tables.{table_triples, columns_of, faults_of, header_faults_of, is_ended}
 use Rattle.csvw_engine_core.specs.declared.table.Table.{Table}
 use Rattle.csvw_session.specs.Events.{Event, text_of, ended_in}
 use Rattle.csvw_session.specs.declared.session.Session.{Session}
@@ -63,7 +65,8 @@ pub record TookGraph {S : Type 0} (gains : S → List Triple → S → Type 0) (
   pub whole : (x : Triple) → Graph x → Contains taken x
 
 -- The session took these events since the start, and no others.
-pub record Stands {S : Type 0} (gains : S → List Triple → S → Type 0) (is_open : S → Bool) (failed : S → ℕ) (start : S) (events : List Event) (s : Session S) : Type 0 where
+pub record Stands {S : Type 0} (gains : S → List Triple → S → Type 0) (is_open : S → Bool) (failed : S → ℕ) (start : S) (events : List Event)
+    (s : Session S) : Type 0 where
   pub rows : ℕ → List Row
   pub tables : (i : ℕ) (plan : TablePlan) (t : Table) → IsTableAt s i plan t → Told plan s.mode t (text_of events (i + 1)) (ended_in events (i + 1)) (rows i)
   pub beyond : (i : ℕ) → length s.plan.tables ≤ i → rows i ≡ []
@@ -73,7 +76,8 @@ pub record Stands {S : Type 0} (gains : S → List Triple → S → Type 0) (is_
   pub state_is : s.state ≡ state.Open
 
 -- a session at its start, over this plan: its sink, since it was handed in, took what is told of the group before any row
-pub record Starts {S : Type 0} (gains : S → List Triple → S → Type 0) (is_open : S → Bool) (failed : S → ℕ) (plan : Plan) (mode : Mode) (sink : S) (s : Session S) : Type 0 where
+pub record Starts {S : Type 0} (gains : S → List Triple → S → Type 0) (is_open : S → Bool) (failed : S → ℕ) (plan : Plan) (mode : Mode) (sink : S)
+    (s : Session S) : Type 0 where
   pub plan_is : s.plan ≡ plan
   pub mode_is : s.mode ≡ mode
   pub opened : gains sink (opening mode plan) s.sink
@@ -96,7 +100,8 @@ pub record IsRefusedInOrder {S : Type 0} (s : Session S) (t : ℕ) (result : Res
 
 -- whether table t, from 1, takes an event now
 abbrev pub Checks : {S : Type 0} → Session S → ℕ → Result ℕ Stop → Type 0
-Checks s t (Ok i) = (s.state ≡ state.Open) × (i + 1 ≡ t) × (i < length s.tables.items) × ((table : Table) → slice_get s.tables.items i ≡ Some table → is_ended table ≡ false)
+Checks s t (Ok i) = (s.state ≡ state.Open) × (i + 1 ≡ t) × (i < length s.tables.items)
+    × ((table : Table) → slice_get s.tables.items i ≡ Some table → is_ended table ≡ false)
 Checks s t (Err stop.Failed) = s.state ≡ state.Failed
 Checks s t (Err stop.UnknownTable) = (s.state ≢ state.Failed) × HasNoTable s t
 Checks s t (Err stop.AfterEnd) = (s.state ≢ state.Failed) × (HasNoTable s t → ⊥) × IsOver s t
@@ -131,9 +136,11 @@ GainsSome gains old new t events rows =
     AtTable old t rows (λ i plan given. GivesSome gains plan old.mode (text_of events t) (ended_in events t) given (rows i) old.sink new.sink)
 
 -- what it gained in a call that stopped in the text: the triples of all rows in front of the stop
-abbrev pub GainsFront : {S : Type 0} → (S → List Triple → S → Type 0) → Session S → Session S → ℕ → List Event → (ℕ → List Row) → (TablePlan → Option Columns → List Given → Type 0) → Type 0
+abbrev pub GainsFront : {S : Type 0} → (S → List Triple → S → Type 0) → Session S → Session S → ℕ → List Event → (ℕ → List Row)
+    → (TablePlan → Option Columns → List Given → Type 0) → Type 0
 GainsFront gains old new t events rows Why =
-    AtTable old t rows (λ i plan given. GivesFront gains plan old.mode (text_of events t) (ended_in events t) given (rows i) old.sink new.sink (λ columns all. Why plan columns all))
+    AtTable old t rows (λ i plan given. GivesFront gains plan old.mode (text_of events t) (ended_in events t) given (rows i) old.sink new.sink
+    (λ columns all. Why plan columns all))
 
 -- An event of table t was taken, or why not. A stop in the text and want of memory leave the session failed.
 abbrev pub Takes : {S : Type 0} → (S → List Triple → S → Type 0) → (S → Bool) → (S → ℕ) → Session S → Session S → ℕ → Event → Result Unit Stop → Type 0
@@ -143,15 +150,22 @@ Takes gains is_open failed old new t event (Err stop.Failed) = (new ≡ old) × 
 Takes gains is_open failed old new t event (Err stop.UnknownTable) = (new ≡ old) × (old.state ≢ state.Failed) × HasNoTable old t
 Takes {S} gains is_open failed old new t event (Err stop.AfterEnd) = (new ≡ old) × (old.state ≢ state.Failed)
     × ((start : S) (events : List Event) → Stands gains is_open failed start events old → ended_in events t ≡ true)
-Takes {S} gains is_open failed old new t event (Err stop.Memory) = (new.state ≡ state.Failed) × ((start : S) (events : List Event) (h : Stands gains is_open failed start events old)
+Takes {S} gains is_open failed old new t event (Err stop.Memory) = (new.state ≡ state.Failed)
+    × ((start : S) (events : List Event) (h : Stands gains is_open failed start events old)
     → GainsSome gains old new t (events ++ event ∷ []) h.rows × IsAsReady is_open failed old.sink new.sink)
-Takes {S} gains is_open failed old new t event (Err stop.Write) = (new.state ≡ state.Failed) × ((start : S) (events : List Event) (h : Stands gains is_open failed start events old)
-    → GainsSome gains old new t (events ++ event ∷ []) h.rows × (is_open old.sink ≡ true → failed old.sink < 2 ^ 64 - 1 → failed new.sink ≡ failed old.sink + 1))
-Takes {S} gains is_open failed old new t event (Err (stop.Rows u row reason)) = (new.state ≡ state.Failed) × (u ≡ t) × ((start : S) (events : List Event) (h : Stands gains is_open failed start events old)
-    → GainsFront gains old new t (events ++ event ∷ []) h.rows (λ plan columns all. IsStopped plan (text_of (events ++ event ∷ []) t) (ended_in (events ++ event ∷ []) t) all row reason)
+Takes {S} gains is_open failed old new t event (Err stop.Write) = (new.state ≡ state.Failed)
+    × ((start : S) (events : List Event) (h : Stands gains is_open failed start events old)
+    → GainsSome gains old new t (events ++ event ∷ []) h.rows
+    × (is_open old.sink ≡ true → failed old.sink < 2 ^ 64 - 1 → failed new.sink ≡ failed old.sink + 1))
+Takes {S} gains is_open failed old new t event (Err (stop.Rows u row reason)) = (new.state ≡ state.Failed) × (u ≡ t)
+    × ((start : S) (events : List Event) (h : Stands gains is_open failed start events old)
+    → GainsFront gains old new t (events ++ event ∷ []) h.rows
+    (λ plan columns all. IsStopped plan (text_of (events ++ event ∷ []) t) (ended_in (events ++ event ∷ []) t) all row reason)
     × IsAsReady is_open failed old.sink new.sink)
-Takes {S} gains is_open failed old new t event (Err (stop.Table u row reason)) = (new.state ≡ state.Failed) × (u ≡ t) × ((start : S) (events : List Event) (h : Stands gains is_open failed start events old)
-    → GainsFront gains old new t (events ++ event ∷ []) h.rows (λ plan columns all. IsRefusedHere plan columns (text_of (events ++ event ∷ []) t) (ended_in (events ++ event ∷ []) t) all row reason)
+Takes {S} gains is_open failed old new t event (Err (stop.Table u row reason)) = (new.state ≡ state.Failed) × (u ≡ t)
+    × ((start : S) (events : List Event) (h : Stands gains is_open failed start events old)
+    → GainsFront gains old new t (events ++ event ∷ []) h.rows
+    (λ plan columns all. IsRefusedHere plan columns (text_of (events ++ event ∷ []) t) (ended_in (events ++ event ∷ []) t) all row reason)
     × IsAsReady is_open failed old.sink new.sink)
 Takes gains is_open failed old new t event (Err stop.Read) = ⊥
 Takes gains is_open failed old new t event (Err (stop.Meta fault)) = ⊥

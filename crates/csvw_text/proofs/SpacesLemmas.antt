@@ -60,7 +60,8 @@ rest_made s (c ∷ cs) =
     ap (λ b. cond b [] (with_gap s c) ++ rest (next s b) cs) t ∙ rest_made (next s true) cs ∙ sym (made_white s tail) ∙ sym (ap S (spaced_white c t)))
     (λ (f : is_space c ≡ false).
     let o = spaced_other c f in
-    ap (λ b. cond b [] (with_gap s c) ++ rest (next s b) cs) f ∙ ap (λ xs. with_gap s c ++ xs) (rest_made (next s false) cs ∙ ap (λ q. made q tail) (next_word s))
+    ap (λ b. cond b [] (with_gap s c) ++ rest (next s b) cs) f
+    ∙ ap (λ xs. with_gap s c ++ xs) (rest_made (next s false) cs ∙ ap (λ q. made q tail) (next_word s))
     ∙ sym (made_other s c tail o.1) ∙ sym (ap (made s) (cond-false (c == 32) (before_word (unled tail)) (c ∷ tail) o.1)) ∙ sym (ap S o.0))
     (cases_Bool (is_space c))
 

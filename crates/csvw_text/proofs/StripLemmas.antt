@@ -1,5 +1,6 @@
 -- Texts without the white space at their start and end.
-use Rattle.std.proofs.Common.{◌≡◌, ◌∙◌, ℕ, ◌+◌, ◌-◌, ◌≤◌, true, false, List, [], ◌∷◌, ◌++◌, length, take, drop, reverse, refl, sym, ap, subst, arith, length-append, append-nil, chars}
+use Rattle.std.proofs.Common.{◌≡◌, ◌∙◌, ℕ, ◌+◌, ◌-◌, ◌≤◌, true, false, List, [], ◌∷◌, ◌++◌, length, take, drop, reverse, refl, sym, ap, subst, arith}
+use Rattle.std.proofs.Common.{length-append, append-nil, chars}
 use Rattle.std.specs.Prelude.{IsUtf8, encode_utf8}
 use Rattle.std.proofs.lemmas.Grind.{common_steps}
 use Rattle.std.proofs.lemmas.List.{drop-drop}
@@ -53,7 +54,8 @@ last_char text before c u v e =
     let front : take (length before) text ≡ before = ap (take (length before)) e ∙ fronts before (encode_utf8 c) in
     let back : drop (length before) text ≡ encode_utf8 c = ap (drop (length before)) e ∙ backs before (encode_utf8 c) in
     let h : length before ≤ length text = (let k = ap length e in omega (arith, k, length-append before (encode_utf8 c))) in
-    let w : IsUtf8 (encode_utf8 c) = subst IsUtf8 back (IsUtf8-drop text (length before) u (IsCharBoundary-from_take text (length before) u h (subst IsUtf8 (sym front) v))) in
+    let w : IsUtf8 (encode_utf8 c) = subst IsUtf8 back
+    (IsUtf8-drop text (length before) u (IsCharBoundary-from_take text (length before) u h (subst IsUtf8 (sym front) v))) in
     ap chars e ∙ chars-append before (encode_utf8 c) v ∙ ap (λ l. chars before ++ l) (one_char (encode_utf8 c) c w refl)
   where
     fronts : (a b : List ℕ) → take (length a) (a ++ b) ≡ a
@@ -62,10 +64,14 @@ last_char text before c u v e =
     backs : (a b : List ℕ) → drop (length a) (a ++ b) ≡ b
     backs a b = grind (arith, common_steps)
 
-pub front_less : (text rest before code : List ℕ) → length rest ≤ length text → take (length rest) text ≡ rest → rest ≡ before ++ code → (length before ≤ length text) × (take (length before) text ≡ before)
+pub front_less : (text rest before code : List ℕ) → length rest ≤ length text → take (length rest) text ≡ rest → rest ≡ before ++ code
+    → (length before ≤ length text) × (take (length before) text ≡ before)
 front_less text rest before code h e f =
-    let k = ap length f in
-    (omega (arith, h, k, length-append before code), shorter text (length before) (length rest) (omega (arith, k, length-append before code)) ∙ ap (take (length before)) (e ∙ f) ∙ fronts before code)
+    let k = ap length f in (
+      omega (arith, h, k, length-append before code),
+      shorter text (length before) (length rest) (omega (arith, k, length-append before code))
+          ∙ ap (take (length before)) (e ∙ f) ∙ fronts before code,
+    )
   where
     shorter : (l : List ℕ) (m n : ℕ) → m ≤ n → take m l ≡ take m (take n l)
     shorter l m n h = grind (arith, common_steps)

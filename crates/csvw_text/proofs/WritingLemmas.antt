@@ -8,7 +8,8 @@ use Rattle.std.specs.Prelude.{Result, Ok, Err}
 use Rattle.csvw_text.specs.Count.{after_write}
 
 -- what went out in two writes
-pub sent_more : (a b c : Option (List ℕ)) (bytes : List ℕ) (n m : ℕ) → Appends a b (take n bytes) → Appends b c (take m (drop n bytes)) → Appends a c (take (n + m) bytes)
+pub sent_more : (a b c : Option (List ℕ)) (bytes : List ℕ) (n m : ℕ) → Appends a b (take n bytes) → Appends b c (take m (drop n bytes))
+    → Appends a c (take (n + m) bytes)
 sent_more a b c bytes n m p q = rw (take-add n m bytes) (Appends-trans a b c (take n bytes) (take m (drop n bytes)) p q)
 
 -- the bytes that are left, as a slice of the whole
@@ -16,7 +17,8 @@ rest_is : (bytes : List ℕ) (n : ℕ) → take (length bytes - n) (drop n bytes
 rest_is bytes n = take_all (length bytes - n) (drop n bytes) (omega (arith, length-drop n bytes))
 
 -- what went out in two writes, the second of what the first left
-pub sent_rest : (a b c : Option (List ℕ)) (bytes : List ℕ) (n m : ℕ) → Appends a b (take n bytes) → Appends b c (take m (take (length bytes - n) (drop n bytes))) → Appends a c (take (n + m) bytes)
+pub sent_rest : (a b c : Option (List ℕ)) (bytes : List ℕ) (n m : ℕ) → Appends a b (take n bytes)
+    → Appends b c (take m (take (length bytes - n) (drop n bytes))) → Appends a c (take (n + m) bytes)
 sent_rest a b c bytes n m p q = sent_more a b c bytes n m p (subst (λ (xs : List ℕ). Appends b c (take m xs)) (rest_is bytes n) q)
 
 -- all went out

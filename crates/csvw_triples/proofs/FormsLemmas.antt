@@ -81,4 +81,5 @@ module _ (law : Writable) where
   pub row_forms : (columns : Columns) (raw : Given) (row : Row) → IsRow columns raw row → HasForms row
   row_forms columns raw row h =
       let link = linked_in columns (numbers_of raw) (values_of h.unlinked) in
-      subst CellsHaveForms (sym h.cells) (linked_forms link (λ column cell. refl) columns.columns h.unlinked (cells_forms columns.columns raw.fields h.unlinked h.says))
+      subst CellsHaveForms (sym h.cells)
+      (linked_forms link (λ column cell. refl) columns.columns h.unlinked (cells_forms columns.columns raw.fields h.unlinked h.says))

@@ -1,5 +1,6 @@
 -- The triples that rows give are their graph.
-use Rattle.std.proofs.Common.{◌≡◌, ℕ, zero, suc, ◌+◌, Bool, true, false, cond, List, [], ◌∷◌, map, drop, refl, sym, ap, ◌∙◌, subst, arith, add-one, inl, inr, ◌⊎◌, ◌↔◌, Option, Some, None, Contains}
+use Rattle.std.proofs.Common.{◌≡◌, ℕ, zero, suc, ◌+◌, Bool, true, false, cond, List, [], ◌∷◌, map, drop, refl, sym, ap, ◌∙◌, subst, arith, add-one}
+use Rattle.std.proofs.Common.{inl, inr, ◌⊎◌, ◌↔◌, Option, Some, None, Contains}
 use Rattle.std.proofs.lemmas.List.Elements.{Contains-append_left, Contains-append_right, Contains-append_cases, Contains-push, Contains-push_cases}
 use Rattle.std.specs.Prelude.{MatchBool, flat_map, slice_get}
 use Rattle.std.specs.List.{zip}
@@ -16,7 +17,8 @@ use Rattle.csvw_triples_core.specs.declared.term.Term.TheVariants as term
 use Rattle.csvw_triples_core.specs.declared.term.Triple.{Triple}
 use Rattle.csvw_triples.specs.Literals.{literal_of}
 use Rattle.csvw_triples.specs.Graph.{IsObjectBy, IsListTriple, IsOfList, MinimalRow, Minimal}
-use Rattle.csvw_triples.specs.RowTriples.{triple, subject_of, predicate_of, entries_of, list_node, first_triple, rest_triple, list_triples, object_triples, cell_triples, cells_triples, minimal_triples}
+use Rattle.csvw_triples.specs.RowTriples.{triple, subject_of, predicate_of, entries_of, list_node, first_triple, rest_triple, list_triples}
+use Rattle.csvw_triples.specs.RowTriples.{object_triples, cell_triples, cells_triples, minimal_triples}
 
 -- lists
 

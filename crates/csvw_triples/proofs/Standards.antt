@@ -25,7 +25,8 @@ module _ (t number : ℕ) where
   -- the subject of some cell of a column that isn't suppressed
   abbrev pub Described : List (Column × AnnCell) → Triple → Type 0
   Described pairs x =
-      (column : Column) × (cell : AnnCell) × Contains pairs (column, cell) × (column.suppressed ≡ false) × (x ≡ describes_triple t number (subject_of t number cell))
+      (column : Column) × (cell : AnnCell) × Contains pairs (column, cell) × (column.suppressed ≡ false)
+      × (x ≡ describes_triple t number (subject_of t number cell))
 
   later_described : (p : Column × AnnCell) (pairs : List (Column × AnnCell)) (x : Triple) → Described pairs x → Described (p ∷ pairs) x
   later_described p pairs x d = (d.0, d.1, later_in p pairs (d.0, d.1) d.2, d.3, d.4)

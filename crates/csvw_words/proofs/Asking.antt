@@ -1,7 +1,8 @@
 -- What clap's matches say of the words.
 use Rattle.std.proofs.Common.{◌≡◌, ◌∙◌, List, [], refl, sym, ap, ap₂, true, subst, find, option_and_then, option_map, unwrap_or, Option, Some, None, Result}
 use Rattle.std.specs.Str.{bytes_eq}
-use Rattle.clap.specs.Words.{App, FailsBy, HasMatchesOf, Row, Text, fault_of, is_simple, is_simple_and_free, matched_of, rows_of, subcommand_name_of, subcommand_of, subcommand_rows_of}
+use Rattle.clap.specs.Words.{App, FailsBy, HasMatchesOf, Row, Text, fault_of, is_simple, is_simple_and_free, matched_of, rows_of, subcommand_name_of}
+use Rattle.clap.specs.Words.{subcommand_of, subcommand_rows_of}
 use Rattle.clap.specs.Facts.{Entry}
 use Rattle.clap.specs.Walk.{row_of}
 use Rattle.clap.specs.declared.error.Error.{Error}
@@ -22,7 +23,8 @@ unfolding clap_on_literals program_app
 program_is_free = refl
 
 -- a pair by its parts
-paired : (o : Option (Text × List Row)) (name : Text) (rows : List Row) → option_map (λ p. p.0) o ≡ Some name → option_map (λ p. p.1) o ≡ Some rows → o ≡ Some (name, rows)
+paired : (o : Option (Text × List Row)) (name : Text) (rows : List Row) → option_map (λ p. p.0) o ≡ Some name → option_map (λ p. p.1) o ≡ Some rows
+    → o ≡ Some (name, rows)
 paired None name rows p q = cc
 paired (Some x) name rows p q = ap₂ (λ n r. Some (n, r)) (ap (λ o. unwrap_or o name) p) (ap (λ o. unwrap_or o rows) q)
 
@@ -35,15 +37,18 @@ named : (m : ArgMatches) → option_map (λ p. p.0) (subcommand_rows_of m) ≡ s
 named m = map_twice _ _ _
 
 -- where a value came from, by the rows
-pub flag_known : (f : Found) (id : Text) (o : Option ValueSource) → o ≡ option_and_then (λ a. a.source) (matched_of f id) → is_from_words o ≡ flag_of id (rows_of f)
-flag_known f id o is = ap is_from_words (is ∙ go (find (λ e. bytes_eq e.0.now id) f.entries.items) ∙ ap (option_and_then (λ (r : Row). r.source)) (sym (find_row f.entries.items id)))
+pub flag_known : (f : Found) (id : Text) (o : Option ValueSource) → o ≡ option_and_then (λ a. a.source) (matched_of f id)
+    → is_from_words o ≡ flag_of id (rows_of f)
+flag_known f id o is = ap is_from_words
+    (is ∙ go (find (λ e. bytes_eq e.0.now id) f.entries.items) ∙ ap (option_and_then (λ (r : Row). r.source)) (sym (find_row f.entries.items id)))
   where
     go : (e : Option Entry) → option_and_then (λ a. a.source) (option_map (λ e. e.1) e) ≡ option_and_then (λ (r : Row). r.source) (option_map row_of e)
     go None = refl
     go (Some e) = refl
 
 -- the matches of the subcommand are what the words ask for
-pub asks_this : (words : List Text) (m : ArgMatches) (name : Text) (rows : List Row) (request : Request) → fault_of program_app words ≡ [] → subcommand_rows_of m ≡ subcommand_of program_app words
+pub asks_this : (words : List Text) (m : ArgMatches) (name : Text) (rows : List Row) (request : Request) → fault_of program_app words ≡ []
+    → subcommand_rows_of m ≡ subcommand_of program_app words
     → subcommand_name_of m ≡ Some name → option_map (λ p. p.1) (subcommand_rows_of m) ≡ Some rows → Reads name rows request → Asks words request
 asks_this words m name rows request no_fault entered name_is rows_are reads = record {
   no_fault = no_fault;
@@ -54,9 +59,11 @@ asks_this words m name rows request no_fault entered name_is rows_are reads = re
 }
 
 -- the kinds that the words give, at a command line that is the program's
-pub known_kinds : {X : Type 0} (app : App) (words : List Text) (r : Result X Error) → app ≡ program_app → (is_simple_and_free app ≡ true → FailsBy (fault_of app words) r) → FailsBy (fault_of program_app words) r
+pub known_kinds : {X : Type 0} (app : App) (words : List Text) (r : Result X Error) → app ≡ program_app
+    → (is_simple_and_free app ≡ true → FailsBy (fault_of app words) r) → FailsBy (fault_of program_app words) r
 known_kinds app words r is kinds = subst (λ a. FailsBy (fault_of a words) r) is (kinds (ap is_simple_and_free is ∙ program_is_free))
 
 -- the subcommand that they give
-pub known_rows : (app : App) (words : List Text) (m : ArgMatches) → app ≡ program_app → HasMatchesOf app words m → subcommand_rows_of m ≡ subcommand_of program_app words
+pub known_rows : (app : App) (words : List Text) (m : ArgMatches) → app ≡ program_app → HasMatchesOf app words m
+    → subcommand_rows_of m ≡ subcommand_of program_app words
 known_rows app words m is has = (has (ap is_simple is ∙ program_is_simple)).1 ∙ ap (λ a. subcommand_of a words) is

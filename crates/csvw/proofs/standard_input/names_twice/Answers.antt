@@ -9,15 +9,18 @@ loop-file-init c = met_one c.args.group.now.meta.now c.is_standard-seen.result (
 
 pub returns-then-seen-clause-twice : goal.returns-then-seen-clause-twice
 returns-then-seen-clause-twice c = λ t.
-    met_twice (λ file. file.now) c.args.group.now.meta.now c.args.group.now.files.items c.as_slice-file-items.result.now c.as_slice-file-items.ensures.value c.loop-file.file-index _ c.loop-file.seen
+    met_twice (λ file. file.now) c.args.group.now.meta.now c.args.group.now.files.items c.as_slice-file-items.result.now
+    c.as_slice-file-items.ensures.value c.loop-file.file-index _ c.loop-file.seen
     c.loop-file-test.true c.loop-file.invariant c.if-seen.true (sym c.is_standard.ensures ∙ c.if-is_standard.true)
 
 pub loop-file-preserved : goal.loop-file-preserved
 loop-file-preserved c =
     elim c.if-is_standard.branch [
-      | then-is_standard+else-seen w ↦ met_first (λ file. file.now) c.args.group.now.meta.now c.args.group.now.files.items c.as_slice-file-items.result.now c.as_slice-file-items.ensures.value c.loop-file.file-index _ c.loop-file.seen c.if-is_standard.seen
+      | then-is_standard+else-seen w ↦ met_first (λ file. file.now) c.args.group.now.meta.now c.args.group.now.files.items
+          c.as_slice-file-items.result.now c.as_slice-file-items.ensures.value c.loop-file.file-index _ c.loop-file.seen c.if-is_standard.seen
           c.loop-file-test.true c.loop-file.invariant w.if-seen.false (sym c.is_standard.ensures ∙ w.if-is_standard.true) w.seen-is
-      | else-is_standard w ↦ met_other (λ file. file.now) c.args.group.now.meta.now c.args.group.now.files.items c.as_slice-file-items.result.now c.as_slice-file-items.ensures.value c.loop-file.file-index _ c.loop-file.seen c.if-is_standard.seen
+      | else-is_standard w ↦ met_other (λ file. file.now) c.args.group.now.meta.now c.args.group.now.files.items c.as_slice-file-items.result.now
+          c.as_slice-file-items.ensures.value c.loop-file.file-index _ c.loop-file.seen c.if-is_standard.seen
           c.loop-file-test.true c.loop-file.invariant (sym c.is_standard.ensures ∙ w.if-is_standard.false) w.seen-is
     ]
 
@@ -25,4 +28,5 @@ pub returns-clause-once : goal.returns-clause-once
 returns-clause-once c = λ f.
     let end : c.loop-file.file-index ≡ length c.as_slice-file-items.result.now =
     (let test = c.loop-file-test.false in let bound = c.loop-file.auto.file-index-end in omega (arith, test, bound)) in
-    met_all (λ file. file.now) c.args.group.now.meta.now c.args.group.now.files.items c.as_slice-file-items.result.now c.loop-file.file-index c.loop-file.seen c.as_slice-file-items.ensures.value end c.loop-file.invariant
+    met_all (λ file. file.now) c.args.group.now.meta.now c.args.group.now.files.items c.as_slice-file-items.result.now c.loop-file.file-index
+    c.loop-file.seen c.as_slice-file-items.ensures.value end c.loop-file.invariant

@@ -6,5 +6,6 @@ use Rattle.csvw.proofs.tell.send.Goals as goal
 pub returns-in_default-clause-cut : goal.returns-in_default-clause-cut
 returns-in_default-clause-cut g c =
     let contents = g.W.Write.contents in
-    λ failed. cut_write (contents (inner_of c.args.w.now)) (contents (inner_of c.write_out.new.w)) (failures_of c.args.w.now) (failures_of c.write_out.new.w) c.args.text.now c.in_default.field-0.sent
+    λ failed. cut_write (contents (inner_of c.args.w.now)) (contents (inner_of c.write_out.new.w)) (failures_of c.args.w.now)
+    (failures_of c.write_out.new.w) c.args.text.now c.in_default.field-0.sent
     (rw (← c.as_bytes.ensures.value) c.in_default.ensures.cut) c.in_default.ensures.cut_count

@@ -7,7 +7,8 @@ use Rattle.csvw.proofs.tell.send_line.Goals as goal
 pub returns-then-send : goal.returns-then-send
 returns-then-send g c =
     let contents = g.W.Write.contents in
-    tells_second (contents (inner_of c.args.w.now)) (contents (inner_of c.send.new.w)) (contents (inner_of c.send-then-send.new.w)) (failures_of c.args.w.now) (failures_of c.send.new.w) (failures_of c.send-then-send.new.w)
+    tells_second (contents (inner_of c.args.w.now)) (contents (inner_of c.send.new.w)) (contents (inner_of c.send-then-send.new.w))
+    (failures_of c.args.w.now) (failures_of c.send.new.w) (failures_of c.send-then-send.new.w)
     c.args.line.now (10 ∷ []) c.send-then-send.result (c.send.ensures.sent c.if-send.true) c.send-then-send.ensures.sent c.send-then-send.ensures.cut
 
 pub returns-else-send : goal.returns-else-send

@@ -19,13 +19,17 @@ returns-in-Ok-start g c =
     let now = c.take_tables-ran.new.session.sink in
     let many = c.requires.many ∙ ap (λ (p : Plan). length p.tables) (sym begun.plan_is) in
     let numbered = subst (λ (p : Plan). AreNumbered p.tables) (sym begun.plan_is) c.requires.numbered in
-    let ran = c.take_tables-ran.ensures start (starts_own (takes contents) sink_is_open failed_of c.args.plan c.args.way.mode start session begun) many numbered in
-    let lent = ap (λ z. (sink_out z).ghost_name) c.into_sink.ensures ∙ same_lent contents remaining session.mode session.plan c.args.readers.now c.take_tables-ran.new.readers start now c.take_tables-ran.result ran in
+    let ran = c.take_tables-ran.ensures start
+    (starts_own (takes contents) sink_is_open failed_of c.args.plan c.args.way.mode start session begun) many numbered in
+    let lent = ap (λ z. (sink_out z).ghost_name) c.into_sink.ensures ∙ same_lent contents remaining session.mode session.plan c.args.readers.now
+    c.take_tables-ran.new.readers start now c.take_tables-ran.result ran in
     let final = c.out-1.given.1 (sym (c.into_inner.ensures.same_reference ∙ (lent ∙ c.new-sink.ensures.same_reference))) in
     let laws : LineLaws = record { denotes = c.written_denotes.ensures; names = c.labels_name_one_to_one.ensures } in
     converted_at contents laws _ start now
-    (streams_of contents c.args.out.now _ start now c.new-sink.ensures.open c.new-sink.ensures.out (final ∙ (c.into_inner.ensures.value ∙ ap (λ z. (sink_out z).now) c.into_sink.ensures)))
-    remaining c.args.way.mode session.mode c.args.plan session.plan c.args.readers.now c.take_tables-ran.new.readers c.take_tables-ran.result begun.mode_is begun.plan_is ran
+    (streams_of contents c.args.out.now _ start now c.new-sink.ensures.open c.new-sink.ensures.out
+    (final ∙ (c.into_inner.ensures.value ∙ ap (λ z. (sink_out z).now) c.into_sink.ensures)))
+    remaining c.args.way.mode session.mode c.args.plan session.plan c.args.readers.now c.take_tables-ran.new.readers c.take_tables-ran.result
+    begun.mode_is begun.plan_is ran
 
 pub returns : goal.returns
 returns g c =
@@ -46,4 +50,5 @@ returns g c =
 pub returns-in_default : goal.returns-in_default
 returns-in_default g c =
     let laws : LineLaws = record { denotes = c.written_denotes.ensures; names = c.labels_name_one_to_one.ensures } in
-    nothing_written laws g.R.Read.remaining c.args.way.mode c.args.plan c.args.readers.now (g.W.Write.contents (inner_of c.args.out.now)) (failures_of c.args.out.now)
+    nothing_written laws g.R.Read.remaining c.args.way.mode c.args.plan c.args.readers.now (g.W.Write.contents (inner_of c.args.out.now))
+    (failures_of c.args.out.now)

@@ -10,8 +10,10 @@ returns-in_err-read_all g c =
     let start = c.args.session.now.sink in
     λ sink h many numbered.
     rw (p.1, p.2)
-    (stops s.gains s.is_open s.failed g.R.Read.remaining g.met.S.TripleSink.goes_on sink start h.ready c.args.readers.now c.read_all.new.readers c.args.session.now c.read_all.new.session
-    h.opened (c.sessions_give_all.ensures sink start) (λ events event old new t reason. c.stopped_sessions_give_parts.ensures sink start events event old new t reason)
+    (stops s.gains s.is_open s.failed g.R.Read.remaining g.met.S.TripleSink.goes_on sink start h.ready c.args.readers.now c.read_all.new.readers
+    c.args.session.now c.read_all.new.session
+    h.opened (c.sessions_give_all.ensures sink start)
+    (λ events event old new t reason. c.stopped_sessions_give_parts.ensures sink start events event old new t reason)
     c.in_err-read_all.field-0.0 (c.in_err-read_all.ensures.reads start h.stands many))
 
 pub returns : goal.returns
@@ -19,5 +21,7 @@ returns g c =
     let s = g.S.TripleSink in
     let start = c.args.session.now.sink in
     λ sink h many numbered.
-    finished s.gains s.is_open s.failed g.R.Read.remaining g.met.S.TripleSink.goes_on sink start h.ready c.args.readers.now c.read_all.new.readers c.args.session.now c.read_all.new.session c.finish.new.self
-    (c.in_ok-read_all.ensures.reads start h.stands many) many numbered h.opened (c.sessions_annotate.ensures sink start) c.finish.result c.finish.ensures.finishes
+    finished s.gains s.is_open s.failed g.R.Read.remaining g.met.S.TripleSink.goes_on sink start h.ready c.args.readers.now c.read_all.new.readers
+    c.args.session.now c.read_all.new.session c.finish.new.self
+    (c.in_ok-read_all.ensures.reads start h.stands many) many numbered h.opened
+    (c.sessions_annotate.ensures sink start) c.finish.result c.finish.ensures.finishes

@@ -10,18 +10,21 @@ returns-clause-all g c =
     let contents = g.W.Write.contents in
     let laws : LineLaws = record { denotes = c.written_denotes.ensures; names = c.labels_name_one_to_one.ensures } in
     λ m plan events sink now opened k r.
-    all_written contents laws (writer_of contents sink now) sink now (streams_of contents (sink_out sink).now (sink_out now).now sink now opened refl refl) m plan events k r
+    all_written contents laws (writer_of contents sink now) sink now
+    (streams_of contents (sink_out sink).now (sink_out now).now sink now opened refl refl) m plan events k r
 
 pub returns-clause-memory : goal.returns-clause-memory
 returns-clause-memory g c =
     let contents = g.W.Write.contents in
     let laws : LineLaws = record { denotes = c.written_denotes.ensures; names = c.labels_name_one_to_one.ensures } in
     λ m plan events sink now opened k r.
-    lacking contents laws (writer_of contents sink now) sink now (streams_of contents (sink_out sink).now (sink_out now).now sink now opened refl refl) m plan events k r
+    lacking contents laws (writer_of contents sink now) sink now
+    (streams_of contents (sink_out sink).now (sink_out now).now sink now opened refl refl) m plan events k r
 
 pub returns-clause-write : goal.returns-clause-write
 returns-clause-write g c =
     let contents = g.W.Write.contents in
     let laws : LineLaws = record { denotes = c.written_denotes.ensures; names = c.labels_name_one_to_one.ensures } in
     λ m plan events sink now opened k.
-    failing contents laws (writer_of contents sink now) sink now (streams_of contents (sink_out sink).now (sink_out now).now sink now opened refl refl) m plan events k
+    failing contents laws (writer_of contents sink now) sink now
+    (streams_of contents (sink_out sink).now (sink_out now).now sink now opened refl refl) m plan events k

@@ -13,4 +13,5 @@ returns-in-Ok-clause-numbered c = numbered_of c.args.description c.in-Ok.plan c.
 
 pub returns-in-Err-clause-memory : goal.returns-in-Err-clause-memory
 returns-in-Err-clause-memory c =
-    lacks_memory c.args.description c.in-Err.fault c.meta_stop.result (c.described_can_be_planned.ensures c.args.description c.requires) c.in-Err.ensures.plan c.meta_stop.ensures
+    lacks_memory c.args.description c.in-Err.fault c.meta_stop.result
+    (c.described_can_be_planned.ensures c.args.description c.requires) c.in-Err.ensures.plan c.meta_stop.ensures

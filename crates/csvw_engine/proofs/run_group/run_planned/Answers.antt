@@ -13,8 +13,10 @@ returns-in_err-outcome g c =
     λ described is.
     rw (p.1, p.2)
     (stops_with g.R.Read.remaining described c.args.run.way.mode c.args.readers.now c.convert_tables-ran.new.readers c.args.run.plan is many
-    (stream_of g.W.Write.contents c.args.out.now c.convert_tables-ran.new.out) (g.W.Write.contents (inner_of c.flush_behind.new.w)) (failures_of c.flush_behind.new.w) c.flush_behind.ensures.keeps
-    (stream_of g.V.Write.contents c.args.report.now c.tell-told.new.report) c.convert_tables-ran.result c.tell-told.result c.flush_behind.result c.in_err-outcome.field-0.0 c.in_err-outcome.was
+    (stream_of g.W.Write.contents c.args.out.now c.convert_tables-ran.new.out) (g.W.Write.contents (inner_of c.flush_behind.new.w))
+    (failures_of c.flush_behind.new.w) c.flush_behind.ensures.keeps
+    (stream_of g.V.Write.contents c.args.report.now c.tell-told.new.report) c.convert_tables-ran.result c.tell-told.result c.flush_behind.result
+    c.in_err-outcome.field-0.0 c.in_err-outcome.was
     c.convert_tables-ran.ensures c.tell-told.ensures c.flush_behind.ensures.flushed)
 
 pub returns-in_err-flush : goal.returns-in_err-flush
@@ -23,21 +25,28 @@ returns-in_err-flush g c =
     let many : length c.args.readers.now ≡ length c.args.run.plan.tables = search rules in
     λ described is.
     let done = ends_whole g.R.Read.remaining described c.args.run.way.mode c.args.readers.now c.convert_tables-ran.new.readers c.args.run.plan is many
-    (stream_of g.W.Write.contents c.args.out.now c.convert_tables-ran.new.out) (g.W.Write.contents (inner_of c.flush_behind.new.w)) (failures_of c.flush_behind.new.w) c.flush_behind.ensures.keeps
-    (stream_of g.V.Write.contents c.args.report.now c.tell-told.new.report) c.convert_tables-ran.result c.tell-told.result c.flush_behind.result c.in_ok-outcome.outcome c.in_ok-outcome.was
+    (stream_of g.W.Write.contents c.args.out.now c.convert_tables-ran.new.out) (g.W.Write.contents (inner_of c.flush_behind.new.w))
+    (failures_of c.flush_behind.new.w) c.flush_behind.ensures.keeps
+    (stream_of g.V.Write.contents c.args.report.now c.tell-told.new.report) c.convert_tables-ran.result c.tell-told.result c.flush_behind.result
+    c.in_ok-outcome.outcome c.in_ok-outcome.was
     c.convert_tables-ran.ensures c.tell-told.ensures c.flush_behind.ensures.flushed in
     rw (p.1, p.2)
     (report_unsent g.R.Read.remaining described c.args.run.way.mode c.args.readers.now c.convert_tables-ran.new.readers
     (stream_of g.W.Write.contents c.args.out.now c.flush_behind.new.w) (stream_of g.V.Write.contents c.args.report.now c.tell-told.new.report)
-    (g.V.Write.contents (inner_of c.flush.new.w)) (failures_of c.flush.new.w) c.in_err-flush.field-0.0 c.in_err-flush.ensures.write c.in_err-flush.ensures.count done.1 done.0)
+    (g.V.Write.contents (inner_of c.flush.new.w))
+    (failures_of c.flush.new.w) c.in_err-flush.field-0.0 c.in_err-flush.ensures.write c.in_err-flush.ensures.count done.1 done.0)
 
 pub returns : goal.returns
 returns g c =
     let many : length c.args.readers.now ≡ length c.args.run.plan.tables = search rules in
     λ described is.
-    report_kept g.R.Read.remaining described c.args.run.way.mode c.args.readers.now c.convert_tables-ran.new.readers (stream_of g.W.Write.contents c.args.out.now c.flush_behind.new.w)
-    (stream_of g.V.Write.contents c.args.report.now c.tell-told.new.report) c.in_ok-outcome.outcome (g.V.Write.contents (inner_of c.flush.new.w)) (failures_of c.flush.new.w) c.in_ok-flush.ensures.keeps c.in_ok-flush.ensures.count
+    report_kept g.R.Read.remaining described c.args.run.way.mode c.args.readers.now c.convert_tables-ran.new.readers
+    (stream_of g.W.Write.contents c.args.out.now c.flush_behind.new.w)
+    (stream_of g.V.Write.contents c.args.report.now c.tell-told.new.report) c.in_ok-outcome.outcome (g.V.Write.contents (inner_of c.flush.new.w))
+    (failures_of c.flush.new.w) c.in_ok-flush.ensures.keeps c.in_ok-flush.ensures.count
     (succeeds g.R.Read.remaining described c.args.run.way.mode c.args.readers.now c.convert_tables-ran.new.readers c.args.run.plan is many
-    (stream_of g.W.Write.contents c.args.out.now c.convert_tables-ran.new.out) (g.W.Write.contents (inner_of c.flush_behind.new.w)) (failures_of c.flush_behind.new.w) c.flush_behind.ensures.keeps
-    (stream_of g.V.Write.contents c.args.report.now c.tell-told.new.report) c.convert_tables-ran.result c.tell-told.result c.flush_behind.result c.in_ok-outcome.outcome c.in_ok-outcome.was
+    (stream_of g.W.Write.contents c.args.out.now c.convert_tables-ran.new.out) (g.W.Write.contents (inner_of c.flush_behind.new.w))
+    (failures_of c.flush_behind.new.w) c.flush_behind.ensures.keeps
+    (stream_of g.V.Write.contents c.args.report.now c.tell-told.new.report) c.convert_tables-ran.result c.tell-told.result c.flush_behind.result
+    c.in_ok-outcome.outcome c.in_ok-outcome.was
     c.convert_tables-ran.ensures c.tell-told.ensures c.flush_behind.ensures.flushed)

@@ -16,7 +16,8 @@ loop-reads-init g c =
       steady = refl;
       bytes = [];
       consumed = Consumes-nil (g.R.Read.remaining (inner_of c.args.reader.now));
-      took = λ start events h next many. took_none s.gains s.is_open s.failed c.texts_grow.ensures start events c.args.t c.args.session.now c.args.reads.now h next many;
+      took = λ start events h next many. took_none s.gains s.is_open s.failed c.texts_grow.ensures start events c.args.t c.args.session.now
+          c.args.reads.now h next many;
     }
 
 pub loop-reads-preserved : goal.loop-reads-preserved
@@ -31,7 +32,8 @@ loop-reads-preserved g c =
       bytes = i.bytes ++ piece;
       consumed = Consumes-trans _ _ _ i.bytes piece i.consumed c.in-Ok.ensures.bytes.0;
       took = λ start events h next many.
-          took_piece s.gains s.is_open s.failed c.texts_grow.ensures start events c.args.t c.loop-reads.session c.feed.new.self i.bytes piece c.loop-reads.reads c.in_ok-feed.field-0
+          took_piece s.gains s.is_open s.failed c.texts_grow.ensures start events c.args.t c.loop-reads.session c.feed.new.self i.bytes piece
+          c.loop-reads.reads c.in_ok-feed.field-0
           (i.took start events h next many) c.in_ok-feed.ensures.takes;
     }
 
@@ -40,12 +42,15 @@ returns-then-n-eq0-clause-reads g c =
     let i = c.loop-reads.invariant in
     let s = g.S.TripleSink in
     let eaten = rw c.if-n-eq0.true at c.in-Ok.ensures.bytes.0 in
-    let all = Consumes-trans (g.R.Read.remaining (inner_of c.args.reader.now)) (g.R.Read.remaining (inner_of c.loop-reads.reader)) (g.R.Read.remaining (inner_of c.read.new.self)) i.bytes [] i.consumed eaten in
+    let all = Consumes-trans (g.R.Read.remaining (inner_of c.args.reader.now)) (g.R.Read.remaining (inner_of c.loop-reads.reader))
+    (g.R.Read.remaining (inner_of c.read.new.self)) i.bytes [] i.consumed eaten in
     λ start events h next many.
-    ends s.gains s.is_open s.failed c.texts_grow.ensures start events c.args.t g.R.Read.remaining c.args.reader.now c.read.new.self c.args.session.now c.loop-reads.session c.end.new.self i.bytes c.loop-reads.reads
+    ends s.gains s.is_open s.failed c.texts_grow.ensures start events c.args.t g.R.Read.remaining c.args.reader.now c.read.new.self c.args.session.now
+    c.loop-reads.session c.end.new.self i.bytes c.loop-reads.reads
     (i.took start events h next many) i.same next.some next.within
     (record {
-      consumed = subst (λ (xs : List ℕ). Consumes (g.R.Read.remaining (inner_of c.args.reader.now)) (g.R.Read.remaining (inner_of c.read.new.self)) xs) (append-nil i.bytes) all;
+      consumed = subst (λ (xs : List ℕ). Consumes (g.R.Read.remaining (inner_of c.args.reader.now))
+          (g.R.Read.remaining (inner_of c.read.new.self)) xs) (append-nil i.bytes) all;
       at_end = λ _. c.in-Ok.ensures.bytes.1 c.if-n-eq0.true (let room = i.room in let some = c.requires in omega (arith, room, some));
     })
     (c.in-Ok.ensures.count ∙ i.steady) c.end.result c.end.ensures.takes
@@ -58,10 +63,12 @@ returns-in_err-feed-clause-reads g c =
     let p = err_from_is_err_and c.from_residual.result c.from_residual.ensures.1 in
     λ start events h next many.
     rw (p.1, p.2)
-    (unfed s.gains s.is_open s.failed c.texts_grow.ensures start events c.args.t g.R.Read.remaining c.args.reader.now c.read.new.self c.args.session.now c.loop-reads.session c.feed.new.self i.bytes c.loop-reads.reads
+    (unfed s.gains s.is_open s.failed c.texts_grow.ensures start events c.args.t g.R.Read.remaining c.args.reader.now c.read.new.self
+    c.args.session.now c.loop-reads.session c.feed.new.self i.bytes c.loop-reads.reads
     (i.took start events h next many) i.same next.some next.within piece
     (record {
-      consumed = Consumes-trans (g.R.Read.remaining (inner_of c.args.reader.now)) (g.R.Read.remaining (inner_of c.loop-reads.reader)) (g.R.Read.remaining (inner_of c.read.new.self)) i.bytes piece i.consumed c.in-Ok.ensures.bytes.0;
+      consumed = Consumes-trans (g.R.Read.remaining (inner_of c.args.reader.now)) (g.R.Read.remaining (inner_of c.loop-reads.reader))
+          (g.R.Read.remaining (inner_of c.read.new.self)) i.bytes piece i.consumed c.in-Ok.ensures.bytes.0;
       at_end = λ e. cc;
     })
     (c.in-Ok.ensures.count ∙ i.steady) c.in_err-feed.field-0.0 (c.loop-reads.reads + 1) c.in_err-feed.ensures.takes)

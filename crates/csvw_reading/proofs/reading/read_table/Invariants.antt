@@ -15,8 +15,10 @@ invariant-loop-reads g l = record {
   steady : failures_of l.reader ≡ failures_of l.initial.reader;
   bytes : List ℕ;
   consumed : Consumes (g.R.Read.remaining (inner_of l.initial.reader)) (g.R.Read.remaining (inner_of l.reader)) bytes;
-  took : (start : _) (events : List Event) → Stands g.S.TripleSink.gains g.S.TripleSink.is_open g.S.TripleSink.failed start events l.initial.session → IsNext l.initial.session events l.initial.t
-      → length events ≡ l.initial.reads → Took g.S.TripleSink.gains g.S.TripleSink.is_open g.S.TripleSink.failed start events l.initial.t bytes false l.session l.reads;
+  took : (start : _) (events : List Event) → Stands g.S.TripleSink.gains g.S.TripleSink.is_open g.S.TripleSink.failed start events l.initial.session
+      → IsNext l.initial.session events l.initial.t
+      → length events ≡ l.initial.reads
+      → Took g.S.TripleSink.gains g.S.TripleSink.is_open g.S.TripleSink.failed start events l.initial.t bytes false l.session l.reads;
 }
 
 abbrev pub decreases-loop-reads : goal.decreases-loop-reads

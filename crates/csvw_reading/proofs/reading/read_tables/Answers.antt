@@ -20,12 +20,16 @@ loop-i-preserved g c =
       same = (t.same.0 ∙ i.same.0, t.same.1 ∙ i.same.1);
       room = t.room ∙ i.room;
       lengths = length-set c.loop-i.readers n c.read_table.new.reader ∙ i.lengths;
-      untouched = λ j r le e. i.untouched j r (omega (arith, le)) (set_other c.loop-i.readers n j c.read_table.new.reader r (λ same. omega (arith, le, same)) e);
+      untouched = λ j r le e. i.untouched j r (omega (arith, le))
+          (set_other c.loop-i.readers n j c.read_table.new.reader r (λ same. omega (arith, le, same)) e);
       read = λ start h many.
           let k = i.read start h many in
-          let within : c.loop-i.i < length c.loop-i.session.plan.tables = (let test = c.loop-i-test.true in let m = many in let p = ap (λ p. length p.tables) i.same.0 in omega (arith, test, m, p)) in
-          read_next s.gains s.is_open s.failed g.R.Read.remaining start n c.args.readers.now c.loop-i.readers c.loop-i.session c.loop-i.reads k r c.read_table.new.reader c.read_table.new.session below was
-          c.read_table.new.reads (t.reads start k.events k.stands (is_next s.gains s.is_open s.failed g.R.Read.remaining start n c.args.readers.now c.loop-i.readers c.loop-i.session c.loop-i.reads k within) k.many);
+          let within : c.loop-i.i < length c.loop-i.session.plan.tables =
+          (let test = c.loop-i-test.true in let m = many in let p = ap (λ p. length p.tables) i.same.0 in omega (arith, test, m, p)) in
+          read_next s.gains s.is_open s.failed g.R.Read.remaining start n c.args.readers.now c.loop-i.readers c.loop-i.session c.loop-i.reads k r
+          c.read_table.new.reader c.read_table.new.session below was
+          c.read_table.new.reads (t.reads start k.events k.stands (is_next s.gains s.is_open s.failed g.R.Read.remaining start n c.args.readers.now
+          c.loop-i.readers c.loop-i.session c.loop-i.reads k within) k.many);
     }
 
 pub returns-in_err-read_table-clause-reads : goal.returns-in_err-read_table-clause-reads
@@ -40,11 +44,14 @@ returns-in_err-read_table-clause-reads g c =
     let was = i.untouched n r (omega arith) (slice_get-get_or c.loop-i.readers n c.index-readers-i.result below) in
     λ start h many.
     let k = i.read start h many in
-    let within : c.loop-i.i < length c.loop-i.session.plan.tables = (let test = c.loop-i-test.true in let m = many in let q = ap (λ p. length p.tables) i.same.0 in omega (arith, test, m, q)) in
+    let within : c.loop-i.i < length c.loop-i.session.plan.tables =
+    (let test = c.loop-i-test.true in let m = many in let q = ap (λ p. length p.tables) i.same.0 in omega (arith, test, m, q)) in
     rw (p.1, p.2)
-    (ends_early s.gains s.is_open s.failed g.R.Read.remaining start n c.args.readers.now c.loop-i.readers c.loop-i.session k.events k.gave k.steady r c.read_table.new.reader c.read_table.new.session below was
+    (ends_early s.gains s.is_open s.failed g.R.Read.remaining start n c.args.readers.now c.loop-i.readers c.loop-i.session k.events k.gave k.steady r
+    c.read_table.new.reader c.read_table.new.session below was
     c.args.session.now i.same (t.same.0 ∙ i.same.0, t.same.1 ∙ i.same.1) c.in_err-read_table.field-0.0 c.read_table.new.reads
-    (t.reads start k.events k.stands (is_next s.gains s.is_open s.failed g.R.Read.remaining start n c.args.readers.now c.loop-i.readers c.loop-i.session c.loop-i.reads k within) k.many))
+    (t.reads start k.events k.stands (is_next s.gains s.is_open s.failed g.R.Read.remaining start n c.args.readers.now c.loop-i.readers
+    c.loop-i.session c.loop-i.reads k within) k.many))
 
 pub returns-clause-reads : goal.returns-clause-reads
 returns-clause-reads g c =

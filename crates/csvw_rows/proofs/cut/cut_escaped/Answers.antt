@@ -14,7 +14,8 @@ unescape-requires-clause-text c =
     let text : List ℕ = c.args.text.now in
     let start = c.args.start in
     let quote = c.args.symbols.quote in
-    ap is_utf8 (sym (drop-drop 1 start text)) ∙ inside_text (drop start text) quote q.text (left_some text start q.within) (left_first text start quote q.quote) q.symbols.quote_ascii
+    ap is_utf8 (sym (drop-drop 1 start text))
+    ∙ inside_text (drop start text) quote q.text (left_some text start q.within) (left_first text start quote q.quote) q.symbols.quote_ascii
 
 pub returns-clause-cut : goal.returns-clause-cut
 returns-clause-cut c =
@@ -34,4 +35,5 @@ returns-clause-cut c =
     let h = subst (λ (l : List ℕ). IsUnescaped s.quote l old new m) (sym (drop-drop 1 start text)) k in
     let behind = subst (λ (l : List ℕ). IfSome c.behind.result (IsBehind d s l bound (m + 2))) c.split_at.ensures.back c.behind.ensures in
     some_gives (IsBehind d s r bound (m + 2)) (IsCut d r new) c.behind.result
-    (λ cut b. escaped_cut d s r old new m c.len-from.result c.len-to.result cut q.symbols q.text (left_some text start q.within) q.quoted (left_first text start s.quote q.quote) h from to b) behind
+    (λ cut b. escaped_cut d s r old new m c.len-from.result c.len-to.result cut q.symbols q.text (left_some text start q.within) q.quoted
+    (left_first text start s.quote q.quote) h from to b) behind

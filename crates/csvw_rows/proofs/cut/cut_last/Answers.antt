@@ -7,7 +7,8 @@ use Rattle.csvw_rows.proofs.cut.cut_last.Goals.{else-d-via-then-d+then-at-gt0+el
 pub returns-then-rest-at-eq13 : goal.returns-then-rest-at-eq13
 returns-then-rest-at-eq13 c spare =
     let q = c.requires in
-    crlf_cut c.args.d.now c.args.symbols c.args.rest.now spare c.args.at _ q.lawful q.symbols q.text q.within q.first c.if-d.true c.if-at-gt0.true q.stands c.if-rest-at-eq13.true c.lent.ensures refl refl
+    crlf_cut c.args.d.now c.args.symbols c.args.rest.now spare c.args.at _ q.lawful q.symbols q.text q.within q.first c.if-d.true c.if-at-gt0.true
+    q.stands c.if-rest-at-eq13.true c.lent.ensures refl refl
 
 pub returns-then-d-2 : goal.returns-then-d-2
 returns-then-d-2 c spare =

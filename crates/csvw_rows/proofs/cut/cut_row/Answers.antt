@@ -24,18 +24,21 @@ loop-len-init c =
 pub returns-in_err-cut-clause-bounded : goal.returns-in_err-cut-clause-bounded
 returns-in_err-cut-clause-bounded c =
     let i = c.loop-len.invariant in
-    (cut_grows c.args.rules.now.dialect c.args.text.now c.loop-len.spare.items c.cut_field.new.spare.items c.args.start c.loop-len.at c.loop-len.bounds.items c.in_err-cut.ensures.grows i.bounded i.cut_to).0
+    (cut_grows c.args.rules.now.dialect c.args.text.now c.loop-len.spare.items c.cut_field.new.spare.items c.args.start c.loop-len.at
+    c.loop-len.bounds.items c.in_err-cut.ensures.grows i.bounded i.cut_to).0
 
 pub returns-in_default-2-clause-bounded : goal.returns-in_default-2-clause-bounded
 returns-in_default-2-clause-bounded c =
     let i = c.loop-len.invariant in
-    (cut_grows c.args.rules.now.dialect c.args.text.now c.loop-len.spare.items c.cut_field.new.spare.items c.args.start c.loop-len.at c.loop-len.bounds.items c.in_ok-cut.ensures.grows i.bounded i.cut_to).0
+    (cut_grows c.args.rules.now.dialect c.args.text.now c.loop-len.spare.items c.cut_field.new.spare.items c.args.start c.loop-len.at
+    c.loop-len.bounds.items c.in_ok-cut.ensures.grows i.bounded i.cut_to).0
 
 pub returns-in_err-push-2-clause-bounded : goal.returns-in_err-push-2-clause-bounded
 returns-in_err-push-2-clause-bounded c =
     let i = c.loop-len.invariant in
     ap (are_bounds c.args.text.now c.cut_field.new.spare.items) c.in_err-push-2.ensures.items
-    ∙ (cut_grows c.args.rules.now.dialect c.args.text.now c.loop-len.spare.items c.cut_field.new.spare.items c.args.start c.loop-len.at c.loop-len.bounds.items c.in_ok-cut.ensures.grows i.bounded i.cut_to).0
+    ∙ (cut_grows c.args.rules.now.dialect c.args.text.now c.loop-len.spare.items c.cut_field.new.spare.items c.args.start c.loop-len.at
+    c.loop-len.bounds.items c.in_ok-cut.ensures.grows i.bounded i.cut_to).0
 
 pub returns-then-cut-clause-bounded : goal.returns-then-cut-clause-bounded
 returns-then-cut-clause-bounded c =
@@ -48,7 +51,8 @@ returns-then-cut-clause-bounded c =
     let bounds = c.loop-len.bounds.items in
     let k = rw c.in-Some-2.is at c.in_ok-cut.ensures.cut in
     let g = cut_grows d text c.loop-len.spare.items new c.args.start at bounds c.in_ok-cut.ensures.grows i.bounded i.cut_to in
-    let items : c.push-in-Some.new.self.items ≡ bounds ++ moved at cut.bound ∷ [] = c.in_ok-push-2.ensures.items ∙ ap (λ b. bounds ++ b ∷ []) c.bound_at.ensures in
+    let items : c.push-in-Some.new.self.items ≡ bounds ++ moved at cut.bound ∷ [] = c.in_ok-push-2.ensures.items
+    ∙ ap (λ b. bounds ++ b ∷ []) c.bound_at.ensures in
     ap (are_bounds text new) items ∙ bounds_one d text new at cut i.within k bounds g.0
 
 pub returns-then-cut-clause-row : goal.returns-then-cut-clause-row
@@ -62,8 +66,10 @@ returns-then-cut-clause-row c =
     let bounds = c.loop-len.bounds.items in
     let k = rw c.in-Some-2.is at c.in_ok-cut.ensures.cut in
     let g = cut_grows d text c.loop-len.spare.items new c.args.start at bounds c.in_ok-cut.ensures.grows i.bounded i.cut_to in
-    let items : c.push-in-Some.new.self.items ≡ bounds ++ moved at cut.bound ∷ [] = c.in_ok-push-2.ensures.items ∙ ap (λ b. bounds ++ b ∷ []) c.bound_at.ensures in
-    subst (λ (l : List Bound). IsCutRow d text c.args.start (at + cut.next) new l) (sym items) (cut_last d text new at cut i.within k c.args.start bounds c.if-cut.true i.from_start g.1)
+    let items : c.push-in-Some.new.self.items ≡ bounds ++ moved at cut.bound ∷ [] = c.in_ok-push-2.ensures.items
+    ∙ ap (λ b. bounds ++ b ∷ []) c.bound_at.ensures in
+    subst (λ (l : List Bound). IsCutRow d text c.args.start (at + cut.next) new l) (sym items)
+    (cut_last d text new at cut i.within k c.args.start bounds c.if-cut.true i.from_start g.1)
 
 pub loop-len-preserved : goal.loop-len-preserved
 loop-len-preserved c =
@@ -76,7 +82,8 @@ loop-len-preserved c =
     let bounds = c.loop-len.bounds.items in
     let k = rw c.in-Some-2.is at c.in_ok-cut.ensures.cut in
     let g = cut_grows d text c.loop-len.spare.items new c.args.start at bounds c.in_ok-cut.ensures.grows i.bounded i.cut_to in
-    let items : c.push-in-Some.new.self.items ≡ bounds ++ moved at cut.bound ∷ [] = c.in_ok-push-2.ensures.items ∙ ap (λ b. bounds ++ b ∷ []) c.bound_at.ensures in
+    let items : c.push-in-Some.new.self.items ≡ bounds ++ moved at cut.bound ∷ [] = c.in_ok-push-2.ensures.items
+    ∙ ap (λ b. bounds ++ b ∷ []) c.bound_at.ensures in
     let from = i.from_start in
     record {
       from_start = omega (arith, from);
@@ -84,7 +91,8 @@ loop-len-preserved c =
       is_text = next_text d text new at cut i.within k;
       bounded = ap (are_bounds text new) items ∙ bounds_one d text new at cut i.within k bounds g.0;
       marks = c.in_ok-cut.ensures.marks;
-      cut_to = subst (λ (l : List Bound). IsCutTo d text c.args.start (at + cut.next) new l) (sym items) (cut_more d text new at cut i.within k c.args.start bounds c.if-cut.false g.1);
+      cut_to = subst (λ (l : List Bound). IsCutTo d text c.args.start (at + cut.next) new l) (sym items)
+          (cut_more d text new at cut i.within k c.args.start bounds c.if-cut.false g.1);
     }
 
 pub loop-len-preserved-then-text-at : goal.loop-len-preserved-then-text-at
@@ -100,7 +108,8 @@ loop-len-preserved-then-text-at c =
     let cut = before_delimiter n in
     let stands = get_or-drop at text n 0 ∙ c.if-text-at.true in
     let k = cut_before d c.args.symbols text spare at n r.lawful c.requires.symbols i.is_text i.within c.in-Some.ensures.ahead stands in
-    let items : c.push.new.self.items ≡ bounds ++ moved at cut.bound ∷ [] = c.in_ok-push.ensures.items ∙ ap (λ b. bounds ++ b ∷ []) (c.lent.ensures ∙ moved_before at n) in
+    let items : c.push.new.self.items ≡ bounds ++ moved at cut.bound ∷ [] = c.in_ok-push.ensures.items
+    ∙ ap (λ b. bounds ++ b ∷ []) (c.lent.ensures ∙ moved_before at n) in
     let from = i.from_start in
     record {
       from_start = omega (arith, from);
@@ -108,5 +117,6 @@ loop-len-preserved-then-text-at c =
       is_text = next_text d text spare at cut i.within k;
       bounded = ap (are_bounds text spare) items ∙ bounds_one d text spare at cut i.within k bounds i.bounded;
       marks = c.next_symbol.ensures.marks;
-      cut_to = subst (λ (l : List Bound). IsCutTo d text c.args.start (at + cut.next) spare l) (sym items) (cut_more d text spare at cut i.within k c.args.start bounds refl i.cut_to);
+      cut_to = subst (λ (l : List Bound). IsCutTo d text c.args.start (at + cut.next) spare l) (sym items)
+          (cut_more d text spare at cut i.within k c.args.start bounds refl i.cut_to);
     }

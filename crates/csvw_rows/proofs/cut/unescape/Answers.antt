@@ -50,7 +50,8 @@ loop-symbols-preserved c =
     let long = doubled.0 in
     let more : len + 1 < length (drop n inside) = omega (arith, long, here, length-drop n inside, length-drop start text) in
     let again : slice_index (drop n inside) (len + 1) ≡ q =
-    ap (λ l. slice_index l (len + 1)) rest ∙ get_or-drop at text (len + 1) 0 ∙ ap (slice_index text) (let e : at + (len + 1) ≡ at + len + 1 = omega arith in e) ∙ doubled.1 in
+    ap (λ l. slice_index l (len + 1)) rest ∙ get_or-drop at text (len + 1) 0
+    ∙ ap (slice_index text) (let e : at + (len + 1) ≡ at + len + 1 = omega arith in e) ∙ doubled.1 in
     let chunk : take (at + len + 1 - at) (drop at text) ≡ take (len + 1) (drop n inside) =
     ap (λ k. take k (drop at text)) (let e : at + len + 1 - at ≡ len + 1 = omega arith in e) ∙ ap (take (len + 1)) (sym rest) in
     let grown : c.extend_from_slice.new.self.items ≡ c.loop-symbols.spare.items ++ take (len + 1) (drop n inside) =
@@ -64,7 +65,8 @@ loop-symbols-preserved c =
       back = ap (λ k. is_utf8 (drop k inside)) (sym next) ∙ doubled_back q inside n len low within i.front i.back a.0 a.1 a.2 more again;
       marks = c.in-Some.ensures.marks;
       ahead = c.in-Some.ensures.ahead;
-      written = subst (λ (k : ℕ). Unescapes q (take k inside) old c.extend_from_slice.new.self.items) next (subst (λ (l : List ℕ). Unescapes q (take (n + (len + 2)) inside) old l) (sym grown)
+      written = subst (λ (k : ℕ). Unescapes q (take k inside) old c.extend_from_slice.new.self.items) next
+          (subst (λ (l : List ℕ). Unescapes q (take (n + (len + 2)) inside) old l) (sym grown)
           (part_doubled q inside n len low within i.front i.back a.0 a.1 a.2 more again old c.loop-symbols.spare.items i.written));
     }
 
@@ -90,8 +92,10 @@ returns-clause-value c =
     ap (λ k. take k (drop at text)) (let e : at + len - at ≡ len = omega arith in e) ∙ ap (take len) (sym rest) in
     let grown : c.if-len-gt0.spare.items ≡ c.loop-symbols.spare.items ++ take len (drop n inside) =
     elim c.if-len-gt0.branch [
-      | then-len-gt0+in_ok-extend_from_slice-2 w ↦ ap (λ v. v.items) w.spare-is ∙ w.in_ok-extend_from_slice-2.ensures.items ∙ ap (λ l. c.loop-symbols.spare.items ++ l) chunk
-      | else-len-gt0 w ↦ ap (λ v. v.items) w.spare-is ∙ sym (append-nil c.loop-symbols.spare.items) ∙ ap (λ k. c.loop-symbols.spare.items ++ take k (drop n inside)) (let h = w.if-len-gt0.false in let e : 0 ≡ len = omega (arith, h) in e)
+      | then-len-gt0+in_ok-extend_from_slice-2 w ↦ ap (λ v. v.items) w.spare-is ∙ w.in_ok-extend_from_slice-2.ensures.items
+          ∙ ap (λ l. c.loop-symbols.spare.items ++ l) chunk
+      | else-len-gt0 w ↦ ap (λ v. v.items) w.spare-is ∙ sym (append-nil c.loop-symbols.spare.items)
+          ∙ ap (λ k. c.loop-symbols.spare.items ++ take k (drop n inside)) (let h = w.if-len-gt0.false in let e : 0 ≡ len = omega (arith, h) in e)
     ] in
     let place : n + len ≡ at + len - start = omega (arith, behind) in
     subst (λ (k : ℕ). IsUnescaped q inside old c.if-len-gt0.spare.items k) place (subst (λ (l : List ℕ). IsUnescaped q inside old l (n + len)) (sym grown)

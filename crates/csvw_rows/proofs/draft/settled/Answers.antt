@@ -15,7 +15,8 @@ pub returns-else-d-clause-chars : goal.returns-else-d-clause-chars
 returns-else-d-clause-chars c =
     let text : List ℕ = c.args.text.now in
     settled_none c.args.d.now text c.utf8.text (λ crlf some cr. elim c.else-d.branch [
-      | else-d-via-then-d+then-len-gt0+else-as_bytes-len-eq13 w ↦ w.if-as_bytes-len-eq13.false (subst (λ (l : List ℕ). slice_index l (length text - 1) ≡ 13) (sym w.as_bytes.ensures.value) cr)
+      | else-d-via-then-d+then-len-gt0+else-as_bytes-len-eq13 w ↦ w.if-as_bytes-len-eq13.false
+          (subst (λ (l : List ℕ). slice_index l (length text - 1) ≡ 13) (sym w.as_bytes.ensures.value) cr)
       | else-d-via-then-d+else-len-gt0 w ↦ (let h = w.if-len-gt0.false in absurd (omega (arith, h, some)))
       | else-d-via-else-d w ↦ (let z = sym w.if-d.false ∙ crlf in cc)
     ])
@@ -30,7 +31,8 @@ pub returns-else-d-clause-bytes : goal.returns-else-d-clause-bytes
 returns-else-d-clause-bytes c =
     let text : List ℕ = c.args.text.now in
     settled_same c.args.d.now text (λ crlf some cr. elim c.else-d.branch [
-      | else-d-via-then-d+then-len-gt0+else-as_bytes-len-eq13 w ↦ w.if-as_bytes-len-eq13.false (subst (λ (l : List ℕ). slice_index l (length text - 1) ≡ 13) (sym w.as_bytes.ensures.value) cr)
+      | else-d-via-then-d+then-len-gt0+else-as_bytes-len-eq13 w ↦ w.if-as_bytes-len-eq13.false
+          (subst (λ (l : List ℕ). slice_index l (length text - 1) ≡ 13) (sym w.as_bytes.ensures.value) cr)
       | else-d-via-then-d+else-len-gt0 w ↦ (let h = w.if-len-gt0.false in absurd (omega (arith, h, some)))
       | else-d-via-else-d w ↦ (let z = sym w.if-d.false ∙ crlf in cc)
     ])

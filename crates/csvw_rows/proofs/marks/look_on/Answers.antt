@@ -12,6 +12,7 @@ returns-clause-ahead c =
     let m = c.marks_from.ensures in
     let to : c.marks_from.result.from + c.marks_from.result.len ≡ at + 64 = (let a = m.from in let b = m.len in omega (arith, a, b)) in
     let none : Nowhere (Passes test text) at (at + 64) = subst (λ (k : ℕ). Nowhere (Passes test text) at k) to (c.in_default.ensures test text m.marks) in
-    let found : IsFirstByte test (drop (at + 64) text) c.memchr3-2.result = subst (λ (l : List ℕ). IsFirstByte test l c.memchr3-2.result) c.split_at-2.ensures.back c.memchr3-2.ensures in
+    let found : IsFirstByte test (drop (at + 64) text) c.memchr3-2.result =
+    subst (λ (l : List ℕ). IsFirstByte test l c.memchr3-2.result) c.split_at-2.ensures.back c.memchr3-2.ensures in
     let first = rw c.in_ok-len.was at found in
     far_ahead test text at (at + 64) n _ (omega arith) (omega arith) none first.0 first.1

@@ -15,5 +15,6 @@ returns-clause-marks c =
     record {
       few = omega arith;
       within = c.requires;
-      mask = marks_are delimiter quote text from _ c.requires (zip2_of_maps _ _ _ v (zip2_of_maps _ _ _ v (zip2_splat _ v 64 delimiter long) (zip2_splat _ v 64 quote long)) (zip2_splat _ v 64 10 long));
+      mask = marks_are delimiter quote text from _ c.requires (zip2_of_maps _ _ _ v
+          (zip2_of_maps _ _ _ v (zip2_splat _ v 64 delimiter long) (zip2_splat _ v 64 quote long)) (zip2_splat _ v 64 10 long));
     }

@@ -12,7 +12,8 @@ pub returns-in_default : goal.returns-in_default
 returns-in_default c =
     let i = c.loop-i.invariant in
     let inside = c.loop-i-test.true in
-    common_all c.args.a.now (chars c.args.b.now) c.loop-i.rest.rest.now c.loop-i.i i.left c.in_default.ensures.steps.0.0 (omega (arith, inside)) i.in_text i.same
+    common_all c.args.a.now (chars c.args.b.now) c.loop-i.rest.rest.now c.loop-i.i i.left c.in_default.ensures.steps.0.0
+    (omega (arith, inside)) i.in_text i.same
 
 pub returns-then-next-c : goal.returns-then-next-c
 returns-then-next-c c =
@@ -27,7 +28,8 @@ loop-i-preserved c =
     record {
       left = steps_off chars_rest (chars c.args.b.now) c.loop-i.rest c.next.new.self c.next.result c.loop-i.i c.next.ensures.steps.0 i.left;
       in_text = (let w = k.0 in omega (arith, w));
-      same = common_more c.args.a.now (chars c.args.b.now) c.loop-i.i c.index-a-i.result c.in-Some.next c.loop-i-test.true k c.index-a-i.is c.if-next-c.false i.same;
+      same = common_more c.args.a.now
+          (chars c.args.b.now) c.loop-i.i c.index-a-i.result c.in-Some.next c.loop-i-test.true k c.index-a-i.is c.if-next-c.false i.same;
     }
 
 pub returns : goal.returns

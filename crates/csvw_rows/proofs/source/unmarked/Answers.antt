@@ -9,5 +9,6 @@ returns-in-Some-eq65279 c =
     let rest : List ℕ = c.next.new.self.rest.now in
     let e = c.in-Some-eq65279.ensures.steps in
     let spelled = sym c.chars-rest.ensures.rest ∙ e.0 in
-    let all : chars text ≡ 65279 ∷ chars rest = chars_past_char text rest c.in-Some-eq65279.field-0 c.utf8.text spelled ∙ ap (λ k. k ∷ chars rest) c.in-Some-eq65279.field-0-test in
+    let all : chars text ≡ 65279 ∷ chars rest = chars_past_char text rest c.in-Some-eq65279.field-0 c.utf8.text spelled
+    ∙ ap (λ k. k ∷ chars rest) c.in-Some-eq65279.field-0-test in
     ap chars c.as_str.ensures ∙ sym (ap (λ (b : Bool). if b then chars text else without_mark (chars text)) c.if-begun.false ∙ ap without_mark all)

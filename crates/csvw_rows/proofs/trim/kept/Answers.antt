@@ -21,12 +21,14 @@ returns-in-No-clause-value c =
 pub returns-in-Start-clause-text : goal.returns-in-Start-clause-text
 returns-in-Start-clause-text c =
     let rest : List ℕ = c.strip_start-rest.result.now in
-    ap (λ l. is_utf8 (take (length rest) l)) (sym c.strip_start-rest.ensures.value) ∙ ap is_utf8 (take_whole rest) ∙ is_utf8-from_IsUtf8 rest c.strip_start-rest.utf8
+    ap (λ l. is_utf8 (take (length rest) l)) (sym c.strip_start-rest.ensures.value) ∙ ap is_utf8 (take_whole rest)
+    ∙ is_utf8-from_IsUtf8 rest c.strip_start-rest.utf8
 
 pub returns-in-Start-clause-value : goal.returns-in-Start-clause-value
 returns-in-Start-clause-value c =
     let rest : List ℕ = c.strip_start-rest.result.now in
-    ap (take (length rest)) (sym c.strip_start-rest.ensures.value) ∙ take_whole rest ∙ text_itself rest c.strip_start-rest.utf8 ∙ ap encode_utf8_all c.strip_start-rest.ensures.chars
+    ap (take (length rest)) (sym c.strip_start-rest.ensures.value) ∙ take_whole rest ∙ text_itself rest c.strip_start-rest.utf8
+    ∙ ap encode_utf8_all c.strip_start-rest.ensures.chars
     ∙ sym (ap (λ t. encode_utf8_all (trimmed t (chars c.args.text.now))) c.in-Start.is)
 
 pub returns-in-End-clause-text : goal.returns-in-End-clause-text
@@ -35,15 +37,18 @@ returns-in-End-clause-text c = ap is_utf8 (sym c.strip_end.ensures.value) ∙ is
 pub returns-in-End-clause-value : goal.returns-in-End-clause-value
 returns-in-End-clause-value c =
     let rest : List ℕ = c.strip_end.result.now in
-    sym c.strip_end.ensures.value ∙ text_itself rest c.strip_end.utf8 ∙ ap encode_utf8_all c.strip_end.ensures.chars ∙ sym (ap (λ t. encode_utf8_all (trimmed t (chars c.args.text.now))) c.in-End.is)
+    sym c.strip_end.ensures.value ∙ text_itself rest c.strip_end.utf8 ∙ ap encode_utf8_all c.strip_end.ensures.chars
+    ∙ sym (ap (λ t. encode_utf8_all (trimmed t (chars c.args.text.now))) c.in-End.is)
 
 pub returns-in-Both-clause-text : goal.returns-in-Both-clause-text
 returns-in-Both-clause-text c =
     let rest : List ℕ = c.strip_end-in-Both.result.now in
-    ap (λ l. is_utf8 (take (length rest) l)) (sym c.strip_start-rest-in-Both.ensures.value) ∙ ap is_utf8 (sym c.strip_end-in-Both.ensures.value) ∙ is_utf8-from_IsUtf8 rest c.strip_end-in-Both.utf8
+    ap (λ l. is_utf8 (take (length rest) l)) (sym c.strip_start-rest-in-Both.ensures.value) ∙ ap is_utf8 (sym c.strip_end-in-Both.ensures.value)
+    ∙ is_utf8-from_IsUtf8 rest c.strip_end-in-Both.utf8
 
 pub returns-in-Both-clause-value : goal.returns-in-Both-clause-value
 returns-in-Both-clause-value c =
     let rest : List ℕ = c.strip_end-in-Both.result.now in
     ap (take (length rest)) (sym c.strip_start-rest-in-Both.ensures.value) ∙ sym c.strip_end-in-Both.ensures.value ∙ text_itself rest c.strip_end-in-Both.utf8
-    ∙ ap encode_utf8_all (c.strip_end-in-Both.ensures.chars ∙ ap strip_end c.strip_start-rest-in-Both.ensures.chars) ∙ sym (ap (λ t. encode_utf8_all (trimmed t (chars c.args.text.now))) c.in-Both.is)
+    ∙ ap encode_utf8_all (c.strip_end-in-Both.ensures.chars ∙ ap strip_end c.strip_start-rest-in-Both.ensures.chars)
+    ∙ sym (ap (λ t. encode_utf8_all (trimmed t (chars c.args.text.now))) c.in-Both.is)

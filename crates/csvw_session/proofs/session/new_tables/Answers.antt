@@ -18,5 +18,7 @@ pub loop-plan-preserved : goal.loop-plan-preserved
 loop-plan-preserved c =
     let at = slice_get-get_or c.args.plans.now c.loop-plan.plan-index c.plan-item.result c.loop-plan-test.true ∙ ap Some (sym c.plan-item.is) in
     subst (λ (ps : List TablePlan). AreNew c.args.mode ps c.push.new.self.items) (sym (take_next c.args.plans.now c.loop-plan.plan-index c.plan-item.result at))
-    (subst (λ (ts : List Table). AreNew c.args.mode (take c.loop-plan.plan-index c.args.plans.now ++ c.plan-item.result ∷ []) ts) (sym c.in_ok-push.ensures.items)
-    (one_more_new c.args.mode (take c.loop-plan.plan-index c.args.plans.now) c.loop-plan.tables.items c.plan-item.result c.in_ok-new.field-0 c.loop-plan.invariant c.in_ok-new.ensures))
+    (subst (λ (ts : List Table). AreNew c.args.mode (take c.loop-plan.plan-index c.args.plans.now ++ c.plan-item.result ∷ []) ts)
+    (sym c.in_ok-push.ensures.items)
+    (one_more_new c.args.mode (take c.loop-plan.plan-index c.args.plans.now) c.loop-plan.tables.items c.plan-item.result c.in_ok-new.field-0
+    c.loop-plan.invariant c.in_ok-new.ensures))

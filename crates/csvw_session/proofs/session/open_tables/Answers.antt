@@ -10,4 +10,5 @@ returns-in_default-clause-refused g c =
 pub returns-in-Err-clause-refused : goal.returns-in-Err-clause-refused
 returns-in-Err-clause-refused g c =
     let s = g.S.TripleSink in
-    rw c.of_fault.ensures (refused_by s.gains s.is_open s.failed c.args.plan.now c.args.mode c.args.sink.now c.emit_opening.new.sink c.in-Err.fault c.in-Err.ensures.err c.in-Err.ensures.sink)
+    rw c.of_fault.ensures (refused_by s.gains s.is_open s.failed c.args.plan.now c.args.mode c.args.sink.now c.emit_opening.new.sink c.in-Err.fault
+    c.in-Err.ensures.err c.in-Err.ensures.sink)

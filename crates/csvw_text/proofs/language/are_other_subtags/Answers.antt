@@ -18,4 +18,5 @@ returns-then-not-is_subtag c =
 pub returns : goal.returns
 returns c =
     list_all-now (is_word is_letter_or_digit_char) c.args.words.now _
-    (list_all-whole (λ (w : Bor (List ℕ)). is_word is_letter_or_digit_char w.now) c.args.words.now c.loop-word.word-index c.loop-word-test.false c.loop-word.invariant)
+    (list_all-whole (λ (w : Bor (List ℕ)). is_word is_letter_or_digit_char w.now) c.args.words.now c.loop-word.word-index c.loop-word-test.false
+    c.loop-word.invariant)

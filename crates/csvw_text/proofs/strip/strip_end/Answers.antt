@@ -25,7 +25,8 @@ returns-then-not-is_white-clause-chars c =
     let before : List ℕ = c.as_str-front.result.now in
     let k = c.in-Some.c in
     let i = c.loop-c.invariant in
-    let spelled : rest ≡ before ++ encode_utf8 k = sym c.chars-before.ensures.rest ∙ c.in-Some.ensures.steps ∙ ap (λ l. l ++ encode_utf8 k) (sym c.as_str-front.ensures) in
+    let spelled : rest ≡ before ++ encode_utf8 k = sym c.chars-before.ensures.rest ∙ c.in-Some.ensures.steps
+    ∙ ap (λ l. l ++ encode_utf8 k) (sym c.as_str-front.ensures) in
     let same : chars rest ≡ chars before ++ k ∷ [] = last_char rest before k (IsUtf8-from_is_utf8 rest i.is_text) c.as_str-front.utf8 spelled in
     same ∙ sym (i.same ∙ ap strip_end same ∙ end_stays (chars before) k (sym c.is_white.ensures ∙ c.if-not-is_white.true))
 
@@ -36,7 +37,8 @@ loop-c-preserved c =
     let before : List ℕ = c.as_str-front.result.now in
     let k = c.in-Some.c in
     let i = c.loop-c.invariant in
-    let spelled : rest ≡ before ++ encode_utf8 k = sym c.chars-before.ensures.rest ∙ c.in-Some.ensures.steps ∙ ap (λ l. l ++ encode_utf8 k) (sym c.as_str-front.ensures) in
+    let spelled : rest ≡ before ++ encode_utf8 k = sym c.chars-before.ensures.rest ∙ c.in-Some.ensures.steps
+    ∙ ap (λ l. l ++ encode_utf8 k) (sym c.as_str-front.ensures) in
     let same : chars rest ≡ chars before ++ k ∷ [] = last_char rest before k (IsUtf8-from_is_utf8 rest i.is_text) c.as_str-front.utf8 spelled in
     let b = front_less text rest before (encode_utf8 k) i.within i.front spelled in
     record {

@@ -11,6 +11,7 @@ returns-in-Some-get_strs c =
     record {
       base_is = sym (first_value-rows found (codes "base")) ∙ sym c.in-Some.ensures;
       meta_is = sym (first_value-rows found (codes "META")) ∙ sym c.in-Some-get_str.ensures;
-      files_are = sym (raw_values-rows found (codes "FILE")) ∙ sym c.in-Some-get_strs.ensures ∙ ap (λ (files : List (Bor (List ℕ))). Some (map (λ file. file.now) files)) (sym copied);
+      files_are = sym (raw_values-rows found (codes "FILE")) ∙ sym c.in-Some-get_strs.ensures
+          ∙ ap (λ (files : List (Bor (List ℕ))). Some (map (λ file. file.now) files)) (sym copied);
       turns_is = c.has_flag-turns.ensures;
     }

@@ -17,6 +17,7 @@ returns c = λ rules tables keeps.
     ∙ all_told_are tables books keeps.keeps books keeps.keeps served
     ∙ ap (λ keys. key_faults keys tables) keeps.rules in
     record {
-      same = subst (IsPermutation (key_faults rules tables)) (sym c.into_vec.ensures) (subst (λ fs. IsPermutation fs c.sorted.result) given c.sorted.ensures.same);
+      same = subst (IsPermutation (key_faults rules tables)) (sym c.into_vec.ensures)
+          (subst (λ fs. IsPermutation fs c.sorted.result) given c.sorted.ensures.same);
       sorted = subst (IsSorted fault_cmp) (sym c.into_vec.ensures) c.sorted.ensures.order;
     }

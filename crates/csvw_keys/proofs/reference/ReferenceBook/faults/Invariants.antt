@@ -5,4 +5,5 @@ use Rattle.csvw_keys.specs.Tallies.{tally_times}
 use Rattle.csvw_keys.proofs.reference.ReferenceBook.faults.Given as goal
 
 abbrev pub invariant-loop-row : goal.invariant-loop-row
-invariant-loop-row l = l.faults.items ≡ flat_map (row_fault (tally_times derived.ghosts.cmp l.tally.ahead l.tally.counts) l.self) (take l.row-index l.self.referring.rows.items)
+invariant-loop-row l = l.faults.items
+    ≡ flat_map (row_fault (tally_times derived.ghosts.cmp l.tally.ahead l.tally.counts) l.self) (take l.row-index l.self.referring.rows.items)

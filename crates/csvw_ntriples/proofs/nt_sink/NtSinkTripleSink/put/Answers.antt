@@ -6,4 +6,9 @@ use Rattle.csvw_ntriples.proofs.nt_sink.NtSinkTripleSink.put.Goals as goal
 pub returns-in-Err-clause-cut : goal.returns-in-Err-clause-cut
 returns-in-Err-clause-cut g c =
     let line = c.as_slice.ensures.value ∙ c.in-Ok.ensures.text in
-    λ device. (refl, (c.in-Ok.ensures.fits, tt), cut_sends _ _ _ c.args.triple.now c.in-Err.field-0.sent c.as_slice.result.now (search rules) line c.in-Err.ensures.cut_before_end c.in-Err.ensures.cut)
+    λ device. (
+      refl,
+      (c.in-Ok.ensures.fits, tt),
+      cut_sends _ _ _ c.args.triple.now c.in-Err.field-0.sent c.as_slice.result.now
+          (search rules) line c.in-Err.ensures.cut_before_end c.in-Err.ensures.cut,
+    )

@@ -16,8 +16,10 @@ loop-rest-preserved-in-Ok c =
     let e = ap rest_lines c.in-Some.is ∙ n.0 in
     let g = subst (λ (z : Option NtTriple). LineGives front z) c.in-Some-2.is c.in_ok-triple.ensures in
     record {
-      whole = whole_on c.args.text.now front c.loop-rest.rest c.first_line.result.1 (Some c.in-Some-2.triple) _ _ e g c.in-Ok.ensures.items c.loop-rest.invariant.whole;
-      only = only_on c.args.text.now front c.loop-rest.rest c.first_line.result.1 (Some c.in-Some-2.triple) _ _ e g c.in-Ok.ensures.items c.loop-rest.invariant.only;
+      whole = whole_on c.args.text.now front c.loop-rest.rest c.first_line.result.1
+          (Some c.in-Some-2.triple) _ _ e g c.in-Ok.ensures.items c.loop-rest.invariant.whole;
+      only = only_on c.args.text.now front c.loop-rest.rest c.first_line.result.1
+          (Some c.in-Some-2.triple) _ _ e g c.in-Ok.ensures.items c.loop-rest.invariant.only;
     }
 
 pub loop-rest-preserved : goal.loop-rest-preserved
@@ -28,8 +30,10 @@ loop-rest-preserved c =
     let g = subst (λ (z : Option NtTriple). LineGives front z) c.in_default-2.is c.in_ok-triple.ensures in
     let same = sym (append-nil c.loop-rest.triples.items) in
     record {
-      whole = whole_on c.args.text.now front c.loop-rest.rest c.first_line.result.1 None c.loop-rest.triples.items c.loop-rest.triples.items e g same c.loop-rest.invariant.whole;
-      only = only_on c.args.text.now front c.loop-rest.rest c.first_line.result.1 None c.loop-rest.triples.items c.loop-rest.triples.items e g same c.loop-rest.invariant.only;
+      whole = whole_on c.args.text.now front c.loop-rest.rest c.first_line.result.1 None c.loop-rest.triples.items c.loop-rest.triples.items e g same
+          c.loop-rest.invariant.whole;
+      only = only_on c.args.text.now front c.loop-rest.rest c.first_line.result.1 None c.loop-rest.triples.items c.loop-rest.triples.items e g same
+          c.loop-rest.invariant.only;
     }
 
 pub returns-clause-found : goal.returns-clause-found

@@ -6,12 +6,14 @@ use Rattle.csvw_ntriples.proofs.reading.runs.run.Goals as goal
 
 pub loop-i-preserved : goal.loop-i-preserved
 loop-i-preserved c =
-    run_on (is_in c.args.class) c.args.text.now c.loop-i.i c.index-text-i.result c.loop-i-test.true c.loop-i.invariant c.index-text-i.is (sym c.is_in.ensures ∙ c.if-not-is_in.false)
+    run_on (is_in c.args.class) c.args.text.now c.loop-i.i c.index-text-i.result c.loop-i-test.true c.loop-i.invariant c.index-text-i.is
+    (sym c.is_in.ensures ∙ c.if-not-is_in.false)
 
 pub returns-then-not-is_in : goal.returns-then-not-is_in
 returns-then-not-is_in c =
     rw (c.split_at.ensures.front, c.split_at.ensures.back)
-    (run_at (is_in c.args.class) c.args.text.now c.loop-i.i c.index-text-i.result c.loop-i-test.true c.loop-i.invariant c.index-text-i.is (sym c.is_in.ensures ∙ c.if-not-is_in.true))
+    (run_at (is_in c.args.class) c.args.text.now c.loop-i.i c.index-text-i.result c.loop-i-test.true c.loop-i.invariant c.index-text-i.is
+    (sym c.is_in.ensures ∙ c.if-not-is_in.true))
 
 pub returns : goal.returns
 returns c =

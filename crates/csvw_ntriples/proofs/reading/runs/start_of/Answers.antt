@@ -28,5 +28,6 @@ returns-then-first-eq34 c =
 pub returns-else-first-eq34 : goal.returns-else-first-eq34
 returns-else-first-eq34 c =
     let r = c.after_blanks.ensures in
-    let other : (d : ℕ) → (c.in-Some.first.now ≡ d → ⊥) → dark c.args.text.now ≡ Some d → ⊥ = λ d. dark_not c.args.text.now r.0 c.after_blanks.result.now _ c.in-Some.first.now d r.1 c.in-Some.ensures.cases.0 in
+    let other : (d : ℕ) → (c.in-Some.first.now ≡ d → ⊥) → dark c.args.text.now ≡ Some d
+    → ⊥ = λ d. dark_not c.args.text.now r.0 c.after_blanks.result.now _ c.in-Some.first.now d r.1 c.in-Some.ensures.cases.0 in
     (other 60 c.if-first-eq60.false, other 95 c.if-first-eq95.false, other 34 c.if-first-eq34.false)

@@ -19,7 +19,8 @@ returns-in_ok-close_field-in-Unfinished c =
     let u = c.close_field.new.self in
     let k : Reads d s t c.split_at.result.1.now reading.Unfinished = rw c.in-Unfinished.is at c.in_ok-read.ensures in
     let r : Reads d s t (drop (read_of s) rest) reading.Unfinished = subst (λ (l : List ℕ). Reads d s t l reading.Unfinished) c.split_at.ensures.back k in
-    last_open d s rest c.utf8.rest c.requires t u r.0 r.1 (sym c.is_quoted.ensures ∙ c.if-is_quoted.false) c.close_field.ensures.read c.in_ok-close_field-in-Unfinished.ensures.values
+    last_open d s rest c.utf8.rest c.requires t u r.0 r.1
+    (sym c.is_quoted.ensures ∙ c.if-is_quoted.false) c.close_field.ensures.read c.in_ok-close_field-in-Unfinished.ensures.values
 
 pub returns-in-Ended : goal.returns-in-Ended
 returns-in-Ended c =

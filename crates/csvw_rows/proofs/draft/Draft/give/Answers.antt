@@ -19,7 +19,8 @@ invariant_of-self-clause-bounded c = ap (apart_all c.swap.new.x.items) (ap (λ v
 pub returns-in-No-clause-texts : goal.returns-in-No-clause-texts
 returns-in-No-clause-texts c =
     let s = c.args.self.now in
-    ap (λ v. texts_apart v.items c.swap-in-No.new.y.items) c.swap.ensures.y_after ∙ ap (λ v. texts_apart s.texts.items v.items) c.swap-in-No.ensures.y_after ∙ encoded_all s.texts.items s.bounds.items s.bounded
+    ap (λ v. texts_apart v.items c.swap-in-No.new.y.items) c.swap.ensures.y_after
+    ∙ ap (λ v. texts_apart s.texts.items v.items) c.swap-in-No.ensures.y_after ∙ encoded_all s.texts.items s.bounds.items s.bounded
     ∙ sym (ap (λ t. map (λ x. encode_utf8_all (trimmed t x)) (values_of s)) c.in-No.is)
 
 pub invariant_of-self-in-Start-clause-within : goal.invariant_of-self-in-Start-clause-within
@@ -37,5 +38,7 @@ returns-in-Start-clause-texts c =
     let f = λ (x : List ℕ). encode_utf8_all (trimmed c.args.trim x) in
     let texts : c.as_slice.result.now ≡ s.texts.items = c.as_slice.ensures.value ∙ ap (λ v. v.items) c.swap.ensures.y_after in
     on_ok c.trim_fields-given.result _ _ (λ e. ap (λ v. texts_apart v.items c.trim_fields-given.new.fields.items) c.swap.ensures.y_after
-    ∙ ap (λ l. texts_apart l c.trim_fields-given.new.fields.items) (sym texts) ∙ e ∙ ap (λ l. map (λ x. f (chars x)) (texts_apart l c.as_slice-in-Start.result.now)) texts
-    ∙ ap (λ l. map (λ x. f (chars x)) (texts_apart s.texts.items l)) c.as_slice-in-Start.ensures.value ∙ sym (map_twice f chars (texts_apart s.texts.items s.bounds.items))) c.trim_fields-given.ensures.texts
+    ∙ ap (λ l. texts_apart l c.trim_fields-given.new.fields.items) (sym texts) ∙ e
+    ∙ ap (λ l. map (λ x. f (chars x)) (texts_apart l c.as_slice-in-Start.result.now)) texts
+    ∙ ap (λ l. map (λ x. f (chars x)) (texts_apart s.texts.items l)) c.as_slice-in-Start.ensures.value
+    ∙ sym (map_twice f chars (texts_apart s.texts.items s.bounds.items))) c.trim_fields-given.ensures.texts

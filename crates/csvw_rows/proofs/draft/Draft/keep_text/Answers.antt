@@ -15,12 +15,14 @@ invariant_of-self-clause-within c = search rules
 pub invariant_of-self-clause-is_text : goal.invariant_of-self-clause-is_text
 invariant_of-self-clause-is_text c =
     let s = c.args.self.now in
-    kept_text c.extend_from_slice.result s.from s.texts.items c.as_bytes.result.now c.extend_from_slice.new.self.items s.within s.is_text c.as_bytes.ensures.utf8 c.extend_from_slice.ensures.items
+    kept_text c.extend_from_slice.result s.from s.texts.items c.as_bytes.result.now c.extend_from_slice.new.self.items s.within s.is_text
+    c.as_bytes.ensures.utf8 c.extend_from_slice.ensures.items
 
 pub invariant_of-self-clause-bounded : goal.invariant_of-self-clause-bounded
 invariant_of-self-clause-bounded c =
     let s = c.args.self.now in
-    (kept_apart c.extend_from_slice.result s.texts.items c.as_bytes.result.now c.extend_from_slice.new.self.items s.bounds.items s.bounded c.extend_from_slice.ensures.items).0
+    (kept_apart c.extend_from_slice.result s.texts.items c.as_bytes.result.now c.extend_from_slice.new.self.items s.bounds.items s.bounded
+    c.extend_from_slice.ensures.items).0
 
 pub returns-clause-keeps : goal.returns-clause-keeps
 returns-clause-keeps c =
@@ -31,8 +33,10 @@ returns-clause-keeps c =
     let n = c.clean_len-len.result in
     let u = IsUtf8-take rest n c.utf8.rest c.clean_len-len.ensures.boundary in
     let long = c.split_at.ensures.back_len in
-    let grown : c.extend_from_slice.new.self.items ≡ s.texts.items ++ take n rest = c.in_ok-extend_from_slice.ensures.items ∙ ap (λ l. s.texts.items ++ l) (c.as_bytes.ensures.value ∙ c.split_at.ensures.front) in
-    let values = ap (map chars) ((kept_apart {T = Unit {0}} {E = Unit {0}} (Ok tt) s.texts.items (take n rest) c.extend_from_slice.new.self.items s.bounds.items s.bounded grown).1) in
+    let grown : c.extend_from_slice.new.self.items ≡ s.texts.items ++ take n rest = c.in_ok-extend_from_slice.ensures.items
+    ∙ ap (λ l. s.texts.items ++ l) (c.as_bytes.ensures.value ∙ c.split_at.ensures.front) in
+    let values = ap (map chars) ((kept_apart {T = Unit {0}} {E = Unit {0}} (Ok tt) s.texts.items
+    (take n rest) c.extend_from_slice.new.self.items s.bounds.items s.bounded grown).1) in
     let current = kept_texts s.from s.texts.items (take n rest) c.extend_from_slice.new.self.items s.within s.is_text grown in
     let same : length rest - length left ≡ n = omega (arith, long) in
     let kept = map chars (texts_apart c.extend_from_slice.new.self.items s.bounds.items) in
@@ -40,7 +44,9 @@ returns-clause-keeps c =
       within = omega (arith, long);
       is_text = ap is_utf8 c.split_at.ensures.back ∙ is_utf8-from_IsUtf8 (drop n rest) (IsUtf8-drop rest n c.utf8.rest c.clean_len-len.ensures.boundary);
       back = ap (λ m. drop m rest) same ∙ sym c.split_at.ensures.back;
-      runs = ap (run d s.state (values_of s) (current_of s)) (split_chars rest n u) ∙ clean_runs d s.state (values_of s) (current_of s) (chars (take n rest)) (chars (drop n rest)) c.clean_len-len.ensures.clean
+      runs = ap (run d s.state (values_of s) (current_of s)) (split_chars rest n u)
+          ∙ clean_runs d s.state (values_of s) (current_of s) (chars (take n rest)) (chars (drop n rest)) c.clean_len-len.ensures.clean
           ∙ ap (λ vs. run d s.state vs (current_of s ++ chars (take n rest)) (chars (drop n rest))) (sym values)
-          ∙ ap (λ cur. run d s.state kept cur (chars (drop n rest))) (sym current) ∙ ap (λ l. run d s.state kept (chars (drop s.from c.extend_from_slice.new.self.items)) (chars l)) (sym c.split_at.ensures.back);
+          ∙ ap (λ cur. run d s.state kept cur (chars (drop n rest))) (sym current)
+          ∙ ap (λ l. run d s.state kept (chars (drop s.from c.extend_from_slice.new.self.items)) (chars l)) (sym c.split_at.ensures.back);
     }

@@ -11,7 +11,13 @@ use Rattle.csvw_rows.proofs.draft.Draft.read.Goals as goal
 pub loop-left-init : goal.loop-left-init
 loop-left-init c =
     let text : List ℕ = c.args.text.now in
-    record { within = omega arith; back = ap (λ n. drop n text) (let z : length text - length text ≡ 0 = omega arith in z); is_text = is_utf8-from_IsUtf8 text c.utf8.text; read = refl; runs = refl }
+    record {
+      within = omega arith;
+      back = ap (λ n. drop n text) (let z : length text - length text ≡ 0 = omega arith in z);
+      is_text = is_utf8-from_IsUtf8 text c.utf8.text;
+      read = refl;
+      runs = refl;
+    }
 
 pub keep_text-requires-text-rest : goal.keep_text-requires-text-rest
 keep_text-requires-text-rest c = λ a. IsUtf8-from_is_utf8 c.loop-left.rest.now c.loop-left.invariant.is_text
@@ -44,7 +50,8 @@ loop-left-preserved c =
     let a = back_kept text rest left i.within i.back q.back in
     let b = back_more text left (encode_utf8 k) behind a.0 a.1 spelled in
     let ends : nat_lt 0 (terminator_len d (k ∷ chars behind)) ≡ nat_lt 0 c.terminator_at-ends.result =
-    ap (λ l. nat_lt 0 (terminator_len d l)) (sym same) ∙ ap (nat_lt 0) (term_same d left u ∙ ap (terminator_len d) (sym c.as_bytes.ensures.value) ∙ sym c.terminator_at-ends.ensures.value) in
+    ap (λ l. nat_lt 0 (terminator_len d l)) (sym same)
+    ∙ ap (nat_lt 0) (term_same d left u ∙ ap (terminator_len d) (sym c.as_bytes.ensures.value) ∙ sym c.terminator_at-ends.ensures.value) in
     let s = rw c.in-Unfinished.is at c.in_ok-step.ensures.steps in
     record {
       within = b.0;
@@ -70,7 +77,8 @@ returns-in-Ended c =
     let same : chars left ≡ k ∷ chars behind = chars_past_char left behind k u spelled in
     let a = back_kept text rest left i.within i.back q.back in
     let ends : nat_lt 0 (terminator_len d (k ∷ chars behind)) ≡ nat_lt 0 c.terminator_at-ends.result =
-    ap (λ l. nat_lt 0 (terminator_len d l)) (sym same) ∙ ap (nat_lt 0) (term_same d left u ∙ ap (terminator_len d) (sym c.as_bytes.ensures.value) ∙ sym c.terminator_at-ends.ensures.value) in
+    ap (λ l. nat_lt 0 (terminator_len d l)) (sym same)
+    ∙ ap (nat_lt 0) (term_same d left u ∙ ap (terminator_len d) (sym c.as_bytes.ensures.value) ∙ sym c.terminator_at-ends.ensures.value) in
     let s = rw c.in-Ended.is at c.in_ok-step.ensures.steps in
     let w = a.0 in
     let r = c.requires in (
@@ -79,7 +87,8 @@ returns-in-Ended c =
         read = omega (arith, r, w);
         within = omega arith;
         back = ap is_utf8 a.1 ∙ q.is_text;
-        found = i.runs ∙ q.runs ∙ ap (runs_on d c.keep_text.new.self) same ∙ s (chars behind) ends ∙ ap (Found (values_of c.step.new.self)) (sym same ∙ ap chars (sym a.1));
+        found = i.runs ∙ q.runs ∙ ap (runs_on d c.keep_text.new.self) same ∙ s (chars behind) ends
+            ∙ ap (Found (values_of c.step.new.self)) (sym same ∙ ap chars (sym a.1));
       },
     )
 
@@ -99,7 +108,8 @@ returns-in-Broken c =
     let same : chars left ≡ k ∷ chars behind = chars_past_char left behind k u spelled in
     let a = back_kept text rest left i.within i.back q.back in
     let ends : nat_lt 0 (terminator_len d (k ∷ chars behind)) ≡ nat_lt 0 c.terminator_at-ends.result =
-    ap (λ l. nat_lt 0 (terminator_len d l)) (sym same) ∙ ap (nat_lt 0) (term_same d left u ∙ ap (terminator_len d) (sym c.as_bytes.ensures.value) ∙ sym c.terminator_at-ends.ensures.value) in
+    ap (λ l. nat_lt 0 (terminator_len d l)) (sym same)
+    ∙ ap (nat_lt 0) (term_same d left u ∙ ap (terminator_len d) (sym c.as_bytes.ensures.value) ∙ sym c.terminator_at-ends.ensures.value) in
     let s = rw c.in-Broken.is at c.in_ok-step.ensures.steps in
     let w = a.0 in
     let r = c.requires in (
@@ -108,6 +118,7 @@ returns-in-Broken c =
         read = omega (arith, r, w);
         within = omega arith;
         back = ap is_utf8 a.1 ∙ q.is_text;
-        broken = i.runs ∙ q.runs ∙ ap (runs_on d c.keep_text.new.self) same ∙ s (chars behind) ends ∙ ap (Broken c.in-Broken.stop) (sym same ∙ ap chars (sym a.1));
+        broken = i.runs ∙ q.runs ∙ ap (runs_on d c.keep_text.new.self) same ∙ s (chars behind) ends
+            ∙ ap (Broken c.in-Broken.stop) (sym same ∙ ap chars (sym a.1));
       },
     )

@@ -21,10 +21,12 @@ returns-clause-row c =
     let few : s.row < s.max_rows = (let h = c.if-self.false in omega (arith, h)) in
     let note : is_note d s.row (chars c.rest-rest.result.now) ≡ false = sym c.is_skipped.ensures ∙ c.if-is_skipped.false in
     let k = rw c.in-Some-2.is at c.in_ok-at.ensures.row in
-    let here = subst (λ (l : List ℕ). IsCutRow d l (taken_of s.source) at spare bounds) c.items-text.ensures (subst (λ (n : ℕ). IsCutRow d c.items-text.result.now n at spare bounds) c.taken-start.ensures k) in
+    let here = subst (λ (l : List ℕ). IsCutRow d l (taken_of s.source) at spare bounds) c.items-text.ensures
+    (subst (λ (n : ℕ). IsCutRow d c.items-text.result.now n at spare bounds) c.taken-start.ensures k) in
     some_gives (IsRowLen d c.items-text.result.now c.taken-start.result at) _ c.row_len.result
     (λ n l. cut_has _ at n y.trim few (ap (is_note d s.row) (sym c.rest-rest.ensures.chars) ∙ note) here
-    (subst (λ (l : List ℕ). IsRowLen d l (taken_of s.source) at n) c.items-text.ensures (subst (λ (m : ℕ). IsRowLen d c.items-text.result.now m at n) c.taken-start.ensures l)))
+    (subst (λ (l : List ℕ). IsRowLen d l (taken_of s.source) at n) c.items-text.ensures
+    (subst (λ (m : ℕ). IsRowLen d c.items-text.result.now m at n) c.taken-start.ensures l)))
     c.row_len.ensures
 
 pub cut_row-requires-clause-marks : goal.cut_row-requires-clause-marks

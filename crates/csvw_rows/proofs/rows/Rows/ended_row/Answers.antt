@@ -8,7 +8,8 @@ pub returns : goal.returns
 returns c =
     let s = c.args.self.now in
     let len = c.args.len in
-    let behind : c.split_at.result.1.now ≡ drop len (rest_bytes s.source) = c.split_at.ensures.back ∙ ap (drop len) (c.as_bytes.ensures.value ∙ c.rest.ensures.value) in
+    let behind : c.split_at.result.1.now ≡ drop len (rest_bytes s.source) = c.split_at.ensures.back
+    ∙ ap (drop len) (c.as_bytes.ensures.value ∙ c.rest.ensures.value) in
     let past = c.if-len-gt-ROW_LIMIT.false in
     read_has s len _ c.requires.readable c.requires.read (omega (arith, past))
     (ap (λ n. len + n) (c.terminator_at.ensures.value ∙ ap (terminator_len s.rules.dialect) behind))

@@ -23,7 +23,8 @@ invariant_of-self-clause-noted c =
     subst (IsNoted s.rules.dialect s.note) (sym b.0) (noted_grows s.rules.dialect s.note (rest_bytes s.source) (encode_utf8_all g.0) s.noted)
 
 pub invariant_of-self-in-Err-clause-drafted : goal.invariant_of-self-in-Err-clause-drafted
-invariant_of-self-in-Err-clause-drafted c = fresh_draft c.args.self.now.rules.dialect c.clear-in-Err.new.self (rest_bytes c.push.new.self) c.clear-in-Err.ensures c.push.new.self.is_text
+invariant_of-self-in-Err-clause-drafted c =
+    fresh_draft c.args.self.now.rules.dialect c.clear-in-Err.new.self (rest_bytes c.push.new.self) c.clear-in-Err.ensures c.push.new.self.is_text
 
 pub returns-in-Ok-clause-feeds : goal.returns-in-Ok-clause-feeds
 returns-in-Ok-clause-feeds c = λ d max bytes given h.

@@ -14,12 +14,14 @@ pub returns-in-None : goal.returns-in-None
 returns-in-None c =
     let s = c.args.self.now in
     let text = c.as_bytes.ensures.value ∙ c.rest-rest.ensures.value in
-    let none : IsLineEnd s.rules.dialect (rest_bytes s.source) s.note None = subst (λ (l : List ℕ). IsLineEnd s.rules.dialect l s.note None) text (rw c.in-None.is at c.line_end.ensures) in
+    let none : IsLineEnd s.rules.dialect (rest_bytes s.source) s.note None =
+    subst (λ (l : List ℕ). IsLineEnd s.rules.dialect l s.note None) text (rw c.in-None.is at c.line_end.ensures) in
     last_ends s _ (ap length c.rest-rest.ensures.value) (sym c.is_last.ensures ∙ c.if-is_last.true) (none_ends s none)
 
 pub returns-in-None-2 : goal.returns-in-None-2
 returns-in-None-2 c =
     let s = c.args.self.now in
     let text = c.as_bytes.ensures.value ∙ c.rest-rest.ensures.value in
-    let none : IsLineEnd s.rules.dialect (rest_bytes s.source) s.note None = subst (λ (l : List ℕ). IsLineEnd s.rules.dialect l s.note None) text (rw c.in-None-2.is at c.line_end.ensures) in
+    let none : IsLineEnd s.rules.dialect (rest_bytes s.source) s.note None =
+    subst (λ (l : List ℕ). IsLineEnd s.rules.dialect l s.note None) text (rw c.in-None-2.is at c.line_end.ensures) in
     (none_ends s none, sym c.is_last.ensures ∙ c.if-is_last.false)

@@ -6,7 +6,8 @@ use Rattle.csvw_rows.specs.Marked.{is_symbol, AreMarks}
 use Rattle.csvw_rows.proofs.rows.Rows.pass.Goals as goal
 
 pub invariant_of-self-clause-drafted : goal.invariant_of-self-clause-drafted
-invariant_of-self-clause-drafted c = fresh_draft c.args.self.now.rules.dialect c.clear.new.self (rest_bytes c.take.new.self) c.clear.ensures c.take.new.self.is_text
+invariant_of-self-clause-drafted c =
+    fresh_draft c.args.self.now.rules.dialect c.clear.new.self (rest_bytes c.take.new.self) c.clear.ensures c.take.new.self.is_text
 
 pub invariant_of-self-clause-bounded : goal.invariant_of-self-clause-bounded
 invariant_of-self-clause-bounded c =

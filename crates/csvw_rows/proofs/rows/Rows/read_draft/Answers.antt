@@ -28,14 +28,16 @@ ended_row-requires-clause-read c =
     let t = c.go_on.new.self in
     let g : IsRowRead d c.is_last-is_last.result t c.rest.result.now = rw c.in-Ok-Ended.field-0-is at c.in-Ok-Ended.ensures in
     let r : IsRowRead d (is_last (after_of s)) t (rest_bytes s.source) =
-    subst (λ (b : Bool). IsRowRead d b t (rest_bytes s.source)) c.is_last-is_last.ensures (subst (λ (l : List ℕ). IsRowRead d c.is_last-is_last.result t l) c.rest.ensures.value g) in
+    subst (λ (b : Bool). IsRowRead d b t (rest_bytes s.source)) c.is_last-is_last.ensures
+    (subst (λ (l : List ℕ). IsRowRead d c.is_last-is_last.result t l) c.rest.ensures.value g) in
     let e = c.read_len-len.ensures in
     record {
       values = values_of t;
       within = subst (λ (n : ℕ). n ≤ length (rest_bytes s.source)) (sym e) r.within;
       back = ap (λ n. is_utf8 (drop n (rest_bytes s.source))) e ∙ r.back;
       found = r.found ∙ ap (λ n. Found (values_of t) (chars (drop n (rest_bytes s.source)))) (sym e);
-      texts = (apart_bounds (text_items s.source) c.take_fields.new.spare.items c.take_fields.new.fields.items c.take_fields.ensures.bounded).1 ∙ c.in_ok-take_fields-in-Ok-Ended.ensures.texts;
+      texts = (apart_bounds (text_items s.source) c.take_fields.new.spare.items c.take_fields.new.fields.items c.take_fields.ensures.bounded).1
+          ∙ c.in_ok-take_fields-in-Ok-Ended.ensures.texts;
     }
 
 pub invariant_of-self-in-Ok-Broken-clause-drafted : goal.invariant_of-self-in-Ok-Broken-clause-drafted
@@ -56,7 +58,8 @@ open_front-requires c =
     let t = c.go_on.new.self in
     let h : GoesOn d c.is_last-is_last.result t c.rest.result.now reading.Unfinished = rw c.in-Ok-Unfinished.field-0-is at c.in-Ok-Unfinished.ensures in
     let g : GoesOn d (is_last (after_of s)) t (rest_bytes s.source) reading.Unfinished =
-    subst (λ (b : Bool). GoesOn d b t (rest_bytes s.source) reading.Unfinished) c.is_last-is_last.ensures (subst (λ (l : List ℕ). GoesOn d c.is_last-is_last.result t l reading.Unfinished) c.rest.ensures.value h) in
+    subst (λ (b : Bool). GoesOn d b t (rest_bytes s.source) reading.Unfinished) c.is_last-is_last.ensures
+    (subst (λ (l : List ℕ). GoesOn d c.is_last-is_last.result t l reading.Unfinished) c.rest.ensures.value h) in
     subst (IsOpenFront _) (sym c.sure_len.ensures) (draft_front _ (record { some = k.some; few = k.few; note = k.note; may_not = k.may_not }) g.0 g.1)
 
 pub shown_len-len-requires-clause-within : goal.shown_len-len-requires-clause-within
@@ -67,9 +70,11 @@ shown_len-len-requires-clause-within c =
     let stop = c.in-Ok-Broken.stop in
     let h : GoesOn d c.is_last-is_last.result t c.rest.result.now (reading.Broken stop) = rw c.in-Ok-Broken.field-0-is at c.in-Ok-Broken.ensures in
     let g : GoesOn d (is_last (after_of s)) t (rest_bytes s.source) (reading.Broken stop) =
-    subst (λ (b : Bool). GoesOn d b t (rest_bytes s.source) (reading.Broken stop)) c.is_last-is_last.ensures (subst (λ (l : List ℕ). GoesOn d c.is_last-is_last.result t l (reading.Broken stop)) c.rest.ensures.value h) in
+    subst (λ (b : Bool). GoesOn d b t (rest_bytes s.source) (reading.Broken stop)) c.is_last-is_last.ensures
+    (subst (λ (l : List ℕ). GoesOn d c.is_last-is_last.result t l (reading.Broken stop)) c.rest.ensures.value h) in
     let place : ℕ = c.read_len-at.result in
-    let within : place ≤ length (rest_bytes s.source) = subst (λ (n : ℕ). n ≤ length (rest_bytes s.source)) (sym c.read_len-at.ensures) ((goes_back d (is_last (after_of s)) t (rest_bytes s.source) stop g).0) in
+    let within : place ≤ length (rest_bytes s.source) = subst (λ (n : ℕ). n ≤ length (rest_bytes s.source)) (sym c.read_len-at.ensures)
+    ((goes_back d (is_last (after_of s)) t (rest_bytes s.source) stop g).0) in
     subst (λ (l : List ℕ). place ≤ length l) (sym c.rest-in-Ok-Broken.ensures.value) within
 
 pub shown_len-len-requires-clause-text : goal.shown_len-len-requires-clause-text
@@ -80,8 +85,10 @@ shown_len-len-requires-clause-text c =
     let stop = c.in-Ok-Broken.stop in
     let h : GoesOn d c.is_last-is_last.result t c.rest.result.now (reading.Broken stop) = rw c.in-Ok-Broken.field-0-is at c.in-Ok-Broken.ensures in
     let g : GoesOn d (is_last (after_of s)) t (rest_bytes s.source) (reading.Broken stop) =
-    subst (λ (b : Bool). GoesOn d b t (rest_bytes s.source) (reading.Broken stop)) c.is_last-is_last.ensures (subst (λ (l : List ℕ). GoesOn d c.is_last-is_last.result t l (reading.Broken stop)) c.rest.ensures.value h) in
-    ap is_utf8 (ap (λ n. drop n c.rest-in-Ok-Broken.result.now) c.read_len-at.ensures ∙ ap (drop (read_of t)) c.rest-in-Ok-Broken.ensures.value) ∙ (goes_back d (is_last (after_of s)) t (rest_bytes s.source) stop g).1
+    subst (λ (b : Bool). GoesOn d b t (rest_bytes s.source) (reading.Broken stop)) c.is_last-is_last.ensures
+    (subst (λ (l : List ℕ). GoesOn d c.is_last-is_last.result t l (reading.Broken stop)) c.rest.ensures.value h) in
+    ap is_utf8 (ap (λ n. drop n c.rest-in-Ok-Broken.result.now) c.read_len-at.ensures ∙ ap (drop (read_of t)) c.rest-in-Ok-Broken.ensures.value)
+    ∙ (goes_back d (is_last (after_of s)) t (rest_bytes s.source) stop g).1
 
 pub broken_row-requires-clause-wrong : goal.broken_row-requires-clause-wrong
 broken_row-requires-clause-wrong c =
@@ -92,8 +99,10 @@ broken_row-requires-clause-wrong c =
     let stop = c.in-Ok-Broken.stop in
     let h : GoesOn d c.is_last-is_last.result t c.rest.result.now (reading.Broken stop) = rw c.in-Ok-Broken.field-0-is at c.in-Ok-Broken.ensures in
     let g : GoesOn d (is_last (after_of s)) t (rest_bytes s.source) (reading.Broken stop) =
-    subst (λ (b : Bool). GoesOn d b t (rest_bytes s.source) (reading.Broken stop)) c.is_last-is_last.ensures (subst (λ (l : List ℕ). GoesOn d c.is_last-is_last.result t l (reading.Broken stop)) c.rest.ensures.value h) in
+    subst (λ (b : Bool). GoesOn d b t (rest_bytes s.source) (reading.Broken stop)) c.is_last-is_last.ensures
+    (subst (λ (l : List ℕ). GoesOn d c.is_last-is_last.result t l (reading.Broken stop)) c.rest.ensures.value h) in
     let len = c.shown_len-len.result in
     let n : IsShownLen d (rest_bytes s.source) (read_of t) len =
-    subst (λ (l : List ℕ). IsShownLen d l (read_of t) len) c.rest-in-Ok-Broken.ensures.value (subst (λ (m : ℕ). IsShownLen d c.rest-in-Ok-Broken.result.now m len) c.read_len-at.ensures c.shown_len-len.ensures) in
+    subst (λ (l : List ℕ). IsShownLen d l (read_of t) len) c.rest-in-Ok-Broken.ensures.value
+    (subst (λ (m : ℕ). IsShownLen d c.rest-in-Ok-Broken.result.now m len) c.read_len-at.ensures c.shown_len-len.ensures) in
     stopped_wrong _ t len stop (record { some = k.some; few = k.few; note = k.note; may_not = k.may_not }) g n

@@ -13,13 +13,15 @@ pub waits-requires : goal.waits-requires
 waits-requires c =
     let s = c.args.self.now in
     let u = IsUtf8-from_is_utf8 (rest_bytes s.source) s.source.is_text in
-    empty_waits_there s (empty_of (rest_of s.source) (sym (text_empty (rest_bytes s.source) u) ∙ ap (λ (l : List ℕ). length l == 0) (sym c.rest.ensures.value) ∙ sym c.is_empty.ensures ∙ c.if-is_empty.true))
+    empty_waits_there s (empty_of (rest_of s.source) (sym (text_empty (rest_bytes s.source) u)
+    ∙ ap (λ (l : List ℕ). length l == 0) (sym c.rest.ensures.value) ∙ sym c.is_empty.ensures ∙ c.if-is_empty.true))
 
 pub returns-then-self-clause-known : goal.returns-then-self-clause-known
 returns-then-self-clause-known c =
     let s = c.args.self.now in
     let u = IsUtf8-from_is_utf8 (rest_bytes s.source) s.source.is_text in
-    let some = some_of (rest_of s.source) (sym (text_empty (rest_bytes s.source) u) ∙ ap (λ (l : List ℕ). length l == 0) (sym c.rest.ensures.value) ∙ sym c.is_empty.ensures ∙ c.if-is_empty.false) in
+    let some = some_of (rest_of s.source) (sym (text_empty (rest_bytes s.source) u) ∙ ap (λ (l : List ℕ). length l == 0) (sym c.rest.ensures.value)
+    ∙ sym c.is_empty.ensures ∙ c.if-is_empty.false) in
     let many = c.if-self.true in
     let counted = s.counted in
     many_stops (is_last (after_of s)) s.rules.dialect s.max_rows s.row (rest_of s.source) (omega (arith, many, counted)) some
@@ -29,7 +31,8 @@ read_note-requires c =
     let s = c.args.self.now in
     let u = IsUtf8-from_is_utf8 (rest_bytes s.source) s.source.is_text in
     record {
-      some = some_of (rest_of s.source) (sym (text_empty (rest_bytes s.source) u) ∙ ap (λ (l : List ℕ). length l == 0) (sym c.rest.ensures.value) ∙ sym c.is_empty.ensures ∙ c.if-is_empty.false);
+      some = some_of (rest_of s.source) (sym (text_empty (rest_bytes s.source) u) ∙ ap (λ (l : List ℕ). length l == 0) (sym c.rest.ensures.value)
+          ∙ sym c.is_empty.ensures ∙ c.if-is_empty.false);
       few = (let h = c.if-self.false in omega (arith, h));
       note = ap (is_note s.rules.dialect s.row) (sym c.rest-2.ensures.chars) ∙ sym c.is_skipped.ensures ∙ c.if-is_skipped.true;
     }
@@ -38,7 +41,8 @@ pub open_front-requires : goal.open_front-requires
 open_front-requires c =
     let s = c.args.self.now in
     let u = IsUtf8-from_is_utf8 (rest_bytes s.source) s.source.is_text in
-    let some = some_of (rest_of s.source) (sym (text_empty (rest_bytes s.source) u) ∙ ap (λ (l : List ℕ). length l == 0) (sym c.rest.ensures.value) ∙ sym c.is_empty.ensures ∙ c.if-is_empty.false) in
+    let some = some_of (rest_of s.source) (sym (text_empty (rest_bytes s.source) u) ∙ ap (λ (l : List ℕ). length l == 0) (sym c.rest.ensures.value)
+    ∙ sym c.is_empty.ensures ∙ c.if-is_empty.false) in
     let few : s.row < s.max_rows = (let h = c.if-self.false in omega (arith, h)) in
     let note = ap (is_note s.rules.dialect s.row) (sym c.rest-2.ensures.chars) ∙ sym c.is_skipped.ensures ∙ c.if-is_skipped.false in
     let may = may_both _ _ (sym c.may_become_comment.ensures ∙ c.if-may_become_comment.true) in
@@ -49,7 +53,8 @@ read_draft-requires c =
     let s = c.args.self.now in
     let u = IsUtf8-from_is_utf8 (rest_bytes s.source) s.source.is_text in
     record {
-      some = some_of (rest_of s.source) (sym (text_empty (rest_bytes s.source) u) ∙ ap (λ (l : List ℕ). length l == 0) (sym c.rest.ensures.value) ∙ sym c.is_empty.ensures ∙ c.if-is_empty.false);
+      some = some_of (rest_of s.source) (sym (text_empty (rest_bytes s.source) u) ∙ ap (λ (l : List ℕ). length l == 0) (sym c.rest.ensures.value)
+          ∙ sym c.is_empty.ensures ∙ c.if-is_empty.false);
       few = (let h = c.if-self.false in omega (arith, h));
       note = ap (is_note s.rules.dialect s.row) (sym c.rest-2.ensures.chars) ∙ sym c.is_skipped.ensures ∙ c.if-is_skipped.false;
       may_not = λ e. may_neither _ _ (sym c.may_become_comment.ensures ∙ c.if-may_become_comment.false) e;

@@ -12,4 +12,5 @@ pub open_front-requires : goal.open_front-requires
 open_front-requires c =
     let k = c.requires in
     let e = c.settled_len-self.ensures in
-    note_front _ c.settled_len-self.result (record { some = k.some; few = k.few; note = k.note }) c.in-None.ensures.0 c.in-None.ensures.1 (record { bytes = e.bytes; chars = e.chars; text = e.text })
+    note_front _ c.settled_len-self.result (record { some = k.some; few = k.few; note = k.note }) c.in-None.ensures.0 c.in-None.ensures.1
+    (record { bytes = e.bytes; chars = e.chars; text = e.text })

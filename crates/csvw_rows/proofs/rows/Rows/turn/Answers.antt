@@ -6,7 +6,8 @@ use Rattle.csvw_rows.specs.RowsState.{HasRow}
 use Rattle.csvw_rows.proofs.rows.Rows.turn.Goals as goal
 
 pub returns-in-Some-clause-turns : goal.returns-in-Some-clause-turns
-returns-in-Some-clause-turns c = turns_from c.args.self.now c.cut.new.self c.pass_fields.new.self (Ok c.pass_fields.result) c.cut.ensures.refills c.pass_fields.ensures.turns
+returns-in-Some-clause-turns c =
+    turns_from c.args.self.now c.cut.new.self c.pass_fields.new.self (Ok c.pass_fields.result) c.cut.ensures.refills c.pass_fields.ensures.turns
 
 pub returns-in-Row-clause-turns : goal.returns-in-Row-clause-turns
 returns-in-Row-clause-turns c =
@@ -16,12 +17,14 @@ returns-in-Row-clause-turns c =
 pub returns-in-Waits-clause-turns : goal.returns-in-Waits-clause-turns
 returns-in-Waits-clause-turns c =
     waits_turns c.args.self.now c.read_front.new.self
-    (refills_again c.args.self.now c.cut.new.self c.read_front.new.self c.cut.ensures.refills c.read_front.ensures.refills) (rw c.in-Waits.is at c.in_ok-len-2.ensures.known)
+    (refills_again c.args.self.now c.cut.new.self c.read_front.new.self c.cut.ensures.refills c.read_front.ensures.refills)
+    (rw c.in-Waits.is at c.in_ok-len-2.ensures.known)
 
 pub returns-in-Stop-clause-turns : goal.returns-in-Stop-clause-turns
 returns-in-Stop-clause-turns c =
     stop_turns c.args.self.now c.read_front.new.self c.in-Stop.stop
-    (refills_again c.args.self.now c.cut.new.self c.read_front.new.self c.cut.ensures.refills c.read_front.ensures.refills) (rw c.in-Stop.is at c.in_ok-len-2.ensures.known)
+    (refills_again c.args.self.now c.cut.new.self c.read_front.new.self c.cut.ensures.refills c.read_front.ensures.refills)
+    (rw c.in-Stop.is at c.in_ok-len-2.ensures.known)
 
 pub returns-in-Note-clause-turns : goal.returns-in-Note-clause-turns
 returns-in-Note-clause-turns c =

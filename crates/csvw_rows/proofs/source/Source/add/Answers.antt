@@ -12,7 +12,8 @@ invariant_of-self-clause-is_text c =
     let ok = is_ok c.extend_from_slice.result in
     let piece : List ℕ = c.unmarked.result.now in
     added_text c.extend_from_slice.result (drop s.taken s.text.items) piece c.extend_from_slice.new.self.items s.is_text c.unmarked.utf8
-    (c.extend_from_slice.ensures.items ∙ ap (λ (l : List ℕ). if ok then c.drop_front.new.bytes.items ++ l else c.drop_front.new.bytes.items) c.as_bytes.ensures.value
+    (c.extend_from_slice.ensures.items
+    ∙ ap (λ (l : List ℕ). if ok then c.drop_front.new.bytes.items ++ l else c.drop_front.new.bytes.items) c.as_bytes.ensures.value
     ∙ ap (λ (l : List ℕ). if ok then l ++ piece else l) c.drop_front.ensures)
 
 pub returns-clause-rest : goal.returns-clause-rest
@@ -21,6 +22,7 @@ returns-clause-rest c =
     let ok = is_ok c.extend_from_slice.result in
     let piece : List ℕ = c.unmarked.result.now in
     added_rest c.extend_from_slice.result (drop s.taken s.text.items) piece c.extend_from_slice.new.self.items _ s.is_text
-    (c.extend_from_slice.ensures.items ∙ ap (λ (l : List ℕ). if ok then c.drop_front.new.bytes.items ++ l else c.drop_front.new.bytes.items) c.as_bytes.ensures.value
+    (c.extend_from_slice.ensures.items
+    ∙ ap (λ (l : List ℕ). if ok then c.drop_front.new.bytes.items ++ l else c.drop_front.new.bytes.items) c.as_bytes.ensures.value
     ∙ ap (λ (l : List ℕ). if ok then l ++ piece else l) c.drop_front.ensures)
     c.unmarked.ensures

@@ -9,7 +9,8 @@ use Rattle.csvw_session.proofs.session.Session.check.Goals as goal
 
 pub returns-then-is_ended : goal.returns-then-is_ended
 returns-then-is_ended g c =
-    let below : c.in-Some.i < length c.args.self.now.tables.items = subst (λ n. c.in-Some.i < n) (c.len.ensures ∙ c.args.self.now.tables.ok.0) c.in-Some.ensures.1 in (
+    let below : c.in-Some.i < length c.args.self.now.tables.items =
+    subst (λ n. c.in-Some.i < n) (c.len.ensures ∙ c.args.self.now.tables.ok.0) c.in-Some.ensures.1 in (
       λ e. never (c.if-is_failed.ensures.1 e),
       has_table c.args.self.now c.args.t c.in-Some.i c.in-Some.ensures.0 below,
       inr (

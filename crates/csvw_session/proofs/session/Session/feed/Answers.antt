@@ -36,8 +36,10 @@ returns-in-Ok-clause-takes g c = λ start events h.
     let at_plan = slice_get-get_or c.args.self.now.plan.tables c.in_ok-i.i c.index-plans-i.result below
     ∙ ap Some (sym (c.index-plans-i.is ∙ ap (λ (xs : List TablePlan). get_or xs c.in_ok-i.i c.index-plans-i.result) c.tables-plans.ensures)) in
     let at_table = slice_get-get_or c.args.self.now.tables.items c.in_ok-i.i c.index_mut.result.now k.2 ∙ ap Some (sym c.index_mut.ensures.value) in
-    fed_at s.gains s.is_open s.failed g.met.S.TripleSink.goes_on c.args.self.now _ c.in_ok-i.i c.index-plans-i.result c.index_mut.result.now c.feed_table.new.table (at_plan, at_table) k.2
-    (k.3 c.index_mut.result.now at_table) refl refl refl c.args.t k.1 c.args.piece.now refl (λ bytes given rows. c.in-Ok.ensures.feeds c.args.self.now.mode bytes given rows) start events h
+    fed_at s.gains s.is_open s.failed g.met.S.TripleSink.goes_on c.args.self.now _ c.in_ok-i.i c.index-plans-i.result c.index_mut.result.now
+    c.feed_table.new.table (at_plan, at_table) k.2
+    (k.3 c.index_mut.result.now at_table) refl refl refl c.args.t k.1 c.args.piece.now refl
+    (λ bytes given rows. c.in-Ok.ensures.feeds c.args.self.now.mode bytes given rows) start events h
 
 pub returns-in-Err-clause-takes : goal.returns-in-Err-clause-takes
 returns-in-Err-clause-takes g c =
@@ -47,8 +49,10 @@ returns-in-Err-clause-takes g c =
     let at_plan = slice_get-get_or c.args.self.now.plan.tables c.in_ok-i.i c.index-plans-i.result below
     ∙ ap Some (sym (c.index-plans-i.is ∙ ap (λ (xs : List TablePlan). get_or xs c.in_ok-i.i c.index-plans-i.result) c.tables-plans.ensures)) in
     let at_table = slice_get-get_or c.args.self.now.tables.items c.in_ok-i.i c.index_mut.result.now k.2 ∙ ap Some (sym c.index_mut.ensures.value) in
-    unfed_at s.gains s.is_open s.failed g.met.S.TripleSink.goes_on c.args.self.now _ c.in_ok-i.i c.index-plans-i.result c.index_mut.result.now c.feed_table.new.table (at_plan, at_table) k.2
-    (k.3 c.index_mut.result.now at_table) refl refl refl c.args.t k.1 c.args.piece.now c.in-Err.halt c.of_halt.result c.of_halt.ensures refl (λ bytes given rows. c.in-Err.ensures.feeds c.args.self.now.mode bytes given rows)
+    unfed_at s.gains s.is_open s.failed g.met.S.TripleSink.goes_on c.args.self.now _ c.in_ok-i.i c.index-plans-i.result c.index_mut.result.now
+    c.feed_table.new.table (at_plan, at_table) k.2
+    (k.3 c.index_mut.result.now at_table) refl refl refl c.args.t k.1 c.args.piece.now c.in-Err.halt c.of_halt.result c.of_halt.ensures refl
+    (λ bytes given rows. c.in-Err.ensures.feeds c.args.self.now.mode bytes given rows)
 
 pub returns-in_err-i-clause-order : goal.returns-in_err-i-clause-order
 returns-in_err-i-clause-order g c =

@@ -11,7 +11,8 @@ pub loop-i-init : goal.loop-i-init
 loop-i-init g c =
     let s = g.S.TripleSink in
     let place = c.args.place in
-    starts s.gains s.is_open s.failed g.met.S.TripleSink.stays c.args.sink.now (described_cells place.table place.row None (zip c.args.columns.now c.args.cells.now))
+    starts s.gains s.is_open s.failed g.met.S.TripleSink.stays c.args.sink.now
+    (described_cells place.table place.row None (zip c.args.columns.now c.args.cells.now))
 
 pub returns-in_err-emit_described : goal.returns-in_err-emit_described
 returns-in_err-emit_described g c =

@@ -14,7 +14,8 @@ returns-in_err-emit_describes g c =
     let front = puts_front s.gains s.is_open s.failed c.args.sink.now c.emit_describes.new.sink in
     let column = c.args.column.now in
     let place = c.args.place in
-    let all = describes_triples place.table place.row (option_copied c.args.last) c.args.cell.now ++ cell_triples place.table place.row column c.args.cell.now in
+    let all = describes_triples place.table place.row (option_copied c.args.last) c.args.cell.now
+    ++ cell_triples place.table place.row column c.args.cell.now in
     rw (p.1, p.2) (front _ _ _ c.in_err-emit_describes.field-0.0 (shown column.suppressed all c.if-column.false) c.in_err-emit_describes.ensures)
 
 pub returns : goal.returns
@@ -23,5 +24,6 @@ returns g c =
     let then = puts_then s.gains s.is_open s.failed g.met.S.TripleSink.goes_on c.args.sink.now c.emit_describes.new.sink c.emit_cell.new.sink in
     let column = c.args.column.now in
     let place = c.args.place in
-    let all = describes_triples place.table place.row (option_copied c.args.last) c.args.cell.now ++ cell_triples place.table place.row column c.args.cell.now in
+    let all = describes_triples place.table place.row (option_copied c.args.last) c.args.cell.now
+    ++ cell_triples place.table place.row column c.args.cell.now in
     then _ _ _ c.emit_cell.result (shown column.suppressed all c.if-column.false) c.in_ok-emit_describes.ensures c.emit_cell.ensures
