@@ -5,7 +5,9 @@ pub mod Spelled
 pub mod Counts
 pub mod Answer
 pub mod ReadLemmas
+pub mod ShortLemmas
 pub mod LexicalLemmas
+pub mod ScaledLemmas
 pub mod LexicalNumber
 pub mod DateLemmas
 pub mod AsciiLemmas

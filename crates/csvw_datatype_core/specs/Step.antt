@@ -1,5 +1,6 @@
 -- The numbers that the pass keeps.
-use Rattle.std.specs.Prelude.{ℕ, ◌+◌, ◌*◌, ◌/◌, ◌%◌, ◌^◌, min, ◌≤◌, ◌==◌, ◌&&◌, ◌||◌, not, nat_le, true, false, Option, Some, None, if◌then◌else◌, List, [], ◌∷◌}
+use Rattle.std.specs.Prelude.{◌≡◌, ℕ, ◌+◌, ◌*◌, ◌/◌, ◌%◌, ◌^◌, min, ◌≤◌, ◌==◌, ◌&&◌, ◌||◌, not, nat_le, true, false, Option, Some, None, if◌then◌else◌, List, [], ◌∷◌, Bool}
+use Rattle.std.specs.Str.{chars}
 use Rattle.csvw_datatype_core.specs.declared.number.NumberRules.{NumberRules}
 use Rattle.csvw_datatype_core.specs.declared.number.Kind.{Kind}
 use Rattle.csvw_datatype_core.specs.declared.number.Kind.TheVariants as kinds
@@ -7,7 +8,7 @@ use Rattle.csvw_datatype_core.specs.declared.number.Place.{Place}
 use Rattle.csvw_datatype_core.specs.declared.number.Place.TheVariants as places
 use Rattle.csvw_datatype_core.specs.declared.number.Mark.TheVariants as marks
 use Rattle.csvw_datatype_core.specs.declared.number.Scan.{Scan}
-use Rattle.csvw_datatype_core.specs.Scan.{kind_of, next}
+use Rattle.csvw_datatype_core.specs.Scan.{kind_of, next, ends}
 use Rattle.csvw_datatype_core.specs.Numbers.{divisor}
 
 abbrev pub begun : Scan
@@ -45,3 +46,32 @@ count_of s = if s.too_long || (nat_le (10 ^ 20 * divisor s.mark) s.whole || not 
 pub record IsSmall (s : Scan) : Type 0 where
   pub whole : s.whole ≤ 10 ^ 23
   pub fraction : s.fraction + 10 * s.weight ≤ 10 ^ 18
+
+-- the pass over a text goes on as this one over the rest of it
+abbrev pub Continues : NumberRules → Scan → List ℕ → Scan → List ℕ → Type 0
+Continues rules s text t rest = run rules s (chars text) ≡ run rules t (chars rest)
+
+-- no fraction was begun
+pub record IsBegun (s : Scan) : Type 0 where
+  pub fraction : s.fraction ≡ 0
+  pub weight : s.weight ≡ 10 ^ 17
+  pub too_long : s.too_long ≡ false
+  pub mark : s.mark ≡ marks.Plain
+
+-- the text is what may follow a whole part, with a fraction of this many units
+pub record EndsWith (rules : NumberRules) (s : Scan) (text : List ℕ) (units : ℕ) : Type 0 where
+  pub place : Place
+  pub weight : ℕ
+  pub ended : ends place ≡ true
+  pub run_is : run rules s (chars text) ≡ record s { place = place; fraction = units; weight = weight }
+
+-- the pass ends at a number of this many units
+pub record CountsWith (rules : NumberRules) (s : Scan) (text : List ℕ) (n : ℕ) : Type 0 where
+  pub ended : ends (run rules s (chars text)).place ≡ true
+  pub count : count_of (run rules s (chars text)) ≡ Some n
+  pub minus : (run rules s (chars text)).minus ≡ s.minus
+
+-- the pass after a minus sign, or after nothing
+abbrev pub signed_begun : Bool → Scan
+signed_begun false = begun
+signed_begun true = record begun { place = places.Sign; minus = true }

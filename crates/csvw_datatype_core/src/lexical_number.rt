@@ -6,10 +6,13 @@ ghost use Rattle.std.specs.Str.{chars};
 ghost use Rattle.csvw_datatype_core.specs.LexicalNumbers.{AppendsPart, AppendsFraction, IsLexicalNumber};
 ghost use Rattle.csvw_datatype_core.specs.Forms.{number_form};
 
+use itoa::Buffer;
 use std::alloc::{AllocError, Global};
-use std::fmt::Write;
 
 const UNIT: u128 = 1_000_000_000_000_000_000;
+
+/// The weight of the first digit behind the point.
+const TENTH: u64 = 100_000_000_000_000_000;
 
 /// Makes a text the lexical form of a number in units of 10^-18, below 10^38 of them in size, in its memory: `-` only below zero,
 /// no zero that could be left out, no point where it is whole; `AllocError` where there is no memory.
@@ -57,7 +60,8 @@ fn push_point_and_fraction(out: &mut String, fraction: u64) -> Result<(), AllocE
 fn push_decimal(out: &mut String, n: u128) -> Result<(), AllocError>
     ensures { OnOk result (string_bytes out.new ≡ string_bytes out.old ++ decimal n) }
 {
-    write!(out, "{n}")
+    let mut digits = Buffer::new();
+    out.push_str(digits.format(n))
 }
 
 fn push_fraction(out: &mut String, fraction: u64) -> Result<(), AllocError>
@@ -66,12 +70,10 @@ fn push_fraction(out: &mut String, fraction: u64) -> Result<(), AllocError>
     ensures { OnOk result (AppendsFraction (string_bytes out.old) (string_bytes out.new) fraction) }
 {
     let mut rest = fraction;
-    let mut weight = 100_000_000_000_000_000u64;
     while rest > 0 {
-        let digit = (rest / weight) as u8;
+        let digit = (rest / TENTH) as u8;
         out.push((48 + digit) as char)?;
-        rest %= weight;
-        weight /= 10;
+        rest = rest % TENTH * 10;
     }
     Ok(())
 }

@@ -7,6 +7,7 @@ mod lexical_date;
 mod lexical_number;
 mod moment;
 mod number;
+mod short_number;
 mod values;
 
 pub use date::{DateFormat, FieldDigits, Separator, one_date, read_date};

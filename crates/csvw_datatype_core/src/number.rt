@@ -2,6 +2,8 @@
 ghost use Rattle.std.specs.Prelude.{◌≡◌, ◌≤◌, ◌+◌, ◌*◌, ◌^◌, ◌<◌, Some, None, pos, neg_ℤ, MatchOption, MatchResult, IfSome, fold, if◌then◌else◌};
 ghost use Rattle.std.specs.Str.{chars};
 
+use crate::short_number::short_number;
+
 /// How a column writes its numbers.
 #[derive(Clone, Copy, Debug, PartialEq, Eq)]
 pub struct NumberRules {
@@ -74,7 +76,7 @@ fn differ(a: Option<char>, b: Option<char>) -> bool
     }
 }
 
-fn holds(option: Option<char>, c: char) -> bool
+pub(crate) fn holds(option: Option<char>, c: char) -> bool
     ensures { result ≡ holds option c }
 {
     match option {
@@ -329,10 +331,7 @@ pub enum NumberFault {
 ghost use Rattle.csvw_datatype_core.specs.Numbers.{IsLawful, ReadsNumber};
 ghost use Rattle.csvw_datatype_core.specs.Misread.{MisreadNumber};
 
-/// The number that a text spells, in units of 10^-18; `Bad` where it spells none, else `TooLong` where the
-/// number is 10^20 or more in size or no whole count of them. The rules have passed `is_lawful`
-/// (Model for Tabular Data and Metadata on the Web, section 6.4.2).
-pub fn read_number(rules: &NumberRules, text: &str) -> Result<i128, NumberFault>
+fn any_number(rules: &NumberRules, text: &str) -> Result<i128, NumberFault>
     requires { IsLawful rules.now }
     ensures { MatchResult result (ReadsNumber rules.now (chars text.now)) (MisreadNumber rules.now (chars text.now)) }
 {
@@ -346,7 +345,21 @@ pub fn read_number(rules: &NumberRules, text: &str) -> Result<i128, NumberFault>
     }
 }
 
-fn signed(minus: bool, count: u128) -> i128
+/// The number that a text spells, in units of 10^-18; `Bad` where it spells none, else `TooLong` where the
+/// number is 10^20 or more in size or no whole count of them. The rules have passed `is_lawful`
+/// (Model for Tabular Data and Metadata on the Web, section 6.4.2).
+pub fn read_number(rules: &NumberRules, text: &str) -> Result<i128, NumberFault>
+    requires { IsLawful rules.now }
+    ensures { MatchResult result (ReadsNumber rules.now (chars text.now)) (MisreadNumber rules.now (chars text.now)) }
+{
+    // Most numbers are short.
+    match short_number(rules, text.as_bytes()) {
+        Some(number) => Ok(number),
+        None => any_number(rules, text),
+    }
+}
+
+pub(crate) fn signed(minus: bool, count: u128) -> i128
     requires { count ≤ 10 ^ 38 }
     ensures { result ≡ (if minus then neg_ℤ (pos count) else pos count) }
 {

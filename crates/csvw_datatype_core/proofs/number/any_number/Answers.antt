@@ -7,7 +7,7 @@ use Rattle.csvw_datatype_core.specs.Scan.{ends}
 use Rattle.csvw_datatype_core.specs.Step.{count_of}
 use Rattle.csvw_datatype_core.specs.Numbers.{ReadsNumber}
 use Rattle.csvw_datatype_core.proofs.ReadLemmas.{spells_nothing, spells, reads_nothing, reads}
-use Rattle.csvw_datatype_core.proofs.number.read_number.Goals as goal
+use Rattle.csvw_datatype_core.proofs.number.any_number.Goals as goal
 
 pub returns-then-not-ends : goal.returns-then-not-ends
 returns-then-not-ends c =
