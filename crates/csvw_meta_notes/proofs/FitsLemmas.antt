@@ -4,10 +4,9 @@ use Rattle.serde_json.specs.Data.{unsigned, negative, float, Data, null, boolean
 use Rattle.serde_json.specs.Data.{Items, no_items, item, Members, no_members, member}
 use Rattle.serde_json.specs.Find.{get}
 use Rattle.url.specs.Parts.{Parts}
-use Rattle.csvw_meta_core.specs.declared.fault.MetaFault.{MetaFault}
 use Rattle.csvw_meta_core.specs.Others.{has_colon}
 use Rattle.csvw_meta_core.specs.Pointer.{below, item_at}
-use Rattle.csvw_meta_core.specs.Read.{Read, fine, over_faults, given, optional, property}
+use Rattle.csvw_meta_core.specs.Read.{Read, fine, ◌>>=◌, given, optional, property}
 use Rattle.csvw_meta_core.specs.Kinds as kinds
 use Rattle.csvw_meta_core.specs.declared.fault.MetaCode.TheVariants.{BadProperty}
 use Rattle.csvw_description.specs.declared.note.Note.{Note}
@@ -66,11 +65,6 @@ described_fits base key at d ms properties h (Some value) = one_literal key (lit
 described_fits base key at d ms properties h None = more_fit _ [] (node_fits key (optional (node_id base) at d (codes "@id")).value
     (property type_names [] at d (codes "@type")).value properties.value h) none_fit
 
-over_fits : (fs : List MetaFault) (key : List ℕ) (says : List ℕ → Read (List Note)) → ((k : List ℕ) → AreFitNotes (says k).value)
-    → AreFitNotes (over_faults [] fs key says).value
-over_fits [] key says h = h key
-over_fits (f ∷ fs) key says h = none_fit
-
 common_fits_if : (b : Bool) (r : Read (List Note)) → AreFitNotes r.value → AreFitNotes (if b then r else fine []).value
 common_fits_if true r h = h
 common_fits_if false r h = none_fit
@@ -96,10 +90,8 @@ mutual
   common_fits base language at no_members = none_fit
   common_fits base language at (member name d ms) =
       join (if_common (below at name) name d (λ key. noted base language key (below at name) d)).value (common base language at ms).value
-      (common_fits_if (has_colon name)
-      (over_faults [] (name_of (below at name) d name).faults (name_of (below at name) d name).value (λ key. noted base language key (below at name) d))
-      (over_fits (name_of (below at name) d name).faults (name_of (below at name) d name).value
-      (λ key. noted base language key (below at name) d) (λ key. noted_fits base language key (below at name) d)))
+      (common_fits_if (has_colon name) (name_of (below at name) d name >>= (λ key. noted base language key (below at name) d))
+      (noted_fits base language (name_of (below at name) d name).value (below at name) d))
       (common_fits base language at ms)
 
 pub annotations_fit : (base : Parts) (language : Option (List ℕ)) (at : List ℕ) (d : Data) → AreFitNotes (annotations base language at d).value

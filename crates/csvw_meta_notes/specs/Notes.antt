@@ -5,7 +5,7 @@ use Rattle.serde_json.specs.Find.{get}
 use Rattle.url.specs.Parts.{Parts}
 use Rattle.csvw_meta_core.specs.Others.{has_colon}
 use Rattle.csvw_meta_core.specs.Pointer.{below, item_at}
-use Rattle.csvw_meta_core.specs.Read.{Read, fine, wrong, under, both, over, property}
+use Rattle.csvw_meta_core.specs.Read.{Read, fine, ◌>>=◌, wrong, under, both, property}
 use Rattle.csvw_description.specs.declared.note.Note.{Note}
 use Rattle.csvw_description.specs.declared.note.NoteValue.{NoteValue, Literal, Object}
 use Rattle.csvw_meta_notes.specs.Literals.{literal}
@@ -23,9 +23,9 @@ abbrev pub described : Parts → List ℕ → Data → Members → Read (List No
 described base at d ms properties (Some value) = under Literal (literal at d ms value)
 described base at d ms properties None = under Object (node base at d ms properties)
 
--- What a property without a colon says is ignored. Where a name is no IRI, its value isn't judged.
+-- What a property without a colon says is ignored. A value is judged also where its name is no IRI.
 abbrev pub if_common : List ℕ → List ℕ → Data → (List ℕ → Read (List Note)) → Read (List Note)
-if_common at name d says = if has_colon name then over [] (name_of at d name) says else fine []
+if_common at name d says = if has_colon name then name_of at d name >>= says else fine []
 
 -- the notes of a value with this predicate, in the language of the context
 abbrev mutual

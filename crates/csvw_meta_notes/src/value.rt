@@ -165,6 +165,7 @@ pub(crate) fn add_members<'p>(
 
 /// Adds what the property of that name says, whose value stands there.
 #[cycle(value)]
+#[tactic(auto, using(crate::proofs::ReadLemmas::fails_first))]
 fn add_member<'p>(
     scope: &Scope,
     name: &'p str,
