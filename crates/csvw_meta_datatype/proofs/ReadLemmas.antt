@@ -6,17 +6,11 @@ use Rattle.csvw_meta_core.specs.declared.fault.MetaFault.{MetaFault}
 use Rattle.csvw_meta_core.specs.declared.fault.Refusal.{Refusal}
 use Rattle.csvw_meta_core.specs.declared.fault.Refusal.TheVariants as refusal
 use Rattle.csvw_meta_core.specs.Reads.{Fails, Reads}
-use Rattle.csvw_meta_core.specs.Read.{Read, fine, unless_faulty, over_faults}
+use Rattle.csvw_meta_core.specs.Read.{Read, fine, over_faults}
 
 pub fails_first : (e : Refusal) (xs ys : List MetaFault) → Fails e xs → Fails e (xs ++ ys)
 fails_first refusal.Memory xs ys h = tt
 fails_first (refusal.Fault f) xs ys h = Contains-append_left xs ys f h
-
--- A fault of the parts is told with those of the rule over them.
-pub fails_also : (e : Refusal) (xs more : List MetaFault) → Fails e xs → Fails e (unless_faulty xs more)
-fails_also refusal.Memory xs more h = tt
-fails_also (refusal.Fault f) [] more h = absurd (omega (arith, h.1))
-fails_also (refusal.Fault f) (x ∷ xs) more h = h
 
 -- A fault of what has to be there first is told.
 pub fails_over : {A B : Type 0} (e : Refusal) (dummy : B) (xs : List MetaFault) (a : A) (next : A → Read B)
