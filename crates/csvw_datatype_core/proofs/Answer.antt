@@ -1,5 +1,7 @@
 -- What `count` answers is the count of the number that the text spells, where there is one.
-use Rattle.std.proofs.Common.{◌≡◌, ◌≢◌, ℕ, ◌+◌, ◌*◌, ◌/◌, ◌%◌, ◌^◌, ◌≤◌, ◌<◌, min, List, [], ◌∷◌, ◌++◌, length, refl, sym, ap, subst, ◌∙◌, Bool, true, false, cond, Option, Some, None, inl, inr, ⊎_elim, ◌⊎◌, arith, ◌||◌, not, ◌==◌, filter, nat_le, unwrap_or, lit≤, mul-le-mul_right}
+use Rattle.std.proofs.Common.{◌≡◌, ◌≢◌, ℕ, ◌+◌, ◌*◌, ◌/◌, ◌%◌, ◌^◌, ◌≤◌, ◌<◌, min, List, [], ◌∷◌, ◌++◌, length, refl, sym, ap, subst, ◌∙◌, Bool, true}
+use Rattle.std.proofs.Common.{false, cond, Option, Some, None, inl, inr, ⊎_elim, ◌⊎◌, arith, ◌||◌, not, ◌==◌, filter, nat_le, unwrap_or, lit≤}
+use Rattle.std.proofs.Common.{mul-le-mul_right}
 use Rattle.std.specs.List.{AllByRecursion}
 use Rattle.std.specs.Char.{IsAsciiDigit, is_ascii_digit, digit_value}
 use Rattle.std.specs.Str.Parse.{digits_value, digits_value_after}
@@ -45,7 +47,8 @@ found w u f d p v g t a b c =
 
 -- the fraction is below one
 small_part : (g p v t : ℕ) → g * p ≡ v * t → v < p → 0 < t → g < t
-small_part g p v t e l h = ⊎_elim (λ (k : g < t). k) (λ (k : t ≤ g). absurd (let a = mul-le-mul_right p k in let b = mul-lt-mul_of_pos_right l h in omega (arith, a, b))) (cases_lt g t)
+small_part g p v t e l h = ⊎_elim (λ (k : g < t). k)
+    (λ (k : t ≤ g). absurd (let a = mul-le-mul_right p k in let b = mul-lt-mul_of_pos_right l h in omega (arith, a, b))) (cases_lt g t)
 
 bound : (w u f d k t : ℕ) → w < k * d → f < u → u * d ≡ t → w * u + f < k * t
 bound w u f d k t a b e = let c = mul-le-mul_right u a in rw (← e) (omega (arith, c))
@@ -109,18 +112,23 @@ abbrev IsAnswerBy : Parts → ℕ → Option ℕ → Type 0
 IsAnswerBy p d None = (m : ℕ) → m < 10 ^ 38 → IsCountBy p d m → ⊥
 IsAnswerBy p d (Some n) = (n < 10 ^ 38) × IsCountBy p d n
 
-split_count : (p : Parts) (d m : ℕ) → IsCountBy p d m → m * (10 ^ length (fraction_digits p) * d) ≡ (whole_value 0 p.whole * 10 ^ length (fraction_digits p) + digits_value 10 (fraction_digits p)) * 10 ^ 18
+split_count : (p : Parts) (d m : ℕ) → IsCountBy p d m → m * (10 ^ length (fraction_digits p) * d)
+    ≡ (whole_value 0 p.whole * 10 ^ length (fraction_digits p) + digits_value 10 (fraction_digits p)) * 10 ^ 18
 split_count p d m e = e ∙ ap (λ x. x * 10 ^ 18) (digits_split p)
 
-held_fraction : (p : Parts) (s : Scan) (d u : ℕ) → Numbers p s d u → s.too_long ≡ false → s.fraction * 10 ^ length (fraction_digits p) ≡ digits_value 10 (fraction_digits p) * 10 ^ 18
-held_fraction p s d u n t = ap (λ f. f * 10 ^ length (fraction_digits p)) n.fraction ∙ fraction_count 18 begun (fraction_digits p) refl n.digits (sym n.too_long ∙ t) ∙ omega arith
+held_fraction : (p : Parts) (s : Scan) (d u : ℕ) → Numbers p s d u → s.too_long ≡ false
+    → s.fraction * 10 ^ length (fraction_digits p) ≡ digits_value 10 (fraction_digits p) * 10 ^ 18
+held_fraction p s d u n t = ap (λ f. f * 10 ^ length (fraction_digits p)) n.fraction
+    ∙ fraction_count 18 begun (fraction_digits p) refl n.digits (sym n.too_long ∙ t) ∙ omega arith
 
-is_found : (p : Parts) (s : Scan) (d u : ℕ) → Numbers p s d u → s.too_long ≡ false → s.whole < 10 ^ 20 * d → s.fraction % d ≡ 0 → IsAnswerBy p d (Some (s.whole * u + s.fraction / d))
+is_found : (p : Parts) (s : Scan) (d u : ℕ) → Numbers p s d u → s.too_long ≡ false → s.whole < 10 ^ 20 * d → s.fraction % d ≡ 0
+    → IsAnswerBy p d (Some (s.whole * u + s.fraction / d))
 is_found p s d u n t w r =
     let whole : s.whole ≡ whole_value 0 p.whole = omega (arith, n.whole, n.small) in
     let held = held_fraction p s d u n t in
     let quot = quotient s.fraction d r in
-    let small : s.fraction < 10 ^ 18 = small_part s.fraction (10 ^ length (fraction_digits p)) _ (10 ^ 18) held (value-below (fraction_digits p) n.digits) (pow_is_pos 18) in (
+    let small : s.fraction < 10 ^ 18 =
+    small_part s.fraction (10 ^ length (fraction_digits p)) _ (10 ^ 18) held (value-below (fraction_digits p) n.digits) (pow_is_pos 18) in (
       bound s.whole u (s.fraction / d) d (10 ^ 20) (10 ^ 18) w (below_unit (s.fraction / d) u d (10 ^ 18) (rw quot small) n.units) n.units,
       found s.whole u (s.fraction / d) d (10 ^ length (fraction_digits p)) (digits_value 10 (fraction_digits p)) s.fraction (10 ^ 18) n.units quot held
           ∙ ap (λ w. (w * 10 ^ length (fraction_digits p) + digits_value 10 (fraction_digits p)) * 10 ^ 18) whole
@@ -129,15 +137,18 @@ is_found p s d u n t w r =
 
 too_many_places : (p : Parts) (s : Scan) (d u : ℕ) → Numbers p s d u → s.too_long ≡ true → IsAnswerBy p d None
 too_many_places p s d u n t m _ e =
-    no_count 18 begun (fraction_digits p) refl refl n.digits (sym n.too_long ∙ t) (m * d) (whole_value 0 p.whole * 10 ^ 18) (regroup m d _ _ _ (10 ^ 18) (split_count p d m e))
+    no_count 18 begun (fraction_digits p) refl refl n.digits (sym n.too_long ∙ t) (m * d) (whole_value 0 p.whole * 10 ^ 18)
+    (regroup m d _ _ _ (10 ^ 18) (split_count p d m e))
 
 is_too_large : (p : Parts) (s : Scan) (d u : ℕ) → Numbers p s d u → 10 ^ 20 * d ≤ s.whole → IsAnswerBy p d None
 is_too_large p s d u n w m l e =
-    too_large m (whole_value 0 p.whole) (10 ^ length (fraction_digits p)) _ d (10 ^ 20) (10 ^ 18) (split_count p d m e) (omega (arith, n.whole)) (pos_mul _ d (pow_is_pos _) n.positive) l
+    too_large m (whole_value 0 p.whole) (10 ^ length (fraction_digits p)) _ d (10 ^ 20) (10 ^ 18) (split_count p d m e) (omega (arith, n.whole))
+    (pos_mul _ d (pow_is_pos _) n.positive) l
 
 is_no_multiple : (p : Parts) (s : Scan) (d u : ℕ) → Numbers p s d u → s.too_long ≡ false → s.fraction % d ≢ 0 → IsAnswerBy p d None
 is_no_multiple p s d u n t r m _ e =
-    r (no_multiple m (whole_value 0 p.whole) (10 ^ length (fraction_digits p)) _ d u (10 ^ 18) s.fraction (split_count p d m e) (held_fraction p s d u n t) n.units (pow_is_pos _))
+    r (no_multiple m (whole_value 0 p.whole) (10 ^ length (fraction_digits p)) _ d u (10 ^ 18) s.fraction (split_count p d m e)
+    (held_fraction p s d u n t) n.units (pow_is_pos _))
 
 count_by : Scan → ℕ → ℕ → Option ℕ
 count_by s d u = cond (s.too_long || (nat_le (10 ^ 20 * d) s.whole || not (s.fraction % d == 0))) None (Some (s.whole * u + s.fraction / d))
@@ -151,7 +162,8 @@ answer_by p s d u n =
     (λ (f : s.too_long ≡ false).
     ⊎_elim (λ (a : nat_le (10 ^ 20 * d) s.whole ≡ true). is_too_large p s d u n (grind (arith, nat_tests)))
     (λ (b : not (s.fraction % d == 0) ≡ true). is_no_multiple p s d u n f (grind (arith, nat_tests)))
-    (or_cases (nat_le (10 ^ 20 * d) s.whole) (not (s.fraction % d == 0)) (sym (ap (λ t. t || (nat_le (10 ^ 20 * d) s.whole || not (s.fraction % d == 0))) f) ∙ yes)))
+    (or_cases (nat_le (10 ^ 20 * d) s.whole) (not (s.fraction % d == 0))
+    (sym (ap (λ t. t || (nat_le (10 ^ 20 * d) s.whole || not (s.fraction % d == 0))) f) ∙ yes)))
     (cases_Bool s.too_long))
     (λ no.
     let a = or_none s.too_long (nat_le (10 ^ 20 * d) s.whole || not (s.fraction % d == 0)) no in
@@ -161,7 +173,8 @@ answer_by p s d u n =
     is_found p s d u n a.0 (grind (arith, nat_tests)) (grind (arith, nat_tests)))
 
 -- by the mark
-answer_mark : (p : Parts) (s : Scan) (m : Mark) → p.mark ≡ m → ((d u : ℕ) → 0 < d → 10 ^ 20 * d ≤ 10 ^ 23 → u * d ≡ 10 ^ 18 → Numbers p s d u) → IsAnswerBy p (divisor m) (count_by s (divisor m) (10 ^ 18 / divisor m))
+answer_mark : (p : Parts) (s : Scan) (m : Mark) → p.mark ≡ m → ((d u : ℕ) → 0 < d → 10 ^ 20 * d ≤ 10 ^ 23 → u * d ≡ 10 ^ 18 → Numbers p s d u)
+    → IsAnswerBy p (divisor m) (count_by s (divisor m) (10 ^ 18 / divisor m))
 answer_mark p s marks.Plain e n = answer_by p s 1 (10 ^ 18) (n 1 (10 ^ 18) (lit≤ tt) (lit≤ tt) refl)
 answer_mark p s marks.Percent e n = answer_by p s 100 (10 ^ 16) (n 100 (10 ^ 16) (lit≤ tt) (lit≤ tt) refl)
 answer_mark p s marks.PerMille e n = answer_by p s 1000 (10 ^ 15) (n 1000 (10 ^ 15) (lit≤ tt) (lit≤ tt) refl)
@@ -175,5 +188,6 @@ pub count_answers : (rules : NumberRules) (p : Parts) (s : Scan) → IsNumber ru
 unfolding count_by
 count_answers rules p s n h =
     let P : Mark → Type 0 = λ m. IsAnswerBy p (divisor p.mark) (count_by s (divisor m) (10 ^ 18 / divisor m)) in
-    let a = answer_mark p s p.mark refl (λ d u x y z. record { positive = x; small = y; units = z; whole = h.whole; fraction = h.fraction; too_long = h.too_long; digits = are_digits rules p n }) in
+    let a = answer_mark p s p.mark refl (λ d u x y z. record
+    { positive = x; small = y; units = z; whole = h.whole; fraction = h.fraction; too_long = h.too_long; digits = are_digits rules p n }) in
     of_answer p _ (subst P (sym h.mark) a)

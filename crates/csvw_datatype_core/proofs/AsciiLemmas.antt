@@ -1,5 +1,6 @@
 -- The lexical form of a number is ASCII, so its bytes are its characters.
-use Rattle.std.proofs.Common.{◌≡◌, ◌∙◌, ℕ, zero, suc, ◌<◌, ◌⊎◌, inl, inr, Option, Some, None, List, [], ◌∷◌, ◌++◌, refl, sym, ap, subst, arith, ℤ, encode_utf8_all}
+use Rattle.std.proofs.Common.{◌≡◌, ◌∙◌, ℕ, zero, suc, ◌<◌, ◌⊎◌, inl, inr, Option, Some, None, List, [], ◌∷◌, ◌++◌, refl, sym, ap, subst, arith, ℤ}
+use Rattle.std.proofs.Common.{encode_utf8_all}
 use Rattle.std.specs.List.{AllByRecursion}
 use Rattle.std.specs.Char.{IsAsciiDigit}
 use Rattle.std.specs.Str.{chars, IsAscii}
@@ -55,7 +56,8 @@ number cs z r =
     let p = r.parts in
     let n = r.is_number in
     let P : List ℕ → Type 0 = λ cs. AllAscii cs in
-    subst P (sym r.spelled) (appended _ _ (sign p.sign) (appended _ _ (whole p.whole n.whole) (appended _ _ (fraction p.fraction n.fraction) (mark p.mark n.mark))))
+    subst P (sym r.spelled) (appended _ _ (sign p.sign)
+    (appended _ _ (whole p.whole n.whole) (appended _ _ (fraction p.fraction n.fraction) (mark p.mark n.mark))))
 
 pub is_ascii : (cs : List ℕ) → AllAscii cs → IsAscii cs
 unfolding AllAscii

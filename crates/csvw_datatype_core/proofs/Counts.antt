@@ -1,5 +1,6 @@
 -- The count of a number, from the digits as the pass holds them.
-use Rattle.std.proofs.Common.{◌≡◌, ℕ, suc, ◌+◌, ◌-◌, ◌*◌, ◌/◌, ◌%◌, ◌^◌, ◌≤◌, ◌<◌, List, [], ◌∷◌, length, refl, sym, ap, subst, ◌∙◌, Bool, true, false, arith, ◌&&◌, ◌||◌, not, ◌==◌, mul_assoc, lit≤, zero, mul-le-mul_right}
+use Rattle.std.proofs.Common.{◌≡◌, ℕ, suc, ◌+◌, ◌-◌, ◌*◌, ◌/◌, ◌%◌, ◌^◌, ◌≤◌, ◌<◌, List, [], ◌∷◌, length, refl, sym, ap, subst, ◌∙◌, Bool, true}
+use Rattle.std.proofs.Common.{false, arith, ◌&&◌, ◌||◌, not, ◌==◌, mul_assoc, lit≤, zero, mul-le-mul_right}
 use Rattle.std.specs.List.{AllByRecursion}
 use Rattle.std.specs.Char.{IsAsciiDigit, digit_value}
 use Rattle.std.specs.Str.Parse.{digits_value, digits_value_after}
@@ -68,7 +69,9 @@ pub tenth : (e : ℕ) → 10 ^ suc e / 10 ≡ 10 ^ e
 tenth e = ap (λ x. x / 10) (pow-suc 10 e) ∙ mul-div_cancel (10 ^ e) (lit≤ tt)
 
 -- past the last place every digit has to be 0
-past : (s : Scan) (ds : List ℕ) → s.weight ≡ 0 → AllByRecursion IsAsciiDigit ds → ((fractions s ds).fraction ≡ s.fraction) × ((fractions s ds).too_long ≡ false → (s.too_long ≡ false) × (digits_value 10 ds ≡ 0)) × (digits_value 10 ds ≡ 0 → (fractions s ds).too_long ≡ s.too_long)
+past : (s : Scan) (ds : List ℕ) → s.weight ≡ 0 → AllByRecursion IsAsciiDigit ds
+    → ((fractions s ds).fraction ≡ s.fraction) × ((fractions s ds).too_long ≡ false → (s.too_long ≡ false) × (digits_value 10 ds ≡ 0))
+    × (digits_value 10 ds ≡ 0 → (fractions s ds).too_long ≡ s.too_long)
 past s [] w h = (refl, λ t. (t, refl), λ _. refl)
 past s (c ∷ cs) w h =
     let d = c - 48 in
@@ -82,7 +85,8 @@ count_step : (o f v w p x : ℕ) → o * p ≡ (f + v * w) * p + x * w → o * (
 count_step o f v w p x h = omega arith
 
 -- what the pass holds of the fraction is its count, where it isn't too long
-pub fraction_count : (e : ℕ) (s : Scan) (ds : List ℕ) → HasPlaces s e → AllByRecursion IsAsciiDigit ds → (fractions s ds).too_long ≡ false → (fractions s ds).fraction * 10 ^ length ds ≡ s.fraction * 10 ^ length ds + digits_value 10 ds * 10 ^ e
+pub fraction_count : (e : ℕ) (s : Scan) (ds : List ℕ) → HasPlaces s e → AllByRecursion IsAsciiDigit ds → (fractions s ds).too_long ≡ false
+    → (fractions s ds).fraction * 10 ^ length ds ≡ s.fraction * 10 ^ length ds + digits_value 10 ds * 10 ^ e
 fraction_count e s [] w h t = omega arith
 fraction_count zero s (c ∷ cs) w h t =
     let p = past s (c ∷ cs) w h in
@@ -91,8 +95,10 @@ fraction_count (suc e) s (c ∷ cs) w h t =
     let d = c - 48 in
     let weight : s.weight ≡ 10 ^ e = w ∙ tenth e in
     let rest = fraction_count e (push_fraction s d) cs (ap (λ x. x / 10) weight) h.1 t in
-    let P : ℕ → Type 0 = λ x. (fractions (push_fraction s d) cs).fraction * 10 ^ length cs ≡ (s.fraction + d * x) * 10 ^ length cs + digits_value 10 cs * 10 ^ e in
-    rw (value-cons c cs h.0, pow-suc 10 (length cs), pow-suc 10 e) (count_step _ s.fraction d (10 ^ e) (10 ^ length cs) (digits_value 10 cs) (subst P weight rest))
+    let P : ℕ → Type 0 = λ x. (fractions (push_fraction s d) cs).fraction * 10 ^ length cs
+    ≡ (s.fraction + d * x) * 10 ^ length cs + digits_value 10 cs * 10 ^ e in
+    rw (value-cons c cs h.0, pow-suc 10 (length cs), pow-suc 10 e)
+    (count_step _ s.fraction d (10 ^ e) (10 ^ length cs) (digits_value 10 cs) (subst P weight rest))
 
 none_step : (x y v w p r : ℕ) → x * (p * 10) ≡ y * (p * 10) + (v * p + r) * (w * 10) → x * p ≡ (y + v * w) * p + r * w
 none_step x y v w p r h = omega arith
@@ -108,7 +114,8 @@ or_true_weight : (t : Bool) (w v p : ℕ) → t ≡ false → w ≡ p → 0 < p 
 or_true_weight t w v p e h l = grind (arith, nat_tests)
 
 -- where it is too long, no count of the places that are left is the number
-pub no_count : (e : ℕ) (s : Scan) (ds : List ℕ) → s.too_long ≡ false → HasPlaces s e → AllByRecursion IsAsciiDigit ds → (fractions s ds).too_long ≡ true → (x y : ℕ) → x * 10 ^ length ds ≡ y * 10 ^ length ds + digits_value 10 ds * 10 ^ e → ⊥
+pub no_count : (e : ℕ) (s : Scan) (ds : List ℕ) → s.too_long ≡ false → HasPlaces s e → AllByRecursion IsAsciiDigit ds
+    → (fractions s ds).too_long ≡ true → (x y : ℕ) → x * 10 ^ length ds ≡ y * 10 ^ length ds + digits_value 10 ds * 10 ^ e → ⊥
 no_count e s [] f w h t x y q = cc
 no_count zero s (c ∷ cs) f w h t x y q =
     let ds = c ∷ cs in

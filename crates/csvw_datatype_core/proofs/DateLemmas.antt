@@ -1,5 +1,6 @@
 -- The fields of a date and its text.
-use Rattle.std.proofs.Common.{◌≡◌, ℕ, ◌+◌, ◌-◌, ◌*◌, ◌<◌, ◌⊎◌, inl, inr, ⊎_elim, Bool, true, false, not, ◌&&◌, ◌==◌, cond, Option, Some, None, List, [], ◌∷◌, ◌++◌, length, refl, sym, ap, subst, ◌∙◌, arith, append_assoc, append-nil}
+use Rattle.std.proofs.Common.{◌≡◌, ℕ, ◌+◌, ◌-◌, ◌*◌, ◌<◌, ◌⊎◌, inl, inr, ⊎_elim, Bool, true, false, not, ◌&&◌, ◌==◌, cond, Option, Some, None, List}
+use Rattle.std.proofs.Common.{[], ◌∷◌, ◌++◌, length, refl, sym, ap, subst, ◌∙◌, arith, append_assoc, append-nil}
 use Rattle.std.specs.List.{AllByRecursion}
 use Rattle.std.specs.Char.{IsAsciiDigit, is_ascii_digit}
 use Rattle.std.specs.Str.Parse.{digits_value}
@@ -52,9 +53,11 @@ abbrev answer : ℕ → List ℕ → Option (ℕ × List ℕ)
 answer v rest = Some (v, rest)
 
 some_pair : (v w : ℕ) (r s : List ℕ) → answer v r ≡ answer w s → (v ≡ w) × (r ≡ s)
-some_pair v w r s h = let g : Option (ℕ × List ℕ) → ℕ × List ℕ = λ o. elim o [ None ↦ (0, []) | Some x ↦ x ] in let e = ap g h in (ap (λ (p : ℕ × List ℕ). p.0) e, ap (λ (p : ℕ × List ℕ). p.1) e)
+some_pair v w r s h = let g : Option (ℕ × List ℕ) → ℕ × List ℕ = λ o. elim o [ None ↦ (0, []) | Some x ↦ x ] in let e = ap g h in
+    (ap (λ (p : ℕ × List ℕ). p.0) e, ap (λ (p : ℕ × List ℕ). p.1) e)
 
-two_front : (a b : ℕ) (bs : List ℕ) (v : ℕ) (rest : List ℕ) → (is_ascii_digit a && is_ascii_digit b) ≡ true → answer ((a - 48) * 10 + (b - 48)) bs ≡ answer v rest → Front (Digits 2) (a ∷ b ∷ bs) v rest
+two_front : (a b : ℕ) (bs : List ℕ) (v : ℕ) (rest : List ℕ) → (is_ascii_digit a && is_ascii_digit b) ≡ true
+    → answer ((a - 48) * 10 + (b - 48)) bs ≡ answer v rest → Front (Digits 2) (a ∷ b ∷ bs) v rest
 two_front a b bs v rest t e =
     let d = both (is_ascii_digit a) (is_ascii_digit b) t in
     let p = some_pair _ _ _ _ e in
@@ -66,7 +69,8 @@ not_true : (b : Bool) → not b ≡ true → b ≡ false
 not_true true h = cc
 not_true false h = refl
 
-one_front : (padded : Bool) (a : ℕ) (bs : List ℕ) (v : ℕ) (rest : List ℕ) → (not padded && is_ascii_digit a) ≡ true → answer (a - 48) bs ≡ answer v rest → Front (Short padded) (a ∷ bs) v rest
+one_front : (padded : Bool) (a : ℕ) (bs : List ℕ) (v : ℕ) (rest : List ℕ) → (not padded && is_ascii_digit a) ≡ true
+    → answer (a - 48) bs ≡ answer v rest → Front (Short padded) (a ∷ bs) v rest
 one_front padded a bs v rest t e =
     let d = both (not padded) (is_ascii_digit a) t in
     let p = some_pair _ _ _ _ e in
@@ -83,16 +87,19 @@ tests a b h k = ap (λ x. x && is_ascii_digit b) (digit_test a h) ∙ digit_test
 pub two_sound : (bs : List ℕ) (v : ℕ) (rest : List ℕ) → two_at bs ≡ Some (v, rest) → Front (Digits 2) bs v rest
 two_sound [] v rest h = cc
 two_sound (a ∷ []) v rest h = cc
-two_sound (a ∷ b ∷ bs) v rest h = elim (chosen (is_ascii_digit a && is_ascii_digit b) (answer ((a - 48) * 10 + (b - 48)) bs) None (answer v rest) h) [ inl t ↦ two_front a b bs v rest t.0 t.1 | inr f ↦ cc ]
+two_sound (a ∷ b ∷ bs) v rest h = elim (chosen (is_ascii_digit a && is_ascii_digit b) (answer ((a - 48) * 10 + (b - 48)) bs) None (answer v rest) h)
+    [ inl t ↦ two_front a b bs v rest t.0 t.1 | inr f ↦ cc ]
 
 pub short_sound : (padded : Bool) (bs : List ℕ) (v : ℕ) (rest : List ℕ) → short_at padded bs ≡ Some (v, rest) → Front (Short padded) bs v rest
 short_sound padded [] v rest h = cc
-short_sound padded (a ∷ []) v rest h = elim (chosen (not padded && is_ascii_digit a) (answer (a - 48) []) None (answer v rest) h) [ inl t ↦ one_front padded a [] v rest t.0 t.1 | inr f ↦ cc ]
+short_sound padded (a ∷ []) v rest h = elim (chosen (not padded && is_ascii_digit a) (answer (a - 48) []) None (answer v rest) h)
+    [ inl t ↦ one_front padded a [] v rest t.0 t.1 | inr f ↦ cc ]
 short_sound padded (a ∷ b ∷ bs) v rest h =
     let less = cond (not padded && is_ascii_digit a) (answer (a - 48) (b ∷ bs)) None in
     elim (chosen (is_ascii_digit a && is_ascii_digit b) (answer ((a - 48) * 10 + (b - 48)) bs) less (answer v rest) h) [
       | inl t ↦ let f = two_front a b bs v rest t.0 t.1 in record { digits = f.digits; right = inl f.right; front = f.front; value = f.value }
-      | inr f ↦ elim (chosen (not padded && is_ascii_digit a) (answer (a - 48) (b ∷ bs)) None (answer v rest) f.1) [ inl t ↦ one_front padded a (b ∷ bs) v rest t.0 t.1 | inr g ↦ cc ]
+      | inr f ↦ elim (chosen (not padded && is_ascii_digit a) (answer (a - 48) (b ∷ bs)) None (answer v rest) f.1)
+          [ inl t ↦ one_front padded a (b ∷ bs) v rest t.0 t.1 | inr g ↦ cc ]
     ]
 
 pub two_again : (ds rest : List ℕ) → Digits 2 ds → two_at (ds ++ rest) ≡ Some (digits_value 10 ds, rest)
@@ -107,8 +114,10 @@ no_digit Dash = refl
 no_digit Slash = refl
 no_digit Dot = refl
 
-pub short_again : (padded : Bool) (ds rest : List ℕ) (by : Separator) → Short padded ds → short_at padded (ds ++ (separator_byte by ∷ rest)) ≡ Some (digits_value 10 ds, separator_byte by ∷ rest)
-short_again padded [] rest by h = ⊎_elim (λ (h : Digits 2 []). absurd (omega (arith, h.1))) (λ (h : (padded ≡ false) × Digits 1 []). absurd (omega (arith, h.1.1))) h
+pub short_again : (padded : Bool) (ds rest : List ℕ) (by : Separator) → Short padded ds
+    → short_at padded (ds ++ (separator_byte by ∷ rest)) ≡ Some (digits_value 10 ds, separator_byte by ∷ rest)
+short_again padded [] rest by h =
+    ⊎_elim (λ (h : Digits 2 []). absurd (omega (arith, h.1))) (λ (h : (padded ≡ false) × Digits 1 []). absurd (omega (arith, h.1.1))) h
 short_again padded (a ∷ []) rest by h =
     ⊎_elim (λ (h : Digits 2 (a ∷ [])). absurd (omega (arith, h.1)))
     (λ (h : (padded ≡ false) × Digits 1 (a ∷ [])).
@@ -116,9 +125,11 @@ short_again padded (a ∷ []) rest by h =
     ∙ cond-true _ _ _ (ap (λ p. not p && is_ascii_digit a) h.0 ∙ digit_test a h.1.0.0)
     ∙ ap (λ v. answer v (separator_byte by ∷ rest)) (value_one a h.1.0.0)) h
 short_again padded (a ∷ b ∷ []) rest by h =
-    ⊎_elim (λ (h : Digits 2 (a ∷ b ∷ [])). cond-true _ _ _ (tests a b h.0.0 h.0.1.0) ∙ ap (λ v. answer v (separator_byte by ∷ rest)) (value_two a b h.0.0 h.0.1.0))
+    ⊎_elim (λ (h : Digits 2 (a ∷ b ∷ [])). cond-true _ _ _ (tests a b h.0.0 h.0.1.0)
+    ∙ ap (λ v. answer v (separator_byte by ∷ rest)) (value_two a b h.0.0 h.0.1.0))
     (λ (h : (padded ≡ false) × Digits 1 (a ∷ b ∷ [])). absurd (omega (arith, h.1.1))) h
-short_again padded (a ∷ b ∷ c ∷ ds) rest by h = ⊎_elim (λ (h : Digits 2 (a ∷ b ∷ c ∷ ds)). absurd (omega (arith, h.1))) (λ (h : (padded ≡ false) × Digits 1 (a ∷ b ∷ c ∷ ds)). absurd (omega (arith, h.1.1))) h
+short_again padded (a ∷ b ∷ c ∷ ds) rest by h = ⊎_elim (λ (h : Digits 2 (a ∷ b ∷ c ∷ ds)). absurd (omega (arith, h.1)))
+    (λ (h : (padded ≡ false) × Digits 1 (a ∷ b ∷ c ∷ ds)). absurd (omega (arith, h.1.1))) h
 
 -- a step of the do-notation that gives a value
 pub bind_some : {A B : Type 0} (o : Option A) (f : A → Option B) (y : B) → (o >>= f) ≡ Some y → (x : A) × ((o ≡ Some x) × (f x ≡ Some y))
@@ -218,13 +229,16 @@ year_first_sound bs x h =
       year = fy.right;
       month = two_field YearFirst fm.digits fm.right;
       date = two_field YearFirst fd.digits fd.right;
-      text = fy.front ∙ ap (λ t. fy.digits ++ t) (separator_sound 45 y.0.1 r.0 r.1.0 ∙ ap (λ t. 45 ∷ t) (fm.front ∙ ap (λ t. fm.digits ++ t) (separator_sound 45 m.0.1 q.0 q.1.0 ∙ ap (λ t. 45 ∷ t) (fd.front ∙ ap (λ t. fd.digits ++ t) (end_sound d.0.1 e.0 e.1.0) ∙ append-nil fd.digits))));
+      text = fy.front ∙ ap (λ t. fy.digits ++ t) (separator_sound 45 y.0.1 r.0 r.1.0
+          ∙ ap (λ t. 45 ∷ t) (fm.front ∙ ap (λ t. fm.digits ++ t) (separator_sound 45 m.0.1 q.0 q.1.0
+          ∙ ap (λ t. 45 ∷ t) (fd.front ∙ ap (λ t. fd.digits ++ t) (end_sound d.0.1 e.0 e.1.0) ∙ append-nil fd.digits))));
       y_is = sym (ap (λ (x : ℕ × ℕ × ℕ). x.0) s) ∙ fy.value;
       m_is = sym (ap (λ (x : ℕ × ℕ × ℕ). x.1) s) ∙ fm.value;
       d_is = sym (ap (λ (x : ℕ × ℕ × ℕ). x.2) s) ∙ fd.value;
     }
 
-year_first_again : (y m d : List ℕ) → Digits 4 y → Digits 2 m → Digits 2 d → date_fields YearFirst (date_text YearFirst y m d) ≡ Some (digits_value 10 y, digits_value 10 m, digits_value 10 d)
+year_first_again : (y m d : List ℕ) → Digits 4 y → Digits 2 m → Digits 2 d
+    → date_fields YearFirst (date_text YearFirst y m d) ≡ Some (digits_value 10 y, digits_value 10 m, digits_value 10 d)
 unfolding date_fields
 year_first_again y m d hy hm hd =
     let a = four_again y (45 ∷ (m ++ (45 ∷ d))) hy in
@@ -233,7 +247,8 @@ year_first_again y m d hy hm hd =
     let e : two_at d ≡ answer (digits_value 10 d) [] = ap two_at (sym (append-nil d)) ∙ c in
     rw (a, b, e) refl
 
-day_first_again : (digits : FieldDigits) (by : Separator) (y m d : List ℕ) → Digits 4 y → Short (is_padded digits) m → Short (is_padded digits) d → date_fields (DayFirst digits by) (date_text (DayFirst digits by) y m d) ≡ Some (digits_value 10 y, digits_value 10 m, digits_value 10 d)
+day_first_again : (digits : FieldDigits) (by : Separator) (y m d : List ℕ) → Digits 4 y → Short (is_padded digits) m → Short (is_padded digits) d
+    → date_fields (DayFirst digits by) (date_text (DayFirst digits by) y m d) ≡ Some (digits_value 10 y, digits_value 10 m, digits_value 10 d)
 unfolding date_fields
 day_first_again digits by y m d hy hm hd =
     let p = separator_byte by in
@@ -269,13 +284,15 @@ compact_sound bs x h =
       year = fy.right;
       month = two_field Compact fm.digits fm.right;
       date = two_field Compact fd.digits fd.right;
-      text = fy.front ∙ ap (λ t. fy.digits ++ t) (fm.front ∙ ap (λ t. fm.digits ++ t) (fd.front ∙ ap (λ t. fd.digits ++ t) (end_sound d.0.1 e.0 e.1.0) ∙ append-nil fd.digits));
+      text = fy.front ∙ ap (λ t. fy.digits ++ t)
+          (fm.front ∙ ap (λ t. fm.digits ++ t) (fd.front ∙ ap (λ t. fd.digits ++ t) (end_sound d.0.1 e.0 e.1.0) ∙ append-nil fd.digits));
       y_is = sym (ap (λ (x : ℕ × ℕ × ℕ). x.0) s) ∙ fy.value;
       m_is = sym (ap (λ (x : ℕ × ℕ × ℕ). x.1) s) ∙ fm.value;
       d_is = sym (ap (λ (x : ℕ × ℕ × ℕ). x.2) s) ∙ fd.value;
     }
 
-compact_again : (y m d : List ℕ) → Digits 4 y → Digits 2 m → Digits 2 d → date_fields Compact (date_text Compact y m d) ≡ Some (digits_value 10 y, digits_value 10 m, digits_value 10 d)
+compact_again : (y m d : List ℕ) → Digits 4 y → Digits 2 m → Digits 2 d
+    → date_fields Compact (date_text Compact y m d) ≡ Some (digits_value 10 y, digits_value 10 m, digits_value 10 d)
 unfolding date_fields
 compact_again y m d hy hm hd =
     let a = four_again y (m ++ d) hy in
@@ -283,7 +300,8 @@ compact_again y m d hy hm hd =
     let e : two_at d ≡ answer (digits_value 10 d) [] = ap two_at (sym (append-nil d)) ∙ two_again d [] hd in
     rw (a, b, e) refl
 
-day_first_sound : (digits : FieldDigits) (by : Separator) (bs : List ℕ) (x : ℕ × ℕ × ℕ) → date_fields (DayFirst digits by) bs ≡ Some x → Spelled (DayFirst digits by) bs x
+day_first_sound : (digits : FieldDigits) (by : Separator) (bs : List ℕ) (x : ℕ × ℕ × ℕ) → date_fields (DayFirst digits by) bs ≡ Some x
+    → Spelled (DayFirst digits by) bs x
 unfolding date_fields
 day_first_sound digits by bs x h =
     let p = separator_byte by in
@@ -304,13 +322,16 @@ day_first_sound digits by bs x h =
       year = fy.right;
       month = short_field (DayFirst digits by) (is_padded digits) fb.digits (λ e. e) fb.right;
       date = short_field (DayFirst digits by) (is_padded digits) fa.digits (λ e. e) fa.right;
-      text = fa.front ∙ ap (λ t. fa.digits ++ t) (separator_sound p a.0.1 r.0 r.1.0 ∙ ap (λ t. p ∷ t) (fb.front ∙ ap (λ t. fb.digits ++ t) (separator_sound p b.0.1 q.0 q.1.0 ∙ ap (λ t. p ∷ t) (fy.front ∙ ap (λ t. fy.digits ++ t) (end_sound y.0.1 e.0 e.1.0) ∙ append-nil fy.digits))));
+      text = fa.front ∙ ap (λ t. fa.digits ++ t) (separator_sound p a.0.1 r.0 r.1.0
+          ∙ ap (λ t. p ∷ t) (fb.front ∙ ap (λ t. fb.digits ++ t) (separator_sound p b.0.1 q.0 q.1.0
+          ∙ ap (λ t. p ∷ t) (fy.front ∙ ap (λ t. fy.digits ++ t) (end_sound y.0.1 e.0 e.1.0) ∙ append-nil fy.digits))));
       y_is = sym (ap (λ (x : ℕ × ℕ × ℕ). x.0) s) ∙ fy.value;
       m_is = sym (ap (λ (x : ℕ × ℕ × ℕ). x.1) s) ∙ fb.value;
       d_is = sym (ap (λ (x : ℕ × ℕ × ℕ). x.2) s) ∙ fa.value;
     }
 
-month_first_sound : (digits : FieldDigits) (by : Separator) (bs : List ℕ) (x : ℕ × ℕ × ℕ) → date_fields (MonthFirst digits by) bs ≡ Some x → Spelled (MonthFirst digits by) bs x
+month_first_sound : (digits : FieldDigits) (by : Separator) (bs : List ℕ) (x : ℕ × ℕ × ℕ) → date_fields (MonthFirst digits by) bs ≡ Some x
+    → Spelled (MonthFirst digits by) bs x
 unfolding date_fields
 month_first_sound digits by bs x h =
     let p = separator_byte by in
@@ -331,13 +352,16 @@ month_first_sound digits by bs x h =
       year = fy.right;
       month = short_field (MonthFirst digits by) (is_padded digits) fa.digits (λ e. e) fa.right;
       date = short_field (MonthFirst digits by) (is_padded digits) fb.digits (λ e. e) fb.right;
-      text = fa.front ∙ ap (λ t. fa.digits ++ t) (separator_sound p a.0.1 r.0 r.1.0 ∙ ap (λ t. p ∷ t) (fb.front ∙ ap (λ t. fb.digits ++ t) (separator_sound p b.0.1 q.0 q.1.0 ∙ ap (λ t. p ∷ t) (fy.front ∙ ap (λ t. fy.digits ++ t) (end_sound y.0.1 e.0 e.1.0) ∙ append-nil fy.digits))));
+      text = fa.front ∙ ap (λ t. fa.digits ++ t) (separator_sound p a.0.1 r.0 r.1.0
+          ∙ ap (λ t. p ∷ t) (fb.front ∙ ap (λ t. fb.digits ++ t) (separator_sound p b.0.1 q.0 q.1.0
+          ∙ ap (λ t. p ∷ t) (fy.front ∙ ap (λ t. fy.digits ++ t) (end_sound y.0.1 e.0 e.1.0) ∙ append-nil fy.digits))));
       y_is = sym (ap (λ (x : ℕ × ℕ × ℕ). x.0) s) ∙ fy.value;
       m_is = sym (ap (λ (x : ℕ × ℕ × ℕ). x.1) s) ∙ fa.value;
       d_is = sym (ap (λ (x : ℕ × ℕ × ℕ). x.2) s) ∙ fb.value;
     }
 
-month_first_again : (digits : FieldDigits) (by : Separator) (y m d : List ℕ) → Digits 4 y → Short (is_padded digits) m → Short (is_padded digits) d → date_fields (MonthFirst digits by) (date_text (MonthFirst digits by) y m d) ≡ Some (digits_value 10 y, digits_value 10 m, digits_value 10 d)
+month_first_again : (digits : FieldDigits) (by : Separator) (y m d : List ℕ) → Digits 4 y → Short (is_padded digits) m → Short (is_padded digits) d
+    → date_fields (MonthFirst digits by) (date_text (MonthFirst digits by) y m d) ≡ Some (digits_value 10 y, digits_value 10 m, digits_value 10 d)
 unfolding date_fields
 month_first_again digits by y m d hy hm hd =
     let p = separator_byte by in
@@ -362,11 +386,14 @@ field_short : (f : DateFormat) (padded : Bool) (ds : List ℕ) → (MayBeShort f
 field_short f padded ds may h = elim h.count [ inl two ↦ inl (h.are_digits, two) | inr one ↦ inr (may one.0, (h.are_digits, one.1)) ]
 
 -- what is spelled is found
-pub fields_again : (f : DateFormat) (y m d : List ℕ) → Digits 4 y → IsField f m → IsField f d → date_fields f (date_text f y m d) ≡ Some (digits_value 10 y, digits_value 10 m, digits_value 10 d)
+pub fields_again : (f : DateFormat) (y m d : List ℕ) → Digits 4 y → IsField f m → IsField f d
+    → date_fields f (date_text f y m d) ≡ Some (digits_value 10 y, digits_value 10 m, digits_value 10 d)
 fields_again YearFirst y m d hy hm hd = year_first_again y m d hy (padded_field YearFirst m (λ e. e) hm) (padded_field YearFirst d (λ e. e) hd)
 fields_again Compact y m d hy hm hd = compact_again y m d hy (padded_field Compact m (λ e. e) hm) (padded_field Compact d (λ e. e) hd)
-fields_again (DayFirst digits by) y m d hy hm hd = day_first_again digits by y m d hy (field_short (DayFirst digits by) (is_padded digits) m (λ e. e) hm) (field_short (DayFirst digits by) (is_padded digits) d (λ e. e) hd)
-fields_again (MonthFirst digits by) y m d hy hm hd = month_first_again digits by y m d hy (field_short (MonthFirst digits by) (is_padded digits) m (λ e. e) hm) (field_short (MonthFirst digits by) (is_padded digits) d (λ e. e) hd)
+fields_again (DayFirst digits by) y m d hy hm hd = day_first_again digits by y m d hy
+    (field_short (DayFirst digits by) (is_padded digits) m (λ e. e) hm) (field_short (DayFirst digits by) (is_padded digits) d (λ e. e) hd)
+fields_again (MonthFirst digits by) y m d hy hm hd = month_first_again digits by y m d hy
+    (field_short (MonthFirst digits by) (is_padded digits) m (λ e. e) hm) (field_short (MonthFirst digits by) (is_padded digits) d (λ e. e) hd)
 
 pub digits_small : (n : ℕ) (ds : List ℕ) → Digits n ds → digits_value 10 ds < 10 ^ n
 digits_small n ds h = let P : ℕ → Type 0 = λ n. digits_value 10 ds < 10 ^ n in subst P h.1 (value-below ds h.0)
@@ -387,10 +414,12 @@ fields_small f bs x h =
     (omega (arith, s.y_is, y), omega (arith, s.m_is, m), omega (arith, s.d_is, d))
 
 -- what a text reads as is found in it
-pub reads_fields : (f : DateFormat) (text : List ℕ) (day : ℤ) → (r : ReadsDate f text day) → date_fields f text ≡ Some (digits_value 10 r.y, digits_value 10 r.m, digits_value 10 r.d)
+pub reads_fields : (f : DateFormat) (text : List ℕ) (day : ℤ) → (r : ReadsDate f text day)
+    → date_fields f text ≡ Some (digits_value 10 r.y, digits_value 10 r.m, digits_value 10 r.d)
 reads_fields f text day r = ap (date_fields f) r.spelled ∙ fields_again f r.y r.m r.d r.year r.month r.date
 
-pub reads_of : (f : DateFormat) (text : List ℕ) (y m d : ℕ) (day : ℤ) → date_fields f text ≡ Some (y, m, d) → IsDay y m d → day ≡ day_number y m d → ReadsDate f text day
+pub reads_of : (f : DateFormat) (text : List ℕ) (y m d : ℕ) (day : ℤ) → date_fields f text ≡ Some (y, m, d) → IsDay y m d → day ≡ day_number y m d
+    → ReadsDate f text day
 reads_of f text y m d day h ok e =
     let s = fields_sound f text (y, m, d) h in
     let P : ℕ → ℕ → ℕ → Type 0 = λ y m d. IsDay y m d × (day ≡ day_number y m d) in
@@ -409,6 +438,7 @@ no_reads f text y m d h never day r =
 pub no_fields : (f : DateFormat) (text : List ℕ) → date_fields f text ≡ None → (day : ℤ) → ReadsDate f text day → ⊥
 no_fields f text h day r = let e = reads_fields f text day r in cc
 
-pub day_answer : (f : DateFormat) (text : List ℕ) (y m d : ℕ) (o : Option ℤ) → date_fields f text ≡ Some (y, m, d) → MatchOption o (IsDay y m d → ⊥) (λ n. IsDay y m d × (n ≡ day_number y m d)) → MatchOption o ((day : ℤ) → ReadsDate f text day → ⊥) (ReadsDate f text)
+pub day_answer : (f : DateFormat) (text : List ℕ) (y m d : ℕ) (o : Option ℤ) → date_fields f text ≡ Some (y, m, d)
+    → MatchOption o (IsDay y m d → ⊥) (λ n. IsDay y m d × (n ≡ day_number y m d)) → MatchOption o ((day : ℤ) → ReadsDate f text day → ⊥) (ReadsDate f text)
 day_answer f text y m d None h a = no_reads f text y m d h a
 day_answer f text y m d (Some n) h a = reads_of f text y m d n h a.0 a.1

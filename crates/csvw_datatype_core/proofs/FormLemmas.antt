@@ -1,5 +1,7 @@
 -- A text that is the form of a number, a day or a moment is the one that the functions give.
-use Rattle.std.proofs.Common.{rules, ◌≡◌, ℕ, zero, suc, ◌+◌, ◌/◌, ◌%◌, ◌^◌, ◌<◌, ◌≤◌, Bool, true, false, cond, ◌&&◌, ◌⊎◌, inl, inr, ⊎_elim, Option, Some, None, unwrap_or, List, [], ◌∷◌, ◌++◌, length, refl, sym, ap, subst, ◌∙◌, arith, append_assoc, append-nil, length-append, ℤ, pos, negsuc, ◌+ℤ◌, ◌*ℤ◌, unsigned_abs, encode_utf8_all, nat_le, FitsSigned}
+use Rattle.std.proofs.Common.{rules, ◌≡◌, ℕ, zero, suc, ◌+◌, ◌/◌, ◌%◌, ◌^◌, ◌<◌, ◌≤◌, Bool, true, false, cond, ◌&&◌, ◌⊎◌, inl, inr, ⊎_elim, Option}
+use Rattle.std.proofs.Common.{Some, None, unwrap_or, List, [], ◌∷◌, ◌++◌, length, refl, sym, ap, subst, ◌∙◌, arith, append_assoc, append-nil}
+use Rattle.std.proofs.Common.{length-append, ℤ, pos, negsuc, ◌+ℤ◌, ◌*ℤ◌, unsigned_abs, encode_utf8_all, nat_le, FitsSigned}
 use Rattle.std.specs.Fmt.{decimal}
 use Rattle.std.specs.Ordering.{int_eq}
 use Rattle.std.specs.Str.Parse.{digits_value}
@@ -16,7 +18,8 @@ use Rattle.csvw_datatype_core.specs.Dates.{IsDay, day_number, ReadsDate}
 use Rattle.csvw_datatype_core.specs.Moments.{ReadsMoment}
 use Rattle.csvw_datatype_core.specs.LexicalDates.{date_digits, IsFields, IsDayNumber, IsDayAndSecond, AppendsDate, AppendsTime}
 use Rattle.csvw_datatype_core.specs.LexicalNumbers.{IsLexicalNumber, AppendsFraction, AppendsPart}
-use Rattle.csvw_datatype_core.specs.Forms.{sign_form, fraction_digits, fraction_form, number_form, or_else, found_below, found_if, is_day, found_on_dates, date_form, time_form, moment_form}
+use Rattle.csvw_datatype_core.specs.Forms.{sign_form, fraction_digits, fraction_form, number_form, or_else, found_below, found_if, is_day}
+use Rattle.csvw_datatype_core.specs.Forms.{found_on_dates, date_form, time_form, moment_form}
 use Rattle.csvw_datatype_core.proofs.Counts.{tenth}
 use Rattle.csvw_datatype_core.proofs.DateLemmas.{digits_small}
 use Rattle.csvw_datatype_core.proofs.LexicalLemmas.{IsPushing, pushing_begins, pushing_step, pushing_ends}

@@ -13,7 +13,8 @@ pub digit_test : (c : ℕ) → IsAsciiDigit c → is_ascii_digit c ≡ true
 digit_test c h = grind (arith, nat_tests)
 
 pub no_digit_test : (c : ℕ) → (IsAsciiDigit c → ⊥) → is_ascii_digit c ≡ false
-no_digit_test c h = ⊎_elim (λ (e : is_ascii_digit c ≡ true). absurd (h (grind (arith, nat_tests)))) (λ (e : is_ascii_digit c ≡ false). e) (cases_Bool (is_ascii_digit c))
+no_digit_test c h = ⊎_elim (λ (e : is_ascii_digit c ≡ true). absurd (h (grind (arith, nat_tests)))) (λ (e : is_ascii_digit c ≡ false). e)
+    (cases_Bool (is_ascii_digit c))
 
 other : (c d : ℕ) → c ≢ d → (c == d) ≡ false
 other c d n = grind (arith, nat_tests)

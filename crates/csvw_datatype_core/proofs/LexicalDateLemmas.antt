@@ -1,5 +1,6 @@
 -- The digits of a date and of a time, and the numbers that days and moments have.
-use Rattle.std.proofs.Common.{◌≡◌, ℕ, ◌+◌, ◌*◌, ◌/◌, ◌%◌, ◌<◌, ◌≤◌, ◌⊎◌, inl, ⊎_elim, List, [], ◌∷◌, ◌++◌, refl, sym, ap, subst, ◌∙◌, arith, ℤ, pos, negsuc, neg_ℤ, ◌+ℤ◌, ◌*ℤ◌, ◌≤ℤ◌, unsigned_abs, Result, Ok, Err, OnOk}
+use Rattle.std.proofs.Common.{◌≡◌, ℕ, ◌+◌, ◌*◌, ◌/◌, ◌%◌, ◌<◌, ◌≤◌, ◌⊎◌, inl, ⊎_elim, List, [], ◌∷◌, ◌++◌, refl, sym, ap, subst, ◌∙◌, arith, ℤ, pos}
+use Rattle.std.proofs.Common.{negsuc, neg_ℤ, ◌+ℤ◌, ◌*ℤ◌, ◌≤ℤ◌, unsigned_abs, Result, Ok, Err, OnOk}
 use Rattle.std.specs.declared.alloc.AllocError.{AllocError}
 use Rattle.std.specs.Str.Parse.{digits_value}
 use Rattle.std.proofs.lemmas.Bool.{cases_order}
@@ -17,7 +18,8 @@ use Rattle.csvw_datatype_core.specs.declared.moment.MomentFormat.{MomentFormat}
 use Rattle.csvw_datatype_core.specs.declared.moment.MomentFormat.TheVariants.{Seconds}
 use Rattle.csvw_datatype_core.specs.Dates.{IsDay, day_number, IsField, ReadsDate}
 use Rattle.csvw_datatype_core.specs.Moments.{IsPair, ReadsTime, ReadsMoment}
-use Rattle.csvw_datatype_core.specs.LexicalDates.{IsDayNumber, IsMomentNumber, two_digits, four_digits, date_digits, time_digits, IsFields, IsDayAndSecond, AppendsDate, AppendsTime}
+use Rattle.csvw_datatype_core.specs.LexicalDates.{IsDayNumber, IsMomentNumber, two_digits, four_digits, date_digits, time_digits, IsFields}
+use Rattle.csvw_datatype_core.specs.LexicalDates.{IsDayAndSecond, AppendsDate, AppendsTime}
 use Rattle.csvw_datatype_core.proofs.DateLemmas.{Digits, value_two, value_four, all_append}
 use Rattle.csvw_datatype_core.proofs.TimeLemmas.{seconds_below}
 
@@ -97,7 +99,14 @@ first_count = day_count-early (pos 1) 10_000 1 1 refl (omega arith) (omega arith
 pub year_positive : (d : Date) → neg_ℤ (pos 719_162) ≤ℤ epoch_day d → pos 1 ≤ℤ d.year
 year_positive d h =
     by_lt_z d.year (pos 1)
-    (λ lt. absurd (omega (arith, signed_arith, h, first_count, days_from_civil-day_count d.year d.month d.day, day_count-lt_year d.year d.month d.day (pos 1) 1 1 (civil d) (omega arith) lt)))
+    (λ lt. absurd (omega (
+      arith,
+      signed_arith,
+      h,
+      first_count,
+      days_from_civil-day_count d.year d.month d.day,
+      day_count-lt_year d.year d.month d.day (pos 1) 1 1 (civil d) (omega arith) lt,
+    )))
     (λ ge. ge)
 
 pub civil_of : (y m d : ℕ) → IsDay y m d → IsCivilDate (pos y) m d
@@ -135,7 +144,8 @@ in_range : (day moment : ℤ) (second : ℕ) → IsDayNumber day → second < 86
 in_range day moment second h l e = (omega (arith, ints, h.0, h.1, l, e), omega (arith, ints, h.0, h.1, l, e))
 
 pub moment_in_range : (f : MomentFormat) (text : List ℕ) (moment : ℤ) → ReadsMoment f text moment → IsMomentNumber moment
-moment_in_range f text moment r = in_range r.day moment r.second (date_in_range YearFirst r.date r.day r.is_date) (time_in_range f r.time r.second r.is_time) r.is_value
+moment_in_range f text moment r =
+    in_range r.day moment r.second (date_in_range YearFirst r.date r.day r.is_date) (time_in_range f r.time r.second r.is_time) r.is_value
 
 pos_abs : (z : ℤ) → pos 1 ≤ℤ z → z ≡ pos (unsigned_abs z)
 pos_abs (pos n) h = refl
@@ -163,18 +173,35 @@ on_ok : {T E : Type 0} {P Q : Type 0} (r : Result T E) → (P → Q) → OnOk r 
 on_ok (Ok x) f h = f h
 on_ok (Err e) f h = h
 
-pub date_appended : (r : Result (Unit {0}) AllocError) (old new : List ℕ) (day : ℤ) (y m d : ℕ) → IsFields day y m d → OnOk r (new ≡ old ++ date_digits y m d) → OnOk r (AppendsDate old new day)
+pub date_appended : (r : Result (Unit {0}) AllocError) (old new : List ℕ) (day : ℤ) (y m d : ℕ) → IsFields day y m d
+    → OnOk r (new ≡ old ++ date_digits y m d) → OnOk r (AppendsDate old new day)
 date_appended r old new day y m d f h = on_ok r (λ e. record { text = date_digits y m d; appended = e; is_date = date_digits_read y m d day f }) h
 
-pub time_appended : (r : Result (Unit {0}) AllocError) (old new : List ℕ) (second : ℕ) → second < 86_400 → OnOk r (new ≡ old ++ time_digits (second / 3600) (second / 60 % 60) (second % 60)) → OnOk r (AppendsTime old new second)
+pub time_appended : (r : Result (Unit {0}) AllocError) (old new : List ℕ) (second : ℕ) → second < 86_400
+    → OnOk r (new ≡ old ++ time_digits (second / 3600) (second / 60 % 60) (second % 60)) → OnOk r (AppendsTime old new second)
 time_appended r old new second l h =
-    on_ok r (λ e. record { text = time_digits (second / 3600) (second / 60 % 60) (second % 60); appended = e; is_time = time_digits_read (second / 3600) (second / 60 % 60) (second % 60) second (omega arith) (omega arith) (omega arith) (omega arith) }) h
+    on_ok r (λ e. record {
+      text = time_digits (second / 3600) (second / 60 % 60) (second % 60);
+      appended = e;
+      is_time = time_digits_read (second / 3600) (second / 60 % 60) (second % 60) second (omega arith) (omega arith) (omega arith) (omega arith);
+    }) h
 
 -- a date alone
 pub date_alone : (new : List ℕ) (day : ℤ) → AppendsDate [] new day → ReadsDate YearFirst new day
 date_alone new day a = let P : List ℕ → Type 0 = λ t. ReadsDate YearFirst t day in subst P (sym a.appended) a.is_date
 
 -- a date and a time behind it
-pub moment_written : (mid new : List ℕ) (moment day : ℤ) (second : ℕ) → IsDayAndSecond moment day second → AppendsDate [] mid day → AppendsTime mid new second → ReadsMoment Seconds new moment
+pub moment_written : (mid new : List ℕ) (moment day : ℤ) (second : ℕ) → IsDayAndSecond moment day second → AppendsDate [] mid day
+    → AppendsTime mid new second → ReadsMoment Seconds new moment
 moment_written mid new moment day second p a b =
-    record { date = a.text; time = b.text; day = day; second = second; is_date = a.is_date; is_time = b.is_time; spelled = b.appended ∙ ap (λ t. t ++ b.text) a.appended; is_value = p.is_value }
+    record {
+      date = a.text;
+      time = b.text;
+      day = day;
+      second = second;
+      is_date = a.is_date;
+      is_time = b.is_time;
+      spelled = b.appended
+          ∙ ap (λ t. t ++ b.text) a.appended;
+      is_value = p.is_value;
+    }

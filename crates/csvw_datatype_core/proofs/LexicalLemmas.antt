@@ -1,5 +1,6 @@
 -- Laws of the lexical form of a number.
-use Rattle.std.proofs.Common.{◌≡◌, ◌≢◌, ℕ, zero, suc, ◌+◌, ◌*◌, ◌/◌, ◌%◌, ◌^◌, ◌<◌, List, [], ◌∷◌, ◌++◌, length, refl, sym, ap, ◌∙◌, arith, append_assoc, length-append, append-nil, add-zero}
+use Rattle.std.proofs.Common.{◌≡◌, ◌≢◌, ℕ, zero, suc, ◌+◌, ◌*◌, ◌/◌, ◌%◌, ◌^◌, ◌<◌, List, [], ◌∷◌, ◌++◌, length, refl, sym, ap, ◌∙◌, arith}
+use Rattle.std.proofs.Common.{append_assoc, length-append, append-nil, add-zero}
 use Rattle.std.specs.List.{AllByRecursion}
 use Rattle.std.specs.Char.{IsAsciiDigit, digit_value}
 use Rattle.std.specs.Str.Parse.{digits_value}
@@ -27,7 +28,17 @@ pub record IsPushing (start out : List ℕ) (n rest weight : ℕ) : Type 0 where
   pub last : (rest ≡ 0) → HasNoTrailingZero digits
 
 pub pushing_begins : (start : List ℕ) (n : ℕ) → 0 < n → n < 10 ^ 18 → IsPushing start start n n (10 ^ 17)
-pushing_begins start n h l = record { digits = []; e = 18; appended = sym (append-nil start); are_digits = tt; places = refl; next = refl; value = omega arith; small = l; last = λ z. absurd (omega arith) }
+pushing_begins start n h l = record {
+  digits = [];
+  e = 18;
+  appended = sym (append-nil start);
+  are_digits = tt;
+  places = refl;
+  next = refl;
+  value = omega arith;
+  small = l;
+  last = λ z. absurd (omega arith);
+}
 
 push_value : (v p d r rest n : ℕ) → v * (p * 10) + rest ≡ n → rest ≡ d * p + r → (v * 10 + d) * p + r ≡ n
 push_value v p d r rest n e s = omega arith
@@ -53,7 +64,8 @@ weight_at rest w (suc e) weight small h =
 no_zero : (rest p : ℕ) → 0 < rest → rest % p ≡ 0 → rest / p ≡ 0 → ⊥
 no_zero rest p h r q = let e = div-add-mod' rest p in let z : rest / p * p ≡ 0 = ap (λ x. x * p) q ∙ omega arith in omega (arith, e, z, r)
 
-step_at : (start out ds : List ℕ) (n rest w c e : ℕ) → out ≡ start ++ ds → AllByRecursion IsAsciiDigit ds → 0 < rest → c ≡ 48 + rest / w → length ds + e ≡ 18 → w ≡ 10 ^ e / 10 → digits_value 10 ds * 10 ^ e + rest ≡ n → rest < 10 ^ e → IsPushing start (out ++ (c ∷ [])) n (rest % w) (w / 10)
+step_at : (start out ds : List ℕ) (n rest w c e : ℕ) → out ≡ start ++ ds → AllByRecursion IsAsciiDigit ds → 0 < rest → c ≡ 48 + rest / w
+    → length ds + e ≡ 18 → w ≡ 10 ^ e / 10 → digits_value 10 ds * 10 ^ e + rest ≡ n → rest < 10 ^ e → IsPushing start (out ++ (c ∷ [])) n (rest % w) (w / 10)
 step_at start out ds n rest w c zero appended are h k places weight value small = absurd (omega arith)
 step_at start out ds n rest w c (suc e) appended are h k places weight value small =
     let is : w ≡ 10 ^ e = weight ∙ tenth e in
@@ -72,12 +84,14 @@ step_at start out ds n rest w c (suc e) appended are h k places weight value sma
       are_digits = digits_pushed ds c are ascii;
       places = omega (arith, length-append ds (c ∷ []));
       next = ap (λ x. x / 10) is;
-      value = ap (λ x. x * 10 ^ e + rest % w) v ∙ ap (λ x. (digits_value 10 ds * 10 + rest / w) * x + rest % w) (sym is) ∙ push_value (digits_value 10 ds) w (rest / w) (rest % w) rest n whole split;
+      value = ap (λ x. x * 10 ^ e + rest % w) v ∙ ap (λ x. (digits_value 10 ds * 10 + rest / w) * x + rest % w) (sym is)
+          ∙ push_value (digits_value 10 ds) w (rest / w) (rest % w) rest n whole split;
       small = rw (← is) (mod_below rest w pos);
       last = λ z. last_pushed ds c (λ e. no_zero rest w h z (omega (arith, k, e)));
     }
 
-pub pushing_step : (start out : List ℕ) (n rest w c : ℕ) → IsPushing start out n rest w → 0 < rest → c ≡ 48 + rest / w → IsPushing start (out ++ (c ∷ [])) n (rest % w) (w / 10)
+pub pushing_step : (start out : List ℕ) (n rest w c : ℕ) → IsPushing start out n rest w → 0 < rest → c ≡ 48 + rest / w
+    → IsPushing start (out ++ (c ∷ [])) n (rest % w) (w / 10)
 pushing_step start out n rest w c p h k = step_at start out p.digits n rest w c p.e p.appended p.are_digits h k p.places p.next p.value p.small
 
 -- while something is left, the weight isn't 0
@@ -90,4 +104,10 @@ ends_value v l e n p h =
     ap (λ x. v * x) a ∙ regroup v (10 ^ l) (10 ^ e) ∙ ap (λ x. x * 10 ^ l) (sym (add-zero _) ∙ h)
 
 pub pushing_ends : (start out : List ℕ) (n rest w : ℕ) → IsPushing start out n rest w → rest ≡ 0 → AppendsFraction start out n
-pushing_ends start out n rest w p h = record { digits = p.digits; appended = p.appended; are_digits = p.are_digits; no_trailing_zero = p.last h; value = ends_value _ _ p.e n p.places (ap (λ r. digits_value 10 p.digits * 10 ^ p.e + r) (sym h) ∙ p.value) }
+pushing_ends start out n rest w p h = record {
+  digits = p.digits;
+  appended = p.appended;
+  are_digits = p.are_digits;
+  no_trailing_zero = p.last h;
+  value = ends_value _ _ p.e n p.places (ap (λ r. digits_value 10 p.digits * 10 ^ p.e + r) (sym h) ∙ p.value);
+}

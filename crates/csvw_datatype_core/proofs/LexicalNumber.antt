@@ -1,5 +1,6 @@
 -- The text that `number_text` writes is the lexical form of its number.
-use Rattle.std.proofs.Common.{◌≡◌, ◌≢◌, ◌↔◌, ℕ, ◌+◌, ◌*◌, ◌/◌, ◌%◌, ◌^◌, ◌<◌, ◌≤◌, cond, List, [], ◌∷◌, ◌++◌, length, Some, None, refl, sym, ap, ◌∙◌, arith, append_assoc, append-nil, ℤ, pos, negsuc, ◌<ℤ◌, unsigned_abs, inl, inr, filter}
+use Rattle.std.proofs.Common.{◌≡◌, ◌≢◌, ◌↔◌, ℕ, ◌+◌, ◌*◌, ◌/◌, ◌%◌, ◌^◌, ◌<◌, ◌≤◌, cond, List, [], ◌∷◌, ◌++◌, length, Some, None, refl, sym, ap, ◌∙◌}
+use Rattle.std.proofs.Common.{arith, append_assoc, append-nil, ℤ, pos, negsuc, ◌<ℤ◌, unsigned_abs, inl, inr, filter}
 use Rattle.std.specs.Char.{IsAsciiDigit, digit_value, is_ascii_digit}
 use Rattle.std.specs.Str.Parse.{digits_value, AllDigits, IsNumeral}
 use Rattle.std.specs.Fmt.{decimal}
@@ -85,7 +86,8 @@ whole_of w h =
     let d = decimal_is_IsNumeral_wide w h in
     ap (digits_value 10) (filter_digits (decimal w) d.0.1) ∙ d.1
 
-count_whole : (z : ℤ) (n : ℕ) → n < 10 ^ 38 → n % 10 ^ 18 ≡ 0 → IsCount (record { sign = sign_of z; whole = decimal (n / 10 ^ 18); fraction = None; mark = Plain }) n
+count_whole : (z : ℤ) (n : ℕ) → n < 10 ^ 38 → n % 10 ^ 18 ≡ 0
+    → IsCount (record { sign = sign_of z; whole = decimal (n / 10 ^ 18); fraction = None; mark = Plain }) n
 count_whole z n small e =
     let w : n / 10 ^ 18 < 10 ^ 64 = omega arith in
     let s = digits_split (record { sign = sign_of z; whole = decimal (n / 10 ^ 18); fraction = None; mark = Plain }) in
@@ -98,7 +100,8 @@ sum_count n w r v p t e h =
     let y : n * (p * 1) ≡ w * t * p + r * p = ap (λ n. n * (p * 1)) (sym e) ∙ omega arith in
     y ∙ ap (λ q. w * t * p + q) (sym h) ∙ sym x
 
-count_fraction : (z : ℤ) (n : ℕ) (ds : List ℕ) → n < 10 ^ 38 → digits_value 10 ds * 10 ^ 18 ≡ n % 10 ^ 18 * 10 ^ length ds → IsCount (record { sign = sign_of z; whole = decimal (n / 10 ^ 18); fraction = Some ds; mark = Plain }) n
+count_fraction : (z : ℤ) (n : ℕ) (ds : List ℕ) → n < 10 ^ 38 → digits_value 10 ds * 10 ^ 18 ≡ n % 10 ^ 18 * 10 ^ length ds
+    → IsCount (record { sign = sign_of z; whole = decimal (n / 10 ^ 18); fraction = Some ds; mark = Plain }) n
 count_fraction z n ds small e =
     let w : n / 10 ^ 18 < 10 ^ 64 = omega arith in
     let s = digits_split (record { sign = sign_of z; whole = decimal (n / 10 ^ 18); fraction = Some ds; mark = Plain }) in
@@ -110,13 +113,15 @@ not_empty : (cs ds : List ℕ) → 0 < length cs → ((cs ≡ []) × (ds ≡ [])
 not_empty [] ds h e = absurd (omega arith)
 not_empty (c ∷ cs) ds h e = let f : c ∷ cs ≡ [] = e.0 in cc
 
-pub lexical_number : (z : ℤ) (n : ℕ) (a b c d : List ℕ) → n ≡ unsigned_abs z → n < 10 ^ 38 → a ≡ [] → b ≡ a ++ cond (lt_z z (pos 0)) (45 ∷ []) [] → c ≡ b ++ decimal (n / 10 ^ 18) → AppendsPart c d (n % 10 ^ 18) → IsLexicalNumber d z
+pub lexical_number : (z : ℤ) (n : ℕ) (a b c d : List ℕ) → n ≡ unsigned_abs z → n < 10 ^ 38 → a ≡ [] → b ≡ a ++ cond (lt_z z (pos 0)) (45 ∷ []) []
+    → c ≡ b ++ decimal (n / 10 ^ 18) → AppendsPart c d (n % 10 ^ 18) → IsLexicalNumber d z
 lexical_number z n a b c d abs small ea eb ec part =
     let w = n / 10 ^ 18 in
     let wide : w < 10 ^ 64 = omega arith in
     let numeral = decimal_is_IsNumeral_wide w wide in
     let grouped = numeral_grouped (decimal w) numeral.0 in
-    let text : c ≡ ([] ++ cond (lt_z z (pos 0)) (45 ∷ []) []) ++ decimal w = ec ∙ ap (λ x. x ++ decimal w) (eb ∙ ap (λ x. x ++ cond (lt_z z (pos 0)) (45 ∷ []) []) ea) in
+    let text : c ≡ ([] ++ cond (lt_z z (pos 0)) (45 ∷ []) []) ++ decimal w = ec
+    ∙ ap (λ x. x ++ decimal w) (eb ∙ ap (λ x. x ++ cond (lt_z z (pos 0)) (45 ∷ []) []) ea) in
     let value : z ≡ signed (sign_of z) n = signed_abs z ∙ ap (signed (sign_of z)) (sym abs) in
     elim part [
       | inl whole ↦
@@ -142,8 +147,14 @@ lexical_number z n a b c d abs small ea eb ec part =
           record {
             reads = record {
               parts = p;
-              is_number = record { whole = inr grouped; fraction = (refl, f.are_digits); not_both_missing = not_empty (decimal w) f.digits numeral.0.0; mark = tt };
-              spelled = f.appended ∙ ap (λ x. (x ++ (46 ∷ [])) ++ f.digits) text ∙ point_text _ (decimal w) f.digits ∙ ap (λ x. x ++ (decimal w ++ ((46 ∷ f.digits) ++ []))) (sign_text_of z);
+              is_number = record {
+                whole = inr grouped;
+                fraction = (refl, f.are_digits);
+                not_both_missing = not_empty (decimal w) f.digits numeral.0.0;
+                mark = tt;
+              };
+              spelled = f.appended ∙ ap (λ x. (x ++ (46 ∷ [])) ++ f.digits) text ∙ point_text _ (decimal w) f.digits
+                  ∙ ap (λ x. x ++ (decimal w ++ ((46 ∷ f.digits) ++ []))) (sign_text_of z);
               count = n;
               small = small;
               is_count = count_fraction z n f.digits small f.value;

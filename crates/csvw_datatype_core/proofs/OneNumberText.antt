@@ -1,5 +1,6 @@
 -- A number has one text in its lexical form.
-use Rattle.std.proofs.Common.{◌≡◌, ◌≢◌, ◌↔◌, ℕ, zero, suc, ◌+◌, ◌-◌, ◌*◌, ◌%◌, ◌^◌, ◌<◌, ◌≤◌, ◌⊎◌, inl, inr, ⊎_elim, Option, Some, None, IfSome, unwrap_or, List, [], ◌∷◌, ◌++◌, length, filter, refl, sym, ap, subst, ◌∙◌, arith, ℤ, unsigned_abs, mul-le-mul_right}
+use Rattle.std.proofs.Common.{◌≡◌, ◌≢◌, ◌↔◌, ℕ, zero, suc, ◌+◌, ◌-◌, ◌*◌, ◌%◌, ◌^◌, ◌<◌, ◌≤◌, ◌⊎◌, inl, inr, ⊎_elim, Option, Some, None, IfSome}
+use Rattle.std.proofs.Common.{unwrap_or, List, [], ◌∷◌, ◌++◌, length, filter, refl, sym, ap, subst, ◌∙◌, arith, ℤ, unsigned_abs, mul-le-mul_right}
 use Rattle.std.specs.List.{AllByRecursion}
 use Rattle.std.specs.Char.{IsAsciiDigit, is_ascii_digit}
 use Rattle.std.specs.Str.Parse.{digits_value}
@@ -8,7 +9,8 @@ use Rattle.std.proofs.lemmas.Nat.{pow-add}
 use Rattle.std.proofs.Math.Nat.{pow-suc, mul-mod_left, mul-add-mod_self_right, pow-le-pow_right, mul-lt-mul_of_pos_right}
 use Rattle.csvw_datatype_core.specs.declared.number.Mark.{Mark}
 use Rattle.csvw_datatype_core.specs.declared.number.Mark.TheVariants.{Plain}
-use Rattle.csvw_datatype_core.specs.Numbers.{Sign, NoSign, Plus, Minus, sign_text, fraction_text, mark_text, divisor, signed, fraction_digits, IsGrouped, IsFraction}
+use Rattle.csvw_datatype_core.specs.Numbers.{Sign, NoSign, Plus, Minus, sign_text, fraction_text, mark_text, divisor, signed, fraction_digits}
+use Rattle.csvw_datatype_core.specs.Numbers.{IsGrouped, IsFraction}
 use Rattle.csvw_datatype_core.specs.LexicalNumbers.{plain_rules, HasNoLeadingZero, HasNoTrailingZero, IsLexicalNumber}
 use Rattle.csvw_datatype_core.proofs.KindLemmas.{digit_test}
 use Rattle.csvw_datatype_core.proofs.Spelled.{whole_value}

@@ -25,10 +25,12 @@ divisor_pos PerMille = lit≤ tt
 
 counted : (p : Parts) (o : Option ℕ) (n : ℕ) → IsAnswer p o → n < 10 ^ 38 → IsCount p n → o ≡ Some n
 counted p None n a l h = absurd (a n l h)
-counted p (Some m) n a l h = ap Some (cancel m n (10 ^ length (fraction_digits p) * divisor p.mark) (pos_mul _ _ (pow_is_pos _) (divisor_pos p.mark)) (a.1 ∙ sym h))
+counted p (Some m) n a l h =
+    ap Some (cancel m n (10 ^ length (fraction_digits p) * divisor p.mark) (pos_mul _ _ (pow_is_pos _) (divisor_pos p.mark)) (a.1 ∙ sym h))
 
 -- what the pass says is the number
-value_is : (rules : NumberRules) (l : IsLawful rules) (cs : List ℕ) (z : ℤ) (r : ReadsNumber rules cs z) → (count_of (run rules begun cs) ≡ Some r.count) × (z ≡ cond (run rules begun cs).minus (neg_ℤ (pos r.count)) (pos r.count))
+value_is : (rules : NumberRules) (l : IsLawful rules) (cs : List ℕ) (z : ℤ) (r : ReadsNumber rules cs z)
+    → (count_of (run rules begun cs) ≡ Some r.count) × (z ≡ cond (run rules begun cs).minus (neg_ℤ (pos r.count)) (pos r.count))
 value_is rules l cs z r =
     let h = holds_text rules l cs r.parts r.is_number r.spelled in (
       counted r.parts _ r.count (count_answers rules r.parts _ r.is_number h) r.small r.is_count,
@@ -45,13 +47,15 @@ one_number rules l cs y z r s =
 -- a text is one date at most
 pub one_date : (f : DateFormat) (text : List ℕ) (a b : ℤ) → ReadsDate f text a → ReadsDate f text b → a ≡ b
 one_date f text a b r s =
-    let same = some_same (digits_value 10 r.y, digits_value 10 r.m, digits_value 10 r.d) (digits_value 10 s.y, digits_value 10 s.m, digits_value 10 s.d) (sym (reads_fields f text a r) ∙ reads_fields f text b s) in
+    let same = some_same (digits_value 10 r.y, digits_value 10 r.m, digits_value 10 r.d)
+    (digits_value 10 s.y, digits_value 10 s.m, digits_value 10 s.d) (sym (reads_fields f text a r) ∙ reads_fields f text b s) in
     r.is_value ∙ ap (λ (x : ℕ × ℕ × ℕ). day_number x.0 x.1 x.2) same ∙ sym s.is_value
 
 -- and one time of day
 one_time : (f : MomentFormat) (text : List ℕ) (a b : ℕ) → ReadsTime f text a → ReadsTime f text b → a ≡ b
 one_time f text a b r s =
-    let same = some_same (digits_value 10 r.h, digits_value 10 r.m, digits_value 10 r.s) (digits_value 10 s.h, digits_value 10 s.m, digits_value 10 s.s) (sym (time_again f text a r) ∙ time_again f text b s) in
+    let same = some_same (digits_value 10 r.h, digits_value 10 r.m, digits_value 10 r.s)
+    (digits_value 10 s.h, digits_value 10 s.m, digits_value 10 s.s) (sym (time_again f text a r) ∙ time_again f text b s) in
     r.is_value ∙ ap (λ (x : ℕ × ℕ × ℕ). x.0 * 3600 + x.1 * 60 + x.2) same ∙ sym s.is_value
 
 -- and one moment

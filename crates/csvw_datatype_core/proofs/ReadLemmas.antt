@@ -9,7 +9,8 @@ use Rattle.csvw_datatype_core.proofs.Spelled.{HoldsParts, spelled_holds, run_pla
 use Rattle.csvw_datatype_core.proofs.Answer.{IsAnswer, count_answers}
 
 -- the pass over a text that the parts spell
-pub holds_text : (rules : NumberRules) (l : IsLawful rules) (cs : List ℕ) (p : Parts) → IsNumber rules p → cs ≡ text_of rules p → HoldsParts p (run rules begun cs)
+pub holds_text : (rules : NumberRules) (l : IsLawful rules) (cs : List ℕ) (p : Parts) → IsNumber rules p → cs ≡ text_of rules p
+    → HoldsParts p (run rules begun cs)
 holds_text rules l cs p n e = let P : List ℕ → Type 0 = λ cs. HoldsParts p (run rules begun cs) in subst P (sym e) (spelled_holds rules l p n)
 
 pub spells_nothing : (rules : NumberRules) (l : IsLawful rules) (cs : List ℕ) → ends (run rules begun cs).place ≡ false → SpellsNumber rules cs → ⊥
@@ -28,10 +29,20 @@ signed_is NoSign n = refl
 signed_is Plus n = refl
 signed_is Minus n = refl
 
-pub reads : (rules : NumberRules) (l : IsLawful rules) (cs : List ℕ) (n : ℕ) (z : ℤ) → ends (run rules begun cs).place ≡ true → count_of (run rules begun cs) ≡ Some n → z ≡ cond (run rules begun cs).minus (neg_ℤ (pos n)) (pos n) → ReadsNumber rules cs z
+pub reads : (rules : NumberRules) (l : IsLawful rules) (cs : List ℕ) (n : ℕ) (z : ℤ) → ends (run rules begun cs).place ≡ true
+    → count_of (run rules begun cs) ≡ Some n → z ≡ cond (run rules begun cs).minus (neg_ℤ (pos n)) (pos n) → ReadsNumber rules cs z
 reads rules l cs n z h c e =
     let s = spells rules cs h in
     let holds = holds_text rules l cs s.parts s.is_number s.spelled in
     let P : Option ℕ → Type 0 = λ o. IsAnswer s.parts o in
     let a = subst P c (count_answers rules s.parts _ s.is_number holds) in
-    record { parts = s.parts; is_number = s.is_number; spelled = s.spelled; count = n; small = a.0; is_count = a.1; is_value = e ∙ ap (λ b. cond b (neg_ℤ (pos n)) (pos n)) holds.minus ∙ signed_is s.parts.sign n }
+    record {
+      parts = s.parts;
+      is_number = s.is_number;
+      spelled = s.spelled;
+      count = n;
+      small = a.0;
+      is_count = a.1;
+      is_value = e
+          ∙ ap (λ b. cond b (neg_ℤ (pos n)) (pos n)) holds.minus ∙ signed_is s.parts.sign n;
+    }

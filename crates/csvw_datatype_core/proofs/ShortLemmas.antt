@@ -1,5 +1,7 @@
 -- The pass over a short number, by its bytes.
-use Rattle.std.proofs.Common.{◌≡◌, ◌∙◌, ℕ, zero, suc, ◌+◌, ◌-◌, ◌*◌, ◌/◌, ◌%◌, ◌^◌, ◌<◌, ◌≤◌, Bool, true, false, ◌&&◌, ◌||◌, ◌==◌, not, Some, List, [], ◌∷◌, ◌++◌, length, get_or, take, drop, slice_index_or, refl, sym, ap, arith, chars, min, cond, ℤ, pos, neg_ℤ, nat_le, mul-le-mul_right}
+use Rattle.std.proofs.Common.{◌≡◌, ◌∙◌, ℕ, zero, suc, ◌+◌, ◌-◌, ◌*◌, ◌/◌, ◌%◌, ◌^◌, ◌<◌, ◌≤◌, Bool, true, false, ◌&&◌, ◌||◌, ◌==◌, not, Some, List}
+use Rattle.std.proofs.Common.{[], ◌∷◌, ◌++◌, length, get_or, take, drop, slice_index_or, refl, sym, ap, arith, chars, min, cond, ℤ, pos, neg_ℤ}
+use Rattle.std.proofs.Common.{nat_le, mul-le-mul_right}
 use Rattle.std.specs.Char.{IsAsciiDigit, is_ascii_digit}
 use Rattle.std.proofs.lemmas.Bool.{cond-false}
 use Rattle.std.proofs.lemmas.Bool.Decides.{nat_tests}
@@ -59,7 +61,8 @@ at_whole s w d h l k =
 -- after one more digit of a whole part that is short
 pub whole_read : (rules : NumberRules) (s : Scan) (text rest : List ℕ) (w : ℕ) → s.place ≡ places.Whole → w < 10 ^ 18 → 1 ≤ length rest
     → is_ascii_digit (slice_index_or rest 0 0) ≡ true
-    → Continues rules s text (record s { whole = w }) rest → Continues rules s text (record s { whole = w * 10 + (slice_index_or rest 0 0 - 48) }) (past_first rest)
+    → Continues rules s text (record s { whole = w }) rest
+    → Continues rules s text (record s { whole = w * 10 + (slice_index_or rest 0 0 - 48) }) (past_first rest)
 whole_read rules s text rest w h l some t c =
     let b = slice_index_or rest 0 0 in
     let d = is_digit b t in
@@ -159,14 +162,16 @@ minus_begun false = record { fraction = refl; weight = refl; too_long = refl; ma
 minus_begun true = record { fraction = refl; weight = refl; too_long = refl; mark = refl }
 
 begun_digit : (minus : Bool) (d : ℕ) → d < 10
-    → push (record (signed_begun minus) { place = next (signed_begun minus).place (kinds.Digit d) }) (kinds.Digit d) ≡ record (signed_begun minus) { place = places.Whole; whole = d }
+    → push (record (signed_begun minus) { place = next (signed_begun minus).place (kinds.Digit d) }) (kinds.Digit d)
+    ≡ record (signed_begun minus) { place = places.Whole; whole = d }
 begun_digit false d h = ap (λ n. record (signed_begun false) { place = places.Whole; whole = n }) (omega arith)
 begun_digit true d h = ap (λ n. record (signed_begun true) { place = places.Whole; whole = n }) (omega arith)
 
 -- digits, with what follows them, are this many units
 pub counts : (rules : NumberRules) (minus : Bool) (text rest : List ℕ) (w units : ℕ) → 1 ≤ length text → is_ascii_digit (slice_index_or text 0 0) ≡ true
     → w < 10 ^ 20
-    → ((s : Scan) → IsBegun s → s.place ≡ places.Whole → s.whole ≡ slice_index_or text 0 0 - 48 → Continues rules s (past_first text) (record s { whole = w }) rest)
+    → ((s : Scan) → IsBegun s → s.place ≡ places.Whole → s.whole ≡ slice_index_or text 0 0 - 48
+    → Continues rules s (past_first text) (record s { whole = w }) rest)
     → ((s : Scan) → IsBegun s → s.place ≡ places.Whole → EndsWith rules s rest units)
     → CountsWith rules (signed_begun minus) text (w * 10 ^ 18 + units)
 counts rules minus text rest w units some test low whole behind =

@@ -1,5 +1,6 @@
 -- The fields of a time of day and its text, and the moment of a date and a time.
-use Rattle.std.proofs.Common.{◌≡◌, ℕ, ◌+◌, ◌*◌, ◌<◌, inl, inr, Option, Some, None, List, [], ◌∷◌, ◌++◌, length, take, drop, refl, sym, ap, subst, ◌∙◌, arith, append-nil, length-append, ℤ, pos, ◌+ℤ◌, ◌*ℤ◌, MatchOption}
+use Rattle.std.proofs.Common.{◌≡◌, ℕ, ◌+◌, ◌*◌, ◌<◌, inl, inr, Option, Some, None, List, [], ◌∷◌, ◌++◌, length, take, drop, refl, sym, ap, subst, ◌∙◌}
+use Rattle.std.proofs.Common.{arith, append-nil, length-append, ℤ, pos, ◌+ℤ◌, ◌*ℤ◌, MatchOption}
 use Rattle.std.specs.Str.Parse.{digits_value}
 use Rattle.std.proofs.Math.Seq.{take-append_seam, drop-append_seam}
 use Rattle.csvw_datatype_core.specs.declared.date.DateFormat.TheVariants.{YearFirst}
@@ -31,7 +32,8 @@ second_sound Seconds bs x h =
     let f = two_sound r.0 s.0.0 s.0.1 s.1.0 in
     let same = some_same s.0.0 x 0 e.1.1 in
     let value : x ≡ digits_value 10 f.digits = sym same ∙ f.value in
-    let text : bs ≡ 58 ∷ f.digits = separator_sound 58 bs r.0 r.1.0 ∙ ap (λ t. 58 ∷ t) (f.front ∙ ap (λ t. f.digits ++ t) (end_sound s.0.1 e.0 e.1.0) ∙ append-nil f.digits) in
+    let text : bs ≡ 58 ∷ f.digits = separator_sound 58 bs r.0 r.1.0
+    ∙ ap (λ t. 58 ∷ t) (f.front ∙ ap (λ t. f.digits ++ t) (end_sound s.0.1 e.0 e.1.0) ∙ append-nil f.digits) in
     record { s = f.digits; value = value; right = λ l. (text, pair_of f.digits x 60 f.right value l) }
 second_sound Minutes bs x h =
     let e = bind_some (at_end bs) _ _ h in
@@ -42,7 +44,8 @@ triple : ℕ → ℕ → ℕ → ℕ × ℕ × ℕ
 triple h m s = (h, m, s)
 
 -- a time whose fields are in range is read
-pub time_sound : (f : MomentFormat) (bs : List ℕ) (h m s : ℕ) → time_fields f bs ≡ Some (h, m, s) → h < 24 → m < 60 → s < 60 → ReadsTime f bs (h * 3600 + m * 60 + s)
+pub time_sound : (f : MomentFormat) (bs : List ℕ) (h m s : ℕ) → time_fields f bs ≡ Some (h, m, s) → h < 24 → m < 60 → s < 60
+    → ReadsTime f bs (h * 3600 + m * 60 + s)
 unfolding time_fields
 time_sound f bs h m s is hour minute second =
     let r = bind_some (after_separator 84 bs) _ _ is in
@@ -66,7 +69,8 @@ time_sound f bs h m s is hour minute second =
       is_hour = pair_of fa.digits h 24 fa.right hv hour;
       is_minute = pair_of fb.digits m 60 fb.right mv minute;
       is_second = fc.right (omega (arith, cv, second));
-      spelled = separator_sound 84 bs r.0 r.1.0 ∙ ap (λ t. 84 ∷ t) (fa.front ∙ ap (λ t. fa.digits ++ t) (separator_sound 58 a.0.1 q.0 q.1.0 ∙ ap (λ t. 58 ∷ t) fb.front));
+      spelled = separator_sound 84 bs r.0 r.1.0
+          ∙ ap (λ t. 84 ∷ t) (fa.front ∙ ap (λ t. fa.digits ++ t) (separator_sound 58 a.0.1 q.0 q.1.0 ∙ ap (λ t. 58 ∷ t) fb.front));
       is_value = omega (arith, hv, mv, sv);
     }
 
@@ -77,7 +81,8 @@ second_again Seconds tail s h =
 second_again Minutes tail s h = rw (h.0, h.1) refl
 
 -- what is read has fields in range
-pub time_again : (f : MomentFormat) (bs : List ℕ) (second : ℕ) → (r : ReadsTime f bs second) → time_fields f bs ≡ Some (digits_value 10 r.h, digits_value 10 r.m, digits_value 10 r.s)
+pub time_again : (f : MomentFormat) (bs : List ℕ) (second : ℕ) → (r : ReadsTime f bs second)
+    → time_fields f bs ≡ Some (digits_value 10 r.h, digits_value 10 r.m, digits_value 10 r.s)
 unfolding time_fields
 time_again f bs second r =
     let b = two_again r.h (58 ∷ (r.m ++ r.tail)) (r.is_hour.0, r.is_hour.1) in
@@ -92,7 +97,8 @@ seconds_below Minutes tail s h = rw h.1 (omega arith)
 pub no_time_fields : (f : MomentFormat) (bs : List ℕ) → time_fields f bs ≡ None → (second : ℕ) → ReadsTime f bs second → ⊥
 no_time_fields f bs h second r = let e = time_again f bs second r in cc
 
-pub no_time : (f : MomentFormat) (bs : List ℕ) (h m s : ℕ) → time_fields f bs ≡ Some (h, m, s) → (h < 24 → m < 60 → s < 60 → ⊥) → (second : ℕ) → ReadsTime f bs second → ⊥
+pub no_time : (f : MomentFormat) (bs : List ℕ) (h m s : ℕ) → time_fields f bs ≡ Some (h, m, s) → (h < 24 → m < 60 → s < 60 → ⊥) → (second : ℕ)
+    → ReadsTime f bs second → ⊥
 no_time f bs h m s is never second r =
     let same = some_same (h, m, s) (digits_value 10 r.h, digits_value 10 r.m, digits_value 10 r.s) (0, 0, 0) (sym is ∙ time_again f bs second r) in
     let hv : h ≡ digits_value 10 r.h = ap (λ (x : ℕ × ℕ × ℕ). x.0) same in
@@ -101,7 +107,9 @@ no_time f bs h m s is never second r =
     never (omega (arith, hv, r.is_hour.2)) (omega (arith, mv, r.is_minute.2)) (omega (arith, sv, seconds_below f r.tail r.s r.is_second))
 
 -- the answer for fields, as one for the text
-pub time_answer : (f : MomentFormat) (bs : List ℕ) (h m s : ℕ) (o : Option ℕ) → time_fields f bs ≡ Some (h, m, s) → MatchOption o (IsTimeOfDay h m s → ⊥) (λ n. IsTimeOfDay h m s × (n ≡ h * 3600 + m * 60 + s)) → MatchOption o ((second : ℕ) → ReadsTime f bs second → ⊥) (ReadsTime f bs)
+pub time_answer : (f : MomentFormat) (bs : List ℕ) (h m s : ℕ) (o : Option ℕ) → time_fields f bs ≡ Some (h, m, s)
+    → MatchOption o (IsTimeOfDay h m s → ⊥) (λ n. IsTimeOfDay h m s × (n ≡ h * 3600 + m * 60 + s))
+    → MatchOption o ((second : ℕ) → ReadsTime f bs second → ⊥) (ReadsTime f bs)
 time_answer f bs h m s None is a = no_time f bs h m s is (λ x y z. a (x, y, z))
 time_answer f bs h m s (Some n) is a = let P : ℕ → Type 0 = λ n. ReadsTime f bs n in subst P (sym a.1) (time_sound f bs h m s is a.0.0 a.0.1 a.0.2)
 
@@ -144,6 +152,7 @@ no_date f text never moment r = let p = parts_of f text moment r in never p.day 
 pub no_time_of_day : (f : MomentFormat) (text : List ℕ) → ((second : ℕ) → ReadsTime f (drop 10 text) second → ⊥) → (moment : ℤ) → ReadsMoment f text moment → ⊥
 no_time_of_day f text never moment r = let p = parts_of f text moment r in never p.second p.time
 
-pub moment_read : (f : MomentFormat) (text : List ℕ) (day : ℤ) (second : ℕ) (moment : ℤ) → take 10 text ++ drop 10 text ≡ text → ReadsDate YearFirst (take 10 text) day → ReadsTime f (drop 10 text) second → moment ≡ (day *ℤ pos 86_400) +ℤ pos second → ReadsMoment f text moment
+pub moment_read : (f : MomentFormat) (text : List ℕ) (day : ℤ) (second : ℕ) (moment : ℤ) → take 10 text ++ drop 10 text ≡ text
+    → ReadsDate YearFirst (take 10 text) day → ReadsTime f (drop 10 text) second → moment ≡ (day *ℤ pos 86_400) +ℤ pos second → ReadsMoment f text moment
 moment_read f text day second moment whole d t e =
     record { date = take 10 text; time = drop 10 text; day = day; second = second; is_date = d; is_time = t; spelled = sym whole; is_value = e }

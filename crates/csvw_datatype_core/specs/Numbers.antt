@@ -1,6 +1,7 @@
 -- Numbers: the texts that spell one, and which one (Model for Tabular Data and Metadata on the Web,
 -- section 6.4.2).
-use Rattle.std.specs.Prelude.{◌≡◌, ◌≢◌, IfSome, ℕ, ◌*◌, ◌^◌, ◌<◌, ◌⊎◌, true, Option, Some, None, IsSome, unwrap_or, List, [], ◌∷◌, ◌++◌, length, filter, ℤ, pos, neg_ℤ}
+use Rattle.std.specs.Prelude.{◌≡◌, ◌≢◌, IfSome, ℕ, ◌*◌, ◌^◌, ◌<◌, ◌⊎◌, true, Option, Some, None, IsSome, unwrap_or, List, [], ◌∷◌, ◌++◌, length}
+use Rattle.std.specs.Prelude.{filter, ℤ, pos, neg_ℤ}
 use Rattle.std.specs.List.{AllByRecursion}
 use Rattle.std.specs.Char.{is_ascii_digit, IsAsciiDigit}
 use Rattle.std.specs.Str.Parse.{digits_value}

@@ -1,5 +1,6 @@
 -- The numbers that the pass keeps.
-use Rattle.std.specs.Prelude.{◌≡◌, ℕ, ◌+◌, ◌*◌, ◌/◌, ◌%◌, ◌^◌, min, ◌≤◌, ◌==◌, ◌&&◌, ◌||◌, not, nat_le, true, false, Option, Some, None, if◌then◌else◌, List, [], ◌∷◌, Bool}
+use Rattle.std.specs.Prelude.{◌≡◌, ℕ, ◌+◌, ◌*◌, ◌/◌, ◌%◌, ◌^◌, min, ◌≤◌, ◌==◌, ◌&&◌, ◌||◌, not, nat_le, true, false, Option, Some, None}
+use Rattle.std.specs.Prelude.{if◌then◌else◌, List, [], ◌∷◌, Bool}
 use Rattle.std.specs.Str.{chars}
 use Rattle.csvw_datatype_core.specs.declared.number.NumberRules.{NumberRules}
 use Rattle.csvw_datatype_core.specs.declared.number.Kind.{Kind}

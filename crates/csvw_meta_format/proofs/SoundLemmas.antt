@@ -1,5 +1,6 @@
 -- Each format that is described is one of its type, also where a fault stands in it.
-use Rattle.std.proofs.Common.{◌≡◌, ◌&&◌, not, ℕ, List, [], ◌∷◌, Bool, true, false, Option, Some, None, IfSome, refl, bytes_eq, codes, chars, if◌then◌else◌, arith}
+use Rattle.std.proofs.Common.{◌≡◌, ◌&&◌, not, ℕ, List, [], ◌∷◌, Bool, true, false, Option, Some, None, IfSome, refl, bytes_eq, codes, chars}
+use Rattle.std.proofs.Common.{if◌then◌else◌, arith}
 use Rattle.std.proofs.lemmas.Bool.Decides.{nat_tests}
 use Rattle.std.proofs.lemmas.Slice.Eq.{bytes_eq-Decides}
 use Rattle.serde_json.specs.Data.{Data, null, boolean, number, string, array, object}
@@ -17,8 +18,10 @@ use Rattle.csvw_meta_core.specs.declared.fault.MetaCode.TheVariants.{BadDatatype
 use Rattle.csvw_meta_core.specs.Pointer.{below}
 use Rattle.csvw_meta_core.specs.Read.{fine, faulty, given, under, on_kind}
 use Rattle.csvw_meta_format.specs.Formats.{number_found, number_format, format}
-use Rattle.csvw_meta_format.specs.Numbers.{is_free, character_found, character, sole, number_parts, no_characters, is_character, clashes, lawful_number, number_form}
-use Rattle.csvw_meta_format.specs.Truths.{is_truth_text, are_truth_texts, truth_texts, truth_format_of, no_truths, truths_found, truth_format, before_bar, behind_bar}
+use Rattle.csvw_meta_format.specs.Numbers.{is_free, character_found, character, sole, number_parts, no_characters, is_character, clashes}
+use Rattle.csvw_meta_format.specs.Numbers.{lawful_number, number_form}
+use Rattle.csvw_meta_format.specs.Truths.{is_truth_text, are_truth_texts, truth_texts, truth_format_of, no_truths, truths_found, truth_format}
+use Rattle.csvw_meta_format.specs.Truths.{before_bar, behind_bar}
 
 -- ---- truths
 

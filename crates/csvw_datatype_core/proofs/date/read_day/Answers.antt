@@ -9,13 +9,16 @@ returns-in_err-year c =
     subst P (sym c.from_residual.ensures) (no_fields c.args.format c.args.bytes.now (sym c.in_err-year.ensures))
 
 pub day_of-requires-clause-year : goal.day_of-requires-clause-year
-day_of-requires-clause-year c = (fields_small c.args.format c.args.bytes.now (c.in_ok-year.year, c.in_ok-year.month, c.in_ok-year.day) (sym c.in_ok-year.ensures)).0
+day_of-requires-clause-year c =
+    (fields_small c.args.format c.args.bytes.now (c.in_ok-year.year, c.in_ok-year.month, c.in_ok-year.day) (sym c.in_ok-year.ensures)).0
 
 pub day_of-requires-clause-month : goal.day_of-requires-clause-month
-day_of-requires-clause-month c = (fields_small c.args.format c.args.bytes.now (c.in_ok-year.year, c.in_ok-year.month, c.in_ok-year.day) (sym c.in_ok-year.ensures)).1
+day_of-requires-clause-month c =
+    (fields_small c.args.format c.args.bytes.now (c.in_ok-year.year, c.in_ok-year.month, c.in_ok-year.day) (sym c.in_ok-year.ensures)).1
 
 pub day_of-requires-clause-day : goal.day_of-requires-clause-day
-day_of-requires-clause-day c = (fields_small c.args.format c.args.bytes.now (c.in_ok-year.year, c.in_ok-year.month, c.in_ok-year.day) (sym c.in_ok-year.ensures)).2
+day_of-requires-clause-day c =
+    (fields_small c.args.format c.args.bytes.now (c.in_ok-year.year, c.in_ok-year.month, c.in_ok-year.day) (sym c.in_ok-year.ensures)).2
 
 pub returns : goal.returns
 returns c =

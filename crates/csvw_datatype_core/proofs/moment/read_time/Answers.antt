@@ -5,7 +5,8 @@ use Rattle.csvw_datatype_core.proofs.moment.read_time.Goals as goal
 
 pub returns-in_err-hour : goal.returns-in_err-hour
 returns-in_err-hour c =
-    let P : Option ℕ → Type 0 = λ o. MatchOption o ((second : ℕ) → ReadsTime c.args.format c.args.bytes.now second → ⊥) (ReadsTime c.args.format c.args.bytes.now) in
+    let P : Option ℕ → Type 0 =
+    λ o. MatchOption o ((second : ℕ) → ReadsTime c.args.format c.args.bytes.now second → ⊥) (ReadsTime c.args.format c.args.bytes.now) in
     subst P (sym c.from_residual.ensures) (no_time_fields c.args.format c.args.bytes.now (sym c.in_err-hour.ensures))
 
 pub returns : goal.returns

@@ -16,8 +16,10 @@ returns-then-not-ends c =
 
 pub returns-in-None : goal.returns-in-None
 returns-in-None c = (
-  spells c.args.rules.now (chars c.args.text.now) (ap (λ (s : Scan). ends s.place) (sym c.scan_text-scan.ensures.value) ∙ sym c.ends.ensures ∙ c.if-not-ends.false),
-  reads_nothing c.args.rules.now c.requires (chars c.args.text.now) (ap count_of (sym c.scan_text-scan.ensures.value) ∙ sym c.count.ensures.value ∙ c.in-None.is),
+  spells c.args.rules.now (chars c.args.text.now)
+      (ap (λ (s : Scan). ends s.place) (sym c.scan_text-scan.ensures.value) ∙ sym c.ends.ensures ∙ c.if-not-ends.false),
+  reads_nothing c.args.rules.now c.requires (chars c.args.text.now)
+      (ap count_of (sym c.scan_text-scan.ensures.value) ∙ sym c.count.ensures.value ∙ c.in-None.is),
 )
 
 pub returns-in-Some : goal.returns-in-Some

@@ -24,7 +24,8 @@ returns-in_err-is_ignored c =
     let d = view c.in-Some.value.now in
     let so_far : with_front c.loop-name.warnings.items (others_in names common place at (member name d (members_view c.next.new.self)))
     ≡ others_in names common place at (members_view c.args.members.now.entries) =
-    sym (ap (λ es. with_front c.loop-name.warnings.items (others_in names common place at (members_view es))) c.in-Some.ensures.steps) ∙ c.loop-name.invariant in
+    sym (ap (λ es. with_front c.loop-name.warnings.items (others_in names common place at (members_view es))) c.in-Some.ensures.steps)
+    ∙ c.loop-name.invariant in
     let P : Read (List Fault) → Type 0 = λ r. Fails c.in_err-is_ignored.field-0.0 r.faults in
     rw (p.1, p.2)
     (subst P so_far
