@@ -1,5 +1,5 @@
 -- Texts without white space, which steps 1 and 2 leave as they are.
-use Rattle.std.proofs.Common.{◌≡◌, ◌∙◌, ◌<◌, ◌≤◌, ℕ, Bool, true, false, List, [], ◌∷◌, refl, sym, ap, arith, ◌==◌, ◌+◌, ◌/◌, ◌%◌, cond, nat_lt, ⊎_elim}
+use Rattle.std.proofs.Common.{◌≡◌, ◌∙◌, ◌<◌, ◌≤◌, ℕ, Bool, true, false, List, [], ◌∷◌, refl, sym, ap, arith, ◌==◌, ◌+◌, ◌/◌, ◌%◌, cond, nat_lt, ⊎_elim, ◌-◌, length, min, slice_index_or, take, drop}
 use Rattle.std.specs.Prelude.{◌||◌, not, if◌then◌else◌, IsUtf8, chars, encode_utf8, encode_utf8_all}
 use lib.Utf8.{encode}
 use Rattle.std.specs.List.{list_any}
@@ -7,6 +7,7 @@ use Rattle.std.proofs.lemmas.Bool.{false≢true, cond-false, cases_lt}
 use Rattle.std.proofs.lemmas.Bool.Decides.{nat_tests}
 use Rattle.std.proofs.lemmas.List.Folds.{list_any-append}
 use Rattle.std.proofs.lemmas.Str.{encode_ascii, encodes-chars}
+use Rattle.std.proofs.Math.Seq.{take-length}
 use Rattle.csvw_text.specs.Collapse.{is_break, is_space, spaced, unled, single, collapse}
 
 neither : (a b : Bool) → (a || b) ≡ false → (a ≡ false) × (b ≡ false)
@@ -48,6 +49,23 @@ next n = high_byte (128 + n) (omega arith)
 chosen : (b : Bool) (x y : List ℕ) → list_any is_space x ≡ false → list_any is_space y ≡ false → list_any is_space (cond b x y) ≡ false
 chosen true x y p q = p
 chosen false x y p q = q
+
+-- four bytes above all white space
+pub four_others : (text : List ℕ) → 4 ≤ length text → 32 < min (min (slice_index_or text 0 0) (slice_index_or text 1 0)) (min (slice_index_or text 2 0) (slice_index_or text 3 0))
+    → list_any is_space (take (length text - 4) (drop 4 text)) ≡ list_any is_space text
+four_others [] h l = absurd (omega (arith, h))
+four_others (a ∷ []) h l = absurd (omega (arith, h))
+four_others (a ∷ b ∷ []) h l = absurd (omega (arith, h))
+four_others (a ∷ b ∷ c ∷ []) h l = absurd (omega (arith, h))
+four_others (a ∷ b ∷ c ∷ d ∷ bs) h l =
+    let p = printed a (omega (arith, l)) in
+    let q = printed b (omega (arith, l)) in
+    let r = printed c (omega (arith, l)) in
+    let s = printed d (omega (arith, l)) in
+    ap (list_any is_space) (ap (λ n. take n bs) (omega arith) ∙ take-length bs) ∙ sym (rw (p, q, r, s) refl)
+  where
+    printed : (b : ℕ) → 32 < b → is_space b ≡ false
+    printed b h = grind (arith, nat_tests)
 
 two : (x y : ℕ) → is_space x ≡ false → is_space y ≡ false → list_any is_space (x ∷ y ∷ []) ≡ false
 two x y p q = rw (p, q) refl

@@ -34,10 +34,23 @@ fn is_space(b: u8) -> bool
     b <= b' ' && matches!(b, b'\r' | b'\n' | b'\t' | b' ')
 }
 
-fn has_space_byte(bytes: &[u8]) -> bool
+fn any_space(bytes: &[u8]) -> bool
     ensures { result ≡ list_any is_space bytes.now }
 {
     bytes.iter().any(|b| is_space(*b))
+}
+
+/// The same, four bytes at a time.
+fn has_space_byte(bytes: &[u8]) -> bool
+    ensures { result ≡ list_any is_space bytes.now }
+{
+    let mut rest = bytes;
+    loop {
+        match rest {
+            [a, b, c, d, behind @ ..] if (*a).min(*b).min((*c).min(*d)) > b' ' => rest = behind,
+            _ => return any_space(rest),
+        }
+    }
 }
 
 /// Whether some character is white space. All white space is ASCII, so the bytes tell it.

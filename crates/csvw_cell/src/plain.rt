@@ -1,7 +1,8 @@
 //! Cells read over the cells before them.
-ghost use Rattle.std.specs.Prelude.{◌≡◌, true, OnOk};
+ghost use Rattle.std.specs.Prelude.{◌≡◌, true, IfOk, OnOk};
 ghost use Rattle.csvw_datatype.specs.Breaks.{has_lengths};
 ghost use Rattle.csvw_datatype.specs.Sound.{IsSound};
+ghost use Rattle.csvw_cell.specs.Codes.{in_order};
 ghost use Rattle.csvw_cell.specs.CellOf.{CellOf, IsSingle, normalized};
 ghost use Rattle.csvw_cell.specs.Plain.{is_plain, is_typed, text_item, the_text};
 
@@ -60,6 +61,16 @@ fn refill_value(alloc: Global, value: &mut CellValue, text: &str) -> Result<(), 
     }
 }
 
+// Most cells have no faults.
+fn faults_of(alloc: Global, causes: &[Code]) -> Result<Seq<Code>, AllocError>
+    ensures { IfOk result (λ s. s ≡ in_order causes.now) }
+{
+    if causes.is_empty() {
+        return Ok(Seq::new(alloc));
+    }
+    in_order(alloc, causes)
+}
+
 /// Makes these the value and the faults of a text that is no list.
 fn single_over(
     alloc: Global,
@@ -77,7 +88,7 @@ fn single_over(
         return Ok(());
     }
     let judged = judge(alloc, properties.datatype.get(), text, Text::new(alloc))?;
-    *faults = in_order(alloc, judged.causes.as_slice())?;
+    *faults = faults_of(alloc, judged.causes.as_slice())?;
     *value = CellValue::One(judged.item);
     Ok(())
 }
