@@ -1,5 +1,6 @@
 -- The parts of a list and their items, one after the other.
-use Rattle.std.proofs.Common.{◌≡◌, ◌∙◌, ℕ, ◌+◌, ◌<◌, Bool, true, false, List, [], ◌∷◌, ◌++◌, length, map, take, drop, refl, sym, ap, subst, append_assoc, get_or, add-one}
+use Rattle.std.proofs.Common.{◌≡◌, ◌∙◌, ℕ, ◌+◌, ◌<◌, Bool, true, false, List, [], ◌∷◌, ◌++◌, length, map, take, drop, refl, sym, ap, subst}
+use Rattle.std.proofs.Common.{append_assoc, get_or, add-one}
 use Rattle.std.proofs.lemmas.List.{map-append}
 use Rattle.std.proofs.Math.Seq.{take-suc}
 use Rattle.std.specs.Prelude.{not, Some, if◌then◌else◌}
@@ -11,7 +12,8 @@ use Rattle.csvw_cell.specs.declared.cell.Item.{Item}
 use Rattle.csvw_cell.specs.CellOf.{ArePartsBy, AreItems, IsItem, is_null, item_text, texts_of}
 
 -- one more part in front
-pub one_more : (separator rest part behind : List ℕ) (i j : ℕ) (more : List (List ℕ)) → FindsText separator rest (Some (i, j)) → part ≡ take i rest → behind ≡ drop j rest
+pub one_more : (separator rest part behind : List ℕ) (i j : ℕ) (more : List (List ℕ)) → FindsText separator rest (Some (i, j)) → part ≡ take i rest
+    → behind ≡ drop j rest
     → ArePartsBy separator behind more → ArePartsBy separator rest (part ∷ more)
 one_more separator rest part behind i j [] f p e h = absurd h
 one_more separator rest part behind i j (next ∷ parts) f p e h = (i, j, f, p, subst (λ b. ArePartsBy separator b (next ∷ parts)) e h)
@@ -25,18 +27,28 @@ items_snoc d [] items codes text item its h k =
     nothing_more : (l : List Code) → l ++ [] ≡ l
     nothing_more [] = refl
     nothing_more (x ∷ xs) = ap (λ l. x ∷ l) (nothing_more xs)
-items_snoc d (t ∷ texts) items codes text item its (i, others, c, theirs, e, f, g, h) k =
-    (i, others ++ item ∷ [], c, theirs ++ its, ap (λ l. l ++ item ∷ []) e, ap (λ l. l ++ its) f ∙ append_assoc c theirs its, g, items_snoc d texts others theirs text item its h k)
+items_snoc d (t ∷ texts) items codes text item its (i, others, c, theirs, e, f, g, h) k = (
+  i,
+  others ++ item ∷ [],
+  c,
+  theirs ++ its,
+  ap (λ l. l ++ item ∷ []) e,
+  ap (λ l. l ++ its) f ∙ append_assoc c theirs its,
+  g,
+  items_snoc d texts others theirs text item its h k,
+)
 
 -- a part that is null, and one that isn't
-pub texts_null : (p : Properties) (parts : List (List ℕ)) (part : List ℕ) → is_null p.null (item_text p part) ≡ true → texts_of p (parts ++ part ∷ []) ≡ texts_of p parts
+pub texts_null : (p : Properties) (parts : List (List ℕ)) (part : List ℕ) → is_null p.null (item_text p part) ≡ true
+    → texts_of p (parts ++ part ∷ []) ≡ texts_of p parts
 texts_null p [] part e = rw e refl
 texts_null p (x ∷ parts) part e = kept (not (is_null p.null (item_text p x))) (item_text p x) (texts_null p parts part e)
   where
     kept : (b : Bool) (x : List ℕ) {l m : List (List ℕ)} → l ≡ m → (if b then x ∷ l else l) ≡ (if b then x ∷ m else m)
     kept b x e = ap (λ l. if b then x ∷ l else l) e
 
-pub texts_kept : (p : Properties) (parts : List (List ℕ)) (part : List ℕ) → is_null p.null (item_text p part) ≡ false → texts_of p (parts ++ part ∷ []) ≡ texts_of p parts ++ item_text p part ∷ []
+pub texts_kept : (p : Properties) (parts : List (List ℕ)) (part : List ℕ) → is_null p.null (item_text p part) ≡ false
+    → texts_of p (parts ++ part ∷ []) ≡ texts_of p parts ++ item_text p part ∷ []
 texts_kept p [] part e = rw e refl
 texts_kept p (x ∷ parts) part e = kept (not (is_null p.null (item_text p x))) (item_text p x) _ _ _ (texts_kept p parts part e)
   where
@@ -44,8 +56,10 @@ texts_kept p (x ∷ parts) part e = kept (not (is_null p.null (item_text p x))) 
     kept true x l m n e = ap (λ k. x ∷ k) e
     kept false x l m n e = e
 
-take_map_suc : {R : Type 0} (f : R → List ℕ) (parts : List R) (i : ℕ) (d : R) → i < length parts → map f (take (i + 1) parts) ≡ map f (take i parts) ++ f (get_or parts i d) ∷ []
-take_map_suc f parts i d lt = ap (λ n. map f (take n parts)) (add-one i) ∙ ap (map f) (take-suc parts i d lt) ∙ map-append f (take i parts) (get_or parts i d ∷ [])
+take_map_suc : {R : Type 0} (f : R → List ℕ) (parts : List R) (i : ℕ) (d : R) → i < length parts
+    → map f (take (i + 1) parts) ≡ map f (take i parts) ++ f (get_or parts i d) ∷ []
+take_map_suc f parts i d lt = ap (λ n. map f (take n parts)) (add-one i) ∙ ap (map f) (take-suc parts i d lt)
+    ∙ map-append f (take i parts) (get_or parts i d ∷ [])
 
 -- the items of one more part
 pub one_item : {R : Type 0} (f : R → List ℕ) (p : Properties) (parts : List R) (i : ℕ) (d : R) (text : List ℕ) (item : Item) (its : List Code)

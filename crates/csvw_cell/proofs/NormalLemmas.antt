@@ -1,5 +1,6 @@
 -- Texts without white space, which steps 1 and 2 leave as they are.
-use Rattle.std.proofs.Common.{◌≡◌, ◌∙◌, ◌<◌, ◌≤◌, ℕ, Bool, true, false, List, [], ◌∷◌, refl, sym, ap, arith, ◌==◌, ◌+◌, ◌/◌, ◌%◌, cond, nat_lt, ⊎_elim, ◌-◌, length, min, slice_index_or, take, drop}
+use Rattle.std.proofs.Common.{◌≡◌, ◌∙◌, ◌<◌, ◌≤◌, ℕ, Bool, true, false, List, [], ◌∷◌, refl, sym, ap, arith, ◌==◌, ◌+◌, ◌/◌, ◌%◌, cond, nat_lt}
+use Rattle.std.proofs.Common.{⊎_elim, ◌-◌, length, min, slice_index_or, take, drop}
 use Rattle.std.specs.Prelude.{◌||◌, not, if◌then◌else◌, IsUtf8, chars, encode_utf8, encode_utf8_all}
 use lib.Utf8.{encode}
 use Rattle.std.specs.List.{list_any}
@@ -51,7 +52,8 @@ chosen true x y p q = p
 chosen false x y p q = q
 
 -- four bytes above all white space
-pub four_others : (text : List ℕ) → 4 ≤ length text → 32 < min (min (slice_index_or text 0 0) (slice_index_or text 1 0)) (min (slice_index_or text 2 0) (slice_index_or text 3 0))
+pub four_others : (text : List ℕ) → 4 ≤ length text
+    → 32 < min (min (slice_index_or text 0 0) (slice_index_or text 1 0)) (min (slice_index_or text 2 0) (slice_index_or text 3 0))
     → list_any is_space (take (length text - 4) (drop 4 text)) ≡ list_any is_space text
 four_others [] h l = absurd (omega (arith, h))
 four_others (a ∷ []) h l = absurd (omega (arith, h))

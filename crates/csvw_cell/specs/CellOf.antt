@@ -1,5 +1,6 @@
 -- What the text of a cell is (Model for Tabular Data, section 6.4.2, "Parsing Cells"), in nine steps.
-use Rattle.std.specs.Prelude.{◌≡◌, ℕ, ◌==◌, Bool, MatchBool, if◌then◌else◌, List, [], ◌∷◌, ◌++◌, length, map, take, drop, filter, bytes_eq, not, Option, Some, None, chars, encode_utf8_all}
+use Rattle.std.specs.Prelude.{◌≡◌, ℕ, ◌==◌, Bool, MatchBool, if◌then◌else◌, List, [], ◌∷◌, ◌++◌, length, map, take, drop, filter, bytes_eq, not}
+use Rattle.std.specs.Prelude.{Option, Some, None, chars, encode_utf8_all}
 use Rattle.std.specs.List.{list_any}
 use Rattle.std.specs.Str.Pattern.{FindsText}
 use Rattle.csvw_text.specs.Collapse.{collapse}

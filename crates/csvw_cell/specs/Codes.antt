@@ -2,7 +2,8 @@
 use Rattle.std.specs.Prelude.{Bool, true, false, List, [], ◌∷◌, ◌++◌, filter, bytes_eq, if◌then◌else◌}
 use Rattle.std.specs.List.{list_any}
 use Rattle.csvw_text.specs.declared.fault.Code.{Code}
-use Rattle.csvw_text.specs.declared.fault.Code.TheVariants.{Required, BadBoolean, BadInteger, BadDecimal, NumberTooLong, OutOfRange, BadDate, BadDateTime, WrongLength, TooShort, TooLong, BelowMinimum, AboveMaximum}
+use Rattle.csvw_text.specs.declared.fault.Code.TheVariants.{Required, BadBoolean, BadInteger, BadDecimal, NumberTooLong, OutOfRange, BadDate}
+use Rattle.csvw_text.specs.declared.fault.Code.TheVariants.{BadDateTime, WrongLength, TooShort, TooLong, BelowMinimum, AboveMaximum}
 use Rattle.csvw_text.specs.Code.{name_of}
 use Rattle.csvw_datatype.specs.declared.facets.Broken.{Broken}
 use Rattle.csvw_datatype.specs.declared.datatype.Datatype.{Datatype}
@@ -25,7 +26,8 @@ is_string d = is_string_base d.simple
 
 -- the codes that a cell may have, in their order
 abbrev pub cell_codes : List Code
-cell_codes = Required ∷ BadBoolean ∷ BadInteger ∷ BadDecimal ∷ NumberTooLong ∷ OutOfRange ∷ BadDate ∷ BadDateTime ∷ WrongLength ∷ TooShort ∷ TooLong ∷ BelowMinimum ∷ AboveMaximum ∷ []
+cell_codes = Required ∷ BadBoolean ∷ BadInteger ∷ BadDecimal ∷ NumberTooLong ∷ OutOfRange ∷ BadDate ∷ BadDateTime ∷ WrongLength ∷ TooShort ∷ TooLong
+    ∷ BelowMinimum ∷ AboveMaximum ∷ []
 
 -- the code is one of the list; codes are told apart by their names
 abbrev pub is_among : List Code → Code → Bool

@@ -1,5 +1,6 @@
 -- A text and its first vertical line.
-use Rattle.std.proofs.Common.{◌≡◌, ℕ, ◌+◌, ◌<◌, ◌==◌, not, Bool, true, false, ◌||◌, Option, Some, None, Bor, MatchOption, List, [], ◌∷◌, ◌++◌, length, take, drop, get_or, refl, sym, ap, ◌∙◌, arith, length-append}
+use Rattle.std.proofs.Common.{◌≡◌, ℕ, ◌+◌, ◌<◌, ◌==◌, not, Bool, true, false, ◌||◌, Option, Some, None, Bor, MatchOption, List, [], ◌∷◌, ◌++◌, length}
+use Rattle.std.proofs.Common.{take, drop, get_or, refl, sym, ap, ◌∙◌, arith, length-append}
 use Rattle.std.specs.List.{position_or_len, before_first, after_first}
 use Rattle.std.proofs.Math.Seq.{take-append_seam, drop-append-add}
 use Rattle.std.proofs.lemmas.Bool.{cond-true}
@@ -37,7 +38,8 @@ only_split text t f l a b =
     let n = position_or_len is_bar text in
     let bar : get_or text n 0 ≡ 124 = is_bar_of _ (passes_at_first is_bar text 0 l) in
     let whole : text ≡ before_first is_bar text ++ (get_or text n 0 ∷ after_first is_bar text) = split_at_first is_bar text 0 l in (
-      whole ∙ ap (λ x. before_first is_bar text ++ (x ∷ after_first is_bar text)) bar ∙ ap (λ x. x ++ (124 ∷ after_first is_bar text)) (sym a) ∙ ap (λ x. t ++ (124 ∷ x)) (sym b),
+      whole ∙ ap (λ x. before_first is_bar text ++ (x ∷ after_first is_bar text)) bar ∙ ap (λ x. x ++ (124 ∷ after_first is_bar text)) (sym a)
+          ∙ ap (λ x. t ++ (124 ∷ x)) (sym b),
       λ before after h is.
           let at : n ≡ length before = ap (position_or_len is_bar) is ∙ first_at before after h in (
             sym (a ∙ ap (λ k. take k text) at ∙ ap (take (length before)) is ∙ take-append_seam before (124 ∷ after)),
@@ -46,6 +48,8 @@ only_split text t f l a b =
     )
 
 -- what `split_once` answers
-pub split_answer : (text : List ℕ) (r : Option (Bor (List ℕ) × Bor (List ℕ))) → MatchOption r (position_or_len is_bar text ≡ length text) (λ x. (position_or_len is_bar text < length text) × (x.0.now ≡ before_first is_bar text) × (x.1.now ≡ after_first is_bar text)) → MatchOption r (HasNoSplit text) (λ x. IsOnlySplit text x.0.now x.1.now)
+pub split_answer : (text : List ℕ) (r : Option (Bor (List ℕ) × Bor (List ℕ)))
+    → MatchOption r (position_or_len is_bar text ≡ length text) (λ x. (position_or_len is_bar text < length text)
+    × (x.0.now ≡ before_first is_bar text) × (x.1.now ≡ after_first is_bar text)) → MatchOption r (HasNoSplit text) (λ x. IsOnlySplit text x.0.now x.1.now)
 split_answer text None h = no_split text h
 split_answer text (Some x) h = only_split text x.0.now x.1.now h.0 h.1 h.2

@@ -1,5 +1,6 @@
 -- The bounds that texts and whole numbers are.
-use Rattle.std.proofs.Common.{◌≡◌, ◌↔◌, ℕ, ◌<◌, ◌%◌, ◌^◌, ◌&&◌, not, nat_lt, Bool, true, false, cond, Option, Some, None, MatchOption, IfSome, option_and_then, List, refl, ap, subst, ◌∙◌, arith, ℤ, pos, ◌*ℤ◌, ◌≤ℤ◌, unsigned_abs}
+use Rattle.std.proofs.Common.{◌≡◌, ◌↔◌, ℕ, ◌<◌, ◌%◌, ◌^◌, ◌&&◌, not, nat_lt, Bool, true, false, cond, Option, Some, None, MatchOption, IfSome}
+use Rattle.std.proofs.Common.{option_and_then, List, refl, ap, subst, ◌∙◌, arith, ℤ, pos, ◌*ℤ◌, ◌≤ℤ◌, unsigned_abs}
 use Rattle.std.specs.Prelude.{IsTrue}
 use Rattle.std.specs.Str.{chars}
 use lib.Signed.{lt_z}

@@ -20,7 +20,8 @@ lengths a b c = record { wrong_length = a; too_short = b; too_long = c; below_mi
 all_false : (a b c : Bool) → a ≡ false → b ≡ false → c ≡ false → lengths false false false ≡ lengths a b c
 all_false a b c p q r = rw (p, q, r) refl
 
-pub unmeasured : (v : Value) (f : Facets) → has_lengths f ≡ false → record { wrong_length = false; too_short = false; too_long = false; below_minimum = false; above_maximum = false } ≡ length_breaks v f
+pub unmeasured : (v : Value) (f : Facets) → has_lengths f ≡ false
+    → record { wrong_length = false; too_short = false; too_long = false; below_minimum = false; above_maximum = false } ≡ length_breaks v f
 unfolding lengths
 unmeasured v f h =
     let p = or_none (is_some f.length || is_some f.min_length) (is_some f.max_length) h in
@@ -30,13 +31,15 @@ unmeasured v f h =
     (absent (λ n k. nat_lt n k) (length_of v) f.min_length q.1)
     (absent (λ n k. nat_lt k n) (length_of v) f.max_length p.1)
 
-not_below : (v : Value) (a b c : Option Value) → (is_some a || is_some b || is_some c) ≡ false → (is_over a (Some v) || is_over b (Some v) || is_not_under c (Some v)) ≡ false
+not_below : (v : Value) (a b c : Option Value) → (is_some a || is_some b || is_some c) ≡ false
+    → (is_over a (Some v) || is_over b (Some v) || is_not_under c (Some v)) ≡ false
 not_below v None None None h = refl
 not_below v None None (Some z) h = cc
 not_below v None (Some y) c h = cc
 not_below v (Some x) b c h = cc
 
-not_above : (v : Value) (a b c : Option Value) → (is_some a || is_some b || is_some c) ≡ false → (is_over (Some v) a || is_over (Some v) b || is_not_under (Some v) c) ≡ false
+not_above : (v : Value) (a b c : Option Value) → (is_some a || is_some b || is_some c) ≡ false
+    → (is_over (Some v) a || is_over (Some v) b || is_not_under (Some v) c) ≡ false
 not_above v None None None h = refl
 not_above v None None (Some z) h = cc
 not_above v None (Some y) c h = cc
@@ -48,8 +51,10 @@ with_sides b low high = record b { below_minimum = low; above_maximum = high }
 pub unbounded : (v : Value) (f : Facets) → has_bounds f ≡ false → length_breaks v f ≡ breaks v f
 unfolding with_sides
 unbounded v f h =
-    let p = or_none (is_some f.minimum || is_some f.min_inclusive || is_some f.min_exclusive) (is_some f.maximum || is_some f.max_inclusive || is_some f.max_exclusive) h in
+    let p = or_none (is_some f.minimum || is_some f.min_inclusive || is_some f.min_exclusive)
+    (is_some f.maximum || is_some f.max_inclusive || is_some f.max_exclusive) h in
     let low = not_below v f.minimum f.min_inclusive f.min_exclusive p.0 in
     let high = not_above v f.maximum f.max_inclusive f.max_exclusive p.1 in
-    sym (ap (λ b. with_sides (length_breaks v f) b (is_over (Some v) f.maximum || is_over (Some v) f.max_inclusive || is_not_under (Some v) f.max_exclusive)) low
+    sym (ap (λ b. with_sides (length_breaks v f) b
+    (is_over (Some v) f.maximum || is_over (Some v) f.max_inclusive || is_not_under (Some v) f.max_exclusive)) low
     ∙ ap (λ b. with_sides (length_breaks v f) false b) high)

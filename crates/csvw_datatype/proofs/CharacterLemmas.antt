@@ -18,7 +18,8 @@ pub a_character : (text rest : List ℕ) (c : ℕ) → IsUtf8 text → text ≡ 
 a_character text rest c u is e = chars_past_char text rest c u is ∙ ap (λ cs. c ∷ cs) (empty_chars rest e)
 
 -- a character with another behind it
-pub two_characters : (text rest : List ℕ) (c d : ℕ) → IsUtf8 text → text ≡ encode_utf8 c ++ rest → Some d ≡ slice_get (chars rest) 0 → (x : ℕ) → IsCharacter text x → ⊥
+pub two_characters : (text rest : List ℕ) (c d : ℕ) → IsUtf8 text → text ≡ encode_utf8 c ++ rest → Some d ≡ slice_get (chars rest) 0 → (x : ℕ)
+    → IsCharacter text x → ⊥
 two_characters text rest c d u is e x h =
     let s : c ∷ chars rest ≡ x ∷ [] = sym (chars_past_char text rest c u is) ∙ h in
     let n : chars rest ≡ [] = cc in

@@ -1,5 +1,6 @@
 -- The broken facets are those of which the standards' words hold.
-use Rattle.std.proofs.Common.{◌≢◌, ◌↔◌, ◌⊎◌, inl, inr, ℕ, ◌<◌, ◌||◌, ◌==◌, not, nat_lt, Bool, true, false, Option, Some, None, length, refl, arith, ℤ, ◌<ℤ◌, ◌≤ℤ◌}
+use Rattle.std.proofs.Common.{◌≢◌, ◌↔◌, ◌⊎◌, inl, inr, ℕ, ◌<◌, ◌||◌, ◌==◌, not, nat_lt, Bool, true, false, Option, Some, None, length, refl, arith, ℤ}
+use Rattle.std.proofs.Common.{◌<ℤ◌, ◌≤ℤ◌}
 use Rattle.std.specs.Prelude.{IsTrue}
 use Rattle.std.specs.Str.{chars}
 use lib.Signed.{lt_z}

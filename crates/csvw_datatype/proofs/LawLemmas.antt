@@ -1,5 +1,6 @@
 -- A text has one value or one code.
-use Rattle.std.proofs.Common.{◌≡◌, ℕ, zero, suc, ◌*◌, ◌%◌, ◌^◌, ◌<◌, ◌⊎◌, inl, inr, Bool, true, false, Option, Some, None, List, [], ◌∷◌, length, refl, sym, ap, subst, ◌∙◌, arith, ℤ, unsigned_abs, unwrap_or, Result, Ok, Err, MatchResult, IfOk}
+use Rattle.std.proofs.Common.{◌≡◌, ℕ, zero, suc, ◌*◌, ◌%◌, ◌^◌, ◌<◌, ◌⊎◌, inl, inr, Bool, true, false, Option, Some, None, List, [], ◌∷◌, length}
+use Rattle.std.proofs.Common.{refl, sym, ap, subst, ◌∙◌, arith, ℤ, unsigned_abs, unwrap_or, Result, Ok, Err, MatchResult, IfOk}
 use Rattle.std.specs.Prelude.{codes}
 use Rattle.std.specs.Str.{chars}
 use Rattle.std.specs.Str.Parse.{digits_value}
@@ -11,7 +12,8 @@ use Rattle.csvw_datatype_core.specs.declared.number.NumberFault.{NumberFault}
 use Rattle.csvw_datatype_core.specs.declared.number.NumberFault.TheVariants as faults
 use Rattle.csvw_datatype_core.specs.declared.number.Mark.{Mark}
 use Rattle.csvw_datatype_core.specs.declared.number.Mark.TheVariants as marks
-use Rattle.csvw_datatype_core.specs.Numbers.{Sign, NoSign, Plus, Minus, signed, divisor, fraction_digits, digits_of, IsFraction, IsMarked, IsLawful, ReadsNumber, SpellsNumber}
+use Rattle.csvw_datatype_core.specs.Numbers.{Sign, NoSign, Plus, Minus, signed, divisor, fraction_digits, digits_of, IsFraction, IsMarked, IsLawful}
+use Rattle.csvw_datatype_core.specs.Numbers.{ReadsNumber, SpellsNumber}
 use Rattle.csvw_datatype_core.specs.Misread.{MisreadNumber}
 use Rattle.csvw_datatype_core.specs.declared.date.DateFormat.{DateFormat}
 use Rattle.csvw_datatype_core.specs.declared.moment.MomentFormat.{MomentFormat}
@@ -75,7 +77,8 @@ one_truth (Some (formats.Moment f)) text a b ok r s = absurd ok
 
 -- numbers
 
-same_number : OneNumber → (rules : NumberRules) (l : IsLawful rules) (cs : List ℕ) (v w : Value) (x y : ℤ) → ReadsNumber rules cs x → ReadsNumber rules cs y → v ≡ values.Number x → w ≡ values.Number y → v ≡ w
+same_number : OneNumber → (rules : NumberRules) (l : IsLawful rules) (cs : List ℕ) (v w : Value) (x y : ℤ) → ReadsNumber rules cs x
+    → ReadsNumber rules cs y → v ≡ values.Number x → w ≡ values.Number y → v ≡ w
 same_number one rules l cs v w x y r s p q = p ∙ ap (λ z. values.Number z) (one rules cs x y l r s) ∙ sym q
 
 spells_of : (rules : NumberRules) (cs : List ℕ) (z : ℤ) → ReadsNumber rules cs z → SpellsNumber rules cs
@@ -96,12 +99,14 @@ one_number_code bad rules text c d p q = p.2 ∙ ap (number_code bad) (one_fault
 
 -- values
 
-pub one_value : OneNumber → OneDate → OneMoment → (s : Simple) (f : Option Format) (text : List ℕ) (v w : Value) → IsFormatOf s f → ReadsAs s f text v → ReadsAs s f text w → v ≡ w
+pub one_value : OneNumber → OneDate → OneMoment → (s : Simple) (f : Option Format) (text : List ℕ) (v w : Value) → IsFormatOf s f → ReadsAs s f text v
+    → ReadsAs s f text w → v ≡ w
 one_value one date moment simples.Text f text v w ok r s = r ∙ sym s
 one_value one date moment simples.Uri f text v w ok r s = r ∙ sym s
 one_value one date moment simples.Truth f text v w ok r s = r.2 ∙ ap (λ b. values.Truth b) (one_truth f text r.0 s.0 ok r.1 s.1) ∙ sym s.2
 one_value one date moment simples.Whole f text v w ok r s = same_number one (whole_rules f) (whole_lawful f ok) (chars text) v w r.0 s.0 r.1 s.1 r.2 s.2
-one_value one date moment (simples.Derived width) f text v w ok r s = same_number one (whole_rules f) (derived_lawful width f ok) (chars text) v w r.0 s.0 r.1 s.1 r.3 s.3
+one_value one date moment (simples.Derived width) f text v w ok r s =
+    same_number one (whole_rules f) (derived_lawful width f ok) (chars text) v w r.0 s.0 r.1 s.1 r.3 s.3
 one_value one date moment simples.Decimal f text v w ok r s = same_number one (decimal_rules f) (decimal_lawful f ok) (chars text) v w r.0 s.0 r.1 s.1 r.2 s.2
 one_value one date moment simples.Day f text v w ok r s = r.2 ∙ ap (λ d. values.Day d) (date (date_format f) text r.0 s.0 r.1 s.1) ∙ sym s.2
 one_value one date moment simples.Moment f text v w ok r s = r.2 ∙ ap (λ m. values.Moment m) (moment (moment_format f) text r.0 s.0 r.1 s.1) ∙ sym s.2
@@ -109,7 +114,8 @@ one_value one date moment simples.Moment f text v w ok r s = r.2 ∙ ap (λ m. v
 in_width : (w : Width) (x y : ℤ) → x ≡ y → IsInWidth w x → IsInWidth w y
 in_width w x y e h = let P : ℤ → Type 0 = λ z. IsInWidth w z in subst P e h
 
-pub value_or_code : OneNumber → (s : Simple) (f : Option Format) (text : List ℕ) (v : Value) (code : Code) → IsFormatOf s f → ReadsAs s f text v → MisreadAs s f text code → ⊥
+pub value_or_code : OneNumber → (s : Simple) (f : Option Format) (text : List ℕ) (v : Value) (code : Code) → IsFormatOf s f → ReadsAs s f text v
+    → MisreadAs s f text code → ⊥
 value_or_code one simples.Text f text v code ok r m = m
 value_or_code one simples.Uri f text v code ok r m = m
 value_or_code one simples.Truth f text v code ok r m = m.0 r.0 r.1
@@ -152,7 +158,8 @@ signed_abs Minus (suc n) = refl
 size : (rules : NumberRules) (cs : List ℕ) (z : ℤ) → ReadsNumber rules cs z → IsNumberSize z
 size rules cs z r = let e : unsigned_abs z ≡ r.count = ap unsigned_abs r.is_value ∙ signed_abs r.parts.sign r.count in subst (λ n. n < 10 ^ 38) (sym e) r.small
 
-no_fraction : (group : Option ℕ) (o : Option (List ℕ)) → IsFraction (record { decimal_char = None; group_char = group; allows_marks = false }) o → unwrap_or o [] ≡ []
+no_fraction : (group : Option ℕ) (o : Option (List ℕ)) → IsFraction (record { decimal_char = None; group_char = group; allows_marks = false }) o
+    → unwrap_or o [] ≡ []
 no_fraction group None h = refl
 no_fraction group (Some ds) h = absurd (cc (h.0))
 
@@ -166,7 +173,8 @@ count_whole n v l d a b e =
     let s : n ≡ v * 10 ^ 18 = omega (arith, rw (a, b) at e) in
     ap (λ n. n % 10 ^ 18) s ∙ mul-mod_left v (10 ^ 18)
 
-whole_group : (group : Option ℕ) (cs : List ℕ) (z : ℤ) → ReadsNumber (record { decimal_char = None; group_char = group; allows_marks = false }) cs z → IsWholeNumber z
+whole_group : (group : Option ℕ) (cs : List ℕ) (z : ℤ) → ReadsNumber (record { decimal_char = None; group_char = group; allows_marks = false }) cs z
+    → IsWholeNumber z
 whole_group group cs z r =
     let e : unsigned_abs z ≡ r.count = ap unsigned_abs r.is_value ∙ signed_abs r.parts.sign r.count in
     let f : 10 ^ length (fraction_digits r.parts) ≡ 1 = ap (λ ds. 10 ^ length ds) (no_fraction group r.parts.fraction r.is_number.fraction) in
@@ -197,12 +205,16 @@ pub writable_answer : ((s : Simple) (f : Option Format) (text : List ℕ) (v : V
 writable_answer law s f text (Ok v) h = law s f text v h
 writable_answer law s f text (Err code) h = tt
 
-pub bound : DatesInRange → MomentsInRange → (s : Simple) (f : Option Format) (text : List ℕ) (v : Value) → has_bounds s ≡ true → ReadsAs s f text v → IsBoundOf s v
+pub bound : DatesInRange → MomentsInRange → (s : Simple) (f : Option Format) (text : List ℕ) (v : Value) → has_bounds s ≡ true → ReadsAs s f text v
+    → IsBoundOf s v
 bound dates moments simples.Text f text v h r = cc
 bound dates moments simples.Uri f text v h r = cc
 bound dates moments simples.Truth f text v h r = cc
-bound dates moments simples.Whole f text v h r = at_value (λ v. IsBoundOf simples.Whole v) v (values.Number r.0) r.2 (size (whole_rules f) (chars text) r.0 r.1, whole f (chars text) r.0 r.1)
-bound dates moments (simples.Derived w) f text v h r = at_value (λ v. IsBoundOf (simples.Derived w) v) v (values.Number r.0) r.3 (size (whole_rules f) (chars text) r.0 r.1, whole f (chars text) r.0 r.1, r.2)
-bound dates moments simples.Decimal f text v h r = at_value (λ v. IsBoundOf simples.Decimal v) v (values.Number r.0) r.2 (size (decimal_rules f) (chars text) r.0 r.1)
+bound dates moments simples.Whole f text v h r =
+    at_value (λ v. IsBoundOf simples.Whole v) v (values.Number r.0) r.2 (size (whole_rules f) (chars text) r.0 r.1, whole f (chars text) r.0 r.1)
+bound dates moments (simples.Derived w) f text v h r = at_value (λ v. IsBoundOf (simples.Derived w) v) v (values.Number r.0) r.3
+    (size (whole_rules f) (chars text) r.0 r.1, whole f (chars text) r.0 r.1, r.2)
+bound dates moments simples.Decimal f text v h r =
+    at_value (λ v. IsBoundOf simples.Decimal v) v (values.Number r.0) r.2 (size (decimal_rules f) (chars text) r.0 r.1)
 bound dates moments simples.Day f text v h r = at_value (λ v. IsBoundOf simples.Day v) v (values.Day r.0) r.2 (dates (date_format f) text r.0 r.1)
 bound dates moments simples.Moment f text v h r = at_value (λ v. IsBoundOf simples.Moment v) v (values.Moment r.0) r.2 (moments (moment_format f) text r.0 r.1)

@@ -58,7 +58,8 @@ lengths_apply s f = is_text s || not (has_lengths f)
 -- `minLength` isn't above `maxLength`, and `length` not below `minLength` or above `maxLength`
 abbrev pub lengths_agree : Facets → Bool
 lengths_agree f =
-    not (fails (λ n k. nat_lt n k) f.max_length f.min_length || fails (λ n k. nat_lt n k) f.length f.min_length || fails (λ n k. nat_lt n k) f.max_length f.length)
+    not (fails (λ n k. nat_lt n k) f.max_length f.min_length || fails (λ n k. nat_lt n k) f.length f.min_length
+    || fails (λ n k. nat_lt n k) f.max_length f.length)
 
 -- two bounds of one side, both inclusive, are equal, and none stands beside an exclusive one
 abbrev pub side_agrees : Option Value → Option Value → Option Value → Bool

@@ -1,7 +1,8 @@
 -- The ranges of the derived integer types (XML Schema 1.1 part 2, sections 3.4.14 to 3.4.25).
 use Rattle.std.specs.Prelude.{◌-◌, ◌^◌, Option, Some, None, ℤ, pos, neg_ℤ, ◌*ℤ◌, ◌≤ℤ◌}
 use Rattle.csvw_datatype.specs.declared.simple.Width.{Width}
-use Rattle.csvw_datatype.specs.declared.simple.Width.TheVariants.{Long, Int, Short, Byte, UnsignedLong, UnsignedInt, UnsignedShort, UnsignedByte, NonNegativeInteger, PositiveInteger, NonPositiveInteger, NegativeInteger}
+use Rattle.csvw_datatype.specs.declared.simple.Width.TheVariants.{Long, Int, Short, Byte, UnsignedLong, UnsignedInt, UnsignedShort, UnsignedByte}
+use Rattle.csvw_datatype.specs.declared.simple.Width.TheVariants.{NonNegativeInteger, PositiveInteger, NonPositiveInteger, NegativeInteger}
 
 -- the least number of a type, where it has one
 abbrev pub least : Width → Option ℤ

@@ -1,5 +1,6 @@
 -- A fragment resolves to the base with that fragment.
-use Rattle.std.proofs.Common.{◌≡◌, ℕ, ◌-◌, true, false, cond, not, List, [], ◌∷◌, ◌++◌, length, reverse, Some, None, Ok, All, refl, ap, sym, subst, ◌∙◌, append-nil, arith, nat_lt, one-add, take_all}
+use Rattle.std.proofs.Common.{◌≡◌, ℕ, ◌-◌, true, false, cond, not, List, [], ◌∷◌, ◌++◌, length, reverse, Some, None, Ok, All, refl, ap, sym, subst}
+use Rattle.std.proofs.Common.{◌∙◌, append-nil, arith, nat_lt, one-add, take_all}
 use Rattle.std.specs.Prelude.{codes}
 use Rattle.std.specs.List.{prefix_len, before_first, after_first, position_or_len}
 use Rattle.std.proofs.lemmas.Bool.{cond-false, cond_both, and_right, not-true}

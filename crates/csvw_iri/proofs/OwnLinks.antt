@@ -1,5 +1,6 @@
 -- A text behind whose scheme a pass finds the parts of a URL is that URL's text, and resolves to itself.
-use Rattle.std.proofs.Common.{◌≡◌, ℕ, ◌<◌, true, false, not, ◌&&◌, ◌||◌, ◌==◌, List, [], ◌∷◌, ◌++◌, length, get_or, Option, Some, None, Ok, All, inl, inr, refl, ap, sym, ◌∙◌, subst, append_assoc, arith, nat_lt, lit<}
+use Rattle.std.proofs.Common.{◌≡◌, ℕ, ◌<◌, true, false, not, ◌&&◌, ◌||◌, ◌==◌, List, [], ◌∷◌, ◌++◌, length, get_or, Option, Some, None, Ok, All, inl}
+use Rattle.std.proofs.Common.{inr, refl, ap, sym, ◌∙◌, subst, append_assoc, arith, nat_lt, lit<}
 use Rattle.std.specs.Prelude.{codes, IfSome}
 use Rattle.std.specs.List.{list_all}
 use Rattle.std.specs.Char.{is_digit, is_ascii_digit, to_ascii_lowercase}

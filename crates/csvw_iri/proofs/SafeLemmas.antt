@@ -1,5 +1,6 @@
 -- Laws of a text made safe.
-use Rattle.std.proofs.Common.{◌≡◌, ℕ, ◌<◌, ◌≤◌, List, [], ◌∷◌, ◌++◌, Bool, true, false, cond, refl, ap, sym, ◌∙◌, arith, flat_map, nat_lt, encode_utf8, encode_utf8_all, ⊎_elim, not, All, ◌&&◌, append-nil, ◌==◌}
+use Rattle.std.proofs.Common.{◌≡◌, ℕ, ◌<◌, ◌≤◌, List, [], ◌∷◌, ◌++◌, Bool, true, false, cond, refl, ap, sym, ◌∙◌, arith, flat_map, nat_lt}
+use Rattle.std.proofs.Common.{encode_utf8, encode_utf8_all, ⊎_elim, not, All, ◌&&◌, append-nil, ◌==◌}
 use lib.Utf8.{encode}
 use Rattle.std.proofs.lemmas.Bool.{cases_Bool, cond-true, cond-false, cond_both, cases_lt, ne_eqb, and_parts}
 use Rattle.std.proofs.lemmas.Bool.Decides.{nat_tests}
@@ -103,4 +104,5 @@ all_no_hash (b ∷ bs) h =
 pub has_hash-safe : (text : List ℕ) → All (IsNot 35) text → has_hash (safe text) ≡ false
 unfolding safe
 has_hash-safe text h =
-    list_any_none _ (flat_map safe_byte text) (All-weaker (IsNot 35) (λ b. (b == 35) ≡ false) (λ b n. ne_eqb b 35 n) (flat_map safe_byte text) (all_no_hash text h))
+    list_any_none _ (flat_map safe_byte text)
+    (All-weaker (IsNot 35) (λ b. (b == 35) ≡ false) (λ b n. ne_eqb b 35 n) (flat_map safe_byte text) (all_no_hash text h))

@@ -79,17 +79,18 @@ impl Base {
         })
     }
 
-    /// The link of a fragment with its `#`, as `is_fragment` knows it: the IRI and then the text.
-    pub(crate) fn fragment_link(&self, alloc: Global, text: &str) -> Result<Iri, AllocError>
+    /// The link of a fragment with its `#`, as `is_fragment` knows it: the IRI and then the text, in the memory of another IRI.
+    pub(crate) fn fragment_link(
+        &self,
+        alloc: Global,
+        text: &str,
+        spare: Option<Iri>,
+    ) -> Result<Iri, AllocError>
         requires link { IsFragmentLink text.now }
         requires raw { is_iri text.now ≡ true }
         ensures { IfOk result (λ i. link_of self.now text.now ≡ Ok i) }
     {
-        let iri = self.iri.as_str();
-        let mut joined = String::with_capacity(alloc, iri.len() + text.len())?;
-        joined.push_str(iri)?;
-        joined.push_str(text)?;
-        Iri::of(alloc, joined)
+        Iri::over(alloc, self.iri.as_str(), text, spare)
     }
 
     fn of(alloc: Global, url: Url) -> Result<Base, AllocError>

@@ -45,6 +45,42 @@ impl Iri {
         self.shared.as_ref().as_str()
     }
 
+    /// The IRI of two texts whose characters all stand raw, one behind the other, in the memory of an IRI that is no longer needed
+    /// where no clone shares that; `AllocError` where there is no memory.
+    pub(crate) fn over(
+        alloc: Global,
+        front: &str,
+        rest: &str,
+        spare: Option<Iri>,
+    ) -> Result<Iri, AllocError>
+        requires front { is_iri front.now ≡ true }
+        requires rest { is_iri rest.now ≡ true }
+        ensures { IfOk result (λ i. i ≡ front.now ++ rest.now) }
+    {
+        if let Some(mut iri) = spare {
+            if iri.refill(front, rest)? {
+                return Ok(iri);
+            }
+        }
+        let mut joined = String::with_capacity(alloc, front.len() + rest.len())?;
+        joined.push_str(front)?;
+        joined.push_str(rest)?;
+        Iri::of(alloc, joined)
+    }
+
+    /// Becomes the IRI of two texts where no clone shares its memory, and tells whether it did.
+    fn refill(&mut self, front: &str, rest: &str) -> Result<bool, AllocError>
+        requires front { is_iri front.now ≡ true }
+        requires rest { is_iri rest.now ≡ true }
+        ensures { IfOk result (λ is_done. is_done ≡ true → self.new ≡ front.now ++ rest.now) }
+    {
+        if let Some(shared) = Rc::get_mut(&mut self.shared) {
+            refill_two(shared, front, rest)?;
+            return Ok(true);
+        }
+        Ok(false)
+    }
+
     /// Becomes another IRI, `#` and the text, in its memory where no clone shares it; `AllocError` where there is no memory: it
     /// may then be a part of them. The text is ready for it where `is_raw_text` says so, and `Base::iri` has no `#`.
     pub fn refill_with_fragment(
@@ -79,6 +115,17 @@ impl Copied for Iri {
     fn copied(&self, alloc: Global) -> Result<Iri, AllocError> {
         self.clone(alloc)
     }
+}
+
+/// Writes two texts over another text, which is a part of them after an error.
+fn refill_two(joined: &mut Text, front: &str, rest: &str) -> Result<(), AllocError>
+    requires front { is_iri front.now ≡ true }
+    requires rest { is_iri rest.now ≡ true }
+    ensures value { OnOk result (joined.new ≡ front.now ++ rest.now) }
+    ensures raw { is_iri joined.new ≡ true }
+{
+    joined.refill(front)?;
+    joined.push_str(rest)
 }
 
 /// Writes an IRI, `#` and a text over another text, which is a part of them after an error.

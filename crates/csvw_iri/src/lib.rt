@@ -13,6 +13,6 @@ mod safe;
 pub use base::Base;
 pub use fault::IriFault;
 pub use iri::{Iri, with_fragment};
-pub use links::{link, link_of_text, resolve};
+pub use links::{link, link_over, resolve};
 pub use prefix::expand_prefix;
 pub use safe::{is_raw, is_raw_text, made_safe};

@@ -1,5 +1,5 @@
 //! Links: the IRI that a text means against a base.
-ghost use Rattle.std.specs.Prelude.{◌≡◌, string_bytes};
+ghost use Rattle.std.specs.Prelude.{◌≡◌};
 ghost use Rattle.csvw_iri.specs.Link.{resolved, link_of};
 ghost use Rattle.csvw_iri.specs.Fault.{Gives};
 
@@ -26,28 +26,30 @@ pub fn resolve(alloc: Global, base: &Base, text: &str) -> Result<Iri, IriFault>
 pub fn link(alloc: Global, base: &Base, text: &str) -> Result<Iri, IriFault>
     ensures { Gives (λ i. i) result (link_of base.now text.now) }
 {
-    if is_own(text) {
-        return Ok(Iri::of(alloc, String::from_str(alloc, text)?)?);
-    }
-    link_by_base(alloc, base, text)
+    link_over(alloc, base, text, None)
 }
 
-/// The same link, of a text that is handed over: where the text is its own link, it isn't copied.
-pub fn link_of_text(alloc: Global, base: &Base, text: String) -> Result<Iri, IriFault>
-    ensures { Gives (λ i. i) result (link_of base.now (string_bytes text)) }
+/// The same link, in the memory of an IRI that is no longer needed, where it is seen at once and no clone shares that memory.
+pub fn link_over(
+    alloc: Global,
+    base: &Base,
+    text: &str,
+    spare: Option<Iri>,
+) -> Result<Iri, IriFault>
+    ensures { Gives (λ i. i) result (link_of base.now text.now) }
 {
-    if is_own(text.as_str()) {
-        return Ok(Iri::of(alloc, text)?);
+    if is_own(text) {
+        return Ok(Iri::over(alloc, text, "", spare)?);
     }
-    link_by_base(alloc, base, text.as_str())
+    if is_fragment(text) {
+        return Ok(base.fragment_link(alloc, text, spare)?);
+    }
+    link_by_base(alloc, base, text)
 }
 
 fn link_by_base(alloc: Global, base: &Base, text: &str) -> Result<Iri, IriFault>
     ensures { Gives (λ i. i) result (link_of base.now text.now) }
 {
-    if is_fragment(text) {
-        return Ok(base.fragment_link(alloc, text)?);
-    }
     let expanded = expand_prefix(alloc, text)?;
     if is_own(expanded.as_str()) {
         return Ok(Iri::of(alloc, expanded)?);

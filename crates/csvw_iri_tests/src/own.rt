@@ -1,6 +1,6 @@
 //! Texts whose links are seen in one pass over their bytes, and texts that come near to them.
 use crate::telling::told;
-use csvw_iri::{Base, IriFault, link, link_of_text, resolve};
+use csvw_iri::{Base, IriFault, link, link_over, resolve};
 use std::alloc::Global;
 use std::test::Fail;
 
@@ -89,14 +89,14 @@ http://example.org/x\u{7f}=>http://example.org/x%7F
 /// Against what the texts resolve.
 const BASE: &str = "http://example.org/d/p.csv?v=1";
 
-/// Whether a text resolves to what is wanted, and both links are the same.
+/// Whether a text resolves to what is wanted, and both links are the same, also in the memory of an earlier one.
 fn gives(alloc: Global, text: &str, want: &str) -> Result<bool, IriFault> {
     let base = Base::new(alloc, BASE)?;
     let resolved = told(alloc, resolve(alloc, &base, text))?;
     let linked = told(alloc, link(alloc, &base, text))?;
-    let handed = String::from_str(alloc, text)?;
-    let handed = told(alloc, link_of_text(alloc, &base, handed))?;
-    Ok(resolved.as_str() == want && linked.as_str() == want && handed.as_str() == want)
+    let spare = link(alloc, &base, "http://example.org/earlier")?;
+    let over = told(alloc, link_over(alloc, &base, text, Some(spare)))?;
+    Ok(resolved.as_str() == want && linked.as_str() == want && over.as_str() == want)
 }
 
 /// Whether the link of a text is the base's IRI and then the text.

@@ -1,5 +1,6 @@
 -- What `expression` answers: an expression, one of a higher level, or neither.
-use Rattle.std.proofs.Common.{◌≡◌, ℕ, List, [], ◌∷◌, ◌++◌, true, false, Some, Result, Ok, Err, refl, ap, sym, subst, ◌∙◌, append_assoc, append-nil, arith, ◌==◌, flat_map}
+use Rattle.std.proofs.Common.{◌≡◌, ℕ, List, [], ◌∷◌, ◌++◌, true, false, Some, Result, Ok, Err, refl, ap, sym, subst, ◌∙◌, append_assoc, append-nil}
+use Rattle.std.proofs.Common.{arith, ◌==◌, flat_map}
 use Rattle.std.specs.List.{slice_split}
 use Rattle.std.proofs.lemmas.Bool.{cond_both, cond-true, cond-false}
 use Rattle.std.proofs.lemmas.Bool.Decides.{nat_tests}
@@ -114,9 +115,11 @@ pub answers : (inner : List ℕ) → Answers inner (expression inner)
 answers [] = tt
 answers (b ∷ rest) =
     cond_both (b == 43) (of_operator Reserved rest) _ (Answers (b ∷ rest))
-    (λ e. let P : ℕ → Type 0 = λ x. Answers (x ∷ rest) (of_operator Reserved rest) in subst P (sym (is_same b 43 e)) (of_kind Reserved rest _ (tells_kind rest)))
+    (λ e. let P : ℕ → Type 0 = λ x. Answers (x ∷ rest) (of_operator Reserved rest) in
+    subst P (sym (is_same b 43 e)) (of_kind Reserved rest _ (tells_kind rest)))
     (λ _. cond_both (b == 35) (of_operator Fragment rest) _ (Answers (b ∷ rest))
-    (λ e. let P : ℕ → Type 0 = λ x. Answers (x ∷ rest) (of_operator Fragment rest) in subst P (sym (is_same b 35 e)) (of_kind Fragment rest _ (tells_kind rest)))
+    (λ e. let P : ℕ → Type 0 = λ x. Answers (x ∷ rest) (of_operator Fragment rest) in
+    subst P (sym (is_same b 35 e)) (of_kind Fragment rest _ (tells_kind rest)))
     (λ _. cond_both (is_level_operator b) (Err TemplateLevel) (of_operator Simple (b ∷ rest)) (Answers (b ∷ rest))
     (λ level. by_operator b rest level refl)
     (λ _. of_kind Simple (b ∷ rest) _ (tells_kind (b ∷ rest)))))

@@ -1,5 +1,6 @@
 -- The parts that a text is read as are those that spell it, and a fault is the first.
-use Rattle.std.proofs.Common.{◌≡◌, ℕ, ◌<◌, List, [], ◌∷◌, ◌++◌, false, Result, Ok, Err, length, refl, ap, sym, subst, ◌∙◌, append_assoc, append-nil, arith, ◌||◌, flat_map, All, ◌⊎◌, ⊎_elim, inl, inr}
+use Rattle.std.proofs.Common.{◌≡◌, ℕ, ◌<◌, List, [], ◌∷◌, ◌++◌, false, Result, Ok, Err, length, refl, ap, sym, subst, ◌∙◌, append_assoc, append-nil}
+use Rattle.std.proofs.Common.{arith, ◌||◌, flat_map, All, ◌⊎◌, ⊎_elim, inl, inr}
 use Rattle.std.specs.List.{slice_split, onto_first, list_any}
 use Rattle.std.proofs.lemmas.Bool.{cond-true, cond-false}
 use Rattle.std.proofs.lemmas.Bool.Decides.{nat_tests}
@@ -13,7 +14,8 @@ use Rattle.csvw_template.specs.declared.part.Part.{Part}
 use Rattle.csvw_template.specs.declared.part.Part.TheVariants.{Literal, Expression}
 use Rattle.csvw_template.specs.Fault.{◌>>=◌}
 use Rattle.csvw_template.specs.Name.{IsName, AreNames, listed, after_comma}
-use Rattle.csvw_template.specs.Grammar.{is_open, is_close, HasNoBrace, mark, spelling, IsLiteral, AreParts, IsTemplate, IsEndOrOpen, BeginsBad, closes_none, not_closed, no_expression, BeginsHigher, higher, IsFirst}
+use Rattle.csvw_template.specs.Grammar.{is_open, is_close, HasNoBrace, mark, spelling, IsLiteral, AreParts, IsTemplate, IsEndOrOpen, BeginsBad}
+use Rattle.csvw_template.specs.Grammar.{closes_none, not_closed, no_expression, BeginsHigher, higher, IsFirst}
 use Rattle.csvw_template.specs.Reading.{Parts, expression, literal, outside, opened, all_opened, of_pieces}
 use Rattle.csvw_template.proofs.NamesLemmas.{IsNameChar, name_chars}
 use Rattle.csvw_template.proofs.ExpressionLemmas.{expression_read, higher_refused, bad_refused}
@@ -149,7 +151,8 @@ at_expression operator names parts rest h =
     let inner = mark operator ++ listed names in
     ap (λ x. whole (123 ∷ x)) (in_front inner (spelling parts) rest)
     ∙ at_brace (inner ++ 125 ∷ (spelling parts ++ rest)) ∙ at_closed inner (spelling parts ++ rest) (inner_clean operator names h)
-    ∙ ap (λ (x : Result Part TemplateFault). x >>= λ e. with_part e (whole (spelling parts ++ rest))) (expression_read inner (Expression operator names) (h, refl))
+    ∙ ap (λ (x : Result Part TemplateFault). x >>= λ e. with_part e (whole (spelling parts ++ rest)))
+    (expression_read inner (Expression operator names) (h, refl))
 
 -- parts that spell a front are read before the rest
 front_read : (parts : List Part) (rest : List ℕ) → AreParts parts → IsBound rest → whole (spelling parts ++ rest) ≡ with_parts parts (whole rest)

@@ -1,5 +1,6 @@
 -- Reading the pieces one after another, as a loop does.
-use Rattle.std.proofs.Common.{◌≡◌, ℕ, ◌+◌, ◌<◌, ◌≤◌, List, ◌∷◌, ◌++◌, Ok, Err, length, map, drop, get_or, refl, sym, ap, ◌∙◌, append_assoc, suc, add-one, drop-cons}
+use Rattle.std.proofs.Common.{◌≡◌, ℕ, ◌+◌, ◌<◌, ◌≤◌, List, ◌∷◌, ◌++◌, Ok, Err, length, map, drop, get_or, refl, sym, ap, ◌∙◌, append_assoc, suc}
+use Rattle.std.proofs.Common.{add-one, drop-cons}
 use Rattle.std.specs.Borrow.{Bor}
 use Rattle.std.proofs.lemmas.List.{append-nil, drop_all}
 use Rattle.csvw_template.specs.declared.part.Part.{Part}
@@ -35,5 +36,6 @@ module _ (ps : List (Bor (List ℕ))) (i : ℕ) (p : Bor (List ℕ)) (lt : i < l
   ends BadTemplate h = sym now ∙ rw h refl
   ends TemplateLevel h = sym now ∙ rw h refl
 
-pub is_done : (ps : List (Bor (List ℕ))) (i : ℕ) (front : List Part) (total : Parts) → length ps ≤ i → with_front front (all_opened (texts (drop i ps))) ≡ total → total ≡ Ok front
+pub is_done : (ps : List (Bor (List ℕ))) (i : ℕ) (front : List Part) (total : Parts) → length ps ≤ i
+    → with_front front (all_opened (texts (drop i ps))) ≡ total → total ≡ Ok front
 is_done ps i front total le so_far = sym (rw (drop_all i ps le) at so_far) ∙ ap (λ (qs : List Part). let r : Parts = Ok qs in r) (append-nil front)

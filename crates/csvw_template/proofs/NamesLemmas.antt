@@ -1,5 +1,6 @@
 -- The pass over a list of names tells lists of names, with what may stand behind them.
-use Rattle.std.proofs.Common.{◌≡◌, ℕ, List, [], ◌∷◌, ◌++◌, Bool, true, false, cond, Option, Some, None, refl, ap, sym, subst, ◌∙◌, flat_map, append_assoc, append-nil, arith, All, ◌==◌, ◌||◌}
+use Rattle.std.proofs.Common.{◌≡◌, ℕ, List, [], ◌∷◌, ◌++◌, Bool, true, false, cond, Option, Some, None, refl, ap, sym, subst, ◌∙◌, flat_map}
+use Rattle.std.proofs.Common.{append_assoc, append-nil, arith, All, ◌==◌, ◌||◌}
 use Rattle.std.specs.List.{slice_split}
 use Rattle.std.proofs.lemmas.Bool.{cond_both, cond-true, cond-false}
 use Rattle.std.proofs.lemmas.Bool.Decides.{nat_tests}
@@ -51,7 +52,8 @@ varchar p enter (b ∷ h ∷ l ∷ []) rest is =
     ∙ ap (λ s. kind s rest) (cond-true _ _ _ is.2)
 varchar p enter (b ∷ h ∷ l ∷ c ∷ more) rest none = absurd none
 
-others_pass : (vs : List (Bool × List ℕ)) (rest : List ℕ) → All (λ (v : Bool × List ℕ). IsVarchar v.1) vs → kind (Some Char) (flat_map further vs ++ rest) ≡ kind (Some Char) rest
+others_pass : (vs : List (Bool × List ℕ)) (rest : List ℕ) → All (λ (v : Bool × List ℕ). IsVarchar v.1) vs
+    → kind (Some Char) (flat_map further vs ++ rest) ≡ kind (Some Char) rest
 others_pass [] rest h = refl
 others_pass ((true, v) ∷ vs) rest h =
     let P : Bool × List ℕ → Type 0 = λ w. IsVarchar w.1 in
@@ -240,11 +242,13 @@ says [] Digit = tt
 says (b ∷ bs) Front =
     cond_both (b == 37) (Some Percent) (cond (is_name_byte b) (Some Char) None) (λ s. Says Front (b ∷ bs) (kind s bs))
     (λ e. lift Front Percent b bs _ (percent_begun b (is_same b 37 e)) (says bs Percent))
-    (λ _. cond_both (is_name_byte b) (Some Char) None (λ s. Says Front (b ∷ bs) (kind s bs)) (λ h. lift Front Char b bs _ (letter_begun b h) (says bs Char)) (λ _. tt))
+    (λ _. cond_both (is_name_byte b) (Some Char) None (λ s. Says Front (b ∷ bs) (kind s bs))
+    (λ h. lift Front Char b bs _ (letter_begun b h) (says bs Char)) (λ _. tt))
 says (b ∷ bs) Dot =
     cond_both (b == 37) (Some Percent) (cond (is_name_byte b) (Some Char) None) (λ s. Says Dot (b ∷ bs) (kind s bs))
     (λ e. lift Dot Percent b bs _ (percent_begun b (is_same b 37 e)) (says bs Percent))
-    (λ _. cond_both (is_name_byte b) (Some Char) None (λ s. Says Dot (b ∷ bs) (kind s bs)) (λ h. lift Dot Char b bs _ (letter_begun b h) (says bs Char)) (λ _. tt))
+    (λ _. cond_both (is_name_byte b) (Some Char) None (λ s. Says Dot (b ∷ bs) (kind s bs))
+    (λ h. lift Dot Char b bs _ (letter_begun b h) (says bs Char)) (λ _. tt))
 says (b ∷ bs) Char =
     let P : Option Place → Type 0 = λ s. Says Char (b ∷ bs) (kind s bs) in
     cond_both (is_modifier b) Higher (kind (step Char b) bs) (Says Char (b ∷ bs)) (λ m. ([], b, bs, refl, m, end))

@@ -1,5 +1,6 @@
 -- A text cut at each `{`, and a piece cut at its first `}`.
-use Rattle.std.proofs.Common.{◌≡◌, ℕ, ◌+◌, ◌<◌, ◌≤◌, List, [], ◌∷◌, ◌++◌, Bool, true, false, not, Ok, length, drop, get_or, refl, ap, sym, subst, ◌∙◌, append_assoc, arith, ◌||◌, flat_map, All, length-append, ⊎_elim}
+use Rattle.std.proofs.Common.{◌≡◌, ℕ, ◌+◌, ◌<◌, ◌≤◌, List, [], ◌∷◌, ◌++◌, Bool, true, false, not, Ok, length, drop, get_or, refl, ap, sym, subst, ◌∙◌}
+use Rattle.std.proofs.Common.{append_assoc, arith, ◌||◌, flat_map, All, length-append, ⊎_elim}
 use Rattle.std.specs.List.{slice_split, onto_first, list_any, position_or_len, before_first, after_first}
 use Rattle.std.proofs.lemmas.Bool.{cond_both, cond-true, cases_lt, false≢true, false_from_ne_true}
 use Rattle.std.proofs.lemmas.List.{take_at, drop_at, get_or-take, length-take}
@@ -93,7 +94,8 @@ before_close inner rest h = take_at inner (125 ∷ rest) _ (sym (at_close inner 
 
 after_close : (inner rest : List ℕ) → HasNoClose inner → after_first is_close (inner ++ 125 ∷ rest) ≡ rest
 after_close inner rest h =
-    let n : length (inner ++ 125 ∷ []) ≡ position_or_len is_close (inner ++ 125 ∷ rest) + 1 = omega (arith, length-append inner (125 ∷ []), at_close inner rest h) in
+    let n : length (inner ++ 125 ∷ []) ≡ position_or_len is_close (inner ++ 125 ∷ rest) + 1 =
+    omega (arith, length-append inner (125 ∷ []), at_close inner rest h) in
     ap (drop (position_or_len is_close (inner ++ 125 ∷ rest) + 1)) (sym (append_assoc inner (125 ∷ []) rest)) ∙ drop_at (inner ++ 125 ∷ []) rest _ n
 
 pub closes : (inner rest : List ℕ) → HasNoClose inner → list_any is_close (inner ++ 125 ∷ rest) ≡ true

@@ -1,5 +1,6 @@
 -- What is read is what the grammar has.
-use Rattle.std.proofs.Common.{◌≡◌, ℕ, ◌<◌, ◌≤◌, List, [], ◌∷◌, ◌++◌, true, false, Result, Ok, Err, length, refl, ap, sym, subst, ◌∙◌, append_assoc, append-nil, arith, flat_map, All, ⊎_elim, inl, inr, nat_lt, count_by}
+use Rattle.std.proofs.Common.{◌≡◌, ℕ, ◌<◌, ◌≤◌, List, [], ◌∷◌, ◌++◌, true, false, Result, Ok, Err, length, refl, ap, sym, subst, ◌∙◌, append_assoc}
+use Rattle.std.proofs.Common.{append-nil, arith, flat_map, All, ⊎_elim, inl, inr, nat_lt, count_by}
 use Rattle.std.specs.List.{slice_split, list_any}
 use Rattle.std.proofs.lemmas.Bool.{cond_both, cond-false, cases_Bool, or_cases}
 use Rattle.std.proofs.lemmas.Bool.Decides.{nat_tests}
@@ -11,10 +12,12 @@ use Rattle.csvw_template.specs.declared.part.Part.{Part}
 use Rattle.csvw_template.specs.declared.part.Part.TheVariants.{Literal, Expression}
 use Rattle.csvw_template.specs.Fault.{◌>>=◌}
 use Rattle.csvw_template.specs.Name.{listed}
-use Rattle.csvw_template.specs.Grammar.{is_open, is_close, HasNoBrace, mark, spelling, AreParts, IsTemplate, IsEndOrOpen, BeginsBad, closes_none, not_closed, no_expression, BeginsHigher, higher, IsFirst, IsWithin, IsPast, IsTheReading}
+use Rattle.csvw_template.specs.Grammar.{is_open, is_close, HasNoBrace, mark, spelling, AreParts, IsTemplate, IsEndOrOpen, BeginsBad, closes_none}
+use Rattle.csvw_template.specs.Grammar.{not_closed, no_expression, BeginsHigher, higher, IsFirst, IsWithin, IsPast, IsTheReading}
 use Rattle.csvw_template.specs.Reading.{Parts, expression, literal, outside, opened, all_opened, of_pieces, is_past, template}
 use Rattle.csvw_template.proofs.ExpressionLemmas.{IsOf, Answers, answers, bad_is_no_expression, bad_is_not_higher}
-use Rattle.csvw_template.proofs.PiecesLemmas.{HasNoOpen, no_brace, no_open_left, no_open_right, after_open, IsCut, cut, opened_of, closed, lacks_close, or_left, or_right}
+use Rattle.csvw_template.proofs.PiecesLemmas.{HasNoOpen, no_brace, no_open_left, no_open_right, after_open, IsCut, cut, opened_of, closed}
+use Rattle.csvw_template.proofs.PiecesLemmas.{lacks_close, or_left, or_right}
 use Rattle.csvw_template.proofs.GrammarLemmas.{whole, regroup, with_part, template_read, bad_told, higher_told}
 
 -- what an answer says of a text
@@ -158,7 +161,8 @@ piece_found piece text g h end f =
     let tail = no_open_right (c.inner ++ 125 ∷ []) c.rest (subst HasNoOpen (sym (append_assoc c.inner (125 ∷ []) c.rest)) open_free) in
     let r : Parts = outside c.rest >>= λ a. g >>= λ es. Ok (a ++ es) in
     let answer : (opened piece >>= λ a. g >>= λ es. Ok (a ++ es)) ≡ Total (expression c.inner) r =
-    ap (λ (x : Parts). x >>= λ a. g >>= λ es. Ok (a ++ es)) (ap opened c.split ∙ opened_of c.inner c.rest c.lacks) ∙ regroup (expression c.inner) (outside c.rest) g in
+    ap (λ (x : Parts). x >>= λ a. g >>= λ es. Ok (a ++ es)) (ap opened c.split ∙ opened_of c.inner c.rest c.lacks)
+    ∙ regroup (expression c.inner) (outside c.rest) g in
     let spelled : 123 ∷ (c.inner ++ 125 ∷ (c.rest ++ text)) ≡ 123 ∷ (piece ++ text) =
     ap (λ x. 123 ∷ x) (sym (ap (λ x. x ++ text) c.split ∙ append_assoc c.inner (125 ∷ c.rest) text)) in
     let found = braces_found c.inner (c.rest ++ text) r (expression c.inner) clean refl (answers c.inner) (outside_found c.rest text g tail f) in
@@ -236,4 +240,5 @@ within_reading text within = record {
 pub reading : (text : List ℕ) → IsTheReading text (template text)
 unfolding template
 reading text =
-    cond_both (is_past text) (Err TooLong) (whole text) (IsTheReading text) (λ e. past_reading text (past_from text e)) (λ e. within_reading text (within_from text e))
+    cond_both (is_past text) (Err TooLong) (whole text) (IsTheReading text) (λ e. past_reading text (past_from text e))
+    (λ e. within_reading text (within_from text e))

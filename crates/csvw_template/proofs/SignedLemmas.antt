@@ -1,6 +1,7 @@
 -- Values one after another.
-use Rattle.std.proofs.Common.{◌≡◌, ℕ, ◌<◌, ◌+◌, List, [], ◌∷◌, ◌++◌, Bool, true, false, Option, Some, None, take, get_or, length, flat_map, map, refl, ap, sym, subst, ◌∙◌, append_assoc, append-nil}
-use Rattle.std.specs.List.{cons_option}
+use Rattle.std.proofs.Common.{◌≡◌, ℕ, ◌<◌, ◌+◌, List, [], ◌∷◌, ◌++◌, Bool, true, false, Option, Some, None, take, get_or, length, flat_map, map, refl}
+use Rattle.std.proofs.Common.{ap, sym, subst, ◌∙◌, append_assoc, append-nil}
+use Rattle.std.specs.List.{cons_option, filter_map}
 use Rattle.std.proofs.lemmas.Bool.{false≢true}
 use Rattle.std.proofs.lemmas.List.{take_more}
 use Rattle.std.proofs.lemmas.List.Folds.{flat_map-map}
@@ -8,14 +9,14 @@ use Rattle.std.proofs.lemmas.Grind.{flat_map-append}
 use Rattle.std.proofs.lemmas.List.Elements.{filter_map-append}
 use Rattle.csvw_template.specs.declared.part.Operator.{Operator}
 use Rattle.csvw_template.specs.Name.{after_comma, listed}
-use Rattle.csvw_template.specs.Variables.{Variables, lookup}
-use Rattle.csvw_template.specs.Expand.{value, values, signed, sign, lead, Adds, encoded}
+use Rattle.csvw_template.specs.Expand.{signed, sign, lead, Adds, encoded}
 
 abbrev pub is_none : List (List ℕ) → Bool
 is_none [] = true
 is_none (text ∷ texts) = false
 
-more : (operator : Operator) (vs : List (List ℕ)) (text : List ℕ) → signed operator (vs ++ text ∷ []) ≡ signed operator vs ++ (lead operator (is_none vs) ++ text)
+more : (operator : Operator) (vs : List (List ℕ)) (text : List ℕ)
+    → signed operator (vs ++ text ∷ []) ≡ signed operator vs ++ (lead operator (is_none vs) ++ text)
 more operator [] text = ap (λ x. sign operator ++ x) (append-nil text)
 more operator (v ∷ vs) text =
     ap (λ x. sign operator ++ (v ++ x)) (flat_map-append after_comma vs (text ∷ []))
@@ -50,17 +51,18 @@ none operator start vs b None old new w a = record {
 }
 none operator start vs b (Some text) old new w a = absurd (false≢true a.0)
 
-module _ (operator : Operator) (vars : Variables) (names : List (List ℕ)) (i : ℕ) (name : List ℕ) (lt : i < length names) (is : name ≡ get_or names i name)
-    (start : List ℕ) (b : Bool) (old new : List ℕ) (w : Wrote operator start (values operator vars (take i names)) b old) where
-  next : values operator vars (take i names) ++ cons_option (value operator (lookup vars name)) [] ≡ values operator vars (take (i + 1) names)
+-- what each of these gives, where it gives something
+module _ {A : Type 0} (operator : Operator) (gives : A → Option (List ℕ)) (xs : List A) (i : ℕ) (x : A) (lt : i < length xs) (is : x ≡ get_or xs i x)
+    (start : List ℕ) (b : Bool) (old new : List ℕ) (w : Wrote operator start (filter_map gives (take i xs)) b old) where
+  next : filter_map gives (take i xs) ++ cons_option (gives x) [] ≡ filter_map gives (take (i + 1) xs)
   next =
-      sym (filter_map-append (λ n. value operator (lookup vars n)) (take i names) (name ∷ []))
-      ∙ ap (λ n. values operator vars (take i names ++ n ∷ [])) is ∙ sym (ap (values operator vars) (take_more names i name lt))
+      sym (filter_map-append gives (take i xs) (x ∷ []))
+      ∙ ap (λ y. filter_map gives (take i xs ++ y ∷ [])) is ∙ sym (ap (filter_map gives) (take_more xs i x lt))
 
-  pub goes_on : Adds operator b (value operator (lookup vars name)) true old new → Wrote operator start (values operator vars (take (i + 1) names)) false new
+  pub goes_on : Adds operator b (gives x) true old new → Wrote operator start (filter_map gives (take (i + 1) xs)) false new
   goes_on a = let P : List (List ℕ) → Type 0 = λ vs. Wrote operator start vs false new in subst P next (some operator start _ b _ old new w a)
 
-  pub stays : Adds operator b (value operator (lookup vars name)) false old new → Wrote operator start (values operator vars (take (i + 1) names)) b new
+  pub stays : Adds operator b (gives x) false old new → Wrote operator start (filter_map gives (take (i + 1) xs)) b new
   stays a = let P : List (List ℕ) → Type 0 = λ vs. Wrote operator start vs b new in subst P next (none operator start _ b _ old new w a)
 
 -- a list, item by item

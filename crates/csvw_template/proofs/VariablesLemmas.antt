@@ -1,5 +1,6 @@
 -- A map after a name is put.
-use Rattle.std.proofs.Common.{◌≡◌, ℕ, ◌<◌, List, [], ◌∷◌, ◌++◌, Bool, true, false, cond, Option, Some, None, get_or, set, length, nat_lt, refl, ap, sym, subst, ◌∙◌, position, bytes_eq, arith, suc, zero, ⊎_elim}
+use Rattle.std.proofs.Common.{◌≡◌, ℕ, ◌<◌, List, [], ◌∷◌, ◌++◌, Bool, true, false, cond, Option, Some, None, get_or, set, length, nat_lt, refl, ap}
+use Rattle.std.proofs.Common.{sym, subst, ◌∙◌, position, bytes_eq, arith, suc, zero, ⊎_elim}
 use Rattle.std.specs.List.{position_or_len}
 use Rattle.std.proofs.lemmas.Bool.{cond_both, cond-true, cond-false, cases_Bool, false≢true, false_from_ne_true}
 use Rattle.std.proofs.lemmas.Bool.Decides.{nat_tests}
@@ -32,7 +33,8 @@ puts ps name v =
     let test : List ℕ × Var → Bool = λ p. bytes_eq p.0 name in
     let i = position_or_len test ps in
     cond_both (nat_lt i (length ps)) (Some i) None (Puts ps name v)
-    (λ e. let l : i < length ps = grind (arith, nat_tests) in (l, λ d. changed ps i name v d l (passes_at_first test ps d l) (λ k lt. fails_before_first test ps k d lt)))
+    (λ e. let l : i < length ps = grind (arith, nat_tests) in
+    (l, λ d. changed ps i name v d l (passes_at_first test ps d l) (λ k lt. fails_before_first test ps k d lt)))
     (λ e. added ps name v (λ k d l. fails_before_first test ps k d (grind (arith, nat_tests))))
 
 same_text : (a b : List ℕ) → bytes_eq a b ≡ true → a ≡ b
@@ -48,7 +50,8 @@ lookup-put (p ∷ ps) name v other =
     let same = same_text p.0 name e in
     ⊎_elim
     (λ (t : bytes_eq name other ≡ true). cond-true _ _ _ (ap (λ x. bytes_eq x other) same ∙ t) ∙ sym (cond-true _ _ _ t))
-    (λ (f : bytes_eq name other ≡ false). cond-false _ _ _ (ap (λ x. bytes_eq x other) same ∙ f) ∙ sym (cond-false _ _ _ f ∙ cond-false _ _ _ (ap (λ x. bytes_eq x other) same ∙ f)))
+    (λ (f : bytes_eq name other ≡ false). cond-false _ _ _ (ap (λ x. bytes_eq x other) same ∙ f)
+    ∙ sym (cond-false _ _ _ f ∙ cond-false _ _ _ (ap (λ x. bytes_eq x other) same ∙ f)))
     (cases_Bool (bytes_eq name other)))
     (λ e.
     ap (λ x. cond (bytes_eq p.0 other) p.1 x) (lookup-put ps name v other)

@@ -1,3 +1,4 @@
+pub mod Bound
 pub mod Expand
 pub mod Fault
 pub mod Grammar

@@ -1,6 +1,7 @@
 -- The parts of a text as a function. The text is cut at each `{`; what follows one is cut at its first `}`.
 -- That it is the reading of `Grammar` is a clause of `Template::read`.
-use Rattle.std.specs.Prelude.{ℕ, ◌==◌, ◌&&◌, ◌||◌, ◌++◌, List, [], ◌∷◌, Bool, true, false, nat_lt, length, if◌then◌else◌, Result, Ok, Err, Option, Some, None, count_by}
+use Rattle.std.specs.Prelude.{ℕ, ◌==◌, ◌&&◌, ◌||◌, ◌++◌, List, [], ◌∷◌, Bool, true, false, nat_lt, length, if◌then◌else◌, Result, Ok, Err, Option}
+use Rattle.std.specs.Prelude.{Some, None, count_by}
 use Rattle.std.specs.List.{slice_split, list_any, before_first, after_first}
 use Rattle.csvw_template.specs.declared.fault.TemplateFault.{TemplateFault}
 use Rattle.csvw_template.specs.declared.fault.TemplateFault.TheVariants.{TooLong, BadTemplate, TemplateLevel}

@@ -79,7 +79,7 @@ fn push_values<S: Scope>(
 }
 
 /// Adds a text, after the sign or a comma.
-fn push_one(
+pub(crate) fn push_one(
     out: &mut String,
     operator: Operator,
     is_first: bool,
@@ -92,7 +92,7 @@ fn push_one(
 }
 
 /// Adds what a variable gives, after the sign or a comma, and tells whether it is defined.
-fn push_value(
+pub(crate) fn push_value(
     out: &mut String,
     operator: Operator,
     is_first: bool,

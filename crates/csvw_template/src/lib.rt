@@ -5,6 +5,7 @@
 //! 3.1 has it for each character that may not stand in a URI; `'`, which section 2.1 leaves out as well, is reserved and stays.
 #![tactic(auto)]
 
+mod bound;
 mod encode;
 mod expand;
 mod fault;
@@ -15,6 +16,7 @@ mod scope;
 mod template;
 mod vars;
 
+pub use bound::{Binding, BoundPart, Names, Values, bound_gives_the_same, push_bound, varies};
 pub use fault::TemplateFault;
 pub use part::{Operator, Part};
 pub use scope::Scope;

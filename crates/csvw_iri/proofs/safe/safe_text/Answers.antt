@@ -9,5 +9,7 @@ use Rattle.csvw_iri.proofs.safe.safe_text.Goals as goal
 pub returns : goal.returns
 unfolding safe
 returns c =
-    let end = YieldsList-end (YieldsList-from_chars c.args.text.now c.utf8.text cc) c.loop-c.yielded _ c.loop-c.yielded_by _ _ c.in-None.is c.next.ensures.steps in
-    c.loop-c.invariant ∙ ap (flat_map safe_char) (sym (map-id c.loop-c.yielded) ∙ end.0) ∙ sym (flat_map-encodes _) ∙ ap (flat_map safe_byte) (encodes-chars _ c.utf8.text)
+    let end = YieldsList-end (YieldsList-from_chars c.args.text.now c.utf8.text cc) c.loop-c.yielded _ c.loop-c.yielded_by _ _ c.in-None.is
+    c.next.ensures.steps in
+    c.loop-c.invariant ∙ ap (flat_map safe_char) (sym (map-id c.loop-c.yielded) ∙ end.0) ∙ sym (flat_map-encodes _)
+    ∙ ap (flat_map safe_byte) (encodes-chars _ c.utf8.text)

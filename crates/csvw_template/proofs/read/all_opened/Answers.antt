@@ -9,4 +9,5 @@ returns-in_err-more c =
     let ps = c.args.pieces.now in
     let i = c.loop-piece.piece-index in
     rw (p.1, p.2)
-    (ends ps i _ c.loop-piece-test.true (get_or_default ps i _ _ c.loop-piece-test.true) c.loop-piece.parts.items _ c.loop-piece.invariant c.in_err-more.field-0.0 c.in_err-more.ensures)
+    (ends ps i _ c.loop-piece-test.true (get_or_default ps i _ _ c.loop-piece-test.true) c.loop-piece.parts.items _ c.loop-piece.invariant
+    c.in_err-more.field-0.0 c.in_err-more.ensures)

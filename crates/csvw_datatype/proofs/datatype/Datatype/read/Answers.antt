@@ -3,7 +3,9 @@ use Rattle.csvw_datatype.proofs.LawLemmas.{writable_answer}
 use Rattle.csvw_datatype.proofs.datatype.Datatype.read.Goals as goal
 
 pub returns-in-Day-clause-writable : goal.returns-in-Day-clause-writable
-returns-in-Day-clause-writable c = writable_answer c.values_of_texts.ensures.writable simples.Day c.args.self.now.format c.args.text.now c.read_day.result c.read_day.ensures
+returns-in-Day-clause-writable c =
+    writable_answer c.values_of_texts.ensures.writable simples.Day c.args.self.now.format c.args.text.now c.read_day.result c.read_day.ensures
 
 pub returns-in-Moment-clause-writable : goal.returns-in-Moment-clause-writable
-returns-in-Moment-clause-writable c = writable_answer c.values_of_texts.ensures.writable simples.Moment c.args.self.now.format c.args.text.now c.read_date_time.result c.read_date_time.ensures
+returns-in-Moment-clause-writable c = writable_answer c.values_of_texts.ensures.writable simples.Moment c.args.self.now.format c.args.text.now
+    c.read_date_time.result c.read_date_time.ensures

@@ -1,0 +1,251 @@
+//! Templates whose names are bound: what each stands for is found once, and not at each expansion.
+ghost use Rattle.std.specs.Prelude.{◌≡◌, ◌++◌, ℕ, List, IfOk, IfSome, OnOk, map, string_bytes};
+ghost use Rattle.std.specs.List.{list_any};
+ghost use Rattle.csvw_template.specs.Bound.{bound, bound_part, bound_values, expand_bound, expand_bound_part, is_at, stands_for, var_at, varies, varies_in};
+ghost use Rattle.csvw_template.specs.Bound.{BoundGivesTheSame, ConstantGivesTheSame};
+ghost use Rattle.csvw_template.specs.Expand.{Adds, kept, signed, value};
+ghost use Rattle.csvw_template.specs.declared.bound.Binding.{Binding as TheBinding};
+ghost use Rattle.csvw_template.specs.declared.vars.Var.{Var as TheVar};
+ghost use Rattle.csvw_template.specs.declared.vars.Var.TheVariants.{One};
+
+use crate::encode::push_kept;
+use crate::expand::{push_one, push_value};
+use crate::part::{Operator, Part};
+use crate::template::Template;
+use crate::vars::Var;
+use csvw_text::{Copied, Seq, Text};
+use std::alloc::{AllocError, Global};
+
+/// What a name is bound to.
+#[derive(Debug, Drop)]
+pub enum Binding {
+    /// Nothing.
+    Nothing,
+    /// A text.
+    Constant(Text),
+    /// What stands at this place of the values, from 0.
+    At(usize),
+}
+
+/// A part of a template whose names are bound.
+#[derive(Debug, Drop)]
+pub enum BoundPart {
+    /// A literal as it expands.
+    Written(Text),
+    /// An expression: its operator and what its names are bound to.
+    Values(Operator, Seq<Binding>),
+}
+
+/// What knows to what names are bound.
+pub trait Names {
+    /// What each is bound to.
+    ghost binding_of: { Self → List ℕ → TheBinding };
+
+    /// What a name is bound to; `AllocError` where there is no memory.
+    fn binding(&self, alloc: Global, name: &str) -> Result<Binding, AllocError>
+        ensures { IfOk result (λ b. b ≡ binding_of self.now name.now) };
+}
+
+/// Values by their places.
+pub trait Values {
+    /// The values.
+    ghost values: { Self → List TheVar };
+
+    /// When they can be asked for.
+    ghost can_look_up: { Self → Type 0 };
+
+    /// The value at a place; `AllocError` where there is no memory.
+    fn var(&self, place: usize) -> Result<Var, AllocError>
+        requires { can_look_up self.now }
+        ensures { IfOk result (λ v. v ≡ var_at (values self.now) place) };
+
+    /// The text that stands at a place, where it can be lent. `None` says nothing of the place.
+    fn text(&self, place: usize) -> Option<&str>
+        requires { can_look_up self.now }
+        ensures { IfSome result (λ text. var_at (values self.now) place ≡ One text.now) };
+}
+
+impl Template {
+    /// Its parts with the names bound; `AllocError` where there is no memory.
+    pub fn bind<N: Names>(&self, alloc: Global, names: &N) -> Result<Seq<BoundPart>, AllocError>
+        ensures { IfOk result (λ parts. parts ≡ bound (N.binding_of names.now) self.now) }
+    {
+        bind_parts(alloc, self.parts(), names)
+    }
+}
+
+/// Bound templates expand to what the templates expand to, and to the same under all values where they don't vary.
+pub fn bound_gives_the_same()
+    ensures same { BoundGivesTheSame }
+    ensures constant { ConstantGivesTheSame }
+{}
+
+fn bind_parts<N: Names>(
+    alloc: Global,
+    parts: &[Part],
+    names: &N,
+) -> Result<Seq<BoundPart>, AllocError>
+    ensures { IfOk result (λ ps. ps ≡ bound (N.binding_of names.now) parts.now) }
+{
+    let mut bound = Seq::new(alloc);
+    for part in parts {
+        bound.push(bind_part(alloc, part, names)?)?;
+    }
+    Ok(bound)
+}
+
+fn bind_part<N: Names>(alloc: Global, part: &Part, names: &N) -> Result<BoundPart, AllocError>
+    ensures { IfOk result (λ p. p ≡ bound_part (N.binding_of names.now) part.now) }
+{
+    match part {
+        Part::Literal(text) => Ok(BoundPart::Written(written(alloc, text.as_str())?)),
+        Part::Expression(operator, listed) => Ok(BoundPart::Values(
+            *operator,
+            bind_names(alloc, listed.as_slice(), names)?,
+        )),
+    }
+}
+
+/// A literal as it expands.
+fn written(alloc: Global, text: &str) -> Result<Text, AllocError>
+    ensures { IfOk result (λ t. t ≡ kept text.now) }
+{
+    let mut out = String::new(alloc);
+    push_kept(&mut out, text)?;
+    Ok(Text::of(out))
+}
+
+fn bind_names<N: Names>(
+    alloc: Global,
+    listed: &[Text],
+    names: &N,
+) -> Result<Seq<Binding>, AllocError>
+    ensures { IfOk result (λ bs. bs ≡ map (N.binding_of names.now) listed.now) }
+{
+    let mut bindings = Seq::new(alloc);
+    for name in listed {
+        bindings.push(names.binding(alloc, name.as_str())?)?;
+    }
+    Ok(bindings)
+}
+
+/// Adds the expansion of bound parts under these values; `AllocError` where there is no memory.
+#[tactic(auto, unfolding(crate::specs::Bound::expand_bound))]
+pub fn push_bound<V: Values>(
+    out: &mut String,
+    parts: &[BoundPart],
+    values: &V,
+) -> Result<(), AllocError>
+    requires { V.can_look_up values.now }
+    ensures { OnOk result (string_bytes out.new ≡ string_bytes out.old ++ expand_bound (V.values values.now) parts.now) }
+{
+    for part in parts {
+        push_bound_part(out, part, values)?;
+    }
+    Ok(())
+}
+
+fn push_bound_part<V: Values>(
+    out: &mut String,
+    part: &BoundPart,
+    values: &V,
+) -> Result<(), AllocError>
+    requires { V.can_look_up values.now }
+    ensures { OnOk result (string_bytes out.new ≡ string_bytes out.old ++ expand_bound_part (V.values values.now) part.now) }
+{
+    match part {
+        BoundPart::Written(text) => out.push_str(text.as_str()),
+        BoundPart::Values(operator, bindings) => {
+            push_bindings(out, *operator, bindings.as_slice(), values)
+        }
+    }
+}
+
+fn push_bindings<V: Values>(
+    out: &mut String,
+    operator: Operator,
+    bindings: &[Binding],
+    values: &V,
+) -> Result<(), AllocError>
+    requires { V.can_look_up values.now }
+    ensures { OnOk result (string_bytes out.new
+        ≡ string_bytes out.old ++ signed operator (bound_values operator (V.values values.now) bindings.now)) }
+{
+    let mut is_first = true;
+    for binding in bindings {
+        if push_binding(out, operator, is_first, binding, values)? {
+            is_first = false;
+        }
+    }
+    Ok(())
+}
+
+/// Adds what a binding stands for, after the sign or a comma, and tells whether it stands for something.
+fn push_binding<V: Values>(
+    out: &mut String,
+    operator: Operator,
+    is_first: bool,
+    binding: &Binding,
+    values: &V,
+) -> Result<bool, AllocError>
+    requires { V.can_look_up values.now }
+    ensures { IfOk result (λ b. Adds operator is_first (value operator (stands_for (V.values values.now) binding.now)) b
+        (string_bytes out.old) (string_bytes out.new)) }
+{
+    match binding {
+        Binding::Nothing => Ok(false),
+        Binding::Constant(text) => {
+            push_one(out, operator, is_first, text.as_str())?;
+            Ok(true)
+        }
+        Binding::At(place) => push_at(out, operator, is_first, *place, values),
+    }
+}
+
+/// Adds what stands at a place, after the sign or a comma, and tells whether something does.
+fn push_at<V: Values>(
+    out: &mut String,
+    operator: Operator,
+    is_first: bool,
+    place: usize,
+    values: &V,
+) -> Result<bool, AllocError>
+    requires { V.can_look_up values.now }
+    ensures { IfOk result (λ b. Adds operator is_first (value operator (var_at (V.values values.now) place)) b
+        (string_bytes out.old) (string_bytes out.new)) }
+{
+    if let Some(text) = values.text(place) {
+        push_one(out, operator, is_first, text)?;
+        return Ok(true);
+    }
+    let var = values.var(place)?;
+    push_value(out, operator, is_first, &var)
+}
+
+fn is_at(binding: &Binding) -> bool
+    ensures { result ≡ is_at binding.now }
+{
+    matches!(binding, Binding::At(_))
+}
+
+fn any_at(bindings: &[Binding]) -> bool
+    ensures { result ≡ list_any is_at bindings.now }
+{
+    bindings.iter().any(|binding| is_at(binding))
+}
+
+fn varies_in(part: &BoundPart) -> bool
+    ensures { result ≡ varies_in part.now }
+{
+    match part {
+        BoundPart::Written(_) => false,
+        BoundPart::Values(_, bindings) => any_at(bindings.as_slice()),
+    }
+}
+
+/// Whether the expansion of bound parts may differ under other values.
+pub fn varies(parts: &[BoundPart]) -> bool
+    ensures { result ≡ varies parts.now }
+{
+    parts.iter().any(|part| varies_in(part))
+}
