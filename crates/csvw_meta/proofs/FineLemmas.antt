@@ -1,5 +1,5 @@
 -- What holds of the value of a part without faults.
-use Rattle.std.proofs.Common.{◌≡◌, ◌≤◌, ◌+◌, ℕ, List, [], ◌∷◌, ◌++◌, Bool, true, false, Option, Some, None, refl, arith, length, nat_lt, if◌then◌else◌, IfSome, All}
+use Rattle.std.proofs.Common.{◌≡◌, ◌≤◌, ◌+◌, ℕ, List, [], ◌∷◌, ◌++◌, Bool, true, false, Option, Some, None, refl, arith, subst, length, nat_lt, if◌then◌else◌, IfSome, All}
 use Rattle.std.proofs.lemmas.Bool.{ltb-false}
 use Rattle.std.proofs.lemmas.List.Elements.{All-cons}
 use Rattle.serde_json.specs.Data.{Data, null, boolean, number, string, array, object, Items, no_items, item}
@@ -8,8 +8,10 @@ use Rattle.csvw_meta_core.specs.declared.fault.MetaCode.{MetaCode}
 use Rattle.csvw_meta_core.specs.declared.fault.MetaCode.TheVariants.{BadProperty, TooMany}
 use Rattle.csvw_meta_core.specs.declared.fault.MetaFault.{MetaFault}
 use Rattle.csvw_meta_core.specs.Pointer.{below, item_at}
-use Rattle.csvw_meta_core.specs.Read.{Read, faulty, unless_faulty, also, over_faults, over, on_kind_as, on_object, on_linked_object, or_null, given, property, optional, found, needed, each_numbered, under}
-use Rattle.csvw_meta.specs.Several.{items_len, some_items, several}
+use Rattle.csvw_meta_core.specs.Read.{Read, faulty, over_faults, over, on_kind_as, on_object, on_linked_object, or_null, given, property, optional, found, needed, each_numbered, under}
+use Rattle.csvw_meta_core.specs.Rules.{also}
+use Rattle.csvw_meta.specs.Document.{read_by, read_by_faults}
+use Rattle.csvw_meta.specs.Several.{count_faults, items_len, some_items, several}
 
 -- where no fault stands in the part, its value is so
 abbrev pub Ensures : {A : Type 0} → Read A → (A → Type 0) → Type 0
@@ -19,17 +21,15 @@ pub none_in_both : {X : Type 0} (xs ys : List X) → xs ++ ys ≡ [] → (xs ≡
 none_in_both [] ys h = (refl, h)
 none_in_both (x ∷ xs) ys h = cc
 
-none_unless : (xs ys : List MetaFault) → unless_faulty xs ys ≡ [] → (xs ≡ []) × (ys ≡ [])
-none_unless [] ys h = (refl, h)
-none_unless (x ∷ xs) ys h = cc
-
 pub if_fine : {A : Type 0} (P : A → Type 0) (b : Bool) (r s : Read A) → (b ≡ true → Ensures r P) → (b ≡ false → Ensures s P) → Ensures (if b then r else s) P
 if_fine P true r s p q h = p refl h
 if_fine P false r s p q h = q refl h
 
-pub also_fine : {A : Type 0} (Q P : A → Type 0) (r : Read A) (rule : A → List MetaFault)
-    → Ensures r Q → ((a : A) → Q a → rule a ≡ [] → P a) → Ensures (also r rule) P
-also_fine Q P r rule q p h = let both = none_unless r.faults (rule r.value) h in p r.value (q both.0) both.1
+pub also_fine : {A : Type 0} (Q P : A → Type 0) (r : Read A) (rule : List MetaFault → A → List MetaFault)
+    → Ensures r Q → ((a : A) → Q a → rule [] a ≡ [] → P a) → Ensures (also r rule) P
+also_fine Q P r rule q p h =
+    let both = none_in_both r.faults (rule r.faults r.value) h in
+    p r.value (q both.0) (subst (λ faults. rule faults r.value ≡ []) both.0 both.1)
 
 over_none : {A B : Type 0} (Q : A → Type 0) (P : B → Type 0) (dummy : B) (faults : List MetaFault) (a : A) (next : A → Read B)
     → (faults ≡ [] → Q a) → (Q a → Ensures (next a) P) → Ensures (over_faults dummy faults a next) P
@@ -39,6 +39,15 @@ over_none Q P dummy (f ∷ fs) a next q p h = cc
 pub over_fine : {A B : Type 0} (Q : A → Type 0) (P : B → Type 0) (dummy : B) (r : Read A) (next : A → Read B)
     → Ensures r Q → ((a : A) → Q a → Ensures (next a) P) → Ensures (over dummy r next) P
 over_fine Q P dummy r next q p = over_none Q P dummy r.faults r.value next q (p r.value)
+
+by_none : {A B : Type 0} (P : B → Type 0) (keeps : MetaCode → Bool) (faults : List MetaFault) (a : A) (next : A → Read B) → Ensures (next a) P
+    → Ensures (read_by_faults keeps faults a next) P
+by_none P keeps [] a next p h = p h
+by_none P keeps (f ∷ fs) a next p h = cc
+
+pub by_fine : {A B : Type 0} (P : B → Type 0) (keeps : List MetaFault → MetaCode → Bool) (r : Read A) (next : A → Read B)
+    → ((a : A) → Ensures (next a) P) → Ensures (read_by keeps r next) P
+by_fine P keeps r next p = by_none P (keeps r.faults) r.faults r.value next (p r.value)
 
 -- ---- kinds
 
@@ -94,6 +103,11 @@ optional_fine P reads each at d name = property_fine (λ o. IfSome o P) (λ p v.
 
 -- ---- arrays
 
+not_many : (a b : Bool) (few many : MetaFault) → (if a then few ∷ [] else (if b then many ∷ [] else [])) ≡ [] → b ≡ false
+not_many true b few many h = cc
+not_many false true few many h = cc
+not_many false false few many h = refl
+
 abbrev pub AreItems : {A : Type 0} → (A → Type 0) → ℕ → List A → Type 0
 AreItems P n xs = All P xs × (length xs ≡ n)
 
@@ -112,13 +126,11 @@ module _ {A : Type 0} (P : A → Type 0) (reads : ℕ → List ℕ → Data → 
 
   some_fine : (least most : ℕ) (at : List ℕ) (ds : Items) → Ensures (some_items least most reads at ds) (λ xs. All P xs × (length xs ≤ most))
   some_fine least most at ds =
-      let Fits : List A → Type 0 = λ xs. All P xs × (length xs ≤ most) in
-      let none : Read (List A) = faulty TooMany at [] in
-      let few : Read (List A) = faulty BadProperty at [] in
-      let all = each_numbered reads at 0 ds in
-      if_fine Fits (nat_lt (items_len ds) least) few (if nat_lt most (items_len ds) then none else all) (λ b h. cc)
-      (λ b. if_fine Fits (nat_lt most (items_len ds)) none all (λ c h. cc)
-      (λ c h. within most (items_len ds) all.value c (each_fine at 0 ds h)))
+      let few : MetaFault = record { code = BadProperty; pointer = at } in
+      let many : MetaFault = record { code = TooMany; pointer = at } in
+      also_fine (AreItems P (items_len ds)) (λ xs. All P xs × (length xs ≤ most)) (each_numbered reads at 0 ds) (λ faults xs. count_faults least most at ds)
+      (each_fine at 0 ds)
+      (λ xs items h. within most (items_len ds) xs (not_many (nat_lt (items_len ds) least) (nat_lt most (items_len ds)) few many h) items)
 
   pub several_fine : (least most : ℕ) (at : List ℕ) (d : Data) → Ensures (several least most reads at d) (λ xs. All P xs × (length xs ≤ most))
   several_fine least most at (array ds) h = some_fine least most at ds h

@@ -17,7 +17,7 @@ use Rattle.csvw_meta_core.specs.Kinds.{truth, whole, any_whole, character, fixed
 use Rattle.csvw_meta_core.specs.Links.{id}
 use Rattle.csvw_meta.specs.declared.context.Context.{Context}
 use Rattle.csvw_meta.specs.declared.dialect.DialectFound.{DialectFound}
-use Rattle.csvw_meta.specs.Dialect.{is_break_char, mark, comment_prefix, terminator, terminators, joined, neither, clashes, dialect_parts, dialect_faults, lawful_dialect, trim, dialect_of, dialect, no_dialect}
+use Rattle.csvw_meta.specs.Dialect.{is_break_char, mark, comment_prefix, terminator, terminators, joined, neither, all_symbols, clashes, dialect_parts, dialect_faults, lawful_dialect, trim, dialect_of, dialect, no_dialect}
 use Rattle.csvw_meta.proofs.FineLemmas.{Ensures, each_fine, none_in_both, if_fine, also_fine, over_fine, on_kind_fine, on_linked_fine, property_fine, or_null_fine}
 
 -- neither CR nor LF
@@ -97,7 +97,7 @@ middle_true : (a b : Bool) → (a || (true || b)) ≡ true
 middle_true true b = refl
 middle_true false b = refl
 
-apart : (delimiter : ℕ) (quote : Option ℕ) (double : Bool) → clashes delimiter quote double ≡ false → quote ≢ Some delimiter
+apart : (delimiter : ℕ) (quote : Option ℕ) (double : Bool) → clashes all_symbols delimiter quote double ≡ false → quote ≢ Some delimiter
 apart delimiter None double h e = cc
 apart delimiter (Some q) double h e =
     let same : q ≡ delimiter = cc in
@@ -105,7 +105,7 @@ apart delimiter (Some q) double h e =
     let wrong : true ≡ false = rw test at h in
     cc
 
-delimiter_escape : (delimiter : ℕ) (quote : Option ℕ) (double : Bool) → clashes delimiter quote double ≡ false → double ≡ false → delimiter ≢ 92
+delimiter_escape : (delimiter : ℕ) (quote : Option ℕ) (double : Bool) → clashes all_symbols delimiter quote double ≡ false → double ≡ false → delimiter ≢ 92
 delimiter_escape delimiter None double h e is =
     let test : (delimiter == 92) ≡ true = eq-eqb delimiter 92 is in
     let wrong : true ≡ false = rw (e, test) at h in
@@ -116,7 +116,7 @@ delimiter_escape delimiter (Some q) double h e is =
     let wrong = last_true (q == delimiter) (q == 92) in
     cc
 
-quote_escape : (delimiter : ℕ) (quote : Option ℕ) (double : Bool) → clashes delimiter quote double ≡ false → double ≡ false → quote ≢ Some 92
+quote_escape : (delimiter : ℕ) (quote : Option ℕ) (double : Bool) → clashes all_symbols delimiter quote double ≡ false → double ≡ false → quote ≢ Some 92
 quote_escape delimiter None double h e is = cc
 quote_escape delimiter (Some q) double h e is =
     let same : q ≡ 92 = cc in
@@ -179,7 +179,7 @@ parts_fine at d h =
 
 -- ---- the whole
 
-fit : (d : Dialect) → FitsInParts d → clashes d.delimiter d.quote_char d.double_quote ≡ false → IsFitDialect d
+fit : (d : Dialect) → FitsInParts d → clashes all_symbols d.delimiter d.quote_char d.double_quote ≡ false → IsFitDialect d
 fit d parts h = record {
   lawful = record {
     delimiter_cr = not_break d.delimiter 13 parts.delimiter refl;
@@ -199,8 +199,8 @@ unclashed : (b : Bool) (fault : MetaFault) → (if b then fault ∷ [] else []) 
 unclashed true fault h = cc
 unclashed false fault h = refl
 
-ruled_fine : (at : List ℕ) (d : Dialect) → FitsInParts d → dialect_faults at d ≡ [] → IsFitDialect d
-ruled_fine at d fits h = fit d fits (unclashed (clashes d.delimiter d.quote_char d.double_quote) (record { code = BadDialect; pointer = at }) h)
+ruled_fine : (at : List ℕ) (d : Dialect) → FitsInParts d → dialect_faults at [] d ≡ [] → IsFitDialect d
+ruled_fine at d fits h = fit d fits (unclashed (clashes all_symbols d.delimiter d.quote_char d.double_quote) (record { code = BadDialect; pointer = at }) h)
 
 lawful_fine : (at : List ℕ) (d : Data) → Ensures (lawful_dialect at d) IsFitDialect
 lawful_fine at d = also_fine FitsInParts IsFitDialect (dialect_parts at d) (dialect_faults at) (parts_fine at d) (ruled_fine at)

@@ -9,11 +9,14 @@ use Rattle.csvw_text.specs.declared.fault.Fault.{Fault}
 use Rattle.csvw_iri.specs.Link.{base_of, iri_of}
 use Rattle.csvw_description.specs.declared.description.Description.{Description}
 use Rattle.csvw_description.specs.Plannable.{HasSound, IsFitDialect, IsFitSchema, IsFitTable, IsPlannable}
-use Rattle.csvw_meta_core.specs.declared.fault.MetaCode.TheVariants.{DuplicateTable, TooLong}
+use Rattle.csvw_meta_core.specs.declared.fault.MetaCode.{MetaCode}
+use Rattle.csvw_meta_core.specs.declared.fault.MetaCode.TheVariants.{DuplicateTable}
+use Rattle.csvw_meta_core.specs.declared.fault.MetaFault.{MetaFault}
 use Rattle.csvw_meta_core.specs.Pointer.{below, item_at}
-use Rattle.csvw_meta_core.specs.Read.{Read, fine, faulty, over, optional, property, needed}
+use Rattle.csvw_meta_core.specs.Read.{Read, fine, optional, property, needed}
 use Rattle.csvw_meta_core.specs.Kinds.{fixed, truth}
 use Rattle.csvw_meta_core.specs.Links.{id, no_url, told, url}
+use Rattle.csvw_meta_keys.specs.Naming.{all_known}
 use Rattle.csvw_meta_notes.specs.Unlisted.{all_notes, all_warnings}
 use Rattle.csvw_meta.specs.declared.body.Body.{Body}
 use Rattle.csvw_meta.specs.declared.body.DialectGiven.{DialectGiven}
@@ -26,17 +29,17 @@ use Rattle.csvw_meta.specs.declared.table.TableFound.{TableFound}
 use Rattle.csvw_meta.specs.Body.{body, body_of, given_dialect, split}
 use Rattle.csvw_meta.specs.Context.{context}
 use Rattle.csvw_meta.specs.Dialect.{dialect}
-use Rattle.csvw_meta.specs.Document.{described, document, of_bytes, of_json, parts, sole_table, within}
+use Rattle.csvw_meta.specs.Document.{described, document, is_known, length_of, of_bytes, of_json, parts, read_by, sole_table, stands, within}
 use Rattle.csvw_meta.specs.Group.{description_of, group, no_group, tables, url_faults, url_of}
 use Rattle.csvw_meta.specs.Inherited.{inherited}
 use Rattle.csvw_meta.specs.Json.{json_of, without_bom}
 use Rattle.csvw_meta.specs.Names.{group_names, inherited_names, place_of}
-use Rattle.csvw_meta.specs.References.{reference_faults, schema_faults, table_faults, targets}
+use Rattle.csvw_meta.specs.References.{reference_faults, schema_faults, table_at, table_faults, targets}
 use Rattle.csvw_meta.specs.Schema.{schema}
 use Rattle.csvw_meta.specs.Several.{several}
 use Rattle.csvw_meta.specs.Table.{no_table, table, table_of, table_others}
 use Rattle.csvw_meta.specs.UrlAlone.{own_base, plain_description, plain_document}
-use Rattle.csvw_meta.proofs.FineLemmas.{Ensures, none_in_both, if_fine, also_fine, over_fine, on_object_fine, needed_fine, optional_fine, several_fine}
+use Rattle.csvw_meta.proofs.FineLemmas.{Ensures, none_in_both, if_fine, by_fine, also_fine, over_fine, on_object_fine, needed_fine, optional_fine, several_fine}
 use Rattle.csvw_meta.proofs.FitDialect.{HasFitDialect, dialect_fine}
 use Rattle.csvw_meta.proofs.FitKeys.{DescribesAny, schema_resolves, tables_resolve}
 use Rattle.csvw_meta.proofs.FitSchema.{DatatypesFit, IsFitFound, inherited_sound, pairs_apart, schema_fine}
@@ -77,7 +80,7 @@ record AreFitTables (ts : List TableFound) : Type 0 where
   pub limit : length ts ≤ 64
   pub urls : AllPairs (λ x y. x ≢ y) (map url_of ts)
 
-tables_fit : (at : List ℕ) (ts : List TableFound) → All IsFitTableFound ts × (length ts ≤ 64) → url_faults at ts ≡ [] → AreFitTables ts
+tables_fit : (at : List ℕ) (ts : List TableFound) → All IsFitTableFound ts × (length ts ≤ 64) → url_faults at [] ts ≡ [] → AreFitTables ts
 tables_fit at ts fit h = record {
   tables = fit.0;
   limit = fit.1;
@@ -94,9 +97,9 @@ same_urls [] = refl
 same_urls (t ∷ ts) = ap (λ us. url_of t ∷ us) (same_urls ts)
 
 -- What a group describes whose keys name what is there can be planned by.
-plannable : (g : GroupFound) → IsFitGroup g → reference_faults g ≡ [] → IsPlannable (description_of g)
-plannable g fit h =
-    let parts = none_in_both (schema_faults (targets g) g.body.schema g.body.keys) (table_faults (targets g) g.tables) h in
+plannable : (place : ℕ → List ℕ) (at : List ℕ) (g : GroupFound) → IsFitGroup g → reference_faults place at [] g ≡ [] → IsPlannable (description_of g)
+plannable place at g fit h =
+    let parts = none_in_both (schema_faults all_known (targets g) g.body.schema g.body.keys) (table_faults (λ i schema. all_known) (targets g) 0 g.tables) h in
     let tables = fit.tables.tables in
     let count = fit.tables.limit in
     record {
@@ -110,7 +113,7 @@ plannable g fit h =
       urls = subst (AllPairs (λ x y. x ≢ y)) (same_urls g.tables) fit.tables.urls;
       keys = schema_resolves g g.body.schema g.body.keys fit.body.keys parts.0;
       table_keys =
-          tables_resolve g g.tables (All-weaker IsFitTableFound (λ t. DescribesAny t.table.schema t.keys) (λ t f. f.keys) g.tables tables) parts.1;
+          tables_resolve g 0 g.tables (All-weaker IsFitTableFound (λ t. DescribesAny t.table.schema t.keys) (λ t f. f.keys) g.tables tables) parts.1;
     }
 
 -- what is read
@@ -190,10 +193,14 @@ module _ (datatypes : DatatypesFit) where
 
   within_fine : (context : Context) (at : List ℕ) (d : Data) → Ensures (within context at d) IsPlannable
   within_fine context at d =
-      also_fine IsFitGroup (λ g. IsPlannable (description_of g)) (parts context at d) reference_faults (parts_fine context at d) plannable
+      let place = table_at (is_some (get (codes "tables") d)) at in
+      also_fine IsFitGroup (λ g. IsPlannable (description_of g)) (parts context at d) (reference_faults place at) (parts_fine context at d) (plannable place at)
 
   described_fine : (base : Parts) (at : List ℕ) (d : Data) → Ensures (described base at d) IsPlannable
-  described_fine base at d = over_fine (λ c. Unit {0}) IsPlannable no_group (context base at d) (λ c. within c at d) (λ h. tt) (λ c q. within_fine c at d)
+  described_fine base at d =
+      let keeps : List MetaFault → MetaCode → Bool =
+      λ faults. stands (is_known at (codes "@base") faults) (is_known at (codes "@language") faults) in
+      by_fine IsPlannable keeps (context base at d) (λ c. within c at d) (λ c. within_fine c at d)
 
   of_json_fine : (base : Parts) (o : Option Data) → Ensures (of_json base o) IsPlannable
   of_json_fine base None h = cc
@@ -201,11 +208,12 @@ module _ (datatypes : DatatypesFit) where
 
   document_fine : (base bytes : List ℕ) → Ensures (document base bytes) IsPlannable
   unfolding document
-  document_fine base bytes =
-      let all = over no_group (told [] no_url (base_of None base)) (λ b. of_bytes b bytes) in
-      if_fine IsPlannable (nat_lt 1048576 (length bytes)) (faulty TooLong [] no_group) all (λ b h. cc)
-      (λ b. over_fine (λ p. Unit {0}) IsPlannable no_group (told [] no_url (base_of None base)) (λ p. of_bytes p bytes) (λ h. tt)
-      (λ p q. of_json_fine p (json_of (without_bom bytes))))
+  document_fine base bytes h =
+      let own = told [] no_url (base_of None base) in
+      let keeps : List MetaFault → MetaCode → Bool = λ faults. stands false true in
+      let all = read_by keeps own (λ b. of_bytes b bytes) in
+      by_fine IsPlannable keeps own (λ b. of_bytes b bytes) (λ b. of_json_fine b (json_of (without_bom bytes)))
+      (none_in_both (length_of bytes).faults all.faults h).1
 
   plain_fine : (url : List ℕ) → Ensures (plain_description url) IsPlannable
   plain_fine url =

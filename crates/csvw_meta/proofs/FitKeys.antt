@@ -1,5 +1,5 @@
 -- What the keys of a group without faults name is there.
-use Rattle.std.proofs.Common.{◌≡◌, ◌∙◌, ℕ, List, [], ◌∷◌, ◌++◌, suc, Bool, true, false, Option, Some, None, refl, sym, subst, arith, length, map, flat_map, nat_eq, if◌then◌else◌, IfSome, All, Contains, bytes_eq, ◌||◌}
+use Rattle.std.proofs.Common.{◌≡◌, ◌∙◌, ◌+◌, ℕ, List, [], ◌∷◌, ◌++◌, suc, Bool, true, false, Option, Some, None, refl, sym, subst, arith, length, map, flat_map, nat_eq, if◌then◌else◌, IfSome, All, Contains, bytes_eq, ◌||◌}
 use Rattle.std.proofs.lemmas.List.{length-map}
 use Rattle.std.proofs.lemmas.List.Elements.{All-nil, All-cons, All-head, All-tail}
 use Rattle.std.proofs.lemmas.Slice.Eq.{bytes_eq-Decides}
@@ -12,8 +12,7 @@ use Rattle.csvw_meta_keys.specs.declared.column_names.KeyName.{KeyName}
 use Rattle.csvw_meta_keys.specs.declared.foreign_key.ForeignKeyFound.{ForeignKeyFound}
 use Rattle.csvw_meta_keys.specs.declared.keys.KeysFound.{KeysFound}
 use Rattle.csvw_meta_keys.specs.Described.{names_of, described}
-use Rattle.csvw_meta_keys.specs.Naming.{bad_reference, found_faults, foreign_faults, has_name, key_faults, name_fault, name_faults, side_faults, target_of}
-use Rattle.csvw_meta_keys.specs.Naming as naming
+use Rattle.csvw_meta_keys.specs.Naming.{all_known, bad_reference, faults_to, foreign_faults, has_name, key_faults, name_fault, name_faults, side_faults, target_of}
 use Rattle.csvw_meta.specs.declared.table.TableFound.{TableFound}
 use Rattle.csvw_meta.specs.declared.group.GroupFound.{GroupFound}
 use Rattle.csvw_meta.specs.Group.{description_of}
@@ -43,10 +42,10 @@ none_told : (b : Bool) (fault : MetaFault) → (if b then [] else fault ∷ []) 
 none_told true fault h = refl
 none_told false fault h = cc
 
-all_among : (names : List (List ℕ)) (key : List KeyName) → name_faults names key ≡ [] → AreAmong names (names_of key)
+all_among : (names : List (List ℕ)) (key : List KeyName) → name_faults all_known names key ≡ [] → AreAmong names (names_of key)
 all_among names [] h = All-nil (λ name. Contains names name)
 all_among names (k ∷ ks) h =
-    let parts = none_in_both (name_fault names k) (name_faults names ks) h in
+    let parts = none_in_both (name_fault all_known names k) (name_faults all_known names ks) h in
     All-cons (λ name. Contains names name) k.name (names_of ks)
     (among names k.name (none_told (has_name names k.name) (bad_reference k.at) parts.0)) (all_among names ks parts.1)
 
@@ -57,7 +56,7 @@ module _ (own : List (List ℕ)) (group : Option Schema) (key : ForeignKeyFound)
   record Refers (tables : List TableFound) (t : TableFound) : Type 0 where
     is_there : Contains (map (λ f. f.table) tables) t.table
     url : iri_of t.table.url ≡ key.resource.url
-    none : naming.table_faults own (target group t) key ≡ []
+    none : faults_to all_known own key (Some (target group t)) ≡ []
 
   abbrev Reference : List TableFound → Type 0
   Reference tables = (t : TableFound) × Refers tables t
@@ -68,13 +67,13 @@ module _ (own : List (List ℕ)) (group : Option Schema) (key : ForeignKeyFound)
     record { is_there = later t.table r.0.table (map (λ f. f.table) ts) r.1.is_there; url = r.1.url; none = r.1.none },
   )
 
-  refers : (tables : List TableFound) → foreign_faults own (map (target group) tables) key ≡ [] → Reference tables
+  refers : (tables : List TableFound) → foreign_faults all_known own (map (target group) tables) key ≡ [] → Reference tables
   refers [] h = cc
   refers (t ∷ ts) h =
       let rest = target_of (map (target group) ts) key.resource.url in
       let url = iri_of t.table.url in
       elim (bytes_eq url key.resource.url) as
-      (λ b. (b ≡ true → url ≡ key.resource.url) → found_faults own key (if b then Some (target group t) else rest) ≡ [] → Reference (t ∷ ts)) [
+      (λ b. (b ≡ true → url ≡ key.resource.url) → faults_to all_known own key (if b then Some (target group t) else rest) ≡ [] → Reference (t ∷ ts)) [
         | true ↦ λ same g. (t, record { is_there = first t.table (map (λ f. f.table) ts); url = same refl; none = g })
         | false ↦ λ same g. further t ts (refers ts g)
       ]
@@ -89,14 +88,15 @@ DescribesAny (Some schema) None = ⊥
 DescribesAny (Some schema) (Some keys) = Describes schema keys
 
 module _ (g : GroupFound) where
-  referenced : (own : List (List ℕ)) (key : ForeignKeyFound) → foreign_faults own (targets g) key ≡ []
+  referenced : (own : List (List ℕ)) (key : ForeignKeyFound) → foreign_faults all_known own (targets g) key ≡ []
       → IsForeignKey (description_of g) own (described key)
   referenced own key h =
       let found = refers own g.body.schema key g.tables h in
       let t = found.0 in
       let to = target g.body.schema t in
-      let parts = none_in_both (name_faults own key.columns) (name_faults to.names key.referenced ++ side_faults key) found.1.none in
-      let more = none_in_both (name_faults to.names key.referenced) (side_faults key) parts.1 in
+      let parts =
+      none_in_both (name_faults all_known own key.columns) (name_faults all_known to.names key.referenced ++ side_faults all_known key) found.1.none in
+      let more = none_in_both (name_faults all_known to.names key.referenced) (side_faults all_known key) parts.1 in
       let same = none_told (nat_eq (length key.columns) (length key.referenced)) (bad_reference key.at) more.1 in
       let sides : length key.columns ≡ length key.referenced = grind (arith, same) in
       let table : IsReferenced (description_of g) (described key) t.table = record {
@@ -107,35 +107,36 @@ module _ (g : GroupFound) where
       } in
       record { columns = all_among own key.columns parts.0; referenced = (t.table, table) }
 
-  all_referenced : (own : List (List ℕ)) (keys : List ForeignKeyFound) → flat_map (foreign_faults own (targets g)) keys ≡ []
+  all_referenced : (own : List (List ℕ)) (keys : List ForeignKeyFound) → flat_map (foreign_faults all_known own (targets g)) keys ≡ []
       → All (IsForeignKey (description_of g) own) (map described keys)
   all_referenced own [] h = All-nil (IsForeignKey (description_of g) own)
   all_referenced own (key ∷ keys) h =
-      let parts = none_in_both (foreign_faults own (targets g) key) (flat_map (foreign_faults own (targets g)) keys) h in
+      let parts = none_in_both (foreign_faults all_known own (targets g) key) (flat_map (foreign_faults all_known own (targets g)) keys) h in
       All-cons (IsForeignKey (description_of g) own) (described key) (map described keys) (referenced own key parts.0) (all_referenced own keys parts.1)
 
-  resolve : (schema : Schema) (keys : KeysFound) → Describes schema keys → key_faults (numbered_names 0 schema.columns) (targets g) keys ≡ []
+  resolve : (schema : Schema) (keys : KeysFound) → Describes schema keys → key_faults all_known (numbered_names 0 schema.columns) (targets g) keys ≡ []
       → KeysResolve (description_of g) schema
   resolve schema keys describes h =
       let own = numbered_names 0 schema.columns in
-      let parts = none_in_both (name_faults own keys.primary) (flat_map (foreign_faults own (targets g)) keys.foreign) h in
+      let parts = none_in_both (name_faults all_known own keys.primary) (flat_map (foreign_faults all_known own (targets g)) keys.foreign) h in
       record {
         primary_key = subst (AreAmong own) (sym describes.primary_key) (all_among own keys.primary parts.0);
         foreign_keys =
             subst (All (IsForeignKey (description_of g) own)) (sym describes.foreign_keys) (all_referenced own keys.foreign parts.1);
       }
 
-  pub schema_resolves : (schema : Option Schema) (keys : Option KeysFound) → DescribesAny schema keys → schema_faults (targets g) schema keys ≡ []
+  pub schema_resolves : (schema : Option Schema) (keys : Option KeysFound) → DescribesAny schema keys → schema_faults all_known (targets g) schema keys ≡ []
       → IfSome schema (KeysResolve (description_of g))
   schema_resolves None keys describes h = tt
   schema_resolves (Some schema) None describes h = absurd describes
   schema_resolves (Some schema) (Some keys) describes h = resolve schema keys describes h
 
-  pub tables_resolve : (ts : List TableFound) → All (λ t. DescribesAny t.table.schema t.keys) ts → table_faults (targets g) ts ≡ []
+  pub tables_resolve : (i : ℕ) (ts : List TableFound) → All (λ t. DescribesAny t.table.schema t.keys) ts
+      → table_faults (λ i schema. all_known) (targets g) i ts ≡ []
       → All (λ t. IfSome t.schema (KeysResolve (description_of g))) (map (λ t. t.table) ts)
-  tables_resolve [] all h = All-nil (λ t. IfSome t.schema (KeysResolve (description_of g)))
-  tables_resolve (t ∷ ts) all h =
-      let parts = none_in_both (schema_faults (targets g) t.table.schema t.keys) (table_faults (targets g) ts) h in
+  tables_resolve i [] all h = All-nil (λ t. IfSome t.schema (KeysResolve (description_of g)))
+  tables_resolve i (t ∷ ts) all h =
+      let parts = none_in_both (schema_faults all_known (targets g) t.table.schema t.keys) (table_faults (λ i schema. all_known) (targets g) (i + 1) ts) h in
       All-cons (λ t. IfSome t.schema (KeysResolve (description_of g))) t.table (map (λ t. t.table) ts)
       (schema_resolves t.table.schema t.keys (All-head (λ t. DescribesAny t.table.schema t.keys) t ts all) parts.0)
-      (tables_resolve ts (All-tail (λ t. DescribesAny t.table.schema t.keys) t ts all) parts.1)
+      (tables_resolve (i + 1) ts (All-tail (λ t. DescribesAny t.table.schema t.keys) t ts all) parts.1)

@@ -55,22 +55,22 @@ middle_apart before after x t none e =
     cc
 
 module _ (fault : ℕ → MetaFault) where
-  alike : (before : List (List ℕ)) (i : ℕ) (t : List ℕ) (ts : List (List ℕ)) → repeated fault before i (t ∷ ts) ≡ []
-      → (list_any (λ u. bytes_eq u t) before ≡ false) × (repeated fault (before ++ t ∷ []) (i + 1) ts ≡ [])
+  alike : (before : List (List ℕ)) (i : ℕ) (t : List ℕ) (ts : List (List ℕ)) → repeated (λ n. true) fault before i (t ∷ ts) ≡ []
+      → (list_any (λ u. bytes_eq u t) before ≡ false) × (repeated (λ n. true) fault (before ++ t ∷ []) (i + 1) ts ≡ [])
   alike before i t ts h =
       let here = list_any (λ u. bytes_eq u t) before in
       let parts = none_in_both (if here then fault i ∷ [] else []) _ h in
       (none_alike here (fault i) parts.0, parts.1)
 
-  all_apart : (before after : List (List ℕ)) (x : List ℕ) (i : ℕ) (ts : List (List ℕ)) → repeated fault (before ++ x ∷ after) i ts ≡ [] → All (λ y. x ≢ y) ts
+  all_apart : (before after : List (List ℕ)) (x : List ℕ) (i : ℕ) (ts : List (List ℕ)) → repeated (λ n. true) fault (before ++ x ∷ after) i ts ≡ [] → All (λ y. x ≢ y) ts
   all_apart before after x i [] h = λ k d lt. absurd (omega (arith, lt))
   all_apart before after x i (t ∷ ts) h =
       let parts = alike (before ++ x ∷ after) i t ts h in
-      let rest : repeated fault (before ++ x ∷ (after ++ t ∷ [])) (i + 1) ts ≡ [] =
-      subst (λ us. repeated fault us (i + 1) ts ≡ []) (append_assoc before (x ∷ after) (t ∷ [])) parts.1 in
+      let rest : repeated (λ n. true) fault (before ++ x ∷ (after ++ t ∷ [])) (i + 1) ts ≡ [] =
+      subst (λ us. repeated (λ n. true) fault us (i + 1) ts ≡ []) (append_assoc before (x ∷ after) (t ∷ [])) parts.1 in
       All-cons (λ y. x ≢ y) t ts (middle_apart before after x t parts.0) (all_apart before (after ++ t ∷ []) x (i + 1) ts rest)
 
-  pub pairs_apart : (before : List (List ℕ)) (i : ℕ) (ts : List (List ℕ)) → repeated fault before i ts ≡ [] → AllPairs (λ x y. x ≢ y) ts
+  pub pairs_apart : (before : List (List ℕ)) (i : ℕ) (ts : List (List ℕ)) → repeated (λ n. true) fault before i ts ≡ [] → AllPairs (λ x y. x ≢ y) ts
   pairs_apart before i [] h = λ i j d less lt. absurd (omega (arith, lt))
   pairs_apart before i (t ∷ ts) h =
       let rest = (alike before i t ts h).1 in
@@ -98,7 +98,7 @@ record AreFitColumns (cs : List ColumnDescription) : Type 0 where
 abbrev AreSeveral : List ColumnDescription → Type 0
 AreSeveral cs = All IsSoundColumn cs × (length cs ≤ 1024)
 
-named_fine : (at : List ℕ) (cs : List ColumnDescription) → AreSeveral cs → name_faults at cs ≡ [] → AreFitColumns cs
+named_fine : (at : List ℕ) (cs : List ColumnDescription) → AreSeveral cs → name_faults at [] cs ≡ [] → AreFitColumns cs
 named_fine at cs several h = record {
   sound = several.0;
   count = several.1;
@@ -149,7 +149,7 @@ module _ (datatypes : DatatypesFit) where
   columns_fine context table at d =
       also_fine AreSeveral AreFitColumns (several 0 1024 (column context table) at d) (column_faults at)
       (several_fine IsSoundColumn (column context table) (column_fine context table) 0 1024 at d)
-      (λ cs several h. named_fine at cs several (none_in_both (name_faults at cs) (order_faults at cs) h).0)
+      (λ cs several h. named_fine at cs several (none_in_both (name_faults at [] cs) (order_faults at [] cs) h).0)
 
   schema_of_fine : (context : Context) (table : ℕ) (at : List ℕ) (d : Data) → Ensures (schema_of context table at d) IsFitFound
   unfolding schema_of

@@ -8,5 +8,6 @@ pub mod FitSchema
 pub mod ItemsLemmas
 pub mod JsonLemmas
 pub mod ReadLemmas
+pub mod ReferencesLemmas
 pub mod RepeatedLemmas
 pub mod TitlesLemmas

@@ -1,22 +1,28 @@
 -- A fault of one part is a fault of the whole.
-use Rattle.std.proofs.Common.{◌≡◌, List, [], ◌∷◌, ◌++◌, arith, subst, sym, Result, Ok, Err}
+use Rattle.std.proofs.Common.{◌≡◌, List, [], ◌∷◌, ◌++◌, Bool, Contains, arith, filter, subst, sym, Result, Ok, Err}
 use Rattle.std.specs.Result.{IsErrAnd}
-use Rattle.std.proofs.lemmas.List.Elements.{Contains-append_left}
+use Rattle.std.proofs.lemmas.List.Elements.{All-cons, All-contains, All-nil, Contains-append_left, Contains-append_right}
+use Rattle.csvw_meta_core.specs.declared.fault.MetaCode.{MetaCode}
 use Rattle.csvw_meta_core.specs.declared.fault.MetaFault.{MetaFault}
 use Rattle.csvw_meta_core.specs.declared.fault.Refusal.{Refusal}
 use Rattle.csvw_meta_core.specs.declared.fault.Refusal.TheVariants as refusal
 use Rattle.csvw_meta_core.specs.Reads.{Fails, Reads}
-use Rattle.csvw_meta_core.specs.Read.{Read, fine, unless_faulty, over_faults}
+use Rattle.csvw_meta_core.specs.Read.{Read, fine, over_faults}
+use Rattle.csvw_meta.specs.Document.{read_by_faults}
 
 pub fails_first : (e : Refusal) (xs ys : List MetaFault) → Fails e xs → Fails e (xs ++ ys)
 fails_first refusal.Memory xs ys h = tt
 fails_first (refusal.Fault f) xs ys h = Contains-append_left xs ys f h
 
--- A fault of the parts is told with those of the rule over them.
-pub fails_also : (e : Refusal) (xs more : List MetaFault) → Fails e xs → Fails e (unless_faulty xs more)
-fails_also refusal.Memory xs more h = tt
-fails_also (refusal.Fault f) [] more h = absurd (omega (arith, h.1))
-fails_also (refusal.Fault f) (x ∷ xs) more h = h
+pub fails_last : (e : Refusal) (xs ys : List MetaFault) → Fails e ys → Fails e (xs ++ ys)
+fails_last refusal.Memory xs ys h = tt
+fails_last (refusal.Fault f) xs ys h = Contains-append_right xs ys f h
+
+-- The one fault that is told is one of all.
+pub told_at : (e : Refusal) (f : MetaFault) (faults : List MetaFault) → Contains faults f → Fails e (f ∷ []) → Fails e faults
+told_at refusal.Memory f faults is h = tt
+told_at (refusal.Fault g) f faults is h =
+    All-contains (Contains faults) (f ∷ []) g (All-cons (Contains faults) f [] is (All-nil (Contains faults))) h
 
 -- A fault of what has to be there first is told.
 pub fails_over : {A B : Type 0} (e : Refusal) (dummy : B) (xs : List MetaFault) (a : A) (next : A → Read B)
@@ -24,6 +30,12 @@ pub fails_over : {A B : Type 0} (e : Refusal) (dummy : B) (xs : List MetaFault) 
 fails_over refusal.Memory dummy xs a next h = tt
 fails_over (refusal.Fault f) dummy [] a next h = absurd (omega (arith, h.1))
 fails_over (refusal.Fault f) dummy (x ∷ xs) a next h = h
+
+pub fails_by : {A B : Type 0} (e : Refusal) (keeps : MetaCode → Bool) (xs : List MetaFault) (a : A) (next : A → Read B)
+    → Fails e xs → Fails e (read_by_faults keeps xs a next).faults
+fails_by refusal.Memory keeps xs a next h = tt
+fails_by (refusal.Fault f) keeps [] a next h = absurd (omega (arith, h.1))
+fails_by (refusal.Fault f) keeps (x ∷ xs) a next h = Contains-append_left (x ∷ xs) (filter (λ g. keeps g.code) (next a).faults) f h
 
 -- What a `?` returns is told in what is read.
 pub refused : {A : Type 0} (result : Result A Refusal) (e : Refusal) (r : Read A) → IsErrAnd result (λ y. y ≡ e) → Fails e r.faults → Reads result r

@@ -13,7 +13,9 @@ use Rattle.csvw_dialect.specs.Lawful.{has_break}
 use Rattle.csvw_meta_core.specs.declared.fault.MetaCode.{MetaCode}
 use Rattle.csvw_meta_core.specs.declared.fault.MetaCode.TheVariants.{BadDialect, BadProperty, NotSupported}
 use Rattle.csvw_meta_core.specs.declared.fault.MetaFault.{MetaFault}
-use Rattle.csvw_meta_core.specs.Read.{Read, fine, faulty, ◌>>=◌, also, over, wrong, on_kind, on_linked_object, property, optional, or_null, each}
+use Rattle.csvw_meta_core.specs.Pointer.{below}
+use Rattle.csvw_meta_core.specs.Read.{Read, fine, faulty, ◌>>=◌, over, wrong, on_kind, on_linked_object, property, optional, or_null, each}
+use Rattle.csvw_meta_core.specs.Rules.{also, could_read}
 use Rattle.csvw_meta_core.specs.Kinds.{truth, whole, any_whole, character, fixed}
 use Rattle.csvw_meta_core.specs.Links.{id}
 use Rattle.csvw_meta_notes.specs.Unlisted.{unlisted}
@@ -99,10 +101,31 @@ trim_of None skip = if skip then Start else No
 abbrev pub skips_spaces : Option Trim → Bool → Bool
 skips_spaces t skip = is_none t && skip
 
--- the delimiter is the quote, or one of them is the backslash that escapes
-abbrev pub clashes : ℕ → Option ℕ → Bool → Bool
-clashes delimiter (Some quote) double = (quote == delimiter) || (not double && ((quote == 92) || (delimiter == 92)))
-clashes delimiter None double = not double && (delimiter == 92)
+abbrev pub is_quote : Option ℕ → ℕ → Bool
+is_quote None c = false
+is_quote (Some quote) c = quote == c
+
+-- what of a dialect could be read
+pub record Symbols : Type 0 where
+  pub delimiter : Bool
+  pub quote : Bool
+  pub double : Bool
+
+abbrev pub all_symbols : Symbols
+all_symbols = record { delimiter = true; quote = true; double = true }
+
+-- The delimiter is the quote, or one of them is the backslash that escapes: each is told of what could be read.
+abbrev pub clashes : Symbols → ℕ → Option ℕ → Bool → Bool
+clashes known delimiter quote double =
+    (known.delimiter && (known.quote && is_quote quote delimiter))
+    || ((known.double && not double) && ((known.quote && is_quote quote 92) || (known.delimiter && (delimiter == 92))))
+
+abbrev pub symbols : List MetaFault → List ℕ → Symbols
+symbols faults at = record {
+  delimiter = could_read faults (below at (codes "delimiter"));
+  quote = could_read faults (below at (codes "quoteChar"));
+  double = could_read faults (below at (codes "doubleQuote"));
+}
 
 unfoldable pub dialect_parts : List ℕ → Data → Read Dialect
 dialect_parts at d = do
@@ -133,9 +156,9 @@ dialect_parts at d = do
     line_terminators = line_terminators;
   })
 
-abbrev pub dialect_faults : List ℕ → Dialect → List MetaFault
-dialect_faults at d =
-    if clashes d.delimiter d.quote_char d.double_quote then record { code = BadDialect; pointer = at } ∷ [] else []
+abbrev pub dialect_faults : List ℕ → List MetaFault → Dialect → List MetaFault
+dialect_faults at faults d =
+    if clashes (symbols faults at) d.delimiter d.quote_char d.double_quote then record { code = BadDialect; pointer = at } ∷ [] else []
 
 abbrev pub lawful_dialect : List ℕ → Data → Read Dialect
 lawful_dialect at d = also (dialect_parts at d) (dialect_faults at)

@@ -6,7 +6,8 @@ use Rattle.csvw_description.specs.declared.description.Description.{Description}
 use Rattle.csvw_meta_core.specs.declared.fault.MetaCode.TheVariants.{DuplicateTable}
 use Rattle.csvw_meta_core.specs.declared.fault.MetaFault.{MetaFault}
 use Rattle.csvw_meta_core.specs.Pointer.{below, item_at}
-use Rattle.csvw_meta_core.specs.Read.{Read, fine, ◌>>=◌, also, needed, optional}
+use Rattle.csvw_meta_core.specs.Read.{Read, fine, ◌>>=◌, needed, optional}
+use Rattle.csvw_meta_core.specs.Rules.{also, could_read_property}
 use Rattle.csvw_meta_core.specs.Kinds.{fixed}
 use Rattle.csvw_meta_core.specs.Links.{id}
 use Rattle.csvw_meta_notes.specs.Unlisted.{all_notes, all_warnings}
@@ -24,10 +25,11 @@ use Rattle.csvw_meta.specs.Table.{table}
 abbrev pub url_of : TableFound → List ℕ
 url_of t = iri_of t.table.url
 
--- No two tables have one URL.
-abbrev pub url_faults : List ℕ → List TableFound → List MetaFault
-url_faults at ts =
-    repeated (λ i. record { code = DuplicateTable; pointer = below (item_at at i) (codes "url") }) [] 0 (map url_of ts)
+-- No two tables have one URL, of those tables whose URL could be read, by the tables' own faults.
+abbrev pub url_faults : List ℕ → List MetaFault → List TableFound → List MetaFault
+url_faults at faults ts =
+    repeated (λ i. could_read_property faults (item_at at i) (codes "url"))
+    (λ i. record { code = DuplicateTable; pointer = below (item_at at i) (codes "url") }) [] 0 (map url_of ts)
 
 abbrev pub tables : Context → List ℕ → Data → Read (List TableFound)
 tables context at d = also (several 1 64 (table context) at d) (url_faults at)

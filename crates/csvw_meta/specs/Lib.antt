@@ -9,6 +9,7 @@ pub mod Group
 pub mod Inherited
 pub mod Json
 pub mod Names
+pub mod NamesRead
 pub mod References
 pub mod Repeated
 pub mod Schema

@@ -1,14 +1,19 @@
 -- What the keys of a group's schemas name (Metadata Vocabulary for Tabular Data, sections 5.5.1 and 5.5.2).
-use Rattle.std.specs.Prelude.{List, [], ◌++◌, Option, Some, None, map, flat_map}
+use Rattle.std.specs.Prelude.{ℕ, ◌+◌, ◌==◌, ◌&&◌, ◌||◌, not, List, [], ◌∷◌, ◌++◌, Bool, true, false, Option, Some, None, bytes_eq, codes, length, map, if◌then◌else◌}
+use Rattle.std.specs.List.{list_any}
 use Rattle.csvw_iri.specs.Link.{iri_of}
 use Rattle.csvw_description.specs.declared.schema.Schema.{Schema}
 use Rattle.csvw_description.specs.Keys.{declared_names, own_or}
 use Rattle.csvw_meta_core.specs.declared.fault.MetaFault.{MetaFault}
+use Rattle.csvw_meta_core.specs.Pointer.{below, item_at}
+use Rattle.csvw_meta_core.specs.Rules.{could_read, hides_property, is_at, is_within}
+use Rattle.csvw_meta_keys.specs.declared.foreign_key.ForeignKeyFound.{ForeignKeyFound}
 use Rattle.csvw_meta_keys.specs.declared.keys.KeysFound.{KeysFound}
 use Rattle.csvw_meta_keys.specs.declared.naming.Target.{Target}
-use Rattle.csvw_meta_keys.specs.Naming.{key_faults}
+use Rattle.csvw_meta_keys.specs.Naming.{Known, key_faults}
 use Rattle.csvw_meta.specs.declared.group.GroupFound.{GroupFound}
 use Rattle.csvw_meta.specs.declared.table.TableFound.{TableFound}
+use Rattle.csvw_meta.specs.NamesRead.{hides_declared}
 
 -- a table to which keys may refer, in a group of this schema
 abbrev pub target : Option Schema → TableFound → Target
@@ -17,15 +22,70 @@ target group found = record { url = iri_of found.table.url; names = declared_nam
 abbrev pub targets : GroupFound → List Target
 targets group = map (target group.body.schema) group.tables
 
+-- ---- what could be read
+
+-- where the table of an index stands, in a group at this pointer, or that is the document itself
+abbrev pub table_at : Bool → List ℕ → ℕ → List ℕ
+table_at true at i = item_at (below at (codes "tables")) i
+table_at false at i = at
+
+-- where an object's schema stands
+abbrev pub schema_at : List ℕ → List ℕ
+schema_at at = below at (codes "tableSchema")
+
+-- a fault by which some name can't be read that the schema of the object at this pointer declares
+abbrev pub hides_names : List ℕ → Option Schema → MetaFault → Bool
+hides_names at None f = false
+hides_names at (Some schema) f = hides_declared (schema_at at) schema.columns f
+
+-- the same of a table's own schema, else of that of the group at another pointer
+abbrev pub hides_own_or : List ℕ → Option Schema → List ℕ → Option Schema → MetaFault → Bool
+hides_own_or at (Some schema) group_at group f = hides_names at (Some schema) f
+hides_own_or at None group_at group f = hides_names group_at group f
+
+-- a fault by which the URL of one of these tables can't be read, the first of which has the index i
+abbrev pub hides_url : (ℕ → List ℕ) → ℕ → List TableFound → MetaFault → Bool
+hides_url place i [] f = false
+hides_url place i (t ∷ ts) f = hides_property (place i) (codes "url") f || hides_url place (i + 1) ts f
+
+-- a fault by which some name can't be read of the columns of the first table that has the URL
+abbrev pub hides_target : (ℕ → List ℕ) → List ℕ → Option Schema → List ℕ → ℕ → List TableFound → MetaFault → Bool
+hides_target place at group url i [] f = false
+hides_target place at group url i (t ∷ ts) f =
+    if bytes_eq (iri_of t.table.url) url then hides_own_or (place i) t.table.schema at group f
+    else hides_target place at group url (i + 1) ts f
+
+-- A side that could be read has one name at least.
+abbrev pub hides_side : ForeignKeyFound → MetaFault → Bool
+hides_side key f = ((length key.columns == 0) || (length key.referenced == 0)) && is_within key.at f
+
+-- What could be read of that which the keys name of the schema of the object at the first pointer, in the group at the second one, by
+-- the faults that stand in the group.
+abbrev pub known : (ℕ → List ℕ) → List ℕ → List MetaFault → GroupFound → List ℕ → Option Schema → Known
+known place at faults group own schema = record {
+  own = not (list_any (hides_names own schema) faults);
+  urls = not (list_any (λ f. is_at (below at (codes "tables")) f || hides_url place 0 group.tables f) faults);
+  names = λ url. not (list_any (hides_target place at group.body.schema url 0 group.tables) faults);
+  at = could_read faults;
+  sides = λ key. not (list_any (hides_side key) faults);
+}
+
+-- ---- what is wrong
+
 -- what is wrong with the keys of a schema, in a group of these tables
-abbrev pub schema_faults : List Target → Option Schema → Option KeysFound → List MetaFault
-schema_faults targets schema None = []
-schema_faults targets schema (Some keys) = key_faults (declared_names schema) targets keys
+abbrev pub schema_faults : Known → List Target → Option Schema → Option KeysFound → List MetaFault
+schema_faults known targets schema None = []
+schema_faults known targets schema (Some keys) = key_faults known (declared_names schema) targets keys
 
--- what is wrong with those of each table's own schema
-abbrev pub table_faults : List Target → List TableFound → List MetaFault
-table_faults targets tables = flat_map (λ t. schema_faults targets t.table.schema t.keys) tables
+-- what is wrong with those of each table's own schema, where the first of the tables has the index i
+abbrev pub table_faults : (ℕ → Option Schema → Known) → List Target → ℕ → List TableFound → List MetaFault
+table_faults known targets i [] = []
+table_faults known targets i (t ∷ ts) =
+    schema_faults (known i t.table.schema) targets t.table.schema t.keys ++ table_faults known targets (i + 1) ts
 
--- The keys of the group's schema are looked at once, whether tables take it or not.
-abbrev pub reference_faults : GroupFound → List MetaFault
-reference_faults group = schema_faults (targets group) group.body.schema group.body.keys ++ table_faults (targets group) group.tables
+-- The keys of the group's schema are looked at once, whether tables take it or not. The group stands at the pointer, and its tables
+-- where `place` says; the faults are those of its parts.
+abbrev pub reference_faults : (ℕ → List ℕ) → List ℕ → List MetaFault → GroupFound → List MetaFault
+reference_faults place at faults group =
+    schema_faults (known place at faults group at group.body.schema) (targets group) group.body.schema group.body.keys
+    ++ table_faults (λ i schema. known place at faults group (place i) schema) (targets group) 0 group.tables

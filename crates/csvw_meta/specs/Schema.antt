@@ -7,7 +7,8 @@ use Rattle.csvw_description.specs.Name.{numbered_names}
 use Rattle.csvw_meta_core.specs.declared.fault.MetaCode.TheVariants.{DuplicateName, VirtualOrder}
 use Rattle.csvw_meta_core.specs.declared.fault.MetaFault.{MetaFault}
 use Rattle.csvw_meta_core.specs.Pointer.{item_at}
-use Rattle.csvw_meta_core.specs.Read.{Read, fine, ◌>>=◌, also, on_linked_object, property, optional, not_yet}
+use Rattle.csvw_meta_core.specs.Read.{Read, fine, ◌>>=◌, on_linked_object, property, optional, not_yet}
+use Rattle.csvw_meta_core.specs.Rules.{also, could_read_property}
 use Rattle.csvw_meta_core.specs.Kinds.{fixed}
 use Rattle.csvw_meta_core.specs.Links.{id}
 use Rattle.csvw_meta_notes.specs.Unlisted.{unlisted}
@@ -20,20 +21,24 @@ use Rattle.csvw_meta.specs.declared.schema.SchemaFound.{SchemaFound}
 use Rattle.csvw_meta.specs.Column.{column}
 use Rattle.csvw_meta.specs.Inherited.{inherited, no_inherited}
 use Rattle.csvw_meta.specs.Names.{schema_names, inherited_names, place_of}
+use Rattle.csvw_meta.specs.NamesRead.{name_known}
 use Rattle.csvw_meta.specs.Repeated.{repeated}
 use Rattle.csvw_meta.specs.Several.{several}
 use Rattle.csvw_meta.specs.VirtualOrder.{misplaced}
 
--- Names are unique per table.
-abbrev pub name_faults : List ℕ → List ColumnDescription → List MetaFault
-name_faults at cs = repeated (λ i. record { code = DuplicateName; pointer = item_at at i }) [] 0 (numbered_names 0 cs)
+-- Names are unique per table: no two that could be read, by the columns' own faults, are equal.
+abbrev pub name_faults : List ℕ → List MetaFault → List ColumnDescription → List MetaFault
+name_faults at faults cs =
+    repeated (name_known faults at cs) (λ i. record { code = DuplicateName; pointer = item_at at i }) [] 0 (numbered_names 0 cs)
 
--- Virtual columns come last.
-abbrev pub order_faults : List ℕ → List ColumnDescription → List MetaFault
-order_faults at cs = misplaced (λ i. record { code = VirtualOrder; pointer = item_at at i }) false 0 cs
+-- Virtual columns come last, of those columns of which `virtual` could be read.
+abbrev pub order_faults : List ℕ → List MetaFault → List ColumnDescription → List MetaFault
+order_faults at faults cs =
+    misplaced (λ i. could_read_property faults (item_at at i) (codes "virtual")) (λ i. record { code = VirtualOrder; pointer = item_at at i })
+    false 0 cs
 
-abbrev pub column_faults : List ℕ → List ColumnDescription → List MetaFault
-column_faults at cs = name_faults at cs ++ order_faults at cs
+abbrev pub column_faults : List ℕ → List MetaFault → List ColumnDescription → List MetaFault
+column_faults at faults cs = name_faults at faults cs ++ order_faults at faults cs
 
 abbrev pub columns : Context → ℕ → List ℕ → Data → Read (List ColumnDescription)
 columns context table at d = also (several 0 1024 (column context table) at d) (column_faults at)

@@ -1,9 +1,9 @@
 -- The titles of a column (Metadata Vocabulary for Tabular Data, section 5.6, `titles`; natural language properties, section 5.1.6).
-use Rattle.std.specs.Prelude.{ℕ, ◌==◌, not, List, [], ◌++◌, Bool, true, false, Option, Some, None, bytes_eq, length, filter, if◌then◌else◌}
+use Rattle.std.specs.Prelude.{ℕ, ◌==◌, not, List, [], ◌++◌, Bool, true, false, Option, Some, None, bytes_eq, length, filter, if◌then◌else◌, ⊤}
 use Rattle.serde_json.specs.Data.{Data, null, boolean, number, string, array, object, Members, no_members, member}
 use Rattle.csvw_text.specs.Language.{is_language_tag}
 use Rattle.csvw_meta_core.specs.Pointer.{below}
-use Rattle.csvw_meta_core.specs.Read.{Read, fine, under, both, wrong}
+use Rattle.csvw_meta_core.specs.Read.{Read, fine, ◌>>=◌, under, both, wrong}
 use Rattle.csvw_meta_core.specs.Kinds.{texts}
 
 -- An empty title is none.
@@ -18,9 +18,13 @@ is_language (Some language) key = bytes_eq language key
 abbrev pub title_texts : List ℕ → Data → Read (List (List ℕ))
 title_texts at d = under not_empty (texts at d)
 
--- the titles of the language that a key is
+-- a key is a language tag
+abbrev pub tag : List ℕ → List ℕ → Data → Read ⊤
+tag at key d = if is_language_tag key then fine tt else wrong (below at key) d tt
+
+-- the titles of the language that a key is; they are judged also where it is none
 abbrev pub of_key : List ℕ → List ℕ → Data → Read (List (List ℕ))
-of_key at key d = if is_language_tag key then title_texts (below at key) d else wrong (below at key) d []
+of_key at key d = tag at key d >>= (λ is_tag. title_texts (below at key) d)
 
 -- titles of a language that is the context's, or isn't, in front of those of the context's and those of the others
 pub record Sorted : Type 0 where

@@ -3,9 +3,10 @@ use Rattle.std.specs.Prelude.{ℕ, ◌+◌, List, [], ◌∷◌, ◌++◌, Bool,
 use Rattle.csvw_description.specs.declared.column.ColumnDescription.{ColumnDescription}
 use Rattle.csvw_meta_core.specs.declared.fault.MetaFault.{MetaFault}
 
--- The faults of the columns that aren't virtual and stand behind one that is; the first column here has the index i, and
--- `is_behind` tells whether a virtual one stands in front of it.
-abbrev pub misplaced : (ℕ → MetaFault) → Bool → ℕ → List ColumnDescription → List MetaFault
-misplaced fault is_behind i [] = []
-misplaced fault is_behind i (c ∷ cs) =
-    (if is_behind && not c.is_virtual then fault i ∷ [] else []) ++ misplaced fault (is_behind || c.is_virtual) (i + 1) cs
+-- The faults of the columns that aren't virtual and stand behind one that is. Whether a column is virtual could be read where `known`
+-- says so, by its index. The first column here has the index i, and `is_behind` tells whether a virtual one stands in front of it.
+abbrev pub misplaced : (ℕ → Bool) → (ℕ → MetaFault) → Bool → ℕ → List ColumnDescription → List MetaFault
+misplaced known fault is_behind i [] = []
+misplaced known fault is_behind i (c ∷ cs) =
+    (if known i && (is_behind && not c.is_virtual) then fault i ∷ [] else [])
+    ++ misplaced known fault (is_behind || (known i && c.is_virtual)) (i + 1) cs

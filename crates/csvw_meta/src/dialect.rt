@@ -6,7 +6,7 @@ ghost use Rattle.csvw_dialect.specs.Lawful.{has_break};
 ghost use Rattle.csvw_meta_core.specs.Pointer.{text_of};
 ghost use Rattle.csvw_meta_core.specs.Reads.{Reads};
 ghost use Rattle.csvw_meta.specs.Dialect.{mark, comment_prefix, trim, trim_named, encoding, is_utf8_name, terminator, terminators, joined};
-ghost use Rattle.csvw_meta.specs.Dialect.{header_rows, trim_of, skips_spaces, clashes, dialect_parts, lawful_dialect, dialect_of, is_break_char};
+ghost use Rattle.csvw_meta.specs.Dialect.{header_rows, trim_of, skips_spaces, all_symbols, clashes, dialect_parts, lawful_dialect, dialect_of, is_break_char};
 
 use crate::context::Context;
 use crate::unlisted::dialect_warnings;
@@ -245,7 +245,7 @@ fn skips_spaces(trim: Option<Trim>, skip_initial_space: bool) -> bool
 
 /// Whether the delimiter is the quote, or one of them is the backslash that escapes.
 fn clashes(dialect: &Dialect) -> bool
-    ensures { result ≡ clashes dialect.now.delimiter dialect.now.quote_char dialect.now.double_quote }
+    ensures { result ≡ clashes all_symbols dialect.now.delimiter dialect.now.quote_char dialect.now.double_quote }
 {
     match dialect.quote_char {
         Some(quote) => quote == dialect.delimiter
@@ -308,7 +308,7 @@ fn dialect_parts(part: &Part) -> Result<Dialect, Refusal>
     })
 }
 
-#[tactic(auto, using(crate::proofs::ReadLemmas::fails_also), unfolding(crate::specs::Dialect::dialect_parts))]
+#[tactic(auto, using(crate::proofs::ReadLemmas::fails_first), unfolding(crate::specs::Dialect::dialect_parts))]
 fn lawful_dialect(part: &Part) -> Result<Dialect, Refusal>
     ensures { Reads result (lawful_dialect (text_of part.now.at) (view part.now.value.now)) }
 {

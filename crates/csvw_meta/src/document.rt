@@ -71,7 +71,7 @@ fn parts(context: &Context, part: &Part) -> Result<GroupFound, Refusal>
 }
 
 /// What the document describes within its context; what its keys name is there.
-#[tactic(auto, using(crate::proofs::ReadLemmas::fails_also))]
+#[tactic(auto, using(crate::proofs::ReadLemmas::fails_first))]
 fn within(context: &Context, part: &Part) -> Result<Description, Refusal>
     ensures { Reads result (within context.now (text_of part.now.at) (view part.now.value.now)) }
 {
@@ -81,7 +81,7 @@ fn within(context: &Context, part: &Part) -> Result<Description, Refusal>
 }
 
 /// What a value describes at the document's own URL.
-#[tactic(auto, using(crate::proofs::ReadLemmas::fails_over))]
+#[tactic(auto, using(crate::proofs::ReadLemmas::fails_by))]
 pub(crate) fn described(part: &Part, base: &Base) -> Result<Description, Refusal>
     ensures { Reads result (described base.now (text_of part.now.at) (view part.now.value.now)) }
 {
@@ -112,7 +112,7 @@ fn own_url(alloc: Global, base: &str) -> Result<Base, Refusal>
     }
 }
 
-#[tactic(auto, using(crate::proofs::ReadLemmas::fails_over), unfolding(crate::specs::Document::document))]
+#[tactic(auto, using(crate::proofs::ReadLemmas::fails_by), unfolding(crate::specs::Document::document))]
 fn document(alloc: Global, bytes: &[u8], base: &str) -> Result<Description, Refusal>
     ensures { Reads result (document base.now bytes.now) }
 {

@@ -54,7 +54,7 @@ fn urls(alloc: Global, tables: &[TableFound]) -> Result<Seq<Text>, AllocError>
 
 /// No table has the URL of an earlier one; else `DuplicateTable` at the later one's.
 fn check_urls(part: &Part, tables: &[TableFound]) -> Result<(), Refusal>
-    ensures { MatchResult result (λ _. url_faults (text_of part.now.at) tables.now ≡ []) (λ e. Fails e (url_faults (text_of part.now.at) tables.now)) }
+    ensures { MatchResult result (λ _. url_faults (text_of part.now.at) [] tables.now ≡ []) (λ e. Fails e (url_faults (text_of part.now.at) [] tables.now)) }
 {
     let urls = urls(part.alloc, tables)?;
     match repeated_at(urls.as_slice()) {
@@ -84,7 +84,7 @@ impl<'a> Reader for Tables<'a> {
 
     ghost reads = { λ r. tables r.context.now };
 
-    #[tactic(auto, using(crate::proofs::ReadLemmas::fails_also))]
+    #[tactic(auto, using(crate::proofs::ReadLemmas::fails_first))]
     fn read(&self, part: &Part) -> Result<Seq<TableFound>, Refusal> {
         let several = Several {
             reader: TableReader {

@@ -1,5 +1,5 @@
 //! Texts that an earlier one repeats.
-ghost use Rattle.std.specs.Prelude.{◌≡◌, ℕ, [], bytes_eq, MatchOption, Contains};
+ghost use Rattle.std.specs.Prelude.{◌≡◌, ℕ, [], true, bytes_eq, MatchOption, Contains};
 ghost use Rattle.std.specs.List.{list_any};
 ghost use Rattle.csvw_meta_core.specs.declared.fault.MetaFault.{MetaFault};
 ghost use Rattle.csvw_meta.specs.Repeated.{repeated};
@@ -19,8 +19,8 @@ fn has_text(texts: &[Text], text: &Text) -> bool
 
 /// The index of a text that an earlier one is equal to, where there is one.
 pub(crate) fn repeated_at(texts: &[Text]) -> Option<usize>
-    ensures { (fault : ℕ → MetaFault) → MatchOption result (repeated fault [] 0 texts.now ≡ [])
-        (λ i. Contains (repeated fault [] 0 texts.now) (fault i)) }
+    ensures { (fault : ℕ → MetaFault) → MatchOption result (repeated (λ i. true) fault [] 0 texts.now ≡ [])
+        (λ i. Contains (repeated (λ i. true) fault [] 0 texts.now) (fault i)) }
 {
     for (i, text) in texts.iter().enumerate() {
         if has_text(&texts[..i], text) {

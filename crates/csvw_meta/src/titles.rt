@@ -48,6 +48,7 @@ fn is_tag(alloc: Global, key: &str) -> Result<bool, AllocError>
     Ok(tag.is_some())
 }
 
+#[tactic(auto, using(crate::proofs::ReadLemmas::fails_first))]
 fn of_key(part: &Part, key: &str, value: &Value) -> Result<Seq<Text>, Refusal>
     ensures { Reads result (of_key (text_of part.now.at) key.now (view value.now)) }
 {
