@@ -1,15 +1,26 @@
--- The fault is one of those of the rule over what could be read.
-use Rattle.std.proofs.Common.{ℕ, [], ◌∷◌}
+-- What is told of the texts is told by the rule over those that could be read, where each could.
+use Rattle.std.proofs.Common.{◌≡◌, ℕ, List, [], ◌∷◌, true, Contains, rules, subst}
 use Rattle.csvw_meta_core.specs.declared.fault.MetaCode.TheVariants.{DuplicateName}
 use Rattle.csvw_meta_core.specs.declared.fault.MetaFault.{MetaFault}
-use Rattle.csvw_meta_core.specs.Pointer.{text_of, item_at}
+use Rattle.csvw_meta_core.specs.Pointer.{item_at, text_of}
+use Rattle.csvw_description.specs.Name.{numbered_names}
+use Rattle.csvw_meta.specs.Repeated.{repeated}
 use Rattle.csvw_meta.specs.Schema.{name_faults}
 use Rattle.csvw_meta.proofs.ReadLemmas.{told_at}
 use Rattle.csvw_meta.proofs.schema.check_names.Goals as goal
 
-pub returns-in-Some : goal.returns-in-Some
-returns-in-Some c =
+pub returns-in-None : goal.returns-in-None
+returns-in-None c =
     let at = text_of c.args.part.now.at in
     let fault : ℕ → MetaFault = λ i. record { code = DuplicateName; pointer = item_at at i } in
-    told_at c.refused.result (fault c.in-Some.i) (name_faults at [] c.args.columns.now) (c.in-Some.ensures fault)
+    let same : c.as_slice.result.now ≡ numbered_names 0 c.args.columns.now = search rules in
+    subst (λ ts. repeated (λ i. true) fault [] 0 ts ≡ []) same (c.in-None.ensures fault)
+
+pub returns : goal.returns
+returns c =
+    let at = text_of c.args.part.now.at in
+    let fault : ℕ → MetaFault = λ i. record { code = DuplicateName; pointer = item_at at i } in
+    let same : c.as_slice.result.now ≡ numbered_names 0 c.args.columns.now = search rules in
+    told_at c.refused.result (fault c.in-Some.i) (name_faults at [] c.args.columns.now)
+    (subst (λ ts. Contains (repeated (λ i. true) fault [] 0 ts) (fault c.in-Some.i)) same (c.in-Some.ensures fault))
     (rw c.item.ensures.at at c.refused.ensures)
