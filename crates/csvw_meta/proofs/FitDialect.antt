@@ -1,5 +1,6 @@
 -- A dialect that stands in a document without faults is lawful.
-use Rattle.std.proofs.Common.{◌≡◌, ◌≢◌, option_map, All, bytes_eq, nat_le, option_and_then, ◌≤◌, ◌==◌, ◌||◌, ℕ, List, [], ◌∷◌, Bool, true, false, Option, Some, None, refl, arith, length, subst, nat_lt, if◌then◌else◌, IfSome, codes}
+use Rattle.std.proofs.Common.{◌≡◌, ◌≢◌, option_map, All, bytes_eq, nat_le, option_and_then, ◌≤◌, ◌==◌, ◌||◌, ℕ, List, [], ◌∷◌, Bool, true, false}
+use Rattle.std.proofs.Common.{Option, Some, None, refl, arith, length, subst, nat_lt, if◌then◌else◌, IfSome, codes}
 use Rattle.std.specs.Str.{chars}
 use Rattle.std.specs.List.{list_any}
 use Rattle.std.proofs.lemmas.Bool.{eq-eqb, leb-true}
@@ -17,8 +18,10 @@ use Rattle.csvw_meta_core.specs.Kinds.{truth, whole, any_whole, character, fixed
 use Rattle.csvw_meta_core.specs.Links.{id}
 use Rattle.csvw_meta.specs.declared.context.Context.{Context}
 use Rattle.csvw_meta.specs.declared.dialect.DialectFound.{DialectFound}
-use Rattle.csvw_meta.specs.Dialect.{is_break_char, mark, comment_prefix, terminator, terminators, joined, neither, all_symbols, clashes, dialect_parts, dialect_faults, lawful_dialect, trim, dialect_of, dialect, no_dialect}
-use Rattle.csvw_meta.proofs.FineLemmas.{Ensures, each_fine, none_in_both, if_fine, also_fine, over_fine, on_kind_fine, on_linked_fine, property_fine, or_null_fine}
+use Rattle.csvw_meta.specs.Dialect.{is_break_char, mark, comment_prefix, terminator, terminators, joined, neither, all_symbols, clashes}
+use Rattle.csvw_meta.specs.Dialect.{dialect_parts, dialect_faults, lawful_dialect, trim, dialect_of, dialect, no_dialect}
+use Rattle.csvw_meta.proofs.FineLemmas.{Ensures, each_fine, none_in_both, if_fine, also_fine, over_fine, on_kind_fine, on_linked_fine, property_fine}
+use Rattle.csvw_meta.proofs.FineLemmas.{or_null_fine}
 
 -- neither CR nor LF
 abbrev IsMark : ℕ → Type 0

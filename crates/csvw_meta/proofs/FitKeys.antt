@@ -1,5 +1,6 @@
 -- What the keys of a group without faults name is there.
-use Rattle.std.proofs.Common.{◌≡◌, ◌∙◌, ◌+◌, ℕ, List, [], ◌∷◌, ◌++◌, suc, Bool, true, false, Option, Some, None, refl, sym, subst, arith, length, map, flat_map, nat_eq, if◌then◌else◌, IfSome, All, Contains, bytes_eq, ◌||◌}
+use Rattle.std.proofs.Common.{◌≡◌, ◌∙◌, ◌+◌, ℕ, List, [], ◌∷◌, ◌++◌, suc, Bool, true, false, Option, Some, None, refl, sym, subst, arith, length, map}
+use Rattle.std.proofs.Common.{flat_map, nat_eq, if◌then◌else◌, IfSome, All, Contains, bytes_eq, ◌||◌}
 use Rattle.std.proofs.lemmas.List.{length-map}
 use Rattle.std.proofs.lemmas.List.Elements.{All-nil, All-cons, All-head, All-tail}
 use Rattle.std.proofs.lemmas.Slice.Eq.{bytes_eq-Decides}
@@ -12,7 +13,8 @@ use Rattle.csvw_meta_keys.specs.declared.column_names.KeyName.{KeyName}
 use Rattle.csvw_meta_keys.specs.declared.foreign_key.ForeignKeyFound.{ForeignKeyFound}
 use Rattle.csvw_meta_keys.specs.declared.keys.KeysFound.{KeysFound}
 use Rattle.csvw_meta_keys.specs.Described.{names_of, described}
-use Rattle.csvw_meta_keys.specs.Naming.{all_known, bad_reference, faults_to, foreign_faults, has_name, key_faults, name_fault, name_faults, side_faults, target_of}
+use Rattle.csvw_meta_keys.specs.Naming.{all_known, bad_reference, faults_to, foreign_faults, has_name, key_faults, name_fault, name_faults}
+use Rattle.csvw_meta_keys.specs.Naming.{side_faults, target_of}
 use Rattle.csvw_meta.specs.declared.table.TableFound.{TableFound}
 use Rattle.csvw_meta.specs.declared.group.GroupFound.{GroupFound}
 use Rattle.csvw_meta.specs.Group.{description_of}

@@ -1,5 +1,6 @@
 -- A schema that stands in a document without faults has no more columns than the limit, and no two of one name.
-use Rattle.std.proofs.Common.{◌≡◌, ◌≢◌, ◌≤◌, ◌+◌, ℕ, List, [], ◌∷◌, ◌++◌, ◌||◌, Bool, true, false, refl, sym, ◌∙◌, subst, arith, length, append_assoc, All, AllPairs, map, IfSome, Option, Some, None, bytes_eq, codes, if◌then◌else◌}
+use Rattle.std.proofs.Common.{◌≡◌, ◌≢◌, ◌≤◌, ◌+◌, ℕ, List, [], ◌∷◌, ◌++◌, ◌||◌, Bool, true, false, refl, sym, ◌∙◌, subst, arith, length, append_assoc}
+use Rattle.std.proofs.Common.{All, AllPairs, map, IfSome, Option, Some, None, bytes_eq, codes, if◌then◌else◌}
 use Rattle.std.specs.List.{list_any}
 use Rattle.std.proofs.lemmas.List.Elements.{All-cons}
 use Rattle.std.proofs.lemmas.List.Folds.{list_any-append}
@@ -62,7 +63,8 @@ module _ (fault : ℕ → MetaFault) where
       let parts = none_in_both (if here then fault i ∷ [] else []) _ h in
       (none_alike here (fault i) parts.0, parts.1)
 
-  all_apart : (before after : List (List ℕ)) (x : List ℕ) (i : ℕ) (ts : List (List ℕ)) → repeated (λ n. true) fault (before ++ x ∷ after) i ts ≡ [] → All (λ y. x ≢ y) ts
+  all_apart : (before after : List (List ℕ)) (x : List ℕ) (i : ℕ) (ts : List (List ℕ)) → repeated (λ n. true) fault (before ++ x ∷ after) i ts ≡ []
+      → All (λ y. x ≢ y) ts
   all_apart before after x i [] h = λ k d lt. absurd (omega (arith, lt))
   all_apart before after x i (t ∷ ts) h =
       let parts = alike (before ++ x ∷ after) i t ts h in

@@ -18,7 +18,8 @@ module _ (fault : ℕ → MetaFault) (ts : List (List ℕ)) (i : ℕ) (t : List 
 
   pub goes_on : list_any (λ u. bytes_eq u t) (take i ts) ≡ false → repeated (λ n. true) fault (take (i + 1) ts) (i + 1) (drop (i + 1) ts) ≡ total
   goes_on none =
-      rw more (ap (λ (fs : List MetaFault). fs ++ repeated (λ n. true) fault (take i ts ++ t ∷ []) (i + 1) (drop (i + 1) ts)) (sym (cond-false _ _ _ none)) ∙ (rw
+      rw more (ap (λ (fs : List MetaFault). fs ++ repeated (λ n. true) fault (take i ts ++ t ∷ []) (i + 1) (drop (i + 1) ts))
+      (sym (cond-false _ _ _ none)) ∙ (rw
       here at so_far))
 
   pub ends : list_any (λ u. bytes_eq u t) (take i ts) ≡ true → Contains total (fault i)

@@ -1,6 +1,7 @@
 -- The group of tables that a document describes, and the faults that stand in the document (Metadata Vocabulary for Tabular Data,
 -- section 5). There is a group exactly where there is no fault.
-use Rattle.std.specs.Prelude.{ℕ, List, [], ◌∷◌, ◌++◌, ◌&&◌, ◌||◌, filter, not, Bool, true, false, nat_lt, length, codes, is_some, if◌then◌else◌, Option, Some, None, ⊤}
+use Rattle.std.specs.Prelude.{ℕ, List, [], ◌∷◌, ◌++◌, ◌&&◌, ◌||◌, filter, not, Bool, true, false, nat_lt, length, codes, is_some, if◌then◌else◌}
+use Rattle.std.specs.Prelude.{Option, Some, None, ⊤}
 use Rattle.std.specs.List.{list_any}
 use Rattle.serde_json.specs.Data.{Data}
 use Rattle.serde_json.specs.Find.{get}

@@ -19,8 +19,15 @@ unfolding foreign_key_of
 returns-in_err-reference c =
     refused c.from_residual-in_err-reference.result c.in_err-reference.field-0.0
     (foreign_key_of c.args.base.now c.args.place (text_of c.args.part.now.at) (view c.args.part.now.value.now)) c.from_residual-in_err-reference.ensures.1
-    (later _ _ _ _ c.in_ok-warnings.ensures (later _ _ _ _ (c.in_ok-columns.ensures []) (fails_first _ _ _ (c.in_err-reference.ensures (no_reference (text_of c.args.part.now.at))))))
+    (later _ _ _ _ c.in_ok-warnings.ensures
+    (later _ _ _ _ (c.in_ok-columns.ensures []) (fails_first _ _ _ (c.in_err-reference.ensures (no_reference (text_of c.args.part.now.at))))))
 
 pub returns : goal.returns
 unfolding foreign_key_of
-returns c = rw (c.in_ok-warnings.ensures, c.in_ok-columns.ensures [], c.in_ok-reference.ensures (no_reference (text_of c.args.part.now.at)), c.in_ok-joined.ensures, c.in_ok-at.ensures) refl
+returns c = rw (
+  c.in_ok-warnings.ensures,
+  c.in_ok-columns.ensures [],
+  c.in_ok-reference.ensures (no_reference (text_of c.args.part.now.at)),
+  c.in_ok-joined.ensures,
+  c.in_ok-at.ensures,
+) refl

@@ -11,16 +11,23 @@ unfolding reference_of
 returns-in_err-resource c =
     refused c.from_residual-in_err-resource.result c.in_err-resource.field-0.0
     (reference_of c.args.base.now c.args.place (text_of c.args.part.now.at) (view c.args.part.now.value.now)) c.from_residual-in_err-resource.ensures.1
-    (later _ _ _ _ c.in_ok-optional.ensures (later _ _ _ _ c.in_ok-warnings.ensures (fails_first _ _ _ (c.in_err-resource.ensures (no_resource (text_of c.args.part.now.at))))))
+    (later _ _ _ _ c.in_ok-optional.ensures
+    (later _ _ _ _ c.in_ok-warnings.ensures (fails_first _ _ _ (c.in_err-resource.ensures (no_resource (text_of c.args.part.now.at))))))
 
 pub returns-in_err-columns : goal.returns-in_err-columns
 unfolding reference_of
 returns-in_err-columns c =
     refused c.from_residual-in_err-columns.result c.in_err-columns.field-0.0
     (reference_of c.args.base.now c.args.place (text_of c.args.part.now.at) (view c.args.part.now.value.now)) c.from_residual-in_err-columns.ensures.1
-    (later _ _ _ _ c.in_ok-optional.ensures (later _ _ _ _ c.in_ok-warnings.ensures (later _ _ _ _ (c.in_ok-resource.ensures (no_resource (text_of c.args.part.now.at))) (
+    (later _ _ _ _ c.in_ok-optional.ensures
+    (later _ _ _ _ c.in_ok-warnings.ensures (later _ _ _ _ (c.in_ok-resource.ensures (no_resource (text_of c.args.part.now.at))) (
     fails_first _ _ _ (c.in_err-columns.ensures [])))))
 
 pub returns : goal.returns
 unfolding reference_of
-returns c = rw (c.in_ok-optional.ensures, c.in_ok-warnings.ensures, c.in_ok-resource.ensures (no_resource (text_of c.args.part.now.at)), c.in_ok-columns.ensures []) refl
+returns c = rw (
+  c.in_ok-optional.ensures,
+  c.in_ok-warnings.ensures,
+  c.in_ok-resource.ensures (no_resource (text_of c.args.part.now.at)),
+  c.in_ok-columns.ensures [],
+) refl
