@@ -9,7 +9,8 @@ use Rattle.csvw_annotate.specs.Annotated.{IsCell, AreCells, AreSound}
 use Rattle.csvw_annotate.specs.FieldAt.{field_at}
 
 -- the datatype of one column
-pub sound_at : (columns : List Column) (i : ℕ) (column : Column) → i < length columns → column ≡ get_or columns i column → AreSound columns → IsSound column.properties.datatype
+pub sound_at : (columns : List Column) (i : ℕ) (column : Column) → i < length columns → column ≡ get_or columns i column → AreSound columns
+    → IsSound column.properties.datatype
 sound_at [] i column lt e s = absurd (omega (arith, lt))
 sound_at (c ∷ columns) zero column lt e s = subst (λ (x : Column). IsSound x.properties.datatype) (sym e) s.0
 sound_at (c ∷ columns) (suc i) column lt e s = sound_at columns i column (omega (arith, lt)) e s.1

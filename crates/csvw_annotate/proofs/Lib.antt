@@ -1,5 +1,6 @@
+pub mod BoundLemmas
 pub mod CellsLemmas
 pub mod FormsLemmas
 pub mod LinkLemmas
-pub mod NamedLemmas
+pub mod ValuesLemmas
 pub mod Unlinked

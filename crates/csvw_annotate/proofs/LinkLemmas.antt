@@ -1,5 +1,6 @@
 -- Cells that get their links one after the other.
-use Rattle.std.proofs.Common.{◌≡◌, ◌∙◌, ℕ, zero, suc, ◌+◌, ◌<◌, ◌≤◌, List, [], ◌∷◌, length, get_or, set, refl, sym, ap, subst, arith, add-one, Option, Some, None, Bool, true, false, append-nil}
+use Rattle.std.proofs.Common.{◌≡◌, ◌∙◌, ℕ, zero, suc, ◌+◌, ◌<◌, ◌≤◌, List, [], ◌∷◌, length, get_or, set, refl, sym, ap, subst, arith, add-one, Option}
+use Rattle.std.proofs.Common.{Some, None, Bool, true, false, append-nil}
 use Rattle.std.specs.Prelude.{◌||◌, is_some, if◌then◌else◌}
 use Rattle.std.specs.List.{AllByRecursion}
 use Rattle.std.proofs.lemmas.Bool.{false≢true}
@@ -17,6 +18,7 @@ use Rattle.csvw_links.specs.declared.linking.Links.{Links}
 use Rattle.csvw_links.specs.declared.linking.Made.{Made}
 use Rattle.csvw_links.specs.declared.numbers.RowNumbers.{RowNumbers}
 use Rattle.csvw_annotate.specs.declared.row.AnnCell.{AnnCell}
+use Rattle.csvw_annotate.specs.LinksAt.{AreLinksAt, IsAboutAt, IsAboutBefore, variables_of}
 use Rattle.csvw_annotate.specs.Linked.{IsPlain, ArePlain, HaveForms, values_of, with_links, linked, linked_in, each_linked}
 
 -- the cells with the links of so many
@@ -44,7 +46,8 @@ module _ (link : Column → AnnCell → AnnCell) where
       ap (λ xs. link c x ∷ xs) (one_more n columns cells column cell (omega (arith, lt)) (omega (arith, within)) e f)
 
   -- none more, where the next cell stays as it is
-  none_more : (i : ℕ) (columns : List Column) (cells : List AnnCell) (column : Column) → i < length columns → i < length cells → column ≡ get_or columns i column
+  none_more : (i : ℕ) (columns : List Column) (cells : List AnnCell) (column : Column) → i < length columns → i < length cells
+      → column ≡ get_or columns i column
       → ((cell : AnnCell) → cell ≡ get_or cells i cell → link column cell ≡ cell) → front link i columns cells ≡ front link (suc i) columns cells
   none_more i [] cells column lt within e h = absurd (omega (arith, lt))
   none_more i (c ∷ columns) [] column lt within e h = absurd (omega (arith, within))
@@ -52,7 +55,8 @@ module _ (link : Column → AnnCell → AnnCell) where
   none_more (suc n) (c ∷ columns) (x ∷ cells) column lt within e h =
       ap (λ xs. link c x ∷ xs) (none_more n columns cells column (omega (arith, lt)) (omega (arith, within)) e h)
 
-  pub whole : (i : ℕ) (columns : List Column) (cells : List AnnCell) → length cells ≡ length columns → length columns ≤ i → front link i columns cells ≡ each_linked link columns cells
+  pub whole : (i : ℕ) (columns : List Column) (cells : List AnnCell) → length cells ≡ length columns → length columns ≤ i
+      → front link i columns cells ≡ each_linked link columns cells
   whole zero [] [] same le = refl
   whole (suc n) [] [] same le = refl
   whole i [] (x ∷ cells) same le = absurd (omega (arith, same))
@@ -82,7 +86,8 @@ module _ (link : Column → AnnCell → AnnCell) where
       ∙ ap (λ k. front link k columns cells) (sym (add-one i))
 
   pub stays : (i : ℕ) (columns : List Column) (cells now more : List AnnCell) (column : Column) → i < length columns → i < length cells
-      → column ≡ get_or columns i column → ((cell : AnnCell) → cell ≡ get_or cells i cell → link column cell ≡ cell) → now ≡ front link i columns cells → more ≡ now
+      → column ≡ get_or columns i column → ((cell : AnnCell) → cell ≡ get_or cells i cell → link column cell ≡ cell)
+      → now ≡ front link i columns cells → more ≡ now
       → more ≡ front link (i + 1) columns cells
   stays i columns cells now more column lt within e h is m =
       m ∙ is ∙ none_more i columns cells column lt within e h ∙ ap (λ k. front link k columns cells) (sym (add-one i))
@@ -93,32 +98,28 @@ same_at [] i a b lt e f = absurd (omega (arith, lt))
 same_at (x ∷ xs) zero a b lt e f = e ∙ sym f
 same_at (x ∷ xs) (suc i) a b lt e f = same_at xs i a b (omega (arith, lt)) e f
 
--- links that were made under the variables of cells of these values
-pub linked_is : (columns : Columns) (row : RowNumbers) (plain now : List AnnCell) (all : List Column) (column : Column) (lent cell new : AnnCell) (links : Links)
-    → all ≡ columns.columns → values_of now ≡ values_of plain → lent ≡ cell
-    → links ≡ links_of columns.url (variables row column all (values_of now)) column lent.value → new ≡ with_links cell links
-    → new ≡ linked_in columns row (values_of plain) column cell
-linked_is columns row plain now all column lent cell new links e f g l n =
+-- links that were made in a row of cells of these values
+pub linked_is : (columns : Columns) (row : RowNumbers) (plain now : List AnnCell) (i : ℕ) (column : Column) (cell new : AnnCell) (links : Links)
+    → values_of now ≡ values_of plain → AreLinksAt columns row now i links → column ≡ get_or columns.columns i column
+    → cell ≡ get_or now i cell → new ≡ with_links cell links → new ≡ linked_in columns row (values_of plain) column cell
+linked_is columns row plain now i column cell new links f are at at_cell n =
     n ∙ ap (with_links cell) (
-    l ∙ ap (λ (cs : List Column). links_of columns.url (variables row column cs (values_of now)) column lent.value) e
-    ∙ ap (λ (vs : List CellValue). links_of columns.url (variables row column columns.columns vs) column lent.value) f
-    ∙ ap (λ (x : AnnCell). links_of columns.url (variables row column columns.columns (values_of plain)) column x.value) g
+    are column cell at at_cell ∙ ap (λ (vs : List CellValue). links_of columns.url (variables row column columns.columns vs) column cell.value) f
     )
 
--- what was made is the about link of the column before this place, in a row of these cells
-abbrev pub IsAbout : Columns → RowNumbers → List AnnCell → ℕ → Made → Type 0
-IsAbout columns row cells place made =
-    (i : ℕ) (column : Column) → i + 1 ≡ place → column ≡ get_or columns.columns i column
-    → made ≡ link_by columns.url (variables row column columns.columns (values_of cells)) column.properties.about_url
+module _ (columns : Columns) (row : RowNumbers) (cells now : List AnnCell) (f : values_of now ≡ values_of cells) where
+  same_about : (column : Column) → link_by columns.url (variables_of columns row now column) column.properties.about_url
+      ≡ link_by columns.url (variables_of columns row cells column) column.properties.about_url
+  same_about column = ap (λ (vs : List CellValue). link_by columns.url (variables row column columns.columns vs) column.properties.about_url) f
 
-pub about_next : (columns : Columns) (row : RowNumbers) (cells : List AnnCell) (i : ℕ) (column : Column) (made : Made) → i < length columns.columns
-    → column ≡ get_or columns.columns i column → made ≡ link_by columns.url (variables row column columns.columns (values_of cells)) column.properties.about_url
-    → IsAbout columns row cells (i + 1) made
-about_next columns row cells i column made lt at is j other e f =
-    let same : j ≡ i = omega arith in
-    let there = subst (λ k. other ≡ get_or columns.columns k other) same f in
-    subst (λ (k : Column). made ≡ link_by columns.url (variables row k columns.columns (values_of cells)) k.properties.about_url)
-    (same_at columns.columns i column other lt at there) is
+  pub about_before : (i : ℕ) (made : Made) → IsAboutBefore columns row cells i made → IsAboutBefore columns row now i made
+  about_before zero made h = h
+  about_before (suc i) made h = λ column at. h column at ∙ sym (same_about column)
+
+  pub about_next : (i : ℕ) (made : Made) → IsAboutAt columns row now i made → IsAboutBefore columns row cells (i + 1) made
+  about_next i made h =
+      let P : ℕ → Type 0 = λ k. IsAboutBefore columns row cells k made in
+      subst P (sym (add-one i)) (λ column at. h column at ∙ same_about column)
 
 -- values that have forms are told by the values alone
 pub forms_of : (cells others : List AnnCell) → values_of cells ≡ values_of others → HaveForms others → HaveForms cells
@@ -142,14 +143,6 @@ module _ (columns : Columns) (row : RowNumbers) (i : ℕ) (cells now : List AnnC
 
   pub same_forms : HaveForms cells → HaveForms now
   same_forms h = forms_of now cells same_values h
-
-  -- a link by a template is that in the row as it was
-  pub same_link : (url : Parts) (all : List Column) (column : Column) (template : Option (List Part)) → url ≡ columns.url → all ≡ columns.columns
-      → link_by url (variables row column all (values_of now)) template ≡ link_by columns.url (variables row column columns.columns (values_of cells)) template
-  same_link url all column template e f =
-      ap (λ (u : Parts). link_by u (variables row column all (values_of now)) template) e
-      ∙ ap (λ (cs : List Column). link_by columns.url (variables row column cs (values_of now)) template) f
-      ∙ ap (λ (vs : List CellValue). link_by columns.url (variables row column columns.columns vs) template) same_values
 
 pub plain_at : (cells : List AnnCell) (i : ℕ) (cell : AnnCell) → i < length cells → cell ≡ get_or cells i cell → ArePlain cells → IsPlain cell
 plain_at [] i cell lt e h = absurd (omega (arith, lt))
@@ -177,7 +170,9 @@ plain_linked cell h =
       the_same a p l e f g = rw (e, f, g) refl
 
 -- a cell of a column without templates stays
-pub no_links : (base : Parts) (vars : Variables) (column : Column) (cell : AnnCell) → has_template column ≡ false → IsPlain cell → linked base vars column cell ≡ cell
+pub no_links : (base : Parts) (vars : Variables) (column : Column) (cell : AnnCell) → has_template column ≡ false → IsPlain cell
+    → linked base vars column cell ≡ cell
 no_links base vars column cell e h =
-    ap (with_links cell) (none_of base vars column.properties.about_url column.properties.property_url column.properties.value_url (column.is_virtual || has_value cell.value) e)
+    ap (with_links cell) (none_of base vars column.properties.about_url column.properties.property_url column.properties.value_url
+    (column.is_virtual || has_value cell.value) e)
     ∙ plain_linked cell h

@@ -9,9 +9,9 @@ use crate::linking::link_row;
 use crate::row::{AnnCell, Row};
 use crate::row_stop::RowStop;
 use csvw_cell::parse_over;
-use csvw_columns_core::{Column, Columns};
+use csvw_columns_core::Column;
 use csvw_datatype::values_of_texts;
-use csvw_links::RowNumbers;
+use csvw_links::{LinkRoom, LinkedColumns, RowNumbers};
 use csvw_rows::RawRow;
 use csvw_text::Seq;
 use std::alloc::{AllocError, Global};
@@ -83,31 +83,28 @@ fn refilled(
     Ok(cells)
 }
 
-/// As `annotate`, in the memory of a row that is no longer needed.
+/// As `annotate`, in the memory of a row that is no longer needed, and its links in memory that is kept for them.
 pub fn annotate_into(
     alloc: Global,
-    columns: &Columns,
+    columns: &LinkedColumns,
     row: &RawRow,
     spare: Row,
+    room: &mut LinkRoom,
 ) -> Result<Row, RowStop>
     requires { AreSound columns.now.columns }
     ensures { Annotates columns.now (row_of row.now) result }
 {
-    if row.len() != columns.field_count() {
+    let all = columns.columns();
+    if row.len() != all.field_count() {
         return Err(RowStop::RaggedRow);
     }
-    let mut cells = refilled(
-        alloc,
-        columns.columns.as_slice(),
-        row,
-        spare.cells.into_vec(),
-    )?;
+    let mut cells = refilled(alloc, all.columns.as_slice(), row, spare.cells.into_vec())?;
     let numbers = RowNumbers {
         number: row.number(),
         source: row.source(),
     };
     values_of_texts();
-    link_row(alloc, columns, numbers, cells.as_mut_slice())?;
+    link_row(alloc, columns, room, numbers, cells.as_mut_slice())?;
     Ok(Row {
         number: numbers.number,
         source: numbers.source,
@@ -118,9 +115,10 @@ pub fn annotate_into(
 /// The annotated row of a data row of a table with these columns, whose datatypes have passed `Datatype::check` (Model for
 /// Tabular Data, sections 4.4, 4.5 and 6.4.2): what its cells say, and their links. `RaggedRow` exactly where it hasn't one field
 /// for each column that isn't virtual; `Memory` where there is none.
-pub fn annotate(alloc: Global, columns: &Columns, row: &RawRow) -> Result<Row, RowStop>
+pub fn annotate(alloc: Global, columns: &LinkedColumns, row: &RawRow) -> Result<Row, RowStop>
     requires { AreSound columns.now.columns }
     ensures { Annotates columns.now (row_of row.now) result }
 {
-    annotate_into(alloc, columns, row, Row::new(alloc))
+    let mut room = LinkRoom::new(alloc);
+    annotate_into(alloc, columns, row, Row::new(alloc), &mut room)
 }

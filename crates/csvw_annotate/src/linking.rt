@@ -1,14 +1,14 @@
 //! The links of a row's cells.
-ghost use Rattle.std.specs.Prelude.{◌≡◌, ◌≤◌, IfOk, OnOk, length};
-ghost use Rattle.std.specs.List.{list_any};
-ghost use Rattle.csvw_links.specs.Links.{has_template, link_by};
-ghost use Rattle.csvw_annotate.specs.AboutBefore.{IsAboutBefore, variables_of};
+ghost use Rattle.std.specs.Prelude.{◌≡◌, ◌<◌, IfOk, OnOk, length};
+ghost use Rattle.csvw_annotate.specs.LinksAt.{AreLinksAt, IsAboutAt, IsAboutBefore};
 ghost use Rattle.csvw_annotate.specs.Linked.{ArePlain, HaveForms, linked_cells, with_links};
 
 use crate::row::AnnCell;
 use crate::scope::RowScope;
-use csvw_columns_core::{Column, Columns};
-use csvw_links::{Linker, Links, Made, RowNumbers, has_template, no_link, share_about};
+use csvw_links::{
+    LinkRoom, LinkedColumns, Links, Made, RowNumbers, about_alone, bound_links_are_links,
+    has_own_template, has_template, joined, no_link,
+};
 use std::alloc::{AllocError, Global};
 
 /// Gives a cell its links, and the codes of what is wrong with them.
@@ -29,36 +29,56 @@ fn put_links(cell: &mut AnnCell, links: Links) -> Result<(), AllocError>
     Ok(())
 }
 
-/// The about link of a cell of the column at this place, given that of the column before it, which is often the same.
+/// The about link of the column at this place, given that of the column before it, which is often the same.
 fn about_at(
-    linker: &mut Linker,
+    columns: &LinkedColumns,
+    room: &mut LinkRoom,
     before: Made,
     place: usize,
     scope: &RowScope,
 ) -> Result<Made, AllocError>
-    requires places { length scope.now.cells.now ≡ length scope.now.columns.now }
+    requires places { length scope.now.cells.now ≡ length columns.now.columns }
     requires forms { HaveForms scope.now.cells.now }
-    requires place { place ≤ length scope.now.columns.now }
-    requires before { IsAboutBefore linker.old scope.now place before }
-    ensures made { IfOk result (λ l. l ≡ link_by linker.old (variables_of scope.now scope.now.column.now) scope.now.column.now.properties.about_url) }
-    ensures url { linker.new ≡ linker.old }
+    requires place { place < length columns.now.columns }
+    requires before { IsAboutBefore columns.now scope.now.row scope.now.cells.now place before }
+    ensures { IfOk result (λ l. IsAboutAt columns.now scope.now.row scope.now.cells.now place l) }
 {
-    if place > 0 && share_about(&scope.columns[place - 1], scope.column) {
-        return Ok(before);
-    }
-    linker.about_of(scope.column, scope)
+    bound_links_are_links();
+    let made = columns.about_at(room, before, place, scope)?;
+    Ok(made)
 }
 
-fn any_has_template(columns: &[Column]) -> bool
-    ensures { result ≡ list_any has_template columns.now }
+/// The links of a cell of this value in the column at this place, whose about link is made.
+fn links_at(
+    columns: &LinkedColumns,
+    room: &mut LinkRoom,
+    about: Made,
+    place: usize,
+    scope: &RowScope,
+) -> Result<Links, AllocError>
+    requires places { length scope.now.cells.now ≡ length columns.now.columns }
+    requires forms { HaveForms scope.now.cells.now }
+    requires place { place < length columns.now.columns }
+    requires about { IsAboutAt columns.now scope.now.row scope.now.cells.now place about }
+    ensures { IfOk result (λ l. AreLinksAt columns.now scope.now.row scope.now.cells.now place l) }
 {
-    columns.iter().any(|column| has_template(column))
+    bound_links_are_links();
+    // Most columns have no template of their own.
+    let all = columns.columns().columns.as_slice();
+    if !has_own_template(&all[place]) {
+        return Ok(about_alone(about));
+    }
+    let property = columns.property_at(room, place, scope)?;
+    let cell = &scope.cells[place];
+    let value = columns.value_at(room, place, &cell.value, scope)?;
+    Ok(joined(about, property, value))
 }
 
 /// Gives the cells of a row of columns with templates their links.
 fn link_cells(
     alloc: Global,
-    columns: &Columns,
+    columns: &LinkedColumns,
+    room: &mut LinkRoom,
     row: RowNumbers,
     cells: &mut [AnnCell],
 ) -> Result<(), AllocError>
@@ -67,21 +87,18 @@ fn link_cells(
     requires forms { HaveForms cells.old }
     ensures { OnOk result (cells.new ≡ linked_cells columns.now row cells.old) }
 {
-    let all = columns.columns.as_slice();
-    let mut linker = Linker::new(alloc, &columns.url);
+    let all = columns.columns().columns.as_slice();
     let mut about = no_link();
     for i in 0..all.len() {
-        let column = &all[i];
         let lent = &cells[..];
         let scope = RowScope {
+            alloc,
             row,
-            column,
-            columns: all,
             cells: lent,
         };
-        about = about_at(&mut linker, about, i, &scope)?;
-        if has_template(column) {
-            let links = linker.links_with(about.clone(alloc)?, column, &lent[i].value, &scope)?;
+        about = about_at(columns, room, about, i, &scope)?;
+        if has_template(&all[i]) {
+            let links = links_at(columns, room, about.clone(alloc)?, i, &scope)?;
             put_links(&mut cells[i], links)?;
         }
     }
@@ -91,7 +108,8 @@ fn link_cells(
 /// Gives the cells of a row their links. A template may name any column of the row.
 pub(crate) fn link_row(
     alloc: Global,
-    columns: &Columns,
+    columns: &LinkedColumns,
+    room: &mut LinkRoom,
     row: RowNumbers,
     cells: &mut [AnnCell],
 ) -> Result<(), AllocError>
@@ -100,8 +118,8 @@ pub(crate) fn link_row(
     requires forms { HaveForms cells.old }
     ensures { OnOk result (cells.new ≡ linked_cells columns.now row cells.old) }
 {
-    if any_has_template(columns.columns.as_slice()) {
-        link_cells(alloc, columns, row, cells)
+    if columns.any_has_template() {
+        link_cells(alloc, columns, room, row, cells)
     } else {
         Ok(())
     }

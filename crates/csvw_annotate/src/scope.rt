@@ -1,81 +1,76 @@
-//! The cells of a row as the variables of one of them.
-ghost use Rattle.std.specs.Prelude.{◌≡◌, IfOk, IfSome, length};
-ghost use Rattle.csvw_template.specs.Variables.{lookup};
+//! The cells of a row as values of their templates.
+ghost use Rattle.std.specs.Prelude.{◌≡◌, IfOk, IfSome, decimal, map};
+ghost use Rattle.csvw_template.specs.Bound.{var_at};
 ghost use Rattle.csvw_template.specs.declared.vars.Var.TheVariants.{One};
-ghost use Rattle.csvw_links.specs.CellVariables.{named, variables};
+ghost use Rattle.csvw_links.specs.CellVariables.{variable};
 ghost use Rattle.csvw_annotate.specs.Linked.{HaveForms, values_of};
 
 use crate::row::AnnCell;
-use csvw_columns_core::Column;
-use csvw_links::{RowNumbers, may_be_reserved, reserved, text_of, variable};
-use csvw_template::{Scope, Var};
+use csvw_links::{RowNumbers, text_of, variable};
+use csvw_template::{Values, Var};
+use csvw_text::Text;
 use std::alloc::{AllocError, Global};
 
-/// What knows the variables of a cell.
+/// What knows the values of a row.
 #[derive(Clone, Copy)]
-pub(crate) struct RowScope<'a, 'b> {
-    /// The numbers of its row.
+pub(crate) struct RowScope<'b> {
+    /// Where memory comes from.
+    pub alloc: Global,
+    /// The numbers of the row.
     pub row: RowNumbers,
-    /// Its column.
-    pub column: &'a Column,
-    /// The columns of its table.
-    pub columns: &'a [Column],
-    /// The cells of its row, one for each column.
+    /// Its cells, one for each column.
     pub cells: &'b [AnnCell],
 }
 
-impl<'a, 'b> Scope for RowScope<'a, 'b> {
-    ghost use Rattle.std.specs.Prelude.{◌≡◌, length};
-    ghost use Rattle.csvw_links.specs.CellVariables.{variables};
+impl<'b> Values for RowScope<'b> {
+    ghost use Rattle.csvw_links.specs.Bindings.{row_values};
     ghost use Rattle.csvw_annotate.specs.Linked.{HaveForms, values_of};
 
-    ghost variables = { λ s. variables s.row s.column.now s.columns.now (values_of s.cells.now) };
+    ghost values = { λ s. row_values s.row (values_of s.cells.now) };
 
-    ghost can_look_up = { λ s. (length s.cells.now ≡ length s.columns.now) × HaveForms s.cells.now };
+    ghost can_look_up = { λ s. HaveForms s.cells.now };
 
-    fn var(&self, alloc: Global, name: &str) -> Result<Var, AllocError> {
-        match reserved(alloc, name, self.row, self.column)? {
-            Some(var) => Ok(var),
-            None => named(alloc, self.columns, self.cells, name),
+    fn var(&self, place: usize) -> Result<Var, AllocError> {
+        match place {
+            0 => number(self.alloc, self.row.number),
+            1 => number(self.alloc, self.row.source),
+            _ => var_of(self.alloc, self.cells, place - 2),
         }
     }
 
-    fn text(&self, name: &str) -> Option<&str> {
-        if may_be_reserved(name) {
+    fn text(&self, place: usize) -> Option<&str> {
+        if place < 2 {
             return None;
         }
-        named_text(self.columns, self.cells, name)
+        text_at(self.cells, place - 2)
     }
 }
 
-/// The text that the name of a column stands for, where it can be lent.
-fn named_text<'a>(columns: &[Column], cells: &'a [AnnCell], name: &str) -> Option<&'a str>
-    requires { length cells.now ≡ length columns.now }
-    ensures { IfSome result (λ text. lookup (named columns.now (values_of cells.now)) name.now ≡ One text.now) }
+fn number(alloc: Global, number: u64) -> Result<Var, AllocError>
+    ensures { IfOk result (λ v. v ≡ One (decimal number)) }
 {
-    for i in 0..columns.len() {
-        if columns[i].name.as_str() == name {
-            return text_of(&cells[i].value);
-        }
-    }
-    None
+    Ok(Var::One(Text::of(format!(in alloc; "{number}")?)))
 }
 
-/// What the name of a column stands for.
-fn named(
-    alloc: Global,
-    columns: &[Column],
-    cells: &[AnnCell],
-    name: &str,
-) -> Result<Var, AllocError>
-    requires places { length cells.now ≡ length columns.now }
-    requires forms { HaveForms cells.now }
-    ensures { IfOk result (λ v. v ≡ lookup (named columns.now (values_of cells.now)) name.now) }
+/// What the cell of a column stands for, by the column's place.
+#[tactic(auto, using(crate::proofs::ValuesLemmas::value_at, crate::proofs::ValuesLemmas::no_value_at, crate::proofs::ValuesLemmas::form_at))]
+fn var_of(alloc: Global, cells: &[AnnCell], i: usize) -> Result<Var, AllocError>
+    requires { HaveForms cells.now }
+    ensures { IfOk result (λ v. v ≡ var_at (map variable (values_of cells.now)) i) }
 {
-    for i in 0..columns.len() {
-        if columns[i].name.as_str() == name {
-            return variable(alloc, &cells[i].value);
-        }
+    if i < cells.len() {
+        return variable(alloc, &cells[i].value);
     }
     Ok(Var::Undefined)
+}
+
+/// The text that the cell of a column stands for, where it can be lent.
+#[tactic(auto, using(crate::proofs::ValuesLemmas::value_at))]
+fn text_at<'a>(cells: &'a [AnnCell], i: usize) -> Option<&'a str>
+    ensures { IfSome result (λ text. var_at (map variable (values_of cells.now)) i ≡ One text.now) }
+{
+    if i < cells.len() {
+        return text_of(&cells[i].value);
+    }
+    None
 }

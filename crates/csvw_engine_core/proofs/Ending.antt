@@ -1,5 +1,6 @@
 -- How a table ends.
-use Rattle.std.proofs.Common.{◌≡◌, ◌<◌, ℕ, zero, suc, Bool, true, List, [], ◌∷◌, ◌++◌, refl, sym, ap, ◌∙◌, subst, arith, map, length, Some, None, Result, Ok, Err, inl, inr}
+use Rattle.std.proofs.Common.{◌≡◌, ◌<◌, ℕ, zero, suc, Bool, true, List, [], ◌∷◌, ◌++◌, refl, sym, ap, ◌∙◌, subst, arith, map, length, Some, None}
+use Rattle.std.proofs.Common.{Result, Ok, Err, inl, inr}
 use Rattle.std.proofs.lemmas.List.{take_all, drop_all}
 use Rattle.csvw_rows.specs.Laws.{GivenFirst}
 use Rattle.csvw_rows.specs.RowValue.{Given}
@@ -10,7 +11,8 @@ use Rattle.csvw_annotate.specs.declared.row.Row.{Row}
 use Rattle.csvw_triples_core.specs.Taking.{IsAsReady}
 use Rattle.csvw_triples_core.specs.declared.mode.Mode.{Mode}
 use Rattle.csvw_triples_core.specs.declared.term.Triple.{Triple}
-use Rattle.csvw_engine_core.specs.Annotated.{header_count, header_row, header_rows, data_rows, first_width, first_source, source_of, needed, IsHead, HasRows, AreAnnotated, GivesNone}
+use Rattle.csvw_engine_core.specs.Annotated.{header_count, header_row, header_rows, data_rows, first_width, first_source, source_of, needed, IsHead}
+use Rattle.csvw_engine_core.specs.Annotated.{HasRows, AreAnnotated, GivesNone}
 use Rattle.csvw_engine_core.specs.Heads.{Settled}
 use Rattle.csvw_engine_core.specs.Tables.{Outlets, Gone, GivesAll, GivesWhole, TableOutcome, EndOutcome, SettlesHead, SettlesTable, is_ended}
 use Rattle.csvw_engine_core.specs.declared.halt.Halt.{Halt}
@@ -50,7 +52,8 @@ module _ {S : Type 0} (gains : S → List Triple → S → Type 0) (is_open : S 
   )
 
   pub end_err : (new : Table) (r : Result Unit Halt) (e f : Halt) → r ≡ Err e → e ≡ f
-      → EndOutcome gains is_open failed plan mode bytes given rows old new before now (Err f) → EndOutcome gains is_open failed plan mode bytes given rows old new before now r
+      → EndOutcome gains is_open failed plan mode bytes given rows old new before now (Err f)
+      → EndOutcome gains is_open failed plan mode bytes given rows old new before now r
   end_err new r e f p q so = subst (EndOutcome gains is_open failed plan mode bytes given rows old new before now) (sym (p ∙ ap Err q)) so
 
   module _ (mid : Table) (all : GivesAll gains plan mode bytes true given rows old mid before now) where
@@ -60,7 +63,8 @@ module _ {S : Type 0} (gains : S → List Triple → S → Type 0) (is_open : S 
     -- the columns were known
     known_end : (columns : Columns) → mid.head.columns ≡ Some columns → GivesWhole gains plan mode bytes rows old mid before now
     known_end columns e =
-        let head : IsHead plan (given ++ g.raws) (Some columns) mid.head.faults = subst (λ z. IsHead plan (given ++ g.raws) z mid.head.faults) e g.holds.head.known in
+        let head : IsHead plan (given ++ g.raws) (Some columns) mid.head.faults =
+        subst (λ z. IsHead plan (given ++ g.raws) z mid.head.faults) e g.holds.head.known in
         record {
           more = g.more;
           holds = record {
@@ -81,7 +85,8 @@ module _ {S : Type 0} (gains : S → List Triple → S → Type 0) (is_open : S 
 
     module _ (none : mid.head.columns ≡ None) where
       short : length (given ++ g.raws) < needed (header_count plan)
-      short = let k : IsHead plan (given ++ g.raws) None mid.head.faults = subst (λ z. IsHead plan (given ++ g.raws) z mid.head.faults) none g.holds.head.known in k.0
+      short = let k : IsHead plan (given ++ g.raws) None mid.head.faults =
+          subst (λ z. IsHead plan (given ++ g.raws) z mid.head.faults) none g.holds.head.known in k.0
 
       no_more : mid.head.columns ≡ None → g.more ≡ []
       no_more e = none_more plan mid.head.columns (given ++ g.raws) rows g.more g.holds.has e
@@ -90,7 +95,8 @@ module _ {S : Type 0} (gains : S → List Triple → S → Type 0) (is_open : S 
       heads_all = short_rows plan (given ++ g.raws) short ∙ sym (g.holds.head.waits none)
 
       -- the header had fewer rows, and gives columns
-      settled_end : (new : Table) → new ≡ record mid { head = new.head } → Settled plan None mid.head new.head → GivesWhole gains plan mode bytes rows old new before now
+      settled_end : (new : Table) → new ≡ record mid { head = new.head } → Settled plan None mid.head new.head
+          → GivesWhole gains plan mode bytes rows old new before now
       settled_end new same s =
           let stay : (columns : Columns) → mid.head.columns ≡ Some columns → new.head.columns ≡ Some columns =
           λ columns e. let wrong : None ≡ Some columns = sym none ∙ e in cc in
@@ -107,11 +113,13 @@ module _ {S : Type 0} (gains : S → List Triple → S → Type 0) (is_open : S 
               columns_are = s.is;
               table = record {
                 head = subst (λ z. IsMatch plan z (first_width (header_count plan) (given ++ g.raws)) s.columns new.head.faults) (sym heads_all)
-                    (subst (λ w. IsMatch plan mid.head.rows w s.columns new.head.faults) (sym (short_width (header_count plan) (given ++ g.raws) short)) s.gives);
+                    (subst (λ w. IsMatch plan mid.head.rows w s.columns new.head.faults)
+                    (sym (short_width (header_count plan) (given ++ g.raws) short)) s.gives);
                 has = subst (λ z. AreAnnotated s.columns z (rows ++ g.more)) (sym (short_data plan (given ++ g.raws) short)) empty;
               };
             };
-            took = subst (λ ts. gains before.sink ts now.sink) (sym (same_triples mode plan.number mid.head.columns new.head.columns g.more stay no_more)) g.took;
+            took = subst (λ ts. gains before.sink ts now.sink)
+                (sym (same_triples mode plan.number mid.head.columns new.head.columns g.more stay no_more)) g.took;
             kept = g.kept;
             told = ap (λ (t : Table). t.faults) same
                 ∙ (g.told ∙ ap (λ z. old.faults ++ z) (sym (same_faults plan.number mid.head.columns new.head.columns g.more stay no_more)));

@@ -1,5 +1,6 @@
 -- How a table and its sink go on, row by row.
-use Rattle.std.proofs.Common.{◌≡◌, ◌+◌, ℕ, Bool, true, false, List, [], ◌∷◌, ◌++◌, refl, sym, ap, ◌∙◌, subst, append_assoc, append-nil, Option, Some, None, Result, Err}
+use Rattle.std.proofs.Common.{◌≡◌, ◌+◌, ℕ, Bool, true, false, List, [], ◌∷◌, ◌++◌, refl, sym, ap, ◌∙◌, subst, append_assoc, append-nil, Option, Some}
+use Rattle.std.proofs.Common.{None, Result, Err}
 use Rattle.std.specs.Prelude.{nat_eq, if◌then◌else◌}
 use Rattle.std.proofs.lemmas.List.Concat.{flat_map-append}
 use Rattle.csvw_text.specs.declared.fault.Fault.{Fault}
@@ -18,7 +19,8 @@ use Rattle.csvw_triples_core.specs.declared.term.Triple.{Triple}
 use Rattle.csvw_triples.specs.ModeTriples.{row_triples}
 use Rattle.csvw_engine_core.specs.Annotated.{IsTable, HasRows}
 use Rattle.csvw_engine_core.specs.Faults.{row_faults, table_faults}
-use Rattle.csvw_engine_core.specs.Tables.{max_rows, TableHolds, KeepsColumns, Keeps, Goes, HaltsSo, IsStopped, IsRefused, IsAtRest, Gives, Gone, GivesAll, GivesSome, GivesFront, TableOutcome, Outlets, AddsRows, table_triples}
+use Rattle.csvw_engine_core.specs.Tables.{max_rows, TableHolds, KeepsColumns, Keeps, Goes, HaltsSo, IsStopped, IsRefused, IsAtRest, Gives, Gone}
+use Rattle.csvw_engine_core.specs.Tables.{GivesAll, GivesSome, GivesFront, TableOutcome, Outlets, AddsRows, table_triples}
 use Rattle.csvw_engine_core.specs.declared.halt.Halt.{Halt}
 use Rattle.csvw_engine_core.specs.declared.halt.Halt.TheVariants as halt
 use Rattle.csvw_engine_core.specs.declared.table.Table.{Table}
@@ -27,7 +29,8 @@ pub no_triples : (mode : Mode) (t : ℕ) (columns : Option Columns) → table_tr
 no_triples mode t None = refl
 no_triples mode t (Some columns) = refl
 
-triples_more : (mode : Mode) (t : ℕ) (columns : Option Columns) (rows more : List Row) → table_triples mode t columns (rows ++ more) ≡ table_triples mode t columns rows ++ table_triples mode t columns more
+triples_more : (mode : Mode) (t : ℕ) (columns : Option Columns) (rows more : List Row)
+    → table_triples mode t columns (rows ++ more) ≡ table_triples mode t columns rows ++ table_triples mode t columns more
 triples_more mode t None rows more = refl
 triples_more mode t (Some columns) rows more = flat_map-append (row_triples mode t columns) rows more
 
@@ -35,7 +38,8 @@ no_faults : (t : ℕ) (columns : Option Columns) → table_faults t columns [] �
 no_faults t None = refl
 no_faults t (Some columns) = refl
 
-faults_more : (t : ℕ) (columns : Option Columns) (rows more : List Row) → table_faults t columns (rows ++ more) ≡ table_faults t columns rows ++ table_faults t columns more
+faults_more : (t : ℕ) (columns : Option Columns) (rows more : List Row)
+    → table_faults t columns (rows ++ more) ≡ table_faults t columns rows ++ table_faults t columns more
 faults_more t None rows more = refl
 faults_more t (Some columns) rows more = flat_map-append (row_faults t columns.columns) rows more
 
@@ -44,17 +48,20 @@ both_empty [] ys e = e
 both_empty (x ∷ xs) ys e = cc
 
 -- rows that were given before keep their triples and faults
-pub same_triples : (mode : Mode) (t : ℕ) (old new : Option Columns) (more : List Row) → ((columns : Columns) → old ≡ Some columns → new ≡ Some columns) → (old ≡ None → more ≡ [])
+pub same_triples : (mode : Mode) (t : ℕ) (old new : Option Columns) (more : List Row)
+    → ((columns : Columns) → old ≡ Some columns → new ≡ Some columns) → (old ≡ None → more ≡ [])
     → table_triples mode t new more ≡ table_triples mode t old more
 same_triples mode t None new more stay none = ap (table_triples mode t new) (none refl) ∙ no_triples mode t new
 same_triples mode t (Some columns) new more stay none = ap (λ z. table_triples mode t z more) (stay columns refl)
 
-pub same_faults : (t : ℕ) (old new : Option Columns) (more : List Row) → ((columns : Columns) → old ≡ Some columns → new ≡ Some columns) → (old ≡ None → more ≡ [])
+pub same_faults : (t : ℕ) (old new : Option Columns) (more : List Row) → ((columns : Columns) → old ≡ Some columns → new ≡ Some columns)
+    → (old ≡ None → more ≡ [])
     → table_faults t new more ≡ table_faults t old more
 same_faults t None new more stay none = ap (table_faults t new) (none refl) ∙ no_faults t new
 same_faults t (Some columns) new more stay none = ap (λ z. table_faults t z more) (stay columns refl)
 
-pub none_more : (plan : TablePlan) (columns : Option Columns) (given : List Given) (rows more : List Row) → HasRows plan columns given (rows ++ more) → columns ≡ None → more ≡ []
+pub none_more : (plan : TablePlan) (columns : Option Columns) (given : List Given) (rows more : List Row) → HasRows plan columns given (rows ++ more)
+    → columns ≡ None → more ≡ []
 none_more plan None given rows more h e = both_empty rows more h
 none_more plan (Some columns) given rows more h e = cc
 
@@ -90,7 +97,8 @@ module _ {S : Type 0} (gains : S → List Triple → S → Type 0) (is_open : S 
   gone_nothing t s h = record {
     raws = [];
     more = [];
-    holds = subst (λ g. TableHolds plan mode t bytes ended g (rows ++ [])) (sym (append-nil given)) (subst (λ r. TableHolds plan mode t bytes ended given r) (sym (append-nil rows)) h);
+    holds = subst (λ g. TableHolds plan mode t bytes ended g (rows ++ [])) (sym (append-nil given))
+        (subst (λ r. TableHolds plan mode t bytes ended given r) (sym (append-nil rows)) h);
     took = subst (λ ts. gains s.sink ts s.sink) (sym (no_triples mode plan.number t.head.columns)) (stays s.sink);
     kept = adds_none plan.number s.keys;
     told = sym (ap (λ z. t.faults ++ z) (no_faults plan.number t.head.columns) ∙ append-nil t.faults);
@@ -102,11 +110,14 @@ module _ {S : Type 0} (gains : S → List Triple → S → Type 0) (is_open : S 
     took_on : (old new : Table) (now : Outlets S) → KeepsColumns old new → (g : Gone gains plan mode bytes ended given rows first old start now)
         → gains start.sink (table_triples mode plan.number new.head.columns g.more) now.sink
     took_on old new now stay g =
-        subst (λ ts. gains start.sink ts now.sink) (sym (same_triples mode plan.number old.head.columns new.head.columns g.more stay (none_more plan old.head.columns (given ++ g.raws) rows g.more g.holds.has))) g.took
+        subst (λ ts. gains start.sink ts now.sink) (sym (same_triples mode plan.number old.head.columns new.head.columns g.more stay
+        (none_more plan old.head.columns (given ++ g.raws) rows g.more g.holds.has))) g.took
 
-    told_on : (old new : Table) (now : Outlets S) → KeepsColumns old new → (g : Gone gains plan mode bytes ended given rows first old start now) → old.faults ≡ first.faults ++ table_faults plan.number new.head.columns g.more
+    told_on : (old new : Table) (now : Outlets S) → KeepsColumns old new → (g : Gone gains plan mode bytes ended given rows first old start now)
+        → old.faults ≡ first.faults ++ table_faults plan.number new.head.columns g.more
     told_on old new now stay g =
-        g.told ∙ ap (λ z. first.faults ++ z) (sym (same_faults plan.number old.head.columns new.head.columns g.more stay (none_more plan old.head.columns (given ++ g.raws) rows g.more g.holds.has)))
+        g.told ∙ ap (λ z. first.faults ++ z) (sym (same_faults plan.number old.head.columns new.head.columns g.more stay
+        (none_more plan old.head.columns (given ++ g.raws) rows g.more g.holds.has)))
 
     -- a header row
     pub gone_header : (old new : Table) (now : Outlets S) → Keeps old new → Goes plan old new (λ r. r)
@@ -125,12 +136,22 @@ module _ {S : Type 0} (gains : S → List Triple → S → Type 0) (is_open : S 
 
     -- nothing more
     pub gone_same : (old new : Table) (now : Outlets S) → Keeps old new
-        → ((m : Mode) (b : List ℕ) (e : Bool) (gs : List Given) (rs : List Row) → TableHolds plan m old b e gs rs → TableHolds plan m new b e gs rs × IsAtRest plan b e gs)
+        → ((m : Mode) (b : List ℕ) (e : Bool) (gs : List Given) (rs : List Row) → TableHolds plan m old b e gs rs
+        → TableHolds plan m new b e gs rs × IsAtRest plan b e gs)
         → Gone gains plan mode bytes ended given rows first old start now → GivesAll gains plan mode bytes ended given rows first new start now
     gone_same old new now keeps goes g =
         let k = goes mode bytes ended (given ++ g.raws) (rows ++ g.more) g.holds in
         record {
-          gone = record { raws = g.raws; more = g.more; holds = k.0; took = took_on old new now keeps.columns g; kept = g.kept; told = keeps.faults ∙ told_on old new now keeps.columns g; keeps = λ columns e. keeps.columns columns (g.keeps columns e) };
+          gone = record {
+            raws = g.raws;
+            more = g.more;
+            holds = k.0;
+            took = took_on old new now keeps.columns g;
+            kept = g.kept;
+            told = keeps.faults
+                ∙ told_on old new now keeps.columns g;
+            keeps = λ columns e. keeps.columns columns (g.keeps columns e);
+          };
           at_rest = k.1;
         }
 
@@ -144,12 +165,15 @@ module _ {S : Type 0} (gains : S → List Triple → S → Type 0) (is_open : S 
         holds_told plan mode mid new.faults bytes ended ((given ++ g.raws) ++ k.0 ∷ []) ((rows ++ g.more) ++ row ∷ []) k.1 in (
           k.0,
           subst (λ t. TableHolds plan mode t bytes ended (given ++ (g.raws ++ k.0 ∷ [])) (rows ++ (g.more ++ row ∷ []))) (sym same)
-              (subst (λ z. TableHolds plan mode (record mid { faults = new.faults }) bytes ended z (rows ++ (g.more ++ row ∷ []))) (append_assoc given g.raws (k.0 ∷ []))
-              (subst (λ z. TableHolds plan mode (record mid { faults = new.faults }) bytes ended ((given ++ g.raws) ++ k.0 ∷ []) z) (append_assoc rows g.more (row ∷ [])) there)),
+              (subst (λ z. TableHolds plan mode (record mid { faults = new.faults }) bytes ended z (rows ++ (g.more ++ row ∷ [])))
+              (append_assoc given g.raws (k.0 ∷ []))
+              (subst (λ z. TableHolds plan mode (record mid { faults = new.faults }) bytes ended ((given ++ g.raws) ++ k.0 ∷ []) z)
+              (append_assoc rows g.more (row ∷ [])) there)),
         )
 
     -- a row, whose triples the sink took, and its keys the book
-    pub gone_row : (old mid new : Table) (now after : Outlets S) (row : Row) → Keeps old mid → Goes plan old mid (λ r. r ++ row ∷ []) → new ≡ record mid { faults = new.faults }
+    pub gone_row : (old mid new : Table) (now after : Outlets S) (row : Row) → Keeps old mid → Goes plan old mid (λ r. r ++ row ∷ [])
+        → new ≡ record mid { faults = new.faults }
         → new.faults ≡ mid.faults ++ table_faults mid.number mid.head.columns (row ∷ [])
         → gains now.sink (table_triples new.mode new.number new.head.columns (row ∷ [])) after.sink
         → ((rules : List KeyRule) (tables : ℕ → List Row) → KeepsKeys now.keys rules tables → KeepsKeys after.keys rules (with_row tables new.number row))
@@ -165,7 +189,8 @@ module _ {S : Type 0} (gains : S → List Triple → S → Type 0) (is_open : S 
           more = g.more ++ row ∷ [];
           holds = k.1;
           took = subst (λ ts. gains start.sink ts after.sink) (sym (triples_more mode plan.number new.head.columns g.more (row ∷ [])))
-              (goes_on start.sink now.sink after.sink (table_triples mode plan.number new.head.columns g.more) (table_triples mode plan.number new.head.columns (row ∷ [])) (took_on old new now stay g)
+              (goes_on start.sink now.sink after.sink (table_triples mode plan.number new.head.columns g.more)
+              (table_triples mode plan.number new.head.columns (row ∷ [])) (took_on old new now stay g)
               (subst (λ m. gains now.sink (table_triples m plan.number new.head.columns (row ∷ [])) after.sink) k.1.mode_is
               (subst (λ n. gains now.sink (table_triples new.mode n new.head.columns (row ∷ [])) after.sink) number gained)));
           kept = adds_row plan.number g.more row start.keys now.keys after.keys g.kept
@@ -209,7 +234,8 @@ module _ {S : Type 0} (gains : S → List Triple → S → Type 0) (is_open : S 
     }
 
     -- within the triples of a row
-    pub row_cut : GivenFirst → (old mid new : Table) (now after : Outlets S) (row : Row) → Keeps old mid → Goes plan old mid (λ r. r ++ row ∷ []) → new ≡ record mid { faults = new.faults }
+    pub row_cut : GivenFirst → (old mid new : Table) (now after : Outlets S) (row : Row) → Keeps old mid → Goes plan old mid (λ r. r ++ row ∷ [])
+        → new ≡ record mid { faults = new.faults }
         → FrontOf gains now.sink (table_triples new.mode new.number new.head.columns (row ∷ [])) after.sink
         → Gone gains plan mode bytes ended given rows first old start now → GivesSome gains plan mode bytes ended given rows start.sink after.sink
     row_cut law old mid new now after row keeps goes same cut g =
@@ -224,12 +250,14 @@ module _ {S : Type 0} (gains : S → List Triple → S → Type 0) (is_open : S 
           faults = new.head.faults;
           table = table_of new (given ++ (g.raws ++ k.0 ∷ [])) (rows ++ (g.more ++ row ∷ [])) k.1;
           took = subst (λ ts. FrontOf gains start.sink ts after.sink) (sym (triples_more mode plan.number new.head.columns g.more (row ∷ [])))
-              (part_on now after (table_triples mode plan.number new.head.columns g.more) (table_triples mode plan.number new.head.columns (row ∷ [])) (took_on old new now stay g)
+              (part_on now after (table_triples mode plan.number new.head.columns g.more) (table_triples mode plan.number new.head.columns (row ∷ []))
+              (took_on old new now stay g)
               (subst (λ m. FrontOf gains now.sink (table_triples m plan.number new.head.columns (row ∷ [])) after.sink) k.1.mode_is
               (subst (λ n. FrontOf gains now.sink (table_triples new.mode n new.head.columns (row ∷ [])) after.sink) k.1.number_is cut)));
         }
 
-    all_given : (t : Table) (now : Outlets S) (Why : Option Columns → List Given → Type 0) → (g : Gone gains plan mode bytes ended given rows first t start now) → Why t.head.columns (given ++ g.raws)
+    all_given : (t : Table) (now : Outlets S) (Why : Option Columns → List Given → Type 0)
+        → (g : Gone gains plan mode bytes ended given rows first t start now) → Why t.head.columns (given ++ g.raws)
         → GivesFront gains plan mode bytes ended given rows start.sink now.sink Why
     all_given t now Why g why = record {
       raws = g.raws;
@@ -243,29 +271,40 @@ module _ {S : Type 0} (gains : S → List Triple → S → Type 0) (is_open : S 
 
     -- a halt in the text
     pub text_halts : GivenFirst → (t new : Table) (now : Outlets S) (reason : Halt) → HaltsSo plan t reason → IsAsReady is_open failed start.sink now.sink
-        → Gone gains plan mode bytes ended given rows first t start now → TableOutcome gains is_open failed plan mode bytes ended given rows first new start now (Err reason)
+        → Gone gains plan mode bytes ended given rows first t start now
+        → TableOutcome gains is_open failed plan mode bytes ended given rows first new start now (Err reason)
     text_halts law t new now halt.Memory so ready g = (some_given law t now g, ready)
     text_halts law t new now halt.Write so ready g = absurd so
     text_halts law t new now (halt.Rows row stop) so ready g =
         (all_given t now (λ columns all. IsStopped plan bytes ended all row stop) g (so mode bytes ended (given ++ g.raws) (rows ++ g.more) g.holds), ready)
-    text_halts law t new now (halt.Table row stop) so ready g =
-        (all_given t now (λ columns all. IsRefused plan columns bytes ended all row stop) g (so mode bytes ended (given ++ g.raws) (rows ++ g.more) g.holds), ready)
+    text_halts law t new now (halt.Table row stop) so ready g = (
+      all_given t now (λ columns all. IsRefused plan columns bytes ended all row stop) g
+          (so mode bytes ended (given ++ g.raws) (rows ++ g.more) g.holds),
+      ready,
+    )
 
     ready_on : (a b c : Outlets S) → IsAsReady is_open failed a.sink b.sink → IsAsReady is_open failed b.sink c.sink → IsAsReady is_open failed a.sink c.sink
     ready_on a b c f g = (g.0 ∙ f.0, g.1 ∙ f.1)
 
     -- a halt at the sink
-    pub sink_halts : GivenFirst → (old mid new : Table) (now after : Outlets S) (row : Row) (reason : Halt) → Keeps old mid → Goes plan old mid (λ r. r ++ row ∷ []) → new ≡ record mid { faults = new.faults }
-        → Gives gains is_open failed (table_triples new.mode new.number new.head.columns (row ∷ [])) now.sink after.sink (Err reason) → IsAsReady is_open failed start.sink now.sink
-        → Gone gains plan mode bytes ended given rows first old start now → TableOutcome gains is_open failed plan mode bytes ended given rows first new start after (Err reason)
+    pub sink_halts : GivenFirst → (old mid new : Table) (now after : Outlets S) (row : Row) (reason : Halt) → Keeps old mid
+        → Goes plan old mid (λ r. r ++ row ∷ []) → new ≡ record mid { faults = new.faults }
+        → Gives gains is_open failed (table_triples new.mode new.number new.head.columns (row ∷ [])) now.sink after.sink (Err reason)
+        → IsAsReady is_open failed start.sink now.sink
+        → Gone gains plan mode bytes ended given rows first old start now
+        → TableOutcome gains is_open failed plan mode bytes ended given rows first new start after (Err reason)
     sink_halts law old mid new now after row halt.Memory keeps goes same gave ready g =
         (row_cut law old mid new now after row keeps goes same gave.0 g, ready_on start now after ready gave.1)
-    sink_halts law old mid new now after row halt.Write keeps goes same gave ready g =
-        (row_cut law old mid new now after row keeps goes same gave.0 g, λ is_ready room. gave.1 (ready.0 ∙ is_ready) (rw ready.1 room) ∙ ap (λ n. n + 1) ready.1)
+    sink_halts law old mid new now after row halt.Write keeps goes same gave ready g = (
+      row_cut law old mid new now after row keeps goes same gave.0 g,
+      λ is_ready room. gave.1 (ready.0 ∙ is_ready) (rw ready.1 room)
+          ∙ ap (λ n. n + 1) ready.1,
+    )
     sink_halts law old mid new now after row (halt.Rows at stop) keeps goes same gave ready g = absurd gave
     sink_halts law old mid new now after row (halt.Table at stop) keeps goes same gave ready g = absurd gave
 
     -- an answer that tells a halt
     pub outcome_err : (new : Table) (now : Outlets S) (r : Result Unit Halt) (e f : Halt) → r ≡ Err e → e ≡ f
-        → TableOutcome gains is_open failed plan mode bytes ended given rows first new start now (Err f) → TableOutcome gains is_open failed plan mode bytes ended given rows first new start now r
+        → TableOutcome gains is_open failed plan mode bytes ended given rows first new start now (Err f)
+        → TableOutcome gains is_open failed plan mode bytes ended given rows first new start now r
     outcome_err new now r e f p q so = subst (TableOutcome gains is_open failed plan mode bytes ended given rows first new start now) (sym (p ∙ ap Err q)) so

@@ -1,5 +1,6 @@
 -- How what is known of a header goes on with a row of the source.
-use Rattle.std.proofs.Common.{◌≡◌, ◌≢◌, ◌<◌, ◌≤◌, ◌+◌, ℕ, zero, suc, List, [], ◌∷◌, ◌++◌, refl, sym, ap, ◌∙◌, subst, arith, map, length, Some, None, Result, Ok, Err}
+use Rattle.std.proofs.Common.{◌≡◌, ◌≢◌, ◌<◌, ◌≤◌, ◌+◌, ℕ, zero, suc, List, [], ◌∷◌, ◌++◌, refl, sym, ap, ◌∙◌, subst, arith, map, length, Some, None}
+use Rattle.std.proofs.Common.{Result, Ok, Err}
 use Rattle.std.proofs.lemmas.List.{take_all, take-append-le, length-append, map-append, length-map}
 use Rattle.csvw_text.specs.declared.fault.Fault.{Fault}
 use Rattle.csvw_rows.specs.RowValue.{Given}
@@ -50,7 +51,8 @@ heads_on plan given raw columns faults enough h =
     subst (λ rows. IsMatch plan rows (first_width n (given ++ raw ∷ [])) columns faults) (sym (ap (map header_row) (take-append-le n given (raw ∷ []) above)))
     (subst (λ w. IsMatch plan (header_rows plan given) w columns faults) (sym (width_on n given raw some)) h)
 
-pub head_on : (plan : TablePlan) (given : List Given) (raw : Given) (head : Head) (columns : Columns) → head.columns ≡ Some columns → HeadHolds plan head given → HeadHolds plan head (given ++ raw ∷ [])
+pub head_on : (plan : TablePlan) (given : List Given) (raw : Given) (head : Head) (columns : Columns) → head.columns ≡ Some columns
+    → HeadHolds plan head given → HeadHolds plan head (given ++ raw ∷ [])
 head_on plan given raw head columns e h =
     let k : IsHead plan given (Some columns) head.faults = subst (λ z. IsHead plan given z head.faults) e h.known in
     let longer : needed (header_count plan) ≤ length (given ++ raw ∷ []) = let m = length_more given raw in let l = k.0 in omega arith in
@@ -61,10 +63,12 @@ head_on plan given raw head columns e h =
 
 -- a header row more, and not the last
 pub head_waits : (plan : TablePlan) (given : List Given) (raw : Given) (old new : Head) → HeadHolds plan old given → old.columns ≡ None → 0 < header_count plan
-    → new.rows ≡ old.rows ++ header_row raw ∷ [] → new.columns ≡ None → new.faults ≡ old.faults → length new.rows ≢ header_count plan → HeadHolds plan new (given ++ raw ∷ [])
+    → new.rows ≡ old.rows ++ header_row raw ∷ [] → new.columns ≡ None → new.faults ≡ old.faults → length new.rows ≢ header_count plan
+    → HeadHolds plan new (given ++ raw ∷ [])
 head_waits plan given raw old new h none some rows columns faults short =
     let k : IsHead plan given None old.faults = subst (λ z. IsHead plan given z old.faults) none h.known in
-    let all : new.rows ≡ map header_row (given ++ raw ∷ []) = rows ∙ ap (λ z. z ++ header_row raw ∷ []) (h.waits none) ∙ sym (map-append header_row given (raw ∷ [])) in
+    let all : new.rows ≡ map header_row (given ++ raw ∷ []) = rows ∙ ap (λ z. z ++ header_row raw ∷ []) (h.waits none)
+    ∙ sym (map-append header_row given (raw ∷ [])) in
     let many : length new.rows ≡ length given + 1 = ap length all ∙ length-map (given ++ raw ∷ []) header_row ∙ length_more given raw in
     let apart : length given + 1 ≢ header_count plan = λ e. short (many ∙ e) in
     let below : length given < header_count plan = subst (λ z. length given < z) (needed_is (header_count plan) some) k.0 in
@@ -76,10 +80,12 @@ head_waits plan given raw old new h none some rows columns faults short =
     }
 
 -- the last header row
-pub head_settles : (plan : TablePlan) (given : List Given) (raw : Given) (old mid new : Head) → HeadHolds plan old given → old.columns ≡ None → 0 < header_count plan
+pub head_settles : (plan : TablePlan) (given : List Given) (raw : Given) (old mid new : Head) → HeadHolds plan old given → old.columns ≡ None
+    → 0 < header_count plan
     → mid.rows ≡ old.rows ++ header_row raw ∷ [] → length mid.rows ≡ header_count plan → Settled plan None mid new → HeadHolds plan new (given ++ raw ∷ [])
 head_settles plan given raw old mid new h none some rows whole s =
-    let all : mid.rows ≡ map header_row (given ++ raw ∷ []) = rows ∙ ap (λ z. z ++ header_row raw ∷ []) (h.waits none) ∙ sym (map-append header_row given (raw ∷ [])) in
+    let all : mid.rows ≡ map header_row (given ++ raw ∷ []) = rows ∙ ap (λ z. z ++ header_row raw ∷ []) (h.waits none)
+    ∙ sym (map-append header_row given (raw ∷ [])) in
     let many : length (given ++ raw ∷ []) ≡ header_count plan = sym (length-map (given ++ raw ∷ []) header_row) ∙ sym (ap length all) ∙ whole in
     let front : header_rows plan (given ++ raw ∷ []) ≡ mid.rows =
     ap (map header_row) (take_all (header_count plan) (given ++ raw ∷ []) (let m = many in omega arith)) ∙ sym all in
@@ -97,14 +103,16 @@ first_of_rows [] raw = refl
 first_of_rows (g ∷ given) raw = refl
 
 -- the last header row, and what came of the header
-pub takes_last : (plan : TablePlan) (raw : Given) (old mid new : Head) (r : Result Unit Halt) → mid.rows ≡ old.rows ++ header_row raw ∷ [] → length mid.rows ≡ header_count plan
+pub takes_last : (plan : TablePlan) (raw : Given) (old mid new : Head) (r : Result Unit Halt) → mid.rows ≡ old.rows ++ header_row raw ∷ []
+    → length mid.rows ≡ header_count plan
     → Settles plan None 0 mid new r → TakesHeader plan raw old new r
 takes_last plan raw old mid new (Ok u) rows whole s = λ given h none some. head_settles plan given raw old mid new h none some rows whole s
 takes_last plan raw old mid new (Err halt.Memory) rows whole s = tt
 takes_last plan raw old mid new (Err halt.Write) rows whole s = absurd s
 takes_last plan raw old mid new (Err (halt.Rows row stop)) rows whole s = absurd s
 takes_last plan raw old mid new (Err (halt.Table row stop)) rows whole s = λ given h none some.
-    let all : mid.rows ≡ map header_row (given ++ raw ∷ []) = rows ∙ ap (λ z. z ++ header_row raw ∷ []) (h.waits none) ∙ sym (map-append header_row given (raw ∷ [])) in
+    let all : mid.rows ≡ map header_row (given ++ raw ∷ []) = rows ∙ ap (λ z. z ++ header_row raw ∷ []) (h.waits none)
+    ∙ sym (map-append header_row given (raw ∷ [])) in
     let many : length (given ++ raw ∷ []) ≡ header_count plan = sym (length-map (given ++ raw ∷ []) header_row) ∙ sym (ap length all) ∙ whole in
     let front : header_rows plan (given ++ raw ∷ []) ≡ mid.rows =
     ap (map header_row) (take_all (header_count plan) (given ++ raw ∷ []) (let m = many in omega arith)) ∙ sym all in (

@@ -19,7 +19,8 @@ use Rattle.csvw_engine_core.specs.declared.table.Table.{Table}
 use Rattle.csvw_engine_core.proofs.Going.{no_triples}
 
 -- the same table over more of the text, or its end
-pub holds_moved : (plan : TablePlan) (mode : Mode) (t : Table) (rows : Rows) (bytes more : List ℕ) (ended closed : Bool) (given : List Given) (annotated : List Row)
+pub holds_moved : (plan : TablePlan) (mode : Mode) (t : Table) (rows : Rows) (bytes more : List ℕ) (ended closed : Bool) (given : List Given)
+    (annotated : List Row)
     → (Holds t.rows plan.dialect max_rows bytes ended given → Holds rows plan.dialect max_rows more closed given)
     → TableHolds plan mode t bytes ended given annotated → TableHolds plan mode (record t { rows = rows }) more closed given annotated
 holds_moved plan mode t rows bytes more ended closed given annotated move h = record {
@@ -41,12 +42,14 @@ unfed gains is_open failed stays law plan mode t new bytes piece given rows s st
       record {
         raws = [];
         more = [];
-        first = subst (λ g. AreFirst plan.dialect max_rows (bytes ++ piece) false g) (sym (append-nil given)) (law t.rows plan.dialect max_rows bytes piece false given h.reader);
+        first = subst (λ g. AreFirst plan.dialect max_rows (bytes ++ piece) false g) (sym (append-nil given))
+            (law t.rows plan.dialect max_rows bytes piece false given h.reader);
         columns = t.head.columns;
         faults = t.head.faults;
         table = record {
           head = subst (λ g. IsHead plan g t.head.columns t.head.faults) (sym (append-nil given)) h.head.known;
-          has = subst (λ g. HasRows plan t.head.columns g (rows ++ [])) (sym (append-nil given)) (subst (λ r. HasRows plan t.head.columns given r) (sym (append-nil rows)) h.has);
+          has = subst (λ g. HasRows plan t.head.columns g (rows ++ [])) (sym (append-nil given))
+              (subst (λ r. HasRows plan t.head.columns given r) (sym (append-nil rows)) h.has);
         };
         took = record {
           front = [];
@@ -59,12 +62,22 @@ unfed gains is_open failed stays law plan mode t new bytes piece given rows s st
     )
 
 -- what a call leaves of the table that took more of its text
-pub outcome_moved : {S : Type 0} (gains : S → List Triple → S → Type 0) (is_open : S → Bool) (failed : S → ℕ) (plan : TablePlan) (mode : Mode) (bytes : List ℕ) (ended : Bool) (given : List Given) (annotated : List Row)
+pub outcome_moved : {S : Type 0} (gains : S → List Triple → S → Type 0) (is_open : S → Bool) (failed : S → ℕ) (plan : TablePlan) (mode : Mode)
+    (bytes : List ℕ) (ended : Bool) (given : List Given) (annotated : List Row)
     (t new : Table) (rows : Rows) (before now : Outlets S) (r : Result Unit Halt)
-    → TableOutcome gains is_open failed plan mode bytes ended given annotated (record t { rows = rows }) new before now r → TableOutcome gains is_open failed plan mode bytes ended given annotated t new before now r
+    → TableOutcome gains is_open failed plan mode bytes ended given annotated (record t { rows = rows }) new before now r
+    → TableOutcome gains is_open failed plan mode bytes ended given annotated t new before now r
 outcome_moved gains is_open failed plan mode bytes ended given annotated t new rows before now (Ok u) h = (
   record {
-    gone = record { raws = h.0.gone.raws; more = h.0.gone.more; holds = h.0.gone.holds; took = h.0.gone.took; kept = h.0.gone.kept; told = h.0.gone.told; keeps = h.0.gone.keeps };
+    gone = record {
+      raws = h.0.gone.raws;
+      more = h.0.gone.more;
+      holds = h.0.gone.holds;
+      took = h.0.gone.took;
+      kept = h.0.gone.kept;
+      told = h.0.gone.told;
+      keeps = h.0.gone.keeps;
+    };
     at_rest = h.0.at_rest;
   },
   h.1,
@@ -74,9 +87,11 @@ outcome_moved gains is_open failed plan mode bytes ended given annotated t new r
 outcome_moved gains is_open failed plan mode bytes ended given annotated t new rows before now (Err (halt.Rows row stop)) h = h
 outcome_moved gains is_open failed plan mode bytes ended given annotated t new rows before now (Err (halt.Table row stop)) h = h
 
-pub end_moved : {S : Type 0} (gains : S → List Triple → S → Type 0) (is_open : S → Bool) (failed : S → ℕ) (plan : TablePlan) (mode : Mode) (bytes : List ℕ) (given : List Given) (annotated : List Row)
+pub end_moved : {S : Type 0} (gains : S → List Triple → S → Type 0) (is_open : S → Bool) (failed : S → ℕ) (plan : TablePlan) (mode : Mode)
+    (bytes : List ℕ) (given : List Given) (annotated : List Row)
     (t new : Table) (rows : Rows) (before now : Outlets S) (r : Result Unit Halt)
-    → EndOutcome gains is_open failed plan mode bytes given annotated (record t { rows = rows }) new before now r → EndOutcome gains is_open failed plan mode bytes given annotated t new before now r
+    → EndOutcome gains is_open failed plan mode bytes given annotated (record t { rows = rows }) new before now r
+    → EndOutcome gains is_open failed plan mode bytes given annotated t new before now r
 end_moved gains is_open failed plan mode bytes given annotated t new rows before now (Ok u) h =
     (record { more = h.0.more; holds = h.0.holds; took = h.0.took; kept = h.0.kept; told = h.0.told; keeps = h.0.keeps }, h.1)
 end_moved gains is_open failed plan mode bytes given annotated t new rows before now (Err halt.Memory) h = h

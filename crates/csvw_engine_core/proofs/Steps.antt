@@ -1,5 +1,6 @@
 -- How a table goes on with a row of the source.
-use Rattle.std.proofs.Common.{◌≡◌, ◌≢◌, ◌<◌, ◌≤◌, ◌+◌, ℕ, suc, Bool, List, [], ◌∷◌, ◌++◌, refl, sym, ap, ◌∙◌, subst, arith, map, length, take, drop, Option, Some, None, inl, inr, Result, Ok, Err}
+use Rattle.std.proofs.Common.{◌≡◌, ◌≢◌, ◌<◌, ◌≤◌, ◌+◌, ℕ, suc, Bool, List, [], ◌∷◌, ◌++◌, refl, sym, ap, ◌∙◌, subst, arith, map, length, take, drop}
+use Rattle.std.proofs.Common.{Option, Some, None, inl, inr, Result, Ok, Err}
 use Rattle.std.proofs.lemmas.List.{drop_all, drop-append-le}
 use Rattle.csvw_text.specs.declared.fault.Fault.{Fault}
 use Rattle.csvw_rows.specs.Laws.{GivenFirst}
@@ -19,7 +20,8 @@ use Rattle.csvw_annotate.specs.Linked.{each_linked, linked_in, values_of}
 use Rattle.csvw_annotate.specs.declared.row.AnnCell.{AnnCell}
 use Rattle.csvw_columns_core.specs.declared.column.Column.{Column}
 use Rattle.csvw_annotate.specs.declared.row.Row.{Row}
-use Rattle.csvw_engine_core.specs.Annotated.{header_count, header_row, data_rows, first_width, first_source, source_of, needed, Heads, IsHead, HasRows, AreAnnotated, RefusesHeader, Refuses, GivesNone}
+use Rattle.csvw_engine_core.specs.Annotated.{header_count, header_row, data_rows, first_width, first_source, source_of, needed, Heads, IsHead}
+use Rattle.csvw_engine_core.specs.Annotated.{HasRows, AreAnnotated, RefusesHeader, Refuses, GivesNone}
 use Rattle.csvw_engine_core.specs.Halts.{of_row_stop}
 use Rattle.csvw_engine_core.specs.Heads.{HeadHolds, IsNewHead, Settled, Settles, TakesHeader}
 use Rattle.csvw_engine_core.specs.Tables.{max_rows, TableHolds, IsAtRest, IsStopped, IsRefused, HaltsSo, Goes, Keeps, RowFits, Steps, is_ended}
@@ -48,7 +50,8 @@ module _ (plan : TablePlan) (given : List Given) (raw : Given) where
       (annotated_more columns (data_rows plan given) rows raw row h is)
 
   -- a header row gives no row
-  pub rows_wait : (columns : Option Columns) (rows : List Row) → length given < needed (header_count plan) → 0 < header_count plan → rows ≡ [] → HasRows plan columns (given ++ raw ∷ []) rows
+  pub rows_wait : (columns : Option Columns) (rows : List Row) → length given < needed (header_count plan) → 0 < header_count plan → rows ≡ []
+      → HasRows plan columns (given ++ raw ∷ []) rows
   rows_wait None rows short some none = none
   rows_wait (Some columns) rows short some none =
       let within : length (given ++ raw ∷ []) ≤ header_count plan =
@@ -63,7 +66,8 @@ cells_fit (column ∷ columns) [] (cell ∷ cells) h = ap (λ n. suc n) (cells_f
 cells_fit (column ∷ columns) (field ∷ fields) (cell ∷ cells) h = ap (λ n. suc n) (cells_fit columns fields cells h.1)
 
 -- and so it has with links
-linked_fit : (link : Column → AnnCell → AnnCell) (columns : List Column) (cells : List AnnCell) → length cells ≡ length columns → length (each_linked link columns cells) ≡ length columns
+linked_fit : (link : Column → AnnCell → AnnCell) (columns : List Column) (cells : List AnnCell) → length cells ≡ length columns
+    → length (each_linked link columns cells) ≡ length columns
 linked_fit link [] cells same = refl
 linked_fit link (column ∷ columns) [] same = same
 linked_fit link (column ∷ columns) (cell ∷ cells) same = ap (λ n. suc n) (linked_fit link columns cells (omega (arith, same)))
@@ -71,16 +75,19 @@ linked_fit link (column ∷ columns) (cell ∷ cells) same = ap (λ n. suc n) (l
 row_cells_fit : (columns : Columns) (raw : Given) (row : Row) → IsRow columns raw row → length row.cells ≡ length columns.columns
 row_cells_fit columns raw row is =
     ap length is.cells
-    ∙ linked_fit (linked_in columns (numbers_of raw) (values_of is.unlinked)) columns.columns is.unlinked (cells_fit columns.columns raw.fields is.unlinked is.says)
+    ∙ linked_fit (linked_in columns (numbers_of raw) (values_of is.unlinked)) columns.columns is.unlinked
+    (cells_fit columns.columns raw.fields is.unlinked is.says)
 
 -- annotated rows have lexical forms
 abbrev pub FormsLaw : Type 0
 FormsLaw = (columns : Columns) (raw : Given) (row : Row) → IsRow columns raw row → HasForms row
 
-pub row_fits : FormsLaw → (columns : Option Columns) (known : Columns) (row : Row) (raw : Given) → columns ≡ Some known → IsRow known raw row → RowFits columns row
+pub row_fits : FormsLaw → (columns : Option Columns) (known : Columns) (row : Row) (raw : Given) → columns ≡ Some known → IsRow known raw row
+    → RowFits columns row
 row_fits forms columns known row raw e is = subst (λ z. RowFits z row) (sym e) (row_cells_fit known raw row is, forms known raw row is)
 
-pub step_halts : (plan : TablePlan) (old new : Table) (r : Result Step Halt) (e f : Halt) → r ≡ Err e → e ≡ f → is_ended new ≡ is_ended old → HaltsSo plan old f → Steps plan old new r
+pub step_halts : (plan : TablePlan) (old new : Table) (r : Result Step Halt) (e f : Halt) → r ≡ Err e → e ≡ f → is_ended new ≡ is_ended old
+    → HaltsSo plan old f → Steps plan old new r
 step_halts plan old new r e f p q ended so = subst (Steps plan old new) (sym (p ∙ ap Err q)) (ended, so)
 
 no_rows : (given : List Given) → length given < 1 → given ≡ []
@@ -88,7 +95,8 @@ no_rows [] h = refl
 no_rows (g ∷ given) h = absurd (omega arith)
 
 -- the first data row of a table without header rows
-first_head_at : (plan : TablePlan) (n : ℕ) (given : List Given) (raw : Given) (columns : Columns) (faults : List Fault) → header_count plan ≡ n → n ≡ 0 → given ≡ []
+first_head_at : (plan : TablePlan) (n : ℕ) (given : List Given) (raw : Given) (columns : Columns) (faults : List Fault) → header_count plan ≡ n
+    → n ≡ 0 → given ≡ []
     → IsMatch plan [] (Some (length raw.fields)) columns faults → Heads plan (given ++ raw ∷ []) columns faults
 first_head_at plan n given raw columns faults e z empty m =
     subst (λ g. Heads plan (g ++ raw ∷ []) columns faults) (sym empty)
@@ -101,7 +109,8 @@ first_head plan given raw old new without h none s =
     let empty : given ≡ [] = no_rows given (subst (λ z. length given < needed z) without k.0) in
     let rows : old.rows ≡ [] = h.waits none ∙ ap (map header_row) empty in
     let gives : Heads plan (given ++ raw ∷ []) s.columns new.faults =
-    first_head_at plan 0 given raw s.columns new.faults without refl empty (subst (λ z. IsMatch plan z (Some (length raw.fields)) s.columns new.faults) rows s.gives) in
+    first_head_at plan 0 given raw s.columns new.faults without refl empty
+    (subst (λ z. IsMatch plan z (Some (length raw.fields)) s.columns new.faults) rows s.gives) in
     let enough : needed (header_count plan) ≤ length (given ++ raw ∷ []) =
     let q : needed (header_count plan) ≡ 1 = ap needed without in let m = length_more given raw in omega arith in
     record {
@@ -109,7 +118,8 @@ first_head plan given raw old new without h none s =
       waits = λ e. let wrong : None ≡ Some s.columns = sym e ∙ s.is in cc;
     }
 
-pub first_row : (plan : TablePlan) (given : List Given) (raw : Given) (old : Head) (columns : Columns) (rows : List Row) (row : Row) → header_count plan ≡ 0 → HeadHolds plan old given → old.columns ≡ None
+pub first_row : (plan : TablePlan) (given : List Given) (raw : Given) (old : Head) (columns : Columns) (rows : List Row) (row : Row)
+    → header_count plan ≡ 0 → HeadHolds plan old given → old.columns ≡ None
     → rows ≡ [] → IsRow columns raw row → AreAnnotated columns (data_rows plan (given ++ raw ∷ [])) (rows ++ row ∷ [])
 first_row plan given raw old columns rows row without h none empty is =
     let k : IsHead plan given None old.faults = subst (λ z. IsHead plan given z old.faults) none h.known in
@@ -118,9 +128,11 @@ first_row plan given raw old columns rows row without h none empty is =
     (subst (λ n. AreAnnotated columns (drop n (raw ∷ [])) (rows ++ row ∷ [])) (sym without) (row, [], ap (λ z. z ++ row ∷ []) empty, is, refl))
 
 -- the table with one row of the reader more
-module _ (plan : TablePlan) (old new : Table) (raw : Given) (gives : GivesRow old.rows new.rows raw) (same_number : new.number ≡ old.number) (same_mode : new.mode ≡ old.mode) where
+module _ (plan : TablePlan) (old new : Table) (raw : Given) (gives : GivesRow old.rows new.rows raw) (same_number : new.number ≡ old.number)
+    (same_mode : new.mode ≡ old.mode) where
   -- made of its parts
-  holds_more : (mode : Mode) (bytes : List ℕ) (ended : Bool) (given : List Given) (rows more : List Row) → HeadHolds plan new.head (given ++ raw ∷ []) → HasRows plan new.head.columns (given ++ raw ∷ []) more
+  holds_more : (mode : Mode) (bytes : List ℕ) (ended : Bool) (given : List Given) (rows more : List Row) → HeadHolds plan new.head (given ++ raw ∷ [])
+      → HasRows plan new.head.columns (given ++ raw ∷ []) more
       → TableHolds plan mode old bytes ended given rows → TableHolds plan mode new bytes ended (given ++ raw ∷ []) more
   holds_more mode bytes ended given rows more head has h = record {
     number_is = same_number ∙ h.number_is;
@@ -131,7 +143,8 @@ module _ (plan : TablePlan) (old new : Table) (raw : Given) (gives : GivesRow ol
   }
 
   -- a data row
-  pub row_taken : (columns : Columns) (row : Row) → new.head ≡ old.head → old.head.columns ≡ Some columns → IsRow columns raw row → Goes plan old new (λ rows. rows ++ row ∷ [])
+  pub row_taken : (columns : Columns) (row : Row) → new.head ≡ old.head → old.head.columns ≡ Some columns → IsRow columns raw row
+      → Goes plan old new (λ rows. rows ++ row ∷ [])
   row_taken columns row same known is mode bytes ended given rows h =
       let head : HeadHolds plan old.head (given ++ raw ∷ []) = head_on plan given raw old.head columns known h.head in
       let was : IsHead plan given (Some columns) old.head.faults = subst (λ z. IsHead plan given z old.head.faults) known h.head.known in
@@ -143,7 +156,8 @@ module _ (plan : TablePlan) (old new : Table) (raw : Given) (gives : GivesRow ol
       )
 
   -- a header row
-  pub header_taken : ((given : List Given) → HeadHolds plan old.head given → old.head.columns ≡ None → 0 < header_count plan → HeadHolds plan new.head (given ++ raw ∷ []))
+  pub header_taken : ((given : List Given) → HeadHolds plan old.head given → old.head.columns ≡ None → 0 < header_count plan
+      → HeadHolds plan new.head (given ++ raw ∷ []))
       → old.head.columns ≡ None → 0 < header_count plan → Goes plan old new (λ rows. rows)
   header_taken takes none some mode bytes ended given rows h =
       let was : IsHead plan given None old.head.faults = subst (λ z. IsHead plan given z old.head.faults) none h.head.known in
@@ -151,17 +165,20 @@ module _ (plan : TablePlan) (old new : Table) (raw : Given) (gives : GivesRow ol
       (raw, holds_more mode bytes ended given rows rows (takes given h.head none some) (rows_wait plan given raw new.head.columns rows was.0 some empty) h)
 
   -- the first data row of a table without header rows
-  pub first_taken : (columns : Columns) (row : Row) → header_count plan ≡ 0 → old.head.columns ≡ None → Settled plan (Some (length raw.fields)) old.head new.head
+  pub first_taken : (columns : Columns) (row : Row) → header_count plan ≡ 0 → old.head.columns ≡ None
+      → Settled plan (Some (length raw.fields)) old.head new.head
       → new.head.columns ≡ Some columns → IsRow columns raw row → Goes plan old new (λ rows. rows ++ row ∷ [])
   first_taken columns row without none s known is mode bytes ended given rows h =
       let empty : rows ≡ [] = subst (λ z. HasRows plan z given rows) none h.has in (
         raw,
         holds_more mode bytes ended given rows (rows ++ row ∷ []) (first_head plan given raw old.head new.head without h.head none s)
-            (subst (λ z. HasRows plan z (given ++ raw ∷ []) (rows ++ row ∷ [])) (sym known) (first_row plan given raw old.head columns rows row without h.head none empty is)) h,
+            (subst (λ z. HasRows plan z (given ++ raw ∷ []) (rows ++ row ∷ [])) (sym known)
+            (first_row plan given raw old.head columns rows row without h.head none empty is)) h,
       )
 
 -- all rows were given, and no stop stands
-pub nothing_taken : (plan : TablePlan) (old new : Table) → Stays old.rows new.rows → IsDone old.rows → new.head ≡ old.head → new.number ≡ old.number → new.mode ≡ old.mode
+pub nothing_taken : (plan : TablePlan) (old new : Table) → Stays old.rows new.rows → IsDone old.rows → new.head ≡ old.head → new.number ≡ old.number
+    → new.mode ≡ old.mode
     → (mode : Mode) (bytes : List ℕ) (ended : Bool) (given : List Given) (rows : List Row) → TableHolds plan mode old bytes ended given rows
     → TableHolds plan mode new bytes ended given rows × IsAtRest plan bytes ended given
 nothing_taken plan old new stays done head number same_mode mode bytes ended given rows h =
@@ -178,7 +195,8 @@ nothing_taken plan old new stays done head number same_mode mode bytes ended giv
 
 -- a stop of the records
 stopped : (plan : TablePlan) (old : Table) (stop : RowStop) (row : ℕ) → RowsStopped old.rows stop row → stop ≢ row_stop.Memory
-    → (mode : Mode) (bytes : List ℕ) (ended : Bool) (given : List Given) (rows : List Row) → TableHolds plan mode old bytes ended given rows → IsStopped plan bytes ended given row stop
+    → (mode : Mode) (bytes : List ℕ) (ended : Bool) (given : List Given) (rows : List Row) → TableHolds plan mode old bytes ended given rows
+    → IsStopped plan bytes ended given row stop
 stopped plan old stop row is none mode bytes ended given rows h =
     let k = is none plan.dialect max_rows bytes ended given h.reader in record { all = k.0; stops = k.1 }
 
@@ -193,7 +211,8 @@ records_stopped plan old row_stop.TooManyRows row is = stopped plan old row_stop
 
 -- a row that the table refuses
 module _ (plan : TablePlan) (old : Table) (new : Rows) (raw : Given) (gives : GivesRow old.rows new raw) (law : GivenFirst) where
-  refused : (mode : Mode) (bytes : List ℕ) (ended : Bool) (given : List Given) (rows : List Row) (row : ℕ) (stop : TableStop) → Refuses plan given old.head.columns raw row stop
+  refused : (mode : Mode) (bytes : List ℕ) (ended : Bool) (given : List Given) (rows : List Row) (row : ℕ) (stop : TableStop)
+      → Refuses plan given old.head.columns raw row stop
       → TableHolds plan mode old bytes ended given rows → IsRefused plan old.head.columns bytes ended given row stop
   refused mode bytes ended given rows row stop why h = record {
     raw = raw;
@@ -210,7 +229,8 @@ module _ (plan : TablePlan) (old : Table) (new : Rows) (raw : Given) (gives : Gi
       refused mode bytes ended given rows row stop (subst (λ z. Refuses plan given z raw row stop) (sym known) refusal) h
 
   -- the last header row
-  pub header_refused : (head : Head) (reason : Halt) → old.head.columns ≡ None → 0 < header_count plan → TakesHeader plan raw old.head head (Err reason) → HaltsSo plan old reason
+  pub header_refused : (head : Head) (reason : Halt) → old.head.columns ≡ None → 0 < header_count plan
+      → TakesHeader plan raw old.head head (Err reason) → HaltsSo plan old reason
   header_refused head halt.Memory none some refusal = tt
   header_refused head halt.Write none some refusal = absurd refusal
   header_refused head (halt.Rows row stop) none some refusal = absurd refusal
@@ -226,7 +246,8 @@ module _ (plan : TablePlan) (old : Table) (new : Rows) (raw : Given) (gives : Gi
       (empty, h.waits none ∙ ap (map header_row) empty)
 
   -- the header that the first data row is, or this row
-  pub first_refused : (reason : Halt) (head : Head) → old.head.columns ≡ None → header_count plan ≡ 0 → Settles plan (Some (length raw.fields)) raw.source old.head head (Err reason) → HaltsSo plan old reason
+  pub first_refused : (reason : Halt) (head : Head) → old.head.columns ≡ None → header_count plan ≡ 0
+      → Settles plan (Some (length raw.fields)) raw.source old.head head (Err reason) → HaltsSo plan old reason
   first_refused halt.Memory head none without refusal = tt
   first_refused halt.Write head none without refusal = absurd refusal
   first_refused (halt.Rows row stop) head none without refusal = absurd refusal
@@ -241,7 +262,8 @@ module _ (plan : TablePlan) (old : Table) (new : Rows) (raw : Given) (gives : Gi
       refusal.1 ∙ (ap (λ z. source_of z raw.source) k.1 ∙ sym (ap (λ g. first_source (g ++ raw ∷ [])) k.0)) in
       refused mode bytes ended given rows row stop (subst (λ z. Refuses plan given z raw row stop) (sym none) (one, inl (why, at))) h
 
-  pub first_row_refused : (columns : Columns) (reason : Halt) (head : Head) → old.head.columns ≡ None → header_count plan ≡ 0 → Settled plan (Some (length raw.fields)) old.head head → head.columns ≡ Some columns
+  pub first_row_refused : (columns : Columns) (reason : Halt) (head : Head) → old.head.columns ≡ None → header_count plan ≡ 0
+      → Settled plan (Some (length raw.fields)) old.head head → head.columns ≡ Some columns
       → AnnotatesRow columns raw (Err reason) → HaltsSo plan old reason
   first_row_refused columns halt.Memory head none without s known refusal = tt
   first_row_refused columns halt.Write head none without s known refusal = absurd refusal
@@ -252,12 +274,16 @@ module _ (plan : TablePlan) (old : Table) (new : Rows) (raw : Given) (gives : Gi
       let same : s.columns ≡ columns = let e : Some s.columns ≡ Some columns = sym s.is ∙ known in cc in
       let heads : Heads plan (given ++ raw ∷ []) columns head.faults =
       first_head_at plan 0 given raw columns head.faults without refl k.0
-      (subst (λ z. IsMatch plan z (Some (length raw.fields)) columns head.faults) k.1 (subst (λ z. IsMatch plan old.head.rows (Some (length raw.fields)) z head.faults) same s.gives)) in
-      refused mode bytes ended given rows row stop (subst (λ z. Refuses plan given z raw row stop) (sym none) (one, inr (without, columns, head.faults, heads, refusal))) h
+      (subst (λ z. IsMatch plan z (Some (length raw.fields)) columns head.faults) k.1
+      (subst (λ z. IsMatch plan old.head.rows (Some (length raw.fields)) z head.faults) same s.gives)) in
+      refused mode bytes ended given rows row stop
+      (subst (λ z. Refuses plan given z raw row stop) (sym none) (one, inr (without, columns, head.faults, heads, refusal))) h
 
 -- the table where a row came before the columns were known
-module _ (plan : TablePlan) (old new : Table) (raw : Given) (gives : GivesRow old.rows new.rows raw) (law : GivenFirst) (forms : FormsLaw) (none : old.head.columns ≡ None)
-    (ended : is_ended new ≡ is_ended old) (less : unread new.rows < unread old.rows) (faults : new.faults ≡ old.faults) (number : new.number ≡ old.number) (mode : new.mode ≡ old.mode) where
+module _ (plan : TablePlan) (old new : Table) (raw : Given) (gives : GivesRow old.rows new.rows raw) (law : GivenFirst) (forms : FormsLaw)
+    (none : old.head.columns ≡ None)
+    (ended : is_ended new ≡ is_ended old) (less : unread new.rows < unread old.rows) (faults : new.faults ≡ old.faults)
+    (number : new.number ≡ old.number) (mode : new.mode ≡ old.mode) where
   kept : Keeps old new
   kept = record {
     ended = ended;
@@ -270,7 +296,8 @@ module _ (plan : TablePlan) (old new : Table) (raw : Given) (gives : GivesRow ol
   begun_wrong : (reason : Halt) → BeginsWrong plan raw old.head new.head reason → HaltsSo plan old reason
   begun_wrong reason (inl takes) = header_refused plan old new.rows raw gives law new.head reason none takes.0 takes.1
   begun_wrong reason (inr (inl settles)) = first_refused plan old new.rows raw gives law reason new.head none settles.0 settles.1
-  begun_wrong reason (inr (inr first)) = first_row_refused plan old new.rows raw gives law first.columns reason new.head none first.without first.settled first.known first.annotates
+  begun_wrong reason (inr (inr first)) =
+      first_row_refused plan old new.rows raw gives law first.columns reason new.head none first.without first.settled first.known first.annotates
 
   pub begun : (r : Result Step Halt) → Begins plan raw old.head new.head r → Steps plan old new r
   begun (Ok (step.Row row)) b = (

@@ -35,7 +35,8 @@ Settles plan width source old new (Err (halt.Table row stop)) = GivesNone plan o
 
 -- after a header row
 abbrev pub TakesHeader : TablePlan → Given → Head → Head → Result Unit Halt → Type 0
-TakesHeader plan raw old new (Ok u) = (given : List Given) → HeadHolds plan old given → old.columns ≡ None → 0 < header_count plan → HeadHolds plan new (given ++ raw ∷ [])
+TakesHeader plan raw old new (Ok u) = (given : List Given) → HeadHolds plan old given → old.columns ≡ None → 0 < header_count plan
+    → HeadHolds plan new (given ++ raw ∷ [])
 TakesHeader plan raw old new (Err halt.Memory) = Unit {0}
 TakesHeader plan raw old new (Err halt.Write) = ⊥
 TakesHeader plan raw old new (Err (halt.Rows row stop)) = ⊥

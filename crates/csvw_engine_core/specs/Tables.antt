@@ -81,7 +81,8 @@ pub record IsStopped (plan : TablePlan) (bytes : List ℕ) (ended : Bool) (given
   pub stops : StopOf plan.dialect max_rows bytes ended stop row
 
 -- behind the rows that were given comes one that the table refuses
-pub record IsRefused (plan : TablePlan) (columns : Option Columns) (bytes : List ℕ) (ended : Bool) (given : List Given) (row : ℕ) (stop : TableStop) : Type 0 where
+pub record IsRefused (plan : TablePlan) (columns : Option Columns) (bytes : List ℕ) (ended : Bool) (given : List Given) (row : ℕ)
+    (stop : TableStop) : Type 0 where
   pub raw : Given
   pub first : AreFirst plan.dialect max_rows bytes ended (given ++ raw ∷ [])
   pub refuses : Refuses plan given columns raw row stop
@@ -90,9 +91,11 @@ pub record IsRefused (plan : TablePlan) (columns : Option Columns) (bytes : List
 abbrev pub HaltsSo : TablePlan → Table → Halt → Type 0
 HaltsSo plan t halt.Memory = Unit {0}
 HaltsSo plan t halt.Write = ⊥
-HaltsSo plan t (halt.Rows row stop) = (mode : Mode) (bytes : List ℕ) (ended : Bool) (given : List Given) (rows : List Row) → TableHolds plan mode t bytes ended given rows
+HaltsSo plan t (halt.Rows row stop) = (mode : Mode) (bytes : List ℕ) (ended : Bool) (given : List Given) (rows : List Row)
+    → TableHolds plan mode t bytes ended given rows
     → IsStopped plan bytes ended given row stop
-HaltsSo plan t (halt.Table row stop) = (mode : Mode) (bytes : List ℕ) (ended : Bool) (given : List Given) (rows : List Row) → TableHolds plan mode t bytes ended given rows
+HaltsSo plan t (halt.Table row stop) = (mode : Mode) (bytes : List ℕ) (ended : Bool) (given : List Given) (rows : List Row)
+    → TableHolds plan mode t bytes ended given rows
     → IsRefused plan t.head.columns bytes ended given row stop
 
 -- what is the same after each step
@@ -105,9 +108,11 @@ pub record Keeps (old new : Table) : Type 0 where
 
 -- A step gives one row more, takes a header row, finds nothing, or halts. It makes what is unread less, or ends the search.
 abbrev pub Steps : TablePlan → Table → Table → Result Step Halt → Type 0
-Steps plan old new (Ok (step.Row row)) = Keeps old new × (unread new.rows < unread old.rows) × RowFits new.head.columns row × Goes plan old new (λ rows. rows ++ row ∷ [])
+Steps plan old new (Ok (step.Row row)) = Keeps old new × (unread new.rows < unread old.rows) × RowFits new.head.columns row
+    × Goes plan old new (λ rows. rows ++ row ∷ [])
 Steps plan old new (Ok step.Header) = Keeps old new × (unread new.rows < unread old.rows) × Goes plan old new (λ rows. rows)
-Steps plan old new (Ok step.Nothing) = Keeps old new × ((mode : Mode) (bytes : List ℕ) (ended : Bool) (given : List Given) (rows : List Row) → TableHolds plan mode old bytes ended given rows
+Steps plan old new (Ok step.Nothing) = Keeps old new
+    × ((mode : Mode) (bytes : List ℕ) (ended : Bool) (given : List Given) (rows : List Row) → TableHolds plan mode old bytes ended given rows
     → TableHolds plan mode new bytes ended given rows × IsAtRest plan bytes ended given)
 Steps plan old new (Err reason) = (is_ended new ≡ is_ended old) × HaltsSo plan old reason
 
@@ -120,7 +125,8 @@ table_triples mode t (Some columns) rows = flat_map (row_triples mode t columns)
 abbrev pub Gives : {S : Type 0} → (S → List Triple → S → Type 0) → (S → Bool) → (S → ℕ) → List Triple → S → S → Result Unit Halt → Type 0
 Gives gains is_open failed triples old new (Ok u) = gains old triples new × IsAsReady is_open failed old new
 Gives gains is_open failed triples old new (Err halt.Memory) = FrontOf gains old triples new × IsAsReady is_open failed old new
-Gives gains is_open failed triples old new (Err halt.Write) = FrontOf gains old triples new × (is_open old ≡ true → failed old < 2 ^ 64 - 1 → failed new ≡ failed old + 1)
+Gives gains is_open failed triples old new (Err halt.Write) = FrontOf gains old triples new
+    × (is_open old ≡ true → failed old < 2 ^ 64 - 1 → failed new ≡ failed old + 1)
 Gives gains is_open failed triples old new (Err (halt.Rows row stop)) = ⊥
 Gives gains is_open failed triples old new (Err (halt.Table row stop)) = ⊥
 
@@ -137,7 +143,8 @@ abbrev pub AddsRows : ℕ → List Row → KeyBook → KeyBook → Type 0
 AddsRows table more old new = (rules : List KeyRule) (tables : ℕ → List Row) → KeepsKeys old rules tables → KeepsKeys new rules (with_rows tables table more)
 
 -- Rows more were given: the sink took their triples, the book their keys, and their faults were told.
-pub record Gone {S : Type 0} (gains : S → List Triple → S → Type 0) (plan : TablePlan) (mode : Mode) (bytes : List ℕ) (ended : Bool) (given : List Given) (rows : List Row) (old new : Table) (before now : Outlets S) : Type 0 where
+pub record Gone {S : Type 0} (gains : S → List Triple → S → Type 0) (plan : TablePlan) (mode : Mode) (bytes : List ℕ) (ended : Bool)
+    (given : List Given) (rows : List Row) (old new : Table) (before now : Outlets S) : Type 0 where
   pub raws : List Given
   pub more : List Row
   pub holds : TableHolds plan mode new bytes ended (given ++ raws) (rows ++ more)
@@ -147,12 +154,14 @@ pub record Gone {S : Type 0} (gains : S → List Triple → S → Type 0) (plan 
   pub keeps : KeepsColumns old new
 
 -- all rows of the text so far were given
-pub record GivesAll {S : Type 0} (gains : S → List Triple → S → Type 0) (plan : TablePlan) (mode : Mode) (bytes : List ℕ) (ended : Bool) (given : List Given) (rows : List Row) (old new : Table) (before now : Outlets S) : Type 0 where
+pub record GivesAll {S : Type 0} (gains : S → List Triple → S → Type 0) (plan : TablePlan) (mode : Mode) (bytes : List ℕ) (ended : Bool)
+    (given : List Given) (rows : List Row) (old new : Table) (before now : Outlets S) : Type 0 where
   pub gone : Gone gains plan mode bytes ended given rows old new before now
   pub at_rest : IsAtRest plan bytes ended (given ++ gone.raws)
 
 -- Some of the rows were given, and perhaps a front of the next one's triples.
-pub record GivesSome {S : Type 0} (gains : S → List Triple → S → Type 0) (plan : TablePlan) (mode : Mode) (bytes : List ℕ) (ended : Bool) (given : List Given) (rows : List Row) (before now : S) : Type 0 where
+pub record GivesSome {S : Type 0} (gains : S → List Triple → S → Type 0) (plan : TablePlan) (mode : Mode) (bytes : List ℕ) (ended : Bool)
+    (given : List Given) (rows : List Row) (before now : S) : Type 0 where
   pub raws : List Given
   pub more : List Row
   pub first : AreFirst plan.dialect max_rows bytes ended (given ++ raws)
@@ -162,7 +171,8 @@ pub record GivesSome {S : Type 0} (gains : S → List Triple → S → Type 0) (
   pub took : FrontOf gains before (table_triples mode plan.number columns more) now
 
 -- All rows in front of a stop were given.
-pub record GivesFront {S : Type 0} (gains : S → List Triple → S → Type 0) (plan : TablePlan) (mode : Mode) (bytes : List ℕ) (ended : Bool) (given : List Given) (rows : List Row) (before now : S) (Why : Option Columns → List Given → Type 0) : Type 0 where
+pub record GivesFront {S : Type 0} (gains : S → List Triple → S → Type 0) (plan : TablePlan) (mode : Mode) (bytes : List ℕ) (ended : Bool)
+    (given : List Given) (rows : List Row) (before now : S) (Why : Option Columns → List Given → Type 0) : Type 0 where
   pub raws : List Given
   pub more : List Row
   pub columns : Option Columns
@@ -172,17 +182,21 @@ pub record GivesFront {S : Type 0} (gains : S → List Triple → S → Type 0) 
   pub took : gains before (table_triples mode plan.number columns more) now
 
 -- what a call leaves, by its answer
-abbrev pub TableOutcome : {S : Type 0} → (S → List Triple → S → Type 0) → (S → Bool) → (S → ℕ) → TablePlan → Mode → List ℕ → Bool → List Given → List Row → Table → Table → Outlets S → Outlets S → Result Unit Halt → Type 0
+abbrev pub TableOutcome : {S : Type 0} → (S → List Triple → S → Type 0) → (S → Bool) → (S → ℕ) → TablePlan → Mode → List ℕ → Bool → List Given
+    → List Row → Table → Table → Outlets S → Outlets S → Result Unit Halt → Type 0
 TableOutcome gains is_open failed plan mode bytes ended given rows old new before now (Ok u) =
     GivesAll gains plan mode bytes ended given rows old new before now × IsAsReady is_open failed before.sink now.sink
 TableOutcome gains is_open failed plan mode bytes ended given rows old new before now (Err halt.Memory) =
     GivesSome gains plan mode bytes ended given rows before.sink now.sink × IsAsReady is_open failed before.sink now.sink
 TableOutcome gains is_open failed plan mode bytes ended given rows old new before now (Err halt.Write) =
-    GivesSome gains plan mode bytes ended given rows before.sink now.sink × (is_open before.sink ≡ true → failed before.sink < 2 ^ 64 - 1 → failed now.sink ≡ failed before.sink + 1)
+    GivesSome gains plan mode bytes ended given rows before.sink now.sink
+    × (is_open before.sink ≡ true → failed before.sink < 2 ^ 64 - 1 → failed now.sink ≡ failed before.sink + 1)
 TableOutcome gains is_open failed plan mode bytes ended given rows old new before now (Err (halt.Rows row stop)) =
-    GivesFront gains plan mode bytes ended given rows before.sink now.sink (λ columns all. IsStopped plan bytes ended all row stop) × IsAsReady is_open failed before.sink now.sink
+    GivesFront gains plan mode bytes ended given rows before.sink now.sink (λ columns all. IsStopped plan bytes ended all row stop)
+    × IsAsReady is_open failed before.sink now.sink
 TableOutcome gains is_open failed plan mode bytes ended given rows old new before now (Err (halt.Table row stop)) =
-    GivesFront gains plan mode bytes ended given rows before.sink now.sink (λ columns all. IsRefused plan columns bytes ended all row stop) × IsAsReady is_open failed before.sink now.sink
+    GivesFront gains plan mode bytes ended given rows before.sink now.sink (λ columns all. IsRefused plan columns bytes ended all row stop)
+    × IsAsReady is_open failed before.sink now.sink
 
 -- The whole text is a table: these are its columns and rows.
 pub record HoldsWhole (plan : TablePlan) (mode : Mode) (t : Table) (bytes : List ℕ) (rows : List Row) : Type 0 where
@@ -196,7 +210,8 @@ pub record HoldsWhole (plan : TablePlan) (mode : Mode) (t : Table) (bytes : List
   pub table : IsWholeTable plan given columns t.head.faults rows
 
 -- Rows more were given, and these are all.
-pub record GivesWhole {S : Type 0} (gains : S → List Triple → S → Type 0) (plan : TablePlan) (mode : Mode) (bytes : List ℕ) (rows : List Row) (old new : Table) (before now : Outlets S) : Type 0 where
+pub record GivesWhole {S : Type 0} (gains : S → List Triple → S → Type 0) (plan : TablePlan) (mode : Mode) (bytes : List ℕ) (rows : List Row)
+    (old new : Table) (before now : Outlets S) : Type 0 where
   pub more : List Row
   pub holds : HoldsWhole plan mode new bytes (rows ++ more)
   pub took : gains before.sink (table_triples mode plan.number new.head.columns more) now.sink
@@ -210,24 +225,29 @@ IsRefusedAtEnd plan columns bytes given row stop =
     IsRefused plan columns bytes true given row stop ⊎ (IsAtRest plan bytes true given × (columns ≡ None) × RefusesEnd plan given row stop)
 
 -- what the end of a text leaves, by its answer
-abbrev pub EndOutcome : {S : Type 0} → (S → List Triple → S → Type 0) → (S → Bool) → (S → ℕ) → TablePlan → Mode → List ℕ → List Given → List Row → Table → Table → Outlets S → Outlets S → Result Unit Halt → Type 0
+abbrev pub EndOutcome : {S : Type 0} → (S → List Triple → S → Type 0) → (S → Bool) → (S → ℕ) → TablePlan → Mode → List ℕ → List Given → List Row
+    → Table → Table → Outlets S → Outlets S → Result Unit Halt → Type 0
 EndOutcome gains is_open failed plan mode bytes given rows old new before now (Ok u) =
     GivesWhole gains plan mode bytes rows old new before now × IsAsReady is_open failed before.sink now.sink
 EndOutcome gains is_open failed plan mode bytes given rows old new before now (Err halt.Memory) =
     GivesSome gains plan mode bytes true given rows before.sink now.sink × IsAsReady is_open failed before.sink now.sink
 EndOutcome gains is_open failed plan mode bytes given rows old new before now (Err halt.Write) =
-    GivesSome gains plan mode bytes true given rows before.sink now.sink × (is_open before.sink ≡ true → failed before.sink < 2 ^ 64 - 1 → failed now.sink ≡ failed before.sink + 1)
+    GivesSome gains plan mode bytes true given rows before.sink now.sink
+    × (is_open before.sink ≡ true → failed before.sink < 2 ^ 64 - 1 → failed now.sink ≡ failed before.sink + 1)
 EndOutcome gains is_open failed plan mode bytes given rows old new before now (Err (halt.Rows row stop)) =
-    GivesFront gains plan mode bytes true given rows before.sink now.sink (λ columns all. IsStopped plan bytes true all row stop) × IsAsReady is_open failed before.sink now.sink
+    GivesFront gains plan mode bytes true given rows before.sink now.sink (λ columns all. IsStopped plan bytes true all row stop)
+    × IsAsReady is_open failed before.sink now.sink
 EndOutcome gains is_open failed plan mode bytes given rows old new before now (Err (halt.Table row stop)) =
-    GivesFront gains plan mode bytes true given rows before.sink now.sink (λ columns all. IsRefusedAtEnd plan columns bytes all row stop) × IsAsReady is_open failed before.sink now.sink
+    GivesFront gains plan mode bytes true given rows before.sink now.sink (λ columns all. IsRefusedAtEnd plan columns bytes all row stop)
+    × IsAsReady is_open failed before.sink now.sink
 
 -- after the end of the text, where the columns weren't known; of want of memory nothing is said
 abbrev pub SettlesHead : TablePlan → Table → Table → Result Unit Halt → Type 0
 SettlesHead plan old new result = (new ≡ record old { head = new.head }) × Settles plan None 0 old.head new.head result
 
 abbrev pub SettlesTable : TablePlan → Table → Table → Result Unit Halt → Type 0
-SettlesTable plan old new result = ((columns : Columns) × (old.head.columns ≡ Some columns) × (new ≡ old) × (result ≡ Ok tt)) ⊎ ((old.head.columns ≡ None) × SettlesHead plan old new result)
+SettlesTable plan old new result = ((columns : Columns) × (old.head.columns ≡ Some columns) × (new ≡ old) × (result ≡ Ok tt)) ⊎
+    ((old.head.columns ≡ None) × SettlesHead plan old new result)
 
 -- what is wrong with the header of the table, and with its cells so far
 abbrev pub header_faults_of : Table → List Fault

@@ -12,6 +12,7 @@ use crate::table::{Table, next_row};
 use csvw_annotate::Row;
 use csvw_columns::TablePlan;
 use csvw_keys::KeyBook;
+use csvw_links::LinkRoom;
 use csvw_rows::laws::{given_first, given_first_later};
 use csvw_triples::{Emitter, TripleSink};
 
@@ -28,14 +29,14 @@ fn give<S: TripleSink>(
 {
     match &table.head.columns {
         Some(columns) => {
-            emitter.emit_row(columns, table.mode, table.number, row, sink)?;
+            emitter.emit_row(columns.columns(), table.mode, table.number, row, sink)?;
             Ok(())
         }
         None => unreachable!(),
     }
 }
 
-/// Gives each row that is complete, adds its keys, and tells its faults. The rows share the memory of one row and of one literal.
+/// Gives each row that is complete, adds its keys, and tells its faults. The rows share the memory of one row, of one literal and of a few links.
 fn drain<S: TripleSink>(
     plan: &TablePlan,
     table: &mut Table,
@@ -53,8 +54,9 @@ fn drain<S: TripleSink>(
     given_first();
     let mut emitter = Emitter::new(alloc)?;
     let mut spare = Row::new(alloc);
+    let mut room = LinkRoom::new(alloc);
     loop {
-        match next_row(plan, table, spare)? {
+        match next_row(plan, table, spare, &mut room)? {
             Step::Row(row) => {
                 table.tell(&row)?;
                 keys.add(table.number, &row)?;

@@ -6,7 +6,8 @@ ghost use Rattle.csvw_columns.specs.Ready.{IsReady};
 ghost use Rattle.csvw_engine_core.specs.Soundness.{AreSoundIf, AreSoundIf-prop};
 
 use crate::halt::Halt;
-use csvw_columns::{Columns, HeaderRow, TablePlan, match_header};
+use csvw_columns::{HeaderRow, TablePlan, match_header};
+use csvw_links::LinkedColumns;
 use csvw_rows::RawRow;
 use csvw_text::{Fault, Seq, Text};
 use std::alloc::{AllocError, Global};
@@ -17,7 +18,7 @@ pub(crate) struct Head {
     /// The header rows so far.
     pub(crate) rows: Seq<HeaderRow>,
     /// The columns, once all header rows are there, or without header rows the first data row.
-    pub(crate) columns: Option<Columns>,
+    pub(crate) columns: Option<LinkedColumns>,
     /// What is wrong with the header, once the columns are known.
     pub(crate) faults: Seq<Fault>,
     ghost sound: { AreSoundIf columns } by { AreSoundIf-prop columns },
@@ -76,7 +77,7 @@ impl Head {
     {
         match match_header(alloc, plan, self.rows.as_slice(), width) {
             Ok((columns, faults)) => {
-                self.columns = Some(columns);
+                self.columns = Some(LinkedColumns::new(alloc, columns)?);
                 self.faults = Seq::of(faults);
                 Ok(())
             }

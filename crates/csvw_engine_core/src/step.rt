@@ -7,7 +7,8 @@ ghost use Rattle.csvw_engine_core.specs.Stepping.{AnnotatesRow, Begins};
 use crate::halt::Halt;
 use crate::head::Head;
 use csvw_annotate::{Row, RowStop, annotate_into};
-use csvw_columns::{Columns, TablePlan, TableStop};
+use csvw_columns::{TablePlan, TableStop};
+use csvw_links::{LinkRoom, LinkedColumns};
 use csvw_rows::RawRow;
 use std::alloc::Global;
 
@@ -21,17 +22,18 @@ pub(crate) enum Step {
     Nothing,
 }
 
-/// The annotated row of a data row, in the memory of a row that is no longer needed.
+/// The annotated row of a data row, in the memory of a row that is no longer needed and of earlier links.
 pub(crate) fn row_of(
     alloc: Global,
-    columns: &Columns,
+    columns: &LinkedColumns,
     raw: &RawRow,
     spare: Row,
+    room: &mut LinkRoom,
 ) -> Result<Row, Halt>
     requires { AreSound columns.now.columns }
     ensures { AnnotatesRow columns.now (row_of raw.now) result }
 {
-    match annotate_into(alloc, columns, raw, spare) {
+    match annotate_into(alloc, columns, raw, spare, room) {
         Ok(row) => Ok(row),
         Err(RowStop::Memory) => Err(Halt::Memory),
         Err(RowStop::RaggedRow) => Err(Halt::Table(raw.source(), TableStop::RaggedRow)),
@@ -46,6 +48,7 @@ impl Head {
         plan: &TablePlan,
         raw: &RawRow,
         spare: Row,
+        room: &mut LinkRoom,
     ) -> Result<Step, Halt>
         requires { IsReady plan.now }
         ensures { Begins plan.now (row_of raw.now) self.old self.new result }
@@ -56,7 +59,7 @@ impl Head {
         }
         self.settle(alloc, plan, Some(raw.len()), raw.source())?;
         match &self.columns {
-            Some(columns) => Ok(Step::Row(row_of(alloc, columns, raw, spare)?)),
+            Some(columns) => Ok(Step::Row(row_of(alloc, columns, raw, spare, room)?)),
             None => unreachable!(),
         }
     }

@@ -10,6 +10,7 @@ use crate::head::Head;
 use crate::step::{Step, row_of};
 use csvw_annotate::Row;
 use csvw_columns::{Column, TablePlan};
+use csvw_links::LinkRoom;
 use csvw_rows::Rows;
 use csvw_rows::laws::given_first;
 use csvw_text::{Code, Fault, Kind, Place, Seq};
@@ -60,9 +61,14 @@ impl Table {
     }
 }
 
-/// Reads the next row of a table and annotates it in the memory of a row that is no longer needed. The loan of the reader ends
+/// Reads the next row of a table and annotates it in the memory of a row that is no longer needed and of earlier links. The loan of the reader ends
 /// here.
-pub(crate) fn next_row(plan: &TablePlan, table: &mut Table, spare: Row) -> Result<Step, Halt>
+pub(crate) fn next_row(
+    plan: &TablePlan,
+    table: &mut Table,
+    spare: Row,
+    room: &mut LinkRoom,
+) -> Result<Step, Halt>
     requires { IsReady plan.now }
     ensures { Steps plan.now table.old table.new result }
 {
@@ -73,8 +79,8 @@ pub(crate) fn next_row(plan: &TablePlan, table: &mut Table, spare: Row) -> Resul
         Ok(Some(raw)) => {
             let head = &mut table.head;
             match &head.columns {
-                Some(columns) => Ok(Step::Row(row_of(alloc, columns, &raw, spare)?)),
-                None => head.begin(alloc, plan, &raw, spare),
+                Some(columns) => Ok(Step::Row(row_of(alloc, columns, &raw, spare, room)?)),
+                None => head.begin(alloc, plan, &raw, spare, room),
             }
         }
         Ok(None) => Ok(Step::Nothing),
@@ -146,7 +152,7 @@ impl Table {
             Some(columns) => tell_row(
                 &mut self.faults,
                 self.number,
-                columns.columns.as_slice(),
+                columns.columns().columns.as_slice(),
                 row,
             ),
             None => unreachable!(),

@@ -1,2 +1,4 @@
+mod AboutLemmas
+mod BindingLemmas
 mod ReservedLemmas
 mod SharingLemmas

@@ -1,8 +1,9 @@
+pub mod Bindings
+pub mod BoundLinks
 pub mod CellVariables
-pub mod Found
 pub mod HasForm
-pub mod Kept
 pub mod Links
 pub mod LowLine
+pub mod MadeAt
 pub mod Reserved
 pub mod Sharing

@@ -5,10 +5,7 @@ use Rattle.url.specs.Parts.{Parts}
 use Rattle.csvw_template.specs.declared.part.Part.{Part}
 use Rattle.csvw_template.specs.declared.part.Part.TheVariants.{Literal, Expression}
 use Rattle.csvw_columns_core.specs.declared.column.Column.{Column}
-use Rattle.csvw_cell.specs.declared.cell.CellValue.{CellValue}
-use Rattle.csvw_links.specs.declared.numbers.RowNumbers.{RowNumbers}
-use Rattle.csvw_links.specs.CellVariables.{variables}
-use Rattle.csvw_links.specs.Links.{link_by}
+use Rattle.csvw_links.specs.BoundLinks.{bound_link}
 
 -- the variables that the cells of a row have each of its own
 abbrev pub is_of_column : List ℕ → Bool
@@ -18,7 +15,7 @@ abbrev pub names_column : Part → Bool
 names_column (Literal text) = false
 names_column (Expression operator names) = list_any is_of_column names
 
--- the about links of the cells of two columns are the same in each row
+-- the about links of the cells of two columns of a table are the same
 abbrev pub ShareAbout : Column → Column → Type 0
-ShareAbout one other = (base : Parts) (row : RowNumbers) (columns : List Column) (values : List CellValue)
-    → link_by base (variables row one columns values) one.properties.about_url ≡ link_by base (variables row other columns values) other.properties.about_url
+ShareAbout one other =
+    (base : Parts) (columns : List Column) → bound_link base columns one one.properties.about_url ≡ bound_link base columns other other.properties.about_url

@@ -1,17 +1,17 @@
 //! The links of a cell: what names stand for in the templates of its column, and the IRIs that the templates give.
 #![tactic(auto)]
 
-mod kept;
-mod linker;
+mod bound_link;
+mod cell_names;
+mod link_room;
+mod linked_columns;
 mod linking;
-mod names;
 mod numbers;
 mod sharing;
 mod values;
 
-pub use linker::Linker;
-pub use linking::{Links, Made, has_template, no_link};
-pub use names::{may_be_reserved, reserved};
+pub use link_room::LinkRoom;
+pub use linked_columns::{LinkedColumns, bound_links_are_links};
+pub use linking::{Links, Made, about_alone, has_own_template, has_template, joined, no_link};
 pub use numbers::RowNumbers;
-pub use sharing::share_about;
 pub use values::{text_of, variable};

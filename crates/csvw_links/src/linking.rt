@@ -1,19 +1,15 @@
 //! The links of a cell.
-ghost use Rattle.std.specs.Prelude.{◌≡◌, ◌++◌, ℕ, List, Result, IfOk, OnOk, string_bytes};
+ghost use Rattle.std.specs.Prelude.{◌≡◌, ◌++◌, ℕ, List, Result, IfOk, OnOk};
 ghost use Rattle.csvw_iri.specs.Link.{Refusal, link_of};
 ghost use Rattle.csvw_iri.specs.Fault.{Gives};
 ghost use Rattle.csvw_cell.specs.Codes.{told};
-ghost use Rattle.csvw_links.specs.Links.{no_link, outcome, link_by, has_value, value_link, joined, codes_of, has_template, has_own_template};
+ghost use Rattle.csvw_links.specs.Links.{no_link, outcome, has_value, joined, codes_of, has_template, has_own_template};
 
 use csvw_cell::CellValue;
 use csvw_columns_core::Column;
-use csvw_iri::{Base, Iri, IriFault, link, link_of_text};
-use csvw_template::{Scope, Template};
-use csvw_text::{Code, Seq, Shared, copied_option};
+use csvw_iri::{Base, Iri, IriFault, link};
+use csvw_text::{Code, Seq, copied_option};
 use std::alloc::{AllocError, Global};
-
-/// For how many bytes there is room in the text of a link before it grows.
-pub(crate) const LINK_ROOM: usize = 64;
 
 /// A link, or what is wrong with it.
 #[derive(Drop)]
@@ -58,13 +54,7 @@ pub(crate) fn linked(alloc: Global, base: &Base, text: &str) -> Result<Made, All
     outcome(link(alloc, base, text))
 }
 
-fn linked_text(alloc: Global, base: &Base, text: String) -> Result<Made, AllocError>
-    ensures { IfOk result (λ l. l ≡ outcome (link_of base.now (string_bytes text))) }
-{
-    outcome(link_of_text(alloc, base, text))
-}
-
-fn outcome(answer: Result<Iri, IriFault>) -> Result<Made, AllocError>
+pub(crate) fn outcome(answer: Result<Iri, IriFault>) -> Result<Made, AllocError>
     ensures { IfOk result (λ l. (expected : Result (List ℕ) Refusal) → Gives (λ i. i) answer expected → l ≡ outcome expected) }
 {
     match answer {
@@ -87,47 +77,14 @@ fn outcome(answer: Result<Iri, IriFault>) -> Result<Made, AllocError>
     }
 }
 
-pub(crate) fn link_by<S: Scope>(
-    alloc: Global,
-    base: &Base,
-    template: &Option<Shared<Template>>,
-    scope: &S,
-) -> Result<Made, AllocError>
-    requires { S.can_look_up scope.now }
-    ensures { IfOk result (λ l. l ≡ link_by base.now (S.variables scope.now) template.now) }
-{
-    let Some(template) = template else {
-        return Ok(no_link());
-    };
-    let mut text = String::with_capacity(alloc, LINK_ROOM)?;
-    template.get().expand_into(alloc, &mut text, scope)?;
-    linked_text(alloc, base, text)
-}
-
-fn has_value(value: &CellValue) -> bool
+/// Whether a value is neither null nor the empty list.
+pub(crate) fn has_value(value: &CellValue) -> bool
     ensures { result ≡ has_value value.now }
 {
     match value {
         CellValue::Null => false,
         CellValue::One(_) => true,
         CellValue::Many(items) => !items.is_empty(),
-    }
-}
-
-pub(crate) fn value_link<S: Scope>(
-    alloc: Global,
-    base: &Base,
-    column: &Column,
-    value: &CellValue,
-    scope: &S,
-) -> Result<Made, AllocError>
-    requires { S.can_look_up scope.now }
-    ensures { IfOk result (λ l. l ≡ value_link base.now (S.variables scope.now) column.now value.now) }
-{
-    if column.is_virtual || has_value(value) {
-        link_by(alloc, base, &column.properties.value_url, scope)
-    } else {
-        Ok(no_link())
     }
 }
 
@@ -142,7 +99,7 @@ pub fn has_template(column: &Column) -> bool
 }
 
 /// Whether a column has a template for a property or a value link.
-pub(crate) fn has_own_template(column: &Column) -> bool
+pub fn has_own_template(column: &Column) -> bool
     ensures { result ≡ has_own_template column.now }
 {
     let properties = &column.properties;
@@ -150,7 +107,7 @@ pub(crate) fn has_own_template(column: &Column) -> bool
 }
 
 /// The links of a cell that has no others than its about link.
-pub(crate) fn about_alone(about: Made) -> Links
+pub fn about_alone(about: Made) -> Links
     ensures { result ≡ joined about no_link no_link }
 {
     Links {
@@ -163,7 +120,7 @@ pub(crate) fn about_alone(about: Made) -> Links
 }
 
 /// Three links, and whether something is wrong with one of them.
-pub(crate) fn joined(about: Made, property: Made, value: Made) -> Links
+pub fn joined(about: Made, property: Made, value: Made) -> Links
     ensures { result ≡ joined about property value }
 {
     Links {

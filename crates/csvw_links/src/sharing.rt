@@ -1,12 +1,18 @@
 //! Columns whose cells have the same about links.
 ghost use Rattle.std.specs.Prelude.{◌≡◌, true};
 ghost use Rattle.std.specs.List.{list_any};
+ghost use Rattle.csvw_links.specs.LowLine.{begins_with_low_line};
 ghost use Rattle.csvw_links.specs.Sharing.{ShareAbout, is_of_column, names_column};
 
-use crate::names::begins_with_low_line;
 use csvw_columns_core::Column;
 use csvw_template::Part;
 use csvw_text::Text;
+
+fn begins_with_low_line(name: &[u8]) -> bool
+    ensures { result ≡ begins_with_low_line name.now }
+{
+    matches!(name, [b'_', ..])
+}
 
 #[tactic(auto, using(crate::proofs::ReservedLemmas::none_of_column))]
 fn is_of_column(name: &str) -> bool
@@ -51,8 +57,8 @@ fn any_names_column(parts: &[Part]) -> bool
 }
 
 /// Whether the cells of two columns have the same about link in each row, as equal templates give it that name no variable that
-/// each cell has of its own. It may say no of others.
-pub fn share_about(one: &Column, other: &Column) -> bool
+/// each column has of its own. It may say no of others.
+pub(crate) fn share_about(one: &Column, other: &Column) -> bool
     ensures { result ≡ true → ShareAbout one.now other.now }
 {
     match (&one.properties.about_url, &other.properties.about_url) {

@@ -13,7 +13,8 @@ loop-i-preserved c =
     let i = c.loop-i.invariant in
     record {
       places = search rules;
-      filled = one_cell c.args.columns.now (row_of c.args.row.now).fields c.loop-i.i c.index-columns-i.result c.field_at.result.now c.fill_cell.new.cell (take c.loop-i.i c.loop-i.cells) _
+      filled = one_cell c.args.columns.now (row_of c.args.row.now).fields c.loop-i.i c.index-columns-i.result c.field_at.result.now
+          c.fill_cell.new.cell (take c.loop-i.i c.loop-i.cells) _
           (omega arith) c.index-columns-i.is c.field_at.ensures c.in_ok-fill_cell.ensures i.filled
           (take_more_set c.loop-i.cells c.loop-i.i c.fill_cell.new.cell (omega (arith, i.places)));
     }

@@ -1,14 +1,13 @@
--- The column before shares its about link.
-use Rattle.std.proofs.Common.{◌≡◌, ◌-◌, ◌∙◌, ap, arith, get_or}
-use Rattle.csvw_columns_core.specs.declared.column.Column.{Column}
-use Rattle.csvw_annotate.specs.Linked.{values_of}
+-- By the law of bound links.
+use Rattle.csvw_annotate.proofs.BoundLemmas.{about_made, before_made}
 use Rattle.csvw_annotate.proofs.linking.about_at.Goals as goal
 
-pub returns-then-share_about-clause-made : goal.returns-then-share_about-clause-made
-returns-then-share_about-clause-made c =
-    let scope = c.args.scope.now in
-    let place = c.args.place - 1 in
-    let column = get_or scope.columns.now place c.index-scope-place.result in
-    let there : column ≡ get_or scope.columns.now place column = ap (λ (k : Column). get_or scope.columns.now place k) c.index-scope-place.is in
-    c.requires.before place column (omega arith) there
-    ∙ c.share_about.ensures c.if-share_about.true c.args.linker.now scope.row scope.columns.now (values_of scope.cells.now)
+pub about_at-requires-clause-before : goal.about_at-requires-clause-before
+about_at-requires-clause-before c =
+    before_made c.bound_links_are_links.ensures c.args.columns.now c.args.scope.now.row c.args.scope.now.cells.now c.requires.places c.args.place
+    c.args.before c.requires.before
+
+pub returns : goal.returns
+returns c =
+    about_made c.bound_links_are_links.ensures c.args.columns.now c.args.scope.now.row c.args.scope.now.cells.now c.requires.places c.args.place _
+    c.in_ok-made.ensures

@@ -11,10 +11,13 @@ pub returns-in_err-emitter-clause-drains : goal.returns-in_err-emitter-clause-dr
 returns-in_err-emitter-clause-drains g c = λ mode bytes ended given rows h.
     let s = g.S.TripleSink in
     let p = err_from_is_err_and c.from_residual.result c.from_residual.ensures.1 in
-    outcome_err s.gains s.is_open s.failed g.met.S.TripleSink.stays g.met.S.TripleSink.goes_on c.args.plan.now mode bytes ended given rows c.args.table.now (outlets c.args.sink.now c.args.keys.now) c.args.table.now (outlets c.args.sink.now c.args.keys.now)
+    outcome_err s.gains s.is_open s.failed g.met.S.TripleSink.stays g.met.S.TripleSink.goes_on c.args.plan.now mode bytes ended given rows
+    c.args.table.now (outlets c.args.sink.now c.args.keys.now) c.args.table.now (outlets c.args.sink.now c.args.keys.now)
     c.from_residual.result p.0 halt.Memory p.1 p.2 (
-      some_given s.gains s.is_open s.failed g.met.S.TripleSink.stays g.met.S.TripleSink.goes_on c.args.plan.now mode bytes ended given rows c.args.table.now (outlets c.args.sink.now c.args.keys.now) c.given_first.ensures c.args.table.now (outlets c.args.sink.now c.args.keys.now)
-          (gone_nothing s.gains s.is_open s.failed g.met.S.TripleSink.stays g.met.S.TripleSink.goes_on c.args.plan.now mode bytes ended given rows c.args.table.now (outlets c.args.sink.now c.args.keys.now) h),
+      some_given s.gains s.is_open s.failed g.met.S.TripleSink.stays g.met.S.TripleSink.goes_on c.args.plan.now mode bytes ended given rows
+          c.args.table.now (outlets c.args.sink.now c.args.keys.now) c.given_first.ensures c.args.table.now (outlets c.args.sink.now c.args.keys.now)
+          (gone_nothing s.gains s.is_open s.failed g.met.S.TripleSink.stays g.met.S.TripleSink.goes_on c.args.plan.now mode bytes ended given rows
+          c.args.table.now (outlets c.args.sink.now c.args.keys.now) h),
       (refl, refl),
     )
 
@@ -23,7 +26,8 @@ loop-emitter-init g c = record {
   ended = refl;
   ready = (refl, refl);
   gone = λ mode bytes ended given rows h. let s = g.S.TripleSink in
-      gone_nothing s.gains s.is_open s.failed g.met.S.TripleSink.stays g.met.S.TripleSink.goes_on c.args.plan.now mode bytes ended given rows c.args.table.now (outlets c.args.sink.now c.args.keys.now) h;
+      gone_nothing s.gains s.is_open s.failed g.met.S.TripleSink.stays g.met.S.TripleSink.goes_on c.args.plan.now mode bytes ended given rows
+      c.args.table.now (outlets c.args.sink.now c.args.keys.now) h;
 }
 
 pub returns-in_err-row-clause-drains : goal.returns-in_err-row-clause-drains
@@ -32,9 +36,11 @@ returns-in_err-row-clause-drains g c = λ mode bytes ended given rows h.
     let i = c.loop-emitter.invariant in
     let e = c.in_err-row.ensures in
     let p = err_from_is_err_and c.from_residual-in_err-row.result c.from_residual-in_err-row.ensures.1 in
-    outcome_err s.gains s.is_open s.failed g.met.S.TripleSink.stays g.met.S.TripleSink.goes_on c.args.plan.now mode bytes ended given rows c.args.table.now (outlets c.args.sink.now c.args.keys.now) c.next_row.new.table (outlets c.loop-emitter.sink c.loop-emitter.keys)
+    outcome_err s.gains s.is_open s.failed g.met.S.TripleSink.stays g.met.S.TripleSink.goes_on c.args.plan.now mode bytes ended given rows
+    c.args.table.now (outlets c.args.sink.now c.args.keys.now) c.next_row.new.table (outlets c.loop-emitter.sink c.loop-emitter.keys)
     c.from_residual-in_err-row.result p.0 _ p.1 p.2
-    (text_halts s.gains s.is_open s.failed g.met.S.TripleSink.stays g.met.S.TripleSink.goes_on c.args.plan.now mode bytes ended given rows c.args.table.now (outlets c.args.sink.now c.args.keys.now) c.given_first.ensures
+    (text_halts s.gains s.is_open s.failed g.met.S.TripleSink.stays g.met.S.TripleSink.goes_on c.args.plan.now mode bytes ended given rows
+    c.args.table.now (outlets c.args.sink.now c.args.keys.now) c.given_first.ensures
     c.loop-emitter.table c.next_row.new.table (outlets c.loop-emitter.sink c.loop-emitter.keys) _ e.1 i.ready (i.gone mode bytes ended given rows h))
 
 pub returns-in_err-tell-in-Row-clause-drains : goal.returns-in_err-tell-in-Row-clause-drains
@@ -42,9 +48,12 @@ returns-in_err-tell-in-Row-clause-drains g c = λ mode bytes ended given rows h.
     let s = g.S.TripleSink in
     let i = c.loop-emitter.invariant in
     let p = err_from_is_err_and c.from_residual-in_err-tell-in-Row.result c.from_residual-in_err-tell-in-Row.ensures.1 in
-    outcome_err s.gains s.is_open s.failed g.met.S.TripleSink.stays g.met.S.TripleSink.goes_on c.args.plan.now mode bytes ended given rows c.args.table.now (outlets c.args.sink.now c.args.keys.now) c.tell.new.self (outlets c.loop-emitter.sink c.loop-emitter.keys)
+    outcome_err s.gains s.is_open s.failed g.met.S.TripleSink.stays g.met.S.TripleSink.goes_on c.args.plan.now mode bytes ended given rows
+    c.args.table.now (outlets c.args.sink.now c.args.keys.now) c.tell.new.self (outlets c.loop-emitter.sink c.loop-emitter.keys)
     c.from_residual-in_err-tell-in-Row.result p.0 halt.Memory p.1 p.2 (
-      some_given s.gains s.is_open s.failed g.met.S.TripleSink.stays g.met.S.TripleSink.goes_on c.args.plan.now mode bytes ended given rows c.args.table.now (outlets c.args.sink.now c.args.keys.now) c.given_first.ensures c.loop-emitter.table (outlets c.loop-emitter.sink c.loop-emitter.keys)
+      some_given s.gains s.is_open s.failed g.met.S.TripleSink.stays g.met.S.TripleSink.goes_on c.args.plan.now mode bytes ended given rows
+          c.args.table.now (outlets c.args.sink.now c.args.keys.now) c.given_first.ensures c.loop-emitter.table
+          (outlets c.loop-emitter.sink c.loop-emitter.keys)
           (i.gone mode bytes ended given rows h),
       i.ready,
     )
@@ -56,9 +65,11 @@ returns-in_err-add-in-Row-clause-drains g c = λ mode bytes ended given rows h.
     let begun = outlets c.args.sink.now c.args.keys.now in
     let now = outlets c.loop-emitter.sink c.loop-emitter.keys in
     let p = err_from_is_err_and c.from_residual-in_err-add-in-Row.result c.from_residual-in_err-add-in-Row.ensures.1 in
-    outcome_err s.gains s.is_open s.failed g.met.S.TripleSink.stays g.met.S.TripleSink.goes_on c.args.plan.now mode bytes ended given rows c.args.table.now begun c.tell.new.self
+    outcome_err s.gains s.is_open s.failed g.met.S.TripleSink.stays g.met.S.TripleSink.goes_on c.args.plan.now mode bytes ended given rows
+    c.args.table.now begun c.tell.new.self
     (outlets c.loop-emitter.sink c.add.new.self) c.from_residual-in_err-add-in-Row.result p.0 halt.Memory p.1 p.2 (
-      some_given s.gains s.is_open s.failed g.met.S.TripleSink.stays g.met.S.TripleSink.goes_on c.args.plan.now mode bytes ended given rows c.args.table.now begun
+      some_given s.gains s.is_open s.failed g.met.S.TripleSink.stays g.met.S.TripleSink.goes_on c.args.plan.now mode bytes ended given rows
+          c.args.table.now begun
           c.given_first.ensures c.loop-emitter.table now (i.gone mode bytes ended given rows h),
       i.ready,
     )
@@ -69,10 +80,13 @@ returns-in_err-give-in-Row-clause-drains g c = λ mode bytes ended given rows h.
     let i = c.loop-emitter.invariant in
     let k = rw c.in-Row.is at c.in_ok-row.ensures in
     let p = err_from_is_err_and c.from_residual-in_err-give-in-Row.result c.from_residual-in_err-give-in-Row.ensures.1 in
-    outcome_err s.gains s.is_open s.failed g.met.S.TripleSink.stays g.met.S.TripleSink.goes_on c.args.plan.now mode bytes ended given rows c.args.table.now (outlets c.args.sink.now c.args.keys.now) c.tell.new.self (outlets c.give.new.sink c.add.new.self)
+    outcome_err s.gains s.is_open s.failed g.met.S.TripleSink.stays g.met.S.TripleSink.goes_on c.args.plan.now mode bytes ended given rows
+    c.args.table.now (outlets c.args.sink.now c.args.keys.now) c.tell.new.self (outlets c.give.new.sink c.add.new.self)
     c.from_residual-in_err-give-in-Row.result p.0 _ p.1 p.2
-    (sink_halts s.gains s.is_open s.failed g.met.S.TripleSink.stays g.met.S.TripleSink.goes_on c.args.plan.now mode bytes ended given rows c.args.table.now (outlets c.args.sink.now c.args.keys.now) c.given_first.ensures
-    c.loop-emitter.table c.next_row.new.table c.tell.new.self (outlets c.loop-emitter.sink c.loop-emitter.keys) (outlets c.give.new.sink c.add.new.self) c.in-Row.row _ k.0 k.3 c.in_ok-tell-in-Row.ensures.same c.in_err-give-in-Row.ensures i.ready
+    (sink_halts s.gains s.is_open s.failed g.met.S.TripleSink.stays g.met.S.TripleSink.goes_on c.args.plan.now mode bytes ended given rows
+    c.args.table.now (outlets c.args.sink.now c.args.keys.now) c.given_first.ensures
+    c.loop-emitter.table c.next_row.new.table c.tell.new.self (outlets c.loop-emitter.sink c.loop-emitter.keys)
+    (outlets c.give.new.sink c.add.new.self) c.in-Row.row _ k.0 k.3 c.in_ok-tell-in-Row.ensures.same c.in_err-give-in-Row.ensures i.ready
     (i.gone mode bytes ended given rows h))
 
 pub loop-emitter-preserved-in-Row : goal.loop-emitter-preserved-in-Row
@@ -86,8 +100,11 @@ loop-emitter-preserved-in-Row g c =
       ended = ap (λ (x : Table). is_ended x) t.same ∙ (k.0.ended ∙ i.ended);
       ready = (gave.1.0 ∙ i.ready.0, gave.1.1 ∙ i.ready.1);
       gone = λ mode bytes ended given rows h.
-          gone_row s.gains s.is_open s.failed g.met.S.TripleSink.stays g.met.S.TripleSink.goes_on c.args.plan.now mode bytes ended given rows c.args.table.now (outlets c.args.sink.now c.args.keys.now)
-          c.loop-emitter.table c.next_row.new.table c.tell.new.self (outlets c.loop-emitter.sink c.loop-emitter.keys) (outlets c.give.new.sink c.add.new.self) c.in-Row.row k.0 k.3 t.same t.told gave.0 c.in_ok-add-in-Row.ensures (i.gone mode bytes ended given rows h);
+          gone_row s.gains s.is_open s.failed g.met.S.TripleSink.stays g.met.S.TripleSink.goes_on c.args.plan.now mode bytes ended given rows
+          c.args.table.now (outlets c.args.sink.now c.args.keys.now)
+          c.loop-emitter.table c.next_row.new.table c.tell.new.self (outlets c.loop-emitter.sink c.loop-emitter.keys)
+          (outlets c.give.new.sink c.add.new.self) c.in-Row.row k.0 k.3 t.same t.told gave.0 c.in_ok-add-in-Row.ensures
+          (i.gone mode bytes ended given rows h);
     }
 
 pub loop-emitter-preserved : goal.loop-emitter-preserved
@@ -99,7 +116,8 @@ loop-emitter-preserved g c =
       ended = k.0.ended ∙ i.ended;
       ready = i.ready;
       gone = λ mode bytes ended given rows h.
-          gone_header s.gains s.is_open s.failed g.met.S.TripleSink.stays g.met.S.TripleSink.goes_on c.args.plan.now mode bytes ended given rows c.args.table.now (outlets c.args.sink.now c.args.keys.now)
+          gone_header s.gains s.is_open s.failed g.met.S.TripleSink.stays g.met.S.TripleSink.goes_on c.args.plan.now mode bytes ended given rows
+          c.args.table.now (outlets c.args.sink.now c.args.keys.now)
           c.loop-emitter.table c.next_row.new.table (outlets c.loop-emitter.sink c.loop-emitter.keys) k.0 k.2 (i.gone mode bytes ended given rows h);
     }
 
@@ -108,7 +126,8 @@ returns-in-Nothing-clause-drains g c = λ mode bytes ended given rows h.
     let s = g.S.TripleSink in
     let i = c.loop-emitter.invariant in
     let k = rw c.in-Nothing.is at c.in_ok-row.ensures in (
-      gone_same s.gains s.is_open s.failed g.met.S.TripleSink.stays g.met.S.TripleSink.goes_on c.args.plan.now mode bytes ended given rows c.args.table.now (outlets c.args.sink.now c.args.keys.now)
+      gone_same s.gains s.is_open s.failed g.met.S.TripleSink.stays g.met.S.TripleSink.goes_on c.args.plan.now mode bytes ended given rows
+          c.args.table.now (outlets c.args.sink.now c.args.keys.now)
           c.loop-emitter.table c.next_row.new.table (outlets c.loop-emitter.sink c.loop-emitter.keys) k.0 k.1 (i.gone mode bytes ended given rows h),
       i.ready,
     )

@@ -8,5 +8,6 @@ use Rattle.csvw_engine_core.proofs.table.tell_row.Given as goal
 
 abbrev pub invariant-loop-column : goal.invariant-loop-column
 invariant-loop-column l =
-    l.faults ++ flat_map (λ (p : Column × AnnCell). cell_faults (place_of l.table l.row p.0) p.1.faults) (zip l.column-iterator.a.rest.now l.column-iterator.b.rest.now)
+    l.faults ++ flat_map (λ (p : Column × AnnCell). cell_faults (place_of l.table l.row p.0) p.1.faults)
+    (zip l.column-iterator.a.rest.now l.column-iterator.b.rest.now)
     ≡ l.initial.faults ++ row_faults l.table l.columns l.row
