@@ -9,8 +9,8 @@ use Rattle.csvw_meta_core.specs.declared.fault.MetaCode.{MetaCode}
 use Rattle.csvw_meta_core.specs.declared.fault.MetaCode.TheVariants.{BadProperty, TooMany}
 use Rattle.csvw_meta_core.specs.declared.fault.MetaFault.{MetaFault}
 use Rattle.csvw_meta_core.specs.Pointer.{below, item_at}
-use Rattle.csvw_meta_core.specs.Read.{Read, faulty, over_faults, over, on_kind_as, on_object, on_linked_object, or_null, given, property, optional}
-use Rattle.csvw_meta_core.specs.Read.{found, needed, each_numbered, under}
+use Rattle.csvw_meta_core.specs.Read.{Read, over_faults, over, on_kind_as, on_object, on_linked_object, or_null, given, property, optional, found}
+use Rattle.csvw_meta_core.specs.Read.{needed, each_numbered, under}
 use Rattle.csvw_meta_core.specs.Rules.{also}
 use Rattle.csvw_meta.specs.Document.{read_by, read_by_faults}
 use Rattle.csvw_meta.specs.Several.{count_faults, items_len, some_items, several}

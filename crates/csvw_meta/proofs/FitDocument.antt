@@ -1,6 +1,6 @@
 -- What a document without faults describes can be planned by.
 use Rattle.std.proofs.Common.{◌≡◌, ◌≢◌, ◌≤◌, ℕ, List, [], ◌∷◌, ◌++◌, Bool, true, false, Option, Some, None, refl, ap, subst, arith, length, map, All}
-use Rattle.std.proofs.Common.{AllPairs, codes, IfSome, nat_lt, is_some}
+use Rattle.std.proofs.Common.{AllPairs, codes, IfSome, is_some}
 use Rattle.std.proofs.lemmas.List.{length-map}
 use Rattle.std.proofs.lemmas.List.Elements.{All-cons, All-map, All-weaker}
 use Rattle.serde_json.specs.Data.{Data}

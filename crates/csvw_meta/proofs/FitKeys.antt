@@ -44,6 +44,10 @@ none_told : (b : Bool) (fault : MetaFault) → (if b then [] else fault ∷ []) 
 none_told true fault h = refl
 none_told false fault h = cc
 
+-- a fault stands in no empty list
+not_empty : {A : Type 0} (fault : MetaFault) (faults : List MetaFault) → fault ∷ faults ≡ [] → A
+not_empty fault faults h = cc
+
 all_among : (names : List (List ℕ)) (key : List KeyName) → name_faults all_known names key ≡ [] → AreAmong names (names_of key)
 all_among names [] h = All-nil (λ name. Contains names name)
 all_among names (k ∷ ks) h =
@@ -70,7 +74,9 @@ module _ (own : List (List ℕ)) (group : Option Schema) (key : ForeignKeyFound)
   )
 
   refers : (tables : List TableFound) → foreign_faults all_known own (map (target group) tables) key ≡ [] → Reference tables
-  refers [] h = cc
+  refers [] h =
+      let none = none_in_both (name_faults all_known own key.columns) (bad_reference key.resource.at ∷ side_faults all_known key) h in
+      not_empty (bad_reference key.resource.at) (side_faults all_known key) none.1
   refers (t ∷ ts) h =
       let rest = target_of (map (target group) ts) key.resource.url in
       let url = iri_of t.table.url in

@@ -69,10 +69,13 @@ unfoldable pub is_known : List ℕ → List ℕ → List MetaFault → Bool
 is_known at name faults =
     not (list_any (λ f. is_at at f || (is_at (below at (codes "@context")) f || hides_property (item_at (below at (codes "@context")) 1) name f)) faults)
 
+-- what stands beside the faults of the context of the document at this pointer
+abbrev pub beside_context : List ℕ → List MetaFault → MetaCode → Bool
+beside_context at faults = stands (is_known at (codes "@base") faults) (is_known at (codes "@language") faults)
+
 -- what a value describes, at the document's own URL
 abbrev pub described : Parts → List ℕ → Data → Read Description
-described base at d =
-    read_by (λ faults. stands (is_known at (codes "@base") faults) (is_known at (codes "@language") faults)) (context base at d) (λ c. within c at d)
+described base at d = read_by (beside_context at) (context base at d) (λ c. within c at d)
 
 abbrev pub of_json : Parts → Option Data → Read Description
 of_json base None = faulty NotJson [] no_group

@@ -1,6 +1,6 @@
 -- What the keys of a group's schemas name (Metadata Vocabulary for Tabular Data, sections 5.5.1 and 5.5.2).
 use Rattle.std.specs.Prelude.{ℕ, ◌+◌, ◌==◌, ◌&&◌, ◌||◌, not, List, [], ◌∷◌, ◌++◌, Bool, true, false, Option, Some, None, bytes_eq, codes, length, map}
-use Rattle.std.specs.Prelude.{if◌then◌else◌}
+use Rattle.std.specs.Prelude.{flat_map, if◌then◌else◌}
 use Rattle.std.specs.List.{list_any}
 use Rattle.csvw_iri.specs.Link.{iri_of}
 use Rattle.csvw_description.specs.declared.schema.Schema.{Schema}
@@ -11,7 +11,7 @@ use Rattle.csvw_meta_core.specs.Rules.{could_read, hides_property, is_at, is_wit
 use Rattle.csvw_meta_keys.specs.declared.foreign_key.ForeignKeyFound.{ForeignKeyFound}
 use Rattle.csvw_meta_keys.specs.declared.keys.KeysFound.{KeysFound}
 use Rattle.csvw_meta_keys.specs.declared.naming.Target.{Target}
-use Rattle.csvw_meta_keys.specs.Naming.{Known, key_faults}
+use Rattle.csvw_meta_keys.specs.Naming.{all_known, Known, key_faults}
 use Rattle.csvw_meta.specs.declared.group.GroupFound.{GroupFound}
 use Rattle.csvw_meta.specs.declared.table.TableFound.{TableFound}
 use Rattle.csvw_meta.specs.NamesRead.{hides_declared}
@@ -90,3 +90,11 @@ abbrev pub reference_faults : (ℕ → List ℕ) → List ℕ → List MetaFault
 reference_faults place at faults group =
     schema_faults (known place at faults group at group.body.schema) (targets group) group.body.schema group.body.keys
     ++ table_faults (λ i schema. known place at faults group (place i) schema) (targets group) 0 group.tables
+
+-- the same of tables and of a group of which everything could be read
+abbrev pub known_table_faults : List Target → List TableFound → List MetaFault
+known_table_faults targets tables = flat_map (λ t. schema_faults all_known targets t.table.schema t.keys) tables
+
+abbrev pub known_faults : GroupFound → List MetaFault
+known_faults group =
+    schema_faults all_known (targets group) group.body.schema group.body.keys ++ known_table_faults (targets group) group.tables

@@ -1,9 +1,9 @@
 //! What the keys of a group's schemas name (Metadata Vocabulary for Tabular Data, sections 5.5.1 and 5.5.2).
-ghost use Rattle.std.specs.Prelude.{◌≡◌, ℕ, List, [], IfOk, MatchResult, flat_map};
+ghost use Rattle.std.specs.Prelude.{◌≡◌, [], IfOk, MatchResult};
 ghost use Rattle.csvw_description.specs.Keys.{declared_names, own_or};
 ghost use Rattle.csvw_meta_core.specs.Reads.{Fails};
 ghost use Rattle.csvw_meta_keys.specs.Naming.{all_known};
-ghost use Rattle.csvw_meta.specs.References.{target, targets, schema_faults, reference_faults};
+ghost use Rattle.csvw_meta.specs.References.{target, targets, schema_faults, known_table_faults, known_faults};
 
 use crate::group::GroupFound;
 use crate::schema::column_names;
@@ -75,8 +75,8 @@ fn check_schema(
 }
 
 fn check_tables(alloc: Global, targets: &[Target], tables: &[TableFound]) -> Result<(), Refusal>
-    ensures { MatchResult result (λ _. flat_map (λ t. schema_faults all_known targets.now t.table.schema t.keys) tables.now ≡ [])
-        (λ e. Fails e (flat_map (λ t. schema_faults all_known targets.now t.table.schema t.keys) tables.now)) }
+    ensures { MatchResult result (λ _. known_table_faults targets.now tables.now ≡ [])
+        (λ e. Fails e (known_table_faults targets.now tables.now)) }
 {
     for found in tables {
         check_schema(alloc, targets, &found.table.schema, &found.keys)?;
@@ -88,8 +88,7 @@ fn check_tables(alloc: Global, targets: &[Target], tables: &[TableFound]) -> Res
 /// many columns on both sides; else `BadReference` at the name, at the URL or at the foreign key.
 #[tactic(auto, using(crate::proofs::ReadLemmas::fails_first))]
 pub(crate) fn check_references(alloc: Global, group: &GroupFound) -> Result<(), Refusal>
-    ensures { (place : ℕ → List ℕ) (at : List ℕ) → MatchResult result (λ _. reference_faults place at [] group.now ≡ [])
-        (λ e. Fails e (reference_faults place at [] group.now)) }
+    ensures { MatchResult result (λ _. known_faults group.now ≡ []) (λ e. Fails e (known_faults group.now)) }
 {
     let targets = targets_of(alloc, group)?;
     check_schema(

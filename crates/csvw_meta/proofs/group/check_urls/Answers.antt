@@ -1,5 +1,5 @@
 -- What is told of the texts is told by the rule over those that could be read, where each could.
-use Rattle.std.proofs.Common.{◌≡◌, ℕ, List, [], ◌∷◌, true, Contains, rules, subst, map, codes}
+use Rattle.std.proofs.Common.{◌≡◌, ℕ, [], true, Contains, rules, subst, map, codes}
 use Rattle.csvw_meta_core.specs.declared.fault.MetaCode.TheVariants.{DuplicateTable}
 use Rattle.csvw_meta_core.specs.declared.fault.MetaFault.{MetaFault}
 use Rattle.csvw_meta_core.specs.Pointer.{below, item_at, text_of}

@@ -1,5 +1,5 @@
 -- What is told of the texts is told by the rule over those that could be read, where each could.
-use Rattle.std.proofs.Common.{◌≡◌, ℕ, List, [], ◌∷◌, true, Contains, rules, subst}
+use Rattle.std.proofs.Common.{◌≡◌, ℕ, [], true, Contains, rules, subst}
 use Rattle.csvw_meta_core.specs.declared.fault.MetaCode.TheVariants.{DuplicateName}
 use Rattle.csvw_meta_core.specs.declared.fault.MetaFault.{MetaFault}
 use Rattle.csvw_meta_core.specs.Pointer.{item_at, text_of}

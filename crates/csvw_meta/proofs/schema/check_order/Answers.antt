@@ -1,5 +1,5 @@
 -- The fault is one of those of the rule over what could be read.
-use Rattle.std.proofs.Common.{ℕ, [], ◌∷◌}
+use Rattle.std.proofs.Common.{ℕ, []}
 use Rattle.csvw_meta_core.specs.declared.fault.MetaCode.TheVariants.{VirtualOrder}
 use Rattle.csvw_meta_core.specs.declared.fault.MetaFault.{MetaFault}
 use Rattle.csvw_meta_core.specs.Pointer.{text_of, item_at}
