@@ -57,7 +57,8 @@ pub(crate) fn column_names(
 
 /// No column has the name of an earlier one; else `DuplicateName` at the later one.
 fn check_names(part: &Part, columns: &[ColumnDescription]) -> Result<(), Refusal>
-    ensures { MatchResult result (λ _. name_faults (text_of part.now.at) [] columns.now ≡ []) (λ e. Fails e (name_faults (text_of part.now.at) [] columns.now)) }
+    ensures { MatchResult result (λ _. name_faults (text_of part.now.at) [] columns.now ≡ [])
+        (λ e. Fails e (name_faults (text_of part.now.at) [] columns.now)) }
 {
     let names = column_names(part.alloc, columns)?;
     match repeated_at(names.as_slice()) {
@@ -68,7 +69,8 @@ fn check_names(part: &Part, columns: &[ColumnDescription]) -> Result<(), Refusal
 
 /// No column that isn't virtual stands behind one that is; else `VirtualOrder` at it.
 fn check_order(part: &Part, columns: &[ColumnDescription]) -> Result<(), Refusal>
-    ensures { MatchResult result (λ _. order_faults (text_of part.now.at) [] columns.now ≡ []) (λ e. Fails e (order_faults (text_of part.now.at) [] columns.now)) }
+    ensures { MatchResult result (λ _. order_faults (text_of part.now.at) [] columns.now ≡ [])
+        (λ e. Fails e (order_faults (text_of part.now.at) [] columns.now)) }
 {
     match misplaced_at(columns) {
         None => Ok(()),
@@ -78,7 +80,8 @@ fn check_order(part: &Part, columns: &[ColumnDescription]) -> Result<(), Refusal
 
 /// Each column has a name of its own, and the virtual ones come last.
 fn check_columns(part: &Part, columns: &[ColumnDescription]) -> Result<(), Refusal>
-    ensures { MatchResult result (λ _. column_faults (text_of part.now.at) [] columns.now ≡ []) (λ e. Fails e (column_faults (text_of part.now.at) [] columns.now)) }
+    ensures { MatchResult result (λ _. column_faults (text_of part.now.at) [] columns.now ≡ [])
+        (λ e. Fails e (column_faults (text_of part.now.at) [] columns.now)) }
 {
     check_names(part, columns)?;
     check_order(part, columns)

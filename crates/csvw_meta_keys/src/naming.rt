@@ -82,7 +82,8 @@ fn check_table(
     target: &Target,
     key: &ForeignKeyFound,
 ) -> Result<(), Refusal>
-    ensures { MatchResult result (λ _. faults_to all_known own.now key.now (Some target.now) ≡ []) (λ e. Fails e (faults_to all_known own.now key.now (Some target.now))) }
+    ensures { MatchResult result (λ _. faults_to all_known own.now key.now (Some target.now) ≡ [])
+        (λ e. Fails e (faults_to all_known own.now key.now (Some target.now))) }
 {
     check_names(alloc, own, key.columns.as_slice())?;
     check_names(alloc, target.names.as_slice(), key.referenced.as_slice())?;
@@ -96,7 +97,8 @@ fn check_foreign(
     targets: &[Target],
     key: &ForeignKeyFound,
 ) -> Result<(), Refusal>
-    ensures { MatchResult result (λ _. foreign_faults all_known own.now targets.now key.now ≡ []) (λ e. Fails e (foreign_faults all_known own.now targets.now key.now)) }
+    ensures { MatchResult result (λ _. foreign_faults all_known own.now targets.now key.now ≡ [])
+        (λ e. Fails e (foreign_faults all_known own.now targets.now key.now)) }
 {
     match target_of(targets, key.resource.url.as_str()) {
         Some(target) => check_table(alloc, own, target, key),
@@ -129,7 +131,8 @@ pub fn check_keys(
     targets: &[Target],
     keys: &KeysFound,
 ) -> Result<(), Refusal>
-    ensures { MatchResult result (λ _. key_faults all_known own.now targets.now keys.now ≡ []) (λ e. Fails e (key_faults all_known own.now targets.now keys.now)) }
+    ensures { MatchResult result (λ _. key_faults all_known own.now targets.now keys.now ≡ [])
+        (λ e. Fails e (key_faults all_known own.now targets.now keys.now)) }
 {
     check_names(alloc, own, keys.primary.as_slice())?;
     check_each(alloc, own, targets, keys.foreign.as_slice())
