@@ -12,7 +12,6 @@ use Rattle.csvw_meta_core.specs.Pointer.{below, item_at}
 use Rattle.csvw_meta_core.specs.Read.{Read, over_faults, over, on_kind_as, on_object, on_linked_object, or_null, given, property, optional, found}
 use Rattle.csvw_meta_core.specs.Read.{needed, each_numbered, under}
 use Rattle.csvw_meta_core.specs.Rules.{also}
-use Rattle.csvw_meta.specs.Document.{read_by, read_by_faults}
 use Rattle.csvw_meta.specs.Several.{count_faults, items_len, some_items, several}
 
 -- where no fault stands in the part, its value is so
@@ -41,15 +40,6 @@ over_none Q P dummy (f ∷ fs) a next q p h = cc
 pub over_fine : {A B : Type 0} (Q : A → Type 0) (P : B → Type 0) (dummy : B) (r : Read A) (next : A → Read B)
     → Ensures r Q → ((a : A) → Q a → Ensures (next a) P) → Ensures (over dummy r next) P
 over_fine Q P dummy r next q p = over_none Q P dummy r.faults r.value next q (p r.value)
-
-by_none : {A B : Type 0} (P : B → Type 0) (keeps : MetaCode → Bool) (faults : List MetaFault) (a : A) (next : A → Read B) → Ensures (next a) P
-    → Ensures (read_by_faults keeps faults a next) P
-by_none P keeps [] a next p h = p h
-by_none P keeps (f ∷ fs) a next p h = cc
-
-pub by_fine : {A B : Type 0} (P : B → Type 0) (keeps : List MetaFault → MetaCode → Bool) (r : Read A) (next : A → Read B)
-    → ((a : A) → Ensures (next a) P) → Ensures (read_by keeps r next) P
-by_fine P keeps r next p = by_none P (keeps r.faults) r.faults r.value next (p r.value)
 
 -- ---- kinds
 

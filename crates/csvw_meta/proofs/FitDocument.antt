@@ -1,22 +1,20 @@
 -- What a document without faults describes can be planned by.
 use Rattle.std.proofs.Common.{◌≡◌, ◌≢◌, ◌≤◌, ℕ, List, [], ◌∷◌, ◌++◌, Bool, true, false, Option, Some, None, refl, ap, subst, arith, length, map, All}
 use Rattle.std.proofs.Common.{AllPairs, codes, IfSome, is_some}
+use Rattle.std.specs.Prelude.{⊤}
 use Rattle.std.proofs.lemmas.List.{length-map}
 use Rattle.std.proofs.lemmas.List.Elements.{All-cons, All-map, All-weaker}
 use Rattle.serde_json.specs.Data.{Data}
 use Rattle.serde_json.specs.Find.{get}
 use Rattle.url.specs.Parts.{Parts}
 use Rattle.csvw_text.specs.declared.fault.Fault.{Fault}
-use Rattle.csvw_iri.specs.Link.{base_of, iri_of}
-use Rattle.csvw_description.specs.declared.description.Description.{Description}
+use Rattle.csvw_iri.specs.Link.{iri_of}
 use Rattle.csvw_description.specs.Plannable.{HasSound, IsFitDialect, IsFitSchema, IsFitTable, IsPlannable}
-use Rattle.csvw_meta_core.specs.declared.fault.MetaCode.{MetaCode}
-use Rattle.csvw_meta_core.specs.declared.fault.MetaCode.TheVariants.{DuplicateTable}
-use Rattle.csvw_meta_core.specs.declared.fault.MetaFault.{MetaFault}
+use Rattle.csvw_meta_core.specs.declared.fault.MetaCode.TheVariants.{DuplicateTable, NotJson}
 use Rattle.csvw_meta_core.specs.Pointer.{below, item_at}
-use Rattle.csvw_meta_core.specs.Read.{Read, fine, optional, property, needed}
+use Rattle.csvw_meta_core.specs.Read.{faulty, optional, property, needed}
 use Rattle.csvw_meta_core.specs.Kinds.{fixed, truth}
-use Rattle.csvw_meta_core.specs.Links.{id, no_url, told, url}
+use Rattle.csvw_meta_core.specs.Links.{id, no_url, url}
 use Rattle.csvw_meta_keys.specs.Naming.{all_known}
 use Rattle.csvw_meta_notes.specs.Unlisted.{all_notes, all_warnings}
 use Rattle.csvw_meta.specs.declared.body.Body.{Body}
@@ -30,7 +28,8 @@ use Rattle.csvw_meta.specs.declared.table.TableFound.{TableFound}
 use Rattle.csvw_meta.specs.Body.{body, body_of, given_dialect, split}
 use Rattle.csvw_meta.specs.Context.{context}
 use Rattle.csvw_meta.specs.Dialect.{dialect}
-use Rattle.csvw_meta.specs.Document.{described, document, is_known, length_of, of_bytes, of_json, parts, read_by, sole_table, stands, within}
+use Rattle.csvw_meta.specs.Described.{MayBeContext, described, hanging_on, judged_by, parts, sole_table, within}
+use Rattle.csvw_meta.specs.Document.{Document, MayBeUrl, document, judged, length_of, of_bytes, of_json, own_url, plain_description}
 use Rattle.csvw_meta.specs.Group.{description_of, group, no_group, tables, url_faults, url_of}
 use Rattle.csvw_meta.specs.Inherited.{inherited}
 use Rattle.csvw_meta.specs.Json.{json_of, without_bom}
@@ -39,10 +38,11 @@ use Rattle.csvw_meta.specs.References.{reference_faults, schema_faults, table_at
 use Rattle.csvw_meta.specs.Schema.{schema}
 use Rattle.csvw_meta.specs.Several.{several}
 use Rattle.csvw_meta.specs.Table.{no_table, table, table_of, table_others}
-use Rattle.csvw_meta.specs.UrlAlone.{own_base, plain_description, plain_document}
-use Rattle.csvw_meta.proofs.FineLemmas.{Ensures, none_in_both, if_fine, by_fine, also_fine, over_fine, on_object_fine, needed_fine, optional_fine, several_fine}
+use Rattle.csvw_meta.specs.UrlAlone.{own_base, plain_document}
+use Rattle.csvw_meta.proofs.FineLemmas.{Ensures, none_in_both, if_fine, also_fine, on_object_fine, needed_fine, optional_fine, several_fine}
 use Rattle.csvw_meta.proofs.FitDialect.{HasFitDialect, dialect_fine}
 use Rattle.csvw_meta.proofs.FitKeys.{DescribesAny, schema_resolves, tables_resolve}
+use Rattle.csvw_meta.proofs.HangingLemmas.{Gives, gives_on, gives_read}
 use Rattle.csvw_meta.proofs.FitSchema.{DatatypesFit, IsFitFound, inherited_sound, pairs_apart, schema_fine}
 
 -- ---- dialects and bodies
@@ -116,10 +116,6 @@ plannable place at g fit h =
       table_keys =
           tables_resolve g 0 g.tables (All-weaker IsFitTableFound (λ t. DescribesAny t.table.schema t.keys) (λ t f. f.keys) g.tables tables) parts.1;
     }
-
--- what is read
-read_fine : (r : Read Description) (d : Description) → Ensures r IsPlannable → r ≡ fine d → IsPlannable d
-read_fine r d h is = subst IsPlannable (ap (λ (x : Read Description). x.value) is) (h (ap (λ (x : Read Description). x.faults) is))
 
 -- ---- from bodies to documents
 
@@ -197,32 +193,21 @@ module _ (datatypes : DatatypesFit) where
       let place = table_at (is_some (get (codes "tables") d)) at in
       also_fine IsFitGroup (λ g. IsPlannable (description_of g)) (parts context at d) (reference_faults place at) (parts_fine context at d) (plannable place at)
 
-  described_fine : (base : Parts) (at : List ℕ) (d : Data) → Ensures (described base at d) IsPlannable
-  described_fine base at d =
-      let keeps : List MetaFault → MetaCode → Bool =
-      λ faults. stands (is_known at (codes "@base") faults) (is_known at (codes "@language") faults) in
-      by_fine IsPlannable keeps (context base at d) (λ c. within c at d) (λ c. within_fine c at d)
+  described_gives : (base : Parts) (at : List ℕ) (d : Data) → Gives (described base at d) IsPlannable
+  described_gives base at d =
+      gives_on IsPlannable (context base at d) (MayBeContext base at (context base at d)) (λ c. judged_by (within c at d))
+      (λ c. gives_read IsPlannable (within c at d) (within_fine c at d))
 
-  of_json_fine : (base : Parts) (o : Option Data) → Ensures (of_json base o) IsPlannable
-  of_json_fine base None h = cc
-  of_json_fine base (Some d) h = described_fine base [] d h
+  of_json_gives : (base : Parts) (o : Option Data) → Gives (of_json base o) IsPlannable
+  of_json_gives base None = gives_read IsPlannable (faulty NotJson [] no_group) (λ h. cc)
+  of_json_gives base (Some d) = described_gives base [] d
 
-  document_fine : (base bytes : List ℕ) → Ensures (document base bytes) IsPlannable
-  unfolding document
-  document_fine base bytes h =
-      let own = told [] no_url (base_of None base) in
-      let keeps : List MetaFault → MetaCode → Bool = λ faults. stands false true in
-      let all = read_by keeps own (λ b. of_bytes b bytes) in
-      by_fine IsPlannable keeps own (λ b. of_bytes b bytes) (λ b. of_json_fine b (json_of (without_bom bytes)))
-      (none_in_both (length_of bytes).faults all.faults h).1
-
-  plain_fine : (url : List ℕ) → Ensures (plain_description url) IsPlannable
-  plain_fine url =
-      over_fine (λ p. Unit {0}) IsPlannable no_group (own_base [] url) (λ b. described b [] (plain_document url)) (λ h. tt)
-      (λ p q. described_fine p [] (plain_document url))
-
-  pub document_plannable : (base bytes : List ℕ) (d : Description) → document base bytes ≡ fine d → IsPlannable d
-  document_plannable base bytes d = read_fine (document base bytes) d (document_fine base bytes)
-
-  pub plain_plannable : (url : List ℕ) (d : Description) → plain_description url ≡ fine d → IsPlannable d
-  plain_plannable url d = read_fine (plain_description url) d (plain_fine url)
+  pub group_plannable : (x : Document) → Gives (judged x) IsPlannable
+  unfolding judged
+  group_plannable (document url bytes) =
+      gives_on IsPlannable (length_of bytes) (λ t. ⊤) (λ t. hanging_on (own_url url) (MayBeUrl (own_url url)) (λ base. of_bytes base bytes))
+      (λ t. gives_on IsPlannable (own_url url) (MayBeUrl (own_url url)) (λ base. of_bytes base bytes)
+      (λ base. of_json_gives base (json_of (without_bom bytes))))
+  group_plannable (plain_description url) =
+      gives_on IsPlannable (own_base [] url) (MayBeUrl (own_base [] url)) (λ base. described base [] (plain_document url))
+      (λ base. described_gives base [] (plain_document url))

@@ -1,12 +1,15 @@
 pub mod ContextLemmas
+pub mod ExactLemmas
 pub mod FineLemmas
 pub mod FirstLemmas
 pub mod FitDialect
 pub mod FitDocument
 pub mod FitKeys
 pub mod FitSchema
+pub mod HangingLemmas
 pub mod ItemsLemmas
 pub mod JsonLemmas
+pub mod MayBeLemmas
 pub mod ReadLemmas
 pub mod ReferencesLemmas
 pub mod RepeatedLemmas

@@ -1,14 +1,12 @@
 -- A fault of one part is a fault of the whole.
-use Rattle.std.proofs.Common.{◌≡◌, List, [], ◌∷◌, ◌++◌, Bool, Contains, arith, filter, ap, subst, sym, Result, Ok, Err}
+use Rattle.std.proofs.Common.{◌≡◌, List, [], ◌∷◌, ◌++◌, Contains, arith, subst, sym, Result, Ok, Err}
 use Rattle.std.specs.Result.{IsErrAnd}
 use Rattle.std.proofs.lemmas.List.Elements.{All-cons, All-contains, All-nil, Contains-append_left, Contains-append_right}
-use Rattle.csvw_meta_core.specs.declared.fault.MetaCode.{MetaCode}
 use Rattle.csvw_meta_core.specs.declared.fault.MetaFault.{MetaFault}
 use Rattle.csvw_meta_core.specs.declared.fault.Refusal.{Refusal}
 use Rattle.csvw_meta_core.specs.declared.fault.Refusal.TheVariants as refusal
 use Rattle.csvw_meta_core.specs.Reads.{Fails, Reads}
-use Rattle.csvw_meta_core.specs.Read.{Read, fine, over, over_faults}
-use Rattle.csvw_meta.specs.Document.{read_by, read_by_faults}
+use Rattle.csvw_meta_core.specs.Read.{Read, fine, over_faults}
 
 pub fails_first : (e : Refusal) (xs ys : List MetaFault) → Fails e xs → Fails e (xs ++ ys)
 fails_first refusal.Memory xs ys h = tt
@@ -31,12 +29,6 @@ fails_over refusal.Memory dummy xs a next h = tt
 fails_over (refusal.Fault f) dummy [] a next h = absurd (omega (arith, h.1))
 fails_over (refusal.Fault f) dummy (x ∷ xs) a next h = h
 
-pub fails_by : {A B : Type 0} (e : Refusal) (keeps : MetaCode → Bool) (xs : List MetaFault) (a : A) (next : A → Read B)
-    → Fails e xs → Fails e (read_by_faults keeps xs a next).faults
-fails_by refusal.Memory keeps xs a next h = tt
-fails_by (refusal.Fault f) keeps [] a next h = absurd (omega (arith, h.1))
-fails_by (refusal.Fault f) keeps (x ∷ xs) a next h = Contains-append_left (x ∷ xs) (filter (λ g. keeps g.code) (next a).faults) f h
-
 -- What a `?` returns is told in what is read.
 pub refused : {A : Type 0} (result : Result A Refusal) (e : Refusal) (r : Read A) → IsErrAnd result (λ y. y ≡ e) → Fails e r.faults → Reads result r
 refused (Ok a) e r h f = absurd h
@@ -45,11 +37,3 @@ refused (Err y) e r h f = subst (λ z. Fails z r.faults) (sym h) f
 -- A fault behind a part that has none is told.
 pub later : {A : Type 0} (e : Refusal) (r : Read A) (a : A) (ys : List MetaFault) → r ≡ fine a → Fails e ys → Fails e (r.faults ++ ys)
 later {A = A} e r a ys is h = subst (λ (s : Read A). Fails e (s.faults ++ ys)) (sym is) h
-
--- What hangs on a part that has no faults is what is read by its value.
-pub read_by_fine : {A B : Type 0} (keeps : List MetaFault → MetaCode → Bool) (r : Read A) (a : A) (next : A → Read B) → r ≡ fine a
-    → read_by keeps r next ≡ next a
-read_by_fine {A = A} keeps r a next is = ap (λ (s : Read A). read_by keeps s next) is
-
-pub read_over_fine : {A B : Type 0} (dummy : B) (r : Read A) (a : A) (next : A → Read B) → r ≡ fine a → over dummy r next ≡ next a
-read_over_fine {A = A} dummy r a next is = ap (λ (s : Read A). over dummy s next) is

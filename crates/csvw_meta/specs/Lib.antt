@@ -3,6 +3,7 @@ pub mod Column
 pub mod Context
 pub mod Datatype
 pub mod DeclaredName
+pub mod Described
 pub mod Dialect
 pub mod Document
 pub mod Group

@@ -1,14 +1,11 @@
 -- The description of one table by its URL alone: that of a document with the context and that `url`, at that URL.
-use Rattle.std.specs.Prelude.{ℕ, List, [], None, codes}
+use Rattle.std.specs.Prelude.{ℕ, List, None, codes}
 use Rattle.serde_json.specs.Data.{Data, string, object, no_members, member}
 use Rattle.url.specs.Parts.{Parts}
 use Rattle.csvw_iri.specs.Link.{base_of}
-use Rattle.csvw_description.specs.declared.description.Description.{Description}
 use Rattle.csvw_meta_core.specs.Links.{told, no_url}
 use Rattle.csvw_meta_core.specs.Pointer.{below}
-use Rattle.csvw_meta_core.specs.Read.{Read, over}
-use Rattle.csvw_meta.specs.Document.{described}
-use Rattle.csvw_meta.specs.Group.{no_group}
+use Rattle.csvw_meta_core.specs.Read.{Read}
 
 abbrev pub plain_document : List ℕ → Data
 plain_document url =
@@ -17,6 +14,3 @@ plain_document url =
 -- Its faults as the base are those of its `url`.
 abbrev pub own_base : List ℕ → List ℕ → Read Parts
 own_base at url = told (below at (codes "url")) no_url (base_of None url)
-
-abbrev pub plain_description : List ℕ → Read Description
-plain_description url = over no_group (own_base [] url) (λ b. described b [] (plain_document url))

@@ -1,13 +1,11 @@
 //! Documents (Metadata Vocabulary for Tabular Data, section 5).
-ghost use Rattle.std.specs.Prelude.{◌≡◌, ◌≢◌, [], None, IfOk, IfErr, Contains};
+ghost use Rattle.std.specs.Prelude.{◌≡◌, ◌≢◌, Some, IfOk, IfErr};
 ghost use Rattle.serde_json.specs.View.{view};
-ghost use Rattle.csvw_iri.specs.Link.{base_of};
 ghost use Rattle.csvw_description.specs.Plannable.{IsPlannable};
-ghost use Rattle.csvw_meta_core.specs.Links.{told, no_url};
 ghost use Rattle.csvw_meta_core.specs.Pointer.{text_of};
-ghost use Rattle.csvw_meta_core.specs.Read.{fine};
 ghost use Rattle.csvw_meta_core.specs.Reads.{Reads};
-ghost use Rattle.csvw_meta.specs.Document.{sole_table, parts, within, described, of_bytes, document};
+ghost use Rattle.csvw_meta.specs.Described.{Describes, sole_table, parts, within, described};
+ghost use Rattle.csvw_meta.specs.Document.{IsFault, document, group_in, judged, of_bytes, own_url};
 
 use crate::body::{Body, DialectGiven};
 use crate::context::{Context, read_context};
@@ -81,16 +79,16 @@ fn within(context: &Context, part: &Part) -> Result<Description, Refusal>
 }
 
 /// What a value describes at the document's own URL.
-#[tactic(auto, using(crate::proofs::ReadLemmas::fails_by))]
+#[tactic(auto, using(crate::proofs::HangingLemmas::fails_on))]
 pub(crate) fn described(part: &Part, base: &Base) -> Result<Description, Refusal>
-    ensures { Reads result (described base.now (text_of part.now.at) (view part.now.value.now)) }
+    ensures { Describes result (described base.now (text_of part.now.at) (view part.now.value.now)) }
 {
     let context = read_context(part, base)?;
     within(&context, part)
 }
 
 fn of_bytes(alloc: Global, base: &Base, bytes: &[u8]) -> Result<Description, Refusal>
-    ensures { Reads result (of_bytes base.now bytes.now) }
+    ensures { Describes result (of_bytes base.now bytes.now) }
 {
     let value = json_of(alloc, without_bom(bytes))?;
     let part = Part {
@@ -102,7 +100,7 @@ fn of_bytes(alloc: Global, base: &Base, bytes: &[u8]) -> Result<Description, Ref
 }
 
 fn own_url(alloc: Global, base: &str) -> Result<Base, Refusal>
-    ensures { Reads result (told [] no_url (base_of None base.now)) }
+    ensures { Reads result (own_url base.now) }
 {
     match Base::new(alloc, base) {
         Ok(base) => Ok(base),
@@ -112,9 +110,9 @@ fn own_url(alloc: Global, base: &str) -> Result<Base, Refusal>
     }
 }
 
-#[tactic(auto, using(crate::proofs::ReadLemmas::fails_by), unfolding(crate::specs::Document::document))]
+#[tactic(auto, using(crate::proofs::HangingLemmas::fails_on), unfolding(crate::specs::Document::judged))]
 fn document(alloc: Global, bytes: &[u8], base: &str) -> Result<Description, Refusal>
-    ensures { Reads result (document base.now bytes.now) }
+    ensures { Describes result (judged (document base.now bytes.now)) }
 {
     if bytes.len() > MAX_DOCUMENT {
         return Err(document_fault(alloc, MetaCode::TooLong));
@@ -129,10 +127,10 @@ fn document(alloc: Global, bytes: &[u8], base: &str) -> Result<Description, Refu
 /// context, and what its parts say.
 pub fn read(alloc: Global, bytes: &[u8], base: &str) -> Result<Description, MetaFault>
     // What is read stands in a document without faults, and so keeps the limits and rules of descriptions.
-    ensures found { IfOk result (λ d. document base.now bytes.now ≡ fine d) }
+    ensures found { IfOk result (λ d. group_in (document base.now bytes.now) ≡ Some d) }
     ensures plannable { IfOk result IsPlannable }
     // What is refused has that fault.
-    ensures fault { IfErr result (λ e. e.code ≢ MetaCode.Memory → Contains (document base.now bytes.now).faults e) }
+    ensures fault { IfErr result (λ e. e.code ≢ MetaCode.Memory → IsFault (document base.now bytes.now) e) }
 {
     datatypes_fit();
     match document(alloc, bytes, base) {

@@ -11,6 +11,7 @@ mod document;
 mod group;
 mod inherited;
 mod json;
+pub mod laws;
 mod name;
 mod references;
 mod repeated;

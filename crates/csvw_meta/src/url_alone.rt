@@ -1,11 +1,12 @@
 //! The description of one table by its URL alone.
-ghost use Rattle.std.specs.Prelude.{◌≡◌, ◌≢◌, IfOk, IfErr, Contains};
+ghost use Rattle.std.specs.Prelude.{◌≡◌, ◌≢◌, Some, IfOk, IfErr};
 ghost use Rattle.serde_json.specs.View.{view};
 ghost use Rattle.csvw_description.specs.Plannable.{IsPlannable};
 ghost use Rattle.csvw_meta_core.specs.Pointer.{text_of};
-ghost use Rattle.csvw_meta_core.specs.Read.{fine};
 ghost use Rattle.csvw_meta_core.specs.Reads.{Reads};
-ghost use Rattle.csvw_meta.specs.UrlAlone.{own_base, plain_document, plain_description};
+ghost use Rattle.csvw_meta.specs.Described.{Describes};
+ghost use Rattle.csvw_meta.specs.Document.{IsFault, group_in, judged, plain_description};
+ghost use Rattle.csvw_meta.specs.UrlAlone.{own_base, plain_document};
 
 use crate::document::described;
 use csvw_description::Description;
@@ -36,9 +37,9 @@ fn own_base(part: &Part, url: &str) -> Result<Base, Refusal>
     }
 }
 
-#[tactic(auto, using(crate::proofs::ReadLemmas::fails_over))]
+#[tactic(auto, using(crate::proofs::HangingLemmas::fails_on), unfolding(crate::specs::Document::judged))]
 fn plain_description(alloc: Global, url: &str) -> Result<Description, Refusal>
-    ensures { Reads result (plain_description url.now) }
+    ensures { Describes result (judged (plain_description url.now)) }
 {
     let document = plain_document(alloc, url)?;
     let part = Part {
@@ -55,10 +56,10 @@ fn plain_description(alloc: Global, url: &str) -> Result<Description, Refusal>
 /// `/url` where it is none; the code `Memory` where there is none for the group.
 pub fn plain(alloc: Global, url: &str) -> Result<Description, MetaFault>
     // What is read stands in a document without faults, and so keeps the limits and rules of descriptions.
-    ensures found { IfOk result (λ d. plain_description url.now ≡ fine d) }
+    ensures found { IfOk result (λ d. group_in (plain_description url.now) ≡ Some d) }
     ensures plannable { IfOk result IsPlannable }
     // What is refused has that fault.
-    ensures fault { IfErr result (λ e. e.code ≢ MetaCode.Memory → Contains (plain_description url.now).faults e) }
+    ensures fault { IfErr result (λ e. e.code ≢ MetaCode.Memory → IsFault (plain_description url.now) e) }
 {
     datatypes_fit();
     match plain_description(alloc, url) {

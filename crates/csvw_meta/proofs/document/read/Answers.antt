@@ -1,6 +1,8 @@
 -- No fault stands in the document.
-use Rattle.csvw_meta.proofs.FitDocument.{document_plannable}
+use Rattle.csvw_meta.specs.Document.{document}
+use Rattle.csvw_meta.proofs.FitDocument.{group_plannable}
 use Rattle.csvw_meta.proofs.document.read.Goals as goal
 
 pub returns-in-Ok-clause-plannable : goal.returns-in-Ok-clause-plannable
-returns-in-Ok-clause-plannable c = document_plannable c.datatypes_fit.ensures c.args.base.now c.args.bytes.now c.in-Ok.description c.in-Ok.ensures
+returns-in-Ok-clause-plannable c =
+    group_plannable c.datatypes_fit.ensures (document c.args.base.now c.args.bytes.now) c.in-Ok.description c.in-Ok.ensures

@@ -9,7 +9,7 @@ use Rattle.csvw_meta_core.specs.declared.fault.Refusal.{Refusal}
 use Rattle.csvw_meta.specs.declared.group.GroupFound.{GroupFound}
 use Rattle.csvw_meta_core.specs.declared.fault.MetaFault.{MetaFault}
 use Rattle.csvw_meta.specs.Group.{description_of}
-use Rattle.csvw_meta.specs.Document.{parts, within}
+use Rattle.csvw_meta.specs.Described.{parts, within}
 use Rattle.csvw_meta.specs.References.{known_faults, reference_faults}
 use Rattle.csvw_meta.proofs.ReadLemmas.{refused}
 use Rattle.csvw_meta.proofs.ReferencesLemmas.{all_faults}

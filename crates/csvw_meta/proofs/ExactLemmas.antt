@@ -1,0 +1,41 @@
+-- A document describes a group exactly where no fault stands in it.
+use Rattle.std.proofs.Common.{ℕ, List, [], Option, Some, None, refl, codes}
+use Rattle.std.specs.Prelude.{⊤}
+use Rattle.serde_json.specs.Data.{Data}
+use Rattle.url.specs.Parts.{Parts}
+use Rattle.csvw_meta_core.specs.declared.fault.MetaCode.TheVariants.{NotJson}
+use Rattle.csvw_meta_core.specs.Pointer.{below}
+use Rattle.csvw_meta_core.specs.Read.{Read, faulty}
+use Rattle.csvw_meta.specs.Context.{context}
+use Rattle.csvw_meta.specs.Described.{MayBeContext, described, hanging_on, judged_by, within}
+use Rattle.csvw_meta.specs.Document.{Document, MayBeUrl, document, judged, length_of, of_bytes, of_json, own_url, plain_description}
+use Rattle.csvw_meta.specs.Group.{no_group}
+use Rattle.csvw_meta.specs.Json.{json_of, without_bom}
+use Rattle.csvw_meta.specs.UrlAlone.{own_base, plain_document}
+use Rattle.csvw_meta.proofs.HangingLemmas.{HasPossible, IsExact, exact_on, exact_read}
+use Rattle.csvw_meta.proofs.MayBeLemmas.{has_context, has_url}
+
+of_any_length : (r : Read ⊤) → HasPossible r (λ t. ⊤)
+of_any_length r = record { own = λ none. tt; sole = λ none t may. refl; some = (tt, tt) }
+
+exact_value : (base : Parts) (at : List ℕ) (d : Data) → IsExact (described base at d)
+exact_value base at d =
+    exact_on (MayBeContext base at (context base at d)) (λ c. judged_by (within c at d)) (λ c. exact_read (within c at d)) (context base at d)
+    (has_context base at d)
+
+exact_json : (base : Parts) (o : Option Data) → IsExact (of_json base o)
+exact_json base None = exact_read (faulty NotJson [] no_group)
+exact_json base (Some d) = exact_value base [] d
+
+exact_url : (url bytes : List ℕ) → IsExact (hanging_on (own_url url) (MayBeUrl (own_url url)) (λ base. of_bytes base bytes))
+exact_url url bytes =
+    exact_on (MayBeUrl (own_url url)) (λ base. of_bytes base bytes) (λ base. exact_json base (json_of (without_bom bytes))) (own_url url) (has_url [] url)
+
+pub exact : (x : Document) → IsExact (judged x)
+unfolding judged
+exact (document url bytes) =
+    exact_on (λ t. ⊤) (λ t. hanging_on (own_url url) (MayBeUrl (own_url url)) (λ base. of_bytes base bytes)) (λ t. exact_url url bytes) (length_of bytes)
+    (of_any_length (length_of bytes))
+exact (plain_description url) =
+    exact_on (MayBeUrl (own_base [] url)) (λ base. described base [] (plain_document url)) (λ base. exact_value base [] (plain_document url))
+    (own_base [] url) (has_url (below [] (codes "url")) url)
