@@ -23,8 +23,7 @@ use Rattle.csvw_engine.specs.Reporting.{Reports, TellsOutcome}
 use Rattle.csvw_engine.specs.Runs.{Halts, IsPlanned, IsReason, IsSound, Succeeds, StopsSo, WriteFails, Wrote, WroteGraph, WroteGroup, Rises}
 use Rattle.csvw_engine.specs.Stopped.{Added, Leaves, WroteAll, WroteLines, WroteSome}
 use Rattle.csvw_engine.proofs.Flushing.{appends_kept, rose}
-use Rattle.csvw_meta_core.specs.Read.{Read}
-use Rattle.csvw_description.specs.declared.description.Description.{Description}
+use Rattle.csvw_meta.specs.Document.{Document}
 
 -- a stream, after a flush
 abbrev pub flushed : Stream → Option (List ℕ) → ℕ → Stream
@@ -82,9 +81,9 @@ no_stop reason outcome told result old new t r (inl (e, n)) = never outcome reas
 no_stop reason outcome told result old new t r (inr (apart, e, n)) = never outcome stop.Write result e r
 
 -- the document was refused
-pub refused : {R : Type 0} (remaining : R → Option (List ℕ)) (described : Read Description) (m : Mode) (olds : List (Counted R))
+pub refused : {R : Type 0} (remaining : R → Option (List ℕ)) (described : Document) (m : Mode) (olds : List (Counted R))
     (out report_out : Stream) (reason : Stop) → IsIdle out → IsIdle report_out
-    → IsMetaStop described.faults reason → StopsSo remaining described m olds olds out report_out reason
+    → IsMetaStop described reason → StopsSo remaining described m olds olds out report_out reason
 refused remaining described m olds out report_out stop.Memory p q h = inl (refl, p, q)
 refused remaining described m olds out report_out (stop.Meta fault) p q h = (h, p, q)
 refused remaining described m olds out report_out stop.Read p q h = absurd h
@@ -97,7 +96,7 @@ refused remaining described m olds out report_out stop.AfterEnd p q h = absurd h
 refused remaining described m olds out report_out stop.NotEnded p q h = absurd h
 refused remaining described m olds out report_out stop.Failed p q h = absurd h
 
-module _ {R : Type 0} (remaining : R → Option (List ℕ)) (described : Read Description) (m : Mode) (olds news : List (Counted R)) (plan : Plan)
+module _ {R : Type 0} (remaining : R → Option (List ℕ)) (described : Document) (m : Mode) (olds news : List (Counted R)) (plan : Plan)
     (planned : IsPlanned described plan) (many : length olds ≡ length plan.tables)
     (out : Stream) (holds : Option (List ℕ)) (failed : ℕ) (keeps : Keeps out.holds holds) (report_out : Stream) where
   abbrev after : Stream
@@ -274,7 +273,7 @@ module _ {R : Type 0} (remaining : R → Option (List ℕ)) (described : Read De
   stops_with ran told result reason r h t f = subst StopsWith r (stops ran told result h t f)
 
 -- the report was flushed
-pub report_kept : {R : Type 0} (remaining : R → Option (List ℕ)) (described : Read Description) (m : Mode) (olds news : List (Counted R))
+pub report_kept : {R : Type 0} (remaining : R → Option (List ℕ)) (described : Document) (m : Mode) (olds news : List (Counted R))
     (out report_out : Stream) (outcome : Outcome) (holds : Option (List ℕ)) (failed : ℕ)
     → Keeps report_out.holds holds → failed ≡ report_out.failed → Succeeds remaining described m olds news out report_out outcome
     → Succeeds remaining described m olds news out (flushed report_out holds failed) outcome
@@ -293,7 +292,7 @@ report_kept remaining described m olds news out report_out outcome holds failed 
 }
 
 -- the flush of the report failed, behind the whole graph
-pub report_unsent : {R : Type 0} (remaining : R → Option (List ℕ)) (described : Read Description) (m : Mode) (olds news : List (Counted R))
+pub report_unsent : {R : Type 0} (remaining : R → Option (List ℕ)) (described : Document) (m : Mode) (olds news : List (Counted R))
     (out report_out : Stream)
     (holds : Option (List ℕ)) (failed : ℕ) (reason : Stop) → reason ≡ stop.Write → failed ≡ one_more report_out.failed → IsSound report_out
     → WroteGroup remaining described m olds news out → StopsSo remaining described m olds news out (flushed report_out holds failed) reason

@@ -1,5 +1,5 @@
 -- A run over good tables stops neither for its document nor in a text.
-use Rattle.std.proofs.Common.{◌≡◌, ◌+◌, ℕ, zero, suc, Bool, true, List, [], ◌∷◌, ◌++◌, refl, sym, ap, ◌∙◌, subst, arith, inl, inr, length, Contains}
+use Rattle.std.proofs.Common.{◌≡◌, ◌+◌, ℕ, zero, suc, Bool, true, List, [], ◌∷◌, ◌++◌, refl, sym, ap, ◌∙◌, subst, arith, inl, inr, length}
 use Rattle.std.proofs.Common.{Option, Some, None, Result, Ok, Err}
 use Rattle.std.specs.Prelude.{slice_get}
 use Rattle.std.specs.Io.KnownBytes.{Consumes, IsAtEnd}
@@ -9,8 +9,8 @@ use Rattle.csvw_text.specs.Counted.{inner_of}
 use Rattle.csvw_text.specs.Streams.{Stream}
 use Rattle.csvw_text.specs.declared.counted.Counted.{Counted}
 use Rattle.csvw_description.specs.declared.description.Description.{Description}
-use Rattle.csvw_meta_core.specs.Read.{Read}
 use Rattle.csvw_meta_core.specs.declared.fault.MetaFault.{MetaFault}
+use Rattle.csvw_meta.specs.Document.{Document, IsFault, group_in}
 use Rattle.csvw_columns.specs.PlanOf.{plan_of}
 use Rattle.csvw_columns.specs.declared.plan.Plan.{Plan}
 use Rattle.csvw_columns.specs.declared.plan.TablePlan.{TablePlan}
@@ -25,9 +25,6 @@ use Rattle.csvw_group.specs.GoodTexts.{GoesOnToTable, GoodTextsAreAccepted}
 use Rattle.csvw_reading.specs.Reading.{Gave}
 use Rattle.csvw_engine.specs.GoodRuns.{IsOkOrLacks, ReadGoodTables}
 use Rattle.csvw_engine.specs.Runs.{IsPlanned, ReadsGroup, RefusedInText, Runs, StopsInText}
-
-none_in : {X : Type 0} (x : X) → Contains [] x → ⊥
-none_in x h = let lt = h.1 in absurd (omega arith)
 
 lawful_at : (plans : List TablePlan) (i : ℕ) (plan : TablePlan) → AreReady plans → slice_get plans i ≡ Some plan → IsLawful plan.dialect
 lawful_at [] i plan ready e = cc
@@ -52,15 +49,21 @@ left_of : (whole bytes : List ℕ) (now : Option (List ℕ)) (ended : Bool) → 
 left_of whole bytes None ended consumed at_end = absurd consumed
 left_of whole bytes (Some rest) ended consumed at_end = record { more = rest; parted = consumed; none = at_end }
 
-module _ (accepted : GoodTextsAreAccepted) {R : Type 0} (remaining : R → Option (List ℕ)) (described : Read Description) (olds news : List (Counted R))
-    (good : ReadGoodTables remaining described olds) where
-  no_fault : (fault : MetaFault) → Contains described.faults fault → ⊥
-  no_fault fault c = none_in fault (subst (λ (d : Read Description). Contains d.faults fault) good.is_described c)
+same_group : (d e : Description) (o : Option Description) → o ≡ Some d → o ≡ Some e → d ≡ e
+same_group d e o p q = let same : Some d ≡ Some e = sym p ∙ q in cc
+
+-- no fault stands in what describes a group
+abbrev pub GroupsHaveNoFaults : Type 0
+GroupsHaveNoFaults = (x : Document) (d : Description) (fault : MetaFault) → group_in x ≡ Some d → IsFault x fault → ⊥
+
+module _ (accepted : GoodTextsAreAccepted) (without_faults : GroupsHaveNoFaults) {R : Type 0} (remaining : R → Option (List ℕ)) (described : Document)
+    (olds news : List (Counted R)) (good : ReadGoodTables remaining described olds) where
+  no_fault : (fault : MetaFault) → IsFault described fault → ⊥
+  no_fault fault is = without_faults described good.description fault good.is_described is
 
   plan_is : (plan : Plan) → IsPlanned described plan → plan ≡ plan_of good.description
   plan_is plan planned =
-      let same : planned.description ≡ good.description =
-      ap (λ (d : Read Description). d.value) (sym planned.is_described ∙ good.is_described) in
+      let same = same_group planned.description good.description (group_in described) planned.is_described good.is_described in
       planned.planned ∙ ap plan_of same
 
   as_many : (plan : Plan) → IsPlanned described plan → length olds ≡ length plan.tables

@@ -2,8 +2,7 @@
 use Rattle.std.proofs.Common.{◌≡◌, ℕ, List, [], ◌∷◌, length, refl, sym, ap, ◌∙◌, subst, arith, Option, Result, slice_index_or}
 use Rattle.csvw_text.specs.declared.counted.Counted.{Counted}
 use Rattle.csvw_text.specs.Streams.{Stream}
-use Rattle.csvw_description.specs.declared.description.Description.{Description}
-use Rattle.csvw_meta_core.specs.Read.{Read}
+use Rattle.csvw_meta.specs.Document.{Document}
 use Rattle.csvw_triples_core.specs.declared.mode.Mode.{Mode}
 use Rattle.csvw_report.specs.declared.outcome.Outcome.{Outcome}
 use Rattle.csvw_session.specs.declared.stop.Stop.{Stop}
@@ -15,7 +14,7 @@ lone [] d e = cc
 lone (x ∷ []) d e = refl
 lone (x ∷ (y ∷ xs)) d e = absurd (omega (arith, e))
 
-pub runs_lone : {R : Type 0} (remaining : R → Option (List ℕ)) (described : Read Description) (m : Mode) (old : Counted R)
+pub runs_lone : {R : Type 0} (remaining : R → Option (List ℕ)) (described : Document) (m : Mode) (old : Counted R)
     (olds given news : List (Counted R)) (out report_out : Stream)
     → (result : Result Outcome Stop) → olds ≡ old ∷ [] → given ≡ news → length news ≡ 1 → Runs remaining described m olds news out report_out result
     → Runs remaining described m (old ∷ []) (slice_index_or given 0 old ∷ []) out report_out result

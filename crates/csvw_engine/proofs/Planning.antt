@@ -1,11 +1,12 @@
 -- The plan of a document, or its fault.
-use Rattle.std.proofs.Common.{◌≡◌, ◌≢◌, ◌≤◌, ◌+◌, ℕ, zero, suc, List, [], ◌∷◌, length, refl, sym, ap, ◌∙◌, subst, arith, inl, inr, Contains, Some}
+use Rattle.std.proofs.Common.{◌≡◌, ◌≢◌, ◌≤◌, ◌+◌, ℕ, zero, suc, List, [], ◌∷◌, length, refl, sym, ap, ◌∙◌, subst, arith, inl, inr, Some}
 use Rattle.std.proofs.Common.{None, Ok, Err}
 use Rattle.std.specs.Prelude.{slice_get}
 use Rattle.csvw_description.specs.declared.description.Description.{Description}
 use Rattle.csvw_description.specs.declared.table.TableDescription.{TableDescription}
 use Rattle.csvw_meta_core.specs.declared.fault.MetaCode.TheVariants.{Memory}
 use Rattle.csvw_meta_core.specs.declared.fault.MetaFault.{MetaFault}
+use Rattle.csvw_meta.specs.Document.{Document, IsFault}
 use Rattle.csvw_columns.specs.Plannable.{Builds, IsPlannable}
 use Rattle.csvw_columns.specs.PlanOf.{targets_of, table_plan, table_plans}
 use Rattle.csvw_columns.specs.declared.plan.Plan.{Plan}
@@ -15,10 +16,10 @@ use Rattle.csvw_session.specs.declared.stop.Stop.{Stop}
 use Rattle.csvw_session.specs.declared.stop.Stop.TheVariants as stop
 use Rattle.csvw_engine.specs.Planning.{IsMetaStop, TellsFault}
 
-pub told : (faults : List MetaFault) (fault : MetaFault) (reason : Stop) → TellsFault fault reason → (fault.code ≢ Memory → Contains faults fault)
-    → IsMetaStop faults reason
-told faults fault reason (inl (c, e)) h = rw e tt
-told faults fault reason (inr (apart, e)) h = rw e (h apart)
+pub told : (described : Document) (fault : MetaFault) (reason : Stop) → TellsFault fault reason → (fault.code ≢ Memory → IsFault described fault)
+    → IsMetaStop described reason
+told described fault reason (inl (c, e)) h = rw e tt
+told described fault reason (inr (apart, e)) h = rw e (h apart)
 
 -- what can be planned lacks nothing but memory
 pub lacks_memory : (d : Description) (fault : MetaFault) (reason : Stop) → IsPlannable d → Builds d (Err fault) → TellsFault fault reason → reason ≡ stop.Memory

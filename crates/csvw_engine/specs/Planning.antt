@@ -1,7 +1,8 @@
 -- How a fault of a metadata document is told.
-use Rattle.std.specs.Prelude.{◌≡◌, ◌≢◌, ◌⊎◌, List, Contains}
+use Rattle.std.specs.Prelude.{◌≡◌, ◌≢◌, ◌⊎◌}
 use Rattle.csvw_meta_core.specs.declared.fault.MetaCode.TheVariants.{Memory}
 use Rattle.csvw_meta_core.specs.declared.fault.MetaFault.{MetaFault}
+use Rattle.csvw_meta.specs.Document.{Document, IsFault}
 use Rattle.csvw_session.specs.declared.stop.Stop.{Stop}
 use Rattle.csvw_session.specs.declared.stop.Stop.TheVariants as stop
 
@@ -10,15 +11,15 @@ abbrev pub TellsFault : MetaFault → Stop → Type 0
 TellsFault fault reason = ((fault.code ≡ Memory) × (reason ≡ stop.Memory)) ⊎ ((fault.code ≢ Memory) × (reason ≡ stop.Meta fault))
 
 -- want of memory, or one of the faults of the document
-abbrev pub IsMetaStop : List MetaFault → Stop → Type 0
-IsMetaStop faults stop.Memory = Unit {0}
-IsMetaStop faults (stop.Meta fault) = Contains faults fault
-IsMetaStop faults stop.Read = ⊥
-IsMetaStop faults stop.Write = ⊥
-IsMetaStop faults stop.TableCount = ⊥
-IsMetaStop faults (stop.Rows t row reason) = ⊥
-IsMetaStop faults (stop.Table t row reason) = ⊥
-IsMetaStop faults stop.UnknownTable = ⊥
-IsMetaStop faults stop.AfterEnd = ⊥
-IsMetaStop faults stop.NotEnded = ⊥
-IsMetaStop faults stop.Failed = ⊥
+abbrev pub IsMetaStop : Document → Stop → Type 0
+IsMetaStop described stop.Memory = Unit {0}
+IsMetaStop described (stop.Meta fault) = IsFault described fault
+IsMetaStop described stop.Read = ⊥
+IsMetaStop described stop.Write = ⊥
+IsMetaStop described stop.TableCount = ⊥
+IsMetaStop described (stop.Rows t row reason) = ⊥
+IsMetaStop described (stop.Table t row reason) = ⊥
+IsMetaStop described stop.UnknownTable = ⊥
+IsMetaStop described stop.AfterEnd = ⊥
+IsMetaStop described stop.NotEnded = ⊥
+IsMetaStop described stop.Failed = ⊥

@@ -1,13 +1,12 @@
 -- What a run over a group of tables leaves (Generating RDF from Tabular Data on the Web, section 4.2; Model for Tabular Data, sections
 -- 6 and 8).
-use Rattle.std.specs.Prelude.{◌≡◌, ◌≢◌, ◌⊎◌, ◌<◌, ◌+◌, ◌-◌, ◌^◌, ℕ, true, List, [], length, slice_get, Option, Some, Result, Ok, Err, Contains}
+use Rattle.std.specs.Prelude.{◌≡◌, ◌≢◌, ◌⊎◌, ◌<◌, ◌+◌, ◌-◌, ◌^◌, ℕ, true, List, [], length, slice_get, Option, Some, Result, Ok, Err}
 use Rattle.csvw_text.specs.declared.counted.Counted.{Counted}
 use Rattle.csvw_text.specs.declared.fault.Fault.{Fault}
 use Rattle.csvw_text.specs.Streams.{Stream, Sends, IsIdle}
 use Rattle.csvw_rows.specs.RowValue.{Given}
 use Rattle.csvw_rows.specs.declared.stop.RowStop.{RowStop}
 use Rattle.csvw_description.specs.declared.description.Description.{Description}
-use Rattle.csvw_meta_core.specs.Read.{Read, fine}
 use Rattle.csvw_columns_core.specs.declared.columns.Columns.{Columns}
 use Rattle.csvw_columns.specs.PlanOf.{plan_of}
 use Rattle.csvw_columns.specs.declared.plan.Plan.{Plan}
@@ -22,6 +21,7 @@ use Rattle.csvw_engine_core.specs.Tables.{IsStopped}
 use Rattle.csvw_ntriples.specs.declared.term.NtTriple.{NtTriple}
 use Rattle.csvw_ntriples.specs.Grammar.{Denotes}
 use Rattle.csvw_ntriples.specs.SameUpTo.{SameUpTo}
+use Rattle.csvw_meta.specs.Document.{Document, IsFault, group_in}
 use Rattle.csvw_report.specs.Report.{report}
 use Rattle.csvw_report.specs.declared.outcome.Outcome.{Outcome}
 use Rattle.csvw_session.specs.Events.{Event, text_of, ended_in}
@@ -44,9 +44,9 @@ abbrev pub IsSound : Stream → Type 0
 IsSound s = s.failed ≡ s.failures
 
 -- what is described is the group of this plan, whose tables can be read
-pub record IsPlanned (described : Read Description) (plan : Plan) : Type 0 where
+pub record IsPlanned (described : Document) (plan : Plan) : Type 0 where
   pub description : Description
-  pub is_described : described ≡ fine description
+  pub is_described : group_in described ≡ Some description
   pub planned : plan ≡ plan_of description
   pub ready : AreReady plan.tables
 
@@ -70,7 +70,7 @@ ReadWhole {R} remaining olds news texts = (i : ℕ) (r s : Counted R) → slice_
 
 -- The texts of the readers are the annotated tables of the group that is described; their graph was written, their
 -- violations told and reported, and nothing failed.
-pub record Succeeds {R : Type 0} (remaining : R → Option (List ℕ)) (described : Read Description) (mode : Mode) (olds news : List (Counted R))
+pub record Succeeds {R : Type 0} (remaining : R → Option (List ℕ)) (described : Document) (mode : Mode) (olds news : List (Counted R))
     (out report_out : Stream) (outcome : Outcome) : Type 0 where
   pub plan : Plan
   pub planned : IsPlanned described plan
@@ -85,7 +85,7 @@ pub record Succeeds {R : Type 0} (remaining : R → Option (List ℕ)) (describe
   pub reported : Sends report_out (report outcome.faults)
 
 -- the texts so far of the tables of the group
-pub record ReadsGroup {R : Type 0} (remaining : R → Option (List ℕ)) (described : Read Description) (olds news : List (Counted R)) (plan : Plan)
+pub record ReadsGroup {R : Type 0} (remaining : R → Option (List ℕ)) (described : Document) (olds news : List (Counted R)) (plan : Plan)
     (events : List Event) : Type 0 where
   pub planned : IsPlanned described plan
   pub many : length olds ≡ length plan.tables
@@ -114,7 +114,7 @@ pub record RefusedInText (plan : Plan) (events : List Event) (t row : ℕ) (reas
   pub refused : IsRefusedHere table columns (text_of events t) (ended_in events t) given row reason
 
 -- the texts so far, of which this holds
-abbrev pub SoFar : {R : Type 0} → (R → Option (List ℕ)) → Read Description → List (Counted R) → List (Counted R) → (Plan → List Event → Type 0) → Type 0
+abbrev pub SoFar : {R : Type 0} → (R → Option (List ℕ)) → Document → List (Counted R) → List (Counted R) → (Plan → List Event → Type 0) → Type 0
 SoFar remaining described olds news P = (plan : Plan) × (events : List Event) × ReadsGroup remaining described olds news plan events × P plan events
 
 -- why the tables stop behind these events; of want of memory and of a failed write nothing is said here
@@ -132,12 +132,12 @@ IsReason plan olds news stop.NotEnded events = ⊥
 IsReason plan olds news stop.Failed events = ⊥
 
 -- behind the texts so far there is this reason to stop, and what was written of their graph is as it leaves it
-abbrev pub Halts : {R : Type 0} → (R → Option (List ℕ)) → Read Description → Mode → List (Counted R) → List (Counted R) → Stream → Stop → Type 0
+abbrev pub Halts : {R : Type 0} → (R → Option (List ℕ)) → Document → Mode → List (Counted R) → List (Counted R) → Stream → Stop → Type 0
 Halts remaining described mode olds news out reason =
     SoFar remaining described olds news (λ plan events. IsReason plan olds news reason events × Leaves mode plan out reason events)
 
 -- the texts of the readers are the annotated tables of the group that is described, and their whole graph was written
-pub record WroteGroup {R : Type 0} (remaining : R → Option (List ℕ)) (described : Read Description) (mode : Mode) (olds news : List (Counted R))
+pub record WroteGroup {R : Type 0} (remaining : R → Option (List ℕ)) (described : Document) (mode : Mode) (olds news : List (Counted R))
     (out : Stream) : Type 0 where
   pub plan : Plan
   pub planned : IsPlanned described plan
@@ -153,26 +153,26 @@ abbrev pub IsUntouched : {R : Type 0} → List (Counted R) → List (Counted R) 
 IsUntouched olds news out report_out = (news ≡ olds) × IsIdle out × IsIdle report_out
 
 -- there was no memory: before the tables, in one of them, or behind the whole graph; no write to `out` failed
-abbrev pub LacksMemory : {R : Type 0} → (R → Option (List ℕ)) → Read Description → Mode → List (Counted R) → List (Counted R) → Stream → Stream → Type 0
+abbrev pub LacksMemory : {R : Type 0} → (R → Option (List ℕ)) → Document → Mode → List (Counted R) → List (Counted R) → Stream → Stream → Type 0
 LacksMemory remaining described mode olds news out report_out =
     IsUntouched olds news out report_out
     ⊎ ((Halts remaining described mode olds news out stop.Memory × IsSound out × IsIdle report_out)
     ⊎ (WroteGroup remaining described mode olds news out × IsSound out))
 
 -- a write failed: of `out` within a line or between two, or in the flush behind a stop; or a flush or the report behind the whole graph
-abbrev pub WriteFails : {R : Type 0} → (R → Option (List ℕ)) → Read Description → Mode → List (Counted R) → List (Counted R) → Stream → Stream → Type 0
+abbrev pub WriteFails : {R : Type 0} → (R → Option (List ℕ)) → Document → Mode → List (Counted R) → List (Counted R) → Stream → Stream → Type 0
 WriteFails remaining described mode olds news out report_out =
     (((reason : Stop) × Halts remaining described mode olds news out reason) × Rises out × IsIdle report_out)
     ⊎ (WroteGroup remaining described mode olds news out × (Rises out ⊎ Rises report_out))
 
 -- readers and tables differ in number
-pub record Differ {R : Type 0} (described : Read Description) (olds : List (Counted R)) : Type 0 where
+pub record Differ {R : Type 0} (described : Document) (olds : List (Counted R)) : Type 0 where
   pub plan : Plan
   pub planned : IsPlanned described plan
   pub apart : length olds ≢ length plan.tables
 
 -- why a run stops, and what it has written by then
-abbrev pub StopsSo : {R : Type 0} → (R → Option (List ℕ)) → Read Description → Mode → List (Counted R) → List (Counted R) → Stream → Stream → Stop → Type 0
+abbrev pub StopsSo : {R : Type 0} → (R → Option (List ℕ)) → Document → Mode → List (Counted R) → List (Counted R) → Stream → Stream → Stop → Type 0
 StopsSo remaining described mode olds news out report_out stop.Memory = LacksMemory remaining described mode olds news out report_out
 StopsSo remaining described mode olds news out report_out stop.Write = WriteFails remaining described mode olds news out report_out
 StopsSo remaining described mode olds news out report_out stop.Read =
@@ -184,7 +184,7 @@ StopsSo remaining described mode olds news out report_out (stop.Rows t row reaso
 StopsSo remaining described mode olds news out report_out (stop.Table t row reason) =
     SoFar remaining described olds news (λ plan events. RefusedInText plan events t row reason × WroteAll mode plan out events)
     × IsSound out × IsIdle report_out
-StopsSo remaining described mode olds news out report_out (stop.Meta fault) = Contains described.faults fault × IsIdle out × IsIdle report_out
+StopsSo remaining described mode olds news out report_out (stop.Meta fault) = IsFault described fault × IsIdle out × IsIdle report_out
 StopsSo remaining described mode olds news out report_out stop.TableCount = Differ described olds × IsIdle out × IsIdle report_out
 StopsSo remaining described mode olds news out report_out stop.UnknownTable = ⊥
 StopsSo remaining described mode olds news out report_out stop.AfterEnd = ⊥
@@ -192,7 +192,7 @@ StopsSo remaining described mode olds news out report_out stop.NotEnded = ⊥
 StopsSo remaining described mode olds news out report_out stop.Failed = ⊥
 
 -- what a run over the document and the readers leaves, by its answer
-abbrev pub Runs : {R : Type 0} → (R → Option (List ℕ)) → Read Description → Mode → List (Counted R) → List (Counted R) → Stream → Stream
+abbrev pub Runs : {R : Type 0} → (R → Option (List ℕ)) → Document → Mode → List (Counted R) → List (Counted R) → Stream → Stream
     → Result Outcome Stop → Type 0
 Runs remaining described mode olds news out report_out (Ok outcome) = Succeeds remaining described mode olds news out report_out outcome
 Runs remaining described mode olds news out report_out (Err reason) = StopsSo remaining described mode olds news out report_out reason

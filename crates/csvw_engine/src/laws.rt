@@ -2,8 +2,7 @@
 ghost use Rattle.std.specs.Prelude.{◌≡◌, ℕ, true, List, [], Result};
 ghost use Rattle.csvw_text.specs.Streams.{Stream};
 ghost use Rattle.csvw_text.specs.declared.counted.Counted.{Counted as TheCounted};
-ghost use Rattle.csvw_description.specs.declared.description.Description.{Description as TheDescription};
-ghost use Rattle.csvw_meta_core.specs.Read.{Read as Described};
+ghost use Rattle.csvw_meta.specs.Document.{Document};
 ghost use Rattle.csvw_columns.specs.declared.plan.Plan.{Plan as ThePlan};
 ghost use Rattle.csvw_triples_core.specs.Taking.{IsAsReady};
 ghost use Rattle.csvw_triples_core.specs.declared.mode.Mode.{Mode as TheMode};
@@ -23,6 +22,7 @@ ghost use Rattle.csvw_engine.specs.Runs.{Runs};
 ghost use Rattle.csvw_engine.specs.Stopped.{WroteAll, WroteSome};
 
 use csvw_group::laws::good_texts_are_accepted;
+use csvw_meta::laws::groups_have_no_faults;
 use csvw_ntriples::{labels_name_one_to_one, written_denotes};
 use csvw_triples_core::TripleSink;
 use std::io::{Read, Write};
@@ -56,9 +56,10 @@ pub fn stopped_sessions_stay<S: TripleSink>()
 /// A run over good tables is Ok: where there are as many readers as tables of the group that is described, and their bytes are the texts
 /// of annotated tables, it stops for want of memory, a reader or a writer that failed, or after 2^40 reads alone.
 pub fn good_runs_succeed<R: Read>()
-    ensures { (described : Described TheDescription) (m : TheMode) (olds news : List (TheCounted R)) (out report_out : Stream)
+    ensures { (described : Document) (m : TheMode) (olds news : List (TheCounted R)) (out report_out : Stream)
         (result : Result TheOutcome TheStop) → ReadGoodTables R.remaining described olds
         → Runs R.remaining described m olds news out report_out result → IsOkOrLacks result }
 {
     good_texts_are_accepted();
+    groups_have_no_faults();
 }

@@ -2,8 +2,7 @@
 ghost use Rattle.std.specs.Prelude.{◌≡◌, ◌≤◌, IfOk, IfErr, length};
 ghost use Rattle.csvw_columns.specs.PlanOf.{plan_of};
 ghost use Rattle.csvw_description.specs.Plannable.{IsPlannable};
-ghost use Rattle.csvw_meta.specs.Document.{document};
-ghost use Rattle.csvw_meta.specs.UrlAlone.{plain_description};
+ghost use Rattle.csvw_meta.specs.Document.{document, plain_description};
 ghost use Rattle.csvw_session.specs.Ready.{AreReady};
 ghost use Rattle.csvw_session.specs.Sessions.{AreNumbered};
 ghost use Rattle.csvw_session.specs.declared.stop.Stop.TheVariants as stop;
@@ -51,7 +50,7 @@ pub(crate) fn planned(alloc: Global, meta: &[u8], base: &str) -> Result<Plan, St
     ensures ready { IfOk result (λ plan. AreReady plan.tables) }
     ensures numbered { IfOk result (λ plan. AreNumbered plan.tables) }
     ensures few { IfOk result (λ plan. length plan.tables ≤ 64) }
-    ensures stop { IfErr result (λ reason. IsMetaStop (document base.now meta.now).faults reason) }
+    ensures stop { IfErr result (λ reason. IsMetaStop (document base.now meta.now) reason) }
 {
     match read(alloc, meta, base) {
         Ok(description) => built(alloc, description),
@@ -65,7 +64,7 @@ pub(crate) fn planned_alone(alloc: Global, url: &str) -> Result<Plan, Stop>
     ensures ready { IfOk result (λ plan. AreReady plan.tables) }
     ensures numbered { IfOk result (λ plan. AreNumbered plan.tables) }
     ensures few { IfOk result (λ plan. length plan.tables ≤ 64) }
-    ensures stop { IfErr result (λ reason. IsMetaStop (plain_description url.now).faults reason) }
+    ensures stop { IfErr result (λ reason. IsMetaStop (plain_description url.now) reason) }
 {
     match plain(alloc, url) {
         Ok(description) => built(alloc, description),

@@ -1,15 +1,12 @@
 //! Runs over a group of tables.
 ghost use Rattle.std.specs.Prelude.{◌≡◌, ◌≤◌, ◌∷◌, [], length};
-ghost use Rattle.csvw_description.specs.declared.description.Description.{Description as TheDescription};
-ghost use Rattle.csvw_meta_core.specs.Read.{Read as Described};
-ghost use Rattle.csvw_meta.specs.UrlAlone.{plain_description};
 ghost use Rattle.csvw_session.specs.Ready.{AreReady};
 ghost use Rattle.csvw_session.specs.Sessions.{AreNumbered};
 ghost use Rattle.csvw_triples_core.specs.declared.mode.Mode.TheVariants as mode;
 ghost use Rattle.csvw_text.specs.Streams.{stream_of};
 ghost use Rattle.csvw_engine.specs.Reporting.{Reports};
 ghost use Rattle.csvw_engine.specs.Runs.{IsPlanned, Runs};
-ghost use Rattle.csvw_meta.specs.Document.{document};
+ghost use Rattle.csvw_meta.specs.Document.{Document, document, plain_description};
 
 use crate::flush::{flush, flush_behind};
 use crate::group::{Way, convert_tables};
@@ -72,7 +69,7 @@ fn run_planned<R: Read, W: Write, V: Write>(
     requires ready { AreReady run.plan.tables }
     requires numbered { AreNumbered run.plan.tables }
     requires few { length run.plan.tables ≤ 64 }
-    ensures { (described : Described TheDescription) → IsPlanned described run.plan → Runs R.remaining described run.way.mode readers.old readers.new
+    ensures { (described : Document) → IsPlanned described run.plan → Runs R.remaining described run.way.mode readers.old readers.new
         (stream_of W.contents out.old out.new) (stream_of V.contents report.old report.new) result }
 {
     let PlannedRun { plan, way } = run;
