@@ -7,7 +7,7 @@ use Rattle.csvw_triples_core.specs.declared.mode.Mode.TheVariants as mode
 use Rattle.csvw_words.specs.Asked.{Asks, program_app}
 use Rattle.csvw_words.specs.declared.Request.{Request}
 use Rattle.csvw_words.specs.declared.Request.TheVariants.{Convert, Plain, Validate}
-use Rattle.csvw_meta.specs.UrlAlone.{plain_description}
+use Rattle.csvw_meta.specs.Document.{plain_description}
 use Rattle.csvw_engine.specs.Runs.{Runs}
 use Rattle.csvw.specs.Answers.{Answers, TellsMistake, TellsStop}
 use Rattle.csvw.specs.StandardInput.{inputs_of}
