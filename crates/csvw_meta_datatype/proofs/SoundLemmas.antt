@@ -12,7 +12,7 @@ use Rattle.csvw_datatype.specs.Sound.{AreBoundsOf, IsSound, lengths_apply}
 use Rattle.csvw_datatype.specs.Breaks.{no_facets}
 use Rattle.csvw_meta_core.specs.declared.fault.MetaFault.{MetaFault}
 use Rattle.csvw_meta_core.specs.Pointer.{below}
-use Rattle.csvw_meta_core.specs.Read.{Read, given, optional, over_faults, property}
+use Rattle.csvw_meta_core.specs.Read.{Read, given, optional, property}
 use Rattle.csvw_meta_core.specs.Links.{id}
 use Rattle.csvw_meta_format.specs.Formats.{format, no_format}
 use Rattle.csvw_meta_facets.specs.Facets.{facets}
@@ -20,6 +20,8 @@ use Rattle.csvw_meta_facets.specs.Fit.{FacetsFit}
 use Rattle.csvw_meta_datatype.specs.declared.form.DatatypeFound.{DatatypeFound}
 use Rattle.csvw_meta_datatype.specs.Base.{base}
 use Rattle.csvw_meta_datatype.specs.Datatypes.{plain, named, of_type, based, form, datatype}
+use Rattle.csvw_meta_datatype.specs.Names.{all_simples}
+use Rattle.csvw_meta_datatype.specs.Whichever.{by_faults}
 
 no_lengths : (s : Simple) → lengths_apply s no_facets ≡ true
 no_lengths Text = refl
@@ -62,16 +64,16 @@ of_type_sound formats all iri place at d s =
       bounds_agree = fit.bounds_agree;
     }
 
-over_sound : (faults : List MetaFault) (s : Simple) (next : Simple → Read DatatypeFound) → ((t : Simple) → IsSound (next t).value.datatype)
-    → IsSound (over_faults (named Text) faults s next).value.datatype
-over_sound [] s next each = each s
-over_sound (f ∷ fs) s next each = plain_sound Text None
+by_sound : (faults : List MetaFault) (s : Simple) (next : Simple → Read DatatypeFound) → ((t : Simple) → IsSound (next t).value.datatype)
+    → IsSound (by_faults all_simples (named Text) faults s next).value.datatype
+by_sound [] s next each = each s
+by_sound (f ∷ fs) s next each = plain_sound Text None
 
 module _ (formats : FormatsFit) (all : AllFacetsFit) where
   based_sound : (iri : Option (List ℕ)) (place : Place) (at : List ℕ) (d : Data) → IsSound (based iri place at d).value.datatype
   based_sound iri place at d =
       let type = property base Text at d (codes "base") in
-      over_sound type.faults type.value (of_type iri place at d) (of_type_sound formats all iri place at d)
+      by_sound type.faults type.value (of_type iri place at d) (of_type_sound formats all iri place at d)
 
   form_sound : (against : Parts) (place : Place) (at : List ℕ) (d : Data) → IsSound (form against place at d).value.datatype
   unfolding form

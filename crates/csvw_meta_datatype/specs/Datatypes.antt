@@ -7,7 +7,7 @@ use Rattle.csvw_datatype.specs.declared.simple.Simple.{Simple}
 use Rattle.csvw_datatype.specs.declared.simple.Simple.TheVariants.{Text}
 use Rattle.csvw_datatype.specs.declared.datatype.Datatype.{Datatype}
 use Rattle.csvw_datatype.specs.Breaks.{no_facets}
-use Rattle.csvw_meta_core.specs.Read.{Read, fine, ◌>>=◌, over, under, property, optional}
+use Rattle.csvw_meta_core.specs.Read.{Read, fine, ◌>>=◌, under, property, optional}
 use Rattle.csvw_meta_core.specs.Kinds.{fixed}
 use Rattle.csvw_meta_core.specs.Links.{id}
 use Rattle.csvw_meta_facets.specs.Facets.{facets}
@@ -15,7 +15,8 @@ use Rattle.csvw_meta_format.specs.Formats.{no_format, format}
 use Rattle.csvw_meta_notes.specs.Unlisted.{unlisted}
 use Rattle.csvw_meta_datatype.specs.declared.form.DatatypeFound.{DatatypeFound}
 use Rattle.csvw_meta_datatype.specs.Base.{base}
-use Rattle.csvw_meta_datatype.specs.Names.{datatype_names}
+use Rattle.csvw_meta_datatype.specs.Names.{all_simples, datatype_names}
+use Rattle.csvw_meta_datatype.specs.Whichever.{whichever}
 
 -- the datatype of a type, with an `@id` or without one
 abbrev pub plain : Simple → Option (List ℕ) → Datatype
@@ -35,9 +36,9 @@ of_type id place at d simple = do
     warnings = found.warnings;
   })
 
--- Where an object's type can't be read, its format and its facets aren't judged.
+-- Where an object's type can't be read, its format and its facets have the faults that stand whichever built-in datatype it were.
 abbrev pub based : Option (List ℕ) → Place → List ℕ → Data → Read DatatypeFound
-based id place at d = over (named Text) (property base Text at d (codes "base")) (of_type id place at d)
+based id place at d = whichever all_simples (named Text) (property base Text at d (codes "base")) (of_type id place at d)
 
 -- the datatype that an object describes
 unfoldable pub form : Parts → Place → List ℕ → Data → Read DatatypeFound

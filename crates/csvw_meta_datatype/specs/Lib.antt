@@ -1,3 +1,4 @@
 pub mod Base
 pub mod Datatypes
 pub mod Names
+pub mod Whichever

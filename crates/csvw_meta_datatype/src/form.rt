@@ -92,8 +92,8 @@ fn read_of_type(
     })
 }
 
-// A format and facets are judged by the type, so that they aren't where `base` is none.
-#[tactic(auto, using(crate::proofs::ReadLemmas::fails_over))]
+// A format and facets are judged by the type, so that they are read behind `base`.
+#[tactic(auto, using(crate::proofs::ReadLemmas::fails_by))]
 fn read_based(id: Option<Iri>, place: Place, part: &Part) -> Result<DatatypeFound, Refusal>
     ensures { Reads result (based id place (text_of part.now.at) (view part.now.value.now)) }
 {
