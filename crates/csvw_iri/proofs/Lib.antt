@@ -4,3 +4,4 @@ pub mod OwnLemmas
 pub mod OwnLinks
 pub mod FragmentLinks
 pub mod StayingLemmas
+pub mod FrontLemmas

@@ -72,3 +72,13 @@ abbrev pub goes_on : Option Place → List ℕ → Bool
 goes_on None bytes = false
 goes_on (Some place) [] = is_end place
 goes_on (Some place) (b ∷ bytes) = goes_on (step place b) bytes
+
+-- the place to which bytes lead from a place; none where the pass ends in them
+abbrev pub after : Option Place → List ℕ → Option Place
+after None bytes = None
+after (Some place) [] = Some place
+after (Some place) (b ∷ bytes) = after (step place b) bytes
+
+-- the text is a scheme, `://` and bytes that lead to the place
+abbrev pub IsOwnFront : List ℕ → Place → Type 0
+IsOwnFront text place = (rest : List ℕ) × (IsOfScheme text rest × (after (Some Front) rest ≡ Some place))

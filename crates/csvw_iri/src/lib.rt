@@ -4,6 +4,7 @@
 mod base;
 mod compared;
 mod fault;
+mod front;
 mod iri;
 mod links;
 mod own;
@@ -12,6 +13,7 @@ mod safe;
 
 pub use base::Base;
 pub use fault::IriFault;
+pub use front::OwnFront;
 pub use iri::{Iri, with_fragment};
 pub use links::{link, link_over, resolve};
 pub use prefix::expand_prefix;

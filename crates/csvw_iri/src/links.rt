@@ -5,6 +5,7 @@ ghost use Rattle.csvw_iri.specs.Fault.{Gives};
 
 use crate::base::Base;
 use crate::fault::IriFault;
+use crate::front::{OwnFront, is_own_behind};
 use crate::iri::Iri;
 use crate::own::{is_fragment, is_own};
 use crate::prefix::expand_prefix;
@@ -26,19 +27,21 @@ pub fn resolve(alloc: Global, base: &Base, text: &str) -> Result<Iri, IriFault>
 pub fn link(alloc: Global, base: &Base, text: &str) -> Result<Iri, IriFault>
     ensures { Gives (λ i. i) result (link_of base.now text.now) }
 {
-    link_over(alloc, base, text, None)
+    link_over(alloc, base, text, None, None)
 }
 
-/// The same link, in the memory of an IRI that is no longer needed, where it is seen at once and no clone shares that memory.
+/// The same link, in the memory of an IRI that is no longer needed, where it is seen at once and no clone shares that memory. It is
+/// seen the sooner where it begins with a front that is given; it may begin otherwise.
 pub fn link_over(
     alloc: Global,
     base: &Base,
     text: &str,
+    front: Option<&OwnFront>,
     spare: Option<Iri>,
 ) -> Result<Iri, IriFault>
     ensures { Gives (λ i. i) result (link_of base.now text.now) }
 {
-    if is_own(text) {
+    if is_own_behind(front, text) {
         return Ok(Iri::over(alloc, text, "", spare)?);
     }
     if is_fragment(text) {

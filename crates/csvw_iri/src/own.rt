@@ -2,7 +2,7 @@
 ghost use Rattle.std.specs.Prelude.{◌≡◌, ◌≤◌, ◌++◌, true, Some, IfSome, codes, length, drop};
 ghost use Rattle.csvw_iri.specs.Safe.{is_iri};
 ghost use Rattle.csvw_iri.specs.Own.{IsOwnLink, IsFragmentLink, IsOfScheme};
-ghost use Rattle.csvw_iri.specs.Own.{is_plain, is_lower, is_of_label, of_label, of_path, of_query, step, is_end, goes_on};
+ghost use Rattle.csvw_iri.specs.Own.{is_plain, is_lower, is_of_label, of_label, of_path, of_query, step, is_end, goes_on, after};
 
 use crate::base::MAX_TEXT;
 use crate::safe::is_raw;
@@ -132,7 +132,10 @@ fn stays(place: Place, b: u8) -> bool
 {
     match place {
         Place::Label => matches!(b, b'a'..=b'z' | b'0'..=b'9'),
-        Place::Path | Place::Query | Place::Fragment => !BUT_STAYING.should_percent_encode(b),
+        Place::Path | Place::Query | Place::Fragment => {
+            // Most are letters in lower case or digits.
+            matches!(b, b'a'..=b'z' | b'0'..=b'9') || !BUT_STAYING.should_percent_encode(b)
+        }
         Place::Front | Place::Segment | Place::Percent => false,
     }
 }
@@ -151,7 +154,7 @@ fn staying(place: Place, bytes: &[u8]) -> usize
 }
 
 /// Whether the bytes go on from the place to an end.
-fn goes_on(from: Place, bytes: &[u8]) -> bool
+pub(crate) fn goes_on(from: Place, bytes: &[u8]) -> bool
     ensures { result ≡ goes_on (Some from) bytes.now }
 {
     let mut place = from;
@@ -167,8 +170,22 @@ fn goes_on(from: Place, bytes: &[u8]) -> bool
     is_end(place)
 }
 
+/// The place to which the bytes lead from a place; `None` where the URL Standard might write them in another way.
+pub(crate) fn after(from: Place, bytes: &[u8]) -> Option<Place>
+    ensures { result ≡ after (Some from) bytes.now }
+{
+    let mut place = from;
+    for b in bytes {
+        match step(place, *b) {
+            None => return None,
+            Some(next) => place = next,
+        }
+    }
+    Some(place)
+}
+
 /// What follows `http://` or `https://`.
-fn behind_scheme(text: &[u8]) -> Option<&[u8]>
+pub(crate) fn behind_scheme(text: &[u8]) -> Option<&[u8]>
     ensures { IfSome result (λ rest. IsOfScheme text.now rest.now) }
 {
     match text.strip_prefix(b"http://") {

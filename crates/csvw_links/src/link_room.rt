@@ -62,7 +62,7 @@ impl LinkRoom {
         ensures { IfOk result (λ l. l ≡ outcome (link_of base.now (string_bytes self.old.text))) }
     {
         let spare = self.take();
-        let made = outcome(link_over(self.alloc, base, self.text.as_str(), spare))?;
+        let made = outcome(link_over(self.alloc, base, self.text.as_str(), None, spare))?;
         if let Some(iri) = &made.iri {
             self.keep(iri.clone(self.alloc)?)?;
         }

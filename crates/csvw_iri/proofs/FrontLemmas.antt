@@ -1,0 +1,27 @@
+-- A pass that goes on behind a front.
+use Rattle.std.proofs.Common.{◌≡◌, ℕ, true, List, [], ◌∷◌, ◌++◌, Option, Some, None, inl, inr, refl, ap, sym, ◌∙◌, subst, append_assoc}
+use Rattle.std.specs.Prelude.{codes}
+use Rattle.csvw_iri.specs.declared.own.Place.{Place}
+use Rattle.csvw_iri.specs.declared.own.Place.TheVariants.{Front}
+use Rattle.csvw_iri.specs.Own.{IsOfScheme, IsOwnFront, after, goes_on, step}
+
+-- the pass over two parts is that over the second from where the first leads
+pub goes_on-append : (from : Option Place) (xs ys : List ℕ) → goes_on from (xs ++ ys) ≡ goes_on (after from xs) ys
+goes_on-append None xs ys = refl
+goes_on-append (Some place) [] ys = refl
+goes_on-append (Some place) (x ∷ xs) ys = goes_on-append (step place x) xs ys
+
+longer : (text rest more : List ℕ) → IsOfScheme text rest → IsOfScheme (text ++ more) (rest ++ more)
+longer text rest more (inl e) = inl (ap (λ t. t ++ more) e ∙ append_assoc (codes "http://") rest more)
+longer text rest more (inr e) = inr (ap (λ t. t ++ more) e ∙ append_assoc (codes "https://") rest more)
+
+-- what stands behind the scheme of a text that begins with a front
+abbrev pub GoesOn : List ℕ → Type 0
+GoesOn text = (rest : List ℕ) × (IsOfScheme text rest × (goes_on (Some Front) rest ≡ true))
+
+pub goes_behind : (front : List ℕ) (place : Place) (more text : List ℕ) → IsOwnFront front place → text ≡ front ++ more
+    → goes_on (Some place) more ≡ true → GoesOn text
+goes_behind front place more text is_front split goes =
+    let rest = is_front.0 in
+    let at_end = goes_on-append (Some Front) rest more ∙ ap (λ p. goes_on p more) is_front.1.1 ∙ goes in
+    subst GoesOn (sym split) (rest ++ more, (longer front rest more is_front.1.0, at_end))

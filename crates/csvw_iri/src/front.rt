@@ -1,0 +1,86 @@
+//! Constant texts with which the URLs of many rows begin, over whose bytes one pass is enough.
+ghost use Rattle.std.specs.Prelude.{◌≡◌, ◌≢◌, ◌++◌, ℕ, List, IfOk, IfSome, MatchOption, true};
+ghost use Rattle.csvw_iri.specs.Safe.{is_iri};
+ghost use Rattle.csvw_iri.specs.Own.{IsOwnFront, IsOwnLink};
+
+use crate::base::MAX_TEXT;
+use crate::own::{Place, after, behind_scheme, goes_on, is_own};
+use csvw_text::Text;
+use std::alloc::{AllocError, Global};
+use std::marker::Model;
+
+/// The text with which absolute URLs begin, as which contracts see it, and where the pass over their bytes stands behind it.
+#[derive(Drop)]
+pub struct OwnFront {
+    /// The text: `http://` or `https://`, and what stands behind that.
+    text: Text,
+    /// The place to which its bytes lead.
+    place: Place,
+}
+
+impl Model for OwnFront {
+    ghost use Rattle.std.specs.Prelude.{ℕ, List};
+    ghost use Rattle.csvw_iri.specs.Own.{IsOwnFront};
+
+    ghost Value = { List ℕ };
+
+    ghost view = { λ f. f.text };
+
+    ghost invariant = { λ f. IsOwnFront f.text f.place };
+}
+
+impl OwnFront {
+    /// The front that the text is; `None` where it doesn't begin with `http://` or `https://`, or where the URL Standard might write
+    /// it in another way. `AllocError` where there is no memory.
+    pub fn of(alloc: Global, text: &str) -> Result<Option<OwnFront>, AllocError>
+        ensures { IfOk result (λ found. IfSome found (λ front. front ≡ text.now)) }
+    {
+        let Some(place) = place_behind(text) else {
+            return Ok(None);
+        };
+        Ok(Some(OwnFront {
+            text: Text::copied(alloc, text)?,
+            place,
+        }))
+    }
+
+    /// Whether the text begins with the front, is short enough, and is seen at once to be an absolute URL as the URL Standard writes
+    /// it, with nothing that IRIREF forbids.
+    fn is_own(&self, text: &str) -> bool
+        ensures link { result ≡ true → IsOwnLink text.now }
+        ensures raw { result ≡ true → is_iri text.now ≡ true }
+    {
+        if text.len() > MAX_TEXT {
+            return false;
+        }
+        match behind(self.text.as_str().as_bytes(), text.as_bytes()) {
+            Some(rest) => goes_on(self.place, rest),
+            None => false,
+        }
+    }
+}
+
+/// What follows the first bytes, where they are these.
+fn behind<'a>(first: &[u8], text: &'a [u8]) -> Option<&'a [u8]>
+    ensures { MatchOption result ((rest : List ℕ) → text.now ≢ first.now ++ rest) (λ rest. text.now ≡ first.now ++ rest.now) }
+{
+    text.strip_prefix(first)
+}
+
+/// The place to which the bytes of a text lead that begins with `http://` or `https://`.
+fn place_behind(text: &str) -> Option<Place>
+    ensures { IfSome result (λ place. IsOwnFront text.now place) }
+{
+    after(Place::Front, behind_scheme(text.as_bytes())?)
+}
+
+/// Whether the text is seen at once to be its own link, with nothing that IRIREF forbids: by the front, where there is one.
+pub(crate) fn is_own_behind(front: Option<&OwnFront>, text: &str) -> bool
+    ensures link { result ≡ true → IsOwnLink text.now }
+    ensures raw { result ≡ true → is_iri text.now ≡ true }
+{
+    match front {
+        Some(front) => front.is_own(text),
+        None => is_own(text),
+    }
+}
