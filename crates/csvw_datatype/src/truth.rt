@@ -18,9 +18,9 @@ pub(crate) fn read_truth(format: &Option<Format>, text: &str) -> Option<bool>
                 None
             }
         }
-        _ => match text {
-            "true" | "1" => Some(true),
-            "false" | "0" => Some(false),
+        _ => match text.as_bytes() {
+            [b't', b'r', b'u', b'e'] | [b'1'] => Some(true),
+            [b'f', b'a', b'l', b's', b'e'] | [b'0'] => Some(false),
             _ => None,
         },
     }
