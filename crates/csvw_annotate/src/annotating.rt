@@ -1,5 +1,5 @@
 //! What a row says.
-ghost use Rattle.std.specs.Prelude.{◌≡◌, ◌<◌, ◌≤◌, [], IfOk, OnOk, length};
+ghost use Rattle.std.specs.Prelude.{◌≡◌, ◌<◌, ◌≤◌, [], None, IfOk, OnOk, length};
 ghost use Rattle.csvw_rows.specs.RowValue.{row_of};
 ghost use Rattle.csvw_datatype.specs.Sound.{IsSound};
 ghost use Rattle.csvw_annotate.specs.Annotated.{IsCell, AreCells, Annotates, AreSound};
@@ -11,10 +11,21 @@ use crate::row_stop::RowStop;
 use csvw_cell::parse_over;
 use csvw_columns_core::Column;
 use csvw_datatype::values_of_texts;
+use csvw_iri::Iri;
 use csvw_links::{LinkRoom, LinkedColumns, RowNumbers};
 use csvw_rows::RawRow;
 use csvw_text::Seq;
 use std::alloc::{AllocError, Global};
+
+/// Becomes no link. Most cells have none.
+#[inline(always)]
+fn clear(link: &mut Option<Iri>)
+    ensures { link.new ≡ None }
+{
+    if link.is_some() {
+        *link = None;
+    }
+}
 
 /// Makes it the cell of a text, in its memory.
 fn fill_cell(
@@ -26,9 +37,9 @@ fn fill_cell(
     requires { IsSound column.now.properties.datatype }
     ensures { OnOk result (IsCell column.now text.now cell.new) }
 {
-    cell.about = None;
-    cell.property = None;
-    cell.link = None;
+    clear(&mut cell.about);
+    clear(&mut cell.property);
+    clear(&mut cell.link);
     parse_over(alloc, column, text, &mut cell.value, &mut cell.faults)
 }
 

@@ -1,5 +1,5 @@
 //! The items of a list, steps 5 to 9 of a cell with a separator.
-ghost use Rattle.std.specs.Prelude.{◌≡◌, ◌<◌, length, IfOk, map};
+ghost use Rattle.std.specs.Prelude.{◌≡◌, ◌<◌, length, IfOk, map, bytes_eq};
 ghost use Rattle.csvw_datatype.specs.Sound.{IsSound};
 ghost use Rattle.csvw_cell.specs.CellOf.{is_null, or_default, stripped, item_text, texts_of, AreParts, ArePartsBy, AreItems};
 
@@ -17,10 +17,17 @@ pub struct JudgedItems {
     pub causes: Seq<Code>,
 }
 
+/// Whether the texts are one. Most are of two lengths.
+fn is_same(null: &Text, text: &str) -> bool
+    ensures { result ≡ bytes_eq null.now text.now }
+{
+    null.len() == text.len() && null.as_str() == text
+}
+
 pub fn is_null(nulls: &[Text], text: &str) -> bool
     ensures { result ≡ is_null nulls.now text.now }
 {
-    nulls.iter().any(|null| null.as_str() == text)
+    nulls.iter().any(|null| is_same(null, text))
 }
 
 pub fn or_default<'a>(default: &'a str, text: &'a str) -> &'a str

@@ -107,7 +107,9 @@ fn is_xsd_string(iri: &Iri) -> bool
     ensures value { result ≡ is_string_type iri.now }
     ensures fits { IriFits iri.now }
 {
-    iri.as_str() == XSD_STRING
+    let text = iri.as_str();
+    // Most other datatypes have an IRI of another length.
+    text.len() == XSD_STRING.len() && text == XSD_STRING
 }
 
 /// Ends a literal that has a datatype, and its line.
