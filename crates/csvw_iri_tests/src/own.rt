@@ -1,6 +1,6 @@
 //! Texts whose links are seen in one pass over their bytes, and texts that come near to them.
 use crate::telling::told;
-use csvw_iri::{Base, IriFault, link, link_over, resolve};
+use csvw_iri::{Base, IriFault, OwnFront, link, link_over, resolve};
 use std::alloc::Global;
 use std::test::Fail;
 
@@ -86,17 +86,55 @@ http://exa%6Dple.org/x=>http://example.org/x
 http://example.org/x\u{7f}=>http://example.org/x%7F
 #x\u{7f}=>http://example.org/d/p.csv?v=1#x%7F";
 
+/// What some of the texts begin with, one on each line, where one pass over it is enough.
+const FRONTS: &str = "\
+http://
+http://e
+http://example.
+http://example.org/
+https://example.org/x/a%
+http://example.org/a/
+http://example.org/a/%
+http://example.org/x?q=1
+http://example.org/x#";
+
+/// Texts over which it isn't, one on each line.
+const NO_FRONTS: &str = "\
+#
+ftp://example.org/a
+HTTP://example.org/
+http:/
+http://1
+http://example.org/.
+http://example.org/%2
+http://example.org/x y
+http://example.org:80/x";
+
 /// Against what the texts resolve.
 const BASE: &str = "http://example.org/d/p.csv?v=1";
 
-/// Whether a text resolves to what is wanted, and both links are the same, also in the memory of an earlier one.
+/// Whether a text resolves to what is wanted, and both links are the same, also in the memory of an earlier one and behind fronts.
 fn gives(alloc: Global, text: &str, want: &str) -> Result<bool, IriFault> {
     let base = Base::new(alloc, BASE)?;
     let resolved = told(alloc, resolve(alloc, &base, text))?;
     let linked = told(alloc, link(alloc, &base, text))?;
     let spare = link(alloc, &base, "http://example.org/earlier")?;
-    let over = told(alloc, link_over(alloc, &base, text, Some(spare)))?;
-    Ok(resolved.as_str() == want && linked.as_str() == want && over.as_str() == want)
+    let over = told(alloc, link_over(alloc, &base, text, None, Some(spare)))?;
+    let is_same = resolved.as_str() == want && linked.as_str() == want && over.as_str() == want;
+    Ok(is_same && gives_behind(alloc, text, want)?)
+}
+
+/// Whether a text has the same link behind each front.
+fn gives_behind(alloc: Global, text: &str, want: &str) -> Result<bool, IriFault> {
+    let base = Base::new(alloc, BASE)?;
+    for line in FRONTS.lines() {
+        let front = OwnFront::of(alloc, line)?;
+        let over = told(alloc, link_over(alloc, &base, text, front.as_ref(), None))?;
+        if front.is_none() || over.as_str() != want {
+            return Ok(false);
+        }
+    }
+    Ok(true)
 }
 
 /// Whether the link of a text is the base's IRI and then the text.
@@ -136,6 +174,15 @@ fn other_texts_are_parsed(rt: HostRuntime) -> Result<(), Fail> {
     let alloc = rt.alloc();
     for row in OTHERS.lines() {
         assert!(rt; row_resolves(alloc, row)?, "{row:?}");
+    }
+    Ok(())
+}
+
+#[test]
+fn other_texts_are_no_fronts(rt: HostRuntime) -> Result<(), Fail> {
+    let alloc = rt.alloc();
+    for text in NO_FRONTS.lines() {
+        assert!(rt; OwnFront::of(alloc, text)?.is_none(), "{text:?}");
     }
     Ok(())
 }

@@ -6,6 +6,7 @@ ghost use Rattle.csvw_links.specs.Links.{no_link};
 ghost use Rattle.csvw_links.specs.declared.bound_link.BoundLink.TheVariants.{Same};
 ghost use Rattle.csvw_links.specs.declared.bound_link.Which.TheVariants.{About};
 
+use crate::bound_parts::BoundParts;
 use crate::cell_names::CellNames;
 use crate::linking::{Made, linked, no_link};
 use crate::sharing::share_about;
@@ -21,7 +22,7 @@ pub enum BoundLink {
     /// The same in each row.
     Same(Made),
     /// By what the row says.
-    Varying(Seq<BoundPart>),
+    Varying(BoundParts),
 }
 
 /// The about link of the cells of a column.
@@ -79,7 +80,7 @@ fn by_parts(alloc: Global, base: &Base, parts: Seq<BoundPart>) -> Result<BoundLi
     ensures { IfOk result (λ l. l ≡ by_parts base.now parts) }
 {
     if varies(parts.as_slice()) {
-        return Ok(BoundLink::Varying(parts));
+        return Ok(BoundLink::Varying(BoundParts::new(alloc, parts)?));
     }
     let mut text = String::new(alloc);
     push_bound(&mut text, parts.as_slice(), &NoValues {})?;

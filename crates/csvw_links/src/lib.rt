@@ -2,6 +2,7 @@
 #![tactic(auto)]
 
 mod bound_link;
+mod bound_parts;
 mod cell_names;
 mod link_room;
 mod linked_columns;

@@ -6,7 +6,7 @@ ghost use Rattle.csvw_links.specs.Links.{outcome};
 
 use crate::bound_link::BoundLink;
 use crate::linking::{Made, outcome};
-use csvw_iri::{Base, Iri, link_over};
+use csvw_iri::{Base, Iri, OwnFront, link_over};
 use csvw_template::{Values, push_bound};
 use std::alloc::{AllocError, Global};
 
@@ -52,17 +52,17 @@ impl LinkRoom {
             BoundLink::Varying(parts) => {
                 self.text.clear();
                 push_bound(&mut self.text, parts.as_slice(), values)?;
-                self.link(base)
+                self.link(base, parts.front())
             }
         }
     }
 
-    /// The link of the text.
-    fn link(&mut self, base: &Base) -> Result<Made, AllocError>
+    /// The link of the text, which begins with the front where there is one.
+    fn link(&mut self, base: &Base, front: Option<&OwnFront>) -> Result<Made, AllocError>
         ensures { IfOk result (λ l. l ≡ outcome (link_of base.now (string_bytes self.old.text))) }
     {
         let spare = self.take();
-        let made = outcome(link_over(self.alloc, base, self.text.as_str(), None, spare))?;
+        let made = outcome(link_over(self.alloc, base, self.text.as_str(), front, spare))?;
         if let Some(iri) = &made.iri {
             self.keep(iri.clone(self.alloc)?)?;
         }
