@@ -63,12 +63,14 @@ impl FieldDigits {
 
 /// The day that a text writes, in days since 1 January 1970; `None` where the text isn't in the format,
 /// or no day of the years 0001 to 9999 has these fields.
+#[inline(always)]
 pub fn read_date(format: DateFormat, text: &str) -> Option<i32>
     ensures { MatchOption result ((day : ℤ) → ReadsDate format text.now day → ⊥) (ReadsDate format text.now) }
 {
     read_day(format, text.as_bytes())
 }
 
+#[inline(always)]
 pub(crate) fn read_day(format: DateFormat, bytes: &[u8]) -> Option<i32>
     ensures { MatchOption result ((day : ℤ) → ReadsDate format bytes.now day → ⊥) (ReadsDate format bytes.now) }
 {

@@ -331,6 +331,8 @@ pub enum NumberFault {
 ghost use Rattle.csvw_datatype_core.specs.Numbers.{IsLawful, ReadsNumber};
 ghost use Rattle.csvw_datatype_core.specs.Misread.{MisreadNumber};
 
+// Apart, so that a short number needs no room for what it keeps.
+#[inline(never)]
 fn any_number(rules: &NumberRules, text: &str) -> Result<i128, NumberFault>
     requires { IsLawful rules.now }
     ensures { MatchResult result (ReadsNumber rules.now (chars text.now)) (MisreadNumber rules.now (chars text.now)) }
@@ -348,6 +350,7 @@ fn any_number(rules: &NumberRules, text: &str) -> Result<i128, NumberFault>
 /// The number that a text spells, in units of 10^-18; `Bad` where it spells none, else `TooLong` where the
 /// number is 10^20 or more in size or no whole count of them. The rules have passed `is_lawful`
 /// (Model for Tabular Data and Metadata on the Web, section 6.4.2).
+#[inline(always)]
 pub fn read_number(rules: &NumberRules, text: &str) -> Result<i128, NumberFault>
     requires { IsLawful rules.now }
     ensures { MatchResult result (ReadsNumber rules.now (chars text.now)) (MisreadNumber rules.now (chars text.now)) }
