@@ -1,9 +1,11 @@
--- Where no facet asks for a length, none is broken, and where no facet is a bound, none of these is.
-use Rattle.std.proofs.Common.{◌≡◌, ℕ, ◌||◌, Bool, true, false, Option, Some, None, is_some, ◌==◌, not, nat_lt, refl, sym, ap, ◌∙◌}
+-- Where no facet asks for a length, none is broken, and where no facet is a bound, none of these is. Texts and truths break
+-- no bound, and what is no text breaks no length.
+use Rattle.std.proofs.Common.{◌≡◌, ℕ, List, ◌||◌, Bool, true, false, Option, Some, None, is_some, ◌==◌, not, nat_lt, refl, sym, ap, ◌∙◌}
 use Rattle.csvw_datatype.specs.declared.value.Value.{Value}
+use Rattle.csvw_datatype.specs.declared.value.Value.TheVariants.{Text, Truth, Number, Day, Moment}
 use Rattle.csvw_datatype.specs.declared.datatype.Facets.{Facets}
 use Rattle.csvw_datatype.specs.declared.facets.Broken.{Broken}
-use Rattle.csvw_datatype.specs.Breaks.{fails, is_over, is_not_under, length_of, has_lengths, has_bounds, length_breaks, breaks}
+use Rattle.csvw_datatype.specs.Breaks.{fails, is_below, is_up_to, is_over, is_not_under, length_of, has_lengths, has_bounds, length_breaks, breaks, unbroken, is_faceted}
 
 or_none : (a b : Bool) → (a || b) ≡ false → (a ≡ false) × (b ≡ false)
 or_none true b h = cc
@@ -58,3 +60,63 @@ unbounded v f h =
     sym (ap (λ b. with_sides (length_breaks v f) b
     (is_over (Some v) f.maximum || is_over (Some v) f.max_inclusive || is_not_under (Some v) f.max_exclusive)) low
     ∙ ap (λ b. with_sides (length_breaks v f) false b) high)
+
+-- no value is below it or above it, nor is it one itself
+record IsUnordered (v : Value) : Type 0 where
+  below : (w : Value) → is_below v w ≡ false
+  above : (w : Value) → is_below w v ≡ false
+  up_to : (w : Value) → is_up_to v w ≡ false
+  from : (w : Value) → is_up_to w v ≡ false
+
+texts : (text : List ℕ) → IsUnordered (Text text)
+texts text = record {
+  below = λ w. refl;
+  above = λ w. elim w as (λ k. is_below k (Text text) ≡ false) [ Text t ↦ refl | Truth b ↦ refl | Number z ↦ refl | Day d ↦ refl | Moment m ↦ refl ];
+  up_to = λ w. refl;
+  from = λ w. elim w as (λ k. is_up_to k (Text text) ≡ false) [ Text t ↦ refl | Truth b ↦ refl | Number z ↦ refl | Day d ↦ refl | Moment m ↦ refl ];
+}
+
+truths : (b : Bool) → IsUnordered (Truth b)
+truths b = record {
+  below = λ w. refl;
+  above = λ w. elim w as (λ k. is_below k (Truth b) ≡ false) [ Text t ↦ refl | Truth c ↦ refl | Number z ↦ refl | Day d ↦ refl | Moment m ↦ refl ];
+  up_to = λ w. refl;
+  from = λ w. elim w as (λ k. is_up_to k (Truth b) ≡ false) [ Text t ↦ refl | Truth c ↦ refl | Number z ↦ refl | Day d ↦ refl | Moment m ↦ refl ];
+}
+
+over_it : (v : Value) (o : Option Value) → IsUnordered v → is_over o (Some v) ≡ false
+over_it v None h = refl
+over_it v (Some x) h = h.below x
+
+it_over : (v : Value) (o : Option Value) → IsUnordered v → is_over (Some v) o ≡ false
+it_over v None h = refl
+it_over v (Some x) h = h.above x
+
+not_under_it : (v : Value) (o : Option Value) → IsUnordered v → is_not_under o (Some v) ≡ false
+not_under_it v None h = refl
+not_under_it v (Some x) h = h.up_to x
+
+it_not_under : (v : Value) (o : Option Value) → IsUnordered v → is_not_under (Some v) o ≡ false
+it_not_under v None h = refl
+it_not_under v (Some x) h = h.from x
+
+none_of : (a b c : Bool) → a ≡ false → b ≡ false → c ≡ false → (a || b || c) ≡ false
+none_of a b c p q r = rw (p, q, r) refl
+
+unordered : (v : Value) (f : Facets) → IsUnordered v → breaks v f ≡ with_sides (length_breaks v f) false false
+unfolding with_sides
+unordered v f h =
+    let low = none_of _ _ _ (over_it v f.minimum h) (over_it v f.min_inclusive h) (not_under_it v f.min_exclusive h) in
+    let high = none_of _ _ _ (it_over v f.maximum h) (it_over v f.max_inclusive h) (it_not_under v f.max_exclusive h) in
+    ap (λ b. with_sides (length_breaks v f) b
+    (is_over (Some v) f.maximum || is_over (Some v) f.max_inclusive || is_not_under (Some v) f.max_exclusive)) low
+    ∙ ap (λ b. with_sides (length_breaks v f) false b) high
+
+pub unfaceted : (v : Value) (f : Facets) → is_faceted v f ≡ false → breaks v f ≡ unbroken
+unfolding with_sides
+unfaceted (Text text) f h =
+    unordered (Text text) f (texts text) ∙ ap (λ b. with_sides b false false) (sym (unmeasured (Text text) f h))
+unfaceted (Truth b) f h = unordered (Truth b) f (truths b)
+unfaceted (Number z) f h = sym (unbounded (Number z) f h)
+unfaceted (Day day) f h = sym (unbounded (Day day) f h)
+unfaceted (Moment moment) f h = sym (unbounded (Moment moment) f h)

@@ -4,7 +4,7 @@ use Rattle.std.specs.Prelude.{ℕ, ◌==◌, ◌||◌, nat_lt, not, Bool, false,
 use Rattle.std.specs.Str.{chars}
 use lib.Signed.{lt_z}
 use Rattle.csvw_datatype.specs.declared.value.Value.{Value}
-use Rattle.csvw_datatype.specs.declared.value.Value.TheVariants.{Text, Number, Day, Moment}
+use Rattle.csvw_datatype.specs.declared.value.Value.TheVariants.{Text, Truth, Number, Day, Moment}
 use Rattle.csvw_datatype.specs.declared.datatype.Facets.{Facets}
 use Rattle.csvw_datatype.specs.declared.facets.Broken.{Broken}
 
@@ -78,3 +78,15 @@ breaks v f = record (length_breaks v f) {
   below_minimum = is_over f.minimum (Some v) || is_over f.min_inclusive (Some v) || is_not_under f.min_exclusive (Some v);
   above_maximum = is_over (Some v) f.maximum || is_over (Some v) f.max_inclusive || is_not_under (Some v) f.max_exclusive;
 }
+
+-- no facet is broken
+abbrev pub unbroken : Broken
+unbroken = record { wrong_length = false; too_short = false; too_long = false; below_minimum = false; above_maximum = false }
+
+-- a facet speaks of such a value: a length of a text, a bound of what has an order
+abbrev pub is_faceted : Value → Facets → Bool
+is_faceted (Text text) f = has_lengths f
+is_faceted (Truth b) f = false
+is_faceted (Number z) f = has_bounds f
+is_faceted (Day day) f = has_bounds f
+is_faceted (Moment moment) f = has_bounds f

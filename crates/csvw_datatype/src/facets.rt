@@ -1,7 +1,7 @@
 //! The facets that a value breaks.
-ghost use Rattle.std.specs.Prelude.{◌≡◌, length, ◌==◌, nat_lt, not, option_copied, is_some, Some, ◌||◌};
+ghost use Rattle.std.specs.Prelude.{◌≡◌, false, length, ◌==◌, nat_lt, not, option_copied, is_some, Some, ◌||◌};
 ghost use Rattle.std.specs.Str.{chars};
-ghost use Rattle.csvw_datatype.specs.Breaks.{breaks, length_breaks, has_lengths, has_bounds, is_below, is_up_to, length_of, fails, is_over, is_not_under};
+ghost use Rattle.csvw_datatype.specs.Breaks.{breaks, unbroken, is_faceted, length_breaks, has_lengths, has_bounds, is_below, is_up_to, length_of, fails, is_over, is_not_under};
 
 use crate::datatype::{Datatype, Facets};
 use crate::value::Value;
@@ -17,6 +17,20 @@ pub struct Broken {
 }
 
 impl Datatype {
+    /// Whether some facet speaks of such a value: a length of a text, a bound of what has an order. Where none does,
+    /// the value breaks none.
+    #[inline(always)]
+    pub fn is_faceted(&self, value: &Value) -> bool
+        ensures value { result ≡ is_faceted value.now self.now.facets }
+        ensures unbroken { result ≡ false → breaks value.now self.now.facets ≡ unbroken }
+    {
+        match value {
+            Value::Text(_) => has_lengths(&self.facets),
+            Value::Truth(_) => false,
+            Value::Number(_) | Value::Day(_) | Value::Moment(_) => has_bounds(&self.facets),
+        }
+    }
+
     /// The facets that a value breaks. It takes no memory (Metadata Vocabulary for Tabular Data, section 5.11.2).
     pub fn facets(&self, value: &Value) -> Broken
         ensures { result ≡ breaks value.now self.now.facets }

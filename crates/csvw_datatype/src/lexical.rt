@@ -32,6 +32,7 @@ impl Value {
 
     /// The lexical form of a value, as `lexical` gives it, in the memory of a text that is no longer needed; `AllocError` where
     /// there is none.
+    #[inline(always)]
     pub fn lexical_over(&self, spare: Text) -> Result<Text, AllocError>
         requires { IsWritable self.now }
         ensures { IfOk result (λ text. text ≡ lexical_of self.now) }
