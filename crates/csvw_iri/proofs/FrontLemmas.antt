@@ -1,5 +1,6 @@
 -- A pass that goes on behind a front.
-use Rattle.std.proofs.Common.{◌≡◌, ℕ, true, List, [], ◌∷◌, ◌++◌, Option, Some, None, inl, inr, refl, ap, sym, ◌∙◌, subst, append_assoc}
+use Rattle.std.proofs.Common.{◌≡◌, ℕ, true, List, [], ◌∷◌, ◌++◌, Option, Some, None, inl, inr, refl, ap, sym, ◌∙◌, subst, append_assoc, take, drop, length}
+use Rattle.std.proofs.lemmas.List.{take-append-drop}
 use Rattle.std.specs.Prelude.{codes}
 use Rattle.csvw_iri.specs.declared.own.Place.{Place}
 use Rattle.csvw_iri.specs.declared.own.Place.TheVariants.{Front}
@@ -25,3 +26,9 @@ goes_behind front place more text is_front split goes =
     let rest = is_front.0 in
     let at_end = goes_on-append (Some Front) rest more ∙ ap (λ p. goes_on p more) is_front.1.1 ∙ goes in
     subst GoesOn (sym split) (rest ++ more, (longer front rest more is_front.1.0, at_end))
+
+-- a text whose first bytes are these, and what follows them
+pub joined : (text first front rest : List ℕ) → front ≡ take (length first) text → rest ≡ drop (length first) text → front ≡ first
+    → text ≡ first ++ rest
+joined text first front rest is_front is_rest same =
+    sym (take-append-drop (length first) text) ∙ ap (λ f. f ++ drop (length first) text) (sym is_front ∙ same) ∙ ap (λ r. first ++ r) (sym is_rest)

@@ -1,5 +1,5 @@
 //! Constant texts with which the URLs of many rows begin, over whose bytes one pass is enough.
-ghost use Rattle.std.specs.Prelude.{◌≡◌, ◌≢◌, ◌++◌, ℕ, List, IfOk, IfSome, MatchOption, true};
+ghost use Rattle.std.specs.Prelude.{◌≡◌, ◌++◌, IfOk, IfSome, true};
 ghost use Rattle.csvw_iri.specs.Safe.{is_iri};
 ghost use Rattle.csvw_iri.specs.Own.{IsOwnFront, IsOwnLink};
 
@@ -53,18 +53,21 @@ impl OwnFront {
         if text.len() > MAX_TEXT {
             return false;
         }
-        match behind(self.text.as_str().as_bytes(), text.as_bytes()) {
-            Some(rest) => goes_on(self.place, rest),
+        match behind(self.text.as_str(), text) {
+            Some(rest) => goes_on(self.place, rest.as_bytes()),
             None => false,
         }
     }
 }
 
-/// What follows the first bytes, where they are these.
-fn behind<'a>(first: &[u8], text: &'a [u8]) -> Option<&'a [u8]>
-    ensures { MatchOption result ((rest : List ℕ) → text.now ≢ first.now ++ rest) (λ rest. text.now ≡ first.now ++ rest.now) }
+/// What follows the first text, where the other one begins with it.
+fn behind<'a>(first: &str, text: &'a str) -> Option<&'a str>
+    ensures { IfSome result (λ rest. text.now ≡ first.now ++ rest.now) }
 {
-    text.strip_prefix(first)
+    match text.split_at_checked(first.len()) {
+        Some((front, rest)) if front == first => Some(rest),
+        _ => None,
+    }
 }
 
 /// The place to which the bytes of a text lead that begins with `http://` or `https://`.
