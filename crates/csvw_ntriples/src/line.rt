@@ -52,24 +52,19 @@ impl Line {
     }
 
     /// Cuts the line off in front of the text of the predicate, where its subject is this blank node.
-    fn keeps(&mut self, origin: Origin) -> bool
-        ensures { result ≡ true → self.new.bytes ≡ front_text origin }
+    fn keeps(&mut self, origin: &Origin) -> bool
+        ensures { result ≡ true → self.new.bytes ≡ front_text origin.now }
     {
-        if self.is_kept && self.subject == origin {
+        if self.is_kept && self.subject == *origin {
             self.bytes.truncate(self.front);
             return true;
         }
         false
     }
 
-    fn begin_blank(&mut self, origin: Origin) -> Result<(), AllocError>
-        ensures text { OnOk result (self.new.bytes ≡ front_text origin) }
-        ensures fits { OnOk result (IsOrigin origin) }
+    fn begin_anew(&mut self, origin: Origin) -> Result<(), AllocError>
+        ensures { OnOk result (self.new.bytes ≡ front_text origin) }
     {
-        fits(origin);
-        if self.keeps(origin) {
-            return Ok(());
-        }
         self.is_kept = false;
         self.bytes.truncate(0);
         push_blank(&mut self.bytes, &mut self.row, origin)?;
@@ -78,6 +73,17 @@ impl Line {
         self.subject = origin;
         self.is_kept = true;
         Ok(())
+    }
+
+    fn begin_blank(&mut self, origin: &Origin) -> Result<(), AllocError>
+        ensures text { OnOk result (self.new.bytes ≡ front_text origin.now) }
+        ensures fits { OnOk result (IsOrigin origin.now) }
+    {
+        fits(*origin);
+        if self.keeps(origin) {
+            return Ok(());
+        }
+        self.begin_anew(*origin)
     }
 
     fn begin_named(&mut self, iri: &Iri) -> Result<(), AllocError>
@@ -97,7 +103,7 @@ impl Line {
     {
         match node {
             Node::Named(iri) => self.begin_named(iri),
-            Node::Blank(origin) => self.begin_blank(*origin),
+            Node::Blank(origin) => self.begin_blank(origin),
         }
     }
 
