@@ -2,7 +2,8 @@
 ghost use Rattle.std.specs.Prelude.{◌≡◌, ◌∷◌, [], IfOk, MatchResult};
 ghost use Rattle.csvw_datatype.specs.Reads.{Reads, Misread};
 ghost use Rattle.csvw_datatype.specs.Sound.{IsSound};
-ghost use Rattle.csvw_cell.specs.Codes.{is_string};
+ghost use Rattle.csvw_datatype.specs.Breaks.{breaks};
+ghost use Rattle.csvw_cell.specs.Codes.{is_string, broken_codes};
 ghost use Rattle.csvw_cell.specs.CellOf.{IsItem};
 
 use crate::cell::Item;
@@ -33,7 +34,20 @@ pub fn is_string(datatype: &Datatype) -> bool
     }
 }
 
+/// The codes of the facets that a value breaks.
+#[inline(always)]
+fn causes_of(alloc: Global, datatype: &Datatype, value: &Value) -> Result<Seq<Code>, AllocError>
+    ensures { IfOk result (λ s. s ≡ broken_codes (breaks value.now datatype.now.facets)) }
+{
+    // Most datatypes have no facets.
+    if !datatype.is_faceted(value) {
+        return Ok(Seq::new(alloc));
+    }
+    broken_codes(alloc, datatype.facets(value))
+}
+
 /// The text as a value, in the memory of another text where it is one itself.
+#[inline(always)]
 fn read_value(
     alloc: Global,
     datatype: &Datatype,
@@ -61,6 +75,7 @@ fn one_code(alloc: Global, code: Code) -> Result<Seq<Code>, AllocError>
 
 /// The item that a text is: a value of the datatype, with the facets that it breaks, or else the text, with the code of
 /// why it is none.
+#[inline(always)]
 pub fn judge(
     alloc: Global,
     datatype: &Datatype,
@@ -72,7 +87,7 @@ pub fn judge(
 {
     match read_value(alloc, datatype, text, spare)? {
         Ok(value) => {
-            let causes = broken_codes(alloc, datatype.facets(&value))?;
+            let causes = causes_of(alloc, datatype, &value)?;
             let item = Item {
                 value,
                 was_read: true,
