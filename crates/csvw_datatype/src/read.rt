@@ -25,6 +25,7 @@ impl Datatype {
     /// in size or no whole multiple of 10^-18, and else `OutOfRange` where it is outside its derived type.
     /// `AllocError` where there is no memory. The datatype has passed `check`
     /// (Model for Tabular Data and Metadata on the Web, section 6.4).
+    #[inline(always)]
     #[tactic(auto, using(crate::proofs::LawLemmas::writable_answer))]
     pub fn read(&self, alloc: Global, text: &str) -> Result<Result<Value, Code>, AllocError>
         requires { IsSound self.now }
