@@ -1,7 +1,8 @@
 //! The facets that a value breaks.
 ghost use Rattle.std.specs.Prelude.{◌≡◌, false, length, ◌==◌, nat_lt, not, option_copied, is_some, Some, ◌||◌};
 ghost use Rattle.std.specs.Str.{chars};
-ghost use Rattle.csvw_datatype.specs.Breaks.{breaks, unbroken, is_faceted, length_breaks, has_lengths, has_bounds, is_below, is_up_to, length_of, fails, is_over, is_not_under};
+ghost use Rattle.csvw_datatype.specs.Breaks.{breaks, unbroken, is_faceted, length_breaks, has_lengths, has_bounds};
+ghost use Rattle.csvw_datatype.specs.Breaks.{is_below, is_up_to, length_of, fails, is_over, is_not_under};
 
 use crate::datatype::{Datatype, Facets};
 use crate::value::Value;
