@@ -7,7 +7,7 @@ use Rattle.csvw_meta_core.specs.declared.fault.Refusal.{Refusal}
 use Rattle.csvw_meta_core.specs.declared.fault.Refusal.TheVariants as refusal
 use Rattle.csvw_meta_core.specs.Reads.{Fails, Reads}
 use Rattle.csvw_meta_core.specs.Read.{Read, fine}
-use Rattle.csvw_meta_datatype.specs.Whichever.{by_faults, common}
+use Rattle.csvw_meta_datatype.specs.Whichever.{by_faults, of_any}
 
 pub fails_first : (e : Refusal) (xs ys : List MetaFault) → Fails e xs → Fails e (xs ++ ys)
 fails_first refusal.Memory xs ys h = tt
@@ -19,7 +19,7 @@ pub fails_by : {A B : Type 0} (e : Refusal) (values : List A) (dummy : B) (xs : 
 fails_by refusal.Memory values dummy xs a next h = tt
 fails_by (refusal.Fault f) values dummy [] a next h = absurd (omega (arith, h.1))
 fails_by (refusal.Fault f) values dummy (x ∷ xs) a next h =
-    Contains-append_left (x ∷ xs) (common (map (λ v. (next v).faults) values)) f h
+    Contains-append_left (x ∷ xs) (of_any (map (λ v. (next v).faults) values)) f h
 
 -- What a `?` returns is told in what is read.
 pub refused : {A : Type 0} (result : Result A Refusal) (e : Refusal) (r : Read A) → IsErrAnd result (λ y. y ≡ e) → Fails e r.faults → Reads result r

@@ -36,7 +36,7 @@ of_type id place at d simple = do
     warnings = found.warnings;
   })
 
--- Where an object's type can't be read, its format and its facets have the faults that stand whichever built-in datatype it were.
+-- Where an object's type can't be read, its format and its facets have the faults that stand whichever datatype it were.
 abbrev pub based : Option (List ℕ) → Place → List ℕ → Data → Read DatatypeFound
 based id place at d = whichever all_simples (named Text) (property base Text at d (codes "base")) (of_type id place at d)
 

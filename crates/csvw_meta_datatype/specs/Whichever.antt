@@ -1,7 +1,7 @@
 -- What hangs on a value that can't be read has the faults that stand whichever value it were. So beside a `base` that is none those faults
--- of a datatype's format and facets are told that each of the built-in datatypes would have (Metadata Vocabulary for Tabular Data,
--- section 5.11.2).
-use Rattle.std.specs.Prelude.{◌&&◌, List, [], ◌∷◌, ◌++◌, Bool, true, false, bytes_eq, filter, map}
+-- of a datatype's format and facets are told that each of the supported datatypes would have (Metadata Vocabulary for Tabular Data,
+-- section 5.11.2), but for `BadDatatype`: datatypes that aren't supported have formats and bounds of their own.
+use Rattle.std.specs.Prelude.{◌&&◌, not, List, [], ◌∷◌, ◌++◌, Bool, true, false, bytes_eq, filter, map}
 use Rattle.std.specs.List.{list_all, list_any}
 use Rattle.csvw_meta_core.specs.declared.fault.MetaCode.{MetaCode}
 use Rattle.csvw_meta_core.specs.declared.fault.MetaCode.TheVariants.{Memory, TooLong, NotJson, BadContext, BadProperty, BadId, BadUrl, UrlTooLong}
@@ -41,10 +41,14 @@ abbrev pub common : List (List MetaFault) → List MetaFault
 common [] = []
 common (faults ∷ others) = filter (λ f. list_all (λ other. is_among other f) others) faults
 
+-- those of them that stand whichever datatype it were
+abbrev pub of_any : List (List MetaFault) → List MetaFault
+of_any lists = filter (λ f. not (is_same_code f.code BadDatatype)) (common lists)
+
 -- the second value by the first one, or by each that this may be
 abbrev pub by_faults : {A B : Type 0} → List A → B → List MetaFault → A → (A → Read B) → Read B
 by_faults values dummy [] a next = next a
-by_faults values dummy (f ∷ fs) a next = record { faults = (f ∷ fs) ++ common (map (λ x. (next x).faults) values); value = dummy }
+by_faults values dummy (f ∷ fs) a next = record { faults = (f ∷ fs) ++ of_any (map (λ x. (next x).faults) values); value = dummy }
 
 abbrev pub whichever : {A B : Type 0} → List A → B → Read A → (A → Read B) → Read B
 whichever values dummy r next = by_faults values dummy r.faults r.value next
