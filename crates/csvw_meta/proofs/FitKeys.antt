@@ -74,9 +74,7 @@ module _ (own : List (List ℕ)) (group : Option Schema) (key : ForeignKeyFound)
   )
 
   refers : (tables : List TableFound) → foreign_faults all_known own (map (target group) tables) key ≡ [] → Reference tables
-  refers [] h =
-      let none = none_in_both (name_faults all_known own key.columns) (bad_reference key.resource.at ∷ side_faults all_known key) h in
-      not_empty (bad_reference key.resource.at) (side_faults all_known key) none.1
+  refers [] h = not_empty (bad_reference key.resource.at) [] h
   refers (t ∷ ts) h =
       let rest = target_of (map (target group) ts) key.resource.url in
       let url = iri_of t.table.url in

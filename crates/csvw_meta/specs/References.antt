@@ -1,5 +1,5 @@
 -- What the keys of a group's schemas name (Metadata Vocabulary for Tabular Data, sections 5.5.1 and 5.5.2).
-use Rattle.std.specs.Prelude.{ℕ, ◌+◌, ◌==◌, ◌&&◌, ◌||◌, not, List, [], ◌∷◌, ◌++◌, Bool, true, false, Option, Some, None, bytes_eq, codes, length, map}
+use Rattle.std.specs.Prelude.{ℕ, ◌+◌, ◌||◌, not, List, [], ◌∷◌, ◌++◌, Bool, true, false, Option, Some, None, bytes_eq, codes, map}
 use Rattle.std.specs.Prelude.{flat_map, if◌then◌else◌}
 use Rattle.std.specs.List.{list_any}
 use Rattle.csvw_iri.specs.Link.{iri_of}
@@ -7,8 +7,7 @@ use Rattle.csvw_description.specs.declared.schema.Schema.{Schema}
 use Rattle.csvw_description.specs.Keys.{declared_names, own_or}
 use Rattle.csvw_meta_core.specs.declared.fault.MetaFault.{MetaFault}
 use Rattle.csvw_meta_core.specs.Pointer.{below, item_at}
-use Rattle.csvw_meta_core.specs.Rules.{could_read, hides_property, is_at, is_within}
-use Rattle.csvw_meta_keys.specs.declared.foreign_key.ForeignKeyFound.{ForeignKeyFound}
+use Rattle.csvw_meta_core.specs.Rules.{could_read, hides_property, is_at}
 use Rattle.csvw_meta_keys.specs.declared.keys.KeysFound.{KeysFound}
 use Rattle.csvw_meta_keys.specs.declared.naming.Target.{Target}
 use Rattle.csvw_meta_keys.specs.Naming.{all_known, Known, key_faults}
@@ -56,9 +55,9 @@ hides_target place at group url i (t ∷ ts) f =
     if bytes_eq (iri_of t.table.url) url then hides_own_or (place i) t.table.schema at group f
     else hides_target place at group url (i + 1) ts f
 
--- A side that could be read has one name at least.
-abbrev pub hides_side : ForeignKeyFound → MetaFault → Bool
-hides_side key f = ((length key.columns == 0) || (length key.referenced == 0)) && is_within key.at f
+-- a fault by which a side of the foreign key at this pointer can't be read
+abbrev pub hides_side : List ℕ → MetaFault → Bool
+hides_side at f = hides_property at (codes "columnReference") f || hides_property (below at (codes "reference")) (codes "columnReference") f
 
 -- What could be read of that which the keys name of the schema of the object at the first pointer, in the group at the second one, by
 -- the faults that stand in the group.
@@ -68,7 +67,7 @@ known place at faults group own schema = record {
   urls = not (list_any (λ f. is_at (below at (codes "tables")) f || hides_url place 0 group.tables f) faults);
   names = λ url. not (list_any (hides_target place at group.body.schema url 0 group.tables) faults);
   at = could_read faults;
-  sides = λ key. not (list_any (hides_side key) faults);
+  sides = λ at. not (list_any (hides_side at) faults);
 }
 
 -- ---- what is wrong

@@ -9,8 +9,8 @@ use Rattle.csvw_meta_core.specs.declared.fault.Refusal.{Refusal}
 use Rattle.csvw_meta_core.specs.Reads.{Fails}
 use Rattle.csvw_meta_keys.specs.declared.foreign_key.ForeignKeyFound.{ForeignKeyFound}
 use Rattle.csvw_meta_keys.specs.declared.naming.Target.{Target}
-use Rattle.csvw_meta_keys.specs.Naming.{all_known, bad_reference, faults_to, foreign_faults, name_faults, side_faults, target_of}
-use Rattle.csvw_meta_keys.proofs.ReadLemmas.{fails_first, fails_last}
+use Rattle.csvw_meta_keys.specs.Naming.{all_known, bad_reference, faults_to, foreign_faults, target_of}
+use Rattle.csvw_meta_keys.proofs.ReadLemmas.{fails_first}
 
 module _ {X : Type 0} (f : X → List MetaFault) (xs : List X) (i : ℕ) (x : X) (lt : i < length xs) (is : x ≡ get_or xs i x)
     (none : flat_map f (take i xs) ≡ []) where
@@ -41,10 +41,7 @@ pub told : {A : Type 0} (result : Result A Refusal) (e : Refusal) (none : Type 0
 told (Ok a) e none faults h f = absurd h
 told (Err y) e none faults h f = subst (λ z. Fails z faults) (sym h) f
 
--- A table that isn't there is told beside what else is wrong with the key.
+-- A table that isn't there is told.
 pub missing : (e : Refusal) (own : List (List ℕ)) (targets : List Target) (key : ForeignKeyFound) → target_of targets key.resource.url ≡ None
     → Fails e (bad_reference key.resource.at ∷ []) → Fails e (foreign_faults all_known own targets key)
-missing e own targets key none h =
-    let P : Option Target → Type 0 = λ found. Fails e (faults_to all_known own key found) in
-    let told = fails_first e (bad_reference key.resource.at ∷ []) (side_faults all_known key) h in
-    subst P (sym none) (fails_last e (name_faults all_known own key.columns) ((bad_reference key.resource.at ∷ []) ++ side_faults all_known key) told)
+missing e own targets key none h = subst (λ (found : Option Target). Fails e (faults_to all_known own key found)) (sym none) h

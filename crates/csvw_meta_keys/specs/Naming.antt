@@ -18,12 +18,12 @@ pub record Known : Type 0 where
   pub names : List ℕ → Bool
   -- what stands at a pointer
   pub at : List ℕ → Bool
-  -- how many names both sides of a foreign key have
-  pub sides : ForeignKeyFound → Bool
+  -- both sides of the foreign key at a pointer
+  pub sides : List ℕ → Bool
 
 -- all of it
 abbrev pub all_known : Known
-all_known = record { own = true; urls = true; names = λ url. true; at = λ at. true; sides = λ key. true }
+all_known = record { own = true; urls = true; names = λ url. true; at = λ at. true; sides = λ at. true }
 
 -- faults that are told where what is judged could be read
 abbrev pub told_if : Bool → List MetaFault → List MetaFault
@@ -48,22 +48,25 @@ abbrev pub target_of : List Target → List ℕ → Option Target
 target_of [] url = None
 target_of (t ∷ ts) url = if bytes_eq t.url url then Some t else target_of ts url
 
--- A table that isn't there is told at its URL, and names that are no columns of one that is there where they stand.
-abbrev pub found_faults : Known → ForeignKeyFound → Option Target → List MetaFault
-found_faults known key None = told_if (known.urls && known.at key.resource.at) (bad_reference key.resource.at ∷ [])
-found_faults known key (Some target) = told_if (known.names target.url) (name_faults known target.names key.referenced)
-
 -- Sides of unequal length are told at the key.
 abbrev pub side_faults : Known → ForeignKeyFound → List MetaFault
 side_faults known key =
-    told_if (known.sides key) (if nat_eq (length key.columns) (length key.referenced) then [] else bad_reference key.at ∷ [])
+    told_if (known.sides key.at) (if nat_eq (length key.columns) (length key.referenced) then [] else bad_reference key.at ∷ [])
 
--- what is wrong with a foreign key from columns of these names to the table that is found by its URL
+-- Names that are no columns of the table that is found. It is the first of its URL where the URLs of all tables could be read.
+abbrev pub referred_faults : Known → ForeignKeyFound → Target → List MetaFault
+referred_faults known key target = told_if (known.urls && known.names target.url) (name_faults known target.names key.referenced)
+
+-- What is wrong with a foreign key from columns of these names to the table that is found by its URL. A table that isn't there is told
+-- alone, at the URL.
 abbrev pub faults_to : Known → List (List ℕ) → ForeignKeyFound → Option Target → List MetaFault
-faults_to known own key found = told_if known.own (name_faults known own key.columns) ++ (found_faults known key found ++ side_faults known key)
+faults_to known own key None = told_if known.urls (bad_reference key.resource.at ∷ [])
+faults_to known own key (Some target) =
+    told_if known.own (name_faults known own key.columns) ++ (referred_faults known key target ++ side_faults known key)
 
+-- A foreign key is judged where the URL that it refers to could be read.
 abbrev pub foreign_faults : Known → List (List ℕ) → List Target → ForeignKeyFound → List MetaFault
-foreign_faults known own targets key = faults_to known own key (target_of targets key.resource.url)
+foreign_faults known own targets key = told_if (known.at key.resource.at) (faults_to known own key (target_of targets key.resource.url))
 
 -- what is wrong with the keys of a schema with columns of these names, in a group of these tables
 abbrev pub key_faults : Known → List (List ℕ) → List Target → KeysFound → List MetaFault
