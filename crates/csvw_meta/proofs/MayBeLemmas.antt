@@ -92,26 +92,20 @@ module _ (at : List ℕ) where
   second = item_at whole 1
 
   abbrev hides : List ℕ → MetaFault → Bool
-  hides name f = is_at at f || (is_at whole f || hides_property second name f)
+  hides name f = is_at whole f || hides_property second name f
 
   unknown : (name : List ℕ) (faults : List MetaFault) (f : MetaFault) → Contains faults f → hides name f ≡ true → is_known at name faults ≡ true → ⊥
   unfolding is_known
   unknown name faults f c h k =
       let no : not true ≡ true = subst (λ b. not b ≡ true) (any_there (hides name) faults f c h) k in cc
 
-  at_document : (name : List ℕ) (f : MetaFault) → Lone f at → hides name f ≡ true
-  at_document name f lone = or_left (is_at at f) (is_at whole f || hides_property second name f) (at_own f at lone)
-
   at_context : (name : List ℕ) (f : MetaFault) → Lone f whole → hides name f ≡ true
-  at_context name f lone =
-      or_right (is_at at f) (is_at whole f || hides_property second name f)
-      (or_left (is_at whole f) (hides_property second name f) (at_own f whole lone))
+  at_context name f lone = or_left (is_at whole f) (hides_property second name f) (at_own f whole lone)
 
   at_member : (name : List ℕ) (f : MetaFault) → Lone f (below second name) → hides name f ≡ true
   at_member name f lone =
-      or_right (is_at at f) (is_at whole f || hides_property second name f)
-      (or_right (is_at whole f) (hides_property second name f)
-      (or_right (is_at second f) (is_within (below second name) f) (within_own f (below second name) lone)))
+      or_right (is_at whole f) (hides_property second name f)
+      (or_right (is_at second f) (is_within (below second name) f) (within_own f (below second name) lone))
 
 -- ---- codes and pointers
 
@@ -245,8 +239,9 @@ module _ (base : Parts) (at : List ℕ) where
     },
   )
 
-  plain : May (fine (plain_context base))
-  plain = (plain_context base, record { instead = vocabulary; says = refl; base = λ k. refl; language = λ k. refl })
+  -- what the vocabulary alone says, whatever faults there are
+  plain : (faults : List MetaFault) → May (record { faults = faults; value = plain_context base })
+  plain faults = (plain_context base, record { instead = vocabulary; says = refl; base = λ k. refl; language = λ k. refl })
 
   lost_at : (p : List ℕ) (code : MetaCode) (dummy : Context) → is_of_several code ≡ false
       → ((name : List ℕ) (f : MetaFault) → Lone f p → hides at name f ≡ true) → May (faulty code p dummy)
@@ -297,7 +292,7 @@ module _ (base : Parts) (at : List ℕ) where
   second_may (array ds) = lost_whole BadContext bad_context_alone
 
   others_may : (ds : Items) → May (other_items base (whole at) ds)
-  others_may no_items = plain
+  others_may no_items = plain []
   others_may (item b no_items) = second_may b
   others_may (item b (item c ds)) = lost_whole BadContext bad_context_alone
 
@@ -311,14 +306,14 @@ module _ (base : Parts) (at : List ℕ) where
 
   value_may : (d : Data) → May (context_value base (whole at) d)
   value_may (array ds) = items_may ds
-  value_may (string s) = chosen (is_vocabulary (string s)) (fine (plain_context base)) plain
+  value_may (string s) = chosen (is_vocabulary (string s)) (fine (plain_context base)) (plain [])
   value_may null = lost_whole (code_for BadContext null) (alone null)
   value_may (boolean b) = lost_whole (code_for BadContext (boolean b)) (alone (boolean b))
   value_may (number n) = lost_whole (code_for BadContext (number n)) (alone (number n))
   value_may (object ms) = lost_whole (code_for BadContext (object ms)) (alone (object ms))
 
   found_may : (d : Data) (o : Option Data) → May (context_found base at d o)
-  found_may d None = lost_at at (code_for BadContext d) no_context (alone d) (at_document at)
+  found_may d None = plain (record { code = code_for BadContext d; pointer = at } ∷ [])
   found_may d (Some c) = value_may c
 
   own_may : (d : Data) (o : Option Data) → (context_found base at d o).faults ≡ []

@@ -74,15 +74,18 @@ Describes (Err (refusal.Fault f)) judged = judged.IsFault f
 
 -- ---- at the document's own URL
 
--- A member of the context could be read.
+-- A member of the context could be read, or there is no context: then it says what the vocabulary alone does.
 unfoldable pub is_known : List ℕ → List ℕ → List MetaFault → Bool
 is_known at name faults =
-    not (list_any (λ f. is_at at f || (is_at (below at (codes "@context")) f || hides_property (item_at (below at (codes "@context")) 1) name f)) faults)
+    not (list_any (λ f. is_at (below at (codes "@context")) f || hides_property (item_at (below at (codes "@context")) 1) name f) faults)
 
--- A context that the document may have: one that some value says, with the members of its own that could be read.
+-- A context that the document may have: some value in place of `@context` says it, and it agrees with each member of the document's own
+-- context that could be read.
 pub record MayBeContext (url : Parts) (at : List ℕ) (own : Read Context) (c : Context) : Type 0 where
+  -- the value, and that it says this context
   pub instead : Data
   pub says : context_value url (below at (codes "@context")) instead ≡ fine c
+  -- where the own members could be read, they are its own
   pub base : is_known at (codes "@base") own.faults ≡ true → c.base ≡ own.value.base
   pub language : is_known at (codes "@language") own.faults ≡ true → c.language ≡ own.value.language
 
