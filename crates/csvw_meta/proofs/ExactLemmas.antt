@@ -1,13 +1,14 @@
 -- A document describes a group exactly where no fault stands in it.
 use Rattle.std.proofs.Common.{ℕ, List, [], Option, Some, None, refl, codes}
 use Rattle.std.specs.Prelude.{⊤}
-use Rattle.serde_json.specs.Data.{Data}
+use Rattle.serde_json.specs.Data.{Data, null, boolean, number, string, array, object}
 use Rattle.url.specs.Parts.{Parts}
 use Rattle.csvw_meta_core.specs.declared.fault.MetaCode.TheVariants.{NotJson}
 use Rattle.csvw_meta_core.specs.Pointer.{below}
-use Rattle.csvw_meta_core.specs.Read.{Read, faulty}
+use Rattle.csvw_meta_core.specs.Read.{Read, fine, faulty}
+use Rattle.csvw_meta.specs.declared.context.Context.{Context}
 use Rattle.csvw_meta.specs.Context.{context}
-use Rattle.csvw_meta.specs.Described.{MayBeContext, described, hanging_on, judged_by, within}
+use Rattle.csvw_meta.specs.Described.{MayBeContext, described, hanging_on, judged_within, within}
 use Rattle.csvw_meta.specs.Document.{Document, MayBeUrl, document, judged, length_of, of_bytes, of_json, own_url, plain_description}
 use Rattle.csvw_meta.specs.Group.{no_group}
 use Rattle.csvw_meta.specs.Json.{json_of, without_bom}
@@ -18,10 +19,17 @@ use Rattle.csvw_meta.proofs.MayBeLemmas.{has_context, has_url}
 of_any_length : (r : Read ⊤) → HasPossible r (λ t. ⊤)
 of_any_length r = record { own = λ none. tt; sole = λ none t may. refl; some = (tt, tt) }
 
+exact_within : (at : List ℕ) (d : Data) (c : Context) → IsExact (judged_within at d c)
+exact_within at (object ms) c = exact_read (within c at (object ms))
+exact_within at null c = exact_read (fine no_group)
+exact_within at (boolean b) c = exact_read (fine no_group)
+exact_within at (number n) c = exact_read (fine no_group)
+exact_within at (string s) c = exact_read (fine no_group)
+exact_within at (array ds) c = exact_read (fine no_group)
+
 exact_value : (base : Parts) (at : List ℕ) (d : Data) → IsExact (described base at d)
 exact_value base at d =
-    exact_on (MayBeContext base at (context base at d)) (λ c. judged_by (within c at d)) (λ c. exact_read (within c at d)) (context base at d)
-    (has_context base at d)
+    exact_on (MayBeContext base at (context base at d)) (judged_within at d) (exact_within at d) (context base at d) (has_context base at d)
 
 exact_json : (base : Parts) (o : Option Data) → IsExact (of_json base o)
 exact_json base None = exact_read (faulty NotJson [] no_group)

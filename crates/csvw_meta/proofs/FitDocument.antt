@@ -5,10 +5,12 @@ use Rattle.std.specs.Prelude.{⊤}
 use Rattle.std.proofs.lemmas.List.{length-map}
 use Rattle.std.proofs.lemmas.List.Elements.{All-cons, All-map, All-weaker}
 use Rattle.serde_json.specs.Data.{Data}
+use Rattle.serde_json.specs.Data as json
 use Rattle.serde_json.specs.Find.{get}
 use Rattle.url.specs.Parts.{Parts}
 use Rattle.csvw_text.specs.declared.fault.Fault.{Fault}
 use Rattle.csvw_iri.specs.Link.{iri_of}
+use Rattle.csvw_description.specs.declared.description.Description.{Description}
 use Rattle.csvw_description.specs.Plannable.{HasSound, IsFitDialect, IsFitSchema, IsFitTable, IsPlannable}
 use Rattle.csvw_meta_core.specs.declared.fault.MetaCode.TheVariants.{DuplicateTable, NotJson}
 use Rattle.csvw_meta_core.specs.Pointer.{below, item_at}
@@ -28,7 +30,7 @@ use Rattle.csvw_meta.specs.declared.table.TableFound.{TableFound}
 use Rattle.csvw_meta.specs.Body.{body, body_of, given_dialect, split}
 use Rattle.csvw_meta.specs.Context.{context}
 use Rattle.csvw_meta.specs.Dialect.{dialect}
-use Rattle.csvw_meta.specs.Described.{MayBeContext, described, hanging_on, judged_by, parts, sole_table, within}
+use Rattle.csvw_meta.specs.Described.{MayBeContext, described, hanging_on, judged_within, parts, sole_table, within}
 use Rattle.csvw_meta.specs.Document.{Document, MayBeUrl, document, judged, length_of, of_bytes, of_json, own_url, plain_description}
 use Rattle.csvw_meta.specs.Group.{description_of, group, no_group, tables, url_faults, url_of}
 use Rattle.csvw_meta.specs.Inherited.{inherited}
@@ -119,6 +121,9 @@ plannable place at g fit h =
 
 -- ---- from bodies to documents
 
+not_some : (d : Description) → None ≡ Some d → ⊥
+not_some d e = cc
+
 module _ (datatypes : DatatypesFit) where
   body_fine : (context : Context) (table : ℕ) (at : List ℕ) (d : Data) → Ensures (body context table at d) IsFitBody
   unfolding body
@@ -194,9 +199,15 @@ module _ (datatypes : DatatypesFit) where
       also_fine IsFitGroup (λ g. IsPlannable (description_of g)) (parts context at d) (reference_faults place at) (parts_fine context at d) (plannable place at)
 
   described_gives : (base : Parts) (at : List ℕ) (d : Data) → Gives (described base at d) IsPlannable
-  described_gives base at d =
-      gives_on IsPlannable (context base at d) (MayBeContext base at (context base at d)) (λ c. judged_by (within c at d))
-      (λ c. gives_read IsPlannable (within c at d) (within_fine c at d))
+  described_gives base at (json.object ms) g e =
+      let d = json.object ms in
+      gives_on IsPlannable (context base at d) (MayBeContext base at (context base at d)) (judged_within at d)
+      (λ c. gives_read IsPlannable (within c at d) (within_fine c at d)) g e
+  described_gives base at json.null g e = absurd (not_some g e)
+  described_gives base at (json.boolean b) g e = absurd (not_some g e)
+  described_gives base at (json.number n) g e = absurd (not_some g e)
+  described_gives base at (json.string s) g e = absurd (not_some g e)
+  described_gives base at (json.array ds) g e = absurd (not_some g e)
 
   of_json_gives : (base : Parts) (o : Option Data) → Gives (of_json base o) IsPlannable
   of_json_gives base None = gives_read IsPlannable (faulty NotJson [] no_group) (λ h. cc)

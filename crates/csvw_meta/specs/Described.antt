@@ -2,7 +2,7 @@
 use Rattle.std.specs.Prelude.{◌≡◌, ◌⊎◌, ℕ, List, [], ◌∷◌, ◌||◌, not, Bool, true, codes, is_some, if◌then◌else◌, Contains, Option, Some, None}
 use Rattle.std.specs.Prelude.{Result, Ok, Err}
 use Rattle.std.specs.List.{list_any}
-use Rattle.serde_json.specs.Data.{Data}
+use Rattle.serde_json.specs.Data.{Data, null, boolean, number, string, array, object}
 use Rattle.serde_json.specs.Find.{get}
 use Rattle.url.specs.Parts.{Parts}
 use Rattle.csvw_description.specs.declared.description.Description.{Description}
@@ -16,7 +16,7 @@ use Rattle.csvw_meta.specs.declared.context.Context.{Context}
 use Rattle.csvw_meta.specs.declared.group.GroupFound.{GroupFound}
 use Rattle.csvw_meta.specs.declared.table.TableFound.{TableFound}
 use Rattle.csvw_meta.specs.Context.{context, context_value}
-use Rattle.csvw_meta.specs.Group.{group, description_of}
+use Rattle.csvw_meta.specs.Group.{group, description_of, no_group}
 use Rattle.csvw_meta.specs.Inherited.{no_inherited}
 use Rattle.csvw_meta.specs.References.{table_at, reference_faults}
 use Rattle.csvw_meta.specs.Table.{table_of}
@@ -66,6 +66,15 @@ hanging_on r MayBe judge = record {
   group = unless r.faults (judge r.value).group;
 }
 
+-- the parts of a document within its context; a value that is no object has none
+abbrev pub judged_within : List ℕ → Data → Context → Judged
+judged_within at (object ms) c = judged_by (within c at (object ms))
+judged_within at null c = judged_by (fine no_group)
+judged_within at (boolean b) c = judged_by (fine no_group)
+judged_within at (number n) c = judged_by (fine no_group)
+judged_within at (string s) c = judged_by (fine no_group)
+judged_within at (array ds) c = judged_by (fine no_group)
+
 -- what a call gives that reads such a part: the group, or a fault that stands, unless memory ran out
 abbrev pub Describes : Result Description Refusal → Judged → Type 0
 Describes (Ok d) judged = judged.group ≡ Some d
@@ -91,4 +100,4 @@ pub record MayBeContext (url : Parts) (at : List ℕ) (own : Read Context) (c : 
 
 -- what the value describes within its context
 abbrev pub described : Parts → List ℕ → Data → Judged
-described base at d = hanging_on (context base at d) (MayBeContext base at (context base at d)) (λ c. judged_by (within c at d))
+described base at d = hanging_on (context base at d) (MayBeContext base at (context base at d)) (judged_within at d)
