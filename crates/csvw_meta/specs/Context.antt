@@ -74,7 +74,7 @@ context_value base at (boolean b) = wrong_as BadContext at (boolean b) no_contex
 context_value base at (number n) = wrong_as BadContext at (number n) no_context
 context_value base at (object ms) = wrong_as BadContext at (object ms) no_context
 
--- Where there is none, it is known what stands in its place: what the vocabulary alone says.
+-- Where there is none, the vocabulary alone stands in its place.
 abbrev pub context_found : Parts → List ℕ → Data → Option Data → Read Context
 context_found base at d None = wrong_as BadContext at d (plain_context base)
 context_found base at d (Some c) = context_value base (below at (codes "@context")) c

@@ -83,7 +83,7 @@ Describes (Err (refusal.Fault f)) judged = judged.IsFault f
 
 -- ---- at the document's own URL
 
--- A member of the context could be read, or there is no context: then it says what the vocabulary alone does.
+-- A member of the context is known: it could be read, or there is no context, in whose place the vocabulary alone stands.
 unfoldable pub is_known : List ℕ → List ℕ → List MetaFault → Bool
 is_known at name faults =
     not (list_any (λ f. is_at (below at (codes "@context")) f || hides_property (item_at (below at (codes "@context")) 1) name f) faults)
