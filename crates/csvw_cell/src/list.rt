@@ -24,6 +24,7 @@ fn is_same(null: &Text, text: &str) -> bool
     null.len() == text.len() && null.as_str() == text
 }
 
+#[inline(always)]
 pub fn is_null(nulls: &[Text], text: &str) -> bool
     ensures { result ≡ is_null nulls.now text.now }
 {

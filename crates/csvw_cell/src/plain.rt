@@ -1,5 +1,5 @@
 //! Cells read over the cells before them.
-ghost use Rattle.std.specs.Prelude.{◌≡◌, true, IfOk, OnOk};
+ghost use Rattle.std.specs.Prelude.{◌≡◌, [], true, OnOk};
 ghost use Rattle.csvw_datatype.specs.Breaks.{has_lengths};
 ghost use Rattle.csvw_datatype.specs.Sound.{IsSound};
 ghost use Rattle.csvw_cell.specs.Codes.{in_order};
@@ -61,14 +61,27 @@ fn refill_value(alloc: Global, value: &mut CellValue, text: &str) -> Result<(), 
     }
 }
 
-// Most cells have no faults.
-fn faults_of(alloc: Global, causes: &[Code]) -> Result<Seq<Code>, AllocError>
-    ensures { IfOk result (λ s. s ≡ in_order causes.now) }
+/// Becomes no faults. Most cells have had none.
+#[inline(always)]
+fn clear(alloc: Global, faults: &mut Seq<Code>)
+    ensures { faults.new ≡ [] }
+{
+    if !faults.is_empty() {
+        *faults = Seq::new(alloc);
+    }
+}
+
+/// Makes these the codes of a list in their order, each once.
+#[inline(always)]
+fn refill_faults(alloc: Global, causes: &[Code], faults: &mut Seq<Code>) -> Result<(), AllocError>
+    ensures { OnOk result (faults.new ≡ in_order causes.now) }
 {
     if causes.is_empty() {
-        return Ok(Seq::new(alloc));
+        clear(alloc, faults);
+        return Ok(());
     }
-    in_order(alloc, causes)
+    *faults = in_order(alloc, causes)?;
+    Ok(())
 }
 
 /// Makes these the value and the faults of a text that is no list.
@@ -88,7 +101,7 @@ fn single_over(
         return Ok(());
     }
     let judged = judge(alloc, properties.datatype.get(), text, Text::new(alloc))?;
-    *faults = faults_of(alloc, judged.causes.as_slice())?;
+    refill_faults(alloc, judged.causes.as_slice(), faults)?;
     *value = CellValue::One(judged.item);
     Ok(())
 }
@@ -153,7 +166,7 @@ pub fn parse_over(
     let properties = &column.properties;
     let shown = or_default(properties.default.get().as_str(), text);
     if is_plain(properties) && !is_null(properties.null.get().as_slice(), shown) {
-        *faults = Seq::new(alloc);
+        clear(alloc, faults);
         return refill_value(alloc, value, shown);
     }
     if is_typed(properties) && is_normal(properties.datatype.get(), text) {
