@@ -48,12 +48,14 @@ abbrev pub hides_url : (ℕ → List ℕ) → ℕ → List TableFound → MetaFa
 hides_url place i [] f = false
 hides_url place i (t ∷ ts) f = hides_property (place i) (codes "url") f || hides_url place (i + 1) ts f
 
--- a fault by which some name can't be read of the columns of the first table that has the URL
+-- A fault by which it can't be told which names the first table of the URL has: by the URL of a table in front of it, by its own, or by
+-- those names.
 abbrev pub hides_target : (ℕ → List ℕ) → List ℕ → Option Schema → List ℕ → ℕ → List TableFound → MetaFault → Bool
 hides_target place at group url i [] f = false
 hides_target place at group url i (t ∷ ts) f =
-    if bytes_eq (iri_of t.table.url) url then hides_own_or (place i) t.table.schema at group f
-    else hides_target place at group url (i + 1) ts f
+    hides_property (place i) (codes "url") f
+    || (if bytes_eq (iri_of t.table.url) url then hides_own_or (place i) t.table.schema at group f
+    else hides_target place at group url (i + 1) ts f)
 
 -- a fault by which a side of the foreign key at this pointer can't be read
 abbrev pub hides_side : List ℕ → MetaFault → Bool

@@ -14,7 +14,7 @@ pub record Known : Type 0 where
   pub own : Bool
   -- the URLs of all tables of the group
   pub urls : Bool
-  -- the names of all columns of the table of a URL
+  -- which table is the first of a URL, and the names of all its columns
   pub names : List ℕ → Bool
   -- what stands at a pointer
   pub at : List ℕ → Bool
@@ -53,9 +53,9 @@ abbrev pub side_faults : Known → ForeignKeyFound → List MetaFault
 side_faults known key =
     told_if (known.sides key.at) (if nat_eq (length key.columns) (length key.referenced) then [] else bad_reference key.at ∷ [])
 
--- Names that are no columns of the table that is found. It is the first of its URL where the URLs of all tables could be read.
+-- Names that are no columns of the table that is found, which is the first of its URL.
 abbrev pub referred_faults : Known → ForeignKeyFound → Target → List MetaFault
-referred_faults known key target = told_if (known.urls && known.names target.url) (name_faults known target.names key.referenced)
+referred_faults known key target = told_if (known.names target.url) (name_faults known target.names key.referenced)
 
 -- What is wrong with a foreign key from columns of these names to the table that is found by its URL. A table that isn't there is told
 -- alone, at the URL.
