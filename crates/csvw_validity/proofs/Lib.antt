@@ -1,0 +1,4 @@
+pub mod Headers
+pub mod KeysQuiet
+pub mod Quiet
+pub mod Validating

@@ -1,0 +1,16 @@
+-- What holds of the definitions.
+use Rattle.std.specs.Prelude.{◌≡◌, ◌↔◌, ℕ, true, List}
+use Rattle.std.specs.List.{list_all}
+use Rattle.csvw_text.specs.declared.fault.Fault.{Fault}
+use Rattle.csvw_columns.specs.declared.plan.Plan.{Plan}
+use Rattle.csvw_report.specs.Order.{is_no_error}
+use Rattle.csvw_group.specs.Annotated.{Table, AreAnnotated}
+use Rattle.csvw_group.specs.Violations.{AreViolations}
+use Rattle.csvw_session.specs.Ready.{AreReady}
+use Rattle.csvw_validity.specs.Validity.{IsValid}
+
+-- A group is valid exactly where none of its violations is an error, where what is told of its document are warnings.
+abbrev pub ValidHasNoErrors : Type 0
+ValidHasNoErrors = (plan : Plan) (texts : ℕ → List ℕ) (tables : List Table) (faults : List Fault) → AreReady plan.tables
+    → list_all is_no_error plan.warnings ≡ true → AreAnnotated plan.tables texts tables → AreViolations plan tables faults
+    → ((list_all is_no_error faults ≡ true) ↔ IsValid plan texts tables)
