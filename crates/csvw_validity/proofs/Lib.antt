@@ -2,3 +2,5 @@ pub mod Headers
 pub mod KeysQuiet
 pub mod Quiet
 pub mod Validating
+pub mod WarningsDocument
+pub mod WarningsRead

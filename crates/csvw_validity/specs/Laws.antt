@@ -1,7 +1,10 @@
 -- What holds of the definitions.
-use Rattle.std.specs.Prelude.{◌≡◌, ◌↔◌, ℕ, true, List}
+use Rattle.std.specs.Prelude.{◌≡◌, ◌↔◌, ℕ, true, List, Some}
 use Rattle.std.specs.List.{list_all}
 use Rattle.csvw_text.specs.declared.fault.Fault.{Fault}
+use Rattle.csvw_description.specs.declared.description.Description.{Description}
+use Rattle.csvw_meta.specs.Document.{Document, group_in}
+use Rattle.csvw_columns.specs.PlanOf.{plan_of}
 use Rattle.csvw_columns.specs.declared.plan.Plan.{Plan}
 use Rattle.csvw_report.specs.Order.{is_no_error}
 use Rattle.csvw_group.specs.Annotated.{Table, AreAnnotated}
@@ -14,3 +17,8 @@ abbrev pub ValidHasNoErrors : Type 0
 ValidHasNoErrors = (plan : Plan) (texts : ℕ → List ℕ) (tables : List Table) (faults : List Fault) → AreReady plan.tables
     → list_all is_no_error plan.warnings ≡ true → AreAnnotated plan.tables texts tables → AreViolations plan tables faults
     → ((list_all is_no_error faults ≡ true) ↔ IsValid plan texts tables)
+
+-- What is ignored of a document is told in warnings alone.
+abbrev pub DocumentsWarn : Type 0
+DocumentsWarn = (d : Document) (description : Description) → group_in d ≡ Some description
+    → list_all is_no_error (plan_of description).warnings ≡ true

@@ -1,5 +1,5 @@
 //! Laws that bind the definitions by which the contracts speak. The calls do nothing.
-ghost use Rattle.csvw_validity.specs.Laws.{ValidHasNoErrors};
+ghost use Rattle.csvw_validity.specs.Laws.{DocumentsWarn, ValidHasNoErrors};
 
 use csvw_rows::laws::have_one_list;
 
@@ -10,3 +10,9 @@ pub fn valid_groups_have_no_errors()
 {
     have_one_list();
 }
+
+/// What is ignored of a document is told in warnings alone: where a document describes a group, none of what the plan of the group
+/// tells of the document is an error.
+pub fn documents_warn()
+    ensures { DocumentsWarn }
+{}
