@@ -22,3 +22,9 @@ ValidHasNoErrors = (plan : Plan) (texts : ℕ → List ℕ) (tables : List Table
 abbrev pub DocumentsWarn : Type 0
 DocumentsWarn = (d : Document) (description : Description) → group_in d ≡ Some description
     → list_all is_no_error (plan_of description).warnings ≡ true
+
+-- So the group that a document describes is valid exactly where none of its violations is an error.
+abbrev pub ValidDocumentsHaveNoErrors : Type 0
+ValidDocumentsHaveNoErrors = (d : Document) (description : Description) (texts : ℕ → List ℕ) (tables : List Table) (faults : List Fault)
+    → group_in d ≡ Some description → AreReady (plan_of description).tables → AreAnnotated (plan_of description).tables texts tables
+    → AreViolations (plan_of description) tables faults → ((list_all is_no_error faults ≡ true) ↔ IsValid (plan_of description) texts tables)

@@ -1,5 +1,5 @@
 //! Laws that bind the definitions by which the contracts speak. The calls do nothing.
-ghost use Rattle.csvw_validity.specs.Laws.{DocumentsWarn, ValidHasNoErrors};
+ghost use Rattle.csvw_validity.specs.Laws.{DocumentsWarn, ValidDocumentsHaveNoErrors, ValidHasNoErrors};
 
 use csvw_rows::laws::have_one_list;
 
@@ -16,3 +16,11 @@ pub fn valid_groups_have_no_errors()
 pub fn documents_warn()
     ensures { DocumentsWarn }
 {}
+
+/// So the group that a document describes is valid exactly where none of the constraints that its annotated tables violate is an error.
+pub fn valid_documents_have_no_errors()
+    ensures { ValidDocumentsHaveNoErrors }
+{
+    valid_groups_have_no_errors();
+    documents_warn();
+}
