@@ -1,5 +1,5 @@
 //! The lexical forms of values.
-ghost use Rattle.std.specs.Prelude.{◌≡◌, IfOk, None, string_bytes, codes, if◌then◌else◌};
+ghost use Rattle.std.specs.Prelude.{◌≡◌, IfOk, OnOk, None, string_bytes, codes, if◌then◌else◌};
 ghost use Rattle.csvw_datatype.specs.Lexical.{IsWritable, IsLexical, lexical_of, simple_of};
 ghost use Rattle.csvw_datatype.specs.Reads.{ReadsAs};
 
@@ -30,42 +30,21 @@ impl Value {
         }
     }
 
-    /// The lexical form of a value, as `lexical` gives it, in the memory of a text that is no longer needed; `AllocError` where
-    /// there is none.
+    /// Makes a text the lexical form of a value, as `lexical` gives it, in its memory; `AllocError` where there is none, and then
+    /// nothing is said of the text.
     #[inline(always)]
-    pub fn lexical_over(&self, spare: Text) -> Result<Text, AllocError>
+    pub fn refill_lexical(&self, text: &mut Text) -> Result<(), AllocError>
         requires { IsWritable self.now }
-        ensures { IfOk result (λ text. text ≡ lexical_of self.now) }
+        ensures { OnOk result (text.new ≡ lexical_of self.now) }
     {
         match self {
-            Value::Text(text) => refilled(spare, text.as_str()),
-            Value::Truth(truth) => refilled(spare, truth_text(*truth)),
-            Value::Number(number) => {
-                let mut out = spare.into_string();
-                refill_number(&mut out, *number)?;
-                Ok(Text::of(out))
-            }
-            Value::Day(day) => {
-                let mut out = spare.into_string();
-                refill_date(&mut out, *day)?;
-                Ok(Text::of(out))
-            }
-            Value::Moment(moment) => {
-                let mut out = spare.into_string();
-                refill_moment(&mut out, *moment)?;
-                Ok(Text::of(out))
-            }
+            Value::Text(form) => text.refill(form.as_str()),
+            Value::Truth(truth) => text.refill(truth_text(*truth)),
+            Value::Number(number) => refill_number(text, *number),
+            Value::Day(day) => refill_date(text, *day),
+            Value::Moment(moment) => refill_moment(text, *moment),
         }
     }
-}
-
-/// A copy of a text, in the memory of another.
-fn refilled(spare: Text, text: &str) -> Result<Text, AllocError>
-    ensures { IfOk result (λ t. t ≡ text.now) }
-{
-    let mut copy = spare;
-    copy.refill(text)?;
-    Ok(copy)
 }
 
 fn truth_text(truth: bool) -> &'static str

@@ -169,7 +169,7 @@ fields_of d day h e =
       is_value = sym e ∙ ap (λ y. days_from_civil y d.month d.day) same;
     }
 
-on_ok : {T E : Type 0} {P Q : Type 0} (r : Result T E) → (P → Q) → OnOk r P → OnOk r Q
+pub on_ok : {T E : Type 0} {P Q : Type 0} (r : Result T E) → (P → Q) → OnOk r P → OnOk r Q
 on_ok (Ok x) f h = f h
 on_ok (Err e) f h = h
 

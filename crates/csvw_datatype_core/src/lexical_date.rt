@@ -9,18 +9,18 @@ ghost use Rattle.csvw_datatype_core.specs.LexicalDates.{IsDayNumber, IsMomentNum
 ghost use Rattle.csvw_datatype_core.specs.LexicalDates.{IsFields, IsDayAndSecond, two_digits, four_digits, date_digits, time_digits};
 ghost use Rattle.csvw_datatype_core.specs.Forms.{date_form, moment_form};
 
+use crate::ascii::{push_ascii, refill_ascii};
+use csvw_text::Text;
 use jiff_core::civil::Date;
 use std::alloc::{AllocError, Global};
 
 /// Makes a text the lexical form `yyyy-MM-dd` of a day, in days since 1 January 1970, of the years 0001 to 9999, in its memory;
 /// `AllocError` where there is none (XML Schema 1.1 part 2, section 3.3.9).
-pub fn refill_date(out: &mut String, day: i32) -> Result<(), AllocError>
+pub fn refill_date(out: &mut Text, day: i32) -> Result<(), AllocError>
     requires { IsDayNumber day }
-    ensures { OnOk result (string_bytes out.new ≡ date_form day) }
+    ensures { OnOk result (out.new ≡ date_form day) }
 {
-    out.clear();
-    push_date(out, day)?;
-    Ok(())
+    write_date(out, day)
 }
 
 /// The lexical form `yyyy-MM-dd` of a day, in days since 1 January 1970, of the years 0001 to 9999;
@@ -30,22 +30,20 @@ pub fn date_text(alloc: Global, day: i32) -> Result<String, AllocError>
     ensures form { IfOk result (λ s. ReadsDate YearFirst (string_bytes s) day) }
     ensures text { IfOk result (λ s. string_bytes s ≡ date_form day) }
 {
-    let mut out = String::new(alloc);
+    let mut out = Text::new(alloc);
     refill_date(&mut out, day)?;
-    Ok(out)
+    Ok(out.into_string())
 }
 
 /// Makes a text the lexical form `yyyy-MM-ddTHH:mm:ss` of a moment, in seconds since 1 January 1970, of the years 0001 to 9999,
 /// in its memory; `AllocError` where there is none (XML Schema 1.1 part 2, section 3.3.7).
-pub fn refill_moment(out: &mut String, moment: i64) -> Result<(), AllocError>
+pub fn refill_moment(out: &mut Text, moment: i64) -> Result<(), AllocError>
     requires { IsMomentNumber moment }
-    ensures { OnOk result (string_bytes out.new ≡ moment_form moment) }
+    ensures { OnOk result (out.new ≡ moment_form moment) }
 {
     let (day, second) = day_and_second(moment);
-    out.clear();
-    push_date(out, day)?;
-    push_time(out, second)?;
-    Ok(())
+    write_date(out, day)?;
+    push_time(out, second)
 }
 
 /// The lexical form `yyyy-MM-ddTHH:mm:ss` of a moment, in seconds since 1 January 1970, of the years 0001 to
@@ -55,9 +53,9 @@ pub fn moment_text(alloc: Global, moment: i64) -> Result<String, AllocError>
     ensures form { IfOk result (λ s. ReadsMoment Seconds (string_bytes s) moment) }
     ensures text { IfOk result (λ s. string_bytes s ≡ moment_form moment) }
 {
-    let mut out = String::new(alloc);
+    let mut out = Text::new(alloc);
     refill_moment(&mut out, moment)?;
-    Ok(out)
+    Ok(out.into_string())
 }
 
 /// How many days lie between 1 January of the year 1 and of 1970.
@@ -74,12 +72,12 @@ fn day_and_second(moment: i64) -> (i32, u32)
     )
 }
 
-fn push_date(out: &mut String, day: i32) -> Result<(), AllocError>
+fn write_date(out: &mut Text, day: i32) -> Result<(), AllocError>
     requires { IsDayNumber day }
-    ensures { OnOk result (AppendsDate (string_bytes out.old) (string_bytes out.new) day) }
+    ensures { OnOk result (AppendsDate [] out.new day) }
 {
     let (year, month, date) = fields(day);
-    push_date_digits(out, year, month, date)
+    refill_ascii(out, &date_bytes(year, month, date))
 }
 
 fn fields(day: i32) -> (u16, u8, u8)
@@ -90,15 +88,6 @@ fn fields(day: i32) -> (u16, u8, u8)
         Ok(date) => (date.year.unsigned_abs(), date.month, date.day),
         Err(_) => unreachable!(),
     }
-}
-
-fn push_date_digits(out: &mut String, year: u16, month: u8, date: u8) -> Result<(), AllocError>
-    requires year { year < 10_000 }
-    requires month { month < 100 }
-    requires date { date < 100 }
-    ensures { OnOk result (string_bytes out.new ≡ string_bytes out.old ++ date_digits year month date) }
-{
-    push_ascii(out, &date_bytes(year, month, date))
 }
 
 fn date_bytes(year: u16, month: u8, date: u8) -> [u8; 10]
@@ -124,25 +113,16 @@ fn date_bytes(year: u16, month: u8, date: u8) -> [u8; 10]
     ]
 }
 
-fn push_time(out: &mut String, second: u32) -> Result<(), AllocError>
+fn push_time(out: &mut Text, second: u32) -> Result<(), AllocError>
     requires { second < 86_400 }
-    ensures { OnOk result (AppendsTime (string_bytes out.old) (string_bytes out.new) second) }
+    ensures { OnOk result (AppendsTime out.old out.new second) }
 {
-    push_time_digits(
-        out,
+    let time = time_bytes(
         (second / 3600) as u8,
         (second / 60 % 60) as u8,
         (second % 60) as u8,
-    )
-}
-
-fn push_time_digits(out: &mut String, hour: u8, minute: u8, second: u8) -> Result<(), AllocError>
-    requires hour { hour < 100 }
-    requires minute { minute < 100 }
-    requires second { second < 100 }
-    ensures { OnOk result (string_bytes out.new ≡ string_bytes out.old ++ time_digits hour minute second) }
-{
-    push_ascii(out, &time_bytes(hour, minute, second))
+    );
+    push_ascii(out, &time)
 }
 
 fn time_bytes(hour: u8, minute: u8, second: u8) -> [u8; 9]
@@ -163,14 +143,6 @@ fn time_bytes(hour: u8, minute: u8, second: u8) -> [u8; 9]
         48 + second / 10,
         48 + second % 10,
     ]
-}
-
-/// Adds bytes that are all ASCII, and so are text.
-fn push_ascii(out: &mut String, bytes: &[u8]) -> Result<(), AllocError>
-    requires { IsAscii bytes.now }
-    ensures { OnOk result (string_bytes out.new ≡ string_bytes out.old ++ bytes.now) }
-{
-    out.push_str(unsafe { str::from_utf8_unchecked(bytes) })
 }
 
 /// A law: a day has one text in the form `yyyy-MM-dd`.

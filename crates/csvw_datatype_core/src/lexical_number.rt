@@ -1,31 +1,51 @@
 //! The lexical form of a number.
-ghost use Rattle.std.specs.Prelude.{◌≡◌, ◌≤◌, ◌+◌, ◌*◌, ◌^◌, ◌<◌, ◌++◌, IfOk, OnOk, OnErr};
+ghost use Rattle.std.specs.Prelude.{◌≡◌, ◌≤◌, ◌+◌, ◌*◌, ◌/◌, ◌^◌, ◌<◌, ◌++◌, IfOk, OnOk, OnErr};
 ghost use Rattle.std.specs.Prelude.{string_bytes, unsigned_abs, List, ℕ, ℤ, [], ◌∷◌, if◌then◌else◌, encode_utf8_all};
 ghost use Rattle.std.specs.Fmt.{decimal};
 ghost use Rattle.std.specs.Str.{chars};
 ghost use Rattle.csvw_datatype_core.specs.LexicalNumbers.{AppendsPart, AppendsFraction, IsLexicalNumber};
 ghost use Rattle.csvw_datatype_core.specs.Forms.{number_form};
 
+use crate::ascii::push_ascii;
+use csvw_text::Text;
 use itoa::Buffer;
 use std::alloc::{AllocError, Global};
 
 const UNIT: u128 = 1_000_000_000_000_000_000;
+
+/// `UNIT` is 2^18 times this, 5^18.
+const FIVES: u64 = 3_814_697_265_625;
+
+const TWOS: u128 = 262_144;
 
 /// The weight of the first digit behind the point.
 const TENTH: u64 = 100_000_000_000_000_000;
 
 /// Makes a text the lexical form of a number in units of 10^-18, below 10^38 of them in size, in its memory: `-` only below zero,
 /// no zero that could be left out, no point where it is whole; `AllocError` where there is no memory.
-pub fn refill_number(out: &mut String, number: i128) -> Result<(), AllocError>
+pub fn refill_number(out: &mut Text, number: i128) -> Result<(), AllocError>
     requires { unsigned_abs number < 10 ^ 38 }
-    ensures { OnOk result (string_bytes out.new ≡ number_form number) }
+    ensures { OnOk result (out.new ≡ number_form number) }
 {
     let count = number.unsigned_abs();
-    out.clear();
-    push_sign(out, number < 0)?;
-    push_decimal(out, count / UNIT)?;
-    push_point_and_fraction(out, (count % UNIT) as u64)?;
+    let whole = whole_part(count);
+    refill_sign(out, number < 0)?;
+    push_decimal(out, whole)?;
+    push_point_and_fraction(out, (count - whole * UNIT) as u64)?;
     Ok(())
+}
+
+/// How many times `UNIT` goes into a count. A number below 4,800,000 is divided in 64 bits, which takes a tenth of the time.
+#[inline(always)]
+fn whole_part(count: u128) -> u128
+    ensures { result ≡ count / 10 ^ 18 }
+{
+    let high = count / TWOS;
+    if high <= u64::MAX as u128 {
+        (high as u64 / FIVES) as u128
+    } else {
+        count / UNIT
+    }
 }
 
 /// The lexical form of a number in units of 10^-18, below 10^38 of them in size: `-` only below zero, no zero
@@ -35,20 +55,21 @@ pub fn number_text(alloc: Global, number: i128) -> Result<String, AllocError>
     ensures form { IfOk result (λ s. IsLexicalNumber (chars (string_bytes s)) number) }
     ensures text { IfOk result (λ s. string_bytes s ≡ number_form number) }
 {
-    let mut out = String::new(alloc);
+    let mut out = Text::new(alloc);
     refill_number(&mut out, number)?;
-    Ok(out)
+    Ok(out.into_string())
 }
 
-fn push_sign(out: &mut String, negative: bool) -> Result<(), AllocError>
-    ensures { OnOk result (string_bytes out.new ≡ string_bytes out.old ++ (if negative then 45 ∷ [] else [])) }
+/// Becomes a sign alone.
+fn refill_sign(out: &mut Text, negative: bool) -> Result<(), AllocError>
+    ensures { OnOk result (out.new ≡ (if negative then 45 ∷ [] else [])) }
 {
-    if negative { out.push_str("-") } else { Ok(()) }
+    out.refill(if negative { "-" } else { "" })
 }
 
-fn push_point_and_fraction(out: &mut String, fraction: u64) -> Result<(), AllocError>
+fn push_point_and_fraction(out: &mut Text, fraction: u64) -> Result<(), AllocError>
     requires { fraction < 10 ^ 18 }
-    ensures { OnOk result (AppendsPart (string_bytes out.old) (string_bytes out.new) fraction) }
+    ensures { OnOk result (AppendsPart out.old out.new fraction) }
 {
     if fraction == 0 {
         return Ok(());
@@ -57,22 +78,22 @@ fn push_point_and_fraction(out: &mut String, fraction: u64) -> Result<(), AllocE
     push_fraction(out, fraction)
 }
 
-fn push_decimal(out: &mut String, n: u128) -> Result<(), AllocError>
-    ensures { OnOk result (string_bytes out.new ≡ string_bytes out.old ++ decimal n) }
+fn push_decimal(out: &mut Text, n: u128) -> Result<(), AllocError>
+    ensures { OnOk result (out.new ≡ out.old ++ decimal n) }
 {
     let mut digits = Buffer::new();
     out.push_str(digits.format(n))
 }
 
-fn push_fraction(out: &mut String, fraction: u64) -> Result<(), AllocError>
+fn push_fraction(out: &mut Text, fraction: u64) -> Result<(), AllocError>
     requires above { 0 < fraction }
     requires below { fraction < 10 ^ 18 }
-    ensures { OnOk result (AppendsFraction (string_bytes out.old) (string_bytes out.new) fraction) }
+    ensures { OnOk result (AppendsFraction out.old out.new fraction) }
 {
     let mut rest = fraction;
     while rest > 0 {
         let digit = (rest / TENTH) as u8;
-        out.push((48 + digit) as char)?;
+        push_ascii(out, &[48 + digit])?;
         rest = rest % TENTH * 10;
     }
     Ok(())

@@ -1,6 +1,7 @@
 //! How texts write numbers, dates and moments, and the lexical forms of these.
 #![tactic(auto)]
 
+mod ascii;
 mod date;
 mod date_format;
 mod lexical_date;

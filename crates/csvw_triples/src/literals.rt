@@ -14,7 +14,6 @@ use csvw_iri::Iri;
 use csvw_text::{LanguageTag, Text};
 use csvw_triples_core::{Lit, Term};
 use std::alloc::{AllocError, Global};
-use std::mem;
 
 fn is_string(datatype: &Datatype) -> bool
     ensures { result ≡ is_string datatype.now }
@@ -82,24 +81,12 @@ pub fn literal_of(
     requires { IsWritable item.now.value }
     ensures { IfOk result (λ lit. lit ≡ literal_of column.now item.now) }
 {
-    let text = item.value.lexical_over(spare)?;
+    let mut text = spare;
+    item.value.refill_lexical(&mut text)?;
     if item.was_read {
         return read_literal(alloc, names, column, text);
     }
     Ok(Lit::typed(text, names.string.clone(alloc)?))
-}
-
-/// Makes a text the lexical form of a value, in its memory.
-fn rewrite_text(alloc: Global, text: &mut Text, value: &Value) -> Result<(), AllocError>
-    requires { IsWritable value.now }
-    ensures { OnOk result (text.new ≡ lexical_of value.now) }
-{
-    if let Value::Text(form) = value {
-        return text.refill(form.as_str());
-    }
-    let spare = mem::replace(text, Text::new(alloc));
-    *text = value.lexical_over(spare)?;
-    Ok(())
 }
 
 /// Makes it the literal of a value and a datatype, in its memory.
@@ -113,7 +100,7 @@ fn rewrite(
     requires form { IsWritable value.now }
     ensures { OnOk result (literal.new ≡ typed_lit (lexical_of value.now) datatype.now) }
 {
-    rewrite_text(alloc, &mut literal.text, value)?;
+    value.refill_lexical(&mut literal.text)?;
     literal.datatype = datatype.clone(alloc)?;
     Ok(())
 }

@@ -1,9 +1,9 @@
-use Rattle.std.proofs.Common.{string_bytes, length, ◌+◌, ◌-◌}
+use Rattle.std.proofs.Common.{length, ◌+◌, ◌-◌}
 use Rattle.csvw_datatype_core.proofs.ScaledLemmas.{IsScaled}
 use Rattle.csvw_datatype_core.proofs.lexical_number.push_fraction.Given as goal
 
 abbrev pub invariant-loop-rest : goal.invariant-loop-rest
-invariant-loop-rest l = IsScaled (string_bytes l.fn.out) (string_bytes l.out) l.fn.fraction l.rest
+invariant-loop-rest l = IsScaled l.fn.out l.out l.fn.fraction l.rest
 
 abbrev pub decreases-loop-rest : goal.decreases-loop-rest
-decreases-loop-rest l = length (string_bytes l.fn.out) + 18 - length (string_bytes l.out)
+decreases-loop-rest l = length l.fn.out + 18 - length l.out

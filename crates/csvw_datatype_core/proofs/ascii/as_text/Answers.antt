@@ -1,5 +1,5 @@
 use Rattle.std.proofs.lemmas.Str.{IsUtf8-from_ascii}
-use Rattle.csvw_datatype_core.proofs.lexical_date.push_ascii.Goals as goal
+use Rattle.csvw_datatype_core.proofs.ascii.as_text.Goals as goal
 
 pub from_utf8_unchecked-requires : goal.from_utf8_unchecked-requires
 from_utf8_unchecked-requires c = IsUtf8-from_ascii _ c.requires
