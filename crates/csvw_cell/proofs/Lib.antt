@@ -1,3 +1,4 @@
 pub mod ListLemmas
 pub mod NormalLemmas
 pub mod TypedLemmas
+pub mod JudgedLemmas

@@ -15,6 +15,7 @@ use Rattle.csvw_columns_core.specs.declared.properties.Properties.{Properties}
 use Rattle.csvw_columns_core.specs.declared.column.Column.{Column}
 use Rattle.csvw_cell.specs.declared.cell.Item.{Item}
 use Rattle.csvw_cell.specs.declared.cell.Cell.{Cell}
+use Rattle.csvw_cell.specs.declared.cell.CellValue.{CellValue}
 use Rattle.csvw_cell.specs.declared.cell.CellValue.TheVariants.{Null, One, Many}
 use Rattle.csvw_cell.specs.Codes.{in_order, broken_codes, is_string}
 
@@ -70,12 +71,16 @@ AreItems d (text ∷ texts) items codes =
 abbrev pub missing : Properties → List Code
 missing p = if p.required then Required ∷ [] else []
 
+-- steps 8 and 9 without a separator
+abbrev pub IsJudged : Datatype → List ℕ → CellValue → List Code → Type 0
+IsJudged d text value faults = (item : Item) × (codes : List Code) × IsItem d text item codes × (value ≡ One item) × (faults ≡ in_order codes)
+
 -- steps 7 to 9 without a separator
 abbrev pub IsSingle : Properties → List ℕ → Cell → Type 0
 IsSingle p text cell =
     MatchBool (is_null p.null text)
     ((cell.value ≡ Null) × (cell.faults ≡ missing p))
-    ((item : Item) × (codes : List Code) × IsItem p.datatype text item codes × (cell.value ≡ One item) × (cell.faults ≡ in_order codes))
+    (IsJudged p.datatype text cell.value cell.faults)
 
 -- steps 5 to 9 of a text that isn't null
 abbrev pub IsListOf : Properties → List ℕ → List ℕ → Cell → Type 0

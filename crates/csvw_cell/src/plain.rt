@@ -1,18 +1,20 @@
 //! Cells read over the cells before them.
-ghost use Rattle.std.specs.Prelude.{◌≡◌, [], true, OnOk};
-ghost use Rattle.csvw_datatype.specs.Breaks.{has_lengths};
+ghost use Rattle.std.specs.Prelude.{◌≡◌, ◌∷◌, [], true, false, IfOk, OnOk};
+ghost use Rattle.csvw_datatype.specs.Breaks.{breaks, has_lengths};
 ghost use Rattle.csvw_datatype.specs.Sound.{IsSound};
-ghost use Rattle.csvw_cell.specs.Codes.{in_order};
-ghost use Rattle.csvw_cell.specs.CellOf.{CellOf, IsSingle, normalized};
+ghost use Rattle.csvw_datatype.specs.declared.value.Value.TheVariants.{Text as TextValue};
+ghost use Rattle.csvw_cell.specs.declared.cell.CellValue.TheVariants.{One};
+ghost use Rattle.csvw_cell.specs.Codes.{broken_codes, in_order};
+ghost use Rattle.csvw_cell.specs.CellOf.{CellOf, IsJudged, IsSingle, normalized};
 ghost use Rattle.csvw_cell.specs.Plain.{is_plain, is_typed, text_item, the_text};
 
 use crate::cell::{Cell, CellValue, Item};
-use crate::codes::in_order;
-use crate::item::{is_string, judge};
+use crate::codes::{broken_codes, in_order};
+use crate::item::is_string;
 use crate::list::{is_null, or_default};
 use crate::parsing::{is_normal, missing, parse_into};
 use csvw_columns_core::{Column, Properties};
-use csvw_datatype::{Facets, Value};
+use csvw_datatype::{Datatype, Facets, Value};
 use csvw_text::{Code, Seq, Text};
 use std::alloc::{AllocError, Global};
 use std::mem;
@@ -71,17 +73,73 @@ fn clear(alloc: Global, faults: &mut Seq<Code>)
     }
 }
 
-/// Makes these the codes of a list in their order, each once.
+/// Makes these a value that was read and what is wrong with it.
 #[inline(always)]
-fn refill_faults(alloc: Global, causes: &[Code], faults: &mut Seq<Code>) -> Result<(), AllocError>
-    ensures { OnOk result (faults.new ≡ in_order causes.now) }
+fn keep_read(
+    alloc: Global,
+    datatype: &Datatype,
+    read: Value,
+    value: &mut CellValue,
+    faults: &mut Seq<Code>,
+) -> Result<(), AllocError>
+    ensures value { OnOk result (value.new ≡ One (record { value = read; was_read = true })) }
+    ensures faults { OnOk result (faults.new ≡ in_order (broken_codes (breaks read datatype.now.facets))) }
 {
-    if causes.is_empty() {
+    if datatype.is_faceted(&read) {
+        *faults = broken_faults(alloc, datatype, &read)?;
+    } else {
         clear(alloc, faults);
-        return Ok(());
     }
-    *faults = in_order(alloc, causes)?;
+    *value = CellValue::One(Item {
+        value: read,
+        was_read: true,
+    });
     Ok(())
+}
+
+/// The codes of the facets that a value breaks, in their order.
+fn broken_faults(alloc: Global, datatype: &Datatype, value: &Value) -> Result<Seq<Code>, AllocError>
+    ensures { IfOk result (λ s. s ≡ in_order (broken_codes (breaks value.now datatype.now.facets))) }
+{
+    let causes = broken_codes(alloc, datatype.facets(value))?;
+    in_order(alloc, causes.as_slice())
+}
+
+/// Makes these a text that is no value, and why it is none.
+fn keep_misread(
+    alloc: Global,
+    text: &str,
+    code: Code,
+    value: &mut CellValue,
+    faults: &mut Seq<Code>,
+) -> Result<(), AllocError>
+    ensures value { OnOk result (value.new ≡ One (record { value = TextValue text.now; was_read = false })) }
+    ensures faults { OnOk result (faults.new ≡ in_order (code ∷ [])) }
+{
+    *faults = in_order(alloc, &[code])?;
+    *value = CellValue::One(Item {
+        value: Value::Text(Text::copied(alloc, text)?),
+        was_read: false,
+    });
+    Ok(())
+}
+
+/// Makes these the value and the faults of a text that isn't null.
+#[inline(always)]
+fn judge_over(
+    alloc: Global,
+    datatype: &Datatype,
+    text: &str,
+    value: &mut CellValue,
+    faults: &mut Seq<Code>,
+) -> Result<(), AllocError>
+    requires { IsSound datatype.now }
+    ensures { OnOk result (IsJudged datatype.now text.now value.new faults.new) }
+{
+    match datatype.read(alloc, text)? {
+        Ok(read) => keep_read(alloc, datatype, read, value, faults),
+        Err(code) => keep_misread(alloc, text, code, value, faults),
+    }
 }
 
 /// Makes these the value and the faults of a text that is no list.
@@ -100,10 +158,7 @@ fn single_over(
         *faults = missing(alloc, properties)?;
         return Ok(());
     }
-    let judged = judge(alloc, properties.datatype.get(), text, Text::new(alloc))?;
-    refill_faults(alloc, judged.causes.as_slice(), faults)?;
-    *value = CellValue::One(judged.item);
-    Ok(())
+    judge_over(alloc, properties.datatype.get(), text, value, faults)
 }
 
 /// Whether the cells of such properties are no strings and no lists.
