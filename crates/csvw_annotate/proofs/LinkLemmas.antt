@@ -10,7 +10,7 @@ use Rattle.csvw_template.specs.declared.part.Part.{Part}
 use Rattle.csvw_template.specs.Variables.{Variables}
 use Rattle.csvw_columns_core.specs.declared.column.Column.{Column}
 use Rattle.csvw_cell.specs.declared.cell.CellValue.{CellValue}
-use Rattle.csvw_links.specs.Links.{no_link, joined, link_by, links_of, has_value, has_template}
+use Rattle.csvw_links.specs.Links.{no_link, joined, link_by, links_of, has_value, has_own_template, has_template}
 use Rattle.csvw_columns_core.specs.declared.columns.Columns.{Columns}
 use Rattle.csvw_links.specs.CellVariables.{variables}
 use Rattle.csvw_links.specs.HasForm.{HasForm}
@@ -159,6 +159,24 @@ none_of base vars (Some t) p v b e = absurd (false≢true (sym e))
 none_of base vars None (Some t) v b e = absurd (false≢true (sym e))
 none_of base vars None None (Some t) b e = absurd (false≢true (sym e))
 none_of base vars None None None b e = ap (λ l. joined no_link no_link l) (no_value_link b base vars)
+
+own_none : (base : Parts) (vars : Variables) (a p v : Option (List Part)) (b : Bool) → (is_some p || is_some v) ≡ false
+    → joined (link_by base vars a) (link_by base vars p) (if b then link_by base vars v else no_link) ≡ joined (link_by base vars a) no_link no_link
+own_none base vars a (Some t) v b e = absurd (false≢true (sym e))
+own_none base vars a None (Some t) b e = absurd (false≢true (sym e))
+own_none base vars a None None b e = ap (λ l. joined (link_by base vars a) no_link l) (no_value_link b base vars)
+
+-- the links of a cell of a column without templates of its own
+pub about_alone : (columns : Columns) (row : RowNumbers) (now : List AnnCell) (i : ℕ) (column : Column) (about : Made)
+    → i < length columns.columns → column ≡ get_or columns.columns i column → has_own_template column ≡ false
+    → IsAboutAt columns row now i about → AreLinksAt columns row now i (joined about no_link no_link)
+about_alone columns row now i column about lt at none is =
+    λ other cell at_other at_cell.
+    let none_of_other = ap has_own_template (same_at columns.columns i other column lt at_other at) ∙ none in
+    let properties = other.properties in
+    ap (λ made. joined made no_link no_link) (is other at_other)
+    ∙ sym (own_none columns.url (variables_of columns row now other) properties.about_url properties.property_url properties.value_url
+    (other.is_virtual || has_value cell.value) none_of_other)
 
 plain_linked : (cell : AnnCell) → IsPlain cell → with_links cell (joined no_link no_link no_link) ≡ cell
 plain_linked cell h =

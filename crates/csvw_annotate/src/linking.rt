@@ -1,5 +1,6 @@
 //! The links of a row's cells.
 ghost use Rattle.std.specs.Prelude.{◌≡◌, ◌<◌, IfOk, OnOk, length};
+ghost use Rattle.csvw_links.specs.Links.{joined, no_link};
 ghost use Rattle.csvw_annotate.specs.LinksAt.{AreLinksAt, IsAboutAt, IsAboutBefore};
 ghost use Rattle.csvw_annotate.specs.Linked.{ArePlain, HaveForms, linked_cells, with_links};
 
@@ -9,6 +10,7 @@ use csvw_links::{
     LinkRoom, LinkedColumns, Links, Made, RowNumbers, about_alone, bound_links_are_links,
     has_own_template, has_template, joined, no_link,
 };
+use csvw_text::copied_option;
 use std::alloc::{AllocError, Global};
 
 /// Gives a cell its links, and the codes of what is wrong with them.
@@ -26,6 +28,20 @@ fn put_links(cell: &mut AnnCell, links: Links) -> Result<(), AllocError>
     cell.about = about;
     cell.property = property;
     cell.link = value;
+    Ok(())
+}
+
+/// Gives a cell its about link where it has no others, and the codes of what is wrong with it.
+#[inline(always)]
+fn put_about(alloc: Global, cell: &mut AnnCell, about: &Made) -> Result<(), AllocError>
+    ensures { OnOk result (cell.new ≡ with_links cell.old (joined about.now no_link no_link)) }
+{
+    if about.is_bad || about.is_too_long {
+        return put_links(cell, about_alone(about.clone(alloc)?));
+    }
+    cell.about = copied_option(alloc, &about.iri)?;
+    cell.property = None;
+    cell.link = None;
     Ok(())
 }
 
@@ -63,11 +79,6 @@ fn links_at(
     ensures { IfOk result (λ l. AreLinksAt columns.now scope.now.row scope.now.cells.now place l) }
 {
     bound_links_are_links();
-    // Most columns have no template of their own.
-    let all = columns.columns().columns.as_slice();
-    if !has_own_template(&all[place]) {
-        return Ok(about_alone(about));
-    }
     let property = columns.property_at(room, place, scope)?;
     let cell = &scope.cells[place];
     let value = columns.value_at(room, place, &cell.value, scope)?;
@@ -97,9 +108,12 @@ fn link_cells(
             cells: lent,
         };
         about = about_at(columns, room, about, i, &scope)?;
-        if has_template(&all[i]) {
+        // Most columns have no template of their own.
+        if has_own_template(&all[i]) {
             let links = links_at(columns, room, about.clone(alloc)?, i, &scope)?;
             put_links(&mut cells[i], links)?;
+        } else if has_template(&all[i]) {
+            put_about(alloc, &mut cells[i], &about)?;
         }
     }
     Ok(())
