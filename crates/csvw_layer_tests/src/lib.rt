@@ -1,8 +1,6 @@
-//! Tests of the layers with long proofs, by their public calls: worked values, expansions, documents, graphs and groups.
+//! Tests of the layers with long proofs, by their public calls: documents, graphs, reports and groups.
 #![tactic(auto)]
 
-#[cfg(test)]
-mod datatypes;
 #[cfg(test)]
 mod documents;
 #[cfg(test)]
@@ -15,9 +13,3 @@ mod notes;
 mod reports;
 #[cfg(test)]
 mod standard;
-#[cfg(test)]
-mod templates;
-#[cfg(test)]
-mod texts;
-#[cfg(test)]
-mod writing;
