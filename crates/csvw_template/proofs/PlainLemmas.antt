@@ -52,13 +52,6 @@ all_but_unreserved (b ∷ bs) =
     ap (λ x. x ++ percent_encode BUT_UNRESERVED bs) (pick (is_unreserved_char b) _ _ _ (unreserved_kept b) (other_escaped b))
     ∙ ap (λ x. encoded_byte b ++ x) (all_but_unreserved bs)
 
--- a text that has no other characters stays
-pub unreserved_stays : (text : List ℕ) → list_all is_unreserved_char text ≡ true → flat_map encoded_byte text ≡ text
-unreserved_stays [] h = refl
-unreserved_stays (b ∷ bs) h =
-    let both = and_parts _ _ h in
-    ap (λ x. x ++ flat_map encoded_byte bs) (cond-true _ _ _ both.0) ∙ ap (λ x. b ∷ x) (unreserved_stays bs both.1)
-
 no_percent : (b : ℕ) → is_plain b ≡ true → (b == 37) ≡ false
 no_percent b h = grind (arith, nat_tests)
 

@@ -1,7 +1,6 @@
 //! Texts percent-encoded, with and without reserved characters and triplets kept.
 ghost use Rattle.std.specs.Prelude.{◌≡◌, ◌≤◌, ◌++◌, OnOk, string_bytes, length, take, drop, true};
 ghost use Rattle.std.specs.List.{flat_map, list_all};
-ghost use Rattle.csvw_text.specs.Class.{is_unreserved_char};
 ghost use Rattle.csvw_template.specs.Expand.{is_plain, encoded, encoded_byte, kept, kept_byte, begins_triplet};
 
 use crate::names::is_hex;
@@ -35,28 +34,11 @@ pub(crate) fn push_encoded(
     }
 }
 
-/// Whether each character is unreserved.
-fn is_unreserved_text(text: &str) -> bool
-    ensures { result ≡ list_all is_unreserved_char text.now }
-{
-    let bytes = text.as_bytes();
-    for b in bytes {
-        if !is_unreserved(*b as char) {
-            return false;
-        }
-    }
-    true
-}
-
 /// Adds a text with all but its unreserved characters encoded.
-#[tactic(auto, using(crate::proofs::PlainLemmas::all_but_unreserved, crate::proofs::PlainLemmas::unreserved_stays))]
+#[tactic(auto, using(crate::proofs::PlainLemmas::all_but_unreserved))]
 fn push_plain(out: &mut String, text: &str) -> Result<(), AllocError>
     ensures { OnOk result (string_bytes out.new ≡ string_bytes out.old ++ flat_map encoded_byte text.now) }
 {
-    // Most texts have no other characters.
-    if is_unreserved_text(text) {
-        return out.push_str(text);
-    }
     utf8_percent_encode(text, BUT_UNRESERVED).append_to(out)
 }
 
