@@ -14,7 +14,7 @@ use Rattle.csvw_datatype_core.specs.LexicalNumbers.{plain_rules, IsLexicalNumber
 unfoldable pub AllAscii : List ℕ → Type 0
 AllAscii cs = AllByRecursion (λ c. c < 128) cs
 
-appended : (xs ys : List ℕ) → AllAscii xs → AllAscii ys → AllAscii (xs ++ ys)
+pub appended : (xs ys : List ℕ) → AllAscii xs → AllAscii ys → AllAscii (xs ++ ys)
 unfolding AllAscii
 appended [] ys h k = k
 appended (x ∷ xs) ys h k = (h.0, appended xs ys h.1 k)

@@ -2,6 +2,7 @@ pub mod ScanLemmas
 pub mod Accepts
 pub mod KindLemmas
 pub mod Spelled
+pub mod SpellingLemmas
 pub mod Counts
 pub mod Answer
 pub mod ReadLemmas

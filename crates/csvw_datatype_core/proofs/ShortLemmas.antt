@@ -157,33 +157,33 @@ count_is s w n m t e f h =
     let whole : (n % 1 == 0) ≡ true = grind (arith, nat_tests) in
     plain ∙ cond-false _ _ _ (ap (λ b. b || not (n % 1 == 0)) below ∙ ap not whole) ∙ ap Some (omega arith)
 
-minus_begun : (minus : Bool) → IsBegun (signed_begun minus)
-minus_begun false = record { fraction = refl; weight = refl; too_long = refl; mark = refl }
-minus_begun true = record { fraction = refl; weight = refl; too_long = refl; mark = refl }
+sign_begun : (has_sign minus : Bool) → IsBegun (signed_begun has_sign minus)
+sign_begun false minus = record { fraction = refl; weight = refl; too_long = refl; mark = refl }
+sign_begun true minus = record { fraction = refl; weight = refl; too_long = refl; mark = refl }
 
-begun_digit : (minus : Bool) (d : ℕ) → d < 10
-    → push (record (signed_begun minus) { place = next (signed_begun minus).place (kinds.Digit d) }) (kinds.Digit d)
-    ≡ record (signed_begun minus) { place = places.Whole; whole = d }
-begun_digit false d h = ap (λ n. record (signed_begun false) { place = places.Whole; whole = n }) (omega arith)
-begun_digit true d h = ap (λ n. record (signed_begun true) { place = places.Whole; whole = n }) (omega arith)
+begun_digit : (has_sign minus : Bool) (d : ℕ) → d < 10
+    → push (record (signed_begun has_sign minus) { place = next (signed_begun has_sign minus).place (kinds.Digit d) }) (kinds.Digit d)
+    ≡ record (signed_begun has_sign minus) { place = places.Whole; whole = d }
+begun_digit false minus d h = ap (λ n. record (signed_begun false minus) { place = places.Whole; whole = n }) (omega arith)
+begun_digit true minus d h = ap (λ n. record (signed_begun true minus) { place = places.Whole; whole = n }) (omega arith)
 
 -- digits, with what follows them, are this many units
-pub counts : (rules : NumberRules) (minus : Bool) (text rest : List ℕ) (w units : ℕ) → 1 ≤ length text → is_ascii_digit (slice_index_or text 0 0) ≡ true
+pub counts : (rules : NumberRules) (has_sign minus : Bool) (text rest : List ℕ) (w units : ℕ) → 1 ≤ length text → is_ascii_digit (slice_index_or text 0 0) ≡ true
     → w < 10 ^ 20
     → ((s : Scan) → IsBegun s → s.place ≡ places.Whole → s.whole ≡ slice_index_or text 0 0 - 48
     → Continues rules s (past_first text) (record s { whole = w }) rest)
     → ((s : Scan) → IsBegun s → s.place ≡ places.Whole → EndsWith rules s rest units)
-    → CountsWith rules (signed_begun minus) text (w * 10 ^ 18 + units)
-counts rules minus text rest w units some test low whole behind =
+    → CountsWith rules (signed_begun has_sign minus) text (w * 10 ^ 18 + units)
+counts rules has_sign minus text rest w units some test low whole behind =
     let b = slice_index_or text 0 0 in
     let d = is_digit b test in
-    let z = minus_begun minus in
-    let s = record (signed_begun minus) { place = places.Whole; whole = b - 48 } in
+    let z = sign_begun has_sign minus in
+    let s = record (signed_begun has_sign minus) { place = places.Whole; whole = b - 48 } in
     let t = record s { whole = w } in
     let e = behind t (record { fraction = z.fraction; weight = z.weight; too_long = z.too_long; mark = z.mark }) refl in
-    let all : run rules (signed_begun minus) (chars text) ≡ record t { place = e.place; fraction = units; weight = e.weight } =
-    first_read rules (signed_begun minus) text some (omega (arith, d))
-    ∙ ap (λ x. run rules x (chars (past_first text))) (step_digit rules (signed_begun minus) b d ∙ begun_digit minus (b - 48) (omega (arith, d)))
+    let all : run rules (signed_begun has_sign minus) (chars text) ≡ record t { place = e.place; fraction = units; weight = e.weight } =
+    first_read rules (signed_begun has_sign minus) text some (omega (arith, d))
+    ∙ ap (λ x. run rules x (chars (past_first text))) (step_digit rules (signed_begun has_sign minus) b d ∙ begun_digit has_sign minus (b - 48) (omega (arith, d)))
     ∙ whole s (record { fraction = z.fraction; weight = z.weight; too_long = z.too_long; mark = z.mark }) refl refl
     ∙ e.run_is in
     record {
@@ -192,24 +192,36 @@ counts rules minus text rest w units some test low whole behind =
       minus = ap (λ (x : Scan). x.minus) all;
     }
 
-minus_of : (minus : Bool) → (signed_begun minus).minus ≡ minus
-minus_of false = refl
-minus_of true = refl
+minus_of : (has_sign minus : Bool) → (signed_begun has_sign minus).minus ≡ minus
+minus_of false minus = refl
+minus_of true minus = refl
 
 -- so the text spells that number
-pub counted_reads : (rules : NumberRules) (l : IsLawful rules) (minus : Bool) (text digits : List ℕ) (n : ℕ) (z : ℤ)
-    → Continues rules begun text (signed_begun minus) digits
-    → CountsWith rules (signed_begun minus) digits n → z ≡ cond minus (neg_ℤ (pos n)) (pos n) → ReadsNumber rules (chars text) z
-counted_reads rules l minus text digits n z e c value =
+pub counted_reads : (rules : NumberRules) (l : IsLawful rules) (has_sign minus : Bool) (text digits : List ℕ) (n : ℕ) (z : ℤ)
+    → Continues rules begun text (signed_begun has_sign minus) digits
+    → CountsWith rules (signed_begun has_sign minus) digits n → z ≡ cond minus (neg_ℤ (pos n)) (pos n) → ReadsNumber rules (chars text) z
+counted_reads rules l has_sign minus text digits n z e c value =
     reads rules l (chars text) n z (ap (λ (s : Scan). ends s.place) e ∙ c.ended) (ap count_of e ∙ c.count)
-    (value ∙ ap (λ b. cond b (neg_ℤ (pos n)) (pos n)) (sym (ap (λ (s : Scan). s.minus) e ∙ c.minus ∙ minus_of minus)))
+    (value ∙ ap (λ b. cond b (neg_ℤ (pos n)) (pos n)) (sym (ap (λ (s : Scan). s.minus) e ∙ c.minus ∙ minus_of has_sign minus)))
 
-minus_sign : (rules : NumberRules) → step rules begun 45 ≡ signed_begun true
+minus_sign : (rules : NumberRules) → step rules begun 45 ≡ signed_begun true true
 unfolding kind_of
 minus_sign rules = refl
 
+plus_sign : (rules : NumberRules) → step rules begun 43 ≡ signed_begun true false
+unfolding kind_of
+plus_sign rules = refl
+
+sign_read : (rules : NumberRules) (text : List ℕ) (sign : ℕ) (s : Scan) → sign < 128 → 1 ≤ length text → slice_index_or text 0 0 ≡ sign
+    → step rules begun sign ≡ s → Continues rules begun text s (past_first text)
+sign_read rules text sign s low some h e =
+    first_read rules begun text some (omega (arith, h, low)) ∙ ap (λ b. run rules (step rules begun b) (chars (past_first text))) h
+    ∙ ap (λ s. run rules s (chars (past_first text))) e
+
 pub minus_read : (rules : NumberRules) (text : List ℕ) → 1 ≤ length text → slice_index_or text 0 0 ≡ 45
-    → Continues rules begun text (signed_begun true) (past_first text)
-minus_read rules text some h =
-    first_read rules begun text some (omega (arith, h)) ∙ ap (λ b. run rules (step rules begun b) (chars (past_first text))) h
-    ∙ ap (λ s. run rules s (chars (past_first text))) (minus_sign rules)
+    → Continues rules begun text (signed_begun true true) (past_first text)
+minus_read rules text some h = sign_read rules text 45 _ (omega arith) some h (minus_sign rules)
+
+pub plus_read : (rules : NumberRules) (text : List ℕ) → 1 ≤ length text → slice_index_or text 0 0 ≡ 43
+    → Continues rules begun text (signed_begun true false) (past_first text)
+plus_read rules text some h = sign_read rules text 43 _ (omega arith) some h (plus_sign rules)

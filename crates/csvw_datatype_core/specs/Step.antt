@@ -72,7 +72,7 @@ pub record CountsWith (rules : NumberRules) (s : Scan) (text : List ℕ) (n : �
   pub count : count_of (run rules s (chars text)) ≡ Some n
   pub minus : (run rules s (chars text)).minus ≡ s.minus
 
--- the pass after a minus sign, or after nothing
-abbrev pub signed_begun : Bool → Scan
-signed_begun false = begun
-signed_begun true = record begun { place = places.Sign; minus = true }
+-- the pass after a sign, or after nothing
+abbrev pub signed_begun : Bool → Bool → Scan
+signed_begun false minus = record begun { minus = minus }
+signed_begun true minus = record begun { place = places.Sign; minus = minus }

@@ -3,7 +3,7 @@ ghost use Rattle.std.specs.Prelude.{◌≡◌, ◌≤◌, ◌+◌, ◌*◌, ◌/
 ghost use Rattle.std.specs.Prelude.{string_bytes, unsigned_abs, List, ℕ, ℤ, [], ◌∷◌, if◌then◌else◌, encode_utf8_all};
 ghost use Rattle.std.specs.Fmt.{decimal};
 ghost use Rattle.std.specs.Str.{chars};
-ghost use Rattle.csvw_datatype_core.specs.LexicalNumbers.{AppendsPart, AppendsFraction, IsLexicalNumber};
+ghost use Rattle.csvw_datatype_core.specs.LexicalNumbers.{AppendsPart, IsLexicalNumber};
 ghost use Rattle.csvw_datatype_core.specs.Forms.{number_form};
 
 use crate::ascii::push_ascii;
@@ -31,7 +31,7 @@ pub fn refill_number(out: &mut Text, number: i128) -> Result<(), AllocError>
     let whole = whole_part(count);
     refill_sign(out, number < 0)?;
     push_decimal(out, whole)?;
-    push_point_and_fraction(out, (count - whole * UNIT) as u64)?;
+    push_fraction(out, (count - whole * UNIT) as u64)?;
     Ok(())
 }
 
@@ -67,17 +67,6 @@ fn refill_sign(out: &mut Text, negative: bool) -> Result<(), AllocError>
     out.refill(if negative { "-" } else { "" })
 }
 
-fn push_point_and_fraction(out: &mut Text, fraction: u64) -> Result<(), AllocError>
-    requires { fraction < 10 ^ 18 }
-    ensures { OnOk result (AppendsPart out.old out.new fraction) }
-{
-    if fraction == 0 {
-        return Ok(());
-    }
-    out.push_str(".")?;
-    push_fraction(out, fraction)
-}
-
 fn push_decimal(out: &mut Text, n: u128) -> Result<(), AllocError>
     ensures { OnOk result (out.new ≡ out.old ++ decimal n) }
 {
@@ -85,17 +74,23 @@ fn push_decimal(out: &mut Text, n: u128) -> Result<(), AllocError>
     out.push_str(digits.format(n))
 }
 
+/// Adds a point and the digits of a fraction up to the last that isn't 0, or nothing where it is 0.
 fn push_fraction(out: &mut Text, fraction: u64) -> Result<(), AllocError>
-    requires above { 0 < fraction }
-    requires below { fraction < 10 ^ 18 }
-    ensures { OnOk result (AppendsFraction out.old out.new fraction) }
+    requires { fraction < 10 ^ 18 }
+    ensures { OnOk result (AppendsPart out.old out.new fraction) }
 {
+    if fraction == 0 {
+        return Ok(());
+    }
+    let mut digits = [b'.'; 19];
+    let mut len = 1;
     let mut rest = fraction;
     while rest > 0 {
-        let digit = (rest / TENTH) as u8;
-        push_ascii(out, &[48 + digit])?;
+        digits[len] = 48 + (rest / TENTH) as u8;
+        len += 1;
         rest = rest % TENTH * 10;
     }
+    push_ascii(out, &digits[..len])?;
     Ok(())
 }
 

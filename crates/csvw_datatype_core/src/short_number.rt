@@ -95,13 +95,45 @@ fn fraction_behind(rules: &NumberRules, bytes: &[u8]) -> Option<u64>
     }
 }
 
+/// The sign that was read, and the bytes behind it.
+#[derive(Clone, Copy)]
+struct Signed<'a> {
+    /// Whether there is a sign.
+    has_sign: bool,
+    /// Whether it is a minus sign.
+    minus: bool,
+    digits: &'a [u8],
+}
+
+fn sign_read(text: &[u8]) -> Signed<'_>
+    ensures { (rules : NumberRules) → Continues rules begun text.now (signed_begun result.has_sign result.minus) result.digits.now }
+{
+    match text {
+        [first, digits @ ..] if *first == b'-' => Signed {
+            has_sign: true,
+            minus: true,
+            digits,
+        },
+        [first, digits @ ..] if *first == b'+' => Signed {
+            has_sign: true,
+            minus: false,
+            digits,
+        },
+        _ => Signed {
+            has_sign: false,
+            minus: false,
+            digits: text,
+        },
+    }
+}
+
 /// The number of digits, in units of 10^-18; `None` where it may be written otherwise, or be long.
-fn short_count(rules: &NumberRules, minus: bool, bytes: &[u8]) -> Option<u128>
+fn short_count(rules: &NumberRules, read: Signed<'_>) -> Option<u128>
     requires { IsLawful rules.now }
-    ensures count { IfSome result (λ n. CountsWith rules.now (signed_begun minus) bytes.now n) }
+    ensures count { IfSome result (λ n. CountsWith rules.now (signed_begun read.entry.has_sign read.entry.minus) read.entry.digits.now n) }
     ensures size { IfSome result (λ n. n < 10 ^ 38) }
 {
-    match bytes {
+    match read.digits {
         [digit, behind @ ..] if digit.is_ascii_digit() => {
             let whole = whole_digits(*digit - 48, behind);
             let units = fraction_behind(rules, whole.rest)?;
@@ -111,34 +143,12 @@ fn short_count(rules: &NumberRules, minus: bool, bytes: &[u8]) -> Option<u128>
     }
 }
 
-/// Whether a minus sign was read, and the bytes behind it.
-#[derive(Clone, Copy)]
-struct Signed<'a> {
-    minus: bool,
-    digits: &'a [u8],
-}
-
-fn sign_read(text: &[u8]) -> Signed<'_>
-    ensures { (rules : NumberRules) → Continues rules begun text.now (signed_begun result.minus) result.digits.now }
-{
-    match text {
-        [first, digits @ ..] if *first == b'-' => Signed {
-            minus: true,
-            digits,
-        },
-        _ => Signed {
-            minus: false,
-            digits: text,
-        },
-    }
-}
-
 /// The number that a text of digits spells; `None` where it may be written otherwise, or be long.
 pub(crate) fn short_number(rules: &NumberRules, text: &[u8]) -> Option<i128>
     requires { IsLawful rules.now }
     ensures { IfSome result (ReadsNumber rules.now (chars text.now)) }
 {
     let read = sign_read(text);
-    let count = short_count(rules, read.minus, read.digits)?;
+    let count = short_count(rules, read)?;
     Some(signed(read.minus, count))
 }

@@ -1,9 +1,9 @@
-use Rattle.std.proofs.Common.{length, ◌+◌, ◌-◌}
-use Rattle.csvw_datatype_core.proofs.ScaledLemmas.{IsScaled}
+use Rattle.std.proofs.Common.{◌-◌}
+use Rattle.csvw_datatype_core.proofs.SpellingLemmas.{IsSpelling}
 use Rattle.csvw_datatype_core.proofs.lexical_number.push_fraction.Given as goal
 
 abbrev pub invariant-loop-rest : goal.invariant-loop-rest
-invariant-loop-rest l = IsScaled l.fn.out l.out l.fn.fraction l.rest
+invariant-loop-rest l = IsSpelling l.digits l.len l.fn.fraction l.rest
 
 abbrev pub decreases-loop-rest : goal.decreases-loop-rest
-decreases-loop-rest l = length l.fn.out + 18 - length l.out
+decreases-loop-rest l = 19 - l.len

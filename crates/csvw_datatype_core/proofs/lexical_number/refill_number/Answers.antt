@@ -20,7 +20,7 @@ returns c =
     let rest : count - c.whole_part-whole.result * 10 ^ 18 ≡ count % 10 ^ 18 =
     ap (λ w. count - w * 10 ^ 18) whole ∙ sym (mod-eq-sub-div-mul count (10 ^ 18)) in
     let WritesWhole : ℕ → Type 0 = λ w. c.push_decimal.new.out ≡ c.refill_sign.new.out ++ decimal w in
-    let WritesRest : ℕ → Type 0 = AppendsPart c.push_decimal.new.out c.push_point_and_fraction.new.out in
+    let WritesRest : ℕ → Type 0 = AppendsPart c.push_decimal.new.out c.push_fraction.new.out in
     let lexical = lexical_number c.args.number count [] _ _ _ abs small refl sign
-    (subst WritesWhole whole c.in_ok-push_decimal.ensures) (subst WritesRest rest c.in_ok-push_point_and_fraction.ensures) in
+    (subst WritesWhole whole c.in_ok-push_decimal.ensures) (subst WritesRest rest c.in_ok-push_fraction.ensures) in
     number_is_form _ c.args.number c.requires lexical

@@ -12,5 +12,5 @@ returns c =
     let fits : FitsSigned w128 c.signed.result = search rules in
     let P : ℤ → Type 0 = λ z. ReadsNumber c.args.rules.now (chars c.args.text.now) z in
     subst P (sym (to_z-of_z w128 c.signed.result fits))
-    (counted_reads c.args.rules.now c.requires read.minus c.args.text.now read.digits.now c.in_ok-count.count c.signed.result
+    (counted_reads c.args.rules.now c.requires read.has_sign read.minus c.args.text.now read.digits.now c.in_ok-count.count c.signed.result
     (c.sign_read-read.ensures c.args.rules.now) c.in_ok-count.ensures.count (cc))
