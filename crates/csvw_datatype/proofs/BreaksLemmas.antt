@@ -5,7 +5,8 @@ use Rattle.csvw_datatype.specs.declared.value.Value.{Value}
 use Rattle.csvw_datatype.specs.declared.value.Value.TheVariants.{Text, Truth, Number, Day, Moment}
 use Rattle.csvw_datatype.specs.declared.datatype.Facets.{Facets}
 use Rattle.csvw_datatype.specs.declared.facets.Broken.{Broken}
-use Rattle.csvw_datatype.specs.Breaks.{fails, is_below, is_up_to, is_over, is_not_under, length_of, has_lengths, has_bounds, length_breaks, breaks, unbroken, is_faceted}
+use Rattle.csvw_datatype.specs.Breaks.{fails, is_below, is_up_to, is_over, is_not_under, length_of, has_lengths}
+use Rattle.csvw_datatype.specs.Breaks.{has_bounds, length_breaks, breaks, unbroken, is_faceted}
 
 or_none : (a b : Bool) → (a || b) ≡ false → (a ≡ false) × (b ≡ false)
 or_none true b h = cc

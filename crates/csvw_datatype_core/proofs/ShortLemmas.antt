@@ -168,7 +168,8 @@ begun_digit false minus d h = ap (λ n. record (signed_begun false minus) { plac
 begun_digit true minus d h = ap (λ n. record (signed_begun true minus) { place = places.Whole; whole = n }) (omega arith)
 
 -- digits, with what follows them, are this many units
-pub counts : (rules : NumberRules) (has_sign minus : Bool) (text rest : List ℕ) (w units : ℕ) → 1 ≤ length text → is_ascii_digit (slice_index_or text 0 0) ≡ true
+pub counts : (rules : NumberRules) (has_sign minus : Bool) (text rest : List ℕ) (w units : ℕ) → 1 ≤ length text
+    → is_ascii_digit (slice_index_or text 0 0) ≡ true
     → w < 10 ^ 20
     → ((s : Scan) → IsBegun s → s.place ≡ places.Whole → s.whole ≡ slice_index_or text 0 0 - 48
     → Continues rules s (past_first text) (record s { whole = w }) rest)
@@ -183,7 +184,8 @@ counts rules has_sign minus text rest w units some test low whole behind =
     let e = behind t (record { fraction = z.fraction; weight = z.weight; too_long = z.too_long; mark = z.mark }) refl in
     let all : run rules (signed_begun has_sign minus) (chars text) ≡ record t { place = e.place; fraction = units; weight = e.weight } =
     first_read rules (signed_begun has_sign minus) text some (omega (arith, d))
-    ∙ ap (λ x. run rules x (chars (past_first text))) (step_digit rules (signed_begun has_sign minus) b d ∙ begun_digit has_sign minus (b - 48) (omega (arith, d)))
+    ∙ ap (λ x. run rules x (chars (past_first text)))
+    (step_digit rules (signed_begun has_sign minus) b d ∙ begun_digit has_sign minus (b - 48) (omega (arith, d)))
     ∙ whole s (record { fraction = z.fraction; weight = z.weight; too_long = z.too_long; mark = z.mark }) refl refl
     ∙ e.run_is in
     record {

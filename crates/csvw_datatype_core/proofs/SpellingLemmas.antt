@@ -1,5 +1,6 @@
 -- The digits of a fraction are spelled behind a point in a buffer.
-use Rattle.std.proofs.Common.{◌≡◌, ℕ, inr, ◌+◌, ◌*◌, ◌/◌, ◌%◌, ◌^◌, ◌<◌, ◌≤◌, List, [], ◌∷◌, ◌++◌, length, take, set, replicate, refl, sym, ap, ◌∙◌, arith, subst}
+use Rattle.std.proofs.Common.{◌≡◌, ℕ, inr, ◌+◌, ◌*◌, ◌/◌, ◌%◌, ◌^◌, ◌<◌, ◌≤◌, List, [], ◌∷◌, ◌++◌, length, take, set}
+use Rattle.std.proofs.Common.{replicate, refl, sym, ap, ◌∙◌, arith, subst}
 use Rattle.std.proofs.lemmas.List.{length-set, length-take-le, append_assoc, take_more_set}
 use Rattle.std.specs.Str.{IsAscii}
 use Rattle.csvw_datatype_core.specs.LexicalNumbers.{AppendsFraction, AppendsPart}
