@@ -4,7 +4,8 @@ ghost use Rattle.csvw_columns_core.specs.Inherited.{IsDefaults, first_of, inheri
 
 use crate::properties::{Defaults, Properties};
 use csvw_description::Inherited;
-use csvw_text::{Copied, both, copied_option};
+use csvw_template::Template;
+use csvw_text::{Copied, Shared, both, copied_option};
 use std::alloc::{AllocError, Global};
 
 fn first_of<'a, T>(inner: &'a Option<T>, outer: &'a Option<T>) -> &'a Option<T>
@@ -59,6 +60,55 @@ fn found_or<T: Copied + Drop>(
     }
 }
 
+/// The templates of the links of a column's cells.
+#[derive(Drop)]
+struct Links {
+    about_url: Option<Shared<Template>>,
+    property_url: Option<Shared<Template>>,
+    value_url: Option<Shared<Template>>,
+}
+
+/// The templates that are found first in the column, its schema, its table and the group.
+fn links(
+    alloc: Global,
+    c: &Inherited,
+    s: &Inherited,
+    t: &Inherited,
+    g: &Inherited,
+) -> Result<Links, AllocError>
+    ensures about { IfOk result (λ l. l.about_url ≡ inherited_or_none c.now.about_url s.now.about_url t.now.about_url g.now.about_url) }
+    ensures property { IfOk result (λ l. l.property_url ≡ inherited_or_none c.now.property_url s.now.property_url t.now.property_url g.now.property_url) }
+    ensures value { IfOk result (λ l. l.value_url ≡ inherited_or_none c.now.value_url s.now.value_url t.now.value_url g.now.value_url) }
+{
+    let about_url = found(
+        alloc,
+        &c.about_url,
+        &s.about_url,
+        &t.about_url,
+        &g.about_url,
+    );
+    let property_url = found(
+        alloc,
+        &c.property_url,
+        &s.property_url,
+        &t.property_url,
+        &g.property_url,
+    );
+    let value_url = found(
+        alloc,
+        &c.value_url,
+        &s.value_url,
+        &t.value_url,
+        &g.value_url,
+    );
+    let (about_url, (property_url, value_url)) = both(about_url, both(property_url, value_url))?;
+    Ok(Links {
+        about_url,
+        property_url,
+        value_url,
+    })
+}
+
 impl Defaults {
     /// The inherited properties of a column, each the first that is present in the column, its schema, its table and the
     /// group, in this order, else its default (Metadata Vocabulary for Tabular Data, section 5.7). `AllocError` where
@@ -74,27 +124,7 @@ impl Defaults {
         requires { IsDefaults self.now }
         ensures { IfOk result (λ p. p ≡ properties_of c.now s.now t.now g.now) }
     {
-        let about_url = found(
-            alloc,
-            &c.about_url,
-            &s.about_url,
-            &t.about_url,
-            &g.about_url,
-        );
-        let property_url = found(
-            alloc,
-            &c.property_url,
-            &s.property_url,
-            &t.property_url,
-            &g.property_url,
-        );
-        let value_url = found(
-            alloc,
-            &c.value_url,
-            &s.value_url,
-            &t.value_url,
-            &g.value_url,
-        );
+        let links = links(alloc, c, s, t, g);
         let datatype = found(alloc, &c.datatype, &s.datatype, &t.datatype, &g.datatype);
         let default = found(alloc, &c.default, &s.default, &t.default, &g.default);
         let lang = found(alloc, &c.lang, &s.lang, &t.lang, &g.lang);
@@ -110,15 +140,14 @@ impl Defaults {
         let default = found_or(alloc, default, &self.default);
         let lang = found_or(alloc, lang, &self.lang);
         let null = found_or(alloc, null, &self.null);
-        let urls = both(both(about_url, property_url), both(value_url, datatype));
         let texts = both(both(default, lang), both(null, separator));
-        let (urls, texts) = both(urls, texts)?;
-        let ((about_url, property_url), (value_url, datatype)) = urls;
+        let (links, texts) = both(both(links, datatype), texts)?;
+        let (links, datatype) = links;
         let ((default, lang), (null, separator)) = texts;
         Ok(Properties {
-            about_url,
-            property_url,
-            value_url,
+            about_url: links.about_url,
+            property_url: links.property_url,
+            value_url: links.value_url,
             datatype,
             default,
             lang,
