@@ -69,7 +69,7 @@ struct Links {
 }
 
 /// The templates that are found first in the column, its schema, its table and the group.
-fn links(
+fn found_links(
     alloc: Global,
     c: &Inherited,
     s: &Inherited,
@@ -124,7 +124,7 @@ impl Defaults {
         requires { IsDefaults self.now }
         ensures { IfOk result (λ p. p ≡ properties_of c.now s.now t.now g.now) }
     {
-        let links = links(alloc, c, s, t, g);
+        let links = found_links(alloc, c, s, t, g);
         let datatype = found(alloc, &c.datatype, &s.datatype, &t.datatype, &g.datatype);
         let default = found(alloc, &c.default, &s.default, &t.default, &g.default);
         let lang = found(alloc, &c.lang, &s.lang, &t.lang, &g.lang);

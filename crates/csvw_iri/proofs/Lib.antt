@@ -5,3 +5,5 @@ pub mod OwnLinks
 pub mod FragmentLinks
 pub mod StayingLemmas
 pub mod FrontLemmas
+pub mod EncodedLemmas
+pub mod EncodedLinks

@@ -1,10 +1,12 @@
 //! URLs without a fragment, against which texts resolve.
-ghost use Rattle.std.specs.Prelude.{◌≡◌, IfOk, Some, None, Ok, true, false};
+ghost use Rattle.std.specs.Prelude.{◌≡◌, ◌++◌, IfOk, IfSome, Some, None, Ok, true, false, codes};
+ghost use Rattle.csvw_iri.specs.Encoded.{percent_encoded};
 ghost use Rattle.csvw_iri.specs.Safe.{is_iri, has_hash};
 ghost use Rattle.csvw_iri.specs.Link.{base_of, iri_of, link_of, url_of, without_fragment};
 ghost use Rattle.csvw_iri.specs.Own.{IsFragmentLink};
 ghost use Rattle.csvw_iri.specs.Fault.{Gives};
 
+use crate::encoded::push_percent_encoded;
 use crate::fault::IriFault;
 use crate::iri::Iri;
 use crate::safe::made_safe;
@@ -91,6 +93,27 @@ impl Base {
         ensures { IfOk result (λ i. link_of self.now text.now ≡ Ok i) }
     {
         Iri::over(alloc, self.iri.as_str(), text, spare)
+    }
+
+    /// The link of `#` and the percent-encoded text, in the memory of an IRI that is no longer needed where no clone shares that; `None`
+    /// where it is past the limit. `room` is for the text with its `#`. `AllocError` where there is no memory.
+    pub fn encoded_fragment(
+        &self,
+        alloc: Global,
+        text: &str,
+        room: &mut String,
+        spare: Option<Iri>,
+    ) -> Result<Option<Iri>, AllocError>
+        ensures { IfOk result (λ found. IfSome found (λ iri. link_of self.now (codes "#" ++ percent_encoded text.now) ≡ Ok iri)) }
+    {
+        room.clear();
+        room.push('#')?;
+        push_percent_encoded(room, text)?;
+        if room.len() > MAX_TEXT {
+            return Ok(None);
+        }
+        let iri = self.fragment_link(alloc, room.as_str(), spare)?;
+        Ok(Some(iri))
     }
 
     fn of(alloc: Global, url: Url) -> Result<Base, AllocError>

@@ -1,11 +1,17 @@
 //! Constant texts with which the URLs of many rows begin, over whose bytes one pass is enough.
-ghost use Rattle.std.specs.Prelude.{◌≡◌, ◌++◌, IfOk, IfSome, true};
+ghost use Rattle.std.specs.Prelude.{◌≡◌, ◌++◌, IfOk, IfSome, Ok, Some, true};
+ghost use Rattle.url.specs.Parts.{Parts};
+ghost use Rattle.csvw_iri.specs.Encoded.{percent_encoded};
+ghost use Rattle.csvw_iri.specs.Link.{link_of};
 ghost use Rattle.csvw_iri.specs.Safe.{is_iri};
-ghost use Rattle.csvw_iri.specs.Own.{IsOwnFront, IsOwnLink};
+ghost use Rattle.csvw_iri.specs.Own.{IsOwnFront, IsOwnLink, goes_on};
+ghost use Rattle.csvw_iri.specs.declared.own.Place.TheVariants.{Segment};
 
 use crate::base::MAX_TEXT;
+use crate::encoded::push_percent_encoded;
+use crate::iri::Iri;
 use crate::own::{Place, after, behind_scheme, goes_on, is_own};
-use csvw_text::Text;
+use csvw_text::{Text, is_unreserved};
 use std::alloc::{AllocError, Global};
 use std::marker::Model;
 
@@ -44,6 +50,30 @@ impl OwnFront {
         }))
     }
 
+    /// The link of the front and the percent-encoded text behind it, whatever the base, in the memory of an IRI that is no longer
+    /// needed where no clone shares that; `None` where it isn't seen at once, and where it is past the limit. `room` is for the encoded
+    /// text. `AllocError` where there is no memory.
+    pub fn encoded_link(
+        &self,
+        alloc: Global,
+        text: &str,
+        room: &mut String,
+        spare: Option<Iri>,
+    ) -> Result<Option<Iri>, AllocError>
+        ensures { IfOk result (λ found. IfSome found (λ iri. (base : Parts) → link_of base (self.now ++ percent_encoded text.now) ≡ Ok iri)) }
+    {
+        if !takes(self.place, text) {
+            return Ok(None);
+        }
+        room.clear();
+        push_percent_encoded(room, text)?;
+        if self.text.len().saturating_add(room.len()) > MAX_TEXT {
+            return Ok(None);
+        }
+        let iri = Iri::over(alloc, self.text.as_str(), room.as_str(), spare)?;
+        Ok(Some(iri))
+    }
+
     /// Whether the text begins with the front, is short enough, and is seen at once to be an absolute URL as the URL Standard writes
     /// it, with nothing that IRIREF forbids.
     fn is_own(&self, text: &str) -> bool
@@ -57,6 +87,27 @@ impl OwnFront {
             Some(rest) => goes_on(self.place, rest.as_bytes()),
             None => false,
         }
+    }
+}
+
+/// Whether a pass is seen at once to go on from the place over the percent-encoded text to an end.
+fn takes(place: Place, text: &str) -> bool
+    ensures { result ≡ true → goes_on (Some place) (percent_encoded text.now) ≡ true }
+{
+    match place {
+        Place::Path | Place::Query | Place::Fragment => true,
+        Place::Segment => begins_segment(text.as_bytes()),
+        Place::Front | Place::Label | Place::Percent => false,
+    }
+}
+
+/// Whether the text is seen at once to begin no dot segment.
+fn begins_segment(text: &[u8]) -> bool
+    ensures { result ≡ true → goes_on (Some Segment) (percent_encoded text.now) ≡ true }
+{
+    match text {
+        [] => true,
+        [first, ..] => is_unreserved(*first as char) && *first != b'.',
     }
 }
 

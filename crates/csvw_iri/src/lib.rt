@@ -3,6 +3,7 @@
 
 mod base;
 mod compared;
+mod encoded;
 mod fault;
 mod front;
 mod iri;
@@ -12,6 +13,7 @@ mod prefix;
 mod safe;
 
 pub use base::Base;
+pub use encoded::push_percent_encoded;
 pub use fault::IriFault;
 pub use front::OwnFront;
 pub use iri::{Iri, with_fragment};

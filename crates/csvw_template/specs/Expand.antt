@@ -3,6 +3,7 @@ use Rattle.std.specs.Prelude.{◌≡◌, ℕ, ◌==◌, ◌&&◌, ◌||◌, ◌+
 use Rattle.std.specs.List.{flat_map, filter_map}
 use Rattle.percent_encoding.specs.Percent.{percent_encode_byte}
 use Rattle.csvw_text.specs.Class.{is_unreserved_char, is_reserved_char}
+use Rattle.csvw_iri.specs.Encoded.{percent_encoded}
 use Rattle.csvw_template.specs.declared.part.Operator.{Operator}
 use Rattle.csvw_template.specs.declared.part.Operator.TheVariants.{Simple, Reserved, Fragment}
 use Rattle.csvw_template.specs.declared.part.Part.{Part}
@@ -11,10 +12,6 @@ use Rattle.csvw_template.specs.declared.vars.Var.{Var}
 use Rattle.csvw_template.specs.declared.vars.Var.TheVariants.{Undefined, One, Many}
 use Rattle.csvw_template.specs.Name.{is_hex, listed}
 use Rattle.csvw_template.specs.Variables.{Variables, lookup}
-
--- unreserved characters stay, each other byte is a triplet
-abbrev pub encoded_byte : ℕ → List ℕ
-encoded_byte b = if is_unreserved_char b then b ∷ [] else percent_encode_byte b
 
 -- an unreserved or a reserved character
 abbrev pub is_plain : ℕ → Bool
@@ -40,7 +37,7 @@ kept (b ∷ c ∷ d ∷ rest) =
 
 -- a text under an operator (section 3.2.1)
 abbrev pub encoded : Operator → List ℕ → List ℕ
-encoded Simple text = flat_map encoded_byte text
+encoded Simple text = percent_encoded text
 encoded Reserved text = kept text
 encoded Fragment text = kept text
 

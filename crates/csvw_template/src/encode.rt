@@ -1,24 +1,14 @@
 //! Texts percent-encoded, with and without reserved characters and triplets kept.
 ghost use Rattle.std.specs.Prelude.{◌≡◌, ◌≤◌, ◌++◌, OnOk, string_bytes, length, take, drop, true};
-ghost use Rattle.std.specs.List.{flat_map, list_all};
-ghost use Rattle.csvw_template.specs.Expand.{is_plain, encoded, encoded_byte, kept, kept_byte, begins_triplet};
+ghost use Rattle.std.specs.List.{list_all};
+ghost use Rattle.csvw_template.specs.Expand.{is_plain, encoded, kept, kept_byte, begins_triplet};
 
 use crate::names::is_hex;
 use crate::part::Operator;
+use csvw_iri::push_percent_encoded;
 use csvw_text::{is_reserved, is_unreserved};
-use percent_encoding::{
-    AsciiSet, NON_ALPHANUMERIC, ascii_set, percent_encode_byte, utf8_percent_encode,
-};
+use percent_encoding::percent_encode_byte;
 use std::alloc::AllocError;
-
-/// All of ASCII but the unreserved characters (RFC 3986, section 2.3).
-const BUT_UNRESERVED: AsciiSet = ascii_set!(
-    NON_ALPHANUMERIC
-        .remove(b'-')
-        .remove(b'.')
-        .remove(b'_')
-        .remove(b'~')
-);
 
 /// Adds a text as the operator encodes it.
 pub(crate) fn push_encoded(
@@ -29,17 +19,9 @@ pub(crate) fn push_encoded(
     ensures { OnOk result (string_bytes out.new ≡ string_bytes out.old ++ encoded operator text.now) }
 {
     match operator {
-        Operator::Simple => push_plain(out, text),
+        Operator::Simple => push_percent_encoded(out, text),
         Operator::Reserved | Operator::Fragment => push_kept(out, text),
     }
-}
-
-/// Adds a text with all but its unreserved characters encoded.
-#[tactic(auto, using(crate::proofs::PlainLemmas::all_but_unreserved))]
-fn push_plain(out: &mut String, text: &str) -> Result<(), AllocError>
-    ensures { OnOk result (string_bytes out.new ≡ string_bytes out.old ++ flat_map encoded_byte text.now) }
-{
-    utf8_percent_encode(text, BUT_UNRESERVED).append_to(out)
 }
 
 /// Adds a text with reserved characters and triplets as they are.
