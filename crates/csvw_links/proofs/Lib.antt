@@ -2,3 +2,4 @@ mod AboutLemmas
 mod BindingLemmas
 mod ReservedLemmas
 mod SharingLemmas
+mod SimpleLemmas

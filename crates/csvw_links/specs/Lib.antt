@@ -7,3 +7,4 @@ pub mod LowLine
 pub mod MadeAt
 pub mod Reserved
 pub mod Sharing
+pub mod Simple

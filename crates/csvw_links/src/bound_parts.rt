@@ -1,6 +1,8 @@
 //! The parts of templates that are bound, and what the URLs begin with that they give.
-ghost use Rattle.std.specs.Prelude.{◌≡◌, IfOk};
+ghost use Rattle.std.specs.Prelude.{◌≡◌, IfOk, IfSome};
+ghost use Rattle.csvw_links.specs.Simple.{IsSimple};
 
+use crate::simple::{SimpleLink, simple_of};
 use csvw_iri::OwnFront;
 use csvw_template::BoundPart;
 use csvw_text::Seq;
@@ -14,15 +16,20 @@ pub struct BoundParts {
     parts: Seq<BoundPart>,
     /// The literal that is the first of them, where URLs begin with it.
     front: Option<OwnFront>,
+    /// The link that they are, where it is a simple one.
+    simple: Option<SimpleLink>,
 }
 
 impl Model for BoundParts {
-    ghost use Rattle.std.specs.Prelude.{List};
+    ghost use Rattle.std.specs.Prelude.{List, IfSome};
     ghost use Rattle.csvw_template.specs.declared.bound.BoundPart.{BoundPart};
+    ghost use Rattle.csvw_links.specs.Simple.{IsSimple};
 
     ghost Value = { List BoundPart };
 
     ghost view = { λ b. b.parts };
+
+    ghost invariant = { λ b. IfSome b.simple (λ link. IsSimple b.parts link.front link.place) };
 }
 
 impl BoundParts {
@@ -32,6 +39,7 @@ impl BoundParts {
     {
         Ok(BoundParts {
             front: front_of(alloc, parts.as_slice())?,
+            simple: simple_of(alloc, parts.as_slice())?,
             parts,
         })
     }
@@ -46,6 +54,13 @@ impl BoundParts {
     /// What the URLs begin with that they give, where that is known.
     pub(crate) fn front(&self) -> Option<&OwnFront> {
         self.front.as_ref()
+    }
+
+    /// The link that they are, where it is a simple one.
+    pub(crate) fn simple(&self) -> Option<&SimpleLink>
+        ensures { IfSome result (λ link. IsSimple self.now link.now.front link.now.place) }
+    {
+        self.simple.as_ref()
     }
 }
 

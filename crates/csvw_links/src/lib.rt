@@ -9,6 +9,7 @@ mod linked_columns;
 mod linking;
 mod numbers;
 mod sharing;
+mod simple;
 mod values;
 
 pub use link_room::LinkRoom;
