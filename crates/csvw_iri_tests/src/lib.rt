@@ -5,6 +5,8 @@
 #[cfg(test)]
 mod bases;
 #[cfg(test)]
+mod encoded;
+#[cfg(test)]
 mod iris;
 #[cfg(test)]
 mod limits;
