@@ -81,7 +81,7 @@ fn triple(alloc: Global, read: NtTriple) -> Result<Triple, Halt> {
 
 /// The triples that `NtSink` writes as what was read. `NotWritable` where an IRI or a label is one that it doesn't write;
 /// `Memory` where there is none.
-pub fn triples(alloc: Global, read: Vec<NtTriple>) -> Result<Vec<Triple>, Halt> {
+pub(crate) fn triples(alloc: Global, read: Vec<NtTriple>) -> Result<Vec<Triple>, Halt> {
     let mut triples = Vec::new(alloc);
     for one in read {
         let made = triple(alloc, one)?;

@@ -6,7 +6,7 @@ use std::alloc::AllocError;
 
 /// Why a run stops.
 #[derive(Clone, Copy, Debug, PartialEq, Eq)]
-pub enum Halt {
+pub(crate) enum Halt {
     /// The command line asks for nothing that there is.
     Usage,
     /// There is no memory.
@@ -24,7 +24,7 @@ pub enum Halt {
 
 impl Halt {
     /// The exit status, and the line that tells it.
-    pub fn told(self) -> (u8, &'static str) {
+    pub(crate) fn told(self) -> (u8, &'static str) {
         match self {
             Halt::Syntax => (1, "Syntax"),
             Halt::Usage => (2, "count <DOCUMENT, or write ROUNDS <DOCUMENT"),

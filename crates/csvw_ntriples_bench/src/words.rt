@@ -2,7 +2,7 @@
 
 /// What the program does with the document on standard input.
 #[derive(Clone, Copy, Debug, PartialEq, Eq)]
-pub enum Task {
+pub(crate) enum Task {
     /// Reads it and tells how many triples it has.
     Count,
     /// Reads it and writes its triples so many times.
@@ -15,7 +15,7 @@ fn write_task(rounds: &str) -> Option<Task> {
 }
 
 /// What the words, the first of which is the program's name, ask for.
-pub fn requested(words: &[String]) -> Option<Task> {
+pub(crate) fn requested(words: &[String]) -> Option<Task> {
     let name = words.get(1)?.as_str();
     match words.get(2) {
         None if name == "count" => Some(Task::Count),
