@@ -1,7 +1,7 @@
 -- The names of what stops the reading of a table, as the program's lines spell them.
 use Rattle.std.specs.Prelude.{ℕ, List, codes}
-use Rattle.csvw_rows.specs.declared.stop.RowStop.{RowStop}
-use Rattle.csvw_rows.specs.declared.stop.RowStop.TheVariants as row
+use Rattle.csvw_records.specs.declared.stop.RowStop.{RowStop}
+use Rattle.csvw_records.specs.declared.stop.RowStop.TheVariants as row
 use Rattle.csvw_columns.specs.declared.table_stop.TableStop.{TableStop}
 use Rattle.csvw_columns.specs.declared.table_stop.TableStop.TheVariants as table
 

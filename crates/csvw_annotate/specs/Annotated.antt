@@ -1,6 +1,6 @@
 -- Annotated rows (Model for Tabular Data, sections 4.4, 4.5 and 6.4.2).
 use Rattle.std.specs.Prelude.{◌≡◌, ℕ, List, [], ◌∷◌, length, None, Result, Ok, Err}
-use Rattle.csvw_rows.specs.RowValue.{Given}
+use Rattle.csvw_records.specs.RowValue.{Given}
 use Rattle.csvw_datatype.specs.Sound.{IsSound}
 use Rattle.csvw_columns_core.specs.Columns.{field_count}
 use Rattle.csvw_columns_core.specs.declared.column.Column.{Column}

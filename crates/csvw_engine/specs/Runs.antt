@@ -4,8 +4,8 @@ use Rattle.std.specs.Prelude.{◌≡◌, ◌≢◌, ◌⊎◌, ◌<◌, ◌+◌,
 use Rattle.csvw_text.specs.declared.counted.Counted.{Counted}
 use Rattle.csvw_text.specs.declared.fault.Fault.{Fault}
 use Rattle.csvw_text.specs.Streams.{Stream, Sends, IsIdle}
-use Rattle.csvw_rows.specs.RowValue.{Given}
-use Rattle.csvw_rows.specs.declared.stop.RowStop.{RowStop}
+use Rattle.csvw_records.specs.RowValue.{Given}
+use Rattle.csvw_records.specs.declared.stop.RowStop.{RowStop}
 use Rattle.csvw_description.specs.declared.description.Description.{Description}
 use Rattle.csvw_columns_core.specs.declared.columns.Columns.{Columns}
 use Rattle.csvw_columns.specs.PlanOf.{plan_of}

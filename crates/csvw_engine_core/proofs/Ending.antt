@@ -3,7 +3,7 @@ use Rattle.std.proofs.Common.{◌≡◌, ◌<◌, ℕ, zero, suc, Bool, true, Li
 use Rattle.std.proofs.Common.{Result, Ok, Err, inl, inr}
 use Rattle.std.proofs.lemmas.List.{take_all, drop_all}
 use Rattle.csvw_rows.specs.Laws.{GivenFirst}
-use Rattle.csvw_rows.specs.RowValue.{Given}
+use Rattle.csvw_records.specs.RowValue.{Given}
 use Rattle.csvw_columns_core.specs.declared.columns.Columns.{Columns}
 use Rattle.csvw_columns.specs.HeaderMatch.{IsMatch}
 use Rattle.csvw_columns.specs.declared.plan.TablePlan.{TablePlan}

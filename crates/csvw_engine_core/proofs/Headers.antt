@@ -3,7 +3,7 @@ use Rattle.std.proofs.Common.{◌≡◌, ◌≢◌, ◌<◌, ◌≤◌, ◌+◌,
 use Rattle.std.proofs.Common.{Result, Ok, Err}
 use Rattle.std.proofs.lemmas.List.{take_all, take-append-le, length-append, map-append, length-map}
 use Rattle.csvw_text.specs.declared.fault.Fault.{Fault}
-use Rattle.csvw_rows.specs.RowValue.{Given}
+use Rattle.csvw_records.specs.RowValue.{Given}
 use Rattle.csvw_columns_core.specs.declared.columns.Columns.{Columns}
 use Rattle.csvw_columns.specs.HeaderMatch.{IsMatch}
 use Rattle.csvw_columns.specs.declared.plan.TablePlan.{TablePlan}

@@ -1,11 +1,12 @@
 -- How a table takes more of its text, or its end.
 use Rattle.std.proofs.Common.{◌≡◌, ◌⊎◌, ℕ, Bool, false, List, [], ◌++◌, refl, sym, ◌∙◌, subst, append-nil, Some, None, Result, Ok, Err, inl, inr}
-use Rattle.csvw_rows.specs.Laws.{AreFirst, GivenFirstLater}
-use Rattle.csvw_rows.specs.RowValue.{Given}
+use Rattle.csvw_records.specs.Laws.{AreFirst}
+use Rattle.csvw_rows.specs.Laws.{GivenFirstLater}
+use Rattle.csvw_records.specs.RowValue.{Given}
 use Rattle.csvw_rows.specs.RowsState.{Holds, stop_of}
 use Rattle.csvw_rows.specs.declared.rows.Rows.{Rows}
-use Rattle.csvw_rows.specs.declared.stop.RowStop.{RowStop}
-use Rattle.csvw_rows.specs.declared.stop.RowStop.TheVariants as row_stop
+use Rattle.csvw_records.specs.declared.stop.RowStop.{RowStop}
+use Rattle.csvw_records.specs.declared.stop.RowStop.TheVariants as row_stop
 use Rattle.csvw_columns.specs.declared.plan.TablePlan.{TablePlan}
 use Rattle.csvw_annotate.specs.declared.row.Row.{Row}
 use Rattle.csvw_triples_core.specs.declared.mode.Mode.{Mode}

@@ -4,11 +4,11 @@ use Rattle.std.proofs.Common.{Option, Some, None, inl, inr, Result, Ok, Err}
 use Rattle.std.proofs.lemmas.List.{drop_all, drop-append-le}
 use Rattle.csvw_text.specs.declared.fault.Fault.{Fault}
 use Rattle.csvw_rows.specs.Laws.{GivenFirst}
-use Rattle.csvw_rows.specs.RowValue.{Given}
+use Rattle.csvw_records.specs.RowValue.{Given}
 use Rattle.csvw_rows.specs.RowsState.{Gives as GivesRow, Stays, IsDone, IsStopped as RowsStopped, unread}
 use Rattle.csvw_rows.specs.declared.rows.Rows.{Rows}
-use Rattle.csvw_rows.specs.declared.stop.RowStop.{RowStop}
-use Rattle.csvw_rows.specs.declared.stop.RowStop.TheVariants as row_stop
+use Rattle.csvw_records.specs.declared.stop.RowStop.{RowStop}
+use Rattle.csvw_records.specs.declared.stop.RowStop.TheVariants as row_stop
 use Rattle.csvw_columns_core.specs.declared.columns.Columns.{Columns}
 use Rattle.csvw_columns.specs.HeaderMatch.{IsMatch}
 use Rattle.csvw_columns.specs.declared.plan.TablePlan.{TablePlan}

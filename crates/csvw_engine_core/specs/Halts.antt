@@ -1,7 +1,7 @@
 -- How faults of the layers are told.
 use Rattle.std.specs.Prelude.{◌≡◌, ℕ}
-use Rattle.csvw_rows.specs.declared.stop.RowStop.{RowStop}
-use Rattle.csvw_rows.specs.declared.stop.RowStop.TheVariants as row_stop
+use Rattle.csvw_records.specs.declared.stop.RowStop.{RowStop}
+use Rattle.csvw_records.specs.declared.stop.RowStop.TheVariants as row_stop
 use Rattle.csvw_columns.specs.declared.table_stop.TableStop.{TableStop}
 use Rattle.csvw_columns.specs.declared.table_stop.TableStop.TheVariants as table_stop
 use Rattle.csvw_triples_core.specs.declared.sink.SinkFault.{SinkFault}

@@ -1,6 +1,6 @@
 -- What is known of a header, and how it goes on.
 use Rattle.std.specs.Prelude.{◌≡◌, ◌<◌, ◌+◌, ℕ, List, [], ◌∷◌, ◌++◌, length, map, Option, Some, None, Result, Ok, Err}
-use Rattle.csvw_rows.specs.RowValue.{Given}
+use Rattle.csvw_records.specs.RowValue.{Given}
 use Rattle.csvw_columns_core.specs.declared.columns.Columns.{Columns}
 use Rattle.csvw_columns.specs.declared.plan.TablePlan.{TablePlan}
 use Rattle.csvw_columns.specs.HeaderMatch.{IsMatch}

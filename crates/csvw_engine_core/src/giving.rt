@@ -1,6 +1,6 @@
 //! How the rows of a table go on to the sink, and their keys to the book of keys.
 ghost use Rattle.std.specs.Prelude.{◌≡◌, ◌++◌, ◌∷◌, [], ℕ, List, Bool, true, false, IfOk, OnOk, Some, None};
-ghost use Rattle.csvw_rows.specs.RowValue.{Given};
+ghost use Rattle.csvw_records.specs.RowValue.{Given};
 ghost use Rattle.csvw_columns.specs.Ready.{IsReady};
 ghost use Rattle.csvw_annotate.specs.declared.row.Row.{Row as TheRow};
 ghost use Rattle.csvw_triples_core.specs.declared.mode.Mode.{Mode as TheMode};

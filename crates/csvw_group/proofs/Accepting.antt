@@ -5,10 +5,10 @@ use Rattle.std.proofs.lemmas.List.{drop-append-le}
 use Rattle.csvw_text.specs.declared.fault.Fault.{Fault}
 use Rattle.csvw_dialect.specs.declared.dialect.Dialect.{Dialect}
 use Rattle.csvw_dialect.specs.Lawful.{IsLawful}
-use Rattle.csvw_rows.specs.Files.{Row as FileRow, File, Body}
-use Rattle.csvw_rows.specs.Laws.{AreFirst, ComeFirst, FilesHaveNoStop, FirstBegin, FirstStay, HaveOneList}
-use Rattle.csvw_rows.specs.RowValue.{Given}
-use Rattle.csvw_rows.specs.declared.stop.RowStop.{RowStop}
+use Rattle.csvw_records.specs.Files.{Row as FileRow, File, Body}
+use Rattle.csvw_records.specs.Laws.{AreFirst, ComeFirst, FilesHaveNoStop, FirstBegin, FirstStay, HaveOneList}
+use Rattle.csvw_records.specs.RowValue.{Given}
+use Rattle.csvw_records.specs.declared.stop.RowStop.{RowStop}
 use Rattle.csvw_columns_core.specs.declared.columns.Columns.{Columns}
 use Rattle.csvw_columns.specs.declared.plan.TablePlan.{TablePlan}
 use Rattle.csvw_columns.specs.declared.table_stop.TableStop.{TableStop}

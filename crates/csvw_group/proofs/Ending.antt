@@ -1,7 +1,7 @@
 -- A table of a session that was ended is an annotated table.
 use Rattle.std.proofs.Common.{◌≡◌, ℕ, Bool, true, false, List, refl, sym, ap, ◌∙◌, subst, inl, inr, Some}
 use Rattle.csvw_dialect.specs.declared.dialect.Dialect.{Dialect}
-use Rattle.csvw_rows.specs.Files.{Row as FileRow, File, Front, IsWhole}
+use Rattle.csvw_records.specs.Files.{Row as FileRow, File, Front, IsWhole}
 use Rattle.csvw_columns.specs.declared.plan.TablePlan.{TablePlan}
 use Rattle.csvw_annotate.specs.declared.row.Row.{Row}
 use Rattle.csvw_triples_core.specs.declared.mode.Mode.{Mode}

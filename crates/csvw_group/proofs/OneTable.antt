@@ -7,9 +7,9 @@ use Rattle.csvw_datatype.specs.Sound.{IsSound}
 use Rattle.csvw_datatype.specs.declared.format.Format.{Format}
 use Rattle.csvw_datatype.specs.declared.simple.Simple.{Simple}
 use Rattle.csvw_datatype.specs.declared.value.Value.{Value}
-use Rattle.csvw_rows.specs.Files.{Row as FileRow, Body}
-use Rattle.csvw_rows.specs.Laws.{HaveOneList}
-use Rattle.csvw_rows.specs.RowValue.{Given}
+use Rattle.csvw_records.specs.Files.{Row as FileRow, Body}
+use Rattle.csvw_records.specs.Laws.{HaveOneList}
+use Rattle.csvw_records.specs.RowValue.{Given}
 use Rattle.csvw_cell.specs.declared.cell.Cell.{Cell}
 use Rattle.csvw_columns_core.specs.declared.column.Column.{Column}
 use Rattle.csvw_columns_core.specs.declared.columns.Columns.{Columns}

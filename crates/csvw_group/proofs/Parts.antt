@@ -7,10 +7,10 @@ use Rattle.std.proofs.Math.Seq.{take-nil}
 use Rattle.std.proofs.lemmas.Option.{slice_get_cases, slice_get_within}
 use Rattle.std.proofs.lemmas.Str.{chars-nil}
 use Rattle.csvw_dialect.specs.declared.dialect.Dialect.{Dialect}
-use Rattle.csvw_rows.specs.Files.{Row as FileRow, AreRows, content, without_mark}
-use Rattle.csvw_rows.specs.Grammar.{terminator_len}
+use Rattle.csvw_records.specs.Files.{Row as FileRow, AreRows, content, without_mark}
+use Rattle.csvw_records.specs.Grammar.{terminator_len}
 use Rattle.csvw_rows.specs.Laws.{NothingGiven}
-use Rattle.csvw_rows.specs.RowValue.{Given}
+use Rattle.csvw_records.specs.RowValue.{Given}
 use Rattle.csvw_rows.specs.RowsState.{HasGiven}
 use Rattle.csvw_columns_core.specs.declared.columns.Columns.{Columns}
 use Rattle.csvw_columns.specs.declared.plan.TablePlan.{TablePlan}

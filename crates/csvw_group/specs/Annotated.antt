@@ -1,7 +1,7 @@
 -- The annotated tables of a group (Model for Tabular Data, sections 4.1 to 4.5 and 8).
 use Rattle.std.specs.Prelude.{◌≡◌, ℕ, List, length, slice_get, Some}
 use Rattle.csvw_text.specs.declared.fault.Fault.{Fault}
-use Rattle.csvw_rows.specs.Files.{Row as FileRow, File, Body}
+use Rattle.csvw_records.specs.Files.{Row as FileRow, File, Body}
 use Rattle.csvw_columns_core.specs.declared.columns.Columns.{Columns}
 use Rattle.csvw_columns.specs.declared.plan.TablePlan.{TablePlan}
 use Rattle.csvw_annotate.specs.declared.row.Row.{Row}

@@ -22,8 +22,9 @@ ghost use Rattle.csvw_group.specs.Stopped.{TookAll, TookBy};
 
 use csvw_datatype::{one_code, one_value, value_or_code};
 use csvw_opening::opening_is_the_graphs;
+use csvw_records::laws::{files_have_no_stop, first_begin, first_stay, have_one_list};
 use csvw_report::laws::sorts_to_one;
-use csvw_rows::laws::{files_have_no_stop, first_begin, first_stay, have_one_list, nothing_given};
+use csvw_rows::laws::nothing_given;
 use csvw_session::laws::texts_grow;
 use csvw_triples::{row_triples_are_row_graph, rows_triples_are_table_graph};
 use csvw_triples_core::TripleSink;

@@ -1,30 +1,28 @@
 -- A row whose fields were cut out of the bytes is a row that is taken.
 use Rattle.std.proofs.Common.{◌≡◌, ◌∙◌, ℕ, ◌+◌, ◌-◌, ◌<◌, ◌≤◌, Bool, true, false, List, ◌++◌, map, length, drop, Some, refl, sym, ap, arith}
-use Rattle.std.proofs.Common.{length-append, length-drop, inl, chars, nat_eq, nat_lt, ◌||◌}
-use Rattle.std.specs.Prelude.{IsUtf8, encode_utf8_all}
+use Rattle.std.proofs.Common.{length-append, length-drop, inl, chars, nat_lt, ◌||◌}
+use Rattle.std.specs.Prelude.{encode_utf8_all}
 use Rattle.std.specs.Str.{is_utf8}
-use Rattle.std.specs.List.{starts_with}
 use Rattle.std.proofs.lemmas.Bool.Decides.{nat_tests}
 use Rattle.std.proofs.lemmas.List.{drop-drop}
 use Rattle.std.proofs.lemmas.Str.{IsUtf8-from_is_utf8, is_utf8-from_IsUtf8, encodes-chars, encodes-append}
 use Rattle.csvw_dialect.specs.declared.dialect.Dialect.{Dialect}
-use Rattle.csvw_rows.specs.declared.bound.Bound.{Bound}
+use Rattle.csvw_fields.specs.declared.bound.Bound.{Bound}
 use Rattle.csvw_dialect.specs.declared.dialect.Trim.TheVariants.{No}
 use Rattle.csvw_rows.specs.declared.rows.Rows.{Rows}
-use Rattle.csvw_rows.specs.Cuts.{IsCutRow, IsRowLen}
-use Rattle.csvw_rows.specs.Files.{is_note, begins_with}
+use Rattle.csvw_fields.specs.Cuts.{IsCutRow, IsRowLen}
+use Rattle.csvw_records.specs.Files.{is_note, begins_with}
 use Rattle.csvw_dialect.specs.Lawful.{prefix_of}
-use Rattle.csvw_rows.specs.Grammar.{terminator_len, trimmed}
+use Rattle.csvw_records.specs.Grammar.{terminator_len, trimmed}
 use Rattle.csvw_dialect.specs.Lawful.{IsLawful}
-use Rattle.csvw_rows.specs.Lengths.{byte_len, row_limit}
+use Rattle.csvw_records.specs.Lengths.{byte_len, row_limit}
 use Rattle.csvw_rows.specs.Nexts.{TakesRow, is_last}
 use Rattle.csvw_rows.specs.RowsState.{HasFields, after_of}
 use Rattle.csvw_rows.specs.SourceState.{text_items, taken_of, rest_of}
-use Rattle.csvw_rows.proofs.Continue.{starts_split, starts_itself}
-use Rattle.csvw_rows.proofs.Notes.{note_same, ends_break, starts_stays}
-use Rattle.csvw_rows.proofs.Ascii.{term_chars, term_text}
-use Rattle.csvw_rows.proofs.Lookahead.{term_within}
-use Rattle.csvw_rows.proofs.Utf8.{drop_past}
+use Rattle.csvw_records.proofs.Notes.{note_same, ends_break}
+use Rattle.csvw_records.proofs.Ascii.{term_chars, term_text}
+use Rattle.csvw_records.proofs.Lookahead.{term_within}
+use Rattle.csvw_records.proofs.Utf8.{drop_past}
 
 module _ (d : Dialect) (text : List ℕ) (start at : ℕ) (spare : List ℕ) (bounds : List Bound) (ut : is_utf8 (drop start text) ≡ true)
     (k : IsCutRow d text start at spare bounds) where
@@ -89,19 +87,6 @@ module _ (d : Dialect) (text : List ℕ) (start at : ℕ) (spare : List ℕ) (bo
 
   pub cut_within : terminator_len d (drop at text) ≤ length (drop at text) → (at - start) + terminator_len d (drop at text) ≤ length (drop start text)
   cut_within h = let f = k.from_start in let w = k.within in omega (arith, h, f, w, length-drop at text, length-drop start text)
-
--- a text that doesn't begin with the bytes of the prefix doesn't begin with its characters
-pub no_prefix : (rest prefix : List ℕ) → IsUtf8 rest → IsUtf8 prefix → starts_with nat_eq rest prefix ≡ false
-    → starts_with nat_eq (chars rest) (chars prefix) ≡ false
-no_prefix rest prefix u v e = by_test (starts_with nat_eq (chars rest) (chars prefix)) refl
-  where
-    by_test : (b : Bool) → starts_with nat_eq (chars rest) (chars prefix) ≡ b → b ≡ false
-    by_test false t = refl
-    by_test true t =
-        let s = starts_split (chars rest) (chars prefix) t in
-        let spelled : rest ≡ prefix ++ encode_utf8_all s.0 =
-        sym (encodes-chars rest u) ∙ ap encode_utf8_all s.1 ∙ encodes-append (chars prefix) s.0 ∙ ap (λ l. l ++ encode_utf8_all s.0) (encodes-chars prefix v) in
-        sym (starts_stays prefix prefix (encode_utf8_all s.0) (starts_itself prefix)) ∙ ap (λ l. starts_with nat_eq l prefix) (sym spelled) ∙ e
 
 pub no_note : (d : Dialect) (i : ℕ) (rest : List ℕ) → d.skip_rows ≤ i → begins_with (chars rest) (prefix_of d) ≡ false → is_note d i (chars rest) ≡ false
 no_note d i rest h e = neither (nat_lt i d.skip_rows) (begins_with (chars rest) (prefix_of d)) low e

@@ -9,22 +9,22 @@ use Rattle.std.proofs.lemmas.List.{drop-drop}
 use Rattle.std.proofs.lemmas.Str.{IsUtf8-from_is_utf8, is_utf8-from_IsUtf8, encodes-chars}
 use Rattle.csvw_dialect.specs.declared.dialect.Dialect.{Dialect}
 use Rattle.csvw_rows.specs.declared.rows.Rows.{Rows}
-use Rattle.csvw_rows.specs.declared.scan.State.TheVariants.{Start}
-use Rattle.csvw_rows.specs.declared.stop.RowStop.TheVariants.{RowTooLong}
-use Rattle.csvw_rows.specs.Files.{is_note}
-use Rattle.csvw_rows.specs.Grammar.{terminator_len, trimmed}
-use Rattle.csvw_rows.specs.Lengths.{byte_len, row_limit}
-use Rattle.csvw_rows.specs.Lines.{IsFound}
-use Rattle.csvw_rows.specs.Looks.{line_of, next_row, found_row}
+use Rattle.csvw_records.specs.declared.scan.State.TheVariants.{Start}
+use Rattle.csvw_records.specs.declared.stop.RowStop.TheVariants.{RowTooLong}
+use Rattle.csvw_records.specs.Files.{is_note}
+use Rattle.csvw_records.specs.Grammar.{terminator_len, trimmed}
+use Rattle.csvw_records.specs.Lengths.{byte_len, row_limit}
+use Rattle.csvw_records.specs.Lines.{IsFound}
+use Rattle.csvw_records.specs.Looks.{line_of, next_row, found_row}
 use Rattle.csvw_rows.specs.Nexts.{StopsHere, is_last}
 use Rattle.csvw_rows.specs.Notes.{NoneBegins}
 use Rattle.csvw_rows.specs.RowsState.{HasRow, HasFields, IsReadable, IsReadRow, IsNoteNext, IsNoteRead, HasNoEnd, after_of}
-use Rattle.csvw_rows.specs.Scan.{pass}
+use Rattle.csvw_records.specs.Scan.{pass}
 use Rattle.csvw_rows.specs.SourceState.{rest_bytes, rest_of}
-use Rattle.csvw_rows.proofs.Ascii.{split_chars, term_chars, term_text}
-use Rattle.csvw_rows.proofs.Continue.{fields_next, take_front}
-use Rattle.csvw_rows.proofs.DraftLemmas.{front_text, term_same, text_gone}
-use Rattle.csvw_rows.proofs.Lookahead.{term_within}
+use Rattle.csvw_records.proofs.Ascii.{split_chars, term_chars, term_text}
+use Rattle.csvw_records.proofs.Continue.{fields_next, take_front}
+use Rattle.csvw_fields.proofs.DraftLemmas.{front_text, term_same, text_gone}
+use Rattle.csvw_records.proofs.Lookahead.{term_within}
 use Rattle.csvw_rows.proofs.NextLemmas.{found_takes, found_stops, seen_of}
 use Rattle.csvw_rows.proofs.NoteLemmas.{ends_text, line_here, line_last, none_before}
 

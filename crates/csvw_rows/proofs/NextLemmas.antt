@@ -1,50 +1,38 @@
 -- What stands at the front, from the line there.
-use Rattle.std.proofs.Common.{◌≡◌, ◌≢◌, ℕ, zero, suc, ◌+◌, ◌<◌, ◌≤◌, Bool, true, false, List, [], ◌∷◌, ◌++◌, length, take, drop, Option, Some, None}
+use Rattle.std.proofs.Common.{◌≡◌, ◌≢◌, ℕ, zero, suc, ◌+◌, ◌<◌, ◌≤◌, Bool, true, false, List, [], ◌∷◌, ◌++◌, length, take, drop, Option, None}
 use Rattle.std.proofs.Common.{refl, sym, ap, ◌∙◌, subst, arith, append_assoc, append-nil, length-append, length-drop, ◌⊎◌, inl, inr, ◌==◌}
-use Rattle.std.proofs.lemmas.Grind.{common_steps}
 use Rattle.std.proofs.lemmas.Bool.Decides.{nat_tests}
 use Rattle.std.proofs.lemmas.Bool.{cases_lt}
 use Rattle.std.proofs.lemmas.List.{take-append-drop, append_cancel_right, drop-drop}
 use Rattle.csvw_dialect.specs.declared.dialect.Dialect.{Dialect}
-use Rattle.csvw_rows.specs.declared.stop.RowStop.{RowStop}
-use Rattle.csvw_rows.specs.declared.stop.RowStop.TheVariants.{Memory, NotUtf8, RowTooLong, BadQuote, TextAfterQuote, UnclosedQuote, TooManyRows}
-use Rattle.csvw_rows.specs.declared.scan.State.TheVariants.{Start}
+use Rattle.csvw_records.specs.declared.stop.RowStop.{RowStop}
+use Rattle.csvw_records.specs.declared.stop.RowStop.TheVariants.{Memory, NotUtf8, RowTooLong, BadQuote, TextAfterQuote, UnclosedQuote, TooManyRows}
+use Rattle.csvw_records.specs.declared.scan.State.TheVariants.{Start}
 use Rattle.csvw_rows.specs.declared.next.After.{After}
 use Rattle.csvw_rows.specs.declared.next.After.TheVariants.{More, Nothing, NoText}
-use Rattle.csvw_rows.specs.Grammar.{terminator_len}
+use Rattle.csvw_records.specs.Grammar.{terminator_len}
 use Rattle.csvw_dialect.specs.Lawful.{IsLawful}
-use Rattle.csvw_rows.specs.Lengths.{byte_len, row_limit}
-use Rattle.csvw_rows.specs.Files.{Row, IsRow, EndsRow, is_note}
-use Rattle.csvw_rows.specs.Scan.{run, finish}
-use Rattle.csvw_rows.specs.Looks.{settled, unsettled, next_row, found_row, terminator_of}
-use Rattle.csvw_rows.specs.Parts.{Continues, Breaks, HasRow, Goes, Ends, NoRow, NoLast, FirstEnd}
-use Rattle.csvw_rows.specs.Stops.{IsBroken, IsNamed}
-use Rattle.csvw_rows.specs.Lines.{IsFound, IsWrong}
+use Rattle.csvw_records.specs.Lengths.{byte_len, row_limit}
+use Rattle.csvw_records.specs.Files.{Row, IsRow, EndsRow}
+use Rattle.csvw_records.specs.Scan.{run}
+use Rattle.csvw_records.specs.Looks.{settled, unsettled, next_row, terminator_of}
+use Rattle.csvw_records.specs.Parts.{Continues, Breaks, HasRow, Goes, Ends, NoRow, NoLast, FirstEnd}
+use Rattle.csvw_records.specs.Stops.{IsBroken, IsNamed}
+use Rattle.csvw_records.specs.Lines.{IsFound, IsWrong}
 use Rattle.csvw_rows.specs.Nexts.{TakesRow, StopsHere, StopGives, is_last}
-use Rattle.csvw_rows.proofs.Joins.{goes_on}
-use Rattle.csvw_rows.proofs.Notes.{note_never}
-use Rattle.csvw_rows.proofs.RowLaws.{row_sound, row_complete, row_unique}
-use Rattle.csvw_rows.proofs.Broken.{run_tells, Tells, IsRule}
-use Rattle.csvw_rows.proofs.Continue.{fields_next, term_some}
-use Rattle.csvw_rows.proofs.Sees.{sees, run_on, Sees}
-use Rattle.csvw_rows.proofs.Lookahead.{row_stays, term_stays}
-use Rattle.csvw_rows.proofs.Texts.{byte_len_take, byte_len_less, same_front, breaks_none, decide_part, not_both, first_end}
-use Rattle.csvw_rows.proofs.LineLemmas.{run_whole}
-use Rattle.csvw_rows.proofs.Complete.{nothing_ends}
+use Rattle.csvw_records.proofs.Joins.{goes_on}
+use Rattle.csvw_records.proofs.RowLaws.{row_sound, row_complete, row_unique}
+use Rattle.csvw_records.proofs.Broken.{run_tells, Tells, IsRule}
+use Rattle.csvw_records.proofs.Continue.{term_some}
+use Rattle.csvw_records.proofs.Sees.{sees, Sees}
+use Rattle.csvw_records.proofs.Lookahead.{row_stays, term_stays}
+use Rattle.csvw_records.proofs.GoingOn.{take_all, breaks_next, last_goes}
+use Rattle.csvw_records.proofs.Texts.{byte_len_take, byte_len_less, same_front, breaks_none, decide_part, not_both, first_end}
+use Rattle.csvw_records.proofs.LineLemmas.{run_whole}
+use Rattle.csvw_records.proofs.Complete.{nothing_ends}
 
 cases_le : (a b : ℕ) → (a ≤ b) ⊎ (b < a)
 cases_le a b = elim (cases_lt b a) [ inl h ↦ inr h | inr h ↦ inl h ]
-
-take_all : (n : ℕ) (l : List ℕ) → length l ≤ n → take n l ≡ l
-take_all n l h = grind (arith, common_steps)
-
--- a rule that is broken in a front leaves no row in the text
-breaks_next : (f : Bool) (d : Dialect) (i : ℕ) (text : List ℕ) (k : ℕ) (stop : RowStop) → Breaks d i (take k text) stop → next_row f d i text ≡ None
-breaks_next f d i text k stop b =
-    let note = ap (is_note d i) (sym (take-append-drop k text)) ∙ note_never d i (take k text) (drop k text) b.no_note b.may_not in
-    let passed = ap (run d Start [] []) (sym (take-append-drop k text)) ∙ run_on d (take k text) (drop k text)
-    ∙ ap (λ o. goes_on d o (unsettled d (take k text) ++ drop k text)) b.broken in
-    fields_next f d i text note ∙ ap (λ o. found_row d (finish o f)) passed
 
 -- which rule
 breaks_named : (d : Dialect) (i : ℕ) (part : List ℕ) (stop : RowStop) → Breaks d i part stop → IsBroken d i part false stop
@@ -346,24 +334,6 @@ module _ (whole : Bool) (d : Dialect) (max i : ℕ) (text : List ℕ) (len : ℕ
       by_end : Goes d max i text ⊎ Ends d max i (take (length text) text) → InText ⊎ ((whole ≡ true) × Goes d max i text × IsNamed d max i text true RowTooLong)
       by_end (inl goes) = let r = by_stands goes g.stands in inr (r.0, goes, r.1)
       by_end (inr e) = inl (long_text none breaks e)
-
--- a last row that isn't too long goes on to one with its terminator
-pub last_goes : (d : Dialect) (max i : ℕ) (row : Row) → IsLawful d → i < max → IsRow d i row [] → byte_len row.text ≤ row_limit → Goes d max i row.text
-last_goes d max i row w few is_row fits = by_seen (sees d i row.text w)
-  where
-    found : next_row true d i row.text ≡ Some (row.fields, [])
-    found = ap (next_row true d i) (sym (append-nil row.text)) ∙ row_complete true d i row [] w is_row (inr (refl, refl))
-
-    by_seen : Sees d i row.text → Goes d max i row.text
-    by_seen (inl r) =
-        let same = row_unique true d i r.row row r.after [] w (sym r.spelled ∙ sym (append-nil row.text)) r.is_row (inl r.ends) is_row (inr (refl, refl)) in
-        absurd (nothing_ends d (let P : List ℕ → Type 0 = λ x. 0 < terminator_len d x in subst P same.rest r.ends))
-    by_seen (inr (inl (n, c))) =
-        let k = byte_len_take n row.text in
-        inr (few, record { row = c.row; more = c.more; spelled = c.spelled; is_row = c.is_row; short = omega (arith, k, fits, ap byte_len c.fits) })
-    by_seen (inr (inr (stop, b))) =
-        let whole = take_all (length row.text) row.text (omega arith) in
-        let z = sym (breaks_next true d i row.text (length row.text) stop (subst (λ l. Breaks d i l stop) (sym whole) b)) ∙ found in cc
 
 -- a row that is taken
 pub found_takes : (whole : Bool) (d : Dialect) (max i : ℕ) (text behind : List ℕ) (len t : ℕ) (fields : Option (List (List ℕ))) → IsLawful d → i < max

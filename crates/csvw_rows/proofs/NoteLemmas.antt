@@ -1,31 +1,28 @@
 -- A line among the bytes and among the characters.
 use Rattle.std.proofs.Common.{◌≡◌, ◌∙◌, ℕ, suc, ◌<◌, ◌≤◌, if◌then◌else◌, Bool, false, true, List, [], ◌∷◌, ◌++◌, length, take, drop, get_or, Option}
 use Rattle.std.proofs.Common.{Some, None, refl, sym, ap, subst, arith, append_assoc, append-nil, length-append, drop-cons, ◌⊎◌, inl, inr, chars}
-use Rattle.std.proofs.Common.{nat_lt, nat_eq}
+use Rattle.std.proofs.Common.{nat_lt}
 use Rattle.std.specs.Prelude.{IsUtf8, encode_utf8_all}
-use Rattle.std.specs.List.{starts_with}
 use Rattle.std.specs.Str.{is_utf8}
 use Rattle.std.specs.Char.{len_utf8}
 use Rattle.std.proofs.lemmas.Bool.{cases_lt}
 use Rattle.std.proofs.lemmas.Bool.Decides.{nat_tests}
 use Rattle.std.proofs.lemmas.Grind.{common_steps}
 use Rattle.std.proofs.lemmas.List.{take-append-drop}
-use Rattle.std.proofs.lemmas.Str.{is_utf8-from_IsUtf8, IsUtf8-drop, IsCharBoundary-before_ascii, chars-append, chars-nil, encodes-chars, encodes-append}
+use Rattle.std.proofs.lemmas.Str.{is_utf8-from_IsUtf8, IsUtf8-drop, IsCharBoundary-before_ascii, chars-nil, encodes-chars, encodes-append}
 use Rattle.csvw_dialect.specs.declared.dialect.Dialect.{Dialect}
-use Rattle.csvw_rows.specs.Grammar.{terminator_len}
-use Rattle.csvw_rows.specs.Lengths.{byte_len}
-use Rattle.csvw_rows.specs.Looks.{settled, unsettled, line_of}
+use Rattle.csvw_records.specs.Grammar.{terminator_len}
+use Rattle.csvw_records.specs.Lengths.{byte_len}
+use Rattle.csvw_records.specs.Looks.{settled, unsettled, line_of}
 use Rattle.csvw_rows.specs.Notes.{NoneBegins, IsNoted}
-use Rattle.csvw_rows.proofs.Ascii.{split_chars}
-use Rattle.csvw_rows.proofs.ByteLens.{byte_len_past}
-use Rattle.csvw_rows.proofs.Continue.{clear_all}
-use Rattle.csvw_rows.proofs.CutTakes.{no_prefix}
-use Rattle.csvw_rows.proofs.Continue.{starts_split, starts_itself}
-use Rattle.csvw_rows.proofs.DraftLemmas.{front_text, term_codes, text_gone}
-use Rattle.csvw_rows.proofs.DraftRuns.{clear_at, drop_more}
-use Rattle.csvw_rows.proofs.Joins.{settled_all, settled_clear, line_joins}
-use Rattle.csvw_rows.proofs.Notes.{starts_stays, is_break, BeginsBreak, terminator_breaks}
-use Rattle.csvw_rows.proofs.RowLaws.{line_complete}
+use Rattle.csvw_records.proofs.Ascii.{split_chars}
+use Rattle.csvw_records.proofs.ByteLens.{byte_len_past}
+use Rattle.csvw_records.proofs.Continue.{clear_all}
+use Rattle.csvw_fields.proofs.DraftLemmas.{front_text, term_codes, text_gone}
+use Rattle.csvw_fields.proofs.DraftRuns.{clear_at, drop_more}
+use Rattle.csvw_records.proofs.Joins.{settled_all, settled_clear, line_joins}
+use Rattle.csvw_records.proofs.Notes.{is_break, BeginsBreak, terminator_breaks}
+use Rattle.csvw_records.proofs.RowLaws.{line_complete}
 
 -- a place among the characters is one among the bytes
 front_past : (cs : List ℕ) (k : ℕ) → drop (length (encode_utf8_all (take k cs))) (encode_utf8_all cs) ≡ encode_utf8_all (drop k cs)
@@ -155,14 +152,3 @@ none_before d rest n to i none k h l = by_place (cases_lt k n)
 -- more bytes come
 pub noted_grows : (d : Dialect) (n : ℕ) (rest more : List ℕ) → IsNoted d n rest → IsNoted d n (rest ++ more)
 noted_grows d n rest more i after = λ k h l. ap (λ x. terminator_len d (drop k x)) (append_assoc rest more after) ∙ i (more ++ after) k h l
-
--- a text begins with the bytes of the prefix where it begins with its characters
-pub same_start : (rest prefix : List ℕ) → IsUtf8 rest → IsUtf8 prefix → starts_with nat_eq rest prefix ≡ starts_with nat_eq (chars rest) (chars prefix)
-same_start rest prefix u v = by_test (starts_with nat_eq rest prefix) refl
-  where
-    by_test : (b : Bool) → starts_with nat_eq rest prefix ≡ b → b ≡ starts_with nat_eq (chars rest) (chars prefix)
-    by_test false e = sym (no_prefix rest prefix u v e)
-    by_test true e =
-        let s = starts_split rest prefix e in
-        sym (ap (λ l. starts_with nat_eq l (chars prefix)) (ap chars s.1 ∙ chars-append prefix s.0 v)
-        ∙ starts_stays (chars prefix) (chars prefix) (chars s.0) (starts_itself (chars prefix)))

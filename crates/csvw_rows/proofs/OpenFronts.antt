@@ -5,30 +5,30 @@ use Rattle.std.specs.Str.{is_utf8}
 use Rattle.std.proofs.lemmas.Grind.{common_steps}
 use Rattle.std.proofs.lemmas.Str.{IsUtf8-from_is_utf8, encodes-chars}
 use Rattle.csvw_dialect.specs.declared.dialect.Dialect.{Dialect}
-use Rattle.csvw_rows.specs.declared.draft.Draft.{Draft}
+use Rattle.csvw_fields.specs.declared.draft.Draft.{Draft}
 use Rattle.csvw_rows.specs.declared.rows.Rows.{Rows}
-use Rattle.csvw_rows.specs.declared.scan.State.TheVariants.{Start}
-use Rattle.csvw_rows.specs.declared.stop.RowStop.{RowStop}
-use Rattle.csvw_rows.specs.declared.stop.RowStop.TheVariants.{RowTooLong}
-use Rattle.csvw_rows.specs.Drafts.{read_of, state_of, values_of, current_of, IsOpen, IsBrokenThere, IsLeftInQuotes}
-use Rattle.csvw_rows.specs.Files.{is_note}
-use Rattle.csvw_rows.specs.Lengths.{byte_len, row_limit}
-use Rattle.csvw_rows.specs.Lines.{IsWrong, IsShownLen}
-use Rattle.csvw_rows.specs.Looks.{settled, unsettled, may_be_note}
+use Rattle.csvw_records.specs.declared.scan.State.TheVariants.{Start}
+use Rattle.csvw_records.specs.declared.stop.RowStop.{RowStop}
+use Rattle.csvw_records.specs.declared.stop.RowStop.TheVariants.{RowTooLong}
+use Rattle.csvw_fields.specs.Drafts.{read_of, state_of, values_of, current_of, IsOpen, IsBrokenThere, IsLeftInQuotes}
+use Rattle.csvw_records.specs.Files.{is_note}
+use Rattle.csvw_records.specs.Lengths.{byte_len, row_limit}
+use Rattle.csvw_records.specs.Lines.{IsWrong, IsShownLen}
+use Rattle.csvw_records.specs.Looks.{settled, unsettled, may_be_note}
 use Rattle.csvw_rows.specs.Nexts.{StopsHere, StopGives, is_last}
 use Rattle.csvw_rows.specs.RowsState.{IsReadable, IsWrongRow, WaitsThere, IsOpenFront, IsNoteNext, HasNoEnd, IsSettledLen, sure_of, after_of}
-use Rattle.csvw_rows.specs.Scan.{Broken, Unfinished, run, is_quoted}
+use Rattle.csvw_records.specs.Scan.{Broken, Unfinished, run, is_quoted}
 use Rattle.csvw_rows.specs.SourceState.{rest_bytes, rest_of}
-use Rattle.csvw_rows.proofs.Ascii.{split_chars}
-use Rattle.csvw_rows.proofs.Continue.{continues_note, continues_maybe, take_front}
-use Rattle.csvw_rows.proofs.DraftLemmas.{front_text, text_gone}
-use Rattle.csvw_rows.proofs.Joins.{settled_all}
-use Rattle.csvw_rows.proofs.LineLemmas.{broken_within}
+use Rattle.csvw_records.proofs.Ascii.{split_chars}
+use Rattle.csvw_records.proofs.Continue.{continues_note, continues_maybe, take_front}
+use Rattle.csvw_fields.proofs.DraftLemmas.{front_text, text_gone}
+use Rattle.csvw_records.proofs.Joins.{settled_all}
+use Rattle.csvw_records.proofs.LineLemmas.{broken_within}
 use Rattle.csvw_rows.proofs.NextLemmas.{open_waits, open_stops, nothing_complete, not_nothing, wrong_gives, wrong_long}
 use Rattle.csvw_rows.proofs.NoteLemmas.{line_open}
 use Rattle.csvw_rows.proofs.ShownBytes.{shown_whole}
-use Rattle.csvw_rows.proofs.Sees.{continues_quoted, continues_unquoted}
-use Rattle.csvw_rows.proofs.Shown.{wrong_whole, wrong_part, left_open}
+use Rattle.csvw_records.proofs.Sees.{continues_quoted, continues_unquoted}
+use Rattle.csvw_records.proofs.Shown.{wrong_whole, wrong_part, left_open}
 
 pub may_both : (last may : Bool) → (not last && may) ≡ true → (last ≡ false) × (may ≡ true)
 may_both false may e = (refl, e)

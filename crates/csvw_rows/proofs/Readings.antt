@@ -1,22 +1,23 @@
 -- What a reader's next step says of all bytes so far.
 use Rattle.std.proofs.Common.{◌≡◌, ℕ, ◌+◌, ◌<◌, ◌≤◌, Bool, true, false, List, [], ◌∷◌, ◌++◌, length, take, drop, Option, Some, None, refl, sym, ap}
-use Rattle.std.proofs.Common.{◌∙◌, subst, arith, length-append, ◌⊎◌, inl, inr, IsTrue, zero-add}
+use Rattle.std.proofs.Common.{◌∙◌, subst, arith, length-append, ◌⊎◌, inl, inr, zero-add}
 use Rattle.std.specs.Prelude.{is_some, IsSome}
 use Rattle.std.specs.Str.Lossy.{utf8_valid_len, utf8_error_len}
 use Rattle.std.proofs.lemmas.List.Elements.{All-push}
 use Rattle.csvw_dialect.specs.declared.dialect.Dialect.{Dialect}
-use Rattle.csvw_rows.specs.declared.stop.RowStop.{RowStop}
-use Rattle.csvw_rows.specs.declared.stop.RowStop.TheVariants.{NotUtf8}
-use Rattle.csvw_rows.specs.Grammar.{terminator_len}
+use Rattle.csvw_records.specs.declared.stop.RowStop.{RowStop}
+use Rattle.csvw_records.specs.declared.stop.RowStop.TheVariants.{NotUtf8}
+use Rattle.csvw_records.specs.Grammar.{terminator_len}
 use Rattle.csvw_dialect.specs.Lawful.{IsLawful}
-use Rattle.csvw_rows.specs.Files.{Row, IsRow, AreRows, AreAllRows, EndsOpen, KeepsLimits, File, IsWhole, Front, content, is_text}
-use Rattle.csvw_rows.specs.Parts.{Goes, NoRow, FirstEnd}
-use Rattle.csvw_rows.specs.Stops.{Begins, StopOf, StopsInText, StopsInBytes, StopsAtEnd, IsNamed}
+use Rattle.csvw_records.specs.Files.{Row, IsRow, AreRows, AreAllRows, EndsOpen, KeepsLimits, File, IsWhole, Front, content, is_text}
+use Rattle.csvw_records.specs.Parts.{Goes, NoRow, FirstEnd}
+use Rattle.csvw_records.specs.Stops.{Begins, StopOf, StopsInText, StopsInBytes, StopsAtEnd, IsNamed}
 use Rattle.csvw_rows.specs.Nexts.{TakesRow, StandsThere, StopsHere}
 use Rattle.csvw_rows.specs.RowsState.{HasRead}
-use Rattle.csvw_rows.proofs.Texts.{IsShort}
-use Rattle.csvw_rows.proofs.Lookahead.{Again, rows_again}
-use Rattle.csvw_rows.proofs.Stands.{goes_begins, begins_front, stops_at, rows_before, are_longest, not_all}
+use Rattle.csvw_records.proofs.Texts.{IsShort}
+use Rattle.csvw_records.proofs.Lookahead.{Again, rows_again}
+use Rattle.csvw_records.proofs.Stands.{stops_at, rows_before, are_longest, not_all}
+use Rattle.csvw_records.proofs.GoingOn.{goes_on_begins, no_stop}
 
 -- a row at the end of rows
 rows_snoc : (d : Dialect) (i : ℕ) (text : List ℕ) (xs : List Row) (rest after : List ℕ) (row : Row) → AreRows d i text xs rest → rest ≡ row.text ++ after
@@ -37,13 +38,6 @@ rows_snoc d i text (x ∷ xs) rest after row (later, e', r, h, rows) e is_row en
       rows_snoc d (i + 1) (drop (terminator_len d later) later) xs rest after row rows e
           (subst (λ (n : ℕ). IsRow d n row after) place is_row) ends,
     )
-
--- the content begins a file where what is left goes on
-pub goes_on_begins : (d : Dialect) (max : ℕ) (text : List ℕ) (rows : List Row) (rest : List ℕ) → IsLawful d → AreRows d 0 text rows rest
-    → KeepsLimits max rows → Goes d max (length rows) rest → Begins d max text
-goes_on_begins d max text rows rest w are k g =
-    let a = rows_again d 0 text rows rest are in
-    subst (Begins d max) (sym a.spelled) (goes_begins d max text rows rest rest w a k g)
 
 -- one row more
 pub takes_reads : (d : Dialect) (max : ℕ) (bytes : List ℕ) (ended whole : Bool) (rest : List ℕ) (rows : List Row) (len i : ℕ)
@@ -95,24 +89,6 @@ pub record Done (d : Dialect) (max : ℕ) (bytes : List ℕ) (ended : Bool) (row
   pub is_front : Front d max bytes ended rows
   pub none : (stop : RowStop) (row : ℕ) → StopOf d max bytes ended stop row → ⊥
   pub whole : ended ≡ true → IsWhole d max bytes
-
-not_some : (o : Option ℕ) → is_some o ≡ false → IsSome o → ⊥
-not_some None e s = absurd cc
-not_some (Some x) e s = cc
-
-pub no_stop : (d : Dialect) (max : ℕ) (bytes : List ℕ) (ended : Bool) → Begins d max (content bytes)
-    → (is_text bytes ≡ false → (ended ≡ false) × (is_some (utf8_error_len (drop (utf8_valid_len bytes) bytes)) ≡ false))
-    → (ended ≡ true → IsWhole d max bytes) → (stop : RowStop) (row : ℕ) → StopOf d max bytes ended stop row → ⊥
-no_stop d max bytes ended b text file stop row s = by_place s.stands
-  where
-    by_place : StopsInText d max bytes s.front stop ⊎ (StopsInBytes d max bytes ended stop ⊎ StopsAtEnd d max bytes ended s.front stop) → ⊥
-    by_place (inl t) = t.stops.none (begins_front d max (content bytes) t.n b)
-    by_place (inr (inl t)) = by_bad t.is_bad
-      where
-        by_bad : IsTrue ended ⊎ IsSome (utf8_error_len (drop (utf8_valid_len bytes) bytes)) → ⊥
-        by_bad (inl e) = let z = sym e ∙ (text t.no_text).0 in absurd cc
-        by_bad (inr e) = not_some (utf8_error_len (drop (utf8_valid_len bytes) bytes)) (text t.no_text).1 e
-    by_place (inr (inr t)) = t.no_file (file t.is_ended).0 (file t.is_ended).1
 
 pub waits_done : (d : Dialect) (max : ℕ) (bytes : List ℕ) (ended : Bool) (rest : List ℕ) (rows : List Row) → IsLawful d → HasRead d max bytes ended rest rows
     → Goes d max (length rows) rest → NoRow d max (length rows) rest → (ended ≡ true → (is_text bytes ≡ true) × (rest ≡ []))

@@ -1,7 +1,7 @@
 -- A reader whose fields were filled anew.
 use Rattle.std.proofs.Common.{◌≡◌, ◌∙◌, ℕ, ◌<◌, ◌≤◌, length, Result, Ok, Err, refl, sym, ap, subst, arith, length-drop}
 use Rattle.csvw_rows.specs.declared.rows.Rows.{Rows}
-use Rattle.csvw_rows.specs.declared.stop.RowStop.{RowStop}
+use Rattle.csvw_records.specs.declared.stop.RowStop.{RowStop}
 use Rattle.csvw_rows.specs.declared.next.Turn.{Turn}
 use Rattle.csvw_rows.specs.declared.next.Turn.TheVariants as turn
 use Rattle.csvw_rows.specs.Nexts.{Waits, StopGives}

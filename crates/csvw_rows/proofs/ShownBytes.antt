@@ -10,10 +10,10 @@ use Rattle.std.proofs.lemmas.List.{take-append-drop, append_cancel_right}
 use Rattle.std.proofs.lemmas.Str.{encodes-chars, length-le-encodes}
 use Rattle.csvw_dialect.specs.declared.dialect.Dialect.{Dialect}
 use Rattle.csvw_dialect.specs.Lawful.{prefix_of}
-use Rattle.csvw_rows.specs.Lengths.{byte_len}
-use Rattle.csvw_rows.specs.Lines.{IsPrefixLen, IsCr, IsShownAt, IsShown, IsShownLen}
-use Rattle.csvw_rows.proofs.Ascii.{split_chars}
-use Rattle.csvw_rows.proofs.DraftLemmas.{front_text, no_chars}
+use Rattle.csvw_records.specs.Lengths.{byte_len}
+use Rattle.csvw_records.specs.Lines.{IsPrefixLen, IsCr, IsShownAt, IsShown, IsShownLen}
+use Rattle.csvw_records.proofs.Ascii.{split_chars}
+use Rattle.csvw_fields.proofs.DraftLemmas.{front_text, no_chars}
 
 get_at : (a b : List ℕ) → get_or (a ++ b) (length a) 0 ≡ get_or b 0 0
 get_at [] b = refl

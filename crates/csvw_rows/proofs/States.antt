@@ -10,25 +10,26 @@ use Rattle.std.proofs.lemmas.List.Elements.{All-nil}
 use Rattle.csvw_dialect.specs.declared.dialect.Dialect.{Dialect}
 use Rattle.csvw_rows.specs.declared.rows.Rows.{Rows}
 use Rattle.csvw_rows.specs.declared.source.Source.{Source}
-use Rattle.csvw_rows.specs.declared.stop.RowStop.{RowStop}
-use Rattle.csvw_rows.specs.declared.stop.RowStop.TheVariants.{Memory, NotUtf8, RowTooLong, BadQuote, TextAfterQuote, UnclosedQuote, TooManyRows}
+use Rattle.csvw_records.specs.declared.stop.RowStop.{RowStop}
+use Rattle.csvw_records.specs.declared.stop.RowStop.TheVariants.{Memory, NotUtf8, RowTooLong, BadQuote, TextAfterQuote, UnclosedQuote, TooManyRows}
 use Rattle.csvw_rows.specs.declared.next.After.TheVariants.{More, Nothing, NoText}
 use Rattle.csvw_dialect.specs.Lawful.{IsLawful}
-use Rattle.csvw_rows.specs.Files.{Row, Front, AreRows, EndsOpen, IsWhole, content, is_text, Body, remaining, remaining_fields, without_mark, is_empty}
-use Rattle.csvw_rows.specs.Files.{given as given_row}
-use Rattle.csvw_rows.specs.RowValue.{Given}
-use Rattle.csvw_rows.specs.Parts.{Goes, NoRow}
-use Rattle.csvw_rows.specs.Stops.{StopOf, Begins}
+use Rattle.csvw_records.specs.Files.{Row, Front, AreRows, EndsOpen, IsWhole, content, is_text, Body, remaining, remaining_fields, without_mark, is_empty}
+use Rattle.csvw_records.specs.Files.{given as given_row}
+use Rattle.csvw_records.specs.RowValue.{Given}
+use Rattle.csvw_records.specs.Parts.{Goes, NoRow}
+use Rattle.csvw_records.specs.Stops.{StopOf, Begins}
 use Rattle.csvw_rows.specs.Nexts.{is_last, StandsThere, TakesRow, StopsHere, StopGives, Waits}
 use Rattle.csvw_rows.specs.SourceState.{Decodes, rest_of, is_bad_of, pending_of, begun_of, Pushes}
 use Rattle.csvw_rows.specs.RowsState.{fields_of, Holds, HasRead, HasGiven, NoStop, Stays, IsDone, IsReading, IsStopped, Passes, after_of, reading_of}
 use Rattle.csvw_rows.specs.RowsState.{last_of, Gives as RowGives}
-use Rattle.csvw_rows.specs.Grammar.{trimmed}
-use Rattle.csvw_rows.proofs.Bodies.{none_given, one_given, texts_of, some_remain}
-use Rattle.csvw_rows.proofs.Texts.{IsShort}
-use Rattle.csvw_rows.proofs.Lookahead.{rows_again}
+use Rattle.csvw_records.specs.Grammar.{trimmed}
+use Rattle.csvw_records.proofs.Bodies.{none_given, one_given, texts_of, some_remain}
+use Rattle.csvw_records.proofs.Texts.{IsShort}
+use Rattle.csvw_records.proofs.Lookahead.{rows_again}
 use Rattle.csvw_rows.proofs.Readings.{takes_reads, waits_done, here_stopped, bytes_stopped, Done, Stopped}
-use Rattle.csvw_rows.proofs.Utf8.{new_decodes, text_none, is_text_of, no_text_of, text_ends}
+use Rattle.csvw_rows.proofs.Sources.{new_decodes}
+use Rattle.csvw_records.proofs.Utf8.{text_none, is_text_of, no_text_of, text_ends}
 
 decodes_same : (s t : Source) (bytes : List ℕ) → begun_of t ≡ begun_of s → pending_of t ≡ pending_of s → is_bad_of t ≡ is_bad_of s → Decodes s bytes
     → Decodes t bytes

@@ -1,15 +1,15 @@
 -- What stands at the front, behind so many rows.
 use Rattle.std.specs.Prelude.{◌≡◌, ◌≢◌, ◌⊎◌, ℕ, ◌<◌, ◌≤◌, Bool, true, false, List, [], ◌++◌, length, take, drop, Option}
 use Rattle.csvw_dialect.specs.declared.dialect.Dialect.{Dialect}
-use Rattle.csvw_rows.specs.declared.stop.RowStop.{RowStop}
-use Rattle.csvw_rows.specs.declared.stop.RowStop.TheVariants.{Memory, NotUtf8, RowTooLong, BadQuote, TextAfterQuote, UnclosedQuote, TooManyRows}
+use Rattle.csvw_records.specs.declared.stop.RowStop.{RowStop}
+use Rattle.csvw_records.specs.declared.stop.RowStop.TheVariants.{Memory, NotUtf8, RowTooLong, BadQuote, TextAfterQuote, UnclosedQuote, TooManyRows}
 use Rattle.csvw_rows.specs.declared.next.After.{After}
 use Rattle.csvw_rows.specs.declared.next.After.TheVariants.{More, Nothing, NoText}
-use Rattle.csvw_rows.specs.Grammar.{terminator_len}
-use Rattle.csvw_rows.specs.Files.{Row, IsRow}
-use Rattle.csvw_rows.specs.Lengths.{byte_len, row_limit}
-use Rattle.csvw_rows.specs.Parts.{Goes, NoRow, NoLast, FirstEnd}
-use Rattle.csvw_rows.specs.Stops.{IsNamed}
+use Rattle.csvw_records.specs.Grammar.{terminator_len}
+use Rattle.csvw_records.specs.Files.{Row, IsRow}
+use Rattle.csvw_records.specs.Lengths.{byte_len, row_limit}
+use Rattle.csvw_records.specs.Parts.{Goes, NoRow, NoLast, FirstEnd}
+use Rattle.csvw_records.specs.Stops.{IsNamed}
 
 -- whether the text has ended, all of it being characters
 abbrev pub is_last : After → Bool

@@ -1,7 +1,7 @@
 -- The front of a skipped row or a comment that was read.
 use Rattle.std.specs.Prelude.{◌≡◌, ℕ, ◌<◌, ◌≤◌, List, ◌++◌, length, drop, Option, Some, None}
 use Rattle.csvw_dialect.specs.declared.dialect.Dialect.{Dialect}
-use Rattle.csvw_rows.specs.Grammar.{terminator_len}
+use Rattle.csvw_records.specs.Grammar.{terminator_len}
 
 -- no terminator begins at these places
 abbrev pub NoneBegins : Dialect → List ℕ → ℕ → ℕ → Type 0

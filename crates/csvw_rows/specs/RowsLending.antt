@@ -3,7 +3,7 @@ use Rattle.std.specs.Prelude.{◌≡◌, ◌<◌, ⊤, Option, Result, Ok, Err, 
 use Rattle.std.specs.Borrow.{follows_so, MutBor, Fml}
 use Rattle.csvw_rows.specs.declared.rows.Rows.{Rows}
 use Rattle.csvw_rows.specs.declared.raw_row.RawRow.{RawRow}
-use Rattle.csvw_rows.specs.declared.stop.RowStop.{RowStop}
+use Rattle.csvw_records.specs.declared.stop.RowStop.{RowStop}
 use Rattle.csvw_rows.specs.contracts.rows.Rows.{the_row}
 use Rattle.csvw_rows.specs.RowValue.{row_of}
 use Rattle.csvw_rows.specs.RowsState.{is_ended_of, unread, reading_of, Stays, Gives, IsDone, IsReading, IsStopped, stop_of}

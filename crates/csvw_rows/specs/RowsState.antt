@@ -3,29 +3,29 @@ use Rattle.std.specs.Prelude.{◌≡◌, ◌≢◌, ◌⊎◌, ℕ, ◌+◌, ◌
 use Rattle.std.specs.Prelude.{take, drop, length, map, chars, encode_utf8_all, Option, Some, None, Result, Ok, Err}
 use Rattle.csvw_dialect.specs.declared.dialect.Dialect.{Dialect}
 use Rattle.csvw_rows.specs.declared.rows.Rows.{Rows}
-use Rattle.csvw_rows.specs.declared.stop.RowStop.{RowStop}
-use Rattle.csvw_rows.specs.declared.stop.RowStop.TheVariants.{Memory}
+use Rattle.csvw_records.specs.declared.stop.RowStop.{RowStop}
+use Rattle.csvw_records.specs.declared.stop.RowStop.TheVariants.{Memory}
 use Rattle.csvw_rows.specs.declared.next.After.{After}
 use Rattle.csvw_rows.specs.declared.next.After.TheVariants.{More, Nothing, NoText}
 use Rattle.csvw_rows.specs.declared.next.Turn.{Turn}
 use Rattle.csvw_rows.specs.declared.next.Turn.TheVariants as turn
-use Rattle.csvw_rows.specs.Bounds.{fields_at}
-use Rattle.csvw_rows.specs.Files.{is_note, Row, AreRows, EndsOpen, KeepsLimits, IsWhole, Front, Body, content, is_text, remaining}
-use Rattle.csvw_rows.specs.RowValue.{Given}
+use Rattle.csvw_fields.specs.Bounds.{fields_at}
+use Rattle.csvw_records.specs.Files.{is_note, Row, AreRows, EndsOpen, KeepsLimits, IsWhole, Front, Body, content, is_text, remaining}
+use Rattle.csvw_records.specs.RowValue.{Given}
 use Rattle.csvw_rows.specs.SourceState.{text_items, rest_bytes, rest_of, is_bad_of, pending_of, begun_of, Decodes}
-use Rattle.csvw_rows.specs.Grammar.{trimmed}
-use Rattle.csvw_rows.specs.Looks.{settled, line_of, may_be_note}
+use Rattle.csvw_records.specs.Grammar.{trimmed}
+use Rattle.csvw_records.specs.Looks.{settled, line_of, may_be_note}
 use Rattle.csvw_rows.specs.Notes.{NoneBegins}
 use Rattle.csvw_rows.specs.Nexts.{Waits, StopGives, TakesRow, is_last}
-use Rattle.csvw_rows.specs.Lengths.{byte_len}
-use Rattle.csvw_rows.specs.Lines.{IsWrong}
-use Rattle.csvw_rows.specs.Parts.{Continues, Goes, NoRow}
-use Rattle.csvw_rows.specs.Scan.{Found, pass, is_quoted}
-use Rattle.csvw_rows.specs.Drafts.{read_of, state_of}
+use Rattle.csvw_records.specs.Lengths.{byte_len}
+use Rattle.csvw_records.specs.Lines.{IsWrong}
+use Rattle.csvw_records.specs.Parts.{Continues, Goes, NoRow}
+use Rattle.csvw_records.specs.Scan.{Found, pass, is_quoted}
+use Rattle.csvw_fields.specs.Drafts.{read_of, state_of}
 use Rattle.csvw_rows.specs.declared.next.Known.{Known}
 use Rattle.csvw_rows.specs.declared.next.Known.TheVariants as known
-use Rattle.csvw_rows.specs.declared.scan.State.TheVariants.{Start}
-use Rattle.csvw_rows.specs.Stops.{Begins, StopOf}
+use Rattle.csvw_records.specs.declared.scan.State.TheVariants.{Start}
+use Rattle.csvw_records.specs.Stops.{Begins, StopOf}
 use Rattle.std.specs.Str.{is_utf8}
 
 -- whether the text has ended

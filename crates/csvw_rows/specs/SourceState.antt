@@ -2,7 +2,7 @@
 use Rattle.std.specs.Prelude.{◌≡◌, ℕ, Bool, not, List, ◌++◌, drop, is_some, chars}
 use Rattle.std.specs.Str.Lossy.{utf8_valid_len, utf8_error_len}
 use Rattle.csvw_rows.specs.declared.source.Source.{Source}
-use Rattle.csvw_rows.specs.Files.{text_of, content, is_empty}
+use Rattle.csvw_records.specs.Files.{text_of, content, is_empty}
 
 -- the bytes that it keeps
 abbrev pub text_items : Source → List ℕ

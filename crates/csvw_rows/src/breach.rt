@@ -1,11 +1,10 @@
 //! How much of a row shows that a rule is broken in it.
 ghost use Rattle.std.specs.Prelude.{◌≡◌, ◌≤◌, ◌==◌, ◌&&◌, true, drop, take, length, chars};
 ghost use Rattle.std.specs.Str.{is_utf8};
-ghost use Rattle.csvw_rows.specs.Lines.{IsShownAt, IsShownLen};
+ghost use Rattle.csvw_records.specs.Lines.{IsShownAt, IsShownLen};
 
-use crate::decode::{char_count, front_len};
-use crate::rules::Rules;
 use csvw_dialect::Dialect;
+use csvw_fields::{Rules, char_count, front_len};
 
 /// Whether this is a CR in a dialect where LF may follow to make it a terminator, and any other character
 /// makes it text.

@@ -1,22 +1,5 @@
-//! Laws that bind the definitions by which the contracts speak. The calls do nothing.
-ghost use Rattle.csvw_rows.specs.Laws.{HaveOneList, FrontsGrow, StopsPart, FirstBegin, GivenBegin, GivenBeginLater};
-ghost use Rattle.csvw_rows.specs.Laws.{GivenFirst, GivenFirstLater, NothingGiven, FirstStay, FilesHaveNoStop};
-
-/// Bytes are a file of at most one list of rows.
-pub fn have_one_list()
-    ensures { HaveOneList }
-{}
-
-/// The front of bytes that haven't ended begins the front of all that they go on to.
-pub fn fronts_grow()
-    ensures { FrontsGrow }
-{}
-
-/// The place of a stop parts the fronts of a text that begin a file from those that don't: it is the
-/// shortest that doesn't.
-pub fn stops_part()
-    ensures { StopsPart }
-{}
+//! Laws of what a reader gave. The calls do nothing.
+ghost use Rattle.csvw_rows.specs.Laws.{GivenBegin, GivenBeginLater, GivenFirst, GivenFirstLater, NothingGiven};
 
 /// The rows that a reader gave begin the rows of its front.
 pub fn given_begin()
@@ -27,11 +10,6 @@ pub fn given_begin()
 /// go on to.
 pub fn given_begin_later()
     ensures { GivenBeginLater }
-{}
-
-/// Rows that come first in a text begin its front.
-pub fn first_begin()
-    ensures { FirstBegin }
 {}
 
 /// What a reader gave are the header rows and data rows of rows that come first in its text.
@@ -47,14 +25,4 @@ pub fn given_first_later()
 /// Of nothing read nothing was given.
 pub fn nothing_given()
     ensures { NothingGiven }
-{}
-
-/// Rows that come first in bytes that haven't ended come first in all that they go on to.
-pub fn first_stay()
-    ensures { FirstStay }
-{}
-
-/// Bytes that go on to a file, or are one, have no stop.
-pub fn files_have_no_stop()
-    ensures { FilesHaveNoStop }
 {}

@@ -2,10 +2,7 @@
 ghost use Rattle.std.specs.Prelude.{◌≡◌};
 ghost use Rattle.csvw_rows.specs.Nexts.{is_last};
 
-use crate::stop::RowStop;
-
-/// The most bytes of a row without its terminator.
-pub const ROW_LIMIT: usize = 1_048_576;
+use csvw_records::RowStop;
 
 /// What comes behind the characters that there are.
 #[derive(Clone, Copy, Debug, PartialEq, Eq)]

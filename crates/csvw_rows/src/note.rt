@@ -1,8 +1,8 @@
 //! Rows without fields: those that are skipped, and comments.
 ghost use Rattle.csvw_rows.specs.Notes.{IsLineEnd};
 
-use crate::cut::terminator_at;
 use csvw_dialect::Dialect;
+use csvw_fields::terminator_at;
 
 /// Where the first terminator stands that begins at this place or behind it.
 pub fn line_end(d: &Dialect, text: &[u8], from: usize) -> Option<usize>

@@ -1,8 +1,8 @@
 //! A row that a reader lends.
 ghost use Rattle.std.specs.Prelude.{◌≡◌, ◌<◌, true, length, Some, slice_get};
-ghost use Rattle.csvw_rows.specs.Bounds.{are_bounds, fields_at};
+ghost use Rattle.csvw_fields.specs.Bounds.{are_bounds, fields_at};
 
-use crate::bound::{Bound, text_at};
+use csvw_fields::{Bound, text_at};
 
 /// A header row or a data row.
 #[derive(Clone, Copy)]

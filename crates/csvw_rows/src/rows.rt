@@ -2,27 +2,23 @@
 ghost use Rattle.std.specs.Prelude.{◌≡◌, ◌≤◌, ◌<◌, ◌-◌, ◌+◌, ◌^◌, ℕ, true, false, [], length, drop, map, encode_utf8_all, IfOk, OnOk, IfSome, Some, Ok};
 ghost use Rattle.std.specs.Str.{is_utf8};
 ghost use Rattle.std.specs.Borrow.{sem};
-ghost use Rattle.csvw_rows.specs.Bounds.{are_bounds};
+ghost use Rattle.csvw_fields.specs.Bounds.{are_bounds};
 ghost use Rattle.csvw_dialect.specs.Lawful.{IsLawful};
-ghost use Rattle.csvw_rows.specs.Drafts.{IsDraft};
-ghost use Rattle.csvw_rows.specs.Marked.{Marked};
+ghost use Rattle.csvw_fields.specs.Drafts.{IsDraft};
+ghost use Rattle.csvw_fields.specs.Marked.{Marked};
 ghost use Rattle.csvw_rows.specs.Notes.{IsNoted};
 ghost use Rattle.csvw_rows.specs.SourceState.{rest_bytes};
 
-use crate::bound::Bound;
 use crate::breach::shown_len;
-use crate::cut::{cut_row, row_len, terminator_at};
-use crate::draft::{Draft, Reading, settled};
-use crate::field::all_empty;
-use crate::marks::Marks;
-use crate::next::{After, Known, ROW_LIMIT, Turn, is_last};
+use crate::next::{After, Known, Turn, is_last};
 use crate::note::line_end;
 use crate::raw_row::RawRow;
-use crate::rules::Rules;
-use crate::scan::is_quoted;
 use crate::source::Source;
-use crate::stop::RowStop;
 use csvw_dialect::Dialect;
+use csvw_fields::{
+    Bound, Draft, Marks, Reading, Rules, all_empty, cut_row, row_len, settled, terminator_at,
+};
+use csvw_records::{ROW_LIMIT, RowStop, is_quoted};
 use std::alloc::{AllocError, Global};
 
 /// A reader of the rows of a text that comes in pieces of bytes.

@@ -2,9 +2,9 @@
 ghost use Rattle.std.specs.Prelude.{◌≡◌, ◌≤◌, ◌+◌, ℕ, List, ◌==◌, ◌++◌, not, true, false, [], if◌then◌else◌};
 ghost use Rattle.std.specs.Prelude.{length, drop, vec_len, IfOk, OnOk, OnErr, IsUtf8, chars};
 ghost use Rattle.std.specs.Str.{is_utf8};
-ghost use Rattle.csvw_rows.specs.Files.{without_mark};
+ghost use Rattle.csvw_records.specs.Files.{without_mark};
 
-use crate::decode::valid_front;
+use csvw_fields::valid_front;
 use std::alloc::{AllocError, Global};
 
 const BYTE_ORDER_MARK: char = '\u{FEFF}';

@@ -11,7 +11,7 @@ use Rattle.csvw_datatype.specs.Reads.{ReadsAs}
 use Rattle.csvw_columns_core.specs.declared.column.Column.{Column}
 use Rattle.csvw_columns_core.specs.declared.columns.Columns.{Columns}
 use Rattle.csvw_columns_core.specs.declared.properties.Properties.{Properties}
-use Rattle.csvw_rows.specs.RowValue.{Given}
+use Rattle.csvw_records.specs.RowValue.{Given}
 use Rattle.csvw_cell.specs.CellOf.{IsItem, AreItems, IsSingle, IsListOf, IsList, IsCellBy, is_null, texts_of, missing, or_default, normalized}
 use Rattle.csvw_cell.specs.declared.cell.Cell.{Cell}
 use Rattle.csvw_cell.specs.declared.cell.Item.{Item}

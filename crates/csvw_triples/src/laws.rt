@@ -1,6 +1,6 @@
 //! Laws about the triples that rows give.
 ghost use Rattle.std.specs.Prelude.{ℕ, List, ◌↔◌, Contains, flat_map, Some};
-ghost use Rattle.csvw_rows.specs.RowValue.{Given};
+ghost use Rattle.csvw_records.specs.RowValue.{Given};
 ghost use Rattle.csvw_columns_core.specs.declared.columns.Columns.{Columns as TheColumns};
 ghost use Rattle.csvw_annotate.specs.Annotated.{IsRow};
 ghost use Rattle.csvw_annotate.specs.declared.row.Row.{Row as TheRow};

@@ -2,7 +2,7 @@
 -- and 5.6).
 use Rattle.std.specs.Prelude.{◌≡◌, ◌⊎◌, ◌≤◌, ◌+◌, ℕ, zero, suc, true, false, List, [], ◌∷◌, length, map, count_by, slice_get, Some}
 use Rattle.std.specs.List.{All}
-use Rattle.csvw_rows.specs.Files.{Row as FileRow, File, Body}
+use Rattle.csvw_records.specs.Files.{Row as FileRow, File, Body}
 use Rattle.csvw_columns_core.specs.Columns.{field_count}
 use Rattle.csvw_columns_core.specs.HeaderFits.{fits}
 use Rattle.csvw_columns_core.specs.declared.column.Column.{Column}

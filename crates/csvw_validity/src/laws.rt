@@ -1,7 +1,7 @@
 //! Laws that bind the definitions by which the contracts speak. The calls do nothing.
 ghost use Rattle.csvw_validity.specs.Laws.{DocumentsWarn, ValidDocumentsHaveNoErrors, ValidHasNoErrors};
 
-use csvw_rows::laws::have_one_list;
+use csvw_records::laws::have_one_list;
 
 /// A group of annotated tables is valid exactly where none of the constraints that it violates is an error; what is ignored of its
 /// document is told in warnings.

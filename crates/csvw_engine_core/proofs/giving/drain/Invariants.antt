@@ -1,6 +1,6 @@
 -- Rows more were given, and what is unread falls.
 use Rattle.std.proofs.Common.{◌≡◌, ℕ, List, Bool}
-use Rattle.csvw_rows.specs.RowValue.{Given}
+use Rattle.csvw_records.specs.RowValue.{Given}
 use Rattle.csvw_rows.specs.RowsState.{unread}
 use Rattle.csvw_annotate.specs.declared.row.Row.{Row}
 use Rattle.csvw_triples_core.specs.Taking.{IsAsReady}

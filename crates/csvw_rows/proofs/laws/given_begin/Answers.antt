@@ -1,4 +1,4 @@
-use Rattle.csvw_rows.proofs.FrontLaws.{given_begin}
+use Rattle.csvw_rows.proofs.GivenLaws.{given_begin}
 use Rattle.csvw_rows.proofs.laws.given_begin.Goals as goal
 
 pub returns : goal.returns

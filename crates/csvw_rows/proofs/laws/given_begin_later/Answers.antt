@@ -1,4 +1,4 @@
-use Rattle.csvw_rows.proofs.FrontLaws.{given_begin_later}
+use Rattle.csvw_rows.proofs.GivenLaws.{given_begin_later}
 use Rattle.csvw_rows.proofs.laws.given_begin_later.Goals as goal
 
 pub returns : goal.returns

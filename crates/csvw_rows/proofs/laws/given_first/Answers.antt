@@ -1,4 +1,4 @@
-use Rattle.csvw_rows.proofs.FrontLaws.{given_first}
+use Rattle.csvw_rows.proofs.GivenLaws.{given_first}
 use Rattle.csvw_rows.proofs.laws.given_first.Goals as goal
 
 pub returns : goal.returns

@@ -1,4 +1,4 @@
-use Rattle.csvw_rows.proofs.FrontLaws.{given_first_later}
+use Rattle.csvw_rows.proofs.GivenLaws.{given_first_later}
 use Rattle.csvw_rows.proofs.laws.given_first_later.Goals as goal
 
 pub returns : goal.returns

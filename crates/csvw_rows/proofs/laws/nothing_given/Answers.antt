@@ -1,4 +1,4 @@
-use Rattle.csvw_rows.proofs.FrontLaws.{nothing_given}
+use Rattle.csvw_rows.proofs.GivenLaws.{nothing_given}
 use Rattle.csvw_rows.proofs.laws.nothing_given.Goals as goal
 
 pub returns : goal.returns

@@ -1,6 +1,6 @@
 use Rattle.std.proofs.Common.{◌≡◌, ◌∷◌, ◌∙◌, ℕ, List, Bool, sym, ap, chars, if◌then◌else◌}
 use Rattle.std.proofs.lemmas.Str.{chars_past_char}
-use Rattle.csvw_rows.specs.Files.{without_mark}
+use Rattle.csvw_records.specs.Files.{without_mark}
 use Rattle.csvw_rows.proofs.source.unmarked.Goals as goal
 
 pub returns-in-Some-eq65279 : goal.returns-in-Some-eq65279

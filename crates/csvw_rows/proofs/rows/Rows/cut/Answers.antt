@@ -1,9 +1,9 @@
 use Rattle.std.proofs.Common.{◌≡◌, ◌∙◌, ◌<◌, ℕ, List, chars, false, sym, ap, subst, arith}
-use Rattle.csvw_rows.specs.Cuts.{IsCutRow, IsRowLen}
-use Rattle.csvw_rows.specs.Files.{is_note}
-use Rattle.csvw_rows.specs.Marked.{is_symbol, AreMarks}
+use Rattle.csvw_fields.specs.Cuts.{IsCutRow, IsRowLen}
+use Rattle.csvw_records.specs.Files.{is_note}
+use Rattle.csvw_fields.specs.Marked.{is_symbol, AreMarks}
 use Rattle.csvw_rows.specs.SourceState.{taken_of}
-use Rattle.csvw_rows.proofs.CutLemmas.{some_gives}
+use Rattle.csvw_fields.proofs.CutLemmas.{some_gives}
 use Rattle.csvw_rows.proofs.CutTakes.{cut_has}
 use Rattle.csvw_rows.proofs.rows.Rows.cut.Goals as goal
 

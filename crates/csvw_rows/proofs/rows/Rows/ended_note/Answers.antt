@@ -1,5 +1,5 @@
 use Rattle.std.proofs.Common.{◌≡◌, ◌∙◌, ◌+◌, length, drop, arith, ap}
-use Rattle.csvw_rows.specs.Grammar.{terminator_len}
+use Rattle.csvw_records.specs.Grammar.{terminator_len}
 use Rattle.csvw_rows.specs.SourceState.{rest_bytes}
 use Rattle.csvw_rows.proofs.DraftRows.{note_has, note_stops}
 use Rattle.csvw_rows.proofs.rows.Rows.ended_note.Goals as goal

@@ -1,8 +1,8 @@
 use Rattle.std.proofs.Common.{refl, sym, subst}
 use Rattle.std.specs.Prelude.{encode_utf8_all}
-use Rattle.csvw_rows.specs.Drafts.{IsDraft}
+use Rattle.csvw_fields.specs.Drafts.{IsDraft}
 use Rattle.csvw_rows.specs.SourceState.{rest_bytes}
-use Rattle.csvw_rows.proofs.DraftRuns.{fresh_draft, draft_grows, bytes_more}
+use Rattle.csvw_fields.proofs.DraftRuns.{fresh_draft, draft_grows, bytes_more}
 use Rattle.csvw_rows.proofs.States.{feed_holds}
 use Rattle.csvw_rows.specs.Notes.{IsNoted}
 use Rattle.csvw_rows.proofs.NoteLemmas.{noted_grows}

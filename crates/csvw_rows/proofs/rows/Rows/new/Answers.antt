@@ -1,7 +1,7 @@
 use Rattle.std.proofs.Common.{refl}
 use Rattle.csvw_rows.proofs.States.{new_holds}
 use Rattle.csvw_rows.specs.SourceState.{rest_bytes}
-use Rattle.csvw_rows.proofs.DraftRuns.{fresh_draft}
+use Rattle.csvw_fields.proofs.DraftRuns.{fresh_draft}
 use Rattle.csvw_rows.proofs.rows.Rows.new.Goals as goal
 
 pub returns-clause-holds : goal.returns-clause-holds

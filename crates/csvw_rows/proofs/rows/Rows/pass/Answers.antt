@@ -1,8 +1,8 @@
 use Rattle.std.proofs.Common.{◌∙◌, ℕ, List, sym, ap, subst}
-use Rattle.csvw_rows.specs.Bounds.{are_bounds}
-use Rattle.csvw_rows.proofs.DraftRuns.{fresh_draft}
+use Rattle.csvw_fields.specs.Bounds.{are_bounds}
+use Rattle.csvw_fields.proofs.DraftRuns.{fresh_draft}
 use Rattle.csvw_rows.specs.SourceState.{rest_bytes}
-use Rattle.csvw_rows.specs.Marked.{is_symbol, AreMarks}
+use Rattle.csvw_fields.specs.Marked.{is_symbol, AreMarks}
 use Rattle.csvw_rows.proofs.rows.Rows.pass.Goals as goal
 
 pub invariant_of-self-clause-drafted : goal.invariant_of-self-clause-drafted

@@ -1,10 +1,10 @@
 use Rattle.std.proofs.Common.{◌≡◌, ◌+◌, ◌∙◌, sym, ap, refl, false, ◌&&◌, ◌==◌, Some, map, length}
 use Rattle.std.specs.List.{list_all}
-use Rattle.csvw_rows.specs.Files.{is_empty}
-use Rattle.csvw_rows.specs.Grammar.{trimmed}
+use Rattle.csvw_records.specs.Files.{is_empty}
+use Rattle.csvw_records.specs.Grammar.{trimmed}
 use Rattle.csvw_rows.specs.SourceState.{text_items}
-use Rattle.csvw_rows.proofs.Bodies.{blank_none, blank_texts}
-use Rattle.csvw_rows.proofs.BoundLemmas.{empty_bounds}
+use Rattle.csvw_records.proofs.Bodies.{blank_none, blank_texts}
+use Rattle.csvw_fields.proofs.BoundLemmas.{empty_bounds}
 use Rattle.csvw_rows.proofs.RowSteps.{less_unread}
 use Rattle.csvw_rows.proofs.States.{note_stays, row_gives, passes_to, and_true, and_left, and_right}
 use Rattle.csvw_rows.proofs.rows.Rows.pass_fields.Goals as goal

@@ -1,14 +1,14 @@
 use Rattle.std.proofs.Common.{Bool, ◌∙◌, ◌≤◌, List, ℕ, length, drop, chars, sym, ap, subst}
 use Rattle.std.specs.Str.{is_utf8}
-use Rattle.csvw_rows.specs.declared.draft.Reading.TheVariants as reading
-use Rattle.csvw_rows.specs.Drafts.{read_of, values_of, IsRowRead, GoesOn}
+use Rattle.csvw_fields.specs.declared.draft.Reading.TheVariants as reading
+use Rattle.csvw_fields.specs.Drafts.{read_of, values_of, IsRowRead, GoesOn}
 use Rattle.csvw_rows.specs.SourceState.{rest_bytes, text_items}
 use Rattle.csvw_rows.specs.Nexts.{is_last}
-use Rattle.csvw_rows.specs.Lines.{IsShownLen}
+use Rattle.csvw_records.specs.Lines.{IsShownLen}
 use Rattle.csvw_rows.specs.RowsState.{IsOpenFront, after_of}
-use Rattle.csvw_rows.specs.Scan.{Found}
-use Rattle.csvw_rows.proofs.BoundLemmas.{apart_bounds}
-use Rattle.csvw_rows.proofs.DraftRuns.{fresh_draft}
+use Rattle.csvw_records.specs.Scan.{Found}
+use Rattle.csvw_fields.proofs.BoundLemmas.{apart_bounds}
+use Rattle.csvw_fields.proofs.DraftRuns.{fresh_draft}
 use Rattle.csvw_rows.proofs.OpenFronts.{draft_front, stopped_wrong, goes_back}
 use Rattle.csvw_rows.proofs.rows.Rows.read_draft.Goals as goal
 

@@ -1,10 +1,10 @@
 use Rattle.std.proofs.Common.{◌∙◌, ◌==◌, ◌<◌, List, ℕ, length, arith, sym, ap, subst}
 use Rattle.std.proofs.lemmas.Str.{IsUtf8-from_is_utf8}
-use Rattle.csvw_rows.specs.Files.{is_note}
+use Rattle.csvw_records.specs.Files.{is_note}
 use Rattle.csvw_rows.specs.Nexts.{is_last}
 use Rattle.csvw_rows.specs.RowsState.{IsOpenFront, after_of}
 use Rattle.csvw_rows.specs.SourceState.{rest_of, rest_bytes}
-use Rattle.csvw_rows.proofs.Ascii.{text_empty}
+use Rattle.csvw_records.proofs.Ascii.{text_empty}
 use Rattle.csvw_rows.proofs.NextLemmas.{empty_of, some_of, many_stops}
 use Rattle.csvw_rows.proofs.OpenFronts.{empty_waits_there, maybe_front, may_both, may_neither}
 use Rattle.csvw_rows.proofs.rows.Rows.read_front.Goals as goal

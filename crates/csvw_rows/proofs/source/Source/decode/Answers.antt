@@ -1,7 +1,7 @@
 use Rattle.std.proofs.Common.{◌∙◌, ap, Bool, true, not, ◌==◌, List, ℕ, length, drop, take, if◌then◌else◌, chars}
 use Rattle.std.specs.Prelude.{is_some}
 use Rattle.std.specs.Str.Lossy.{utf8_valid_len, utf8_error_len}
-use Rattle.csvw_rows.proofs.Utf8.{pushes}
+use Rattle.csvw_rows.proofs.Sources.{pushes}
 use Rattle.csvw_rows.proofs.source.Source.decode.Goals as goal
 
 pub returns-clause-grows : goal.returns-clause-grows

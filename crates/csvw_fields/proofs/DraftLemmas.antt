@@ -1,0 +1,242 @@
+-- The front of a row that was read, and what reading it on does.
+use Rattle.std.proofs.Common.{◌≡◌, ◌∙◌, ℕ, zero, suc, ◌+◌, ◌-◌, ◌<◌, ◌≤◌, Bool, true, false, ◌&&◌, if◌then◌else◌, List, [], ◌∷◌, ◌++◌, map, length}
+use Rattle.std.proofs.Common.{take, drop, refl, sym, ap, subst, arith, append-nil, length-append, ◌⊎◌, inl, inr, chars, nat_lt, nat_eq}
+use Rattle.std.specs.Prelude.{IsUtf8, encode_utf8, encode_utf8_all, slice_range, slice_index, nat_le, Result, Ok, Err, is_ok, OnOk}
+use Rattle.std.specs.Str.{is_utf8}
+use Rattle.std.proofs.lemmas.Grind.{common_steps}
+use Rattle.std.proofs.lemmas.Bool.Decides.{nat_tests}
+use Rattle.std.proofs.lemmas.List.{take-append-drop, drop-drop, map-append}
+use Rattle.std.proofs.lemmas.List.Folds.{list_all-append}
+use Rattle.std.proofs.lemmas.Str.{chars-nil, IsUtf8-nil, IsUtf8-append, IsUtf8-from_is_utf8, is_utf8-from_IsUtf8, chars-append, encodes-chars}
+use Rattle.std.proofs.lemmas.Str.{chars_past_char, encode_ascii, IsUtf8-take, IsCharBoundary-from_drop}
+use Rattle.csvw_dialect.specs.declared.dialect.Dialect.{Dialect}
+use Rattle.csvw_fields.specs.declared.bound.Bound.{Bound}
+use Rattle.csvw_fields.specs.declared.draft.Draft.{Draft}
+use Rattle.csvw_records.specs.declared.scan.State.{State}
+use Rattle.csvw_records.specs.declared.scan.State.TheVariants.{Start, Inside}
+use Rattle.csvw_records.specs.declared.scan.Step.TheVariants.{Open}
+use Rattle.csvw_records.specs.Scan.{step_of, run}
+use Rattle.csvw_records.proofs.RunSteps.{act_run}
+use Rattle.csvw_records.specs.Looks.{settled}
+use Rattle.csvw_records.proofs.Joins.{settled_all}
+use Rattle.csvw_records.proofs.Ascii.{ascii_at, no_cr, term_chars}
+use Rattle.csvw_records.proofs.Complete.{nothing_ends}
+use Rattle.csvw_records.proofs.Lookahead.{and_three, is_char, one_end, lf_again, crlf_again}
+use Rattle.std.proofs.lemmas.Bool.{cases_lt}
+use Rattle.csvw_fields.specs.Bounds.{apart_all, texts_apart, is_apart}
+use Rattle.csvw_fields.specs.Drafts.{IsFresh}
+use Rattle.csvw_records.specs.Grammar.{terminator_len}
+use Rattle.csvw_fields.proofs.BoundLemmas.{all_more}
+
+pub drop_nil : (n : ℕ) → drop n (let e : List ℕ = [] in e) ≡ []
+drop_nil zero = refl
+drop_nil (suc n) = refl
+
+pub text_nil : (n : ℕ) (l : List ℕ) → l ≡ [] → is_utf8 (drop n l) ≡ true
+text_nil n l e = ap (λ l. is_utf8 (drop n l)) e ∙ ap is_utf8 (drop_nil n) ∙ is_utf8-from_IsUtf8 [] IsUtf8-nil
+
+pub fresh_of : (s : Draft) → s.read ≡ 0 → s.state ≡ Start → s.texts.items ≡ [] → s.bounds.items ≡ [] → IsFresh s
+fresh_of s r st t b = record {
+  read = r;
+  state = st;
+  values = ap (λ l. map chars (texts_apart s.texts.items l)) b;
+  current = ap (λ l. chars (drop s.from l)) t ∙ ap chars (drop_nil s.from) ∙ chars-nil;
+}
+
+-- a text that grows where there is memory
+drop_front : (n : ℕ) (a b : List ℕ) → n ≤ length a → drop n (a ++ b) ≡ drop n a ++ b
+drop_front n a b h = grind (arith, common_steps)
+
+pub kept_text : {T E : Type 0} (r : Result T E) (from : ℕ) (old piece new : List ℕ) → from ≤ length old → is_utf8 (drop from old) ≡ true → IsUtf8 piece
+    → new ≡ (if is_ok r then old ++ piece else old) → is_utf8 (drop from new) ≡ true
+kept_text (Ok x) from old piece new h u v e =
+    ap (λ l. is_utf8 (drop from l)) e ∙ ap is_utf8 (drop_front from old piece h)
+    ∙ is_utf8-from_IsUtf8 (drop from old ++ piece) (IsUtf8-append (drop from old) piece (IsUtf8-from_is_utf8 (drop from old) u) v)
+kept_text (Err x) from old piece new h u v e = ap (λ l. is_utf8 (drop from l)) e ∙ u
+
+pub kept_apart : {T E : Type 0} (r : Result T E) (old piece new : List ℕ) (bounds : List Bound) → apart_all old bounds ≡ true
+    → new ≡ (if is_ok r then old ++ piece else old)
+    → (apart_all new bounds ≡ true) × (texts_apart new bounds ≡ texts_apart old bounds)
+kept_apart (Ok x) old piece new bounds a e = let m = all_more old piece bounds a in
+    (ap (λ l. apart_all l bounds) e ∙ m.0, ap (λ l. texts_apart l bounds) e ∙ m.1)
+kept_apart (Err x) old piece new bounds a e = (ap (λ l. apart_all l bounds) e ∙ a, ap (λ l. texts_apart l bounds) e)
+
+pub kept_current : {T E : Type 0} (r : Result T E) (from c : ℕ) (old piece new : List ℕ) → from ≤ length old → is_utf8 (drop from old) ≡ true
+    → IsUtf8 piece → chars piece ≡ c ∷ []
+    → new ≡ (if is_ok r then old ++ piece else old) → OnOk r (chars (drop from new) ≡ chars (drop from old) ++ c ∷ [])
+kept_current (Ok x) from c old piece new h u v p e =
+    ap (λ l. chars (drop from l)) e ∙ ap chars (drop_front from old piece h)
+    ∙ chars-append (drop from old) piece (IsUtf8-from_is_utf8 (drop from old) u) ∙ ap (λ l. chars (drop from old) ++ l) p
+kept_current (Err x) from c old piece new h u v p e = tt
+
+-- one more field that is whole
+two_parts : (a b c d e : Bool) → a ≡ true → b ≡ true → c ≡ true → d ≡ true → e ≡ true → (a && ((b && (c && (d && e))) && true)) ≡ true
+two_parts a b c d e f g h i j = rw (f, g, h, i, j) refl
+
+range_to_end : (l : List ℕ) (from to : ℕ) → to ≡ length l → from ≤ to → slice_range l from to ≡ drop from l
+range_to_end l from to e h = grind (arith, common_steps)
+
+pub closed_apart : {T E : Type 0} (r : Result T E) (texts : List ℕ) (bounds new : List Bound) (b : Bound) → apart_all texts bounds ≡ true
+    → b.from ≤ length texts → b.to ≡ length texts → b.apart ≡ true
+    → is_utf8 (drop b.from texts) ≡ true → new ≡ (if is_ok r then bounds ++ b ∷ [] else bounds) → apart_all texts new ≡ true
+closed_apart (Ok x) texts bounds new b a h t p u e =
+    ap (apart_all texts) e ∙ list_all-append (λ b. is_apart texts b) bounds (b ∷ [])
+    ∙ two_parts _ _ _ _ _ a p (let k : b.from ≤ b.to = omega (arith, h, t) in grind (arith, nat_tests))
+    (let k : b.to ≤ length texts = omega (arith, t) in grind (arith, nat_tests))
+    (ap is_utf8 (range_to_end texts b.from b.to t (omega (arith, h, t))) ∙ u)
+closed_apart (Err x) texts bounds new b a h t p u e = ap (apart_all texts) e ∙ a
+
+pub closed_values : {T E : Type 0} (r : Result T E) (texts : List ℕ) (bounds new : List Bound) (b : Bound) → b.from ≤ length texts → b.to ≡ length texts
+    → new ≡ (if is_ok r then bounds ++ b ∷ [] else bounds)
+    → OnOk r (map chars (texts_apart texts new) ≡ map chars (texts_apart texts bounds) ++ chars (drop b.from texts) ∷ [])
+closed_values (Ok x) texts bounds new b h t e =
+    ap (λ l. map chars (texts_apart texts l)) e ∙ ap (map chars) (map-append (λ b. slice_range texts b.from b.to) bounds (b ∷ []))
+    ∙ map-append chars (texts_apart texts bounds) (slice_range texts b.from b.to ∷ [])
+    ∙ ap (λ l. map chars (texts_apart texts bounds) ++ chars l ∷ []) (range_to_end texts b.from b.to t (omega (arith, h, t)))
+closed_values (Err x) texts bounds new b h t e = tt
+
+pub closed_current : {T E : Type 0} (r : Result T E) (texts : List ℕ) (to : ℕ) → to ≡ length texts → OnOk r (chars (drop to texts) ≡ [])
+closed_current (Ok x) texts to e = ap chars (gone texts to e) ∙ chars-nil
+  where
+    gone : (l : List ℕ) (n : ℕ) → n ≡ length l → drop n l ≡ []
+    gone l n e = grind (arith, common_steps)
+closed_current (Err x) texts to e = tt
+
+pub text_gone : (l : List ℕ) (n : ℕ) → n ≡ length l → is_utf8 (drop n l) ≡ true
+text_gone l n e = ap is_utf8 (gone l n e) ∙ is_utf8-from_IsUtf8 [] IsUtf8-nil
+  where
+    gone : (l : List ℕ) (n : ℕ) → n ≡ length l → drop n l ≡ []
+    gone l n e = grind (arith, common_steps)
+
+pub one_char : (text : List ℕ) (c : ℕ) → IsUtf8 text → text ≡ encode_utf8 c → chars text ≡ c ∷ []
+one_char text c u e = chars_past_char text [] c u (e ∙ sym (append-nil (encode_utf8 c))) ∙ ap (λ l. c ∷ l) chars-nil
+
+-- quotes that open
+pub open_runs : (d : Dialect) (st : State) (vs : List (List ℕ)) (cur new : List ℕ) (c : ℕ) (cs : List ℕ) (ends : Bool)
+    → nat_lt 0 (terminator_len d (c ∷ cs)) ≡ ends → step_of d st c ends ≡ Open → new ≡ []
+    → run d st vs cur (c ∷ cs) ≡ run d Inside vs new cs
+open_runs d st vs cur new c cs ends e f g = ap (act_run d vs cur c cs) (ap (step_of d st c) e ∙ f) ∙ ap (λ l. run d Inside vs l cs) (sym g)
+
+-- a CR at the end
+settled_snoc : (d : Dialect) (cs : List ℕ) → d.line_terminators.crlf ≡ true → settled d (cs ++ 13 ∷ []) ≡ cs
+settled_snoc d [] e = rw e refl
+settled_snoc d (c ∷ []) e = ap (λ l. c ∷ l) (settled_snoc d [] e)
+settled_snoc d (c ∷ x ∷ cs) e = ap (λ l. c ∷ l) (settled_snoc d (x ∷ cs) e)
+
+pub settled_cut : (d : Dialect) (r : List ℕ) → IsUtf8 r → d.line_terminators.crlf ≡ true → 0 < length r → slice_index r (length r - 1) ≡ 13
+    → chars (take (length r - 1) r) ≡ settled d (chars r)
+settled_cut d r u crlf some cr =
+    let n = length r - 1 in
+    let a = ascii_at r n 13 u (omega (arith, some)) cr (omega arith) in
+    let none : drop (n + 1) r ≡ [] = gone r (n + 1) (omega (arith, some)) in
+    let one : chars (drop n r) ≡ 13 ∷ [] = a.here_chars ∙ ap (λ l. 13 ∷ chars l) none ∙ ap (λ l. 13 ∷ l) chars-nil in
+    sym (settled_snoc d (chars (take n r)) crlf) ∙ ap (settled d) (sym (a.spelled ∙ ap (λ l. chars (take n r) ++ l) one))
+  where
+    gone : (l : List ℕ) (n : ℕ) → n ≡ length l → drop n l ≡ []
+    gone l n e = grind (arith, common_steps)
+
+pub settled_none : (d : Dialect) (r : List ℕ) → IsUtf8 r → (d.line_terminators.crlf ≡ true → 0 < length r → slice_index r (length r - 1) ≡ 13 → ⊥)
+    → chars r ≡ settled d (chars r)
+settled_none d r u n = sym (settled_all d (chars r)) ∙ ap (λ l. settled d (chars r) ++ l) (no_cr d r u n) ∙ append-nil (settled d (chars r))
+
+-- the texts of fields that are whole
+pub encoded_all : (texts : List ℕ) (bounds : List Bound) → apart_all texts bounds ≡ true
+    → texts_apart texts bounds ≡ map encode_utf8_all (map chars (texts_apart texts bounds))
+encoded_all texts [] e = refl
+encoded_all texts (b ∷ bs) e =
+    let t = both (is_apart texts b) (apart_all texts bs) e in
+    let u = last b.apart (nat_le b.from b.to) (nat_le b.to (length texts)) (is_utf8 (slice_range texts b.from b.to)) t.0 in
+    ap (λ x. x ∷ texts_apart texts bs) (sym (encodes-chars (slice_range texts b.from b.to) (IsUtf8-from_is_utf8 (slice_range texts b.from b.to) u)))
+    ∙ ap (λ l. encode_utf8_all (chars (slice_range texts b.from b.to)) ∷ l) (encoded_all texts bs t.1)
+  where
+    both : (a c : Bool) → (a && c) ≡ true → (a ≡ true) × (c ≡ true)
+    both a c h = (grind arith, grind arith)
+
+    last : (a b c d : Bool) → (a && (b && (c && d))) ≡ true → d ≡ true
+    last a b c d h = grind arith
+
+-- a terminator among the characters is one among the bytes
+enc_low : (b : ℕ) (cs : List ℕ) → b < 128 → encode_utf8_all (b ∷ cs) ≡ b ∷ encode_utf8_all cs
+enc_low b cs h = ap (λ l. l ++ encode_utf8_all cs) (encode_ascii b h)
+
+one_code : (d : Dialect) (c : ℕ) (cs : List ℕ) → (d.line_terminators.lf ≡ true) × (nat_eq 10 c ≡ true) → 0 < terminator_len d (encode_utf8_all (c ∷ cs))
+one_code d c cs (l, e) =
+    let P : ℕ → Type 0 = λ k. 0 < terminator_len d (encode_utf8_all (k ∷ cs)) in
+    subst P (sym (is_char 10 c e)) (omega (arith, ap (terminator_len d) (enc_low 10 cs (omega arith)), lf_again d (encode_utf8_all cs) l))
+
+two_codes : (d : Dialect) (c e : ℕ) (cs : List ℕ) → (d.line_terminators.crlf && (nat_eq 13 c && (nat_eq 10 e && true))) ≡ true
+    → 0 < terminator_len d (encode_utf8_all (c ∷ e ∷ cs))
+two_codes d c e cs k =
+    let p = and_three d.line_terminators.crlf (nat_eq 13 c) (nat_eq 10 e) k in
+    let spelled : encode_utf8_all (13 ∷ 10 ∷ cs) ≡ 13 ∷ 10 ∷ encode_utf8_all cs = enc_low 13 (10 ∷ cs) (omega arith)
+    ∙ ap (λ l. 13 ∷ l) (enc_low 10 cs (omega arith)) in
+    let both : c ∷ e ∷ cs ≡ 13 ∷ 10 ∷ cs = ap (λ x. x ∷ e ∷ cs) (is_char 13 c p.1) ∙ ap (λ x. 13 ∷ x ∷ cs) (is_char 10 e p.2) in
+    let P : List ℕ → Type 0 = λ l. 0 < terminator_len d (encode_utf8_all l) in
+    subst P (sym both) (omega (arith, ap (terminator_len d) spelled, crlf_again d (encode_utf8_all cs) p.0))
+
+pub term_codes : (d : Dialect) (cs : List ℕ) → 0 < terminator_len d cs → 0 < terminator_len d (encode_utf8_all cs)
+term_codes d [] h = absurd (nothing_ends d h)
+term_codes d (c ∷ []) h = one_code d c []
+    (one_end d.line_terminators.crlf d.line_terminators.lf (nat_eq 13 c) (nat_eq 10 c) false false h (none d.line_terminators.crlf (nat_eq 13 c)))
+  where
+    none : (a b : Bool) → (a && (b && false)) ≡ false
+    none a b = grind arith
+term_codes d (c ∷ e ∷ cs) h = by_crlf (d.line_terminators.crlf && (nat_eq 13 c && (nat_eq 10 e && true))) refl
+  where
+    by_crlf : (b : Bool) → (d.line_terminators.crlf && (nat_eq 13 c && (nat_eq 10 e && true))) ≡ b → 0 < terminator_len d (encode_utf8_all (c ∷ e ∷ cs))
+    by_crlf true k = two_codes d c e cs k
+    by_crlf false k = one_code d c (e ∷ cs) (one_end d.line_terminators.crlf d.line_terminators.lf (nat_eq 13 c) (nat_eq 10 c) (nat_eq 10 e && true) false h k)
+
+pub term_same : (d : Dialect) (r : List ℕ) → IsUtf8 r → terminator_len d (chars r) ≡ terminator_len d r
+term_same d r u = by_bytes (cases_lt 0 (terminator_len d r))
+  where
+    by_chars : terminator_len d r ≤ 0 → (0 < terminator_len d (chars r)) ⊎ (terminator_len d (chars r) ≤ 0) → terminator_len d (chars r) ≡ terminator_len d r
+    by_chars z (inl h) = let k = term_codes d (chars r) h in absurd (omega (arith, z, k, ap (terminator_len d) (encodes-chars r u)))
+    by_chars z (inr h) = omega (arith, z, h)
+
+    by_bytes : (0 < terminator_len d r) ⊎ (terminator_len d r ≤ 0) → terminator_len d (chars r) ≡ terminator_len d r
+    by_bytes (inl h) = (term_chars d r h).same
+    by_bytes (inr z) = by_chars z (cases_lt 0 (terminator_len d (chars r)))
+
+-- the end of a text behind a character
+pub back_more : (text rest code behind : List ℕ) → length rest ≤ length text → drop (length text - length rest) text ≡ rest → rest ≡ code ++ behind
+    → (length behind ≤ length text) × (drop (length text - length behind) text ≡ behind)
+back_more text rest code behind h e f =
+    let long = ap length f in
+    let k : length behind ≤ length text = omega (arith, h, long, length-append code behind) in
+    let n : length text - length behind ≡ (length text - length rest) + length code = omega (arith, h, long, length-append code behind) in
+    (k, ap (λ m. drop m text) n ∙ sym (drop-drop (length code) (length text - length rest) text) ∙ ap (drop (length code)) (e ∙ f) ∙ past code behind)
+  where
+    past : (a b : List ℕ) → drop (length a) (a ++ b) ≡ b
+    past a b = grind (arith, common_steps)
+
+pub front_text : (text : List ℕ) (n : ℕ) → IsUtf8 text → n ≤ length text → is_utf8 (drop n text) ≡ true → IsUtf8 (take n text)
+front_text text n u h e = IsUtf8-take text n u (IsCharBoundary-from_drop text n h (IsUtf8-from_is_utf8 (drop n text) e))
+
+pub no_chars : (l : List ℕ) → length l ≡ 0 → chars l ≡ []
+no_chars [] e = chars-nil
+no_chars (x ∷ xs) e = absurd (omega (arith, e))
+
+pub some_bytes : (l : List ℕ) → 0 < length (chars l) → 0 < length l
+some_bytes [] h = absurd (omega (arith, h, ap length chars-nil))
+some_bytes (x ∷ xs) h = omega arith
+
+pub take_whole : (l : List ℕ) → take (length l) l ≡ l
+take_whole l = grind (arith, common_steps)
+
+pub map_twice : {X Y Z : Type 0} (f : Y → Z) (g : X → Y) (l : List X) → map f (map g l) ≡ map (λ x. f (g x)) l
+map_twice f g [] = refl
+map_twice f g (x ∷ xs) = ap (λ l. f (g x) ∷ l) (map_twice f g xs)
+
+pub kept_texts : (from : ℕ) (old piece new : List ℕ) → from ≤ length old → is_utf8 (drop from old) ≡ true → new ≡ old ++ piece
+    → chars (drop from new) ≡ chars (drop from old) ++ chars piece
+kept_texts from old piece new h u e = ap (λ l. chars (drop from l)) e ∙ ap chars (drop_front from old piece h)
+    ∙ chars-append (drop from old) piece (IsUtf8-from_is_utf8 (drop from old) u)
+
+-- the end of a text behind what was kept of it
+pub back_kept : (text rest left : List ℕ) → length rest ≤ length text → drop (length text - length rest) text ≡ rest
+    → drop (length rest - length left) rest ≡ left
+    → (length left ≤ length text) × (drop (length text - length left) text ≡ left)
+back_kept text rest left h e f =
+    let n = length rest - length left in
+    back_more text rest (take n rest) left h e (sym (take-append-drop n rest) ∙ ap (λ l. take n rest ++ l) f)

@@ -1,0 +1,5 @@
+pub mod Bounds
+pub mod Clean
+pub mod Cuts
+pub mod Drafts
+pub mod Marked

@@ -1,0 +1,285 @@
+//! The front of a row whose end wasn't read yet, and what reads it on.
+ghost use Rattle.std.specs.Prelude.{◌≡◌, ◌≤◌, ◌+◌, true, false, [], ◌∷◌, ◌++◌, length, take, drop, chars, map, encode_utf8_all, IfOk, OnOk};
+ghost use Rattle.std.specs.Str.{is_utf8};
+ghost use Rattle.csvw_fields.specs.Bounds.{apart_all, texts_apart};
+ghost use Rattle.csvw_records.specs.Grammar.{trimmed};
+ghost use Rattle.csvw_records.specs.Looks.{settled};
+ghost use Rattle.csvw_records.specs.declared.scan.State.TheVariants.{Start, Inside};
+
+use crate::bound::Bound;
+use crate::cut::terminator_at;
+use crate::rules::Rules;
+use crate::trim::trim_fields;
+use csvw_dialect::{Dialect, Trim};
+use csvw_records::{RowStop, State, Step, is_quoted, next_step};
+use std::alloc::{AllocError, Global};
+use std::mem::swap;
+
+/// What reading a row on came to.
+#[derive(Clone, Copy, Debug, PartialEq, Eq)]
+pub enum Reading {
+    /// The text ended within the row.
+    Unfinished,
+    /// A terminator stands behind the row.
+    Ended,
+    /// The next character breaks a rule, or the last text ended within quotes.
+    Broken(RowStop),
+}
+
+/// The front of a row: where in a field it ends, and the values of the fields. The last of them isn't whole.
+#[derive(Drop)]
+pub struct Draft {
+    read: usize,
+    state: State,
+    from: usize,
+    texts: Vec<u8>,
+    bounds: Vec<Bound>,
+    ghost within: { from ≤ length texts.items },
+    ghost is_text: { is_utf8 (drop from texts.items) ≡ true },
+    ghost bounded: { apart_all texts.items bounds.items ≡ true },
+}
+
+impl Draft {
+    ghost use Rattle.csvw_fields.specs.Drafts.{read_of, state_of, values_of, current_of, IsFresh, IsDraft, Keeps, Steps, Reads, GoesOn};
+
+    /// Nothing was read.
+    pub fn new(alloc: Global) -> Draft
+        ensures { IsFresh result }
+    {
+        Draft {
+            read: 0,
+            state: State::Start,
+            from: 0,
+            texts: Vec::new(alloc),
+            bounds: Vec::new(alloc),
+        }
+    }
+
+    /// Forgets what was read.
+    pub fn clear(&mut self)
+        ensures { IsFresh self.new }
+    {
+        self.read = 0;
+        self.state = State::Start;
+        self.from = 0;
+        self.texts.clear();
+        self.bounds.clear();
+    }
+
+    /// How many bytes of the row were read.
+    pub fn read_len(&self) -> usize
+        ensures { result ≡ read_of self.now }
+    {
+        self.read
+    }
+
+    /// Where in a field the row was left.
+    pub fn state(&self) -> State
+        ensures { result ≡ state_of self.now }
+    {
+        self.state
+    }
+
+    /// Adds a character to the last field.
+    fn keep(&mut self, c: char) -> Result<(), AllocError>
+        ensures read { read_of self.new ≡ read_of self.old }
+        ensures state { state_of self.new ≡ state_of self.old }
+        ensures values { values_of self.new ≡ values_of self.old }
+        ensures current { OnOk result (current_of self.new ≡ current_of self.old ++ c ∷ []) }
+    {
+        let mut bytes = [0; 4];
+        let text = c.encode_utf8(&mut bytes);
+        self.texts.extend_from_slice(text.as_bytes())
+    }
+
+    /// Ends the last field, and begins one behind it.
+    fn close_field(&mut self) -> Result<(), AllocError>
+        ensures read { read_of self.new ≡ read_of self.old }
+        ensures state { state_of self.new ≡ state_of self.old }
+        ensures values { OnOk result (values_of self.new ≡ values_of self.old ++ current_of self.old ∷ []) }
+        ensures current { OnOk result (current_of self.new ≡ []) }
+    {
+        let to = self.texts.len();
+        self.bounds.push(Bound {
+            from: self.from,
+            to,
+            apart: true,
+        })?;
+        self.from = to;
+        Ok(())
+    }
+
+    /// Takes one character, which a terminator may begin with.
+    fn step(&mut self, d: &Dialect, c: char, ends: bool) -> Result<Reading, AllocError>
+        ensures read { read_of self.new ≡ read_of self.old }
+        ensures steps { IfOk result (Steps d.now self.old self.new c ends) }
+    {
+        match next_step(d, self.state, c, ends) {
+            Step::Keep(next) => {
+                self.keep(c)?;
+                self.state = next;
+                Ok(Reading::Unfinished)
+            }
+            Step::Skip(next) => {
+                self.state = next;
+                Ok(Reading::Unfinished)
+            }
+            Step::Open => {
+                self.from = self.texts.len();
+                self.state = State::Inside;
+                Ok(Reading::Unfinished)
+            }
+            Step::Next => {
+                self.close_field()?;
+                self.state = State::Start;
+                Ok(Reading::Unfinished)
+            }
+            Step::End => {
+                self.close_field()?;
+                Ok(Reading::Ended)
+            }
+            Step::Stop(stop) => Ok(Reading::Broken(stop)),
+        }
+    }
+
+    /// Takes what is sure to be the text of the last field, and answers what is left.
+    fn keep_text<'a>(&mut self, rules: &Rules, rest: &'a str) -> Result<&'a str, AllocError>
+        ensures read { read_of self.new ≡ read_of self.old }
+        ensures keeps { IfOk result (λ left. Keeps rules.now.dialect self.old self.new rest.now left.now) }
+    {
+        let len = rules.leads.clean_len(&rules.dialect, self.state, rest);
+        let (text, left) = rest.split_at(len);
+        self.texts.extend_from_slice(text.as_bytes())?;
+        Ok(left)
+    }
+
+    /// Reads the row on, up to its end or that of the text, which has so many bytes with what was read.
+    fn read(&mut self, rules: &Rules, text: &str, end: usize) -> Result<Reading, AllocError>
+        requires { end ≡ read_of self.old + length text.now }
+        ensures { IfOk result (Reads rules.now.dialect self.old self.new text.now) }
+    {
+        let mut rest = text;
+        loop {
+            let left = self.keep_text(rules, rest)?;
+            let mut behind = left.chars();
+            let Some(c) = behind.next() else {
+                self.read = end;
+                return Ok(Reading::Unfinished);
+            };
+            let at = end - left.len();
+            let ends = 0 < terminator_at(&rules.dialect, left.as_bytes());
+            match self.step(&rules.dialect, c, ends)? {
+                Reading::Unfinished => rest = behind.as_str(),
+                Reading::Ended => {
+                    self.read = at;
+                    return Ok(Reading::Ended);
+                }
+                Reading::Broken(stop) => {
+                    self.read = at;
+                    return Ok(Reading::Broken(stop));
+                }
+            }
+        }
+    }
+
+    /// Reads the row on, of which this text is what there is, with what was read before. The end of the
+    /// last text ends its row. `AllocError` where there is no memory.
+    pub fn go_on(&mut self, rules: &Rules, rest: &str, is_last: bool) -> Result<Reading, AllocError>
+        requires { IsDraft rules.now.dialect self.old rest.now }
+        ensures { IfOk result (GoesOn rules.now.dialect is_last self.new rest.now) }
+    {
+        if is_last {
+            self.finish(rules, rest)
+        } else {
+            self.read_settled(rules, rest)
+        }
+    }
+
+    /// Reads the row on to its end or to the end of the text.
+    fn finish(&mut self, rules: &Rules, rest: &str) -> Result<Reading, AllocError>
+        requires { IsDraft rules.now.dialect self.old rest.now }
+        ensures { IfOk result (GoesOn rules.now.dialect true self.new rest.now) }
+    {
+        let (_, behind) = rest.split_at(self.read);
+        match self.read(rules, behind, rest.len())? {
+            Reading::Unfinished => {
+                if is_quoted(self.state) {
+                    return Ok(Reading::Broken(RowStop::UnclosedQuote));
+                }
+                self.close_field()?;
+                Ok(Reading::Ended)
+            }
+            Reading::Ended => Ok(Reading::Ended),
+            Reading::Broken(stop) => Ok(Reading::Broken(stop)),
+        }
+    }
+
+    /// Reads the row on, as far as it is settled.
+    fn read_settled(&mut self, rules: &Rules, rest: &str) -> Result<Reading, AllocError>
+        requires { IsDraft rules.now.dialect self.old rest.now }
+        ensures { IfOk result (GoesOn rules.now.dialect false self.new rest.now) }
+    {
+        let (_, behind) = rest.split_at(self.read);
+        let text = settled(&rules.dialect, behind);
+        let end = rest.len() - (behind.len() - text.len());
+        self.read(rules, text, end)
+    }
+
+    /// Gives the fields of a row that has ended, stripped, and forgets it; `AllocError` where there is no
+    /// memory.
+    pub fn take_fields(
+        &mut self,
+        trim: Trim,
+        fields: &mut Vec<Bound>,
+        spare: &mut Vec<u8>,
+    ) -> Result<(), AllocError>
+        ensures bounded { apart_all spare.new.items fields.new.items ≡ true }
+        ensures texts { OnOk result (texts_apart spare.new.items fields.new.items ≡ map (λ x. encode_utf8_all (trimmed trim x)) (values_of self.old)) }
+        ensures fresh { IsFresh self.new }
+    {
+        let given = self.give(trim, fields, spare);
+        self.clear();
+        given
+    }
+
+    /// Gives the texts of the fields, which stay where they were without their texts.
+    fn give(
+        &mut self,
+        trim: Trim,
+        fields: &mut Vec<Bound>,
+        spare: &mut Vec<u8>,
+    ) -> Result<(), AllocError>
+        ensures bounded { apart_all spare.new.items fields.new.items ≡ true }
+        ensures texts { OnOk result (texts_apart spare.new.items fields.new.items ≡ map (λ x. encode_utf8_all (trimmed trim x)) (values_of self.old)) }
+    {
+        fields.clear();
+        spare.clear();
+        self.from = 0;
+        swap(&mut self.texts, spare);
+        match trim {
+            Trim::No => {
+                swap(&mut self.bounds, fields);
+                Ok(())
+            }
+            Trim::Start | Trim::End | Trim::Both => {
+                let given = trim_fields(trim, spare.as_slice(), self.bounds.as_slice(), fields);
+                self.bounds.clear();
+                given
+            }
+        }
+    }
+}
+
+/// The text without a CR at its end that may begin a terminator.
+pub fn settled<'a>(d: &Dialect, text: &'a str) -> &'a str
+    ensures front { result.now ≡ take (length result.now) text.now }
+    ensures chars { chars result.now ≡ settled d.now (chars text.now) }
+    ensures bytes { result.now ≡ settled d.now text.now }
+{
+    let len = text.len();
+    if d.line_terminators.crlf && 0 < len && text.as_bytes()[len - 1] == b'\r' {
+        text.split_at(len - 1).0
+    } else {
+        text
+    }
+}

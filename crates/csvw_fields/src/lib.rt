@@ -1,0 +1,20 @@
+//! The fields of a row, from its bytes: cut out at once, or read on as more bytes come.
+#![tactic(auto)]
+
+mod bound;
+mod cut;
+mod decode;
+mod draft;
+mod field;
+mod leads;
+mod marks;
+mod rules;
+mod trim;
+
+pub use bound::{Bound, text_at};
+pub use cut::{Symbols, cut_row, row_len, terminator_at};
+pub use decode::{char_count, front_len, valid_front};
+pub use draft::{Draft, Reading, settled};
+pub use field::all_empty;
+pub use marks::Marks;
+pub use rules::Rules;

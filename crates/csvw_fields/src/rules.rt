@@ -1,0 +1,114 @@
+//! A dialect with its comment prefix as characters.
+ghost use Rattle.std.specs.Prelude.{◌≡◌, ◌≤◌, nat_eq, false, Some, length, IfOk, chars};
+ghost use Rattle.std.specs.List.{starts_with};
+ghost use Rattle.csvw_fields.specs.Clean.{IsLeads};
+ghost use Rattle.csvw_fields.specs.Cuts.{IsSymbols};
+ghost use Rattle.csvw_fields.specs.declared.cut.Symbols.{Symbols};
+ghost use Rattle.csvw_records.specs.Files.{begins_with, is_note};
+ghost use Rattle.csvw_dialect.specs.Lawful.{prefix_of};
+ghost use Rattle.csvw_dialect.specs.Lawful.{IsLawful};
+ghost use Rattle.csvw_records.specs.Looks.{may_be_note};
+ghost use Rattle.csvw_records.specs.Lines.{IsCommon, IsPrefixLen};
+
+use crate::cut::Symbols;
+use crate::decode::chars_of;
+use crate::leads::Leads;
+use csvw_dialect::Dialect;
+use csvw_text::Seq;
+use std::alloc::{AllocError, Global};
+
+/// A dialect with the characters of its comment prefix.
+#[derive(Drop)]
+pub struct Rules {
+    pub dialect: Dialect,
+    pub prefix: Option<Seq<char>>,
+    pub symbols: Option<Symbols>,
+    pub leads: Leads,
+    ghost same_prefix: { prefix ≡ prefix_of dialect },
+    ghost lawful: { IsLawful dialect },
+    ghost same_symbols: { (s : Symbols) → symbols ≡ Some s → IsSymbols dialect s },
+    ghost same_leads: { IsLeads dialect leads },
+}
+
+impl Rules {
+    /// The rules of a dialect; `AllocError` where there is no memory.
+    pub fn new(alloc: Global, dialect: Dialect) -> Result<Rules, AllocError>
+        requires { IsLawful dialect }
+        ensures { IfOk result (λ r. r.dialect ≡ dialect) }
+    {
+        let prefix = match &dialect.comment_prefix {
+            Some(text) => Some(Seq::of(chars_of(alloc, text.as_str())?)),
+            None => None,
+        };
+        let symbols = Symbols::of(&dialect);
+        let leads = Leads::of(&dialect);
+        Ok(Rules {
+            dialect,
+            prefix,
+            symbols,
+            leads,
+        })
+    }
+
+    /// Whether a row that begins with these bytes, at this place from 0, is skipped or a comment.
+    pub fn is_skipped(&self, place: u64, rest: &str) -> bool
+        ensures { result ≡ is_note self.now.dialect place (chars rest.now) }
+    {
+        place < self.dialect.skip_rows || self.begins_comment(rest)
+    }
+
+    fn begins_comment(&self, rest: &str) -> bool
+        ensures { result ≡ begins_with (chars rest.now) (prefix_of self.now.dialect) }
+    {
+        match &self.dialect.comment_prefix {
+            Some(prefix) => begins_with(rest.as_bytes(), prefix.as_str().as_bytes()),
+            None => false,
+        }
+    }
+
+    /// Whether a row that begins with these bytes may still become a comment.
+    pub fn may_begin_comment(&self, rest: &str) -> bool
+        ensures { result ≡ may_be_note self.now.dialect (chars rest.now) }
+    {
+        match &self.dialect.comment_prefix {
+            Some(prefix) => prefix.as_str().as_bytes().starts_with(rest.as_bytes()),
+            None => false,
+        }
+    }
+
+    /// How many characters at the front of the text the comment prefix has too.
+    pub fn common_len(&self, rest: &str) -> usize
+        ensures { IsPrefixLen (prefix_of self.now.dialect) (chars rest.now) result }
+    {
+        match &self.prefix {
+            Some(prefix) => same_len(prefix.as_slice(), rest),
+            None => 0,
+        }
+    }
+}
+
+/// Whether the bytes begin with the prefix: mostly their first one tells.
+fn begins_with(bytes: &[u8], prefix: &[u8]) -> bool
+    ensures { result ≡ starts_with nat_eq bytes.now prefix.now }
+{
+    if !bytes.is_empty() && !prefix.is_empty() && bytes[0] != prefix[0] {
+        return false;
+    }
+    bytes.starts_with(prefix)
+}
+
+/// How many characters at the front are the same.
+fn same_len(a: &[char], b: &str) -> usize
+    ensures { IsCommon a.now (chars b.now) result }
+{
+    let mut rest = b.chars();
+    for (i, c) in a.iter().enumerate() {
+        let Some(next) = rest.next() else {
+            return i;
+        };
+        if next != *c {
+            return i;
+        }
+    }
+    a.len()
+}

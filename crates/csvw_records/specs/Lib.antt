@@ -1,0 +1,10 @@
+pub mod Files
+pub mod Grammar
+pub mod Laws
+pub mod Lengths
+pub mod Lines
+pub mod Looks
+pub mod Parts
+pub mod RowValue
+pub mod Scan
+pub mod Stops

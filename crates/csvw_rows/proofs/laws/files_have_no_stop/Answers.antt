@@ -1,5 +1,0 @@
-use Rattle.csvw_rows.proofs.GoodTexts.{files_have_no_stop}
-use Rattle.csvw_rows.proofs.laws.files_have_no_stop.Goals as goal
-
-pub returns : goal.returns
-returns c = files_have_no_stop

@@ -1,5 +1,0 @@
-use Rattle.csvw_rows.proofs.FrontLaws.{fronts_grow}
-use Rattle.csvw_rows.proofs.laws.fronts_grow.Goals as goal
-
-pub returns : goal.returns
-returns c = fronts_grow

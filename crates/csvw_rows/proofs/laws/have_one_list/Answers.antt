@@ -1,5 +1,0 @@
-use Rattle.csvw_rows.proofs.FrontLaws.{one_list}
-use Rattle.csvw_rows.proofs.laws.have_one_list.Goals as goal
-
-pub returns : goal.returns
-returns c = one_list

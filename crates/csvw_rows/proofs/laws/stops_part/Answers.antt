@@ -1,5 +1,0 @@
-use Rattle.csvw_rows.proofs.FrontLaws.{stops_part}
-use Rattle.csvw_rows.proofs.laws.stops_part.Goals as goal
-
-pub returns : goal.returns
-returns c = stops_part
