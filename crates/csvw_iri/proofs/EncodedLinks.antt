@@ -1,5 +1,6 @@
 -- Percent-encoded texts go on in the path, the query or the fragment where they stand.
-use Rattle.std.proofs.Common.{◌≡◌, ◌==◌, ◌||◌, ◌&&◌, ℕ, true, false, not, Bool, Some, List, [], ◌∷◌, ◌++◌, length, All, refl, sym, ap, ◌∙◌, subst, nat_le, nat_lt}
+use Rattle.std.proofs.Common.{◌≡◌, ◌==◌, ◌||◌, ◌&&◌, ℕ}
+use Rattle.std.proofs.Common.{true, false, not, Bool, Some, List, [], ◌∷◌, ◌++◌, length, All, refl, sym, ap, ◌∙◌, subst, nat_le, nat_lt}
 use Rattle.std.proofs.Common.{arith, ◌≤◌, slice_index_or, Ok, ◌⊎◌, inl, inr}
 use Rattle.std.proofs.lemmas.List.Folds.{list_all-append}
 use Rattle.std.specs.Prelude.{codes}

@@ -13,7 +13,7 @@ pub struct Counts {
 
 impl Counts {
     /// Of no rows.
-    pub fn new() -> Counts {
+    pub(crate) fn new() -> Counts {
         Counts {
             rows: 0,
             fields: 0,
@@ -22,12 +22,12 @@ impl Counts {
     }
 
     /// Adds a row.
-    pub fn add_row(&mut self) {
+    pub(crate) fn add_row(&mut self) {
         self.rows = self.rows.saturating_add(1);
     }
 
     /// Adds a field.
-    pub fn add_field(&mut self, field: &str) {
+    pub(crate) fn add_field(&mut self, field: &str) {
         self.fields = self.fields.saturating_add(1);
         self.bytes = self.bytes.saturating_add(field.len() as u64);
     }

@@ -17,7 +17,7 @@ pub enum Halt {
 
 impl Halt {
     /// The line that tells it.
-    pub fn told(self) -> &'static str {
+    pub(crate) fn told(self) -> &'static str {
         match self {
             Halt::Usage => "rows PIECE DELIMITER <FILE, or csv <FILE",
             Halt::Memory => "Memory",

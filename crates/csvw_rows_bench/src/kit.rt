@@ -17,7 +17,7 @@ fn halt_of(error: &Error) -> Halt {
 
 /// Counts the records of a file. `Stopped` where the crate refuses a record, `Read` and `Memory` where it says that those
 /// fail.
-pub fn count_records<R: Read + Drop>(alloc: Global, input: R) -> Result<Counts, Halt> {
+pub(crate) fn count_records<R: Read + Drop>(alloc: Global, input: R) -> Result<Counts, Halt> {
     let mut counts = Counts::new();
     let mut reader = ReaderBuilder::new()
         .has_headers(false)

@@ -92,7 +92,7 @@ fn read_piece<'a, R: Read>(input: &mut R, part: &'a mut [u8]) -> Result<&'a [u8]
 /// Counts the rows of a file, of which `Rows` gets at most so many bytes at once. `Usage` where that is none or no text can
 /// be read by the delimiter, `Stopped` where the file isn't one by the default dialect with that delimiter, `Read` and
 /// `Memory` where those fail.
-pub fn count_file<R: Read>(
+pub(crate) fn count_file<R: Read>(
     alloc: Global,
     delimiter: char,
     piece: usize,

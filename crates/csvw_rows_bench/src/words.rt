@@ -26,7 +26,7 @@ fn rows_task(piece: &str, delimiter: &str) -> Option<Task> {
 }
 
 /// What the words, the first of which is the program's name, ask for; `None` where that is nothing.
-pub fn requested(words: &[String]) -> Option<Task> {
+pub(crate) fn requested(words: &[String]) -> Option<Task> {
     match words {
         [_, name] if name.as_str() == "csv" => Some(Task::Csv),
         [_, name, piece, delimiter] if name.as_str() == "rows" => {

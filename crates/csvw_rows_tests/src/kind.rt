@@ -51,7 +51,7 @@ pub const DEFAULT: Kind = Kind {
 
 impl Kind {
     /// The dialect; `AllocError` where there is no memory.
-    pub fn dialect(&self, alloc: Global) -> Result<Dialect, AllocError> {
+    pub(crate) fn dialect(&self, alloc: Global) -> Result<Dialect, AllocError> {
         let comment_prefix = match self.comment_prefix {
             Some(prefix) => Some(Text::copied(alloc, prefix)?),
             None => None,

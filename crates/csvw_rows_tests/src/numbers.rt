@@ -7,7 +7,7 @@ pub struct Numbers(pub u64);
 
 impl Numbers {
     /// A number below n.
-    pub fn below(&mut self, n: u64) -> u64
+    pub(crate) fn below(&mut self, n: u64) -> u64
         requires { 0 < n }
         ensures { result < n }
     {
@@ -19,7 +19,7 @@ impl Numbers {
     }
 
     /// One of the texts.
-    pub fn pick(&mut self, texts: &[&'static str]) -> &'static str
+    pub(crate) fn pick(&mut self, texts: &[&'static str]) -> &'static str
         requires { 0 < length texts.now }
     {
         texts[self.below(texts.len() as u64) as usize]

@@ -286,7 +286,12 @@ fn unmarked(text: &[char]) -> &[char] {
 }
 
 /// What a text gives row after row, by a dialect that takes at most so many rows.
-pub fn plain(alloc: Global, d: &Dialect, max_rows: u32, front: &Front) -> Result<String, Fail> {
+pub(crate) fn plain(
+    alloc: Global,
+    d: &Dialect,
+    max_rows: u32,
+    front: &Front,
+) -> Result<String, Fail> {
     let mut out = String::new(alloc);
     let mut rest = unmarked(front.chars.as_slice());
     let mut remained = 0u64;

@@ -23,13 +23,13 @@ fn reader(alloc: Global, dialect: Dialect, max: u32) -> Result<Rows, AllocError>
 }
 
 /// A reader of at most so many rows.
-pub fn open(alloc: Global, dialect: Dialect, max: u32) -> Result<Rows, Fail> {
+pub(crate) fn open(alloc: Global, dialect: Dialect, max: u32) -> Result<Rows, Fail> {
     let dialect = lawful(dialect)?;
     Ok(reader(alloc, dialect, max)?)
 }
 
 /// Whether the bytes were taken.
-pub fn feed(rows: &mut Rows, piece: &[u8]) -> bool {
+pub(crate) fn feed(rows: &mut Rows, piece: &[u8]) -> bool {
     if rows.is_ended() {
         return false;
     }
@@ -37,7 +37,7 @@ pub fn feed(rows: &mut Rows, piece: &[u8]) -> bool {
 }
 
 /// Whether the text is ended now.
-pub fn end(rows: &mut Rows) -> bool {
+pub(crate) fn end(rows: &mut Rows) -> bool {
     if rows.is_ended() {
         return false;
     }
@@ -45,12 +45,12 @@ pub fn end(rows: &mut Rows) -> bool {
 }
 
 /// Writes a field.
-pub fn write_field(text: &mut String, field: &str) -> Result<(), Fail> {
+pub(crate) fn write_field(text: &mut String, field: &str) -> Result<(), Fail> {
     Ok(write!(text, " {field:?}")?)
 }
 
 /// Writes a row as its source number, its row number and its fields.
-pub fn write_row(text: &mut String, row: RawRow<'_>) -> Result<(), Fail> {
+pub(crate) fn write_row(text: &mut String, row: RawRow<'_>) -> Result<(), Fail> {
     write!(text, "{}/{}", row.source(), row.number())?;
     for i in 0..row.len() {
         write_field(text, row.field(i))?;
@@ -59,7 +59,7 @@ pub fn write_row(text: &mut String, row: RawRow<'_>) -> Result<(), Fail> {
 }
 
 /// Writes a stop at this row.
-pub fn write_stop(text: &mut String, stop: RowStop, row: u64) -> Result<(), Fail> {
+pub(crate) fn write_stop(text: &mut String, stop: RowStop, row: u64) -> Result<(), Fail> {
     Ok(write!(text, "{stop:?} {row}; ")?)
 }
 
@@ -79,7 +79,7 @@ fn write_next(text: &mut String, rows: &mut Rows) -> Result<bool, Fail> {
 
 /// Writes the rows that are there now, each as its source number, its row number and its fields, and the
 /// stop with its row.
-pub fn write_rows(text: &mut String, rows: &mut Rows) -> Result<(), Fail> {
+pub(crate) fn write_rows(text: &mut String, rows: &mut Rows) -> Result<(), Fail> {
     for _ in 0..64 {
         if !write_next(text, rows)? {
             break;
@@ -89,7 +89,7 @@ pub fn write_rows(text: &mut String, rows: &mut Rows) -> Result<(), Fail> {
 }
 
 /// What a text gives in pieces of so many bytes, up to its end or the first stop.
-pub fn pieces(
+pub(crate) fn pieces(
     alloc: Global,
     dialect: Dialect,
     max: u32,
