@@ -6,8 +6,11 @@ ghost use Rattle.csvw_fields.specs.Bounds.{bytes_at, is_bound};
 /// second buffer. Its places are bytes from 0, and `to` is behind the last.
 #[derive(Clone, Copy, Debug, PartialEq, Eq)]
 pub struct Bound {
+    /// Its first byte, from 0.
     pub from: usize,
+    /// The place behind its last byte.
     pub to: usize,
+    /// Whether it lies in the second buffer.
     pub apart: bool,
 }
 

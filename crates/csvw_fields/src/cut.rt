@@ -18,8 +18,11 @@ use std::alloc::AllocError;
 /// The symbols of a dialect as bytes. The quote is one only where fields may be `quoted`.
 #[derive(Clone, Copy, Debug, PartialEq, Eq)]
 pub struct Symbols {
+    /// The delimiter.
     pub delimiter: u8,
+    /// The quote; the delimiter where no field may be quoted.
     pub quote: u8,
+    /// Whether fields may be quoted.
     pub quoted: bool,
 }
 
@@ -57,8 +60,11 @@ fn ascii(c: char) -> Option<u8>
 /// comes behind it, which is the next field or, where it `ends` the row, the terminator.
 #[derive(Clone, Copy, Debug, PartialEq, Eq)]
 pub struct Cut {
+    /// Where its text lies.
     pub bound: Bound,
+    /// The place of what comes behind it, in bytes.
     pub next: usize,
+    /// Whether that is the terminator.
     pub ends: bool,
 }
 

@@ -29,10 +29,15 @@ pub enum Reading {
 /// The front of a row: where in a field it ends, and the values of the fields. The last of them isn't whole.
 #[derive(Drop)]
 pub struct Draft {
+    /// How many bytes of the row were read.
     read: usize,
+    /// Where in a field it ends.
     state: State,
+    /// The place in `texts` at which the field begins that isn't whole, in bytes from 0.
     from: usize,
+    /// The values of all fields, one behind the other.
     texts: Vec<u8>,
+    /// Where the values of the whole fields lie in `texts`.
     bounds: Vec<Bound>,
     ghost within: { from ≤ length texts.items },
     ghost is_text: { is_utf8 (drop from texts.items) ≡ true },

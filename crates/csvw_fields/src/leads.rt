@@ -12,8 +12,11 @@ use memchr::{memchr2, memchr3};
 /// the delimiter's stands for the quote's, and where quotes are doubled, the quote's for the escape's.
 #[derive(Clone, Copy, Debug, PartialEq, Eq)]
 pub struct Leads {
+    /// That of the delimiter.
     delimiter: u8,
+    /// That of the quote.
     quote: u8,
+    /// That of what begins an escape.
     escape: u8,
 }
 

@@ -13,8 +13,11 @@ const LANES: usize = 64;
 /// Which bytes of a part of a text are symbols: a bit of the mask for each, the lowest for the first.
 #[derive(Clone, Copy, Debug, PartialEq, Eq)]
 pub struct Marks {
+    /// The place of the part's first byte, from 0.
     from: usize,
+    /// How many bytes the part has, 64 at most.
     len: usize,
+    /// The bits.
     mask: u64,
 }
 

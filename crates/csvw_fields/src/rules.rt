@@ -20,9 +20,13 @@ use std::alloc::{AllocError, Global};
 /// A dialect with the characters of its comment prefix.
 #[derive(Drop)]
 pub struct Rules {
+    /// The dialect.
     pub dialect: Dialect,
+    /// Its comment prefix.
     pub prefix: Option<Seq<char>>,
+    /// Its symbols, where its rows are cut among their bytes.
     pub symbols: Option<Symbols>,
+    /// The first bytes of its symbols.
     pub leads: Leads,
     ghost same_prefix: { prefix ≡ prefix_of dialect },
     ghost lawful: { IsLawful dialect },

@@ -7,10 +7,15 @@ use csvw_fields::{Bound, text_at};
 /// A header row or a data row.
 #[derive(Clone, Copy)]
 pub struct RawRow<'a> {
+    /// The bytes that were read.
     text: &'a [u8],
+    /// The second buffer.
     spare: &'a [u8],
+    /// Where the texts of the fields lie in both.
     bounds: &'a [Bound],
+    /// Its number in its source, from 1.
     source: u64,
+    /// Its number among the data rows, from 1; 0 for a header row.
     number: u64,
     ghost bounded: { are_bounds text.now spare.now bounds.now ≡ true },
 }

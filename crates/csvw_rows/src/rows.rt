@@ -24,17 +24,29 @@ use std::alloc::{AllocError, Global};
 /// A reader of the rows of a text that comes in pieces of bytes.
 #[derive(Drop)]
 pub struct Rows {
+    /// The rules of the dialect.
     rules: Rules,
+    /// The most rows of all kinds.
     max_rows: u64,
+    /// The text that wasn't read yet.
     source: Source,
+    /// Whether the text has ended.
     ended: bool,
+    /// How many rows of all kinds were read.
     row: u64,
+    /// How many of them were header rows or data rows.
     remained: u64,
+    /// Which bytes behind a place are symbols.
     marks: Marks,
+    /// Where the fields lie that were read last.
     fields: Vec<Bound>,
+    /// The texts of those whose quotes were doubled.
     spare: Vec<u8>,
+    /// The front of a row that wasn't complete.
     draft: Draft,
+    /// How many bytes at the front are known to be a comment's or a skipped row's.
     note: usize,
+    /// The stop that was answered, if one was.
     stop: Option<RowStop>,
     ghost few: { max_rows < 2 ^ 64 - 1 },
     ghost counted: { row ≤ max_rows },

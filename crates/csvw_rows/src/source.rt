@@ -12,11 +12,17 @@ const BYTE_ORDER_MARK: char = '\u{FEFF}';
 /// The text that was not yet taken. A byte order mark at the start isn't in it.
 #[derive(Drop)]
 pub struct Source {
+    /// Where its memory comes from.
     alloc: Global,
+    /// The text, whose front was taken.
     text: Vec<u8>,
+    /// How many bytes of it were taken.
     taken: usize,
+    /// The bytes at the end that are no whole character.
     pending: Vec<u8>,
+    /// Whether a character came, so that no byte order mark may follow.
     begun: bool,
+    /// Whether the bytes are no UTF-8, whatever follows.
     is_bad: bool,
     ghost within: { taken ≤ vec_len text },
     ghost is_text: { is_utf8 (drop taken text.items) ≡ true },
