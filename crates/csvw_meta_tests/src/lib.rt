@@ -4,20 +4,13 @@
 #[cfg(test)]
 mod annotations;
 #[cfg(test)]
-mod columns;
-#[cfg(test)]
 mod contexts;
-#[cfg(test)]
-mod dialects;
 #[cfg(test)]
 mod groups;
 #[cfg(test)]
-mod inherited;
-#[cfg(test)]
 mod limits;
-#[cfg(test)]
 mod reading;
 #[cfg(test)]
-mod schemas;
-#[cfg(test)]
 mod tables;
+
+pub use reading::{Accepted, Refused, accepts, refuses};

@@ -5,21 +5,21 @@ use csvw_meta_core::MetaCode;
 use std::alloc::{AllocError, Global};
 
 /// A part of a document that is read.
-pub(crate) struct Accepted {
+pub struct Accepted {
     /// What stands in the document.
-    pub(crate) text: &'static str,
+    pub text: &'static str,
     /// How many properties of it are ignored with a warning.
-    pub(crate) warnings: usize,
+    pub warnings: usize,
 }
 
 /// A part of a document that is refused.
-pub(crate) struct Refused {
+pub struct Refused {
     /// What stands in the document.
-    pub(crate) text: &'static str,
+    pub text: &'static str,
     /// The code of its fault.
-    pub(crate) code: MetaCode,
+    pub code: MetaCode,
     /// The place of its fault, below the part.
-    pub(crate) pointer: &'static str,
+    pub pointer: &'static str,
 }
 
 fn count_in_schema(described: &Description) -> usize {
@@ -50,11 +50,7 @@ fn count(described: &Description) -> usize {
 }
 
 /// Whether the document with that part between the two texts is read, with so many warnings.
-pub(crate) fn accepts(
-    alloc: Global,
-    frame: (&str, &str),
-    case: &Accepted,
-) -> Result<bool, AllocError> {
+pub fn accepts(alloc: Global, frame: (&str, &str), case: &Accepted) -> Result<bool, AllocError> {
     let (front, end) = frame;
     let text = case.text;
     let document = format!(in alloc; "{front}{text}{end}")?;
@@ -67,7 +63,7 @@ pub(crate) fn accepts(
 }
 
 /// Whether the document with that part between the two texts is refused at its fault, whose pointer begins with `at`.
-pub(crate) fn refuses(
+pub fn refuses(
     alloc: Global,
     frame: (&str, &str),
     at: &str,

@@ -1,6 +1,6 @@
 //! The properties that columns inherit.
-use crate::reading::{Accepted, Refused, accepts, refuses};
 use csvw_meta_core::MetaCode;
+use csvw_meta_tests::{Accepted, Refused, accepts, refuses};
 use std::test::Fail;
 
 /// Those that are read, with how many warnings.
