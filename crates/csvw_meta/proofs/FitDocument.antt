@@ -21,33 +21,40 @@ use Rattle.csvw_meta_keys.specs.Naming.{all_known}
 use Rattle.csvw_meta_notes.specs.Unlisted.{all_notes, all_warnings}
 use Rattle.csvw_meta.specs.declared.body.Body.{Body}
 use Rattle.csvw_meta.specs.declared.body.DialectGiven.{DialectGiven}
-use Rattle.csvw_meta.specs.declared.context.Context.{Context}
-use Rattle.csvw_meta.specs.declared.dialect.DialectFound.{DialectFound}
+use Rattle.csvw_meta_inherited.specs.declared.context.Context.{Context}
+use Rattle.csvw_meta_inherited.specs.declared.dialect.DialectFound.{DialectFound}
 use Rattle.csvw_meta.specs.declared.group.GroupFound.{GroupFound}
-use Rattle.csvw_meta.specs.declared.inherited.InheritedFound.{InheritedFound}
+use Rattle.csvw_meta_inherited.specs.declared.inherited.InheritedFound.{InheritedFound}
 use Rattle.csvw_meta.specs.declared.schema.SchemaFound.{SchemaFound}
 use Rattle.csvw_meta.specs.declared.table.TableFound.{TableFound}
 use Rattle.csvw_meta.specs.Body.{body, body_of, given_dialect, split}
-use Rattle.csvw_meta.specs.Context.{context}
-use Rattle.csvw_meta.specs.Dialect.{dialect}
+use Rattle.csvw_meta_inherited.specs.Context.{context}
+use Rattle.csvw_meta_inherited.specs.Dialect.{dialect}
 use Rattle.csvw_meta.specs.Described.{MayBeContext, described, hanging_on, judged_within, parts, sole_table, within}
 use Rattle.csvw_meta.specs.Document.{Document, MayBeUrl, document, judged, length_of, of_bytes, of_json, own_url, plain_description}
 use Rattle.csvw_meta.specs.Group.{description_of, group, no_group, tables, url_faults, url_of}
-use Rattle.csvw_meta.specs.Inherited.{inherited}
+use Rattle.csvw_meta_inherited.specs.Fine.{Ensures, none_in_both, if_fine, also_fine}
+use Rattle.csvw_meta_inherited.specs.Inherited.{inherited}
 use Rattle.csvw_meta.specs.Json.{json_of, without_bom}
-use Rattle.csvw_meta.specs.Names.{group_names, inherited_names, place_of}
+use Rattle.csvw_meta_inherited.specs.Names.{group_names, inherited_names, place_of}
 use Rattle.csvw_meta.specs.References.{reference_faults, schema_faults, table_at, table_faults, targets}
 use Rattle.csvw_meta.specs.Schema.{schema}
 use Rattle.csvw_meta.specs.Several.{several}
 use Rattle.csvw_meta.specs.Table.{no_table, table, table_of, table_others}
 use Rattle.csvw_meta.specs.UrlAlone.{own_base, plain_document}
-use Rattle.csvw_meta.proofs.FineLemmas.{Ensures, none_in_both, if_fine, also_fine, on_object_fine, needed_fine, optional_fine, several_fine}
-use Rattle.csvw_meta.proofs.FitDialect.{HasFitDialect, dialect_fine}
+use Rattle.csvw_meta.proofs.FineLemmas.{on_object_fine, needed_fine, optional_fine, several_fine}
 use Rattle.csvw_meta.proofs.FitKeys.{DescribesAny, schema_resolves, tables_resolve}
 use Rattle.csvw_meta.proofs.HangingLemmas.{Gives, gives_on, gives_read}
 use Rattle.csvw_meta.proofs.FitSchema.{DatatypesFit, IsFitFound, inherited_sound, pairs_apart, schema_fine}
 
 -- ---- dialects and bodies
+
+abbrev HasFitDialect : DialectFound → Type 0
+HasFitDialect found = IsFitDialect found.dialect
+
+-- the law of csvw_meta_inherited: a dialect in which no fault stands is lawful
+abbrev DialectsFit : Type 0
+DialectsFit = (context : Context) (table : ℕ) (at : List ℕ) (d : Data) → Ensures (dialect context table at d) HasFitDialect
 
 abbrev IsFitGiven : DialectGiven → Type 0
 IsFitGiven given = IfSome given.dialect IsFitDialect
@@ -56,12 +63,12 @@ split_fine : (warnings : List Fault) (found : Option DialectFound) → IfSome fo
 split_fine warnings None h = tt
 split_fine warnings (Some found) h = h
 
-given_dialect_fine : (context : Context) (table : ℕ) (warnings : List Fault) (at : List ℕ) (d : Data)
+given_dialect_fine : (dialects : DialectsFit) (context : Context) (table : ℕ) (warnings : List Fault) (at : List ℕ) (d : Data)
     → Ensures (given_dialect context table warnings at d) IsFitGiven
 unfolding given_dialect
-given_dialect_fine context table warnings at d h =
+given_dialect_fine dialects context table warnings at d h =
     split_fine warnings (optional (dialect context table) at d (codes "dialect")).value
-    (optional_fine HasFitDialect (dialect context table) (dialect_fine context table) at d (codes "dialect") h)
+    (optional_fine HasFitDialect (dialect context table) (dialects context table) at d (codes "dialect") h)
 
 record IsFitBody (b : Body) : Type 0 where
   pub schema : IfSome b.schema IsFitSchema
@@ -124,7 +131,7 @@ plannable place at g fit h =
 not_some : (d : Description) → None ≡ Some d → ⊥
 not_some d e = cc
 
-module _ (datatypes : DatatypesFit) where
+module _ (datatypes : DatatypesFit) (dialects : DialectsFit) where
   body_fine : (context : Context) (table : ℕ) (at : List ℕ) (d : Data) → Ensures (body context table at d) IsFitBody
   unfolding body
   body_fine context table at d h =
@@ -146,7 +153,7 @@ module _ (datatypes : DatatypesFit) where
       let p6 = none_in_both (optional (id context.base) at d (codes "@id")).faults _ p5.1 in
       let p7 = none_in_both (given_dialect context number warnings.value at d).faults _ p6.1 in
       let p8 = none_in_both (body context number at d).faults _ p7.1 in
-      let given = given_dialect_fine context number warnings.value at d p7.0 in
+      let given = given_dialect_fine dialects context number warnings.value at d p7.0 in
       let rest = body_fine context number at d p8.0 in
       record { table = record { dialect = given; schema = rest.schema; inherited = rest.inherited }; keys = rest.keys }
 
@@ -170,7 +177,7 @@ module _ (datatypes : DatatypesFit) where
       let p6 = none_in_both (given_dialect context 0 warnings.value at d).faults _ p5.1 in
       let p7 = none_in_both (body context 0 at d).faults _ p6.1 in
       record {
-        dialect = given_dialect_fine context 0 warnings.value at d p6.0;
+        dialect = given_dialect_fine dialects context 0 warnings.value at d p6.0;
         body = body_fine context 0 at d p7.0;
         tables = needed_fine AreFitTables (tables context) (tables_fine context) [] at d (codes "tables") p4.0;
       }

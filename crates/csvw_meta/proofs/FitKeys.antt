@@ -15,11 +15,11 @@ use Rattle.csvw_meta_keys.specs.declared.keys.KeysFound.{KeysFound}
 use Rattle.csvw_meta_keys.specs.Described.{names_of, described}
 use Rattle.csvw_meta_keys.specs.Naming.{all_known, bad_reference, faults_to, foreign_faults, has_name, key_faults, name_fault, name_faults}
 use Rattle.csvw_meta_keys.specs.Naming.{side_faults, target_of}
+use Rattle.csvw_meta_inherited.specs.Fine.{none_in_both}
 use Rattle.csvw_meta.specs.declared.table.TableFound.{TableFound}
 use Rattle.csvw_meta.specs.declared.group.GroupFound.{GroupFound}
 use Rattle.csvw_meta.specs.Group.{description_of}
 use Rattle.csvw_meta.specs.References.{schema_faults, table_faults, target, targets}
-use Rattle.csvw_meta.proofs.FineLemmas.{none_in_both}
 use Rattle.csvw_meta.proofs.FitSchema.{Describes}
 
 -- ---- names

@@ -26,16 +26,17 @@ use Rattle.csvw_meta_datatype.specs.declared.form.DatatypeFound.{DatatypeFound}
 use Rattle.csvw_meta_datatype.specs.Datatypes.{datatype}
 use Rattle.csvw_meta_keys.specs.declared.keys.KeysFound.{KeysFound}
 use Rattle.csvw_meta_keys.specs.Described.{names_of, described}
-use Rattle.csvw_meta.specs.declared.context.Context.{Context}
+use Rattle.csvw_meta_inherited.specs.declared.context.Context.{Context}
 use Rattle.csvw_meta.specs.declared.schema.SchemaFound.{SchemaFound}
 use Rattle.csvw_meta.specs.Column.{column, column_of, no_column}
-use Rattle.csvw_meta.specs.Datatype.{given_datatype, split}
-use Rattle.csvw_meta.specs.Inherited.{inherited}
-use Rattle.csvw_meta.specs.Names.{schema_names, inherited_names, place_of}
+use Rattle.csvw_meta_inherited.specs.Datatype.{given_datatype, split}
+use Rattle.csvw_meta_inherited.specs.Fine.{Ensures, none_in_both, also_fine, on_linked_fine, property_fine}
+use Rattle.csvw_meta_inherited.specs.Inherited.{inherited}
+use Rattle.csvw_meta_inherited.specs.Names.{schema_names, inherited_names, place_of}
 use Rattle.csvw_meta.specs.Repeated.{repeated}
 use Rattle.csvw_meta.specs.Schema.{columns, column_faults, order_faults, name_faults, no_schema, schema, schema_of}
 use Rattle.csvw_meta.specs.Several.{several}
-use Rattle.csvw_meta.proofs.FineLemmas.{Ensures, none_in_both, also_fine, on_object_fine, on_linked_fine, property_fine, several_fine}
+use Rattle.csvw_meta.proofs.FineLemmas.{on_object_fine, several_fine}
 
 -- ---- texts of which none repeats an earlier one
 

@@ -8,8 +8,8 @@ use Rattle.csvw_meta_core.specs.declared.fault.Refusal.{Refusal}
 use Rattle.csvw_meta_core.specs.declared.fault.Refusal.TheVariants as refusal
 use Rattle.csvw_meta_core.specs.Read.{Read, fine}
 use Rattle.csvw_meta_core.specs.Reads.{Fails, Reads}
+use Rattle.csvw_meta_inherited.specs.Fine.{Ensures}
 use Rattle.csvw_meta.specs.Described.{Describes, Judged, hanging_on, judged_by}
-use Rattle.csvw_meta.proofs.FineLemmas.{Ensures}
 
 none_in : {X : Type 0} (x : X) → Contains [] x → ⊥
 none_in x c = let lt = c.1 in absurd (omega (arith, lt))

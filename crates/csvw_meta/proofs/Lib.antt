@@ -1,8 +1,6 @@
-pub mod ContextLemmas
 pub mod ExactLemmas
 pub mod FineLemmas
 pub mod FirstLemmas
-pub mod FitDialect
 pub mod FitDocument
 pub mod FitKeys
 pub mod FitSchema

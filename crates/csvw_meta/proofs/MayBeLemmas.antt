@@ -20,9 +20,9 @@ use Rattle.csvw_meta_core.specs.Links.{told, no_url}
 use Rattle.csvw_meta_core.specs.Pointer.{below, item_at}
 use Rattle.csvw_meta_core.specs.Read.{Read, fine, faulty, code_for, given, on_kind_as, under}
 use Rattle.csvw_meta_core.specs.Rules.{hides_property, is_at, is_of_several, is_within}
-use Rattle.csvw_meta.specs.declared.context.Context.{Context}
-use Rattle.csvw_meta.specs.Context.{context, context_base, context_found, context_items, context_value, further_context, is_vocabulary, no_context}
-use Rattle.csvw_meta.specs.Context.{other_items, plain_context, second_item, strangers}
+use Rattle.csvw_meta_inherited.specs.declared.context.Context.{Context}
+use Rattle.csvw_meta_inherited.specs.Context.{context, context_base, context_found, context_items, context_value, further_context, is_vocabulary, no_context}
+use Rattle.csvw_meta_inherited.specs.Context.{other_items, plain_context, second_item, strangers}
 use Rattle.csvw_meta.specs.Described.{MayBeContext, is_known}
 use Rattle.csvw_meta.specs.Document.{MayBeUrl}
 use Rattle.csvw_meta.proofs.HangingLemmas.{HasPossible}

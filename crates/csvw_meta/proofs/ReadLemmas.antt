@@ -1,12 +1,12 @@
 -- A fault of one part is a fault of the whole.
-use Rattle.std.proofs.Common.{◌≡◌, List, [], ◌∷◌, ◌++◌, Contains, arith, subst, sym, Result, Ok, Err}
+use Rattle.std.proofs.Common.{◌≡◌, List, [], ◌∷◌, ◌++◌, Contains, subst, sym, Result, Ok, Err}
 use Rattle.std.specs.Result.{IsErrAnd}
 use Rattle.std.proofs.lemmas.List.Elements.{All-cons, All-contains, All-nil, Contains-append_left, Contains-append_right}
 use Rattle.csvw_meta_core.specs.declared.fault.MetaFault.{MetaFault}
 use Rattle.csvw_meta_core.specs.declared.fault.Refusal.{Refusal}
 use Rattle.csvw_meta_core.specs.declared.fault.Refusal.TheVariants as refusal
 use Rattle.csvw_meta_core.specs.Reads.{Fails, Reads}
-use Rattle.csvw_meta_core.specs.Read.{Read, fine, over_faults}
+use Rattle.csvw_meta_core.specs.Read.{Read, fine}
 
 pub fails_first : (e : Refusal) (xs ys : List MetaFault) → Fails e xs → Fails e (xs ++ ys)
 fails_first refusal.Memory xs ys h = tt
@@ -21,13 +21,6 @@ pub told_at : (e : Refusal) (f : MetaFault) (faults : List MetaFault) → Contai
 told_at refusal.Memory f faults is h = tt
 told_at (refusal.Fault g) f faults is h =
     All-contains (Contains faults) (f ∷ []) g (All-cons (Contains faults) f [] is (All-nil (Contains faults))) h
-
--- A fault of what has to be there first is told.
-pub fails_over : {A B : Type 0} (e : Refusal) (dummy : B) (xs : List MetaFault) (a : A) (next : A → Read B)
-    → Fails e xs → Fails e (over_faults dummy xs a next).faults
-fails_over refusal.Memory dummy xs a next h = tt
-fails_over (refusal.Fault f) dummy [] a next h = absurd (omega (arith, h.1))
-fails_over (refusal.Fault f) dummy (x ∷ xs) a next h = h
 
 -- What a `?` returns is told in what is read.
 pub refused : {A : Type 0} (result : Result A Refusal) (e : Refusal) (r : Read A) → IsErrAnd result (λ y. y ≡ e) → Fails e r.faults → Reads result r

@@ -5,12 +5,12 @@ use Rattle.csvw_text.specs.declared.fault.Fault.{Fault}
 use Rattle.csvw_meta_core.specs.Read.{Read, fine, ◌>>=◌, under, optional}
 use Rattle.csvw_meta.specs.declared.body.Body.{Body}
 use Rattle.csvw_meta.specs.declared.body.DialectGiven.{DialectGiven}
-use Rattle.csvw_meta.specs.declared.context.Context.{Context}
-use Rattle.csvw_meta.specs.declared.dialect.DialectFound.{DialectFound}
-use Rattle.csvw_meta.specs.declared.inherited.InheritedFound.{InheritedFound}
+use Rattle.csvw_meta_inherited.specs.declared.context.Context.{Context}
+use Rattle.csvw_meta_inherited.specs.declared.dialect.DialectFound.{DialectFound}
+use Rattle.csvw_meta_inherited.specs.declared.inherited.InheritedFound.{InheritedFound}
 use Rattle.csvw_meta.specs.declared.schema.SchemaFound.{SchemaFound}
-use Rattle.csvw_meta.specs.Dialect.{dialect}
-use Rattle.csvw_meta.specs.Inherited.{inherited}
+use Rattle.csvw_meta_inherited.specs.Dialect.{dialect}
+use Rattle.csvw_meta_inherited.specs.Inherited.{inherited}
 use Rattle.csvw_meta.specs.Schema.{schema}
 
 -- the warnings on a dialect, then those on its object

@@ -6,10 +6,10 @@ use Rattle.csvw_meta_core.specs.Read.{Read, fine, ◌>>=◌, on_object, property
 use Rattle.csvw_meta_core.specs.Kinds.{fixed, truth}
 use Rattle.csvw_meta_core.specs.Links.{id}
 use Rattle.csvw_meta_notes.specs.Unlisted.{unlisted}
-use Rattle.csvw_meta.specs.declared.context.Context.{Context}
+use Rattle.csvw_meta_inherited.specs.declared.context.Context.{Context}
 use Rattle.csvw_meta.specs.DeclaredName.{name}
-use Rattle.csvw_meta.specs.Inherited.{inherited, no_inherited}
-use Rattle.csvw_meta.specs.Names.{column_names, inherited_names, place_of}
+use Rattle.csvw_meta_inherited.specs.Inherited.{inherited, no_inherited}
+use Rattle.csvw_meta_inherited.specs.Names.{column_names, inherited_names, place_of}
 use Rattle.csvw_meta.specs.Titles.{titles}
 
 abbrev pub no_column : ColumnDescription

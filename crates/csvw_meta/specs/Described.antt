@@ -12,12 +12,12 @@ use Rattle.csvw_meta_core.specs.declared.fault.Refusal.TheVariants as refusal
 use Rattle.csvw_meta_core.specs.Read.{Read, fine, under}
 use Rattle.csvw_meta_core.specs.Pointer.{below, item_at}
 use Rattle.csvw_meta_core.specs.Rules.{also, hides_property, is_at}
-use Rattle.csvw_meta.specs.declared.context.Context.{Context}
+use Rattle.csvw_meta_inherited.specs.declared.context.Context.{Context}
 use Rattle.csvw_meta.specs.declared.group.GroupFound.{GroupFound}
 use Rattle.csvw_meta.specs.declared.table.TableFound.{TableFound}
-use Rattle.csvw_meta.specs.Context.{context, context_value}
+use Rattle.csvw_meta_inherited.specs.Context.{context, context_value}
 use Rattle.csvw_meta.specs.Group.{group, description_of, no_group}
-use Rattle.csvw_meta.specs.Inherited.{no_inherited}
+use Rattle.csvw_meta_inherited.specs.Inherited.{no_inherited}
 use Rattle.csvw_meta.specs.References.{table_at, reference_faults}
 use Rattle.csvw_meta.specs.Table.{table_of}
 

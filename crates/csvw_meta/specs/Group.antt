@@ -11,12 +11,12 @@ use Rattle.csvw_meta_core.specs.Rules.{also, could_read_property}
 use Rattle.csvw_meta_core.specs.Kinds.{fixed}
 use Rattle.csvw_meta_core.specs.Links.{id}
 use Rattle.csvw_meta_notes.specs.Unlisted.{all_notes, all_warnings}
-use Rattle.csvw_meta.specs.declared.context.Context.{Context}
+use Rattle.csvw_meta_inherited.specs.declared.context.Context.{Context}
 use Rattle.csvw_meta.specs.declared.group.GroupFound.{GroupFound}
 use Rattle.csvw_meta.specs.declared.table.TableFound.{TableFound}
 use Rattle.csvw_meta.specs.Body.{given_dialect, body}
-use Rattle.csvw_meta.specs.Inherited.{no_inherited}
-use Rattle.csvw_meta.specs.Names.{group_names, inherited_names, place_of}
+use Rattle.csvw_meta_inherited.specs.Inherited.{no_inherited}
+use Rattle.csvw_meta_inherited.specs.Names.{group_names, inherited_names, place_of}
 use Rattle.csvw_meta.specs.Repeated.{repeated}
 use Rattle.csvw_meta.specs.Several.{several}
 use Rattle.csvw_meta.specs.Table.{table}

@@ -15,12 +15,12 @@ use Rattle.csvw_meta_notes.specs.Unlisted.{unlisted}
 use Rattle.csvw_meta_keys.specs.declared.keys.KeysFound.{KeysFound}
 use Rattle.csvw_meta_keys.specs.Described.{names_of, described, all_warnings}
 use Rattle.csvw_meta_keys.specs.Keys.{keys}
-use Rattle.csvw_meta.specs.declared.context.Context.{Context}
-use Rattle.csvw_meta.specs.declared.inherited.InheritedFound.{InheritedFound}
+use Rattle.csvw_meta_inherited.specs.declared.context.Context.{Context}
+use Rattle.csvw_meta_inherited.specs.declared.inherited.InheritedFound.{InheritedFound}
 use Rattle.csvw_meta.specs.declared.schema.SchemaFound.{SchemaFound}
 use Rattle.csvw_meta.specs.Column.{column}
-use Rattle.csvw_meta.specs.Inherited.{inherited, no_inherited}
-use Rattle.csvw_meta.specs.Names.{schema_names, inherited_names, place_of}
+use Rattle.csvw_meta_inherited.specs.Inherited.{inherited, no_inherited}
+use Rattle.csvw_meta_inherited.specs.Names.{schema_names, inherited_names, place_of}
 use Rattle.csvw_meta.specs.NamesRead.{name_known}
 use Rattle.csvw_meta.specs.Repeated.{repeated}
 use Rattle.csvw_meta.specs.Several.{several}

@@ -6,11 +6,11 @@ use Rattle.csvw_meta_core.specs.Read.{Read, fine, ◌>>=◌, on_object, needed, 
 use Rattle.csvw_meta_core.specs.Kinds.{fixed, truth}
 use Rattle.csvw_meta_core.specs.Links.{url, id, no_url}
 use Rattle.csvw_meta_notes.specs.Unlisted.{all_notes, all_warnings}
-use Rattle.csvw_meta.specs.declared.context.Context.{Context}
+use Rattle.csvw_meta_inherited.specs.declared.context.Context.{Context}
 use Rattle.csvw_meta.specs.declared.table.TableFound.{TableFound}
 use Rattle.csvw_meta.specs.Body.{given_dialect, body}
-use Rattle.csvw_meta.specs.Inherited.{no_inherited}
-use Rattle.csvw_meta.specs.Names.{table_names, sole_table_names, inherited_names, place_of}
+use Rattle.csvw_meta_inherited.specs.Inherited.{no_inherited}
+use Rattle.csvw_meta_inherited.specs.Names.{table_names, sole_table_names, inherited_names, place_of}
 
 -- the properties of a table that is the document, and of another
 abbrev pub table_others : Bool → ℕ → List ℕ → Data → Read (List Fault)

@@ -6,13 +6,11 @@ ghost use Rattle.csvw_meta_core.specs.Pointer.{text_of};
 ghost use Rattle.csvw_meta_core.specs.Reads.{Reads};
 ghost use Rattle.csvw_meta.specs.Body.{split, given_dialect, body_of, body};
 
-use crate::context::Context;
-use crate::dialect::{DialectFound, DialectReader};
-use crate::inherited::{InheritedFound, read_inherited};
 use crate::schema::{SchemaFound, SchemaReader};
 use csvw_description::{Inherited, Schema};
 use csvw_dialect::Dialect;
 use csvw_meta_core::{Part, Refusal};
+use csvw_meta_inherited::{Context, DialectFound, DialectReader, InheritedFound, read_inherited};
 use csvw_meta_keys::KeysFound;
 use csvw_text::{Fault, Seq};
 use std::alloc::AllocError;

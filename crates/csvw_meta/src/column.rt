@@ -5,13 +5,11 @@ ghost use Rattle.csvw_meta_core.specs.Pointer.{text_of};
 ghost use Rattle.csvw_meta_core.specs.Reads.{Reads};
 ghost use Rattle.csvw_meta.specs.Column.{column_of};
 
-use crate::context::Context;
-use crate::inherited::read_inherited;
 use crate::name::NameReader;
 use crate::titles::Titles;
-use crate::unlisted::column_warnings;
 use csvw_description::ColumnDescription;
 use csvw_meta_core::{Fixed, IdReader, NumberedReader, Part, Refusal, Truth, joined};
+use csvw_meta_inherited::{Context, column_warnings, read_inherited};
 use csvw_text::Seq;
 use serde_json::Value;
 

@@ -8,7 +8,6 @@ ghost use Rattle.csvw_meta.specs.Described.{Describes, sole_table, parts, within
 ghost use Rattle.csvw_meta.specs.Document.{IsFault, document, group_in, judged, of_bytes, own_url};
 
 use crate::body::{Body, DialectGiven};
-use crate::context::{Context, read_context};
 use crate::group::{GroupFound, description_of, read_group};
 use crate::json::{document_fault, json_of, without_bom};
 use crate::references::check_references;
@@ -17,6 +16,7 @@ use csvw_description::{Description, Inherited};
 use csvw_iri::{Base, IriFault};
 use csvw_meta_core::{MetaCode, MetaFault, Part, Pointer, Refusal};
 use csvw_meta_datatype::datatypes_fit;
+use csvw_meta_inherited::{Context, dialects_fit, read_context};
 use csvw_text::{Seq, Text};
 use std::alloc::Global;
 
@@ -133,6 +133,7 @@ pub fn read(alloc: Global, bytes: &[u8], base: &str) -> Result<Description, Meta
     ensures fault { IfErr result (λ e. e.code ≢ MetaCode.Memory → IsFault (document base.now bytes.now) e) }
 {
     datatypes_fit();
+    dialects_fit();
     match document(alloc, bytes, base) {
         Ok(description) => Ok(description),
         Err(Refusal::Fault(fault)) => Err(fault),

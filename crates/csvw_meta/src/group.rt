@@ -6,14 +6,13 @@ ghost use Rattle.csvw_meta_core.specs.Reads.{Fails, Reads};
 ghost use Rattle.csvw_meta.specs.Group.{url_of, url_faults, group, description_of};
 
 use crate::body::{Body, DialectGiven, read_body, read_dialect};
-use crate::context::Context;
 use crate::repeated::repeated_at;
 use crate::several::Several;
 use crate::table::{TableFound, TableReader};
-use crate::unlisted::{group_warnings, read_notes};
 use csvw_description::{Description, Note, TableDescription};
 use csvw_iri::Iri;
 use csvw_meta_core::{Fixed, IdReader, MetaCode, Part, Reader, Refusal, joined};
+use csvw_meta_inherited::{Context, group_warnings, read_notes};
 use csvw_text::{Seq, Text};
 use std::alloc::{AllocError, Global};
 

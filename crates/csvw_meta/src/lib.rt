@@ -4,12 +4,8 @@
 
 mod body;
 mod column;
-mod context;
-mod datatype;
-mod dialect;
 mod document;
 mod group;
-mod inherited;
 mod json;
 pub mod laws;
 mod name;
@@ -18,9 +14,7 @@ mod repeated;
 mod schema;
 mod several;
 mod table;
-mod template;
 mod titles;
-mod unlisted;
 mod url_alone;
 mod virtual_order;
 

@@ -7,14 +7,12 @@ ghost use Rattle.csvw_meta_core.specs.Reads.{Fails, Reads};
 ghost use Rattle.csvw_meta.specs.Schema.{name_faults, order_faults, column_faults, with_keys, schema_of};
 
 use crate::column::ColumnReader;
-use crate::context::Context;
-use crate::inherited::{InheritedFound, read_inherited};
 use crate::repeated::repeated_at;
 use crate::several::Several;
-use crate::unlisted::schema_warnings;
 use crate::virtual_order::misplaced_at;
 use csvw_description::{ColumnDescription, Schema};
 use csvw_meta_core::{Fixed, IdReader, MetaCode, NotYet, Part, Reader, Refusal, joined};
+use csvw_meta_inherited::{Context, InheritedFound, read_inherited, schema_warnings};
 use csvw_meta_keys::{KeysFound, read_keys};
 use csvw_text::{Fault, Place, Seq, Text};
 use serde_json::Value;

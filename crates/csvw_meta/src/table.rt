@@ -6,12 +6,11 @@ ghost use Rattle.csvw_meta_core.specs.Reads.{Reads};
 ghost use Rattle.csvw_meta.specs.Table.{table_of, table_others};
 
 use crate::body::{read_body, read_dialect};
-use crate::context::Context;
-use crate::unlisted::{read_notes, sole_table_warnings, table_warnings};
 use csvw_description::TableDescription;
 use csvw_meta_core::{
     Fixed, IdReader, NumberedReader, Part, Reader, Refusal, Truth, UrlReader, joined,
 };
+use csvw_meta_inherited::{Context, read_notes, sole_table_warnings, table_warnings};
 use csvw_meta_keys::KeysFound;
 use csvw_text::{Fault, Seq};
 use serde_json::Value;

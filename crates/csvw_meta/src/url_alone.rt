@@ -13,6 +13,7 @@ use csvw_description::Description;
 use csvw_iri::{Base, IriFault};
 use csvw_meta_core::{MetaCode, MetaFault, Part, Pointer, Refusal};
 use csvw_meta_datatype::datatypes_fit;
+use csvw_meta_inherited::dialects_fit;
 use csvw_text::Text;
 use serde_json::{Value, json};
 use std::alloc::{AllocError, Global};
@@ -62,6 +63,7 @@ pub fn plain(alloc: Global, url: &str) -> Result<Description, MetaFault>
     ensures fault { IfErr result (λ e. e.code ≢ MetaCode.Memory → IsFault (plain_description url.now) e) }
 {
     datatypes_fit();
+    dialects_fit();
     match plain_description(alloc, url) {
         Ok(description) => Ok(description),
         Err(Refusal::Fault(fault)) => Err(fault),

@@ -22,16 +22,16 @@ use Rattle.csvw_meta_datatype.specs.Datatypes.{datatype}
 use Rattle.csvw_meta_datatype.specs.declared.form.DatatypeFound.{DatatypeFound}
 use Rattle.csvw_meta.specs.Body.{body, body_of, given_dialect, split}
 use Rattle.csvw_meta.specs.Column.{column, column_of, no_column}
-use Rattle.csvw_meta.specs.Context.{context}
-use Rattle.csvw_meta.specs.Datatype.{given_datatype}
-use Rattle.csvw_meta.specs.Datatype as datatypes
+use Rattle.csvw_meta_inherited.specs.Context.{context}
+use Rattle.csvw_meta_inherited.specs.Datatype.{given_datatype}
+use Rattle.csvw_meta_inherited.specs.Datatype as datatypes
 use Rattle.csvw_meta.specs.Described.{Judged, MayBeContext, described, group_of, hanging_on, judged_by, judged_within, parts, sole_table, within}
-use Rattle.csvw_meta.specs.Dialect.{dialect, dialect_of, no_dialect}
+use Rattle.csvw_meta_inherited.specs.Dialect.{dialect, dialect_of, no_dialect}
 use Rattle.csvw_meta.specs.Document.{Document, MayBeUrl, document, judged, length_of, of_bytes, of_json, own_url, plain_description}
 use Rattle.csvw_meta.specs.Group.{description_of, group, no_group, tables}
-use Rattle.csvw_meta.specs.Inherited.{inherited}
+use Rattle.csvw_meta_inherited.specs.Inherited.{inherited}
 use Rattle.csvw_meta.specs.Json.{json_of, without_bom}
-use Rattle.csvw_meta.specs.Names.{column_names, dialect_names, group_names, inherited_names, place_of, schema_names, sole_table_names, table_names}
+use Rattle.csvw_meta_inherited.specs.Names.{column_names, dialect_names, group_names, inherited_names, place_of, schema_names, sole_table_names, table_names}
 use Rattle.csvw_meta.specs.Schema.{columns, no_schema, schema, schema_of}
 use Rattle.csvw_meta.specs.Several.{several}
 use Rattle.csvw_meta.specs.Table.{no_table, table, table_of, table_others}

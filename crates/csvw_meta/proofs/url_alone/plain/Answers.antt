@@ -4,4 +4,5 @@ use Rattle.csvw_meta.proofs.FitDocument.{group_plannable}
 use Rattle.csvw_meta.proofs.url_alone.plain.Goals as goal
 
 pub returns-in-Ok-clause-plannable : goal.returns-in-Ok-clause-plannable
-returns-in-Ok-clause-plannable c = group_plannable c.datatypes_fit.ensures (plain_description c.args.url.now) c.in-Ok.description c.in-Ok.ensures
+returns-in-Ok-clause-plannable c =
+    group_plannable c.datatypes_fit.ensures c.dialects_fit.ensures (plain_description c.args.url.now) c.in-Ok.description c.in-Ok.ensures

@@ -19,9 +19,9 @@ use Rattle.csvw_meta_core.specs.Rules.{also, could_read}
 use Rattle.csvw_meta_core.specs.Kinds.{truth, whole, any_whole, character, fixed}
 use Rattle.csvw_meta_core.specs.Links.{id}
 use Rattle.csvw_meta_notes.specs.Unlisted.{unlisted}
-use Rattle.csvw_meta.specs.declared.context.Context.{Context}
-use Rattle.csvw_meta.specs.declared.dialect.DialectFound.{DialectFound}
-use Rattle.csvw_meta.specs.Names.{dialect_names, place_of}
+use Rattle.csvw_meta_inherited.specs.declared.context.Context.{Context}
+use Rattle.csvw_meta_inherited.specs.declared.dialect.DialectFound.{DialectFound}
+use Rattle.csvw_meta_inherited.specs.Names.{dialect_names, place_of}
 
 abbrev pub is_break_char : ℕ → Bool
 is_break_char c = (c == 13) || (c == 10)

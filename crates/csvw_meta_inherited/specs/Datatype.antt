@@ -4,9 +4,9 @@ use Rattle.serde_json.specs.Data.{Data}
 use Rattle.csvw_meta_core.specs.Read.{Read, under, optional}
 use Rattle.csvw_meta_datatype.specs.declared.form.DatatypeFound.{DatatypeFound}
 use Rattle.csvw_meta_datatype.specs.Datatypes.{datatype}
-use Rattle.csvw_meta.specs.declared.context.Context.{Context}
-use Rattle.csvw_meta.specs.declared.datatype.DatatypeGiven.{DatatypeGiven}
-use Rattle.csvw_meta.specs.Names.{place_of}
+use Rattle.csvw_meta_inherited.specs.declared.context.Context.{Context}
+use Rattle.csvw_meta_inherited.specs.declared.datatype.DatatypeGiven.{DatatypeGiven}
+use Rattle.csvw_meta_inherited.specs.Names.{place_of}
 
 abbrev pub split : Option DatatypeFound → DatatypeGiven
 split None = record { datatype = None; warnings = [] }

@@ -9,7 +9,7 @@ use csvw_template::{Template, TemplateFault};
 pub(crate) struct TemplateReader;
 
 impl Reader for TemplateReader {
-    ghost use Rattle.csvw_meta.specs.TemplateText.{template_text};
+    ghost use Rattle.csvw_meta_inherited.specs.TemplateText.{template_text};
 
     type Output = Template;
 

@@ -16,12 +16,12 @@ use Rattle.csvw_meta_core.specs.declared.fault.MetaFault.{MetaFault}
 use Rattle.csvw_meta_core.specs.Read.{Read, fine, faulty, property, optional, or_null, each}
 use Rattle.csvw_meta_core.specs.Kinds.{truth, whole, any_whole, character, fixed}
 use Rattle.csvw_meta_core.specs.Links.{id}
-use Rattle.csvw_meta.specs.declared.context.Context.{Context}
-use Rattle.csvw_meta.specs.declared.dialect.DialectFound.{DialectFound}
-use Rattle.csvw_meta.specs.Dialect.{is_break_char, mark, comment_prefix, terminator, terminators, joined, neither, all_symbols, clashes}
-use Rattle.csvw_meta.specs.Dialect.{dialect_parts, dialect_faults, lawful_dialect, trim, dialect_of, dialect, no_dialect}
-use Rattle.csvw_meta.proofs.FineLemmas.{Ensures, each_fine, none_in_both, if_fine, also_fine, over_fine, on_kind_fine, on_linked_fine, property_fine}
-use Rattle.csvw_meta.proofs.FineLemmas.{or_null_fine}
+use Rattle.csvw_meta_inherited.specs.declared.context.Context.{Context}
+use Rattle.csvw_meta_inherited.specs.declared.dialect.DialectFound.{DialectFound}
+use Rattle.csvw_meta_inherited.specs.Dialect.{is_break_char, mark, comment_prefix, terminator, terminators, joined, neither, all_symbols, clashes}
+use Rattle.csvw_meta_inherited.specs.Dialect.{dialect_parts, dialect_faults, lawful_dialect, trim, dialect_of, dialect, no_dialect}
+use Rattle.csvw_meta_inherited.specs.Fine.{Ensures, each_fine, none_in_both, if_fine, also_fine, on_linked_fine, property_fine}
+use Rattle.csvw_meta_inherited.proofs.FineLemmas.{over_fine, on_kind_fine, or_null_fine}
 
 -- neither CR nor LF
 abbrev IsMark : ℕ → Type 0
@@ -75,7 +75,7 @@ terminators_fine at (string s) h = terminator_fine at (string s) h
 terminators_fine at (array ds) h =
     let next : List LineTerminators → Read LineTerminators = λ ts. if length ts == 0 then faulty BadDialect at neither else fine (joined ts) in
     over_fine (All HasTerminator) HasTerminator neither (each terminator at 0 ds) next
-    (λ g. (each_fine HasTerminator (λ n. terminator) (λ n. terminator_fine) at 0 ds g).0)
+    (each_fine HasTerminator (λ n. terminator) (λ n. terminator_fine) at 0 ds)
     (λ ts all. if_fine HasTerminator (length ts == 0) (faulty BadDialect at neither) (fine (joined ts)) (λ b g. cc) (λ b g. joined_fine ts all b))
     h
 terminators_fine at null h = cc
@@ -217,7 +217,7 @@ dialect_of_fine context table at d h =
     let p3 = none_in_both (lawful_dialect at d).faults _ p2.1 in
     lawful_fine at d p3.0
 
-abbrev pub HasFitDialect : DialectFound → Type 0
+abbrev HasFitDialect : DialectFound → Type 0
 HasFitDialect found = IsFitDialect found.dialect
 
 pub dialect_fine : (context : Context) (table : ℕ) (at : List ℕ) (d : Data) → Ensures (dialect context table at d) HasFitDialect

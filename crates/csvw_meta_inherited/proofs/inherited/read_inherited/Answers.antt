@@ -1,9 +1,9 @@
 -- A fault of each part is told, behind those that have none.
 use Rattle.serde_json.specs.View.{view}
 use Rattle.csvw_meta_core.specs.Pointer.{text_of}
-use Rattle.csvw_meta.specs.Inherited.{inherited}
-use Rattle.csvw_meta.proofs.ReadLemmas.{fails_first, later, refused}
-use Rattle.csvw_meta.proofs.inherited.read_inherited.Goals as goal
+use Rattle.csvw_meta_inherited.specs.Inherited.{inherited}
+use Rattle.csvw_meta_inherited.proofs.ReadLemmas.{fails_first, later, refused}
+use Rattle.csvw_meta_inherited.proofs.inherited.read_inherited.Goals as goal
 
 pub returns-in_err-about_url : goal.returns-in_err-about_url
 unfolding inherited

@@ -3,7 +3,7 @@ ghost use Rattle.std.specs.Prelude.{◌≡◌, IfOk};
 ghost use Rattle.serde_json.specs.View.{view};
 ghost use Rattle.csvw_meta_core.specs.Pointer.{text_of};
 ghost use Rattle.csvw_meta_core.specs.Reads.{Reads};
-ghost use Rattle.csvw_meta.specs.Datatype.{split, given_datatype};
+ghost use Rattle.csvw_meta_inherited.specs.Datatype.{split, given_datatype};
 
 use crate::context::Context;
 use csvw_datatype::Datatype;

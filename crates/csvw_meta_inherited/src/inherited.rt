@@ -3,7 +3,7 @@ ghost use Rattle.std.specs.Prelude.{◌≡◌};
 ghost use Rattle.serde_json.specs.View.{view};
 ghost use Rattle.csvw_meta_core.specs.Pointer.{text_of};
 ghost use Rattle.csvw_meta_core.specs.Reads.{Reads};
-ghost use Rattle.csvw_meta.specs.Inherited.{inherited};
+ghost use Rattle.csvw_meta_inherited.specs.Inherited.{inherited};
 
 use crate::context::Context;
 use crate::datatype::read_datatype;
@@ -33,15 +33,17 @@ impl<R: Reader> Reader for SharedOf<R> {
 
 /// The inherited properties of an object, and the warnings on its datatype.
 #[derive(Drop)]
-pub(crate) struct InheritedFound {
-    pub(crate) inherited: Inherited,
-    pub(crate) warnings: Seq<Fault>,
+pub struct InheritedFound {
+    /// Those that stand in the object itself.
+    pub inherited: Inherited,
+    /// One for each property of the datatype that is ignored.
+    pub warnings: Seq<Fault>,
 }
 
 /// The inherited properties that stand in the object that the part is: that of the column of this number, of
-/// the table of that number, 0 for none and for the group.
+/// the table of that number, 0 for none and for the group. A fault that stands in them, or `Memory`.
 #[tactic(auto, using(crate::proofs::ReadLemmas::fails_first), unfolding(crate::specs::Inherited::inherited))]
-pub(crate) fn read_inherited(
+pub fn read_inherited(
     context: &Context,
     table: u32,
     column: u32,

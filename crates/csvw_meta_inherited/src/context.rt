@@ -3,8 +3,8 @@ ghost use Rattle.std.specs.Prelude.{◌≡◌};
 ghost use Rattle.serde_json.specs.View.{view, items_view, members_view};
 ghost use Rattle.csvw_meta_core.specs.Pointer.{text_of};
 ghost use Rattle.csvw_meta_core.specs.Reads.{Reads};
-ghost use Rattle.csvw_meta.specs.Context.{is_vocabulary, stranger, strangers, further_context, second_item, other_items};
-ghost use Rattle.csvw_meta.specs.Context.{context_items, context_value, context, context_base};
+ghost use Rattle.csvw_meta_inherited.specs.Context.{is_vocabulary, stranger, strangers, further_context, second_item, other_items};
+ghost use Rattle.csvw_meta_inherited.specs.Context.{context_items, context_value, context, context_base};
 
 use csvw_iri::{Base, IriFault};
 use csvw_meta_core::{Language, MetaCode, Part, Reader, Refusal};
@@ -13,11 +13,11 @@ use serde_json::{Map, Value};
 
 /// What the context of a document says.
 #[derive(Drop)]
-pub(crate) struct Context {
+pub struct Context {
     /// What the document's URLs are resolved against.
-    pub(crate) base: Base,
+    pub base: Base,
     /// The language of its texts.
-    pub(crate) language: Option<LanguageTag>,
+    pub language: Option<LanguageTag>,
 }
 
 /// The property `@base` of a context.
@@ -138,8 +138,8 @@ fn context_value(part: &Part, base: &Base) -> Result<Context, Refusal>
 
 /// The context of the document that the part is, at the document's own URL: `BadContext` where it has
 /// none or another than that of the vocabulary, and at a wrong member; `BadUrl` or `UrlTooLong` at an
-/// `@base` that resolves to nothing.
-pub(crate) fn read_context(part: &Part, base: &Base) -> Result<Context, Refusal>
+/// `@base` that resolves to nothing; `Memory` where there is none for it.
+pub fn read_context(part: &Part, base: &Base) -> Result<Context, Refusal>
     ensures { Reads result (context base.now (text_of part.now.at) (view part.now.value.now)) }
 {
     match part.value.get("@context") {

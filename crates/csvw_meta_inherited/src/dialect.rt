@@ -5,8 +5,9 @@ ghost use Rattle.serde_json.specs.View.{view};
 ghost use Rattle.csvw_dialect.specs.Lawful.{has_break};
 ghost use Rattle.csvw_meta_core.specs.Pointer.{text_of};
 ghost use Rattle.csvw_meta_core.specs.Reads.{Reads};
-ghost use Rattle.csvw_meta.specs.Dialect.{mark, comment_prefix, trim, trim_named, encoding, is_utf8_name, terminator, terminators, joined};
-ghost use Rattle.csvw_meta.specs.Dialect.{header_rows, trim_of, skips_spaces, all_symbols, clashes, dialect_parts, lawful_dialect, dialect_of, is_break_char};
+ghost use Rattle.csvw_meta_inherited.specs.Dialect.{mark, comment_prefix, trim, trim_named, encoding, is_utf8_name, terminator, terminators, joined};
+ghost use Rattle.csvw_meta_inherited.specs.Dialect.{header_rows, trim_of, skips_spaces, all_symbols, clashes, is_break_char};
+ghost use Rattle.csvw_meta_inherited.specs.Dialect.{dialect_parts, lawful_dialect, dialect_of};
 
 use crate::context::Context;
 use crate::unlisted::dialect_warnings;
@@ -20,10 +21,11 @@ use serde_json::Value;
 
 /// A dialect, and the warnings on it.
 #[derive(Drop)]
-pub(crate) struct DialectFound {
-    pub(crate) dialect: Dialect,
+pub struct DialectFound {
+    /// The dialect, which is lawful.
+    pub dialect: Dialect,
     /// One for each property of it that is ignored.
-    pub(crate) warnings: Seq<Fault>,
+    pub warnings: Seq<Fault>,
 }
 
 fn is_break(c: char) -> bool
@@ -337,15 +339,15 @@ fn dialect_of(context: &Context, table: u32, part: &Part) -> Result<DialectFound
 
 /// A dialect; the URL of one is `NotSupported`.
 #[derive(Drop)]
-pub(crate) struct DialectReader<'a> {
+pub struct DialectReader<'a> {
     /// The document's context.
-    pub(crate) context: &'a Context,
+    pub context: &'a Context,
     /// The number of its table, 0 for its group's.
-    pub(crate) table: u32,
+    pub table: u32,
 }
 
 impl<'a> Reader for DialectReader<'a> {
-    ghost use Rattle.csvw_meta.specs.Dialect.{dialect};
+    ghost use Rattle.csvw_meta_inherited.specs.Dialect.{dialect};
 
     type Output = DialectFound;
 

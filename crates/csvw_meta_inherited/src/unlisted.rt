@@ -6,7 +6,8 @@ ghost use Rattle.csvw_meta_core.specs.Pointer.{text_of};
 ghost use Rattle.csvw_meta_core.specs.Others.{names_of};
 ghost use Rattle.csvw_meta_core.specs.Reads.{Reads};
 ghost use Rattle.csvw_meta_notes.specs.Unlisted.{all_notes, all_warnings, unlisted};
-ghost use Rattle.csvw_meta.specs.Names.{place_of, inherited_names, dialect_names, column_names, schema_names, table_names, sole_table_names, group_names};
+ghost use Rattle.csvw_meta_inherited.specs.Names.{place_of, inherited_names, dialect_names, column_names, schema_names};
+ghost use Rattle.csvw_meta_inherited.specs.Names.{table_names, sole_table_names, group_names};
 
 use crate::context::Context;
 use csvw_description::Note;
@@ -108,8 +109,8 @@ const GROUP: [&str; 9] = [
     "transformations",
 ];
 
-/// What a group or a table is annotated with: its common properties, then its notes.
-pub(crate) fn read_notes(context: &Context, part: &Part) -> Result<Seq<Note>, Refusal>
+/// What a group or a table is annotated with: its common properties, then its notes; a fault that stands in them, or `Memory`.
+pub fn read_notes(context: &Context, part: &Part) -> Result<Seq<Note>, Refusal>
     ensures { Reads result (all_notes context.now.base context.now.language (text_of part.now.at) (view part.now.value.now)) }
 {
     let notes = NoteContext {
@@ -137,12 +138,9 @@ fn warnings_at(
     read_unlisted(&notes, names, shared, place, part)
 }
 
-/// The warnings on a dialect of the table of this number, 0 for the group's; its annotations give nothing.
-pub(crate) fn dialect_warnings(
-    context: &Context,
-    table: u32,
-    part: &Part,
-) -> Result<Seq<Fault>, Refusal>
+/// The warnings on a dialect of the table of this number, 0 for the group's; its annotations give nothing. A fault that stands in
+/// them, or `Memory`.
+pub fn dialect_warnings(context: &Context, table: u32, part: &Part) -> Result<Seq<Fault>, Refusal>
     ensures { Reads result (unlisted context.now.base context.now.language (dialect_names ++ []) (place_of table 0)
         (text_of part.now.at) (view part.now.value.now)) }
 {
@@ -155,8 +153,8 @@ pub(crate) fn dialect_warnings(
 }
 
 /// The warnings on the column of this number, of the table of that number or of the group where it is 0; its annotations give
-/// nothing.
-pub(crate) fn column_warnings(
+/// nothing. A fault that stands in them, or `Memory`.
+pub fn column_warnings(
     context: &Context,
     table: u32,
     column: u32,
@@ -173,12 +171,9 @@ pub(crate) fn column_warnings(
     warnings_at(context, &COLUMN, &INHERITED, place, part)
 }
 
-/// The warnings on a schema of the table of this number, 0 for the group's; its annotations give nothing.
-pub(crate) fn schema_warnings(
-    context: &Context,
-    table: u32,
-    part: &Part,
-) -> Result<Seq<Fault>, Refusal>
+/// The warnings on a schema of the table of this number, 0 for the group's; its annotations give nothing. A fault that stands in
+/// them, or `Memory`.
+pub fn schema_warnings(context: &Context, table: u32, part: &Part) -> Result<Seq<Fault>, Refusal>
     ensures { Reads result (unlisted context.now.base context.now.language (schema_names ++ inherited_names) (place_of table 0)
         (text_of part.now.at) (view part.now.value.now)) }
 {
@@ -190,8 +185,8 @@ pub(crate) fn schema_warnings(
     warnings_at(context, &SCHEMA, &INHERITED, place, part)
 }
 
-/// The warnings on the table of this number in its group, and on its annotations.
-pub(crate) fn table_warnings(table: u32, part: &Part) -> Result<Seq<Fault>, Refusal>
+/// The warnings on the table of this number in its group, and on its annotations; `Memory` where there is none for them.
+pub fn table_warnings(table: u32, part: &Part) -> Result<Seq<Fault>, Refusal>
     ensures { Reads result (all_warnings (table_names ++ inherited_names) (place_of table 0) (text_of part.now.at) (view part.now.value.now)) }
 {
     let place = Place {
@@ -202,8 +197,8 @@ pub(crate) fn table_warnings(table: u32, part: &Part) -> Result<Seq<Fault>, Refu
     read_all_warnings(&TABLE, &INHERITED, place, part)
 }
 
-/// The warnings on the table that is the document, and on its annotations.
-pub(crate) fn sole_table_warnings(part: &Part) -> Result<Seq<Fault>, Refusal>
+/// The warnings on the table that is the document, and on its annotations; `Memory` where there is none for them.
+pub fn sole_table_warnings(part: &Part) -> Result<Seq<Fault>, Refusal>
     ensures { Reads result (all_warnings (sole_table_names ++ inherited_names) (place_of 1 0) (text_of part.now.at) (view part.now.value.now)) }
 {
     let place = Place {
@@ -214,8 +209,8 @@ pub(crate) fn sole_table_warnings(part: &Part) -> Result<Seq<Fault>, Refusal>
     read_all_warnings(&SOLE_TABLE, &INHERITED, place, part)
 }
 
-/// The warnings on the group, and on its annotations.
-pub(crate) fn group_warnings(part: &Part) -> Result<Seq<Fault>, Refusal>
+/// The warnings on the group, and on its annotations; `Memory` where there is none for them.
+pub fn group_warnings(part: &Part) -> Result<Seq<Fault>, Refusal>
     ensures { Reads result (all_warnings (group_names ++ inherited_names) (place_of 0 0) (text_of part.now.at) (view part.now.value.now)) }
 {
     let place = Place {

@@ -9,7 +9,7 @@ use Rattle.csvw_meta_core.specs.Pointer.{below, item_at}
 use Rattle.csvw_meta_core.specs.Read.{Read, fine, faulty, ◌>>=◌, both, wrong_as, on_kind_as, property, optional}
 use Rattle.csvw_meta_core.specs.Kinds.{language}
 use Rattle.csvw_meta_core.specs.Links.{told, no_url}
-use Rattle.csvw_meta.specs.declared.context.Context.{Context}
+use Rattle.csvw_meta_inherited.specs.declared.context.Context.{Context}
 
 abbrev pub is_vocabulary : Data → Bool
 is_vocabulary null = false

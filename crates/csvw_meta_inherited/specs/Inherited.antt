@@ -5,10 +5,10 @@ use Rattle.csvw_description.specs.declared.inherited.Inherited.{Inherited}
 use Rattle.csvw_meta_core.specs.declared.fault.MetaCode.TheVariants.{BadProperty}
 use Rattle.csvw_meta_core.specs.Read.{Read, fine, ◌>>=◌, optional, or_null}
 use Rattle.csvw_meta_core.specs.Kinds.{truth, text, some_text, texts, language}
-use Rattle.csvw_meta.specs.declared.context.Context.{Context}
-use Rattle.csvw_meta.specs.declared.inherited.InheritedFound.{InheritedFound}
-use Rattle.csvw_meta.specs.Datatype.{given_datatype}
-use Rattle.csvw_meta.specs.TemplateText.{template_text}
+use Rattle.csvw_meta_inherited.specs.declared.context.Context.{Context}
+use Rattle.csvw_meta_inherited.specs.declared.inherited.InheritedFound.{InheritedFound}
+use Rattle.csvw_meta_inherited.specs.Datatype.{given_datatype}
+use Rattle.csvw_meta_inherited.specs.TemplateText.{template_text}
 
 abbrev pub no_inherited : Inherited
 no_inherited = record {

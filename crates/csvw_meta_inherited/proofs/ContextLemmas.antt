@@ -5,7 +5,7 @@ use Rattle.serde_json.specs.View.{items_view}
 use Rattle.serde_json.specs.declared.value.Value.{Value}
 use Rattle.csvw_meta_core.specs.declared.fault.MetaCode.TheVariants.{BadContext}
 use Rattle.csvw_meta_core.specs.Read.{faulty}
-use Rattle.csvw_meta.specs.Context.{other_items, no_context}
+use Rattle.csvw_meta_inherited.specs.Context.{other_items, no_context}
 
 pub other_items-many : (base : Parts) (at : List ℕ) (vs : List Value) → 2 ≤ length vs
     → other_items base at (items_view vs) ≡ faulty BadContext at no_context

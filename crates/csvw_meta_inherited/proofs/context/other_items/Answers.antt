@@ -1,7 +1,7 @@
 use Rattle.std.proofs.Common.{length, arith, ◌≤◌}
 use Rattle.csvw_meta_core.specs.Pointer.{text_of}
-use Rattle.csvw_meta.proofs.ContextLemmas.{other_items-many}
-use Rattle.csvw_meta.proofs.context.other_items.Goals as goal
+use Rattle.csvw_meta_inherited.proofs.ContextLemmas.{other_items-many}
+use Rattle.csvw_meta_inherited.proofs.context.other_items.Goals as goal
 
 pub returns-in_default : goal.returns-in_default
 returns-in_default c =

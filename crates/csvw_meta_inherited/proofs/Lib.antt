@@ -1,0 +1,4 @@
+pub mod ContextLemmas
+pub mod FineLemmas
+pub mod FitDialect
+pub mod ReadLemmas
