@@ -1,5 +1,5 @@
 -- What a line begins with that was made over another one.
-use Rattle.std.specs.Prelude.{◌≡◌, ◌++◌, ℕ, List, codes, length, take}
+use Rattle.std.specs.Prelude.{◌≡◌, ◌++◌, ℕ, List, codes, decimal, length, take}
 use Rattle.csvw_triples_core.specs.declared.origin.Origin.{Origin}
 use Rattle.csvw_triples_core.specs.declared.term.Term.{Term}
 use Rattle.csvw_triples_core.specs.declared.term.Triple.{Triple}
@@ -8,6 +8,10 @@ use Rattle.csvw_ntriples.specs.Written.{blank_text, term_text}
 -- a blank node as a subject, up to the text of the predicate
 abbrev pub front_text : Origin → List ℕ
 front_text o = blank_text o ++ codes " <"
+
+-- what the blank nodes of a table's rows begin with
+abbrev pub rows_front : ℕ → List ℕ
+rows_front t = codes "_:" ++ codes "t" ++ decimal t ++ codes "r"
 
 -- it is the first n bytes
 abbrev pub IsFront : Origin → ℕ → List ℕ → Type 0

@@ -1,10 +1,11 @@
 //! The blank node of the row that was named last.
-ghost use Rattle.std.specs.Prelude.{◌≡◌, ◌++◌, true, OnOk};
+ghost use Rattle.std.specs.Prelude.{◌≡◌, ◌++◌, true, false, length, OnOk};
+ghost use Rattle.csvw_ntriples.specs.Front.{rows_front};
 ghost use Rattle.csvw_ntriples.specs.Written.{blank_text};
 ghost use Rattle.csvw_triples_core.specs.declared.origin.Origin.TheVariants as origin;
 
 use crate::scratch::Scratch;
-use crate::write::push_part;
+use crate::write::{push_number, push_part};
 use std::alloc::{AllocError, Global};
 
 /// Keeps the blank node of the row that was named last: most blank nodes are of the row of the one before.
@@ -18,7 +19,10 @@ pub(crate) struct RowLabel {
     row: u64,
     /// Its blank node.
     text: Scratch,
+    /// How many bytes of that stand in front of the number.
+    front: usize,
     ghost is_label: { is_known ≡ true → text ≡ blank_text (origin.Row table row) },
+    ghost begins: { is_known ≡ true → front ≡ length (rows_front table) },
 }
 
 impl RowLabel {
@@ -29,7 +33,28 @@ impl RowLabel {
             table: 0,
             row: 0,
             text: Scratch::new(alloc),
+            front: 0,
         }
+    }
+
+    /// Becomes what the blank nodes of a table's rows begin with. Most rows are of the table of the one before.
+    fn begin(&mut self, table: u32) -> Result<(), AllocError>
+        ensures known { self.new.is_known ≡ false }
+        ensures text { OnOk result (self.new.text ≡ rows_front table) }
+        ensures front { OnOk result (self.new.front ≡ length (rows_front table)) }
+    {
+        if self.is_known && self.table == table {
+            self.is_known = false;
+            self.text.truncate(self.front);
+            return Ok(());
+        }
+        self.is_known = false;
+        self.text.truncate(0);
+        self.text.push_fixed(b"_:")?;
+        push_part(&mut self.text, b't', table)?;
+        self.text.push_fixed(b"r")?;
+        self.front = self.text.len();
+        Ok(())
     }
 
     /// Becomes the blank node of a row.
@@ -39,11 +64,8 @@ impl RowLabel {
         if self.is_known && self.table == table && self.row == row {
             return Ok(());
         }
-        self.is_known = false;
-        self.text.truncate(0);
-        self.text.push_fixed(b"_:")?;
-        push_part(&mut self.text, b't', table)?;
-        push_part(&mut self.text, b'r', row)?;
+        self.begin(table)?;
+        push_number(&mut self.text, row)?;
         self.table = table;
         self.row = row;
         self.is_known = true;

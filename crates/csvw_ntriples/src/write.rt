@@ -67,6 +67,13 @@ pub(crate) fn push_part<I: Integer>(
     ensures { OnOk result (out.new ≡ out.old ++ letter ∷ I.text number) }
 {
     out.push_fixed(&[letter])?;
+    push_number(out, number)
+}
+
+/// A number in digits.
+pub(crate) fn push_number<I: Integer>(out: &mut Scratch, number: I) -> Result<(), AllocError>
+    ensures { OnOk result (out.new ≡ out.old ++ I.text number) }
+{
     let mut buffer = Buffer::new();
     out.push(buffer.format(number).as_bytes())
 }
