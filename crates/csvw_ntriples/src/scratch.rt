@@ -1,5 +1,5 @@
 //! Bytes that are made anew again and again.
-ghost use Rattle.std.specs.Prelude.{◌≡◌, ◌+◌, ◌≤◌, ◌∷◌, [], ◌++◌, length, take, OnOk};
+ghost use Rattle.std.specs.Prelude.{◌≡◌, ◌+◌, ◌≤◌, ◌∷◌, [], ◌++◌, length, take, drop, OnOk};
 
 use std::alloc::{AllocError, Global};
 use std::marker::Model;
@@ -37,6 +37,17 @@ fn widen(room: &mut Vec<u8>, len: usize, more: usize) -> Result<(), AllocError>
         return Err(AllocError);
     };
     room.resize(least.saturating_mul(2), 0)
+}
+
+/// Writes bytes over the first ones.
+#[inline(always)]
+fn overwrite<const N: usize>(room: &mut [u8], bytes: &[u8; N])
+    requires { N ≤ length room.old }
+    ensures { room.new ≡ bytes.now ++ drop N room.old }
+{
+    if let Some(place) = room.first_chunk_mut::<N>() {
+        *place = *bytes;
+    }
 }
 
 impl Scratch {
@@ -97,9 +108,8 @@ impl Scratch {
         if self.room.len() - start < N {
             widen(&mut self.room, start, N)?;
         }
-        let end = start + N;
-        self.room.as_mut_slice()[start..end].copy_from_slice(bytes.as_slice());
-        self.len = end;
+        overwrite(&mut self.room.as_mut_slice()[start..], bytes);
+        self.len = start + N;
         Ok(())
     }
 }
