@@ -2,7 +2,7 @@
 use crate::cells::Cell::{Misread, Read};
 use crate::facets::FACETS;
 use crate::ranges::{DATES, RANGES};
-use crate::running::run_over;
+use csvw_links_tests::run_over;
 use csvw_triples_core::Mode;
 use std::alloc::{AllocError, Global};
 use std::test::Fail;

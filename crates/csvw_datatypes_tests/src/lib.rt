@@ -11,5 +11,3 @@ mod facets;
 mod ranges;
 #[cfg(test)]
 mod refusals;
-#[cfg(test)]
-mod running;

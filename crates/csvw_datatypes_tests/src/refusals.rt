@@ -1,6 +1,6 @@
 //! Documents whose datatypes are refused.
 use crate::facets::REFUSED_FACETS;
-use crate::running::run_over;
+use csvw_links_tests::run_over;
 use csvw_meta_core::MetaCode;
 use csvw_session::Stop;
 use csvw_triples_core::Mode;

@@ -7,5 +7,6 @@ mod groups;
 mod hostile;
 #[cfg(test)]
 mod refusals;
-#[cfg(test)]
 mod running;
+
+pub use running::{Ran, run_over};

@@ -6,22 +6,17 @@ use std::alloc::{AllocError, Global};
 
 /// What a run left.
 #[derive(Drop)]
-pub(crate) struct Ran {
+pub struct Ran {
     /// Why it stopped, if it did.
-    pub(crate) stop: Option<Stop>,
+    pub stop: Option<Stop>,
     /// The graph that it wrote.
-    pub(crate) graph: Vec<u8>,
+    pub graph: Vec<u8>,
     /// The report that it wrote.
-    pub(crate) report: Vec<u8>,
+    pub report: Vec<u8>,
 }
 
-/// A run over a document and the text of its table.
-pub(crate) fn run_over(
-    alloc: Global,
-    meta: &str,
-    text: &str,
-    mode: Mode,
-) -> Result<Ran, AllocError> {
+/// A run over a document and the text of its table; `AllocError` where there is no memory.
+pub fn run_over(alloc: Global, meta: &str, text: &str, mode: Mode) -> Result<Ran, AllocError> {
     let mut readers = Vec::new(alloc);
     readers.push(Counted::new(text.as_bytes()))?;
     let mut graph = Counted::new(Vec::new(alloc));
