@@ -5,7 +5,7 @@ ghost use Rattle.csvw.specs.Answers.{Answers, GivesText};
 ghost use Rattle.csvw.specs.Commands.{Commands, RunsPlain, RunsRequest};
 ghost use Rattle.csvw_text.specs.Streams.{stream_of};
 
-use crate::group::{convert, tell_end, validate};
+use crate::group::{Conversion, convert, tell_end, validate};
 use crate::opener::Opener;
 use crate::standard_input::reads_twice;
 use crate::tell::{SUCCESS, send, tell_mistake, tell_stop};
@@ -61,23 +61,31 @@ fn tell_words<W: Write, V: Write>(
     }
 }
 
+/// A table without metadata.
+#[derive(Clone, Copy)]
+struct PlainTable<'a> {
+    /// Its URL.
+    url: &'a str,
+    /// The file that has it.
+    file: &'a str,
+}
+
 fn run_plain<O: Opener, W: Write, V: Write>(
     alloc: Global,
-    url: &str,
-    file: &str,
+    table: PlainTable<'_>,
     opener: &mut O,
     out: &mut Counted<W>,
     err: &mut Counted<V>,
 ) -> u8
-    ensures runs { RunsPlain O.opens O.Reader.remaining url.now file.now opener.old opener.new
+    ensures runs { RunsPlain O.opens O.Reader.remaining table.entry.url.now table.entry.file.now opener.old opener.new
         (stream_of W.contents out.old out.new) (stream_of V.contents err.old err.new) result }
     ensures bound { result ≤ 4 }
 {
-    let Some(reader) = opener.open(file) else {
+    let Some(reader) = opener.open(table.file) else {
         return tell_stop(alloc, &Stop::Read, err);
     };
     let mut input = Counted::new(reader);
-    let ran = plain(alloc, url, &mut input, out, err);
+    let ran = plain(alloc, table.url, &mut input, out, err);
     tell_end(alloc, &ran, err)
 }
 
@@ -94,10 +102,13 @@ fn run_request<O: Opener, W: Write, V: Write>(
     ensures bound { result ≤ 4 }
 {
     match request {
-        Request::Plain { url, file, .. } => run_plain(alloc, url, file, opener, out, err),
+        Request::Plain { url, file, .. } => {
+            run_plain(alloc, PlainTable { url, file }, opener, out, err)
+        }
         Request::Validate(group) => validate(alloc, group, opener, out, err),
         Request::Convert { group, minimal, .. } => {
-            convert(alloc, group, *minimal, opener, out, err)
+            let minimal = *minimal;
+            convert(alloc, Conversion { group, minimal }, opener, out, err)
         }
     }
 }

@@ -164,19 +164,28 @@ fn conversion(minimal: bool) -> Mode
     }
 }
 
-/// Writes the graph of a group to `out`, where asked for in minimal mode, else in standard mode, and reports its faults on `err`.
+/// A group whose graph is written.
+#[derive(Clone, Copy)]
+pub struct Conversion<'a> {
+    /// The group.
+    pub group: &'a Group<'a>,
+    /// Whether its graph is that of minimal mode; else it is that of standard mode.
+    pub minimal: bool,
+}
+
+/// Writes the graph of a group to `out`, and reports its faults on `err`.
 pub fn convert<O: Opener, W: Write, V: Write>(
     alloc: Global,
-    group: &Group<'_>,
-    minimal: bool,
+    asked: Conversion<'_>,
     opener: &mut O,
     out: &mut Counted<W>,
     err: &mut Counted<V>,
 ) -> u8
-    ensures runs { RunsGroup O.opens O.Reader.remaining (conversion minimal) group.now opener.old opener.new
+    ensures runs { RunsGroup O.opens O.Reader.remaining (conversion asked.entry.minimal) asked.entry.group.now opener.old opener.new
         (stream_of W.contents out.old out.new) (stream_of V.contents err.old err.new) result }
     ensures bound { result ≤ 4 }
 {
+    let Conversion { group, minimal } = asked;
     match open_group(alloc, group, opener) {
         Ok(Opened { meta, mut readers }) => {
             let input = meta.as_slice();

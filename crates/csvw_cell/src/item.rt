@@ -76,7 +76,7 @@ fn one_code(alloc: Global, code: Code) -> Result<Seq<Code>, AllocError>
 /// The item that a text is: a value of the datatype, with the facets that it breaks, or else the text, with the code of
 /// why it is none.
 #[inline(always)]
-pub fn judge(
+pub(crate) fn judge(
     alloc: Global,
     datatype: &Datatype,
     text: &str,

@@ -86,7 +86,7 @@ pub fn parts<'a>(alloc: Global, separator: &str, text: &'a str) -> Result<Vec<&'
 }
 
 /// The items of the parts of a list, without those that are null.
-pub fn judge_items(
+pub(crate) fn judge_items(
     alloc: Global,
     properties: &Properties,
     parts: &[&str],

@@ -1,8 +1,9 @@
 -- Text in which no symbol stands, as none of its bytes begins one.
 use Rattle.std.proofs.Common.{◌≡◌, ◌≢◌, ◌∙◌, ℕ, ◌-◌, ◌<◌, ◌≤◌, Bool, true, false, ◌&&◌, ◌==◌, not, if◌then◌else◌, List, [], ◌∷◌, ◌++◌, length, take}
-use Rattle.std.proofs.Common.{get_or, Option, Some, None, refl, sym, ap, subst, arith, append_assoc, append-nil, length-take, inl, inr, chars, nat_eq}
+use Rattle.std.proofs.Common.{drop, zero, suc, get_or, Option, Some, None, refl, sym, ap, subst, arith, append_assoc, append-nil, length-take, ◌⊎◌, inl, inr, chars, nat_eq}
 use Rattle.std.specs.Prelude.{IsUtf8, encode_utf8, encode_utf8_all, slice_index, unwrap_or}
 use Rattle.std.proofs.lemmas.Bool.Decides.{nat_tests}
+use Rattle.std.proofs.lemmas.Bool.{cases_lt}
 use Rattle.std.proofs.lemmas.List.{get_or-take}
 use Rattle.std.proofs.lemmas.Str.{encodes-chars, encode_ascii}
 use Rattle.memchr.specs.Find.{is_byte2, is_byte3, IsFirstByte}
@@ -11,11 +12,12 @@ use Rattle.csvw_fields.specs.declared.leads.Leads.{Leads}
 use Rattle.csvw_records.specs.declared.scan.State.{State}
 use Rattle.csvw_records.specs.declared.scan.State.TheVariants.{Start, Plain, Inside, Escaped, Closed}
 use Rattle.csvw_records.specs.declared.scan.Step.TheVariants.{Keep, Skip}
-use Rattle.csvw_fields.specs.Clean.{IsLeads, HasNoSymbol, HasNoEscape, IsClean}
+use Rattle.csvw_fields.specs.Clean.{IsLeads, HasNoSymbol, HasNoEscape, IsApart, IsClean}
 use Rattle.csvw_records.specs.Grammar.{terminator_len, IsPlain}
 use Rattle.csvw_records.specs.Looks.{unsettled}
 use Rattle.csvw_records.specs.Scan.{Outcome, Found, Broken, Unfinished, quote_is, step_of, run, finish}
-use Rattle.csvw_records.proofs.Ascii.{Fails, fails_at, fails_right, no_cr}
+use Rattle.csvw_records.proofs.Ascii.{Fails, fails_at, fails_right, ascii_at, no_cr}
+use Rattle.csvw_records.proofs.Lookahead.{is_char}
 use Rattle.csvw_fields.proofs.CutLemmas.{not_true, no_term, unsettled_last}
 use Rattle.csvw_records.proofs.RunSteps.{ends_at, act_run, run_plain, differs}
 
@@ -85,22 +87,43 @@ escapes_none d l (c ∷ cs) y f =
       escapes_none d l cs y (fails_right test (encode_utf8 c) (encode_utf8_all cs) f),
     )
 
+-- no line feed stands where a CR does
+behind_cr : (text : List ℕ) (n : ℕ) → IsUtf8 text → slice_index text n ≡ 13 → take 1 (chars (drop n text)) ≢ 10 ∷ []
+behind_cr text n u e same =
+    let a = ascii_at text n 13 u (within text n 13 e (omega arith)) e (omega arith) in
+    let here : (let l : List ℕ = 13 ∷ [] in l) ≡ 10 ∷ [] = sym (ap (take 1) a.here_chars) ∙ same in cc
+  where
+    within : (l : List ℕ) (n b : ℕ) → slice_index l n ≡ b → 0 < b → n < length l
+    within [] n b e h = absurd (omega (arith, e, h))
+    within (x ∷ l) zero b e h = omega arith
+    within (x ∷ l) (suc n) b e h = let k = within l n b e h in omega (arith, k)
+
 -- what stands before the first place is clean
-pub plain_clean : (d : Dialect) (l : Leads) (text : List ℕ) (o : Option ℕ) (n : ℕ) → IsLeads d l → IsUtf8 (take n text)
+pub plain_clean : (d : Dialect) (l : Leads) (text : List ℕ) (o : Option ℕ) (n : ℕ) → IsLeads d l → IsUtf8 text → IsUtf8 (take n text)
     → IsFirstByte (is_byte3 l.delimiter l.quote 10) text o → n ≤ unwrap_or o (length text)
-    → (0 < n → slice_index text (n - 1) ≢ 13) → IsClean d Plain (chars (take n text))
-plain_clean d l text o n y u h w last =
+    → (0 < n → slice_index text (n - 1) ≡ 13 → slice_index text n ≡ 13) → IsClean d Plain (chars (take n text)) (chars (drop n text))
+plain_clean d l text o n y whole u h w last =
     let f = first_free (is_byte3 l.delimiter l.quote 10) text o h in
     let fails = bytes_fail (is_byte3 l.delimiter l.quote 10) text n (unwrap_or o (length text)) w f.0 f.1 in
     let long : length (take n text) ≡ n = (let k = f.0 in omega (arith, w, k, length-take n text)) in (
       symbols_none d l (chars (take n text)) y (subst (Fails (is_byte3 l.delimiter l.quote 10)) (sym (encodes-chars (take n text) u)) fails),
-      no_cr d (take n text) u (λ crlf some e.
-          let m : 0 < n = omega (arith, some, long) in
-          last m (sym (get_or-take n text (n - 1) 0 (omega (arith, m))) ∙ ap (λ k. get_or (take n text) (k - 1) 0) (sym long) ∙ e)),
+      by_last long (cases_lt 0 n) (nat_eq 13 (slice_index text (n - 1))) refl,
     )
+  where
+    none_last : length (take n text) ≡ n → (0 < n → slice_index text (n - 1) ≡ 13 → ⊥) → IsApart d (chars (take n text)) (chars (drop n text))
+    none_last long none = inl (no_cr d (take n text) u (λ crlf some e.
+        let m : 0 < n = omega (arith, some, long) in
+        none m (sym (get_or-take n text (n - 1) 0 (omega (arith, m))) ∙ ap (λ k. get_or (take n text) (k - 1) 0) (sym long) ∙ e)))
+
+    by_last : length (take n text) ≡ n → (0 < n) ⊎ (n ≤ 0) → (b : Bool) → nat_eq 13 (slice_index text (n - 1)) ≡ b
+        → IsApart d (chars (take n text)) (chars (drop n text))
+    by_last long (inr z) b e = none_last long (λ m. absurd (omega (arith, m, z)))
+    by_last long (inl m) false e = none_last long (λ k c. let z : nat_eq 13 (slice_index text (n - 1)) ≡ true = grind (arith, nat_tests) in
+        let y = sym z ∙ e in cc)
+    by_last long (inl m) true e = inr (behind_cr text n whole (last m (is_char 13 (slice_index text (n - 1)) e)))
 
 pub inside_clean : (d : Dialect) (l : Leads) (text : List ℕ) (o : Option ℕ) (n : ℕ) → IsLeads d l → IsUtf8 (take n text)
-    → IsFirstByte (is_byte2 l.quote l.escape) text o → n ≤ unwrap_or o (length text) → IsClean d Inside (chars (take n text))
+    → IsFirstByte (is_byte2 l.quote l.escape) text o → n ≤ unwrap_or o (length text) → IsClean d Inside (chars (take n text)) (chars (drop n text))
 inside_clean d l text o n y u h w =
     let f = first_free (is_byte2 l.quote l.escape) text o h in
     escapes_none d l (chars (take n text)) y (subst (Fails (is_byte2 l.quote l.escape)) (sym (encodes-chars (take n text) u))
@@ -120,17 +143,18 @@ quote_not : (o : Option ℕ) (c : ℕ) → quote_is o c ≡ false → Some c ≢
 quote_not None c e f = absurd cc
 quote_not (Some q) c e f = let same : c ≡ q = cc in let z : (c == q) ≡ true = grind (arith, nat_tests) in let y = sym z ∙ e in cc
 
-alone : (d : Dialect) (c : ℕ) → c ≢ 10 → terminator_len d (c ∷ []) ≡ 0
+pub alone : (d : Dialect) (c : ℕ) → c ≢ 10 → terminator_len d (c ∷ []) ≡ 0
 alone d c n = tests d.line_terminators.crlf d.line_terminators.lf (nat_eq 13 c) (nat_eq 10 c) (let e : nat_eq 10 c ≡ false = grind (arith, nat_tests) in e)
   where
     tests : (crlf lf a b : Bool) → b ≡ false → ◌≡◌ {A = ℕ} (if crlf && (a && false) then 2 else (if lf && (b && true) then 1 else 0)) 0
     tests crlf lf a b e = grind arith
 
-last_none : (d : Dialect) (c : ℕ) (after : List ℕ) → c ≢ 10 → unsettled d (c ∷ []) ≡ [] → terminator_len d (c ∷ after) ≡ 0
+last_none : (d : Dialect) (c : ℕ) (after : List ℕ) → c ≢ 10 → IsApart d (c ∷ []) after → terminator_len d (c ∷ after) ≡ 0
 last_none d c [] n u = alone d c n
-last_none d c (x ∷ rest) n u = no_term d c x rest n (inr (unsettled_last d c u))
+last_none d c (x ∷ rest) n (inl u) = no_term d c x rest n (inr (unsettled_last d c u))
+last_none d c (x ∷ rest) n (inr u) = no_term d c x rest n (inl (λ e. u (ap (λ k. k ∷ []) e)))
 
-plain_chunk : (d : Dialect) (cs after : List ℕ) → HasNoSymbol d cs → unsettled d cs ≡ [] → IsPlain d cs after
+plain_chunk : (d : Dialect) (cs after : List ℕ) → HasNoSymbol d cs → IsApart d cs after → IsPlain d cs after
 plain_chunk d [] after h u = tt
 plain_chunk d (c ∷ []) after h u = (h.0, quote_not d.quote_char c h.1, last_none d c after h.2 u, tt)
 plain_chunk d (c ∷ e ∷ cs) after h u = (h.0, quote_not d.quote_char c h.1, no_term d c e (cs ++ after) h.2 (inl h.3.2), plain_chunk d (e ∷ cs) after h.3 u)
@@ -153,7 +177,7 @@ nothing_runs : (d : Dialect) (st : State) (vs : List (List ℕ)) (cur cs after :
 nothing_runs d st vs cur cs after e = ap (λ l. run d st vs cur (l ++ after)) e ∙ ap (λ l. run d st vs l after) (sym (append-nil cur))
     ∙ ap (λ l. run d st vs (cur ++ l) after) (sym e)
 
-pub clean_runs : (d : Dialect) (st : State) (vs : List (List ℕ)) (cur cs after : List ℕ) → IsClean d st cs
+pub clean_runs : (d : Dialect) (st : State) (vs : List (List ℕ)) (cur cs after : List ℕ) → IsClean d st cs after
     → run d st vs cur (cs ++ after) ≡ run d st vs (cur ++ cs) after
 clean_runs d Start vs cur cs after h = nothing_runs d Start vs cur cs after h
 clean_runs d Plain vs cur cs after h =
@@ -163,9 +187,9 @@ clean_runs d Inside vs cur cs after h = inside_runs d vs cur cs after h
 clean_runs d Escaped vs cur cs after h = nothing_runs d Escaped vs cur cs after h
 clean_runs d Closed vs cur cs after h = nothing_runs d Closed vs cur cs after h
 
-pub nothing_clean : (d : Dialect) (st : State) (cs : List ℕ) → cs ≡ [] → IsClean d st cs
-nothing_clean d Start cs e = e
-nothing_clean d Plain cs e = (subst (HasNoSymbol d) (sym e) tt, ap (unsettled d) e)
-nothing_clean d Inside cs e = subst (HasNoEscape d) (sym e) tt
-nothing_clean d Escaped cs e = e
-nothing_clean d Closed cs e = e
+pub nothing_clean : (d : Dialect) (st : State) (cs after : List ℕ) → cs ≡ [] → IsClean d st cs after
+nothing_clean d Start cs after e = e
+nothing_clean d Plain cs after e = (subst (HasNoSymbol d) (sym e) tt, inl (ap (unsettled d) e))
+nothing_clean d Inside cs after e = subst (HasNoEscape d) (sym e) tt
+nothing_clean d Escaped cs after e = e
+nothing_clean d Closed cs after e = e

@@ -1,7 +1,8 @@
 -- The front of a row that was read, and what reading it on does.
 use Rattle.std.proofs.Common.{◌≡◌, ◌∙◌, ℕ, zero, suc, ◌+◌, ◌-◌, ◌<◌, ◌≤◌, Bool, true, false, ◌&&◌, if◌then◌else◌, List, [], ◌∷◌, ◌++◌, map, length}
 use Rattle.std.proofs.Common.{take, drop, refl, sym, ap, subst, arith, append-nil, length-append, ◌⊎◌, inl, inr, chars, nat_lt, nat_eq}
-use Rattle.std.specs.Prelude.{IsUtf8, encode_utf8, encode_utf8_all, slice_range, slice_index, nat_le, Result, Ok, Err, is_ok, OnOk}
+use Rattle.std.specs.Prelude.{IsUtf8, encode_utf8, encode_utf8_all, slice_range, slice_index, nat_le, Result, Ok, Err, is_ok, IfOk, OnOk}
+use Rattle.std.specs.Borrow.{Bor}
 use Rattle.std.specs.Str.{is_utf8}
 use Rattle.std.proofs.lemmas.Grind.{common_steps}
 use Rattle.std.proofs.lemmas.Bool.Decides.{nat_tests}
@@ -24,7 +25,7 @@ use Rattle.csvw_records.proofs.Complete.{nothing_ends}
 use Rattle.csvw_records.proofs.Lookahead.{and_three, is_char, one_end, lf_again, crlf_again}
 use Rattle.std.proofs.lemmas.Bool.{cases_lt}
 use Rattle.csvw_fields.specs.Bounds.{apart_all, texts_apart, is_apart}
-use Rattle.csvw_fields.specs.Drafts.{IsFresh}
+use Rattle.csvw_fields.specs.Drafts.{IsFresh, Keeps}
 use Rattle.csvw_records.specs.Grammar.{terminator_len}
 use Rattle.csvw_fields.proofs.BoundLemmas.{all_more}
 
@@ -240,3 +241,11 @@ pub back_kept : (text rest left : List ℕ) → length rest ≤ length text → 
 back_kept text rest left h e f =
     let n = length rest - length left in
     back_more text rest (take n rest) left h e (sym (take-append-drop n rest) ∙ ap (λ l. take n rest ++ l) f)
+
+-- text that was kept in two parts
+pub both_kept : {E : Type 0} (d : Dialect) (old mid new : Draft) (text rest : List ℕ) (r : Result (Bor (List ℕ)) E) → Keeps d old mid text rest
+    → IfOk r (λ left. Keeps d mid new rest left.now) → IfOk r (λ left. Keeps d old new text left.now)
+both_kept d old mid new text rest (Ok left) a b =
+    let k = back_kept text rest left.now a.within a.back b.back in
+    record { within = k.0; is_text = b.is_text; back = k.1; runs = a.runs ∙ b.runs }
+both_kept d old mid new text rest (Err e) a b = tt

@@ -7,6 +7,7 @@ pub mod DraftLemmas
 pub mod DraftRuns
 mod Escapes
 mod MarkLemmas
+mod QuoteLemmas
 mod RowCuts
 mod Starts
 mod TrimLemmas

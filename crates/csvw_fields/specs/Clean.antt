@@ -1,5 +1,5 @@
--- Text in which a pass over a field goes on as it was.
-use Rattle.std.specs.Prelude.{◌≡◌, ◌≢◌, ℕ, false, List, [], ◌∷◌, take, Some, encode_utf8}
+-- Text in which a pass over a field goes on as it was, and doubled quotes.
+use Rattle.std.specs.Prelude.{◌≡◌, ◌≢◌, ◌⊎◌, ℕ, ◌+◌, ◌<◌, ◌≤◌, true, false, List, [], ◌∷◌, length, take, Some, encode_utf8, slice_index}
 use Rattle.csvw_dialect.specs.declared.dialect.Dialect.{Dialect}
 use Rattle.csvw_fields.specs.declared.leads.Leads.{Leads}
 use Rattle.csvw_records.specs.declared.scan.State.{State}
@@ -23,10 +23,24 @@ abbrev pub HasNoEscape : Dialect → List ℕ → Type 0
 HasNoEscape d [] = Unit {0}
 HasNoEscape d (c ∷ cs) = (quote_is d.quote_char c ≡ false) × (d.double_quote ≡ false → c ≢ 92) × HasNoEscape d cs
 
--- the text of a field goes on in this state
-abbrev pub IsClean : Dialect → State → List ℕ → Type 0
-IsClean d Start cs = cs ≡ []
-IsClean d Plain cs = HasNoSymbol d cs × (unsettled d cs ≡ [])
-IsClean d Inside cs = HasNoEscape d cs
-IsClean d Escaped cs = cs ≡ []
-IsClean d Closed cs = cs ≡ []
+-- a line feed that follows makes no terminator with the last character
+abbrev pub IsApart : Dialect → List ℕ → List ℕ → Type 0
+IsApart d cs after = (unsettled d cs ≡ []) ⊎ (take 1 after ≢ 10 ∷ [])
+
+-- the text of a field goes on in this state, with these characters behind it
+abbrev pub IsClean : Dialect → State → List ℕ → List ℕ → Type 0
+IsClean d Start cs after = cs ≡ []
+IsClean d Plain cs after = HasNoSymbol d cs × IsApart d cs after
+IsClean d Inside cs after = HasNoEscape d cs
+IsClean d Escaped cs after = cs ≡ []
+IsClean d Closed cs after = cs ≡ []
+
+-- so many doubled quotes, which are ASCII characters, stand at the front of text that goes on a field inside quotes
+pub record AreDoubled (d : Dialect) (st : State) (text : List ℕ) (n : ℕ) : Type 0 where
+  pub quote : ℕ
+  pub inside : 0 < n → st ≡ Inside
+  pub double : 0 < n → d.double_quote ≡ true
+  pub quote_is : 0 < n → d.quote_char ≡ Some quote
+  pub ascii : quote < 128
+  pub within : n + n ≤ length text
+  pub quotes : (k : ℕ) → k < n + n → slice_index text k ≡ quote

@@ -1,5 +1,6 @@
 pub mod Bounds
 pub mod Clean
 pub mod Cuts
+pub mod Cutters
 pub mod Drafts
 pub mod Marked

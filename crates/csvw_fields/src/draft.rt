@@ -8,6 +8,7 @@ ghost use Rattle.csvw_records.specs.declared.scan.State.TheVariants.{Start, Insi
 
 use crate::bound::Bound;
 use crate::cut::terminator_at;
+use crate::quotes::doubled_quotes;
 use crate::rules::Rules;
 use crate::trim::trim_fields;
 use csvw_dialect::{Dialect, Trim};
@@ -152,9 +153,30 @@ impl Draft {
         ensures read { read_of self.new ≡ read_of self.old }
         ensures keeps { IfOk result (λ left. Keeps rules.now.dialect self.old self.new rest.now left.now) }
     {
+        let left = self.keep_clean(rules, rest)?;
+        self.keep_quotes(rules, left)
+    }
+
+    /// Takes text in which nothing has a meaning of its own, and answers what is left.
+    fn keep_clean<'a>(&mut self, rules: &Rules, rest: &'a str) -> Result<&'a str, AllocError>
+        ensures read { read_of self.new ≡ read_of self.old }
+        ensures keeps { IfOk result (λ left. Keeps rules.now.dialect self.old self.new rest.now left.now) }
+    {
         let len = rules.leads.clean_len(&rules.dialect, self.state, rest);
         let (text, left) = rest.split_at(len);
         self.texts.extend_from_slice(text.as_bytes())?;
+        Ok(left)
+    }
+
+    /// Takes doubled quotes, and answers what is left.
+    fn keep_quotes<'a>(&mut self, rules: &Rules, rest: &'a str) -> Result<&'a str, AllocError>
+        ensures read { read_of self.new ≡ read_of self.old }
+        ensures keeps { IfOk result (λ left. Keeps rules.now.dialect self.old self.new rest.now left.now) }
+    {
+        let count = doubled_quotes(&rules.dialect, self.state, rest);
+        let (quotes, _) = rest.split_at(count);
+        let (_, left) = rest.split_at(count + count);
+        self.texts.extend_from_slice(quotes.as_bytes())?;
         Ok(left)
     }
 

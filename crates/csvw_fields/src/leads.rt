@@ -1,5 +1,5 @@
 //! The bytes that a dialect's symbols begin with in UTF-8. A text without such a byte has no such symbol.
-ghost use Rattle.std.specs.Prelude.{◌≡◌, ◌≢◌, ◌≤◌, ◌<◌, ◌-◌, true, false, [], ◌∷◌, length, take, chars, encode_utf8, slice_index};
+ghost use Rattle.std.specs.Prelude.{◌≡◌, ◌≢◌, ◌≤◌, ◌<◌, ◌-◌, true, false, [], ◌∷◌, length, take, drop, chars, encode_utf8, slice_index};
 ghost use Rattle.std.specs.Str.{IsCharBoundary};
 ghost use Rattle.csvw_fields.specs.Clean.{IsLeads, IsClean};
 ghost use Rattle.csvw_records.specs.declared.scan.State.TheVariants.{Plain, Inside};
@@ -46,20 +46,16 @@ impl Leads {
         }
     }
 
-    /// How many bytes at the front are sure to be the text of a field that is left in this state. Outside quotes a
-    /// text that begins with a CR has none, without a look at what comes behind it: so bytes that aren't sure are
-    /// looked at once.
-    pub fn clean_len(self, d: &Dialect, state: State, text: &str) -> usize
+    /// How many bytes at the front are sure to be the text of a field that is left in this state. All bytes that are
+    /// looked at are among them but the last, so each byte is looked at twice at most.
+    pub(crate) fn clean_len(self, d: &Dialect, state: State, text: &str) -> usize
         requires { IsLeads d.now self }
         ensures boundary { IsCharBoundary text.now result }
-        ensures clean { IsClean d.now state (chars (take result text.now)) }
+        ensures clean { IsClean d.now state (chars (take result text.now)) (chars (drop result text.now)) }
     {
         let bytes = text.as_bytes();
         match state {
             State::Plain => {
-                if begins_with_cr(bytes) {
-                    return 0;
-                }
                 let found = memchr3(self.delimiter, self.quote, b'\n', bytes);
                 place_before(text, found.unwrap_or(bytes.len()))
             }
@@ -70,10 +66,6 @@ impl Leads {
             State::Start | State::Escaped | State::Closed => 0,
         }
     }
-}
-
-fn begins_with_cr(bytes: &[u8]) -> bool {
-    !bytes.is_empty() && bytes[0] == b'\r'
 }
 
 /// This place, if it is between two characters, else 0.
@@ -88,22 +80,22 @@ fn boundary_at(text: &str, at: usize) -> usize
 /// Whether a CR stands in front of this place.
 fn ends_in_cr(bytes: &[u8], end: usize) -> bool
     requires { end ≤ length bytes.now }
-    ensures some { result ≡ true → 0 < end }
+    ensures some { result ≡ true → (0 < end) × (slice_index bytes.now (end - 1) ≡ 13) }
     ensures other { result ≡ false → 0 < end → slice_index bytes.now (end - 1) ≢ 13 }
 {
     0 < end && bytes[end - 1] == b'\r'
 }
 
-/// The greatest place up to this one that is behind no CR, if it is between two characters, else 0.
+/// This place or, where a CR stands in front of it, that of the CR, if it is between two characters, else 0.
 fn place_before(text: &str, at: usize) -> usize
     requires { at ≤ length text.now }
     ensures within { result ≤ at }
     ensures boundary { IsCharBoundary text.now result }
-    ensures settled { 0 < result → slice_index text.now (result - 1) ≢ 13 }
+    ensures settled { 0 < result → slice_index text.now (result - 1) ≡ 13 → slice_index text.now result ≡ 13 }
 {
-    let mut end = at;
-    while ends_in_cr(text.as_bytes(), end) {
-        end -= 1;
+    if ends_in_cr(text.as_bytes(), at) {
+        boundary_at(text, at - 1)
+    } else {
+        boundary_at(text, at)
     }
-    boundary_at(text, end)
 }

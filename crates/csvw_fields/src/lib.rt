@@ -3,16 +3,19 @@
 
 mod bound;
 mod cut;
+mod cutter;
 mod decode;
 mod draft;
 mod field;
 mod leads;
 mod marks;
+mod quotes;
 mod rules;
 mod trim;
 
 pub use bound::{Bound, text_at};
-pub use cut::{Symbols, cut_row, row_len, terminator_at};
+pub use cut::{Symbols, terminator_at};
+pub use cutter::Cutter;
 pub use decode::{char_count, front_len, valid_front};
 pub use draft::{Draft, Reading, settled};
 pub use field::all_empty;

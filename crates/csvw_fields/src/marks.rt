@@ -99,7 +99,12 @@ fn look_on(delimiter: u8, quote: u8, text: &[u8], at: usize, marks: &mut Marks) 
 
 /// How many bytes from this place on come before the first symbol, if one follows.
 #[inline(always)]
-pub fn next_symbol(symbols: Symbols, text: &[u8], at: usize, marks: &mut Marks) -> Option<usize>
+pub(crate) fn next_symbol(
+    symbols: Symbols,
+    text: &[u8],
+    at: usize,
+    marks: &mut Marks,
+) -> Option<usize>
     requires marks { AreMarks (is_symbol symbols) text.now marks.old }
     requires within { at ≤ length text.now }
     ensures marks { AreMarks (is_symbol symbols) text.now marks.new }
@@ -115,7 +120,12 @@ pub fn next_symbol(symbols: Symbols, text: &[u8], at: usize, marks: &mut Marks) 
 
 /// How many bytes from this place on come before the first quote, if one follows.
 #[inline(always)]
-pub fn next_quote(symbols: Symbols, text: &[u8], at: usize, marks: &mut Marks) -> Option<usize>
+pub(crate) fn next_quote(
+    symbols: Symbols,
+    text: &[u8],
+    at: usize,
+    marks: &mut Marks,
+) -> Option<usize>
     requires marks { AreMarks (is_symbol symbols) text.now marks.old }
     requires within { at ≤ length text.now }
     ensures marks { AreMarks (is_symbol symbols) text.now marks.new }

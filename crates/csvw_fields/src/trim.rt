@@ -45,7 +45,7 @@ fn trimmed_bound(trim: Trim, texts: &[u8], bound: Bound) -> Bound
 }
 
 /// Where the texts of fields lie that are stripped; `AllocError` where there is no memory.
-pub fn trim_fields(
+pub(crate) fn trim_fields(
     trim: Trim,
     texts: &[u8],
     bounds: &[Bound],

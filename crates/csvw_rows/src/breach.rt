@@ -31,7 +31,7 @@ fn shown_at(d: &Dialect, rest: &str, at: usize) -> usize
 
 /// How many bytes of the text show that a rule is broken at a byte of it, or at its end. A row that may
 /// be a comment is judged with the character that shows that it is none.
-pub fn shown_len(rules: &Rules, rest: &str, at: usize) -> usize
+pub(crate) fn shown_len(rules: &Rules, rest: &str, at: usize) -> usize
     requires within { at ≤ length rest.now }
     requires text { is_utf8 (drop at rest.now) ≡ true }
     ensures { IsShownLen rules.now.dialect rest.now at result }

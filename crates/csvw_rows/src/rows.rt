@@ -15,9 +15,7 @@ use crate::note::line_end;
 use crate::raw_row::RawRow;
 use crate::source::Source;
 use csvw_dialect::Dialect;
-use csvw_fields::{
-    Bound, Draft, Marks, Reading, Rules, all_empty, cut_row, row_len, settled, terminator_at,
-};
+use csvw_fields::{Bound, Cutter, Draft, Marks, Reading, Rules, all_empty, settled, terminator_at};
 use csvw_records::{ROW_LIMIT, RowStop, is_quoted};
 use std::alloc::{AllocError, Global};
 
@@ -220,7 +218,7 @@ impl Rows {
         ensures refills { Refills self.old self.new }
         ensures row { IfOk result (λ o. IfSome o (HasFields self.new)) }
     {
-        let Some(symbols) = self.rules.symbols else {
+        let Some(cutter) = Cutter::of(&self.rules, self.source.items()) else {
             return Ok(None);
         };
         let rest = self.source.rest();
@@ -230,21 +228,12 @@ impl Rows {
         {
             return Ok(None);
         }
-        let text = self.source.items();
         let start = self.source.taken();
-        let Some(at) = cut_row(
-            &self.rules,
-            symbols,
-            text,
-            start,
-            &mut self.marks,
-            &mut self.fields,
-            &mut self.spare,
-        )?
+        let Some(at) = cutter.cut_row(start, &mut self.marks, &mut self.fields, &mut self.spare)?
         else {
             return Ok(None);
         };
-        Ok(row_len(&self.rules, text, start, at))
+        Ok(cutter.row_len(start, at))
     }
 
     /// Reads one row on.

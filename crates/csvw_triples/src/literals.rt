@@ -71,7 +71,7 @@ fn read_literal(
 }
 
 /// The literal of a value, its text in the memory of another; `AllocError` where there is no memory.
-pub fn literal_of(
+pub(crate) fn literal_of(
     alloc: Global,
     names: &RdfNames,
     column: &Column,

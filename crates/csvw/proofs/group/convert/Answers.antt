@@ -21,16 +21,16 @@ returns-in-Ok-clause-runs g c =
     inl (record {
       bytes = bytes;
       readers = readers;
-      opened = opened_as g.O.Opener.opens g.O.Reader.Read.remaining c.args.group.now c.args.opener.now c.open_group.new.opener group.meta.items bytes
+      opened = opened_as g.O.Opener.opens g.O.Reader.Read.remaining c.args.asked.group.now c.args.opener.now c.open_group.new.opener group.meta.items bytes
           group.readers.items readers same_bytes same_readers c.in-Ok.ensures.opened;
       left = c.run_over-ran.new.readers;
-      runs = ends (Leaves g.O.Reader.Read.remaining (conversion c.args.minimal) bytes c.args.group.now.base.now readers c.run_over-ran.new.readers out)
+      runs = ends (Leaves g.O.Reader.Read.remaining (conversion c.args.asked.minimal) bytes c.args.asked.group.now.base.now readers c.run_over-ran.new.readers out)
           (told (inner_of c.args.err.now)) (told (inner_of c.run_over-ran.new.report)) (told (inner_of c.tell_end.new.err))
           (failures_of c.args.err.now) (failures_of c.run_over-ran.new.report) (failures_of c.tell_end.new.err)
           c.run_over-ran.result c.tell_end.result
-          (converts g.O.Reader.Read.remaining c.args.minimal bytes c.args.group.now.base.now readers c.run_over-ran.new.readers out
+          (converts g.O.Reader.Read.remaining c.args.asked.minimal bytes c.args.asked.group.now.base.now readers c.run_over-ran.new.readers out
           (stream_of told c.args.err.now c.run_over-ran.new.report) c.run_over-ran.result
-          (subst (λ m. Runs g.O.Reader.Read.remaining (document c.args.group.now.base.now bytes) m readers c.run_over-ran.new.readers out
+          (subst (λ m. Runs g.O.Reader.Read.remaining (document c.args.asked.group.now.base.now bytes) m readers c.run_over-ran.new.readers out
           (stream_of told c.args.err.now c.run_over-ran.new.report) c.run_over-ran.result)
           c.conversion.ensures c.run_over-ran.ensures))
           c.tell_end.ensures.end;

@@ -1,35 +1,41 @@
 use Rattle.std.proofs.Common.{◌≡◌, ◌∙◌, ◌<◌, ℕ, List, chars, false, sym, ap, subst, arith}
+use Rattle.csvw_dialect.specs.declared.dialect.Dialect.{Dialect}
 use Rattle.csvw_fields.specs.Cuts.{IsCutRow, IsRowLen}
 use Rattle.csvw_records.specs.Files.{is_note}
 use Rattle.csvw_fields.specs.Marked.{is_symbol, AreMarks}
-use Rattle.csvw_rows.specs.SourceState.{taken_of}
+use Rattle.csvw_rows.specs.SourceState.{text_items, taken_of}
 use Rattle.csvw_fields.proofs.CutLemmas.{some_gives}
 use Rattle.csvw_rows.proofs.CutTakes.{cut_has}
 use Rattle.csvw_rows.proofs.rows.Rows.cut.Goals as goal
 
-pub cut_row-requires-clause-symbols : goal.cut_row-requires-clause-symbols
-cut_row-requires-clause-symbols c = c.args.self.now.rules.same_symbols c.in-Some.symbols c.in-Some.is
+pub cut_row-requires-clause-marks : goal.cut_row-requires-clause-marks
+cut_row-requires-clause-marks c =
+    let s = c.args.self.now in
+    let k = c.in-Some.ensures in
+    let cutter = c.in-Some.cutter in
+    subst (λ (l : List ℕ). AreMarks (is_symbol cutter.symbols) l s.marks) (sym (k.text ∙ c.items.ensures)) (s.marked cutter.symbols k.symbols)
 
 pub returns-clause-row : goal.returns-clause-row
 returns-clause-row c =
     let s = c.args.self.now in
     let d = s.rules.dialect in
+    let k = c.in-Some.ensures in
+    let cutter = c.in-Some.cutter in
     let at = c.in-Some-2.at in
     let spare = c.cut_row.new.spare.items in
     let bounds = c.cut_row.new.bounds.items in
-    let y = s.rules.same_symbols c.in-Some.symbols c.in-Some.is in
+    let text : List ℕ = text_items s.source in
+    let same : cutter.text.now ≡ text = k.text ∙ c.items.ensures in
+    let y = s.rules.same_symbols cutter.symbols k.symbols in
     let few : s.row < s.max_rows = (let h = c.if-self.false in omega (arith, h)) in
     let note : is_note d s.row (chars c.rest-rest.result.now) ≡ false = sym c.is_skipped.ensures ∙ c.if-is_skipped.false in
-    let k = rw c.in-Some-2.is at c.in_ok-at.ensures.row in
-    let here = subst (λ (l : List ℕ). IsCutRow d l (taken_of s.source) at spare bounds) c.items-text.ensures
-    (subst (λ (n : ℕ). IsCutRow d c.items-text.result.now n at spare bounds) c.taken-start.ensures k) in
-    some_gives (IsRowLen d c.items-text.result.now c.taken-start.result at) _ c.row_len.result
+    let row = rw c.in-Some-2.is at c.in_ok-at.ensures.row in
+    let here = subst (λ (l : List ℕ). IsCutRow d l (taken_of s.source) at spare bounds) same
+    (subst (λ (n : ℕ). IsCutRow d cutter.text.now n at spare bounds) c.taken-start.ensures
+    (subst (λ (x : Dialect). IsCutRow x cutter.text.now c.taken-start.result at spare bounds) k.dialect row)) in
+    some_gives (IsRowLen cutter.dialect.now cutter.text.now c.taken-start.result at) _ c.row_len.result
     (λ n l. cut_has _ at n y.trim few (ap (is_note d s.row) (sym c.rest-rest.ensures.chars) ∙ note) here
-    (subst (λ (l : List ℕ). IsRowLen d l (taken_of s.source) at n) c.items-text.ensures
-    (subst (λ (m : ℕ). IsRowLen d c.items-text.result.now m at n) c.taken-start.ensures l)))
+    (subst (λ (x : List ℕ). IsRowLen d x (taken_of s.source) at n) same
+    (subst (λ (m : ℕ). IsRowLen d cutter.text.now m at n) c.taken-start.ensures
+    (subst (λ (x : Dialect). IsRowLen x cutter.text.now c.taken-start.result at n) k.dialect l))))
     c.row_len.ensures
-
-pub cut_row-requires-clause-marks : goal.cut_row-requires-clause-marks
-cut_row-requires-clause-marks c =
-    let s = c.args.self.now in
-    subst (λ (l : List ℕ). AreMarks (is_symbol c.in-Some.symbols) l s.marks) (sym c.items-text.ensures) (s.marked c.in-Some.symbols c.in-Some.is)

@@ -4,12 +4,12 @@ use Rattle.csvw_fields.specs.declared.bound.Bound.{Bound}
 use Rattle.csvw_fields.specs.Bounds.{are_bounds, moved}
 use Rattle.csvw_fields.specs.Cuts.{IsCutRow, IsCutTo}
 use Rattle.csvw_fields.proofs.RowCuts.{cut_none, cut_grows, bounds_one, next_text, next_within, cut_more, cut_last, before_delimiter, cut_before, moved_before}
-use Rattle.csvw_fields.proofs.cut.cut_row.Goals as goal
+use Rattle.csvw_fields.proofs.cutter.Cutter.cut_row.Goals as goal
 
 pub loop-len-init : goal.loop-len-init
 loop-len-init c =
-    let d = c.args.rules.now.dialect in
-    let text : List ℕ = c.args.text.now in
+    let d = c.args.self.dialect.now in
+    let text : List ℕ = c.args.self.text.now in
     let spare : List ℕ = c.clear-2.new.self.items in
     let none : c.clear.new.self.items ≡ [] = c.clear.ensures.items in
     record {
@@ -24,26 +24,26 @@ loop-len-init c =
 pub returns-in_err-cut-clause-bounded : goal.returns-in_err-cut-clause-bounded
 returns-in_err-cut-clause-bounded c =
     let i = c.loop-len.invariant in
-    (cut_grows c.args.rules.now.dialect c.args.text.now c.loop-len.spare.items c.cut_field.new.spare.items c.args.start c.loop-len.at
+    (cut_grows c.args.self.dialect.now c.args.self.text.now c.loop-len.spare.items c.cut_field.new.spare.items c.args.start c.loop-len.at
     c.loop-len.bounds.items c.in_err-cut.ensures.grows i.bounded i.cut_to).0
 
 pub returns-in_default-2-clause-bounded : goal.returns-in_default-2-clause-bounded
 returns-in_default-2-clause-bounded c =
     let i = c.loop-len.invariant in
-    (cut_grows c.args.rules.now.dialect c.args.text.now c.loop-len.spare.items c.cut_field.new.spare.items c.args.start c.loop-len.at
+    (cut_grows c.args.self.dialect.now c.args.self.text.now c.loop-len.spare.items c.cut_field.new.spare.items c.args.start c.loop-len.at
     c.loop-len.bounds.items c.in_ok-cut.ensures.grows i.bounded i.cut_to).0
 
 pub returns-in_err-push-2-clause-bounded : goal.returns-in_err-push-2-clause-bounded
 returns-in_err-push-2-clause-bounded c =
     let i = c.loop-len.invariant in
-    ap (are_bounds c.args.text.now c.cut_field.new.spare.items) c.in_err-push-2.ensures.items
-    ∙ (cut_grows c.args.rules.now.dialect c.args.text.now c.loop-len.spare.items c.cut_field.new.spare.items c.args.start c.loop-len.at
+    ap (are_bounds c.args.self.text.now c.cut_field.new.spare.items) c.in_err-push-2.ensures.items
+    ∙ (cut_grows c.args.self.dialect.now c.args.self.text.now c.loop-len.spare.items c.cut_field.new.spare.items c.args.start c.loop-len.at
     c.loop-len.bounds.items c.in_ok-cut.ensures.grows i.bounded i.cut_to).0
 
 pub returns-then-cut-clause-bounded : goal.returns-then-cut-clause-bounded
 returns-then-cut-clause-bounded c =
-    let d = c.args.rules.now.dialect in
-    let text : List ℕ = c.args.text.now in
+    let d = c.args.self.dialect.now in
+    let text : List ℕ = c.args.self.text.now in
     let at = c.loop-len.at in
     let cut = c.in-Some-2.cut in
     let i = c.loop-len.invariant in
@@ -57,8 +57,8 @@ returns-then-cut-clause-bounded c =
 
 pub returns-then-cut-clause-row : goal.returns-then-cut-clause-row
 returns-then-cut-clause-row c =
-    let d = c.args.rules.now.dialect in
-    let text : List ℕ = c.args.text.now in
+    let d = c.args.self.dialect.now in
+    let text : List ℕ = c.args.self.text.now in
     let at = c.loop-len.at in
     let cut = c.in-Some-2.cut in
     let i = c.loop-len.invariant in
@@ -73,8 +73,8 @@ returns-then-cut-clause-row c =
 
 pub loop-len-preserved : goal.loop-len-preserved
 loop-len-preserved c =
-    let d = c.args.rules.now.dialect in
-    let text : List ℕ = c.args.text.now in
+    let d = c.args.self.dialect.now in
+    let text : List ℕ = c.args.self.text.now in
     let at = c.loop-len.at in
     let cut = c.in-Some-2.cut in
     let i = c.loop-len.invariant in
@@ -95,19 +95,18 @@ loop-len-preserved c =
           (cut_more d text new at cut i.within k c.args.start bounds c.if-cut.false g.1);
     }
 
-pub loop-len-preserved-then-text-at : goal.loop-len-preserved-then-text-at
-loop-len-preserved-then-text-at c =
-    let r = c.args.rules.now in
-    let d = r.dialect in
-    let text : List ℕ = c.args.text.now in
+pub loop-len-preserved-then-self-at : goal.loop-len-preserved-then-self-at
+loop-len-preserved-then-self-at c =
+    let d = c.args.self.dialect.now in
+    let text : List ℕ = c.args.self.text.now in
     let at = c.loop-len.at in
     let n = c.in-Some.len in
     let i = c.loop-len.invariant in
     let spare : List ℕ = c.loop-len.spare.items in
     let bounds = c.loop-len.bounds.items in
     let cut = before_delimiter n in
-    let stands = get_or-drop at text n 0 ∙ c.if-text-at.true in
-    let k = cut_before d c.args.symbols text spare at n r.lawful c.requires.symbols i.is_text i.within c.in-Some.ensures.ahead stands in
+    let stands = get_or-drop at text n 0 ∙ c.if-self-at.true in
+    let k = cut_before d c.args.self.symbols text spare at n c.args.self.lawful c.args.self.same_symbols i.is_text i.within c.in-Some.ensures.ahead stands in
     let items : c.push.new.self.items ≡ bounds ++ moved at cut.bound ∷ [] = c.in_ok-push.ensures.items
     ∙ ap (λ b. bounds ++ b ∷ []) (c.lent.ensures ∙ moved_before at n) in
     let from = i.from_start in

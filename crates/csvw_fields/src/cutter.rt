@@ -1,0 +1,233 @@
+//! The rows of a text, cut at the symbols of a dialect.
+ghost use Rattle.std.specs.Prelude.{◌≡◌, ◌≢◌, ◌≤◌, ◌<◌, ◌+◌, true, false, length, drop, IfOk, IfSome, slice_index};
+ghost use Rattle.std.specs.Str.{is_utf8};
+ghost use Rattle.csvw_dialect.specs.Lawful.{IsLawful};
+ghost use Rattle.csvw_fields.specs.Bounds.{are_bounds};
+ghost use Rattle.csvw_fields.specs.Cuts.{IsSymbols, IsCut, IsUnescaped, Grows, IsCutRow, IsRowLen};
+ghost use Rattle.csvw_fields.specs.Marked.{is_symbol, is_quote, AreMarks, StandsAhead};
+
+use crate::bound::Bound;
+use crate::cut::{Cut, Symbols, behind, cut_last, lent, terminator_at};
+use crate::marks::{Marks, next_quote, next_symbol};
+use crate::rules::Rules;
+use csvw_dialect::Dialect;
+use csvw_records::ROW_LIMIT;
+use std::alloc::AllocError;
+
+/// Cuts the rows of a text at the symbols of a dialect.
+#[derive(Clone, Copy)]
+pub struct Cutter<'a> {
+    /// The dialect.
+    dialect: &'a Dialect,
+    /// Its symbols.
+    symbols: Symbols,
+    /// The text as bytes.
+    text: &'a [u8],
+    ghost lawful: { IsLawful dialect.now },
+    ghost same_symbols: { IsSymbols dialect.now symbols },
+}
+
+impl<'a> Cutter<'a> {
+    ghost use Rattle.csvw_fields.specs.Cutters.{dialect_of, symbols_of, text_of, IsCutterOf};
+
+    /// Cuts the rows of a text by these rules; `None` where they have no symbols.
+    pub fn of(rules: &'a Rules, text: &'a [u8]) -> Option<Cutter<'a>>
+        ensures { IfSome result (IsCutterOf rules.now text.now) }
+    {
+        let symbols = rules.symbols?;
+        Some(Cutter {
+            dialect: &rules.dialect,
+            symbols,
+            text,
+        })
+    }
+
+    /// Whether a quote stands at this place.
+    fn has_quote(self, at: usize) -> bool
+        ensures stands { result ≡ true → (at < length self.entry.text.now) × (slice_index self.entry.text.now at ≡ self.entry.symbols.quote) }
+        ensures other { result ≡ false → at < length self.entry.text.now → slice_index self.entry.text.now at ≢ self.entry.symbols.quote }
+    {
+        at < self.text.len() && self.text[at] == self.symbols.quote
+    }
+
+    /// Writes what the characters inside quotes stand for behind the texts of a buffer. They begin at this place,
+    /// and so many bytes come before the first quote. Answers how many come before the quote that closes them.
+    fn unescape(
+        self,
+        start: usize,
+        first: usize,
+        marks: &mut Marks,
+        spare: &mut Vec<u8>,
+    ) -> Result<Option<usize>, AllocError>
+        requires marks { AreMarks (is_symbol self.symbols) self.text.now marks.old }
+        requires within { start ≤ length self.text.now }
+        requires text { is_utf8 (drop start self.text.now) ≡ true }
+        requires first { StandsAhead (is_quote self.symbols) self.text.now start (length self.text.now) first }
+        ensures marks { AreMarks (is_symbol self.entry.symbols) self.entry.text.now marks.new }
+        ensures grows { Grows spare.old.items spare.new.items }
+        ensures value { IfOk result (λ o. IfSome o
+            (IsUnescaped self.entry.symbols.quote (drop start self.entry.text.now) spare.old.items spare.new.items)) }
+    {
+        let mut at = start;
+        let mut len = first;
+        while self.has_quote(at + len + 1) {
+            spare.extend_from_slice(&self.text[at..at + len + 1])?;
+            at += len + 2;
+            let Some(next) = next_quote(self.symbols, self.text, at, marks) else {
+                return Ok(None);
+            };
+            len = next;
+        }
+        if len > 0 {
+            spare.extend_from_slice(&self.text[at..at + len])?;
+        }
+        Ok(Some(at + len - start))
+    }
+
+    /// A field in quotes with an escape, where so many bytes come before the first quote inside. Its text is
+    /// written behind those of the second buffer.
+    fn cut_escaped(
+        self,
+        start: usize,
+        first: usize,
+        marks: &mut Marks,
+        spare: &mut Vec<u8>,
+    ) -> Result<Option<Cut>, AllocError>
+        requires marks { AreMarks (is_symbol self.symbols) self.text.now marks.old }
+        requires within { start < length self.text.now }
+        requires text { is_utf8 (drop start self.text.now) ≡ true }
+        requires quoted { self.symbols.quoted ≡ true }
+        requires quote { slice_index self.text.now start ≡ self.symbols.quote }
+        requires first { StandsAhead (is_quote self.symbols) self.text.now (start + 1) (length self.text.now) first }
+        ensures marks { AreMarks (is_symbol self.entry.symbols) self.entry.text.now marks.new }
+        ensures grows { Grows spare.old.items spare.new.items }
+        ensures cut { IfOk result (λ o. IfSome o (IsCut self.entry.dialect.now (drop start self.entry.text.now) spare.new.items)) }
+    {
+        let from = spare.len();
+        let Some(close) = self.unescape(start + 1, first, marks, spare)? else {
+            return Ok(None);
+        };
+        let to = spare.len();
+        let bound = Bound {
+            from,
+            to,
+            apart: true,
+        };
+        let (_, rest) = self.text.split_at(start);
+        Ok(behind(self.dialect, self.symbols, rest, bound, close + 2))
+    }
+
+    /// A field in quotes. Its text is lent from the bytes or, where a quote is doubled, written behind those of
+    /// the second buffer.
+    fn cut_quoted(
+        self,
+        start: usize,
+        marks: &mut Marks,
+        spare: &mut Vec<u8>,
+    ) -> Result<Option<Cut>, AllocError>
+        requires marks { AreMarks (is_symbol self.symbols) self.text.now marks.old }
+        requires within { start < length self.text.now }
+        requires text { is_utf8 (drop start self.text.now) ≡ true }
+        requires quoted { self.symbols.quoted ≡ true }
+        requires quote { slice_index self.text.now start ≡ self.symbols.quote }
+        ensures marks { AreMarks (is_symbol self.entry.symbols) self.entry.text.now marks.new }
+        ensures grows { Grows spare.old.items spare.new.items }
+        ensures cut { IfOk result (λ o. IfSome o (IsCut self.entry.dialect.now (drop start self.entry.text.now) spare.new.items)) }
+    {
+        let Some(first) = next_quote(self.symbols, self.text, start + 1, marks) else {
+            return Ok(None);
+        };
+        if self.has_quote(start + first + 2) {
+            return self.cut_escaped(start, first, marks, spare);
+        }
+        let (_, rest) = self.text.split_at(start);
+        Ok(behind(
+            self.dialect,
+            self.symbols,
+            rest,
+            lent(1, first + 1),
+            first + 2,
+        ))
+    }
+
+    /// The field that begins at this place, where so many bytes come before its first symbol, which is no
+    /// delimiter, if it is found without a look at each of its characters. Its text is lent from the bytes or,
+    /// where a quote is doubled, written behind those of the second buffer.
+    fn cut_field(
+        self,
+        start: usize,
+        len: usize,
+        marks: &mut Marks,
+        spare: &mut Vec<u8>,
+    ) -> Result<Option<Cut>, AllocError>
+        requires marks { AreMarks (is_symbol self.symbols) self.text.now marks.old }
+        requires within { start ≤ length self.text.now }
+        requires text { is_utf8 (drop start self.text.now) ≡ true }
+        requires first { StandsAhead (is_symbol self.symbols) self.text.now start (length self.text.now) len }
+        requires other { slice_index self.text.now (start + len) ≢ self.symbols.delimiter }
+        ensures marks { AreMarks (is_symbol self.entry.symbols) self.entry.text.now marks.new }
+        ensures grows { Grows spare.old.items spare.new.items }
+        ensures cut { IfOk result (λ o. IfSome o (IsCut self.entry.dialect.now (drop start self.entry.text.now) spare.new.items)) }
+    {
+        if self.text[start + len] == b'\n' {
+            let (_, rest) = self.text.split_at(start);
+            return Ok(cut_last(self.dialect, self.symbols, rest, len));
+        }
+        if 0 < len {
+            return Ok(None);
+        }
+        self.cut_quoted(start, marks, spare)
+    }
+
+    /// The fields of the row that begins at this place, a byte from 0, and where its terminator stands; `None`
+    /// where it isn't whole or takes a look at each of its characters, `AllocError` where there is no memory. The
+    /// marks serve the rows behind it, too.
+    pub fn cut_row(
+        self,
+        start: usize,
+        marks: &mut Marks,
+        bounds: &mut Vec<Bound>,
+        spare: &mut Vec<u8>,
+    ) -> Result<Option<usize>, AllocError>
+        requires marks { AreMarks (is_symbol (symbols_of self)) (text_of self) marks.old }
+        requires within { start ≤ length (text_of self) }
+        requires text { is_utf8 (drop start (text_of self)) ≡ true }
+        ensures marks { AreMarks (is_symbol (symbols_of self.entry)) (text_of self.entry) marks.new }
+        ensures bounded { are_bounds (text_of self.entry) spare.new.items bounds.new.items ≡ true }
+        ensures row { IfOk result (λ o. IfSome o
+            (λ at. IsCutRow (dialect_of self.entry) (text_of self.entry) start at spare.new.items bounds.new.items)) }
+    {
+        bounds.clear();
+        spare.clear();
+        let mut at = start;
+        while let Some(len) = next_symbol(self.symbols, self.text, at, marks) {
+            if self.text[at + len] == self.symbols.delimiter {
+                bounds.push(lent(at, at + len))?;
+                at += len + 1;
+                continue;
+            }
+            let Some(cut) = self.cut_field(at, len, marks, spare)? else {
+                return Ok(None);
+            };
+            bounds.push(cut.bound_at(at))?;
+            at += cut.next;
+            if cut.ends {
+                return Ok(Some(at));
+            }
+        }
+        Ok(None)
+    }
+
+    /// How many bytes the row from a place on has with its terminator, which stands at this place, unless it is too long.
+    pub fn row_len(self, start: usize, at: usize) -> Option<usize>
+        requires start { start ≤ at }
+        requires within { at ≤ length (text_of self) }
+        ensures { IfSome result (IsRowLen (dialect_of self.entry) (text_of self.entry) start at) }
+    {
+        if at - start > ROW_LIMIT {
+            return None;
+        }
+        let (_, behind) = self.text.split_at(at);
+        Some(at - start + terminator_at(self.dialect, behind))
+    }
+}
