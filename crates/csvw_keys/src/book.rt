@@ -15,6 +15,7 @@ use crate::primary::PrimaryBook;
 use crate::reference::ReferenceBook;
 use crate::referenced::ReferencedBook;
 use crate::referring::ReferringBook;
+use crate::table_book::{add, make_room};
 use crate::tally::Tally;
 use csvw_annotate::Row;
 use csvw_columns::ForeignKeyPlan;
@@ -105,8 +106,8 @@ impl Book {
         ensures roomy { OnOk result (IsRoomy self.new table row.now) }
     {
         match self {
-            Book::Primary(book) => book.make_room(alloc, table, row),
-            Book::Referenced(book) => book.make_room(alloc, table, row),
+            Book::Primary(book) => make_room(book, alloc, table, row),
+            Book::Referenced(book) => make_room(book, alloc, table, row),
             Book::Reference(book) => book.make_room(alloc, table, row),
         }
     }
@@ -118,8 +119,8 @@ impl Book {
             → KeepsBook self.new (with_row tables table row.now) }
     {
         match self {
-            Book::Primary(book) => book.add(table, row),
-            Book::Referenced(book) => book.add(table, row),
+            Book::Primary(book) => add(book, table, row),
+            Book::Referenced(book) => add(book, table, row),
             Book::Reference(book) => book.add(table, row),
         }
     }

@@ -13,6 +13,7 @@ mod primary;
 mod reference;
 mod referenced;
 mod referring;
+mod table_book;
 mod tally;
 mod times;
 

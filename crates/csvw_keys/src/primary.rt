@@ -1,22 +1,21 @@
 //! The rows of a table whose primary key an earlier row has.
-ghost use Rattle.std.specs.Prelude.{◌≡◌, ◌<◌, ◌++◌, ◌∷◌, [], ℕ, List, OnOk};
+ghost use Rattle.std.specs.Prelude.{◌≡◌, ◌<◌, ◌++◌, [], List};
 ghost use Rattle.std.specs.Vec.{vec_len, vec_capacity};
 ghost use Rattle.csvw_annotate.specs.declared.row.Row.{Row};
 ghost use Rattle.csvw_keys.specs.Duplicates.{duplicate_faults};
 ghost use Rattle.csvw_keys.specs.Places.{fault_of};
 ghost use Rattle.csvw_keys.specs.PrimaryBooks.{IsStaged, KeepsPrimary, noted};
-ghost use Rattle.csvw_keys.specs.Tables.{with_row};
 
 use crate::held::{HeldKey, held_of};
 use crate::places::fault_of;
+use crate::table_book::TableBook;
 use crate::tally::Tally;
 use crate::times::Times;
 use csvw_annotate::Row;
 use csvw_text::{Code, Fault, Seq};
 use std::alloc::{AllocError, Global};
 
-/// A primary key, its keys so far and what is wrong with them. A row is added in two steps, the first of which alone needs
-/// memory.
+/// A primary key, its keys so far and what is wrong with them.
 #[derive(Drop)]
 pub struct PrimaryBook {
     /// The number of its table, from 1.
@@ -50,52 +49,29 @@ impl PrimaryBook {
     {
         self.found.as_slice()
     }
+}
 
-    /// Makes room for a row of a table; nothing where that isn't its own.
-    pub fn make_room(&mut self, alloc: Global, table: u32, row: &Row) -> Result<(), AllocError>
-        ensures table { self.new.table ≡ self.old.table }
-        ensures columns { self.new.columns ≡ self.old.columns }
-        ensures keeps { (rows : List Row) → KeepsPrimary self.old rows → KeepsPrimary self.new rows }
-        ensures staged { OnOk result (table ≡ self.old.table → IsStaged self.new row.now) }
-    {
-        if table == self.table {
-            self.make_own_room(alloc, row)
-        } else {
-            Ok(())
-        }
+impl TableBook for PrimaryBook {
+    ghost table_of = { λ book. book.table };
+
+    ghost columns_of = { λ book. book.columns };
+
+    ghost keeps = { λ book rows. KeepsPrimary book rows };
+
+    ghost is_staged = { λ book row. IsStaged book row };
+
+    fn table(&self) -> u32 {
+        self.table
     }
 
-    /// Adds the row of a table that there is room for; nothing where that isn't its own.
-    pub fn add(&mut self, table: u32, row: &Row)
-        ensures table { self.new.table ≡ self.old.table }
-        ensures columns { self.new.columns ≡ self.old.columns }
-        ensures keeps { (table ≡ self.old.table → IsStaged self.old row.now) → (tables : ℕ → List Row)
-            → KeepsPrimary self.old (tables self.old.table)
-            → KeepsPrimary self.new (with_row tables table row.now self.old.table) }
-    {
-        if table == self.table {
-            self.add_own(row);
-        }
-    }
-
-    fn make_own_room(&mut self, alloc: Global, row: &Row) -> Result<(), AllocError>
-        ensures table { self.new.table ≡ self.old.table }
-        ensures columns { self.new.columns ≡ self.old.columns }
-        ensures keeps { (rows : List Row) → KeepsPrimary self.old rows → KeepsPrimary self.new rows }
-        ensures staged { OnOk result (IsStaged self.new row.now) }
-    {
+    fn make_own_room(&mut self, alloc: Global, row: &Row) -> Result<(), AllocError> {
         let key = held_of(alloc, self.columns.as_slice(), row)?;
         self.tally.make_room(alloc, key)?;
         self.found.reserve(1)?;
         Ok(())
     }
 
-    fn add_own(&mut self, row: &Row)
-        ensures table { self.new.table ≡ self.old.table }
-        ensures columns { self.new.columns ≡ self.old.columns }
-        ensures keeps { IsStaged self.old row.now → (rows : List Row) → KeepsPrimary self.old rows
-            → KeepsPrimary self.new (rows ++ row.now ∷ []) }
-    {
+    fn add_own(&mut self, row: &Row) {
         let fault = fault_of(Code::DuplicateKey, self.table, self.columns.as_slice(), row);
         note(&mut self.found, self.tally.count(), fault);
     }

@@ -9,6 +9,7 @@ ghost use Rattle.csvw_keys.specs.Tallies.{tally_times};
 use crate::held::HeldKey;
 use crate::places::fault_at;
 use crate::referring::ReferringBook;
+use crate::table_book::{add, make_room};
 use crate::tally::Tally;
 use crate::times::Times;
 use csvw_annotate::Row;
@@ -63,7 +64,7 @@ impl ReferenceBook {
         ensures keeps { (tables : ℕ → List Row) → KeepsReference self.old tables → KeepsReference self.new tables }
         ensures staged { OnOk result (IsStaged self.new table row.now) }
     {
-        self.referring.make_room(alloc, table, row)
+        make_room(&mut self.referring, alloc, table, row)
     }
 
     /// Adds the row that there is room for.
@@ -72,7 +73,7 @@ impl ReferenceBook {
         ensures keeps { IsStaged self.old table row.now → (tables : ℕ → List Row) → KeepsReference self.old tables
             → KeepsReference self.new (with_row tables table row.now) }
     {
-        self.referring.add(table, row);
+        add(&mut self.referring, table, row);
     }
 
     /// The faults of the rows that refer, in order, where each key of the table that is referenced is there as often as this

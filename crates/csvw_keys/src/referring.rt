@@ -1,11 +1,10 @@
 //! The rows of a table that refer to others by a foreign key.
-ghost use Rattle.std.specs.Prelude.{◌≡◌, ◌<◌, ◌++◌, ◌∷◌, [], ℕ, List, OnOk};
+ghost use Rattle.std.specs.Prelude.{◌≡◌, ◌<◌, ◌++◌, []};
 ghost use Rattle.std.specs.Vec.{vec_len, vec_capacity};
-ghost use Rattle.csvw_annotate.specs.declared.row.Row.{Row};
 ghost use Rattle.csvw_keys.specs.ReferenceBooks.{IsReferringStaged, KeepsReferring, kept};
-ghost use Rattle.csvw_keys.specs.Tables.{with_row};
 
 use crate::held::{HeldKey, held_of, is_null_held};
+use crate::table_book::TableBook;
 use csvw_annotate::Row;
 use csvw_text::Seq;
 use std::alloc::{AllocError, Global};
@@ -19,7 +18,7 @@ pub struct Referring {
     pub(crate) source: u64,
 }
 
-/// The rows so far whose key cells aren't all null. A row is added in two steps, the first of which alone needs memory.
+/// The rows so far whose key cells aren't all null.
 #[derive(Drop)]
 pub struct ReferringBook {
     /// The number of its table, from 1.
@@ -45,52 +44,29 @@ impl ReferringBook {
             next: None,
         }
     }
+}
 
-    /// Makes room for a row of a table; nothing where that isn't its own.
-    pub fn make_room(&mut self, alloc: Global, table: u32, row: &Row) -> Result<(), AllocError>
-        ensures table { self.new.table ≡ self.old.table }
-        ensures columns { self.new.columns ≡ self.old.columns }
-        ensures keeps { (rows : List Row) → KeepsReferring self.old rows → KeepsReferring self.new rows }
-        ensures staged { OnOk result (table ≡ self.old.table → IsReferringStaged self.new row.now) }
-    {
-        if table == self.table {
-            self.make_own_room(alloc, row)
-        } else {
-            Ok(())
-        }
+impl TableBook for ReferringBook {
+    ghost table_of = { λ book. book.table };
+
+    ghost columns_of = { λ book. book.columns };
+
+    ghost keeps = { λ book rows. KeepsReferring book rows };
+
+    ghost is_staged = { λ book row. IsReferringStaged book row };
+
+    fn table(&self) -> u32 {
+        self.table
     }
 
-    /// Adds the row of a table that there is room for; nothing where that isn't its own.
-    pub fn add(&mut self, table: u32, row: &Row)
-        ensures table { self.new.table ≡ self.old.table }
-        ensures columns { self.new.columns ≡ self.old.columns }
-        ensures keeps { (table ≡ self.old.table → IsReferringStaged self.old row.now) → (tables : ℕ → List Row)
-            → KeepsReferring self.old (tables self.old.table)
-            → KeepsReferring self.new (with_row tables table row.now self.old.table) }
-    {
-        if table == self.table {
-            self.add_own(row);
-        }
-    }
-
-    fn make_own_room(&mut self, alloc: Global, row: &Row) -> Result<(), AllocError>
-        ensures table { self.new.table ≡ self.old.table }
-        ensures columns { self.new.columns ≡ self.old.columns }
-        ensures keeps { (rows : List Row) → KeepsReferring self.old rows → KeepsReferring self.new rows }
-        ensures staged { OnOk result (IsReferringStaged self.new row.now) }
-    {
+    fn make_own_room(&mut self, alloc: Global, row: &Row) -> Result<(), AllocError> {
         let key = held_of(alloc, self.columns.as_slice(), row)?;
         self.rows.reserve(1)?;
         self.next = Some(key);
         Ok(())
     }
 
-    fn add_own(&mut self, row: &Row)
-        ensures table { self.new.table ≡ self.old.table }
-        ensures columns { self.new.columns ≡ self.old.columns }
-        ensures keeps { IsReferringStaged self.old row.now → (rows : List Row) → KeepsReferring self.old rows
-            → KeepsReferring self.new (rows ++ row.now ∷ []) }
-    {
+    fn add_own(&mut self, row: &Row) {
         let Some(key) = self.next.take() else {
             return;
         };

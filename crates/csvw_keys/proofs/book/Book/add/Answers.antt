@@ -11,4 +11,4 @@ returns-in-Referenced-clause-keeps c = λ roomy tables keeps.
     let added = c.add-in-Referenced in
     let staged = subst (λ b. IsRoomy b table row) c.in-Referenced.is roomy in
     let before = subst (λ b. KeepsBook b tables) c.in-Referenced.is keeps in
-    subst (λ n. KeepsReferenced added.new.self (with_row tables table row n)) (sym added.ensures.table) (added.ensures.keeps staged tables before)
+    subst (λ n. KeepsReferenced added.new.book (with_row tables table row n)) (sym added.ensures.table) (added.ensures.keeps staged tables before)

@@ -4,7 +4,7 @@ use Rattle.csvw_keys.specs.Held.{held_keys, held_of}
 use Rattle.csvw_keys.specs.Tallies.{Tallies}
 use Rattle.csvw_keys.proofs.HeldLemmas.{one_key_more}
 use Rattle.csvw_keys.proofs.PrimaryLemmas.{faults_after}
-use Rattle.csvw_keys.proofs.primary.PrimaryBook.add_own.Goals as goal
+use Rattle.csvw_keys.proofs.primary.PrimaryBookTableBook.add_own.Goals as goal
 
 pub returns-clause-keeps : goal.returns-clause-keeps
 returns-clause-keeps c = λ staged rows keeps.

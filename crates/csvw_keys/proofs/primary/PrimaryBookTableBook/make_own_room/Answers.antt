@@ -1,5 +1,5 @@
 use Rattle.std.proofs.Common.{◌∙◌}
-use Rattle.csvw_keys.proofs.primary.PrimaryBook.make_own_room.Goals as goal
+use Rattle.csvw_keys.proofs.primary.PrimaryBookTableBook.make_own_room.Goals as goal
 
 pub returns-in_err-make_room-clause-keeps : goal.returns-in_err-make_room-clause-keeps
 returns-in_err-make_room-clause-keeps c = λ rows keeps. record {

@@ -3,7 +3,7 @@ use Rattle.csvw_keys.specs.Held.{held_of}
 use Rattle.csvw_keys.specs.ReferenceBooks.{kept}
 use Rattle.csvw_keys.proofs.PrimaryLemmas.{some_same}
 use Rattle.csvw_keys.proofs.ReferringLemmas.{one_row_kept}
-use Rattle.csvw_keys.proofs.referring.ReferringBook.add_own.Goals as goal
+use Rattle.csvw_keys.proofs.referring.ReferringBookTableBook.add_own.Goals as goal
 
 pub returns-clause-keeps : goal.returns-clause-keeps
 returns-clause-keeps c = λ staged rows keeps.
