@@ -1,10 +1,9 @@
 //! Reports, by their text.
 
 use csvw_report::{Outcome, ReportStop, sorted, write_report};
+use csvw_session_tests::Full;
 use csvw_text::{Code, Counted, Fault, Kind, Place, Seq};
 use std::alloc::{AllocError, Global};
-use std::io;
-use std::io::Write;
 use std::test::Fail;
 
 fn fault(kind: Kind, code: Code, table: u32, row: u64, column: u32) -> Fault {
@@ -12,33 +11,6 @@ fn fault(kind: Kind, code: Code, table: u32, row: u64, column: u32) -> Fault {
         place: Place { table, row, column },
         code,
         kind,
-    }
-}
-
-/// A writer with room for so many bytes.
-#[derive(Drop)]
-pub(crate) struct Full {
-    /// How many bytes it still takes.
-    pub(crate) room: usize,
-    /// The bytes that it took.
-    pub(crate) taken: Vec<u8>,
-}
-
-impl Write for Full {
-    fn write(&mut self, buf: &[u8]) -> io::Result<usize> {
-        let most = buf.len().min(self.room);
-        if most == 0 {
-            return Err(io::Error::from(io::ErrorKind::StorageFull));
-        }
-        if self.taken.extend_from_slice(&buf[..most]).is_err() {
-            return Err(io::Error::from(io::ErrorKind::OutOfMemory));
-        }
-        self.room -= most;
-        Ok(most)
-    }
-
-    fn flush(&mut self) -> io::Result<()> {
-        Ok(())
     }
 }
 

@@ -1,7 +1,7 @@
 //! What standard mode tells of groups, tables and rows, by whole runs.
 
-use crate::reports::Full;
 use csvw_engine::{Stop, run};
+use csvw_session_tests::Full;
 use csvw_text::Counted;
 use csvw_triples_core::Mode;
 use std::alloc::{AllocError, Global};

@@ -4,11 +4,11 @@ use std::io::{Read, Write};
 
 /// A writer with room for so many bytes.
 #[derive(Drop)]
-pub(crate) struct Full {
+pub struct Full {
     /// How many bytes it still takes.
-    pub(crate) room: usize,
+    pub room: usize,
     /// The bytes that it took.
-    pub(crate) taken: Vec<u8>,
+    pub taken: Vec<u8>,
 }
 
 impl Write for Full {
@@ -29,9 +29,9 @@ impl Write for Full {
     }
 }
 
-/// A reader that gives a byte at a time.
+/// A reader that gives a byte of these at a time.
 #[derive(Drop)]
-pub(crate) struct Slow(pub(crate) &'static [u8]);
+pub struct Slow(pub &'static [u8]);
 
 impl Read for Slow {
     fn read(&mut self, buf: &mut [u8]) -> io::Result<usize> {

@@ -7,9 +7,10 @@ mod answers;
 mod cuts;
 #[cfg(test)]
 mod examples;
-#[cfg(test)]
 mod full;
 #[cfg(test)]
 mod rows;
 #[cfg(test)]
 mod sessions;
+
+pub use full::{Full, Slow};
