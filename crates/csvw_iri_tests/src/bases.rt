@@ -1,6 +1,6 @@
 //! Bases.
 use crate::telling::base_told;
-use csvw_iri::{Base, IriFault, with_fragment};
+use csvw_iri::{Base, Iri, IriFault, with_fragment};
 use std::alloc::{AllocError, Global};
 use std::test::Fail;
 
@@ -30,11 +30,16 @@ fn row_is_base(alloc: Global, row: &str) -> Result<bool, AllocError> {
     }
 }
 
+/// What a text joins to, against a copy of a base.
+fn joined_to_copy(alloc: Global, base: &Base, text: &str) -> Result<String, AllocError> {
+    let copy = base.clone(alloc)?;
+    base_told(alloc, copy.join(alloc, text))
+}
+
 /// What a text joins to, against a copy of the base of a document.
 fn joined(alloc: Global, text: &str) -> Result<String, IriFault> {
     let base = Base::new(alloc, "http://example.org/d/meta.json")?;
-    let copy = base.clone(alloc)?;
-    Ok(base_told(alloc, copy.join(alloc, text))?)
+    Ok(joined_to_copy(alloc, &base, text)?)
 }
 
 /// Whether the text of a row joins to the base behind it.
@@ -46,10 +51,9 @@ fn row_joins(alloc: Global, row: &str) -> Result<bool, IriFault> {
 }
 
 /// A base with a fragment added.
-fn with_row(alloc: Global, text: &str) -> Result<String, IriFault> {
+fn with_row(alloc: Global, text: &str) -> Result<Iri, IriFault> {
     let base = Base::new(alloc, text)?;
-    let iri = with_fragment(alloc, base.iri(), "row=7")?;
-    Ok(String::from_str(alloc, iri.as_str())?)
+    Ok(with_fragment(alloc, base.iri(), "row=7")?)
 }
 
 #[test]

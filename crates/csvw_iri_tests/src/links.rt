@@ -1,5 +1,5 @@
 //! Links and what they resolve to.
-use crate::telling::told;
+use crate::telling::tells;
 use csvw_iri::{Base, IriFault, expand_prefix, link, resolve};
 use std::alloc::{AllocError, Global};
 use std::test::Fail;
@@ -59,9 +59,8 @@ const OTHERS: &str = "dc\n\n:x\nDc:x\nex:y\n dc:x\ndct:x\ndc://x";
 /// Whether a text resolves to what is wanted, and its link is the same.
 fn gives(alloc: Global, text: &str, want: &str) -> Result<bool, IriFault> {
     let base = Base::new(alloc, "http://example.org/d/p.csv?v=1#f")?;
-    let resolved = told(alloc, resolve(alloc, &base, text))?;
-    let linked = told(alloc, link(alloc, &base, text))?;
-    Ok(resolved.as_str() == want && linked.as_str() == want)
+    let is_resolved = tells(alloc, resolve(alloc, &base, text), want)?;
+    Ok(is_resolved && tells(alloc, link(alloc, &base, text), want)?)
 }
 
 /// Whether the text of a row resolves to what stands behind it.
@@ -72,17 +71,17 @@ fn row_resolves(alloc: Global, row: &str) -> Result<bool, IriFault> {
     }
 }
 
-/// What a text links to.
-fn linked(alloc: Global, text: &str) -> Result<String, IriFault> {
+/// Whether a text links to what is wanted.
+fn links_to(alloc: Global, text: &str, want: &str) -> Result<bool, IriFault> {
     let base = Base::new(alloc, "http://example.org/p.csv")?;
-    Ok(told(alloc, link(alloc, &base, text))?)
+    Ok(tells(alloc, link(alloc, &base, text), want)?)
 }
 
 /// Whether a prefix gives way to an IRI in a link.
 fn is_replaced(alloc: Global, prefix: &str, iri: &str) -> Result<bool, IriFault> {
     let text = format!(in alloc; "{prefix}:a:b")?;
     let want = format!(in alloc; "{iri}a:b")?;
-    Ok(linked(alloc, text.as_str())?.as_str() == want.as_str())
+    links_to(alloc, text.as_str(), want.as_str())
 }
 
 /// Whether a prefix stays where `//` follows.

@@ -1,7 +1,7 @@
 //! Texts whose links are seen in one pass over their bytes, and texts that come near to them.
-use crate::telling::told;
+use crate::telling::tells;
 use csvw_iri::{Base, IriFault, OwnFront, link, link_over, resolve};
-use std::alloc::Global;
+use std::alloc::{AllocError, Global};
 use std::test::Fail;
 
 /// Texts that are their own links, one on each line.
@@ -116,25 +116,44 @@ const BASE: &str = "http://example.org/d/p.csv?v=1";
 /// Whether a text resolves to what is wanted, and both links are the same, also in the memory of an earlier one and behind fronts.
 fn gives(alloc: Global, text: &str, want: &str) -> Result<bool, IriFault> {
     let base = Base::new(alloc, BASE)?;
-    let resolved = told(alloc, resolve(alloc, &base, text))?;
-    let linked = told(alloc, link(alloc, &base, text))?;
-    let spare = link(alloc, &base, "http://example.org/earlier")?;
-    let over = told(alloc, link_over(alloc, &base, text, None, Some(spare)))?;
-    let is_same = resolved.as_str() == want && linked.as_str() == want && over.as_str() == want;
-    Ok(is_same && gives_behind(alloc, text, want)?)
+    let is_resolved = tells(alloc, resolve(alloc, &base, text), want)?;
+    let is_linked = tells(alloc, link(alloc, &base, text), want)?;
+    let is_same = is_resolved && is_linked && gives_over(alloc, &base, text, want)?;
+    Ok(is_same && gives_behind(alloc, &base, text, want)?)
 }
 
-/// Whether a text has the same link behind each front.
-fn gives_behind(alloc: Global, text: &str, want: &str) -> Result<bool, IriFault> {
-    let base = Base::new(alloc, BASE)?;
+/// Whether a text has the link that is wanted in the memory of an earlier one.
+fn gives_over(alloc: Global, base: &Base, text: &str, want: &str) -> Result<bool, IriFault> {
+    let spare = link(alloc, base, "http://example.org/earlier")?;
+    Ok(tells(alloc, link_over(alloc, base, text, None, Some(spare)), want)?)
+}
+
+/// Whether a text has the link that is wanted behind each front.
+fn gives_behind(alloc: Global, base: &Base, text: &str, want: &str) -> Result<bool, AllocError> {
     for line in FRONTS.lines() {
-        let front = OwnFront::of(alloc, line)?;
-        let over = told(alloc, link_over(alloc, &base, text, front.as_ref(), None))?;
-        if front.is_none() || over.as_str() != want {
+        if !gives_behind_one(alloc, base, line, text, want)? {
             return Ok(false);
         }
     }
     Ok(true)
+}
+
+/// Whether a line is a front, and a text has the link that is wanted behind it.
+fn gives_behind_one(
+    alloc: Global,
+    base: &Base,
+    line: &str,
+    text: &str,
+    want: &str,
+) -> Result<bool, AllocError> {
+    match OwnFront::of(alloc, line)? {
+        Some(front) => tells(
+            alloc,
+            link_over(alloc, base, text, Some(&front), None),
+            want,
+        ),
+        None => Ok(false),
+    }
 }
 
 /// Whether the link of a text is the base's IRI and then the text.

@@ -10,6 +10,15 @@ pub(crate) fn told(alloc: Global, answer: Result<Iri, IriFault>) -> Result<Strin
     }
 }
 
+/// Whether a call answers the IRI, or the fault, with this text.
+pub(crate) fn tells(
+    alloc: Global,
+    answer: Result<Iri, IriFault>,
+    want: &str,
+) -> Result<bool, AllocError> {
+    Ok(told(alloc, answer)?.as_str() == want)
+}
+
 /// The text of a base, or the name of the fault.
 pub(crate) fn base_told(
     alloc: Global,
