@@ -24,16 +24,20 @@ enum Pattern {
 }
 
 fn format_of(alloc: Global, pattern: &Pattern) -> Result<Option<Format>, AllocError> {
-    Ok(match pattern {
-        Pattern::Plain => None,
-        Pattern::Number(decimal_char, group_char) => Some(Format::Number(NumberFormat {
+    match pattern {
+        Pattern::Plain => Ok(None),
+        Pattern::Number(decimal_char, group_char) => Ok(Some(Format::Number(NumberFormat {
             decimal_char: *decimal_char,
             group_char: *group_char,
-        })),
-        Pattern::Day(text) => DateFormat::of(text).map(Format::Day),
-        Pattern::Moment(text) => MomentFormat::of(text).map(Format::Moment),
-        Pattern::Truth(text) => TruthFormat::of(alloc, text)?.map(Format::Truth),
-    })
+        }))),
+        Pattern::Day(text) => Ok(DateFormat::of(text).map(Format::Day)),
+        Pattern::Moment(text) => Ok(MomentFormat::of(text).map(Format::Moment)),
+        Pattern::Truth(text) => truth_format_of(alloc, text),
+    }
+}
+
+fn truth_format_of(alloc: Global, text: &str) -> Result<Option<Format>, AllocError> {
+    Ok(TruthFormat::of(alloc, text)?.map(Format::Truth))
 }
 
 fn datatype_of(
@@ -319,11 +323,16 @@ fn reads_each(
 }
 
 fn reads_all(rt: &impl Abort, alloc: Global, tables: &[Readings]) -> Result<(), AllocError> {
-    for (simple, pattern, answers) in tables {
-        let datatype = datatype_of(alloc, *simple, pattern, &UNLIMITED)?;
-        reads_each(rt, alloc, &datatype, answers)?;
+    for table in tables {
+        reads_table(rt, alloc, table)?;
     }
     Ok(())
+}
+
+fn reads_table(rt: &impl Abort, alloc: Global, table: &Readings) -> Result<(), AllocError> {
+    let (simple, pattern, answers) = table;
+    let datatype = datatype_of(alloc, *simple, pattern, &UNLIMITED)?;
+    reads_each(rt, alloc, &datatype, answers)
 }
 
 /// Derived integers, each with a text of its bound and one past it.
@@ -546,15 +555,26 @@ const BREAKS: [Breaks; 4] = [
     },
 ];
 
+/// The value that a text is, by a datatype that is sound.
+fn value_by(
+    rt: &impl Abort,
+    alloc: Global,
+    datatype: &Datatype,
+    text: &str,
+) -> Result<Value, AllocError> {
+    assert!(rt; datatype.check().is_ok());
+    Ok(datatype.read(alloc, text)?.expect(rt, "a value"))
+}
+
+/// The facets that the value of a text breaks.
 fn broken(
     rt: &impl Abort,
     alloc: Global,
     datatype: &Datatype,
     text: &str,
 ) -> Result<Broken, AllocError> {
-    assert!(rt; datatype.check().is_ok());
-    let value = datatype.read(alloc, text)?;
-    Ok(datatype.facets(&value.expect(rt, "a value")))
+    let value = value_by(rt, alloc, datatype, text)?;
+    Ok(datatype.facets(&value))
 }
 
 fn breaks_each(
@@ -572,10 +592,14 @@ fn breaks_each(
 
 fn breaks_all(rt: &impl Abort, alloc: Global, tables: &[Breaks]) -> Result<(), AllocError> {
     for table in tables {
-        let datatype = datatype_of(alloc, table.simple, &Pattern::Plain, &table.limits)?;
-        breaks_each(rt, alloc, &datatype, table.broken)?;
+        breaks_table(rt, alloc, table)?;
     }
     Ok(())
+}
+
+fn breaks_table(rt: &impl Abort, alloc: Global, table: &Breaks) -> Result<(), AllocError> {
+    let datatype = datatype_of(alloc, table.simple, &Pattern::Plain, &table.limits)?;
+    breaks_each(rt, alloc, &datatype, table.broken)
 }
 
 #[test]
@@ -697,10 +721,19 @@ fn checks_each(
     rows: &[(Simple, Pattern, Limits, bool)],
 ) -> Result<(), AllocError> {
     for (simple, pattern, limits, sound) in rows {
-        let datatype = datatype_of(alloc, *simple, pattern, limits)?;
-        assert!(rt; datatype.check().is_ok() == *sound);
+        assert!(rt; is_sound(alloc, *simple, pattern, limits)? == *sound);
     }
     Ok(())
+}
+
+fn is_sound(
+    alloc: Global,
+    simple: Simple,
+    pattern: &Pattern,
+    limits: &Limits,
+) -> Result<bool, AllocError> {
+    let datatype = datatype_of(alloc, simple, pattern, limits)?;
+    Ok(datatype.check().is_ok())
 }
 
 #[test]
@@ -710,8 +743,7 @@ fn sound_datatypes(rt: HostRuntime) -> Result<(), Fail> {
 
 fn value(rt: &impl Abort, alloc: Global, simple: Simple, text: &str) -> Result<Value, AllocError> {
     let datatype = datatype_of(alloc, simple, &Pattern::Plain, &UNLIMITED)?;
-    assert!(rt; datatype.check().is_ok());
-    Ok(datatype.read(alloc, text)?.expect(rt, "a value"))
+    value_by(rt, alloc, &datatype, text)
 }
 
 #[test]
@@ -794,12 +826,23 @@ fn characters_of_numbers(rt: HostRuntime) {
     characters_each(&rt, &CHARACTERS);
 }
 
+/// Makes a text the least value of a datatype.
+fn set_minimum(alloc: Global, datatype: &mut Datatype, text: &str) -> Result<(), AllocError> {
+    datatype.facets.minimum = Some(Value::Text(Text::copied(alloc, text)?));
+    Ok(())
+}
+
+/// Whether a copy of a datatype equals it.
+fn equals_its_copy(alloc: Global, datatype: &Datatype) -> Result<bool, AllocError> {
+    let copy = datatype.clone(alloc)?;
+    Ok(copy == *datatype)
+}
+
 #[test]
 fn copies_are_equal(rt: HostRuntime) -> Result<(), Fail> {
     let alloc = rt.alloc();
     let mut datatype = datatype_of(alloc, Simple::Truth, &Pattern::Truth("Y|N"), &UNLIMITED)?;
-    datatype.facets.minimum = Some(Value::Text(Text::copied(alloc, "t")?));
-    let copy = datatype.clone(alloc)?;
-    assert!(rt; copy == datatype);
+    set_minimum(alloc, &mut datatype, "t")?;
+    assert!(rt; equals_its_copy(alloc, &datatype)?);
     Ok(())
 }

@@ -95,28 +95,49 @@ const HIGHER: [&str; 23] = [
     "{.\"}",
 ];
 
+/// Variables of RFC 6570, section 3.2, and others, each with its one value.
+const ONES: [(&str, &str); 10] = [
+    ("var", "value"),
+    ("hello", "Hello World!"),
+    ("path", "/foo/bar"),
+    ("half", "50%"),
+    ("base", "http://example.com/home/"),
+    ("empty", ""),
+    ("x", "1024"),
+    ("y", "768"),
+    ("First%20Name", "Ann"),
+    ("a.b", "%20é%4"),
+];
+
 /// The variables of RFC 6570, section 3.2, with a `pair` and `none`, a list without items.
 fn variables(alloc: Global) -> Result<Vars, AllocError> {
     let mut vars = Vars::new(alloc);
-    for (name, value) in [
-        ("var", "value"),
-        ("hello", "Hello World!"),
-        ("path", "/foo/bar"),
-        ("half", "50%"),
-        ("base", "http://example.com/home/"),
-        ("empty", ""),
-        ("x", "1024"),
-        ("y", "768"),
-        ("First%20Name", "Ann"),
-        ("a.b", "%20é%4"),
-    ] {
-        vars.set(name, Var::One(Text::copied(alloc, value)?))?;
-    }
-    vars.set("undef", Var::Undefined)?;
-    vars.set("none", many(alloc, &[])?)?;
-    vars.set("list", many(alloc, &["red", "green", "blue"])?)?;
-    vars.set("pair", many(alloc, &["a", "b c"])?)?;
+    set_ones(alloc, &mut vars, &ONES)?;
+    set_lists(alloc, &mut vars)?;
     Ok(vars)
+}
+
+fn set_ones(alloc: Global, vars: &mut Vars, rows: &[(&str, &str)]) -> Result<(), AllocError> {
+    for (name, value) in rows {
+        set_one(alloc, vars, name, value)?;
+    }
+    Ok(())
+}
+
+fn set_one(alloc: Global, vars: &mut Vars, name: &str, value: &str) -> Result<(), AllocError> {
+    vars.set(name, Var::One(Text::copied(alloc, value)?))
+}
+
+/// Sets the variables that have no value or are lists.
+fn set_lists(alloc: Global, vars: &mut Vars) -> Result<(), AllocError> {
+    vars.set("undef", Var::Undefined)?;
+    set_many(alloc, vars, "none", &[])?;
+    set_many(alloc, vars, "list", &["red", "green", "blue"])?;
+    set_many(alloc, vars, "pair", &["a", "b c"])
+}
+
+fn set_many(alloc: Global, vars: &mut Vars, name: &str, items: &[&str]) -> Result<(), AllocError> {
+    vars.set(name, many(alloc, items)?)
 }
 
 fn many(alloc: Global, items: &[&str]) -> Result<Var, AllocError> {
@@ -200,17 +221,22 @@ fn long_templates(rt: HostRuntime) -> Result<(), Fail> {
     Ok(long_each(&rt, rt.alloc(), &LONG)?)
 }
 
-#[test]
-fn variables_are_set_anew(rt: HostRuntime) -> Result<(), Fail> {
-    let alloc = rt.alloc();
+/// Compares variables of which `x` has no value any more with their copy, of which it is 7.
+fn compare_copy(rt: &impl Abort, alloc: Global, vars: &Vars, copy: &Vars) -> Result<(), Fail> {
     let template = Template::read(alloc, "a{#x,y}b")?;
-    let mut vars = variables(alloc)?;
-    vars.set("x", Var::One(Text::copied(alloc, "7")?))?;
-    let copy = vars.clone()?;
-    vars.set("x", Var::Undefined)?;
-    assert_eq!(rt; template.expand(alloc, &copy)?.as_str(), "a#7,768b");
-    assert_eq!(rt; template.expand(alloc, &vars)?.as_str(), "a#768b");
+    assert_eq!(rt; template.expand(alloc, copy)?.as_str(), "a#7,768b");
+    assert_eq!(rt; template.expand(alloc, vars)?.as_str(), "a#768b");
     assert!(rt; matches!(vars.get("nobody"), Var::Undefined));
     assert!(rt; matches!(copy.get("list").clone(alloc)?, Var::Many(_)));
     Ok(())
+}
+
+#[test]
+fn variables_are_set_anew(rt: HostRuntime) -> Result<(), Fail> {
+    let alloc = rt.alloc();
+    let mut vars = variables(alloc)?;
+    set_one(alloc, &mut vars, "x", "7")?;
+    let copy = vars.clone()?;
+    vars.set("x", Var::Undefined)?;
+    compare_copy(&rt, alloc, &vars, &copy)
 }
