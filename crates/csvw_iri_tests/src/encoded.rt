@@ -71,7 +71,7 @@ fn is_behind(alloc: Global, front: &str, text: &str, want: &str) -> Result<bool,
     }
 }
 
-/// Whether the link of a front and a text is what the general way gives for both, also in the memory of an earlier one.
+/// Whether the link of a front and a text is what the general way gives for both.
 fn is_linked(alloc: Global, front: &str, text: &str, encoded: &str) -> Result<bool, IriFault> {
     let want = format!(in alloc; "{front}{encoded}")?;
     let is_found = is_behind(alloc, front, text, want.as_str())?;

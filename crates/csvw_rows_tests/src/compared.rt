@@ -6,6 +6,7 @@ use csv::{Reader, ReaderBuilder, StringRecord};
 use csvw_rows::Dialect;
 use std::alloc::Global;
 use std::fmt::Write;
+use std::process::Abort;
 use std::test::Fail;
 
 /// What may stand in a cell without quotes, at its start too.
@@ -66,17 +67,23 @@ fn add_row(text: &mut String, numbers: &mut Numbers, columns: u64) -> Result<(),
     Ok(())
 }
 
-/// A text of up to seven rows of equal length; the last may lack its terminator.
-fn generated(alloc: Global, numbers: &mut Numbers) -> Result<String, Fail> {
-    let mut text = String::new(alloc);
+/// Up to seven rows of equal length; the last may lack its terminator.
+fn add_rows(text: &mut String, numbers: &mut Numbers) -> Result<(), Fail> {
     let columns = 1 + numbers.below(4);
     let rows = numbers.below(8);
     for row in 0..rows {
-        add_row(&mut text, numbers, columns)?;
+        add_row(text, numbers, columns)?;
         if row + 1 < rows || numbers.below(2) == 0 {
             text.push_str(numbers.pick(&["\n", "\r\n"]))?;
         }
     }
+    Ok(())
+}
+
+/// A text of such rows.
+fn generated(alloc: Global, numbers: &mut Numbers) -> Result<String, Fail> {
+    let mut text = String::new(alloc);
+    add_rows(&mut text, numbers)?;
     Ok(text)
 }
 
@@ -97,23 +104,54 @@ fn read_record(reader: &mut Reader<&[u8]>, record: &mut StringRecord) -> Result<
     }
 }
 
+/// Writes the records that a reader reads, each in the memory of the one before.
+fn write_records(
+    text: &mut String,
+    reader: &mut Reader<&[u8]>,
+    record: &mut StringRecord,
+) -> Result<(), Fail> {
+    for source in 1..64 {
+        if !read_record(reader, record)? {
+            break;
+        }
+        write_record(text, record, source)?;
+    }
+    Ok(())
+}
+
+fn records_of(alloc: Global, reader: &mut Reader<&[u8]>) -> Result<String, Fail> {
+    let mut record = StringRecord::new(alloc);
+    let mut text = String::new(alloc);
+    write_records(&mut text, reader, &mut record)?;
+    Ok(text)
+}
+
 /// What the crate `csv` reads.
 fn records(alloc: Global, bytes: &[u8]) -> Result<String, Fail> {
     let mut reader = ReaderBuilder::new()
         .has_headers(false)
         .from_reader(alloc, bytes);
-    let mut record = StringRecord::new(alloc);
-    let mut text = String::new(alloc);
-    for source in 1..64 {
-        if !read_record(&mut reader, &mut record)? {
-            break;
-        }
-        write_record(&mut text, &record, source)?;
-    }
-    Ok(text)
+    records_of(alloc, &mut reader)
 }
 
 const TEXTS: u32 = 1000;
+
+/// Compares the rows of a text, in pieces of each length, with what is wanted.
+fn compare_pieces(rt: &impl Abort, alloc: Global, text: &str, want: &str) -> Result<(), Fail> {
+    for len in [1, 2, 3, 7, 1000] {
+        assert_eq!(rt;
+            pieces(alloc, Dialect::new(alloc)?, 1000, text.as_bytes(), len)?.as_str(),
+            want,
+            "{text:?} by {len}"
+        );
+    }
+    Ok(())
+}
+
+fn compare(rt: &impl Abort, alloc: Global, text: &str) -> Result<(), Fail> {
+    let want = records(alloc, text.as_bytes())?;
+    compare_pieces(rt, alloc, text, want.as_str())
+}
 
 #[test]
 fn as_the_crate_csv(rt: HostRuntime) -> Result<(), Fail> {
@@ -121,14 +159,7 @@ fn as_the_crate_csv(rt: HostRuntime) -> Result<(), Fail> {
     let mut numbers = Numbers(1);
     for _ in 0..TEXTS {
         let text = generated(alloc, &mut numbers)?;
-        let want = records(alloc, text.as_bytes())?;
-        for len in [1, 2, 3, 7, 1000] {
-            assert_eq!(rt;
-                pieces(alloc, Dialect::new(alloc)?, 1000, text.as_bytes(), len)?.as_str(),
-                want.as_str(),
-                "{text:?} by {len}"
-            );
-        }
+        compare(&rt, alloc, text.as_str())?;
     }
     Ok(())
 }

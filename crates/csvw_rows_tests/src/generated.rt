@@ -117,18 +117,24 @@ fn add_row(text: &mut String, numbers: &mut Numbers, d: &Dialect) -> Result<(), 
     Ok(())
 }
 
-/// A text of up to eight rows, or of some more than are taken.
-fn generated(alloc: Global, numbers: &mut Numbers, d: &Dialect) -> Result<String, Fail> {
-    let mut text = String::new(alloc);
+/// Up to eight rows, or some more than are taken.
+fn add_rows(text: &mut String, numbers: &mut Numbers, d: &Dialect) -> Result<(), Fail> {
     let rows = if numbers.below(8) == 0 {
         60
     } else {
         numbers.below(9)
     };
     for _ in 0..rows {
-        add_row(&mut text, numbers, d)?;
+        add_row(text, numbers, d)?;
         text.push_str(terminator(numbers, d))?;
     }
+    Ok(())
+}
+
+/// A text of such rows.
+fn generated(alloc: Global, numbers: &mut Numbers, d: &Dialect) -> Result<String, Fail> {
+    let mut text = String::new(alloc);
+    add_rows(&mut text, numbers, d)?;
     Ok(text)
 }
 
@@ -159,6 +165,30 @@ fn front_of(alloc: Global, text: &str, len: usize) -> Result<Front, AllocError> 
     })
 }
 
+/// Compares the rows of a text, in pieces of each length, with what is wanted.
+fn compare_pieces(
+    rt: &impl Abort,
+    alloc: Global,
+    d: &Dialect,
+    bytes: &[u8],
+    want: &str,
+) -> Result<(), Fail> {
+    for len in [1, 2, 3, 7, 1_000, 100_000] {
+        assert_eq!(rt;
+            pieces(alloc, d.clone(alloc)?, MAX_ROWS, bytes, len)?.as_str(),
+            want,
+            "{bytes:?} by {len}"
+        );
+    }
+    Ok(())
+}
+
+/// What the plain reader finds in so many bytes at the front of a text.
+fn plain_front(alloc: Global, d: &Dialect, text: &str, len: usize) -> Result<String, Fail> {
+    let front = front_of(alloc, text, len)?;
+    plain(alloc, d, MAX_ROWS, &front)
+}
+
 fn compare_text(
     rt: &impl Abort,
     alloc: Global,
@@ -166,17 +196,9 @@ fn compare_text(
     text: &str,
     len: usize,
 ) -> Result<(), Fail> {
-    let want = plain(alloc, d, MAX_ROWS, &front_of(alloc, text, len)?)?;
+    let want = plain_front(alloc, d, text, len)?;
     let (bytes, _) = text.as_bytes().split_at(len.min(text.len()));
-    for len in [1, 2, 3, 7, 1_000, 100_000] {
-        let dialect = d.clone(alloc)?;
-        assert_eq!(rt;
-            pieces(alloc, dialect, MAX_ROWS, bytes, len)?.as_str(),
-            want.as_str(),
-            "{bytes:?} by {len}"
-        );
-    }
-    Ok(())
+    compare_pieces(rt, alloc, d, bytes, want.as_str())
 }
 
 /// Compares what texts give by the dialect. Up to three bytes are cut off their ends.

@@ -147,6 +147,36 @@ fn field<'a>(d: &Dialect, text: &'a [char], value: &mut String) -> Result<End<'a
     }
 }
 
+/// Adds the field at the front of a text; what ends it.
+fn add_field<'a>(
+    alloc: Global,
+    d: &Dialect,
+    text: &'a [char],
+    values: &mut Vec<String>,
+) -> Result<End<'a>, AllocError> {
+    let mut value = String::new(alloc);
+    let end = field(d, text, &mut value)?;
+    values.push(value)?;
+    Ok(end)
+}
+
+/// Adds the fields at the front of a text; what ends the last.
+fn add_fields<'a>(
+    alloc: Global,
+    d: &Dialect,
+    text: &'a [char],
+    values: &mut Vec<String>,
+) -> Result<End<'a>, AllocError> {
+    let mut rest = text;
+    for _ in 0..=text.len() {
+        match add_field(alloc, d, rest, values)? {
+            End::Delimiter(behind) => rest = behind,
+            end => return Ok(end),
+        }
+    }
+    Ok(End::Text(false))
+}
+
 /// The row at the front of a text that ends there, where it is whole.
 fn fields<'a>(
     alloc: Global,
@@ -155,21 +185,14 @@ fn fields<'a>(
     whole: bool,
 ) -> Result<Found<'a>, AllocError> {
     let mut values = Vec::new(alloc);
-    let mut rest = text;
-    for _ in 0..=text.len() {
-        let mut value = String::new(alloc);
-        let end = field(d, rest, &mut value)?;
-        values.push(value)?;
-        match end {
-            End::Delimiter(behind) => rest = behind,
-            End::Terminator(behind) => return Ok(Found::Row(Some(values), behind)),
-            End::Text(_) if !whole => break,
-            End::Text(true) => return Ok(Found::Stop(RowStop::UnclosedQuote)),
-            End::Text(false) => return Ok(Found::Row(Some(values), &[])),
-            End::Stop(stop) => return Ok(Found::Stop(stop)),
-        }
-    }
-    Ok(Found::Open)
+    let end = add_fields(alloc, d, text, &mut values)?;
+    Ok(match end {
+        End::Terminator(behind) => Found::Row(Some(values), behind),
+        End::Text(false) if whole => Found::Row(Some(values), &[]),
+        End::Text(true) if whole => Found::Stop(RowStop::UnclosedQuote),
+        End::Stop(stop) => Found::Stop(stop),
+        End::Text(_) | End::Delimiter(_) => Found::Open,
+    })
 }
 
 /// A row that is passed.
@@ -204,17 +227,17 @@ fn settled<'a>(d: &Dialect, text: &'a [char]) -> &'a [char] {
     }
 }
 
-/// What stands at the front of a text that ends there, where it is whole.
+/// What stands at the front of a text that ends there, where it is whole: the row of this number.
 fn front_row<'a>(
     alloc: Global,
     d: &Dialect,
-    place: u64,
+    source: u64,
     text: &'a [char],
     whole: bool,
 ) -> Result<Found<'a>, AllocError> {
     let prefix = prefix_of(alloc, d)?;
     let sure = if whole { text } else { settled(d, text) };
-    if place < d.skip_rows || (!prefix.is_empty() && text.starts_with(prefix.as_slice())) {
+    if source <= d.skip_rows || (!prefix.is_empty() && text.starts_with(prefix.as_slice())) {
         return Ok(line(d, sure, whole));
     }
     if !whole && prefix.as_slice().starts_with(text) {
@@ -223,10 +246,13 @@ fn front_row<'a>(
     fields(alloc, d, sure, whole)
 }
 
-/// The text of a field, from its value. White space waits until it is known not to be at the end.
-fn stripped(alloc: Global, trim: Trim, value: &str) -> Result<String, AllocError> {
-    let mut text = String::new(alloc);
-    let mut white = String::new(alloc);
+/// Adds the text of a field. White space waits until it is known not to be at the end.
+fn add_stripped(
+    text: &mut String,
+    white: &mut String,
+    trim: Trim,
+    value: &str,
+) -> Result<(), AllocError> {
     for c in value.chars() {
         if !is_white(c) {
             text.push_str(white.as_str())?;
@@ -239,21 +265,67 @@ fn stripped(alloc: Global, trim: Trim, value: &str) -> Result<String, AllocError
     if matches!(trim, Trim::No | Trim::Start) {
         text.push_str(white.as_str())?;
     }
+    Ok(())
+}
+
+/// The text of a field, from its value.
+fn stripped(alloc: Global, trim: Trim, value: &str) -> Result<String, AllocError> {
+    let mut text = String::new(alloc);
+    let mut white = String::new(alloc);
+    add_stripped(&mut text, &mut white, trim, value)?;
     Ok(text)
+}
+
+/// Writes the field of a value, unless it is passed; whether it is empty.
+fn write_value(
+    text: &mut String,
+    alloc: Global,
+    d: &Dialect,
+    value: &str,
+    passed: bool,
+) -> Result<bool, Fail> {
+    let field = stripped(alloc, d.trim, value)?;
+    if !passed {
+        write_field(text, field.as_str())?;
+    }
+    Ok(field.is_empty())
+}
+
+/// Writes the fields of a row; whether it is blank.
+fn write_values(
+    text: &mut String,
+    alloc: Global,
+    d: &Dialect,
+    values: &[String],
+) -> Result<bool, Fail> {
+    let mut is_blank = d.skip_blank_rows;
+    for (i, value) in values.iter().enumerate() {
+        let passed = i < d.skip_columns as usize;
+        let is_empty = write_value(text, alloc, d, value.as_str(), passed)?;
+        is_blank = is_blank && is_empty;
+    }
+    Ok(is_blank)
 }
 
 /// The fields of a row as `write_row` writes them; `None` for a row that gives nothing, as it is blank.
 fn fields_of(alloc: Global, d: &Dialect, values: &[String]) -> Result<Option<String>, Fail> {
     let mut text = String::new(alloc);
-    let mut is_blank = d.skip_blank_rows;
-    for (i, value) in values.iter().enumerate() {
-        let field = stripped(alloc, d.trim, value.as_str())?;
-        is_blank = is_blank && field.is_empty();
-        if i >= d.skip_columns as usize {
-            write_field(&mut text, field.as_str())?;
-        }
-    }
+    let is_blank = write_values(&mut text, alloc, d, values)?;
     Ok(if is_blank { None } else { Some(text) })
+}
+
+/// Writes a row of these fields behind so many that remained; how many remain with it.
+fn write_numbered(
+    out: &mut String,
+    d: &Dialect,
+    numbers: (u64, u64),
+    fields: &str,
+) -> Result<u64, Fail> {
+    let (source, remained) = numbers;
+    let remained = remained.saturating_add(1);
+    let number = remained.saturating_sub(u64::from(d.header_row_count));
+    write!(out, "{source}/{number}{fields}; ")?;
+    Ok(remained)
 }
 
 /// Writes a row if it is given, behind so many that remained; how many remain with it.
@@ -264,17 +336,13 @@ fn write_plain(
     numbers: (u64, u64),
     values: Option<Vec<String>>,
 ) -> Result<u64, Fail> {
-    let (source, remained) = numbers;
-    let Some(values) = values else {
-        return Ok(remained);
-    };
-    let Some(fields) = fields_of(alloc, d, values.as_slice())? else {
-        return Ok(remained);
-    };
-    let remained = remained.saturating_add(1);
-    let number = remained.saturating_sub(u64::from(d.header_row_count));
-    write!(out, "{source}/{number}{}; ", fields.as_str())?;
-    Ok(remained)
+    match values {
+        Some(values) => match fields_of(alloc, d, values.as_slice())? {
+            Some(fields) => write_numbered(out, d, numbers, fields.as_str()),
+            None => Ok(numbers.1),
+        },
+        None => Ok(numbers.1),
+    }
 }
 
 /// The text without a byte order mark at its start.
@@ -285,6 +353,73 @@ fn unmarked(text: &[char]) -> &[char] {
     }
 }
 
+/// How far a text was read.
+#[derive(Clone, Copy)]
+struct Reading<'a> {
+    /// What wasn't read.
+    rest: &'a [char],
+    /// The number of the row at its front.
+    source: u64,
+    /// How many rows remained before it.
+    remained: u64,
+}
+
+/// Writes the row at the front, or the stop; what stands behind it, and how many rows remain then.
+fn write_front<'a>(
+    out: &mut String,
+    alloc: Global,
+    d: &Dialect,
+    at: Reading<'a>,
+    whole: bool,
+) -> Result<Option<(&'a [char], u64)>, Fail> {
+    let stop = match front_row(alloc, d, at.source, at.rest, whole)? {
+        Found::Row(values, behind) => {
+            let remained = write_plain(out, alloc, d, (at.source, at.remained), values)?;
+            return Ok(Some((behind, remained)));
+        }
+        Found::Open => RowStop::NotUtf8,
+        Found::Stop(stop) => stop,
+    };
+    write_stop(out, stop, at.source)?;
+    Ok(None)
+}
+
+/// Writes what a text gives row after row.
+fn write_all(
+    out: &mut String,
+    alloc: Global,
+    d: &Dialect,
+    max_rows: u32,
+    front: &Front,
+) -> Result<(), Fail> {
+    let mut rest = unmarked(front.chars.as_slice());
+    let mut remained = 0u64;
+    for place in 0..=max_rows {
+        let source = u64::from(place) + 1;
+        if rest.is_empty() {
+            if front.is_cut {
+                write_stop(out, RowStop::NotUtf8, source)?;
+            }
+            break;
+        }
+        if place == max_rows {
+            write_stop(out, RowStop::TooManyRows, source)?;
+            break;
+        }
+        let at = Reading {
+            rest,
+            source,
+            remained,
+        };
+        let Some((behind, now)) = write_front(out, alloc, d, at, !front.is_cut)? else {
+            break;
+        };
+        rest = behind;
+        remained = now;
+    }
+    Ok(())
+}
+
 /// What a text gives row after row, by a dialect that takes at most so many rows.
 pub(crate) fn plain(
     alloc: Global,
@@ -293,34 +428,6 @@ pub(crate) fn plain(
     front: &Front,
 ) -> Result<String, Fail> {
     let mut out = String::new(alloc);
-    let mut rest = unmarked(front.chars.as_slice());
-    let mut remained = 0u64;
-    for place in 0..=max_rows {
-        let source = u64::from(place) + 1;
-        if rest.is_empty() {
-            if front.is_cut {
-                write_stop(&mut out, RowStop::NotUtf8, source)?;
-            }
-            break;
-        }
-        if place == max_rows {
-            write_stop(&mut out, RowStop::TooManyRows, source)?;
-            break;
-        }
-        match front_row(alloc, d, u64::from(place), rest, !front.is_cut)? {
-            Found::Row(values, behind) => {
-                remained = write_plain(&mut out, alloc, d, (source, remained), values)?;
-                rest = behind;
-            }
-            Found::Open => {
-                write_stop(&mut out, RowStop::NotUtf8, source)?;
-                break;
-            }
-            Found::Stop(stop) => {
-                write_stop(&mut out, stop, source)?;
-                break;
-            }
-        }
-    }
+    write_all(&mut out, alloc, d, max_rows, front)?;
     Ok(out)
 }

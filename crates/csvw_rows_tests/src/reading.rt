@@ -88,6 +88,38 @@ pub(crate) fn write_rows(text: &mut String, rows: &mut Rows) -> Result<(), Fail>
     Ok(())
 }
 
+/// The rows that are there now, as `write_rows` writes them.
+pub(crate) fn written(alloc: Global, rows: &mut Rows) -> Result<String, Fail> {
+    let mut text = String::new(alloc);
+    write_rows(&mut text, rows)?;
+    Ok(text)
+}
+
+/// Writes what a text gives in pieces of so many bytes, up to its end or the first stop.
+fn write_pieces(text: &mut String, rows: &mut Rows, bytes: &[u8], len: usize) -> Result<(), Fail>
+    requires { 0 < len }
+{
+    for piece in bytes.chunks(len) {
+        if !feed(rows, piece) {
+            break;
+        }
+        write_rows(text, rows)?;
+    }
+    if end(rows) {
+        write_rows(text, rows)?;
+    }
+    Ok(())
+}
+
+/// What a text gives a reader in pieces of so many bytes.
+fn pieces_of(alloc: Global, rows: &mut Rows, bytes: &[u8], len: usize) -> Result<String, Fail>
+    requires { 0 < len }
+{
+    let mut text = String::new(alloc);
+    write_pieces(&mut text, rows, bytes, len)?;
+    Ok(text)
+}
+
 /// What a text gives in pieces of so many bytes, up to its end or the first stop.
 pub(crate) fn pieces(
     alloc: Global,
@@ -99,15 +131,5 @@ pub(crate) fn pieces(
     requires { 0 < len }
 {
     let mut rows = open(alloc, dialect, max)?;
-    let mut text = String::new(alloc);
-    for piece in bytes.chunks(len) {
-        if !feed(&mut rows, piece) {
-            break;
-        }
-        write_rows(&mut text, &mut rows)?;
-    }
-    if end(&mut rows) {
-        write_rows(&mut text, &mut rows)?;
-    }
-    Ok(text)
+    pieces_of(alloc, &mut rows, bytes, len)
 }

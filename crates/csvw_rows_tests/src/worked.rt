@@ -1,35 +1,42 @@
 //! Worked rows, each text at every cut.
 
 use crate::kind::{DEFAULT, Kind};
-use crate::reading::{end, feed, open, write_rows};
-use csvw_rows::{LineTerminators, Trim};
+use crate::reading::{end, feed, open, write_rows, written};
+use csvw_rows::{LineTerminators, Rows, Trim};
 use std::alloc::Global;
 use std::process::Abort;
 use std::test::Fail;
 
-/// What the pieces give by the default dialect, a bar behind what was there after each of them.
-fn steps(alloc: Global, pieces: &[&[u8]]) -> Result<String, Fail> {
-    let mut text = String::new(alloc);
-    let mut rows = open(alloc, DEFAULT.dialect(alloc)?, 1000)?;
+/// Writes what the pieces give, a bar behind what was there after each of them.
+fn write_steps(text: &mut String, rows: &mut Rows, pieces: &[&[u8]]) -> Result<(), Fail> {
     for piece in pieces {
-        feed(&mut rows, piece);
-        write_rows(&mut text, &mut rows)?;
+        feed(rows, piece);
+        write_rows(text, rows)?;
         text.push_str("| ")?;
     }
-    end(&mut rows);
-    write_rows(&mut text, &mut rows)?;
+    end(rows);
+    write_rows(text, rows)
+}
+
+fn steps_of(alloc: Global, rows: &mut Rows, pieces: &[&[u8]]) -> Result<String, Fail> {
+    let mut text = String::new(alloc);
+    write_steps(&mut text, rows, pieces)?;
     Ok(text)
+}
+
+/// What the pieces give by the default dialect, a bar behind what was there after each of them.
+fn steps(alloc: Global, pieces: &[&[u8]]) -> Result<String, Fail> {
+    let mut rows = open(alloc, DEFAULT.dialect(alloc)?, 1000)?;
+    steps_of(alloc, &mut rows, pieces)
 }
 
 /// What a text gives in two pieces.
 fn halves(alloc: Global, kind: &Kind, max: u32, a: &[u8], b: &[u8]) -> Result<String, Fail> {
-    let mut text = String::new(alloc);
     let mut rows = open(alloc, kind.dialect(alloc)?, max)?;
     feed(&mut rows, a);
     feed(&mut rows, b);
     end(&mut rows);
-    write_rows(&mut text, &mut rows)?;
-    Ok(text)
+    written(alloc, &mut rows)
 }
 
 /// Cuts the text everywhere.
@@ -306,18 +313,27 @@ fn row_of(alloc: Global, len: usize, quoted: bool) -> Result<Vec<u8>, Fail> {
     Ok(row)
 }
 
+/// Writes what is there now, and what the last piece gives.
+fn write_last(text: &mut String, rows: &mut Rows, piece: &[u8]) -> Result<(), Fail> {
+    write_rows(text, rows)?;
+    feed(rows, piece);
+    end(rows);
+    write_rows(text, rows)
+}
+
+fn last_of(alloc: Global, rows: &mut Rows, piece: &[u8]) -> Result<String, Fail> {
+    let mut text = String::new(alloc);
+    write_last(&mut text, rows, piece)?;
+    Ok(text)
+}
+
 /// What these pieces give, the row with CR behind it.
 fn fed(alloc: Global, front: &[u8], row: &[u8], behind: &[u8]) -> Result<String, Fail> {
-    let mut text = String::new(alloc);
     let mut rows = open(alloc, DEFAULT.dialect(alloc)?, 9)?;
     feed(&mut rows, front);
     feed(&mut rows, row);
     feed(&mut rows, b"\r");
-    write_rows(&mut text, &mut rows)?;
-    feed(&mut rows, behind);
-    end(&mut rows);
-    write_rows(&mut text, &mut rows)?;
-    Ok(text)
+    last_of(alloc, &mut rows, behind)
 }
 
 /// A text, a row of so many bytes behind it, quoted or not, and what stands behind the row and a CR.
