@@ -1,4 +1,5 @@
 //! Documents at each limit, and one past it.
+use crate::reading::is_refused;
 use csvw_meta::read;
 use csvw_meta_core::MetaCode;
 use std::alloc::{AllocError, Global};
@@ -117,35 +118,52 @@ const LIMITS: [Limit; 9] = [
     },
 ];
 
+/// Adds a part; those behind the first stand behind what is between them.
+fn push_part(text: &mut String, limit: &Limit, number: usize) -> Result<(), AllocError> {
+    if number > 0 {
+        text.push_str(limit.between)?;
+    }
+    text.push_str(limit.part)?;
+    match limit.numbered {
+        Some(end) => write!(text, "{number}{end}"),
+        None => Ok(()),
+    }
+}
+
+fn push_document(text: &mut String, limit: &Limit, count: usize) -> Result<(), AllocError> {
+    text.push_str(limit.front)?;
+    for number in 0..count {
+        push_part(text, limit, number)?;
+    }
+    text.push_str(limit.end)
+}
+
 /// The document with so many parts.
 fn document(alloc: Global, limit: &Limit, count: usize) -> Result<String, AllocError> {
     let mut text = String::new(alloc);
-    text.push_str(limit.front)?;
-    for i in 0..count {
-        if i > 0 {
-            text.push_str(limit.between)?;
-        }
-        text.push_str(limit.part)?;
-        if let Some(end) = limit.numbered {
-            write!(&mut text, "{i}{end}")?;
-        }
-    }
-    text.push_str(limit.end)?;
+    push_document(&mut text, limit, count)?;
     Ok(text)
+}
+
+fn push_times(text: &mut String, part: &str, count: usize) -> Result<(), AllocError> {
+    for _ in 0..count {
+        text.push_str(part)?;
+    }
+    Ok(())
+}
+
+fn push_nested(text: &mut String, count: usize) -> Result<(), AllocError> {
+    text.push_str(r#"{"@context":"http://www.w3.org/ns/csvw","url":"p.csv","dc:x":"#)?;
+    push_times(text, r#"{"dc:x":"#, count)?;
+    text.push_str("1")?;
+    push_times(text, "}", count)?;
+    text.push_str("}")
 }
 
 /// A document whose annotation is so many objects, one in another.
 fn nested(alloc: Global, count: usize) -> Result<String, AllocError> {
     let mut text = String::new(alloc);
-    text.push_str(r#"{"@context":"http://www.w3.org/ns/csvw","url":"p.csv","dc:x":"#)?;
-    for _ in 0..count {
-        text.push_str(r#"{"dc:x":"#)?;
-    }
-    text.push_str("1")?;
-    for _ in 0..count {
-        text.push_str("}")?;
-    }
-    text.push_str("}")?;
+    push_nested(&mut text, count)?;
     Ok(text)
 }
 
@@ -153,53 +171,71 @@ fn is_read(alloc: Global, text: &str) -> bool {
     read(alloc, text.as_bytes(), "http://example.org/m.json").is_ok()
 }
 
-fn is_refused(alloc: Global, text: &str, fault: (MetaCode, &str)) -> bool {
-    match read(alloc, text.as_bytes(), "http://example.org/m.json") {
-        Ok(_) => false,
-        Err(it) => it.code == fault.0 && it.pointer.as_str() == fault.1,
-    }
+/// Whether the document with so many parts is read.
+fn is_within(alloc: Global, limit: &Limit, count: usize) -> Result<bool, AllocError> {
+    let text = document(alloc, limit, count)?;
+    Ok(is_read(alloc, text.as_str()))
+}
+
+/// Whether the document with so many parts is refused for the fault of one part more.
+fn is_past(alloc: Global, limit: &Limit, count: usize) -> Result<bool, AllocError> {
+    let text = document(alloc, limit, count)?;
+    Ok(is_refused(alloc, text.as_str(), limit.fault))
 }
 
 #[test]
 fn documents_end_at_their_limits(rt: HostRuntime) -> Result<(), Fail> {
     let alloc = rt.alloc();
     for limit in &LIMITS {
-        let text = document(alloc, limit, limit.most)?;
         assert!(rt;
-            is_read(alloc, text.as_str()),
+            is_within(alloc, limit, limit.most)?,
             "{} {}",
             limit.front,
             limit.most
         );
-        let text = document(alloc, limit, limit.most.saturating_add(1))?;
         assert!(rt;
-            is_refused(alloc, text.as_str(), limit.fault),
+            is_past(alloc, limit, limit.most.saturating_add(1))?,
             "{} {}",
             limit.front,
             limit.most
         );
     }
     Ok(())
+}
+
+fn nests(alloc: Global, count: usize) -> Result<bool, AllocError> {
+    let text = nested(alloc, count)?;
+    Ok(is_read(alloc, text.as_str()))
+}
+
+fn nests_too_deep(alloc: Global, count: usize) -> Result<bool, AllocError> {
+    let text = nested(alloc, count)?;
+    Ok(is_refused(alloc, text.as_str(), (MetaCode::NotJson, "")))
 }
 
 #[test]
 fn objects_nest_up_to_their_limit(rt: HostRuntime) -> Result<(), Fail> {
     let alloc = rt.alloc();
-    let text = nested(alloc, 126)?;
-    assert!(rt; is_read(alloc, text.as_str()));
-    let text = nested(alloc, 127)?;
-    assert!(rt; is_refused(alloc, text.as_str(), (MetaCode::NotJson, "")));
+    assert!(rt; nests(alloc, 126)?);
+    assert!(rt; nests_too_deep(alloc, 127)?);
     Ok(())
+}
+
+/// A document that spaces fill up to so many bytes.
+fn filled(alloc: Global, len: usize) -> Result<String, AllocError> {
+    let mut text = String::from_str(
+        alloc,
+        r#"{"@context":"http://www.w3.org/ns/csvw","url":"p.csv"}"#,
+    )?;
+    let spaces = len.saturating_sub(text.len());
+    push_times(&mut text, " ", spaces)?;
+    Ok(text)
 }
 
 #[test]
 fn a_document_has_at_most_so_many_bytes(rt: HostRuntime) -> Result<(), Fail> {
     let alloc = rt.alloc();
-    let mut text = String::new(alloc);
-    text.push_str(r#"{"@context":"http://www.w3.org/ns/csvw","url":"p.csv"}"#)?;
-    for _ in text.len()..1_048_576 {
-        text.push_str(" ")?;
-    }
+    let mut text = filled(alloc, 1_048_576)?;
     assert!(rt; is_read(alloc, text.as_str()));
     text.push_str(" ")?;
     assert!(rt; is_refused(alloc, text.as_str(), (MetaCode::TooLong, "")));

@@ -4,6 +4,9 @@ use csvw_meta::read;
 use csvw_meta_core::MetaCode;
 use std::alloc::{AllocError, Global};
 
+/// The URL of each document.
+const URL: &str = "http://example.org/m.json";
+
 /// A part of a document that is read.
 pub struct Accepted {
     /// What stands in the document.
@@ -49,17 +52,32 @@ fn count(described: &Description) -> usize {
     count
 }
 
+/// The document with a part between two texts.
+fn document(alloc: Global, frame: (&str, &str), part: &str) -> Result<String, AllocError> {
+    let (front, end) = frame;
+    format!(in alloc; "{front}{part}{end}")
+}
+
+/// How many warnings a document is read with, where it is read.
+fn warnings(alloc: Global, text: &str) -> Option<usize> {
+    match read(alloc, text.as_bytes(), URL) {
+        Ok(described) => Some(count(&described)),
+        Err(_) => None,
+    }
+}
+
+/// Whether a document is refused for a fault of this code at this pointer.
+pub(crate) fn is_refused(alloc: Global, text: &str, fault: (MetaCode, &str)) -> bool {
+    match read(alloc, text.as_bytes(), URL) {
+        Ok(_) => false,
+        Err(found) => found.code == fault.0 && found.pointer.as_str() == fault.1,
+    }
+}
+
 /// Whether the document with that part between the two texts is read, with so many warnings.
 pub fn accepts(alloc: Global, frame: (&str, &str), case: &Accepted) -> Result<bool, AllocError> {
-    let (front, end) = frame;
-    let text = case.text;
-    let document = format!(in alloc; "{front}{text}{end}")?;
-    Ok(
-        match read(alloc, document.as_bytes(), "http://example.org/m.json") {
-            Ok(described) => count(&described) == case.warnings,
-            Err(_) => false,
-        },
-    )
+    let text = document(alloc, frame, case.text)?;
+    Ok(warnings(alloc, text.as_str()) == Some(case.warnings))
 }
 
 /// Whether the document with that part between the two texts is refused at its fault, whose pointer begins with `at`.
@@ -69,15 +87,8 @@ pub fn refuses(
     at: &str,
     case: &Refused,
 ) -> Result<bool, AllocError> {
-    let (front, end) = frame;
-    let text = case.text;
     let below = case.pointer;
-    let document = format!(in alloc; "{front}{text}{end}")?;
     let pointer = format!(in alloc; "{at}{below}")?;
-    Ok(
-        match read(alloc, document.as_bytes(), "http://example.org/m.json") {
-            Ok(_) => false,
-            Err(fault) => fault.code == case.code && fault.pointer.as_str() == pointer.as_str(),
-        },
-    )
+    let text = document(alloc, frame, case.text)?;
+    Ok(is_refused(alloc, text.as_str(), (case.code, pointer.as_str())))
 }
