@@ -2,7 +2,7 @@
 use crate::cells::Cell::{Misread, Read};
 use crate::facets::FACETS;
 use crate::ranges::{DATES, RANGES};
-use csvw_links_tests::run_over;
+use csvw_links_tests::{Ran, run_over};
 use csvw_triples_core::Mode;
 use std::alloc::{AllocError, Global};
 use std::test::Fail;
@@ -228,15 +228,6 @@ const CASES: [Case; 24] = [
 
 const HEADING: &str = "kind,code,table,row,column\n";
 
-/// What a run over the cells leaves.
-#[derive(Drop)]
-struct Leaves {
-    /// The graph.
-    graph: String,
-    /// The report.
-    report: String,
-}
-
 fn literal(alloc: Global, cell: &Cell, name: &str) -> Result<String, AllocError> {
     match cell {
         Cell::Read(_, lexical) | Cell::Breaks(_, lexical, _) => typed(alloc, lexical, name),
@@ -252,38 +243,86 @@ fn typed(alloc: Global, lexical: &str, name: &str) -> Result<String, AllocError>
     format!(in alloc; "\"{lexical}\"^^<http://www.w3.org/2001/XMLSchema#{name}>")
 }
 
-fn expected(alloc: Global, case: &Case) -> Result<Leaves, AllocError> {
+/// Adds the triple of the cell in a row.
+fn push_triple(
+    alloc: Global,
+    graph: &mut String,
+    row: u32,
+    cell: &Cell,
+    name: &str,
+) -> Result<(), AllocError> {
+    let literal = literal(alloc, cell, name)?;
+    write!(
+        graph,
+        "_:t1r{row}s <http://example.org/p.csv#id> {literal} .\n"
+    )
+}
+
+/// The graph of the cells.
+fn graph_of(alloc: Global, case: &Case) -> Result<String, AllocError> {
     let mut graph = String::new(alloc);
+    let mut row = 0u32;
+    for cell in case.cells {
+        row = row.saturating_add(1);
+        push_triple(alloc, &mut graph, row, cell, case.name)?;
+    }
+    Ok(graph)
+}
+
+/// Adds the line of the cell in a row, where the report tells of it.
+fn push_fault(report: &mut String, row: u32, cell: &Cell) -> Result<(), AllocError> {
+    let source = row.saturating_add(1);
+    match cell {
+        Cell::Misread(_, code) | Cell::Breaks(_, _, code) => {
+            write!(report, "error,{code},1,{source},1\n")
+        }
+        Cell::Read(_, _) => Ok(()),
+    }
+}
+
+/// The report on the cells.
+fn report_of(alloc: Global, case: &Case) -> Result<String, AllocError> {
     let mut report = String::from_str(alloc, HEADING)?;
     let mut row = 0u32;
     for cell in case.cells {
         row = row.saturating_add(1);
-        let literal = literal(alloc, cell, case.name)?;
-        let line = format!(in alloc; "_:t1r{row}s <http://example.org/p.csv#id> {literal} .\n")?;
-        graph.push_str(line.as_str())?;
-        if let Cell::Misread(_, code) | Cell::Breaks(_, _, code) = cell {
-            let source = row.saturating_add(1);
-            let line = format!(in alloc; "error,{code},1,{source},1\n")?;
-            report.push_str(line.as_str())?;
-        }
+        push_fault(&mut report, row, cell)?;
     }
-    Ok(Leaves { graph, report })
+    Ok(report)
+}
+
+/// The text of a table with each cell in a row of its own.
+fn text_of(alloc: Global, cells: &[Cell]) -> Result<String, AllocError> {
+    let mut text = String::from_str(alloc, "id\n")?;
+    for cell in cells {
+        push_row(&mut text, cell)?;
+    }
+    Ok(text)
+}
+
+fn push_row(text: &mut String, cell: &Cell) -> Result<(), AllocError> {
+    text.push_str(cell.text())?;
+    text.push('\n')
+}
+
+/// The document of a table whose one column has a datatype.
+fn document_of(alloc: Global, datatype: &str) -> Result<String, AllocError> {
+    format!(in alloc;
+        "{{\"@context\":\"http://www.w3.org/ns/csvw\",\"url\":\"p.csv\",\"tableSchema\":{{\"columns\":[{{\"name\":\"id\",\"datatype\":{datatype}}}]}}}}"
+    )
+}
+
+/// What a run over the cells leaves.
+fn ran_over(alloc: Global, case: &Case) -> Result<Ran, AllocError> {
+    let meta = document_of(alloc, case.datatype)?;
+    let text = text_of(alloc, case.cells)?;
+    run_over(alloc, meta.as_str(), text.as_str(), Mode::Minimal)
 }
 
 fn gives(alloc: Global, case: &Case) -> Result<bool, AllocError> {
-    let datatype = case.datatype;
-    let meta = format!(in alloc;
-        "{{\"@context\":\"http://www.w3.org/ns/csvw\",\"url\":\"p.csv\",\"tableSchema\":{{\"columns\":[{{\"name\":\"id\",\"datatype\":{datatype}}}]}}}}"
-    )?;
-    let mut text = String::from_str(alloc, "id\n")?;
-    for cell in case.cells {
-        text.push_str(cell.text())?;
-        text.push('\n')?;
-    }
-    let ran = run_over(alloc, meta.as_str(), text.as_str(), Mode::Minimal)?;
-    let expected = expected(alloc, case)?;
-    let is_graph = ran.graph.as_slice() == expected.graph.as_bytes();
-    let is_report = ran.report.as_slice() == expected.report.as_bytes();
+    let ran = ran_over(alloc, case)?;
+    let is_graph = ran.graph.as_slice() == graph_of(alloc, case)?.as_bytes();
+    let is_report = ran.report.as_slice() == report_of(alloc, case)?.as_bytes();
     Ok(ran.stop.is_none() && is_graph && is_report)
 }
 

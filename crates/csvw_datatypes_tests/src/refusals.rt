@@ -182,20 +182,23 @@ const CASES: [Case; 32] = [
     },
 ];
 
+/// Whether a run over a document stops at a fault of this code at this pointer.
+fn stops_at(alloc: Global, meta: &str, code: MetaCode, pointer: &str) -> Result<bool, AllocError> {
+    let ran = run_over(alloc, meta, "", Mode::Minimal)?;
+    Ok(match &ran.stop {
+        Some(Stop::Meta(fault)) => fault.code == code && fault.pointer.as_str() == pointer,
+        _ => false,
+    })
+}
+
 fn is_refused(alloc: Global, case: &Case) -> Result<bool, AllocError> {
     let datatype = case.datatype;
     let meta = format!(in alloc;
         "{{\"@context\":\"http://www.w3.org/ns/csvw\",\"url\":\"p.csv\",\"tableSchema\":{{\"columns\":[{{\"name\":\"id\",\"datatype\":{datatype}}}]}}}}"
     )?;
-    let ran = run_over(alloc, meta.as_str(), "", Mode::Minimal)?;
     let below = case.pointer;
     let pointer = format!(in alloc; "/tableSchema/columns/0/datatype{below}")?;
-    Ok(match &ran.stop {
-        Some(Stop::Meta(fault)) => {
-            fault.code == case.code && fault.pointer.as_str() == pointer.as_str()
-        }
-        _ => false,
-    })
+    stops_at(alloc, meta.as_str(), case.code, pointer.as_str())
 }
 
 #[test]
