@@ -1,6 +1,6 @@
 //! A table of as many columns as there may be, each with three templates of as many expressions as there may be: together they
 //! name all columns, whose cells have characters of every kind.
-use crate::running::run_over;
+use crate::running::{Ran, run_over};
 use csvw_triples_core::Mode;
 use std::alloc::{AllocError, Global};
 use std::process::Abort;
@@ -42,17 +42,26 @@ fn named(first: u32) -> [u32; 2] {
     [first % COLUMNS, (first % COLUMNS).wrapping_add(VARIABLES)]
 }
 
-fn push_expressions(alloc: Global, out: &mut String, first: u32) -> Result<(), AllocError> {
+fn push_expressions(out: &mut String, first: u32) -> Result<(), AllocError> {
     let [from, to] = named(first);
     for column in from..to {
-        out.push_str(format!(in alloc; "{{c{column}}}")?.as_str())?;
+        write!(out, "{{c{column}}}")?;
     }
     Ok(())
 }
 
-/// The document, whose columns have about, property and value links.
-fn document(alloc: Global) -> Result<String, AllocError> {
-    let mut out = String::new(alloc);
+fn push_column(out: &mut String, column: u32) -> Result<(), AllocError> {
+    let first = column.wrapping_mul(96);
+    write!(out, r##"{{"name":"c{column}","aboutUrl":"#"##)?;
+    push_expressions(out, first)?;
+    out.push_str(r#"","propertyUrl":"http://example.org/p?"#)?;
+    push_expressions(out, first.wrapping_add(32))?;
+    out.push_str(r#"","valueUrl":"v/"#)?;
+    push_expressions(out, first.wrapping_add(64))?;
+    out.push_str(r#""}"#)
+}
+
+fn push_document(out: &mut String) -> Result<(), AllocError> {
     out.push_str(
         r#"{"@context":"http://www.w3.org/ns/csvw","url":"p.csv","dialect":{"header":false},"tableSchema":{"columns":["#,
     )?;
@@ -60,33 +69,43 @@ fn document(alloc: Global) -> Result<String, AllocError> {
         if column > 0 {
             out.push(',')?;
         }
-        let first = column.wrapping_mul(96);
-        out.push_str(format!(in alloc; r##"{{"name":"c{column}","aboutUrl":"#"##)?.as_str())?;
-        push_expressions(alloc, &mut out, first)?;
-        out.push_str(r#"","propertyUrl":"http://example.org/p?"#)?;
-        push_expressions(alloc, &mut out, first.wrapping_add(32))?;
-        out.push_str(r#"","valueUrl":"v/"#)?;
-        push_expressions(alloc, &mut out, first.wrapping_add(64))?;
-        out.push_str(r#""}"#)?;
+        push_column(out, column)?;
     }
-    out.push_str("]}}")?;
+    out.push_str("]}}")
+}
+
+/// The document, whose columns have about, property and value links.
+fn document(alloc: Global) -> Result<String, AllocError> {
+    let mut out = String::new(alloc);
+    push_document(&mut out)?;
     Ok(out)
+}
+
+fn push_field(out: &mut String, column: u32) -> Result<(), AllocError> {
+    out.push_str(if column > 0 { ",\"" } else { "\"" })?;
+    let c = character(column);
+    out.push(c)?;
+    if c == '"' {
+        out.push(c)?;
+    }
+    out.push('"')
 }
 
 /// The one row of the table, each field in quotes.
 fn text(alloc: Global) -> Result<String, AllocError> {
     let mut out = String::new(alloc);
     for column in 0..COLUMNS {
-        out.push_str(if column > 0 { ",\"" } else { "\"" })?;
-        let c = character(column);
-        out.push(c)?;
-        if c == '"' {
-            out.push(c)?;
-        }
-        out.push('"')?;
+        push_field(&mut out, column)?;
     }
     out.push('\n')?;
     Ok(out)
+}
+
+fn push_bytes(out: &mut String, bytes: &[u8]) -> Result<(), AllocError> {
+    for byte in bytes {
+        write!(out, "%{byte:02X}")?;
+    }
+    Ok(())
 }
 
 /// A character as an expression of a template gives it: all but unreserved ones as their bytes in UTF-8, each after a `%`.
@@ -96,10 +115,7 @@ fn push_encoded(alloc: Global, out: &mut String, c: char) -> Result<(), AllocErr
     }
     let mut one = String::new(alloc);
     one.push(c)?;
-    for byte in one.as_str().as_bytes() {
-        out.push_str(format!(in alloc; "%{byte:02X}")?.as_str())?;
-    }
-    Ok(())
+    push_bytes(out, one.as_bytes())
 }
 
 fn push_values(alloc: Global, out: &mut String, first: u32) -> Result<(), AllocError> {
@@ -110,28 +126,37 @@ fn push_values(alloc: Global, out: &mut String, first: u32) -> Result<(), AllocE
     Ok(())
 }
 
+fn push_triple(alloc: Global, out: &mut String, column: u32) -> Result<(), AllocError> {
+    let first = column.wrapping_mul(96);
+    out.push_str("<http://example.org/p.csv#")?;
+    push_values(alloc, out, first)?;
+    out.push_str("> <http://example.org/p?")?;
+    push_values(alloc, out, first.wrapping_add(32))?;
+    out.push_str("> <http://example.org/v/")?;
+    push_values(alloc, out, first.wrapping_add(64))?;
+    out.push_str("> .\n")
+}
+
 /// A triple for each column.
 fn graph(alloc: Global) -> Result<String, AllocError> {
     let mut out = String::new(alloc);
     for column in 0..COLUMNS {
-        let first = column.wrapping_mul(96);
-        out.push_str("<http://example.org/p.csv#")?;
-        push_values(alloc, &mut out, first)?;
-        out.push_str("> <http://example.org/p?")?;
-        push_values(alloc, &mut out, first.wrapping_add(32))?;
-        out.push_str("> <http://example.org/v/")?;
-        push_values(alloc, &mut out, first.wrapping_add(64))?;
-        out.push_str("> .\n")?;
+        push_triple(alloc, &mut out, column)?;
     }
     Ok(out)
+}
+
+/// What a run over the table leaves.
+fn ran(alloc: Global) -> Result<Ran, AllocError> {
+    let meta = document(alloc)?;
+    let text = text(alloc)?;
+    run_over(alloc, meta.as_str(), text.as_str(), Mode::Minimal)
 }
 
 #[test]
 fn columns_and_templates_at_their_limits_have_links(rt: HostRuntime) -> Result<(), Fail> {
     let alloc = rt.alloc();
-    let meta = document(alloc)?;
-    let text = text(alloc)?;
-    let ran = run_over(alloc, meta.as_str(), text.as_str(), Mode::Minimal)?;
+    let ran = ran(alloc)?;
     assert!(rt; ran.stop.is_none());
     assert!(rt; str::from_utf8(ran.graph.as_slice())? == graph(alloc)?.as_str());
     assert!(rt; ran.report.as_slice() == b"kind,code,table,row,column\n".as_slice());
