@@ -50,6 +50,21 @@ fn text_of(alloc: Global, table: &[&[&str]]) -> Result<String, AllocError> {
     Ok(text)
 }
 
+fn cell_triple(
+    alloc: Global,
+    row: usize,
+    name: &str,
+    value: &str,
+) -> Result<CellTriple, AllocError> {
+    let predicate = format!(in alloc; "{URL}#{name}")?;
+    let value = String::from_str(alloc, value)?;
+    Ok(CellTriple {
+        row,
+        predicate,
+        value,
+    })
+}
+
 fn push_column(
     alloc: Global,
     graph: &mut Vec<CellTriple>,
@@ -60,15 +75,7 @@ fn push_column(
     for i in 0..rows.len() {
         let value = rows[i].get(column).copied().unwrap_or("");
         if !value.is_empty() {
-            let mut predicate = String::from_str(alloc, URL)?;
-            predicate.push('#')?;
-            predicate.push_str(name)?;
-            let value = String::from_str(alloc, value)?;
-            graph.push(CellTriple {
-                row: i.saturating_add(1),
-                predicate,
-                value,
-            })?;
+            graph.push(cell_triple(alloc, i.saturating_add(1), name, value)?)?;
         }
     }
     Ok(())
@@ -209,21 +216,39 @@ fn is_same_up_to(
     Ok(true)
 }
 
-/// Whether `plain` writes the graph of the table.
-fn agrees(alloc: Global, table: &[&[&str]]) -> Result<bool, Fail> {
-    let text = text_of(alloc, table)?;
+/// What `plain` writes of a text, where the run ends.
+fn written(alloc: Global, text: &str) -> Option<Vec<u8>> {
     let mut input = Counted::new(text.as_bytes());
     let mut out = Counted::new(Vec::new(alloc));
     let mut report = Counted::new(Vec::new(alloc));
-    if !plain(alloc, URL, &mut input, &mut out, &mut report).is_ok() {
-        return Ok(false);
+    if plain(alloc, URL, &mut input, &mut out, &mut report).is_ok() {
+        Some(out.into_inner())
+    } else {
+        None
     }
-    let written = out.into_inner();
-    let Ok(triples) = read(alloc, written.as_slice()) else {
-        return Ok(false);
-    };
+}
+
+/// Whether the triples that were read are the graph of the table.
+fn are_of(alloc: Global, table: &[&[&str]], triples: &[NtTriple]) -> Result<bool, AllocError> {
     let graph = minimal(alloc, table)?;
-    Ok(is_same_up_to(alloc, table.len(), graph.as_slice(), triples.as_slice())?)
+    is_same_up_to(alloc, table.len(), graph.as_slice(), triples)
+}
+
+/// Whether what was written is a document that has the graph of the table.
+fn is_of(alloc: Global, table: &[&[&str]], document: &[u8]) -> Result<bool, AllocError> {
+    match read(alloc, document) {
+        Ok(triples) => are_of(alloc, table, triples.as_slice()),
+        Err(_) => Ok(false),
+    }
+}
+
+/// Whether `plain` writes the graph of the table.
+fn agrees(alloc: Global, table: &[&[&str]]) -> Result<bool, AllocError> {
+    let text = text_of(alloc, table)?;
+    match written(alloc, text.as_str()) {
+        Some(document) => is_of(alloc, table, document.as_slice()),
+        None => Ok(false),
+    }
 }
 
 const TABLES: [&[&[&str]]; 6] = [
