@@ -1,5 +1,5 @@
 //! Texts at the limit of 65,536 bytes, and past it.
-use crate::telling::{base_told, told};
+use crate::telling::{base_told, tells};
 use csvw_iri::{Base, IriFault, link, resolve};
 use std::alloc::{AllocError, Global};
 use std::test::Fail;
@@ -13,33 +13,35 @@ fn letters(alloc: Global, front: &str, count: usize) -> Result<String, AllocErro
     Ok(text)
 }
 
-fn resolved(alloc: Global, text: &str) -> Result<String, IriFault> {
-    let base = Base::new(alloc, "http://example.org/p.csv")?;
-    Ok(told(alloc, resolve(alloc, &base, text))?)
-}
-
-fn linked(alloc: Global, text: &str) -> Result<String, IriFault> {
-    let base = Base::new(alloc, "http://example.org/p.csv")?;
-    Ok(told(alloc, link(alloc, &base, text))?)
-}
-
-fn joined(alloc: Global, text: &str) -> Result<String, IriFault> {
-    let base = Base::new(alloc, "http://example.org/p.csv")?;
-    Ok(base_told(alloc, base.join(alloc, text))?)
+/// Whether each call that takes this base answers so.
+fn all_give_by(alloc: Global, base: &Base, text: &str, want: &str) -> Result<bool, AllocError> {
+    let resolves = tells(alloc, resolve(alloc, base, text), want)?;
+    let links = tells(alloc, link(alloc, base, text), want)?;
+    Ok(resolves && links && base_told(alloc, base.join(alloc, text))?.as_str() == want)
 }
 
 /// Whether each call that takes a base answers so.
 fn all_give(alloc: Global, text: &str, want: &str) -> Result<bool, IriFault> {
-    let resolves = resolved(alloc, text)?.as_str() == want;
-    let links = linked(alloc, text)?.as_str() == want;
-    Ok(resolves && links && joined(alloc, text)?.as_str() == want)
+    let base = Base::new(alloc, "http://example.org/p.csv")?;
+    Ok(all_give_by(alloc, &base, text, want)?)
+}
+
+/// Whether a text is past the limit in a link to this base, and resolves to itself.
+fn only_link_refuses_by(alloc: Global, base: &Base, text: &str) -> Result<bool, AllocError> {
+    let is_refused = tells(alloc, link(alloc, base, text), "UrlTooLong")?;
+    Ok(is_refused && tells(alloc, resolve(alloc, base, text), text)?)
+}
+
+/// Whether a text is past the limit in a link alone.
+fn only_link_refuses_text(alloc: Global, text: &str) -> Result<bool, IriFault> {
+    let base = Base::new(alloc, "http://example.org/p.csv")?;
+    Ok(only_link_refuses_by(alloc, &base, text)?)
 }
 
 /// Whether so many letters behind a prefix of 25 bytes are past the limit in a link alone.
 fn only_link_refuses(alloc: Global, count: usize) -> Result<bool, IriFault> {
     let text = letters(alloc, "dc:", count)?;
-    let is_refused = linked(alloc, text.as_str())?.as_str() == "UrlTooLong";
-    Ok(is_refused && resolved(alloc, text.as_str())?.as_str() == text.as_str())
+    only_link_refuses_text(alloc, text.as_str())
 }
 
 #[test]

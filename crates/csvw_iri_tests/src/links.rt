@@ -56,11 +56,16 @@ http://h.example:99999/=>BadUrl
 /// Texts without a prefix, one on each line.
 const OTHERS: &str = "dc\n\n:x\nDc:x\nex:y\n dc:x\ndct:x\ndc://x";
 
+/// Whether a text resolves by this base to what is wanted, and its link is the same.
+fn gives_by(alloc: Global, base: &Base, text: &str, want: &str) -> Result<bool, AllocError> {
+    let is_resolved = tells(alloc, resolve(alloc, base, text), want)?;
+    Ok(is_resolved && tells(alloc, link(alloc, base, text), want)?)
+}
+
 /// Whether a text resolves to what is wanted, and its link is the same.
 fn gives(alloc: Global, text: &str, want: &str) -> Result<bool, IriFault> {
     let base = Base::new(alloc, "http://example.org/d/p.csv?v=1#f")?;
-    let is_resolved = tells(alloc, resolve(alloc, &base, text), want)?;
-    Ok(is_resolved && tells(alloc, link(alloc, &base, text), want)?)
+    Ok(gives_by(alloc, &base, text, want)?)
 }
 
 /// Whether the text of a row resolves to what stands behind it.

@@ -116,10 +116,14 @@ const BASE: &str = "http://example.org/d/p.csv?v=1";
 /// Whether a text resolves to what is wanted, and both links are the same, also in the memory of an earlier one and behind fronts.
 fn gives(alloc: Global, text: &str, want: &str) -> Result<bool, IriFault> {
     let base = Base::new(alloc, BASE)?;
-    let is_resolved = tells(alloc, resolve(alloc, &base, text), want)?;
-    let is_linked = tells(alloc, link(alloc, &base, text), want)?;
-    let is_same = is_resolved && is_linked && gives_over(alloc, &base, text, want)?;
-    Ok(is_same && gives_behind(alloc, &base, text, want)?)
+    gives_by(alloc, &base, text, want)
+}
+
+fn gives_by(alloc: Global, base: &Base, text: &str, want: &str) -> Result<bool, IriFault> {
+    let is_resolved = tells(alloc, resolve(alloc, base, text), want)?;
+    let is_linked = tells(alloc, link(alloc, base, text), want)?;
+    let is_same = is_resolved && is_linked && gives_over(alloc, base, text, want)?;
+    Ok(is_same && gives_behind(alloc, base, text, want)?)
 }
 
 /// Whether a text has the link that is wanted in the memory of an earlier one.
