@@ -1,5 +1,5 @@
 //! What common properties and notes say.
-use crate::reading::{Accepted, Refused, accepts, refuses};
+use crate::reading::{Accepted, Refused, accept_all, refuse_all};
 use csvw_meta_core::MetaCode;
 use std::test::Fail;
 
@@ -282,16 +282,10 @@ const FRAME: (&str, &str) = (
 
 #[test]
 fn annotations_are_read(rt: HostRuntime) -> Result<(), Fail> {
-    for case in &ACCEPTED {
-        assert!(rt; accepts(rt.alloc(), FRAME, case)?, "{}", case.text);
-    }
-    Ok(())
+    Ok(accept_all(&rt, rt.alloc(), FRAME, &ACCEPTED)?)
 }
 
 #[test]
 fn annotations_are_refused(rt: HostRuntime) -> Result<(), Fail> {
-    for case in &REFUSED {
-        assert!(rt; refuses(rt.alloc(), FRAME, "", case)?, "{}", case.text);
-    }
-    Ok(())
+    Ok(refuse_all(&rt, rt.alloc(), FRAME, "", &REFUSED)?)
 }

@@ -1,5 +1,5 @@
 //! Documents by their form and their context.
-use crate::reading::{Accepted, Refused, accepts, refuses};
+use crate::reading::{Accepted, Refused, accept_all, refuse_all};
 use csvw_meta_core::MetaCode;
 use std::test::Fail;
 
@@ -170,16 +170,10 @@ const FRAME: (&str, &str) = (r#""#, r#""#);
 
 #[test]
 fn contexts_are_read(rt: HostRuntime) -> Result<(), Fail> {
-    for case in &ACCEPTED {
-        assert!(rt; accepts(rt.alloc(), FRAME, case)?, "{}", case.text);
-    }
-    Ok(())
+    Ok(accept_all(&rt, rt.alloc(), FRAME, &ACCEPTED)?)
 }
 
 #[test]
 fn contexts_are_refused(rt: HostRuntime) -> Result<(), Fail> {
-    for case in &REFUSED {
-        assert!(rt; refuses(rt.alloc(), FRAME, "", case)?, "{}", case.text);
-    }
-    Ok(())
+    Ok(refuse_all(&rt, rt.alloc(), FRAME, "", &REFUSED)?)
 }

@@ -3,6 +3,7 @@ use csvw_description::Description;
 use csvw_meta::read;
 use csvw_meta_core::MetaCode;
 use std::alloc::{AllocError, Global};
+use std::process::Abort;
 
 /// The URL of each document.
 const URL: &str = "http://example.org/m.json";
@@ -75,13 +76,13 @@ pub(crate) fn is_refused(alloc: Global, text: &str, fault: (MetaCode, &str)) -> 
 }
 
 /// Whether the document with that part between the two texts is read, with so many warnings.
-pub fn accepts(alloc: Global, frame: (&str, &str), case: &Accepted) -> Result<bool, AllocError> {
+fn accepts(alloc: Global, frame: (&str, &str), case: &Accepted) -> Result<bool, AllocError> {
     let text = document(alloc, frame, case.text)?;
     Ok(warnings(alloc, text.as_str()) == Some(case.warnings))
 }
 
 /// Whether the document with that part between the two texts is refused at its fault, whose pointer begins with `at`.
-pub fn refuses(
+fn refuses(
     alloc: Global,
     frame: (&str, &str),
     at: &str,
@@ -91,4 +92,32 @@ pub fn refuses(
     let pointer = format!(in alloc; "{at}{below}")?;
     let text = document(alloc, frame, case.text)?;
     Ok(is_refused(alloc, text.as_str(), (case.code, pointer.as_str())))
+}
+
+/// Sees that the document with each of the parts between the two texts is read, with so many warnings.
+pub fn accept_all(
+    rt: &impl Abort,
+    alloc: Global,
+    frame: (&str, &str),
+    cases: &[Accepted],
+) -> Result<(), AllocError> {
+    for case in cases {
+        assert!(rt; accepts(alloc, frame, case)?, "{}", case.text);
+    }
+    Ok(())
+}
+
+/// Sees that the document with each of the parts between the two texts is refused at its fault, whose pointer begins
+/// with `at`.
+pub fn refuse_all(
+    rt: &impl Abort,
+    alloc: Global,
+    frame: (&str, &str),
+    at: &str,
+    cases: &[Refused],
+) -> Result<(), AllocError> {
+    for case in cases {
+        assert!(rt; refuses(alloc, frame, at, case)?, "{}", case.text);
+    }
+    Ok(())
 }

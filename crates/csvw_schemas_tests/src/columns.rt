@@ -1,6 +1,6 @@
 //! The properties of a column.
 use csvw_meta_core::MetaCode;
-use csvw_meta_tests::{Accepted, Refused, accepts, refuses};
+use csvw_meta_tests::{Accepted, Refused, accept_all, refuse_all};
 use std::test::Fail;
 
 /// Those that are read, with how many warnings.
@@ -236,20 +236,10 @@ const FRAME: (&str, &str) = (
 
 #[test]
 fn columns_are_read(rt: HostRuntime) -> Result<(), Fail> {
-    for case in &ACCEPTED {
-        assert!(rt; accepts(rt.alloc(), FRAME, case)?, "{}", case.text);
-    }
-    Ok(())
+    Ok(accept_all(&rt, rt.alloc(), FRAME, &ACCEPTED)?)
 }
 
 #[test]
 fn columns_are_refused(rt: HostRuntime) -> Result<(), Fail> {
-    for case in &REFUSED {
-        assert!(rt;
-            refuses(rt.alloc(), FRAME, r#"/tableSchema/columns/0"#, case)?,
-            "{}",
-            case.text
-        );
-    }
-    Ok(())
+    Ok(refuse_all(&rt, rt.alloc(), FRAME, "/tableSchema/columns/0", &REFUSED)?)
 }
