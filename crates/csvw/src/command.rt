@@ -5,7 +5,7 @@ ghost use Rattle.csvw.specs.Answers.{Answers, GivesText};
 ghost use Rattle.csvw.specs.Commands.{Commands, RunsPlain, RunsRequest};
 ghost use Rattle.csvw_text.specs.Streams.{stream_of};
 
-use crate::group::{Conversion, convert, tell_end, validate};
+use crate::group::{ConvertedGroup, convert, tell_end, validate};
 use crate::opener::Opener;
 use crate::standard_input::reads_twice;
 use crate::tell::{SUCCESS, send, tell_mistake, tell_stop};
@@ -108,7 +108,7 @@ fn run_request<O: Opener, W: Write, V: Write>(
         Request::Validate(group) => validate(alloc, group, opener, out, err),
         Request::Convert { group, minimal, .. } => {
             let minimal = *minimal;
-            convert(alloc, Conversion { group, minimal }, opener, out, err)
+            convert(alloc, ConvertedGroup { group, minimal }, opener, out, err)
         }
     }
 }

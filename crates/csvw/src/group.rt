@@ -166,7 +166,7 @@ fn conversion(minimal: bool) -> Mode
 
 /// A group whose graph is written.
 #[derive(Clone, Copy)]
-pub struct Conversion<'a> {
+pub struct ConvertedGroup<'a> {
     /// The group.
     pub group: &'a Group<'a>,
     /// Whether its graph is that of minimal mode; else it is that of standard mode.
@@ -176,7 +176,7 @@ pub struct Conversion<'a> {
 /// Writes the graph of a group to `out`, and reports its faults on `err`.
 pub fn convert<O: Opener, W: Write, V: Write>(
     alloc: Global,
-    asked: Conversion<'_>,
+    asked: ConvertedGroup<'_>,
     opener: &mut O,
     out: &mut Counted<W>,
     err: &mut Counted<V>,
@@ -185,7 +185,7 @@ pub fn convert<O: Opener, W: Write, V: Write>(
         (stream_of W.contents out.old out.new) (stream_of V.contents err.old err.new) result }
     ensures bound { result ≤ 4 }
 {
-    let Conversion { group, minimal } = asked;
+    let ConvertedGroup { group, minimal } = asked;
     match open_group(alloc, group, opener) {
         Ok(Opened { meta, mut readers }) => {
             let input = meta.as_slice();
