@@ -1,6 +1,5 @@
 //! Copies of inherited properties.
 ghost use Rattle.std.specs.Prelude.{◌≡◌, IfOk};
-ghost use Rattle.csvw_columns_core.specs.HeaderColumns.{no_inherited};
 
 use csvw_description::Inherited;
 use csvw_text::{both, copied_option};
@@ -38,22 +37,4 @@ pub(crate) fn copied_inherited(
         required: inherited.required,
         separator,
     })
-}
-
-/// Nothing of its own.
-pub(crate) fn no_inherited() -> Inherited
-    ensures { result ≡ no_inherited }
-{
-    Inherited {
-        about_url: None,
-        property_url: None,
-        value_url: None,
-        datatype: None,
-        default: None,
-        lang: None,
-        null: None,
-        ordered: None,
-        required: None,
-        separator: None,
-    }
 }

@@ -9,11 +9,11 @@ ghost use Rattle.csvw_columns.specs.Known.{IsKnown};
 ghost use Rattle.csvw_columns.specs.PlanOf.{dialect_of, no_schema, schema_of, targets_of, table_plan, table_plans, plan_of};
 
 use crate::choices::{dialect_of, schema_of};
-use crate::copies::{copied_inherited, no_inherited};
+use crate::copies::copied_inherited;
 use crate::plan::{Plan, TablePlan};
 use crate::references::{Keys, Targets, keys_of, targets_of};
 use crate::warnings::unknown;
-use csvw_columns_core::{Column, Defaults, Frame};
+use csvw_columns_core::{Column, Defaults, Frame, no_inherited};
 use csvw_description::{Description, Inherited, Note, Schema, TableDescription};
 use csvw_text::{Seq, both, copied_option};
 use std::alloc::{AllocError, Global};

@@ -7,8 +7,8 @@ use csvw_description::{ColumnDescription, Inherited};
 use csvw_text::{Seq, Text};
 use std::alloc::{AllocError, Global};
 
-/// Nothing of its own.
-fn no_inherited() -> Inherited
+/// The inherited properties of what says nothing of them.
+pub fn no_inherited() -> Inherited
     ensures { result ≡ no_inherited }
 {
     Inherited {

@@ -19,6 +19,7 @@ returns-clause-cut c =
     let a = quote_ahead s text start 1 m (omega (arith, within)) c.in-Some.ensures.ahead in
     let behind = subst (λ (l : List ℕ). IfSome c.behind.result (IsBehind d s l c.lent.result (m + 2))) c.split_at.ensures.back c.behind.ensures in
     some_gives (IsBehind d s r c.lent.result (m + 2)) (IsCut d r spare) c.behind.result
-    (λ cut b. quoted_cut d s r spare m cut c.args.self.same_symbols q.text (left_some text start within) q.quoted (left_first text start s.quote q.quote) a.0 a.1 a.2
+    (λ cut b. quoted_cut d s r spare m cut c.args.self.same_symbols q.text (left_some text start within) q.quoted (left_first text start s.quote q.quote)
+    a.0 a.1 a.2
     (subst (λ x. IsBehind d s r x (m + 2) cut) c.lent.ensures b))
     behind

@@ -13,7 +13,8 @@ split_at-requires c =
     let h = c.doubled_quotes-count.ensures in
     let w = h.within in
     let a = h.ascii in
-    ascii_boundary c.args.rest.now c.doubled_quotes-count.result c.utf8.rest (omega (arith, w)) (λ k m. let e = h.quotes k (omega (arith, m)) in omega (arith, e, a))
+    ascii_boundary c.args.rest.now c.doubled_quotes-count.result c.utf8.rest (omega (arith, w))
+    (λ k m. let e = h.quotes k (omega (arith, m)) in omega (arith, e, a))
 
 pub split_at-requires-2 : goal.split_at-requires-2
 split_at-requires-2 c =

@@ -35,5 +35,7 @@ returns-in-Inside-clause-clean c =
     (inside_clean d l text c.memchr2-found.result n c.requires (IsUtf8-take text n c.utf8.text p.boundary) h w)
 
 pub returns-in-Start : goal.returns-in-Start
-returns-in-Start c = record
-    { boundary = IsCharBoundary-start c.args.text.now c.utf8.text; clean = nothing_clean c.args.d.now c.args.state (chars []) (chars c.args.text.now) chars-nil }
+returns-in-Start c = record {
+  boundary = IsCharBoundary-start c.args.text.now c.utf8.text;
+  clean = nothing_clean c.args.d.now c.args.state (chars []) (chars c.args.text.now) chars-nil;
+}
