@@ -1,5 +1,5 @@
 //! What common properties and notes say.
-use crate::reading::{Accepted, Refused, accept_all, refuse_all};
+use crate::reading::{Accepted, Refused, first_unread, first_unrefused};
 use csvw_meta_core::MetaCode;
 use std::test::Fail;
 
@@ -282,10 +282,12 @@ const FRAME: (&str, &str) = (
 
 #[test]
 fn annotations_are_read(rt: HostRuntime) -> Result<(), Fail> {
-    Ok(accept_all(&rt, rt.alloc(), FRAME, &ACCEPTED)?)
+    assert_eq!(rt; first_unread(rt.alloc(), FRAME, &ACCEPTED)?, None);
+    Ok(())
 }
 
 #[test]
 fn annotations_are_refused(rt: HostRuntime) -> Result<(), Fail> {
-    Ok(refuse_all(&rt, rt.alloc(), FRAME, "", &REFUSED)?)
+    assert_eq!(rt; first_unrefused(rt.alloc(), FRAME, "", &REFUSED)?, None);
+    Ok(())
 }

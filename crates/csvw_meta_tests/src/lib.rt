@@ -13,4 +13,4 @@ mod reading;
 #[cfg(test)]
 mod tables;
 
-pub use reading::{Accepted, Refused, accept_all, refuse_all};
+pub use reading::{Accepted, Refused, first_unread, first_unrefused};

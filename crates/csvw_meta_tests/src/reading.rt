@@ -3,7 +3,6 @@ use csvw_description::Description;
 use csvw_meta::read;
 use csvw_meta_core::MetaCode;
 use std::alloc::{AllocError, Global};
-use std::process::Abort;
 
 /// The URL of each document.
 const URL: &str = "http://example.org/m.json";
@@ -94,30 +93,32 @@ fn refuses(
     Ok(is_refused(alloc, text.as_str(), (case.code, pointer.as_str())))
 }
 
-/// Sees that the document with each of the parts between the two texts is read, with so many warnings.
-pub fn accept_all(
-    rt: &impl Abort,
+/// The first of the parts with which, between the two texts, the document isn't read with so many warnings.
+pub fn first_unread(
     alloc: Global,
     frame: (&str, &str),
     cases: &[Accepted],
-) -> Result<(), AllocError> {
+) -> Result<Option<&'static str>, AllocError> {
     for case in cases {
-        assert!(rt; accepts(alloc, frame, case)?, "{}", case.text);
+        if !accepts(alloc, frame, case)? {
+            return Ok(Some(case.text));
+        }
     }
-    Ok(())
+    Ok(None)
 }
 
-/// Sees that the document with each of the parts between the two texts is refused at its fault, whose pointer begins
-/// with `at`.
-pub fn refuse_all(
-    rt: &impl Abort,
+/// The first of the parts with which, between the two texts, the document isn't refused at its fault, whose pointer
+/// begins with `at`.
+pub fn first_unrefused(
     alloc: Global,
     frame: (&str, &str),
     at: &str,
     cases: &[Refused],
-) -> Result<(), AllocError> {
+) -> Result<Option<&'static str>, AllocError> {
     for case in cases {
-        assert!(rt; refuses(alloc, frame, at, case)?, "{}", case.text);
+        if !refuses(alloc, frame, at, case)? {
+            return Ok(Some(case.text));
+        }
     }
-    Ok(())
+    Ok(None)
 }
