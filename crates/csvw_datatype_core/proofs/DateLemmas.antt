@@ -29,6 +29,24 @@ pub record Front (P : List ℕ → Type 0) (bs : List ℕ) (v : ℕ) (rest : Lis
 abbrev pub Digits : ℕ → List ℕ → Type 0
 Digits n ds = AllByRecursion IsAsciiDigit ds × (length ds ≡ n)
 
+digits_long : (n : ℕ) (ds : List ℕ) → Digits n ds → length ds ≡ n
+digits_long n ds h = h.1
+
+one_digit : (a : ℕ) → Digits 1 (a ∷ []) → IsAsciiDigit a
+one_digit a h = let all = h.0 in all.0
+
+-- two digits in front of others
+pub record TwoInFront (a b : ℕ) (ds : List ℕ) : Type 0 where
+  pub first : IsAsciiDigit a
+  pub second : IsAsciiDigit b
+  pub others : AllByRecursion IsAsciiDigit ds
+
+pub two_in_front : (a b : ℕ) (ds : List ℕ) → AllByRecursion IsAsciiDigit (a ∷ b ∷ ds) → TwoInFront a b ds
+two_in_front a b ds h = let behind = h.1 in record { first = h.0; second = behind.0; others = behind.1 }
+
+two_alone : (a b : ℕ) → IsAsciiDigit a → IsAsciiDigit b → Digits 2 (a ∷ b ∷ [])
+two_alone a b h k = ((h, (k, tt)), refl)
+
 abbrev pub Short : Bool → List ℕ → Type 0
 Short padded ds = Digits 2 ds ⊎ ((padded ≡ false) × Digits 1 ds)
 
@@ -63,7 +81,7 @@ two_front a b bs v rest t e =
     let p = some_pair _ _ _ _ e in
     let ha = is_digit a d.0 in
     let hb = is_digit b d.1 in
-    record { digits = a ∷ b ∷ []; right = ((ha, (hb, tt)), refl); front = ap (λ r. a ∷ b ∷ r) p.1; value = sym p.0 ∙ value_two a b ha hb }
+    record { digits = a ∷ b ∷ []; right = two_alone a b ha hb; front = ap (λ r. a ∷ b ∷ r) p.1; value = sym p.0 ∙ value_two a b ha hb }
 
 not_true : (b : Bool) → not b ≡ true → b ≡ false
 not_true true h = cc
@@ -105,7 +123,9 @@ short_sound padded (a ∷ b ∷ bs) v rest h =
 pub two_again : (ds rest : List ℕ) → Digits 2 ds → two_at (ds ++ rest) ≡ Some (digits_value 10 ds, rest)
 two_again [] rest h = absurd (omega (arith, h.1))
 two_again (a ∷ []) rest h = absurd (omega (arith, h.1))
-two_again (a ∷ b ∷ []) rest h = cond-true _ _ _ (tests a b h.0.0 h.0.1.0) ∙ ap (λ v. answer v rest) (value_two a b h.0.0 h.0.1.0)
+two_again (a ∷ b ∷ []) rest h =
+    let t = two_in_front a b [] h.0 in
+    cond-true _ _ _ (tests a b t.first t.second) ∙ ap (λ v. answer v rest) (value_two a b t.first t.second)
 two_again (a ∷ b ∷ c ∷ ds) rest h = absurd (omega (arith, h.1))
 
 -- a separator is no digit
@@ -117,24 +137,42 @@ no_digit Dot = refl
 pub short_again : (padded : Bool) (ds rest : List ℕ) (by : Separator) → Short padded ds
     → short_at padded (ds ++ (separator_byte by ∷ rest)) ≡ Some (digits_value 10 ds, separator_byte by ∷ rest)
 short_again padded [] rest by h =
-    ⊎_elim (λ (h : Digits 2 []). absurd (omega (arith, h.1))) (λ (h : (padded ≡ false) × Digits 1 []). absurd (omega (arith, h.1.1))) h
+    ⊎_elim (λ (h : Digits 2 []). absurd (omega (arith, h.1))) (λ (h : (padded ≡ false) × Digits 1 []). absurd (omega (arith, digits_long 1 [] h.1))) h
 short_again padded (a ∷ []) rest by h =
     ⊎_elim (λ (h : Digits 2 (a ∷ [])). absurd (omega (arith, h.1)))
     (λ (h : (padded ≡ false) × Digits 1 (a ∷ [])).
+    let digit = one_digit a h.1 in
     cond-false _ _ _ (ap (λ x. is_ascii_digit a && x) (no_digit by) ∙ and_false _)
-    ∙ cond-true _ _ _ (ap (λ p. not p && is_ascii_digit a) h.0 ∙ digit_test a h.1.0.0)
-    ∙ ap (λ v. answer v (separator_byte by ∷ rest)) (value_one a h.1.0.0)) h
+    ∙ cond-true _ _ _ (ap (λ p. not p && is_ascii_digit a) h.0 ∙ digit_test a digit)
+    ∙ ap (λ v. answer v (separator_byte by ∷ rest)) (value_one a digit)) h
 short_again padded (a ∷ b ∷ []) rest by h =
-    ⊎_elim (λ (h : Digits 2 (a ∷ b ∷ [])). cond-true _ _ _ (tests a b h.0.0 h.0.1.0)
-    ∙ ap (λ v. answer v (separator_byte by ∷ rest)) (value_two a b h.0.0 h.0.1.0))
-    (λ (h : (padded ≡ false) × Digits 1 (a ∷ b ∷ [])). absurd (omega (arith, h.1.1))) h
+    ⊎_elim (λ (h : Digits 2 (a ∷ b ∷ [])).
+    let t = two_in_front a b [] h.0 in
+    cond-true _ _ _ (tests a b t.first t.second) ∙ ap (λ v. answer v (separator_byte by ∷ rest)) (value_two a b t.first t.second))
+    (λ (h : (padded ≡ false) × Digits 1 (a ∷ b ∷ [])). absurd (omega (arith, digits_long 1 (a ∷ b ∷ []) h.1))) h
 short_again padded (a ∷ b ∷ c ∷ ds) rest by h = ⊎_elim (λ (h : Digits 2 (a ∷ b ∷ c ∷ ds)). absurd (omega (arith, h.1)))
-    (λ (h : (padded ≡ false) × Digits 1 (a ∷ b ∷ c ∷ ds)). absurd (omega (arith, h.1.1))) h
+    (λ (h : (padded ≡ false) × Digits 1 (a ∷ b ∷ c ∷ ds)). absurd (omega (arith, digits_long 1 (a ∷ b ∷ c ∷ ds) h.1))) h
 
 -- a step of the do-notation that gives a value
-pub bind_some : {A B : Type 0} (o : Option A) (f : A → Option B) (y : B) → (o >>= f) ≡ Some y → (x : A) × ((o ≡ Some x) × (f x ≡ Some y))
+pub record Gives {A B : Type 0} (o : Option A) (f : A → Option B) (y : B) : Type 0 where
+  pub value : A
+  pub first_is : o ≡ Some value
+  pub rest_is : f value ≡ Some y
+
+pub bind_some : {A B : Type 0} (o : Option A) (f : A → Option B) (y : B) → (o >>= f) ≡ Some y → Gives o f y
 bind_some None f y h = cc
-bind_some (Some x) f y h = (x, (refl, h))
+bind_some (Some x) f y h = record { value = x; first_is = refl; rest_is = h }
+
+-- a step that reads a number at the front of a text
+pub record GivesNumber {B : Type 0} (o : Option (ℕ × List ℕ)) (f : ℕ × List ℕ → Option B) (y : B) : Type 0 where
+  pub value : ℕ
+  pub after : List ℕ
+  pub first_is : o ≡ answer value after
+  pub rest_is : f (value, after) ≡ Some y
+
+pub bind_number : {B : Type 0} (o : Option (ℕ × List ℕ)) (f : ℕ × List ℕ → Option B) (y : B) → (o >>= f) ≡ Some y → GivesNumber o f y
+bind_number None f y h = cc
+bind_number (Some x) f y h = record { value = x.0; after = x.1; first_is = refl; rest_is = h }
 
 same_test : (b c : ℕ) → (b == c) ≡ true → b ≡ c
 same_test b c h = grind (arith, nat_tests)
@@ -164,16 +202,16 @@ all_append (x ∷ xs) ys h k = (h.0, all_append xs ys h.1 k)
 
 pub four_sound : (bs : List ℕ) (v : ℕ) (rest : List ℕ) → four_at bs ≡ answer v rest → Front (Digits 4) bs v rest
 four_sound bs v rest h =
-    let a = bind_some (two_at bs) _ _ h in
-    let b = bind_some (two_at a.0.1) _ _ a.1.1 in
-    let f = two_sound bs a.0.0 a.0.1 a.1.0 in
-    let g = two_sound a.0.1 b.0.0 b.0.1 b.1.0 in
-    let p = some_pair (a.0.0 * 100 + b.0.0) v b.0.1 rest b.1.1 in
+    let a = bind_number (two_at bs) _ _ h in
+    let b = bind_number (two_at a.after) _ _ a.rest_is in
+    let f = two_sound bs a.value a.after a.first_is in
+    let g = two_sound a.after b.value b.after b.first_is in
+    let p = some_pair (a.value * 100 + b.value) v b.after rest b.rest_is in
     record {
       digits = f.digits ++ g.digits;
       right = (all_append f.digits g.digits f.right.0 g.right.0, length-append f.digits g.digits ∙ omega (arith, f.right.1, g.right.1));
       front = f.front ∙ ap (λ r. f.digits ++ r) (g.front ∙ ap (λ r. g.digits ++ r) p.1) ∙ sym (append_assoc f.digits g.digits rest);
-      value = sym p.0 ∙ ap (λ x. x * 100 + b.0.0) f.value ∙ ap (λ x. digits_value 10 f.digits * 100 + x) g.value ∙ value_four f.digits g.digits g.right;
+      value = sym p.0 ∙ ap (λ x. x * 100 + b.value) f.value ∙ ap (λ x. digits_value 10 f.digits * 100 + x) g.value ∙ value_four f.digits g.digits g.right;
     }
 
 pub four_again : (ds rest : List ℕ) → Digits 4 ds → four_at (ds ++ rest) ≡ answer (digits_value 10 ds) rest
@@ -182,9 +220,12 @@ four_again (a ∷ []) rest h = absurd (omega (arith, h.1))
 four_again (a ∷ b ∷ []) rest h = absurd (omega (arith, h.1))
 four_again (a ∷ b ∷ c ∷ []) rest h = absurd (omega (arith, h.1))
 four_again (a ∷ b ∷ c ∷ d ∷ []) rest h =
-    let high = two_again (a ∷ b ∷ []) (c ∷ d ∷ rest) ((h.0.0, (h.0.1.0, tt)), refl) in
-    let low = two_again (c ∷ d ∷ []) rest ((h.0.1.1.0, (h.0.1.1.1.0, tt)), refl) in
-    rw (high, low) (ap (λ v. answer v rest) (value_four (a ∷ b ∷ []) (c ∷ d ∷ []) ((h.0.1.1.0, (h.0.1.1.1.0, tt)), refl)))
+    let t = two_in_front a b (c ∷ d ∷ []) h.0 in
+    let u = two_in_front c d [] t.others in
+    let last = two_alone c d u.first u.second in
+    let high = two_again (a ∷ b ∷ []) (c ∷ d ∷ rest) (two_alone a b t.first t.second) in
+    let low = two_again (c ∷ d ∷ []) rest last in
+    rw (high, low) (ap (λ v. answer v rest) (value_four (a ∷ b ∷ []) (c ∷ d ∷ []) last))
 four_again (a ∷ b ∷ c ∷ d ∷ e ∷ ds) rest h = absurd (omega (arith, h.1))
 
 -- the fields that a text spells
@@ -203,6 +244,9 @@ pub record Spelled (f : DateFormat) (bs : List ℕ) (x : ℕ × ℕ × ℕ) : Ty
 two_field : (f : DateFormat) (ds : List ℕ) → Digits 2 ds → IsField f ds
 two_field f ds h = record { are_digits = h.0; count = inl h.1 }
 
+one_field : (f : DateFormat) (ds : List ℕ) → MayBeShort f → Digits 1 ds → IsField f ds
+one_field f ds may h = record { are_digits = h.0; count = inr (may, h.1) }
+
 triple : ℕ → ℕ → ℕ → ℕ × ℕ × ℕ
 triple y m d = (y, m, d)
 
@@ -212,16 +256,16 @@ some_same x z h = let g : Option (ℕ × ℕ × ℕ) → ℕ × ℕ × ℕ = λ 
 year_first_sound : (bs : List ℕ) (x : ℕ × ℕ × ℕ) → date_fields YearFirst bs ≡ Some x → Spelled YearFirst bs x
 unfolding date_fields
 year_first_sound bs x h =
-    let y = bind_some (four_at bs) _ _ h in
-    let r = bind_some (after_separator 45 y.0.1) _ _ y.1.1 in
-    let m = bind_some (two_at r.0) _ _ r.1.1 in
-    let q = bind_some (after_separator 45 m.0.1) _ _ m.1.1 in
-    let d = bind_some (two_at q.0) _ _ q.1.1 in
-    let e = bind_some (at_end d.0.1) _ _ d.1.1 in
-    let fy = four_sound bs y.0.0 y.0.1 y.1.0 in
-    let fm = two_sound r.0 m.0.0 m.0.1 m.1.0 in
-    let fd = two_sound q.0 d.0.0 d.0.1 d.1.0 in
-    let s = some_same (y.0.0, m.0.0, d.0.0) x e.1.1 in
+    let y = bind_number (four_at bs) _ _ h in
+    let r = bind_some (after_separator 45 y.after) _ _ y.rest_is in
+    let m = bind_number (two_at r.value) _ _ r.rest_is in
+    let q = bind_some (after_separator 45 m.after) _ _ m.rest_is in
+    let d = bind_number (two_at q.value) _ _ q.rest_is in
+    let e = bind_some (at_end d.after) _ _ d.rest_is in
+    let fy = four_sound bs y.value y.after y.first_is in
+    let fm = two_sound r.value m.value m.after m.first_is in
+    let fd = two_sound q.value d.value d.after d.first_is in
+    let s = some_same (y.value, m.value, d.value) x e.rest_is in
     record {
       y = fy.digits;
       m = fm.digits;
@@ -229,9 +273,9 @@ year_first_sound bs x h =
       year = fy.right;
       month = two_field YearFirst fm.digits fm.right;
       date = two_field YearFirst fd.digits fd.right;
-      text = fy.front ∙ ap (λ t. fy.digits ++ t) (separator_sound 45 y.0.1 r.0 r.1.0
-          ∙ ap (λ t. 45 ∷ t) (fm.front ∙ ap (λ t. fm.digits ++ t) (separator_sound 45 m.0.1 q.0 q.1.0
-          ∙ ap (λ t. 45 ∷ t) (fd.front ∙ ap (λ t. fd.digits ++ t) (end_sound d.0.1 e.0 e.1.0) ∙ append-nil fd.digits))));
+      text = fy.front ∙ ap (λ t. fy.digits ++ t) (separator_sound 45 y.after r.value r.first_is
+          ∙ ap (λ t. 45 ∷ t) (fm.front ∙ ap (λ t. fm.digits ++ t) (separator_sound 45 m.after q.value q.first_is
+          ∙ ap (λ t. 45 ∷ t) (fd.front ∙ ap (λ t. fd.digits ++ t) (end_sound d.after e.value e.first_is) ∙ append-nil fd.digits))));
       y_is = sym (ap (λ (x : ℕ × ℕ × ℕ). x.0) s) ∙ fy.value;
       m_is = sym (ap (λ (x : ℕ × ℕ × ℕ). x.1) s) ∙ fm.value;
       d_is = sym (ap (λ (x : ℕ × ℕ × ℕ). x.2) s) ∙ fd.value;
@@ -263,20 +307,20 @@ day_first_again digits by y m d hy hm hd =
 short_field : (f : DateFormat) (padded : Bool) (ds : List ℕ) → (padded ≡ false → MayBeShort f) → Short padded ds → IsField f ds
 short_field f padded ds may h = elim h [
   | inl two ↦ two_field f ds two
-  | inr one ↦ record { are_digits = one.1.0; count = inr (may one.0, one.1.1) }
+  | inr one ↦ one_field f ds (may one.0) one.1
 ]
 
 compact_sound : (bs : List ℕ) (x : ℕ × ℕ × ℕ) → date_fields Compact bs ≡ Some x → Spelled Compact bs x
 unfolding date_fields
 compact_sound bs x h =
-    let y = bind_some (four_at bs) _ _ h in
-    let m = bind_some (two_at y.0.1) _ _ y.1.1 in
-    let d = bind_some (two_at m.0.1) _ _ m.1.1 in
-    let e = bind_some (at_end d.0.1) _ _ d.1.1 in
-    let fy = four_sound bs y.0.0 y.0.1 y.1.0 in
-    let fm = two_sound y.0.1 m.0.0 m.0.1 m.1.0 in
-    let fd = two_sound m.0.1 d.0.0 d.0.1 d.1.0 in
-    let s = some_same (y.0.0, m.0.0, d.0.0) x e.1.1 in
+    let y = bind_number (four_at bs) _ _ h in
+    let m = bind_number (two_at y.after) _ _ y.rest_is in
+    let d = bind_number (two_at m.after) _ _ m.rest_is in
+    let e = bind_some (at_end d.after) _ _ d.rest_is in
+    let fy = four_sound bs y.value y.after y.first_is in
+    let fm = two_sound y.after m.value m.after m.first_is in
+    let fd = two_sound m.after d.value d.after d.first_is in
+    let s = some_same (y.value, m.value, d.value) x e.rest_is in
     record {
       y = fy.digits;
       m = fm.digits;
@@ -285,7 +329,7 @@ compact_sound bs x h =
       month = two_field Compact fm.digits fm.right;
       date = two_field Compact fd.digits fd.right;
       text = fy.front ∙ ap (λ t. fy.digits ++ t)
-          (fm.front ∙ ap (λ t. fm.digits ++ t) (fd.front ∙ ap (λ t. fd.digits ++ t) (end_sound d.0.1 e.0 e.1.0) ∙ append-nil fd.digits));
+          (fm.front ∙ ap (λ t. fm.digits ++ t) (fd.front ∙ ap (λ t. fd.digits ++ t) (end_sound d.after e.value e.first_is) ∙ append-nil fd.digits));
       y_is = sym (ap (λ (x : ℕ × ℕ × ℕ). x.0) s) ∙ fy.value;
       m_is = sym (ap (λ (x : ℕ × ℕ × ℕ). x.1) s) ∙ fm.value;
       d_is = sym (ap (λ (x : ℕ × ℕ × ℕ). x.2) s) ∙ fd.value;
@@ -305,16 +349,16 @@ day_first_sound : (digits : FieldDigits) (by : Separator) (bs : List ℕ) (x : �
 unfolding date_fields
 day_first_sound digits by bs x h =
     let p = separator_byte by in
-    let a = bind_some (short_at (is_padded digits) bs) _ _ h in
-    let r = bind_some (after_separator p a.0.1) _ _ a.1.1 in
-    let b = bind_some (short_at (is_padded digits) r.0) _ _ r.1.1 in
-    let q = bind_some (after_separator p b.0.1) _ _ b.1.1 in
-    let y = bind_some (four_at q.0) _ _ q.1.1 in
-    let e = bind_some (at_end y.0.1) _ _ y.1.1 in
-    let fa = short_sound (is_padded digits) bs a.0.0 a.0.1 a.1.0 in
-    let fb = short_sound (is_padded digits) r.0 b.0.0 b.0.1 b.1.0 in
-    let fy = four_sound q.0 y.0.0 y.0.1 y.1.0 in
-    let s = some_same (y.0.0, b.0.0, a.0.0) x e.1.1 in
+    let a = bind_number (short_at (is_padded digits) bs) _ _ h in
+    let r = bind_some (after_separator p a.after) _ _ a.rest_is in
+    let b = bind_number (short_at (is_padded digits) r.value) _ _ r.rest_is in
+    let q = bind_some (after_separator p b.after) _ _ b.rest_is in
+    let y = bind_number (four_at q.value) _ _ q.rest_is in
+    let e = bind_some (at_end y.after) _ _ y.rest_is in
+    let fa = short_sound (is_padded digits) bs a.value a.after a.first_is in
+    let fb = short_sound (is_padded digits) r.value b.value b.after b.first_is in
+    let fy = four_sound q.value y.value y.after y.first_is in
+    let s = some_same (y.value, b.value, a.value) x e.rest_is in
     record {
       y = fy.digits;
       m = fb.digits;
@@ -322,9 +366,9 @@ day_first_sound digits by bs x h =
       year = fy.right;
       month = short_field (DayFirst digits by) (is_padded digits) fb.digits (λ e. e) fb.right;
       date = short_field (DayFirst digits by) (is_padded digits) fa.digits (λ e. e) fa.right;
-      text = fa.front ∙ ap (λ t. fa.digits ++ t) (separator_sound p a.0.1 r.0 r.1.0
-          ∙ ap (λ t. p ∷ t) (fb.front ∙ ap (λ t. fb.digits ++ t) (separator_sound p b.0.1 q.0 q.1.0
-          ∙ ap (λ t. p ∷ t) (fy.front ∙ ap (λ t. fy.digits ++ t) (end_sound y.0.1 e.0 e.1.0) ∙ append-nil fy.digits))));
+      text = fa.front ∙ ap (λ t. fa.digits ++ t) (separator_sound p a.after r.value r.first_is
+          ∙ ap (λ t. p ∷ t) (fb.front ∙ ap (λ t. fb.digits ++ t) (separator_sound p b.after q.value q.first_is
+          ∙ ap (λ t. p ∷ t) (fy.front ∙ ap (λ t. fy.digits ++ t) (end_sound y.after e.value e.first_is) ∙ append-nil fy.digits))));
       y_is = sym (ap (λ (x : ℕ × ℕ × ℕ). x.0) s) ∙ fy.value;
       m_is = sym (ap (λ (x : ℕ × ℕ × ℕ). x.1) s) ∙ fb.value;
       d_is = sym (ap (λ (x : ℕ × ℕ × ℕ). x.2) s) ∙ fa.value;
@@ -335,16 +379,16 @@ month_first_sound : (digits : FieldDigits) (by : Separator) (bs : List ℕ) (x :
 unfolding date_fields
 month_first_sound digits by bs x h =
     let p = separator_byte by in
-    let a = bind_some (short_at (is_padded digits) bs) _ _ h in
-    let r = bind_some (after_separator p a.0.1) _ _ a.1.1 in
-    let b = bind_some (short_at (is_padded digits) r.0) _ _ r.1.1 in
-    let q = bind_some (after_separator p b.0.1) _ _ b.1.1 in
-    let y = bind_some (four_at q.0) _ _ q.1.1 in
-    let e = bind_some (at_end y.0.1) _ _ y.1.1 in
-    let fa = short_sound (is_padded digits) bs a.0.0 a.0.1 a.1.0 in
-    let fb = short_sound (is_padded digits) r.0 b.0.0 b.0.1 b.1.0 in
-    let fy = four_sound q.0 y.0.0 y.0.1 y.1.0 in
-    let s = some_same (y.0.0, a.0.0, b.0.0) x e.1.1 in
+    let a = bind_number (short_at (is_padded digits) bs) _ _ h in
+    let r = bind_some (after_separator p a.after) _ _ a.rest_is in
+    let b = bind_number (short_at (is_padded digits) r.value) _ _ r.rest_is in
+    let q = bind_some (after_separator p b.after) _ _ b.rest_is in
+    let y = bind_number (four_at q.value) _ _ q.rest_is in
+    let e = bind_some (at_end y.after) _ _ y.rest_is in
+    let fa = short_sound (is_padded digits) bs a.value a.after a.first_is in
+    let fb = short_sound (is_padded digits) r.value b.value b.after b.first_is in
+    let fy = four_sound q.value y.value y.after y.first_is in
+    let s = some_same (y.value, a.value, b.value) x e.rest_is in
     record {
       y = fy.digits;
       m = fa.digits;
@@ -352,9 +396,9 @@ month_first_sound digits by bs x h =
       year = fy.right;
       month = short_field (MonthFirst digits by) (is_padded digits) fa.digits (λ e. e) fa.right;
       date = short_field (MonthFirst digits by) (is_padded digits) fb.digits (λ e. e) fb.right;
-      text = fa.front ∙ ap (λ t. fa.digits ++ t) (separator_sound p a.0.1 r.0 r.1.0
-          ∙ ap (λ t. p ∷ t) (fb.front ∙ ap (λ t. fb.digits ++ t) (separator_sound p b.0.1 q.0 q.1.0
-          ∙ ap (λ t. p ∷ t) (fy.front ∙ ap (λ t. fy.digits ++ t) (end_sound y.0.1 e.0 e.1.0) ∙ append-nil fy.digits))));
+      text = fa.front ∙ ap (λ t. fa.digits ++ t) (separator_sound p a.after r.value r.first_is
+          ∙ ap (λ t. p ∷ t) (fb.front ∙ ap (λ t. fb.digits ++ t) (separator_sound p b.after q.value q.first_is
+          ∙ ap (λ t. p ∷ t) (fy.front ∙ ap (λ t. fy.digits ++ t) (end_sound y.after e.value e.first_is) ∙ append-nil fy.digits))));
       y_is = sym (ap (λ (x : ℕ × ℕ × ℕ). x.0) s) ∙ fy.value;
       m_is = sym (ap (λ (x : ℕ × ℕ × ℕ). x.1) s) ∙ fa.value;
       d_is = sym (ap (λ (x : ℕ × ℕ × ℕ). x.2) s) ∙ fb.value;

@@ -15,8 +15,8 @@ use Rattle.csvw_datatype_core.specs.Moments.{ReadsMoment}
 use Rattle.csvw_datatype_core.specs.LexicalDates.{date_digits, IsFields, IsDayNumber, IsMomentNumber}
 use Rattle.csvw_datatype_core.specs.LexicalNumbers.{IsLexicalNumber}
 use Rattle.csvw_datatype_core.specs.Forms.{number_form, date_form, time_form, moment_form}
-use Rattle.csvw_datatype_core.proofs.LexicalDateLemmas.{date_digits_read, time_digits_read, first_count}
-use Rattle.csvw_datatype_core.proofs.FormLemmas.{InMonth, in_month, day_of_month, date_is_form, moment_is_form, form_is_lexical}
+use Rattle.csvw_datatype_core.proofs.LexicalDateLemmas.{InMonth, in_month, day_of_month, date_digits_read, time_digits_read, first_count}
+use Rattle.csvw_datatype_core.proofs.FormLemmas.{date_is_form, moment_is_form, form_is_lexical}
 use Rattle.csvw_datatype_core.proofs.AsciiLemmas.{as_characters}
 
 -- a date that has this day number

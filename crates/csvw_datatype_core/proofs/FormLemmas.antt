@@ -9,8 +9,7 @@ use lib.Signed.{lt_z}
 use mir.Syntax.{w32}
 use Rattle.std.proofs.lemmas.Bool.{cases_order}
 use Rattle.std.proofs.lemmas.Bool.Decides.{nat_tests, eqb_tells, Decides-int_eq}
-use Rattle.std.proofs.lemmas.Int.{ints}
-use Rattle.jiff_core.specs.Calendar.{days_in_month, IsYear, IsBetween}
+use Rattle.jiff_core.specs.Calendar.{days_in_month}
 use Rattle.jiff_core.proofs.CalendarLemmas.{days_in_month_bounds}
 use Rattle.csvw_datatype_core.specs.declared.date.DateFormat.TheVariants.{YearFirst}
 use Rattle.csvw_datatype_core.specs.declared.moment.MomentFormat.TheVariants.{Seconds}
@@ -24,7 +23,8 @@ use Rattle.csvw_datatype_core.proofs.Counts.{tenth}
 use Rattle.csvw_datatype_core.proofs.DateLemmas.{digits_small}
 use Rattle.csvw_datatype_core.proofs.LexicalLemmas.{IsPushing, pushing_begins, pushing_step, pushing_ends}
 use Rattle.csvw_datatype_core.proofs.LexicalNumber.{lexical_number}
-use Rattle.csvw_datatype_core.proofs.LexicalDateLemmas.{date_digits_read, time_digits_read, time_in_range, date_alone, moment_written}
+use Rattle.csvw_datatype_core.proofs.LexicalDateLemmas.{InMonth, in_month, day_of_month, date_digits_read, time_digits_read, time_in_range}
+use Rattle.csvw_datatype_core.proofs.LexicalDateLemmas.{date_alone, moment_written}
 use Rattle.csvw_datatype_core.proofs.OneText.{one_date_text, one_moment_text}
 use Rattle.csvw_datatype_core.proofs.OneNumberText.{one_number_text}
 use Rattle.csvw_datatype_core.proofs.AsciiLemmas.{bytes_of}
@@ -107,32 +107,10 @@ le_true a b h = grind (arith, nat_tests)
 true_le : (a b : ℕ) → nat_le a b ≡ true → a ≤ b
 true_le a b h = grind (arith, nat_tests)
 
-pub record InMonth (y m d : ℕ) : Type 0 where
-  pub from_year : 1 ≤ y
-  pub from_month : 1 ≤ m
-  pub to_month : m ≤ 12
-  pub from_day : 1 ≤ d
-  pub to_day : d ≤ days_in_month (pos y) m
-
-pub in_month : (y m d : ℕ) → IsDay y m d → InMonth y m d
-in_month y m d h = record {
-  from_year = h.0;
-  from_month = omega (arith, ints, h.1.1.0);
-  to_month = omega (arith, ints, h.1.1.1);
-  from_day = omega (arith, ints, h.1.2.0);
-  to_day = omega (arith, ints, h.1.2.1);
-}
-
 day_true : (y m d : ℕ) → IsDay y m d → is_day y m d ≡ true
 day_true y m d h =
     let i = in_month y m d h in
     all_five _ _ _ _ _ (le_true 1 y i.from_year) (le_true 1 m i.from_month) (le_true m 12 i.to_month) (le_true 1 d i.from_day) (le_true d _ i.to_day)
-
-pub day_of_month : (y m d : ℕ) → y < 10_000 → InMonth y m d → IsDay y m d
-day_of_month y m d l i =
-    let year : IsYear (pos y) = (omega (arith, ints, l), omega (arith, ints, l)) in
-    let month : IsBetween (pos 1) (pos 12) (pos m) = (omega (arith, ints, i.from_month), omega (arith, ints, i.to_month)) in
-    (i.from_year, (year, month, (omega (arith, ints, i.from_day), omega (arith, ints, i.to_day))))
 
 true_day : (y m d : ℕ) → y < 10_000 → is_day y m d ≡ true → IsDay y m d
 true_day y m d l h =

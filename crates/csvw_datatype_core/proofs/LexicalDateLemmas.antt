@@ -6,7 +6,7 @@ use Rattle.std.specs.Str.Parse.{digits_value}
 use Rattle.std.proofs.lemmas.Bool.{cases_order}
 use Rattle.std.proofs.lemmas.Int.{ints, by_lt_z}
 use Rattle.jiff_core.specs.declared.civil.date.Date.{Date}
-use Rattle.jiff_core.specs.Calendar.{day_count, days_from_civil, IsYear, IsCivilDate}
+use Rattle.jiff_core.specs.Calendar.{day_count, days_from_civil, days_in_month, IsBetween, IsYear, IsCivilDate}
 use Rattle.jiff_core.specs.Date.{epoch_day}
 use Rattle.jiff_core.proofs.SignedLemmas.{signed_arith}
 use Rattle.jiff_core.proofs.CalendarLemmas.{days_from_civil-day_count, day_count_bounds, day_count-lt_year, day_count-day_of_year, days_in_month_bounds}
@@ -20,14 +20,16 @@ use Rattle.csvw_datatype_core.specs.Dates.{IsDay, day_number, IsField, ReadsDate
 use Rattle.csvw_datatype_core.specs.Moments.{IsPair, ReadsTime, ReadsMoment}
 use Rattle.csvw_datatype_core.specs.LexicalDates.{IsDayNumber, IsMomentNumber, two_digits, four_digits, date_digits, time_digits, IsFields}
 use Rattle.csvw_datatype_core.specs.LexicalDates.{IsDayAndSecond, AppendsDate, AppendsTime}
-use Rattle.csvw_datatype_core.proofs.DateLemmas.{Digits, value_two, value_four, all_append}
+use Rattle.csvw_datatype_core.proofs.DateLemmas.{Digits, two_in_front, value_two, value_four, all_append}
 use Rattle.csvw_datatype_core.proofs.TimeLemmas.{seconds_below}
 
 two_are : (n : ℕ) → n < 100 → Digits 2 (two_digits n)
 two_are n h = (((omega arith, omega arith), ((omega arith, omega arith), tt)), refl)
 
 two_value : (n : ℕ) → n < 100 → digits_value 10 (two_digits n) ≡ n
-two_value n h = let d = two_are n h in sym (value_two (48 + n / 10) (48 + n % 10) d.0.0 d.0.1.0) ∙ omega arith
+two_value n h =
+    let t = two_in_front (48 + n / 10) (48 + n % 10) [] (two_are n h).0 in
+    sym (value_two (48 + n / 10) (48 + n % 10) t.first t.second) ∙ omega arith
 
 four_are : (n : ℕ) → n < 10_000 → Digits 4 (four_digits n)
 four_are n h =
@@ -44,10 +46,38 @@ four_value n h =
 field : (n : ℕ) → n < 100 → IsField YearFirst (two_digits n)
 field n h = record { are_digits = (two_are n h).0; count = inl refl }
 
+-- the bounds of a year, a month and a day of the calendar
+pub record InMonth (y m d : ℕ) : Type 0 where
+  pub from_year : 1 ≤ y
+  pub from_month : 1 ≤ m
+  pub to_month : m ≤ 12
+  pub from_day : 1 ≤ d
+  pub to_day : d ≤ days_in_month (pos y) m
+
+pub in_month : (y m d : ℕ) → IsDay y m d → InMonth y m d
+in_month y m d h =
+    let date = h.1 in
+    let month = date.1 in
+    let day = date.2 in
+    record {
+      from_year = h.0;
+      from_month = omega (arith, ints, month.0);
+      to_month = omega (arith, ints, month.1);
+      from_day = omega (arith, ints, day.0);
+      to_day = omega (arith, ints, day.1);
+    }
+
+pub day_of_month : (y m d : ℕ) → y < 10_000 → InMonth y m d → IsDay y m d
+day_of_month y m d l i =
+    let year : IsYear (pos y) = (omega (arith, ints, l), omega (arith, ints, l)) in
+    let month : IsBetween (pos 1) (pos 12) (pos m) = (omega (arith, ints, i.from_month), omega (arith, ints, i.to_month)) in
+    (i.from_year, (year, month, (omega (arith, ints, i.from_day), omega (arith, ints, i.to_day))))
+
 pub day_small : (y m d : ℕ) → IsDay y m d → (m < 100) × (d < 100)
 day_small y m d h =
     let b = days_in_month_bounds (pos y) m in
-    (omega (arith, ints, h.1.1.1), omega (arith, ints, h.1.2.1, b.0))
+    let i = in_month y m d h in
+    (omega (arith, i.to_month), omega (arith, i.to_day, b.0))
 
 -- the digits of a day are read as that day
 pub date_digits_read : (y m d : ℕ) (day : ℤ) → IsFields day y m d → ReadsDate YearFirst (date_digits y m d) day
@@ -110,7 +140,13 @@ year_positive d h =
     (λ ge. ge)
 
 pub civil_of : (y m d : ℕ) → IsDay y m d → IsCivilDate (pos y) m d
-civil_of y m d h = (h.1.0, (omega (arith, ints, h.1.1.0), omega (arith, ints, h.1.1.1)), (omega (arith, ints, h.1.2.0), omega (arith, ints, h.1.2.1)))
+civil_of y m d h = let date = h.1 in let i = in_month y m d h in (date.0, (i.from_month, i.to_month), (i.from_day, i.to_day))
+
+civil_in_month : (y m d : ℕ) → 1 ≤ y → IsCivilDate (pos y) m d → InMonth y m d
+civil_in_month y m d h c =
+    let month = c.1 in
+    let day = c.2 in
+    record { from_year = h; from_month = month.0; to_month = month.1; from_day = day.0; to_day = day.1 }
 
 first_civil : IsCivilDate (pos 1) 1 1
 first_civil = ((omega (arith, ints), omega (arith, ints)), (omega arith, omega arith), (omega arith, omega (arith, days_in_month_bounds (pos 1) 1)))
@@ -118,12 +154,13 @@ first_civil = ((omega (arith, ints), omega (arith, ints)), (omega arith, omega a
 count_from : (y m d : ℕ) → IsDay y m d → 3_652_791 ≤ day_count (pos y) m d
 count_from y m d h =
     let c = civil_of y m d h in
+    let i = in_month y m d h in
     ⊎_elim (λ (e : y ≡ 1).
     let P : ℕ → Type 0 = λ y. 3_652_791 ≤ day_count (pos y) m d in
-    subst P (sym e) (omega (arith, first_count, day_count-day_of_year (pos 1) m d c.2.0, c.2.0)))
+    subst P (sym e) (omega (arith, first_count, day_count-day_of_year (pos 1) m d i.from_day, i.from_day)))
     (λ (r : (y < 1) ⊎ (1 < y)).
-    ⊎_elim (λ (l : y < 1). absurd (omega (arith, l, h.0)))
-    (λ (g : 1 < y). omega (arith, first_count, day_count-lt_year (pos 1) 1 1 (pos y) m d first_civil c.2.0 (omega (arith, ints, g)))) r)
+    ⊎_elim (λ (l : y < 1). absurd (omega (arith, l, i.from_year)))
+    (λ (g : 1 < y). omega (arith, first_count, day_count-lt_year (pos 1) 1 1 (pos y) m d first_civil i.from_day (omega (arith, ints, g)))) r)
     (cases_order y 1)
 
 -- a day of the years 0001 to 9999 has a number in this range
@@ -163,9 +200,10 @@ fields_of d day h e =
     let one : 1 ≤ unsigned_abs d.year = omega (arith, ints, same, year_positive d low) in
     let P : ℤ → Type 0 = λ y. IsCivilDate y d.month d.day in
     let c : IsCivilDate (pos (unsigned_abs d.year)) d.month d.day = subst P same (civil d) in
+    let year = abs_small d.year d.year_in in
     record {
-      year = abs_small d.year d.year_in;
-      is_day = (one, (c.0, (omega (arith, ints, c.1.0), omega (arith, ints, c.1.1)), (omega (arith, ints, c.2.0), omega (arith, ints, c.2.1))));
+      year = year;
+      is_day = day_of_month (unsigned_abs d.year) d.month d.day year (civil_in_month (unsigned_abs d.year) d.month d.day one c);
       is_value = sym e ∙ ap (λ y. days_from_civil y d.month d.day) same;
     }
 

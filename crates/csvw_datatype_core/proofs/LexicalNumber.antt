@@ -49,6 +49,9 @@ digits_grouped : (c : ℕ) (ds : List ℕ) → AllDigits 10 (c ∷ ds) → IsGro
 digits_grouped c [] h = ascii_digit c h.0
 digits_grouped c (d ∷ ds) h = (ascii_digit c h.0, inl (digits_grouped d ds h.1))
 
+digits_of : (ds : List ℕ) → IsNumeral 10 ds → AllDigits 10 ds
+digits_of ds h = h.1
+
 numeral_grouped : (ds : List ℕ) → IsNumeral 10 ds → IsGrouped None ds
 numeral_grouped [] h = absurd (omega (arith, h.0))
 numeral_grouped (c ∷ ds) h = digits_grouped c ds h.1
@@ -84,7 +87,7 @@ lexical_sign z w tail = append_assoc _ w tail ∙ ap (λ x. x ++ (w ++ tail)) (s
 whole_of : (w : ℕ) → w < 10 ^ 64 → whole_value 0 (decimal w) ≡ w
 whole_of w h =
     let d = decimal_is_IsNumeral_wide w h in
-    ap (digits_value 10) (filter_digits (decimal w) d.0.1) ∙ d.1
+    ap (digits_value 10) (filter_digits (decimal w) (digits_of (decimal w) d.0)) ∙ d.1
 
 count_whole : (z : ℤ) (n : ℕ) → n < 10 ^ 38 → n % 10 ^ 18 ≡ 0
     → IsCount (record { sign = sign_of z; whole = decimal (n / 10 ^ 18); fraction = None; mark = Plain }) n
@@ -118,8 +121,8 @@ pub lexical_number : (z : ℤ) (n : ℕ) (a b c d : List ℕ) → n ≡ unsigned
 lexical_number z n a b c d abs small ea eb ec part =
     let w = n / 10 ^ 18 in
     let wide : w < 10 ^ 64 = omega arith in
-    let numeral = decimal_is_IsNumeral_wide w wide in
-    let grouped = numeral_grouped (decimal w) numeral.0 in
+    let numeral = (decimal_is_IsNumeral_wide w wide).0 in
+    let grouped = numeral_grouped (decimal w) numeral in
     let text : c ≡ ([] ++ cond (lt_z z (pos 0)) (45 ∷ []) []) ++ decimal w = ec
     ∙ ap (λ x. x ++ decimal w) (eb ∙ ap (λ x. x ++ cond (lt_z z (pos 0)) (45 ∷ []) []) ea) in
     let value : z ≡ signed (sign_of z) n = signed_abs z ∙ ap (signed (sign_of z)) (sym abs) in
@@ -129,7 +132,7 @@ lexical_number z n a b c d abs small ea eb ec part =
           record {
             reads = record {
               parts = p;
-              is_number = record { whole = inr grouped; fraction = tt; not_both_missing = not_empty (decimal w) [] numeral.0.0; mark = tt };
+              is_number = record { whole = inr grouped; fraction = tt; not_both_missing = not_empty (decimal w) [] numeral.0; mark = tt };
               spelled = whole.1 ∙ text ∙ sym (append-nil _) ∙ lexical_sign z (decimal w) [];
               count = n;
               small = small;
@@ -150,7 +153,7 @@ lexical_number z n a b c d abs small ea eb ec part =
               is_number = record {
                 whole = inr grouped;
                 fraction = (refl, f.are_digits);
-                not_both_missing = not_empty (decimal w) f.digits numeral.0.0;
+                not_both_missing = not_empty (decimal w) f.digits numeral.0;
                 mark = tt;
               };
               spelled = f.appended ∙ ap (λ x. (x ++ (46 ∷ [])) ++ f.digits) text ∙ point_text _ (decimal w) f.digits

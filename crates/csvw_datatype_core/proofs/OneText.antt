@@ -15,7 +15,8 @@ use Rattle.csvw_datatype_core.specs.declared.moment.MomentFormat.TheVariants.{Se
 use Rattle.csvw_datatype_core.specs.Dates.{date_text, IsDay, day_number, IsField, ReadsDate}
 use Rattle.csvw_datatype_core.specs.Moments.{IsPair, ReadsTime, ReadsMoment}
 use Rattle.csvw_datatype_core.proofs.Counts.{value-cons, value-below}
-use Rattle.csvw_datatype_core.proofs.LexicalDateLemmas.{civil_of, time_in_range}
+use Rattle.csvw_datatype_core.proofs.TimeLemmas.{seconds_below}
+use Rattle.csvw_datatype_core.proofs.LexicalDateLemmas.{in_month, civil_of, time_in_range}
 
 pub quotients : (a b p v w : ℕ) → v < p → w < p → a * p + v ≡ b * p + w → (a ≡ b) × (v ≡ w)
 quotients a b p v w l m e =
@@ -53,18 +54,20 @@ one_day : (y m d y₂ m₂ d₂ : ℕ) → IsDay y m d → IsDay y₂ m₂ d₂ 
 one_day y m d y₂ m₂ d₂ h k e =
     let a = civil_of y m d h in
     let b = civil_of y₂ m₂ d₂ k in
+    let i = in_month y m d h in
+    let j = in_month y₂ m₂ d₂ k in
     let c = one_count y m d y₂ m₂ d₂ e in
     let year : y ≡ y₂ = order y y₂
-    (λ l. omega (arith, c, day_count-lt_year (pos y) m d (pos y₂) m₂ d₂ a b.2.0 (omega (arith, ints, l))))
-    (λ l. omega (arith, c, day_count-lt_year (pos y₂) m₂ d₂ (pos y) m d b a.2.0 (omega (arith, ints, l)))) in
+    (λ l. omega (arith, c, day_count-lt_year (pos y) m d (pos y₂) m₂ d₂ a j.from_day (omega (arith, ints, l))))
+    (λ l. omega (arith, c, day_count-lt_year (pos y₂) m₂ d₂ (pos y) m d b i.from_day (omega (arith, ints, l)))) in
     let c₂ : day_count (pos y) m d ≡ day_count (pos y) m₂ d₂ = c ∙ ap (λ y. day_count (pos y) m₂ d₂) (sym year) in
     let P : ℕ → Type 0 = λ y. IsCivilDate (pos y) m₂ d₂ in
     let b₂ : P y = subst P (sym year) b in
     let month : m ≡ m₂ = order m m₂
-    (λ l. omega (arith, c₂, day_count-lt_month (pos y) m d m₂ d₂ a b.2.0 l))
-    (λ l. omega (arith, c₂, day_count-lt_month (pos y) m₂ d₂ m d b₂ a.2.0 l)) in
+    (λ l. omega (arith, c₂, day_count-lt_month (pos y) m d m₂ d₂ a j.from_day l))
+    (λ l. omega (arith, c₂, day_count-lt_month (pos y) m₂ d₂ m d b₂ i.from_day l)) in
     let c₃ : day_count (pos y) m d ≡ day_count (pos y) m d₂ = c₂ ∙ ap (λ m. day_count (pos y) m d₂) (sym month) in
-    record { year = year; month = month; date = omega (arith, c₃, day_count-day (pos y) m d d₂ a.2.0 b.2.0) }
+    record { year = year; month = month; date = omega (arith, c₃, day_count-day (pos y) m d d₂ i.from_day j.from_day) }
 
 two_long : (ds : List ℕ) → IsField YearFirst ds → length ds ≡ 2
 two_long ds h = elim h.count [ inl two ↦ two | inr one ↦ absurd one.0 ]
@@ -96,8 +99,10 @@ time_spelled text h m tail s e f = e ∙ ap (λ t. 84 ∷ (h ++ (58 ∷ (m ++ t)
 one_time_text : (s t : List ℕ) (second : ℕ) → ReadsTime Seconds s second → ReadsTime Seconds t second → s ≡ t
 one_time_text s t second p q =
     let e = sym p.is_value ∙ q.is_value in
-    let h : digits_value 10 p.h ≡ digits_value 10 q.h = omega (arith, e, p.is_minute.2, q.is_minute.2, p.is_second.1.2, q.is_second.1.2) in
-    let m : digits_value 10 p.m ≡ digits_value 10 q.m = omega (arith, e, h, p.is_second.1.2, q.is_second.1.2) in
+    let x = seconds_below Seconds p.tail p.s p.is_second in
+    let y = seconds_below Seconds q.tail q.s q.is_second in
+    let h : digits_value 10 p.h ≡ digits_value 10 q.h = omega (arith, e, p.is_minute.2, q.is_minute.2, x, y) in
+    let m : digits_value 10 p.m ≡ digits_value 10 q.m = omega (arith, e, h, x, y) in
     let s₂ : digits_value 10 p.s ≡ digits_value 10 q.s = omega (arith, e, h, m) in
     let hs = one_pair p.h q.h 24 p.is_hour q.is_hour h in
     let ms = one_pair p.m q.m 60 p.is_minute q.is_minute m in

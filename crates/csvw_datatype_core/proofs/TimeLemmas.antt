@@ -10,7 +10,7 @@ use Rattle.csvw_datatype_core.specs.Dates.{ReadsDate}
 use Rattle.csvw_datatype_core.specs.Moments.{IsPair, IsSeconds, ReadsTime, ReadsMoment}
 use Rattle.csvw_datatype_core.specs.Fields.{after_separator, two_at, at_end}
 use Rattle.csvw_datatype_core.specs.TimeFields.{IsTimeOfDay, second_field, time_fields}
-use Rattle.csvw_datatype_core.proofs.DateLemmas.{Digits, two_sound, two_again, bind_some, separator_sound, end_sound}
+use Rattle.csvw_datatype_core.proofs.DateLemmas.{Digits, two_sound, two_again, bind_some, bind_number, separator_sound, end_sound}
 
 -- the seconds that a text ends with
 record EndsWith (f : MomentFormat) (bs : List ℕ) (x : ℕ) : Type 0 where
@@ -24,59 +24,65 @@ some_same {A} x z d h = let g : Option A → A = λ o. elim o [ None ↦ d | Som
 pair_of : (ds : List ℕ) (x limit : ℕ) → Digits 2 ds → x ≡ digits_value 10 ds → x < limit → IsPair ds limit
 pair_of ds x limit h e l = (h.0, h.1, omega (arith, e, l))
 
+pair_digits : (ds : List ℕ) (limit : ℕ) → IsPair ds limit → Digits 2 ds
+pair_digits ds limit h = (h.0, h.1)
+
+pair_below : (ds : List ℕ) (limit : ℕ) → IsPair ds limit → digits_value 10 ds < limit
+pair_below ds limit h = h.2
+
 second_sound : (f : MomentFormat) (bs : List ℕ) (x : ℕ) → second_field f bs ≡ Some x → EndsWith f bs x
 second_sound Seconds bs x h =
     let r = bind_some (after_separator 58 bs) _ _ h in
-    let s = bind_some (two_at r.0) _ _ r.1.1 in
-    let e = bind_some (at_end s.0.1) _ _ s.1.1 in
-    let f = two_sound r.0 s.0.0 s.0.1 s.1.0 in
-    let same = some_same s.0.0 x 0 e.1.1 in
+    let s = bind_number (two_at r.value) _ _ r.rest_is in
+    let e = bind_some (at_end s.after) _ _ s.rest_is in
+    let f = two_sound r.value s.value s.after s.first_is in
+    let same = some_same s.value x 0 e.rest_is in
     let value : x ≡ digits_value 10 f.digits = sym same ∙ f.value in
-    let text : bs ≡ 58 ∷ f.digits = separator_sound 58 bs r.0 r.1.0
-    ∙ ap (λ t. 58 ∷ t) (f.front ∙ ap (λ t. f.digits ++ t) (end_sound s.0.1 e.0 e.1.0) ∙ append-nil f.digits) in
+    let text : bs ≡ 58 ∷ f.digits = separator_sound 58 bs r.value r.first_is
+    ∙ ap (λ t. 58 ∷ t) (f.front ∙ ap (λ t. f.digits ++ t) (end_sound s.after e.value e.first_is) ∙ append-nil f.digits) in
     record { s = f.digits; value = value; right = λ l. (text, pair_of f.digits x 60 f.right value l) }
 second_sound Minutes bs x h =
     let e = bind_some (at_end bs) _ _ h in
-    let same = some_same 0 x 0 e.1.1 in
-    record { s = []; value = sym same; right = λ l. (end_sound bs e.0 e.1.0, refl) }
+    let same = some_same 0 x 0 e.rest_is in
+    record { s = []; value = sym same; right = λ l. (end_sound bs e.value e.first_is, refl) }
 
 triple : ℕ → ℕ → ℕ → ℕ × ℕ × ℕ
 triple h m s = (h, m, s)
 
 -- a time whose fields are in range is read
-pub time_sound : (f : MomentFormat) (bs : List ℕ) (h m s : ℕ) → time_fields f bs ≡ Some (h, m, s) → h < 24 → m < 60 → s < 60
+pub time_sound : (f : MomentFormat) (bs : List ℕ) (h m s : ℕ) → time_fields f bs ≡ Some (h, m, s) → IsTimeOfDay h m s
     → ReadsTime f bs (h * 3600 + m * 60 + s)
 unfolding time_fields
-time_sound f bs h m s is hour minute second =
+time_sound f bs h m s is inside =
     let r = bind_some (after_separator 84 bs) _ _ is in
-    let a = bind_some (two_at r.0) _ _ r.1.1 in
-    let q = bind_some (after_separator 58 a.0.1) _ _ a.1.1 in
-    let b = bind_some (two_at q.0) _ _ q.1.1 in
-    let c = bind_some (second_field f b.0.1) _ _ b.1.1 in
-    let same = some_same (a.0.0, b.0.0, c.0) (h, m, s) (0, 0, 0) c.1.1 in
-    let fa = two_sound r.0 a.0.0 a.0.1 a.1.0 in
-    let fb = two_sound q.0 b.0.0 b.0.1 b.1.0 in
-    let fc = second_sound f b.0.1 c.0 c.1.0 in
+    let a = bind_number (two_at r.value) _ _ r.rest_is in
+    let q = bind_some (after_separator 58 a.after) _ _ a.rest_is in
+    let b = bind_number (two_at q.value) _ _ q.rest_is in
+    let c = bind_some (second_field f b.after) _ _ b.rest_is in
+    let same = some_same (a.value, b.value, c.value) (h, m, s) (0, 0, 0) c.rest_is in
+    let fa = two_sound r.value a.value a.after a.first_is in
+    let fb = two_sound q.value b.value b.after b.first_is in
+    let fc = second_sound f b.after c.value c.first_is in
     let hv : h ≡ digits_value 10 fa.digits = sym (ap (λ (x : ℕ × ℕ × ℕ). x.0) same) ∙ fa.value in
     let mv : m ≡ digits_value 10 fb.digits = sym (ap (λ (x : ℕ × ℕ × ℕ). x.1) same) ∙ fb.value in
-    let cv : c.0 ≡ s = ap (λ (x : ℕ × ℕ × ℕ). x.2) same in
+    let cv : c.value ≡ s = ap (λ (x : ℕ × ℕ × ℕ). x.2) same in
     let sv : s ≡ digits_value 10 fc.s = sym cv ∙ fc.value in
     record {
       h = fa.digits;
       m = fb.digits;
-      tail = b.0.1;
+      tail = b.after;
       s = fc.s;
-      is_hour = pair_of fa.digits h 24 fa.right hv hour;
-      is_minute = pair_of fb.digits m 60 fb.right mv minute;
-      is_second = fc.right (omega (arith, cv, second));
-      spelled = separator_sound 84 bs r.0 r.1.0
-          ∙ ap (λ t. 84 ∷ t) (fa.front ∙ ap (λ t. fa.digits ++ t) (separator_sound 58 a.0.1 q.0 q.1.0 ∙ ap (λ t. 58 ∷ t) fb.front));
+      is_hour = pair_of fa.digits h 24 fa.right hv inside.0;
+      is_minute = pair_of fb.digits m 60 fb.right mv inside.1;
+      is_second = fc.right (omega (arith, cv, inside.2));
+      spelled = separator_sound 84 bs r.value r.first_is
+          ∙ ap (λ t. 84 ∷ t) (fa.front ∙ ap (λ t. fa.digits ++ t) (separator_sound 58 a.after q.value q.first_is ∙ ap (λ t. 58 ∷ t) fb.front));
       is_value = omega (arith, hv, mv, sv);
     }
 
 second_again : (f : MomentFormat) (tail s : List ℕ) → IsSeconds f tail s → second_field f tail ≡ Some (digits_value 10 s)
 second_again Seconds tail s h =
-    let b : two_at s ≡ Some (digits_value 10 s, []) = ap two_at (sym (append-nil s)) ∙ two_again s [] (h.1.0, h.1.1) in
+    let b : two_at s ≡ Some (digits_value 10 s, []) = ap two_at (sym (append-nil s)) ∙ two_again s [] (pair_digits s 60 h.1) in
     rw (h.0, b) refl
 second_again Minutes tail s h = rw (h.0, h.1) refl
 
@@ -85,33 +91,33 @@ pub time_again : (f : MomentFormat) (bs : List ℕ) (second : ℕ) → (r : Read
     → time_fields f bs ≡ Some (digits_value 10 r.h, digits_value 10 r.m, digits_value 10 r.s)
 unfolding time_fields
 time_again f bs second r =
-    let b = two_again r.h (58 ∷ (r.m ++ r.tail)) (r.is_hour.0, r.is_hour.1) in
-    let d = two_again r.m r.tail (r.is_minute.0, r.is_minute.1) in
+    let b = two_again r.h (58 ∷ (r.m ++ r.tail)) (pair_digits r.h 24 r.is_hour) in
+    let d = two_again r.m r.tail (pair_digits r.m 60 r.is_minute) in
     let e = second_again f r.tail r.s r.is_second in
     rw (r.spelled, b, d, e) refl
 
 pub seconds_below : (f : MomentFormat) (tail s : List ℕ) → IsSeconds f tail s → digits_value 10 s < 60
-seconds_below Seconds tail s h = h.1.2
+seconds_below Seconds tail s h = pair_below s 60 h.1
 seconds_below Minutes tail s h = rw h.1 (omega arith)
 
 pub no_time_fields : (f : MomentFormat) (bs : List ℕ) → time_fields f bs ≡ None → (second : ℕ) → ReadsTime f bs second → ⊥
 no_time_fields f bs h second r = let e = time_again f bs second r in cc
 
-pub no_time : (f : MomentFormat) (bs : List ℕ) (h m s : ℕ) → time_fields f bs ≡ Some (h, m, s) → (h < 24 → m < 60 → s < 60 → ⊥) → (second : ℕ)
+pub no_time : (f : MomentFormat) (bs : List ℕ) (h m s : ℕ) → time_fields f bs ≡ Some (h, m, s) → (IsTimeOfDay h m s → ⊥) → (second : ℕ)
     → ReadsTime f bs second → ⊥
 no_time f bs h m s is never second r =
     let same = some_same (h, m, s) (digits_value 10 r.h, digits_value 10 r.m, digits_value 10 r.s) (0, 0, 0) (sym is ∙ time_again f bs second r) in
     let hv : h ≡ digits_value 10 r.h = ap (λ (x : ℕ × ℕ × ℕ). x.0) same in
     let mv : m ≡ digits_value 10 r.m = ap (λ (x : ℕ × ℕ × ℕ). x.1) same in
     let sv : s ≡ digits_value 10 r.s = ap (λ (x : ℕ × ℕ × ℕ). x.2) same in
-    never (omega (arith, hv, r.is_hour.2)) (omega (arith, mv, r.is_minute.2)) (omega (arith, sv, seconds_below f r.tail r.s r.is_second))
+    never (omega (arith, hv, r.is_hour.2), omega (arith, mv, r.is_minute.2), omega (arith, sv, seconds_below f r.tail r.s r.is_second))
 
 -- the answer for fields, as one for the text
 pub time_answer : (f : MomentFormat) (bs : List ℕ) (h m s : ℕ) (o : Option ℕ) → time_fields f bs ≡ Some (h, m, s)
     → MatchOption o (IsTimeOfDay h m s → ⊥) (λ n. IsTimeOfDay h m s × (n ≡ h * 3600 + m * 60 + s))
     → MatchOption o ((second : ℕ) → ReadsTime f bs second → ⊥) (ReadsTime f bs)
-time_answer f bs h m s None is a = no_time f bs h m s is (λ x y z. a (x, y, z))
-time_answer f bs h m s (Some n) is a = let P : ℕ → Type 0 = λ n. ReadsTime f bs n in subst P (sym a.1) (time_sound f bs h m s is a.0.0 a.0.1 a.0.2)
+time_answer f bs h m s None is a = no_time f bs h m s is a
+time_answer f bs h m s (Some n) is a = let P : ℕ → Type 0 = λ n. ReadsTime f bs n in subst P (sym a.1) (time_sound f bs h m s is a.0)
 
 -- the date of a moment is its first ten bytes
 date_length : (text : List ℕ) (day : ℤ) → ReadsDate YearFirst text day → length text ≡ 10
