@@ -27,6 +27,18 @@ neither : (a b : Bool) (P Q : Type 0) → IsTrue (not a) ↔ P → IsTrue (not b
 neither true b P Q p q = (λ h. absurd (no h), λ h. absurd (no (p.1 h.0)))
 neither false b P Q p q = (λ h. (p.0 refl, q.0 h), λ h. q.1 h.1)
 
+none_of_three : (a b c : Bool) (P Q R : Type 0) → IsTrue (not a) ↔ P → IsTrue (not b) ↔ Q → IsTrue (not c) ↔ R
+    → IsTrue (not ((a || b) || c)) ↔ (P × Q × R)
+none_of_three a b c P Q R p q r =
+    let all = neither (a || b) c (P × Q) R (neither a b P Q p q) r in
+    (λ h. let k = all.0 h in let two = k.0 in (two.0, two.1, k.1), λ h. all.1 ((h.0, h.1), h.2))
+
+none_of_four : (a b c d : Bool) (P Q R S : Type 0) → IsTrue (not a) ↔ P → IsTrue (not b) ↔ Q → IsTrue (not c) ↔ R → IsTrue (not d) ↔ S
+    → IsTrue (not (((a || b) || c) || d)) ↔ (P × Q × R × S)
+none_of_four a b c d P Q R S p q r s =
+    let all = neither ((a || b) || c) d (P × Q × R) S (none_of_three a b c P Q R p q r) s in
+    (λ h. let k = all.0 h in let three = k.0 in (three.0, three.1, three.2, k.1), λ h. all.1 ((h.0, h.1, h.2), h.3))
+
 not_fails : {A B : Type 0} (test : A → B → Bool) (P : A → B → Type 0) → ((a : A) (b : B) → IsTrue (not (test a b)) ↔ P a b)
     → (x : Option A) (y : Option B) → IsTrue (not (fails test x y)) ↔ IfBoth x y P
 not_fails test P h None y = (λ k. tt, λ k. refl)
@@ -64,10 +76,8 @@ one_of true b P Q p q = (λ h. inl (p.0 refl), λ h. refl)
 one_of false b P Q p q = (λ h. inr (q.0 h), λ h. elim h [ inl x ↦ absurd (no (p.1 x)) | inr y ↦ q.1 y ])
 
 no_lengths : (f : Facets) → IsTrue (not (has_lengths f)) ↔ ((f.length ≡ None) × (f.min_length ≡ None) × (f.max_length ≡ None))
-no_lengths f =
-    let p = neither (is_some f.length) (is_some f.min_length) _ _ (absent f.length) (absent f.min_length) in
-    let q = neither (is_some f.length || is_some f.min_length) (is_some f.max_length) _ _ p (absent f.max_length) in
-    (λ h. let k = q.0 h in (k.0.0, k.0.1, k.1), λ h. q.1 ((h.0, h.1), h.2))
+no_lengths f = none_of_three (is_some f.length) (is_some f.min_length) (is_some f.max_length) _ _ _
+    (absent f.length) (absent f.min_length) (absent f.max_length)
 
 pub applies : (s : Simple) (f : Facets) → IsTrue (lengths_apply s f) ↔ LengthsApply s f
 applies s f = one_of (is_text s) (not (has_lengths f)) _ _ (is_string s) (no_lengths f)
@@ -77,8 +87,8 @@ agree_lengths f =
     let a = turned f.min_length f.max_length in
     let b = turned f.min_length f.length in
     let c = turned f.length f.max_length in
-    let p = neither _ _ _ _ (neither _ _ _ _ a b) c in
-    (λ h. let k = p.0 h in record { range = k.0.0; low = k.0.1; high = k.1 }, λ h. p.1 ((h.range, h.low), h.high))
+    let p = none_of_three _ _ _ _ _ _ a b c in
+    (λ h. let k = p.0 h in record { range = k.0; low = k.1; high = k.2 }, λ h. p.1 (h.range, h.low, h.high))
 
 -- bounds
 
@@ -100,8 +110,15 @@ alone None None (Some c) = (λ h. tt, λ h. refl)
 alone None (Some b) (Some c) = (λ h. no h, λ h. absurd h)
 alone (Some a) y (Some c) = (λ h. no h, λ h. absurd h)
 
-side : (x y z : Option Value) → IsTrue (side_agrees x y z) ↔ (IfBoth x y AreSame × IfBoth z (first_of x y) (λ a b. ⊥))
-side x y z = both _ _ _ _ (not_fails _ AreSame same x y) (alone x y z)
+-- the bounds of one side: two inclusive ones are the same, and none stands beside an exclusive one
+record SideAgrees (x y z : Option Value) : Type 0 where
+  pub one : IfBoth x y AreSame
+  pub alone : IfBoth z (first_of x y) (λ a b. ⊥)
+
+side : (x y z : Option Value) → IsTrue (side_agrees x y z) ↔ SideAgrees x y z
+side x y z =
+    let p = both _ _ _ _ (not_fails _ AreSame same x y) (alone x y z) in
+    (λ h. let k = p.0 h in record { one = k.0; alone = k.1 }, λ h. p.1 (h.one, h.alone))
 
 pub agree_bounds : (f : Facets) → IsTrue (bounds_agree f) ↔ BoundsAgree f
 agree_bounds f =
@@ -111,17 +128,26 @@ agree_bounds f =
     let b = not_over f.min_exclusive f.max_exclusive in
     let c = under (min_of f) f.max_exclusive in
     let d = under f.min_exclusive (max_of f) in
-    let sides = neither _ _ _ _ (neither _ _ _ _ (neither _ _ _ _ a b) c) d in
-    let all = both _ _ _ _ (both _ _ _ _ low high) sides in (
-      λ h. let k = all.0 h in record {
-        one_minimum = k.0.0.0;
-        one_maximum = k.0.1.0;
-        minimum_alone = k.0.0.1;
-        maximum_alone = k.0.1.1;
-        inclusive = k.1.0.0.0;
-        exclusive = k.1.0.0.1;
-        below_exclusive = k.1.0.1;
-        above_exclusive = k.1.1;
-      },
-      λ h. all.1 (((h.one_minimum, h.minimum_alone), (h.one_maximum, h.maximum_alone)), (((h.inclusive, h.exclusive), h.below_exclusive), h.above_exclusive)),
+    let sides = both _ _ _ _ low high in
+    let across = none_of_four _ _ _ _ _ _ _ _ a b c d in
+    let all = both _ _ _ _ sides across in (
+      λ h.
+          let k = all.0 h in
+          let ends = k.0 in
+          let minimum = ends.0 in
+          let maximum = ends.1 in
+          let pairs = k.1 in record {
+            one_minimum = minimum.one;
+            one_maximum = maximum.one;
+            minimum_alone = minimum.alone;
+            maximum_alone = maximum.alone;
+            inclusive = pairs.0;
+            exclusive = pairs.1;
+            below_exclusive = pairs.2;
+            above_exclusive = pairs.3;
+          },
+      λ h.
+          let minimum : SideAgrees f.minimum f.min_inclusive f.min_exclusive = record { one = h.one_minimum; alone = h.minimum_alone } in
+          let maximum : SideAgrees f.maximum f.max_inclusive f.max_exclusive = record { one = h.one_maximum; alone = h.maximum_alone } in
+          all.1 ((minimum, maximum), (h.inclusive, h.exclusive, h.below_exclusive, h.above_exclusive)),
     )
