@@ -9,7 +9,7 @@ use Rattle.csvw_description.specs.declared.description.Description.{Description}
 use Rattle.csvw_description.specs.declared.inherited.Inherited.{Inherited}
 use Rattle.csvw_description.specs.declared.schema.Schema.{Schema}
 use Rattle.csvw_description.specs.declared.table.TableDescription.{TableDescription}
-use Rattle.csvw_columns_core.specs.HeaderColumns.{no_inherited}
+use Rattle.csvw_description.specs.Inherited.{no_inherited}
 use Rattle.csvw_columns_core.specs.Inherited.{first_of}
 use Rattle.csvw_columns_core.specs.SchemaColumns.{declared_columns}
 use Rattle.csvw_columns.specs.Fit.{numbered_names}

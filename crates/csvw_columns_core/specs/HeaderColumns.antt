@@ -1,24 +1,9 @@
 -- The columns that come from a header (Model for Tabular Data, section 8; Metadata Vocabulary for Tabular Data, section 5.6).
 use Rattle.std.specs.Prelude.{ℕ, zero, suc, ◌==◌, false, not, List, [], ◌∷◌, ◌++◌, length, map, filter, Option, None, unwrap_or}
 use Rattle.csvw_description.specs.declared.column.ColumnDescription.{ColumnDescription}
-use Rattle.csvw_description.specs.declared.inherited.Inherited.{Inherited}
+use Rattle.csvw_description.specs.Inherited.{no_inherited}
 use Rattle.csvw_columns_core.specs.HeaderFits.{cell_at}
 use Rattle.csvw_columns_core.specs.declared.header.HeaderRow.{HeaderRow}
-
--- nothing of its own
-abbrev pub no_inherited : Inherited
-no_inherited = record {
-  about_url = None;
-  property_url = None;
-  value_url = None;
-  datatype = None;
-  default = None;
-  lang = None;
-  null = None;
-  ordered = None;
-  required = None;
-  separator = None;
-}
 
 -- a column that has these titles alone
 abbrev pub titled_column : List (List ℕ) → ColumnDescription

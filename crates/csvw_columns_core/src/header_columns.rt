@@ -1,29 +1,11 @@
 //! The columns that come from a header.
 ghost use Rattle.std.specs.Prelude.{◌≡◌, IfOk};
-ghost use Rattle.csvw_columns_core.specs.HeaderColumns.{no_inherited, titled_column, titles_at, titled_columns, column_count, from_header};
+ghost use Rattle.csvw_columns_core.specs.HeaderColumns.{titled_column, titles_at, titled_columns, column_count, from_header};
 
 use crate::header::{HeaderRow, cell_at};
-use csvw_description::{ColumnDescription, Inherited};
+use csvw_description::{ColumnDescription, no_inherited};
 use csvw_text::{Seq, Text};
 use std::alloc::{AllocError, Global};
-
-/// The inherited properties of what says nothing of them.
-pub fn no_inherited() -> Inherited
-    ensures { result ≡ no_inherited }
-{
-    Inherited {
-        about_url: None,
-        property_url: None,
-        value_url: None,
-        datatype: None,
-        default: None,
-        lang: None,
-        null: None,
-        ordered: None,
-        required: None,
-        separator: None,
-    }
-}
 
 fn titles_at(alloc: Global, rows: &[HeaderRow], i: usize) -> Result<Seq<Text>, AllocError>
     ensures { IfOk result (λ s. s ≡ titles_at rows.now i) }

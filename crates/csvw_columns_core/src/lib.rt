@@ -15,5 +15,5 @@ pub use column::Column;
 pub use columns::Columns;
 pub use declared::{COLUMN_LIMIT, Frame, SKIP_LIMIT};
 pub use header::{HeaderRow, header_faults};
-pub use header_columns::{column_count, from_header, no_inherited};
+pub use header_columns::{column_count, from_header};
 pub use properties::{Defaults, Properties};

@@ -9,7 +9,7 @@ use Rattle.std.specs.Prelude.{codes}
 use Rattle.std.specs.Fmt.{decimal, digits, digits_onto, digit_glyph}
 use Rattle.percent_encoding.proofs.PercentLemmas.{All-percent_encode_byte, IsEscapeByte}
 use Rattle.csvw_text.specs.Class.{is_unreserved_char}
-use Rattle.csvw_iri.specs.Safe.{is_forbidden, is_iri, safe, safe_byte}
+use Rattle.csvw_iri.specs.Safe.{is_forbidden, is_iri}
 use Rattle.csvw_description.specs.Name.{encoded_byte, encoded}
 
 escape_is_raw : (b : ℕ) → IsEscapeByte b → is_forbidden b ≡ false
@@ -60,15 +60,3 @@ is_iri-decimal n = onto_raw 64 n [] refl
 
 pub is_iri-numbered : (n : ℕ) → is_iri (codes "_col." ++ decimal n) ≡ true
 is_iri-numbered n = is_iri-decimal n
-
--- a text that stands raw is safe as it is
-raw_head : (a b : Bool) → (not a && b) ≡ true → (a ≡ false) × (b ≡ true)
-raw_head true b h = cc
-raw_head false b h = (refl, h)
-
-pub safe_raw : (text : List ℕ) → is_iri text ≡ true → safe text ≡ text
-unfolding safe
-safe_raw [] h = refl
-safe_raw (b ∷ bs) h =
-    let both = raw_head (is_forbidden b) (is_iri bs) h in
-    ap (λ x. x ++ flat_map safe_byte bs) (cond-false _ _ _ both.0) ∙ ap (λ x. b ∷ x) (safe_raw bs both.1)

@@ -1,3 +1,4 @@
+pub mod Inherited
 pub mod Keys
 pub mod Name
 pub mod Plannable

@@ -1,4 +1,7 @@
 //! Properties that columns inherit from their schema, table and group.
+ghost use Rattle.std.specs.Prelude.{◌≡◌};
+ghost use Rattle.csvw_description.specs.Inherited.{no_inherited};
+
 use csvw_datatype::Datatype;
 use csvw_template::Template;
 use csvw_text::{LanguageTag, Seq, Shared, Text};
@@ -27,4 +30,22 @@ pub struct Inherited {
     pub required: Option<bool>,
     /// `separator`: what parts the items of a list; `Some(None)`: it is null, so that a cell is no list.
     pub separator: Option<Option<Shared<Text>>>,
+}
+
+/// The inherited properties of what says nothing of them.
+pub fn no_inherited() -> Inherited
+    ensures { result ≡ no_inherited }
+{
+    Inherited {
+        about_url: None,
+        property_url: None,
+        value_url: None,
+        datatype: None,
+        default: None,
+        lang: None,
+        null: None,
+        ordered: None,
+        required: None,
+        separator: None,
+    }
 }

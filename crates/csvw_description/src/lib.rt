@@ -13,7 +13,7 @@ mod table;
 pub use column::ColumnDescription;
 pub use description::Description;
 pub use foreign_key::ForeignKey;
-pub use inherited::Inherited;
+pub use inherited::{Inherited, no_inherited};
 pub use name::Name;
 pub use note::{Note, NoteLiteral, NoteObject, NoteValue};
 pub use schema::Schema;

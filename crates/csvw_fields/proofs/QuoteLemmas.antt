@@ -66,12 +66,12 @@ module _ (d : Dialect) (q : ℕ) (law : IsLawful d) (double : d.double_quote ≡
   doubled_run vs cur (x ∷ []) [] after a b e = absurd (omega (arith, e))
   doubled_run vs cur (x ∷ []) (y ∷ ys) after a b e = absurd (omega (arith, e))
   doubled_run vs cur (x ∷ z ∷ xs) [] after a b e = absurd (omega (arith, e))
-  doubled_run vs cur (x ∷ z ∷ xs) (y ∷ ys) after a b e =
-      ap (act_run d vs cur x (z ∷ xs ++ after)) (closes x (ends_at d (x ∷ z ∷ xs ++ after)) a.0)
-      ∙ ap (act_run d vs cur z (xs ++ after)) (opens z (xs ++ after) a.1.0)
-      ∙ doubled_run vs (cur ++ z ∷ []) xs ys after a.1.1 b.1 (omega (arith, e))
+  doubled_run vs cur (x ∷ z ∷ xs) (y ∷ ys) after (first, (second, others)) b e =
+      ap (act_run d vs cur x (z ∷ xs ++ after)) (closes x (ends_at d (x ∷ z ∷ xs ++ after)) first)
+      ∙ ap (act_run d vs cur z (xs ++ after)) (opens z (xs ++ after) second)
+      ∙ doubled_run vs (cur ++ z ∷ []) xs ys after others b.1 (omega (arith, e))
       ∙ ap (λ l. run d Inside vs l after) (append_assoc cur (z ∷ []) ys)
-      ∙ ap (λ c. run d Inside vs (cur ++ c ∷ ys) after) (a.1.0 ∙ sym b.0)
+      ∙ ap (λ c. run d Inside vs (cur ++ c ∷ ys) after) (second ∙ sym b.0)
 
 -- a front of ASCII characters
 pub ascii_boundary : (l : List ℕ) (n : ℕ) → IsUtf8 l → n ≤ length l → ((k : ℕ) → k < n → slice_index l k < 128) → IsCharBoundary l n

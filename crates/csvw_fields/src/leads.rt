@@ -47,7 +47,8 @@ impl Leads {
     }
 
     /// How many bytes at the front are sure to be the text of a field that is left in this state. All bytes that are
-    /// looked at are among them but the last, so each byte is looked at twice at most.
+    /// looked at are among them but the last, which a later step looks at once more; one behind a CR may be that last
+    /// one twice, so each byte is looked at a bounded number of times.
     pub(crate) fn clean_len(self, d: &Dialect, state: State, text: &str) -> usize
         requires { IsLeads d.now self }
         ensures boundary { IsCharBoundary text.now result }

@@ -87,7 +87,7 @@ module _ (front : List ℕ) (place : Place) (more : List ℕ) (is_front : IsOwnF
   on = goes_behind front place more (front ++ more) is_front refl goes
 
   pub both_raw : (is_iri front ≡ true) × (is_iri more ≡ true)
-  both_raw = and_parts _ _ (sym (list_all-append _ front more) ∙ own_raw (front ++ more) on.0 on.1.0 on.1.1)
+  both_raw = and_parts _ _ (sym (list_all-append _ front more) ∙ own_raw (front ++ more) on.rest on.of_scheme on.goes)
 
   pub link_behind : nat_lt max_text (length (front ++ more)) ≡ false → (base : Parts) → link_of base (front ++ more) ≡ Ok (front ++ more)
-  link_behind short base = (own_link (front ++ more) on.0 on.1.0 on.1.1 short base).1
+  link_behind short base = (own_link (front ++ more) on.rest on.of_scheme on.goes short base).1

@@ -17,15 +17,19 @@ longer text rest more (inl e) = inl (ap (λ t. t ++ more) e ∙ append_assoc (co
 longer text rest more (inr e) = inr (ap (λ t. t ++ more) e ∙ append_assoc (codes "https://") rest more)
 
 -- what stands behind the scheme of a text that begins with a front
-abbrev pub GoesOn : List ℕ → Type 0
-GoesOn text = (rest : List ℕ) × (IsOfScheme text rest × (goes_on (Some Front) rest ≡ true))
+pub record GoesOn (text : List ℕ) : Type 0 where
+  pub rest : List ℕ
+  pub of_scheme : IsOfScheme text rest
+  pub goes : goes_on (Some Front) rest ≡ true
 
 pub goes_behind : (front : List ℕ) (place : Place) (more text : List ℕ) → IsOwnFront front place → text ≡ front ++ more
     → goes_on (Some place) more ≡ true → GoesOn text
-goes_behind front place more text is_front split goes =
-    let rest = is_front.0 in
-    let at_end = goes_on-append (Some Front) rest more ∙ ap (λ p. goes_on p more) is_front.1.1 ∙ goes in
-    subst GoesOn (sym split) (rest ++ more, (longer front rest more is_front.1.0, at_end))
+goes_behind front place more text (rest, (of_scheme, reaches)) split goes =
+    subst GoesOn (sym split) (record {
+      rest = rest ++ more;
+      of_scheme = longer front rest more of_scheme;
+      goes = goes_on-append (Some Front) rest more ∙ ap (λ p. goes_on p more) reaches ∙ goes;
+    })
 
 -- a text whose first bytes are these, and what follows them
 pub joined : (text first front rest : List ℕ) → front ≡ take (length first) text → rest ≡ drop (length first) text → front ≡ first

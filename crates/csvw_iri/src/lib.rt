@@ -19,4 +19,4 @@ pub use front::OwnFront;
 pub use iri::{Iri, with_fragment};
 pub use links::{link, link_over, resolve};
 pub use prefix::expand_prefix;
-pub use safe::{is_raw, is_raw_text, made_safe};
+pub use safe::{is_raw, is_raw_text, made_safe, named};

@@ -35,6 +35,14 @@ pub fn made_safe(alloc: Global, text: &str) -> Result<Iri, AllocError>
     Iri::of(alloc, safe_text(alloc, text)?)
 }
 
+/// The IRI that a text is, whose characters all stand raw; `AllocError` where there is no memory.
+pub fn named(alloc: Global, text: &str) -> Result<Iri, AllocError>
+    requires { is_iri text.now ≡ true }
+    ensures { IfOk result (λ i. i ≡ text.now) }
+{
+    Iri::of(alloc, String::from_str(alloc, text)?)
+}
+
 #[tactic(auto, using(crate::proofs::SafeLemmas::unchanged))]
 fn safe_text(alloc: Global, text: &str) -> Result<String, AllocError>
     ensures { IfOk result (λ s. string_bytes s ≡ safe text.now) }

@@ -8,7 +8,8 @@ use Rattle.csvw_meta_core.specs.Links.{id}
 use Rattle.csvw_meta_notes.specs.Unlisted.{unlisted}
 use Rattle.csvw_meta_inherited.specs.declared.context.Context.{Context}
 use Rattle.csvw_meta.specs.DeclaredName.{name}
-use Rattle.csvw_meta_inherited.specs.Inherited.{inherited, no_inherited}
+use Rattle.csvw_description.specs.Inherited.{no_inherited}
+use Rattle.csvw_meta_inherited.specs.Inherited.{inherited}
 use Rattle.csvw_meta_inherited.specs.Names.{column_names, inherited_names, place_of}
 use Rattle.csvw_meta.specs.Titles.{titles}
 

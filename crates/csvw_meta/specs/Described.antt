@@ -17,7 +17,7 @@ use Rattle.csvw_meta.specs.declared.group.GroupFound.{GroupFound}
 use Rattle.csvw_meta.specs.declared.table.TableFound.{TableFound}
 use Rattle.csvw_meta_inherited.specs.Context.{context, context_value}
 use Rattle.csvw_meta.specs.Group.{group, description_of, no_group}
-use Rattle.csvw_meta_inherited.specs.Inherited.{no_inherited}
+use Rattle.csvw_description.specs.Inherited.{no_inherited}
 use Rattle.csvw_meta.specs.References.{table_at, reference_faults}
 use Rattle.csvw_meta.specs.Table.{table_of}
 

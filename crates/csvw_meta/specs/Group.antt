@@ -15,7 +15,7 @@ use Rattle.csvw_meta_inherited.specs.declared.context.Context.{Context}
 use Rattle.csvw_meta.specs.declared.group.GroupFound.{GroupFound}
 use Rattle.csvw_meta.specs.declared.table.TableFound.{TableFound}
 use Rattle.csvw_meta.specs.Body.{given_dialect, body}
-use Rattle.csvw_meta_inherited.specs.Inherited.{no_inherited}
+use Rattle.csvw_description.specs.Inherited.{no_inherited}
 use Rattle.csvw_meta_inherited.specs.Names.{group_names, inherited_names, place_of}
 use Rattle.csvw_meta.specs.Repeated.{repeated}
 use Rattle.csvw_meta.specs.Several.{several}

@@ -19,7 +19,8 @@ use Rattle.csvw_meta_inherited.specs.declared.context.Context.{Context}
 use Rattle.csvw_meta_inherited.specs.declared.inherited.InheritedFound.{InheritedFound}
 use Rattle.csvw_meta.specs.declared.schema.SchemaFound.{SchemaFound}
 use Rattle.csvw_meta.specs.Column.{column}
-use Rattle.csvw_meta_inherited.specs.Inherited.{inherited, no_inherited}
+use Rattle.csvw_description.specs.Inherited.{no_inherited}
+use Rattle.csvw_meta_inherited.specs.Inherited.{inherited}
 use Rattle.csvw_meta_inherited.specs.Names.{schema_names, inherited_names, place_of}
 use Rattle.csvw_meta.specs.NamesRead.{name_known}
 use Rattle.csvw_meta.specs.Repeated.{repeated}

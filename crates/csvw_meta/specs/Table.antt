@@ -9,7 +9,7 @@ use Rattle.csvw_meta_notes.specs.Unlisted.{all_notes, all_warnings}
 use Rattle.csvw_meta_inherited.specs.declared.context.Context.{Context}
 use Rattle.csvw_meta.specs.declared.table.TableFound.{TableFound}
 use Rattle.csvw_meta.specs.Body.{given_dialect, body}
-use Rattle.csvw_meta_inherited.specs.Inherited.{no_inherited}
+use Rattle.csvw_description.specs.Inherited.{no_inherited}
 use Rattle.csvw_meta_inherited.specs.Names.{table_names, sole_table_names, inherited_names, place_of}
 
 -- the properties of a table that is the document, and of another

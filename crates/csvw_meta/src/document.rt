@@ -12,7 +12,7 @@ use crate::group::{GroupFound, description_of, read_group};
 use crate::json::{document_fault, json_of, without_bom};
 use crate::references::check_references;
 use crate::table::table_of;
-use csvw_description::{Description, Inherited};
+use csvw_description::{Description, no_inherited};
 use csvw_iri::{Base, IriFault};
 use csvw_meta_core::{MetaCode, MetaFault, Part, Pointer, Refusal};
 use csvw_meta_datatype::datatypes_fit;
@@ -40,18 +40,7 @@ fn of_table(context: &Context, part: &Part) -> Result<GroupFound, Refusal>
         body: Body {
             schema: None,
             keys: None,
-            inherited: Inherited {
-                about_url: None,
-                property_url: None,
-                value_url: None,
-                datatype: None,
-                default: None,
-                lang: None,
-                null: None,
-                ordered: None,
-                required: None,
-                separator: None,
-            },
+            inherited: no_inherited(),
             warnings: Seq::new(part.alloc),
         },
         notes: Seq::new(part.alloc),

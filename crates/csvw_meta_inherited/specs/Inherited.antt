@@ -1,7 +1,6 @@
 -- The inherited properties of an object (Metadata Vocabulary for Tabular Data, section 5.7).
-use Rattle.std.specs.Prelude.{ℕ, List, None, codes}
+use Rattle.std.specs.Prelude.{ℕ, List, codes}
 use Rattle.serde_json.specs.Data.{Data}
-use Rattle.csvw_description.specs.declared.inherited.Inherited.{Inherited}
 use Rattle.csvw_meta_core.specs.declared.fault.MetaCode.TheVariants.{BadProperty}
 use Rattle.csvw_meta_core.specs.Read.{Read, fine, ◌>>=◌, optional, or_null}
 use Rattle.csvw_meta_core.specs.Kinds.{truth, text, some_text, texts, language}
@@ -9,20 +8,6 @@ use Rattle.csvw_meta_inherited.specs.declared.context.Context.{Context}
 use Rattle.csvw_meta_inherited.specs.declared.inherited.InheritedFound.{InheritedFound}
 use Rattle.csvw_meta_inherited.specs.Datatype.{given_datatype}
 use Rattle.csvw_meta_inherited.specs.TemplateText.{template_text}
-
-abbrev pub no_inherited : Inherited
-no_inherited = record {
-  about_url = None;
-  property_url = None;
-  value_url = None;
-  datatype = None;
-  default = None;
-  lang = None;
-  null = None;
-  ordered = None;
-  required = None;
-  separator = None;
-}
 
 -- The inherited properties of the column of this number, of the table of that number, 0 for none and for the group.
 unfoldable pub inherited : Context → ℕ → ℕ → List ℕ → Data → Read InheritedFound

@@ -1,4 +1,3 @@
 pub mod AddsLemmas
 pub mod FitsLemmas
 pub mod ReadLemmas
-pub mod SafeLemmas

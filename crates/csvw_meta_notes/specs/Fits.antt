@@ -4,7 +4,7 @@ use Rattle.csvw_description.specs.declared.note.Note.{Note}
 use Rattle.csvw_description.specs.declared.note.NoteLiteral.{NoteLiteral}
 use Rattle.csvw_description.specs.declared.note.NoteObject.{roll-NoteObject}
 use Rattle.csvw_description.specs.declared.note.NoteValue.{Literal, Object}
-use Rattle.csvw_meta_notes.specs.Vocabulary.{lang_string}
+use Rattle.csvw_iri.specs.Vocabulary.{lang_string}
 
 abbrev pub IsFitLiteral : NoteLiteral → Type 0
 IsFitLiteral l = (language : List ℕ) → l.language ≡ Some language → l.datatype ≡ lang_string

@@ -5,7 +5,7 @@ use Rattle.serde_json.specs.Data.{Num, unsigned, negative, float, Data, null, bo
 use Rattle.csvw_meta_core.specs.declared.fault.MetaCode.TheVariants.{NotSupported}
 use Rattle.csvw_meta_core.specs.Read.{Read, fine, faulty, wrong}
 use Rattle.csvw_description.specs.declared.note.NoteLiteral.{NoteLiteral}
-use Rattle.csvw_meta_notes.specs.Vocabulary.{xsd_string, xsd_integer, xsd_boolean, lang_string}
+use Rattle.csvw_iri.specs.Vocabulary.{xsd_string, xsd_integer, xsd_boolean, lang_string}
 
 -- a literal of a datatype
 abbrev pub typed : List ℕ → List ℕ → NoteLiteral

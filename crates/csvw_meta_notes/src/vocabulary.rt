@@ -1,9 +1,9 @@
 //! The IRIs that every annotation may name.
-ghost use Rattle.std.specs.Prelude.{◌≡◌, IfOk, true};
-ghost use Rattle.csvw_iri.specs.Safe.{is_iri};
-ghost use Rattle.csvw_meta_notes.specs.Vocabulary.{xsd_string, xsd_integer, xsd_boolean, lang_string, csvw_note};
+ghost use Rattle.std.specs.Prelude.{◌≡◌};
+ghost use Rattle.csvw_iri.specs.Vocabulary.{xsd_string, xsd_integer, xsd_boolean, lang_string};
+ghost use Rattle.csvw_meta_notes.specs.Vocabulary.{csvw_note};
 
-use csvw_iri::{Iri, made_safe};
+use csvw_iri::{Iri, named};
 use std::alloc::{AllocError, Global};
 
 /// IRIs that every annotation may name.
@@ -24,14 +24,6 @@ pub(crate) struct Vocabulary {
     pub(crate) ghost is_boolean: { boolean ≡ xsd_boolean },
     pub(crate) ghost is_tagged: { tagged ≡ lang_string },
     pub(crate) ghost is_note: { note ≡ csvw_note },
-}
-
-/// The IRI that a text is, whose characters all stand raw; `AllocError` where there is no memory.
-fn named(alloc: Global, text: &str) -> Result<Iri, AllocError>
-    requires { is_iri text.now ≡ true }
-    ensures { IfOk result (λ iri. iri ≡ text.now) }
-{
-    made_safe(alloc, text)
 }
 
 impl Vocabulary {

@@ -2,7 +2,7 @@
 use Rattle.std.proofs.Common.{◌≡◌, ℕ, List, [], ◌∷◌, ◌++◌, refl, sym, ap, ◌∙◌, subst, Option, Some, None, Bor, Result, Err, inl, inr}
 use Rattle.std.specs.Prelude.{codes, encode_utf8_all}
 use Rattle.csvw_text.specs.Language.{is_language_tag}
-use Rattle.csvw_triples_core.specs.Vocabulary.{lang_string, xsd_string}
+use Rattle.csvw_iri.specs.Vocabulary.{lang_string, xsd_string}
 use Rattle.csvw_ntriples.specs.Character.{is_blank}
 use Rattle.csvw_ntriples.specs.Terminal.{InBytes, IsString, IsLangtag}
 use Rattle.csvw_ntriples.specs.Grammar.{Takes, IsMark, TakesIri, TakesBlank, TakesNode, TakesSuffix, TakesLit, TakesTerm, IsIdle, IsTripleLine}

@@ -11,7 +11,7 @@ use Rattle.std.proofs.lemmas.Bool.Decides.{nat_tests, Decides-eqb}
 use Rattle.std.proofs.lemmas.List.Folds.{list_all-append}
 use Rattle.csvw_text.specs.Language.{is_letter_or_digit_char}
 use Rattle.csvw_iri.specs.Safe.{is_iri}
-use Rattle.csvw_triples_core.specs.Vocabulary.{xsd_string, lang_string}
+use Rattle.csvw_iri.specs.Vocabulary.{xsd_string, lang_string}
 use Rattle.csvw_triples_core.specs.declared.origin.Origin.{Origin}
 use Rattle.csvw_triples_core.specs.declared.term.Node.{Node}
 use Rattle.csvw_triples_core.specs.declared.term.Node.TheVariants as node

@@ -1,7 +1,7 @@
 -- N-Triples (RDF 1.1 N-Triples, sections 2 and 7): which lists of triples a text denotes.
 use Rattle.std.specs.Prelude.{ℕ, ◌≡◌, List, [], ◌∷◌, ◌++◌, IsTrue, ◌⊎◌, Option, Some, None, codes, chars, IsUtf8}
 use Rattle.std.specs.List.{slice_split, list_all}
-use Rattle.csvw_triples_core.specs.Vocabulary.{lang_string, xsd_string}
+use Rattle.csvw_iri.specs.Vocabulary.{lang_string, xsd_string}
 use Rattle.csvw_ntriples.specs.Character.{is_break, is_blank}
 use Rattle.csvw_ntriples.specs.Terminal.{InBytes, IsString, IsIriref, IsLangtag, IsBlankNode}
 use Rattle.csvw_ntriples.specs.declared.term.NtNode.{NtNode}

@@ -9,7 +9,7 @@ use Rattle.csvw_triples_core.specs.declared.term.Lit.{Lit}
 use Rattle.csvw_triples_core.specs.declared.term.Term.{Term}
 use Rattle.csvw_triples_core.specs.declared.term.Term.TheVariants as term
 use Rattle.csvw_triples_core.specs.declared.term.Triple.{Triple}
-use Rattle.csvw_triples_core.specs.Vocabulary.{xsd_string}
+use Rattle.csvw_iri.specs.Vocabulary.{xsd_string}
 use Rattle.csvw_ntriples.specs.declared.term.NtNode.{NtNode}
 use Rattle.csvw_ntriples.specs.declared.term.NtNode.TheVariants as nt_node
 use Rattle.csvw_ntriples.specs.declared.term.NtLit.{NtLit}

@@ -1,10 +1,9 @@
 //! The IRIs that the triples of groups and tables name.
 ghost use Rattle.std.specs.Prelude.{◌≡◌};
 ghost use Rattle.csvw_triples.specs.CsvwVocabulary.{rdf_type, group_class, table_class, table_of_group, csvw_url};
-ghost use Rattle.csvw_triples_core.specs.Vocabulary.{lang_string};
+ghost use Rattle.csvw_iri.specs.Vocabulary.{lang_string};
 
-use csvw_iri::Iri;
-use csvw_triples::named;
+use csvw_iri::{Iri, named};
 use std::alloc::{AllocError, Global};
 
 /// IRIs that triples name, whatever their group and its tables are (CSVW Namespace Vocabulary Terms).

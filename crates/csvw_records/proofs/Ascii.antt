@@ -128,7 +128,7 @@ last_cr d (c ∷ []) = by_test (d.line_terminators.crlf && (c == 13)) refl
         inr (p.0, ([], ap (λ k. k ∷ []) x))
 last_cr d (c ∷ e ∷ cs) = elim (last_cr d (e ∷ cs)) [
   | inl h ↦ inl h
-  | inr h ↦ inr (h.0, (c ∷ h.1.0, ap (λ l. c ∷ l) h.1.1))
+  | inr (crlf, (front, split)) ↦ inr (crlf, (c ∷ front, ap (λ l. c ∷ l) split))
 ]
 
 last_byte : (xs : List ℕ) (n : ℕ) (l : List ℕ) → l ≡ xs ++ 13 ∷ [] → length l ≡ n → (0 < n) × (get_or l (n - 1) 0 ≡ 13)
@@ -140,11 +140,11 @@ pub no_cr : (d : Dialect) (l : List ℕ) → IsUtf8 l → (d.line_terminators.cr
     → unsettled d (chars l) ≡ []
 no_cr d l u none = elim (last_cr d (chars l)) [
   | inl h ↦ h
-  | inr h ↦
-      let spelled : l ≡ encode_utf8_all h.1.0 ++ 13 ∷ [] = sym (encodes-chars l u) ∙ ap encode_utf8_all h.1.1 ∙ encodes-append h.1.0 (13 ∷ [])
-      ∙ ap (λ l. encode_utf8_all h.1.0 ++ (l ++ [])) (encode_ascii 13 (omega arith)) in
-      let b = last_byte (encode_utf8_all h.1.0) (length l) l spelled refl in
-      absurd (none h.0 b.0 b.1)
+  | inr (crlf, (front, split)) ↦
+      let spelled : l ≡ encode_utf8_all front ++ 13 ∷ [] = sym (encodes-chars l u) ∙ ap encode_utf8_all split ∙ encodes-append front (13 ∷ [])
+      ∙ ap (λ l. encode_utf8_all front ++ (l ++ [])) (encode_ascii 13 (omega arith)) in
+      let b = last_byte (encode_utf8_all front) (length l) l spelled refl in
+      absurd (none crlf b.0 b.1)
 ]
 
 -- a text is empty where it has no characters

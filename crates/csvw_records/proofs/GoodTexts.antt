@@ -105,7 +105,7 @@ all_valid bytes e =
 
 -- bytes that go on to a text end at most inside a character
 ends_inside : (bytes more : List ℕ) → is_text (bytes ++ more) ≡ true → is_text bytes ≡ false → IsCut (drop (utf8_valid_len bytes) bytes)
-ends_inside bytes more whole none = cut_text rest more tail.0 some tail.1.0 tail.1.1 fronts
+ends_inside bytes more whole none = cut tail
   where
     n : ℕ
     n = utf8_valid_len bytes
@@ -153,6 +153,9 @@ ends_inside bytes more whole none = cut_text rest more tail.0 some tail.1.0 tail
         take_on [] = ap (λ j. take j rest) (let e : length (let e : List ℕ = [] in e) + k ≡ k = omega arith in e)
         take_on (x ∷ xs) = ap (λ j. take j (x ∷ xs ++ rest)) (let e : length (x ∷ xs) + k ≡ suc (length xs + k) = omega arith in e)
             ∙ ap (λ l. x ∷ l) (take_on xs)
+
+    cut : IsUtf8 (rest ++ more) → IsCut rest
+    cut (cs, (are_scalars, spelled)) = cut_text rest more cs some are_scalars spelled fronts
 
 -- a file begins one
 file_begins : (d : Dialect) (max : ℕ) (bytes : List ℕ) (rows : List Row) → IsLawful d → File d max bytes rows → Begins d max (content bytes)

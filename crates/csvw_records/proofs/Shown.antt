@@ -147,10 +147,11 @@ module _ (d : Dialect) (i : ℕ) (text : List ℕ) (stop : RowStop) (at : ℕ) (
           ]
           by_here (inr (f, c)) count = elim (cases_lt 0 (length (unsettled d part))) [
             | inl some ↦
-                let u = unsettled_cr d part some in
+                let one = unsettled_cr d part some in
+                let is_cr = one.1 in
                 let m = take_len len text w in
-                let place : length part - 1 ≡ at = omega (arith, u.0, f, past, count, m) in
-                c (u.1.0, sym (get_take len at text (omega (arith, f, past))) ∙ ap (λ n. get_or part n 0) (sym place) ∙ u.1.1)
+                let place : length part - 1 ≡ at = omega (arith, one.0, f, past, count, m) in
+                c (is_cr.0, sym (get_take len at text (omega (arith, f, past))) ∙ ap (λ n. get_or part n 0) (sym place) ∙ is_cr.1)
             | inr no_one ↦ omega (arith, f, past, count, no_one)
           ]
 

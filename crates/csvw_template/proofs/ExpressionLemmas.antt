@@ -102,13 +102,12 @@ Answers inner (Err BadTemplate) = Unit {0}
 Answers inner (Err TemplateLevel) = IsHigher inner
 
 of_kind : (operator : Operator) (text : List ℕ) (k : Kind) → Tells text k → Answers (mark operator ++ text) (by_kind k operator text)
-of_kind operator text Names t =
-    let same : slice_split is_comma text ≡ t.0 = ap (slice_split is_comma) t.2 ∙ split_listed t.0 t.1 in
-    (subst AreNames (sym same) t.1, ap (λ x. mark operator ++ x) (t.2 ∙ ap listed (sym same)))
-of_kind operator text Higher t =
-    let names = t.5.0 in
-    by_modifier operator names t.1 t.2 t.5.1 t.4
-    (ap (λ x. mark operator ++ x) (t.3 ∙ ap (λ x. x ++ t.1 ∷ t.2) t.5.2) ∙ sym (append_assoc (mark operator) (listed names) (t.1 ∷ t.2)))
+of_kind operator text Names (names, are_names, is_listed) =
+    let same : slice_split is_comma text ≡ names = ap (slice_split is_comma) is_listed ∙ split_listed names are_names in
+    (subst AreNames (sym same) are_names, ap (λ x. mark operator ++ x) (is_listed ∙ ap listed (sym same)))
+of_kind operator text Higher (front, b, more, split, is_modifier, (names, are_names, is_listed)) =
+    by_modifier operator names b more are_names is_modifier
+    (ap (λ x. mark operator ++ x) (split ∙ ap (λ x. x ++ b ∷ more) is_listed) ∙ sym (append_assoc (mark operator) (listed names) (b ∷ more)))
 of_kind operator text Bad t = tt
 
 pub answers : (inner : List ℕ) → Answers inner (expression inner)

@@ -69,8 +69,8 @@ literal_first Begins front text h x =
 
 -- a literal in front
 literal_found : (front text : List ℕ) (r : Parts) → HasNoBrace front → FoundOpen text r → Found (front ++ text) (r >>= λ ps. Ok (literal front ++ ps))
-literal_found front text (Ok parts) h x =
-    (are_joined front parts h x.0.0 x.1, ap (λ y. front ++ y) x.0.1 ∙ sym (joined_spelled front parts))
+literal_found front text (Ok parts) h ((are_parts, spelled), opens) =
+    (are_joined front parts h are_parts opens, ap (λ y. front ++ y) spelled ∙ sym (joined_spelled front parts))
 literal_found front text (Err Memory) h x = absurd x
 literal_found front text (Err TooLong) h x = absurd x
 literal_found front text (Err BadTemplate) h x = literal_first BeginsBad front text h x

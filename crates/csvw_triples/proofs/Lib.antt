@@ -1,6 +1,5 @@
 pub mod Emitting
 pub mod Runs
-pub mod RdfLemmas
 pub mod Graphs
 pub mod FormsLemmas
 pub mod Fragments

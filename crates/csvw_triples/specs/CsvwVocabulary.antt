@@ -1,4 +1,4 @@
--- IRIs that the triples of standard mode name (CSVW Namespace Vocabulary Terms; RDF Schema 1.1; XML Schema).
+-- IRIs that the triples of standard mode name (CSVW Namespace Vocabulary Terms; RDF Schema 1.1).
 use Rattle.std.specs.Prelude.{ℕ, List, codes}
 
 -- csvw:table, from a group to its tables
@@ -36,7 +36,3 @@ csvw_describes = codes "http://www.w3.org/ns/csvw#describes"
 -- rdf:type
 abbrev pub rdf_type : List ℕ
 rdf_type = codes "http://www.w3.org/1999/02/22-rdf-syntax-ns#type"
-
--- xsd:integer
-abbrev pub xsd_integer : List ℕ
-xsd_integer = codes "http://www.w3.org/2001/XMLSchema#integer"

@@ -7,7 +7,7 @@ use Rattle.csvw_cell.specs.Codes.{is_string}
 use Rattle.csvw_cell.specs.declared.cell.Item.{Item}
 use Rattle.csvw_triples_core.specs.declared.term.Lit.{Lit}
 use Rattle.csvw_triples_core.specs.Literal.{typed_lit, tagged_lit}
-use Rattle.csvw_triples_core.specs.Vocabulary.{xsd_string}
+use Rattle.csvw_iri.specs.Vocabulary.{xsd_string}
 
 -- a column of texts has a language where one is known and its datatype has no `@id`
 abbrev pub has_language : Properties → Bool

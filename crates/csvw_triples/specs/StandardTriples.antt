@@ -1,6 +1,7 @@
 -- The triples of a row in standard mode, in their order (csv2rdf, section 4.2).
 use Rattle.std.specs.Prelude.{ℕ, Bool, true, false, List, [], ◌∷◌, ◌++◌, Option, Some, None, codes, decimal, bytes_eq, if◌then◌else◌}
 use Rattle.std.specs.List.{zip}
+use Rattle.csvw_iri.specs.Vocabulary.{xsd_integer}
 use Rattle.csvw_iri.specs.Link.{iri_of}
 use Rattle.csvw_columns_core.specs.declared.column.Column.{Column}
 use Rattle.csvw_columns_core.specs.declared.columns.Columns.{Columns}
@@ -14,7 +15,7 @@ use Rattle.csvw_triples_core.specs.declared.term.Term.TheVariants as term
 use Rattle.csvw_triples_core.specs.declared.term.Triple.{Triple}
 use Rattle.csvw_triples_core.specs.Literal.{typed_lit}
 use Rattle.csvw_triples.specs.RowTriples.{triple, subject_of, cell_triples}
-use Rattle.csvw_triples.specs.CsvwVocabulary.{row_of_table, row_class, csvw_rownum, csvw_url, csvw_describes, rdf_type, xsd_integer}
+use Rattle.csvw_triples.specs.CsvwVocabulary.{row_of_table, row_class, csvw_rownum, csvw_url, csvw_describes, rdf_type}
 
 -- a table: its `@id`, else its blank node
 abbrev pub table_node : ℕ → Option (List ℕ) → Node

@@ -1,9 +1,9 @@
 //! The IRIs that the triples of standard mode name.
 ghost use Rattle.std.specs.Prelude.{◌≡◌};
-ghost use Rattle.csvw_triples.specs.CsvwVocabulary.{row_of_table, row_class, csvw_rownum, csvw_url, csvw_describes, rdf_type, xsd_integer};
+ghost use Rattle.csvw_iri.specs.Vocabulary.{xsd_integer};
+ghost use Rattle.csvw_triples.specs.CsvwVocabulary.{row_of_table, row_class, csvw_rownum, csvw_url, csvw_describes, rdf_type};
 
-use crate::rdf::named;
-use csvw_iri::Iri;
+use csvw_iri::{Iri, named};
 use std::alloc::{AllocError, Global};
 
 /// IRIs that triples name in standard mode, whatever their rows are (CSVW Namespace Vocabulary Terms).

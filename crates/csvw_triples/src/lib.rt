@@ -18,5 +18,4 @@ pub use laws::{
     annotated_rows_have_forms, row_triples_are_row_graph, rows_triples_are_table_graph,
 };
 pub use putting::put_all;
-pub use rdf::named;
 pub use standard::table_node;

@@ -1,10 +1,9 @@
 //! The IRIs of RDF that triples name.
-ghost use Rattle.std.specs.Prelude.{◌≡◌, IfOk, true};
-ghost use Rattle.csvw_iri.specs.Safe.{is_iri};
-ghost use Rattle.csvw_triples_core.specs.Vocabulary.{lang_string, xsd_string};
+ghost use Rattle.std.specs.Prelude.{◌≡◌};
+ghost use Rattle.csvw_iri.specs.Vocabulary.{lang_string, xsd_string};
 ghost use Rattle.csvw_triples.specs.Vocabulary.{rdf_first, rdf_rest, rdf_nil};
 
-use csvw_iri::{Iri, made_safe};
+use csvw_iri::{Iri, named};
 use std::alloc::{AllocError, Global};
 
 /// IRIs that triples name whatever their columns are.
@@ -25,14 +24,6 @@ pub struct RdfNames {
     pub ghost is_nil: { nil ≡ rdf_nil },
     pub ghost is_tagged: { tagged ≡ lang_string },
     pub ghost is_string: { string ≡ xsd_string },
-}
-
-/// The IRI that a text is, whose characters all stand raw; `AllocError` where there is no memory.
-pub fn named(alloc: Global, text: &str) -> Result<Iri, AllocError>
-    requires { is_iri text.now ≡ true }
-    ensures { IfOk result (λ iri. iri ≡ text.now) }
-{
-    made_safe(alloc, text)
 }
 
 impl RdfNames {

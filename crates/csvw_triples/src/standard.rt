@@ -3,7 +3,8 @@ ghost use Rattle.std.specs.Prelude.{◌≡◌, [], ◌∷◌, ◌++◌, IfOk, On
 ghost use Rattle.std.specs.List.{zip};
 ghost use Rattle.csvw_triples_core.specs.Literal.{typed_lit};
 ghost use Rattle.csvw_triples_core.specs.Taking.{FrontOf, Ends};
-ghost use Rattle.csvw_triples.specs.CsvwVocabulary.{row_of_table, xsd_integer};
+ghost use Rattle.csvw_iri.specs.Vocabulary.{xsd_integer};
+ghost use Rattle.csvw_triples.specs.CsvwVocabulary.{row_of_table};
 ghost use Rattle.csvw_triples.specs.HasForms.{CellsHaveForms, HasForms, ValueHasForms};
 ghost use Rattle.csvw_triples.specs.Puts.{Puts};
 ghost use Rattle.csvw_triples.specs.RowTriples.{subject_of};

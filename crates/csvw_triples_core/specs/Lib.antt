@@ -1,4 +1,3 @@
 pub mod Literal
 pub mod Taking
 pub mod VecSink
-pub mod Vocabulary

@@ -2,7 +2,7 @@
 use Rattle.std.specs.Prelude.{◌≡◌, ℕ, List, Bool, true, false, Some, None, refl}
 use Rattle.std.proofs.Common.{subst}
 use Rattle.csvw_triples_core.specs.declared.term.Lit.{Lit}
-use Rattle.csvw_triples_core.specs.Vocabulary.{lang_string}
+use Rattle.csvw_iri.specs.Vocabulary.{lang_string}
 
 abbrev pub IfFalse : Bool → Type 0
 IfFalse true = ⊥

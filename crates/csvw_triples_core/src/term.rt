@@ -1,6 +1,6 @@
 //! Terms and triples (RDF 1.1 Concepts and Abstract Syntax, section 3).
 ghost use Rattle.std.specs.Prelude.{◌≡◌, IfOk, is_some, true};
-ghost use Rattle.csvw_triples_core.specs.Vocabulary.{lang_string};
+ghost use Rattle.csvw_iri.specs.Vocabulary.{lang_string};
 
 use crate::Origin;
 use csvw_iri::Iri;

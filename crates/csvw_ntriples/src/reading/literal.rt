@@ -1,6 +1,6 @@
 //! Literals at the front of a text.
 ghost use Rattle.std.specs.Prelude.{◌≡◌, IfOk, Some, None};
-ghost use Rattle.csvw_triples_core.specs.Vocabulary.{lang_string, xsd_string};
+ghost use Rattle.csvw_iri.specs.Vocabulary.{lang_string, xsd_string};
 ghost use Rattle.csvw_ntriples.specs.Grammar.{TakesLit, TakesSuffix};
 ghost use Rattle.csvw_ntriples.specs.Reading.{FindsBeforeDot};
 

@@ -16,6 +16,6 @@ returns-in-Some c =
     let on : goes_on (Some place) more ≡ c.goes_on.result = ap (goes_on (Some place)) (sym c.as_bytes.ensures.value) ∙ sym c.goes_on.ensures in
     let behind : c.goes_on.result ≡ true → GoesOn text = λ goes. goes_behind front place more text is_front split (on ∙ goes) in
     record {
-      link = λ goes. own_link text (behind goes).0 (behind goes).1.0 (behind goes).1.1 (grind (arith, nat_tests));
-      raw = λ goes. own_raw text (behind goes).0 (behind goes).1.0 (behind goes).1.1;
+      link = λ goes. own_link text (behind goes).rest (behind goes).of_scheme (behind goes).goes (grind (arith, nat_tests));
+      raw = λ goes. own_raw text (behind goes).rest (behind goes).of_scheme (behind goes).goes;
     }
