@@ -31,7 +31,7 @@ pub struct OpeningNames {
 
 impl OpeningNames {
     /// The names; `AllocError` where there is no memory.
-    pub fn new(alloc: Global) -> Result<OpeningNames, AllocError> {
+    pub(crate) fn new(alloc: Global) -> Result<OpeningNames, AllocError> {
         let kind = named(alloc, "http://www.w3.org/1999/02/22-rdf-syntax-ns#type")?;
         let group = named(alloc, "http://www.w3.org/ns/csvw#TableGroup")?;
         let member = named(alloc, "http://www.w3.org/ns/csvw#table")?;

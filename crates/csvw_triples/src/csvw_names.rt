@@ -34,7 +34,7 @@ pub struct CsvwNames {
 
 impl CsvwNames {
     /// The names; `AllocError` where there is no memory.
-    pub fn new(alloc: Global) -> Result<CsvwNames, AllocError> {
+    pub(crate) fn new(alloc: Global) -> Result<CsvwNames, AllocError> {
         let kind = named(alloc, "http://www.w3.org/1999/02/22-rdf-syntax-ns#type")?;
         let member = named(alloc, "http://www.w3.org/ns/csvw#row")?;
         let class = named(alloc, "http://www.w3.org/ns/csvw#Row")?;

@@ -28,7 +28,7 @@ pub struct RdfNames {
 
 impl RdfNames {
     /// The names; `AllocError` where there is no memory.
-    pub fn new(alloc: Global) -> Result<RdfNames, AllocError> {
+    pub(crate) fn new(alloc: Global) -> Result<RdfNames, AllocError> {
         let first = named(alloc, "http://www.w3.org/1999/02/22-rdf-syntax-ns#first")?;
         let rest = named(alloc, "http://www.w3.org/1999/02/22-rdf-syntax-ns#rest")?;
         let nil = named(alloc, "http://www.w3.org/1999/02/22-rdf-syntax-ns#nil")?;

@@ -81,6 +81,57 @@ fn files<'a>(alloc: Global) -> Arg<'a>
         .help("The CSV file of each table, in the order of the metadata")
 }
 
+fn meta<'a>(alloc: Global) -> Arg<'a>
+    ensures rule { rule_of result ≡ required_rule (codes "META") }
+    ensures local { result.global ≡ false }
+{
+    required_word(alloc, META, "The file with the metadata document")
+}
+
+fn turns<'a>(alloc: Global) -> Arg<'a>
+    ensures rule { rule_of result ≡ flag_rule (codes "turns") }
+    ensures local { result.global ≡ false }
+{
+    flag(
+        alloc,
+        TURNS,
+        "Reads a piece of each file in turn, as in `csvw convert --turns --base URL t.json a.csv b.csv`; the graph and the report are the same",
+    )
+}
+
+fn minimal<'a>(alloc: Global) -> Arg<'a>
+    ensures rule { rule_of result ≡ flag_rule (codes "minimal") }
+    ensures local { result.global ≡ false }
+{
+    flag(
+        alloc,
+        MINIMAL,
+        "Tells of the cells alone, as in `csvw convert --minimal --base http://example.org/t.json t.json t.csv`",
+    )
+}
+
+fn url<'a>(alloc: Global) -> Arg<'a>
+    ensures rule { rule_of result ≡ required_rule (codes "URL") }
+    ensures local { result.global ≡ false }
+{
+    required_word(
+        alloc,
+        URL,
+        "The absolute URL of the table; its columns' predicates begin with it",
+    )
+}
+
+fn file<'a>(alloc: Global) -> Arg<'a>
+    ensures rule { rule_of result ≡ required_rule (codes "FILE") }
+    ensures local { result.global ≡ false }
+{
+    required_word(
+        alloc,
+        FILE,
+        "The CSV file: UTF-8, with one header row that names the columns",
+    )
+}
+
 /// A subcommand on a group of tables.
 fn group_command<'a>(
     alloc: Global,
@@ -90,18 +141,12 @@ fn group_command<'a>(
     ensures app { IfOk result (λ command. app_of command ≡ group_app name.entry.now) }
     ensures local { IfOk result (λ command. (out-Command command).has_globals ≡ false) }
 {
-    let meta = required_word(alloc, META, "The file with the metadata document");
-    let turns = flag(
-        alloc,
-        TURNS,
-        "Reads a piece of each file in turn, as in `csvw convert --turns --base URL t.json a.csv b.csv`; the graph and the report are the same",
-    );
     Command::new(alloc, name)
         .about(about)
         .arg(base(alloc))?
-        .arg(meta)?
+        .arg(meta(alloc))?
         .arg(files(alloc))?
-        .arg(turns)
+        .arg(turns(alloc))
 }
 
 fn validate_command<'a>(alloc: Global) -> Result<Command<'a>, AllocError>
@@ -119,17 +164,12 @@ fn convert_command<'a>(alloc: Global) -> Result<Command<'a>, AllocError>
     ensures app { IfOk result (λ command. app_of command ≡ convert_app) }
     ensures local { IfOk result (λ command. (out-Command command).has_globals ≡ false) }
 {
-    let minimal = flag(
-        alloc,
-        MINIMAL,
-        "Tells of the cells alone, as in `csvw convert --minimal --base http://example.org/t.json t.json t.csv`",
-    );
     group_command(
         alloc,
         CONVERT,
         "Converts the tables of a metadata document to N-Triples on standard output",
     )?
-    .arg(minimal)?
+    .arg(minimal(alloc))?
     .arg(line_buffered(alloc))
 }
 
@@ -137,20 +177,10 @@ fn plain_command<'a>(alloc: Global) -> Result<Command<'a>, AllocError>
     ensures app { IfOk result (λ command. app_of command ≡ plain_app) }
     ensures local { IfOk result (λ command. (out-Command command).has_globals ≡ false) }
 {
-    let url = required_word(
-        alloc,
-        URL,
-        "The absolute URL of the table; its columns' predicates begin with it",
-    );
-    let file = required_word(
-        alloc,
-        FILE,
-        "The CSV file: UTF-8, with one header row that names the columns",
-    );
     Command::new(alloc, PLAIN)
         .about("Converts one CSV file without metadata to N-Triples on standard output")
-        .arg(url)?
-        .arg(file)?
+        .arg(url(alloc))?
+        .arg(file(alloc))?
         .arg(line_buffered(alloc))
 }
 
