@@ -1,4 +1,5 @@
-"""Tells which files of specs/ docs/DEFINITIONS.md doesn't name, and which of its rows name a crate that isn't there.
+"""Tells which files of specs/ docs/DEFINITIONS.md doesn't name, which of its rows name a crate or a file that isn't there, and
+which of its lines between two rows is none.
 Usage: python3 docs/check_definitions.py. It prints one line for each, and ends with 1 where there is one."""
 
 import pathlib
@@ -24,6 +25,11 @@ def main():
                 found.append(f"crates/{crate}/specs/{file.name} isn't named")
     for crate in sorted(set(re.findall(r"\bcsvw_[a-z_]+\b", text)) - set(crates)):
         found.append(f"{crate} is no crate")
+    for crate, file in re.findall(r"(?m)^\| (csvw\w*) \| (\w+) \|", text):
+        if not (TOP / "crates" / crate / "specs" / f"{file}.antt").is_file():
+            found.append(f"crates/{crate}/specs/{file}.antt isn't there")
+    for line in re.findall(r"(?<=\|\n)([^|\n].*)(?=\n\|)", text):
+        found.append(f"{line} is no row")
     print("\n".join(found) or "each file of specs/ is named")
     sys.exit(1 if found else 0)
 
