@@ -6,7 +6,7 @@ use Rattle.csvw_text.specs.declared.fault.Fault.{Fault}
 use Rattle.csvw_text.specs.declared.fault.Code.{Code}
 use Rattle.csvw_text.specs.declared.fault.Code.TheVariants.{HeaderMissing, HeaderCount, HeaderMismatch}
 use Rattle.csvw_text.specs.declared.fault.Kind.TheVariants.{Error}
-use Rattle.csvw_description.specs.Name.{encoded}
+use Rattle.csvw_iri.specs.Encoded.{percent_encoded}
 use Rattle.csvw_columns_core.specs.Columns.{field_count}
 use Rattle.csvw_columns_core.specs.declared.column.Column.{Column}
 use Rattle.csvw_columns_core.specs.declared.header.HeaderRow.{HeaderRow}
@@ -23,9 +23,9 @@ cell_at row i = slice_index_or row.cells i []
 abbrev pub has_title : List (List ℕ) → List HeaderRow → ℕ → Bool
 has_title titles rows i = list_any (λ row. list_any (λ title. bytes_eq title (cell_at row i)) titles) rows
 
--- the header cells of the column at this place, each encoded as a name
+-- the header cells of the column at this place, each percent-encoded as a name is
 abbrev pub encoded_cells : List HeaderRow → ℕ → List (List ℕ)
-encoded_cells rows i = map (λ row. encoded (cell_at row i)) rows
+encoded_cells rows i = map (λ row. percent_encoded (cell_at row i)) rows
 
 -- one of them is this name
 abbrev pub has_name : List ℕ → List HeaderRow → ℕ → Bool

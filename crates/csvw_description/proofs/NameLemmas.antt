@@ -9,8 +9,8 @@ use Rattle.std.specs.Prelude.{codes}
 use Rattle.std.specs.Fmt.{decimal, digits, digits_onto, digit_glyph}
 use Rattle.percent_encoding.proofs.PercentLemmas.{All-percent_encode_byte, IsEscapeByte}
 use Rattle.csvw_text.specs.Class.{is_unreserved_char}
+use Rattle.csvw_iri.specs.Encoded.{encoded_byte, percent_encoded}
 use Rattle.csvw_iri.specs.Safe.{is_forbidden, is_iri}
-use Rattle.csvw_description.specs.Name.{encoded_byte, encoded}
 
 escape_is_raw : (b : ℕ) → IsEscapeByte b → is_forbidden b ≡ false
 escape_is_raw b h = grind (arith, nat_tests)
@@ -30,8 +30,7 @@ is_iri-encoded_byte b =
     (λ (e : is_unreserved_char b ≡ false). ap is_iri (cond-false _ _ _ e) ∙ escapes_are_raw _ (All-percent_encode_byte b))
     (cases_Bool (is_unreserved_char b))
 
-pub is_iri-encoded : (title : List ℕ) → is_iri (encoded title) ≡ true
-unfolding encoded
+pub is_iri-encoded : (title : List ℕ) → is_iri (percent_encoded title) ≡ true
 is_iri-encoded [] = refl
 is_iri-encoded (b ∷ bs) =
     list_all-append _ (encoded_byte b) (flat_map encoded_byte bs)

@@ -1,26 +1,17 @@
 -- The names of columns (Metadata Vocabulary for Tabular Data, section 5.6, `name`).
-use Rattle.std.specs.Prelude.{ℕ, ◌+◌, List, [], ◌∷◌, ◌++◌, codes, flat_map, if◌then◌else◌, Option, Some, None}
+use Rattle.std.specs.Prelude.{ℕ, ◌+◌, List, [], ◌∷◌, ◌++◌, codes, Option, Some, None}
 use Rattle.std.specs.Fmt.{decimal}
-use Rattle.percent_encoding.specs.Percent.{percent_encode_byte}
-use Rattle.csvw_text.specs.Class.{is_unreserved_char}
+use Rattle.csvw_iri.specs.Encoded.{percent_encoded}
 use Rattle.csvw_description.specs.declared.column.ColumnDescription.{ColumnDescription}
-
--- a byte, percent-encoded unless it is unreserved
-abbrev pub encoded_byte : ℕ → List ℕ
-encoded_byte b = if is_unreserved_char b then b ∷ [] else percent_encode_byte b
-
--- a title as a name: all but unreserved characters percent-encoded
-unfoldable pub encoded : List ℕ → List ℕ
-encoded title = flat_map encoded_byte title
 
 -- the name of column n, from 1, where it has neither a name nor a title
 abbrev pub numbered : ℕ → List ℕ
 numbered n = codes "_col." ++ decimal n
 
--- its first title's, else `_col.` and its number
+-- its first title, percent-encoded, else `_col.` and its number
 abbrev pub titled : ℕ → List (List ℕ) → List ℕ
 titled n [] = numbered n
-titled n (title ∷ titles) = encoded title
+titled n (title ∷ titles) = percent_encoded title
 
 -- its declared name, else that of its titles
 abbrev pub named : ℕ → Option (List ℕ) → List (List ℕ) → List ℕ

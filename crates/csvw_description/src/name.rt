@@ -1,11 +1,11 @@
 //! The names of columns.
-ghost use Rattle.std.specs.Prelude.{◌≡◌, ◌++◌, true, false, IfOk, OnOk, MatchOption, string_bytes};
+ghost use Rattle.std.specs.Prelude.{◌≡◌, true, false, IfOk, MatchOption};
+ghost use Rattle.csvw_iri.specs.Encoded.{percent_encoded};
 ghost use Rattle.csvw_iri.specs.Safe.{is_iri};
-ghost use Rattle.csvw_description.specs.Name.{encoded_byte, encoded, numbered};
+ghost use Rattle.csvw_description.specs.Name.{numbered};
 
-use csvw_iri::is_raw_text;
-use csvw_text::{Copied, Text, is_unreserved};
-use percent_encoding::percent_encode_byte;
+use csvw_iri::{is_raw_text, push_percent_encoded};
+use csvw_text::{Copied, Text};
 use std::alloc::{AllocError, Global};
 use std::marker::Model;
 
@@ -44,10 +44,12 @@ impl Name {
     /// A title as a name: all but unreserved characters are percent-encoded (Metadata Vocabulary for Tabular Data,
     /// section 5.6, `name`). `AllocError` where there is no memory.
     pub fn of_title(alloc: Global, title: &str) -> Result<Name, AllocError>
-        ensures { IfOk result (λ name. name ≡ encoded title.now) }
+        ensures { IfOk result (λ name. name ≡ percent_encoded title.now) }
     {
+        let mut name = String::new(alloc);
+        push_percent_encoded(&mut name, title)?;
         Ok(Name {
-            text: Text::of(encoded(alloc, title)?),
+            text: Text::of(name),
         })
     }
 
@@ -83,25 +85,4 @@ impl Copied for Name {
     fn copied(&self, alloc: Global) -> Result<Name, AllocError> {
         self.clone(alloc)
     }
-}
-
-fn push_encoded(out: &mut String, b: u8) -> Result<(), AllocError>
-    ensures { OnOk result (string_bytes out.new ≡ string_bytes out.old ++ encoded_byte b) }
-{
-    if is_unreserved(b as char) {
-        out.push(b as char)
-    } else {
-        out.push_str(percent_encode_byte(b))
-    }
-}
-
-#[tactic(auto, unfolding(crate::specs::Name::encoded))]
-fn encoded(alloc: Global, title: &str) -> Result<String, AllocError>
-    ensures { IfOk result (λ name. string_bytes name ≡ encoded title.now) }
-{
-    let mut out = String::new(alloc);
-    for b in title.as_bytes() {
-        push_encoded(&mut out, *b)?;
-    }
-    Ok(out)
 }
