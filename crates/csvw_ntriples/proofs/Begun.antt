@@ -23,59 +23,55 @@ past_gap text gap [] other after c r h k e =
     let none : dark text ≡ None = dark_run text gap [] r in
     let some = dark_run text other (c ∷ after) (e, h, k) in
     let wrong : None ≡ Some c = sym none ∙ some in cc
-past_gap text gap (x ∷ rest) other after c r h k e =
-    gap_once gap other x c rest after r.1 h r.2 k (sym r.0 ∙ e)
+past_gap text gap (x ∷ rest) other after c (text_is, blank, stops) h k e =
+    gap_once gap other x c rest after blank h stops k (sym text_is ∙ e)
 
 -- a text between marks, past a gap
 pub iri_takes : (text gap rest after v end : List ℕ) → IsRun is_blank text gap rest → rest ≡ 60 ∷ after → ReadsBytes enclosed.Iri after v end
     → TakesIri v text end
-iri_takes text gap rest after v end r e b =
-    let value = b.0 in let body = b.1.0 in
-    let whole : IsIriref (60 ∷ body ++ 62 ∷ []) value = (body, refl, to_iri body value b.1.2) in
+iri_takes text gap rest after v end (text_is, blank, _) e (value, (body, marked, pieces), bytes) =
+    let whole : IsIriref (60 ∷ body ++ 62 ∷ []) value = (body, refl, to_iri body value pieces) in
     let spelled : text ≡ gap ++ ((60 ∷ body ++ 62 ∷ []) ++ end) =
-    r.0 ∙ ap (λ z. gap ++ z) (e ∙ ap (λ z. 60 ∷ z) (b.1.1 ∙ sym (append_assoc body (62 ∷ []) end))) in (
+    text_is ∙ ap (λ z. gap ++ z) (e ∙ ap (λ z. 60 ∷ z) (marked ∙ sym (append_assoc body (62 ∷ []) end))) in (
       gap,
       60 ∷ body ++ 62 ∷ [],
       spelled,
-      r.1,
-      (value, whole, b.2),
+      blank,
+      (value, whole, bytes),
       bytes_longest IsIriref (60 ∷ body ++ 62 ∷ []) end (iri_longest (60 ∷ body ++ 62 ∷ []) value end whole),
     )
 
 pub string_takes : (text gap rest after v end : List ℕ) → IsRun is_blank text gap rest → rest ≡ 34 ∷ after → ReadsBytes enclosed.Literal after v end
     → Takes (InBytes IsString) v text end
-string_takes text gap rest after v end r e b =
-    let value = b.0 in let body = b.1.0 in
-    let whole : IsString (34 ∷ body ++ 34 ∷ []) value = (body, refl, b.1.2) in
+string_takes text gap rest after v end (text_is, blank, _) e (value, (body, marked, pieces), bytes) =
+    let whole : IsString (34 ∷ body ++ 34 ∷ []) value = (body, refl, pieces) in
     let spelled : text ≡ gap ++ ((34 ∷ body ++ 34 ∷ []) ++ end) =
-    r.0 ∙ ap (λ z. gap ++ z) (e ∙ ap (λ z. 34 ∷ z) (b.1.1 ∙ sym (append_assoc body (34 ∷ []) end))) in (
+    text_is ∙ ap (λ z. gap ++ z) (e ∙ ap (λ z. 34 ∷ z) (marked ∙ sym (append_assoc body (34 ∷ []) end))) in (
       gap,
       34 ∷ body ++ 34 ∷ [],
       spelled,
-      r.1,
-      (value, whole, b.2),
+      blank,
+      (value, whole, bytes),
       bytes_longest IsString (34 ∷ body ++ 34 ∷ []) end (string_longest (34 ∷ body ++ 34 ∷ []) value end whole),
     )
 
 -- and back
 iri_taken : (text gap rest v end : List ℕ) → IsRun is_blank text gap rest → TakesIri v text end
     → (after : List ℕ) × (rest ≡ 60 ∷ after) × ReadsBytes enclosed.Iri after v end
-iri_taken text gap rest v end r t =
-    let value = t.4.0 in let body = t.4.1.0 in
-    let piece : t.1 ++ end ≡ 60 ∷ (body ++ 62 ∷ end) = ap (λ z. z ++ end) t.4.1.1 ∙ ap (λ z. 60 ∷ z) (append_assoc body (62 ∷ []) end) in (
+iri_taken text gap rest v end r (space, piece, spelled, blank, (value, (body, marked, pieces), bytes), _) =
+    let whole : piece ++ end ≡ 60 ∷ (body ++ 62 ∷ end) = ap (λ z. z ++ end) marked ∙ ap (λ z. 60 ∷ z) (append_assoc body (62 ∷ []) end) in (
       body ++ 62 ∷ end,
-      past_gap text gap rest t.0 (body ++ 62 ∷ end) 60 r t.3 refl (t.2 ∙ ap (λ z. t.0 ++ z) piece),
-      (value, (body, refl, from_iri body value t.4.1.2), t.4.2),
+      past_gap text gap rest space (body ++ 62 ∷ end) 60 r blank refl (spelled ∙ ap (λ z. space ++ z) whole),
+      (value, (body, refl, from_iri body value pieces), bytes),
     )
 
 string_taken : (text gap rest v end : List ℕ) → IsRun is_blank text gap rest → Takes (InBytes IsString) v text end
     → (after : List ℕ) × (rest ≡ 34 ∷ after) × ReadsBytes enclosed.Literal after v end
-string_taken text gap rest v end r t =
-    let value = t.4.0 in let body = t.4.1.0 in
-    let piece : t.1 ++ end ≡ 34 ∷ (body ++ 34 ∷ end) = ap (λ z. z ++ end) t.4.1.1 ∙ ap (λ z. 34 ∷ z) (append_assoc body (34 ∷ []) end) in (
+string_taken text gap rest v end r (space, piece, spelled, blank, (value, (body, marked, pieces), bytes), _) =
+    let whole : piece ++ end ≡ 34 ∷ (body ++ 34 ∷ end) = ap (λ z. z ++ end) marked ∙ ap (λ z. 34 ∷ z) (append_assoc body (34 ∷ []) end) in (
       body ++ 34 ∷ end,
-      past_gap text gap rest t.0 (body ++ 34 ∷ end) 34 r t.3 refl (t.2 ∙ ap (λ z. t.0 ++ z) piece),
-      (value, (body, refl, t.4.1.2), t.4.2),
+      past_gap text gap rest space (body ++ 34 ∷ end) 34 r blank refl (spelled ∙ ap (λ z. space ++ z) whole),
+      (value, (body, refl, pieces), bytes),
     )
 
 -- an answer about the text after the opening mark is one about the text
@@ -87,33 +83,33 @@ pub iri_found : (text gap rest after : List ℕ) (r : Result (List ℕ × Bor (L
 iri_found text gap rest after (Ok v) run e f = iri_takes text gap rest after v.0 v.1.now run e f
 iri_found text gap rest after (Err Memory) run e f = tt
 iri_found text gap rest after (Err Syntax) run e f = λ v end t.
-    let k = iri_taken text gap rest v end run t in
-    f v end (subst (λ z. ReadsBytes enclosed.Iri z v end) (tails 60 60 k.0 after rest k.1 e) k.2)
+    let (behind, begins, reads) = iri_taken text gap rest v end run t in
+    f v end (subst (λ z. ReadsBytes enclosed.Iri z v end) (tails 60 60 behind after rest begins e) reads)
 
 pub string_found : (text gap rest after : List ℕ) (r : Result (List ℕ × Bor (List ℕ)) NtFault) → IsRun is_blank text gap rest → rest ≡ 34 ∷ after
     → Finds (ReadsBytes enclosed.Literal after) r → Finds (λ v end. Takes (InBytes IsString) v text end) r
 string_found text gap rest after (Ok v) run e f = string_takes text gap rest after v.0 v.1.now run e f
 string_found text gap rest after (Err Memory) run e f = tt
 string_found text gap rest after (Err Syntax) run e f = λ v end t.
-    let k = string_taken text gap rest v end run t in
-    f v end (subst (λ z. ReadsBytes enclosed.Literal z v end) (tails 34 34 k.0 after rest k.1 e) k.2)
+    let (behind, begins, reads) = string_taken text gap rest v end run t in
+    f v end (subst (λ z. ReadsBytes enclosed.Literal z v end) (tails 34 34 behind after rest begins e) reads)
 
 pub iri_missing : (text gap rest : List ℕ) → IsRun is_blank text gap rest → ((after : List ℕ) → rest ≡ 60 ∷ after → ⊥) → (v end : List ℕ)
     → TakesIri v text end → ⊥
-iri_missing text gap rest run none v end t = let k = iri_taken text gap rest v end run t in none k.0 k.1
+iri_missing text gap rest run none v end t = let (after, begins, _) = iri_taken text gap rest v end run t in none after begins
 
 pub string_missing : (text gap rest : List ℕ) → IsRun is_blank text gap rest → ((after : List ℕ) → rest ≡ 34 ∷ after → ⊥) → (v end : List ℕ)
     → Takes (InBytes IsString) v text end → ⊥
-string_missing text gap rest run none v end t = let k = string_taken text gap rest v end run t in none k.0 k.1
+string_missing text gap rest run none v end t = let (after, begins, _) = string_taken text gap rest v end run t in none after begins
 
 -- dots
 pub dot_takes : (text gap rest after : List ℕ) → IsRun is_blank text gap rest → rest ≡ 46 ∷ after → Takes (IsMark (codes ".")) tt text after
-dot_takes text gap rest after r e = (gap, 46 ∷ [], r.0 ∙ ap (λ z. gap ++ z) e, r.1, refl, mark_longest (46 ∷ []) after)
+dot_takes text gap rest after (text_is, blank, _) e = (gap, 46 ∷ [], text_is ∙ ap (λ z. gap ++ z) e, blank, refl, mark_longest (46 ∷ []) after)
 
 pub dot_missing : (text gap rest : List ℕ) → IsRun is_blank text gap rest → ((after : List ℕ) → rest ≡ 46 ∷ after → ⊥) → (end : List ℕ)
     → Takes (IsMark (codes ".")) tt text end → ⊥
-dot_missing text gap rest r none end t =
-    none end (past_gap text gap rest t.0 end 46 r t.3 refl (t.2 ∙ ap (λ z. t.0 ++ (z ++ end)) t.4))
+dot_missing text gap rest r none end (space, piece, spelled, blank, dot, _) =
+    none end (past_gap text gap rest space end 46 r blank refl (spelled ∙ ap (λ z. space ++ (z ++ end)) dot))
 
 pub dot_found : (text gap rest : List ℕ) (r : Option (Bor (List ℕ))) → IsRun is_blank text gap rest
     → MatchOption r ((after : List ℕ) → rest ≡ 46 ∷ after → ⊥) (λ a. rest ≡ 46 ∷ a.now)
@@ -137,15 +133,15 @@ from_idle (c ∷ gap) rest h (inl e) =
 from_idle (c ∷ gap) rest h (inr i) = from_idle gap rest (and_parts (is_blank c) (list_all is_blank gap) h).1 i.1
 
 pub idle_none : (text gap rest : List ℕ) → IsRun is_blank text gap rest → length rest ≡ 0 → IsIdle text
-idle_none text gap [] r z = subst IsIdle (sym r.0) (to_idle gap [] r.1 tt)
+idle_none text gap [] (text_is, blank, _) z = subst IsIdle (sym text_is) (to_idle gap [] blank tt)
 idle_none text gap (x ∷ xs) r z = absurd (omega arith)
 
 pub idle_if : (text gap rest others : List ℕ) (x : ℕ) → IsRun is_blank text gap rest → rest ≡ x ∷ others → x ≡ 35 → IsIdle text
-idle_if text gap rest others x r e f =
-    subst IsIdle (sym (r.0 ∙ ap (λ z. gap ++ z) e)) (to_idle gap (x ∷ others) r.1 (inl f))
+idle_if text gap rest others x (text_is, blank, _) e f =
+    subst IsIdle (sym (text_is ∙ ap (λ z. gap ++ z) e)) (to_idle gap (x ∷ others) blank (inl f))
 
 pub idle_only : (text gap rest others : List ℕ) (x : ℕ) → IsRun is_blank text gap rest → rest ≡ x ∷ others → IsIdle text → x ≡ 35
-idle_only text gap rest others x r e i =
-    let left : IsIdle (x ∷ others) = from_idle gap (x ∷ others) r.1 (subst IsIdle (r.0 ∙ ap (λ z. gap ++ z) e) i) in
-    let stop : is_blank x ≡ false = (subst (Stops is_blank) e r.2) in
+idle_only text gap rest others x (text_is, blank, stops) e i =
+    let left : IsIdle (x ∷ others) = from_idle gap (x ∷ others) blank (subst IsIdle (text_is ∙ ap (λ z. gap ++ z) e) i) in
+    let stop : is_blank x ≡ false = (subst (Stops is_blank) e stops) in
     elim left [ inl same ↦ same | inr more ↦ let yes = more.0 in cc ]

@@ -122,37 +122,37 @@ literal_term_once text end d once (term.Literal l) rest t dot = once l rest t do
 -- languages and datatypes
 tag_takes : (text gap rest after v end : List ℕ) → IsRun is_blank text gap rest → rest ≡ 64 ∷ after → TagBefore v after end
     → Takes (InBytes IsLangtag) v text end
-tag_takes text gap rest after v end r e t = (
+tag_takes text gap rest after v end (text_is, blank, _) e (tag, after_is, is_tag, longest, bytes) = (
   gap,
-  64 ∷ t.0,
-  r.0 ∙ ap (λ z. gap ++ z) (e ∙ ap (λ z. 64 ∷ z) t.1),
-  r.1,
-  (t.0, (refl, t.2), t.4),
-  λ more others w g f.
-      let inner : t.0 ++ more ≡ f.0 = let k : 64 ∷ (t.0 ++ more) ≡ 64 ∷ f.0 = f.1.0 in cc in
-      t.3 more others (t.0 ++ more) g (ap is_language_tag inner ∙ f.1.1, refl),
+  64 ∷ tag,
+  text_is ∙ ap (λ z. gap ++ z) (e ∙ ap (λ z. 64 ∷ z) after_is),
+  blank,
+  (tag, (refl, is_tag), bytes),
+  λ more others w g (longer, (marked, is), _).
+      let inner : tag ++ more ≡ longer = let k : 64 ∷ (tag ++ more) ≡ 64 ∷ longer = marked in cc in
+      longest more others (tag ++ more) g (ap is_language_tag inner ∙ is, refl),
 )
 
 tag_taken : (text gap rest v end : List ℕ) → IsRun is_blank text gap rest → Takes (InBytes IsLangtag) v text end
     → (after : List ℕ) × (rest ≡ 64 ∷ after) × TagBefore v after end
-tag_taken text gap rest v end r t =
-    let tag = t.4.0 in (
-      tag ++ end,
-      past_gap text gap rest t.0 (tag ++ end) 64 r t.3 refl (t.2 ∙ ap (λ z. t.0 ++ z) (ap (λ z. z ++ end) t.4.1.0)),
-      (
-        tag,
-        refl,
-        t.4.1.1,
-        λ more others w g f. t.5 more others (encode_utf8_all (tag ++ more)) g (tag ++ more, (ap (λ z. z ++ more) t.4.1.0, f.0), refl),
-        t.4.2,
-      ),
-    )
+tag_taken text gap rest v end r (space, piece, spelled, blank, (tag, (marked, is_tag), bytes), longest) = (
+  tag ++ end,
+  past_gap text gap rest space (tag ++ end) 64 r blank refl (spelled ∙ ap (λ z. space ++ z) (ap (λ z. z ++ end) marked)),
+  (
+    tag,
+    refl,
+    is_tag,
+    λ more others w g (is, _). longest more others (encode_utf8_all (tag ++ more)) g (tag ++ more, (ap (λ z. z ++ more) marked, is), refl),
+    bytes,
+  ),
+)
 
 hats_take : (text gap rest after : List ℕ) → IsRun is_blank text gap rest → rest ≡ 94 ∷ 94 ∷ after → Takes (IsMark (codes "^^")) tt text after
-hats_take text gap rest after r e = (gap, 94 ∷ 94 ∷ [], r.0 ∙ ap (λ z. gap ++ z) e, r.1, refl, mark_longest (94 ∷ 94 ∷ []) after)
+hats_take text gap rest after (text_is, blank, _) e = (gap, 94 ∷ 94 ∷ [], text_is ∙ ap (λ z. gap ++ z) e, blank, refl, mark_longest (94 ∷ 94 ∷ []) after)
 
 hats_taken : (text gap rest end : List ℕ) → IsRun is_blank text gap rest → Takes (IsMark (codes "^^")) tt text end → rest ≡ 94 ∷ 94 ∷ end
-hats_taken text gap rest end r t = past_gap text gap rest t.0 (94 ∷ end) 94 r t.3 refl (t.2 ∙ ap (λ z. t.0 ++ (z ++ end)) t.4)
+hats_taken text gap rest end r (space, piece, spelled, blank, hats, _) =
+    past_gap text gap rest space (94 ∷ end) 94 r blank refl (spelled ∙ ap (λ z. space ++ (z ++ end)) hats)
 
 one_tail : (x y : ℕ) (xs ys rest : List ℕ) → rest ≡ x ∷ xs → rest ≡ y ∷ ys → xs ≡ ys
 one_tail x y xs ys rest e f = let k : x ∷ xs ≡ y ∷ ys = sym e ∙ f in cc
@@ -169,23 +169,23 @@ typed_takes text gap rest after v end r e t = inr (after, hats_take text gap res
 
 pub typed_once : (text gap rest after v end : List ℕ) → IsRun is_blank text gap rest → rest ≡ 94 ∷ 94 ∷ after → TakesIri v after end
     → (lang : Option (List ℕ)) (datatype other : List ℕ) → TakesSuffix lang datatype text other → dark other ≡ Some 46 → other ≡ end
-typed_once text gap rest after v end r e t None datatype other (inl f) d =
-    absurd (apart text 46 94 (ap dark f.1 ∙ d) (begins_dark text gap rest (94 ∷ after) 94 r e) (differ 46 94 refl))
-typed_once text gap rest after v end r e t None datatype other (inr f) d =
-    let same = two_tails f.0 after rest (hats_taken text gap rest f.0 r f.1) e in
-    (iri_once datatype v after other end (subst (λ z. TakesIri datatype z other) same f.2) t).1
-typed_once text gap rest after v end r e t (Some tag) datatype other f d =
-    absurd (apart text 64 94 (tag_dark tag text other f.1) (begins_dark text gap rest (94 ∷ after) 94 r e) (differ 64 94 refl))
+typed_once text gap rest after v end r e t None datatype other (inl (_, text_is)) d =
+    absurd (apart text 46 94 (ap dark text_is ∙ d) (begins_dark text gap rest (94 ∷ after) 94 r e) (differ 46 94 refl))
+typed_once text gap rest after v end r e t None datatype other (inr (behind, hats, iri)) d =
+    let same = two_tails behind after rest (hats_taken text gap rest behind r hats) e in
+    (iri_once datatype v after other end (subst (λ z. TakesIri datatype z other) same iri) t).1
+typed_once text gap rest after v end r e t (Some tag) datatype other (_, takes) d =
+    absurd (apart text 64 94 (tag_dark tag text other takes) (begins_dark text gap rest (94 ∷ after) 94 r e) (differ 64 94 refl))
 
 pub no_typed : (text gap rest after : List ℕ) → IsRun is_blank text gap rest → rest ≡ 94 ∷ 94 ∷ after → ((v end : List ℕ) → TakesIri v after end → ⊥)
     → (lang : Option (List ℕ)) (datatype other : List ℕ) → TakesSuffix lang datatype text other → dark other ≡ Some 46 → ⊥
-no_typed text gap rest after r e none None datatype other (inl f) d =
-    apart text 46 94 (ap dark f.1 ∙ d) (begins_dark text gap rest (94 ∷ after) 94 r e) (differ 46 94 refl)
-no_typed text gap rest after r e none None datatype other (inr f) d =
-    let same = two_tails f.0 after rest (hats_taken text gap rest f.0 r f.1) e in
-    none datatype other (subst (λ z. TakesIri datatype z other) same f.2)
-no_typed text gap rest after r e none (Some tag) datatype other f d =
-    apart text 64 94 (tag_dark tag text other f.1) (begins_dark text gap rest (94 ∷ after) 94 r e) (differ 64 94 refl)
+no_typed text gap rest after r e none None datatype other (inl (_, text_is)) d =
+    apart text 46 94 (ap dark text_is ∙ d) (begins_dark text gap rest (94 ∷ after) 94 r e) (differ 46 94 refl)
+no_typed text gap rest after r e none None datatype other (inr (behind, hats, iri)) d =
+    let same = two_tails behind after rest (hats_taken text gap rest behind r hats) e in
+    none datatype other (subst (λ z. TakesIri datatype z other) same iri)
+no_typed text gap rest after r e none (Some tag) datatype other (_, takes) d =
+    apart text 64 94 (tag_dark tag text other takes) (begins_dark text gap rest (94 ∷ after) 94 r e) (differ 64 94 refl)
 
 pub tagged_takes : (text gap rest after v end : List ℕ) (lang : Option (List ℕ)) (datatype : List ℕ) → IsRun is_blank text gap rest
     → rest ≡ 64 ∷ after → TagBefore v after end
@@ -196,24 +196,24 @@ tagged_takes text gap rest after v end lang datatype r e t p q =
 pub tagged_once : (text gap rest after end : List ℕ) → IsRun is_blank text gap rest → rest ≡ 64 ∷ after
     → ((v other : List ℕ) → TagBefore v after other → dark other ≡ Some 46 → other ≡ end)
     → (lang : Option (List ℕ)) (datatype other : List ℕ) → TakesSuffix lang datatype text other → dark other ≡ Some 46 → other ≡ end
-tagged_once text gap rest after end r e once None datatype other (inl f) d =
-    absurd (apart text 46 64 (ap dark f.1 ∙ d) (begins_dark text gap rest after 64 r e) (differ 46 64 refl))
-tagged_once text gap rest after end r e once None datatype other (inr f) d =
-    absurd (apart text 94 64 (hats_dark text f.0 f.1) (begins_dark text gap rest after 64 r e) (differ 94 64 refl))
-tagged_once text gap rest after end r e once (Some tag) datatype other f d =
-    let k = tag_taken text gap rest tag other r f.1 in
-    once tag other (subst (λ z. TagBefore tag z other) (one_tail 64 64 k.0 after rest k.1 e) k.2) d
+tagged_once text gap rest after end r e once None datatype other (inl (_, text_is)) d =
+    absurd (apart text 46 64 (ap dark text_is ∙ d) (begins_dark text gap rest after 64 r e) (differ 46 64 refl))
+tagged_once text gap rest after end r e once None datatype other (inr (behind, hats, _)) d =
+    absurd (apart text 94 64 (hats_dark text behind hats) (begins_dark text gap rest after 64 r e) (differ 94 64 refl))
+tagged_once text gap rest after end r e once (Some tag) datatype other (_, takes) d =
+    let (behind, begins, before) = tag_taken text gap rest tag other r takes in
+    once tag other (subst (λ z. TagBefore tag z other) (one_tail 64 64 behind after rest begins e) before) d
 
 pub no_tagged : (text gap rest after : List ℕ) → IsRun is_blank text gap rest → rest ≡ 64 ∷ after
     → ((v other : List ℕ) → TagBefore v after other → dark other ≡ Some 46 → ⊥)
     → (lang : Option (List ℕ)) (datatype other : List ℕ) → TakesSuffix lang datatype text other → dark other ≡ Some 46 → ⊥
-no_tagged text gap rest after r e none None datatype other (inl f) d =
-    apart text 46 64 (ap dark f.1 ∙ d) (begins_dark text gap rest after 64 r e) (differ 46 64 refl)
-no_tagged text gap rest after r e none None datatype other (inr f) d =
-    apart text 94 64 (hats_dark text f.0 f.1) (begins_dark text gap rest after 64 r e) (differ 94 64 refl)
-no_tagged text gap rest after r e none (Some tag) datatype other f d =
-    let k = tag_taken text gap rest tag other r f.1 in
-    none tag other (subst (λ z. TagBefore tag z other) (one_tail 64 64 k.0 after rest k.1 e) k.2) d
+no_tagged text gap rest after r e none None datatype other (inl (_, text_is)) d =
+    apart text 46 64 (ap dark text_is ∙ d) (begins_dark text gap rest after 64 r e) (differ 46 64 refl)
+no_tagged text gap rest after r e none None datatype other (inr (behind, hats, _)) d =
+    apart text 94 64 (hats_dark text behind hats) (begins_dark text gap rest after 64 r e) (differ 94 64 refl)
+no_tagged text gap rest after r e none (Some tag) datatype other (_, takes) d =
+    let (behind, begins, before) = tag_taken text gap rest tag other r takes in
+    none tag other (subst (λ z. TagBefore tag z other) (one_tail 64 64 behind after rest begins e) before) d
 
 pub plain_takes : (text : List ℕ) (lang : Option (List ℕ)) (datatype : List ℕ) → lang ≡ None → datatype ≡ xsd_string → TakesSuffix lang datatype text text
 plain_takes text lang datatype p q = subst (λ (z : Option (List ℕ)). TakesSuffix z datatype text text) (sym p) (inl (q, refl))
@@ -221,54 +221,59 @@ plain_takes text lang datatype p q = subst (λ (z : Option (List ℕ)). TakesSuf
 pub plain_once : (text gap rest : List ℕ) → IsRun is_blank text gap rest → ((after : List ℕ) → rest ≡ 94 ∷ 94 ∷ after → ⊥)
     → ((after : List ℕ) → rest ≡ 64 ∷ after → ⊥)
     → (lang : Option (List ℕ)) (datatype other : List ℕ) → TakesSuffix lang datatype text other → dark other ≡ Some 46 → other ≡ text
-plain_once text gap rest r hats at None datatype other (inl f) d = sym f.1
-plain_once text gap rest r hats at None datatype other (inr f) d = absurd (hats f.0 (hats_taken text gap rest f.0 r f.1))
-plain_once text gap rest r hats at (Some tag) datatype other f d = let k = tag_taken text gap rest tag other r f.1 in absurd (at k.0 k.1)
+plain_once text gap rest r hats at None datatype other (inl (_, text_is)) d = sym text_is
+plain_once text gap rest r hats at None datatype other (inr (behind, takes, _)) d = absurd (hats behind (hats_taken text gap rest behind r takes))
+plain_once text gap rest r hats at (Some tag) datatype other (_, takes) d =
+    let (behind, begins, _) = tag_taken text gap rest tag other r takes in absurd (at behind begins)
 
 -- literals
 pub no_lit : (text after value : List ℕ) → Takes (InBytes IsString) value text after
     → ((s : Suffix) (rest : List ℕ) → TakesSuffix s.lang s.datatype after rest → dark rest ≡ Some 46 → ⊥)
     → (l : NtLit) (rest : List ℕ) → TakesLit l text rest → dark rest ≡ Some 46 → ⊥
-no_lit text after value f none l rest t d =
-    let s = string_once l.text value text t.0 after t.1 f in
-    none (record { lang = l.lang; datatype = l.datatype }) rest (subst (λ z. TakesSuffix l.lang l.datatype z rest) s.1 t.2) d
+no_lit text after value f none l rest (behind, string, suffix) d =
+    let s = string_once l.text value text behind after string f in
+    none (record { lang = l.lang; datatype = l.datatype }) rest (subst (λ z. TakesSuffix l.lang l.datatype z rest) s.1 suffix) d
 
 pub lit_once_before : (text after value end : List ℕ) → Takes (InBytes IsString) value text after
     → ((s : Suffix) (rest : List ℕ) → TakesSuffix s.lang s.datatype after rest → dark rest ≡ Some 46 → rest ≡ end)
     → (l : NtLit) (rest : List ℕ) → TakesLit l text rest → dark rest ≡ Some 46 → rest ≡ end
-lit_once_before text after value end f once l rest t d =
-    let s = string_once l.text value text t.0 after t.1 f in
-    once (record { lang = l.lang; datatype = l.datatype }) rest (subst (λ z. TakesSuffix l.lang l.datatype z rest) s.1 t.2) d
+lit_once_before text after value end f once l rest (behind, string, suffix) d =
+    let s = string_once l.text value text behind after string f in
+    once (record { lang = l.lang; datatype = l.datatype }) rest (subst (λ z. TakesSuffix l.lang l.datatype z rest) s.1 suffix) d
 
 -- lines
 pub no_predicate : (text a : List ℕ) (s : NtNode) → TakesNode s text a → ((v rest : List ℕ) → TakesIri v a rest → ⊥) → (t : NtTriple) → IsTripleLine text t → ⊥
-no_predicate text a s f none t g =
-    let n = node_once t.s s text g.0 a g.4 f in none t.p g.1 (subst (λ z. TakesIri t.p z g.1) n.1 g.5)
+no_predicate text a s f none t (x, y, _, _, subject, predicate, _, _, _) =
+    let n = node_once t.s s text x a subject f in none t.p y (subst (λ z. TakesIri t.p z y) n.1 predicate)
 
 object_at : (text a b p : List ℕ) (s : NtNode) → TakesNode s text a → TakesIri p a b → (t : NtTriple) → (g : IsTripleLine text t) → TakesTerm t.o b g.2
-object_at text a b p s f h t g =
-    let n = node_once t.s s text g.0 a g.4 f in
-    let i = iri_once t.p p a g.1 b (subst (λ z. TakesIri t.p z g.1) n.1 g.5) h in
-    subst (λ z. TakesTerm t.o z g.2) i.1 g.6
+object_at text a b p s f h t (x, y, end, _, subject, predicate, object, _, _) =
+    let n = node_once t.s s text x a subject f in
+    let i = iri_once t.p p a y b (subst (λ z. TakesIri t.p z y) n.1 predicate) h in
+    subst (λ z. TakesTerm t.o z end) i.1 object
 
 pub no_object : (text a b p : List ℕ) (s : NtNode) → TakesNode s text a → TakesIri p a b
     → ((o : NtTerm) (rest : List ℕ) → TakesTerm o b rest → dark rest ≡ Some 46 → ⊥) → (t : NtTriple) → IsTripleLine text t → ⊥
-no_object text a b p s f h none t g = none t.o g.2 (object_at text a b p s f h t g) (dot_dark g.2 g.3 g.7)
+no_object text a b p s f h none t g =
+    let (_, _, end, behind, _, _, _, dot, _) = g in
+    none t.o end (object_at text a b p s f h t g) (dot_dark end behind dot)
 
 pub no_dot : (text a b e p : List ℕ) (s : NtNode) → TakesNode s text a → TakesIri p a b
     → ((o : NtTerm) (rest : List ℕ) → TakesTerm o b rest → dark rest ≡ Some 46 → rest ≡ e)
     → ((end : List ℕ) → Takes (IsMark (codes ".")) tt e end → ⊥) → (t : NtTriple) → IsTripleLine text t → ⊥
 no_dot text a b e p s f h once none t g =
-    let same = once t.o g.2 (object_at text a b p s f h t g) (dot_dark g.2 g.3 g.7) in
-    none g.3 (subst (λ z. Takes (IsMark (codes ".")) tt z g.3) same g.7)
+    let (_, _, end, behind, _, _, _, dot, _) = g in
+    let same = once t.o end (object_at text a b p s f h t g) (dot_dark end behind dot) in
+    none behind (subst (λ z. Takes (IsMark (codes ".")) tt z behind) same dot)
 
 pub no_end : (text a b e end p : List ℕ) (s : NtNode) → TakesNode s text a → TakesIri p a b
     → ((o : NtTerm) (rest : List ℕ) → TakesTerm o b rest → dark rest ≡ Some 46 → rest ≡ e)
     → Takes (IsMark (codes ".")) tt e end → (IsIdle end → ⊥) → (t : NtTriple) → IsTripleLine text t → ⊥
 no_end text a b e end p s f h once dot none t g =
-    let same = once t.o g.2 (object_at text a b p s f h t g) (dot_dark g.2 g.3 g.7) in
-    let left = dot_once e g.3 end (subst (λ z. Takes (IsMark (codes ".")) tt z g.3) same g.7) dot in
-    none (subst IsIdle left g.8)
+    let (_, _, before, behind, _, _, _, t_dot, idle) = g in
+    let same = once t.o before (object_at text a b p s f h t g) (dot_dark before behind t_dot) in
+    let left = dot_once e behind end (subst (λ z. Takes (IsMark (codes ".")) tt z behind) same t_dot) dot in
+    none (subst IsIdle left idle)
 
 pub no_line : (text : List ℕ) → (IsIdle text → ⊥) → ((t : NtTriple) → IsTripleLine text t → ⊥) → (o : Option NtTriple) → LineGives text o → ⊥
 no_line text idle none None g = idle g

@@ -134,11 +134,29 @@ tag_good tag h = low_good in_tag tag_13 tag_10 tag (low_scalars tag (tag_low tag
     tag_10 : in_tag 10 ≡ false
     tag_10 = unfold in_tag in refl
 
-good_marks : (list_all good (34 ∷ []) ≡ true) × (list_all good (60 ∷ []) ≡ true) × (list_all good (62 ∷ []) ≡ true)
-    × (list_all good (codes "_:") ≡ true) × (list_all good (codes "^^") ≡ true) × (list_all good (64 ∷ []) ≡ true) × (list_all good (32 ∷ []) ≡ true)
-    × (list_all good (32 ∷ 46 ∷ []) ≡ true)
+-- the marks between what is written are such characters
+record GoodMarks : Type 0 where
+  quote : list_all good (34 ∷ []) ≡ true
+  open_angle : list_all good (60 ∷ []) ≡ true
+  close_angle : list_all good (62 ∷ []) ≡ true
+  blank : list_all good (codes "_:") ≡ true
+  hats : list_all good (codes "^^") ≡ true
+  at_sign : list_all good (64 ∷ []) ≡ true
+  space : list_all good (32 ∷ []) ≡ true
+  space_dot : list_all good (32 ∷ 46 ∷ []) ≡ true
+
+good_marks : GoodMarks
 unfolding good
-good_marks = (refl, refl, refl, refl, refl, refl, refl, refl)
+good_marks = record {
+  quote = refl;
+  open_angle = refl;
+  close_angle = refl;
+  blank = refl;
+  hats = refl;
+  at_sign = refl;
+  space = refl;
+  space_dot = refl;
+}
 
 good_between : (m n cs : List ℕ) → list_all good m ≡ true → list_all good n ≡ true → list_all good cs ≡ true → list_all good (m ++ (cs ++ n)) ≡ true
 good_between m n cs h k l = good-append m (cs ++ n) h (good-append cs n l k)
@@ -163,15 +181,13 @@ abbrev TermStands : Term → List ℕ → Type 0
 TermStands t x = (gap after : List ℕ) → IsTrue (list_all is_blank gap) → TakesTerm (term_named label t) (gap ++ (x ++ 32 ∷ after)) (32 ∷ after)
 
 iri_says : (iri : List ℕ) → IriFits iri → Says (IriStands iri) (iri_text iri)
-iri_says iri h =
-    let cs = h.0.0 in
-    let same : encode_utf8_all cs ≡ iri = h.0.1.1 in
-    let raw = raw_chars cs (subst (λ z. is_iri z ≡ true) (sym same) h.1) in
+iri_says iri ((cs, (are_scalars, same)), safe) =
+    let raw = raw_chars cs (subst (λ z. is_iri z ≡ true) (sym same) safe) in
     let whole = iri_written cs raw in
     record {
       text = iri_text cs;
       same = between (60 ∷ []) (62 ∷ []) cs iri refl refl same;
-      clean = good_between (60 ∷ []) (62 ∷ []) cs good_marks.1 good_marks.2 (low_good is_raw_in_iri refl refl cs h.0.1.0 raw);
+      clean = good_between (60 ∷ []) (62 ∷ []) cs good_marks.open_angle good_marks.close_angle (low_good is_raw_in_iri refl refl cs are_scalars raw);
       holds = λ gap after b. (
         gap,
         iri_text cs,
@@ -183,14 +199,12 @@ iri_says iri h =
     }
 
 string_says : (value : List ℕ) → IsUtf8 value → Says (StringStands value) (string_text value)
-string_says value u =
-    let cs = u.0 in
-    let same : encode_utf8_all cs ≡ value = u.1.1 in
+string_says value (cs, (are_scalars, same)) =
     let whole = string_written cs in
     record {
       text = string_text cs;
       same = between (34 ∷ []) (34 ∷ []) (flat_map escaped cs) (flat_map escaped value) refl refl (sym (escaped_chars cs) ∙ ap (flat_map escaped) same);
-      clean = good_between (34 ∷ []) (34 ∷ []) (flat_map escaped cs) good_marks.0 good_marks.0 (flat_good cs u.1.0);
+      clean = good_between (34 ∷ []) (34 ∷ []) (flat_map escaped cs) good_marks.quote good_marks.quote (flat_good cs are_scalars);
       holds = λ gap after b. (
         gap,
         string_text cs,
@@ -205,7 +219,7 @@ blank_says : (o : Origin) → Says (BlankStands (label o)) (blank_text o)
 blank_says o = record {
   text = blank_text o;
   same = low_append (codes "_:") (label o) refl ∙ ap (λ z. codes "_:" ++ z) (encodes-label o);
-  clean = good-append (codes "_:") (label o) good_marks.3 (label_good o);
+  clean = good-append (codes "_:") (label o) good_marks.blank (label_good o);
   holds = λ gap after b. (
     gap,
     blank_text o,
@@ -234,7 +248,7 @@ type_says iri false e h =
     record {
       text = codes "^^" ++ s.text;
       same = low_append (codes "^^") s.text refl ∙ ap (λ z. codes "^^" ++ z) s.same;
-      clean = good-append (codes "^^") s.text good_marks.4 s.clean;
+      clean = good-append (codes "^^") s.text good_marks.hats s.clean;
       holds = λ after. inr (
         s.text ++ 32 ∷ after,
         ([], codes "^^", refl, refl, refl, mark_longest (codes "^^") (s.text ++ 32 ∷ after)),
@@ -250,7 +264,7 @@ suffix_says (Some tag) datatype tagged h =
     record {
       text = 64 ∷ tag;
       same = low_append (64 ∷ []) tag refl ∙ ap (λ z. 64 ∷ z) (encodes_low tag low);
-      clean = good-append (64 ∷ []) tag good_marks.5 (tag_good tag inside);
+      clean = good-append (64 ∷ []) tag good_marks.at_sign (tag_good tag inside);
       holds = λ after. (
         tagged refl,
         (
@@ -265,9 +279,9 @@ suffix_says (Some tag) datatype tagged h =
     }
 
 lit_says : (l : Lit) → LitFits l → Says (TermStands (term.Literal l)) (lit_text l)
-lit_says l h =
-    let s = string_says l.text h.0 in
-    let t = suffix_says l.lang l.datatype l.tagged h.1 in
+lit_says l (text_fits, suffix_fits) =
+    let s = string_says l.text text_fits in
+    let t = suffix_says l.lang l.datatype l.tagged suffix_fits in
     record {
       text = s.text ++ t.text;
       same = encodes-append s.text t.text ∙ (ap (λ z. z ++ encode_utf8_all t.text) s.same ∙ ap (λ z. string_text l.text ++ z) t.same);
@@ -298,8 +312,8 @@ line-body t = simp append_assoc
 
 line_says : (t : Triple) → TripleFits t → Says (λ x. IsTripleLine x (said t)) (body_text (node_text t.s) (iri_text t.p) (term_text t.o))
 unfolding body_text
-line_says t h =
-    let s = node_says t.s h.0 in let p = iri_says t.p h.1 in let o = term_says t.o h.2 in
+line_says t (subject, predicate, object) =
+    let s = node_says t.s subject in let p = iri_says t.p predicate in let o = term_says t.o object in
     let c = o.text ++ 32 ∷ 46 ∷ [] in
     let b = p.text ++ (32 ∷ [] ++ c) in
     let c_same : encode_utf8_all (32 ∷ [] ++ c) ≡ 32 ∷ [] ++ (term_text t.o ++ 32 ∷ 46 ∷ []) =
@@ -311,8 +325,8 @@ line_says t h =
       text = s.text ++ (32 ∷ [] ++ b);
       same = encodes-append s.text (32 ∷ [] ++ b) ∙ (ap (λ z. z ++ encode_utf8_all (32 ∷ [] ++ b)) s.same ∙ ap (λ z. node_text t.s ++ z) b_same);
       clean = good-append s.text (32 ∷ [] ++ b) s.clean
-          (good-append (32 ∷ []) b good_marks.6 (good-append p.text (32 ∷ [] ++ c) p.clean
-          (good-append (32 ∷ []) c good_marks.6 (good-append o.text (32 ∷ 46 ∷ []) o.clean good_marks.7))));
+          (good-append (32 ∷ []) b good_marks.space (good-append p.text (32 ∷ [] ++ c) p.clean
+          (good-append (32 ∷ []) c good_marks.space (good-append o.text (32 ∷ 46 ∷ []) o.clean good_marks.space_dot))));
       holds = (
         32 ∷ b,
         32 ∷ c,
@@ -356,8 +370,8 @@ record SaysAll (ts : List Triple) : Type 0 where
 
 all_say : (ts : List Triple) → AllByRecursion TripleFits ts → SaysAll ts
 all_say [] h = record { text = []; same = refl; clean = refl; lines = inl (tt, refl) }
-all_say (t ∷ ts) h =
-    let one = line_says t h.0 in let rest = all_say ts h.1 in
+all_say (t ∷ ts) (fits, others_fit) =
+    let one = line_says t fits in let rest = all_say ts others_fit in
     let bytes = body_text (node_text t.s) (iri_text t.p) (term_text t.o) in
     let parts : slice_split is_break (one.text ++ 10 ∷ rest.text) ≡ one.text ∷ slice_split is_break rest.text = split_line one.text rest.text one.clean in
     let split : line_text t ++ written ts ≡ bytes ++ 10 ∷ written ts = ap (λ z. z ++ written ts) (line-body t) ∙ append_assoc bytes (10 ∷ []) (written ts) in

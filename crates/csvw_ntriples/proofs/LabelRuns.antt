@@ -148,9 +148,9 @@ front_of p xs ys h = (and_parts (list_all p xs) (list_all p ys) (sym (list_all-a
 label_longest : (name dots end : List ℕ) → BeginsLabel name → list_all is_dot dots ≡ true → Stops (is_in class.Label) end
     → IsLongest (λ piece (v : List ℕ). IsLabel piece × (v ≡ piece)) name (dots ++ end)
 label_longest [] dots end b h s = absurd b
-label_longest (c ∷ cs) dots end b h s = λ more rest v e f.
-    let inside = back_of (is_in class.Label) (c ∷ cs) more (in_label_all (c ∷ cs ++ more) f.0) in
-    no_more c cs more (dots_front (is_in class.Label) dots end more rest h s inside e) f.0.1
+label_longest (c ∷ cs) dots end b h s = λ more rest v e ((start, tail), _).
+    let inside = back_of (is_in class.Label) (c ∷ cs) more (in_label_all (c ∷ cs ++ more) (start, tail)) in
+    no_more c cs more (dots_front (is_in class.Label) dots end more rest h s inside e) tail
 
 label_is : (name : List ℕ) → BeginsLabel name → list_all (is_in class.Label) name ≡ true → ((xs : List ℕ) → name ≡ xs ++ 46 ∷ [] → ⊥) → IsLabel name
 label_is [] b h none = absurd b
@@ -163,8 +163,13 @@ Parts text name dots end =
     × (list_all is_dot dots ≡ true) × ((xs : List ℕ) → name ≡ xs ++ 46 ∷ [] → ⊥)
 
 pub parts_of : (text front end : List ℕ) (n : ℕ) → IsRun (is_in class.Label) text front end → (w : EndsWithoutDot front n) → Parts text w.0 w.1 end
-parts_of text front end n r w =
-    (r.0 ∙ (ap (λ z. z ++ end) w.2 ∙ append_assoc w.0 w.1 end), subst (λ (z : List ℕ). list_all (is_in class.Label) z ≡ true) w.2 r.1, r.2, w.4, w.5)
+parts_of text front end n (text_is, inside, stops) (name, dots, front_is, _, are_dots, none) = (
+  text_is ∙ (ap (λ z. z ++ end) front_is ∙ append_assoc name dots end),
+  subst (λ (z : List ℕ). list_all (is_in class.Label) z ≡ true) front_is inside,
+  stops,
+  are_dots,
+  none,
+)
 
 -- cut after so many
 pub cut_at : (xs ys : List ℕ) (n : ℕ) → length xs ≡ n → (take n (xs ++ ys) ≡ xs) × (drop n (xs ++ ys) ≡ ys)
@@ -175,51 +180,50 @@ cut_at (x ∷ xs) ys (suc n) h = let r = cut_at xs ys n (omega arith) in (ap (λ
 
 pub label_found : (text name dots end bytes : List ℕ) → Parts text name dots end → BeginsLabel name → bytes ≡ encode_utf8_all name
     → TakesLabel bytes text (dots ++ end)
-label_found text name dots end bytes p b e =
-    (name, p.0, label_is name b (front_of (is_in class.Label) name dots p.1) p.4, label_longest name dots end b p.3 p.2, e)
+label_found text name dots end bytes (text_is, inside, stops, are_dots, none) b e =
+    (name, text_is, label_is name b (front_of (is_in class.Label) name dots inside) none, label_longest name dots end b are_dots stops, e)
 
 pub label_missing : (text name dots end : List ℕ) → Parts text name dots end → (BeginsLabel name → ⊥) → (v rest : List ℕ) → TakesLabel v text rest → ⊥
 label_missing text name dots end p none v rest ([], e, l, more, _) = absurd l
-label_missing text (x ∷ name) dots end p none v rest (c ∷ cs, e, l, more, _) =
-    let whole : x ∷ (name ++ (dots ++ end)) ≡ c ∷ (cs ++ rest) = sym p.0 ∙ e in
-    let same : x ≡ c = cc in none (subst (λ z. is_label_start z ≡ true) (sym same) l.0)
-label_missing text [] (d ∷ dots) end p none v rest (c ∷ cs, e, l, more, _) =
-    let whole : d ∷ (dots ++ end) ≡ c ∷ (cs ++ rest) = sym p.0 ∙ e in
+label_missing text (x ∷ name) dots end (text_is, _, _, _, _) none v rest (c ∷ cs, e, (start, _), more, _) =
+    let whole : x ∷ (name ++ (dots ++ end)) ≡ c ∷ (cs ++ rest) = sym text_is ∙ e in
+    let same : x ≡ c = cc in none (subst (λ z. is_label_start z ≡ true) (sym same) start)
+label_missing text [] (d ∷ dots) end (text_is, _, _, are_dots, _) none v rest (c ∷ cs, e, (start, _), more, _) =
+    let whole : d ∷ (dots ++ end) ≡ c ∷ (cs ++ rest) = sym text_is ∙ e in
     let same : d ≡ c = cc in
-    let dot = dot_is d (and_parts (is_dot d) (list_all is_dot dots) p.3).0 in
-    let wrong : is_label_start 46 ≡ true = subst (λ z. is_label_start z ≡ true) (sym same ∙ dot) l.0 in cc
-label_missing text [] [] [] p none v rest (c ∷ cs, e, l, more, _) = let whole : [] ≡ c ∷ (cs ++ rest) = sym p.0 ∙ e in cc
-label_missing text [] [] (x ∷ end) p none v rest (c ∷ cs, e, l, more, _) =
-    let whole : x ∷ end ≡ c ∷ (cs ++ rest) = sym p.0 ∙ e in
+    let dot = dot_is d (and_parts (is_dot d) (list_all is_dot dots) are_dots).0 in
+    let wrong : is_label_start 46 ≡ true = subst (λ z. is_label_start z ≡ true) (sym same ∙ dot) start in cc
+label_missing text [] [] [] (text_is, _, _, _, _) none v rest (c ∷ cs, e, l, more, _) = let whole : [] ≡ c ∷ (cs ++ rest) = sym text_is ∙ e in cc
+label_missing text [] [] (x ∷ end) (text_is, _, stops, _, _) none v rest (c ∷ cs, e, (start, _), more, _) =
+    let whole : x ∷ end ≡ c ∷ (cs ++ rest) = sym text_is ∙ e in
     let same : x ≡ c = cc in
-    let yes = start_in c l.0 in let wrong : is_in class.Label c ≡ false = subst (λ z. is_in class.Label z ≡ false) same p.2 in cc
+    let yes = start_in c start in let wrong : is_in class.Label c ≡ false = subst (λ z. is_in class.Label z ≡ false) same stops in cc
 
 -- blank nodes
 blank_takes : (text gap rest after v end : List ℕ) → IsRun is_blank text gap rest → rest ≡ 95 ∷ 58 ∷ after → TakesLabel v after end → TakesBlank v text end
-blank_takes text gap rest after v end r e t = (
+blank_takes text gap rest after v end (text_is, blank, _) e (name, after_is, is_label, longest, bytes) = (
   gap,
-  95 ∷ 58 ∷ t.0,
-  r.0 ∙ ap (λ z. gap ++ z) (e ∙ ap (λ z. 95 ∷ 58 ∷ z) t.1),
-  r.1,
-  (t.0, (refl, t.2), t.4),
-  λ more others w g f.
-      let inner : t.0 ++ more ≡ f.0 = let k : 95 ∷ 58 ∷ (t.0 ++ more) ≡ 95 ∷ 58 ∷ f.0 = f.1.0 in cc in
-      t.3 more others (t.0 ++ more) g (subst IsLabel (sym inner) f.1.1, refl),
+  95 ∷ 58 ∷ name,
+  text_is ∙ ap (λ z. gap ++ z) (e ∙ ap (λ z. 95 ∷ 58 ∷ z) after_is),
+  blank,
+  (name, (refl, is_label), bytes),
+  λ more others w g (longer, (marked, is), _).
+      let inner : name ++ more ≡ longer = let k : 95 ∷ 58 ∷ (name ++ more) ≡ 95 ∷ 58 ∷ longer = marked in cc in
+      longest more others (name ++ more) g (subst IsLabel (sym inner) is, refl),
 )
 
 blank_taken : (text gap rest v end : List ℕ) → IsRun is_blank text gap rest → TakesBlank v text end
     → (after : List ℕ) × (rest ≡ 95 ∷ 58 ∷ after) × TakesLabel v after end
-blank_taken text gap rest v end r t =
-    let name = t.4.0 in
-    let whole : t.1 ++ end ≡ 95 ∷ 58 ∷ (name ++ end) = ap (λ z. z ++ end) t.4.1.0 in (
+blank_taken text gap rest v end r (space, piece, spelled, blank, (name, (marked, is_label), bytes), longest) =
+    let whole : piece ++ end ≡ 95 ∷ 58 ∷ (name ++ end) = ap (λ z. z ++ end) marked in (
       name ++ end,
-      past_gap text gap rest t.0 (58 ∷ (name ++ end)) 95 r t.3 refl (t.2 ∙ ap (λ z. t.0 ++ z) whole),
+      past_gap text gap rest space (58 ∷ (name ++ end)) 95 r blank refl (spelled ∙ ap (λ z. space ++ z) whole),
       (
         name,
         refl,
-        t.4.1.1,
-        λ more others w g f. t.5 more others (encode_utf8_all (name ++ more)) g (name ++ more, (ap (λ z. z ++ more) t.4.1.0, f.0), refl),
-        t.4.2,
+        is_label,
+        λ more others w g (is, _). longest more others (encode_utf8_all (name ++ more)) g (name ++ more, (ap (λ z. z ++ more) marked, is), refl),
+        bytes,
       ),
     )
 
@@ -231,12 +235,12 @@ pub blank_found : (text gap rest after : List ℕ) (r : Result (List ℕ × Bor 
 blank_found text gap rest after (Ok v) run e f = blank_takes text gap rest after v.0 v.1.now run e f
 blank_found text gap rest after (Err Memory) run e f = tt
 blank_found text gap rest after (Err Syntax) run e f = λ v end t.
-    let k = blank_taken text gap rest v end run t in
-    f v end (subst (λ z. TakesLabel v z end) (two_tails k.0 after rest k.1 e) k.2)
+    let (behind, begins, takes) = blank_taken text gap rest v end run t in
+    f v end (subst (λ z. TakesLabel v z end) (two_tails behind after rest begins e) takes)
 
 pub blank_missing : (text gap rest : List ℕ) → IsRun is_blank text gap rest → ((after : List ℕ) → rest ≡ 95 ∷ 58 ∷ after → ⊥) → (v end : List ℕ)
     → TakesBlank v text end → ⊥
-blank_missing text gap rest run none v end t = let k = blank_taken text gap rest v end run t in none k.0 k.1
+blank_missing text gap rest run none v end t = let (after, begins, _) = blank_taken text gap rest v end run t in none after begins
 
 -- language tags
 tag_low_one : (c : ℕ) → is_in class.Tag c ≡ true → nat_lt c 128 ≡ true
@@ -259,13 +263,13 @@ none_more p (x ∷ end) (m ∷ more) after s h e =
 
 pub tag_found : (text front end bytes tag : List ℕ) → IsRun (is_in class.Tag) text front end → bytes ≡ encode_utf8_all front → tag ≡ bytes
     → is_language_tag bytes ≡ true → TagBefore tag text end
-tag_found text front end bytes tag r e f h =
-    let plain : bytes ≡ front = e ∙ encodes_low front (tag_low front r.1) in
+tag_found text front end bytes tag (text_is, inside, stops) e f h =
+    let plain : bytes ≡ front = e ∙ encodes_low front (tag_low front inside) in
     let is : is_language_tag front ≡ true = subst (λ (z : List ℕ). is_language_tag z ≡ true) plain h in (
       front,
-      r.0,
+      text_is,
       is,
-      λ more rest v g k. none_more (is_in class.Tag) end more rest r.2 (back_of (is_in class.Tag) front more (tag_in (front ++ more) k.0)) g,
+      λ more rest v g (longer, _). none_more (is_in class.Tag) end more rest stops (back_of (is_in class.Tag) front more (tag_in (front ++ more) longer)) g,
       f ∙ e,
     )
 
@@ -282,15 +286,15 @@ dot_stops (c ∷ cs) d = at (is_blank c) refl
 
 -- before a dot there is one tag
 pub tag_once : (text front end : List ℕ) → IsRun (is_in class.Tag) text front end → (v rest : List ℕ) → TagBefore v text rest → dark rest ≡ Some 46 → rest ≡ end
-tag_once text front end r v rest t d =
-    sym (run_once (is_in class.Tag) front t.0 end rest r.1 (tag_in t.0 t.2) r.2 (dot_stops rest d) (sym r.0 ∙ t.1)).1
+tag_once text front end (text_is, inside, stops) v rest (tag, tag_before, is_tag, _, _) d =
+    sym (run_once (is_in class.Tag) front tag end rest inside (tag_in tag is_tag) stops (dot_stops rest d) (sym text_is ∙ tag_before)).1
 
 pub tag_missing : (text front end bytes : List ℕ) → IsRun (is_in class.Tag) text front end → bytes ≡ encode_utf8_all front → is_language_tag bytes ≡ false
     → (v rest : List ℕ) → TagBefore v text rest → dark rest ≡ Some 46 → ⊥
-tag_missing text front end bytes r e h v rest t d =
-    let plain : bytes ≡ front = e ∙ encodes_low front (tag_low front r.1) in
-    let once = run_once (is_in class.Tag) front t.0 end rest r.1 (tag_in t.0 t.2) r.2 (dot_stops rest d) (sym r.0 ∙ t.1) in
-    let same : is_language_tag bytes ≡ true = subst (λ (z : List ℕ). is_language_tag z ≡ true) (sym (plain ∙ once.0)) t.2 in cc
+tag_missing text front end bytes (text_is, inside, stops) e h v rest (tag, tag_before, is_tag, _, _) d =
+    let plain : bytes ≡ front = e ∙ encodes_low front (tag_low front inside) in
+    let once = run_once (is_in class.Tag) front tag end rest inside (tag_in tag is_tag) stops (dot_stops rest d) (sym text_is ∙ tag_before) in
+    let same : is_language_tag bytes ≡ true = subst (λ (z : List ℕ). is_language_tag z ≡ true) (sym (plain ∙ once.0)) is_tag in cc
 
 -- the text cut behind the label
 pub label_split : (text name dots end a b : List ℕ) (n : ℕ) → Parts text name dots end → length name ≡ n → a ≡ take n text → b ≡ drop n text

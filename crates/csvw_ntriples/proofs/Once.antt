@@ -40,8 +40,8 @@ abbrev Goes : List ℕ → List ℕ → List ℕ → List ℕ → Type 0
 Goes p q a b = (more : List ℕ) × (q ≡ p ++ more) × (a ≡ more ++ b)
 
 goes_or : (x y : ℕ) (p q a b : List ℕ) → x ≡ y → Goes p q a b ⊎ Goes q p b a → Goes (x ∷ p) (y ∷ q) a b ⊎ Goes (y ∷ q) (x ∷ p) b a
-goes_or x y p q a b e (inl f) = let t = f.1 in let w : y ∷ q ≡ x ∷ (p ++ f.0) = cc in inl (f.0, w, f.2)
-goes_or x y p q a b e (inr f) = let t = f.1 in let w : x ∷ p ≡ y ∷ (q ++ f.0) = cc in inr (f.0, w, f.2)
+goes_or x y p q a b e (inl (more, longer, left)) = let w : y ∷ q ≡ x ∷ (p ++ more) = cc in inl (more, w, left)
+goes_or x y p q a b e (inr (more, longer, left)) = let w : x ∷ p ≡ y ∷ (q ++ more) = cc in inr (more, w, left)
 
 fronts : (p q a b : List ℕ) → p ++ a ≡ q ++ b → Goes p q a b ⊎ Goes q p b a
 fronts [] q a b e = inl (q, refl, e)
@@ -57,67 +57,68 @@ Starts {V} P mark = (p : List ℕ) (v : V) → P p v → (rest : List ℕ) × (p
 -- a terminal that begins with a mark
 module _ {V : Type 0} (P : List ℕ → V → Type 0) (mark : ℕ) (is_dark : is_blank mark ≡ false) (starts : Starts P mark) where
   takes_dark : (v : V) (text a : List ℕ) → Takes P v text a → dark text ≡ Some mark
-  takes_dark v text a f =
-      let s = starts f.1 v f.4 in
-      let whole : text ≡ f.0 ++ mark ∷ (s.0 ++ a) = f.2 ∙ ap (λ z. f.0 ++ (z ++ a)) s.1 in
-      ap dark whole ∙ dark_after f.0 mark (s.0 ++ a) f.3 is_dark
+  takes_dark v text a (gap, p, spelled, blank, has_v, _) =
+      let (rest, marked) = starts p v has_v in
+      let whole : text ≡ gap ++ mark ∷ (rest ++ a) = spelled ∙ ap (λ z. gap ++ (z ++ a)) marked in
+      ap dark whole ∙ dark_after gap mark (rest ++ a) blank is_dark
 
   piece_once : Functional P → (v w : V) (p q a b : List ℕ) → P p v → P q w → IsLongest P p a → IsLongest P q b → Goes p q a b ⊎ Goes q p b a → (v ≡ w) × (a ≡ b)
-  piece_once one v w p q a b f g l k (inl h) =
-      let none : h.0 ≡ [] = l h.0 b w h.2 (subst (λ z. P z w) h.1 g) in
-      let same : q ≡ p = h.1 ∙ (ap (λ z. p ++ z) none ∙ append-nil p) in
-      (one p v w f (subst (λ z. P z w) same g), h.2 ∙ ap (λ z. z ++ b) none)
-  piece_once one v w p q a b f g l k (inr h) =
-      let none : h.0 ≡ [] = k h.0 a v h.2 (subst (λ z. P z v) h.1 f) in
-      let same : p ≡ q = h.1 ∙ (ap (λ z. q ++ z) none ∙ append-nil q) in
-      (one q v w (subst (λ z. P z v) same f) g, sym (h.2 ∙ ap (λ z. z ++ a) none))
+  piece_once one v w p q a b f g l k (inl (more, longer, left)) =
+      let none : more ≡ [] = l more b w left (subst (λ z. P z w) longer g) in
+      let same : q ≡ p = longer ∙ (ap (λ z. p ++ z) none ∙ append-nil p) in
+      (one p v w f (subst (λ z. P z w) same g), left ∙ ap (λ z. z ++ b) none)
+  piece_once one v w p q a b f g l k (inr (more, longer, left)) =
+      let none : more ≡ [] = k more a v left (subst (λ z. P z v) longer f) in
+      let same : p ≡ q = longer ∙ (ap (λ z. q ++ z) none ∙ append-nil q) in
+      (one q v w (subst (λ z. P z v) same f) g, sym (left ∙ ap (λ z. z ++ a) none))
 
   takes_once : Functional P → (v w : V) (text a b : List ℕ) → Takes P v text a → Takes P w text b → (v ≡ w) × (a ≡ b)
-  takes_once one v w text a b f g =
-      let s = starts f.1 v f.4 in let t = starts g.1 w g.4 in
-      let left : f.1 ++ a ≡ mark ∷ (s.0 ++ a) = ap (λ z. z ++ a) s.1 in
-      let right : g.1 ++ b ≡ mark ∷ (t.0 ++ b) = ap (λ z. z ++ b) t.1 in
-      let whole : f.0 ++ mark ∷ (s.0 ++ a) ≡ g.0 ++ mark ∷ (t.0 ++ b) = ap (λ z. f.0 ++ z) (sym left) ∙ (sym f.2 ∙ (g.2 ∙ ap (λ z. g.0 ++ z) right)) in
-      let past = gap_once f.0 g.0 mark mark (s.0 ++ a) (t.0 ++ b) f.3 g.3 is_dark is_dark whole in
-      piece_once one v w f.1 g.1 a b f.4 g.4 f.5 g.5 (fronts f.1 g.1 a b (left ∙ (past ∙ sym right)))
+  takes_once one v w text a b (gap, p, p_spelled, gap_blank, has_v, p_longest) (space, q, q_spelled, space_blank, has_w, q_longest) =
+      let (xs, p_marked) = starts p v has_v in let (ys, q_marked) = starts q w has_w in
+      let left : p ++ a ≡ mark ∷ (xs ++ a) = ap (λ z. z ++ a) p_marked in
+      let right : q ++ b ≡ mark ∷ (ys ++ b) = ap (λ z. z ++ b) q_marked in
+      let whole : gap ++ mark ∷ (xs ++ a) ≡ space ++ mark ∷ (ys ++ b) =
+      ap (λ z. gap ++ z) (sym left) ∙ (sym p_spelled ∙ (q_spelled ∙ ap (λ z. space ++ z) right)) in
+      let past = gap_once gap space mark mark (xs ++ a) (ys ++ b) gap_blank space_blank is_dark is_dark whole in
+      piece_once one v w p q a b has_v has_w p_longest q_longest (fronts p q a b (left ∙ (past ∙ sym right)))
 
 -- the bytes of a terminal's text
 module _ (P : List ℕ → List ℕ → Type 0) where
   bytes_starts : (mark : ℕ) → Starts P mark → Starts (InBytes P) mark
-  bytes_starts mark starts p v f = starts p f.0 f.1
+  bytes_starts mark starts p v (text, stands, _) = starts p text stands
 
   bytes_one : Functional P → Functional (InBytes P)
-  bytes_one one p v w f g = f.2 ∙ (ap encode_utf8_all (one p f.0 g.0 f.1 g.1) ∙ sym g.2)
+  bytes_one one p v w (s, has_s, v_is) (t, has_t, w_is) = v_is ∙ (ap encode_utf8_all (one p s t has_s has_t) ∙ sym w_is)
 
 string_starts : Starts (InBytes IsString) 34
-string_starts p v f = (f.1.0 ++ 34 ∷ [], f.1.1)
+string_starts p v (text, (body, marked, _), _) = (body ++ 34 ∷ [], marked)
 
 iri_starts : Starts (InBytes IsIriref) 60
-iri_starts p v f = (f.1.0 ++ 62 ∷ [], f.1.1)
+iri_starts p v (text, (body, marked, _), _) = (body ++ 62 ∷ [], marked)
 
 tag_starts : Starts (InBytes IsLangtag) 64
-tag_starts p v f = (f.0, f.1.0)
+tag_starts p v (tag, (marked, _), _) = (tag, marked)
 
 blank_starts : Starts (InBytes IsBlankNode) 95
-blank_starts p v f = (58 ∷ f.0, f.1.0)
+blank_starts p v (label, (marked, _), _) = (58 ∷ label, marked)
 
 string_text_one : Functional IsString
-string_text_one p v w f g =
-    let whole : 34 ∷ (f.0 ++ 34 ∷ []) ≡ 34 ∷ (g.0 ++ 34 ∷ []) = sym f.1 ∙ g.1 in
-    let tails : f.0 ++ 34 ∷ [] ≡ g.0 ++ 34 ∷ [] = cc in
-    (body_once StringPiece 34 string_piece_once string_begins v w f.0 g.0 [] [] f.2 g.2 tails).0
+string_text_one p v w (s, s_marked, s_pieces) (t, t_marked, t_pieces) =
+    let whole : 34 ∷ (s ++ 34 ∷ []) ≡ 34 ∷ (t ++ 34 ∷ []) = sym s_marked ∙ t_marked in
+    let tails : s ++ 34 ∷ [] ≡ t ++ 34 ∷ [] = cc in
+    (body_once StringPiece 34 string_piece_once string_begins v w s t [] [] s_pieces t_pieces tails).0
 
 iri_text_one : Functional IsIriref
-iri_text_one p v w f g =
-    let whole : 60 ∷ (f.0 ++ 62 ∷ []) ≡ 60 ∷ (g.0 ++ 62 ∷ []) = sym f.1 ∙ g.1 in
-    let tails : f.0 ++ 62 ∷ [] ≡ g.0 ++ 62 ∷ [] = cc in
-    (body_once IriPiece 62 iri_piece_once iri_begins v w f.0 g.0 [] [] f.2 g.2 tails).0
+iri_text_one p v w (s, s_marked, s_pieces) (t, t_marked, t_pieces) =
+    let whole : 60 ∷ (s ++ 62 ∷ []) ≡ 60 ∷ (t ++ 62 ∷ []) = sym s_marked ∙ t_marked in
+    let tails : s ++ 62 ∷ [] ≡ t ++ 62 ∷ [] = cc in
+    (body_once IriPiece 62 iri_piece_once iri_begins v w s t [] [] s_pieces t_pieces tails).0
 
 tag_text_one : Functional IsLangtag
-tag_text_one p v w f g = let whole : 64 ∷ v ≡ 64 ∷ w = sym f.0 ∙ g.0 in cc
+tag_text_one p v w (v_marked, _) (w_marked, _) = let whole : 64 ∷ v ≡ 64 ∷ w = sym v_marked ∙ w_marked in cc
 
 blank_text_one : Functional IsBlankNode
-blank_text_one p v w f g = let whole : 95 ∷ 58 ∷ v ≡ 95 ∷ 58 ∷ w = sym f.0 ∙ g.0 in cc
+blank_text_one p v w (v_marked, _) (w_marked, _) = let whole : 95 ∷ 58 ∷ v ≡ 95 ∷ 58 ∷ w = sym v_marked ∙ w_marked in cc
 
 string_one : Functional (InBytes IsString)
 string_one p v w f g = bytes_one IsString string_text_one p v w f g
@@ -191,17 +192,19 @@ abbrev Dotted : List ℕ → List ℕ → Type 0
 Dotted a b = (dark a ≡ Some 46) × (dark b ≡ Some 46)
 
 type_once : (v w text a b : List ℕ) → Dotted a b → TakesSuffix None v text a → TakesSuffix None w text b → (v ≡ w) × (a ≡ b)
-type_once v w text a b d (inl f) (inl g) = (f.0 ∙ sym g.0, sym f.1 ∙ g.1)
-type_once v w text a b d (inl f) (inr g) = absurd (apart text 46 94 (ap dark f.1 ∙ d.0) (hats_dark text g.0 g.1) (differ 46 94 refl))
-type_once v w text a b d (inr f) (inl g) = absurd (apart text 94 46 (hats_dark text f.0 f.1) (ap dark g.1 ∙ d.1) (differ 94 46 refl))
-type_once v w text a b d (inr f) (inr g) =
-    let hats = takes_once (IsMark (codes "^^")) 94 refl (mark_starts 94 (94 ∷ [])) (mark_one (codes "^^")) tt tt text f.0 g.0 f.1 g.1 in
-    iri_once v w f.0 a b f.2 (subst (λ z. TakesIri w z b) (sym hats.1) g.2)
+type_once v w text a b d (inl (v_is, a_is)) (inl (w_is, b_is)) = (v_is ∙ sym w_is, sym a_is ∙ b_is)
+type_once v w text a b (a_dot, b_dot) (inl (_, a_is)) (inr (rest, hats, _)) =
+    absurd (apart text 46 94 (ap dark a_is ∙ a_dot) (hats_dark text rest hats) (differ 46 94 refl))
+type_once v w text a b (a_dot, b_dot) (inr (rest, hats, _)) (inl (_, b_is)) =
+    absurd (apart text 94 46 (hats_dark text rest hats) (ap dark b_is ∙ b_dot) (differ 94 46 refl))
+type_once v w text a b d (inr (x, x_hats, v_iri)) (inr (y, y_hats, w_iri)) =
+    let hats = takes_once (IsMark (codes "^^")) 94 refl (mark_starts 94 (94 ∷ [])) (mark_one (codes "^^")) tt tt text x y x_hats y_hats in
+    iri_once v w x a b v_iri (subst (λ z. TakesIri w z b) (sym hats.1) w_iri)
 
 -- a datatype and a language begin differently
 type_dark : (v text a : List ℕ) → dark a ≡ Some 46 → TakesSuffix None v text a → (dark text ≡ Some 46) ⊎ (dark text ≡ Some 94)
-type_dark v text a d (inl f) = inl (ap dark f.1 ∙ d)
-type_dark v text a d (inr f) = inr (hats_dark text f.0 f.1)
+type_dark v text a d (inl (_, a_is)) = inl (ap dark a_is ∙ d)
+type_dark v text a d (inr (rest, hats, _)) = inr (hats_dark text rest hats)
 
 not_tag : (text : List ℕ) → (dark text ≡ Some 46) ⊎ (dark text ≡ Some 94) → dark text ≡ Some 64 → ⊥
 not_tag text (inl f) g = apart text 46 64 f g (differ 46 64 refl)
@@ -221,13 +224,14 @@ same_lit a b c d e f p q r = ap (λ z. make_lit z c e) p ∙ (ap (λ z. make_lit
 
 lit_once : (m n : NtLit) (text a b : List ℕ) → Dotted a b → TakesLit m text a → TakesLit n text b → (m ≡ n) × (a ≡ b)
 unfolding make_lit
-lit_once m n text a b d f g =
-    let s = string_once m.text n.text text f.0 g.0 f.1 g.1 in
-    let t = suffix_once m.lang n.lang m.datatype n.datatype f.0 a b d f.2 (subst (λ z. TakesSuffix n.lang n.datatype z b) (sym s.1) g.2) in
-    (same_lit m.text n.text m.datatype n.datatype m.lang n.lang s.0 t.1 t.0, t.2)
+lit_once m n text a b d (x, m_string, m_suffix) (y, n_string, n_suffix) =
+    let (texts, rests) = string_once m.text n.text text x y m_string n_string in
+    let (langs, types, ends) = suffix_once m.lang n.lang m.datatype n.datatype x a b d m_suffix
+    (subst (λ z. TakesSuffix n.lang n.datatype z b) (sym rests) n_suffix) in
+    (same_lit m.text n.text m.datatype n.datatype m.lang n.lang texts types langs, ends)
 
 pub lit_dark : (m : NtLit) (text a : List ℕ) → TakesLit m text a → dark text ≡ Some 34
-lit_dark m text a f = string_dark m.text text f.0 f.1
+lit_dark m text a (rest, string, _) = string_dark m.text text rest string
 
 pub term_once : (m n : NtTerm) (text a b : List ℕ) → Dotted a b → TakesTerm m text a → TakesTerm n text b → (m ≡ n) × (a ≡ b)
 term_once (term.Named v) (term.Named w) text a b d f g = let h = iri_once v w text a b f g in (ap term.Named h.0, h.1)
@@ -248,10 +252,10 @@ same_triple a b c d e f p q r = ap (λ z. make_triple z c e) p ∙ (ap (λ z. ma
 
 pub triple_once : (line : List ℕ) (t u : NtTriple) → IsTripleLine line t → IsTripleLine line u → t ≡ u
 unfolding make_triple
-triple_once line t u f g =
-    let s = node_once t.s u.s line f.0 g.0 f.4 g.4 in
-    let p = iri_once t.p u.p f.0 f.1 g.1 f.5 (subst (λ z. TakesIri u.p z g.1) (sym s.1) g.5) in
-    let o = term_once t.o u.o f.1 f.2 g.2 (dot_dark f.2 f.3 f.7, dot_dark g.2 g.3 g.7) f.6 (subst (λ z. TakesTerm u.o z g.2) (sym p.1) g.6) in
+triple_once line t u (a, b, c, d, t_s, t_p, t_o, t_dot, _) (i, j, k, l, u_s, u_p, u_o, u_dot, _) =
+    let s = node_once t.s u.s line a i t_s u_s in
+    let p = iri_once t.p u.p a b j t_p (subst (λ z. TakesIri u.p z j) (sym s.1) u_p) in
+    let o = term_once t.o u.o b c k (dot_dark c d t_dot, dot_dark k l u_dot) t_o (subst (λ z. TakesTerm u.o z k) (sym p.1) u_o) in
     same_triple t.s u.s t.p u.p t.o u.o s.0 p.0 o.0
 
 -- a line with a triple isn't idle
@@ -261,7 +265,7 @@ idle_dark (x ∷ xs) c (inl f) g = let h : dark (35 ∷ xs) ≡ Some c = subst (
 idle_dark (x ∷ xs) c (inr f) g = idle_dark xs c f.1 (rw f.0 at g)
 
 pub not_idle : (line : List ℕ) (t : NtTriple) → IsIdle line → IsTripleLine line t → ⊥
-not_idle line t f g = not_35 (node_dark t.s line g.0 g.4)
+not_idle line t f (a, _, _, _, subject, _, _, _, _) = not_35 (node_dark t.s line a subject)
   where
     not_35 : (dark line ≡ Some 60) ⊎ (dark line ≡ Some 95) → ⊥
     not_35 (inl h) = differ 60 35 refl (idle_dark line 60 f h)
@@ -270,11 +274,10 @@ not_idle line t f g = not_35 (node_dark t.s line g.0 g.4)
 lines_once : (lines : List (List ℕ)) (xs ys : List NtTriple) → AreLines lines xs → AreLines lines ys → xs ≡ ys
 lines_once [] xs ys f g = f ∙ sym g
 lines_once (line ∷ lines) xs ys (inl f) (inl g) = lines_once lines xs ys f.1 g.1
-lines_once (line ∷ lines) xs ys (inl f) (inr g) = absurd (not_idle line g.0 f.0 g.3)
-lines_once (line ∷ lines) xs ys (inr f) (inl g) = absurd (not_idle line f.0 g.0 f.3)
-lines_once (line ∷ lines) xs ys (inr f) (inr g) =
-    let t = triple_once line f.0 g.0 f.3 g.3 in let r = lines_once lines f.1 g.1 f.4 g.4 in
-    let a = f.2 in let b = g.2 in cc
+lines_once (line ∷ lines) xs ys (inl (idle, _)) (inr (t, _, _, stands, _)) = absurd (not_idle line t idle stands)
+lines_once (line ∷ lines) xs ys (inr (t, _, _, stands, _)) (inl (idle, _)) = absurd (not_idle line t idle stands)
+lines_once (line ∷ lines) xs ys (inr (t, ts, xs_are, t_stands, ts_are)) (inr (u, us, ys_are, u_stands, us_are)) =
+    let first = triple_once line t u t_stands u_stands in let others = lines_once lines ts us ts_are us_are in cc
 
 -- the law
 pub denotes_once : (bytes : List ℕ) (xs ys : List NtTriple) → Denotes bytes xs → Denotes bytes ys → xs ≡ ys
