@@ -55,7 +55,7 @@ from_flat f [] y h = absurd (none_in y h)
 from_flat f (x ∷ xs) y h =
     elim (Contains-append_cases (f x) (flat_map f xs) y h) [
       | inl k ↦ (x, first_in x xs, k)
-      | inr k ↦ let rest = from_flat f xs y k in (rest.0, later_in x xs rest.0 rest.1, rest.2)
+      | inr k ↦ let (later, inside, has) = from_flat f xs y k in (later, later_in x xs later inside, has)
     ]
 
 pub to_flat : {X Y : Type 0} (f : X → List Y) (xs : List X) (x : X) (y : Y) → Contains xs x → Contains (f x) y → Contains (flat_map f xs) y
@@ -72,7 +72,7 @@ from_map f [] y h = absurd (none_in y h)
 from_map f (x ∷ xs) y h =
     elim (in_cons (f x) (map f xs) y h) [
       | inl e ↦ (x, first_in x xs, e)
-      | inr k ↦ let rest = from_map f xs y k in (rest.0, later_in x xs rest.0 rest.1, rest.2)
+      | inr k ↦ let (later, inside, image) = from_map f xs y k in (later, later_in x xs later inside, image)
     ]
 
 to_map : {X Y : Type 0} (f : X → Y) (xs : List X) (x : X) (y : Y) → Contains xs x → y ≡ f x → Contains (map f xs) y
@@ -104,15 +104,15 @@ module _ (entry : ℕ → Origin) (column : Column) where
   next_tail i y items = ap (λ m. drop m items) (add-one i) ∙ ap (λ m. drop m (y ∷ items)) (sym (add-one (suc i)))
 
   later_entry : (k : ℕ) (y : Item) (items : List Item) (x : Triple) → OfEntry (k + 1) items x → OfEntry k (y ∷ items) x
-  later_entry k y items x h =
-      let n = next_number h.0 k in
-      let tail = next_tail h.0 y items in (
-        suc h.0,
-        h.1,
-        h.2,
-        elim h.3 [
-          | inl e ↦ inl (e ∙ ap (λ m. first_triple entry column m h.1) n)
-          | inr e ↦ inr (e ∙ ap (λ m. rest_triple entry m (drop (h.0 + 1) items)) n ∙ ap (λ t. rest_triple entry (suc h.0 + k) t) tail)
+  later_entry k y items x (i, item, is_at, is_one) =
+      let n = next_number i k in
+      let tail = next_tail i y items in (
+        suc i,
+        item,
+        is_at,
+        elim is_one [
+          | inl e ↦ inl (e ∙ ap (λ m. first_triple entry column m item) n)
+          | inr e ↦ inr (e ∙ ap (λ m. rest_triple entry m (drop (i + 1) items)) n ∙ ap (λ t. rest_triple entry (suc i + k) t) tail)
         ],
       )
 
@@ -195,19 +195,20 @@ module _ (entry : ℕ → Origin) (column : Column) where
         | inr l ↦ inr (from_list 1 items x l)
       ]
   from_items s p items false x h =
-      let m = from_map (λ item. triple s p (term.Literal (literal_of column item))) items x h in
-      let e = whole s p _ x m.2 in
-      inl (e.0, e.1, (m.0, m.1, e.2))
+      let (item, inside, image) = from_map (λ item. triple s p (term.Literal (literal_of column item))) items x h in
+      let (subject, predicate, object) = whole s p _ x image in
+      inl (subject, predicate, (item, inside, object))
 
   to_items : (s : Node) (p : List ℕ) (items : List Item) (ordered : Bool) (x : Triple) → OfBy s p items ordered x → Contains (items_by s p items ordered) x
   to_items s p items true x h =
       elim h [
-        | inl e ↦ is_first _ _ x (same_triple x s p _ e.0 e.1 e.2)
-        | inr l ↦ later_in _ _ x (to_list 1 items x l.0 l.1 l.2 l.3)
+        | inl (subject, predicate, object) ↦ is_first _ _ x (same_triple x s p _ subject predicate object)
+        | inr (i, item, is_at, is_one) ↦ later_in _ _ x (to_list 1 items x i item is_at is_one)
       ]
   to_items s p items false x h =
       elim h [
-        | inl e ↦ to_map (λ item. triple s p (term.Literal (literal_of column item))) items e.2.0 x e.2.1 (same_triple x s p _ e.0 e.1 e.2.2)
+        | inl (subject, predicate, (item, inside, object)) ↦
+            to_map (λ item. triple s p (term.Literal (literal_of column item))) items item x inside (same_triple x s p _ subject predicate object)
         | inr l ↦ absurd l
       ]
 
@@ -242,21 +243,17 @@ given b xs x e h = subst (λ t. Contains (cond t [] xs) x) (sym e) h
 pub from_row : (t : ℕ) (columns : Columns) (row : Row) (x : Triple) → Contains (minimal_triples t columns row) x → MinimalRow t columns row x
 from_row t columns row x h =
     let all = unless columns.suppressed (cells_triples t row.number columns.columns row.cells) x h in
-    let c = from_flat (λ p. cell_triples t row.number p.0 p.1) (zip columns.columns row.cells) x all.1 in
-    let column = c.0.0 in
-    let cell = c.0.1 in
+    let ((column, cell), is_cell, of_cell) = from_flat (λ p. cell_triples t row.number p.0 p.1) (zip columns.columns row.cells) x all.1 in
     let entry = entries_of t row.number column in
-    let one = unless column.suppressed (object_triples (subject_of t row.number cell) (predicate_of column cell) entry column cell.value cell.link) x c.2 in
-    (all.0, column, cell, c.1, one.0, from_value entry column (subject_of t row.number cell) (predicate_of column cell) cell.value cell.link x one.1)
+    let one = unless column.suppressed (object_triples (subject_of t row.number cell) (predicate_of column cell) entry column cell.value cell.link) x of_cell in
+    (all.0, column, cell, is_cell, one.0, from_value entry column (subject_of t row.number cell) (predicate_of column cell) cell.value cell.link x one.1)
 
 pub to_row : (t : ℕ) (columns : Columns) (row : Row) (x : Triple) → MinimalRow t columns row x → Contains (minimal_triples t columns row) x
-to_row t columns row x h =
-    let column = h.1 in
-    let cell = h.2 in
+to_row t columns row x (table_shown, column, cell, is_cell, column_shown, is_of_cell) =
     let entry = entries_of t row.number column in
-    let objects = to_value entry column (subject_of t row.number cell) (predicate_of column cell) cell.value cell.link x h.5 in
-    let of_cell : Contains (cell_triples t row.number column cell) x = given column.suppressed _ x h.4 objects in
-    given columns.suppressed _ x h.0 (to_flat (λ p. cell_triples t row.number p.0 p.1) (zip columns.columns row.cells) (column, cell) x h.3 of_cell)
+    let objects = to_value entry column (subject_of t row.number cell) (predicate_of column cell) cell.value cell.link x is_of_cell in
+    let of_cell : Contains (cell_triples t row.number column cell) x = given column.suppressed _ x column_shown objects in
+    given columns.suppressed _ x table_shown (to_flat (λ p. cell_triples t row.number p.0 p.1) (zip columns.columns row.cells) (column, cell) x is_cell of_cell)
 
 -- the laws
 pub minimal_row : (t : ℕ) (columns : Columns) (row : Row) (x : Triple) → Contains (minimal_triples t columns row) x ↔ MinimalRow t columns row x
@@ -265,6 +262,6 @@ minimal_row t columns row x = (from_row t columns row x, to_row t columns row x)
 pub minimal_rows : (t : ℕ) (columns : Columns) (rows : List Row) (x : Triple)
     → Contains (flat_map (minimal_triples t columns) rows) x ↔ Minimal t (Some columns) rows x
 minimal_rows t columns rows x = (
-  λ h. let r = from_flat (minimal_triples t columns) rows x h in (r.0, r.1, from_row t columns r.0 x r.2),
-  λ h. to_flat (minimal_triples t columns) rows h.0 x h.1 (to_row t columns h.0 x h.2),
+  λ h. let (row, inside, has) = from_flat (minimal_triples t columns) rows x h in (row, inside, from_row t columns row x has),
+  λ (row, inside, is_of_row). to_flat (minimal_triples t columns) rows row x inside (to_row t columns row x is_of_row),
 )
