@@ -141,7 +141,8 @@ module _ {R : Type 0} (remaining : R → Option (List ℕ)) (described : Documen
   InTexts reason = TextsSoFar remaining olds news (λ events. IsReason plan olds news reason events × Leaves m plan out reason events)
 
   halts : (reason : Stop) → InTexts reason → Halts remaining described m olds news after reason
-  halts reason h = (plan, h.0, record { planned = planned; many = many; gave = h.1 }, (h.2.0, leaves_kept reason h.0 h.2.1))
+  halts reason (events, gave, (because, left)) =
+      (plan, events, record { planned = planned; many = many; gave = gave }, (because, leaves_kept reason events left))
 
   -- the whole graph
   group : HaveTables remaining plan olds news (λ tables. Added m out (GraphOf m plan tables) []) → WroteGroup remaining described m olds news after
@@ -170,22 +171,23 @@ module _ {R : Type 0} (remaining : R → Option (List ℕ)) (described : Documen
 
   kept_stop : (reason : Stop) → failed ≡ out.failed → IsIdle report_out → Converts remaining m plan olds news out (Err reason)
       → StopsSo remaining described m olds news after report_out reason
-  kept_stop stop.Memory e quiet h = elim h.0 [
-    | inl s ↦ inr (inl (halts stop.Memory s, e ∙ h.1, quiet))
-    | inr w ↦ inr (inr (group w.1, e ∙ h.1))
+  kept_stop stop.Memory e quiet (why, sound) = elim why [
+    | inl s ↦ inr (inl (halts stop.Memory s, e ∙ sound, quiet))
+    | inr (_, whole) ↦ inr (inr (group whole, e ∙ sound))
   ]
-  kept_stop stop.Read e quiet h = (halts stop.Read (not_memory stop.Read (λ k. cc) h.0), e ∙ h.1, quiet)
-  kept_stop stop.Write e quiet h = inl ((stop.Write, halts stop.Write (not_memory stop.Write (λ k. cc) h.0)), (λ room. e ∙ h.1 room), quiet)
-  kept_stop (stop.Rows t row reason) e quiet h =
-      (halts (stop.Rows t row reason) (not_memory (stop.Rows t row reason) (λ k. cc) h.0), e ∙ h.1, quiet)
-  kept_stop (stop.Table t row reason) e quiet h =
-      (halts (stop.Table t row reason) (not_memory (stop.Table t row reason) (λ k. cc) h.0), e ∙ h.1, quiet)
-  kept_stop (stop.Meta fault) e quiet h = let s = not_memory (stop.Meta fault) (λ k. cc) h.0 in absurd s.2.0
-  kept_stop stop.TableCount e quiet h = let s = not_memory stop.TableCount (λ k. cc) h.0 in absurd s.2.0
-  kept_stop stop.UnknownTable e quiet h = let s = not_memory stop.UnknownTable (λ k. cc) h.0 in absurd s.2.0
-  kept_stop stop.AfterEnd e quiet h = let s = not_memory stop.AfterEnd (λ k. cc) h.0 in absurd s.2.0
-  kept_stop stop.NotEnded e quiet h = let s = not_memory stop.NotEnded (λ k. cc) h.0 in absurd s.2.0
-  kept_stop stop.Failed e quiet h = let s = not_memory stop.Failed (λ k. cc) h.0 in absurd s.2.0
+  kept_stop stop.Read e quiet (why, sound) = (halts stop.Read (not_memory stop.Read (λ k. cc) why), e ∙ sound, quiet)
+  kept_stop stop.Write e quiet (why, fails) =
+      inl ((stop.Write, halts stop.Write (not_memory stop.Write (λ k. cc) why)), (λ room. e ∙ fails room), quiet)
+  kept_stop (stop.Rows t row reason) e quiet (why, sound) =
+      (halts (stop.Rows t row reason) (not_memory (stop.Rows t row reason) (λ k. cc) why), e ∙ sound, quiet)
+  kept_stop (stop.Table t row reason) e quiet (why, sound) =
+      (halts (stop.Table t row reason) (not_memory (stop.Table t row reason) (λ k. cc) why), e ∙ sound, quiet)
+  kept_stop (stop.Meta fault) e quiet (why, _) = let (_, _, (because, _)) = not_memory (stop.Meta fault) (λ k. cc) why in absurd because
+  kept_stop stop.TableCount e quiet (why, _) = let (_, _, (because, _)) = not_memory stop.TableCount (λ k. cc) why in absurd because
+  kept_stop stop.UnknownTable e quiet (why, _) = let (_, _, (because, _)) = not_memory stop.UnknownTable (λ k. cc) why in absurd because
+  kept_stop stop.AfterEnd e quiet (why, _) = let (_, _, (because, _)) = not_memory stop.AfterEnd (λ k. cc) why in absurd because
+  kept_stop stop.NotEnded e quiet (why, _) = let (_, _, (because, _)) = not_memory stop.NotEnded (λ k. cc) why in absurd because
+  kept_stop stop.Failed e quiet (why, _) = let (_, _, (because, _)) = not_memory stop.Failed (λ k. cc) why in absurd because
 
   stop_sound : (reason : Stop) → reason ≢ stop.Write → EndsBy (IsSound out) (Rises out) reason → IsSound out
   stop_sound stop.Write ne h = absurd (ne refl)

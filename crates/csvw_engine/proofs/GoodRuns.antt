@@ -34,8 +34,8 @@ lawful_at (p ∷ plans) (suc i) plan ready e = lawful_at plans i plan ready.1 e
 -- each place of a list is one of another that is as long
 at_place : {X Y : Type 0} (xs : List X) (ys : List Y) (i : ℕ) (x : X) → length ys ≡ length xs → slice_get xs i ≡ Some x → (y : Y) × (slice_get ys i ≡ Some y)
 at_place xs ys i x many e = elim (slice_get_cases ys i).1 [
-  | inl k ↦ (k.0, k.2)
-  | inr past ↦ let below = slice_get_within xs i x e in let over = past.0 in absurd (omega (arith, many, below, over))
+  | inl (y, _, is_at, _) ↦ (y, is_at)
+  | inr (over, _) ↦ let below = slice_get_within xs i x e in absurd (omega (arith, many, below, over))
 ]
 
 -- what is left of known bytes
@@ -86,15 +86,15 @@ module _ (accepted : GoodTextsAreAccepted) (without_faults : GroupsHaveNoFaults)
 
     goes_on : (t i : ℕ) (table : TablePlan) → i + 1 ≡ t → slice_get plan.tables i ≡ Some table → GoesOnToTable table (text_of events t) (ended_in events t)
     goes_on t i table number e =
-        let reader = at_place plan.tables olds i table reads.many e in
-        let now = at_place olds news i reader.0 reads.gave.many reader.1 in
-        let own = at_place plan.tables good.tables i table annotated.many e in
-        let left = left_at t i reader.0 now.0 number reader.1 now.1 in
+        let (old, was) = at_place plan.tables olds i table reads.many e in
+        let (new, is) = at_place olds news i old reads.gave.many was in
+        let (own, own_is) = at_place plan.tables good.tables i table annotated.many e in
+        let left = left_at t i old new number was is in
         record {
           more = left.more;
           none_left = left.none;
-          table = own.0;
-          annotated = subst (λ text. IsAnnotated table text own.0) left.parted (annotated.each i table own.0 e own.1);
+          table = own;
+          annotated = subst (λ text. IsAnnotated table text own) left.parted (annotated.each i table own e own_is);
         }
 
     not_stopped : (t row : ℕ) (reason : _) → StopsInText plan events t row reason → ⊥
@@ -115,8 +115,10 @@ module _ (accepted : GoodTextsAreAccepted) (without_faults : GroupsHaveNoFaults)
   ok_or_lacks mode out report_out (Err stop.Write) h = inr (inr refl)
   ok_or_lacks mode out report_out (Err (stop.Meta fault)) h = absurd (no_fault fault h.0)
   ok_or_lacks mode out report_out (Err stop.TableCount) h = absurd (h.0.apart (as_many h.0.plan h.0.planned))
-  ok_or_lacks mode out report_out (Err (stop.Rows t row reason)) h = absurd (not_stopped h.0.0 h.0.1 h.0.2 t row reason h.0.3.0)
-  ok_or_lacks mode out report_out (Err (stop.Table t row reason)) h = absurd (not_refused h.0.0 h.0.1 h.0.2 t row reason h.0.3.0)
+  ok_or_lacks mode out report_out (Err (stop.Rows t row reason)) ((plan, events, reads, (stops, _)), _, _) =
+      absurd (not_stopped plan events reads t row reason stops)
+  ok_or_lacks mode out report_out (Err (stop.Table t row reason)) ((plan, events, reads, (refuses, _)), _, _) =
+      absurd (not_refused plan events reads t row reason refuses)
   ok_or_lacks mode out report_out (Err stop.UnknownTable) h = absurd h
   ok_or_lacks mode out report_out (Err stop.AfterEnd) h = absurd h
   ok_or_lacks mode out report_out (Err stop.NotEnded) h = absurd h

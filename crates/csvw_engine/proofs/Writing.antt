@@ -123,15 +123,15 @@ cut_from held holds true true all ts rest p fit q s =
       fits = fit;
       added = subst (λ xs. Appends held holds xs) (sym (append-nil (written ts))) s;
     }
-cut_from held holds true false all ts rest p fit q s =
-    let fits = subst (AllByRecursion TripleFits) s.3 fit in record {
-      front = s.0;
-      rest = s.1 ∷ rest;
-      more = take s.2 (written (s.1 ∷ []));
-      parts = p ∙ ap (λ z. z ++ rest) s.3 ∙ append_assoc s.0 (s.1 ∷ []) rest;
-      line = inr (last_fits s.0 s.1 fits, s.2, s.4, refl);
-      fits = first_fit s.0 s.1 fits;
-      added = s.5;
+cut_from held holds true false all ts rest p fit q (front, cut, n, ts_are, short, added) =
+    let fits = subst (AllByRecursion TripleFits) ts_are fit in record {
+      front = front;
+      rest = cut ∷ rest;
+      more = take n (written (cut ∷ []));
+      parts = p ∙ ap (λ z. z ++ rest) ts_are ∙ append_assoc front (cut ∷ []) rest;
+      line = inr (last_fits front cut fits, n, short, refl);
+      fits = first_fit front cut fits;
+      added = added;
     }
 cut_from held holds false b all ts rest p fit q s = cc
 
@@ -159,7 +159,7 @@ pub same_lent : {R W : Type 0} (contents : W → Option (List ℕ)) (remaining :
     (olds news : List (Counted R)) (start now : NtSink W) (result : Result Outcome Stop)
     → TakesTables (takes contents) sink_is_open failed_of remaining m plan olds news start now result → (sink_out now).ghost_name ≡ (sink_out start).ghost_name
 same_lent contents remaining m plan olds news start now (Ok outcome) h = h.gives.took.gained.0
-same_lent contents remaining m plan olds news start now (Err reason) h = h.0.1.0
+same_lent contents remaining m plan olds news start now (Err reason) ((_, (lent, _, _)), _, _) = lent
 
 module _ {W : Type 0} (contents : W → Option (List ℕ)) (laws : LineLaws) (out : Stream) (start now : NtSink W) (streams : Streams contents out start now) where
   steady : IsAsReady sink_is_open failed_of start now → out.failed ≡ out.failures
@@ -306,22 +306,22 @@ module _ {W : Type 0} (contents : W → Option (List ℕ)) (laws : LineLaws) (ou
     violations = h.violations;
     gives = (wrote m plan h.tables h.gives.took h.gives.ready, graph_of m plan h.tables h.gives.took h.gives.ready);
   }
-  converted remaining m plan olds news (Err reason) h = (
-    elim h.1 [
-      | inl s ↦ inl (s.0, s.1, (s.2.0, leaves m plan reason s.0 olds news s.2.0 s.2.1 h.2))
-      | inr w ↦ inr (
-        w.0,
+  converted remaining m plan olds news (Err reason) (_, stops, ends) = (
+    elim stops [
+      | inl (events, gave, (because, left)) ↦ inl (events, gave, (because, leaves m plan reason events olds news because left ends))
+      | inr (memory, whole) ↦ inr (
+        memory,
         record {
-          texts = w.1.texts;
-          read = w.1.read;
-          tables = w.1.tables;
-          annotated = w.1.annotated;
-          gives = graph_of m plan w.1.tables w.1.gives.took w.1.gives.ready;
+          texts = whole.texts;
+          read = whole.read;
+          tables = whole.tables;
+          annotated = whole.annotated;
+          gives = graph_of m plan whole.tables whole.gives.took whole.gives.ready;
         },
       )
     ],
     ends_as _ _ _ _ steady (λ fails room. streams.failed
-        ∙ (fails streams.begun (rw streams.failures at room) ∙ ap (λ n. n + 1) (sym streams.failures))) reason h.2,
+        ∙ (fails streams.begun (rw streams.failures at room) ∙ ap (λ n. n + 1) (sym streams.failures))) reason ends,
   )
 
   -- at a plan and a mode that are these
