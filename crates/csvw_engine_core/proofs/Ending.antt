@@ -129,12 +129,12 @@ module _ {S : Type 0} (gains : S → List Triple → S → Type 0) (is_open : S 
       -- or is refused
       settle_ends : GivenFirst → IsAsReady is_open failed before.sink now.sink → (new : Table) (r : Result Unit Halt) → SettlesHead plan mid new r
           → EndOutcome gains is_open failed plan mode bytes given rows old new before now r
-      settle_ends law ready new (Ok u) s = (settled_end new s.0 s.1, ready)
+      settle_ends law ready new (Ok u) (same, settled) = (settled_end new same settled, ready)
       settle_ends law ready new (Err halt.Memory) s =
           (some_given gains is_open failed stays goes_on plan mode bytes true given rows old before law mid now g, ready)
       settle_ends law ready new (Err halt.Write) s = absurd s.1
       settle_ends law ready new (Err (halt.Rows row stop)) s = absurd s.1
-      settle_ends law ready new (Err (halt.Table row stop)) s = (
+      settle_ends law ready new (Err (halt.Table row stop)) (_, (gives_none, source)) = (
         record {
           raws = g.raws;
           more = g.more;
@@ -147,8 +147,8 @@ module _ {S : Type 0} (gains : S → List Triple → S → Type 0) (is_open : S 
             record {
               short = short;
               refused = subst (λ z. GivesNone plan z (first_width (header_count plan) (given ++ g.raws)) stop) (sym heads_all)
-                  (subst (λ w. GivesNone plan mid.head.rows w stop) (sym (short_width (header_count plan) (given ++ g.raws) short)) s.1.0);
-              row_is = s.1.1 ∙ (ap (λ z. source_of z 0) (g.holds.head.waits none) ∙ first_at_end (given ++ g.raws));
+                  (subst (λ w. GivesNone plan mid.head.rows w stop) (sym (short_width (header_count plan) (given ++ g.raws) short)) gives_none);
+              row_is = source ∙ (ap (λ z. source_of z 0) (g.holds.head.waits none) ∙ first_at_end (given ++ g.raws));
             },
           );
           took = g.took;
@@ -158,7 +158,7 @@ module _ {S : Type 0} (gains : S → List Triple → S → Type 0) (is_open : S 
 
     pub ends : GivenFirst → IsAsReady is_open failed before.sink now.sink → (new : Table) (r : Result Unit Halt) → SettlesTable plan mid new r
         → EndOutcome gains is_open failed plan mode bytes given rows old new before now r
-    ends law ready new r (inl s) =
-        subst (EndOutcome gains is_open failed plan mode bytes given rows old new before now) (sym s.3)
-        (subst (λ t. GivesWhole gains plan mode bytes rows old t before now) (sym s.2) (known_end s.0 s.1), ready)
-    ends law ready new r (inr s) = settle_ends s.0 law ready new r s.1
+    ends law ready new r (inl (columns, known, same, ok)) =
+        subst (EndOutcome gains is_open failed plan mode bytes given rows old new before now) (sym ok)
+        (subst (λ t. GivesWhole gains plan mode bytes rows old t before now) (sym same) (known_end columns known), ready)
+    ends law ready new r (inr (none, settles)) = settle_ends none law ready new r settles

@@ -6,5 +6,5 @@ use Rattle.csvw_engine_core.proofs.table.tell_row.Goals as goal
 pub returns : goal.returns
 returns c =
     let none : (c.loop-column.column-iterator.a.rest.now ≡ []) ⊎ (c.loop-column.column-iterator.b.rest.now ≡ []) =
-    elim c.in-None.ensures.steps [ inl w ↦ inl (no_items _ w.1.0) | inr w ↦ inr (no_items _ w.1.0) ] in
+    elim c.in-None.ensures.steps [ inl (_, (none, _)) ↦ inl (no_items _ none) | inr (_, (none, _)) ↦ inr (no_items _ none) ] in
     told_all _ c.loop-column.column-iterator.a.rest.now c.loop-column.column-iterator.b.rest.now c.loop-column.faults _ none c.loop-column.invariant
