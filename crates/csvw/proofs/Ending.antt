@@ -11,9 +11,9 @@ use Rattle.csvw_meta.specs.Document.{document}
 
 pub ends : (L : Stream → Result Outcome Stop → Type 0) (a b c : Option (List ℕ)) (n m k : ℕ) (r : Result Outcome Stop) (status : ℕ)
     → L (stream a b n m) r → EndsSo r (stream b c m k) status → ComesToEnd L (stream a c n k) status ⊎ StopsEarly L (stream a c n k) status
-ends L a b c n m k (Ok outcome) status leaves end = inl (record {
+ends L a b c n m k (Ok outcome) status leaves end = let idle = end.0 in inl (record {
   outcome = outcome;
-  leaves = subst (λ s. L s (Ok outcome)) (ap₂ (λ h f. stream a h n f) (sym end.0.0) (sym end.0.1)) leaves;
+  leaves = subst (λ s. L s (Ok outcome)) (ap₂ (λ h f. stream a h n f) (sym idle.0) (sym idle.1)) leaves;
   status_is = end.1;
 })
 ends L a b c n m k (Err reason) status leaves end = inr (record {

@@ -157,7 +157,8 @@ last_none d c (x ∷ rest) n (inr u) = no_term d c x rest n (inl (λ e. u (ap (�
 plain_chunk : (d : Dialect) (cs after : List ℕ) → HasNoSymbol d cs → IsApart d cs after → IsPlain d cs after
 plain_chunk d [] after h u = tt
 plain_chunk d (c ∷ []) after h u = (h.0, quote_not d.quote_char c h.1, last_none d c after h.2 u, tt)
-plain_chunk d (c ∷ e ∷ cs) after h u = (h.0, quote_not d.quote_char c h.1, no_term d c e (cs ++ after) h.2 (inl h.3.2), plain_chunk d (e ∷ cs) after h.3 u)
+plain_chunk d (c ∷ e ∷ cs) after (no_delimiter, no_quote, no_end, others) u =
+    (no_delimiter, quote_not d.quote_char c no_quote, no_term d c e (cs ++ after) no_end (inl others.2), plain_chunk d (e ∷ cs) after others u)
 
 inside_keeps : (d : Dialect) (c : ℕ) (ends : Bool) → quote_is d.quote_char c ≡ false → (d.double_quote ≡ false → c ≢ 92) → step_of d Inside c ends ≡ Keep Inside
 inside_keeps d c ends q n = rw q (tests d.double_quote (c == 92) (λ e. differs c 92 (n e)))

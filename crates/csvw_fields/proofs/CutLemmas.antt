@@ -97,7 +97,8 @@ plain_of d s (c ∷ []) x rest y a why =
     )
 plain_of d s (c ∷ e ∷ cs) x rest y a why =
     let t = or_three (c == s.delimiter) (c == s.quote) (c == 10) a.0 in
-    let u = or_three (e == s.delimiter) (e == s.quote) (e == 10) a.1.0 in (
+    let behind = a.1 in
+    let u = or_three (e == s.delimiter) (e == s.quote) (e == 10) behind.0 in (
       (λ h. other_of c s.delimiter t.0 (h ∙ y.delimiter)),
       no_quote_char d s c y (other_of c s.quote t.1),
       no_term d c e (cs ++ x ∷ rest) (other_of c 10 t.2) (inl (other_of e 10 u.2)),

@@ -46,12 +46,12 @@ TableIn plans ts m rows x = (i : ℕ) × (plan : TablePlan) × (t : State) × ((
 module _ (law : RowsAreGraph) (plans : List TablePlan) (ts : List State) (texts : ℕ → List ℕ) (rows : ℕ → List Row) (tables : List Table)
     (are : AreEnded plans ts texts rows tables) where
   into_graph : (m : Mode) (x : Triple) → TableIn plans ts m rows x → RowsOf m plans tables x
-  into_graph m x h =
-      let k = table_at plans ts texts rows tables are h.0 h.1 h.2 h.3.0 h.3.1 in
-      let c = subst (λ z. Contains (table_triples m h.1.number z (rows h.0)) x) k.ends_as.columns h.4 in
-      let own = subst (λ rs. TableGraph m h.1.number (Some k.table.columns) rs x) (sym k.ends_as.rows_are)
-      ((law m h.1.number k.table.columns (rows h.0) x).0 c) in
-      (h.0, h.1, k.table, h.3.0, k.is_at, own)
+  into_graph m x (i, plan, state, (planned, stands), given) =
+      let k = table_at plans ts texts rows tables are i plan state planned stands in
+      let c = subst (λ z. Contains (table_triples m plan.number z (rows i)) x) k.ends_as.columns given in
+      let own = subst (λ rs. TableGraph m plan.number (Some k.table.columns) rs x) (sym k.ends_as.rows_are)
+      ((law m plan.number k.table.columns (rows i) x).0 c) in
+      (i, plan, k.table, planned, k.is_at, own)
 
   from_graph : (m : Mode) (x : Triple) → RowsOf m plans tables x → TableIn plans ts m rows x
   from_graph m x h =

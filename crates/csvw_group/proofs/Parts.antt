@@ -116,12 +116,12 @@ triples_are_graph law mode.Standard t None rows x = (λ c. none_in x c, λ g. ab
 
 module _ {S : Type 0} (rows_law : RowsAreGraph) (s : Session S) (rows : ℕ → List Row) where
   into_parts : (x : Triple) → RowsGraph s rows x → PartRows s.mode s.plan.tables (part_at s.tables.items rows) x
-  into_parts x h = (
-    h.0,
-    h.1,
-    h.3.0,
-    subst (λ c. TableGraph s.mode h.1.number c (rows h.0) x) (sym (ap columns_at h.3.1))
-        ((triples_are_graph rows_law s.mode h.1.number (columns_of h.2) (rows h.0) x).0 h.4),
+  into_parts x (i, plan, state, (planned, stands), given) = (
+    i,
+    plan,
+    planned,
+    subst (λ c. TableGraph s.mode plan.number c (rows i) x) (sym (ap columns_at stands))
+        ((triples_are_graph rows_law s.mode plan.number (columns_of state) (rows i) x).0 given),
   )
 
   from_parts : (x : Triple) → PartRows s.mode s.plan.tables (part_at s.tables.items rows) x → RowsGraph s rows x

@@ -64,8 +64,9 @@ module _ (s : List ℕ) (h : (f : TruthFormat) → AreTruthTexts f → s ≢ tru
 pub truths_as : (s : List ℕ) (o : Option TruthFormat)
     → MatchOption o ((f : TruthFormat) → AreTruthTexts f → s ≢ truth_pattern f) (λ f. AreTruthTexts f × (s ≡ truth_pattern f)) → o ≡ truth_format_of s
 truths_as s None h = sym (none_of s h (behind_bar s) refl)
-truths_as s (Some f) h =
-    rw (h.1, before_is f.if_true f.if_false h.0.0.1, behind_is f.if_true f.if_false h.0.0.1, lawful_are f h.0) refl
+truths_as s (Some f) ((if_true, if_false, apart), is) =
+    let no_bar = if_true.1 in
+    rw (is, before_is f.if_true f.if_false no_bar, behind_is f.if_true f.if_false no_bar, lawful_are f (if_true, if_false, apart)) refl
 
 pub truths_answer : {E : Type 0} (s : List ℕ) (r : Result (Option TruthFormat) E)
     → IfOk r (λ o. MatchOption o ((f : TruthFormat) → AreTruthTexts f → s ≢ truth_pattern f) (λ f. AreTruthTexts f × (s ≡ truth_pattern f)))

@@ -96,9 +96,10 @@ loop-room-preserved-in-Row g c =
     let k = rw c.in-Row.is at c.in_ok-row.ensures in
     let t = c.in_ok-tell-in-Row.ensures in
     let gave = c.in_ok-give-in-Row.ensures in
+    let stays = gave.1 in
     record {
       ended = ap (λ (x : Table). is_ended x) t.same ∙ (k.0.ended ∙ i.ended);
-      ready = (gave.1.0 ∙ i.ready.0, gave.1.1 ∙ i.ready.1);
+      ready = (stays.0 ∙ i.ready.0, stays.1 ∙ i.ready.1);
       gone = λ mode bytes ended given rows h.
           gone_row s.gains s.is_open s.failed g.met.S.TripleSink.stays g.met.S.TripleSink.goes_on c.args.plan.now mode bytes ended given rows
           c.args.table.now (outlets c.args.sink.now c.args.keys.now)
