@@ -37,7 +37,10 @@ fn format_of(alloc: Global, pattern: &Pattern) -> Result<Option<Format>, AllocEr
 }
 
 fn truth_format_of(alloc: Global, text: &str) -> Result<Option<Format>, AllocError> {
-    Ok(TruthFormat::of(alloc, text)?.map(Format::Truth))
+    match TruthFormat::of(alloc, text)? {
+        Some(format) => Ok(Some(Format::Truth(format))),
+        None => Ok(None),
+    }
 }
 
 fn datatype_of(
@@ -65,259 +68,170 @@ fn answer(alloc: Global, datatype: &Datatype, text: &str) -> Result<String, Allo
     }
 }
 
-/// A datatype without facets, and texts, each with the lexical form of its value or the name of its code.
-type Readings = (Simple, Pattern, &'static [(&'static str, &'static str)]);
+/// A datatype without facets, and texts that `;` parts, each with the lexical form of its value or the name of its code behind `=>`.
+type Readings = (Simple, Pattern, &'static str);
 
-const NUMBERS: [Readings; 9] = [
-    (Simple::Whole, Pattern::Plain, &WHOLE),
-    (Simple::Whole, Pattern::Number('.', Some(',')), &GROUPED),
-    (Simple::Decimal, Pattern::Plain, &DECIMAL),
-    (Simple::Decimal, Pattern::Number('.', None), &MARKED),
+static NUMBERS: [Readings; 9] = [
+    (Simple::Whole, Pattern::Plain, WHOLE),
+    (Simple::Whole, Pattern::Number('.', Some(',')), GROUPED),
+    (Simple::Decimal, Pattern::Plain, DECIMAL),
+    (Simple::Decimal, Pattern::Number('.', None), MARKED),
     (
         Simple::Decimal,
         Pattern::Number(',', Some('.')),
-        &[("1.234,5", "1234.5")],
+        "1.234,5=>1234.5",
     ),
-    (Simple::Decimal, Pattern::Number('.', Some('.')), &UNSOUND),
-    (Simple::Decimal, Pattern::Number('5', None), &UNSOUND),
-    (Simple::Decimal, Pattern::Number('‰', None), &UNSOUND),
-    (Simple::Decimal, Pattern::Number('\t', None), &UNSOUND),
+    (Simple::Decimal, Pattern::Number('.', Some('.')), UNSOUND),
+    (Simple::Decimal, Pattern::Number('5', None), UNSOUND),
+    (Simple::Decimal, Pattern::Number('‰', None), UNSOUND),
+    (Simple::Decimal, Pattern::Number('\t', None), UNSOUND),
 ];
 
-const UNSOUND: [(&str, &str); 1] = [("1", "BadDatatype")];
+const UNSOUND: &str = "1=>BadDatatype";
 
-const WHOLE: [(&str, &str); 7] = [
-    ("-0", "0"),
-    ("1.", "BadInteger"),
-    ("+007", "7"),
-    ("", "BadInteger"),
-    ("99999999999999999999", "99999999999999999999"),
-    ("100000000000000000000", "NumberTooLong"),
-    ("-100000000000000000000", "NumberTooLong"),
+const WHOLE: &str = "\
+-0=>0;\
+1.=>BadInteger;\
++007=>7;\
+=>BadInteger;\
+99999999999999999999=>99999999999999999999;\
+100000000000000000000=>NumberTooLong;\
+-100000000000000000000=>NumberTooLong";
+
+const GROUPED: &str = "\
+1,234=>1234;\
+1,,2=>BadInteger;\
+,1=>BadInteger;\
+1,=>BadInteger;\
+-1,000=>-1000;\
+5%=>BadInteger";
+
+const DECIMAL: &str = "\
+.5=>0.5;\
+5.=>5;\
+-0.25=>-0.25;\
+-10=>-10;\
+1.0000000000000000000=>1;\
+0.000000000000000001=>0.000000000000000001;\
+.=>BadDecimal;\
+1e3=>BadDecimal;\
+5%=>BadDecimal;\
+=>BadDecimal;\
++=>BadDecimal;\
+--1=>BadDecimal;\
+1 0=>BadDecimal";
+
+const MARKED: &str = "\
+5‰=>0.005;\
+100000000000000000000%=>1000000000000000000;\
+0.000000000000000001=>0.000000000000000001;\
+0.000000000000000001%=>NumberTooLong;\
+99999999999999999999=>99999999999999999999;\
+100000000000000000000=>NumberTooLong;\
+-25%=>-0.25;\
+1.500=>1.5;\
+2.0=>2";
+
+static DATES: [Readings; 3] = [
+    (Simple::Day, Pattern::Plain, DAYS),
+    (Simple::Moment, Pattern::Plain, SECONDS),
+    (Simple::Moment, Pattern::Moment("yyyy-MM-ddTHH:mm"), MINUTES),
 ];
 
-const GROUPED: [(&str, &str); 6] = [
-    ("1,234", "1234"),
-    ("1,,2", "BadInteger"),
-    (",1", "BadInteger"),
-    ("1,", "BadInteger"),
-    ("-1,000", "-1000"),
-    ("5%", "BadInteger"),
-];
+/// Formats of dates, each with its texts behind a colon, one on each line.
+const DATE_FORMATS: &str = "\
+yyyyMMdd: 20240229=>2024-02-29;2024022=>BadDate;20230229=>BadDate
+dd-MM-yyyy: 29-02-2024=>2024-02-29;29/02/2024=>BadDate;29-02-1900=>BadDate
+dd/MM/yyyy: 29/02/2024=>2024-02-29;29/02/2023=>BadDate;29/2/2024=>BadDate
+dd.MM.yyyy: 29.02.2024=>2024-02-29;29.02.24=>BadDate;00.02.2024=>BadDate
+d-M-yyyy: 29-2-2024=>2024-02-29;29-02-2024=>2024-02-29;029-2-2024=>BadDate
+d/M/yyyy: 29/2/2024=>2024-02-29;29/2/2024 =>BadDate;29//2024=>BadDate
+d.M.yyyy: 1.12.2024=>2024-12-01;31.4.2024=>BadDate;1.13.2024=>BadDate
+MM-dd-yyyy: 02-29-2024=>2024-02-29;29-02-2024=>BadDate;2-29-2024=>BadDate
+MM/dd/yyyy: 02/29/2024=>2024-02-29;02/30/2024=>BadDate;02-29-2024=>BadDate
+MM.dd.yyyy: 02.29.2024=>2024-02-29;13.01.2024=>BadDate;02.29.02024=>BadDate
+M-d-yyyy: 2-29-2024=>2024-02-29;12-1-2024=>2024-12-01;4-31-2024=>BadDate
+M/d/yyyy: 2/29/2024=>2024-02-29;2/29/1900=>BadDate;=>BadDate
+M.d.yyyy: 2.29.2024=>2024-02-29;2.29.2024.=>BadDate;2.2a.2024=>BadDate";
 
-const DECIMAL: [(&str, &str); 13] = [
-    (".5", "0.5"),
-    ("5.", "5"),
-    ("-0.25", "-0.25"),
-    ("-10", "-10"),
-    ("1.0000000000000000000", "1"),
-    ("0.000000000000000001", "0.000000000000000001"),
-    (".", "BadDecimal"),
-    ("1e3", "BadDecimal"),
-    ("5%", "BadDecimal"),
-    ("", "BadDecimal"),
-    ("+", "BadDecimal"),
-    ("--1", "BadDecimal"),
-    ("1 0", "BadDecimal"),
-];
+const DAYS: &str = "\
+2024-02-29=>2024-02-29;\
+2024-2-29=>BadDate;\
+2023-02-29=>BadDate;\
+1900-02-29=>BadDate;\
+2000-02-29=>2000-02-29;\
+0000-01-01=>BadDate;\
+0001-01-01=>0001-01-01;\
+1969-12-31=>1969-12-31;\
+9999-12-31=>9999-12-31;\
+10000-01-01=>BadDate";
 
-const MARKED: [(&str, &str); 9] = [
-    ("5‰", "0.005"),
-    ("100000000000000000000%", "1000000000000000000"),
-    ("0.000000000000000001", "0.000000000000000001"),
-    ("0.000000000000000001%", "NumberTooLong"),
-    ("99999999999999999999", "99999999999999999999"),
-    ("100000000000000000000", "NumberTooLong"),
-    ("-25%", "-0.25"),
-    ("1.500", "1.5"),
-    ("2.0", "2"),
-];
+const SECONDS: &str = "\
+1970-01-01T00:00:00=>1970-01-01T00:00:00;\
+1969-12-31T23:59:59=>1969-12-31T23:59:59;\
+2024-02-29T12:34:56=>2024-02-29T12:34:56;\
+0001-01-01T00:00:00=>0001-01-01T00:00:00;\
+9999-12-31T23:59:59=>9999-12-31T23:59:59;\
+2024-02-29T23:59=>BadDateTime;\
+2024-02-29T23:59:60=>BadDateTime;\
+2024-02-29T23:59:00Z=>BadDateTime;\
+2024-02-29T23:59:00.5=>BadDateTime;\
+2024-02-29T1:00:00=>BadDateTime;\
+0000-01-01T00:00:00=>BadDateTime";
 
-const LEAP: &str = "2024-02-29";
+const MINUTES: &str = "\
+2024-02-29T23:59=>2024-02-29T23:59:00;\
+2024-02-29T24:00=>BadDateTime;\
+2024-02-29T23:60=>BadDateTime;\
+2023-02-29T23:59=>BadDateTime;\
+2024-02-29T23:59:00=>BadDateTime;\
+2024-02-29 23:59=>BadDateTime;\
+=>BadDateTime";
 
-const DATES: [Readings; 16] = [
-    (Simple::Day, Pattern::Plain, &DAYS),
-    (
-        Simple::Day,
-        Pattern::Day("yyyyMMdd"),
-        &[("20240229", LEAP), ("2024022", BAD), ("20230229", BAD)],
-    ),
-    (
-        Simple::Day,
-        Pattern::Day("dd-MM-yyyy"),
-        &[
-            ("29-02-2024", LEAP),
-            ("29/02/2024", BAD),
-            ("29-02-1900", BAD),
-        ],
-    ),
-    (
-        Simple::Day,
-        Pattern::Day("dd/MM/yyyy"),
-        &[
-            ("29/02/2024", LEAP),
-            ("29/02/2023", BAD),
-            ("29/2/2024", BAD),
-        ],
-    ),
-    (
-        Simple::Day,
-        Pattern::Day("dd.MM.yyyy"),
-        &[("29.02.2024", LEAP), ("29.02.24", BAD), ("00.02.2024", BAD)],
-    ),
-    (
-        Simple::Day,
-        Pattern::Day("d-M-yyyy"),
-        &[
-            ("29-2-2024", LEAP),
-            ("29-02-2024", LEAP),
-            ("029-2-2024", BAD),
-        ],
-    ),
-    (
-        Simple::Day,
-        Pattern::Day("d/M/yyyy"),
-        &[("29/2/2024", LEAP), ("29/2/2024 ", BAD), ("29//2024", BAD)],
-    ),
-    (
-        Simple::Day,
-        Pattern::Day("d.M.yyyy"),
-        &[
-            ("1.12.2024", "2024-12-01"),
-            ("31.4.2024", BAD),
-            ("1.13.2024", BAD),
-        ],
-    ),
-    (
-        Simple::Day,
-        Pattern::Day("MM-dd-yyyy"),
-        &[
-            ("02-29-2024", LEAP),
-            ("29-02-2024", BAD),
-            ("2-29-2024", BAD),
-        ],
-    ),
-    (
-        Simple::Day,
-        Pattern::Day("MM/dd/yyyy"),
-        &[
-            ("02/29/2024", LEAP),
-            ("02/30/2024", BAD),
-            ("02-29-2024", BAD),
-        ],
-    ),
-    (
-        Simple::Day,
-        Pattern::Day("MM.dd.yyyy"),
-        &[
-            ("02.29.2024", LEAP),
-            ("13.01.2024", BAD),
-            ("02.29.02024", BAD),
-        ],
-    ),
-    (
-        Simple::Day,
-        Pattern::Day("M-d-yyyy"),
-        &[
-            ("2-29-2024", LEAP),
-            ("12-1-2024", "2024-12-01"),
-            ("4-31-2024", BAD),
-        ],
-    ),
-    (
-        Simple::Day,
-        Pattern::Day("M/d/yyyy"),
-        &[("2/29/2024", LEAP), ("2/29/1900", BAD), ("", BAD)],
-    ),
-    (
-        Simple::Day,
-        Pattern::Day("M.d.yyyy"),
-        &[("2.29.2024", LEAP), ("2.29.2024.", BAD), ("2.2a.2024", BAD)],
-    ),
-    (Simple::Moment, Pattern::Plain, &SECONDS),
-    (
-        Simple::Moment,
-        Pattern::Moment("yyyy-MM-ddTHH:mm"),
-        &MINUTES,
-    ),
-];
-
-const BAD: &str = "BadDate";
-
-const DAYS: [(&str, &str); 10] = [
-    (LEAP, LEAP),
-    ("2024-2-29", BAD),
-    ("2023-02-29", BAD),
-    ("1900-02-29", BAD),
-    ("2000-02-29", "2000-02-29"),
-    ("0000-01-01", BAD),
-    ("0001-01-01", "0001-01-01"),
-    ("1969-12-31", "1969-12-31"),
-    ("9999-12-31", "9999-12-31"),
-    ("10000-01-01", BAD),
-];
-
-const SECONDS: [(&str, &str); 11] = [
-    ("1970-01-01T00:00:00", "1970-01-01T00:00:00"),
-    ("1969-12-31T23:59:59", "1969-12-31T23:59:59"),
-    ("2024-02-29T12:34:56", "2024-02-29T12:34:56"),
-    ("0001-01-01T00:00:00", "0001-01-01T00:00:00"),
-    ("9999-12-31T23:59:59", "9999-12-31T23:59:59"),
-    ("2024-02-29T23:59", "BadDateTime"),
-    ("2024-02-29T23:59:60", "BadDateTime"),
-    ("2024-02-29T23:59:00Z", "BadDateTime"),
-    ("2024-02-29T23:59:00.5", "BadDateTime"),
-    ("2024-02-29T1:00:00", "BadDateTime"),
-    ("0000-01-01T00:00:00", "BadDateTime"),
-];
-
-const MINUTES: [(&str, &str); 7] = [
-    ("2024-02-29T23:59", "2024-02-29T23:59:00"),
-    ("2024-02-29T24:00", "BadDateTime"),
-    ("2024-02-29T23:60", "BadDateTime"),
-    ("2023-02-29T23:59", "BadDateTime"),
-    ("2024-02-29T23:59:00", "BadDateTime"),
-    ("2024-02-29 23:59", "BadDateTime"),
-    ("", "BadDateTime"),
-];
-
-const TEXTS: [Readings; 5] = [
-    (Simple::Truth, Pattern::Plain, &TRUTHS),
+static TEXTS: [Readings; 5] = [
+    (Simple::Truth, Pattern::Plain, TRUTHS),
     (
         Simple::Truth,
         Pattern::Truth("Y|N"),
-        &[("Y", "true"), ("N", "false"), ("1", "BadBoolean")],
+        "Y=>true;N=>false;1=>BadBoolean",
     ),
-    (Simple::Text, Pattern::Plain, &[(" a\n", " a\n"), ("", "")]),
-    (Simple::Uri, Pattern::Plain, &[("x y", "x y")]),
+    (Simple::Text, Pattern::Plain, " a\n=> a\n;=>"),
+    (Simple::Uri, Pattern::Plain, "x y=>x y"),
     (
         Simple::Derived(Width::Byte),
         Pattern::Plain,
-        &[
-            ("100000000000000000000", "NumberTooLong"),
-            ("x", "BadInteger"),
-            ("01", "1"),
-        ],
+        "100000000000000000000=>NumberTooLong;x=>BadInteger;01=>1",
     ),
 ];
 
-const TRUTHS: [(&str, &str); 5] = [
-    ("1", "true"),
-    ("true", "true"),
-    ("false", "false"),
-    ("0", "false"),
-    ("TRUE", "BadBoolean"),
-];
+const TRUTHS: &str = "1=>true;true=>true;false=>false;0=>false;TRUE=>BadBoolean";
+
+/// Whether a text has this lexical form or code.
+fn reads_to(
+    alloc: Global,
+    datatype: &Datatype,
+    text: &str,
+    want: &str,
+) -> Result<bool, AllocError> {
+    Ok(answer(alloc, datatype, text)?.as_str() == want)
+}
+
+/// Whether the text of a row has the lexical form or the code behind it.
+fn row_reads(alloc: Global, datatype: &Datatype, row: &str) -> Result<bool, AllocError> {
+    match row.split_once("=>") {
+        Some((text, want)) => reads_to(alloc, datatype, text, want),
+        None => Ok(false),
+    }
+}
 
 fn reads_each(
     rt: &impl Abort,
     alloc: Global,
     datatype: &Datatype,
-    answers: &[(&str, &str)],
+    rows: &str,
 ) -> Result<(), AllocError> {
-    for (text, expected) in answers {
-        let found = answer(alloc, datatype, text)?;
-        assert!(rt; found.as_str() == *expected, "{text}: {found}");
+    for row in rows.split(';') {
+        assert!(rt; row_reads(alloc, datatype, row)?, "{row}");
     }
     Ok(())
 }
@@ -329,14 +243,22 @@ fn reads_all(rt: &impl Abort, alloc: Global, tables: &[Readings]) -> Result<(), 
     Ok(())
 }
 
+fn reads_dates(rt: &impl Abort, alloc: Global, lines: &'static str) -> Result<(), AllocError> {
+    for line in lines.lines() {
+        let (format, rows) = line.split_once(": ").unwrap_or((line, "no row"));
+        reads_table(rt, alloc, &(Simple::Day, Pattern::Day(format), rows))?;
+    }
+    Ok(())
+}
+
 fn reads_table(rt: &impl Abort, alloc: Global, table: &Readings) -> Result<(), AllocError> {
-    let (simple, pattern, answers) = table;
+    let (simple, pattern, rows) = table;
     let datatype = datatype_of(alloc, *simple, pattern, &UNLIMITED)?;
-    reads_each(rt, alloc, &datatype, answers)
+    reads_each(rt, alloc, &datatype, rows)
 }
 
 /// Derived integers, each with a text of its bound and one past it.
-const BOUNDS: [(Width, &str, &str); 20] = [
+static BOUNDS: [(Width, &str, &str); 20] = [
     (Width::Long, "-9223372036854775808", "-9223372036854775809"),
     (Width::Long, "9223372036854775807", "9223372036854775808"),
     (Width::Int, "-2147483648", "-2147483649"),
@@ -363,15 +285,21 @@ const BOUNDS: [(Width, &str, &str); 20] = [
     (Width::NegativeInteger, "-1", "0"),
 ];
 
+/// Whether a derived integer has the first text, and the second is past its bound.
+fn is_bound(alloc: Global, width: Width, met: &str, passed: &str) -> Result<bool, AllocError> {
+    let simple = Simple::Derived(width);
+    let datatype = datatype_of(alloc, simple, &Pattern::Plain, &UNLIMITED)?;
+    let is_met = reads_to(alloc, &datatype, met, met)?;
+    Ok(is_met && reads_to(alloc, &datatype, passed, "OutOfRange")?)
+}
+
 fn bounds_each(
     rt: &impl Abort,
     alloc: Global,
     bounds: &[(Width, &str, &str)],
 ) -> Result<(), AllocError> {
     for (width, met, passed) in bounds {
-        let simple = Simple::Derived(*width);
-        let datatype = datatype_of(alloc, simple, &Pattern::Plain, &UNLIMITED)?;
-        reads_each(rt, alloc, &datatype, &[(met, met), (passed, "OutOfRange")])?;
+        assert!(rt; is_bound(alloc, *width, met, passed)?, "{met}");
     }
     Ok(())
 }
@@ -381,6 +309,7 @@ fn values_of_texts(rt: HostRuntime) -> Result<(), Fail> {
     let alloc = rt.alloc();
     reads_all(&rt, alloc, &NUMBERS)?;
     reads_all(&rt, alloc, &DATES)?;
+    reads_dates(&rt, alloc, DATE_FORMATS)?;
     reads_all(&rt, alloc, &TEXTS)?;
     Ok(bounds_each(&rt, alloc, &BOUNDS)?)
 }
@@ -484,127 +413,94 @@ const ABOVE: Broken = Broken {
     ..UNBROKEN
 };
 
-/// A datatype, and texts with the facets that their values break.
-#[derive(Clone, Copy)]
-struct Breaks {
-    /// What the datatype is based on.
-    simple: Simple,
-    /// Its facets.
-    limits: Limits,
-    /// The texts.
-    broken: &'static [(&'static str, Broken)],
-}
-
 const HALF: i128 = 500_000_000_000_000_000;
 
-const BREAKS: [Breaks; 4] = [
-    Breaks {
-        simple: Simple::Text,
-        limits: Limits {
-            length: Some(1),
-            ..UNLIMITED
-        },
-        broken: &[
-            ("é", UNBROKEN),
-            ("😀", UNBROKEN),
-            ("", WRONG_LENGTH),
-            ("ab", WRONG_LENGTH),
-        ],
-    },
-    Breaks {
-        simple: Simple::Text,
-        limits: Limits {
-            min_length: Some(2),
-            max_length: Some(3),
-            ..UNLIMITED
-        },
-        broken: &[
-            ("é", TOO_SHORT),
-            ("éé", UNBROKEN),
-            ("ééé", UNBROKEN),
-            ("éééé", TOO_LONG),
-        ],
-    },
-    Breaks {
-        simple: Simple::Decimal,
-        limits: Limits {
-            maximum: Some(Bound::Number(3 * HALF)),
-            min_exclusive: Some(Bound::Number(-HALF)),
-            ..UNLIMITED
-        },
-        broken: &[
-            ("1.500", UNBROKEN),
-            ("2.0", ABOVE),
-            ("-0.5", BELOW),
-            ("-0.49", UNBROKEN),
-        ],
-    },
-    Breaks {
-        simple: Simple::Day,
-        limits: Limits {
-            min_inclusive: Some(Bound::Day(0)),
-            max_exclusive: Some(Bound::Day(365)),
-            ..UNLIMITED
-        },
-        broken: &[
-            ("1970-01-01", UNBROKEN),
-            ("1969-12-31", BELOW),
-            ("1971-01-01", ABOVE),
-            ("1970-12-31", UNBROKEN),
-        ],
-    },
+const ONE_LONG: Limits = Limits {
+    length: Some(1),
+    ..UNLIMITED
+};
+
+const TWO_OR_THREE_LONG: Limits = Limits {
+    min_length: Some(2),
+    max_length: Some(3),
+    ..UNLIMITED
+};
+
+const ABOVE_MINUS_HALF: Limits = Limits {
+    maximum: Some(Bound::Number(3 * HALF)),
+    min_exclusive: Some(Bound::Number(-HALF)),
+    ..UNLIMITED
+};
+
+const IN_1970: Limits = Limits {
+    min_inclusive: Some(Bound::Day(0)),
+    max_exclusive: Some(Bound::Day(365)),
+    ..UNLIMITED
+};
+
+/// What a datatype is based on, its facets, a text, and those that its value breaks.
+type Breaks = (Simple, Limits, &'static str, Broken);
+
+static BREAKS: [Breaks; 16] = [
+    (Simple::Text, ONE_LONG, "é", UNBROKEN),
+    (Simple::Text, ONE_LONG, "😀", UNBROKEN),
+    (Simple::Text, ONE_LONG, "", WRONG_LENGTH),
+    (Simple::Text, ONE_LONG, "ab", WRONG_LENGTH),
+    (Simple::Text, TWO_OR_THREE_LONG, "é", TOO_SHORT),
+    (Simple::Text, TWO_OR_THREE_LONG, "éé", UNBROKEN),
+    (Simple::Text, TWO_OR_THREE_LONG, "ééé", UNBROKEN),
+    (Simple::Text, TWO_OR_THREE_LONG, "éééé", TOO_LONG),
+    (Simple::Decimal, ABOVE_MINUS_HALF, "1.500", UNBROKEN),
+    (Simple::Decimal, ABOVE_MINUS_HALF, "2.0", ABOVE),
+    (Simple::Decimal, ABOVE_MINUS_HALF, "-0.5", BELOW),
+    (Simple::Decimal, ABOVE_MINUS_HALF, "-0.49", UNBROKEN),
+    (Simple::Day, IN_1970, "1970-01-01", UNBROKEN),
+    (Simple::Day, IN_1970, "1969-12-31", BELOW),
+    (Simple::Day, IN_1970, "1971-01-01", ABOVE),
+    (Simple::Day, IN_1970, "1970-12-31", UNBROKEN),
 ];
 
 /// The value that a text is, by a datatype that is sound.
-fn value_by(
-    rt: &impl Abort,
+fn value_by(alloc: Global, datatype: &Datatype, text: &str) -> Result<Option<Value>, AllocError> {
+    if datatype.check().is_err() {
+        return Ok(None);
+    }
+    match datatype.read(alloc, text)? {
+        Ok(value) => Ok(Some(value)),
+        Err(_) => Ok(None),
+    }
+}
+
+/// Whether the value of a text breaks these facets.
+fn breaks(
     alloc: Global,
     datatype: &Datatype,
     text: &str,
-) -> Result<Value, AllocError> {
-    assert!(rt; datatype.check().is_ok());
-    Ok(datatype.read(alloc, text)?.expect(rt, "a value"))
+    want: &Broken,
+) -> Result<bool, AllocError> {
+    match value_by(alloc, datatype, text)? {
+        Some(value) => Ok(datatype.facets(&value) == *want),
+        None => Ok(false),
+    }
 }
 
-/// The facets that the value of a text breaks.
-fn broken(
-    rt: &impl Abort,
-    alloc: Global,
-    datatype: &Datatype,
-    text: &str,
-) -> Result<Broken, AllocError> {
-    let value = value_by(rt, alloc, datatype, text)?;
-    Ok(datatype.facets(&value))
+/// Whether the value of a row's text breaks the facets that the row says.
+fn row_breaks(alloc: Global, row: &Breaks) -> Result<bool, AllocError> {
+    let (simple, limits, text, want) = row;
+    let datatype = datatype_of(alloc, *simple, &Pattern::Plain, limits)?;
+    breaks(alloc, &datatype, text, want)
 }
 
-fn breaks_each(
-    rt: &impl Abort,
-    alloc: Global,
-    datatype: &Datatype,
-    rows: &[(&str, Broken)],
-) -> Result<(), AllocError> {
-    for (text, expected) in rows {
-        let found = broken(rt, alloc, datatype, text)?;
-        assert!(rt; found == *expected, "{text}");
+fn breaks_each(rt: &impl Abort, alloc: Global, rows: &[Breaks]) -> Result<(), AllocError> {
+    for row in rows {
+        assert!(rt; row_breaks(alloc, row)?, "{}", row.2);
     }
     Ok(())
-}
-
-fn breaks_all(rt: &impl Abort, alloc: Global, tables: &[Breaks]) -> Result<(), AllocError> {
-    for table in tables {
-        breaks_table(rt, alloc, table)?;
-    }
-    Ok(())
-}
-
-fn breaks_table(rt: &impl Abort, alloc: Global, table: &Breaks) -> Result<(), AllocError> {
-    let datatype = datatype_of(alloc, table.simple, &Pattern::Plain, &table.limits)?;
-    breaks_each(rt, alloc, &datatype, table.broken)
 }
 
 #[test]
 fn broken_facets(rt: HostRuntime) -> Result<(), Fail> {
-    Ok(breaks_all(&rt, rt.alloc(), &BREAKS)?)
+    Ok(breaks_each(&rt, rt.alloc(), &BREAKS)?)
 }
 
 const AT_MOST_HALF: Limits = Limits {
@@ -647,7 +543,7 @@ const CROSSED: Limits = Limits {
 };
 
 /// Datatypes, and whether they are sound.
-const SOUND: [(Simple, Pattern, Limits, bool); 17] = [
+static SOUND: [(Simple, Pattern, Limits, bool); 17] = [
     (
         Simple::Text,
         Pattern::Plain,
@@ -741,21 +637,43 @@ fn sound_datatypes(rt: HostRuntime) -> Result<(), Fail> {
     Ok(checks_each(&rt, rt.alloc(), &SOUND)?)
 }
 
-fn value(rt: &impl Abort, alloc: Global, simple: Simple, text: &str) -> Result<Value, AllocError> {
+/// The value that a text is by a plain datatype.
+fn plain_value(alloc: Global, simple: Simple, text: &str) -> Result<Option<Value>, AllocError> {
     let datatype = datatype_of(alloc, simple, &Pattern::Plain, &UNLIMITED)?;
-    value_by(rt, alloc, &datatype, text)
+    value_by(alloc, &datatype, text)
+}
+
+/// Whether the value of a text by a plain datatype is this one; nothing where it has none.
+fn is_value(
+    alloc: Global,
+    simple: Simple,
+    text: &str,
+    want: &Value,
+) -> Result<Option<bool>, AllocError> {
+    match plain_value(alloc, simple, text)? {
+        Some(value) => Ok(Some(value == *want)),
+        None => Ok(None),
+    }
+}
+
+/// Whether the value of a text by a plain datatype is the integer 1; nothing where one of both has none.
+fn is_whole_one(alloc: Global, simple: Simple, text: &str) -> Result<Option<bool>, AllocError> {
+    match plain_value(alloc, Simple::Whole, "01")? {
+        Some(one) => is_value(alloc, simple, text, &one),
+        None => Ok(None),
+    }
 }
 
 #[test]
 fn numbers_are_equal_across_types(rt: HostRuntime) -> Result<(), Fail> {
-    let one = value(&rt, rt.alloc(), Simple::Whole, "01")?;
-    assert!(rt; one == value(&rt, rt.alloc(), Simple::Decimal, "1.0")?);
-    assert!(rt; one != value(&rt, rt.alloc(), Simple::Text, "1")?);
+    let alloc = rt.alloc();
+    assert!(rt; is_whole_one(alloc, Simple::Decimal, "1.0")? == Some(true));
+    assert!(rt; is_whole_one(alloc, Simple::Text, "1")? == Some(false));
     Ok(())
 }
 
 /// Names of datatypes, and what they are based on.
-const NAMES: [(&str, Option<Simple>); 4] = [
+static NAMES: [(&str, Option<Simple>); 4] = [
     ("dateTime", Some(Simple::Moment)),
     ("datetime", Some(Simple::Moment)),
     ("unsignedShort", Some(Simple::Derived(Width::UnsignedShort))),
@@ -763,7 +681,7 @@ const NAMES: [(&str, Option<Simple>); 4] = [
 ];
 
 /// Patterns that are no format.
-const NO_FORMAT: [Pattern; 15] = [
+static NO_FORMAT: [Pattern; 15] = [
     Pattern::Day(""),
     Pattern::Day("yyyy-M-d"),
     Pattern::Day("d-MM-yyyy"),
@@ -802,7 +720,7 @@ fn names_and_formats(rt: HostRuntime) -> Result<(), Fail> {
 }
 
 /// The texts of a decimal and a group character, and the format that they make.
-const CHARACTERS: [(Option<&str>, Option<&str>, Option<(char, Option<char>)>); 5] = [
+static CHARACTERS: [(Option<&str>, Option<&str>, Option<(char, Option<char>)>); 5] = [
     (None, None, Some(('.', None))),
     (Some(","), Some("·"), Some((',', Some('·')))),
     (Some(""), None, None),
@@ -826,9 +744,10 @@ fn characters_of_numbers(rt: HostRuntime) {
     characters_each(&rt, &CHARACTERS);
 }
 
-/// Makes a text the least value of a datatype.
-fn set_minimum(alloc: Global, datatype: &mut Datatype, text: &str) -> Result<(), AllocError> {
-    datatype.facets.minimum = Some(Value::Text(Text::copied(alloc, text)?));
+/// Makes a text the least value.
+fn set_minimum(alloc: Global, minimum: &mut Option<Value>, text: &str) -> Result<(), AllocError> {
+    let least = Text::copied(alloc, text)?;
+    *minimum = Some(Value::Text(least));
     Ok(())
 }
 
@@ -842,7 +761,7 @@ fn equals_its_copy(alloc: Global, datatype: &Datatype) -> Result<bool, AllocErro
 fn copies_are_equal(rt: HostRuntime) -> Result<(), Fail> {
     let alloc = rt.alloc();
     let mut datatype = datatype_of(alloc, Simple::Truth, &Pattern::Truth("Y|N"), &UNLIMITED)?;
-    set_minimum(alloc, &mut datatype, "t")?;
+    set_minimum(alloc, &mut datatype.facets.minimum, "t")?;
     assert!(rt; equals_its_copy(alloc, &datatype)?);
     Ok(())
 }
