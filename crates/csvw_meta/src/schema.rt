@@ -1,16 +1,17 @@
 //! Schemas (Metadata Vocabulary for Tabular Data, section 5.5).
-ghost use Rattle.std.specs.Prelude.{◌≡◌, ◌<◌, ◌+◌, ◌^◌, [], IfOk, MatchResult};
+ghost use Rattle.std.specs.Prelude.{◌≡◌, ◌<◌, ◌+◌, ◌^◌, ◌++◌, [], IfOk, MatchResult, map};
 ghost use Rattle.csvw_description.specs.Name.{name_of, numbered_names};
 ghost use Rattle.serde_json.specs.View.{view};
 ghost use Rattle.csvw_meta_core.specs.Pointer.{text_of};
 ghost use Rattle.csvw_meta_core.specs.Reads.{Fails, Reads};
+ghost use Rattle.csvw_meta_keys.specs.Described.{all_warnings, described, names_of};
 ghost use Rattle.csvw_meta.specs.Schema.{name_faults, order_faults, column_faults, with_keys, schema_of};
 
 use crate::column::ColumnReader;
 use crate::repeated::repeated_at;
 use crate::several::Several;
 use crate::virtual_order::misplaced_at;
-use csvw_description::{ColumnDescription, Schema};
+use csvw_description::{ColumnDescription, ForeignKey, Schema};
 use csvw_meta_core::{Fixed, IdReader, MetaCode, NotYet, Part, Reader, Refusal, joined};
 use csvw_meta_inherited::{Context, InheritedFound, read_inherited, schema_warnings};
 use csvw_meta_keys::{KeysFound, read_keys};
@@ -143,6 +144,34 @@ impl<'a> Reader for SchemaReader<'a> {
     }
 }
 
+/// What a schema has of its keys, and all its warnings.
+#[derive(Drop)]
+struct KeysDescribed {
+    primary_key: Seq<Text>,
+    foreign_keys: Seq<ForeignKey>,
+    warnings: Seq<Fault>,
+}
+
+/// What a schema has of these keys, with the warnings on what it hands down, those on itself, and then those on the keys.
+fn described_keys(
+    alloc: Global,
+    handed_down: Seq<Fault>,
+    own: Seq<Fault>,
+    keys: &KeysFound,
+) -> Result<KeysDescribed, AllocError>
+    ensures primary { IfOk result (λ k. k.primary_key ≡ names_of keys.now.primary) }
+    ensures foreign { IfOk result (λ k. k.foreign_keys ≡ map described keys.now.foreign) }
+    ensures warnings { IfOk result (λ k. k.warnings ≡ (handed_down ++ own) ++ all_warnings keys.now.foreign) }
+{
+    let warnings = joined(handed_down, own)?;
+    let warnings = joined(warnings, keys.warnings(alloc)?)?;
+    Ok(KeysDescribed {
+        primary_key: keys.primary_key(alloc)?,
+        foreign_keys: keys.foreign_keys(alloc)?,
+        warnings,
+    })
+}
+
 /// The schema of these columns and keys, with its warnings and then those on the keys.
 fn with_keys(
     alloc: Global,
@@ -153,13 +182,13 @@ fn with_keys(
 ) -> Result<SchemaFound, AllocError>
     ensures { IfOk result (λ s. s ≡ with_keys columns found warnings keys) }
 {
-    let warnings = joined(found.warnings, warnings)?;
+    let described = described_keys(alloc, found.warnings, warnings, &keys)?;
     let schema = Schema {
         columns,
-        primary_key: keys.primary_key(alloc)?,
-        foreign_keys: keys.foreign_keys(alloc)?,
+        primary_key: described.primary_key,
+        foreign_keys: described.foreign_keys,
         inherited: found.inherited,
-        warnings: joined(warnings, keys.warnings(alloc)?)?,
+        warnings: described.warnings,
     };
     Ok(SchemaFound { schema, keys })
 }
