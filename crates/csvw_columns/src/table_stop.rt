@@ -2,6 +2,8 @@
 ghost use Rattle.std.specs.Prelude.{◌≡◌};
 
 use std::alloc::{AllocError, AllocFailed};
+use std::error::Error;
+use std::fmt;
 
 /// Why a table can't be read on.
 #[derive(Clone, Copy, Debug, PartialEq, Eq)]
@@ -15,6 +17,32 @@ pub enum TableStop {
     /// A row hasn't one field for each column that isn't virtual.
     RaggedRow,
 }
+
+impl TableStop {
+    /// What is wrong and what to do, as a sentence without its stop.
+    fn sentence(&self) -> &'static str {
+        match self {
+            TableStop::Memory => "there is no memory: free some, and try again",
+            TableStop::DuplicateName => {
+                "two columns have one name: rename one in the header or in the metadata"
+            }
+            TableStop::TooManyColumns => {
+                "the header has more columns than a table may have: divide the table"
+            }
+            TableStop::RaggedRow => {
+                "the row has not one field for each column: add the fields that are missing, or remove those that are too many"
+            }
+        }
+    }
+}
+
+impl fmt::Display for TableStop {
+    fn fmt<W: fmt::Write>(&self, f: &mut fmt::Formatter<W>) -> fmt::Result {
+        f.write_str(self.sentence())
+    }
+}
+
+impl Error for TableStop {}
 
 impl From<AllocError> for TableStop {
     ghost use Rattle.csvw_columns.specs.declared.table_stop.TableStop.TheVariants.{Memory};

@@ -3,6 +3,8 @@ ghost use Rattle.std.specs.Prelude.{◌≡◌, ◌≤◌, ◌+◌, ◌*◌, ◌^
 ghost use Rattle.std.specs.Str.{chars};
 
 use crate::short_number::short_number;
+use std::error::Error;
+use std::fmt;
 
 /// How a column writes its numbers.
 #[derive(Clone, Copy, Debug, PartialEq, Eq)]
@@ -327,6 +329,28 @@ pub enum NumberFault {
     /// It is 10^20 or more in size, or no whole multiple of 10^-18.
     TooLong,
 }
+
+impl NumberFault {
+    /// What is wrong and what to do, as a sentence without its stop.
+    fn sentence(&self) -> &'static str {
+        match self {
+            NumberFault::Bad => {
+                "the text is not spelled as a number of this format: write digits as `format` says"
+            }
+            NumberFault::TooLong => {
+                "the number is 10^20 or more in size, or finer than 10^-18: round it"
+            }
+        }
+    }
+}
+
+impl fmt::Display for NumberFault {
+    fn fmt<W: fmt::Write>(&self, f: &mut fmt::Formatter<W>) -> fmt::Result {
+        f.write_str(self.sentence())
+    }
+}
+
+impl Error for NumberFault {}
 
 ghost use Rattle.csvw_datatype_core.specs.Numbers.{IsLawful, ReadsNumber};
 ghost use Rattle.csvw_datatype_core.specs.Misread.{MisreadNumber};

@@ -35,7 +35,7 @@ pub(crate) struct Case {
     pub(crate) cells: &'static [Cell],
 }
 
-const CASES: [Case; 24] = [
+static CASES: [Case; 24] = [
     Case {
         datatype: r#""integer""#,
         name: "integer",

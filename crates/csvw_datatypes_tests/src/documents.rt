@@ -18,7 +18,7 @@ struct Case {
     faults: &'static str,
 }
 
-const CASES: [Case; 13] = [
+static CASES: [Case; 13] = [
     // an ordered list, and a list that is required and empty
     Case {
         members: r#""tableSchema":{"columns":[{"name":"v","separator":";","ordered":true,"required":true}]}"#,

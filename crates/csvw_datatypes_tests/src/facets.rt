@@ -5,7 +5,7 @@ use crate::refusals::Case as Refusal;
 use csvw_meta_core::MetaCode;
 
 /// Datatypes with facets, and cells of columns that have them.
-pub(crate) const FACETS: [Case; 12] = [
+pub(crate) static FACETS: [Case; 12] = [
     Case {
         datatype: r#"{"base":"string","length":1}"#,
         name: "string",
@@ -109,7 +109,7 @@ pub(crate) const FACETS: [Case; 12] = [
 ];
 
 /// Datatypes whose facets are refused.
-pub(crate) const REFUSED_FACETS: [Refusal; 26] = [
+pub(crate) static REFUSED_FACETS: [Refusal; 26] = [
     Refusal {
         datatype: r#"{"minLength":2,"maxLength":1}"#,
         code: MetaCode::BadDatatype,

@@ -3,7 +3,7 @@ use crate::cells::Case;
 use crate::cells::Cell::{Misread, Read};
 
 /// Each type at both ends of its range, and past them.
-pub(crate) const RANGES: [Case; 8] = [
+pub(crate) static RANGES: [Case; 8] = [
     Case {
         datatype: r#""long""#,
         name: "long",
@@ -87,7 +87,7 @@ pub(crate) const RANGES: [Case; 8] = [
 ];
 
 /// Each format with a day that there is, and one that there isn't.
-pub(crate) const DATES: [Case; 14] = [
+pub(crate) static DATES: [Case; 14] = [
     Case {
         datatype: r#"{"base":"date","format":"yyyy-MM-dd"}"#,
         name: "date",

@@ -17,7 +17,7 @@ pub(crate) struct Case {
     pub(crate) pointer: &'static str,
 }
 
-const CASES: [Case; 32] = [
+static CASES: [Case; 32] = [
     Case {
         datatype: r#""float""#,
         code: MetaCode::NotSupported,

@@ -7,6 +7,8 @@ use csvw_columns::TableStop;
 use csvw_rows::RowStop;
 use csvw_triples::SinkFault;
 use std::alloc::{AllocError, AllocFailed};
+use std::error::Error;
+use std::fmt;
 
 /// Why the text of a table goes no further; rows by their source numbers, from 1.
 #[derive(Clone, Copy, Debug, PartialEq, Eq)]
@@ -75,3 +77,18 @@ impl From<SinkFault> for Halt {
         }
     }
 }
+
+impl fmt::Display for Halt {
+    fn fmt<W: fmt::Write>(&self, f: &mut fmt::Formatter<W>) -> fmt::Result {
+        match self {
+            Halt::Memory => f.write_str("there is no memory: free some, and try again"),
+            Halt::Write => f.write_str(
+                "the graph could not be written: make room where it goes, and begin anew",
+            ),
+            Halt::Rows(row, stop) => write!(f, "row {row}: {stop}"),
+            Halt::Table(row, stop) => write!(f, "row {row}: {stop}"),
+        }
+    }
+}
+
+impl Error for Halt {}

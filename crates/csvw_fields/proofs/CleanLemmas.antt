@@ -12,9 +12,9 @@ use Rattle.csvw_fields.specs.declared.leads.Leads.{Leads}
 use Rattle.csvw_records.specs.declared.scan.State.{State}
 use Rattle.csvw_records.specs.declared.scan.State.TheVariants.{Start, Plain, Inside, Escaped, Closed}
 use Rattle.csvw_records.specs.declared.scan.Step.TheVariants.{Keep, Skip}
-use Rattle.csvw_fields.specs.Clean.{IsLeads, HasNoSymbol, HasNoEscape, IsApart, IsClean}
+use Rattle.csvw_fields.specs.FieldText.{IsLeads, HasNoSymbol, HasNoEscape, IsApart, IsClean}
 use Rattle.csvw_records.specs.Grammar.{terminator_len, IsPlain}
-use Rattle.csvw_records.specs.Looks.{unsettled}
+use Rattle.csvw_records.specs.NextRow.{unsettled}
 use Rattle.csvw_records.specs.Scan.{Outcome, Found, Broken, Unfinished, quote_is, step_of, run, finish}
 use Rattle.csvw_records.proofs.Ascii.{Fails, fails_at, fails_right, ascii_at, no_cr}
 use Rattle.csvw_records.proofs.Lookahead.{is_char}

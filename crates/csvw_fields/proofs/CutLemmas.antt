@@ -17,7 +17,7 @@ use Rattle.csvw_fields.specs.Bounds.{bytes_at, is_bound, lent_bound}
 use Rattle.csvw_fields.specs.Cuts.{IsSymbols, IsBehind, IsCut, NoneBefore}
 use Rattle.csvw_records.specs.Grammar.{terminator_len, IsPlain, AreUnits, escape_char}
 use Rattle.csvw_dialect.specs.Lawful.{IsLawful}
-use Rattle.csvw_records.specs.Looks.{unsettled}
+use Rattle.csvw_records.specs.NextRow.{unsettled}
 use Rattle.csvw_records.proofs.Lookahead.{crlf_again, lf_again}
 use Rattle.csvw_fields.proofs.BoundLemmas.{lent_is}
 use Rattle.csvw_records.proofs.Ascii.{Fails, fails_at, AsciiAt, ascii_at, none_pass, no_cr}

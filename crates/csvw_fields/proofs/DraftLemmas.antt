@@ -18,7 +18,7 @@ use Rattle.csvw_records.specs.declared.scan.State.TheVariants.{Start, Inside}
 use Rattle.csvw_records.specs.declared.scan.Step.TheVariants.{Open}
 use Rattle.csvw_records.specs.Scan.{step_of, run}
 use Rattle.csvw_records.proofs.RunSteps.{act_run}
-use Rattle.csvw_records.specs.Looks.{settled}
+use Rattle.csvw_records.specs.NextRow.{settled}
 use Rattle.csvw_records.proofs.Joins.{settled_all}
 use Rattle.csvw_records.proofs.Ascii.{ascii_at, no_cr, term_chars}
 use Rattle.csvw_records.proofs.Complete.{nothing_ends}

@@ -18,7 +18,7 @@ use Rattle.csvw_records.specs.declared.stop.RowStop.TheVariants.{UnclosedQuote}
 use Rattle.csvw_fields.specs.Drafts.{read_of, state_of, values_of, current_of, runs_on, NoneArises, IsFresh, IsDraft, IsEnded, IsBrokenOff, IsOpen}
 use Rattle.csvw_fields.specs.Drafts.{IsRowRead, IsBrokenThere, IsLeftInQuotes, Reads, GoesOn}
 use Rattle.csvw_records.specs.Grammar.{terminator_len}
-use Rattle.csvw_records.specs.Looks.{settled, unsettled}
+use Rattle.csvw_records.specs.NextRow.{settled, unsettled}
 use Rattle.csvw_records.specs.Scan.{Found, Broken, Unfinished, run, finish, is_quoted}
 use Rattle.csvw_records.proofs.Ascii.{split_chars}
 use Rattle.csvw_records.proofs.Continue.{unsettled_is}

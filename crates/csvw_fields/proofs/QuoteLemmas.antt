@@ -8,7 +8,7 @@ use Rattle.std.proofs.lemmas.List.{get_or-take}
 use Rattle.std.proofs.lemmas.Str.{chars-nil, chars-IsAscii, IsUtf8-from_ascii, IsCharBoundary-start, IsCharBoundary-after_ascii}
 use Rattle.csvw_dialect.specs.Lawful.{IsLawful}
 use Rattle.csvw_dialect.specs.declared.dialect.Dialect.{Dialect}
-use Rattle.csvw_fields.specs.Clean.{AreDoubled}
+use Rattle.csvw_fields.specs.FieldText.{AreDoubled}
 use Rattle.csvw_fields.proofs.CleanLemmas.{alone}
 use Rattle.csvw_fields.proofs.CutLemmas.{no_term}
 use Rattle.csvw_records.proofs.Ascii.{split_chars}

@@ -3,7 +3,7 @@ use Rattle.std.proofs.Common.{◌≡◌, ◌∙◌, ℕ, zero, suc, ◌+◌, ◌
 use Rattle.std.specs.Prelude.{encode_utf8, encode_utf8_all}
 use Rattle.std.proofs.lemmas.List.{take_more}
 use Rattle.std.proofs.lemmas.Str.{cons_from_encodes, length-le-encodes}
-use Rattle.csvw_records.specs.Lines.{IsCommon}
+use Rattle.csvw_records.specs.AtFront.{IsCommon}
 use Rattle.csvw_records.proofs.LineLemmas.{get_any}
 
 get_drop : (t es : List ℕ) (i c : ℕ) → drop i t ≡ c ∷ es → (i < length t) × (get_or t i 0 ≡ c)

@@ -11,7 +11,7 @@ use Rattle.csvw_records.specs.declared.stop.RowStop.TheVariants.{UnclosedQuote}
 use Rattle.csvw_records.specs.declared.scan.State.TheVariants.{Start}
 use Rattle.csvw_fields.specs.Bounds.{texts_apart}
 use Rattle.csvw_records.specs.Grammar.{terminator_len}
-use Rattle.csvw_records.specs.Looks.{settled}
+use Rattle.csvw_records.specs.NextRow.{settled}
 use Rattle.csvw_records.specs.Scan.{Outcome, Found, Broken, Unfinished, run, pass, is_quoted}
 
 -- how many bytes of the row were read

@@ -1,5 +1,5 @@
 pub mod Bounds
-pub mod Clean
+pub mod FieldText
 pub mod Cuts
 pub mod Cutters
 pub mod Drafts

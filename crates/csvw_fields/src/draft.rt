@@ -3,7 +3,7 @@ ghost use Rattle.std.specs.Prelude.{◌≡◌, ◌≤◌, ◌+◌, true, false, 
 ghost use Rattle.std.specs.Str.{is_utf8};
 ghost use Rattle.csvw_fields.specs.Bounds.{apart_all, texts_apart};
 ghost use Rattle.csvw_records.specs.Grammar.{trimmed};
-ghost use Rattle.csvw_records.specs.Looks.{settled};
+ghost use Rattle.csvw_records.specs.NextRow.{settled};
 ghost use Rattle.csvw_records.specs.declared.scan.State.TheVariants.{Start, Inside};
 
 use crate::bound::Bound;

@@ -1,7 +1,7 @@
 //! The bytes that a dialect's symbols begin with in UTF-8. A text without such a byte has no such symbol.
 ghost use Rattle.std.specs.Prelude.{◌≡◌, ◌≢◌, ◌≤◌, ◌<◌, ◌-◌, true, false, [], ◌∷◌, length, take, drop, chars, encode_utf8, slice_index};
 ghost use Rattle.std.specs.Str.{IsCharBoundary};
-ghost use Rattle.csvw_fields.specs.Clean.{IsLeads, IsClean};
+ghost use Rattle.csvw_fields.specs.FieldText.{IsLeads, IsClean};
 ghost use Rattle.csvw_records.specs.declared.scan.State.TheVariants.{Plain, Inside};
 
 use csvw_dialect::Dialect;

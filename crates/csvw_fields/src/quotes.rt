@@ -1,6 +1,6 @@
 //! Quotes inside quotes, many of them together.
 ghost use Rattle.std.specs.Prelude.{◌≡◌, ◌≤◌, ◌<◌, ℕ, length, slice_index};
-ghost use Rattle.csvw_fields.specs.Clean.{AreDoubled};
+ghost use Rattle.csvw_fields.specs.FieldText.{AreDoubled};
 
 use csvw_dialect::Dialect;
 use csvw_records::State;

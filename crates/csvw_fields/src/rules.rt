@@ -1,14 +1,14 @@
 //! A dialect with its comment prefix as characters.
 ghost use Rattle.std.specs.Prelude.{◌≡◌, ◌≤◌, nat_eq, false, Some, length, IfOk, chars};
 ghost use Rattle.std.specs.List.{starts_with};
-ghost use Rattle.csvw_fields.specs.Clean.{IsLeads};
+ghost use Rattle.csvw_fields.specs.FieldText.{IsLeads};
 ghost use Rattle.csvw_fields.specs.Cuts.{IsSymbols};
 ghost use Rattle.csvw_fields.specs.declared.cut.Symbols.{Symbols};
 ghost use Rattle.csvw_records.specs.Files.{begins_with, is_note};
 ghost use Rattle.csvw_dialect.specs.Lawful.{prefix_of};
 ghost use Rattle.csvw_dialect.specs.Lawful.{IsLawful};
-ghost use Rattle.csvw_records.specs.Looks.{may_be_note};
-ghost use Rattle.csvw_records.specs.Lines.{IsCommon, IsPrefixLen};
+ghost use Rattle.csvw_records.specs.NextRow.{may_be_note};
+ghost use Rattle.csvw_records.specs.AtFront.{IsCommon, IsPrefixLen};
 
 use crate::cut::Symbols;
 use crate::decode::chars_of;

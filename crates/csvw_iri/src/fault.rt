@@ -2,6 +2,8 @@
 ghost use Rattle.std.specs.Prelude.{◌≡◌};
 
 use std::alloc::{AllocError, AllocFailed};
+use std::error::Error;
+use std::fmt;
 
 /// Why a text gives no IRI, in the order in which they are tested but for `Memory`, which may come
 /// before any of them.
@@ -14,6 +16,27 @@ pub enum IriFault {
     /// The text is no URL, or resolves to none, by the URL Standard.
     BadUrl,
 }
+
+impl IriFault {
+    /// What is wrong and what to do, as a sentence without its stop.
+    fn sentence(&self) -> &'static str {
+        match self {
+            IriFault::Memory => "there is no memory: free some, and try again",
+            IriFault::UrlTooLong => "the text has more than 65,536 bytes: shorten it",
+            IriFault::BadUrl => {
+                "the text is no URL, nor part of one: write it as the URL Standard has it"
+            }
+        }
+    }
+}
+
+impl fmt::Display for IriFault {
+    fn fmt<W: fmt::Write>(&self, f: &mut fmt::Formatter<W>) -> fmt::Result {
+        f.write_str(self.sentence())
+    }
+}
+
+impl Error for IriFault {}
 
 impl From<AllocError> for IriFault {
     ghost use Rattle.csvw_iri.specs.declared.fault.IriFault.TheVariants.{Memory};

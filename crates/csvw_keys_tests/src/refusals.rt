@@ -15,7 +15,7 @@ struct Case {
     pointer: &'static str,
 }
 
-const CASES: [Case; 17] = [
+static CASES: [Case; 17] = [
     Case {
         schema: r#""columns":[{"name":"k"},{"name":"l"}],"primaryKey":"m""#,
         code: MetaCode::BadReference,

@@ -15,7 +15,7 @@ struct Case {
     faults: &'static str,
 }
 
-const CASES: [Case; 17] = [
+static CASES: [Case; 17] = [
     Case {
         about: "Numbers are compared as values, and a reference over whole tables.",
         meta: r#"{"@context":"http://www.w3.org/ns/csvw","tables":[{"url":"a.csv",

@@ -63,7 +63,7 @@ const TWO_TABLES: &str = r#"{"@context":"http://www.w3.org/ns/csvw","tables":[
 {"url":"levels.csv","dialect":{"delimiter":";"},"null":"-","tableSchema":{"columns":[
 {"titles":"station"},{"titles":"day"},{"titles":"level"}]}}]}"#;
 
-const CASES: [Case; 8] = [
+static CASES: [Case; 8] = [
     Case {
         meta: PLAIN,
         texts: &[b"id,name\n1,Ann\n"],

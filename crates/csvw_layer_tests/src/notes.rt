@@ -4,7 +4,7 @@ use crate::standard::{Case, written};
 use csvw_triples_core::Mode;
 use std::test::Fail;
 
-const CASES: [Case; 4] = [
+static CASES: [Case; 4] = [
     // a title in the language of the context, and a note with a type, a node and a literal
     Case {
         meta: r#"{"@context":["http://www.w3.org/ns/csvw",{"@language":"en"}],"url":"p.csv","dc:title":"T",

@@ -19,7 +19,7 @@ pub(crate) struct Case {
     pub(crate) graph: &'static str,
 }
 
-const CASES: [Case; 6] = [
+static CASES: [Case; 6] = [
     // a header alone
     Case {
         meta: r#"{"@context":"http://www.w3.org/ns/csvw","url":"p.csv"}"#,

@@ -16,7 +16,7 @@ struct Case {
     faults: &'static str,
 }
 
-const CASES: [Case; 14] = [
+static CASES: [Case; 14] = [
     // about, property and value links
     Case {
         meta: r##"{"@context":"http://www.w3.org/ns/csvw","url":"p.csv","tableSchema":{"aboutUrl":"#{id}",

@@ -16,7 +16,7 @@ struct Case {
     pointer: &'static str,
 }
 
-const CASES: [Case; 5] = [
+static CASES: [Case; 5] = [
     Case {
         schema: r#""aboutUrl":"{id""#,
         code: MetaCode::BadTemplate,

@@ -3,6 +3,8 @@ ghost use Rattle.std.specs.Prelude.{◌≡◌};
 
 use csvw_text::Text;
 use std::alloc::{AllocError, AllocFailed};
+use std::error::Error;
+use std::fmt;
 
 /// What is wrong with a metadata document.
 #[derive(Clone, Copy, Debug, PartialEq, Eq)]
@@ -47,6 +49,65 @@ pub enum MetaCode {
     TooMany,
 }
 
+impl MetaCode {
+    /// What is wrong and what to do, as a sentence without its stop.
+    fn sentence(&self) -> &'static str {
+        match self {
+            MetaCode::Memory => "there is no memory: free some, and try again",
+            MetaCode::TooLong => "the document or a template in it is too long: shorten it",
+            MetaCode::NotJson => {
+                "the bytes are no JSON text, or nest too deep: correct the document"
+            }
+            MetaCode::BadContext => {
+                "`@context` is missing or is another: write `http://www.w3.org/ns/csvw`"
+            }
+            MetaCode::BadProperty => {
+                "the value is of a wrong kind, or a property that is needed is missing: correct it by the vocabulary"
+            }
+            MetaCode::BadId => "an `@id` names a blank node: name it by a URL, or leave it out",
+            MetaCode::BadUrl => "the text is no URL: correct it",
+            MetaCode::UrlTooLong => "the text of a URL is too long: shorten it",
+            MetaCode::NotSupported => "this part of the vocabulary is not supported: leave it out",
+            MetaCode::BadDialect => {
+                "no text can be read by this dialect: give its delimiter, quotes and line ends different characters"
+            }
+            MetaCode::BadDatatype => {
+                "the datatype cannot have this format or these facets: leave out what does not fit it"
+            }
+            MetaCode::BadTemplate => {
+                "the text is no URI template: write names between braces, as `{name}`"
+            }
+            MetaCode::TemplateLevel => {
+                "the template has an operator or a modifier of a higher level: use `{name}`, `{+name}` or `{#name}`"
+            }
+            MetaCode::BadName => {
+                "the name of a column is no name of a variable: use letters, digits and low lines, and no low line in front"
+            }
+            MetaCode::DuplicateName => "two columns of a table have one name: rename one of them",
+            MetaCode::VirtualOrder => {
+                "a virtual column stands in front of one that is not: write virtual columns last"
+            }
+            MetaCode::DuplicateTable => {
+                "two tables of the group have one URL: correct one of them, or leave it out"
+            }
+            MetaCode::BadReference => {
+                "a key names a column or a table that is not there: correct the name"
+            }
+            MetaCode::TooMany => {
+                "there are more items than the limit, or a number is above its own: write fewer or smaller ones"
+            }
+        }
+    }
+}
+
+impl fmt::Display for MetaCode {
+    fn fmt<W: fmt::Write>(&self, f: &mut fmt::Formatter<W>) -> fmt::Result {
+        f.write_str(self.sentence())
+    }
+}
+
+impl Error for MetaCode {}
+
 /// A fault of a metadata document, with its place.
 #[derive(Debug, Drop, PartialEq, Eq)]
 pub struct MetaFault {
@@ -84,3 +145,24 @@ impl<T: Drop> From<AllocFailed<T>> for Refusal {
         Refusal::Memory
     }
 }
+
+impl fmt::Display for MetaFault {
+    fn fmt<W: fmt::Write>(&self, f: &mut fmt::Formatter<W>) -> fmt::Result {
+        let code = self.code;
+        let pointer = self.pointer.as_str();
+        write!(f, "{code}; it is at `{pointer}` of the document")
+    }
+}
+
+impl Error for MetaFault {}
+
+impl fmt::Display for Refusal {
+    fn fmt<W: fmt::Write>(&self, f: &mut fmt::Formatter<W>) -> fmt::Result {
+        match self {
+            Refusal::Memory => f.write_str(MetaCode::Memory.sentence()),
+            Refusal::Fault(fault) => write!(f, "{fault}"),
+        }
+    }
+}
+
+impl Error for Refusal {}

@@ -4,7 +4,7 @@ use csvw_meta_core::MetaCode;
 use std::test::Fail;
 
 /// Those that are read, with how many warnings.
-const ACCEPTED: [Accepted; 21] = [
+static ACCEPTED: [Accepted; 21] = [
     Accepted {
         text: r#""dc:x":null"#,
         warnings: 0,
@@ -92,7 +92,7 @@ const ACCEPTED: [Accepted; 21] = [
 ];
 
 /// Those that are refused, each at its fault.
-const REFUSED: [Refused; 36] = [
+static REFUSED: [Refused; 36] = [
     Refused {
         text: r#""dc:x":1.5"#,
         code: MetaCode::NotSupported,

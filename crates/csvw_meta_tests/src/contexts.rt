@@ -4,7 +4,7 @@ use csvw_meta_core::MetaCode;
 use std::test::Fail;
 
 /// Those that are read, with how many warnings.
-const ACCEPTED: [Accepted; 7] = [
+static ACCEPTED: [Accepted; 7] = [
     Accepted {
         text: r#"{"@context":"http://www.w3.org/ns/csvw","url":"p.csv"}"#,
         warnings: 0,
@@ -38,7 +38,7 @@ const ACCEPTED: [Accepted; 7] = [
 ];
 
 /// Those that are refused, each at its fault.
-const REFUSED: [Refused; 25] = [
+static REFUSED: [Refused; 25] = [
     Refused {
         text: r#""#,
         code: MetaCode::NotJson,

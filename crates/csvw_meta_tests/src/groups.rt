@@ -4,7 +4,7 @@ use csvw_meta_core::MetaCode;
 use std::test::Fail;
 
 /// Those that are read, with how many warnings.
-const ACCEPTED: [Accepted; 8] = [
+static ACCEPTED: [Accepted; 8] = [
     Accepted {
         text: r#""tables":[{"url":"p.csv"}]"#,
         warnings: 0,
@@ -40,7 +40,7 @@ const ACCEPTED: [Accepted; 8] = [
 ];
 
 /// Those that are refused, each at its fault.
-const REFUSED: [Refused; 23] = [
+static REFUSED: [Refused; 23] = [
     Refused {
         text: r#""tables":[]"#,
         code: MetaCode::BadProperty,

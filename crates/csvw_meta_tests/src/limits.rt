@@ -23,7 +23,7 @@ struct Limit {
     fault: (MetaCode, &'static str),
 }
 
-const LIMITS: [Limit; 9] = [
+static LIMITS: [Limit; 9] = [
     // tables of a group
     Limit {
         front: r#"{"@context":"http://www.w3.org/ns/csvw","tables":["#,

@@ -4,7 +4,7 @@ use csvw_meta_core::MetaCode;
 use std::test::Fail;
 
 /// Those that are read, with how many warnings.
-const ACCEPTED: [Accepted; 20] = [
+static ACCEPTED: [Accepted; 20] = [
     Accepted {
         text: r#""url":"p.csv""#,
         warnings: 0,
@@ -89,7 +89,7 @@ const ACCEPTED: [Accepted; 20] = [
 ];
 
 /// Those that are refused, each at its fault.
-const REFUSED: [Refused; 30] = [
+static REFUSED: [Refused; 30] = [
     Refused {
         text: r#""@type":"Table""#,
         code: MetaCode::BadProperty,

@@ -1,6 +1,8 @@
 //! What a text in N-Triples says.
 
 use csvw_text::{LanguageTag, Text};
+use std::error::Error;
+use std::fmt;
 
 /// A node: an IRI, or a blank node by its label.
 #[derive(Debug, Drop)]
@@ -40,3 +42,21 @@ pub enum NtFault {
     /// The bytes aren't UTF-8, or no document of N-Triples.
     Syntax,
 }
+
+impl NtFault {
+    /// What is wrong and what to do, as a sentence without its stop.
+    fn sentence(&self) -> &'static str {
+        match self {
+            NtFault::Memory => "there is no memory: free some, and try again",
+            NtFault::Syntax => "the bytes are no N-Triples document: correct the line that is none",
+        }
+    }
+}
+
+impl fmt::Display for NtFault {
+    fn fmt<W: fmt::Write>(&self, f: &mut fmt::Formatter<W>) -> fmt::Result {
+        f.write_str(self.sentence())
+    }
+}
+
+impl Error for NtFault {}

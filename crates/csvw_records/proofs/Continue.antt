@@ -14,8 +14,8 @@ use Rattle.csvw_dialect.specs.Lawful.{IsLawful, has_break, prefix_breaks}
 use Rattle.csvw_records.specs.Files.{Row, IsRow, EndsRow, is_note, begins_with}
 use Rattle.csvw_dialect.specs.Lawful.{prefix_of}
 use Rattle.csvw_records.specs.Scan.{Outcome, Found, Broken, Unfinished, run, pass, finish}
-use Rattle.csvw_records.specs.Looks.{settled, unsettled, line_of, found_row, next_row, terminator_of, may_be_note, begins_prefix}
-use Rattle.csvw_records.specs.Parts.{Continues}
+use Rattle.csvw_records.specs.NextRow.{settled, unsettled, line_of, found_row, next_row, terminator_of, may_be_note, begins_prefix}
+use Rattle.csvw_records.specs.PartOfRow.{Continues}
 use Rattle.csvw_records.proofs.RunSteps.{no_end}
 use Rattle.csvw_records.proofs.Joins.{Clear, line_join, settled_all, settled_clear}
 use Rattle.csvw_records.proofs.Notes.{is_break, BeginsBreak, note_same, note_stays, terminator_breaks}

@@ -13,8 +13,8 @@ use Rattle.csvw_records.specs.Grammar.{terminator_len}
 use Rattle.csvw_records.specs.Lengths.{byte_len, row_limit}
 use Rattle.csvw_records.specs.Files.{Row, IsRow, AreRows, KeepsLimits, IsWhole, content, is_text, is_note}
 use Rattle.csvw_records.specs.Scan.{run, finish}
-use Rattle.csvw_records.specs.Looks.{unsettled, next_row, found_row}
-use Rattle.csvw_records.specs.Parts.{Breaks, Goes}
+use Rattle.csvw_records.specs.NextRow.{unsettled, next_row, found_row}
+use Rattle.csvw_records.specs.PartOfRow.{Breaks, Goes}
 use Rattle.csvw_records.specs.Stops.{Begins, StopOf, StopsInText, StopsInBytes, StopsAtEnd}
 use Rattle.csvw_records.proofs.Complete.{nothing_ends}
 use Rattle.csvw_records.proofs.Continue.{fields_next}

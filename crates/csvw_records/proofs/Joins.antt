@@ -9,7 +9,7 @@ use Rattle.csvw_records.specs.declared.scan.Step.{Step}
 use Rattle.csvw_records.specs.declared.scan.Step.TheVariants.{Keep, Skip, Open, Next, End, Stop}
 use Rattle.csvw_records.specs.Grammar.{terminator_len}
 use Rattle.csvw_records.specs.Scan.{Outcome, Found, Broken, Unfinished, step_of, run}
-use Rattle.csvw_records.specs.Looks.{settled, unsettled, line_of}
+use Rattle.csvw_records.specs.NextRow.{settled, unsettled, line_of}
 use Rattle.csvw_records.proofs.RunSteps.{ends_at, act_run}
 
 -- no terminator arises where the texts are joined

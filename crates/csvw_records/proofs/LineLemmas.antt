@@ -11,7 +11,7 @@ use Rattle.csvw_records.specs.declared.scan.State.TheVariants.{Start, Plain, Ins
 use Rattle.csvw_records.specs.declared.scan.Step.{Step}
 use Rattle.csvw_records.specs.declared.scan.Step.TheVariants.{Keep, Skip, Open, Next, End, Stop}
 use Rattle.csvw_records.specs.Scan.{Found, Broken, Unfinished, is_quoted, step_of, run, finish}
-use Rattle.csvw_records.specs.Looks.{settled, unsettled}
+use Rattle.csvw_records.specs.NextRow.{settled, unsettled}
 use Rattle.csvw_records.proofs.RunSteps.{ends_at, act_run}
 use Rattle.csvw_records.proofs.Joins.{goes_on}
 use Rattle.csvw_records.proofs.Sees.{run_on}

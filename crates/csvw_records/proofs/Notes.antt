@@ -8,7 +8,7 @@ use Rattle.csvw_records.specs.Grammar.{terminator_len}
 use Rattle.csvw_records.specs.Files.{EndsRow, begins_with, is_note}
 use Rattle.csvw_dialect.specs.Lawful.{prefix_of}
 use Rattle.csvw_dialect.specs.Lawful.{IsLawful, has_break, prefix_breaks}
-use Rattle.csvw_records.specs.Looks.{begins_prefix, may_be_note}
+use Rattle.csvw_records.specs.NextRow.{begins_prefix, may_be_note}
 
 -- CR or LF
 abbrev pub is_break : ℕ → Bool

@@ -7,7 +7,7 @@ use Rattle.csvw_records.specs.Grammar.{terminator_len, trimmed, AreFields, RowTe
 use Rattle.csvw_dialect.specs.Lawful.{IsLawful}
 use Rattle.csvw_records.specs.Scan.{Outcome, Found, Broken, Unfinished, pass}
 use Rattle.csvw_records.specs.Files.{Row, IsRow, AreRows, EndsRow, HasNoTerminator, is_note}
-use Rattle.csvw_records.specs.Looks.{line_of, found_row, next_row}
+use Rattle.csvw_records.specs.NextRow.{line_of, found_row, next_row}
 use Rattle.std.proofs.lemmas.List.{append_cancel_right}
 use Rattle.csvw_records.proofs.Notes.{note_same, ends_break}
 use Rattle.csvw_records.proofs.RunSteps.{ends_at, no_end}

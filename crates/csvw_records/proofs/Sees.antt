@@ -10,8 +10,8 @@ use Rattle.csvw_records.specs.Grammar.{terminator_len, trimmed}
 use Rattle.csvw_dialect.specs.Lawful.{IsLawful}
 use Rattle.csvw_records.specs.Files.{Row, IsRow, EndsRow, is_note}
 use Rattle.csvw_records.specs.Scan.{Outcome, Found, Broken, Unfinished, quote_is, is_quoted, step_of, run, finish}
-use Rattle.csvw_records.specs.Looks.{settled, unsettled, line_of, found_row, next_row, terminator_of, may_be_note}
-use Rattle.csvw_records.specs.Parts.{Continues, Breaks, HasRow}
+use Rattle.csvw_records.specs.NextRow.{settled, unsettled, line_of, found_row, next_row, terminator_of, may_be_note}
+use Rattle.csvw_records.specs.PartOfRow.{Continues, Breaks, HasRow}
 use Rattle.csvw_records.proofs.RunSteps.{ends_at, act_run, differs}
 use Rattle.csvw_records.proofs.Joins.{goes_on, run_join, line_joins, settled_all, settled_clear}
 use Rattle.csvw_records.proofs.Notes.{note_never}

@@ -13,10 +13,10 @@ use Rattle.csvw_records.specs.declared.scan.State.TheVariants.{Start, Plain, Ins
 use Rattle.csvw_records.specs.Files.{is_note}
 use Rattle.csvw_dialect.specs.Lawful.{prefix_of}
 use Rattle.csvw_records.specs.Scan.{Outcome, Found, Broken, Unfinished, is_quoted, run, finish}
-use Rattle.csvw_records.specs.Looks.{settled, unsettled, found_row, next_row, may_be_note, begins_prefix}
-use Rattle.csvw_records.specs.Parts.{Breaks}
+use Rattle.csvw_records.specs.NextRow.{settled, unsettled, found_row, next_row, may_be_note, begins_prefix}
+use Rattle.csvw_records.specs.PartOfRow.{Breaks}
 use Rattle.csvw_records.specs.Stops.{AfterFields, IsBroken, IsLeftOpen}
-use Rattle.csvw_records.specs.Lines.{IsCommon, IsPrefixLen, IsCr, IsShown, IsWrong}
+use Rattle.csvw_records.specs.AtFront.{IsCommon, IsPrefixLen, IsCr, IsShown, IsWrong}
 use Rattle.csvw_records.proofs.Joins.{goes_on, settled_all}
 use Rattle.csvw_records.proofs.Notes.{note_stays}
 use Rattle.csvw_records.proofs.Broken.{run_tells, Tells, IsRule}

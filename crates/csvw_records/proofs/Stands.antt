@@ -11,8 +11,8 @@ use Rattle.csvw_records.specs.Grammar.{terminator_len}
 use Rattle.csvw_dialect.specs.Lawful.{IsLawful}
 use Rattle.csvw_records.specs.Lengths.{byte_len, row_limit}
 use Rattle.csvw_records.specs.Files.{Row, IsRow, AreRows, AreAllRows, KeepsLimits, BeginsWithRows, IsLongest}
-use Rattle.csvw_records.specs.Looks.{terminator_of}
-use Rattle.csvw_records.specs.Parts.{Goes, Ends, NoRow, NoLast, FirstEnd}
+use Rattle.csvw_records.specs.NextRow.{terminator_of}
+use Rattle.csvw_records.specs.PartOfRow.{Goes, Ends, NoRow, NoLast, FirstEnd}
 use Rattle.csvw_records.specs.Stops.{AreRowsWithin, Begins, StopsAt}
 use Rattle.csvw_records.proofs.RowLaws.{row_unique, rows_prefix}
 use Rattle.csvw_records.proofs.Continue.{term_some, term_len}

@@ -14,8 +14,8 @@ use Rattle.csvw_dialect.specs.Lawful.{IsLawful}
 use Rattle.csvw_records.specs.Lengths.{byte_len, row_limit}
 use Rattle.csvw_records.specs.Files.{Row, IsRow, AreRows}
 use Rattle.csvw_records.specs.Scan.{finish}
-use Rattle.csvw_records.specs.Looks.{unsettled, terminator_of, found_row}
-use Rattle.csvw_records.specs.Parts.{Continues, Breaks, HasRow, Goes, Ends, NoRow, FirstEnd}
+use Rattle.csvw_records.specs.NextRow.{unsettled, terminator_of, found_row}
+use Rattle.csvw_records.specs.PartOfRow.{Continues, Breaks, HasRow, Goes, Ends, NoRow, FirstEnd}
 use Rattle.csvw_records.specs.Stops.{AreRowsWithin}
 use Rattle.csvw_records.proofs.Joins.{goes_on}
 use Rattle.csvw_records.proofs.Notes.{note_never}

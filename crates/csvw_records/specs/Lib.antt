@@ -2,9 +2,9 @@ pub mod Files
 pub mod Grammar
 pub mod Laws
 pub mod Lengths
-pub mod Lines
-pub mod Looks
-pub mod Parts
+pub mod AtFront
+pub mod NextRow
+pub mod PartOfRow
 pub mod RowValue
 pub mod Scan
 pub mod Stops

@@ -1,5 +1,7 @@
 //! Why no more rows come.
 use std::alloc::{AllocError, AllocFailed};
+use std::error::Error;
+use std::fmt;
 
 /// Why no more rows come. A stop stands at a character of the text, or at its end; at one place
 /// the order is `NotUtf8`, `RowTooLong`, the three on quotes, `TooManyRows`.
@@ -20,6 +22,39 @@ pub enum RowStop {
     /// There are more rows, of all kinds, than the reader was told to take.
     TooManyRows,
 }
+
+impl RowStop {
+    /// What is wrong and what to do, as a sentence without its stop.
+    fn sentence(&self) -> &'static str {
+        match self {
+            RowStop::Memory => "there is no memory: free some, and try again",
+            RowStop::NotUtf8 => "the text is not UTF-8: save it in UTF-8",
+            RowStop::RowTooLong => {
+                "a row has more than 1,048,576 bytes: divide it, or look for a quote that is not closed"
+            }
+            RowStop::BadQuote => {
+                "a quote stands in a field that does not begin with one: quote the whole field, and double the quotes in it"
+            }
+            RowStop::TextAfterQuote => {
+                "text stands behind the quote that ends a field: double the quotes in a field"
+            }
+            RowStop::UnclosedQuote => {
+                "a field that begins with a quote has no quote at its end: close it"
+            }
+            RowStop::TooManyRows => {
+                "there are more rows than the reader may take: divide the table"
+            }
+        }
+    }
+}
+
+impl fmt::Display for RowStop {
+    fn fmt<W: fmt::Write>(&self, f: &mut fmt::Formatter<W>) -> fmt::Result {
+        f.write_str(self.sentence())
+    }
+}
+
+impl Error for RowStop {}
 
 impl From<AllocError> for RowStop {
     ghost use Rattle.std.specs.Prelude.{◌≡◌};

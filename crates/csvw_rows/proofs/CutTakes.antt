@@ -16,7 +16,7 @@ use Rattle.csvw_dialect.specs.Lawful.{prefix_of}
 use Rattle.csvw_records.specs.Grammar.{terminator_len, trimmed}
 use Rattle.csvw_dialect.specs.Lawful.{IsLawful}
 use Rattle.csvw_records.specs.Lengths.{byte_len, row_limit}
-use Rattle.csvw_rows.specs.Nexts.{TakesRow, is_last}
+use Rattle.csvw_rows.specs.NextRows.{TakesRow, is_last}
 use Rattle.csvw_rows.specs.RowsState.{HasFields, after_of}
 use Rattle.csvw_rows.specs.SourceState.{text_items, taken_of, rest_of}
 use Rattle.csvw_records.proofs.Notes.{note_same, ends_break}

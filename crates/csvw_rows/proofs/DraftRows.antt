@@ -14,9 +14,9 @@ use Rattle.csvw_records.specs.declared.stop.RowStop.TheVariants.{RowTooLong}
 use Rattle.csvw_records.specs.Files.{is_note}
 use Rattle.csvw_records.specs.Grammar.{terminator_len, trimmed}
 use Rattle.csvw_records.specs.Lengths.{byte_len, row_limit}
-use Rattle.csvw_records.specs.Lines.{IsFound}
-use Rattle.csvw_records.specs.Looks.{line_of, next_row, found_row}
-use Rattle.csvw_rows.specs.Nexts.{StopsHere, is_last}
+use Rattle.csvw_records.specs.AtFront.{IsFound}
+use Rattle.csvw_records.specs.NextRow.{line_of, next_row, found_row}
+use Rattle.csvw_rows.specs.NextRows.{StopsHere, is_last}
 use Rattle.csvw_rows.specs.Notes.{NoneBegins}
 use Rattle.csvw_rows.specs.RowsState.{HasRow, HasFields, IsReadable, IsReadRow, IsNoteNext, IsNoteRead, HasNoEnd, after_of}
 use Rattle.csvw_records.specs.Scan.{pass}

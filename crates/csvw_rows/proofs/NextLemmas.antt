@@ -15,11 +15,11 @@ use Rattle.csvw_dialect.specs.Lawful.{IsLawful}
 use Rattle.csvw_records.specs.Lengths.{byte_len, row_limit}
 use Rattle.csvw_records.specs.Files.{Row, IsRow, EndsRow}
 use Rattle.csvw_records.specs.Scan.{run}
-use Rattle.csvw_records.specs.Looks.{settled, unsettled, next_row, terminator_of}
-use Rattle.csvw_records.specs.Parts.{Continues, Breaks, HasRow, Goes, Ends, NoRow, NoLast, FirstEnd}
+use Rattle.csvw_records.specs.NextRow.{settled, unsettled, next_row, terminator_of}
+use Rattle.csvw_records.specs.PartOfRow.{Continues, Breaks, HasRow, Goes, Ends, NoRow, NoLast, FirstEnd}
 use Rattle.csvw_records.specs.Stops.{IsBroken, IsNamed}
-use Rattle.csvw_records.specs.Lines.{IsFound, IsWrong}
-use Rattle.csvw_rows.specs.Nexts.{TakesRow, StopsHere, StopGives, is_last}
+use Rattle.csvw_records.specs.AtFront.{IsFound, IsWrong}
+use Rattle.csvw_rows.specs.NextRows.{TakesRow, StopsHere, StopGives, is_last}
 use Rattle.csvw_records.proofs.Joins.{goes_on}
 use Rattle.csvw_records.proofs.RowLaws.{row_sound, row_complete, row_unique}
 use Rattle.csvw_records.proofs.Broken.{run_tells, Tells, IsRule}

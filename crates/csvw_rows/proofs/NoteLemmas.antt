@@ -13,7 +13,7 @@ use Rattle.std.proofs.lemmas.Str.{is_utf8-from_IsUtf8, IsUtf8-drop, IsCharBounda
 use Rattle.csvw_dialect.specs.declared.dialect.Dialect.{Dialect}
 use Rattle.csvw_records.specs.Grammar.{terminator_len}
 use Rattle.csvw_records.specs.Lengths.{byte_len}
-use Rattle.csvw_records.specs.Looks.{settled, unsettled, line_of}
+use Rattle.csvw_records.specs.NextRow.{settled, unsettled, line_of}
 use Rattle.csvw_rows.specs.Notes.{NoneBegins, IsNoted}
 use Rattle.csvw_records.proofs.Ascii.{split_chars}
 use Rattle.csvw_records.proofs.ByteLens.{byte_len_past}

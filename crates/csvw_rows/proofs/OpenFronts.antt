@@ -13,9 +13,9 @@ use Rattle.csvw_records.specs.declared.stop.RowStop.TheVariants.{RowTooLong}
 use Rattle.csvw_fields.specs.Drafts.{read_of, state_of, values_of, current_of, IsOpen, IsBrokenThere, IsLeftInQuotes}
 use Rattle.csvw_records.specs.Files.{is_note}
 use Rattle.csvw_records.specs.Lengths.{byte_len, row_limit}
-use Rattle.csvw_records.specs.Lines.{IsWrong, IsShownLen}
-use Rattle.csvw_records.specs.Looks.{settled, unsettled, may_be_note}
-use Rattle.csvw_rows.specs.Nexts.{StopsHere, StopGives, is_last}
+use Rattle.csvw_records.specs.AtFront.{IsWrong, IsShownLen}
+use Rattle.csvw_records.specs.NextRow.{settled, unsettled, may_be_note}
+use Rattle.csvw_rows.specs.NextRows.{StopsHere, StopGives, is_last}
 use Rattle.csvw_rows.specs.RowsState.{IsReadable, IsWrongRow, WaitsThere, IsOpenFront, IsNoteNext, HasNoEnd, IsSettledLen, sure_of, after_of}
 use Rattle.csvw_records.specs.Scan.{Broken, Unfinished, run, is_quoted}
 use Rattle.csvw_rows.specs.SourceState.{rest_bytes, rest_of}

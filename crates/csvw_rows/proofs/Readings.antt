@@ -10,9 +10,9 @@ use Rattle.csvw_records.specs.declared.stop.RowStop.TheVariants.{NotUtf8}
 use Rattle.csvw_records.specs.Grammar.{terminator_len}
 use Rattle.csvw_dialect.specs.Lawful.{IsLawful}
 use Rattle.csvw_records.specs.Files.{Row, IsRow, AreRows, AreAllRows, EndsOpen, KeepsLimits, File, IsWhole, Front, content, is_text}
-use Rattle.csvw_records.specs.Parts.{Goes, NoRow, FirstEnd}
+use Rattle.csvw_records.specs.PartOfRow.{Goes, NoRow, FirstEnd}
 use Rattle.csvw_records.specs.Stops.{Begins, StopOf, StopsInText, StopsInBytes, StopsAtEnd, IsNamed}
-use Rattle.csvw_rows.specs.Nexts.{TakesRow, StandsThere, StopsHere}
+use Rattle.csvw_rows.specs.NextRows.{TakesRow, StandsThere, StopsHere}
 use Rattle.csvw_rows.specs.RowsState.{HasRead}
 use Rattle.csvw_records.proofs.Texts.{IsShort}
 use Rattle.csvw_records.proofs.Lookahead.{Again, rows_again}

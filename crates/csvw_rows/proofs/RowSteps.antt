@@ -4,7 +4,7 @@ use Rattle.csvw_rows.specs.declared.rows.Rows.{Rows}
 use Rattle.csvw_records.specs.declared.stop.RowStop.{RowStop}
 use Rattle.csvw_rows.specs.declared.next.Turn.{Turn}
 use Rattle.csvw_rows.specs.declared.next.Turn.TheVariants as turn
-use Rattle.csvw_rows.specs.Nexts.{Waits, StopGives}
+use Rattle.csvw_rows.specs.NextRows.{Waits, StopGives}
 use Rattle.csvw_rows.proofs.States.{is_done, is_reading, is_stopped}
 use Rattle.csvw_rows.specs.SourceState.{rest_of, Decodes}
 use Rattle.csvw_rows.specs.RowsState.{HasRead, Stays, Turns, Refills, after_of, unread, Passes}

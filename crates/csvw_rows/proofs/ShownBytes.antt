@@ -11,7 +11,7 @@ use Rattle.std.proofs.lemmas.Str.{encodes-chars, length-le-encodes}
 use Rattle.csvw_dialect.specs.declared.dialect.Dialect.{Dialect}
 use Rattle.csvw_dialect.specs.Lawful.{prefix_of}
 use Rattle.csvw_records.specs.Lengths.{byte_len}
-use Rattle.csvw_records.specs.Lines.{IsPrefixLen, IsCr, IsShownAt, IsShown, IsShownLen}
+use Rattle.csvw_records.specs.AtFront.{IsPrefixLen, IsCr, IsShownAt, IsShown, IsShownLen}
 use Rattle.csvw_records.proofs.Ascii.{split_chars}
 use Rattle.csvw_fields.proofs.DraftLemmas.{front_text, no_chars}
 

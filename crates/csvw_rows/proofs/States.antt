@@ -17,9 +17,9 @@ use Rattle.csvw_dialect.specs.Lawful.{IsLawful}
 use Rattle.csvw_records.specs.Files.{Row, Front, AreRows, EndsOpen, IsWhole, content, is_text, Body, remaining, remaining_fields, without_mark, is_empty}
 use Rattle.csvw_records.specs.Files.{given as given_row}
 use Rattle.csvw_records.specs.RowValue.{Given}
-use Rattle.csvw_records.specs.Parts.{Goes, NoRow}
+use Rattle.csvw_records.specs.PartOfRow.{Goes, NoRow}
 use Rattle.csvw_records.specs.Stops.{StopOf, Begins}
-use Rattle.csvw_rows.specs.Nexts.{is_last, StandsThere, TakesRow, StopsHere, StopGives, Waits}
+use Rattle.csvw_rows.specs.NextRows.{is_last, StandsThere, TakesRow, StopsHere, StopGives, Waits}
 use Rattle.csvw_rows.specs.SourceState.{Decodes, rest_of, is_bad_of, pending_of, begun_of, Pushes}
 use Rattle.csvw_rows.specs.RowsState.{fields_of, Holds, HasRead, HasGiven, NoStop, Stays, IsDone, IsReading, IsStopped, Passes, after_of, reading_of}
 use Rattle.csvw_rows.specs.RowsState.{last_of, Gives as RowGives}

@@ -1,5 +1,5 @@
 pub mod Laws
-pub mod Nexts
+pub mod NextRows
 pub mod Notes
 pub mod RowValue
 pub mod RowsLending

@@ -14,12 +14,12 @@ use Rattle.csvw_records.specs.Files.{is_note, Row, AreRows, EndsOpen, KeepsLimit
 use Rattle.csvw_records.specs.RowValue.{Given}
 use Rattle.csvw_rows.specs.SourceState.{text_items, rest_bytes, rest_of, is_bad_of, pending_of, begun_of, Decodes}
 use Rattle.csvw_records.specs.Grammar.{trimmed}
-use Rattle.csvw_records.specs.Looks.{settled, line_of, may_be_note}
+use Rattle.csvw_records.specs.NextRow.{settled, line_of, may_be_note}
 use Rattle.csvw_rows.specs.Notes.{NoneBegins}
-use Rattle.csvw_rows.specs.Nexts.{Waits, StopGives, TakesRow, is_last}
+use Rattle.csvw_rows.specs.NextRows.{Waits, StopGives, TakesRow, is_last}
 use Rattle.csvw_records.specs.Lengths.{byte_len}
-use Rattle.csvw_records.specs.Lines.{IsWrong}
-use Rattle.csvw_records.specs.Parts.{Continues, Goes, NoRow}
+use Rattle.csvw_records.specs.AtFront.{IsWrong}
+use Rattle.csvw_records.specs.PartOfRow.{Continues, Goes, NoRow}
 use Rattle.csvw_records.specs.Scan.{Found, pass, is_quoted}
 use Rattle.csvw_fields.specs.Drafts.{read_of, state_of}
 use Rattle.csvw_rows.specs.declared.next.Known.{Known}

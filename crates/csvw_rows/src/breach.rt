@@ -1,7 +1,7 @@
 //! How much of a row shows that a rule is broken in it.
 ghost use Rattle.std.specs.Prelude.{◌≡◌, ◌≤◌, ◌==◌, ◌&&◌, true, drop, take, length, chars};
 ghost use Rattle.std.specs.Str.{is_utf8};
-ghost use Rattle.csvw_records.specs.Lines.{IsShownAt, IsShownLen};
+ghost use Rattle.csvw_records.specs.AtFront.{IsShownAt, IsShownLen};
 
 use csvw_dialect::Dialect;
 use csvw_fields::{Rules, char_count, front_len};

@@ -1,6 +1,6 @@
 //! What stands at the front of the text that no row has yet.
 ghost use Rattle.std.specs.Prelude.{◌≡◌};
-ghost use Rattle.csvw_rows.specs.Nexts.{is_last};
+ghost use Rattle.csvw_rows.specs.NextRows.{is_last};
 
 use csvw_records::RowStop;
 

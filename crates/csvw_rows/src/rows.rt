@@ -64,7 +64,7 @@ impl Rows {
     ghost use Rattle.csvw_rows.specs.RowsLending.{RestsAdvanced};
     ghost use Rattle.csvw_rows.specs.SourceState.{rest_of};
     ghost use Rattle.csvw_rows.specs.RowValue.{row_of};
-    ghost use Rattle.csvw_rows.specs.Nexts.{is_last};
+    ghost use Rattle.csvw_rows.specs.NextRows.{is_last};
 
     /// A reader of no bytes yet, which takes at most so many rows of all kinds; `AllocError` where there is
     /// no memory. The dialect has to pass `check`.

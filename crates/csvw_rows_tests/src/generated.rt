@@ -212,7 +212,7 @@ fn compare(rt: &impl Abort, alloc: Global, d: &Dialect, numbers: &mut Numbers) -
     Ok(())
 }
 
-const KINDS: [Kind; 15] = [
+static KINDS: [Kind; 15] = [
     DEFAULT,
     Kind {
         delimiter: ';',
@@ -287,7 +287,7 @@ const KINDS: [Kind; 15] = [
 fn as_the_plain_reader(rt: HostRuntime) -> Result<(), Fail> {
     let alloc = rt.alloc();
     let mut numbers = Numbers(1);
-    for kind in KINDS {
+    for kind in &KINDS {
         compare(&rt, alloc, &kind.dialect(alloc)?, &mut numbers)?;
     }
     Ok(())

@@ -66,7 +66,7 @@ struct Table {
     cases: &'static [(&'static [u8], &'static str)],
 }
 
-const TABLES: [Table; 13] = [
+static TABLES: [Table; 13] = [
     Table {
         kind: DEFAULT,
         max: 1000,

@@ -4,7 +4,7 @@ use csvw_meta_tests::{Accepted, Refused, first_unread, first_unrefused};
 use std::test::Fail;
 
 /// Those that are read, with how many warnings.
-const ACCEPTED: [Accepted; 17] = [
+static ACCEPTED: [Accepted; 17] = [
     Accepted {
         text: r#""#,
         warnings: 0,
@@ -76,7 +76,7 @@ const ACCEPTED: [Accepted; 17] = [
 ];
 
 /// Those that are refused, each at its fault.
-const REFUSED: [Refused; 30] = [
+static REFUSED: [Refused; 30] = [
     Refused {
         text: r#""name":"_a""#,
         code: MetaCode::BadName,

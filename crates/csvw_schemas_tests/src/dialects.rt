@@ -4,7 +4,7 @@ use csvw_meta_tests::{Accepted, Refused, first_unread, first_unrefused};
 use std::test::Fail;
 
 /// Those that are read, with how many warnings.
-const ACCEPTED: [Accepted; 29] = [
+static ACCEPTED: [Accepted; 29] = [
     Accepted {
         text: r#""#,
         warnings: 0,
@@ -124,7 +124,7 @@ const ACCEPTED: [Accepted; 29] = [
 ];
 
 /// Those that are refused, each at its fault.
-const REFUSED: [Refused; 52] = [
+static REFUSED: [Refused; 52] = [
     Refused {
         text: r#""delimiter":";;""#,
         code: MetaCode::NotSupported,

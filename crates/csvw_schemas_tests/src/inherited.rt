@@ -4,7 +4,7 @@ use csvw_meta_tests::{Accepted, Refused, first_unread, first_unrefused};
 use std::test::Fail;
 
 /// Those that are read, with how many warnings.
-const ACCEPTED: [Accepted; 17] = [
+static ACCEPTED: [Accepted; 17] = [
     Accepted {
         text: r#""aboutUrl":"""#,
         warnings: 0,
@@ -76,7 +76,7 @@ const ACCEPTED: [Accepted; 17] = [
 ];
 
 /// Those that are refused, each at its fault.
-const REFUSED: [Refused; 34] = [
+static REFUSED: [Refused; 34] = [
     Refused {
         text: r#""aboutUrl":1"#,
         code: MetaCode::BadProperty,

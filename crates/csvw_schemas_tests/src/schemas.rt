@@ -4,7 +4,7 @@ use csvw_meta_tests::{Accepted, Refused, first_unread, first_unrefused};
 use std::test::Fail;
 
 /// Those that are read, with how many warnings.
-const ACCEPTED: [Accepted; 10] = [
+static ACCEPTED: [Accepted; 10] = [
     Accepted {
         text: r#""#,
         warnings: 0,
@@ -48,7 +48,7 @@ const ACCEPTED: [Accepted; 10] = [
 ];
 
 /// Those that are refused, each at its fault.
-const REFUSED: [Refused; 26] = [
+static REFUSED: [Refused; 26] = [
     Refused {
         text: r#""columns":1"#,
         code: MetaCode::BadProperty,

@@ -7,6 +7,8 @@ use csvw_engine_core::Halt;
 use csvw_meta_core::MetaFault;
 use csvw_rows::RowStop;
 use csvw_triples::SinkFault;
+use std::error::Error;
+use std::fmt;
 
 /// Why a run or a session stops.
 #[derive(Debug, Drop, PartialEq, Eq)]
@@ -67,3 +69,35 @@ impl Stop {
         }
     }
 }
+
+impl fmt::Display for Stop {
+    fn fmt<W: fmt::Write>(&self, f: &mut fmt::Formatter<W>) -> fmt::Result {
+        match self {
+            Stop::Memory => f.write_str("there is no memory: free some, and try again"),
+            Stop::Read => f.write_str("a table could not be read: look at its file, and try again"),
+            Stop::Write => f.write_str(
+                "the graph or the report could not be written: make room where it goes, and begin anew",
+            ),
+            Stop::Meta(fault) => write!(f, "{fault}"),
+            Stop::TableCount => {
+                f.write_str(
+                    "there is not one text for each table: give as many as the metadata describes",
+                )
+            }
+            Stop::Rows { table, row, stop } => write!(f, "table {table}, row {row}: {stop}"),
+            Stop::Table { table, row, stop } => write!(f, "table {table}, row {row}: {stop}"),
+            Stop::UnknownTable => {
+                f.write_str(
+                    "there is no table of this number: number them from 1 as the metadata does",
+                )
+            }
+            Stop::AfterEnd => {
+                f.write_str("the table was ended before: give all its text before its end")
+            }
+            Stop::NotEnded => f.write_str("not all tables were ended: end each table first"),
+            Stop::Failed => f.write_str("the session stopped before: begin a new one"),
+        }
+    }
+}
+
+impl Error for Stop {}

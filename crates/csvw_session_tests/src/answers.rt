@@ -3,6 +3,7 @@ use crate::sessions::started;
 use csvw_columns::TableStop;
 use csvw_session::Stop;
 use csvw_triples_core::{Mode, VecSink};
+use std::alloc::{AllocError, Global};
 use std::process::Abort;
 use std::test::Fail;
 
@@ -73,5 +74,26 @@ fn a_session_that_stopped_answers_that_it_failed(rt: HostRuntime) -> Result<(), 
     assert_eq!(rt; session.end(2), Err(Stop::Failed));
     assert_eq!(rt; session.finish().err(), Some(Stop::Failed));
     assert_eq!(rt; session.into_sink().triples().len(), 1);
+    Ok(())
+}
+
+/// Whether a stop is told by this sentence.
+fn is_told(alloc: Global, stop: &Stop, sentence: &str) -> Result<bool, AllocError> {
+    Ok(stop.to_string(alloc)?.as_str() == sentence)
+}
+
+#[test]
+fn stops_are_told_by_sentences(rt: HostRuntime) -> Result<(), Fail> {
+    let alloc = rt.alloc();
+    let ended = "the table was ended before: give all its text before its end";
+    assert!(rt; is_told(alloc, &Stop::AfterEnd, ended)?);
+    let ragged = Stop::Table {
+        table: 2,
+        row: 7,
+        stop: TableStop::RaggedRow,
+    };
+    let told =
+        "table 2, row 7: the row has not one field for each column: add the fields that are missing, or remove those that are too many";
+    assert!(rt; is_told(alloc, &ragged, told)?);
     Ok(())
 }

@@ -29,7 +29,7 @@ const LIBRARIES: &str =
 {"name":"open","titles":"Open","separator":" ","ordered":true}]}}"#;
 
 /// The valid and the faulty group of the examples, and a group with broken keys.
-pub(crate) const EXAMPLES: [Example; 3] = [
+pub(crate) static EXAMPLES: [Example; 3] = [
     Example {
         meta: RIVERS,
         texts: &[

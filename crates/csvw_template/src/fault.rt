@@ -2,6 +2,8 @@
 ghost use Rattle.std.specs.Prelude.{◌≡◌};
 
 use std::alloc::{AllocError, AllocFailed};
+use std::error::Error;
+use std::fmt;
 
 /// Why a text is no template. `TooLong` is tested first, then the text from the left; `Memory` may come
 /// before any of them.
@@ -16,6 +18,32 @@ pub enum TemplateFault {
     /// An expression is of a higher level: it has another operator than `+` and `#`, or a modifier.
     TemplateLevel,
 }
+
+impl TemplateFault {
+    /// What is wrong and what to do, as a sentence without its stop.
+    fn sentence(&self) -> &'static str {
+        match self {
+            TemplateFault::Memory => "there is no memory: free some, and try again",
+            TemplateFault::TooLong => {
+                "the template has more than 4,096 bytes or more than 32 braces that open: shorten it"
+            }
+            TemplateFault::BadTemplate => {
+                "the template has a brace without its partner, or no expression between two: write names between braces, as `{name}`"
+            }
+            TemplateFault::TemplateLevel => {
+                "the template has an operator or a modifier of a higher level: use `{name}`, `{+name}` or `{#name}`"
+            }
+        }
+    }
+}
+
+impl fmt::Display for TemplateFault {
+    fn fmt<W: fmt::Write>(&self, f: &mut fmt::Formatter<W>) -> fmt::Result {
+        f.write_str(self.sentence())
+    }
+}
+
+impl Error for TemplateFault {}
 
 impl From<AllocError> for TemplateFault {
     ghost use Rattle.csvw_template.specs.declared.fault.TemplateFault.TheVariants.{Memory};

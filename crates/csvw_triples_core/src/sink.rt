@@ -4,6 +4,8 @@ ghost use Rattle.csvw_triples_core.specs.declared.term.Triple.{Triple as TheTrip
 
 use crate::Triple;
 use std::alloc::AllocError;
+use std::error::Error;
+use std::fmt;
 
 /// Why a sink took no triple.
 #[derive(Clone, Copy, Debug, PartialEq, Eq)]
@@ -15,6 +17,27 @@ pub enum SinkFault {
     /// The device failed before.
     Closed,
 }
+
+impl SinkFault {
+    /// What is wrong and what to do, as a sentence without its stop.
+    fn sentence(&self) -> &'static str {
+        match self {
+            SinkFault::Memory => "there is no memory: free some, and try again",
+            SinkFault::Device => {
+                "the graph could not be written: make room where it goes, and begin anew"
+            }
+            SinkFault::Closed => "the graph could not be written before: begin anew",
+        }
+    }
+}
+
+impl fmt::Display for SinkFault {
+    fn fmt<W: fmt::Write>(&self, f: &mut fmt::Formatter<W>) -> fmt::Result {
+        f.write_str(self.sentence())
+    }
+}
+
+impl Error for SinkFault {}
 
 impl From<AllocError> for SinkFault {
     ghost use Rattle.csvw_triples_core.specs.declared.sink.SinkFault.TheVariants.{Memory};

@@ -285,12 +285,21 @@ static BOUNDS: [(Width, &str, &str); 20] = [
     (Width::NegativeInteger, "-1", "0"),
 ];
 
+/// Whether a datatype has the first text, and the second is past its bound.
+fn ends_between(
+    alloc: Global,
+    datatype: &Datatype,
+    met: &str,
+    passed: &str,
+) -> Result<bool, AllocError> {
+    Ok(reads_to(alloc, datatype, met, met)? && reads_to(alloc, datatype, passed, "OutOfRange")?)
+}
+
 /// Whether a derived integer has the first text, and the second is past its bound.
 fn is_bound(alloc: Global, width: Width, met: &str, passed: &str) -> Result<bool, AllocError> {
     let simple = Simple::Derived(width);
     let datatype = datatype_of(alloc, simple, &Pattern::Plain, &UNLIMITED)?;
-    let is_met = reads_to(alloc, &datatype, met, met)?;
-    Ok(is_met && reads_to(alloc, &datatype, passed, "OutOfRange")?)
+    ends_between(alloc, &datatype, met, passed)
 }
 
 fn bounds_each(
@@ -757,11 +766,15 @@ fn equals_its_copy(alloc: Global, datatype: &Datatype) -> Result<bool, AllocErro
     Ok(copy == *datatype)
 }
 
-#[test]
-fn copies_are_equal(rt: HostRuntime) -> Result<(), Fail> {
-    let alloc = rt.alloc();
+/// Whether the copy of a datatype with a format and a bound is equal to it.
+fn full_copy_is_equal(alloc: Global) -> Result<bool, AllocError> {
     let mut datatype = datatype_of(alloc, Simple::Truth, &Pattern::Truth("Y|N"), &UNLIMITED)?;
     set_minimum(alloc, &mut datatype.facets.minimum, "t")?;
-    assert!(rt; equals_its_copy(alloc, &datatype)?);
+    equals_its_copy(alloc, &datatype)
+}
+
+#[test]
+fn copies_are_equal(rt: HostRuntime) -> Result<(), Fail> {
+    assert!(rt; full_copy_is_equal(rt.alloc())?);
     Ok(())
 }

@@ -1,6 +1,6 @@
 use Rattle.std.proofs.Common.{◌∙◌, List, ℕ, length, take, drop, chars, ap}
 use Rattle.std.proofs.lemmas.Str.{IsUtf8-from_is_utf8, IsCharBoundary-from_drop}
-use Rattle.csvw_records.specs.Looks.{settled}
+use Rattle.csvw_records.specs.NextRow.{settled}
 use Rattle.csvw_fields.proofs.DraftRuns.{reads_goes}
 use Rattle.csvw_fields.proofs.draft.Draft.read_settled.Goals as goal
 

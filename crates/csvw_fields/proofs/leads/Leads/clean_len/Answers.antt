@@ -2,7 +2,7 @@ use Rattle.std.proofs.Common.{◌≤◌, ◌∙◌, List, [], ℕ, length, take,
 use Rattle.std.specs.Prelude.{unwrap_or}
 use Rattle.std.proofs.lemmas.Str.{IsCharBoundary-start, IsUtf8-take, chars-nil}
 use Rattle.memchr.specs.Find.{IsFirstByte, is_byte2, is_byte3}
-use Rattle.csvw_fields.specs.Clean.{IsClean}
+use Rattle.csvw_fields.specs.FieldText.{IsClean}
 use Rattle.csvw_records.specs.declared.scan.State.{State}
 use Rattle.csvw_fields.proofs.CleanLemmas.{plain_clean, inside_clean, nothing_clean}
 use Rattle.csvw_fields.proofs.leads.Leads.clean_len.Goals as goal

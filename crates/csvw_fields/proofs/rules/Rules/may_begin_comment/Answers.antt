@@ -1,6 +1,6 @@
 use Rattle.std.proofs.Common.{◌∙◌, ℕ, List, Option, option_map, chars, nat_eq, sym, ap}
 use Rattle.std.specs.List.{starts_with}
-use Rattle.csvw_records.specs.Looks.{begins_prefix}
+use Rattle.csvw_records.specs.NextRow.{begins_prefix}
 use Rattle.csvw_records.proofs.Prefixes.{same_start}
 use Rattle.csvw_fields.proofs.rules.Rules.may_begin_comment.Goals as goal
 

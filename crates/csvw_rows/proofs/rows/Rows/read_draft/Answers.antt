@@ -3,8 +3,8 @@ use Rattle.std.specs.Str.{is_utf8}
 use Rattle.csvw_fields.specs.declared.draft.Reading.TheVariants as reading
 use Rattle.csvw_fields.specs.Drafts.{read_of, values_of, IsRowRead, GoesOn}
 use Rattle.csvw_rows.specs.SourceState.{rest_bytes, text_items}
-use Rattle.csvw_rows.specs.Nexts.{is_last}
-use Rattle.csvw_records.specs.Lines.{IsShownLen}
+use Rattle.csvw_rows.specs.NextRows.{is_last}
+use Rattle.csvw_records.specs.AtFront.{IsShownLen}
 use Rattle.csvw_rows.specs.RowsState.{IsOpenFront, after_of}
 use Rattle.csvw_records.specs.Scan.{Found}
 use Rattle.csvw_fields.proofs.BoundLemmas.{apart_bounds}

@@ -1,7 +1,7 @@
 use Rattle.std.proofs.Common.{◌∙◌, ◌==◌, ◌<◌, List, ℕ, length, arith, sym, ap, subst}
 use Rattle.std.proofs.lemmas.Str.{IsUtf8-from_is_utf8}
 use Rattle.csvw_records.specs.Files.{is_note}
-use Rattle.csvw_rows.specs.Nexts.{is_last}
+use Rattle.csvw_rows.specs.NextRows.{is_last}
 use Rattle.csvw_rows.specs.RowsState.{IsOpenFront, after_of}
 use Rattle.csvw_rows.specs.SourceState.{rest_of, rest_bytes}
 use Rattle.csvw_records.proofs.Ascii.{text_empty}

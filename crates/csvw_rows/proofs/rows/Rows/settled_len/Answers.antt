@@ -1,7 +1,7 @@
 use Rattle.std.proofs.Common.{◌≡◌, ◌∙◌, ℕ, List, length, take, chars, sym, ap}
 use Rattle.std.specs.Str.{is_utf8}
 use Rattle.std.proofs.lemmas.Str.{is_utf8-from_IsUtf8}
-use Rattle.csvw_records.specs.Looks.{settled}
+use Rattle.csvw_records.specs.NextRow.{settled}
 use Rattle.csvw_rows.specs.SourceState.{rest_bytes}
 use Rattle.csvw_rows.proofs.rows.Rows.settled_len.Goals as goal
 

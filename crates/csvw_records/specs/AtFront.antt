@@ -4,8 +4,8 @@ use Rattle.csvw_dialect.specs.declared.dialect.Dialect.{Dialect}
 use Rattle.csvw_records.specs.declared.stop.RowStop.{RowStop}
 use Rattle.csvw_dialect.specs.Lawful.{prefix_of}
 use Rattle.csvw_records.specs.Lengths.{byte_len}
-use Rattle.csvw_records.specs.Looks.{next_row}
-use Rattle.csvw_records.specs.Parts.{Breaks}
+use Rattle.csvw_records.specs.NextRow.{next_row}
+use Rattle.csvw_records.specs.PartOfRow.{Breaks}
 use Rattle.csvw_records.specs.Stops.{IsBroken}
 
 -- so many characters stand at the front of both

@@ -4,7 +4,7 @@ use Rattle.csvw_dialect.specs.declared.dialect.Dialect.{Dialect}
 use Rattle.csvw_fields.specs.declared.leads.Leads.{Leads}
 use Rattle.csvw_records.specs.declared.scan.State.{State}
 use Rattle.csvw_records.specs.declared.scan.State.TheVariants.{Start, Plain, Inside, Escaped, Closed}
-use Rattle.csvw_records.specs.Looks.{unsettled}
+use Rattle.csvw_records.specs.NextRow.{unsettled}
 use Rattle.csvw_records.specs.Scan.{quote_is}
 
 -- the dialect's symbols begin with these bytes

@@ -7,7 +7,7 @@ use Rattle.csvw_records.specs.Grammar.{terminator_len}
 use Rattle.csvw_records.specs.Files.{Row, IsRow, is_note}
 use Rattle.csvw_records.specs.Lengths.{byte_len, row_limit}
 use Rattle.csvw_records.specs.Scan.{Broken, run}
-use Rattle.csvw_records.specs.Looks.{settled, may_be_note, next_row, terminator_of}
+use Rattle.csvw_records.specs.NextRow.{settled, may_be_note, next_row, terminator_of}
 
 -- no row is complete in the part, and with more behind it, it is a row and its terminator. So many of its characters are sure to be the row's.
 pub record Continues (d : Dialect) (i : ℕ) (part : List ℕ) (len : ℕ) : Type 0 where

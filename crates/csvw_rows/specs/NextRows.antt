@@ -8,7 +8,7 @@ use Rattle.csvw_rows.specs.declared.next.After.TheVariants.{More, Nothing, NoTex
 use Rattle.csvw_records.specs.Grammar.{terminator_len}
 use Rattle.csvw_records.specs.Files.{Row, IsRow}
 use Rattle.csvw_records.specs.Lengths.{byte_len, row_limit}
-use Rattle.csvw_records.specs.Parts.{Goes, NoRow, NoLast, FirstEnd}
+use Rattle.csvw_records.specs.PartOfRow.{Goes, NoRow, NoLast, FirstEnd}
 use Rattle.csvw_records.specs.Stops.{IsNamed}
 
 -- whether the text has ended, all of it being characters
