@@ -1,15 +1,16 @@
 //! The columns that a schema declares.
 ghost use Rattle.std.specs.Prelude.{◌≡◌, ◌<◌, ◌≤◌, ◌+◌, ◌^◌, IfOk, length};
 ghost use Rattle.csvw_iri.specs.Link.{iri_of};
-ghost use Rattle.csvw_columns_core.specs.Inherited.{IsDefaults};
+ghost use Rattle.csvw_columns_core.specs.Inherited.{IsDefaults, properties_of};
+ghost use Rattle.csvw_columns_core.specs.LiteralDatatype.{literal_datatype};
 ghost use Rattle.csvw_columns_core.specs.SchemaColumns.{column_limit, source_number_of, declared, declared_columns};
 
 use crate::column::Column;
-use crate::properties::Defaults;
+use crate::properties::{Defaults, Properties};
 use crate::xsd::literal_datatype;
 use csvw_description::{ColumnDescription, Inherited};
-use csvw_iri::{Base, with_fragment};
-use csvw_text::Seq;
+use csvw_iri::{Base, Iri, with_fragment};
+use csvw_text::{Seq, both};
 use std::alloc::{AllocError, Global};
 
 /// How many columns a table has at most.
@@ -44,6 +45,23 @@ fn source_number_of(is_virtual: bool, skip_columns: u32, number: u32) -> Option<
 }
 
 impl Frame {
+    /// The properties of a column that has these of its own, and the datatype of its literals; `AllocError` where there is no memory.
+    fn inherited(
+        &self,
+        alloc: Global,
+        defaults: &Defaults,
+        group: &Inherited,
+        own: &Inherited,
+    ) -> Result<(Properties, Iri), AllocError>
+        requires { IsDefaults defaults.now }
+        ensures { IfOk result (λ found. (found.0 ≡ properties_of own.now self.now.schema self.now.table group.now)
+            × (found.1 ≡ literal_datatype found.0.datatype)) }
+    {
+        let properties = defaults.inherited(alloc, own, &self.schema, &self.table, group)?;
+        let literal_datatype = literal_datatype(alloc, properties.datatype.get())?;
+        Ok((properties, literal_datatype))
+    }
+
     /// The column of a description, with its number from 1 (Metadata Vocabulary for Tabular Data, sections 5.6 and 5.7;
     /// csv2rdf, section 4.6.5). `AllocError` where there is no memory.
     pub fn declared(
@@ -59,19 +77,16 @@ impl Frame {
         ensures { IfOk result (λ c. c ≡ declared (iri_of self.now.url) self.now.skip_columns self.now.schema self.now.table group.now number description.now) }
     {
         let name = description.resolved_name(alloc, number as usize)?;
-        let predicate = with_fragment(alloc, self.url.iri(), name.as_str())?;
-        let properties = defaults.inherited(
-            alloc,
-            &description.inherited,
-            &self.schema,
-            &self.table,
-            group,
-        )?;
-        let literal_datatype = literal_datatype(alloc, properties.datatype.get())?;
+        let texts = both(
+            with_fragment(alloc, self.url.iri(), name.as_str()),
+            description.titles.clone(alloc),
+        );
+        let inherited = self.inherited(alloc, defaults, group, &description.inherited);
+        let ((predicate, titles), (properties, literal_datatype)) = both(texts, inherited)?;
         Ok(Column {
             name,
             is_named: description.name.is_some(),
-            titles: description.titles.clone(alloc)?,
+            titles,
             number,
             source_number: source_number_of(description.is_virtual, self.skip_columns, number),
             is_virtual: description.is_virtual,

@@ -1,6 +1,6 @@
 //! The inherited properties of a column, with their defaults.
-ghost use Rattle.std.specs.Prelude.{◌≡◌, IfOk, codes};
-ghost use Rattle.csvw_columns_core.specs.Inherited.{IsDefaults};
+ghost use Rattle.std.specs.Prelude.{◌≡◌, [], ◌∷◌, IfOk, codes};
+ghost use Rattle.csvw_columns_core.specs.Inherited.{IsDefaults, string_type};
 
 use csvw_datatype::{Datatype, Facets, Simple};
 use csvw_template::Template;
@@ -51,19 +51,9 @@ impl Defaults {
     pub fn new(alloc: Global) -> Result<Defaults, AllocError>
         ensures { IfOk result IsDefaults }
     {
-        let datatype = Datatype {
-            simple: Simple::Text,
-            id: None,
-            format: None,
-            facets: Facets::new(),
-        };
-        let mut null = Seq::new(alloc);
-        null.push(Text::new(alloc))?;
-        let lang = undetermined(alloc)?;
-        let datatype = Shared::new(alloc, datatype);
-        let default = Shared::new(alloc, Text::new(alloc));
-        let texts = both(Shared::new(alloc, lang), Shared::new(alloc, null));
-        let ((datatype, default), (lang, null)) = both(both(datatype, default), texts)?;
+        let values = both(string_type(alloc), Shared::new(alloc, Text::new(alloc)));
+        let texts = both(undetermined(alloc), empty_text_alone(alloc));
+        let ((datatype, default), (lang, null)) = both(values, texts)?;
         Ok(Defaults {
             datatype,
             default,
@@ -73,12 +63,36 @@ impl Defaults {
     }
 }
 
+/// String, without a format or facets.
+fn string_type(alloc: Global) -> Result<Shared<Datatype>, AllocError>
+    ensures { IfOk result (λ datatype. datatype ≡ string_type) }
+{
+    Shared::new(
+        alloc,
+        Datatype {
+            simple: Simple::Text,
+            id: None,
+            format: None,
+            facets: Facets::new(),
+        },
+    )
+}
+
 /// `und`, the tag of a language that isn't known.
-fn undetermined(alloc: Global) -> Result<LanguageTag, AllocError>
+fn undetermined(alloc: Global) -> Result<Shared<LanguageTag>, AllocError>
     ensures { IfOk result (λ tag. tag ≡ codes "und") }
 {
     match LanguageTag::of(alloc, Text::copied(alloc, "und")?)? {
-        Some(tag) => Ok(tag),
+        Some(tag) => Shared::new(alloc, tag),
         None => unreachable!(),
     }
+}
+
+/// The list of the empty text alone.
+fn empty_text_alone(alloc: Global) -> Result<Shared<Seq<Text>>, AllocError>
+    ensures { IfOk result (λ texts. texts ≡ [] ∷ []) }
+{
+    let mut texts = Seq::new(alloc);
+    texts.push(Text::new(alloc))?;
+    Shared::new(alloc, texts)
 }
