@@ -13,7 +13,7 @@ use csvw_description::{Description, Note, TableDescription};
 use csvw_iri::Iri;
 use csvw_meta_core::{Fixed, IdReader, MetaCode, Part, Reader, Refusal, joined};
 use csvw_meta_inherited::{Context, group_warnings, read_notes};
-use csvw_text::{Seq, Text};
+use csvw_text::{Seq, Text, both};
 use std::alloc::{AllocError, Global};
 
 /// How many tables a group has at most.
@@ -141,10 +141,10 @@ fn described_tables(
 pub(crate) fn description_of(alloc: Global, group: GroupFound) -> Result<Description, AllocError>
     ensures { IfOk result (λ d. d ≡ description_of group) }
 {
-    let tables = described_tables(alloc, group.tables.into_vec())?;
     let given = group.given;
     let body = group.body;
-    let warnings = joined(body.warnings, given.warnings)?;
+    let warnings = joined(body.warnings, given.warnings);
+    let (tables, warnings) = both(described_tables(alloc, group.tables.into_vec()), warnings)?;
     Ok(Description {
         id: group.id,
         tables,
