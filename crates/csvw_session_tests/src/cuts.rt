@@ -2,17 +2,15 @@
 ghost use Rattle.std.specs.Prelude.{◌<◌};
 
 use crate::examples::{EXAMPLES, Example};
-use crate::rows::sorted_lines;
+use crate::left::{Left, are_same, report_of};
 use crate::sessions::{BASE, started};
 use csvw_engine::run;
 use csvw_ntriples::NtSink;
-use csvw_report::write_report;
 use csvw_session::{Session, Stop};
 use csvw_text::Counted;
 use csvw_triples_core::{Mode, TripleSink};
 use std::alloc::{AllocError, Global};
 use std::process::Abort;
-use std::str;
 use std::test::Fail;
 
 /// A linear congruential generator.
@@ -97,67 +95,101 @@ fn feed_all<S: TripleSink>(
     Ok(())
 }
 
-/// What tables left: their graph, and their report.
-#[derive(Drop)]
-struct Left {
-    graph: Vec<u8>,
-    report: Vec<u8>,
+/// Feeds and ends all tables, in an order that a seed gives, and finishes the session; its report.
+fn told<S: TripleSink>(
+    alloc: Global,
+    session: &mut Session<S>,
+    texts: &[&'static [u8]],
+    seed: u64,
+) -> Result<Vec<u8>, Fail> {
+    let mut sources = sources_of(alloc, texts)?;
+    feed_all(session, sources.as_mut_slice(), &mut Numbers(seed))?;
+    report_of(alloc, session)
+}
+
+/// The report of a session that is fed in an order that a seed gives, and whose graph goes to a writer.
+fn told_into(
+    alloc: Global,
+    example: &Example,
+    mode: Mode,
+    seed: u64,
+    graph: &mut Counted<Vec<u8>>,
+) -> Result<Vec<u8>, Fail> {
+    let mut session = started(alloc, example.meta, mode, NtSink::new(alloc, graph))?;
+    told(alloc, &mut session, example.texts, seed)
 }
 
 /// What a session leaves that is fed in an order that a seed gives.
 fn fed(alloc: Global, example: &Example, mode: Mode, seed: u64) -> Result<Left, Fail> {
-    let mut sources = sources_of(alloc, example.texts)?;
-    let mut numbers = Numbers(seed);
-    let mut out = Counted::new(Vec::new(alloc));
-    let sink = NtSink::new(alloc, &mut out);
-    let mut session = started(alloc, example.meta, mode, sink)?;
-    feed_all(&mut session, sources.as_mut_slice(), &mut numbers)?;
-    let outcome = session.finish()?;
-    let _ = session.into_sink().into_inner();
-    let mut report = Counted::new(Vec::new(alloc));
-    write_report(alloc, outcome.faults.as_slice(), &mut report)?;
+    let mut graph = Counted::new(Vec::new(alloc));
+    let report = told_into(alloc, example, mode, seed, &mut graph)?;
     Ok(Left {
-        graph: out.into_inner(),
-        report: report.into_inner(),
+        graph: graph.into_inner(),
+        report,
     })
 }
 
-/// What a run leaves.
-fn ran(alloc: Global, example: &Example, mode: Mode) -> Result<Left, Fail> {
+/// A reader of each text.
+fn readers_of(
+    alloc: Global,
+    texts: &[&'static [u8]],
+) -> Result<Vec<Counted<&'static [u8]>>, AllocError> {
     let mut readers = Vec::new(alloc);
-    for text in example.texts {
+    for text in texts {
         readers.push(Counted::new(*text))?;
     }
-    let mut graph = Counted::new(Vec::new(alloc));
-    let mut report = Counted::new(Vec::new(alloc));
+    Ok(readers)
+}
+
+/// A run whose graph and report go to these writers.
+fn run_into(
+    alloc: Global,
+    example: &Example,
+    mode: Mode,
+    graph: &mut Counted<Vec<u8>>,
+    report: &mut Counted<Vec<u8>>,
+) -> Result<(), Fail> {
+    let mut readers = readers_of(alloc, example.texts)?;
     let _ = run(
         alloc,
         example.meta.as_bytes(),
         BASE,
         readers.as_mut_slice(),
         mode,
-        &mut graph,
-        &mut report,
+        graph,
+        report,
     )?;
+    Ok(())
+}
+
+/// What a run leaves.
+fn ran(alloc: Global, example: &Example, mode: Mode) -> Result<Left, Fail> {
+    let mut graph = Counted::new(Vec::new(alloc));
+    let mut report = Counted::new(Vec::new(alloc));
+    run_into(alloc, example, mode, &mut graph, &mut report)?;
     Ok(Left {
         graph: graph.into_inner(),
         report: report.into_inner(),
     })
 }
 
-/// Whether both have the same graph, as sets of lines, and the same report.
-fn are_same(alloc: Global, a: &Left, b: &Left) -> Result<bool, Fail> {
-    let first = sorted_lines(alloc, str::from_utf8(a.graph.as_slice())?)?;
-    let second = sorted_lines(alloc, str::from_utf8(b.graph.as_slice())?)?;
-    Ok(first.as_slice() == second.as_slice() && a.report.as_slice() == b.report.as_slice())
+/// Whether a session that is fed in the order of a seed leaves this.
+fn leaves(
+    alloc: Global,
+    example: &Example,
+    mode: Mode,
+    seed: u64,
+    expected: &Left,
+) -> Result<bool, Fail> {
+    let left = fed(alloc, example, mode, seed)?;
+    are_same(alloc, &left, expected)
 }
 
 /// Whether the sessions of 34 seeds leave what a run leaves.
 fn agree(alloc: Global, example: &Example, mode: Mode) -> Result<bool, Fail> {
     let expected = ran(alloc, example, mode)?;
     for seed in 0..34 {
-        let left = fed(alloc, example, mode, seed)?;
-        if !are_same(alloc, &left, &expected)? {
+        if !leaves(alloc, example, mode, seed, &expected)? {
             return Ok(false);
         }
     }

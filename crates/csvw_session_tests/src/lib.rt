@@ -9,6 +9,8 @@ mod cuts;
 mod examples;
 mod full;
 #[cfg(test)]
+mod left;
+#[cfg(test)]
 mod rows;
 #[cfg(test)]
 mod sessions;

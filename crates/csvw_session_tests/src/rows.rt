@@ -1,13 +1,13 @@
 //! Two tables with keys, fed a byte of each in turn.
 use crate::examples::KEYS;
 use crate::full::{Full, Slow};
+use crate::left::{has_lines, report_of};
 use crate::sessions::{BASE, by_bytes, started};
 use csvw_engine::run_turns;
 use csvw_ntriples::NtSink;
-use csvw_report::write_report;
-use csvw_session::Stop;
+use csvw_session::{Session, Stop};
 use csvw_text::Counted;
-use csvw_triples_core::Mode;
+use csvw_triples_core::{Mode, TripleSink};
 use std::alloc::{AllocError, Global};
 use std::process::Abort;
 use std::str;
@@ -40,32 +40,25 @@ const FRONT: [&str; 8] = [
     "_:t2 <http://www.w3.org/ns/csvw#url> <http://example.org/b.csv> .",
 ];
 
-/// The lines of a text, sorted.
-pub(crate) fn sorted_lines<'a>(alloc: Global, text: &'a str) -> Result<Vec<&'a str>, AllocError> {
-    let mut lines = text.lines().collect::<Vec<&str>>(alloc)?;
-    lines.sort()?;
-    Ok(lines)
+/// Feeds a byte of each text in turn, and finishes the session; its report.
+fn told<S: TripleSink>(alloc: Global, session: &mut Session<S>) -> Result<Vec<u8>, Fail> {
+    by_bytes(session, TEXTS)?;
+    report_of(alloc, session)
+}
+
+/// The report of a session whose graph goes to a writer.
+fn told_into(alloc: Global, graph: &mut Counted<Vec<u8>>) -> Result<Vec<u8>, Fail> {
+    let mut session = started(alloc, KEYS, Mode::Minimal, NtSink::new(alloc, graph))?;
+    told(alloc, &mut session)
 }
 
 #[test]
 fn tables_in_turn_give_graph_and_report(rt: HostRuntime) -> Result<(), Fail> {
     let alloc = rt.alloc();
-    let mut out = Counted::new(Vec::new(alloc));
-    let sink = NtSink::new(alloc, &mut out);
-    let mut session = started(alloc, KEYS, Mode::Minimal, sink)?;
-    assert_eq!(rt; by_bytes(&mut session, TEXTS), Ok(()));
-    let outcome = session.finish()?;
-    let _ = session.into_sink().into_inner();
-    let graph = out.into_inner();
-    assert!(rt;
-        sorted_lines(alloc, str::from_utf8(graph.as_slice())?)?.as_slice() == GRAPH.as_slice()
-    );
-    let mut report = Counted::new(Vec::new(alloc));
-    assert_eq!(rt;
-        write_report(alloc, outcome.faults.as_slice(), &mut report),
-        Ok(())
-    );
-    assert!(rt; report.into_inner().as_slice() == REPORT.as_bytes());
+    let mut graph = Counted::new(Vec::new(alloc));
+    let report = told_into(alloc, &mut graph)?;
+    assert!(rt; report.as_slice() == REPORT.as_bytes());
+    assert!(rt; has_lines(alloc, graph.into_inner().as_slice(), &GRAPH)?);
     Ok(())
 }
 
@@ -78,55 +71,77 @@ fn front_len() -> usize {
     len
 }
 
+/// A writer with room for the front and 9 bytes more.
+fn full(alloc: Global) -> Counted<Full> {
+    Counted::new(Full {
+        room: front_len().saturating_add(9),
+        taken: Vec::new(alloc),
+    })
+}
+
 /// Whether this is the front, then a part of a line of so many bytes.
 fn is_cut(alloc: Global, taken: &[u8], len: usize) -> Result<bool, Fail> {
     let Some((lines, cut)) = str::from_utf8(taken)?.rsplit_once('\n') else {
         return Ok(false);
     };
-    Ok(sorted_lines(alloc, lines)?.as_slice() == FRONT.as_slice() && cut.len() == len)
+    Ok(has_lines(alloc, lines.as_bytes(), &FRONT)? && cut.len() == len)
+}
+
+/// Whether a session stops at its writer, and takes nothing more.
+fn stops<S: TripleSink>(session: &mut Session<S>) -> bool {
+    by_bytes(session, TEXTS) == Err(Stop::Write) && session.feed(1, b"\n") == Err(Stop::Failed)
+}
+
+/// Whether a session stops whose graph goes to this writer.
+fn stops_at(alloc: Global, out: &mut Counted<Full>) -> Result<bool, Fail> {
+    let mut session = started(alloc, KEYS, Mode::Standard, NtSink::new(alloc, out))?;
+    Ok(stops(&mut session))
 }
 
 #[test]
 fn whole_lines_stand_before_a_write_that_fails(rt: HostRuntime) -> Result<(), Fail> {
     let alloc = rt.alloc();
-    let mut out = Counted::new(Full {
-        room: front_len().saturating_add(9),
-        taken: Vec::new(alloc),
-    });
-    let sink = NtSink::new(alloc, &mut out);
-    let mut session = started(alloc, KEYS, Mode::Standard, sink)?;
-    assert_eq!(rt; by_bytes(&mut session, TEXTS), Err(Stop::Write));
-    assert_eq!(rt; session.feed(1, b"\n"), Err(Stop::Failed));
-    let _ = session.into_sink().into_inner();
-    let taken = out.into_inner().taken;
-    assert!(rt; is_cut(alloc, taken.as_slice(), 9)?);
+    let mut out = full(alloc);
+    assert!(rt; stops_at(alloc, &mut out)?);
+    assert!(rt; is_cut(alloc, out.into_inner().taken.as_slice(), 9)?);
     Ok(())
 }
 
-#[test]
-fn a_run_reads_tables_in_turn(rt: HostRuntime) -> Result<(), Fail> {
-    let alloc = rt.alloc();
+/// A reader of each text that gives a byte at a time.
+fn readers_of(alloc: Global) -> Result<Vec<Counted<Slow>>, AllocError> {
     let mut readers = Vec::new(alloc);
     for text in TEXTS {
         readers.push(Counted::new(Slow(text)))?;
     }
-    let mut out = Counted::new(Full {
-        room: front_len().saturating_add(9),
-        taken: Vec::new(alloc),
-    });
-    let mut report = Counted::new(Vec::new(alloc));
+    Ok(readers)
+}
+
+/// Why a run stops that reads a byte of each text in turn.
+fn stop_in_turn(
+    alloc: Global,
+    out: &mut Counted<Full>,
+    report: &mut Counted<Vec<u8>>,
+) -> Result<Option<Stop>, AllocError> {
+    let mut readers = readers_of(alloc)?;
     let ran = run_turns(
         alloc,
         KEYS.as_bytes(),
         BASE,
         readers.as_mut_slice(),
         Mode::Standard,
-        &mut out,
-        &mut report,
+        out,
+        report,
     );
-    assert_eq!(rt; ran.err(), Some(Stop::Write));
-    let taken = out.into_inner().taken;
-    assert!(rt; is_cut(alloc, taken.as_slice(), 9)?);
+    Ok(ran.err())
+}
+
+#[test]
+fn a_run_reads_tables_in_turn(rt: HostRuntime) -> Result<(), Fail> {
+    let alloc = rt.alloc();
+    let mut out = full(alloc);
+    let mut report = Counted::new(Vec::new(alloc));
+    assert!(rt; stop_in_turn(alloc, &mut out, &mut report)? == Some(Stop::Write));
+    assert!(rt; is_cut(alloc, out.into_inner().taken.as_slice(), 9)?);
     assert!(rt; report.into_inner().is_empty());
     Ok(())
 }
