@@ -4,7 +4,8 @@ ghost use Rattle.csvw_iri.specs.Encoded.{percent_encoded};
 ghost use Rattle.csvw_iri.specs.Safe.{is_iri, has_hash};
 ghost use Rattle.csvw_iri.specs.Link.{base_of, iri_of, link_of, url_of, without_fragment};
 ghost use Rattle.csvw_iri.specs.Own.{IsFragmentLink};
-ghost use Rattle.csvw_iri.specs.Fault.{Gives};
+ghost use Rattle.csvw_text.specs.Gives.{Gives};
+ghost use Rattle.csvw_iri.specs.Fault.{refusal};
 
 use crate::encoded::push_percent_encoded;
 use crate::fault::IriFault;
@@ -50,7 +51,7 @@ impl Base {
     /// 65,536 bytes, else `BadUrl` where it is no URL (URL Standard, section 4.4); `Memory` where
     /// there is none.
     pub fn new(alloc: Global, text: &str) -> Result<Base, IriFault>
-        ensures { Gives (λ b. b) result (base_of None text.now) }
+        ensures { Gives (λ b. b) refusal result (base_of None text.now) }
     {
         Ok(Base::of(alloc, parsed(alloc, text)?)?)
     }
@@ -58,7 +59,7 @@ impl Base {
     /// The URL that the text resolves to against this one, without its fragment. Faults are those of
     /// `new`.
     pub fn join(&self, alloc: Global, text: &str) -> Result<Base, IriFault>
-        ensures { Gives (λ b. b) result (base_of (Some self.now) text.now) }
+        ensures { Gives (λ b. b) refusal result (base_of (Some self.now) text.now) }
     {
         Ok(Base::of(alloc, self.joined(text)?)?)
     }
@@ -126,7 +127,7 @@ impl Base {
 
     #[tactic(auto, unfolding(crate::specs::Link::url_of))]
     pub(crate) fn joined(&self, text: &str) -> Result<Url, IriFault>
-        ensures { Gives (λ u. u) result (url_of (Some self.now) text.now) }
+        ensures { Gives (λ u. u) refusal result (url_of (Some self.now) text.now) }
     {
         if text.len() > MAX_TEXT {
             return Err(IriFault::UrlTooLong);
@@ -142,7 +143,7 @@ impl Base {
 
 #[tactic(auto, unfolding(crate::specs::Link::url_of))]
 fn parsed(alloc: Global, text: &str) -> Result<Url, IriFault>
-    ensures { Gives (λ u. u) result (url_of None text.now) }
+    ensures { Gives (λ u. u) refusal result (url_of None text.now) }
 {
     if text.len() > MAX_TEXT {
         return Err(IriFault::UrlTooLong);

@@ -1,7 +1,8 @@
 //! Links: the IRI that a text means against a base.
 ghost use Rattle.std.specs.Prelude.{◌≡◌};
 ghost use Rattle.csvw_iri.specs.Link.{resolved, link_of};
-ghost use Rattle.csvw_iri.specs.Fault.{Gives};
+ghost use Rattle.csvw_text.specs.Gives.{Gives};
+ghost use Rattle.csvw_iri.specs.Fault.{refusal};
 
 use crate::base::Base;
 use crate::fault::IriFault;
@@ -16,7 +17,7 @@ use std::alloc::Global;
 /// `UrlTooLong` where the text has more than 65,536 bytes, else `BadUrl` where it resolves to none;
 /// `Memory` where there is none.
 pub fn resolve(alloc: Global, base: &Base, text: &str) -> Result<Iri, IriFault>
-    ensures { Gives (λ i. i) result (resolved base.now text.now) }
+    ensures { Gives (λ i. i) refusal result (resolved base.now text.now) }
 {
     let url = base.joined(text)?;
     Ok(made_safe(alloc, url.as_str())?)
@@ -25,7 +26,7 @@ pub fn resolve(alloc: Global, base: &Base, text: &str) -> Result<Iri, IriFault>
 /// The IRI that the text resolves to once its prefix is replaced. Faults are those of `resolve`; what
 /// is measured is the text after that step.
 pub fn link(alloc: Global, base: &Base, text: &str) -> Result<Iri, IriFault>
-    ensures { Gives (λ i. i) result (link_of base.now text.now) }
+    ensures { Gives (λ i. i) refusal result (link_of base.now text.now) }
 {
     link_over(alloc, base, text, None, None)
 }
@@ -39,7 +40,7 @@ pub fn link_over(
     front: Option<&OwnFront>,
     spare: Option<Iri>,
 ) -> Result<Iri, IriFault>
-    ensures { Gives (λ i. i) result (link_of base.now text.now) }
+    ensures { Gives (λ i. i) refusal result (link_of base.now text.now) }
 {
     if is_own_behind(front, text) {
         return Ok(Iri::over(alloc, text, "", spare)?);
@@ -51,7 +52,7 @@ pub fn link_over(
 }
 
 fn link_by_base(alloc: Global, base: &Base, text: &str) -> Result<Iri, IriFault>
-    ensures { Gives (λ i. i) result (link_of base.now text.now) }
+    ensures { Gives (λ i. i) refusal result (link_of base.now text.now) }
 {
     let expanded = expand_prefix(alloc, text)?;
     if is_own(expanded.as_str()) {

@@ -1,7 +1,8 @@
 //! The links of a cell.
 ghost use Rattle.std.specs.Prelude.{◌≡◌, ◌++◌, ℕ, List, Result, IfOk, OnOk};
 ghost use Rattle.csvw_iri.specs.Link.{Refusal, link_of};
-ghost use Rattle.csvw_iri.specs.Fault.{Gives};
+ghost use Rattle.csvw_text.specs.Gives.{Gives};
+ghost use Rattle.csvw_iri.specs.Fault.{refusal};
 ghost use Rattle.csvw_cell.specs.Codes.{told};
 ghost use Rattle.csvw_links.specs.Links.{no_link, outcome, has_value, joined, codes_of, has_template, has_own_template};
 
@@ -55,7 +56,7 @@ pub(crate) fn linked(alloc: Global, base: &Base, text: &str) -> Result<Made, All
 }
 
 pub(crate) fn outcome(answer: Result<Iri, IriFault>) -> Result<Made, AllocError>
-    ensures { IfOk result (λ l. (expected : Result (List ℕ) Refusal) → Gives (λ i. i) answer expected → l ≡ outcome expected) }
+    ensures { IfOk result (λ l. (expected : Result (List ℕ) Refusal) → Gives (λ i. i) refusal answer expected → l ≡ outcome expected) }
 {
     match answer {
         Ok(iri) => Ok(Made {

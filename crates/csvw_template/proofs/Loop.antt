@@ -6,7 +6,8 @@ use Rattle.std.proofs.lemmas.List.{append-nil, drop_all}
 use Rattle.csvw_template.specs.declared.part.Part.{Part}
 use Rattle.csvw_template.specs.declared.fault.TemplateFault.{TemplateFault}
 use Rattle.csvw_template.specs.declared.fault.TemplateFault.TheVariants.{Memory, TooLong, BadTemplate, TemplateLevel}
-use Rattle.csvw_template.specs.Fault.{◌>>=◌, Fails}
+use Rattle.csvw_text.specs.Gives.{Expected}
+use Rattle.csvw_template.specs.Fault.{◌>>=◌, told}
 use Rattle.csvw_template.specs.Reading.{Parts, opened, all_opened}
 
 abbrev pub with_front : List Part → Parts → Parts
@@ -30,7 +31,7 @@ module _ (ps : List (Bor (List ℕ))) (i : ℕ) (p : Bor (List ℕ)) (lt : i < l
   pub goes_on : (e : List Part) → opened p.now ≡ Ok e → with_front (front ++ e) (all_opened (texts (drop (i + 1) ps))) ≡ total
   goes_on e h = sym (regroup front e (all_opened (texts (drop (i + 1) ps)))) ∙ (rw h at now)
 
-  pub ends : (e : TemplateFault) → Fails e (opened p.now) → Fails e total
+  pub ends : (e : TemplateFault) → Expected (told e) (opened p.now) → Expected (told e) total
   ends Memory h = tt
   ends TooLong h = sym now ∙ rw h refl
   ends BadTemplate h = sym now ∙ rw h refl

@@ -1,7 +1,8 @@
 //! The parts of a text: it is cut at each `{`, and what follows one at its first `}`.
 ghost use Rattle.std.specs.Prelude.{◌≡◌, ◌<◌, IfOk, MatchOption, map, length, slice_index, drop, count_by, true, false};
 ghost use Rattle.std.specs.List.{slice_split, list_any, before_first, after_first};
-ghost use Rattle.csvw_template.specs.Fault.{Gives};
+ghost use Rattle.csvw_text.specs.Gives.{Gives};
+ghost use Rattle.csvw_template.specs.Fault.{told};
 ghost use Rattle.csvw_template.specs.Grammar.{is_open, is_close, is_level_operator};
 ghost use Rattle.csvw_template.specs.Reading.{of_operator, expression, is_comma};
 ghost use Rattle.csvw_template.specs.Reading.{literal, outside, opened, all_opened, of_pieces};
@@ -28,7 +29,7 @@ pub(crate) fn pieces<'a>(alloc: Global, text: &'a str) -> Result<Vec<&'a str>, A
 
 /// The parts of a text that is cut at each `{`.
 pub(crate) fn of_pieces(alloc: Global, pieces: &[&str]) -> Result<Vec<Part>, TemplateFault>
-    ensures { Gives (λ v. v.items) result (of_pieces (map (λ x. x.now) pieces.now)) }
+    ensures { Gives (λ v. v.items) told result (of_pieces (map (λ x. x.now) pieces.now)) }
 {
     match pieces {
         [] => Ok(Vec::new(alloc)),
@@ -42,7 +43,7 @@ pub(crate) fn of_pieces(alloc: Global, pieces: &[&str]) -> Result<Vec<Part>, Tem
 }
 
 fn all_opened(alloc: Global, pieces: &[&str]) -> Result<Vec<Part>, TemplateFault>
-    ensures { Gives (λ v. v.items) result (all_opened (map (λ x. x.now) pieces.now)) }
+    ensures { Gives (λ v. v.items) told result (all_opened (map (λ x. x.now) pieces.now)) }
 {
     let mut parts = Vec::new(alloc);
     for piece in pieces {
@@ -54,7 +55,7 @@ fn all_opened(alloc: Global, pieces: &[&str]) -> Result<Vec<Part>, TemplateFault
 
 /// What follows one `{`, up to the next: an expression, its `}` and what stands behind it.
 fn opened(alloc: Global, piece: &str) -> Result<Vec<Part>, TemplateFault>
-    ensures { Gives (λ v. v.items) result (opened piece.now) }
+    ensures { Gives (λ v. v.items) told result (opened piece.now) }
 {
     let Some((inner, text)) = split_at_close(piece) else {
         return Err(TemplateFault::BadTemplate);
@@ -77,7 +78,7 @@ fn split_at_close(text: &str) -> Option<(&str, &str)>
 
 /// A text outside braces.
 fn outside(alloc: Global, text: &str) -> Result<Vec<Part>, TemplateFault>
-    ensures { Gives (λ v. v.items) result (outside text.now) }
+    ensures { Gives (λ v. v.items) told result (outside text.now) }
 {
     if has_close(text.as_bytes()) {
         return Err(TemplateFault::BadTemplate);
@@ -103,7 +104,7 @@ fn literal(alloc: Global, text: &str) -> Result<Vec<Part>, AllocError>
 
 /// The expression that stands between braces.
 fn expression(alloc: Global, text: &str) -> Result<Part, TemplateFault>
-    ensures { Gives (λ p. p) result (expression text.now) }
+    ensures { Gives (λ p. p) told result (expression text.now) }
 {
     let Some(first) = text.as_bytes().first() else {
         return Err(TemplateFault::BadTemplate);
@@ -135,7 +136,7 @@ fn after_first(text: &str) -> &str
 
 /// The expression of what stands behind an operator.
 fn of_operator(alloc: Global, operator: Operator, text: &str) -> Result<Part, TemplateFault>
-    ensures { Gives (λ p. p) result (of_operator operator text.now) }
+    ensures { Gives (λ p. p) told result (of_operator operator text.now) }
 {
     match kind_of(text.as_bytes()) {
         Kind::Names => {

@@ -1,6 +1,7 @@
 //! URI templates.
 ghost use Rattle.std.specs.Prelude.{◌≡◌, ◌++◌, IfOk, OnOk, string_bytes, true};
-ghost use Rattle.csvw_template.specs.Fault.{Gives};
+ghost use Rattle.csvw_text.specs.Gives.{Gives};
+ghost use Rattle.csvw_template.specs.Fault.{told};
 ghost use Rattle.csvw_template.specs.Expand.{expand};
 ghost use Rattle.csvw_template.specs.Grammar.{IsTheReading};
 ghost use Rattle.csvw_template.specs.Plain.{are_plain, is_plain_part};
@@ -55,7 +56,7 @@ impl Template {
     /// a name. `Memory` where there is none.
     #[tactic(auto, using(crate::proofs::ReadingLemmas::reading), unfolding(crate::specs::Reading::template))]
     pub fn read(alloc: Global, text: &str) -> Result<Template, TemplateFault>
-        ensures value { Gives (λ t. t) result (template text.now) }
+        ensures value { Gives (λ t. t) told result (template text.now) }
 
         // and that is the parts that spell the text, or the first fault, by the grammar
         ensures grammar { IsTheReading text.now (template text.now) }

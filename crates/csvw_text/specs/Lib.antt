@@ -4,6 +4,7 @@ pub mod Code
 pub mod Collapse
 pub mod Count
 pub mod Counted
+pub mod Gives
 pub mod Language
 pub mod Spaces
 pub mod Streams
