@@ -3,6 +3,7 @@ pub mod Fit
 pub mod HeaderMatch
 pub mod Keys
 pub mod Known
+pub mod Numbered
 pub mod Plannable
 pub mod PlanOf
 pub mod Ready

@@ -1,6 +1,8 @@
 -- The plan of a group of tables (Metadata Vocabulary for Tabular Data, sections 5.3 to 5.7; Model for Tabular Data,
 -- sections 4.1 and 4.2).
-use Rattle.std.specs.Prelude.{ℕ, ◌+◌, List, [], ◌∷◌, map, Option, Some, true, false, unwrap_or}
+use Rattle.std.specs.Prelude.{◌≡◌, ℕ, ◌+◌, ◌&&◌, List, [], ◌∷◌, map, Option, Some, true, false, unwrap_or}
+use Rattle.std.proofs.Common.{refl, ap, ◌∙◌}
+use Rattle.std.proofs.lemmas.Bool.{eq-eqb}
 use Rattle.csvw_dialect.specs.declared.dialect.Dialect.{Dialect}
 use Rattle.csvw_dialect.specs.declared.dialect.Trim.TheVariants.{No}
 use Rattle.csvw_iri.specs.Link.{iri_of}
@@ -14,6 +16,7 @@ use Rattle.csvw_columns_core.specs.Inherited.{first_of}
 use Rattle.csvw_columns_core.specs.SchemaColumns.{declared_columns}
 use Rattle.csvw_columns.specs.Fit.{numbered_names}
 use Rattle.csvw_columns.specs.Keys.{numbers_of, foreign_key}
+use Rattle.csvw_columns.specs.Numbered.{are_numbered}
 use Rattle.csvw_columns.specs.declared.references.Keys.{Keys}
 use Rattle.csvw_columns.specs.declared.references.Targets.{Targets}
 use Rattle.csvw_columns.specs.declared.plan.Plan.{Plan}
@@ -86,5 +89,18 @@ abbrev pub table_plans : Targets → Description → ℕ → List TableDescripti
 table_plans targets group n [] = []
 table_plans targets group n (table ∷ tables) = table_plan targets group n table ∷ table_plans targets group (n + 1) tables
 
+-- they have these numbers
+pub plans_numbered : (targets : Targets) (group : Description) (n : ℕ) (tables : List TableDescription)
+    → are_numbered n (table_plans targets group n tables) ≡ true
+plans_numbered targets group n [] = refl
+plans_numbered targets group n (table ∷ tables) =
+    ap (λ b. b && are_numbered (n + 1) (table_plans targets group (n + 1) tables)) (eq-eqb n n refl) ∙ plans_numbered targets group (n + 1) tables
+
 abbrev pub plan_of : Description → Plan
-plan_of d = record { id = d.id; notes = d.notes; tables = table_plans (targets_of d) d 1 d.tables; warnings = unknown d }
+plan_of d = record {
+  id = d.id;
+  notes = d.notes;
+  tables = table_plans (targets_of d) d 1 d.tables;
+  warnings = unknown d;
+  numbered = plans_numbered (targets_of d) d 1 d.tables;
+}

@@ -1,5 +1,6 @@
 //! What is known of tables before their texts are read.
-ghost use Rattle.std.specs.Prelude.{◌≡◌};
+ghost use Rattle.std.specs.Prelude.{◌≡◌, true};
+ghost use Rattle.csvw_columns.specs.Numbered.{are_numbered};
 
 use csvw_columns_core::Column;
 use csvw_description::{Inherited, Note};
@@ -58,6 +59,8 @@ pub struct Plan {
     pub tables: Seq<TablePlan>,
     /// A warning for each property of its metadata that is ignored.
     pub warnings: Seq<Fault>,
+    /// Its tables have numbers from 1, in order.
+    pub ghost numbered: { are_numbered 1 tables ≡ true },
 }
 
 impl Plan {
