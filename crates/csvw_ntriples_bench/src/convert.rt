@@ -1,6 +1,6 @@
 //! What was read, as what can be written.
 
-use crate::halt::Halt;
+use crate::stop::Stop;
 use csvw_iri::{Iri, made_safe};
 use csvw_ntriples::{NtLit, NtNode, NtTerm, NtTriple};
 use csvw_text::Text;
@@ -22,30 +22,30 @@ fn note_number(name: &str) -> Option<u64> {
     }
 }
 
-fn note(name: &Text) -> Result<Origin, Halt> {
+fn note(name: &Text) -> Result<Origin, Stop> {
     match note_number(name.as_str()) {
         Some(number) => Ok(Origin::Note(number)),
-        None => Err(Halt::NotWritable),
+        None => Err(Stop::NotWritable),
     }
 }
 
-fn iri(alloc: Global, text: &Text) -> Result<Iri, Halt> {
+fn iri(alloc: Global, text: &Text) -> Result<Iri, Stop> {
     let iri = made_safe(alloc, text.as_str())?;
     if iri.as_str() == text.as_str() {
         Ok(iri)
     } else {
-        Err(Halt::NotWritable)
+        Err(Stop::NotWritable)
     }
 }
 
-fn node(alloc: Global, node: &NtNode) -> Result<Node, Halt> {
+fn node(alloc: Global, node: &NtNode) -> Result<Node, Stop> {
     match node {
         NtNode::Named(text) => Ok(Node::Named(iri(alloc, text)?)),
         NtNode::Blank(name) => Ok(Node::Blank(note(name)?)),
     }
 }
 
-fn literal(alloc: Global, read: NtLit) -> Result<Lit, Halt> {
+fn literal(alloc: Global, read: NtLit) -> Result<Lit, Stop> {
     let NtLit {
         text,
         datatype,
@@ -53,7 +53,7 @@ fn literal(alloc: Global, read: NtLit) -> Result<Lit, Halt> {
     } = read;
     let datatype = iri(alloc, &datatype)?;
     if lang.is_some() && datatype.as_str() != LANG_STRING {
-        return Err(Halt::NotWritable);
+        return Err(Stop::NotWritable);
     }
     Ok(Lit {
         text,
@@ -62,7 +62,7 @@ fn literal(alloc: Global, read: NtLit) -> Result<Lit, Halt> {
     })
 }
 
-fn term(alloc: Global, read: NtTerm) -> Result<Term, Halt> {
+fn term(alloc: Global, read: NtTerm) -> Result<Term, Stop> {
     match read {
         NtTerm::Named(text) => Ok(Term::Named(iri(alloc, &text)?)),
         NtTerm::Blank(name) => Ok(Term::Blank(note(&name)?)),
@@ -70,7 +70,7 @@ fn term(alloc: Global, read: NtTerm) -> Result<Term, Halt> {
     }
 }
 
-fn triple(alloc: Global, read: NtTriple) -> Result<Triple, Halt> {
+fn triple(alloc: Global, read: NtTriple) -> Result<Triple, Stop> {
     let NtTriple { s, p, o } = read;
     Ok(Triple {
         s: node(alloc, &s)?,
@@ -81,12 +81,12 @@ fn triple(alloc: Global, read: NtTriple) -> Result<Triple, Halt> {
 
 /// The triples that `NtSink` writes as what was read. `NotWritable` where an IRI or a label is one that it doesn't write;
 /// `Memory` where there is none.
-pub(crate) fn triples(alloc: Global, read: Vec<NtTriple>) -> Result<Vec<Triple>, Halt> {
+pub(crate) fn triples(alloc: Global, read: Vec<NtTriple>) -> Result<Vec<Triple>, Stop> {
     let mut triples = Vec::new(alloc);
     for one in read {
         let made = triple(alloc, one)?;
         let Ok(()) = triples.push(made) else {
-            return Err(Halt::Memory);
+            return Err(Stop::Memory);
         };
     }
     Ok(triples)

@@ -2,30 +2,30 @@
 #![tactic(auto)]
 
 mod convert;
-mod halt;
+mod stop;
 mod words;
 
 use convert::triples;
 use csvw_ntriples::{NtSink, read};
 use csvw_text::Counted;
 use csvw_triples_core::{Triple, TripleSink};
-use halt::Halt;
 use std::alloc::Global;
 use std::env;
 use std::io::{self, BufWriter, Read, Write};
 use std::process::ExitCode;
+use stop::Stop;
 use words::{Task, requested};
 
 /// Everything that the reader has left.
-fn read_all<R: Read>(alloc: Global, input: &mut R) -> Result<Vec<u8>, Halt> {
+fn read_all<R: Read>(alloc: Global, input: &mut R) -> Result<Vec<u8>, Stop> {
     let mut bytes = Vec::new(alloc);
     match input.read_to_end(&mut bytes) {
         Ok(_) => Ok(bytes),
-        Err(_) => Err(Halt::Read),
+        Err(_) => Err(Stop::Read),
     }
 }
 
-fn put_all<S: TripleSink>(triples: &[Triple], sink: &mut S) -> Result<(), Halt> {
+fn put_all<S: TripleSink>(triples: &[Triple], sink: &mut S) -> Result<(), Stop> {
     for triple in triples {
         sink.put(triple)?;
     }
@@ -38,7 +38,7 @@ fn write<W: Write>(
     rounds: u64,
     document: &[u8],
     out: &mut Counted<W>,
-) -> Result<(), Halt> {
+) -> Result<(), Stop> {
     let triples = triples(alloc, read(alloc, document)?)?;
     let mut sink = NtSink::new(alloc, out);
     for _ in 0..rounds {
@@ -47,10 +47,10 @@ fn write<W: Write>(
     Ok(())
 }
 
-fn tell<W: Write>(count: usize, out: &mut Counted<W>) -> Result<(), Halt> {
+fn tell<W: Write>(count: usize, out: &mut Counted<W>) -> Result<(), Stop> {
     match writeln!(out, "{count} triples") {
         Ok(()) => Ok(()),
-        Err(_) => Err(Halt::Write),
+        Err(_) => Err(Stop::Write),
     }
 }
 
@@ -60,9 +60,9 @@ fn run<R: Read, W: Write>(
     words: &[String],
     input: &mut R,
     out: &mut Counted<W>,
-) -> Result<(), Halt> {
+) -> Result<(), Stop> {
     let Some(task) = requested(words) else {
-        return Err(Halt::Usage);
+        return Err(Stop::Usage);
     };
     let document = read_all(alloc, input)?;
     match task {
@@ -71,7 +71,7 @@ fn run<R: Read, W: Write>(
     }
     match out.flush() {
         Ok(()) => Ok(()),
-        Err(_) => Err(Halt::Write),
+        Err(_) => Err(Stop::Write),
     }
 }
 
@@ -82,8 +82,8 @@ fn main(rt: HostRuntime) -> io::Result<ExitCode> {
     let mut input = rt.stdin();
     match run(alloc, words.as_slice(), &mut input, &mut out) {
         Ok(()) => Ok(ExitCode::from(0)),
-        Err(halt) => {
-            let (status, line) = halt.told();
+        Err(stop) => {
+            let (status, line) = stop.told();
             eprintln!(rt; "csvw_ntriples_bench: {line}")?;
             Ok(ExitCode::from(status))
         }

@@ -1,23 +1,23 @@
 //! A file read by the crate `csv`.
 
 use crate::counts::Counts;
-use crate::halt::Halt;
+use crate::stop::Stop;
 use csv::{Error, ErrorKind, ReaderBuilder, StringRecord};
 use std::alloc::Global;
 use std::io::Read;
 
 /// How an error of the crate is told.
-fn halt_of(error: &Error) -> Halt {
+fn stop_of(error: &Error) -> Stop {
     match error.kind() {
-        ErrorKind::Io(_) => Halt::Read,
-        ErrorKind::OutOfMemory => Halt::Memory,
-        _ => Halt::Stopped,
+        ErrorKind::Io(_) => Stop::Read,
+        ErrorKind::OutOfMemory => Stop::Memory,
+        _ => Stop::Refused,
     }
 }
 
 /// Counts the records of a file. `Stopped` where the crate refuses a record, `Read` and `Memory` where it says that those
 /// fail.
-pub(crate) fn count_records<R: Read + Drop>(alloc: Global, input: R) -> Result<Counts, Halt> {
+pub(crate) fn count_records<R: Read + Drop>(alloc: Global, input: R) -> Result<Counts, Stop> {
     let mut counts = Counts::new();
     let mut reader = ReaderBuilder::new()
         .has_headers(false)
@@ -27,7 +27,7 @@ pub(crate) fn count_records<R: Read + Drop>(alloc: Global, input: R) -> Result<C
         match reader.read_record(&mut record) {
             Ok(true) => {}
             Ok(false) => break,
-            Err(error) => return Err(halt_of(&error)),
+            Err(error) => return Err(stop_of(&error)),
         }
         counts.add_row();
         for field in record.iter() {

@@ -2,29 +2,29 @@
 #![tactic(auto)]
 
 mod counts;
-mod halt;
 mod kit;
 mod own;
+mod stop;
 mod words;
 
 use counts::Counts;
-use halt::Halt;
 use kit::count_records;
 use own::count_file;
 use std::alloc::Global;
 use std::env;
 use std::io::{self, BufReader, Read};
 use std::process::ExitCode;
+use stop::Stop;
 use words::{Task, requested};
 
 /// How many bytes are read from the system at once.
 const BUFFER: usize = 65_536;
 
-fn run<R: Read + Drop>(alloc: Global, words: &[String], mut input: R) -> Result<Counts, Halt> {
+fn run<R: Read + Drop>(alloc: Global, words: &[String], mut input: R) -> Result<Counts, Stop> {
     match requested(words) {
         Some(Task::Rows(delimiter, piece)) => count_file(alloc, delimiter, piece, &mut input),
         Some(Task::Csv) => count_records(alloc, input),
-        None => Err(Halt::Usage),
+        None => Err(Stop::Usage),
     }
 }
 
@@ -38,8 +38,8 @@ fn main(rt: HostRuntime) -> io::Result<ExitCode> {
             println!(rt; "{rows} rows, {fields} fields, {bytes} bytes")?;
             Ok(ExitCode::from(0))
         }
-        Err(halt) => {
-            eprintln!(rt; "csvw_rows_bench: {}", halt.told())?;
+        Err(stop) => {
+            eprintln!(rt; "csvw_rows_bench: {}", stop.told())?;
             Ok(ExitCode::from(1))
         }
     }

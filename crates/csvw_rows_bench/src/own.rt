@@ -3,7 +3,7 @@ ghost use Rattle.std.specs.Prelude.{IfOk};
 ghost use Rattle.csvw_dialect.specs.Lawful.{IsLawful};
 
 use crate::counts::Counts;
-use crate::halt::Halt;
+use crate::stop::Stop;
 use csvw_rows::{Dialect, RawRow, RowStop, Rows};
 use std::alloc::Global;
 use std::io::Read;
@@ -12,10 +12,10 @@ use std::io::Read;
 const MAX_ROWS: u64 = 1_099_511_627_776;
 
 /// How a stop of the rows is told.
-fn halt_of(stop: RowStop) -> Halt {
+fn stop_of(stop: RowStop) -> Stop {
     match stop {
-        RowStop::Memory => Halt::Memory,
-        _ => Halt::Stopped,
+        RowStop::Memory => Stop::Memory,
+        _ => Stop::Refused,
     }
 }
 
@@ -27,19 +27,19 @@ fn count_row(row: &RawRow, counts: &mut Counts) {
 }
 
 /// Counts the next row, where one is complete, and tells whether it is.
-fn count_next(rows: &mut Rows, counts: &mut Counts) -> Result<bool, Halt> {
+fn count_next(rows: &mut Rows, counts: &mut Counts) -> Result<bool, Stop> {
     match rows.next() {
         Ok(Some(row)) => {
             count_row(&row, counts);
             Ok(true)
         }
         Ok(None) => Ok(false),
-        Err(stop) => Err(halt_of(stop)),
+        Err(stop) => Err(stop_of(stop)),
     }
 }
 
 /// Counts each row that is complete.
-fn count_rows(rows: &mut Rows, counts: &mut Counts) -> Result<(), Halt> {
+fn count_rows(rows: &mut Rows, counts: &mut Counts) -> Result<(), Stop> {
     for _rows in 0..MAX_ROWS {
         if !count_next(rows, counts)? {
             break;
@@ -49,9 +49,9 @@ fn count_rows(rows: &mut Rows, counts: &mut Counts) -> Result<(), Halt> {
 }
 
 /// Gives a piece to the reader, or the end where the piece is empty.
-fn give(rows: &mut Rows, piece: &[u8]) -> Result<(), Halt> {
+fn give(rows: &mut Rows, piece: &[u8]) -> Result<(), Stop> {
     if rows.is_ended() {
-        return Err(Halt::Stopped);
+        return Err(Stop::Refused);
     }
     let given = if piece.is_empty() {
         rows.end()
@@ -60,32 +60,32 @@ fn give(rows: &mut Rows, piece: &[u8]) -> Result<(), Halt> {
     };
     match given {
         Ok(()) => Ok(()),
-        Err(stop) => Err(halt_of(stop)),
+        Err(stop) => Err(stop_of(stop)),
     }
 }
 
 /// The default dialect with this delimiter; `Usage` where no text can be read by it.
-fn delimited(alloc: Global, delimiter: char) -> Result<Dialect, Halt>
+fn delimited(alloc: Global, delimiter: char) -> Result<Dialect, Stop>
     ensures { IfOk result IsLawful }
 {
     let mut dialect = Dialect::new(alloc)?;
     dialect.delimiter = delimiter;
     match dialect.check() {
         Ok(()) => Ok(dialect),
-        Err(_) => Err(Halt::Usage),
+        Err(_) => Err(Stop::Usage),
     }
 }
 
-fn reader(alloc: Global, delimiter: char) -> Result<Rows, Halt> {
+fn reader(alloc: Global, delimiter: char) -> Result<Rows, Stop> {
     let dialect = delimited(alloc, delimiter)?;
     Ok(Rows::new(alloc, dialect, MAX_ROWS)?)
 }
 
 /// The bytes that were read.
-fn read_piece<'a, R: Read>(input: &mut R, part: &'a mut [u8]) -> Result<&'a [u8], Halt> {
+fn read_piece<'a, R: Read>(input: &mut R, part: &'a mut [u8]) -> Result<&'a [u8], Stop> {
     match input.read(part) {
         Ok(n) => Ok(&part[..n]),
-        Err(_) => Err(Halt::Read),
+        Err(_) => Err(Stop::Read),
     }
 }
 
@@ -97,9 +97,9 @@ pub(crate) fn count_file<R: Read>(
     delimiter: char,
     piece: usize,
     input: &mut R,
-) -> Result<Counts, Halt> {
+) -> Result<Counts, Stop> {
     if piece == 0 {
-        return Err(Halt::Usage);
+        return Err(Stop::Usage);
     }
     let mut counts = Counts::new();
     let mut rows = reader(alloc, delimiter)?;

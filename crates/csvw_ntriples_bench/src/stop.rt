@@ -6,7 +6,7 @@ use std::alloc::AllocError;
 
 /// Why a run stops.
 #[derive(Clone, Copy, Debug, PartialEq, Eq)]
-pub(crate) enum Halt {
+pub(crate) enum Stop {
     /// The command line asks for nothing that there is.
     Usage,
     /// There is no memory.
@@ -22,40 +22,40 @@ pub(crate) enum Halt {
     NotWritable,
 }
 
-impl Halt {
+impl Stop {
     /// The exit status, and the line that tells it.
     pub(crate) fn told(self) -> (u8, &'static str) {
         match self {
-            Halt::Syntax => (1, "Syntax"),
-            Halt::Usage => (2, "count <DOCUMENT, or write ROUNDS <DOCUMENT"),
-            Halt::NotWritable => (3, "NotWritable"),
-            Halt::Memory => (4, "Memory"),
-            Halt::Read => (4, "Read"),
-            Halt::Write => (4, "Write"),
+            Stop::Syntax => (1, "Syntax"),
+            Stop::Usage => (2, "count <DOCUMENT, or write ROUNDS <DOCUMENT"),
+            Stop::NotWritable => (3, "NotWritable"),
+            Stop::Memory => (4, "Memory"),
+            Stop::Read => (4, "Read"),
+            Stop::Write => (4, "Write"),
         }
     }
 }
 
-impl From<AllocError> for Halt {
-    fn from(_: AllocError) -> Halt {
-        Halt::Memory
+impl From<AllocError> for Stop {
+    fn from(_: AllocError) -> Stop {
+        Stop::Memory
     }
 }
 
-impl From<NtFault> for Halt {
-    fn from(fault: NtFault) -> Halt {
+impl From<NtFault> for Stop {
+    fn from(fault: NtFault) -> Stop {
         match fault {
-            NtFault::Memory => Halt::Memory,
-            NtFault::Syntax => Halt::Syntax,
+            NtFault::Memory => Stop::Memory,
+            NtFault::Syntax => Stop::Syntax,
         }
     }
 }
 
-impl From<SinkFault> for Halt {
-    fn from(fault: SinkFault) -> Halt {
+impl From<SinkFault> for Stop {
+    fn from(fault: SinkFault) -> Stop {
         match fault {
-            SinkFault::Memory => Halt::Memory,
-            SinkFault::Device | SinkFault::Closed => Halt::Write,
+            SinkFault::Memory => Stop::Memory,
+            SinkFault::Device | SinkFault::Closed => Stop::Write,
         }
     }
 }

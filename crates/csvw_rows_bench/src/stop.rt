@@ -4,7 +4,7 @@ use std::alloc::AllocError;
 
 /// Why a run stops.
 #[derive(Clone, Copy, Debug, PartialEq, Eq)]
-pub enum Halt {
+pub enum Stop {
     /// The command line asks for nothing that there is.
     Usage,
     /// There is no memory.
@@ -12,23 +12,23 @@ pub enum Halt {
     /// Standard input failed.
     Read,
     /// The reader refused the file.
-    Stopped,
+    Refused,
 }
 
-impl Halt {
+impl Stop {
     /// The line that tells it.
     pub(crate) fn told(self) -> &'static str {
         match self {
-            Halt::Usage => "rows PIECE DELIMITER <FILE, or csv <FILE",
-            Halt::Memory => "Memory",
-            Halt::Read => "Read",
-            Halt::Stopped => "Stopped",
+            Stop::Usage => "rows PIECE DELIMITER <FILE, or csv <FILE",
+            Stop::Memory => "Memory",
+            Stop::Read => "Read",
+            Stop::Refused => "Stopped",
         }
     }
 }
 
-impl From<AllocError> for Halt {
-    fn from(_: AllocError) -> Halt {
-        Halt::Memory
+impl From<AllocError> for Stop {
+    fn from(_: AllocError) -> Stop {
+        Stop::Memory
     }
 }
