@@ -1,7 +1,7 @@
 -- What a run over a group leaves, with what is told behind it.
 use Rattle.std.proofs.Common.{◌⊎◌, ℕ, Bool, true, false, List, sym, subst, ap₂, inl, inr, Option, Result, Ok, Err}
 use Rattle.csvw_report.specs.declared.outcome.Outcome.{Outcome}
-use Rattle.csvw_session.specs.declared.stop.Stop.{Stop}
+use Rattle.csvw_engine_core.specs.declared.stop.Stop.{Stop}
 use Rattle.csvw_text.specs.declared.counted.Counted.{Counted}
 use Rattle.csvw_text.specs.Streams.{Stream}
 use Rattle.csvw_engine.specs.Runs.{Runs}

@@ -7,7 +7,7 @@ use Rattle.clap.specs.Words.{Text}
 use Rattle.csvw_text.specs.declared.counted.Counted.{Counted}
 use Rattle.csvw_text.specs.Counted.{inner_of, failures_of}
 use Rattle.csvw_words.specs.declared.Group.{Group}
-use Rattle.csvw_session.specs.declared.stop.Stop.TheVariants as stop
+use Rattle.csvw_engine_core.specs.declared.stop.Stop.TheVariants as stop
 use Rattle.csvw.specs.Groups.{OpensAll, OpensGroup, StopsOpening}
 
 -- one path more

@@ -6,7 +6,7 @@ use Rattle.csvw_text.specs.Streams.{Stream, stream_of}
 use Rattle.csvw_meta.specs.Document.{plain_description}
 use Rattle.csvw_triples_core.specs.declared.mode.Mode.TheVariants as mode
 use Rattle.csvw_report.specs.declared.outcome.Outcome.{Outcome}
-use Rattle.csvw_session.specs.declared.stop.Stop.{Stop}
+use Rattle.csvw_engine_core.specs.declared.stop.Stop.{Stop}
 use Rattle.csvw_engine.specs.Runs.{Runs}
 use Rattle.csvw.specs.Commands.{RunsOver}
 use Rattle.csvw.specs.Groups.{EndsSo}

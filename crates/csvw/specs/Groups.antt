@@ -7,8 +7,8 @@ use Rattle.csvw_text.specs.Streams.{Stream, IsIdle}
 use Rattle.csvw_triples_core.specs.declared.mode.Mode.{Mode}
 use Rattle.csvw_triples_core.specs.declared.mode.Mode.TheVariants as mode
 use Rattle.csvw_report.specs.declared.outcome.Outcome.{Outcome}
-use Rattle.csvw_session.specs.declared.stop.Stop.{Stop}
-use Rattle.csvw_session.specs.declared.stop.Stop.TheVariants as stop
+use Rattle.csvw_engine_core.specs.declared.stop.Stop.{Stop}
+use Rattle.csvw_engine_core.specs.declared.stop.Stop.TheVariants as stop
 use Rattle.csvw_engine.specs.Runs.{Runs}
 use Rattle.csvw_words.specs.declared.Group.{Group}
 use Rattle.csvw.specs.Answers.{TellsStop}

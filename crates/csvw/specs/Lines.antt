@@ -1,8 +1,8 @@
 -- The lines, without their ends, that tell the stops of the program.
 use Rattle.std.specs.Prelude.{ℕ, List, ◌++◌, codes}
 use Rattle.std.specs.Fmt.{decimal}
-use Rattle.csvw_session.specs.declared.stop.Stop.{Stop}
-use Rattle.csvw_session.specs.declared.stop.Stop.TheVariants.{Memory, Read, Write, Meta, TableCount, Rows, Table, UnknownTable, AfterEnd, NotEnded, Failed}
+use Rattle.csvw_engine_core.specs.declared.stop.Stop.{Stop}
+use Rattle.csvw_engine_core.specs.declared.stop.Stop.TheVariants.{Memory, Read, Write, Meta, TableCount, Rows, Table, UnknownTable, AfterEnd, NotEnded, Failed}
 use Rattle.csvw.specs.MetaNames.{meta_code_name}
 use Rattle.csvw.specs.Names.{row_stop_name, table_stop_name}
 

@@ -3,8 +3,8 @@ use Rattle.std.specs.Prelude.{ℕ, if◌then◌else◌}
 use Rattle.std.specs.List.{list_all}
 use Rattle.csvw_report.specs.declared.outcome.Outcome.{Outcome}
 use Rattle.csvw_report.specs.Order.{is_no_error}
-use Rattle.csvw_session.specs.declared.stop.Stop.{Stop}
-use Rattle.csvw_session.specs.declared.stop.Stop.TheVariants.{Memory, Read, Write, Meta, TableCount, Rows, Table, UnknownTable, AfterEnd, NotEnded, Failed}
+use Rattle.csvw_engine_core.specs.declared.stop.Stop.{Stop}
+use Rattle.csvw_engine_core.specs.declared.stop.Stop.TheVariants.{Memory, Read, Write, Meta, TableCount, Rows, Table, UnknownTable, AfterEnd, NotEnded, Failed}
 
 -- 4 where memory or a device failed, else 3
 abbrev pub stop_status : Stop → ℕ

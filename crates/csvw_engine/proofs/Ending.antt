@@ -12,8 +12,8 @@ use Rattle.csvw_ntriples.specs.Written.{written}
 use Rattle.csvw_report.specs.Report.{report}
 use Rattle.csvw_report.specs.declared.outcome.Outcome.{Outcome}
 use Rattle.csvw_session.specs.Events.{Event}
-use Rattle.csvw_session.specs.declared.stop.Stop.{Stop}
-use Rattle.csvw_session.specs.declared.stop.Stop.TheVariants as stop
+use Rattle.csvw_engine_core.specs.declared.stop.Stop.{Stop}
+use Rattle.csvw_engine_core.specs.declared.stop.Stop.TheVariants as stop
 use Rattle.csvw_group.specs.Annotated.{Table}
 use Rattle.csvw_group.specs.Graph.{GraphOf}
 use Rattle.csvw_engine.specs.Flushes.{IsFlushed}
@@ -86,15 +86,7 @@ pub refused : {R : Type 0} (remaining : R → Option (List ℕ)) (described : Do
     → IsMetaStop described reason → StopsSo remaining described m olds olds out report_out reason
 refused remaining described m olds out report_out stop.Memory p q h = inl (refl, p, q)
 refused remaining described m olds out report_out (stop.Meta fault) p q h = (h, p, q)
-refused remaining described m olds out report_out stop.Read p q h = absurd h
-refused remaining described m olds out report_out stop.Write p q h = absurd h
-refused remaining described m olds out report_out stop.TableCount p q h = absurd h
-refused remaining described m olds out report_out (stop.Rows t row reason) p q h = absurd h
-refused remaining described m olds out report_out (stop.Table t row reason) p q h = absurd h
-refused remaining described m olds out report_out stop.UnknownTable p q h = absurd h
-refused remaining described m olds out report_out stop.AfterEnd p q h = absurd h
-refused remaining described m olds out report_out stop.NotEnded p q h = absurd h
-refused remaining described m olds out report_out stop.Failed p q h = absurd h
+refused remaining described m olds out report_out other p q h = absurd h
 
 module _ {R : Type 0} (remaining : R → Option (List ℕ)) (described : Document) (m : Mode) (olds news : List (Counted R)) (plan : Plan)
     (planned : IsPlanned described plan) (many : length olds ≡ length plan.tables)

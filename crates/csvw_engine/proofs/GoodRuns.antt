@@ -18,8 +18,8 @@ use Rattle.csvw_triples_core.specs.declared.mode.Mode.{Mode}
 use Rattle.csvw_report.specs.declared.outcome.Outcome.{Outcome}
 use Rattle.csvw_session.specs.Events.{Event, text_of, ended_in}
 use Rattle.csvw_session.specs.Ready.{AreReady}
-use Rattle.csvw_session.specs.declared.stop.Stop.{Stop}
-use Rattle.csvw_session.specs.declared.stop.Stop.TheVariants as stop
+use Rattle.csvw_engine_core.specs.declared.stop.Stop.{Stop}
+use Rattle.csvw_engine_core.specs.declared.stop.Stop.TheVariants as stop
 use Rattle.csvw_group.specs.Annotated.{IsAnnotated, AreAnnotated}
 use Rattle.csvw_group.specs.GoodTexts.{GoesOnToTable, GoodTextsAreAccepted}
 use Rattle.csvw_reading.specs.Reading.{Gave}
@@ -119,7 +119,4 @@ module _ (accepted : GoodTextsAreAccepted) (without_faults : GroupsHaveNoFaults)
       absurd (not_stopped plan events reads t row reason stops)
   ok_or_lacks mode out report_out (Err (stop.Table t row reason)) ((plan, events, reads, (refuses, _)), _, _) =
       absurd (not_refused plan events reads t row reason refuses)
-  ok_or_lacks mode out report_out (Err stop.UnknownTable) h = absurd h
-  ok_or_lacks mode out report_out (Err stop.AfterEnd) h = absurd h
-  ok_or_lacks mode out report_out (Err stop.NotEnded) h = absurd h
-  ok_or_lacks mode out report_out (Err stop.Failed) h = absurd h
+  ok_or_lacks mode out report_out (Err other) h = absurd h

@@ -5,7 +5,7 @@ use Rattle.csvw_text.specs.Streams.{Stream}
 use Rattle.csvw_meta.specs.Document.{Document}
 use Rattle.csvw_triples_core.specs.declared.mode.Mode.{Mode}
 use Rattle.csvw_report.specs.declared.outcome.Outcome.{Outcome}
-use Rattle.csvw_session.specs.declared.stop.Stop.{Stop}
+use Rattle.csvw_engine_core.specs.declared.stop.Stop.{Stop}
 use Rattle.csvw_engine.specs.Runs.{Runs}
 
 -- a list of one item

@@ -1,19 +1,17 @@
 -- The plan of a document, or its fault.
 use Rattle.std.proofs.Common.{◌≡◌, ◌≢◌, ◌≤◌, ◌+◌, ℕ, zero, suc, List, [], ◌∷◌, length, refl, sym, ap, ◌∙◌, subst, arith, inl, inr, Some}
 use Rattle.std.proofs.Common.{None, Ok, Err}
-use Rattle.std.specs.Prelude.{slice_get}
 use Rattle.csvw_description.specs.declared.description.Description.{Description}
 use Rattle.csvw_description.specs.declared.table.TableDescription.{TableDescription}
 use Rattle.csvw_meta_core.specs.declared.fault.MetaCode.TheVariants.{Memory}
 use Rattle.csvw_meta_core.specs.declared.fault.MetaFault.{MetaFault}
 use Rattle.csvw_meta.specs.Document.{Document, IsFault}
 use Rattle.csvw_columns.specs.Plannable.{Builds, IsPlannable}
-use Rattle.csvw_columns.specs.PlanOf.{targets_of, table_plan, table_plans}
+use Rattle.csvw_columns.specs.PlanOf.{targets_of, table_plans}
 use Rattle.csvw_columns.specs.declared.plan.Plan.{Plan}
 use Rattle.csvw_columns.specs.declared.plan.TablePlan.{TablePlan}
-use Rattle.csvw_session.specs.Sessions.{AreNumbered}
-use Rattle.csvw_session.specs.declared.stop.Stop.{Stop}
-use Rattle.csvw_session.specs.declared.stop.Stop.TheVariants as stop
+use Rattle.csvw_engine_core.specs.declared.stop.Stop.{Stop}
+use Rattle.csvw_engine_core.specs.declared.stop.Stop.TheVariants as stop
 use Rattle.csvw_engine.specs.Planning.{IsMetaStop, TellsFault}
 
 pub told : (described : Document) (fault : MetaFault) (reason : Stop) → TellsFault fault reason → (fault.code ≢ Memory → IsFault described fault)
@@ -30,22 +28,6 @@ lacks_memory d fault reason can h (inr (apart, e)) = absurd (h.1 apart can)
 as_many : (group d : Description) (n : ℕ) (tables : List TableDescription) → length (table_plans (targets_of group) d n tables) ≡ length tables
 as_many group d n [] = refl
 as_many group d n (t ∷ ts) = ap suc (as_many group d (n + 1) ts)
-
-no_item : {X : Type 0} (x : X) → None ≡ Some x → ⊥
-no_item x e = cc
-
--- the plans of tables are numbered in their order
-numbered_from : (group d : Description) (n : ℕ) (tables : List TableDescription) (i : ℕ) (plan : TablePlan)
-    → slice_get (table_plans (targets_of group) d n tables) i ≡ Some plan → plan.number ≡ i + n
-numbered_from group d n [] i plan e = absurd (no_item plan e)
-numbered_from group d n (t ∷ ts) zero plan e =
-    let same : table_plan (targets_of group) d n t ≡ plan = cc in
-    let number : n ≡ plan.number = ap (λ (p : TablePlan). p.number) same in
-    omega (arith, number)
-numbered_from group d n (t ∷ ts) (suc i) plan e = let k = numbered_from group d (n + 1) ts i plan e in omega (arith, k)
-
-pub numbered_of : (d : Description) (plan : Plan) → Builds d (Ok plan) → AreNumbered plan.tables
-numbered_of d plan h i p e = numbered_from d d 1 d.tables i p (ap (λ (q : Plan). slice_get q.tables i) (sym h.0) ∙ e)
 
 -- no more tables than the limit
 pub few_of : (d : Description) (plan : Plan) → Builds d (Ok plan) → length plan.tables ≤ 64

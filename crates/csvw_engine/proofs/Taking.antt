@@ -28,10 +28,10 @@ use Rattle.csvw_keys.specs.KeyRules.{key_faults, rules_of}
 use Rattle.csvw_session.specs.Faults.{all_faults}
 use Rattle.csvw_session.specs.Finishing.{Finishes}
 use Rattle.csvw_session.specs.Refusing.{Refuses}
-use Rattle.csvw_session.specs.Sessions.{AreNumbered, Stands, Starts, TableStands, Takes, TookGraph}
+use Rattle.csvw_session.specs.Sessions.{Stands, Starts, TableStands, Takes, TookGraph}
 use Rattle.csvw_session.specs.declared.session.Session.{Session}
-use Rattle.csvw_session.specs.declared.stop.Stop.{Stop}
-use Rattle.csvw_session.specs.declared.stop.Stop.TheVariants as stop
+use Rattle.csvw_engine_core.specs.declared.stop.Stop.{Stop}
+use Rattle.csvw_engine_core.specs.declared.stop.Stop.TheVariants as stop
 use Rattle.csvw_group.specs.Annotated.{AreAnnotated}
 use Rattle.csvw_group.specs.Graph.{GraphOf}
 use Rattle.csvw_group.specs.Law.{Annotates, texts_of}
@@ -77,13 +77,10 @@ module _ {R S : Type 0} (gains : S → List Triple → S → Type 0) (is_open : 
 
   -- the session was read to its end
   module _ (old middle new : Session S) (all : ReadsAll gains is_open failed remaining start olds news old middle) (many : length olds ≡ length old.plan.tables)
-      (numbered : AreNumbered old.plan.tables) (opened : gains sink (opening old.mode old.plan) start)
+      (opened : gains sink (opening old.mode old.plan) start)
       (law : (events : List Event) (s : Session S) → gains sink (opening s.mode s.plan) start → Stands gains is_open failed start events s
       → list_all is_ended s.tables.items ≡ true
       → Annotates gains sink events s) where
-    still_numbered : AreNumbered middle.plan.tables
-    still_numbered = subst (λ (p : Plan). AreNumbered p.tables) (sym all.same.0) numbered
-
     each_ended : list_all is_ended middle.tables.items ≡ true
     each_ended =
         all_ended middle.plan.tables middle.tables.items middle.many
@@ -123,7 +120,7 @@ module _ {R S : Type 0} (gains : S → List Triple → S → Type 0) (is_open : 
         same = with_keys (middle.plan.warnings ++ all_faults middle.tables.items)
             (middle.plan.warnings ++ tables_violations middle.plan.tables read_tables.tables) (key_faults (rules_of middle.plan) (rows_of read_tables.tables))
             fin.1.key_faults outcome.faults (ap (λ (fs : List Fault). middle.plan.warnings ++ fs) read_tables.faults)
-            (fin.1.told (rules_of middle.plan) (rows_of read_tables.tables) (read_tables.keys still_numbered)).same fin.1.faults;
+            (fin.1.told (rules_of middle.plan) (rows_of read_tables.tables) read_tables.keys).same fin.1.faults;
         sorted = fin.1.sorted;
       });
       gives = took_tables fin.0.sink;
@@ -155,13 +152,7 @@ module _ {R S : Type 0} (gains : S → List Triple → S → Type 0) (is_open : 
     finished (Err stop.Failed) fin = let is = fin.1 in let opened = all.stands.state_is in cc
     finished (Err stop.AfterEnd) fin = let is = fin.1 in let opened = all.stands.state_is in cc
     finished (Err stop.NotEnded) fin = absurd (none_open fin.1)
-    finished (Err stop.Read) fin = absurd fin
-    finished (Err stop.Write) fin = absurd fin
-    finished (Err (stop.Meta fault)) fin = absurd fin
-    finished (Err stop.TableCount) fin = absurd fin
-    finished (Err (stop.Rows t row reason)) fin = absurd fin
-    finished (Err (stop.Table t row reason)) fin = absurd fin
-    finished (Err stop.UnknownTable) fin = absurd fin
+    finished (Err other) fin = absurd fin
 
   -- or it stopped before
   module _ (old new : Session S) (opened : gains sink (opening old.mode old.plan) start)
@@ -209,12 +200,7 @@ module _ {R S : Type 0} (gains : S → List Triple → S → Type 0) (is_open : 
         let s = h.stops in
         let k = s.takes.2 start s.before s.stands in
         (s.stands.took.taken ++ _, goes_on start s.session.sink new.sink s.stands.took.taken _ s.stands.took.gained k.0.leaves.took)
-    some_gained (stop.Meta fault) h = absurd h
-    some_gained stop.TableCount h = absurd h
-    some_gained stop.UnknownTable h = absurd h
-    some_gained stop.AfterEnd h = absurd h
-    some_gained stop.NotEnded h = absurd h
-    some_gained stop.Failed h = absurd h
+    some_gained other h = absurd h
 
     gained_behind : GainsSome gains start new.sink → GainsSome gains sink new.sink
     gained_behind h = (opening old.mode old.plan ++ h.0, goes_on sink start new.sink (opening old.mode old.plan) h.0 opened h.1)
@@ -267,12 +253,7 @@ module _ {R S : Type 0} (gains : S → List Triple → S → Type 0) (is_open : 
         inl (h.events, h.gave, (in_text h.events t row reason h.stops, behind_event h.events (stop.Rows t row reason) h.stops))
     stopped (stop.Table t row reason) h =
         inl (h.events, h.gave, (refused_in h.events t row reason h.stops, behind_event h.events (stop.Table t row reason) h.stops))
-    stopped (stop.Meta fault) h = absurd h
-    stopped stop.TableCount h = absurd h
-    stopped stop.UnknownTable h = absurd h
-    stopped stop.AfterEnd h = absurd h
-    stopped stop.NotEnded h = absurd h
-    stopped stop.Failed h = absurd h
+    stopped other h = absurd h
 
     ends_by : (reason : Stop) → Reads gains is_open failed remaining start olds news old new (Err reason)
         → EndsBy (IsAsReady is_open failed sink new.sink) (is_open sink ≡ true → failed sink < 2 ^ 64 - 1 → failed new.sink ≡ failed sink + 1) reason
@@ -284,12 +265,7 @@ module _ {R S : Type 0} (gains : S → List Triple → S → Type 0) (is_open : 
         λ begun room. (s.takes.1 start s.before s.stands).1 (r.0 ∙ begun) (rw r.1 room) ∙ ap (λ n. n + 1) r.1
     ends_by (stop.Rows t row reason) h = let s = h.stops in ready_at s.session.sink s.stands.ready (s.takes.2 start s.before s.stands).1
     ends_by (stop.Table t row reason) h = let s = h.stops in ready_at s.session.sink s.stands.ready (s.takes.2 start s.before s.stands).1
-    ends_by (stop.Meta fault) h = absurd h
-    ends_by stop.TableCount h = absurd h
-    ends_by stop.UnknownTable h = absurd h
-    ends_by stop.AfterEnd h = absurd h
-    ends_by stop.NotEnded h = absurd h
-    ends_by stop.Failed h = absurd h
+    ends_by other h = absurd h
 
     pub stops : (reason : Stop) → Reads gains is_open failed remaining start olds news old new (Err reason)
         → TakesTables gains is_open failed remaining old.mode old.plan olds news sink new.sink (Err reason)
@@ -336,15 +312,7 @@ module _ {R S : Type 0} (gains : S → List Triple → S → Type 0) (is_open : 
       → TakesTables gains is_open failed remaining m plan olds olds sink now (Err reason)
   refused stop.Memory h = ((h.0.front, h.0.gained), inl ([], none_read remaining olds, (tt, took_opening h.0)), h.1)
   refused stop.Write h = ((h.0.front, h.0.gained), inl ([], none_read remaining olds, (tt, took_opening h.0)), h.1)
-  refused stop.Read h = absurd h
-  refused (stop.Meta fault) h = absurd h
-  refused stop.TableCount h = absurd h
-  refused (stop.Rows t row reason) h = absurd h
-  refused (stop.Table t row reason) h = absurd h
-  refused stop.UnknownTable h = absurd h
-  refused stop.AfterEnd h = absurd h
-  refused stop.NotEnded h = absurd h
-  refused stop.Failed h = absurd h
+  refused other h = absurd h
 
 -- a session at its start has its own plan and mode
 pub starts_own : {S : Type 0} (gains : S → List Triple → S → Type 0) (is_open : S → Bool) (failed : S → ℕ) (plan : Plan) (m : Mode) (sink : S) (s : Session S)

@@ -25,8 +25,8 @@ use Rattle.csvw_ntriples.specs.Written.{written, said}
 use Rattle.csvw_report.specs.declared.outcome.Outcome.{Outcome}
 use Rattle.csvw_session.specs.Events.{Event}
 use Rattle.csvw_session.specs.Sessions.{TookGraph}
-use Rattle.csvw_session.specs.declared.stop.Stop.{Stop}
-use Rattle.csvw_session.specs.declared.stop.Stop.TheVariants as stop
+use Rattle.csvw_engine_core.specs.declared.stop.Stop.{Stop}
+use Rattle.csvw_engine_core.specs.declared.stop.Stop.TheVariants as stop
 use Rattle.csvw_group.specs.Annotated.{Table}
 use Rattle.csvw_group.specs.Graph.{GraphOf}
 use Rattle.csvw_group.specs.Part.{TablePart, FirstRowGraph, PartGraph, IsCutShort}
@@ -269,12 +269,7 @@ module _ {W : Type 0} (contents : W → Option (List ℕ)) (laws : LineLaws) (ou
   leaves m plan stop.Read events olds news because k r = all_written m plan events k r
   leaves m plan (stop.Rows t row reason) events olds news because k r = all_written m plan events k r
   leaves m plan (stop.Table t row reason) events olds news because k r = all_written m plan events k r
-  leaves m plan (stop.Meta fault) events olds news because k r = absurd because
-  leaves m plan stop.TableCount events olds news because k r = absurd because
-  leaves m plan stop.UnknownTable events olds news because k r = absurd because
-  leaves m plan stop.AfterEnd events olds news because k r = absurd because
-  leaves m plan stop.NotEnded events olds news because k r = absurd because
-  leaves m plan stop.Failed events olds news because k r = absurd because
+  leaves m plan other events olds news because k r = absurd because
 
   -- validation gives no triples
   no_graph : (plan : Plan) (tables : List Table) (x : Triple) → GraphOf mode.Validate plan tables x → ⊥

@@ -6,8 +6,8 @@ use Rattle.csvw_description.specs.declared.description.Description.{Description}
 use Rattle.csvw_meta.specs.Document.{Document, group_in}
 use Rattle.csvw_columns.specs.PlanOf.{plan_of}
 use Rattle.csvw_report.specs.declared.outcome.Outcome.{Outcome}
-use Rattle.csvw_session.specs.declared.stop.Stop.{Stop}
-use Rattle.csvw_session.specs.declared.stop.Stop.TheVariants as stop
+use Rattle.csvw_engine_core.specs.declared.stop.Stop.{Stop}
+use Rattle.csvw_engine_core.specs.declared.stop.Stop.TheVariants as stop
 use Rattle.csvw_group.specs.Annotated.{Table, AreAnnotated}
 
 -- There are as many readers as tables of the group that is described, their bytes are known, and these are the texts of annotated tables.

@@ -9,8 +9,8 @@ use Rattle.csvw_triples_core.specs.declared.term.Triple.{Triple}
 use Rattle.csvw_report.specs.declared.outcome.Outcome.{Outcome}
 use Rattle.csvw_session.specs.Events.{Event}
 use Rattle.csvw_session.specs.Sessions.{TookGraph}
-use Rattle.csvw_session.specs.declared.stop.Stop.{Stop}
-use Rattle.csvw_session.specs.declared.stop.Stop.TheVariants as stop
+use Rattle.csvw_engine_core.specs.declared.stop.Stop.{Stop}
+use Rattle.csvw_engine_core.specs.declared.stop.Stop.TheVariants as stop
 use Rattle.csvw_group.specs.Annotated.{Table, AreAnnotated}
 use Rattle.csvw_group.specs.Graph.{GraphOf}
 use Rattle.csvw_group.specs.Stopped.{TookBy}

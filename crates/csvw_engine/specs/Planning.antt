@@ -3,8 +3,8 @@ use Rattle.std.specs.Prelude.{◌≡◌, ◌≢◌, ◌⊎◌}
 use Rattle.csvw_meta_core.specs.declared.fault.MetaCode.TheVariants.{Memory}
 use Rattle.csvw_meta_core.specs.declared.fault.MetaFault.{MetaFault}
 use Rattle.csvw_meta.specs.Document.{Document, IsFault}
-use Rattle.csvw_session.specs.declared.stop.Stop.{Stop}
-use Rattle.csvw_session.specs.declared.stop.Stop.TheVariants as stop
+use Rattle.csvw_engine_core.specs.declared.stop.Stop.{Stop}
+use Rattle.csvw_engine_core.specs.declared.stop.Stop.TheVariants as stop
 
 -- want of memory is told as such
 abbrev pub TellsFault : MetaFault → Stop → Type 0
@@ -14,12 +14,4 @@ TellsFault fault reason = ((fault.code ≡ Memory) × (reason ≡ stop.Memory)) 
 abbrev pub IsMetaStop : Document → Stop → Type 0
 IsMetaStop described stop.Memory = Unit {0}
 IsMetaStop described (stop.Meta fault) = IsFault described fault
-IsMetaStop described stop.Read = ⊥
-IsMetaStop described stop.Write = ⊥
-IsMetaStop described stop.TableCount = ⊥
-IsMetaStop described (stop.Rows t row reason) = ⊥
-IsMetaStop described (stop.Table t row reason) = ⊥
-IsMetaStop described stop.UnknownTable = ⊥
-IsMetaStop described stop.AfterEnd = ⊥
-IsMetaStop described stop.NotEnded = ⊥
-IsMetaStop described stop.Failed = ⊥
+IsMetaStop described other = ⊥

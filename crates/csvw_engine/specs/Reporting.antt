@@ -4,8 +4,8 @@ use Rattle.csvw_text.specs.Count.{one_more}
 use Rattle.csvw_text.specs.Streams.{Stream, Sends, IsIdle}
 use Rattle.csvw_report.specs.Report.{report}
 use Rattle.csvw_report.specs.declared.outcome.Outcome.{Outcome}
-use Rattle.csvw_session.specs.declared.stop.Stop.{Stop}
-use Rattle.csvw_session.specs.declared.stop.Stop.TheVariants as stop
+use Rattle.csvw_engine_core.specs.declared.stop.Stop.{Stop}
+use Rattle.csvw_engine_core.specs.declared.stop.Stop.TheVariants as stop
 
 -- the report was written; or it wasn't, for want of memory or because its writer failed
 abbrev pub TellsOutcome : Outcome → Stream → Result Outcome Stop → Type 0

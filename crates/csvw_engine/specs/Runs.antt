@@ -27,8 +27,8 @@ use Rattle.csvw_report.specs.declared.outcome.Outcome.{Outcome}
 use Rattle.csvw_session.specs.Events.{Event, text_of, ended_in}
 use Rattle.csvw_session.specs.Ready.{AreReady}
 use Rattle.csvw_session.specs.Sessions.{IsRefusedHere}
-use Rattle.csvw_session.specs.declared.stop.Stop.{Stop}
-use Rattle.csvw_session.specs.declared.stop.Stop.TheVariants as stop
+use Rattle.csvw_engine_core.specs.declared.stop.Stop.{Stop}
+use Rattle.csvw_engine_core.specs.declared.stop.Stop.TheVariants as stop
 use Rattle.csvw_group.specs.Annotated.{Table, AreAnnotated}
 use Rattle.csvw_group.specs.Graph.{GraphOf}
 use Rattle.csvw_group.specs.Violations.{AreViolations}
@@ -124,12 +124,7 @@ IsReason plan olds news stop.Write events = Unit {0}
 IsReason plan olds news stop.Read events = OneFailed olds news ⊎ AreMany events
 IsReason plan olds news (stop.Rows t row reason) events = StopsInText plan events t row reason
 IsReason plan olds news (stop.Table t row reason) events = RefusedInText plan events t row reason
-IsReason plan olds news (stop.Meta fault) events = ⊥
-IsReason plan olds news stop.TableCount events = ⊥
-IsReason plan olds news stop.UnknownTable events = ⊥
-IsReason plan olds news stop.AfterEnd events = ⊥
-IsReason plan olds news stop.NotEnded events = ⊥
-IsReason plan olds news stop.Failed events = ⊥
+IsReason plan olds news other events = ⊥
 
 -- behind the texts so far there is this reason to stop, and what was written of their graph is as it leaves it
 abbrev pub Halts : {R : Type 0} → (R → Option (List ℕ)) → Document → Mode → List (Counted R) → List (Counted R) → Stream → Stop → Type 0
@@ -186,10 +181,7 @@ StopsSo remaining described mode olds news out report_out (stop.Table t row reas
     × IsSound out × IsIdle report_out
 StopsSo remaining described mode olds news out report_out (stop.Meta fault) = IsFault described fault × IsIdle out × IsIdle report_out
 StopsSo remaining described mode olds news out report_out stop.TableCount = Differ described olds × IsIdle out × IsIdle report_out
-StopsSo remaining described mode olds news out report_out stop.UnknownTable = ⊥
-StopsSo remaining described mode olds news out report_out stop.AfterEnd = ⊥
-StopsSo remaining described mode olds news out report_out stop.NotEnded = ⊥
-StopsSo remaining described mode olds news out report_out stop.Failed = ⊥
+StopsSo remaining described mode olds news out report_out other = ⊥
 
 -- what a run over the document and the readers leaves, by its answer
 abbrev pub Runs : {R : Type 0} → (R → Option (List ℕ)) → Document → Mode → List (Counted R) → List (Counted R) → Stream → Stream

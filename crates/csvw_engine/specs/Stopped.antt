@@ -13,8 +13,8 @@ use Rattle.csvw_ntriples.specs.Writable.{TripleFits}
 use Rattle.csvw_ntriples.specs.Written.{written}
 use Rattle.csvw_ntriples.specs.declared.term.NtTriple.{NtTriple}
 use Rattle.csvw_session.specs.Events.{Event}
-use Rattle.csvw_session.specs.declared.stop.Stop.{Stop}
-use Rattle.csvw_session.specs.declared.stop.Stop.TheVariants as stop
+use Rattle.csvw_engine_core.specs.declared.stop.Stop.{Stop}
+use Rattle.csvw_engine_core.specs.declared.stop.Stop.TheVariants as stop
 use Rattle.csvw_group.specs.Part.{TablePart, HaveAllRows, PartGraph, IsCutShort}
 
 -- the writer gained whole lines, which denote the graph, with a name of its own for each blank node, and then these bytes
@@ -58,9 +58,4 @@ Leaves m plan out stop.Write events = (more : List ℕ) × WroteSome m plan out 
 Leaves m plan out stop.Read events = WroteAll m plan out events
 Leaves m plan out (stop.Rows t row reason) events = WroteAll m plan out events
 Leaves m plan out (stop.Table t row reason) events = WroteAll m plan out events
-Leaves m plan out (stop.Meta fault) events = ⊥
-Leaves m plan out stop.TableCount events = ⊥
-Leaves m plan out stop.UnknownTable events = ⊥
-Leaves m plan out stop.AfterEnd events = ⊥
-Leaves m plan out stop.NotEnded events = ⊥
-Leaves m plan out stop.Failed events = ⊥
+Leaves m plan out other events = ⊥

@@ -3,7 +3,7 @@ ghost use Rattle.std.specs.Prelude.{◌≡◌, IfErr};
 ghost use Rattle.std.specs.Io.KnownBytes.{Keeps};
 ghost use Rattle.csvw_text.specs.Count.{after_call};
 ghost use Rattle.csvw_text.specs.Counted.{inner_of, failures_of};
-ghost use Rattle.csvw_session.specs.declared.stop.Stop.TheVariants as stop;
+ghost use Rattle.csvw_engine_core.specs.declared.stop.Stop.TheVariants as stop;
 ghost use Rattle.csvw_engine.specs.Flushes.{IsFlushed};
 
 use csvw_session::Stop;

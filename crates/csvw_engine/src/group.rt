@@ -2,7 +2,7 @@
 ghost use Rattle.std.specs.Prelude.{◌≡◌, ◌<◌, ◌-◌, ◌^◌, length};
 ghost use Rattle.csvw_text.specs.Streams.{stream_of};
 ghost use Rattle.csvw_session.specs.Ready.{AreReady};
-ghost use Rattle.csvw_session.specs.Sessions.{AreNumbered, Starts};
+ghost use Rattle.csvw_session.specs.Sessions.{Starts};
 ghost use Rattle.csvw_engine.specs.Groups.{Converts, TakesTables};
 ghost use Rattle.csvw_engine.specs.Rooms.{IsRoomFor};
 
@@ -36,7 +36,7 @@ fn take_tables<R: Read, S: TripleSink>(
     requires room { IsRoomFor (length readers.old) room.old }
     requires few { length readers.old < 2 ^ 32 - 1 }
     ensures { (sink : S) → Starts S.gains S.is_open S.failed session.old.plan session.old.mode sink session.old
-        → length readers.old ≡ length session.old.plan.tables → AreNumbered session.old.plan.tables
+        → length readers.old ≡ length session.old.plan.tables
         → TakesTables S.gains S.is_open S.failed R.remaining session.old.mode session.old.plan readers.old readers.new sink session.new.sink result }
 {
     sessions_annotate::<S>();
@@ -55,7 +55,6 @@ pub(crate) fn convert_tables<R: Read, W: Write>(
     out: &mut Counted<W>,
 ) -> Result<Outcome, Stop>
     requires ready { AreReady plan.tables }
-    requires numbered { AreNumbered plan.tables }
     requires many { length readers.old ≡ length plan.tables }
     requires few { length readers.old < 2 ^ 32 - 1 }
     ensures { Converts R.remaining way.mode plan readers.old readers.new (stream_of W.contents out.old out.new) result }

@@ -14,7 +14,7 @@ ghost use Rattle.csvw_session.specs.Finishing.{Finishes, IsUnfinishedInOrder};
 ghost use Rattle.csvw_session.specs.Sessions.{IsRefusedInOrder, Takes};
 ghost use Rattle.csvw_session.specs.declared.session.Session.{Session as TheSession};
 ghost use Rattle.csvw_session.specs.declared.state.State.TheVariants as state;
-ghost use Rattle.csvw_session.specs.declared.stop.Stop.{Stop as TheStop};
+ghost use Rattle.csvw_engine_core.specs.declared.stop.Stop.{Stop as TheStop};
 ghost use Rattle.csvw_group.specs.Stopped.{TookAll, TookSome};
 ghost use Rattle.csvw_engine.specs.GoodRuns.{IsOkOrLacks, ReadGoodTables};
 ghost use Rattle.csvw_engine.specs.Lines.{gains_lines, line_failures, writer_of};

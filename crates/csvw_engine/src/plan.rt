@@ -4,8 +4,7 @@ ghost use Rattle.csvw_columns.specs.PlanOf.{plan_of};
 ghost use Rattle.csvw_description.specs.Plannable.{IsPlannable};
 ghost use Rattle.csvw_meta.specs.Document.{document, plain_description};
 ghost use Rattle.csvw_session.specs.Ready.{AreReady};
-ghost use Rattle.csvw_session.specs.Sessions.{AreNumbered};
-ghost use Rattle.csvw_session.specs.declared.stop.Stop.TheVariants as stop;
+ghost use Rattle.csvw_engine_core.specs.declared.stop.Stop.TheVariants as stop;
 ghost use Rattle.csvw_engine.specs.Planning.{IsMetaStop, TellsFault};
 ghost use Rattle.csvw_engine.specs.Runs.{IsPlanned};
 
@@ -32,7 +31,6 @@ fn built(alloc: Global, description: Description) -> Result<Plan, Stop>
     requires { IsPlannable description }
     ensures plan { IfOk result (λ plan. plan ≡ plan_of description) }
     ensures ready { IfOk result (λ plan. AreReady plan.tables) }
-    ensures numbered { IfOk result (λ plan. AreNumbered plan.tables) }
     ensures few { IfOk result (λ plan. length plan.tables ≤ 64) }
     ensures memory { IfErr result (λ reason. reason ≡ stop.Memory) }
 {
@@ -48,7 +46,6 @@ fn built(alloc: Global, description: Description) -> Result<Plan, Stop>
 pub(crate) fn planned(alloc: Global, meta: &[u8], base: &str) -> Result<Plan, Stop>
     ensures plan { IfOk result (λ plan. IsPlanned (document base.now meta.now) plan) }
     ensures ready { IfOk result (λ plan. AreReady plan.tables) }
-    ensures numbered { IfOk result (λ plan. AreNumbered plan.tables) }
     ensures few { IfOk result (λ plan. length plan.tables ≤ 64) }
     ensures stop { IfErr result (λ reason. IsMetaStop (document base.now meta.now) reason) }
 {
@@ -62,7 +59,6 @@ pub(crate) fn planned(alloc: Global, meta: &[u8], base: &str) -> Result<Plan, St
 pub(crate) fn planned_alone(alloc: Global, url: &str) -> Result<Plan, Stop>
     ensures plan { IfOk result (λ plan. IsPlanned (plain_description url.now) plan) }
     ensures ready { IfOk result (λ plan. AreReady plan.tables) }
-    ensures numbered { IfOk result (λ plan. AreNumbered plan.tables) }
     ensures few { IfOk result (λ plan. length plan.tables ≤ 64) }
     ensures stop { IfErr result (λ reason. IsMetaStop (plain_description url.now) reason) }
 {

@@ -1,7 +1,6 @@
 //! Runs over a group of tables.
 ghost use Rattle.std.specs.Prelude.{◌≡◌, ◌≤◌, ◌∷◌, [], length};
 ghost use Rattle.csvw_session.specs.Ready.{AreReady};
-ghost use Rattle.csvw_session.specs.Sessions.{AreNumbered};
 ghost use Rattle.csvw_triples_core.specs.declared.mode.Mode.TheVariants as mode;
 ghost use Rattle.csvw_text.specs.Streams.{stream_of};
 ghost use Rattle.csvw_engine.specs.Reporting.{Reports};
@@ -67,7 +66,6 @@ fn run_planned<R: Read, W: Write, V: Write>(
     report: &mut Counted<V>,
 ) -> Result<Outcome, Stop>
     requires ready { AreReady run.plan.tables }
-    requires numbered { AreNumbered run.plan.tables }
     requires few { length run.plan.tables ≤ 64 }
     ensures { (described : Document) → IsPlanned described run.plan → Runs R.remaining described run.way.mode readers.old readers.new
         (stream_of W.contents out.old out.new) (stream_of V.contents report.old report.new) result }

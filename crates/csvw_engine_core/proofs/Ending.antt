@@ -15,8 +15,8 @@ use Rattle.csvw_engine_core.specs.Annotated.{header_count, header_row, header_ro
 use Rattle.csvw_engine_core.specs.Annotated.{HasRows, AreAnnotated, GivesNone}
 use Rattle.csvw_engine_core.specs.Heads.{Settled}
 use Rattle.csvw_engine_core.specs.Tables.{Outlets, Gone, GivesAll, GivesWhole, TableOutcome, EndOutcome, SettlesHead, SettlesTable, is_ended}
-use Rattle.csvw_engine_core.specs.declared.halt.Halt.{Halt}
-use Rattle.csvw_engine_core.specs.declared.halt.Halt.TheVariants as halt
+use Rattle.csvw_engine_core.specs.declared.stop.Stop.{Stop}
+use Rattle.csvw_engine_core.specs.declared.stop.Stop.TheVariants as stop
 use Rattle.csvw_engine_core.specs.declared.table.Table.{Table}
 use Rattle.csvw_engine_core.proofs.Going.{some_given, same_triples, same_faults, none_more}
 use Rattle.csvw_engine_core.proofs.Headers.{below_needed}
@@ -40,18 +40,19 @@ short_data plan given h = drop_all (header_count plan) given (below_needed (head
 module _ {S : Type 0} (gains : S → List Triple → S → Type 0) (is_open : S → Bool) (failed : S → ℕ)
     (stays : (s : S) → gains s [] s) (goes_on : (a b c : S) (xs ys : List Triple) → gains a xs b → gains b ys c → gains a (xs ++ ys) c)
     (plan : TablePlan) (mode : Mode) (bytes : List ℕ) (given : List Given) (rows : List Row) (old : Table) (before now : Outlets S) where
-  -- a halt in front of the end
-  pub ends_wrong : (new : Table) (reason : Halt) → TableOutcome gains is_open failed plan mode bytes true given rows old new before now (Err reason)
+  -- a stop in front of the end
+  pub ends_wrong : (new : Table) (reason : Stop) → TableOutcome gains is_open failed plan mode bytes true given rows old new before now (Err reason)
       → EndOutcome gains is_open failed plan mode bytes given rows old new before now (Err reason)
-  ends_wrong new halt.Memory h = h
-  ends_wrong new halt.Write h = h
-  ends_wrong new (halt.Rows row stop) h = h
-  ends_wrong new (halt.Table row stop) h = (
+  ends_wrong new stop.Memory h = h
+  ends_wrong new stop.Write h = h
+  ends_wrong new (stop.Rows table row reason) h = h
+  ends_wrong new (stop.Table table row reason) h = (
     record { raws = h.0.raws; more = h.0.more; columns = h.0.columns; faults = h.0.faults; table = h.0.table; why = inl h.0.why; took = h.0.took },
     h.1,
   )
+  ends_wrong new other h = absurd h
 
-  pub end_err : (new : Table) (r : Result Unit Halt) (e f : Halt) → r ≡ Err e → e ≡ f
+  pub end_err : (new : Table) (r : Result Unit Stop) (e f : Stop) → r ≡ Err e → e ≡ f
       → EndOutcome gains is_open failed plan mode bytes given rows old new before now (Err f)
       → EndOutcome gains is_open failed plan mode bytes given rows old new before now r
   end_err new r e f p q so = subst (EndOutcome gains is_open failed plan mode bytes given rows old new before now) (sym (p ∙ ap Err q)) so
@@ -127,14 +128,12 @@ module _ {S : Type 0} (gains : S → List Triple → S → Type 0) (is_open : S 
           }
 
       -- or is refused
-      settle_ends : GivenFirst → IsAsReady is_open failed before.sink now.sink → (new : Table) (r : Result Unit Halt) → SettlesHead plan mid new r
+      settle_ends : GivenFirst → IsAsReady is_open failed before.sink now.sink → (new : Table) (r : Result Unit Stop) → SettlesHead plan mid new r
           → EndOutcome gains is_open failed plan mode bytes given rows old new before now r
       settle_ends law ready new (Ok u) (same, settled) = (settled_end new same settled, ready)
-      settle_ends law ready new (Err halt.Memory) s =
+      settle_ends law ready new (Err stop.Memory) s =
           (some_given gains is_open failed stays goes_on plan mode bytes true given rows old before law mid now g, ready)
-      settle_ends law ready new (Err halt.Write) s = absurd s.1
-      settle_ends law ready new (Err (halt.Rows row stop)) s = absurd s.1
-      settle_ends law ready new (Err (halt.Table row stop)) (_, (gives_none, source)) = (
+      settle_ends law ready new (Err (stop.Table table row reason)) (_, (_, gives_none, source)) = (
         record {
           raws = g.raws;
           more = g.more;
@@ -146,8 +145,8 @@ module _ {S : Type 0} (gains : S → List Triple → S → Type 0) (is_open : S 
             none,
             record {
               short = short;
-              refused = subst (λ z. GivesNone plan z (first_width (header_count plan) (given ++ g.raws)) stop) (sym heads_all)
-                  (subst (λ w. GivesNone plan mid.head.rows w stop) (sym (short_width (header_count plan) (given ++ g.raws) short)) gives_none);
+              refused = subst (λ z. GivesNone plan z (first_width (header_count plan) (given ++ g.raws)) reason) (sym heads_all)
+                  (subst (λ w. GivesNone plan mid.head.rows w reason) (sym (short_width (header_count plan) (given ++ g.raws) short)) gives_none);
               row_is = source ∙ (ap (λ z. source_of z 0) (g.holds.head.waits none) ∙ first_at_end (given ++ g.raws));
             },
           );
@@ -155,8 +154,9 @@ module _ {S : Type 0} (gains : S → List Triple → S → Type 0) (is_open : S 
         },
         ready,
       )
+      settle_ends law ready new (Err other) s = absurd s.1
 
-    pub ends : GivenFirst → IsAsReady is_open failed before.sink now.sink → (new : Table) (r : Result Unit Halt) → SettlesTable plan mid new r
+    pub ends : GivenFirst → IsAsReady is_open failed before.sink now.sink → (new : Table) (r : Result Unit Stop) → SettlesTable plan mid new r
         → EndOutcome gains is_open failed plan mode bytes given rows old new before now r
     ends law ready new r (inl (columns, known, same, ok)) =
         subst (EndOutcome gains is_open failed plan mode bytes given rows old new before now) (sym ok)

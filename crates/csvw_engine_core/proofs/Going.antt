@@ -19,10 +19,10 @@ use Rattle.csvw_triples_core.specs.declared.term.Triple.{Triple}
 use Rattle.csvw_triples.specs.ModeTriples.{row_triples}
 use Rattle.csvw_engine_core.specs.Annotated.{IsTable, HasRows}
 use Rattle.csvw_engine_core.specs.Faults.{row_faults, table_faults}
-use Rattle.csvw_engine_core.specs.Tables.{max_rows, TableHolds, KeepsColumns, Keeps, Goes, HaltsSo, IsStopped, IsRefused, IsAtRest, Gives, Gone}
+use Rattle.csvw_engine_core.specs.Tables.{max_rows, TableHolds, KeepsColumns, Keeps, Goes, StopsSo, IsStopped, IsRefused, IsAtRest, Gives, Gone}
 use Rattle.csvw_engine_core.specs.Tables.{GivesAll, GivesSome, GivesFront, TableOutcome, Outlets, AddsRows, table_triples}
-use Rattle.csvw_engine_core.specs.declared.halt.Halt.{Halt}
-use Rattle.csvw_engine_core.specs.declared.halt.Halt.TheVariants as halt
+use Rattle.csvw_engine_core.specs.declared.stop.Stop.{Stop}
+use Rattle.csvw_engine_core.specs.declared.stop.Stop.TheVariants as stop
 use Rattle.csvw_engine_core.specs.declared.table.Table.{Table}
 
 pub no_triples : (mode : Mode) (t : ℕ) (columns : Option Columns) → table_triples mode t columns [] ≡ []
@@ -269,42 +269,41 @@ module _ {S : Type 0} (gains : S → List Triple → S → Type 0) (is_open : S 
       took = g.took;
     }
 
-    -- a halt in the text
-    pub text_halts : GivenFirst → (t new : Table) (now : Outlets S) (reason : Halt) → HaltsSo plan t reason → IsAsReady is_open failed start.sink now.sink
+    -- a stop in the text
+    pub text_stops : GivenFirst → (t new : Table) (now : Outlets S) (reason : Stop) → StopsSo plan t reason → IsAsReady is_open failed start.sink now.sink
         → Gone gains plan mode bytes ended given rows first t start now
         → TableOutcome gains is_open failed plan mode bytes ended given rows first new start now (Err reason)
-    text_halts law t new now halt.Memory so ready g = (some_given law t now g, ready)
-    text_halts law t new now halt.Write so ready g = absurd so
-    text_halts law t new now (halt.Rows row stop) so ready g =
-        (all_given t now (λ columns all. IsStopped plan bytes ended all row stop) g (so mode bytes ended (given ++ g.raws) (rows ++ g.more) g.holds), ready)
-    text_halts law t new now (halt.Table row stop) so ready g = (
-      all_given t now (λ columns all. IsRefused plan columns bytes ended all row stop) g
+    text_stops law t new now stop.Memory so ready g = (some_given law t now g, ready)
+    text_stops law t new now (stop.Rows table row reason) (_, so) ready g =
+        (all_given t now (λ columns all. IsStopped plan bytes ended all row reason) g (so mode bytes ended (given ++ g.raws) (rows ++ g.more) g.holds), ready)
+    text_stops law t new now (stop.Table table row reason) (_, so) ready g = (
+      all_given t now (λ columns all. IsRefused plan columns bytes ended all row reason) g
           (so mode bytes ended (given ++ g.raws) (rows ++ g.more) g.holds),
       ready,
     )
+    text_stops law t new now other so ready g = absurd so
 
     ready_on : (a b c : Outlets S) → IsAsReady is_open failed a.sink b.sink → IsAsReady is_open failed b.sink c.sink → IsAsReady is_open failed a.sink c.sink
     ready_on a b c f g = (g.0 ∙ f.0, g.1 ∙ f.1)
 
-    -- a halt at the sink
-    pub sink_halts : GivenFirst → (old mid new : Table) (now after : Outlets S) (row : Row) (reason : Halt) → Keeps old mid
+    -- a stop at the sink
+    pub sink_stops : GivenFirst → (old mid new : Table) (now after : Outlets S) (row : Row) (reason : Stop) → Keeps old mid
         → Goes plan old mid (λ r. r ++ row ∷ []) → new ≡ record mid { faults = new.faults }
         → Gives gains is_open failed (table_triples new.mode new.number new.head.columns (row ∷ [])) now.sink after.sink (Err reason)
         → IsAsReady is_open failed start.sink now.sink
         → Gone gains plan mode bytes ended given rows first old start now
         → TableOutcome gains is_open failed plan mode bytes ended given rows first new start after (Err reason)
-    sink_halts law old mid new now after row halt.Memory keeps goes same gave ready g =
+    sink_stops law old mid new now after row stop.Memory keeps goes same gave ready g =
         (row_cut law old mid new now after row keeps goes same gave.0 g, ready_on start now after ready gave.1)
-    sink_halts law old mid new now after row halt.Write keeps goes same gave ready g = (
+    sink_stops law old mid new now after row stop.Write keeps goes same gave ready g = (
       row_cut law old mid new now after row keeps goes same gave.0 g,
       λ is_ready room. gave.1 (ready.0 ∙ is_ready) (rw ready.1 room)
           ∙ ap (λ n. n + 1) ready.1,
     )
-    sink_halts law old mid new now after row (halt.Rows at stop) keeps goes same gave ready g = absurd gave
-    sink_halts law old mid new now after row (halt.Table at stop) keeps goes same gave ready g = absurd gave
+    sink_stops law old mid new now after row other keeps goes same gave ready g = absurd gave
 
-    -- an answer that tells a halt
-    pub outcome_err : (new : Table) (now : Outlets S) (r : Result Unit Halt) (e f : Halt) → r ≡ Err e → e ≡ f
+    -- an answer that tells a stop
+    pub outcome_err : (new : Table) (now : Outlets S) (r : Result Unit Stop) (e f : Stop) → r ≡ Err e → e ≡ f
         → TableOutcome gains is_open failed plan mode bytes ended given rows first new start now (Err f)
         → TableOutcome gains is_open failed plan mode bytes ended given rows first new start now r
     outcome_err new now r e f p q so = subst (TableOutcome gains is_open failed plan mode bytes ended given rows first new start now) (sym (p ∙ ap Err q)) so

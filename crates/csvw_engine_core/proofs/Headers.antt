@@ -9,8 +9,8 @@ use Rattle.csvw_columns.specs.HeaderMatch.{IsMatch}
 use Rattle.csvw_columns.specs.declared.plan.TablePlan.{TablePlan}
 use Rattle.csvw_engine_core.specs.Annotated.{header_count, header_row, header_rows, first_width, first_source, source_of, needed, Heads, IsHead, GivesNone}
 use Rattle.csvw_engine_core.specs.Heads.{HeadHolds, Settled, Settles, TakesHeader}
-use Rattle.csvw_engine_core.specs.declared.halt.Halt.{Halt}
-use Rattle.csvw_engine_core.specs.declared.halt.Halt.TheVariants as halt
+use Rattle.csvw_engine_core.specs.declared.stop.Stop.{Stop}
+use Rattle.csvw_engine_core.specs.declared.stop.Stop.TheVariants as stop
 use Rattle.csvw_engine_core.specs.declared.head.Head.{Head}
 
 pub length_more : {X : Type 0} (xs : List X) (x : X) → length (xs ++ x ∷ []) ≡ length xs + 1
@@ -103,21 +103,23 @@ first_of_rows [] raw = refl
 first_of_rows (g ∷ given) raw = refl
 
 -- the last header row, and what came of the header
-pub takes_last : (plan : TablePlan) (raw : Given) (old mid new : Head) (r : Result Unit Halt) → mid.rows ≡ old.rows ++ header_row raw ∷ []
+pub takes_last : (plan : TablePlan) (raw : Given) (old mid new : Head) (r : Result Unit Stop) → mid.rows ≡ old.rows ++ header_row raw ∷ []
     → length mid.rows ≡ header_count plan
     → Settles plan None 0 mid new r → TakesHeader plan raw old new r
 takes_last plan raw old mid new (Ok u) rows whole s = λ given h none some. head_settles plan given raw old mid new h none some rows whole s
-takes_last plan raw old mid new (Err halt.Memory) rows whole s = tt
-takes_last plan raw old mid new (Err halt.Write) rows whole s = absurd s
-takes_last plan raw old mid new (Err (halt.Rows row stop)) rows whole s = absurd s
-takes_last plan raw old mid new (Err (halt.Table row stop)) rows whole s = λ given h none some.
-    let all : mid.rows ≡ map header_row (given ++ raw ∷ []) = rows ∙ ap (λ z. z ++ header_row raw ∷ []) (h.waits none)
-    ∙ sym (map-append header_row given (raw ∷ [])) in
-    let many : length (given ++ raw ∷ []) ≡ header_count plan = sym (length-map (given ++ raw ∷ []) header_row) ∙ sym (ap length all) ∙ whole in
-    let front : header_rows plan (given ++ raw ∷ []) ≡ mid.rows =
-    ap (map header_row) (take_all (header_count plan) (given ++ raw ∷ []) (let m = many in omega arith)) ∙ sym all in (
-      sym (length_more given raw) ∙ many,
-      subst (λ z. GivesNone plan z (first_width (header_count plan) (given ++ raw ∷ [])) stop) (sym front)
-          (subst (λ w. GivesNone plan mid.rows w stop) (sym (width_none (header_count plan) (given ++ raw ∷ []) some)) s.0),
-      s.1 ∙ (ap (λ z. source_of z 0) all ∙ first_of_rows given raw),
-    )
+takes_last plan raw old mid new (Err stop.Memory) rows whole s = tt
+takes_last plan raw old mid new (Err (stop.Table table row reason)) rows whole (own, gives_none, source) = (
+  own,
+  λ given h none some.
+      let all : mid.rows ≡ map header_row (given ++ raw ∷ []) = rows ∙ ap (λ z. z ++ header_row raw ∷ []) (h.waits none)
+      ∙ sym (map-append header_row given (raw ∷ [])) in
+      let many : length (given ++ raw ∷ []) ≡ header_count plan = sym (length-map (given ++ raw ∷ []) header_row) ∙ sym (ap length all) ∙ whole in
+      let front : header_rows plan (given ++ raw ∷ []) ≡ mid.rows =
+      ap (map header_row) (take_all (header_count plan) (given ++ raw ∷ []) (let m = many in omega arith)) ∙ sym all in (
+        sym (length_more given raw) ∙ many,
+        subst (λ z. GivesNone plan z (first_width (header_count plan) (given ++ raw ∷ [])) reason) (sym front)
+            (subst (λ w. GivesNone plan mid.rows w reason) (sym (width_none (header_count plan) (given ++ raw ∷ []) some)) gives_none),
+        source ∙ (ap (λ z. source_of z 0) all ∙ first_of_rows given raw),
+      ),
+)
+takes_last plan raw old mid new (Err other) rows whole s = absurd s

@@ -3,6 +3,7 @@ pub mod Faults
 pub mod Going
 pub mod Headers
 pub mod Lists
-pub mod Steps
-pub mod Sound
 pub mod Moving
+pub mod Own
+pub mod Sound
+pub mod Steps

@@ -12,10 +12,10 @@ use Rattle.csvw_annotate.specs.declared.row.Row.{Row}
 use Rattle.csvw_triples_core.specs.declared.mode.Mode.{Mode}
 use Rattle.csvw_triples_core.specs.declared.term.Triple.{Triple}
 use Rattle.csvw_engine_core.specs.Annotated.{IsHead, HasRows}
-use Rattle.csvw_engine_core.specs.Halts.{of_row_stop}
+use Rattle.csvw_engine_core.specs.Stops.{of_row_stop}
 use Rattle.csvw_engine_core.specs.Tables.{max_rows, Outlets, TableHolds, TableOutcome, EndOutcome}
-use Rattle.csvw_engine_core.specs.declared.halt.Halt.{Halt}
-use Rattle.csvw_engine_core.specs.declared.halt.Halt.TheVariants as halt
+use Rattle.csvw_engine_core.specs.declared.stop.Stop.{Stop}
+use Rattle.csvw_engine_core.specs.declared.stop.Stop.TheVariants as stop
 use Rattle.csvw_engine_core.specs.declared.table.Table.{Table}
 use Rattle.csvw_engine_core.proofs.Going.{no_triples}
 
@@ -36,10 +36,10 @@ holds_moved plan mode t rows bytes more ended closed given annotated move h = re
 pub unfed : {S : Type 0} (gains : S → List Triple → S → Type 0) (is_open : S → Bool) (failed : S → ℕ) (stays : (s : S) → gains s [] s) (law : GivenFirstLater)
     (plan : TablePlan) (mode : Mode) (t new : Table) (bytes piece : List ℕ) (given : List Given) (rows : List Row) (s : Outlets S) (stop : RowStop) (row : ℕ)
     → (stop_of t.rows ≡ Some stop) ⊎ (stop ≡ row_stop.Memory) → TableHolds plan mode t bytes false given rows
-    → TableOutcome gains is_open failed plan mode (bytes ++ piece) false given rows t new s s (Err (of_row_stop row stop))
+    → TableOutcome gains is_open failed plan mode (bytes ++ piece) false given rows t new s s (Err (of_row_stop plan.number row stop))
 unfed gains is_open failed stays law plan mode t new bytes piece given rows s stop row (inl e) h = let wrong : None ≡ Some stop = sym h.reader.no_stop ∙ e in cc
 unfed gains is_open failed stays law plan mode t new bytes piece given rows s stop row (inr e) h =
-    subst (λ z. TableOutcome gains is_open failed plan mode (bytes ++ piece) false given rows t new s s (Err (of_row_stop row z))) (sym e) (
+    subst (λ z. TableOutcome gains is_open failed plan mode (bytes ++ piece) false given rows t new s s (Err (of_row_stop plan.number row z))) (sym e) (
       record {
         raws = [];
         more = [];
@@ -65,7 +65,7 @@ unfed gains is_open failed stays law plan mode t new bytes piece given rows s st
 -- what a call leaves of the table that took more of its text
 pub outcome_moved : {S : Type 0} (gains : S → List Triple → S → Type 0) (is_open : S → Bool) (failed : S → ℕ) (plan : TablePlan) (mode : Mode)
     (bytes : List ℕ) (ended : Bool) (given : List Given) (annotated : List Row)
-    (t new : Table) (rows : Rows) (before now : Outlets S) (r : Result Unit Halt)
+    (t new : Table) (rows : Rows) (before now : Outlets S) (r : Result Unit Stop)
     → TableOutcome gains is_open failed plan mode bytes ended given annotated (record t { rows = rows }) new before now r
     → TableOutcome gains is_open failed plan mode bytes ended given annotated t new before now r
 outcome_moved gains is_open failed plan mode bytes ended given annotated t new rows before now (Ok u) h = (
@@ -83,19 +83,21 @@ outcome_moved gains is_open failed plan mode bytes ended given annotated t new r
   },
   h.1,
 )
-outcome_moved gains is_open failed plan mode bytes ended given annotated t new rows before now (Err halt.Memory) h = h
-outcome_moved gains is_open failed plan mode bytes ended given annotated t new rows before now (Err halt.Write) h = h
-outcome_moved gains is_open failed plan mode bytes ended given annotated t new rows before now (Err (halt.Rows row stop)) h = h
-outcome_moved gains is_open failed plan mode bytes ended given annotated t new rows before now (Err (halt.Table row stop)) h = h
+outcome_moved gains is_open failed plan mode bytes ended given annotated t new rows before now (Err stop.Memory) h = h
+outcome_moved gains is_open failed plan mode bytes ended given annotated t new rows before now (Err stop.Write) h = h
+outcome_moved gains is_open failed plan mode bytes ended given annotated t new rows before now (Err (stop.Rows table row reason)) h = h
+outcome_moved gains is_open failed plan mode bytes ended given annotated t new rows before now (Err (stop.Table table row reason)) h = h
+outcome_moved gains is_open failed plan mode bytes ended given annotated t new rows before now (Err other) h = absurd h
 
 pub end_moved : {S : Type 0} (gains : S → List Triple → S → Type 0) (is_open : S → Bool) (failed : S → ℕ) (plan : TablePlan) (mode : Mode)
     (bytes : List ℕ) (given : List Given) (annotated : List Row)
-    (t new : Table) (rows : Rows) (before now : Outlets S) (r : Result Unit Halt)
+    (t new : Table) (rows : Rows) (before now : Outlets S) (r : Result Unit Stop)
     → EndOutcome gains is_open failed plan mode bytes given annotated (record t { rows = rows }) new before now r
     → EndOutcome gains is_open failed plan mode bytes given annotated t new before now r
 end_moved gains is_open failed plan mode bytes given annotated t new rows before now (Ok u) h =
     (record { more = h.0.more; holds = h.0.holds; took = h.0.took; kept = h.0.kept; told = h.0.told; keeps = h.0.keeps }, h.1)
-end_moved gains is_open failed plan mode bytes given annotated t new rows before now (Err halt.Memory) h = h
-end_moved gains is_open failed plan mode bytes given annotated t new rows before now (Err halt.Write) h = h
-end_moved gains is_open failed plan mode bytes given annotated t new rows before now (Err (halt.Rows row stop)) h = h
-end_moved gains is_open failed plan mode bytes given annotated t new rows before now (Err (halt.Table row stop)) h = h
+end_moved gains is_open failed plan mode bytes given annotated t new rows before now (Err stop.Memory) h = h
+end_moved gains is_open failed plan mode bytes given annotated t new rows before now (Err stop.Write) h = h
+end_moved gains is_open failed plan mode bytes given annotated t new rows before now (Err (stop.Rows table row reason)) h = h
+end_moved gains is_open failed plan mode bytes given annotated t new rows before now (Err (stop.Table table row reason)) h = h
+end_moved gains is_open failed plan mode bytes given annotated t new rows before now (Err other) h = absurd h

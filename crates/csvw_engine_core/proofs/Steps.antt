@@ -22,13 +22,13 @@ use Rattle.csvw_columns_core.specs.declared.column.Column.{Column}
 use Rattle.csvw_annotate.specs.declared.row.Row.{Row}
 use Rattle.csvw_engine_core.specs.Annotated.{header_count, header_row, data_rows, first_width, first_source, source_of, needed, Heads, IsHead}
 use Rattle.csvw_engine_core.specs.Annotated.{HasRows, AreAnnotated, RefusesHeader, Refuses, GivesNone}
-use Rattle.csvw_engine_core.specs.Halts.{of_row_stop}
+use Rattle.csvw_engine_core.specs.Stops.{of_row_stop}
 use Rattle.csvw_engine_core.specs.Heads.{HeadHolds, IsNewHead, Settled, Settles, TakesHeader}
-use Rattle.csvw_engine_core.specs.Tables.{max_rows, TableHolds, IsAtRest, IsStopped, IsRefused, HaltsSo, Goes, Keeps, RowFits, Steps, is_ended}
+use Rattle.csvw_engine_core.specs.Tables.{max_rows, TableHolds, IsAtRest, IsStopped, IsRefused, StopsSo, Goes, Keeps, RowFits, Steps, is_ended}
 use Rattle.csvw_engine_core.specs.Stepping.{AnnotatesRow, BeginsWrong, Begins}
 use Rattle.csvw_engine_core.specs.declared.step.Step.TheVariants as step
-use Rattle.csvw_engine_core.specs.declared.halt.Halt.{Halt}
-use Rattle.csvw_engine_core.specs.declared.halt.Halt.TheVariants as halt
+use Rattle.csvw_engine_core.specs.declared.stop.Stop.{Stop}
+use Rattle.csvw_engine_core.specs.declared.stop.Stop.TheVariants as stop
 use Rattle.csvw_engine_core.specs.declared.head.Head.{Head}
 use Rattle.csvw_engine_core.specs.declared.table.Table.{Table}
 use Rattle.csvw_engine_core.specs.declared.step.Step.{Step}
@@ -86,9 +86,9 @@ pub row_fits : FormsLaw → (columns : Option Columns) (known : Columns) (row : 
     → RowFits columns row
 row_fits forms columns known row raw e is = subst (λ z. RowFits z row) (sym e) (row_cells_fit known raw row is, forms known raw row is)
 
-pub step_halts : (plan : TablePlan) (old new : Table) (r : Result Step Halt) (e f : Halt) → r ≡ Err e → e ≡ f → is_ended new ≡ is_ended old
-    → HaltsSo plan old f → Steps plan old new r
-step_halts plan old new r e f p q ended so = subst (Steps plan old new) (sym (p ∙ ap Err q)) (ended, so)
+pub step_stops : (plan : TablePlan) (old new : Table) (r : Result Step Stop) (e f : Stop) → r ≡ Err e → e ≡ f → is_ended new ≡ is_ended old
+    → StopsSo plan old f → Steps plan old new r
+step_stops plan old new r e f p q ended so = subst (Steps plan old new) (sym (p ∙ ap Err q)) (ended, so)
 
 no_rows : (given : List Given) → length given < 1 → given ≡ []
 no_rows [] h = refl
@@ -200,14 +200,14 @@ stopped : (plan : TablePlan) (old : Table) (stop : RowStop) (row : ℕ) → Rows
 stopped plan old stop row is none mode bytes ended given rows h =
     let k = is none plan.dialect max_rows bytes ended given h.reader in record { all = k.0; stops = k.1 }
 
-pub records_stopped : (plan : TablePlan) (old : Table) (stop : RowStop) (row : ℕ) → RowsStopped old.rows stop row → HaltsSo plan old (of_row_stop row stop)
+pub records_stopped : (plan : TablePlan) (old : Table) (stop : RowStop) (row : ℕ) → RowsStopped old.rows stop row → StopsSo plan old (of_row_stop plan.number row stop)
 records_stopped plan old row_stop.Memory row is = tt
-records_stopped plan old row_stop.NotUtf8 row is = stopped plan old row_stop.NotUtf8 row is (λ e. cc)
-records_stopped plan old row_stop.RowTooLong row is = stopped plan old row_stop.RowTooLong row is (λ e. cc)
-records_stopped plan old row_stop.BadQuote row is = stopped plan old row_stop.BadQuote row is (λ e. cc)
-records_stopped plan old row_stop.TextAfterQuote row is = stopped plan old row_stop.TextAfterQuote row is (λ e. cc)
-records_stopped plan old row_stop.UnclosedQuote row is = stopped plan old row_stop.UnclosedQuote row is (λ e. cc)
-records_stopped plan old row_stop.TooManyRows row is = stopped plan old row_stop.TooManyRows row is (λ e. cc)
+records_stopped plan old row_stop.NotUtf8 row is = (refl, stopped plan old row_stop.NotUtf8 row is (λ e. cc))
+records_stopped plan old row_stop.RowTooLong row is = (refl, stopped plan old row_stop.RowTooLong row is (λ e. cc))
+records_stopped plan old row_stop.BadQuote row is = (refl, stopped plan old row_stop.BadQuote row is (λ e. cc))
+records_stopped plan old row_stop.TextAfterQuote row is = (refl, stopped plan old row_stop.TextAfterQuote row is (λ e. cc))
+records_stopped plan old row_stop.UnclosedQuote row is = (refl, stopped plan old row_stop.UnclosedQuote row is (λ e. cc))
+records_stopped plan old row_stop.TooManyRows row is = (refl, stopped plan old row_stop.TooManyRows row is (λ e. cc))
 
 -- a row that the table refuses
 module _ (plan : TablePlan) (old : Table) (new : Rows) (raw : Given) (gives : GivesRow old.rows new raw) (law : GivenFirst) where
@@ -221,23 +221,26 @@ module _ (plan : TablePlan) (old : Table) (new : Rows) (raw : Given) (gives : Gi
   }
 
   -- a data row
-  pub row_refused : (columns : Columns) (reason : Halt) → old.head.columns ≡ Some columns → AnnotatesRow columns raw (Err reason) → HaltsSo plan old reason
-  row_refused columns halt.Memory known refusal = tt
-  row_refused columns halt.Write known refusal = absurd refusal
-  row_refused columns (halt.Rows row stop) known refusal = absurd refusal
-  row_refused columns (halt.Table row stop) known refusal = λ mode bytes ended given rows h.
-      refused mode bytes ended given rows row stop (subst (λ z. Refuses plan given z raw row stop) (sym known) refusal) h
+  pub row_refused : (columns : Columns) (reason : Stop) → old.head.columns ≡ Some columns → AnnotatesRow plan columns raw (Err reason) → StopsSo plan old reason
+  row_refused columns stop.Memory known refusal = tt
+  row_refused columns (stop.Table table row reason) known (own, refusal) = (
+    own,
+    λ mode bytes ended given rows h. refused mode bytes ended given rows row reason (subst (λ z. Refuses plan given z raw row reason) (sym known) refusal) h,
+  )
+  row_refused columns other known refusal = absurd refusal
 
   -- the last header row
-  pub header_refused : (head : Head) (reason : Halt) → old.head.columns ≡ None → 0 < header_count plan
-      → TakesHeader plan raw old.head head (Err reason) → HaltsSo plan old reason
-  header_refused head halt.Memory none some refusal = tt
-  header_refused head halt.Write none some refusal = absurd refusal
-  header_refused head (halt.Rows row stop) none some refusal = absurd refusal
-  header_refused head (halt.Table row stop) none some refusal = λ mode bytes ended given rows h.
-      let k = refusal given h.head none some in
-      refused mode bytes ended given rows row stop
-      (subst (λ z. Refuses plan given z raw row stop) (sym none) (k.0 ∙ sym (needed_is (header_count plan) some), inl (k.1, k.2))) h
+  pub header_refused : (head : Head) (reason : Stop) → old.head.columns ≡ None → 0 < header_count plan
+      → TakesHeader plan raw old.head head (Err reason) → StopsSo plan old reason
+  header_refused head stop.Memory none some refusal = tt
+  header_refused head (stop.Table table row reason) none some (own, refusal) = (
+    own,
+    λ mode bytes ended given rows h.
+        let k = refusal given h.head none some in
+        refused mode bytes ended given rows row reason
+        (subst (λ z. Refuses plan given z raw row reason) (sym none) (k.0 ∙ sym (needed_is (header_count plan) some), inl (k.1, k.2))) h,
+  )
+  header_refused head other none some refusal = absurd refusal
 
   first_given : (given : List Given) → header_count plan ≡ 0 → HeadHolds plan old.head given → old.head.columns ≡ None → (given ≡ []) × (old.head.rows ≡ [])
   first_given given without h none =
@@ -246,38 +249,42 @@ module _ (plan : TablePlan) (old : Table) (new : Rows) (raw : Given) (gives : Gi
       (empty, h.waits none ∙ ap (map header_row) empty)
 
   -- the header that the first data row is, or this row
-  pub first_refused : (reason : Halt) (head : Head) → old.head.columns ≡ None → header_count plan ≡ 0
-      → Settles plan (Some (length raw.fields)) raw.source old.head head (Err reason) → HaltsSo plan old reason
-  first_refused halt.Memory head none without refusal = tt
-  first_refused halt.Write head none without refusal = absurd refusal
-  first_refused (halt.Rows row stop) head none without refusal = absurd refusal
-  first_refused (halt.Table row stop) head none without refusal = λ mode bytes ended given rows h.
-      let k = first_given given without h.head none in
-      let one : length given + 1 ≡ needed (header_count plan) = ap (λ (g : List Given). length g + 1) k.0 ∙ sym (ap needed without) in
-      let why : RefusesHeader plan (given ++ raw ∷ []) stop =
-      subst (λ g. RefusesHeader plan (g ++ raw ∷ []) stop) (sym k.0)
-      (subst (λ n. GivesNone plan (map header_row (take n (raw ∷ []))) (first_width n (raw ∷ [])) stop) (sym without)
-      (subst (λ z. GivesNone plan z (Some (length raw.fields)) stop) k.1 refusal.0)) in
-      let at : row ≡ first_source (given ++ raw ∷ []) =
-      refusal.1 ∙ (ap (λ z. source_of z raw.source) k.1 ∙ sym (ap (λ g. first_source (g ++ raw ∷ [])) k.0)) in
-      refused mode bytes ended given rows row stop (subst (λ z. Refuses plan given z raw row stop) (sym none) (one, inl (why, at))) h
+  pub first_refused : (reason : Stop) (head : Head) → old.head.columns ≡ None → header_count plan ≡ 0
+      → Settles plan (Some (length raw.fields)) raw.source old.head head (Err reason) → StopsSo plan old reason
+  first_refused stop.Memory head none without refusal = tt
+  first_refused (stop.Table table row reason) head none without (own, gives_none, source) = (
+    own,
+    λ mode bytes ended given rows h.
+        let k = first_given given without h.head none in
+        let one : length given + 1 ≡ needed (header_count plan) = ap (λ (g : List Given). length g + 1) k.0 ∙ sym (ap needed without) in
+        let why : RefusesHeader plan (given ++ raw ∷ []) reason =
+        subst (λ g. RefusesHeader plan (g ++ raw ∷ []) reason) (sym k.0)
+        (subst (λ n. GivesNone plan (map header_row (take n (raw ∷ []))) (first_width n (raw ∷ [])) reason) (sym without)
+        (subst (λ z. GivesNone plan z (Some (length raw.fields)) reason) k.1 gives_none)) in
+        let at : row ≡ first_source (given ++ raw ∷ []) =
+        source ∙ (ap (λ z. source_of z raw.source) k.1 ∙ sym (ap (λ g. first_source (g ++ raw ∷ [])) k.0)) in
+        refused mode bytes ended given rows row reason (subst (λ z. Refuses plan given z raw row reason) (sym none) (one, inl (why, at))) h,
+  )
+  first_refused other head none without refusal = absurd refusal
 
-  pub first_row_refused : (columns : Columns) (reason : Halt) (head : Head) → old.head.columns ≡ None → header_count plan ≡ 0
+  pub first_row_refused : (columns : Columns) (reason : Stop) (head : Head) → old.head.columns ≡ None → header_count plan ≡ 0
       → Settled plan (Some (length raw.fields)) old.head head → head.columns ≡ Some columns
-      → AnnotatesRow columns raw (Err reason) → HaltsSo plan old reason
-  first_row_refused columns halt.Memory head none without s known refusal = tt
-  first_row_refused columns halt.Write head none without s known refusal = absurd refusal
-  first_row_refused columns (halt.Rows row stop) head none without s known refusal = absurd refusal
-  first_row_refused columns (halt.Table row stop) head none without s known refusal = λ mode bytes ended given rows h.
-      let k = first_given given without h.head none in
-      let one : length given + 1 ≡ needed (header_count plan) = ap (λ (g : List Given). length g + 1) k.0 ∙ sym (ap needed without) in
-      let same : s.columns ≡ columns = let e : Some s.columns ≡ Some columns = sym s.is ∙ known in cc in
-      let heads : Heads plan (given ++ raw ∷ []) columns head.faults =
-      first_head_at plan 0 given raw columns head.faults without refl k.0
-      (subst (λ z. IsMatch plan z (Some (length raw.fields)) columns head.faults) k.1
-      (subst (λ z. IsMatch plan old.head.rows (Some (length raw.fields)) z head.faults) same s.gives)) in
-      refused mode bytes ended given rows row stop
-      (subst (λ z. Refuses plan given z raw row stop) (sym none) (one, inr (without, columns, head.faults, heads, refusal))) h
+      → AnnotatesRow plan columns raw (Err reason) → StopsSo plan old reason
+  first_row_refused columns stop.Memory head none without s known refusal = tt
+  first_row_refused columns (stop.Table table row reason) head none without s known (own, refusal) = (
+    own,
+    λ mode bytes ended given rows h.
+        let k = first_given given without h.head none in
+        let one : length given + 1 ≡ needed (header_count plan) = ap (λ (g : List Given). length g + 1) k.0 ∙ sym (ap needed without) in
+        let same : s.columns ≡ columns = let e : Some s.columns ≡ Some columns = sym s.is ∙ known in cc in
+        let heads : Heads plan (given ++ raw ∷ []) columns head.faults =
+        first_head_at plan 0 given raw columns head.faults without refl k.0
+        (subst (λ z. IsMatch plan z (Some (length raw.fields)) columns head.faults) k.1
+        (subst (λ z. IsMatch plan old.head.rows (Some (length raw.fields)) z head.faults) same s.gives)) in
+        refused mode bytes ended given rows row reason
+        (subst (λ z. Refuses plan given z raw row reason) (sym none) (one, inr (without, columns, head.faults, heads, refusal))) h,
+  )
+  first_row_refused columns other head none without s known refusal = absurd refusal
 
 -- the table where a row came before the columns were known
 module _ (plan : TablePlan) (old new : Table) (raw : Given) (gives : GivesRow old.rows new.rows raw) (law : GivenFirst) (forms : FormsLaw)
@@ -293,13 +300,13 @@ module _ (plan : TablePlan) (old new : Table) (raw : Given) (gives : GivesRow ol
     mode = mode;
   }
 
-  begun_wrong : (reason : Halt) → BeginsWrong plan raw old.head new.head reason → HaltsSo plan old reason
+  begun_wrong : (reason : Stop) → BeginsWrong plan raw old.head new.head reason → StopsSo plan old reason
   begun_wrong reason (inl takes) = header_refused plan old new.rows raw gives law new.head reason none takes.0 takes.1
   begun_wrong reason (inr (inl settles)) = first_refused plan old new.rows raw gives law reason new.head none settles.0 settles.1
   begun_wrong reason (inr (inr first)) =
       first_row_refused plan old new.rows raw gives law first.columns reason new.head none first.without first.settled first.known first.annotates
 
-  pub begun : (r : Result Step Halt) → Begins plan raw old.head new.head r → Steps plan old new r
+  pub begun : (r : Result Step Stop) → Begins plan raw old.head new.head r → Steps plan old new r
   begun (Ok (step.Row row)) b = (
     kept,
     less,

@@ -5,8 +5,8 @@ use Rattle.csvw_columns_core.specs.declared.columns.Columns.{Columns}
 use Rattle.csvw_columns.specs.declared.plan.TablePlan.{TablePlan}
 use Rattle.csvw_columns.specs.HeaderMatch.{IsMatch}
 use Rattle.csvw_engine_core.specs.Annotated.{header_count, header_row, source_of, GivesNone, IsHead, RefusesHeader, first_source}
-use Rattle.csvw_engine_core.specs.declared.halt.Halt.{Halt}
-use Rattle.csvw_engine_core.specs.declared.halt.Halt.TheVariants as halt
+use Rattle.csvw_engine_core.specs.declared.stop.Stop.{Stop}
+use Rattle.csvw_engine_core.specs.declared.stop.Stop.TheVariants as stop
 use Rattle.csvw_engine_core.specs.declared.head.Head.{Head}
 
 pub record IsNewHead (head : Head) : Type 0 where
@@ -26,19 +26,19 @@ pub record Settled (plan : TablePlan) (width : Option ℕ) (old new : Head) : Ty
   pub gives : IsMatch plan old.rows width columns new.faults
 
 -- after the columns were made; of want of memory nothing is said
-abbrev pub Settles : TablePlan → Option ℕ → ℕ → Head → Head → Result Unit Halt → Type 0
+abbrev pub Settles : TablePlan → Option ℕ → ℕ → Head → Head → Result Unit Stop → Type 0
 Settles plan width source old new (Ok u) = Settled plan width old new
-Settles plan width source old new (Err halt.Memory) = Unit {0}
-Settles plan width source old new (Err halt.Write) = ⊥
-Settles plan width source old new (Err (halt.Rows row stop)) = ⊥
-Settles plan width source old new (Err (halt.Table row stop)) = GivesNone plan old.rows width stop × (row ≡ source_of old.rows source)
+Settles plan width source old new (Err stop.Memory) = Unit {0}
+Settles plan width source old new (Err (stop.Table table row reason)) =
+    (table ≡ plan.number) × GivesNone plan old.rows width reason × (row ≡ source_of old.rows source)
+Settles plan width source old new (Err other) = ⊥
 
 -- after a header row
-abbrev pub TakesHeader : TablePlan → Given → Head → Head → Result Unit Halt → Type 0
+abbrev pub TakesHeader : TablePlan → Given → Head → Head → Result Unit Stop → Type 0
 TakesHeader plan raw old new (Ok u) = (given : List Given) → HeadHolds plan old given → old.columns ≡ None → 0 < header_count plan
     → HeadHolds plan new (given ++ raw ∷ [])
-TakesHeader plan raw old new (Err halt.Memory) = Unit {0}
-TakesHeader plan raw old new (Err halt.Write) = ⊥
-TakesHeader plan raw old new (Err (halt.Rows row stop)) = ⊥
-TakesHeader plan raw old new (Err (halt.Table row stop)) = (given : List Given) → HeadHolds plan old given → old.columns ≡ None → 0 < header_count plan
-    → (length given + 1 ≡ header_count plan) × RefusesHeader plan (given ++ raw ∷ []) stop × (row ≡ first_source (given ++ raw ∷ []))
+TakesHeader plan raw old new (Err stop.Memory) = Unit {0}
+TakesHeader plan raw old new (Err (stop.Table table row reason)) = (table ≡ plan.number)
+    × ((given : List Given) → HeadHolds plan old given → old.columns ≡ None → 0 < header_count plan
+    → (length given + 1 ≡ header_count plan) × RefusesHeader plan (given ++ raw ∷ []) reason × (row ≡ first_source (given ++ raw ∷ [])))
+TakesHeader plan raw old new (Err other) = ⊥

@@ -23,8 +23,8 @@ use Rattle.csvw_triples.specs.ModeTriples.{row_triples}
 use Rattle.csvw_engine_core.specs.Annotated.{IsTable, IsWholeTable, HasRows, Refuses, RefusesEnd}
 use Rattle.csvw_engine_core.specs.Faults.{table_faults}
 use Rattle.csvw_engine_core.specs.Heads.{HeadHolds, Settles}
-use Rattle.csvw_engine_core.specs.declared.halt.Halt.{Halt}
-use Rattle.csvw_engine_core.specs.declared.halt.Halt.TheVariants as halt
+use Rattle.csvw_engine_core.specs.declared.stop.Stop.{Stop}
+use Rattle.csvw_engine_core.specs.declared.stop.Stop.TheVariants as stop
 use Rattle.csvw_engine_core.specs.declared.step.Step.{Step}
 use Rattle.csvw_engine_core.specs.declared.step.Step.TheVariants as step
 use Rattle.csvw_engine_core.specs.declared.table.Table.{Table}
@@ -87,16 +87,16 @@ pub record IsRefused (plan : TablePlan) (columns : Option Columns) (bytes : List
   pub first : AreFirst plan.dialect max_rows bytes ended (given ++ raw ∷ [])
   pub refuses : Refuses plan given columns raw row stop
 
--- why a table halts in its text
-abbrev pub HaltsSo : TablePlan → Table → Halt → Type 0
-HaltsSo plan t halt.Memory = Unit {0}
-HaltsSo plan t halt.Write = ⊥
-HaltsSo plan t (halt.Rows row stop) = (mode : Mode) (bytes : List ℕ) (ended : Bool) (given : List Given) (rows : List Row)
-    → TableHolds plan mode t bytes ended given rows
-    → IsStopped plan bytes ended given row stop
-HaltsSo plan t (halt.Table row stop) = (mode : Mode) (bytes : List ℕ) (ended : Bool) (given : List Given) (rows : List Row)
-    → TableHolds plan mode t bytes ended given rows
-    → IsRefused plan t.head.columns bytes ended given row stop
+-- why a table stops in its text
+abbrev pub StopsSo : TablePlan → Table → Stop → Type 0
+StopsSo plan t stop.Memory = Unit {0}
+StopsSo plan t (stop.Rows table row reason) = (table ≡ plan.number)
+    × ((mode : Mode) (bytes : List ℕ) (ended : Bool) (given : List Given) (rows : List Row) → TableHolds plan mode t bytes ended given rows
+    → IsStopped plan bytes ended given row reason)
+StopsSo plan t (stop.Table table row reason) = (table ≡ plan.number)
+    × ((mode : Mode) (bytes : List ℕ) (ended : Bool) (given : List Given) (rows : List Row) → TableHolds plan mode t bytes ended given rows
+    → IsRefused plan t.head.columns bytes ended given row reason)
+StopsSo plan t other = ⊥
 
 -- what is the same after each step
 pub record Keeps (old new : Table) : Type 0 where
@@ -106,15 +106,15 @@ pub record Keeps (old new : Table) : Type 0 where
   pub number : new.number ≡ old.number
   pub mode : new.mode ≡ old.mode
 
--- A step gives one row more, takes a header row, finds nothing, or halts. It makes what is unread less, or ends the search.
-abbrev pub Steps : TablePlan → Table → Table → Result Step Halt → Type 0
+-- A step gives one row more, takes a header row, finds nothing, or stops. It makes what is unread less, or ends the search.
+abbrev pub Steps : TablePlan → Table → Table → Result Step Stop → Type 0
 Steps plan old new (Ok (step.Row row)) = Keeps old new × (unread new.rows < unread old.rows) × RowFits new.head.columns row
     × Goes plan old new (λ rows. rows ++ row ∷ [])
 Steps plan old new (Ok step.Header) = Keeps old new × (unread new.rows < unread old.rows) × Goes plan old new (λ rows. rows)
 Steps plan old new (Ok step.Nothing) = Keeps old new
     × ((mode : Mode) (bytes : List ℕ) (ended : Bool) (given : List Given) (rows : List Row) → TableHolds plan mode old bytes ended given rows
     → TableHolds plan mode new bytes ended given rows × IsAtRest plan bytes ended given)
-Steps plan old new (Err reason) = (is_ended new ≡ is_ended old) × HaltsSo plan old reason
+Steps plan old new (Err reason) = (is_ended new ≡ is_ended old) × StopsSo plan old reason
 
 -- the triples of rows of a table, of which there are none without columns
 abbrev pub table_triples : Mode → ℕ → Option Columns → List Row → List Triple
@@ -122,13 +122,12 @@ table_triples mode t None rows = []
 table_triples mode t (Some columns) rows = flat_map (row_triples mode t columns) rows
 
 -- after a row was given to the sink, and its faults were told
-abbrev pub Gives : {S : Type 0} → (S → List Triple → S → Type 0) → (S → Bool) → (S → ℕ) → List Triple → S → S → Result Unit Halt → Type 0
+abbrev pub Gives : {S : Type 0} → (S → List Triple → S → Type 0) → (S → Bool) → (S → ℕ) → List Triple → S → S → Result Unit Stop → Type 0
 Gives gains is_open failed triples old new (Ok u) = gains old triples new × IsAsReady is_open failed old new
-Gives gains is_open failed triples old new (Err halt.Memory) = FrontOf gains old triples new × IsAsReady is_open failed old new
-Gives gains is_open failed triples old new (Err halt.Write) = FrontOf gains old triples new
+Gives gains is_open failed triples old new (Err stop.Memory) = FrontOf gains old triples new × IsAsReady is_open failed old new
+Gives gains is_open failed triples old new (Err stop.Write) = FrontOf gains old triples new
     × (is_open old ≡ true → failed old < 2 ^ 64 - 1 → failed new ≡ failed old + 1)
-Gives gains is_open failed triples old new (Err (halt.Rows row stop)) = ⊥
-Gives gains is_open failed triples old new (Err (halt.Table row stop)) = ⊥
+Gives gains is_open failed triples old new (Err other) = ⊥
 
 -- what rows go to: the sink for their triples, and the book for their keys
 pub record Outlets (S : Type 0) : Type 0 where
@@ -183,20 +182,21 @@ pub record GivesFront {S : Type 0} (gains : S → List Triple → S → Type 0) 
 
 -- what a call leaves, by its answer
 abbrev pub TableOutcome : {S : Type 0} → (S → List Triple → S → Type 0) → (S → Bool) → (S → ℕ) → TablePlan → Mode → List ℕ → Bool → List Given
-    → List Row → Table → Table → Outlets S → Outlets S → Result Unit Halt → Type 0
+    → List Row → Table → Table → Outlets S → Outlets S → Result Unit Stop → Type 0
 TableOutcome gains is_open failed plan mode bytes ended given rows old new before now (Ok u) =
     GivesAll gains plan mode bytes ended given rows old new before now × IsAsReady is_open failed before.sink now.sink
-TableOutcome gains is_open failed plan mode bytes ended given rows old new before now (Err halt.Memory) =
+TableOutcome gains is_open failed plan mode bytes ended given rows old new before now (Err stop.Memory) =
     GivesSome gains plan mode bytes ended given rows before.sink now.sink × IsAsReady is_open failed before.sink now.sink
-TableOutcome gains is_open failed plan mode bytes ended given rows old new before now (Err halt.Write) =
+TableOutcome gains is_open failed plan mode bytes ended given rows old new before now (Err stop.Write) =
     GivesSome gains plan mode bytes ended given rows before.sink now.sink
     × (is_open before.sink ≡ true → failed before.sink < 2 ^ 64 - 1 → failed now.sink ≡ failed before.sink + 1)
-TableOutcome gains is_open failed plan mode bytes ended given rows old new before now (Err (halt.Rows row stop)) =
-    GivesFront gains plan mode bytes ended given rows before.sink now.sink (λ columns all. IsStopped plan bytes ended all row stop)
+TableOutcome gains is_open failed plan mode bytes ended given rows old new before now (Err (stop.Rows table row reason)) =
+    GivesFront gains plan mode bytes ended given rows before.sink now.sink (λ columns all. IsStopped plan bytes ended all row reason)
     × IsAsReady is_open failed before.sink now.sink
-TableOutcome gains is_open failed plan mode bytes ended given rows old new before now (Err (halt.Table row stop)) =
-    GivesFront gains plan mode bytes ended given rows before.sink now.sink (λ columns all. IsRefused plan columns bytes ended all row stop)
+TableOutcome gains is_open failed plan mode bytes ended given rows old new before now (Err (stop.Table table row reason)) =
+    GivesFront gains plan mode bytes ended given rows before.sink now.sink (λ columns all. IsRefused plan columns bytes ended all row reason)
     × IsAsReady is_open failed before.sink now.sink
+TableOutcome gains is_open failed plan mode bytes ended given rows old new before now (Err other) = ⊥
 
 -- The whole text is a table: these are its columns and rows.
 pub record HoldsWhole (plan : TablePlan) (mode : Mode) (t : Table) (bytes : List ℕ) (rows : List Row) : Type 0 where
@@ -226,26 +226,27 @@ IsRefusedAtEnd plan columns bytes given row stop =
 
 -- what the end of a text leaves, by its answer
 abbrev pub EndOutcome : {S : Type 0} → (S → List Triple → S → Type 0) → (S → Bool) → (S → ℕ) → TablePlan → Mode → List ℕ → List Given → List Row
-    → Table → Table → Outlets S → Outlets S → Result Unit Halt → Type 0
+    → Table → Table → Outlets S → Outlets S → Result Unit Stop → Type 0
 EndOutcome gains is_open failed plan mode bytes given rows old new before now (Ok u) =
     GivesWhole gains plan mode bytes rows old new before now × IsAsReady is_open failed before.sink now.sink
-EndOutcome gains is_open failed plan mode bytes given rows old new before now (Err halt.Memory) =
+EndOutcome gains is_open failed plan mode bytes given rows old new before now (Err stop.Memory) =
     GivesSome gains plan mode bytes true given rows before.sink now.sink × IsAsReady is_open failed before.sink now.sink
-EndOutcome gains is_open failed plan mode bytes given rows old new before now (Err halt.Write) =
+EndOutcome gains is_open failed plan mode bytes given rows old new before now (Err stop.Write) =
     GivesSome gains plan mode bytes true given rows before.sink now.sink
     × (is_open before.sink ≡ true → failed before.sink < 2 ^ 64 - 1 → failed now.sink ≡ failed before.sink + 1)
-EndOutcome gains is_open failed plan mode bytes given rows old new before now (Err (halt.Rows row stop)) =
-    GivesFront gains plan mode bytes true given rows before.sink now.sink (λ columns all. IsStopped plan bytes true all row stop)
+EndOutcome gains is_open failed plan mode bytes given rows old new before now (Err (stop.Rows table row reason)) =
+    GivesFront gains plan mode bytes true given rows before.sink now.sink (λ columns all. IsStopped plan bytes true all row reason)
     × IsAsReady is_open failed before.sink now.sink
-EndOutcome gains is_open failed plan mode bytes given rows old new before now (Err (halt.Table row stop)) =
-    GivesFront gains plan mode bytes true given rows before.sink now.sink (λ columns all. IsRefusedAtEnd plan columns bytes all row stop)
+EndOutcome gains is_open failed plan mode bytes given rows old new before now (Err (stop.Table table row reason)) =
+    GivesFront gains plan mode bytes true given rows before.sink now.sink (λ columns all. IsRefusedAtEnd plan columns bytes all row reason)
     × IsAsReady is_open failed before.sink now.sink
+EndOutcome gains is_open failed plan mode bytes given rows old new before now (Err other) = ⊥
 
 -- after the end of the text, where the columns weren't known; of want of memory nothing is said
-abbrev pub SettlesHead : TablePlan → Table → Table → Result Unit Halt → Type 0
+abbrev pub SettlesHead : TablePlan → Table → Table → Result Unit Stop → Type 0
 SettlesHead plan old new result = (new ≡ record old { head = new.head }) × Settles plan None 0 old.head new.head result
 
-abbrev pub SettlesTable : TablePlan → Table → Table → Result Unit Halt → Type 0
+abbrev pub SettlesTable : TablePlan → Table → Table → Result Unit Stop → Type 0
 SettlesTable plan old new result = ((columns : Columns) × (old.head.columns ≡ Some columns) × (new ≡ old) × (result ≡ Ok tt)) ⊎
     ((old.head.columns ≡ None) × SettlesHead plan old new result)
 

@@ -1,13 +1,14 @@
 //! How the rows of a table go on to the sink, and their keys to the book of keys.
-ghost use Rattle.std.specs.Prelude.{◌≡◌, ◌++◌, ◌∷◌, [], ℕ, List, Bool, true, false, IfOk, OnOk, Some, None};
+ghost use Rattle.std.specs.Prelude.{◌≡◌, ◌++◌, ◌∷◌, [], ℕ, List, Bool, true, false, IfOk, IfErr, OnOk, Some, None};
 ghost use Rattle.csvw_records.specs.RowValue.{Given};
 ghost use Rattle.csvw_columns.specs.Ready.{IsReady};
 ghost use Rattle.csvw_annotate.specs.declared.row.Row.{Row as TheRow};
 ghost use Rattle.csvw_triples_core.specs.declared.mode.Mode.{Mode as TheMode};
+ghost use Rattle.csvw_engine_core.specs.Stops.{IsOf};
 ghost use Rattle.csvw_engine_core.specs.Tables.{RowFits, is_ended, Gives, TableHolds, TableOutcome, EndOutcome, outlets, table_triples};
 
-use crate::halt::Halt;
 use crate::step::Step;
+use crate::stop::Stop;
 use crate::table::{Table, next_row};
 use csvw_annotate::Row;
 use csvw_columns::TablePlan;
@@ -22,7 +23,7 @@ fn give<S: TripleSink>(
     table: &Table,
     row: &Row,
     sink: &mut S,
-) -> Result<(), Halt>
+) -> Result<(), Stop>
     requires { RowFits table.now.head.columns row.now }
     ensures { Gives S.gains S.is_open S.failed (table_triples table.now.mode table.now.number table.now.head.columns (row.now ∷ []))
         sink.old sink.new result }
@@ -42,9 +43,10 @@ fn drain<S: TripleSink>(
     table: &mut Table,
     sink: &mut S,
     keys: &mut KeyBook,
-) -> Result<(), Halt>
+) -> Result<(), Stop>
     requires { IsReady plan.now }
     ensures ended { is_ended table.new ≡ is_ended table.old }
+    ensures own { IfErr result (λ stop. IsOf plan.now.number stop) }
     ensures drains { (mode : TheMode) (bytes : List ℕ) (ended : Bool) (given : List Given) (rows : List TheRow)
         → TableHolds plan.now mode table.old bytes ended given rows
         → TableOutcome S.gains S.is_open S.failed plan.now mode bytes ended given rows table.old table.new
@@ -76,10 +78,11 @@ pub fn feed_table<S: TripleSink>(
     piece: &[u8],
     sink: &mut S,
     keys: &mut KeyBook,
-) -> Result<(), Halt>
+) -> Result<(), Stop>
     requires ready { IsReady plan.now }
     requires not_ended { is_ended table.old ≡ false }
     ensures ended { is_ended table.new ≡ false }
+    ensures own { IfErr result (λ stop. IsOf plan.now.number stop) }
     ensures feeds { (mode : TheMode) (bytes : List ℕ) (given : List Given) (rows : List TheRow)
         → TableHolds plan.now mode table.old bytes false given rows
         → TableOutcome S.gains S.is_open S.failed plan.now mode (bytes ++ piece.now) false given rows table.old table.new
@@ -88,7 +91,7 @@ pub fn feed_table<S: TripleSink>(
     given_first_later();
     match table.rows.feed(piece) {
         Ok(()) => drain(plan, table, sink, keys),
-        Err(stop) => Err(Halt::of_row_stop(table.rows.row(), stop)),
+        Err(stop) => Err(Stop::of_row_stop(plan.number, table.rows.row(), stop)),
     }
 }
 
@@ -98,9 +101,10 @@ pub fn end_table<S: TripleSink>(
     table: &mut Table,
     sink: &mut S,
     keys: &mut KeyBook,
-) -> Result<(), Halt>
+) -> Result<(), Stop>
     requires ready { IsReady plan.now }
     requires not_ended { is_ended table.old ≡ false }
+    ensures own { IfErr result (λ stop. IsOf plan.now.number stop) }
     ensures ends { (mode : TheMode) (bytes : List ℕ) (given : List Given) (rows : List TheRow)
         → TableHolds plan.now mode table.old bytes false given rows
         → EndOutcome S.gains S.is_open S.failed plan.now mode bytes given rows table.old table.new
@@ -112,6 +116,6 @@ pub fn end_table<S: TripleSink>(
             drain(plan, table, sink, keys)?;
             table.settle(plan)
         }
-        Err(stop) => Err(Halt::of_row_stop(table.rows.row(), stop)),
+        Err(stop) => Err(Stop::of_row_stop(plan.number, table.rows.row(), stop)),
     }
 }

@@ -5,7 +5,7 @@ ghost use Rattle.csvw_engine_core.specs.Annotated.{header_row, source_of};
 ghost use Rattle.csvw_columns.specs.Ready.{IsReady};
 ghost use Rattle.csvw_engine_core.specs.Soundness.{AreSoundIf, AreSoundIf-prop};
 
-use crate::halt::Halt;
+use crate::stop::Stop;
 use csvw_columns::{HeaderRow, TablePlan, match_header};
 use csvw_links::LinkedColumns;
 use csvw_rows::RawRow;
@@ -71,7 +71,7 @@ impl Head {
         plan: &TablePlan,
         width: Option<usize>,
         source: u64,
-    ) -> Result<(), Halt>
+    ) -> Result<(), Stop>
         requires { IsReady plan.now }
         ensures { Settles plan.now width source self.old self.new result }
     {
@@ -81,12 +81,15 @@ impl Head {
                 self.faults = Seq::of(faults);
                 Ok(())
             }
-            Err(stop) => Err(Halt::of_table_stop(source_of(self.rows.as_slice(), source), stop)),
+            Err(stop) => {
+                let row = source_of(self.rows.as_slice(), source);
+                Err(Stop::of_table_stop(plan.number, row, stop))
+            }
         }
     }
 
     /// Takes a header row; with the last one the columns are known.
-    pub(crate) fn take(&mut self, alloc: Global, plan: &TablePlan, raw: &RawRow) -> Result<(), Halt>
+    pub(crate) fn take(&mut self, alloc: Global, plan: &TablePlan, raw: &RawRow) -> Result<(), Stop>
         requires { IsReady plan.now }
         ensures { TakesHeader plan.now (row_of raw.now) self.old self.new result }
     {

@@ -2,11 +2,11 @@
 #![tactic(auto)]
 
 mod giving;
-mod halt;
 mod head;
 mod step;
+mod stop;
 mod table;
 
 pub use giving::{end_table, feed_table};
-pub use halt::Halt;
+pub use stop::Stop;
 pub use table::Table;

@@ -1,14 +1,15 @@
 //! One row of the source more: what it is to the table.
-ghost use Rattle.csvw_annotate.specs.Annotated.{AreSound};
+ghost use Rattle.csvw_columns_core.specs.declared.columns.Columns.{Columns};
+ghost use Rattle.csvw_annotate.specs.Annotated.{Annotates};
 ghost use Rattle.csvw_rows.specs.RowValue.{row_of};
 ghost use Rattle.csvw_columns.specs.Ready.{IsReady};
 ghost use Rattle.csvw_engine_core.specs.Stepping.{AnnotatesRow, Begins};
 
-use crate::halt::Halt;
 use crate::head::Head;
+use crate::stop::Stop;
 use csvw_annotate::{Row, RowStop, annotate_into};
 use csvw_columns::{TablePlan, TableStop};
-use csvw_links::{LinkRoom, LinkedColumns};
+use csvw_links::LinkRoom;
 use csvw_rows::RawRow;
 use std::alloc::Global;
 
@@ -22,21 +23,22 @@ pub(crate) enum Step {
     Nothing,
 }
 
-/// The annotated row of a data row, in the memory of a row that is no longer needed and of earlier links.
-pub(crate) fn row_of(
-    alloc: Global,
-    columns: &LinkedColumns,
+/// The annotated row, or the stop of the table that a row is which can't be annotated.
+pub(crate) fn annotated(
+    plan: &TablePlan,
     raw: &RawRow,
-    spare: Row,
-    room: &mut LinkRoom,
-) -> Result<Row, Halt>
-    requires { AreSound columns.now.columns }
-    ensures { AnnotatesRow columns.now (row_of raw.now) result }
+    row: Result<Row, RowStop>,
+) -> Result<Row, Stop>
+    ensures { (columns : Columns) → Annotates columns (row_of raw.now) row → AnnotatesRow plan.now columns (row_of raw.now) result }
 {
-    match annotate_into(alloc, columns, raw, spare, room) {
+    match row {
         Ok(row) => Ok(row),
-        Err(RowStop::Memory) => Err(Halt::Memory),
-        Err(RowStop::RaggedRow) => Err(Halt::Table(raw.source(), TableStop::RaggedRow)),
+        Err(RowStop::Memory) => Err(Stop::Memory),
+        Err(RowStop::RaggedRow) => Err(Stop::Table {
+            table: plan.number,
+            row: raw.source(),
+            stop: TableStop::RaggedRow,
+        }),
     }
 }
 
@@ -49,7 +51,7 @@ impl Head {
         raw: &RawRow,
         spare: Row,
         room: &mut LinkRoom,
-    ) -> Result<Step, Halt>
+    ) -> Result<Step, Stop>
         requires { IsReady plan.now }
         ensures { Begins plan.now (row_of raw.now) self.old self.new result }
     {
@@ -59,7 +61,10 @@ impl Head {
         }
         self.settle(alloc, plan, Some(raw.len()), raw.source())?;
         match &self.columns {
-            Some(columns) => Ok(Step::Row(row_of(alloc, columns, raw, spare, room)?)),
+            Some(columns) => {
+                let row = annotate_into(alloc, columns, raw, spare, room);
+                Ok(Step::Row(annotated(plan, raw, row)?))
+            }
             None => unreachable!(),
         }
     }

@@ -5,10 +5,10 @@ ghost use Rattle.csvw_engine_core.specs.Faults.{cell_faults, row_faults, table_f
 ghost use Rattle.csvw_columns.specs.Ready.{IsReady};
 ghost use Rattle.csvw_engine_core.specs.Tables.{IsNewTable, Steps, RowFits, SettlesTable, faults_of, header_faults_of, is_ended};
 
-use crate::halt::Halt;
 use crate::head::Head;
-use crate::step::{Step, row_of};
-use csvw_annotate::Row;
+use crate::step::{Step, annotated};
+use crate::stop::Stop;
+use csvw_annotate::{Row, annotate_into};
 use csvw_columns::{Column, TablePlan};
 use csvw_links::LinkRoom;
 use csvw_rows::Rows;
@@ -68,7 +68,7 @@ pub(crate) fn next_row(
     table: &mut Table,
     spare: Row,
     room: &mut LinkRoom,
-) -> Result<Step, Halt>
+) -> Result<Step, Stop>
     requires { IsReady plan.now }
     ensures { Steps plan.now table.old table.new result }
 {
@@ -79,12 +79,15 @@ pub(crate) fn next_row(
         Ok(Some(raw)) => {
             let head = &mut table.head;
             match &head.columns {
-                Some(columns) => Ok(Step::Row(row_of(alloc, columns, &raw, spare, room)?)),
+                Some(columns) => {
+                    let row = annotate_into(alloc, columns, &raw, spare, room);
+                    Ok(Step::Row(annotated(plan, &raw, row)?))
+                }
                 None => head.begin(alloc, plan, &raw, spare, room),
             }
         }
         Ok(None) => Ok(Step::Nothing),
-        Err(stop) => Err(Halt::of_row_stop(table.rows.row(), stop)),
+        Err(stop) => Err(Stop::of_row_stop(plan.number, table.rows.row(), stop)),
     }
 }
 
@@ -160,7 +163,7 @@ impl Table {
     }
 
     /// Makes the columns, where the text ended before they were known.
-    pub(crate) fn settle(&mut self, plan: &TablePlan) -> Result<(), Halt>
+    pub(crate) fn settle(&mut self, plan: &TablePlan) -> Result<(), Stop>
         requires { IsReady plan.now }
         ensures { SettlesTable plan.now self.old self.new result }
     {

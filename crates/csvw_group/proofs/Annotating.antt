@@ -119,7 +119,7 @@ module _ {S : Type 0} (gains : S → List Triple → S → Type 0) (is_open : S 
             opened (openings s.mode s.plan)
             (into_graph law s.plan.tables s.tables.items (texts_of events) h.rows all.0 all.1 s.mode)
             (from_graph law s.plan.tables s.tables.items (texts_of events) h.rows all.0 all.1 s.mode) h.took;
-        keys = λ numbered. subst (KeepsKeys s.keys (rules_of s.plan))
-            (λ k n. rows_are s.plan.tables s.tables.items (texts_of events) h.rows all.0 all.1 h.beyond n k) (h.keys numbered);
+        keys = subst (KeepsKeys s.keys (rules_of s.plan))
+            (λ k n. rows_are s.plan.tables s.tables.items (texts_of events) h.rows all.0 all.1 h.beyond n k) h.keys;
         faults = faults_are s.plan.tables s.tables.items (texts_of events) h.rows all.0 all.1;
       }

@@ -12,7 +12,7 @@ use Rattle.csvw_keys.specs.KeyRules.{key_faults, rules_of}
 use Rattle.csvw_session.specs.Events.{Event}
 use Rattle.csvw_session.specs.Faults.{all_faults}
 use Rattle.csvw_session.specs.Finishing.{HasOutcome}
-use Rattle.csvw_session.specs.Sessions.{AreNumbered, TookGraph}
+use Rattle.csvw_session.specs.Sessions.{TookGraph}
 use Rattle.csvw_session.specs.declared.session.Session.{Session}
 use Rattle.csvw_group.specs.Annotated.{Table, AreAnnotated}
 use Rattle.csvw_group.specs.AnyOrder.{HaveSameTexts, TookTheSame, EndTheSame}
@@ -31,15 +31,15 @@ with_keys given violated keys told listed same order all =
 
 -- the outcome of a session lists the violations of its tables
 pub ends_annotated : {S : Type 0} (gains : S → List Triple → S → Type 0) (sink : S) (events : List Event) (s : Session S) (outcome : Outcome)
-    → AreNumbered s.plan.tables → HasOutcome s outcome → Annotates gains sink events s → EndsAnnotated gains sink events s outcome
-ends_annotated gains sink events s outcome numbered h a = record {
+    → HasOutcome s outcome → Annotates gains sink events s → EndsAnnotated gains sink events s outcome
+ends_annotated gains sink events s outcome h a = record {
   tables = a.tables;
   annotated = a.annotated;
   took = a.took;
   violations = record {
     same = with_keys (s.plan.warnings ++ all_faults s.tables.items) (s.plan.warnings ++ tables_violations s.plan.tables a.tables)
         (key_faults (rules_of s.plan) (rows_of a.tables)) h.key_faults outcome.faults (ap (λ (fs : List Fault). s.plan.warnings ++ fs) a.faults)
-        (h.told (rules_of s.plan) (rows_of a.tables) (a.keys numbered)).same h.faults;
+        (h.told (rules_of s.plan) (rows_of a.tables) a.keys).same h.faults;
     sorted = h.sorted;
   };
 }

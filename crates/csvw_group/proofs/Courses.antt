@@ -21,8 +21,8 @@ use Rattle.csvw_session.specs.Ready.{AreReady}
 use Rattle.csvw_session.specs.Sessions.{HasNoTable, Stands, Takes, Told}
 use Rattle.csvw_session.specs.declared.session.Session.{Session}
 use Rattle.csvw_session.specs.declared.state.State.TheVariants as state
-use Rattle.csvw_session.specs.declared.stop.Stop.{Stop}
-use Rattle.csvw_session.specs.declared.stop.Stop.TheVariants as stop
+use Rattle.csvw_engine_core.specs.declared.stop.Stop.{Stop}
+use Rattle.csvw_engine_core.specs.declared.stop.Stop.TheVariants as stop
 use Rattle.csvw_group.specs.Annotated.{Table, IsAnnotated, AreAnnotated}
 use Rattle.csvw_group.specs.GoodEvents.{AllTaken, AreGood, AreInOrder, EndsWell, Goes, IsTakenOrLacks, LacksFirst}
 use Rattle.csvw_group.specs.GoodTexts.{GoesOnToTable, GoodTextsAreAccepted}
@@ -121,10 +121,7 @@ module _ (accepted : GoodTextsAreAccepted) {S : Type 0} (gains : S → List Trip
       absurd (accepted.refuses at.plan (text_of later t) (ended_in later t) (at.given ++ at.leaves.raws) at.leaves.columns at.leaves.faults
       (h.rows at.i ++ at.leaves.more) row reason (lawful_at old.plan.tables at.i at.plan old.ready at.is_at.0) (goes_on at.i at.plan at.number at.is_at.0)
       at.leaves.table at.leaves.why)
-  taken_or_lacks (Err stop.Read) k = absurd k
-  taken_or_lacks (Err (stop.Meta fault)) k = absurd k
-  taken_or_lacks (Err stop.TableCount) k = absurd k
-  taken_or_lacks (Err stop.NotEnded) k = absurd k
+  taken_or_lacks (Err other) k = absurd k
 
 -- a test that each item passes
 all_pass : {X : Type 0} (test : X → Bool) (xs : List X) → ((i : ℕ) (x : X) → slice_get xs i ≡ Some x → test x ≡ true) → list_all test xs ≡ true
@@ -225,13 +222,7 @@ module _ {S : Type 0} (gains : S → List Triple → S → Type 0) (is_open : S 
   finishes events s finished (Err stop.Failed) h ended k = let wrong : state.Failed ≡ state.Open = sym k.1 ∙ h.state_is in cc
   finishes events s finished (Err stop.AfterEnd) h ended k = let wrong : state.Finished ≡ state.Open = sym k.1 ∙ h.state_is in cc
   finishes events s finished (Err stop.NotEnded) h ended k = let wrong : false ≡ true = sym k.1 ∙ ended in cc
-  finishes events s finished (Err stop.Read) h ended k = absurd k
-  finishes events s finished (Err stop.Write) h ended k = absurd k
-  finishes events s finished (Err (stop.Meta fault)) h ended k = absurd k
-  finishes events s finished (Err stop.TableCount) h ended k = absurd k
-  finishes events s finished (Err (stop.Rows table row reason)) h ended k = absurd k
-  finishes events s finished (Err (stop.Table table row reason)) h ended k = absurd k
-  finishes events s finished (Err stop.UnknownTable) h ended k = absurd k
+  finishes events s finished (Err other) h ended k = absurd k
 
   pub ends_well : (s last : Session S) (events : List Event) (answers : List (Result Unit Stop)) (tables : List Table) → Stands gains is_open failed start [] s
       → AreGood (length s.plan.tables) events → AreAnnotated s.plan.tables (texts_of events) tables → Goes gains is_open failed s events answers last

@@ -24,8 +24,8 @@ use Rattle.csvw_session.specs.Events.{Event, Feed, End, table_of, text_of, ended
 use Rattle.csvw_session.specs.Laws.{TextsGrow}
 use Rattle.csvw_session.specs.Sessions.{IsTableAt, Stands, Takes, TookGraph, GainsSome, GainsFront}
 use Rattle.csvw_session.specs.declared.session.Session.{Session}
-use Rattle.csvw_session.specs.declared.stop.Stop.{Stop}
-use Rattle.csvw_session.specs.declared.stop.Stop.TheVariants as stop
+use Rattle.csvw_engine_core.specs.declared.stop.Stop.{Stop}
+use Rattle.csvw_engine_core.specs.declared.stop.Stop.TheVariants as stop
 use Rattle.csvw_group.specs.Part.{TablePart, HasAllRows, HasSomeRows, HaveAllRows, PartGraph, PartRows, FirstRowGraph, IsCutInTable}
 use Rattle.csvw_group.specs.Stopped.{TookAll, TookSome, TookBy}
 use Rattle.csvw_group.proofs.Annotating.{OpeningIsGraph, RowsAreGraph}

@@ -5,7 +5,7 @@ use Rattle.csvw_opening.specs.OpeningTriples.{opening}
 use Rattle.csvw_report.specs.declared.outcome.Outcome.{Outcome}
 use Rattle.csvw_session.specs.Events.{Event}
 use Rattle.csvw_session.specs.Finishing.{HasOutcome}
-use Rattle.csvw_session.specs.Sessions.{AreNumbered, Stands, TookGraph}
+use Rattle.csvw_session.specs.Sessions.{Stands, TookGraph}
 use Rattle.csvw_session.specs.declared.session.Session.{Session}
 use Rattle.csvw_group.specs.Annotated.{Table, AreAnnotated}
 use Rattle.csvw_group.specs.Graph.{GraphOf}
@@ -18,7 +18,6 @@ pub record IsAtItsEnd {S : Type 0} (gains : S → List Triple → S → Type 0) 
   pub start : S
   pub opened : gains sink (opening s.mode s.plan) start
   pub stands : Stands gains is_open failed start events s
-  pub numbered : AreNumbered s.plan.tables
   pub outcome_is : HasOutcome s outcome
 
 -- the texts of the events are annotated tables, whose graph the sink took, and the outcome lists what they violate

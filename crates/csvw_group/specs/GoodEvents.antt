@@ -8,8 +8,8 @@ use Rattle.csvw_session.specs.Events.{Event, table_of, ended_in}
 use Rattle.csvw_session.specs.Finishing.{Finishes}
 use Rattle.csvw_session.specs.Sessions.{Stands, Takes}
 use Rattle.csvw_session.specs.declared.session.Session.{Session}
-use Rattle.csvw_session.specs.declared.stop.Stop.{Stop}
-use Rattle.csvw_session.specs.declared.stop.Stop.TheVariants as stop
+use Rattle.csvw_engine_core.specs.declared.stop.Stop.{Stop}
+use Rattle.csvw_engine_core.specs.declared.stop.Stop.TheVariants as stop
 
 -- each event is of one of so many tables, which have numbers from 1, and comes before the end of that table was told
 pub record AreInOrder (many : ℕ) (events : List Event) : Type 0 where

@@ -5,7 +5,7 @@ use Rattle.csvw_session.specs.Events.{Event, text_of}
 use Rattle.csvw_session.specs.Faults.{all_faults}
 use Rattle.csvw_keys.specs.Books.{KeepsKeys}
 use Rattle.csvw_keys.specs.KeyRules.{rules_of}
-use Rattle.csvw_session.specs.Sessions.{AreNumbered, TookGraph}
+use Rattle.csvw_session.specs.Sessions.{TookGraph}
 use Rattle.csvw_session.specs.declared.session.Session.{Session}
 use Rattle.csvw_group.specs.Annotated.{Table, AreAnnotated}
 use Rattle.csvw_group.specs.Graph.{GraphOf}
@@ -22,4 +22,4 @@ pub record Annotates {S : Type 0} (gains : S → List Triple → S → Type 0) (
   pub annotated : AreAnnotated s.plan.tables (texts_of events) tables
   pub took : TookGraph gains sink s.sink (GraphOf s.mode s.plan tables)
   pub faults : all_faults s.tables.items ≡ tables_violations s.plan.tables tables
-  pub keys : AreNumbered s.plan.tables → KeepsKeys s.keys (rules_of s.plan) (rows_of tables)
+  pub keys : KeepsKeys s.keys (rules_of s.plan) (rows_of tables)

@@ -7,7 +7,7 @@ ghost use Rattle.csvw_opening.specs.OpeningTriples.{opening};
 ghost use Rattle.csvw_session.specs.Events.{Event, table_of};
 ghost use Rattle.csvw_session.specs.Sessions.{Stands, Starts, Takes};
 ghost use Rattle.csvw_session.specs.declared.session.Session.{Session as TheSession};
-ghost use Rattle.csvw_session.specs.declared.stop.Stop.{Stop};
+ghost use Rattle.csvw_engine_core.specs.declared.stop.Stop.{Stop};
 ghost use Rattle.csvw_triples_core.specs.Taking.{IsAsReady};
 ghost use Rattle.csvw_triples_core.specs.declared.mode.Mode.{Mode as TheMode};
 ghost use Rattle.csvw_report.specs.declared.outcome.Outcome.{Outcome as TheOutcome};

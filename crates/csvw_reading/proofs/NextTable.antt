@@ -5,8 +5,8 @@ use Rattle.csvw_text.specs.declared.counted.Counted.{Counted}
 use Rattle.csvw_triples_core.specs.declared.term.Triple.{Triple}
 use Rattle.csvw_session.specs.Events.{Event, text_of, ended_in}
 use Rattle.csvw_session.specs.declared.session.Session.{Session}
-use Rattle.csvw_session.specs.declared.stop.Stop.{Stop}
-use Rattle.csvw_session.specs.declared.stop.Stop.TheVariants as stop
+use Rattle.csvw_engine_core.specs.declared.stop.Stop.{Stop}
+use Rattle.csvw_engine_core.specs.declared.stop.Stop.TheVariants as stop
 use Rattle.csvw_reading.specs.Reading.{Gave, GaveTexts, AreSteady, IsSame, StopsAt, EventStops, ReadFails, Reads}
 use Rattle.csvw_reading.specs.TableReading.{IsNext, TableEnds, TableFails, TableStops, TableReads}
 use Rattle.csvw_reading.specs.TablesReading.{ReadFirst}
@@ -99,9 +99,4 @@ module _ {R S : Type 0} (gains : S → List Triple → S → Type 0) (is_open : 
     ends_early stop.Read last h = fails h
     ends_early (stop.Rows t row reason) last h = stops (stop.Rows t row reason) h
     ends_early (stop.Table t row reason) last h = stops (stop.Table t row reason) h
-    ends_early (stop.Meta fault) last h = absurd h
-    ends_early stop.TableCount last h = absurd h
-    ends_early stop.UnknownTable last h = absurd h
-    ends_early stop.AfterEnd last h = absurd h
-    ends_early stop.NotEnded last h = absurd h
-    ends_early stop.Failed last h = absurd h
+    ends_early other last h = absurd h

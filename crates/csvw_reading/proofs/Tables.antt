@@ -8,8 +8,8 @@ use Rattle.csvw_session.specs.Events.{Event, Feed, End, table_of, text_of, ended
 use Rattle.csvw_session.specs.Laws.{TextsGrow}
 use Rattle.csvw_session.specs.Sessions.{Stands, Takes}
 use Rattle.csvw_session.specs.declared.session.Session.{Session}
-use Rattle.csvw_session.specs.declared.stop.Stop.{Stop}
-use Rattle.csvw_session.specs.declared.stop.Stop.TheVariants as stop
+use Rattle.csvw_engine_core.specs.declared.stop.Stop.{Stop}
+use Rattle.csvw_engine_core.specs.declared.stop.Stop.TheVariants as stop
 use Rattle.csvw_reading.specs.Reading.{Gave, IsSame}
 use Rattle.csvw_reading.specs.TableReading.{IsNext, GoesOn, Took, TableReads, TableStops}
 
@@ -106,10 +106,7 @@ module _ {S : Type 0} (gains : S → List Triple → S → Type 0) (is_open : S 
           let many : length old.tables.items ≡ length first.plan.tables = old.many ∙ ap (λ p. length p.tables) same.0 in
           elim takes.2 [ inl none ↦ absurd (omega (arith, least, none)) | inr past ↦ absurd (omega (arith, most, many, past)) ]
       stops stop.AfterEnd last takes = let is = takes.2 start k.later k.stands in let not = k.ended_is in cc
-      stops stop.Read last takes = absurd takes
-      stops (stop.Meta fault) last takes = absurd takes
-      stops stop.TableCount last takes = absurd takes
-      stops stop.NotEnded last takes = absurd takes
+      stops other last takes = absurd takes
 
     -- the end of the table
     pub ends : Gave remaining r s bytes true → failures_of s ≡ failures_of r → (result : Result Unit Stop) → Takes gains is_open failed old new t (End t) result

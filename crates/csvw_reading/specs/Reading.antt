@@ -8,8 +8,8 @@ use Rattle.csvw_triples_core.specs.declared.term.Triple.{Triple}
 use Rattle.csvw_session.specs.Events.{Event, table_of, text_of, ended_in}
 use Rattle.csvw_session.specs.Sessions.{Stands, Takes}
 use Rattle.csvw_session.specs.declared.session.Session.{Session}
-use Rattle.csvw_session.specs.declared.stop.Stop.{Stop}
-use Rattle.csvw_session.specs.declared.stop.Stop.TheVariants as stop
+use Rattle.csvw_engine_core.specs.declared.stop.Stop.{Stop}
+use Rattle.csvw_engine_core.specs.declared.stop.Stop.TheVariants as stop
 
 -- a reader gave these bytes, and they ended where it told its end
 pub record Gave {R : Type 0} (remaining : R → Option (List ℕ)) (old new : Counted R) (bytes : List ℕ) (ended : Bool) : Type 0 where
@@ -94,9 +94,4 @@ Reads gains is_open failed remaining start olds news old new (Err (stop.Rows t r
     EventStops gains is_open failed remaining start olds news old new (stop.Rows t row reason)
 Reads gains is_open failed remaining start olds news old new (Err (stop.Table t row reason)) =
     EventStops gains is_open failed remaining start olds news old new (stop.Table t row reason)
-Reads gains is_open failed remaining start olds news old new (Err (stop.Meta fault)) = ⊥
-Reads gains is_open failed remaining start olds news old new (Err stop.TableCount) = ⊥
-Reads gains is_open failed remaining start olds news old new (Err stop.UnknownTable) = ⊥
-Reads gains is_open failed remaining start olds news old new (Err stop.AfterEnd) = ⊥
-Reads gains is_open failed remaining start olds news old new (Err stop.NotEnded) = ⊥
-Reads gains is_open failed remaining start olds news old new (Err stop.Failed) = ⊥
+Reads gains is_open failed remaining start olds news old new (Err other) = ⊥

@@ -7,8 +7,8 @@ use Rattle.csvw_triples_core.specs.declared.term.Triple.{Triple}
 use Rattle.csvw_session.specs.Events.{Event, text_of, ended_in}
 use Rattle.csvw_session.specs.Sessions.{Stands}
 use Rattle.csvw_session.specs.declared.session.Session.{Session}
-use Rattle.csvw_session.specs.declared.stop.Stop.{Stop}
-use Rattle.csvw_session.specs.declared.stop.Stop.TheVariants as stop
+use Rattle.csvw_engine_core.specs.declared.stop.Stop.{Stop}
+use Rattle.csvw_engine_core.specs.declared.stop.Stop.TheVariants as stop
 use Rattle.csvw_reading.specs.Reading.{Gave, StopsAt}
 
 -- the session has table t, and no event of it came yet
@@ -71,9 +71,4 @@ TableReads gains is_open failed remaining start events t r s old new reads (Err 
     TableStops gains is_open failed remaining start events t r s old new (stop.Rows u row reason)
 TableReads gains is_open failed remaining start events t r s old new reads (Err (stop.Table u row reason)) =
     TableStops gains is_open failed remaining start events t r s old new (stop.Table u row reason)
-TableReads gains is_open failed remaining start events t r s old new reads (Err (stop.Meta fault)) = ⊥
-TableReads gains is_open failed remaining start events t r s old new reads (Err stop.TableCount) = ⊥
-TableReads gains is_open failed remaining start events t r s old new reads (Err stop.UnknownTable) = ⊥
-TableReads gains is_open failed remaining start events t r s old new reads (Err stop.AfterEnd) = ⊥
-TableReads gains is_open failed remaining start events t r s old new reads (Err stop.NotEnded) = ⊥
-TableReads gains is_open failed remaining start events t r s old new reads (Err stop.Failed) = ⊥
+TableReads gains is_open failed remaining start events t r s old new reads (Err other) = ⊥

@@ -6,7 +6,7 @@ use Rattle.csvw_triples_core.specs.declared.term.Triple.{Triple}
 use Rattle.csvw_session.specs.Events.{Event, ended_in}
 use Rattle.csvw_session.specs.Sessions.{Stands}
 use Rattle.csvw_session.specs.declared.session.Session.{Session}
-use Rattle.csvw_session.specs.declared.stop.Stop.{Stop}
+use Rattle.csvw_engine_core.specs.declared.stop.Stop.{Stop}
 use Rattle.csvw_reading.specs.Reading.{Gave, GaveTexts, AreSteady}
 use Rattle.csvw_reading.specs.TableReading.{Took, TableEnds, TableReads}
 

@@ -1,8 +1,8 @@
 -- Which tables take events.
-use Rattle.std.proofs.Common.{◌≡◌, ◌≢◌, ◌⊎◌, ◌<◌, ◌≤◌, ◌+◌, ℕ, zero, suc, [], ◌∷◌, arith, get_or, Bool, true, false, List, refl, sym, ◌∙◌, subst}
+use Rattle.std.proofs.Common.{◌≡◌, ◌≢◌, ◌⊎◌, ◌<◌, ◌≤◌, ◌+◌, ℕ, zero, suc, [], ◌∷◌, arith, get_or, Bool, true, false, List, refl, sym, ap, ◌∙◌, subst}
 use Rattle.std.proofs.Common.{length, inl, inr, Some, None, Err}
 use Rattle.std.specs.Prelude.{slice_get}
-use Rattle.std.proofs.lemmas.Option.{slice_get_cases, slice_get_within}
+use Rattle.std.proofs.lemmas.Option.{slice_get-get_or, slice_get_cases, slice_get_within}
 use Rattle.csvw_columns.specs.Ready.{IsReady}
 use Rattle.csvw_columns.specs.declared.plan.TablePlan.{TablePlan}
 use Rattle.csvw_annotate.specs.declared.row.Row.{Row}
@@ -14,8 +14,8 @@ use Rattle.csvw_session.specs.Events.{Event, text_of, ended_in}
 use Rattle.csvw_session.specs.Ready.{AreReady}
 use Rattle.csvw_session.specs.Sessions.{Checks, Takes, Told, Stands}
 use Rattle.csvw_session.specs.declared.session.Session.{Session}
-use Rattle.csvw_session.specs.declared.stop.Stop.{Stop}
-use Rattle.csvw_session.specs.declared.stop.Stop.TheVariants as stop
+use Rattle.csvw_engine_core.specs.declared.stop.Stop.{Stop}
+use Rattle.csvw_engine_core.specs.declared.stop.Stop.TheVariants as stop
 use Rattle.csvw_session.specs.declared.state.State.{State}
 use Rattle.csvw_session.specs.declared.state.State.TheVariants as state
 
@@ -31,6 +31,12 @@ pub ready_at : (plans : List TablePlan) (i : ℕ) (plan : TablePlan) → AreRead
 ready_at [] i plan h e = cc
 ready_at (p ∷ plans) zero plan h e = let same : p ≡ plan = cc in subst IsReady same h.0
 ready_at (p ∷ plans) (suc i) plan h e = ready_at plans i plan h.1 e
+
+-- the plan of a table that is there
+pub plan_at : {S : Type 0} (s : Session S) (plans : List TablePlan) (i : ℕ) (plan : TablePlan) → i < length s.tables.items → plan ≡ get_or plans i plan
+    → plans ≡ s.plan.tables → slice_get s.plan.tables i ≡ Some plan
+plan_at s plans i plan below is same =
+    slice_get-get_or s.plan.tables i plan (subst (λ n. i < n) s.many below) ∙ ap Some (sym (is ∙ ap (λ (xs : List TablePlan). get_or xs i plan) same))
 
 -- an ended table is one that was ended
 was_ended : (plan : TablePlan) (mode : Mode) (t : Table) (bytes : List ℕ) (ended : Bool) (rows : List Row) → Told plan mode t bytes ended rows
@@ -64,11 +70,4 @@ refused_call gains is_open failed s t event stop.AfterEnd (f, known, inl finishe
     (refl, f, λ start events h. let wrong : state.Finished ≡ state.Open = sym finished ∙ h.state_is in cc)
 refused_call gains is_open failed s t event stop.AfterEnd (f, known, inr w) =
     (refl, f, λ start events h. ended_at gains is_open failed s t w.0 w.1 start events w.2 w.3 w.4 h)
-refused_call gains is_open failed s t event stop.Memory k = absurd k
-refused_call gains is_open failed s t event stop.Read k = absurd k
-refused_call gains is_open failed s t event stop.Write k = absurd k
-refused_call gains is_open failed s t event (stop.Meta fault) k = absurd k
-refused_call gains is_open failed s t event stop.TableCount k = absurd k
-refused_call gains is_open failed s t event (stop.Rows table row reason) k = absurd k
-refused_call gains is_open failed s t event (stop.Table table row reason) k = absurd k
-refused_call gains is_open failed s t event stop.NotEnded k = absurd k
+refused_call gains is_open failed s t event other k = absurd k

@@ -8,15 +8,14 @@ use Rattle.csvw_triples_core.specs.declared.mode.Mode.{Mode}
 use Rattle.csvw_triples_core.specs.declared.term.Triple.{Triple}
 use Rattle.csvw_engine_core.specs.Annotated.{HasRows}
 use Rattle.csvw_engine_core.specs.Faults.{table_faults}
+use Rattle.csvw_engine_core.specs.Stops.{IsOf}
+use Rattle.csvw_engine_core.specs.declared.stop.Stop.{Stop}
+use Rattle.csvw_engine_core.specs.declared.stop.Stop.TheVariants as stop
 use Rattle.csvw_engine_core.specs.Tables.{outlets, TableHolds, KeepsColumns, GivesFront, TableOutcome, EndOutcome, columns_of, faults_of, is_ended}
-use Rattle.csvw_engine_core.specs.declared.halt.Halt.{Halt}
-use Rattle.csvw_engine_core.specs.declared.halt.Halt.TheVariants as halt
 use Rattle.csvw_engine_core.specs.declared.table.Table.{Table}
 use Rattle.csvw_session.specs.Events.{Event, Feed, End, text_of, ended_in}
 use Rattle.csvw_session.specs.Sessions.{IsOpenTable, IsTableAt, Told, Stands, Takes, IsRefusedHere}
-use Rattle.csvw_session.specs.Stops.{stop_of}
 use Rattle.csvw_session.specs.declared.session.Session.{Session}
-use Rattle.csvw_session.specs.declared.stop.Stop.{Stop}
 use Rattle.csvw_session.specs.declared.state.State.TheVariants as state
 use Rattle.csvw_session.proofs.Standing.{stands_on, same_faults, faults_more}
 use Rattle.csvw_session.proofs.Texts.{fed_same, fed_other, fed_ended, end_text, end_same, end_other}
@@ -94,12 +93,12 @@ module _ {S : Type 0} (gains : S → List Triple → S → Type 0) (is_open : S 
       all.0.kept all.0.keeps none state_is all.0.took all.1
 
   -- a piece was not taken in full
-  pub unfed : (piece : List ℕ) (reason : Halt) → new.state ≡ state.Failed
+  pub unfed : (piece : List ℕ) (reason : Stop) → IsOf (i + 1) reason → new.state ≡ state.Failed
       → ((bytes : List ℕ) (given : List Given) (rows : List Row) → TableHolds plan old.mode t bytes false given rows
       → TableOutcome gains is_open failed plan old.mode (bytes ++ piece) false given rows t u (outlets old.sink old.keys) (outlets new.sink new.keys)
       (Err reason))
-      → Takes gains is_open failed old new (i + 1) (Feed (i + 1) piece) (Err (stop_of (i + 1) reason))
-  unfed piece halt.Memory state_is feeds = (
+      → Takes gains is_open failed old new (i + 1) (Feed (i + 1) piece) (Err reason)
+  unfed piece stop.Memory own state_is feeds = (
     state_is,
     λ start events h.
         let k = here start events h in
@@ -117,7 +116,7 @@ module _ {S : Type 0} (gains : S → List Triple → S → Type 0) (is_open : S 
           all.1,
         ),
   )
-  unfed piece halt.Write state_is feeds = (
+  unfed piece stop.Write own state_is feeds = (
     state_is,
     λ start events h.
         let k = here start events h in
@@ -135,9 +134,9 @@ module _ {S : Type 0} (gains : S → List Triple → S → Type 0) (is_open : S 
           all.1,
         ),
   )
-  unfed piece (halt.Rows row stop) state_is feeds = (
+  unfed piece (stop.Rows table row reason) own state_is feeds = (
     state_is,
-    refl,
+    own,
     λ start events h.
         let k = here start events h in
         let all = feeds (text_of events (i + 1)) k.1.given (h.rows i) k.1.holds in (
@@ -154,15 +153,15 @@ module _ {S : Type 0} (gains : S → List Triple → S → Type 0) (is_open : S 
           all.1,
         ),
   )
-  unfed piece (halt.Table row stop) state_is feeds = (
+  unfed piece (stop.Table table row reason) own state_is feeds = (
     state_is,
-    refl,
+    own,
     λ start events h.
         let k = here start events h in
         let bytes : List ℕ = text_of events (i + 1) in
         let all = feeds bytes k.1.given (h.rows i) k.1.holds in
         let front : GivesFront gains plan old.mode (bytes ++ piece) false k.1.given (h.rows i) old.sink new.sink
-        (λ columns rows. IsRefusedHere plan columns (bytes ++ piece) false rows row stop) =
+        (λ columns rows. IsRefusedHere plan columns (bytes ++ piece) false rows row reason) =
         record {
           raws = all.0.raws;
           more = all.0.more;
@@ -185,13 +184,14 @@ module _ {S : Type 0} (gains : S → List Triple → S → Type 0) (is_open : S 
           all.1,
         ),
   )
+  unfed piece other own state_is feeds = absurd own
 
   -- the end was not taken in full
-  pub unended : (reason : Halt) → new.state ≡ state.Failed
+  pub unended : (reason : Stop) → IsOf (i + 1) reason → new.state ≡ state.Failed
       → ((bytes : List ℕ) (given : List Given) (rows : List Row) → TableHolds plan old.mode t bytes false given rows
       → EndOutcome gains is_open failed plan old.mode bytes given rows t u (outlets old.sink old.keys) (outlets new.sink new.keys) (Err reason))
-      → Takes gains is_open failed old new (i + 1) (End (i + 1)) (Err (stop_of (i + 1) reason))
-  unended halt.Memory state_is ends = (
+      → Takes gains is_open failed old new (i + 1) (End (i + 1)) (Err reason)
+  unended stop.Memory own state_is ends = (
     state_is,
     λ start events h.
         let k = here start events h in
@@ -209,7 +209,7 @@ module _ {S : Type 0} (gains : S → List Triple → S → Type 0) (is_open : S 
           all.1,
         ),
   )
-  unended halt.Write state_is ends = (
+  unended stop.Write own state_is ends = (
     state_is,
     λ start events h.
         let k = here start events h in
@@ -227,9 +227,9 @@ module _ {S : Type 0} (gains : S → List Triple → S → Type 0) (is_open : S 
           all.1,
         ),
   )
-  unended (halt.Rows row stop) state_is ends = (
+  unended (stop.Rows table row reason) own state_is ends = (
     state_is,
-    refl,
+    own,
     λ start events h.
         let k = here start events h in
         let all = ends (text_of events (i + 1)) k.1.given (h.rows i) k.1.holds in (
@@ -246,15 +246,15 @@ module _ {S : Type 0} (gains : S → List Triple → S → Type 0) (is_open : S 
           all.1,
         ),
   )
-  unended (halt.Table row stop) state_is ends = (
+  unended (stop.Table table row reason) own state_is ends = (
     state_is,
-    refl,
+    own,
     λ start events h.
         let k = here start events h in
         let bytes : List ℕ = text_of events (i + 1) in
         let all = ends bytes k.1.given (h.rows i) k.1.holds in
         let front : GivesFront gains plan old.mode bytes true k.1.given (h.rows i) old.sink new.sink
-        (λ columns rows. IsRefusedHere plan columns bytes true rows row stop) =
+        (λ columns rows. IsRefusedHere plan columns bytes true rows row reason) =
         record {
           raws = all.0.raws;
           more = all.0.more;
@@ -277,6 +277,7 @@ module _ {S : Type 0} (gains : S → List Triple → S → Type 0) (is_open : S 
           all.1,
         ),
   )
+  unended other own state_is ends = absurd own
 
   -- the same by the number of the table
   pub fed_at : (n : ℕ) → i + 1 ≡ n → (piece : List ℕ) → new.state ≡ state.Open
@@ -292,19 +293,19 @@ module _ {S : Type 0} (gains : S → List Triple → S → Type 0) (is_open : S 
       → (start : S) (events : List Event) → Stands gains is_open failed start events old → Stands gains is_open failed start (events ++ End n ∷ []) new
   ended_at n e state_is ends start events h = subst (λ m. Stands gains is_open failed start (events ++ End m ∷ []) new) e (ended state_is ends start events h)
 
-  pub unfed_at : (n : ℕ) → i + 1 ≡ n → (piece : List ℕ) (reason : Halt) (told : Stop) → told ≡ stop_of n reason → new.state ≡ state.Failed
+  pub unfed_at : (n : ℕ) → i + 1 ≡ n → (piece : List ℕ) (reason : Stop) → IsOf n reason → new.state ≡ state.Failed
       → ((bytes : List ℕ) (given : List Given) (rows : List Row) → TableHolds plan old.mode t bytes false given rows
       → TableOutcome gains is_open failed plan old.mode (bytes ++ piece) false given rows t u (outlets old.sink old.keys) (outlets new.sink new.keys)
       (Err reason))
-      → Takes gains is_open failed old new n (Feed n piece) (Err told)
-  unfed_at n e piece reason told f state_is feeds =
-      subst (λ z. Takes gains is_open failed old new n (Feed n piece) (Err z)) (sym f)
-      (subst (λ m. Takes gains is_open failed old new m (Feed m piece) (Err (stop_of m reason))) e (unfed piece reason state_is feeds))
+      → Takes gains is_open failed old new n (Feed n piece) (Err reason)
+  unfed_at n e piece reason own state_is feeds =
+      subst (λ m. Takes gains is_open failed old new m (Feed m piece) (Err reason)) e
+      (unfed piece reason (subst (λ m. IsOf m reason) (sym e) own) state_is feeds)
 
-  pub unended_at : (n : ℕ) → i + 1 ≡ n → (reason : Halt) (told : Stop) → told ≡ stop_of n reason → new.state ≡ state.Failed
+  pub unended_at : (n : ℕ) → i + 1 ≡ n → (reason : Stop) → IsOf n reason → new.state ≡ state.Failed
       → ((bytes : List ℕ) (given : List Given) (rows : List Row) → TableHolds plan old.mode t bytes false given rows
       → EndOutcome gains is_open failed plan old.mode bytes given rows t u (outlets old.sink old.keys) (outlets new.sink new.keys) (Err reason))
-      → Takes gains is_open failed old new n (End n) (Err told)
-  unended_at n e reason told f state_is ends =
-      subst (λ z. Takes gains is_open failed old new n (End n) (Err z)) (sym f)
-      (subst (λ m. Takes gains is_open failed old new m (End m) (Err (stop_of m reason))) e (unended reason state_is ends))
+      → Takes gains is_open failed old new n (End n) (Err reason)
+  unended_at n e reason own state_is ends =
+      subst (λ m. Takes gains is_open failed old new m (End m) (Err reason)) e
+      (unended reason (subst (λ m. IsOf m reason) (sym e) own) state_is ends)

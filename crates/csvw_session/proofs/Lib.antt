@@ -1,6 +1,7 @@
 pub mod Checking
 pub mod Feeding
 pub mod Lists
+pub mod Numbers
 pub mod Order
 pub mod Readiness
 pub mod Standing

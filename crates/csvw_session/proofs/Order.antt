@@ -1,14 +1,12 @@
 -- What is asked first of an event.
 use Rattle.std.proofs.Common.{◌≡◌, ◌≢◌, ◌<◌, ◌+◌, ℕ, true, false, refl, sym, ◌∙◌, subst, arith, length, inl, inr, Some, Result, Ok, Err}
 use Rattle.std.specs.Prelude.{slice_get}
-use Rattle.csvw_engine_core.specs.declared.halt.Halt.{Halt}
-use Rattle.csvw_engine_core.specs.declared.halt.Halt.TheVariants as halt
+use Rattle.csvw_engine_core.specs.Stops.{IsOf}
 use Rattle.csvw_session.specs.Sessions.{Checks, HasNoTable, IsOver, IsRefusedInOrder}
-use Rattle.csvw_session.specs.Stops.{stop_of}
 use Rattle.csvw_session.specs.declared.session.Session.{Session}
 use Rattle.csvw_session.specs.declared.state.State.TheVariants as state
-use Rattle.csvw_session.specs.declared.stop.Stop.{Stop}
-use Rattle.csvw_session.specs.declared.stop.Stop.TheVariants as stop
+use Rattle.csvw_engine_core.specs.declared.stop.Stop.{Stop}
+use Rattle.csvw_engine_core.specs.declared.stop.Stop.TheVariants as stop
 
 -- a table that has a place is there
 pub has_table : {S : Type 0} (s : Session S) (t i : ℕ) → i + 1 ≡ t → i < length s.tables.items → HasNoTable s t → ⊥
@@ -42,14 +40,7 @@ refused_in_order s t stop.AfterEnd (f, known, over) = record {
   unknown = (λ e. cc, λ h. absurd (known h.1));
   after_end = (λ e. (f, known, over), λ h. refl);
 }
-refused_in_order s t stop.Memory k = absurd k
-refused_in_order s t stop.Read k = absurd k
-refused_in_order s t stop.Write k = absurd k
-refused_in_order s t (stop.Meta fault) k = absurd k
-refused_in_order s t stop.TableCount k = absurd k
-refused_in_order s t (stop.Rows table row reason) k = absurd k
-refused_in_order s t (stop.Table table row reason) k = absurd k
-refused_in_order s t stop.NotEnded k = absurd k
+refused_in_order s t other k = absurd k
 
 -- one that was looked at
 looked_at : {S : Type 0} (s : Session S) (t i : ℕ) (result : Result Unit Stop) → Checks s t (Ok i) → result ≢ Err stop.Failed
@@ -64,8 +55,9 @@ looked_at s t i result k f u a = record {
 pub taken_in_order : {S : Type 0} (s : Session S) (t i : ℕ) (u : Unit {0}) → Checks s t (Ok i) → IsRefusedInOrder s t (Ok u)
 taken_in_order s t i u k = looked_at s t i (Ok u) k (λ e. cc) (λ e. cc) (λ e. cc)
 
-pub halted_in_order : {S : Type 0} (s : Session S) (t i : ℕ) (h : Halt) → Checks s t (Ok i) → IsRefusedInOrder s t (Err (stop_of t h))
-halted_in_order s t i halt.Memory k = looked_at s t i (Err stop.Memory) k (λ e. cc) (λ e. cc) (λ e. cc)
-halted_in_order s t i halt.Write k = looked_at s t i (Err stop.Write) k (λ e. cc) (λ e. cc) (λ e. cc)
-halted_in_order s t i (halt.Rows row reason) k = looked_at s t i (Err (stop.Rows t row reason)) k (λ e. cc) (λ e. cc) (λ e. cc)
-halted_in_order s t i (halt.Table row reason) k = looked_at s t i (Err (stop.Table t row reason)) k (λ e. cc) (λ e. cc) (λ e. cc)
+pub stopped_in_order : {S : Type 0} (s : Session S) (t i : ℕ) (reason : Stop) → IsOf t reason → Checks s t (Ok i) → IsRefusedInOrder s t (Err reason)
+stopped_in_order s t i stop.Memory own k = looked_at s t i (Err stop.Memory) k (λ e. cc) (λ e. cc) (λ e. cc)
+stopped_in_order s t i stop.Write own k = looked_at s t i (Err stop.Write) k (λ e. cc) (λ e. cc) (λ e. cc)
+stopped_in_order s t i (stop.Rows table row reason) own k = looked_at s t i (Err (stop.Rows table row reason)) k (λ e. cc) (λ e. cc) (λ e. cc)
+stopped_in_order s t i (stop.Table table row reason) own k = looked_at s t i (Err (stop.Table table row reason)) k (λ e. cc) (λ e. cc) (λ e. cc)
+stopped_in_order s t i other own k = absurd own

@@ -21,9 +21,10 @@ use Rattle.csvw_engine_core.specs.Faults.{row_faults, table_faults}
 use Rattle.csvw_engine_core.specs.Tables.{AddsRows, KeepsColumns, table_triples, columns_of}
 use Rattle.csvw_engine_core.specs.declared.table.Table.{Table}
 use Rattle.csvw_session.specs.Events.{Event, text_of, ended_in}
-use Rattle.csvw_session.specs.Sessions.{AreNumbered, by_number, IsTableAt, RowsGraph, Told, Stands}
+use Rattle.csvw_session.specs.Sessions.{by_number, IsTableAt, RowsGraph, Told, Stands}
 use Rattle.csvw_session.specs.declared.session.Session.{Session}
 use Rattle.csvw_session.specs.declared.state.State.TheVariants as state
+use Rattle.csvw_session.proofs.Numbers.{number_at}
 use Rattle.csvw_session.proofs.Lists.{set_same, set_other, set_there, set_stays, one_at}
 
 -- rows more of the table at place i
@@ -222,12 +223,11 @@ module _ {S : Type 0} (gains : S → List Triple → S → Type 0) (is_open : S 
       other_rows stands.rows i j more (λ e. let at = e in omega (arith, at, same, here, above)) ∙ stands.beyond j (omega (arith, same, above))
 
   -- the book of keys has the rows
-  still_kept : AreNumbered new.plan.tables → KeepsKeys new.keys (rules_of new.plan) (by_number rows)
-  still_kept numbered =
-      let was : AreNumbered old.plan.tables = subst AreNumbered plans numbered in
-      let number : plan.number ≡ suc i = was i plan is_at.0 ∙ add-one i in
+  still_kept : KeepsKeys new.keys (rules_of new.plan) (by_number rows)
+  still_kept =
+      let number : plan.number ≡ suc i = number_at old.plan i plan is_at.0 ∙ add-one i in
       let keeps_more : KeepsKeys new.keys (rules_of old.plan) (with_rows (by_number stands.rows) plan.number more) =
-      kept (rules_of old.plan) (by_number stands.rows) (stands.keys was) in
+      kept (rules_of old.plan) (by_number stands.rows) stands.keys in
       subst (λ ps. KeepsKeys new.keys (flat_map table_rules ps) (by_number rows)) (sym plans)
       (subst (KeepsKeys new.keys (rules_of old.plan)) (λ k n. numbered_at stands.rows i more n k)
       (subst (λ n. KeepsKeys new.keys (rules_of old.plan) (with_rows (by_number stands.rows) n more)) number keeps_more))

@@ -9,6 +9,7 @@ use Rattle.csvw_triples_core.specs.declared.sink.SinkFault.{SinkFault}
 use Rattle.csvw_triples_core.specs.declared.sink.SinkFault.TheVariants as fault
 use Rattle.csvw_triples_core.specs.declared.term.Triple.{Triple}
 use Rattle.csvw_opening.specs.OpeningTriples.{opening}
+use Rattle.csvw_engine_core.specs.Stops.{of_fault}
 use Rattle.csvw_engine_core.specs.Tables.{IsNewTable, columns_of}
 use Rattle.csvw_engine_core.specs.declared.table.Table.{Table}
 use Rattle.csvw_session.specs.NewTables.{AreNew}
@@ -16,10 +17,9 @@ use Rattle.csvw_session.specs.Refusing.{Refuses}
 use Rattle.csvw_keys.specs.Books.{KeepsKeys, no_rows}
 use Rattle.csvw_keys.specs.KeyRules.{rules_of}
 use Rattle.csvw_session.specs.Sessions.{by_number, Told, Stands}
-use Rattle.csvw_session.specs.Stops.{stop_of_fault}
 use Rattle.csvw_session.specs.declared.session.Session.{Session}
 use Rattle.csvw_session.specs.declared.state.State.TheVariants as state
-use Rattle.csvw_session.specs.declared.stop.Stop.TheVariants as stop
+use Rattle.csvw_engine_core.specs.declared.stop.Stop.TheVariants as stop
 use Rattle.csvw_session.proofs.Standing.{no_triples, no_faults}
 
 pub one_more_new : (mode : Mode) (plans : List TablePlan) (tables : List Table) (plan : TablePlan) (t : Table) → AreNew mode plans tables
@@ -72,7 +72,7 @@ module _ {S : Type 0} (gains : S → List Triple → S → Type 0) (is_open : S 
       whole = λ x g. subst (λ ts. Contains ts x) (no_triples s.mode g.1.number (columns_of g.2)) g.4;
     };
     beyond = λ i above. refl;
-    keys = λ numbered. subst (KeepsKeys s.keys (rules_of s.plan)) (λ k n. none_at n k) kept;
+    keys = subst (KeepsKeys s.keys (rules_of s.plan)) (λ k n. none_at n k) kept;
     ready = (refl, refl);
     state_is = is;
   }
@@ -89,7 +89,7 @@ module _ {S : Type 0} (gains : S → List Triple → S → Type 0) (is_open : S 
   never_open sink e f = let wrong : false ≡ true = sym e ∙ f in cc
 
   pub refused_by : (sink now : S) (f : SinkFault) → FrontOf gains sink (opening mode plan) now → Ends is_open failed sink now (Err f)
-      → Refuses gains is_open failed plan mode sink now (stop_of_fault f)
+      → Refuses gains is_open failed plan mode sink now (of_fault f)
   refused_by sink now fault.Memory front ends = (front, ends)
   refused_by sink now fault.Device front ends = (front, λ begun room. ends room)
   refused_by sink now fault.Closed front ends = (front, λ begun room. absurd (never_open sink ends begun))

@@ -14,8 +14,8 @@ use Rattle.csvw_session.specs.Faults.{all_faults}
 use Rattle.csvw_session.specs.declared.session.Session.{Session}
 use Rattle.csvw_session.specs.declared.state.State.{State}
 use Rattle.csvw_session.specs.declared.state.State.TheVariants as state
-use Rattle.csvw_session.specs.declared.stop.Stop.{Stop}
-use Rattle.csvw_session.specs.declared.stop.Stop.TheVariants as stop
+use Rattle.csvw_engine_core.specs.declared.stop.Stop.{Stop}
+use Rattle.csvw_engine_core.specs.declared.stop.Stop.TheVariants as stop
 
 -- the same session in this state
 pub record IsIn {S : Type 0} (old new : Session S) (now : State) : Type 0 where
@@ -57,10 +57,4 @@ Finishes old new (Err stop.Failed) = (new ≡ old) × (old.state ≡ state.Faile
 Finishes old new (Err stop.AfterEnd) = (new ≡ old) × (old.state ≡ state.Finished)
 Finishes old new (Err stop.NotEnded) = (new ≡ old) × (list_all is_ended old.tables.items ≡ false)
 Finishes old new (Err stop.Memory) = IsIn old new state.Failed
-Finishes old new (Err stop.Read) = ⊥
-Finishes old new (Err stop.Write) = ⊥
-Finishes old new (Err (stop.Meta fault)) = ⊥
-Finishes old new (Err stop.TableCount) = ⊥
-Finishes old new (Err (stop.Rows table row reason)) = ⊥
-Finishes old new (Err (stop.Table table row reason)) = ⊥
-Finishes old new (Err stop.UnknownTable) = ⊥
+Finishes old new (Err other) = ⊥

@@ -6,4 +6,3 @@ pub mod NewTables
 pub mod Ready
 pub mod Refusing
 pub mod Sessions
-pub mod Stops

@@ -5,20 +5,12 @@ use Rattle.csvw_triples_core.specs.Taking.{FrontOf, IsAsReady}
 use Rattle.csvw_triples_core.specs.declared.mode.Mode.{Mode}
 use Rattle.csvw_triples_core.specs.declared.term.Triple.{Triple}
 use Rattle.csvw_opening.specs.OpeningTriples.{opening}
-use Rattle.csvw_session.specs.declared.stop.Stop.{Stop}
-use Rattle.csvw_session.specs.declared.stop.Stop.TheVariants as stop
+use Rattle.csvw_engine_core.specs.declared.stop.Stop.{Stop}
+use Rattle.csvw_engine_core.specs.declared.stop.Stop.TheVariants as stop
 
 -- Why a session does not start, and what its sink took by then: a front of what is told of the group.
 abbrev pub Refuses : {S : Type 0} → (S → List Triple → S → Type 0) → (S → Bool) → (S → ℕ) → Plan → Mode → S → S → Stop → Type 0
 Refuses gains is_open failed plan mode sink now stop.Memory = FrontOf gains sink (opening mode plan) now × IsAsReady is_open failed sink now
 Refuses gains is_open failed plan mode sink now stop.Write = FrontOf gains sink (opening mode plan) now
     × (is_open sink ≡ true → failed sink < 2 ^ 64 - 1 → failed now ≡ failed sink + 1)
-Refuses gains is_open failed plan mode sink now stop.Read = ⊥
-Refuses gains is_open failed plan mode sink now (stop.Meta fault) = ⊥
-Refuses gains is_open failed plan mode sink now stop.TableCount = ⊥
-Refuses gains is_open failed plan mode sink now (stop.Rows table row reason) = ⊥
-Refuses gains is_open failed plan mode sink now (stop.Table table row reason) = ⊥
-Refuses gains is_open failed plan mode sink now stop.UnknownTable = ⊥
-Refuses gains is_open failed plan mode sink now stop.AfterEnd = ⊥
-Refuses gains is_open failed plan mode sink now stop.NotEnded = ⊥
-Refuses gains is_open failed plan mode sink now stop.Failed = ⊥
+Refuses gains is_open failed plan mode sink now other = ⊥

@@ -21,8 +21,8 @@ use Rattle.csvw_engine_core.specs.declared.table.Table.{Table}
 use Rattle.csvw_session.specs.Events.{Event, text_of, ended_in}
 use Rattle.csvw_session.specs.declared.session.Session.{Session}
 use Rattle.csvw_session.specs.declared.state.State.TheVariants as state
-use Rattle.csvw_session.specs.declared.stop.Stop.{Stop}
-use Rattle.csvw_session.specs.declared.stop.Stop.TheVariants as stop
+use Rattle.csvw_engine_core.specs.declared.stop.Stop.{Stop}
+use Rattle.csvw_engine_core.specs.declared.stop.Stop.TheVariants as stop
 
 -- the text of a table so far gave these rows, which are all that are complete
 pub record IsOpenTable (plan : TablePlan) (mode : Mode) (t : Table) (bytes : List ℕ) (rows : List Row) : Type 0 where
@@ -48,10 +48,6 @@ IsTableAt s i plan t = (slice_get s.plan.tables i ≡ Some plan) × (slice_get s
 abbrev pub RowsGraph : {S : Type 0} → Session S → (ℕ → List Row) → Triple → Type 0
 RowsGraph s rows x = (i : ℕ) × (plan : TablePlan) × (t : Table) × IsTableAt s i plan t × Contains (table_triples s.mode plan.number (columns_of t) (rows i)) x
 
--- tables have numbers from 1, in their order
-abbrev pub AreNumbered : List TablePlan → Type 0
-AreNumbered plans = (i : ℕ) (plan : TablePlan) → slice_get plans i ≡ Some plan → plan.number ≡ i + 1
-
 -- the rows of the table of a number, from 1, by its place from 0
 abbrev pub by_number : (ℕ → List Row) → ℕ → List Row
 by_number rows zero = []
@@ -71,7 +67,7 @@ pub record Stands {S : Type 0} (gains : S → List Triple → S → Type 0) (is_
   pub tables : (i : ℕ) (plan : TablePlan) (t : Table) → IsTableAt s i plan t → Told plan s.mode t (text_of events (i + 1)) (ended_in events (i + 1)) (rows i)
   pub beyond : (i : ℕ) → length s.plan.tables ≤ i → rows i ≡ []
   pub took : TookGraph gains start s.sink (RowsGraph s rows)
-  pub keys : AreNumbered s.plan.tables → KeepsKeys s.keys (rules_of s.plan) (by_number rows)
+  pub keys : KeepsKeys s.keys (rules_of s.plan) (by_number rows)
   pub ready : IsAsReady is_open failed start s.sink
   pub state_is : s.state ≡ state.Open
 
@@ -105,14 +101,7 @@ Checks s t (Ok i) = (s.state ≡ state.Open) × (i + 1 ≡ t) × (i < length s.t
 Checks s t (Err stop.Failed) = s.state ≡ state.Failed
 Checks s t (Err stop.UnknownTable) = (s.state ≢ state.Failed) × HasNoTable s t
 Checks s t (Err stop.AfterEnd) = (s.state ≢ state.Failed) × (HasNoTable s t → ⊥) × IsOver s t
-Checks s t (Err stop.Memory) = ⊥
-Checks s t (Err stop.Read) = ⊥
-Checks s t (Err stop.Write) = ⊥
-Checks s t (Err (stop.Meta fault)) = ⊥
-Checks s t (Err stop.TableCount) = ⊥
-Checks s t (Err (stop.Rows table row reason)) = ⊥
-Checks s t (Err (stop.Table table row reason)) = ⊥
-Checks s t (Err stop.NotEnded) = ⊥
+Checks s t (Err other) = ⊥
 
 -- a table of the session, and the rows of the source that it was given before the call, which were these rows of it
 pub record AtTable {S : Type 0} (s : Session S) (t : ℕ) (rows : ℕ → List Row) (Leaves : ℕ → TablePlan → List Given → Type 0) : Type 0 where
@@ -167,7 +156,4 @@ Takes {S} gains is_open failed old new t event (Err (stop.Table u row reason)) =
     → GainsFront gains old new t (events ++ event ∷ []) h.rows
     (λ plan columns all. IsRefusedHere plan columns (text_of (events ++ event ∷ []) t) (ended_in (events ++ event ∷ []) t) all row reason)
     × IsAsReady is_open failed old.sink new.sink)
-Takes gains is_open failed old new t event (Err stop.Read) = ⊥
-Takes gains is_open failed old new t event (Err (stop.Meta fault)) = ⊥
-Takes gains is_open failed old new t event (Err stop.TableCount) = ⊥
-Takes gains is_open failed old new t event (Err stop.NotEnded) = ⊥
+Takes gains is_open failed old new t event (Err other) = ⊥

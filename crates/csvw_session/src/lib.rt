@@ -4,9 +4,7 @@
 pub mod laws;
 mod session;
 mod state;
-mod stop;
 
-pub use csvw_engine_core::Halt;
+pub use csvw_engine_core::Stop;
 pub use session::{Refused, Session};
 pub use state::State;
-pub use stop::Stop;

@@ -10,9 +10,8 @@ ghost use Rattle.csvw_session.specs.NewTables.{AreNew};
 ghost use Rattle.csvw_session.specs.Refusing.{Refuses};
 
 use crate::state::State;
-use crate::stop::Stop;
 use csvw_columns::{Plan, TablePlan};
-use csvw_engine_core::{Table, end_table, feed_table};
+use csvw_engine_core::{Stop, Table, end_table, feed_table};
 use csvw_keys::KeyBook;
 use csvw_opening::emit_opening;
 use csvw_report::{Outcome, sorted};
@@ -192,19 +191,15 @@ impl<S: TripleSink> Session<S> {
         let i = self.check(t)?;
         self.state = State::Failed;
         let plans = self.plan.tables();
-        match feed_table(
+        feed_table(
             &plans[i],
             &mut self.tables[i],
             piece,
             &mut self.sink,
             &mut self.keys,
-        ) {
-            Ok(()) => {
-                self.state = State::Open;
-                Ok(())
-            }
-            Err(halt) => Err(Stop::of_halt(t, halt)),
-        }
+        )?;
+        self.state = State::Open;
+        Ok(())
     }
 
     /// Takes the end of table `t`, numbered from 1, and gives each row that is left. It answers as `feed` does.
@@ -216,18 +211,14 @@ impl<S: TripleSink> Session<S> {
         let i = self.check(t)?;
         self.state = State::Failed;
         let plans = self.plan.tables();
-        match end_table(
+        end_table(
             &plans[i],
             &mut self.tables[i],
             &mut self.sink,
             &mut self.keys,
-        ) {
-            Ok(()) => {
-                self.state = State::Open;
-                Ok(())
-            }
-            Err(halt) => Err(Stop::of_halt(t, halt)),
-        }
+        )?;
+        self.state = State::Open;
+        Ok(())
     }
 
     /// The warnings of the plan, what is wrong with the tables, and what is wrong with their rows by their keys.

@@ -1,7 +1,6 @@
 -- What the tables gave to the sink stands in its writer.
-use Rattle.std.proofs.Common.{refl, sym, ap, subst, ◌∙◌, length, Err}
+use Rattle.std.proofs.Common.{refl, sym, ap, ◌∙◌, length, Err}
 use Rattle.csvw_columns.specs.declared.plan.Plan.{Plan}
-use Rattle.csvw_session.specs.Sessions.{AreNumbered}
 use Rattle.csvw_text.specs.Counted.{inner_of, failures_of}
 use Rattle.csvw_ntriples.specs.NtSink.{sink_out, sink_is_open}
 use Rattle.csvw_engine.proofs.Converting.{takes, failed_of, sends_nothing}
@@ -18,9 +17,8 @@ returns-in-Ok-start g c =
     let start = c.new-sink.result in
     let now = c.take_tables-ran.new.session.sink in
     let many = c.requires.many ∙ ap (λ (p : Plan). length p.tables) (sym begun.plan_is) in
-    let numbered = subst (λ (p : Plan). AreNumbered p.tables) (sym begun.plan_is) c.requires.numbered in
     let ran = c.take_tables-ran.ensures start
-    (starts_own (takes contents) sink_is_open failed_of c.args.plan c.args.way.mode start session begun) many numbered in
+    (starts_own (takes contents) sink_is_open failed_of c.args.plan c.args.way.mode start session begun) many in
     let lent = ap (λ z. (sink_out z).ghost_name) c.into_sink.ensures ∙ same_lent contents remaining session.mode session.plan c.args.readers.now
     c.take_tables-ran.new.readers start now c.take_tables-ran.result ran in
     let final = c.out-1.given.1 (sym (c.into_inner.ensures.same_reference ∙ (lent ∙ c.new-sink.ensures.same_reference))) in

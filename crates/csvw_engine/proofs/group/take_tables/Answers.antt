@@ -8,7 +8,7 @@ returns-in_err-read_all g c =
     let s = g.S.TripleSink in
     let p = err_from_is_err_and c.from_residual.result c.from_residual.ensures.1 in
     let start = c.args.session.now.sink in
-    λ sink h many numbered.
+    λ sink h many.
     rw (p.1, p.2)
     (stops s.gains s.is_open s.failed g.R.Read.remaining g.met.S.TripleSink.goes_on sink start h.ready c.args.readers.now c.read_all.new.readers
     c.args.session.now c.read_all.new.session
@@ -20,8 +20,8 @@ pub returns : goal.returns
 returns g c =
     let s = g.S.TripleSink in
     let start = c.args.session.now.sink in
-    λ sink h many numbered.
+    λ sink h many.
     finished s.gains s.is_open s.failed g.R.Read.remaining g.met.S.TripleSink.goes_on sink start h.ready c.args.readers.now c.read_all.new.readers
     c.args.session.now c.read_all.new.session c.finish.new.self
-    (c.in_ok-read_all.ensures.reads start h.stands many) many numbered h.opened
+    (c.in_ok-read_all.ensures.reads start h.stands many) many h.opened
     (c.sessions_annotate.ensures sink start) c.finish.result c.finish.ensures.finishes

@@ -3,7 +3,7 @@ use Rattle.std.proofs.Common.{subst, Result}
 use Rattle.csvw_report.specs.declared.outcome.Outcome.{Outcome}
 use Rattle.csvw_session.specs.Finishing.{Finishes}
 use Rattle.csvw_session.specs.Sessions.{Takes}
-use Rattle.csvw_session.specs.declared.stop.Stop.{Stop}
+use Rattle.csvw_engine_core.specs.declared.stop.Stop.{Stop}
 use Rattle.csvw_engine.proofs.laws.stopped_sessions_stay.Goals as goal
 
 pub returns-clause-event : goal.returns-clause-event

@@ -1,5 +1,5 @@
--- The tables of a plan are ready, numbered, and few; nothing but memory lacks.
-use Rattle.csvw_engine.proofs.Planning.{few_of, numbered_of, lacks_memory}
+-- The tables of a plan are ready and few; nothing but memory lacks.
+use Rattle.csvw_engine.proofs.Planning.{few_of, lacks_memory}
 use Rattle.csvw_engine.proofs.plan.built.Goals as goal
 
 pub returns-in-Ok-clause-ready : goal.returns-in-Ok-clause-ready
@@ -7,9 +7,6 @@ returns-in-Ok-clause-ready c = c.built_plans_are_ready.ensures c.in-Ok.plan.tabl
 
 pub returns-in-Ok-clause-few : goal.returns-in-Ok-clause-few
 returns-in-Ok-clause-few c = few_of c.args.description c.in-Ok.plan c.in-Ok.ensures.plan
-
-pub returns-in-Ok-clause-numbered : goal.returns-in-Ok-clause-numbered
-returns-in-Ok-clause-numbered c = numbered_of c.args.description c.in-Ok.plan c.in-Ok.ensures.plan
 
 pub returns-in-Err-clause-memory : goal.returns-in-Err-clause-memory
 returns-in-Err-clause-memory c =

@@ -1,10 +1,15 @@
 -- A run behind its report and its flushes.
-use Rattle.std.proofs.Common.{◌≡◌, length, rules}
+use Rattle.std.proofs.Common.{◌≡◌, ◌≢◌, length, refl, rules}
 use Rattle.std.proofs.lemmas.Result.{err_from_is_err_and}
 use Rattle.csvw_text.specs.Counted.{inner_of, failures_of}
 use Rattle.csvw_text.specs.Streams.{stream_of}
 use Rattle.csvw_engine.proofs.Ending.{ends_whole, report_kept, report_unsent, stops_with, succeeds}
 use Rattle.csvw_engine.proofs.run_group.run_planned.Goals as goal
+
+pub returns-then-readers-tables : goal.returns-then-readers-tables
+returns-then-readers-tables g c =
+    let apart : length c.args.readers.now ≢ length c.args.run.plan.tables = search rules in
+    λ described is. (record { plan = c.args.run.plan; planned = is; apart = apart }, (refl, refl), (refl, refl))
 
 pub returns-in_err-outcome : goal.returns-in_err-outcome
 returns-in_err-outcome g c =

@@ -1,8 +1,9 @@
 -- One step more, and where the steps end.
 use Rattle.std.proofs.Common.{◌∙◌, refl, ap}
 use Rattle.std.proofs.lemmas.Result.{err_from_is_err_and}
-use Rattle.csvw_engine_core.specs.declared.halt.Halt.TheVariants as halt
-use Rattle.csvw_engine_core.proofs.Going.{gone_nothing, gone_header, gone_same, gone_row, some_given, text_halts, sink_halts, outcome_err}
+use Rattle.csvw_engine_core.specs.declared.stop.Stop.TheVariants as stop
+use Rattle.csvw_engine_core.proofs.Going.{gone_nothing, gone_header, gone_same, gone_row, some_given, text_stops, sink_stops, outcome_err}
+use Rattle.csvw_engine_core.proofs.Own.{own_at_sink, own_err, own_in_text}
 use Rattle.csvw_engine_core.specs.Tables.{is_ended, outlets}
 use Rattle.csvw_engine_core.specs.declared.table.Table.{Table}
 use Rattle.csvw_engine_core.proofs.giving.drain.Goals as goal
@@ -13,7 +14,7 @@ returns-in_err-emitter-clause-drains g c = λ mode bytes ended given rows h.
     let p = err_from_is_err_and c.from_residual.result c.from_residual.ensures.1 in
     outcome_err s.gains s.is_open s.failed g.met.S.TripleSink.stays g.met.S.TripleSink.goes_on c.args.plan.now mode bytes ended given rows
     c.args.table.now (outlets c.args.sink.now c.args.keys.now) c.args.table.now (outlets c.args.sink.now c.args.keys.now)
-    c.from_residual.result p.0 halt.Memory p.1 p.2 (
+    c.from_residual.result p.0 stop.Memory p.1 p.2 (
       some_given s.gains s.is_open s.failed g.met.S.TripleSink.stays g.met.S.TripleSink.goes_on c.args.plan.now mode bytes ended given rows
           c.args.table.now (outlets c.args.sink.now c.args.keys.now) c.given_first.ensures c.args.table.now (outlets c.args.sink.now c.args.keys.now)
           (gone_nothing s.gains s.is_open s.failed g.met.S.TripleSink.stays g.met.S.TripleSink.goes_on c.args.plan.now mode bytes ended given rows
@@ -39,7 +40,7 @@ returns-in_err-row-clause-drains g c = λ mode bytes ended given rows h.
     outcome_err s.gains s.is_open s.failed g.met.S.TripleSink.stays g.met.S.TripleSink.goes_on c.args.plan.now mode bytes ended given rows
     c.args.table.now (outlets c.args.sink.now c.args.keys.now) c.next_row.new.table (outlets c.loop-room.sink c.loop-room.keys)
     c.from_residual-in_err-row.result p.0 _ p.1 p.2
-    (text_halts s.gains s.is_open s.failed g.met.S.TripleSink.stays g.met.S.TripleSink.goes_on c.args.plan.now mode bytes ended given rows
+    (text_stops s.gains s.is_open s.failed g.met.S.TripleSink.stays g.met.S.TripleSink.goes_on c.args.plan.now mode bytes ended given rows
     c.args.table.now (outlets c.args.sink.now c.args.keys.now) c.given_first.ensures
     c.loop-room.table c.next_row.new.table (outlets c.loop-room.sink c.loop-room.keys) _ e.1 i.ready (i.gone mode bytes ended given rows h))
 
@@ -50,7 +51,7 @@ returns-in_err-tell-in-Row-clause-drains g c = λ mode bytes ended given rows h.
     let p = err_from_is_err_and c.from_residual-in_err-tell-in-Row.result c.from_residual-in_err-tell-in-Row.ensures.1 in
     outcome_err s.gains s.is_open s.failed g.met.S.TripleSink.stays g.met.S.TripleSink.goes_on c.args.plan.now mode bytes ended given rows
     c.args.table.now (outlets c.args.sink.now c.args.keys.now) c.tell.new.self (outlets c.loop-room.sink c.loop-room.keys)
-    c.from_residual-in_err-tell-in-Row.result p.0 halt.Memory p.1 p.2 (
+    c.from_residual-in_err-tell-in-Row.result p.0 stop.Memory p.1 p.2 (
       some_given s.gains s.is_open s.failed g.met.S.TripleSink.stays g.met.S.TripleSink.goes_on c.args.plan.now mode bytes ended given rows
           c.args.table.now (outlets c.args.sink.now c.args.keys.now) c.given_first.ensures c.loop-room.table
           (outlets c.loop-room.sink c.loop-room.keys)
@@ -67,7 +68,7 @@ returns-in_err-add-in-Row-clause-drains g c = λ mode bytes ended given rows h.
     let p = err_from_is_err_and c.from_residual-in_err-add-in-Row.result c.from_residual-in_err-add-in-Row.ensures.1 in
     outcome_err s.gains s.is_open s.failed g.met.S.TripleSink.stays g.met.S.TripleSink.goes_on c.args.plan.now mode bytes ended given rows
     c.args.table.now begun c.tell.new.self
-    (outlets c.loop-room.sink c.add.new.self) c.from_residual-in_err-add-in-Row.result p.0 halt.Memory p.1 p.2 (
+    (outlets c.loop-room.sink c.add.new.self) c.from_residual-in_err-add-in-Row.result p.0 stop.Memory p.1 p.2 (
       some_given s.gains s.is_open s.failed g.met.S.TripleSink.stays g.met.S.TripleSink.goes_on c.args.plan.now mode bytes ended given rows
           c.args.table.now begun
           c.given_first.ensures c.loop-room.table now (i.gone mode bytes ended given rows h),
@@ -83,7 +84,7 @@ returns-in_err-give-in-Row-clause-drains g c = λ mode bytes ended given rows h.
     outcome_err s.gains s.is_open s.failed g.met.S.TripleSink.stays g.met.S.TripleSink.goes_on c.args.plan.now mode bytes ended given rows
     c.args.table.now (outlets c.args.sink.now c.args.keys.now) c.tell.new.self (outlets c.give.new.sink c.add.new.self)
     c.from_residual-in_err-give-in-Row.result p.0 _ p.1 p.2
-    (sink_halts s.gains s.is_open s.failed g.met.S.TripleSink.stays g.met.S.TripleSink.goes_on c.args.plan.now mode bytes ended given rows
+    (sink_stops s.gains s.is_open s.failed g.met.S.TripleSink.stays g.met.S.TripleSink.goes_on c.args.plan.now mode bytes ended given rows
     c.args.table.now (outlets c.args.sink.now c.args.keys.now) c.given_first.ensures
     c.loop-room.table c.next_row.new.table c.tell.new.self (outlets c.loop-room.sink c.loop-room.keys)
     (outlets c.give.new.sink c.add.new.self) c.in-Row.row _ k.0 k.3 c.in_ok-tell-in-Row.ensures.same c.in_err-give-in-Row.ensures i.ready
@@ -132,3 +133,25 @@ returns-in-Nothing-clause-drains g c = λ mode bytes ended given rows h.
           c.loop-room.table c.next_row.new.table (outlets c.loop-room.sink c.loop-room.keys) k.0 k.1 (i.gone mode bytes ended given rows h),
       i.ready,
     )
+
+pub returns-in_err-row-clause-own : goal.returns-in_err-row-clause-own
+returns-in_err-row-clause-own g c =
+    let p = err_from_is_err_and c.from_residual-in_err-row.result c.from_residual-in_err-row.ensures.1 in
+    own_err c.args.plan.now.number c.from_residual-in_err-row.result p.0 _ p.1 p.2 (own_in_text c.args.plan.now c.loop-room.table _ c.in_err-row.ensures.1)
+
+pub returns-in_err-tell-in-Row-clause-own : goal.returns-in_err-tell-in-Row-clause-own
+returns-in_err-tell-in-Row-clause-own g c =
+    let p = err_from_is_err_and c.from_residual-in_err-tell-in-Row.result c.from_residual-in_err-tell-in-Row.ensures.1 in
+    own_err c.args.plan.now.number c.from_residual-in_err-tell-in-Row.result p.0 stop.Memory p.1 p.2 tt
+
+pub returns-in_err-add-in-Row-clause-own : goal.returns-in_err-add-in-Row-clause-own
+returns-in_err-add-in-Row-clause-own g c =
+    let p = err_from_is_err_and c.from_residual-in_err-add-in-Row.result c.from_residual-in_err-add-in-Row.ensures.1 in
+    own_err c.args.plan.now.number c.from_residual-in_err-add-in-Row.result p.0 stop.Memory p.1 p.2 tt
+
+pub returns-in_err-give-in-Row-clause-own : goal.returns-in_err-give-in-Row-clause-own
+returns-in_err-give-in-Row-clause-own g c =
+    let s = g.S.TripleSink in
+    let p = err_from_is_err_and c.from_residual-in_err-give-in-Row.result c.from_residual-in_err-give-in-Row.ensures.1 in
+    own_err c.args.plan.now.number c.from_residual-in_err-give-in-Row.result p.0 _ p.1 p.2
+    (own_at_sink s.gains s.is_open s.failed _ _ _ c.args.plan.now.number _ c.in_err-give-in-Row.ensures)

@@ -5,10 +5,13 @@ use Rattle.csvw_engine_core.specs.Tables.{max_rows, outlets}
 use Rattle.csvw_engine_core.specs.declared.table.Table.{Table}
 use Rattle.csvw_engine_core.proofs.Ending.{ends_wrong, end_err, ends}
 use Rattle.csvw_engine_core.proofs.Moving.{holds_moved, end_moved}
+use Rattle.csvw_engine_core.proofs.Own.{own_at_end, own_err}
 use Rattle.csvw_engine_core.proofs.giving.end_table.Goals as goal
 
 pub returns-in_err-drain-in-Ok : goal.returns-in_err-drain-in-Ok
 returns-in_err-drain-in-Ok g c = record {
+  own = let p = err_from_is_err_and c.from_residual.result c.from_residual.ensures.1 in
+      own_err c.args.plan.now.number c.from_residual.result p.0 _ p.1 p.2 c.in_err-drain-in-Ok.ensures.own;
   ends = λ mode bytes given rows h.
       let s = g.S.TripleSink in
       let p = err_from_is_err_and c.from_residual.result c.from_residual.ensures.1 in
@@ -34,6 +37,7 @@ returns-in_err-drain-in-Ok g c = record {
 
 pub returns-in_ok-drain-in-Ok : goal.returns-in_ok-drain-in-Ok
 returns-in_ok-drain-in-Ok g c = record {
+  own = own_at_end c.args.plan.now c.drain.new.table c.settle.new.self c.settle.result c.settle.ensures;
   ends = λ mode bytes given rows h.
       let s = g.S.TripleSink in
       let mid : Table = record {

@@ -6,5 +6,5 @@ pub returns : goal.returns
 returns g c =
     let s = g.S.TripleSink in
     λ sink events session outcome h.
-    ends_annotated s.gains sink events session outcome h.numbered h.outcome_is
+    ends_annotated s.gains sink events session outcome h.outcome_is
     (c.sessions_annotate.ensures sink h.start events session h.opened h.stands h.outcome_is.ended)

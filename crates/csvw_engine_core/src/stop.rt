@@ -1,12 +1,13 @@
 //! Why a run or a session stops.
+
 ghost use Rattle.std.specs.Prelude.{◌≡◌};
-ghost use Rattle.csvw_session.specs.Stops.{stop_of, stop_of_fault};
+ghost use Rattle.csvw_engine_core.specs.Stops.{of_fault, of_row_stop, of_table_stop};
 
 use csvw_columns::TableStop;
-use csvw_engine_core::Halt;
 use csvw_meta_core::MetaFault;
 use csvw_rows::RowStop;
 use csvw_triples::SinkFault;
+use std::alloc::{AllocError, AllocFailed};
 use std::error::Error;
 use std::fmt;
 
@@ -46,27 +47,62 @@ pub enum Stop {
 }
 
 impl Stop {
-    /// The stop that a halt in the text of a table is.
-    pub(crate) fn of_halt(table: u32, halt: Halt) -> Stop
-        ensures { result ≡ stop_of table halt }
+    /// A stop of the records of a table in this row; `Memory` is told as such.
+    pub(crate) fn of_row_stop(table: u32, row: u64, stop: RowStop) -> Stop
+        ensures { result ≡ of_row_stop table row stop }
     {
-        match halt {
-            Halt::Memory => Stop::Memory,
-            Halt::Write => Stop::Write,
-            Halt::Rows(row, stop) => Stop::Rows { table, row, stop },
-            Halt::Table(row, stop) => Stop::Table { table, row, stop },
+        match stop {
+            RowStop::Memory => Stop::Memory,
+            stop => Stop::Rows { table, row, stop },
+        }
+    }
+
+    /// A stop of a table from this row on; `Memory` is told as such.
+    pub(crate) fn of_table_stop(table: u32, row: u64, stop: TableStop) -> Stop
+        ensures { result ≡ of_table_stop table row stop }
+    {
+        match stop {
+            TableStop::Memory => Stop::Memory,
+            stop => Stop::Table { table, row, stop },
         }
     }
 
     /// The stop that a fault of the sink is.
-    pub(crate) fn of_fault(fault: SinkFault) -> Stop
-        ensures { result ≡ stop_of_fault fault }
+    pub fn of_fault(fault: SinkFault) -> Stop
+        ensures { result ≡ of_fault fault }
     {
         match fault {
             SinkFault::Memory => Stop::Memory,
-            SinkFault::Device => Stop::Write,
-            SinkFault::Closed => Stop::Write,
+            SinkFault::Device | SinkFault::Closed => Stop::Write,
         }
+    }
+}
+
+impl From<AllocError> for Stop {
+    ghost use Rattle.csvw_engine_core.specs.declared.stop.Stop.TheVariants.{Memory};
+
+    ghost from_gives = { λ _ e. e ≡ Memory };
+
+    fn from(_: AllocError) -> Stop {
+        Stop::Memory
+    }
+}
+
+impl<T: Drop> From<AllocFailed<T>> for Stop {
+    ghost use Rattle.csvw_engine_core.specs.declared.stop.Stop.TheVariants.{Memory};
+
+    ghost from_gives = { λ _ e. e ≡ Memory };
+
+    fn from(_: AllocFailed<T>) -> Stop {
+        Stop::Memory
+    }
+}
+
+impl From<SinkFault> for Stop {
+    ghost from_gives = { λ fault stop. stop ≡ of_fault fault };
+
+    fn from(fault: SinkFault) -> Stop {
+        Stop::of_fault(fault)
     }
 }
 
