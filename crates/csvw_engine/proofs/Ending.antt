@@ -20,7 +20,7 @@ use Rattle.csvw_engine.specs.Flushes.{IsFlushed}
 use Rattle.csvw_engine.specs.Groups.{Converts, EndsBy, HaveTables, TablesStop, TextsSoFar}
 use Rattle.csvw_engine.specs.Planning.{IsMetaStop}
 use Rattle.csvw_engine.specs.Reporting.{Reports, TellsOutcome}
-use Rattle.csvw_engine.specs.Runs.{Halts, IsPlanned, IsReason, IsSound, Succeeds, StopsSo, WriteFails, Wrote, WroteGraph, WroteGroup, Rises}
+use Rattle.csvw_engine.specs.Runs.{StopsBehind, IsPlanned, IsReason, IsSound, Succeeds, StopsSo, WriteFails, Wrote, WroteGraph, WroteGroup, Rises}
 use Rattle.csvw_engine.specs.Stopped.{Added, Leaves, WroteAll, WroteLines, WroteSome}
 use Rattle.csvw_engine.proofs.Flushing.{appends_kept, rose}
 use Rattle.csvw_meta.specs.Document.{Document}
@@ -121,19 +121,14 @@ module _ {R : Type 0} (remaining : R → Option (List ℕ)) (described : Documen
   leaves_kept stop.Read events h = all_kept events h
   leaves_kept (stop.Rows t row reason) events h = all_kept events h
   leaves_kept (stop.Table t row reason) events h = all_kept events h
-  leaves_kept (stop.Meta fault) events h = h
-  leaves_kept stop.TableCount events h = h
-  leaves_kept stop.UnknownTable events h = h
-  leaves_kept stop.AfterEnd events h = h
-  leaves_kept stop.NotEnded events h = h
-  leaves_kept stop.Failed events h = h
+  leaves_kept other events h = h
 
   -- the texts so far, and what was written of them
   abbrev InTexts : Stop → Type 0
   InTexts reason = TextsSoFar remaining olds news (λ events. IsReason plan olds news reason events × Leaves m plan out reason events)
 
-  halts : (reason : Stop) → InTexts reason → Halts remaining described m olds news after reason
-  halts reason (events, gave, (because, left)) =
+  stops_behind : (reason : Stop) → InTexts reason → StopsBehind remaining described m olds news after reason
+  stops_behind reason (events, gave, (because, left)) =
       (plan, events, record { planned = planned; many = many; gave = gave }, (because, leaves_kept reason events left))
 
   -- the whole graph
@@ -164,35 +159,21 @@ module _ {R : Type 0} (remaining : R → Option (List ℕ)) (described : Documen
   kept_stop : (reason : Stop) → failed ≡ out.failed → IsIdle report_out → Converts remaining m plan olds news out (Err reason)
       → StopsSo remaining described m olds news after report_out reason
   kept_stop stop.Memory e quiet (why, sound) = elim why [
-    | inl s ↦ inr (inl (halts stop.Memory s, e ∙ sound, quiet))
+    | inl s ↦ inr (inl (stops_behind stop.Memory s, e ∙ sound, quiet))
     | inr (_, whole) ↦ inr (inr (group whole, e ∙ sound))
   ]
-  kept_stop stop.Read e quiet (why, sound) = (halts stop.Read (not_memory stop.Read (λ k. cc) why), e ∙ sound, quiet)
+  kept_stop stop.Read e quiet (why, sound) = (stops_behind stop.Read (not_memory stop.Read (λ k. cc) why), e ∙ sound, quiet)
   kept_stop stop.Write e quiet (why, fails) =
-      inl ((stop.Write, halts stop.Write (not_memory stop.Write (λ k. cc) why)), (λ room. e ∙ fails room), quiet)
+      inl ((stop.Write, stops_behind stop.Write (not_memory stop.Write (λ k. cc) why)), (λ room. e ∙ fails room), quiet)
   kept_stop (stop.Rows t row reason) e quiet (why, sound) =
-      (halts (stop.Rows t row reason) (not_memory (stop.Rows t row reason) (λ k. cc) why), e ∙ sound, quiet)
+      (stops_behind (stop.Rows t row reason) (not_memory (stop.Rows t row reason) (λ k. cc) why), e ∙ sound, quiet)
   kept_stop (stop.Table t row reason) e quiet (why, sound) =
-      (halts (stop.Table t row reason) (not_memory (stop.Table t row reason) (λ k. cc) why), e ∙ sound, quiet)
-  kept_stop (stop.Meta fault) e quiet (why, _) = let (_, _, (because, _)) = not_memory (stop.Meta fault) (λ k. cc) why in absurd because
-  kept_stop stop.TableCount e quiet (why, _) = let (_, _, (because, _)) = not_memory stop.TableCount (λ k. cc) why in absurd because
-  kept_stop stop.UnknownTable e quiet (why, _) = let (_, _, (because, _)) = not_memory stop.UnknownTable (λ k. cc) why in absurd because
-  kept_stop stop.AfterEnd e quiet (why, _) = let (_, _, (because, _)) = not_memory stop.AfterEnd (λ k. cc) why in absurd because
-  kept_stop stop.NotEnded e quiet (why, _) = let (_, _, (because, _)) = not_memory stop.NotEnded (λ k. cc) why in absurd because
-  kept_stop stop.Failed e quiet (why, _) = let (_, _, (because, _)) = not_memory stop.Failed (λ k. cc) why in absurd because
+      (stops_behind (stop.Table t row reason) (not_memory (stop.Table t row reason) (λ k. cc) why), e ∙ sound, quiet)
+  kept_stop other e quiet (why, _) = let (_, _, (because, _)) = not_memory other (λ k. cc) why in absurd because
 
   stop_sound : (reason : Stop) → reason ≢ stop.Write → EndsBy (IsSound out) (Rises out) reason → IsSound out
   stop_sound stop.Write ne h = absurd (ne refl)
-  stop_sound stop.Memory ne h = h
-  stop_sound stop.Read ne h = h
-  stop_sound (stop.Rows t row reason) ne h = h
-  stop_sound (stop.Table t row reason) ne h = h
-  stop_sound (stop.Meta fault) ne h = h
-  stop_sound stop.TableCount ne h = h
-  stop_sound stop.UnknownTable ne h = h
-  stop_sound stop.AfterEnd ne h = h
-  stop_sound stop.NotEnded ne h = h
-  stop_sound stop.Failed ne h = h
+  stop_sound other ne h = h
 
   -- an answer that is a stop
   abbrev StopsWith : Result Outcome Stop → Type 0
@@ -202,7 +183,7 @@ module _ {R : Type 0} (remaining : R → Option (List ℕ)) (described : Documen
   unflushed : (reason : Stop) → Converts remaining m plan olds news out (Err reason) → IsIdle report_out → Rises after
       → WriteFails remaining described m olds news after report_out
   unflushed reason h quiet fails = elim h.0 [
-    | inl s ↦ inl ((reason, halts reason s), fails, quiet)
+    | inl s ↦ inl ((reason, stops_behind reason s), fails, quiet)
     | inr w ↦ inr (group w.1, inl fails)
   ]
 

@@ -51,16 +51,7 @@ nothing_in (t ∷ ts) none = absurd (none t (0, omega arith, refl))
 pub ends_as : (Ready Fails Ready' Fails' : Type 0) → (Ready → Ready') → (Fails → Fails') → (reason : Stop) → EndsBy Ready Fails reason
     → EndsBy Ready' Fails' reason
 ends_as a b c d f g stop.Write h = g h
-ends_as a b c d f g stop.Memory h = f h
-ends_as a b c d f g stop.Read h = f h
-ends_as a b c d f g (stop.Rows t row reason) h = f h
-ends_as a b c d f g (stop.Table t row reason) h = f h
-ends_as a b c d f g (stop.Meta fault) h = f h
-ends_as a b c d f g stop.TableCount h = f h
-ends_as a b c d f g stop.UnknownTable h = f h
-ends_as a b c d f g stop.AfterEnd h = f h
-ends_as a b c d f g stop.NotEnded h = f h
-ends_as a b c d f g stop.Failed h = f h
+ends_as a b c d f g other h = f h
 
 -- validation gives no triples
 no_row : (t : ℕ) (columns : Option Columns) (rows : List Row) (x : Triple) → FirstRowGraph mode.Validate t columns rows x → ⊥

@@ -127,8 +127,8 @@ IsReason plan olds news (stop.Table t row reason) events = RefusedInText plan ev
 IsReason plan olds news other events = ⊥
 
 -- behind the texts so far there is this reason to stop, and what was written of their graph is as it leaves it
-abbrev pub Halts : {R : Type 0} → (R → Option (List ℕ)) → Document → Mode → List (Counted R) → List (Counted R) → Stream → Stop → Type 0
-Halts remaining described mode olds news out reason =
+abbrev pub StopsBehind : {R : Type 0} → (R → Option (List ℕ)) → Document → Mode → List (Counted R) → List (Counted R) → Stream → Stop → Type 0
+StopsBehind remaining described mode olds news out reason =
     SoFar remaining described olds news (λ plan events. IsReason plan olds news reason events × Leaves mode plan out reason events)
 
 -- the texts of the readers are the annotated tables of the group that is described, and their whole graph was written
@@ -151,13 +151,13 @@ IsUntouched olds news out report_out = (news ≡ olds) × IsIdle out × IsIdle r
 abbrev pub LacksMemory : {R : Type 0} → (R → Option (List ℕ)) → Document → Mode → List (Counted R) → List (Counted R) → Stream → Stream → Type 0
 LacksMemory remaining described mode olds news out report_out =
     IsUntouched olds news out report_out
-    ⊎ ((Halts remaining described mode olds news out stop.Memory × IsSound out × IsIdle report_out)
+    ⊎ ((StopsBehind remaining described mode olds news out stop.Memory × IsSound out × IsIdle report_out)
     ⊎ (WroteGroup remaining described mode olds news out × IsSound out))
 
 -- a write failed: of `out` within a line or between two, or in the flush behind a stop; or a flush or the report behind the whole graph
 abbrev pub WriteFails : {R : Type 0} → (R → Option (List ℕ)) → Document → Mode → List (Counted R) → List (Counted R) → Stream → Stream → Type 0
 WriteFails remaining described mode olds news out report_out =
-    (((reason : Stop) × Halts remaining described mode olds news out reason) × Rises out × IsIdle report_out)
+    (((reason : Stop) × StopsBehind remaining described mode olds news out reason) × Rises out × IsIdle report_out)
     ⊎ (WroteGroup remaining described mode olds news out × (Rises out ⊎ Rises report_out))
 
 -- readers and tables differ in number

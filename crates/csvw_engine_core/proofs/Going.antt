@@ -19,7 +19,7 @@ use Rattle.csvw_triples_core.specs.declared.term.Triple.{Triple}
 use Rattle.csvw_triples.specs.ModeTriples.{row_triples}
 use Rattle.csvw_engine_core.specs.Annotated.{IsTable, HasRows}
 use Rattle.csvw_engine_core.specs.Faults.{row_faults, table_faults}
-use Rattle.csvw_engine_core.specs.Tables.{max_rows, TableHolds, KeepsColumns, Keeps, Goes, StopsSo, IsStopped, IsRefused, IsAtRest, Gives, Gone}
+use Rattle.csvw_engine_core.specs.Tables.{max_rows, TableHolds, KeepsColumns, Keeps, Goes, StopsTable, IsStopped, IsRefused, IsAtRest, Gives, Gone}
 use Rattle.csvw_engine_core.specs.Tables.{GivesAll, GivesSome, GivesFront, TableOutcome, Outlets, AddsRows, table_triples}
 use Rattle.csvw_engine_core.specs.declared.stop.Stop.{Stop}
 use Rattle.csvw_engine_core.specs.declared.stop.Stop.TheVariants as stop
@@ -270,7 +270,7 @@ module _ {S : Type 0} (gains : S → List Triple → S → Type 0) (is_open : S 
     }
 
     -- a stop in the text
-    pub text_stops : GivenFirst → (t new : Table) (now : Outlets S) (reason : Stop) → StopsSo plan t reason → IsAsReady is_open failed start.sink now.sink
+    pub text_stops : GivenFirst → (t new : Table) (now : Outlets S) (reason : Stop) → StopsTable plan t reason → IsAsReady is_open failed start.sink now.sink
         → Gone gains plan mode bytes ended given rows first t start now
         → TableOutcome gains is_open failed plan mode bytes ended given rows first new start now (Err reason)
     text_stops law t new now stop.Memory so ready g = (some_given law t now g, ready)

@@ -6,7 +6,7 @@ use Rattle.csvw_records.specs.declared.stop.RowStop.TheVariants as row_stop
 use Rattle.csvw_columns.specs.declared.plan.TablePlan.{TablePlan}
 use Rattle.csvw_triples_core.specs.declared.term.Triple.{Triple}
 use Rattle.csvw_engine_core.specs.Stops.{IsOf, of_row_stop}
-use Rattle.csvw_engine_core.specs.Tables.{Gives, SettlesTable, StopsSo}
+use Rattle.csvw_engine_core.specs.Tables.{Gives, SettlesTable, StopsTable}
 use Rattle.csvw_engine_core.specs.declared.stop.Stop.{Stop}
 use Rattle.csvw_engine_core.specs.declared.stop.Stop.TheVariants as stop
 use Rattle.csvw_engine_core.specs.declared.table.Table.{Table}
@@ -19,7 +19,7 @@ pub own_row_stop : (t row : ℕ) (reason : RowStop) → IsOf t (of_row_stop t ro
 own_row_stop t row row_stop.Memory = tt
 own_row_stop t row other = refl
 
-pub own_in_text : (plan : TablePlan) (t : Table) (reason : Stop) → StopsSo plan t reason → IsOf plan.number reason
+pub own_in_text : (plan : TablePlan) (t : Table) (reason : Stop) → StopsTable plan t reason → IsOf plan.number reason
 own_in_text plan t stop.Memory so = tt
 own_in_text plan t (stop.Rows table row reason) so = so.0
 own_in_text plan t (stop.Table table row reason) so = so.0

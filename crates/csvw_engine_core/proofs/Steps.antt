@@ -24,7 +24,7 @@ use Rattle.csvw_engine_core.specs.Annotated.{header_count, header_row, data_rows
 use Rattle.csvw_engine_core.specs.Annotated.{HasRows, AreAnnotated, RefusesHeader, Refuses, GivesNone}
 use Rattle.csvw_engine_core.specs.Stops.{of_row_stop}
 use Rattle.csvw_engine_core.specs.Heads.{HeadHolds, IsNewHead, Settled, Settles, TakesHeader}
-use Rattle.csvw_engine_core.specs.Tables.{max_rows, TableHolds, IsAtRest, IsStopped, IsRefused, StopsSo, Goes, Keeps, RowFits, Steps, is_ended}
+use Rattle.csvw_engine_core.specs.Tables.{max_rows, TableHolds, IsAtRest, IsStopped, IsRefused, StopsTable, Goes, Keeps, RowFits, Steps, is_ended}
 use Rattle.csvw_engine_core.specs.Stepping.{AnnotatesRow, BeginsWrong, Begins}
 use Rattle.csvw_engine_core.specs.declared.step.Step.TheVariants as step
 use Rattle.csvw_engine_core.specs.declared.stop.Stop.{Stop}
@@ -87,7 +87,7 @@ pub row_fits : FormsLaw → (columns : Option Columns) (known : Columns) (row : 
 row_fits forms columns known row raw e is = subst (λ z. RowFits z row) (sym e) (row_cells_fit known raw row is, forms known raw row is)
 
 pub step_stops : (plan : TablePlan) (old new : Table) (r : Result Step Stop) (e f : Stop) → r ≡ Err e → e ≡ f → is_ended new ≡ is_ended old
-    → StopsSo plan old f → Steps plan old new r
+    → StopsTable plan old f → Steps plan old new r
 step_stops plan old new r e f p q ended so = subst (Steps plan old new) (sym (p ∙ ap Err q)) (ended, so)
 
 no_rows : (given : List Given) → length given < 1 → given ≡ []
@@ -200,14 +200,10 @@ stopped : (plan : TablePlan) (old : Table) (stop : RowStop) (row : ℕ) → Rows
 stopped plan old stop row is none mode bytes ended given rows h =
     let k = is none plan.dialect max_rows bytes ended given h.reader in record { all = k.0; stops = k.1 }
 
-pub records_stopped : (plan : TablePlan) (old : Table) (stop : RowStop) (row : ℕ) → RowsStopped old.rows stop row → StopsSo plan old (of_row_stop plan.number row stop)
+pub records_stopped : (plan : TablePlan) (old : Table) (stop : RowStop) (row : ℕ) → RowsStopped old.rows stop row
+    → StopsTable plan old (of_row_stop plan.number row stop)
 records_stopped plan old row_stop.Memory row is = tt
-records_stopped plan old row_stop.NotUtf8 row is = (refl, stopped plan old row_stop.NotUtf8 row is (λ e. cc))
-records_stopped plan old row_stop.RowTooLong row is = (refl, stopped plan old row_stop.RowTooLong row is (λ e. cc))
-records_stopped plan old row_stop.BadQuote row is = (refl, stopped plan old row_stop.BadQuote row is (λ e. cc))
-records_stopped plan old row_stop.TextAfterQuote row is = (refl, stopped plan old row_stop.TextAfterQuote row is (λ e. cc))
-records_stopped plan old row_stop.UnclosedQuote row is = (refl, stopped plan old row_stop.UnclosedQuote row is (λ e. cc))
-records_stopped plan old row_stop.TooManyRows row is = (refl, stopped plan old row_stop.TooManyRows row is (λ e. cc))
+records_stopped plan old other row is = (refl, stopped plan old other row is (λ e. cc))
 
 -- a row that the table refuses
 module _ (plan : TablePlan) (old : Table) (new : Rows) (raw : Given) (gives : GivesRow old.rows new raw) (law : GivenFirst) where
@@ -221,7 +217,8 @@ module _ (plan : TablePlan) (old : Table) (new : Rows) (raw : Given) (gives : Gi
   }
 
   -- a data row
-  pub row_refused : (columns : Columns) (reason : Stop) → old.head.columns ≡ Some columns → AnnotatesRow plan columns raw (Err reason) → StopsSo plan old reason
+  pub row_refused : (columns : Columns) (reason : Stop) → old.head.columns ≡ Some columns → AnnotatesRow plan columns raw (Err reason)
+      → StopsTable plan old reason
   row_refused columns stop.Memory known refusal = tt
   row_refused columns (stop.Table table row reason) known (own, refusal) = (
     own,
@@ -231,7 +228,7 @@ module _ (plan : TablePlan) (old : Table) (new : Rows) (raw : Given) (gives : Gi
 
   -- the last header row
   pub header_refused : (head : Head) (reason : Stop) → old.head.columns ≡ None → 0 < header_count plan
-      → TakesHeader plan raw old.head head (Err reason) → StopsSo plan old reason
+      → TakesHeader plan raw old.head head (Err reason) → StopsTable plan old reason
   header_refused head stop.Memory none some refusal = tt
   header_refused head (stop.Table table row reason) none some (own, refusal) = (
     own,
@@ -250,7 +247,7 @@ module _ (plan : TablePlan) (old : Table) (new : Rows) (raw : Given) (gives : Gi
 
   -- the header that the first data row is, or this row
   pub first_refused : (reason : Stop) (head : Head) → old.head.columns ≡ None → header_count plan ≡ 0
-      → Settles plan (Some (length raw.fields)) raw.source old.head head (Err reason) → StopsSo plan old reason
+      → Settles plan (Some (length raw.fields)) raw.source old.head head (Err reason) → StopsTable plan old reason
   first_refused stop.Memory head none without refusal = tt
   first_refused (stop.Table table row reason) head none without (own, gives_none, source) = (
     own,
@@ -269,7 +266,7 @@ module _ (plan : TablePlan) (old : Table) (new : Rows) (raw : Given) (gives : Gi
 
   pub first_row_refused : (columns : Columns) (reason : Stop) (head : Head) → old.head.columns ≡ None → header_count plan ≡ 0
       → Settled plan (Some (length raw.fields)) old.head head → head.columns ≡ Some columns
-      → AnnotatesRow plan columns raw (Err reason) → StopsSo plan old reason
+      → AnnotatesRow plan columns raw (Err reason) → StopsTable plan old reason
   first_row_refused columns stop.Memory head none without s known refusal = tt
   first_row_refused columns (stop.Table table row reason) head none without s known (own, refusal) = (
     own,
@@ -300,7 +297,7 @@ module _ (plan : TablePlan) (old new : Table) (raw : Given) (gives : GivesRow ol
     mode = mode;
   }
 
-  begun_wrong : (reason : Stop) → BeginsWrong plan raw old.head new.head reason → StopsSo plan old reason
+  begun_wrong : (reason : Stop) → BeginsWrong plan raw old.head new.head reason → StopsTable plan old reason
   begun_wrong reason (inl takes) = header_refused plan old new.rows raw gives law new.head reason none takes.0 takes.1
   begun_wrong reason (inr (inl settles)) = first_refused plan old new.rows raw gives law reason new.head none settles.0 settles.1
   begun_wrong reason (inr (inr first)) =

@@ -88,15 +88,15 @@ pub record IsRefused (plan : TablePlan) (columns : Option Columns) (bytes : List
   pub refuses : Refuses plan given columns raw row stop
 
 -- why a table stops in its text
-abbrev pub StopsSo : TablePlan → Table → Stop → Type 0
-StopsSo plan t stop.Memory = Unit {0}
-StopsSo plan t (stop.Rows table row reason) = (table ≡ plan.number)
+abbrev pub StopsTable : TablePlan → Table → Stop → Type 0
+StopsTable plan t stop.Memory = Unit {0}
+StopsTable plan t (stop.Rows table row reason) = (table ≡ plan.number)
     × ((mode : Mode) (bytes : List ℕ) (ended : Bool) (given : List Given) (rows : List Row) → TableHolds plan mode t bytes ended given rows
     → IsStopped plan bytes ended given row reason)
-StopsSo plan t (stop.Table table row reason) = (table ≡ plan.number)
+StopsTable plan t (stop.Table table row reason) = (table ≡ plan.number)
     × ((mode : Mode) (bytes : List ℕ) (ended : Bool) (given : List Given) (rows : List Row) → TableHolds plan mode t bytes ended given rows
     → IsRefused plan t.head.columns bytes ended given row reason)
-StopsSo plan t other = ⊥
+StopsTable plan t other = ⊥
 
 -- what is the same after each step
 pub record Keeps (old new : Table) : Type 0 where
@@ -114,7 +114,7 @@ Steps plan old new (Ok step.Header) = Keeps old new × (unread new.rows < unread
 Steps plan old new (Ok step.Nothing) = Keeps old new
     × ((mode : Mode) (bytes : List ℕ) (ended : Bool) (given : List Given) (rows : List Row) → TableHolds plan mode old bytes ended given rows
     → TableHolds plan mode new bytes ended given rows × IsAtRest plan bytes ended given)
-Steps plan old new (Err reason) = (is_ended new ≡ is_ended old) × StopsSo plan old reason
+Steps plan old new (Err reason) = (is_ended new ≡ is_ended old) × StopsTable plan old reason
 
 -- the triples of rows of a table, of which there are none without columns
 abbrev pub table_triples : Mode → ℕ → Option Columns → List Row → List Triple

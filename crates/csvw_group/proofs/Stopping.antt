@@ -331,9 +331,4 @@ module _ {S : Type 0} (gains : S → List Triple → S → Type 0) (is_open : S 
         took_front _ (k.2 start events h).0
         (λ plan columns given why rows faults table. record { given = given; faults = faults; table = inl table; all = inr (row, reason, why) })
     took_by stop.Read k = absurd k
-    took_by (stop.Meta fault) k = tt
-    took_by stop.TableCount k = tt
-    took_by stop.UnknownTable k = tt
-    took_by stop.AfterEnd k = tt
-    took_by stop.NotEnded k = tt
-    took_by stop.Failed k = tt
+    took_by other k = tt
