@@ -1,5 +1,5 @@
 //! URI templates.
-ghost use Rattle.std.specs.Prelude.{◌≡◌, ◌++◌, IfOk, OnOk, string_bytes, true};
+ghost use Rattle.std.specs.Prelude.{◌≡◌, ◌++◌, ◌↔◌, IfOk, IsTrue, OnOk, string_bytes};
 ghost use Rattle.csvw_text.specs.Gives.{Gives};
 ghost use Rattle.csvw_template.specs.Fault.{told};
 ghost use Rattle.csvw_template.specs.Expand.{expand};
@@ -103,9 +103,9 @@ impl Template {
         self.parts.as_slice()
     }
 
-    /// Whether it is read from the same text as another template, and so equal to it.
+    /// Whether it is equal to another template, which is so exactly where both are read from one text.
     pub fn is_same(&self, other: &Template) -> bool
-        ensures { result ≡ true → self.now ≡ other.now }
+        ensures { IsTrue result ↔ self.now ≡ other.now }
     {
         self.text.as_str() == other.text.as_str()
     }

@@ -9,7 +9,7 @@ pub returns-then-is_same : goal.returns-then-is_same
 returns-then-is_same c = λ h base columns.
     let one = c.get-one.ensures in
     let other = c.get.ensures in
-    let same = sym one ∙ c.is_same.ensures c.if-is_same.true ∙ other in
+    let same = sym one ∙ c.is_same.ensures.0 c.if-is_same.true ∙ other in
     let parts = c.parts.ensures ∙ one in
     let none = ap (list_any names_column) (sym parts) ∙ sym c.any_names_column.ensures ∙ fails c.any_names_column.result h in
     shared base columns c.args.one.now c.args.other.now
