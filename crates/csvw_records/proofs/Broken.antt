@@ -3,7 +3,7 @@ use Rattle.std.proofs.Common.{◌≡◌, ◌≢◌, ℕ, Bool, true, false, ◌&
 use Rattle.std.proofs.Common.{arith, append_assoc, append-nil, inl, inr, IsTrue}
 use Rattle.csvw_dialect.specs.declared.dialect.Dialect.{Dialect}
 use Rattle.csvw_records.specs.declared.stop.RowStop.{RowStop}
-use Rattle.csvw_records.specs.declared.stop.RowStop.TheVariants.{Memory, NotUtf8, RowTooLong, BadQuote, TextAfterQuote, UnclosedQuote, TooManyRows}
+use Rattle.csvw_records.specs.declared.stop.RowStop.TheVariants.{BadQuote, TextAfterQuote}
 use Rattle.csvw_records.specs.declared.scan.State.{State}
 use Rattle.csvw_records.specs.declared.scan.State.TheVariants.{Start, Plain, Inside, Escaped, Closed}
 use Rattle.csvw_records.specs.declared.scan.Step.{Step}
@@ -24,13 +24,9 @@ IsReading d Escaped src cur text = (opened : List ℕ) × IsOpened d opened cur 
 IsReading d Closed src cur text = IsQuoted d src cur
 
 abbrev pub IsRule : Dialect → List ℕ → RowStop → Type 0
-IsRule d text Memory = ⊥
-IsRule d text NotUtf8 = ⊥
-IsRule d text RowTooLong = ⊥
 IsRule d text BadQuote = HasBadQuote d text
 IsRule d text TextAfterQuote = HasTextAfter d text
-IsRule d text UnclosedQuote = ⊥
-IsRule d text TooManyRows = ⊥
+IsRule d text other = ⊥
 
 abbrev pub Tells : Dialect → List ℕ → Outcome → Type 0
 Tells d text (Found vs after) = Unit {0}

@@ -7,7 +7,7 @@ use Rattle.std.proofs.lemmas.Grind.{common_steps}
 use Rattle.std.proofs.lemmas.List.{take-append-drop}
 use Rattle.csvw_dialect.specs.declared.dialect.Dialect.{Dialect}
 use Rattle.csvw_records.specs.declared.stop.RowStop.{RowStop}
-use Rattle.csvw_records.specs.declared.stop.RowStop.TheVariants.{Memory, NotUtf8, RowTooLong, BadQuote, TextAfterQuote, UnclosedQuote, TooManyRows}
+use Rattle.csvw_records.specs.declared.stop.RowStop.TheVariants.{BadQuote, TextAfterQuote, UnclosedQuote}
 use Rattle.csvw_records.specs.declared.scan.State.{State}
 use Rattle.csvw_records.specs.declared.scan.State.TheVariants.{Start, Plain, Inside, Escaped, Closed}
 use Rattle.csvw_records.specs.Files.{is_note}
@@ -215,13 +215,9 @@ module _ (d : Dialect) (i : ℕ) (text : List ℕ) (stop : RowStop) (at : ℕ) (
   is_rule whole = by_stop stop (subst (Tells d text) e (run_tells d text))
     where
       by_stop : (s : RowStop) → IsRule d text s → IsBroken d i text whole s
-      by_stop Memory r = r
-      by_stop NotUtf8 r = r
-      by_stop RowTooLong r = r
       by_stop BadQuote r = (n, r)
       by_stop TextAfterQuote r = (n, r)
-      by_stop UnclosedQuote r = absurd r
-      by_stop TooManyRows r = r
+      by_stop other r = absurd r
 
   none_found : (f : Bool) → next_row f d i text ≡ None
   none_found f = fields_next f d i text n ∙ ap (λ o. found_row d (finish o f)) e

@@ -3,7 +3,7 @@ use Rattle.std.specs.Prelude.{◌≡◌, ◌≢◌, ◌⊎◌, ℕ, ◌+◌, ◌
 use Rattle.std.specs.Str.Lossy.{utf8_valid_len, utf8_error_len}
 use Rattle.csvw_dialect.specs.declared.dialect.Dialect.{Dialect}
 use Rattle.csvw_records.specs.declared.stop.RowStop.{RowStop}
-use Rattle.csvw_records.specs.declared.stop.RowStop.TheVariants.{Memory, NotUtf8, RowTooLong, BadQuote, TextAfterQuote, UnclosedQuote, TooManyRows}
+use Rattle.csvw_records.specs.declared.stop.RowStop.TheVariants.{NotUtf8, RowTooLong, BadQuote, TextAfterQuote, UnclosedQuote, TooManyRows}
 use Rattle.csvw_records.specs.Grammar.{terminator_len, IsPlain, AreSkipped, IsOpened, IsQuoted, IsField}
 use Rattle.csvw_records.specs.Files.{Row, IsRow, AreRows, File, Front, is_note, is_text, content}
 use Rattle.csvw_records.specs.Lengths.{byte_len, row_limit}
@@ -71,23 +71,19 @@ pub record IsLeftOpen (d : Dialect) (part : List ℕ) : Type 0 where
 
 -- the rule that is broken in a part of the row behind so many others
 abbrev pub IsBroken : Dialect → ℕ → List ℕ → Bool → RowStop → Type 0
-IsBroken d count part ended Memory = ⊥
-IsBroken d count part ended NotUtf8 = ⊥
-IsBroken d count part ended RowTooLong = ⊥
 IsBroken d count part ended BadQuote = (is_note d count part ≡ false) × HasBadQuote d part
 IsBroken d count part ended TextAfterQuote = (is_note d count part ≡ false) × HasTextAfter d part
 IsBroken d count part ended UnclosedQuote = (is_note d count part ≡ false) × IsTrue ended × IsLeftOpen d part
-IsBroken d count part ended TooManyRows = ⊥
+IsBroken d count part ended other = ⊥
 
 -- the name of the stop behind so many rows, of which there may be max, where this part of the next is read
 abbrev pub IsNamed : Dialect → ℕ → ℕ → List ℕ → Bool → RowStop → Type 0
-IsNamed d max count part ended Memory = ⊥
-IsNamed d max count part ended NotUtf8 = ⊥
 IsNamed d max count part ended RowTooLong = row_limit < byte_len part
 IsNamed d max count part ended BadQuote = (byte_len part ≤ row_limit) × IsBroken d count part ended BadQuote
 IsNamed d max count part ended TextAfterQuote = (byte_len part ≤ row_limit) × IsBroken d count part ended TextAfterQuote
 IsNamed d max count part ended UnclosedQuote = (byte_len part ≤ row_limit) × IsBroken d count part ended UnclosedQuote
 IsNamed d max count part ended TooManyRows = (length part ≡ 1) × (count ≡ max)
+IsNamed d max count part ended other = ⊥
 
 -- at a character
 pub record StopsInText (d : Dialect) (max : ℕ) (bytes : List ℕ) (front : List Row) (stop : RowStop) : Type 0 where

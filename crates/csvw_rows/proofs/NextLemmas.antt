@@ -39,23 +39,16 @@ breaks_named : (d : Dialect) (i : ℕ) (part : List ℕ) (stop : RowStop) → Br
 breaks_named d i part stop b = by_stop stop (subst (Tells d part) (run_whole d part ∙ ap (λ o. goes_on d o (unsettled d part)) b.broken) (run_tells d part))
   where
     by_stop : (s : RowStop) → IsRule d part s → IsBroken d i part false s
-    by_stop Memory r = r
-    by_stop NotUtf8 r = r
-    by_stop RowTooLong r = r
     by_stop BadQuote r = (b.no_note, r)
     by_stop TextAfterQuote r = (b.no_note, r)
-    by_stop UnclosedQuote r = absurd r
-    by_stop TooManyRows r = r
+    by_stop other r = absurd r
 
 named_of : (d : Dialect) (max i : ℕ) (part : List ℕ) (ended : Bool) (stop : RowStop) → byte_len part ≤ row_limit → IsBroken d i part ended stop
     → IsNamed d max i part ended stop
-named_of d max i part ended Memory h b = b
-named_of d max i part ended NotUtf8 h b = b
-named_of d max i part ended RowTooLong h b = absurd b
 named_of d max i part ended BadQuote h b = (h, b)
 named_of d max i part ended TextAfterQuote h b = (h, b)
 named_of d max i part ended UnclosedQuote h b = (h, b)
-named_of d max i part ended TooManyRows h b = absurd b
+named_of d max i part ended other h b = absurd b
 
 -- a row in a front of a text is in the text
 abbrev row_in : (d : Dialect) (i : ℕ) (text : List ℕ) (k : ℕ) → HasRow d i (take k text) → HasRow d i text
@@ -417,11 +410,7 @@ stop_gives : (after : After) (d : Dialect) (max i : ℕ) (text : List ℕ) (stop
     → StopsHere (is_last after) d max i text stop → StopGives after d max i text stop
 stop_gives after d max i text Memory n s = tt
 stop_gives after d max i text NotUtf8 n s = absurd (n refl)
-stop_gives after d max i text RowTooLong n s = s
-stop_gives after d max i text BadQuote n s = s
-stop_gives after d max i text TextAfterQuote n s = s
-stop_gives after d max i text UnclosedQuote n s = s
-stop_gives after d max i text TooManyRows n s = s
+stop_gives after d max i text other n s = s
 
 never_bytes : (d : Dialect) (i : ℕ) (text : List ℕ) (b : Bool) (stop : RowStop) → IsBroken d i text b stop → stop ≡ NotUtf8 → ⊥
 never_bytes d i text b stop k e = subst (IsBroken d i text b) e k

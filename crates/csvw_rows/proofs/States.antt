@@ -11,7 +11,7 @@ use Rattle.csvw_dialect.specs.declared.dialect.Dialect.{Dialect}
 use Rattle.csvw_rows.specs.declared.rows.Rows.{Rows}
 use Rattle.csvw_rows.specs.declared.source.Source.{Source}
 use Rattle.csvw_records.specs.declared.stop.RowStop.{RowStop}
-use Rattle.csvw_records.specs.declared.stop.RowStop.TheVariants.{Memory, NotUtf8, RowTooLong, BadQuote, TextAfterQuote, UnclosedQuote, TooManyRows}
+use Rattle.csvw_records.specs.declared.stop.RowStop.TheVariants.{Memory, NotUtf8}
 use Rattle.csvw_rows.specs.declared.next.After.TheVariants.{More, Nothing, NoText}
 use Rattle.csvw_dialect.specs.Lawful.{IsLawful}
 use Rattle.csvw_records.specs.Files.{Row, Front, AreRows, EndsOpen, IsWhole, content, is_text, Body, remaining, remaining_fields, without_mark, is_empty}
@@ -158,11 +158,6 @@ module _ (s : Rows) (d : Dialect) (max : ℕ) (bytes : List ℕ) (ended : Bool) 
   pub stopped : (e : RowStop) → e ≢ Memory → StopGives (after_of s) s.rules.dialect s.max_rows s.row (rest_of s.source) e
       → HasGiven d max bytes ended given × StopOf d max bytes ended e (reading_of s)
   stopped Memory n t = absurd (n refl)
-  stopped RowTooLong n t = here RowTooLong t
-  stopped BadQuote n t = here BadQuote t
-  stopped TextAfterQuote n t = here TextAfterQuote t
-  stopped UnclosedQuote n t = here UnclosedQuote t
-  stopped TooManyRows n t = here TooManyRows t
   stopped NotUtf8 n (a, goes, none) =
       let why = after_bytes (is_bad_of s.source) s.ended (not (length (pending_of s.source) == 0)) a in
       let some : drop (utf8_valid_len bytes) bytes ≡ [] → ⊥ = λ z. elim why [
@@ -178,6 +173,7 @@ module _ (s : Rows) (d : Dialect) (max : ℕ) (bytes : List ℕ) (ended : Bool) 
       (subst (λ (x : Dialect). NoRow x s.max_rows s.row (rest_of s.source)) h.dialect none)))
       (no_text_of bytes some) bad in
       (record { front = h.rows; is_front = r.is_front; all = h.given_is }, subst (λ (n : ℕ). StopOf d max bytes ended NotUtf8 (n + 1)) (sym h.row_is) r.stands)
+  stopped other n t = here other t
 
 -- a new reader
 pub new_holds : (s : Rows) (d : Dialect) (max : ℕ) → s.rules.dialect ≡ d → s.max_rows ≡ max → s.ended ≡ false → s.stop ≡ None → s.row ≡ 0 → s.remained ≡ 0

@@ -2,7 +2,7 @@
 use Rattle.std.specs.Prelude.{◌≡◌, ◌≢◌, ◌⊎◌, ℕ, ◌<◌, ◌≤◌, Bool, true, false, List, [], ◌++◌, length, take, drop, Option}
 use Rattle.csvw_dialect.specs.declared.dialect.Dialect.{Dialect}
 use Rattle.csvw_records.specs.declared.stop.RowStop.{RowStop}
-use Rattle.csvw_records.specs.declared.stop.RowStop.TheVariants.{Memory, NotUtf8, RowTooLong, BadQuote, TextAfterQuote, UnclosedQuote, TooManyRows}
+use Rattle.csvw_records.specs.declared.stop.RowStop.TheVariants.{Memory, NotUtf8}
 use Rattle.csvw_rows.specs.declared.next.After.{After}
 use Rattle.csvw_rows.specs.declared.next.After.TheVariants.{More, Nothing, NoText}
 use Rattle.csvw_records.specs.Grammar.{terminator_len}
@@ -43,11 +43,7 @@ pub record StopsHere (whole : Bool) (d : Dialect) (max i : ℕ) (text : List ℕ
 abbrev pub StopGives : After → Dialect → ℕ → ℕ → List ℕ → RowStop → Type 0
 StopGives after d max i text Memory = Unit {0}
 StopGives after d max i text NotUtf8 = (after ≡ NoText) × Goes d max i text × NoRow d max i text
-StopGives after d max i text RowTooLong = StopsHere (is_last after) d max i text RowTooLong
-StopGives after d max i text BadQuote = StopsHere (is_last after) d max i text BadQuote
-StopGives after d max i text TextAfterQuote = StopsHere (is_last after) d max i text TextAfterQuote
-StopGives after d max i text UnclosedQuote = StopsHere (is_last after) d max i text UnclosedQuote
-StopGives after d max i text TooManyRows = StopsHere (is_last after) d max i text TooManyRows
+StopGives after d max i text other = StopsHere (is_last after) d max i text other
 
 -- no row is complete
 abbrev pub Waits : After → Dialect → ℕ → ℕ → List ℕ → Type 0
