@@ -15,7 +15,7 @@ use Rattle.csvw_description.specs.declared.description.Description.{Description}
 use Rattle.csvw_description.specs.declared.inherited.Inherited.{Inherited}
 use Rattle.csvw_description.specs.declared.schema.Schema.{Schema}
 use Rattle.csvw_description.specs.declared.table.TableDescription.{TableDescription}
-use Rattle.csvw_columns_core.specs.Inherited.{inherited, string_type, IsDefaults}
+use Rattle.csvw_columns_core.specs.Inherited.{inherited, string_type}
 use Rattle.csvw_columns_core.specs.SchemaColumns.{declared_from, column_limit}
 use Rattle.csvw_description.specs.Name.{name_of}
 use Rattle.csvw_columns.specs.Distinct.{AllDistinct}
@@ -132,11 +132,10 @@ short_names group (t ∷ ts) g fit =
     All-cons (λ names. length names ≤ column_limit) (numbered_names 0 (schema_of t.schema group).columns)
     (map (λ t. numbered_names 0 (schema_of t.schema group).columns) ts) first (short_names group ts g (All-tail IsFitTable t ts fit))
 
-pub known : (k : Known) (d : Description) → IsDefaults k.defaults → k.targets ≡ targets_of d → IsFitGroup d → IsKnown k
-known k d defaults targets fit =
+pub known : (k : Known) (d : Description) → k.targets ≡ targets_of d → IsFitGroup d → IsKnown k
+known k d targets fit =
     let tables : length (targets_of d).urls ≤ table_limit = omega (arith, length-map d.tables (λ t. iri_of t.url), fit.limit) in
     record {
-      defaults = defaults;
       tables = subst (λ t. length t.urls ≤ table_limit) (sym targets) tables;
       names = subst (λ t. All (λ names. length names ≤ column_limit) t.names) (sym targets) (short_names d.schema d.tables fit.schema fit.tables);
     }

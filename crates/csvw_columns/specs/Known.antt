@@ -1,12 +1,10 @@
 -- What is known of a group while its tables are planned.
 use Rattle.std.specs.Prelude.{◌≤◌, length, All}
-use Rattle.csvw_columns_core.specs.Inherited.{IsDefaults}
 use Rattle.csvw_columns_core.specs.SchemaColumns.{column_limit}
 use Rattle.csvw_columns.specs.Fit.{table_limit}
 use Rattle.csvw_columns.specs.declared.planning.Known.{Known}
 
--- the defaults are those of the standard, and the limits are kept
+-- the limits are kept
 pub record IsKnown (known : Known) : Type 0 where
-  pub defaults : IsDefaults known.defaults
   pub tables : length known.targets.urls ≤ table_limit
   pub names : All (λ names. length names ≤ column_limit) known.targets.names

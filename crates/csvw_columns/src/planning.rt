@@ -1,7 +1,6 @@
 //! The plan of a group of tables.
 ghost use Rattle.std.specs.Prelude.{◌≡◌, ◌≤◌, [], IfOk, IfSome, All, length, unwrap_or};
 ghost use Rattle.csvw_iri.specs.Link.{iri_of};
-ghost use Rattle.csvw_columns_core.specs.Inherited.{IsDefaults};
 ghost use Rattle.csvw_columns_core.specs.declared.declared.Frame.{Frame as TheFrame};
 ghost use Rattle.csvw_columns_core.specs.SchemaColumns.{column_limit, declared_columns};
 ghost use Rattle.csvw_columns.specs.Fit.{table_limit, IsFitDialect, IsFitSchema, IsFitTable, IsFitGroup};
@@ -44,7 +43,6 @@ fn declared(
     group: &Inherited,
     schema: &Option<Schema>,
 ) -> Result<Seq<Column>, AllocError>
-    requires defaults { IsDefaults defaults.now }
     requires skipped { frame.now.skip_columns ≤ column_limit }
     requires limit { length (unwrap_or schema.now no_schema).columns ≤ column_limit }
     ensures { IfOk result (λ cs. cs ≡ declared_columns (iri_of frame.now.url) frame.now.skip_columns frame.now.schema frame.now.table
@@ -86,7 +84,6 @@ fn framed(
     table: &TableDescription,
     skip_columns: u32,
 ) -> Result<(Frame, Seq<Column>), AllocError>
-    requires defaults { IsDefaults known.now.defaults }
     requires skipped { skip_columns ≤ column_limit }
     requires limit { length (schema_of table.now.schema group.now.schema).columns ≤ column_limit }
     ensures { let schema = schema_of table.now.schema group.now.schema in
@@ -108,7 +105,6 @@ fn bare_plan(
     number: u32,
     table: &TableDescription,
 ) -> Result<TablePlan, AllocError>
-    requires defaults { IsDefaults known.now.defaults }
     requires skipped { (dialect_of table.now.dialect group.now.dialect).skip_columns ≤ column_limit }
     requires limit { length (schema_of table.now.schema group.now.schema).columns ≤ column_limit }
     ensures { IfOk result (λ p. p ≡ record (table_plan known.now.targets group.now number table.now) { primary_key = []; foreign_keys = []; notes = [] }) }

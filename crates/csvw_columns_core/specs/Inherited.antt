@@ -1,12 +1,11 @@
 -- The value of an inherited property: the first that is present, read from the column outwards, else the default
 -- (Metadata Vocabulary for Tabular Data, section 5.7).
-use Rattle.std.specs.Prelude.{◌≡◌, List, [], ◌∷◌, Option, Some, None, false, codes, unwrap_or}
+use Rattle.std.specs.Prelude.{◌≡◌, ℕ, List, [], ◌∷◌, Option, Some, None, false, codes, unwrap_or}
 use Rattle.csvw_datatype.specs.Breaks.{no_facets}
 use Rattle.csvw_datatype.specs.declared.datatype.Datatype.{Datatype}
 use Rattle.csvw_datatype.specs.declared.simple.Simple.TheVariants as simple
 use Rattle.csvw_description.specs.declared.inherited.Inherited.{Inherited}
 use Rattle.csvw_columns_core.specs.declared.properties.Properties.{Properties}
-use Rattle.csvw_columns_core.specs.declared.properties.Defaults.{Defaults}
 
 -- the inner value where it is present, else the outer
 abbrev pub first_of : {A : Type 0} → Option A → Option A → Option A
@@ -26,11 +25,11 @@ abbrev pub string_type : Datatype
 string_type = record { simple = simple.Text; id = None; format = None; facets = no_facets }
 
 -- the defaults of section 5.7
-pub record IsDefaults (d : Defaults) : Type 0 where
-  pub datatype : d.datatype ≡ string_type
-  pub default : d.default ≡ []
-  pub lang : d.lang ≡ codes "und"
-  pub null_texts : d.null ≡ [] ∷ []
+pub record AreDefaults (datatype : Datatype) (default lang : List ℕ) (nulls : List (List ℕ)) : Type 0 where
+  pub datatype_is : datatype ≡ string_type
+  pub default_is : default ≡ []
+  pub lang_is : lang ≡ codes "und"
+  pub nulls_are : nulls ≡ [] ∷ []
 
 -- a property that has no default
 abbrev pub inherited_or_none : {A : Type 0} → Option A → Option A → Option A → Option A → Option A

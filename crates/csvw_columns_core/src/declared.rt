@@ -1,7 +1,7 @@
 //! The columns that a schema declares.
 ghost use Rattle.std.specs.Prelude.{◌≡◌, ◌<◌, ◌≤◌, ◌+◌, ◌^◌, IfOk, length};
 ghost use Rattle.csvw_iri.specs.Link.{iri_of};
-ghost use Rattle.csvw_columns_core.specs.Inherited.{IsDefaults, properties_of};
+ghost use Rattle.csvw_columns_core.specs.Inherited.{properties_of};
 ghost use Rattle.csvw_columns_core.specs.LiteralDatatype.{literal_datatype};
 ghost use Rattle.csvw_columns_core.specs.SchemaColumns.{column_limit, source_number_of, declared, declared_columns};
 
@@ -53,7 +53,6 @@ impl Frame {
         group: &Inherited,
         own: &Inherited,
     ) -> Result<(Properties, Iri), AllocError>
-        requires { IsDefaults defaults.now }
         ensures { IfOk result (λ found. (found.0 ≡ properties_of own.now self.now.schema self.now.table group.now)
             × (found.1 ≡ literal_datatype found.0.datatype)) }
     {
@@ -72,7 +71,6 @@ impl Frame {
         number: u32,
         description: &ColumnDescription,
     ) -> Result<Column, AllocError>
-        requires defaults { IsDefaults defaults.now }
         requires number { self.now.skip_columns + number < 2 ^ 32 }
         ensures { IfOk result (λ c. c ≡ declared (iri_of self.now.url) self.now.skip_columns self.now.schema self.now.table group.now number description.now) }
     {
@@ -105,7 +103,6 @@ impl Frame {
         group: &Inherited,
         descriptions: &[ColumnDescription],
     ) -> Result<Seq<Column>, AllocError>
-        requires defaults { IsDefaults defaults.now }
         requires skipped { self.now.skip_columns ≤ column_limit }
         requires limit { length descriptions.now ≤ column_limit }
         ensures { IfOk result (λ cs. cs ≡ declared_columns (iri_of self.now.url) self.now.skip_columns

@@ -1,6 +1,6 @@
 //! The properties of a column, with what it inherits.
 ghost use Rattle.std.specs.Prelude.{◌≡◌, Option, Ok, IfOk, unwrap_or, false};
-ghost use Rattle.csvw_columns_core.specs.Inherited.{IsDefaults, first_of, inherited, inherited_or_none, properties_of};
+ghost use Rattle.csvw_columns_core.specs.Inherited.{first_of, inherited, inherited_or_none, properties_of};
 
 use crate::properties::{Defaults, Properties};
 use csvw_description::Inherited;
@@ -121,7 +121,6 @@ impl Defaults {
         t: &Inherited,
         g: &Inherited,
     ) -> Result<Properties, AllocError>
-        requires { IsDefaults self.now }
         ensures { IfOk result (λ p. p ≡ properties_of c.now s.now t.now g.now) }
     {
         let links = found_links(alloc, c, s, t, g);

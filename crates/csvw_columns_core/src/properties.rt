@@ -1,6 +1,6 @@
 //! The inherited properties of a column, with their defaults.
 ghost use Rattle.std.specs.Prelude.{◌≡◌, [], ◌∷◌, IfOk, codes};
-ghost use Rattle.csvw_columns_core.specs.Inherited.{IsDefaults, string_type};
+ghost use Rattle.csvw_columns_core.specs.Inherited.{AreDefaults, string_type};
 
 use csvw_datatype::{Datatype, Facets, Simple};
 use csvw_template::Template;
@@ -33,23 +33,26 @@ pub struct Properties {
     pub separator: Option<Shared<Text>>,
 }
 
-/// The defaults of the inherited properties that have a text or a datatype, which columns share.
+/// The defaults of the inherited properties that have a text or a datatype (Metadata Vocabulary for Tabular Data, section
+/// 5.7), which columns share.
 #[derive(Debug, Drop)]
 pub struct Defaults {
     /// String, without a format or facets.
-    pub datatype: Shared<Datatype>,
+    pub(crate) datatype: Shared<Datatype>,
     /// The empty text.
-    pub default: Shared<Text>,
+    pub(crate) default: Shared<Text>,
     /// `und`.
-    pub lang: Shared<LanguageTag>,
+    pub(crate) lang: Shared<LanguageTag>,
     /// The empty text alone.
-    pub null: Shared<Seq<Text>>,
+    pub(crate) null: Shared<Seq<Text>>,
+    /// They are so, and no others.
+    ghost are_defaults: { AreDefaults datatype default lang null },
 }
 
 impl Defaults {
     /// The defaults; `AllocError` where there is no memory.
     pub fn new(alloc: Global) -> Result<Defaults, AllocError>
-        ensures { IfOk result IsDefaults }
+        ensures { IfOk result (λ d. AreDefaults d.datatype d.default d.lang d.null) }
     {
         let values = both(string_type(alloc), Shared::new(alloc, Text::new(alloc)));
         let texts = both(undetermined(alloc), empty_text_alone(alloc));
