@@ -5,14 +5,14 @@ use Rattle.csvw_datatype.specs.Sound.{IsSound}
 use Rattle.csvw_columns_core.specs.Columns.{field_count}
 use Rattle.csvw_columns_core.specs.declared.column.Column.{Column}
 use Rattle.csvw_columns_core.specs.declared.columns.Columns.{Columns}
+use Rattle.csvw_columns_core.specs.declared.table_stop.TableStop.{TableStop}
+use Rattle.csvw_columns_core.specs.declared.table_stop.TableStop.TheVariants.{Memory, RaggedRow}
 use Rattle.csvw_cell.specs.CellOf.{CellOf}
 use Rattle.csvw_cell.specs.declared.cell.CellValue.TheVariants.{Null}
 use Rattle.csvw_annotate.specs.declared.row.AnnCell.{AnnCell}
 use Rattle.csvw_annotate.specs.declared.row.Row.{Row}
-use Rattle.csvw_annotate.specs.declared.row_stop.RowStop.{RowStop}
 use Rattle.csvw_annotate.specs.Linked.{linked_cells}
 use Rattle.csvw_links.specs.declared.numbers.RowNumbers.{RowNumbers}
-use Rattle.csvw_annotate.specs.declared.row_stop.RowStop.TheVariants.{Memory, RaggedRow}
 
 abbrev pub null_cell : AnnCell
 null_cell = record { value = Null; about = None; property = None; link = None; faults = [] }
@@ -48,10 +48,11 @@ pub record IsRow (columns : Columns) (raw : Given) (row : Row) : Type 0 where
   pub cells : row.cells ≡ linked_cells columns (numbers_of raw) unlinked
 
 -- the answer is the annotated row, or a refusal where the row doesn't fit; of want of memory nothing is said
-abbrev pub Annotates : Columns → Given → Result Row RowStop → Type 0
+abbrev pub Annotates : Columns → Given → Result Row TableStop → Type 0
 Annotates columns raw (Ok row) = IsRow columns raw row
 Annotates columns raw (Err RaggedRow) = Fits columns raw → ⊥
 Annotates columns raw (Err Memory) = Unit {0}
+Annotates columns raw (Err other) = ⊥
 
 -- the datatype of each column has passed its check
 abbrev pub AreSound : List Column → Type 0

@@ -7,9 +7,8 @@ ghost use Rattle.csvw_annotate.specs.FieldAt.{field_at};
 
 use crate::linking::link_row;
 use crate::row::{AnnCell, Row};
-use crate::row_stop::RowStop;
 use csvw_cell::parse_over;
-use csvw_columns_core::Column;
+use csvw_columns_core::{Column, TableStop};
 use csvw_datatype::values_of_texts;
 use csvw_iri::Iri;
 use csvw_links::{LinkRoom, LinkedColumns, RowNumbers};
@@ -101,13 +100,13 @@ pub fn annotate_into(
     row: &RawRow,
     spare: Row,
     room: &mut LinkRoom,
-) -> Result<Row, RowStop>
+) -> Result<Row, TableStop>
     requires { AreSound columns.now.columns }
     ensures { Annotates columns.now (row_of row.now) result }
 {
     let all = columns.columns();
     if row.len() != all.field_count() {
-        return Err(RowStop::RaggedRow);
+        return Err(TableStop::RaggedRow);
     }
     let mut cells = refilled(alloc, all.columns.as_slice(), row, spare.cells.into_vec())?;
     let numbers = RowNumbers {
@@ -126,7 +125,7 @@ pub fn annotate_into(
 /// The annotated row of a data row of a table with these columns, whose datatypes have passed `Datatype::check` (Model for
 /// Tabular Data, sections 4.4, 4.5 and 6.4.2): what its cells say, and their links. `RaggedRow` exactly where it hasn't one field
 /// for each column that isn't virtual; `Memory` where there is none.
-pub fn annotate(alloc: Global, columns: &LinkedColumns, row: &RawRow) -> Result<Row, RowStop>
+pub fn annotate(alloc: Global, columns: &LinkedColumns, row: &RawRow) -> Result<Row, TableStop>
     requires { AreSound columns.now.columns }
     ensures { Annotates columns.now (row_of row.now) result }
 {

@@ -4,9 +4,8 @@
 mod annotating;
 mod linking;
 mod row;
-mod row_stop;
 mod scope;
 
 pub use annotating::{annotate, annotate_into};
+pub use csvw_columns_core::TableStop;
 pub use row::{AnnCell, Row};
-pub use row_stop::RowStop;

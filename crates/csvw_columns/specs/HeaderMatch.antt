@@ -14,8 +14,8 @@ use Rattle.csvw_columns_core.specs.declared.declared.Frame.{Frame}
 use Rattle.csvw_columns_core.specs.declared.header.HeaderRow.{HeaderRow}
 use Rattle.csvw_columns.specs.Distinct.{AreNamedApart}
 use Rattle.csvw_columns.specs.declared.plan.TablePlan.{TablePlan}
-use Rattle.csvw_columns.specs.declared.table_stop.TableStop.{TableStop}
-use Rattle.csvw_columns.specs.declared.table_stop.TableStop.TheVariants.{Memory, DuplicateName, TooManyColumns, RaggedRow}
+use Rattle.csvw_columns_core.specs.declared.table_stop.TableStop.{TableStop}
+use Rattle.csvw_columns_core.specs.declared.table_stop.TableStop.TheVariants.{Memory, DuplicateName, TooManyColumns, RaggedRow}
 
 -- what its columns have of the table
 abbrev pub frame_of : TablePlan → Frame
@@ -57,13 +57,12 @@ abbrev pub Matches : TablePlan → List HeaderRow → Option ℕ → Result (Col
 Matches plan rows width (Ok found) = IsMatch plan rows width found.0 found.1.items
 Matches plan rows width (Err TooManyColumns) = IsWithin plan rows width → ⊥
 Matches plan rows width (Err DuplicateName) = IsRepeated plan rows width
-Matches plan rows width (Err RaggedRow) = ⊥
 Matches plan rows width (Err Memory) = Unit {0}
+Matches plan rows width (Err other) = ⊥
 
 -- the columns alone, where the limits are kept
 abbrev pub GivesColumns : TablePlan → List HeaderRow → Option ℕ → Result (List Column) TableStop → Type 0
 GivesColumns plan rows width (Ok columns) = IsWithin plan rows width × (columns ≡ columns_of plan rows width)
 GivesColumns plan rows width (Err TooManyColumns) = IsWithin plan rows width → ⊥
-GivesColumns plan rows width (Err DuplicateName) = ⊥
-GivesColumns plan rows width (Err RaggedRow) = ⊥
 GivesColumns plan rows width (Err Memory) = Unit {0}
+GivesColumns plan rows width (Err other) = ⊥

@@ -9,9 +9,8 @@ ghost use Rattle.csvw_columns.specs.Ready.{AreSound, IsReady};
 use crate::copies::copied_inherited;
 use crate::names::are_named_apart;
 use crate::plan::TablePlan;
-use crate::table_stop::TableStop;
 use csvw_columns_core::{
-    COLUMN_LIMIT, Column, Columns, Defaults, Frame, HeaderRow, SKIP_LIMIT, column_count,
+    COLUMN_LIMIT, Column, Columns, Defaults, Frame, HeaderRow, SKIP_LIMIT, TableStop, column_count,
     from_header, header_faults,
 };
 use csvw_text::{Fault, Seq, both, copied_option};

@@ -11,11 +11,9 @@ mod names;
 mod plan;
 mod planning;
 mod references;
-mod table_stop;
 mod warnings;
 
-pub use csvw_columns_core::{Column, Columns, HeaderRow};
+pub use csvw_columns_core::{Column, Columns, HeaderRow, TableStop};
 pub use heading::match_header;
 pub use names::by_name;
 pub use plan::{ForeignKeyPlan, Plan, TablePlan};
-pub use table_stop::TableStop;

@@ -9,6 +9,7 @@ mod header;
 mod header_columns;
 mod inherited;
 mod properties;
+mod table_stop;
 mod xsd;
 
 pub use column::Column;
@@ -17,3 +18,4 @@ pub use declared::{COLUMN_LIMIT, Frame, SKIP_LIMIT};
 pub use header::{HeaderRow, header_faults};
 pub use header_columns::{column_count, from_header};
 pub use properties::{Defaults, Properties};
+pub use table_stop::TableStop;

@@ -14,7 +14,7 @@ use Rattle.csvw_text.specs.declared.fault.Fault.{Fault}
 use Rattle.csvw_columns.specs.declared.plan.Plan.{Plan}
 use Rattle.csvw_columns.specs.declared.plan.TablePlan.{TablePlan}
 use Rattle.csvw_records.specs.declared.stop.RowStop.{RowStop}
-use Rattle.csvw_columns.specs.declared.table_stop.TableStop.{TableStop}
+use Rattle.csvw_columns_core.specs.declared.table_stop.TableStop.{TableStop}
 use Rattle.csvw_triples_core.specs.Taking.{FrontOf, IsAsReady}
 use Rattle.csvw_triples_core.specs.declared.mode.Mode.{Mode}
 use Rattle.csvw_triples_core.specs.declared.term.Triple.{Triple}

@@ -12,7 +12,7 @@ use Rattle.csvw_records.specs.declared.stop.RowStop.TheVariants as row_stop
 use Rattle.csvw_columns_core.specs.declared.columns.Columns.{Columns}
 use Rattle.csvw_columns.specs.HeaderMatch.{IsMatch}
 use Rattle.csvw_columns.specs.declared.plan.TablePlan.{TablePlan}
-use Rattle.csvw_columns.specs.declared.table_stop.TableStop.{TableStop}
+use Rattle.csvw_columns_core.specs.declared.table_stop.TableStop.{TableStop}
 use Rattle.csvw_triples_core.specs.declared.mode.Mode.{Mode}
 use Rattle.csvw_triples.specs.HasForms.{HasForms}
 use Rattle.csvw_annotate.specs.Annotated.{IsRow, AreCells, numbers_of}

@@ -5,8 +5,8 @@ use Rattle.csvw_records.specs.RowValue.{Given}
 use Rattle.csvw_columns_core.specs.declared.header.HeaderRow.{HeaderRow}
 use Rattle.csvw_columns_core.specs.declared.columns.Columns.{Columns}
 use Rattle.csvw_columns.specs.declared.plan.TablePlan.{TablePlan}
-use Rattle.csvw_columns.specs.declared.table_stop.TableStop.{TableStop}
-use Rattle.csvw_columns.specs.declared.table_stop.TableStop.TheVariants as table_stop
+use Rattle.csvw_columns_core.specs.declared.table_stop.TableStop.{TableStop}
+use Rattle.csvw_columns_core.specs.declared.table_stop.TableStop.TheVariants as table_stop
 use Rattle.csvw_columns.specs.HeaderMatch.{IsMatch, IsRepeated, IsWithin}
 use Rattle.csvw_annotate.specs.Annotated.{IsRow, Fits}
 use Rattle.csvw_annotate.specs.declared.row.Row.{Row}
@@ -49,8 +49,7 @@ Heads plan given columns faults = IsMatch plan (header_rows plan given) (first_w
 abbrev pub GivesNone : TablePlan → List HeaderRow → Option ℕ → TableStop → Type 0
 GivesNone plan rows width table_stop.TooManyColumns = IsWithin plan rows width → ⊥
 GivesNone plan rows width table_stop.DuplicateName = IsRepeated plan rows width
-GivesNone plan rows width table_stop.RaggedRow = ⊥
-GivesNone plan rows width table_stop.Memory = ⊥
+GivesNone plan rows width other = ⊥
 
 -- the header of these rows is refused
 abbrev pub RefusesHeader : TablePlan → List Given → TableStop → Type 0

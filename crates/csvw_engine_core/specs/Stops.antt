@@ -2,8 +2,8 @@
 use Rattle.std.specs.Prelude.{◌≡◌, ℕ}
 use Rattle.csvw_records.specs.declared.stop.RowStop.{RowStop}
 use Rattle.csvw_records.specs.declared.stop.RowStop.TheVariants as row_stop
-use Rattle.csvw_columns.specs.declared.table_stop.TableStop.{TableStop}
-use Rattle.csvw_columns.specs.declared.table_stop.TableStop.TheVariants as table_stop
+use Rattle.csvw_columns_core.specs.declared.table_stop.TableStop.{TableStop}
+use Rattle.csvw_columns_core.specs.declared.table_stop.TableStop.TheVariants as table_stop
 use Rattle.csvw_triples_core.specs.declared.sink.SinkFault.{SinkFault}
 use Rattle.csvw_triples_core.specs.declared.sink.SinkFault.TheVariants as fault
 use Rattle.csvw_engine_core.specs.declared.stop.Stop.{Stop}

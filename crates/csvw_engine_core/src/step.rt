@@ -7,7 +7,7 @@ ghost use Rattle.csvw_engine_core.specs.Stepping.{AnnotatesRow, Begins};
 
 use crate::head::Head;
 use crate::stop::Stop;
-use csvw_annotate::{Row, RowStop, annotate_into};
+use csvw_annotate::{Row, annotate_into};
 use csvw_columns::{TablePlan, TableStop};
 use csvw_links::LinkRoom;
 use csvw_rows::RawRow;
@@ -27,18 +27,13 @@ pub(crate) enum Step {
 pub(crate) fn annotated(
     plan: &TablePlan,
     raw: &RawRow,
-    row: Result<Row, RowStop>,
+    row: Result<Row, TableStop>,
 ) -> Result<Row, Stop>
     ensures { (columns : Columns) → Annotates columns (row_of raw.now) row → AnnotatesRow plan.now columns (row_of raw.now) result }
 {
     match row {
         Ok(row) => Ok(row),
-        Err(RowStop::Memory) => Err(Stop::Memory),
-        Err(RowStop::RaggedRow) => Err(Stop::Table {
-            table: plan.number,
-            row: raw.source(),
-            stop: TableStop::RaggedRow,
-        }),
+        Err(stop) => Err(Stop::of_table_stop(plan.number, raw.source(), stop)),
     }
 }
 

@@ -11,8 +11,8 @@ use Rattle.csvw_records.specs.RowValue.{Given}
 use Rattle.csvw_records.specs.declared.stop.RowStop.{RowStop}
 use Rattle.csvw_columns_core.specs.declared.columns.Columns.{Columns}
 use Rattle.csvw_columns.specs.declared.plan.TablePlan.{TablePlan}
-use Rattle.csvw_columns.specs.declared.table_stop.TableStop.{TableStop}
-use Rattle.csvw_columns.specs.declared.table_stop.TableStop.TheVariants as table_stop
+use Rattle.csvw_columns_core.specs.declared.table_stop.TableStop.{TableStop}
+use Rattle.csvw_columns_core.specs.declared.table_stop.TableStop.TheVariants as table_stop
 use Rattle.csvw_annotate.specs.Annotated.{Fits}
 use Rattle.csvw_annotate.specs.declared.row.Row.{Row}
 use Rattle.csvw_engine_core.specs.Annotated.{AreAnnotated, Heads, IsTable, IsWholeTable, Refuses, RefusesFirst, RefusesHeader, header_count, needed}

@@ -8,7 +8,7 @@ use Rattle.csvw_rows.specs.RowsState.{HasGiven}
 use Rattle.csvw_columns_core.specs.declared.columns.Columns.{Columns}
 use Rattle.csvw_columns.specs.declared.plan.Plan.{Plan}
 use Rattle.csvw_columns.specs.declared.plan.TablePlan.{TablePlan}
-use Rattle.csvw_columns.specs.declared.table_stop.TableStop.{TableStop}
+use Rattle.csvw_columns_core.specs.declared.table_stop.TableStop.{TableStop}
 use Rattle.csvw_annotate.specs.declared.row.Row.{Row}
 use Rattle.csvw_triples_core.specs.declared.mode.Mode.{Mode}
 use Rattle.csvw_triples_core.specs.declared.term.Triple.{Triple}

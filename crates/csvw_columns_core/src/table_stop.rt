@@ -45,7 +45,7 @@ impl fmt::Display for TableStop {
 impl Error for TableStop {}
 
 impl From<AllocError> for TableStop {
-    ghost use Rattle.csvw_columns.specs.declared.table_stop.TableStop.TheVariants.{Memory};
+    ghost use Rattle.csvw_columns_core.specs.declared.table_stop.TableStop.TheVariants.{Memory};
 
     ghost from_gives = { λ _ e. e ≡ Memory };
 
@@ -55,7 +55,7 @@ impl From<AllocError> for TableStop {
 }
 
 impl<T: Drop> From<AllocFailed<T>> for TableStop {
-    ghost use Rattle.csvw_columns.specs.declared.table_stop.TableStop.TheVariants.{Memory};
+    ghost use Rattle.csvw_columns_core.specs.declared.table_stop.TableStop.TheVariants.{Memory};
 
     ghost from_gives = { λ _ e. e ≡ Memory };
 
