@@ -20,7 +20,7 @@ use Rattle.csvw_engine.specs.Flushes.{IsFlushed}
 use Rattle.csvw_engine.specs.Groups.{Converts, EndsBy, HaveTables, TablesStop, TextsSoFar}
 use Rattle.csvw_engine.specs.Planning.{IsMetaStop}
 use Rattle.csvw_engine.specs.Reporting.{Reports, TellsOutcome}
-use Rattle.csvw_engine.specs.Runs.{StopsBehind, IsPlanned, IsReason, IsSound, Succeeds, StopsSo, WriteFails, Wrote, WroteGraph, WroteGroup, Rises}
+use Rattle.csvw_engine.specs.Runs.{StopsBehind, IsPlanned, IsReason, IsSound, Runs, Succeeds, StopsBefore, StopsSo, WriteFails, Wrote, WroteGraph, WroteGroup, Rises}
 use Rattle.csvw_engine.specs.Stopped.{Added, Leaves, WroteAll, WroteLines, WroteSome}
 use Rattle.csvw_engine.proofs.Flushing.{appends_kept, rose}
 use Rattle.csvw_meta.specs.Document.{Document}
@@ -80,13 +80,29 @@ no_stop : (reason : Stop) (outcome : Outcome) (told result : Result Outcome Stop
 no_stop reason outcome told result old new t r (inl (e, n)) = never outcome reason result (e ∙ t) r
 no_stop reason outcome told result old new t r (inr (apart, e, n)) = never outcome stop.Write result e r
 
--- the document was refused
-pub refused : {R : Type 0} (remaining : R → Option (List ℕ)) (described : Document) (m : Mode) (olds : List (Counted R))
-    (out report_out : Stream) (reason : Stop) → IsIdle out → IsIdle report_out
-    → IsMetaStop described reason → StopsSo remaining described m olds olds out report_out reason
-refused remaining described m olds out report_out stop.Memory p q h = inl (refl, p, q)
-refused remaining described m olds out report_out (stop.Meta fault) p q h = (h, p, q)
-refused remaining described m olds out report_out other p q h = absurd h
+-- a stop before the tables, behind its flush
+module _ {R : Type 0} (remaining : R → Option (List ℕ)) (described : Document) (m : Mode) (olds : List (Counted R)) (out report_out : Stream)
+    (keeps : Keeps out.held out.holds) (quiet : IsIdle report_out) where
+  told_before : (reason : Stop) → StopsBefore described olds reason → IsSound out → StopsSo remaining described m olds olds out report_out reason
+  told_before stop.Memory h sound = inl (refl, keeps, sound, quiet)
+  told_before (stop.Meta fault) h sound = (h, refl, keeps, sound, quiet)
+  told_before stop.TableCount h sound = (h, refl, keeps, sound, quiet)
+  told_before other h sound = absurd h
+
+  pub stops_before : (reason : Stop) (result : Result Outcome Stop) → StopsBefore described olds reason
+      → IsFlushed (Err reason) result out.failures out.failed → Runs remaining described m olds olds out report_out result
+  stops_before reason result h (inl (e, n)) =
+      subst (Runs remaining described m olds olds out report_out) (sym e) (told_before reason h n)
+  stops_before reason result h (inr (apart, e, n)) =
+      subst (Runs remaining described m olds olds out report_out) (sym e)
+      (inl ((reason, h), refl, keeps, rose out.failures out.failures out.failed refl n, quiet))
+
+-- why a document is refused
+pub meta_before : {R : Type 0} (described : Document) (olds : List (Counted R)) (reason : Stop) → IsMetaStop described reason
+    → StopsBefore described olds reason
+meta_before described olds stop.Memory h = tt
+meta_before described olds (stop.Meta fault) h = h
+meta_before described olds other h = absurd h
 
 module _ {R : Type 0} (remaining : R → Option (List ℕ)) (described : Document) (m : Mode) (olds news : List (Counted R)) (plan : Plan)
     (planned : IsPlanned described plan) (many : length olds ≡ length plan.tables)
@@ -164,7 +180,7 @@ module _ {R : Type 0} (remaining : R → Option (List ℕ)) (described : Documen
   ]
   kept_stop stop.Read e quiet (why, sound) = (stops_behind stop.Read (not_memory stop.Read (λ k. cc) why), e ∙ sound, quiet)
   kept_stop stop.Write e quiet (why, fails) =
-      inl ((stop.Write, stops_behind stop.Write (not_memory stop.Write (λ k. cc) why)), (λ room. e ∙ fails room), quiet)
+      inr (inl ((stop.Write, stops_behind stop.Write (not_memory stop.Write (λ k. cc) why)), (λ room. e ∙ fails room), quiet))
   kept_stop (stop.Rows t row reason) e quiet (why, sound) =
       (stops_behind (stop.Rows t row reason) (not_memory (stop.Rows t row reason) (λ k. cc) why), e ∙ sound, quiet)
   kept_stop (stop.Table t row reason) e quiet (why, sound) =
@@ -183,8 +199,8 @@ module _ {R : Type 0} (remaining : R → Option (List ℕ)) (described : Documen
   unflushed : (reason : Stop) → Converts remaining m plan olds news out (Err reason) → IsIdle report_out → Rises after
       → WriteFails remaining described m olds news after report_out
   unflushed reason h quiet fails = elim h.0 [
-    | inl s ↦ inl ((reason, stops_behind reason s), fails, quiet)
-    | inr w ↦ inr (group w.1, inl fails)
+    | inl s ↦ inr (inl ((reason, stops_behind reason s), fails, quiet))
+    | inr w ↦ inr (inr (group w.1, inl fails))
   ]
 
   behind_stop : (reason : Stop) (result : Result Outcome Stop) → Converts remaining m plan olds news out (Err reason) → IsIdle report_out
@@ -198,8 +214,8 @@ module _ {R : Type 0} (remaining : R → Option (List ℕ)) (described : Documen
   behind_report outcome told result h sound (inl (t, s)) (inl (e, n)) = subst StopsWith (sym (e ∙ t)) tt
   behind_report outcome told result h sound (inr (inl (t, s))) (inl (e, n)) = subst StopsWith (sym (e ∙ t)) (inr (inr (whole_group outcome h, n ∙ sound)))
   behind_report outcome told result h sound (inr (inr (t, s))) (inl (e, n)) =
-      subst StopsWith (sym (e ∙ t)) (inr (whole_group outcome h, inr (rose report_out.failures report_out.failures report_out.failed refl s)))
-  behind_report outcome told result h sound t (inr (apart, e, n)) = subst StopsWith (sym e) (inr (whole_group outcome h, inl (rises sound n)))
+      subst StopsWith (sym (e ∙ t)) (inr (inr (whole_group outcome h, inr (rose report_out.failures report_out.failures report_out.failed refl s))))
+  behind_report outcome told result h sound t (inr (apart, e, n)) = subst StopsWith (sym e) (inr (inr (whole_group outcome h, inl (rises sound n))))
 
   pub stops : (ran told result : Result Outcome Stop) → Converts remaining m plan olds news out ran → Reports ran report_out told
       → IsFlushed told result out.failed failed → StopsWith result
@@ -272,4 +288,4 @@ pub report_unsent : {R : Type 0} (remaining : R → Option (List ℕ)) (describe
     (holds : Option (List ℕ)) (failed : ℕ) (reason : Stop) → reason ≡ stop.Write → failed ≡ one_more report_out.failed → IsSound report_out
     → WroteGroup remaining described m olds news out → StopsSo remaining described m olds news out (flushed report_out holds failed) reason
 report_unsent remaining described m olds news out report_out holds failed reason is more sound group =
-    rw is (inr (group, inr (rose report_out.failures report_out.failed failed sound more)))
+    rw is (inr (inr (group, inr (rose report_out.failures report_out.failed failed sound more))))

@@ -6,7 +6,7 @@ use Rattle.csvw_description.specs.declared.table.TableDescription.{TableDescript
 use Rattle.csvw_meta_core.specs.declared.fault.MetaCode.TheVariants.{Memory}
 use Rattle.csvw_meta_core.specs.declared.fault.MetaFault.{MetaFault}
 use Rattle.csvw_meta.specs.Document.{Document, IsFault}
-use Rattle.csvw_columns.specs.Plannable.{Builds, IsPlannable}
+use Rattle.csvw_columns.specs.Plannable.{Builds, CanBePlanned}
 use Rattle.csvw_columns.specs.PlanOf.{targets_of, table_plans}
 use Rattle.csvw_columns.specs.declared.plan.Plan.{Plan}
 use Rattle.csvw_columns.specs.declared.plan.TablePlan.{TablePlan}
@@ -20,7 +20,7 @@ told described fault reason (inl (c, e)) h = rw e tt
 told described fault reason (inr (apart, e)) h = rw e (h apart)
 
 -- what can be planned lacks nothing but memory
-pub lacks_memory : (d : Description) (fault : MetaFault) (reason : Stop) → IsPlannable d → Builds d (Err fault) → TellsFault fault reason → reason ≡ stop.Memory
+pub lacks_memory : (d : Description) (fault : MetaFault) (reason : Stop) → CanBePlanned d → Builds d (Err fault) → TellsFault fault reason → reason ≡ stop.Memory
 lacks_memory d fault reason can h (inl (c, e)) = e
 lacks_memory d fault reason can h (inr (apart, e)) = absurd (h.1 apart can)
 

@@ -1,11 +1,18 @@
 -- What is reported of a run.
-use Rattle.std.specs.Prelude.{◌≡◌, ◌⊎◌, Result, Ok, Err}
+use Rattle.std.specs.Prelude.{◌≡◌, ◌⊎◌, ℕ, List, Result, Ok, Err}
 use Rattle.csvw_text.specs.Count.{one_more}
-use Rattle.csvw_text.specs.Streams.{Stream, Sends, IsIdle}
+use Rattle.csvw_text.specs.Streams.{Stream, Sends, IsCut, IsIdle}
 use Rattle.csvw_report.specs.Report.{report}
+use Rattle.csvw_report.specs.Stops.{SendsFront}
 use Rattle.csvw_report.specs.declared.outcome.Outcome.{Outcome}
 use Rattle.csvw_engine_core.specs.declared.stop.Stop.{Stop}
 use Rattle.csvw_engine_core.specs.declared.stop.Stop.TheVariants as stop
+
+-- what was written of a report that stops, and why
+abbrev pub StopsReport : Stream → List ℕ → Stop → Type 0
+StopsReport s text stop.Memory = SendsFront s text
+StopsReport s text stop.Write = IsCut s text
+StopsReport s text other = ⊥
 
 -- the report was written; or it wasn't, for want of memory or because its writer failed
 abbrev pub TellsOutcome : Outcome → Stream → Result Outcome Stop → Type 0

@@ -1,6 +1,7 @@
 -- What a run over a group of tables leaves (Generating RDF from Tabular Data on the Web, section 4.2; Model for Tabular Data, sections
 -- 6 and 8).
 use Rattle.std.specs.Prelude.{◌≡◌, ◌≢◌, ◌⊎◌, ◌<◌, ◌+◌, ◌-◌, ◌^◌, ℕ, true, List, [], length, slice_get, Option, Some, Result, Ok, Err}
+use Rattle.std.specs.Io.KnownBytes.{Keeps}
 use Rattle.csvw_text.specs.declared.counted.Counted.{Counted}
 use Rattle.csvw_text.specs.declared.fault.Fault.{Fault}
 use Rattle.csvw_text.specs.Streams.{Stream, Sends, IsIdle}
@@ -143,9 +144,27 @@ pub record WroteGroup {R : Type 0} (remaining : R → Option (List ℕ)) (descri
   pub annotated : AreAnnotated plan.tables texts tables
   pub added : Added mode out (GraphOf mode plan tables) []
 
--- nothing was read, written or reported
+-- nothing was read, written or reported, but for a flush, which didn't fail
 abbrev pub IsUntouched : {R : Type 0} → List (Counted R) → List (Counted R) → Stream → Stream → Type 0
-IsUntouched olds news out report_out = (news ≡ olds) × IsIdle out × IsIdle report_out
+IsUntouched olds news out report_out = (news ≡ olds) × Keeps out.held out.holds × IsSound out × IsIdle report_out
+
+-- readers and tables differ in number
+pub record Differ {R : Type 0} (described : Document) (olds : List (Counted R)) : Type 0 where
+  pub plan : Plan
+  pub planned : IsPlanned described plan
+  pub apart : length olds ≢ length plan.tables
+
+-- why a run stops before it reads its tables; of want of memory nothing is said
+abbrev pub StopsBefore : {R : Type 0} → Document → List (Counted R) → Stop → Type 0
+StopsBefore described olds stop.Memory = Unit {0}
+StopsBefore described olds (stop.Meta fault) = IsFault described fault
+StopsBefore described olds stop.TableCount = Differ described olds
+StopsBefore described olds other = ⊥
+
+-- the flush failed behind a stop before the tables, and nothing was read, written or reported
+abbrev pub FailsBefore : {R : Type 0} → Document → List (Counted R) → List (Counted R) → Stream → Stream → Type 0
+FailsBefore described olds news out report_out =
+    ((reason : Stop) × StopsBefore described olds reason) × (news ≡ olds) × Keeps out.held out.holds × Rises out × IsIdle report_out
 
 -- there was no memory: before the tables, in one of them, or behind the whole graph; no write to `out` failed
 abbrev pub LacksMemory : {R : Type 0} → (R → Option (List ℕ)) → Document → Mode → List (Counted R) → List (Counted R) → Stream → Stream → Type 0
@@ -154,17 +173,13 @@ LacksMemory remaining described mode olds news out report_out =
     ⊎ ((StopsBehind remaining described mode olds news out stop.Memory × IsSound out × IsIdle report_out)
     ⊎ (WroteGroup remaining described mode olds news out × IsSound out))
 
--- a write failed: of `out` within a line or between two, or in the flush behind a stop; or a flush or the report behind the whole graph
+-- a write failed: the flush behind a stop before the tables; of `out` within a line or between two, or in the flush behind a stop; or a
+-- flush or the report behind the whole graph
 abbrev pub WriteFails : {R : Type 0} → (R → Option (List ℕ)) → Document → Mode → List (Counted R) → List (Counted R) → Stream → Stream → Type 0
 WriteFails remaining described mode olds news out report_out =
-    (((reason : Stop) × StopsBehind remaining described mode olds news out reason) × Rises out × IsIdle report_out)
-    ⊎ (WroteGroup remaining described mode olds news out × (Rises out ⊎ Rises report_out))
-
--- readers and tables differ in number
-pub record Differ {R : Type 0} (described : Document) (olds : List (Counted R)) : Type 0 where
-  pub plan : Plan
-  pub planned : IsPlanned described plan
-  pub apart : length olds ≢ length plan.tables
+    FailsBefore described olds news out report_out
+    ⊎ ((((reason : Stop) × StopsBehind remaining described mode olds news out reason) × Rises out × IsIdle report_out)
+    ⊎ (WroteGroup remaining described mode olds news out × (Rises out ⊎ Rises report_out)))
 
 -- why a run stops, and what it has written by then
 abbrev pub StopsSo : {R : Type 0} → (R → Option (List ℕ)) → Document → Mode → List (Counted R) → List (Counted R) → Stream → Stream → Stop → Type 0
@@ -179,8 +194,8 @@ StopsSo remaining described mode olds news out report_out (stop.Rows t row reaso
 StopsSo remaining described mode olds news out report_out (stop.Table t row reason) =
     SoFar remaining described olds news (λ plan events. RefusedInText plan events t row reason × WroteAll mode plan out events)
     × IsSound out × IsIdle report_out
-StopsSo remaining described mode olds news out report_out (stop.Meta fault) = IsFault described fault × IsIdle out × IsIdle report_out
-StopsSo remaining described mode olds news out report_out stop.TableCount = Differ described olds × IsIdle out × IsIdle report_out
+StopsSo remaining described mode olds news out report_out (stop.Meta fault) = IsFault described fault × IsUntouched olds news out report_out
+StopsSo remaining described mode olds news out report_out stop.TableCount = Differ described olds × IsUntouched olds news out report_out
 StopsSo remaining described mode olds news out report_out other = ⊥
 
 -- what a run over the document and the readers leaves, by its answer

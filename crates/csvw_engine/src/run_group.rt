@@ -3,16 +3,16 @@ ghost use Rattle.std.specs.Prelude.{◌≡◌, ◌≤◌, ◌∷◌, [], length}
 ghost use Rattle.csvw_session.specs.Ready.{AreReady};
 ghost use Rattle.csvw_triples_core.specs.declared.mode.Mode.TheVariants as mode;
 ghost use Rattle.csvw_text.specs.Streams.{stream_of};
-ghost use Rattle.csvw_engine.specs.Reporting.{Reports};
 ghost use Rattle.csvw_engine.specs.Runs.{IsPlanned, Runs};
 ghost use Rattle.csvw_meta.specs.Document.{Document, document, plain_description};
 
 use crate::flush::{flush, flush_behind};
 use crate::group::{Way, convert_tables};
 use crate::plan::{planned, planned_alone};
+use crate::reporting::tell;
 use crate::room::Order;
 use csvw_columns::Plan;
-use csvw_report::{Outcome, ReportStop, write_report};
+use csvw_report::Outcome;
 use csvw_session::Stop;
 use csvw_text::Counted;
 use csvw_triples_core::Mode;
@@ -20,22 +20,6 @@ use std::alloc::Global;
 use std::io::{Read, Write};
 use std::slice;
 use std_alloc::room::may_hold;
-
-/// Writes the report of what the tables gave, if they were read to their ends.
-pub(crate) fn tell<V: Write>(
-    alloc: Global,
-    ran: Result<Outcome, Stop>,
-    report: &mut Counted<V>,
-) -> Result<Outcome, Stop>
-    ensures { Reports ran (stream_of V.contents report.old report.new) result }
-{
-    let outcome = ran?;
-    match write_report(alloc, outcome.faults.as_slice(), report) {
-        Ok(()) => Ok(outcome),
-        Err(ReportStop::Memory) => Err(Stop::Memory),
-        Err(ReportStop::Write) => Err(Stop::Write),
-    }
-}
 
 /// What is asked of a run over a group of tables.
 #[derive(Clone, Copy)]
@@ -72,7 +56,7 @@ fn run_planned<R: Read, W: Write, V: Write>(
 {
     let PlannedRun { plan, way } = run;
     if readers.len() != plan.tables().len() {
-        return Err(Stop::TableCount);
+        return flush_behind(out, Err(Stop::TableCount));
     }
     let ran = convert_tables(alloc, plan, way, readers, out);
     let told = tell(alloc, ran, report);
@@ -92,16 +76,18 @@ fn run_in<R: Read, W: Write, V: Write>(
     ensures { Runs R.remaining (document asked.entry.base.now asked.entry.meta.now) asked.entry.way.mode readers.old readers.new
         (stream_of W.contents out.old out.new) (stream_of V.contents report.old report.new) result }
 {
-    let plan = planned(alloc, asked.meta, asked.base)?;
     let way = asked.way;
-    run_planned(alloc, PlannedRun { plan, way }, readers, out, report)
+    match planned(alloc, asked.meta, asked.base) {
+        Ok(plan) => run_planned(alloc, PlannedRun { plan, way }, readers, out, report),
+        Err(stop) => flush_behind(out, Err(stop)),
+    }
 }
 
 /// Reads a group of tables, as the metadata document `meta` at the URL `base` describes them: the nth reader has the text of the nth
 /// table. In mode `Minimal` it writes the graph of their cells to `out` (csv2rdf, section 4.2), in mode `Standard` also what is told
 /// of the group, its tables and their rows, in mode `Validate` nothing; then the faults to `report`, in order. Tables are read one
-/// after the other, in pieces of at most 65,536 bytes. At the end each writer is flushed once. Rows in front of a stop are written,
-/// and `out` is flushed, before it is answered; after a failed write nothing more is sent.
+/// after the other, in pieces of at most 65,536 bytes. At the end each writer is flushed once. Before a stop is answered the rows in
+/// front of it are written, and `out` is flushed; after a failed write nothing more is sent.
 ///
 /// `Meta` with a fault of the document; `TableCount` where readers and tables differ in number; `Rows` and `Table` with the first row
 /// of a table that can't be read or annotated; `Read` and `Write` where a reader or writer failed in this call, `Read` also after
@@ -148,7 +134,7 @@ pub fn run_turns<R: Read, W: Write, V: Write>(
 
 /// Reads one table without a document: its URL is `url`, its dialect the default one, and its header names its columns, whose cells are
 /// strings. It runs as `run` does over a document that has that `url` alone, in mode `Minimal`: the graph of the cells goes to `out`, then
-/// the faults to `report`, `HeaderMissing` where the file has no row.
+/// the faults to `report`, `HeaderMissing` where the file has no row but comments.
 ///
 /// `Meta` with `BadUrl` or `UrlTooLong` at `/url` where the URL is refused; each other stop comes as in `run`.
 pub fn plain<R: Read, W: Write, V: Write>(
@@ -161,16 +147,17 @@ pub fn plain<R: Read, W: Write, V: Write>(
     ensures { Runs R.remaining (plain_description url.now) mode.Minimal (input.old ∷ []) (input.new ∷ [])
         (stream_of W.contents out.old out.new) (stream_of V.contents report.old report.new) result }
 {
-    let plan = planned_alone(alloc, url)?;
+    let plan = match planned_alone(alloc, url) {
+        // a slice is below 2^63 bytes, as a reader is that is one
+        Ok(_) if !may_hold::<Counted<R>>(1) => return flush_behind(out, Err(Stop::Memory)),
+        Ok(plan) => plan,
+        Err(stop) => return flush_behind(out, Err(stop)),
+    };
     let way = Way {
         mode: Mode::Minimal,
         order: Order::OneByOne,
     };
     let run = PlannedRun { plan, way };
-    // a slice is below 2^63 bytes, as a reader is that is one
-    if !may_hold::<Counted<R>>(1) {
-        return Err(Stop::Memory);
-    }
     let readers = slice::from_mut(input);
     run_planned(alloc, run, readers, out, report)
 }
