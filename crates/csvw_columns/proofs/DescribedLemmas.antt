@@ -8,54 +8,22 @@ use Rattle.std.proofs.lemmas.List.{length-map, get_or-map}
 use Rattle.std.proofs.lemmas.List.Elements.{All-nil, All-cons, All-head, All-tail, All-weaker, All-map}
 use Rattle.std.proofs.lemmas.List.Folds.{list_any_at}
 use Rattle.std.proofs.lemmas.Slice.Eq.{bytes_eq-Decides}
-use Rattle.std.proofs.lemmas.Option.{IfSome_then}
-use Rattle.csvw_dialect.specs.declared.dialect.Dialect.{Dialect}
-use Rattle.csvw_description.specs.declared.column.ColumnDescription.{ColumnDescription}
 use Rattle.csvw_description.specs.declared.description.Description.{Description}
 use Rattle.csvw_description.specs.declared.schema.Schema.{Schema}
 use Rattle.csvw_description.specs.declared.table.TableDescription.{TableDescription}
 use Rattle.csvw_iri.specs.Link.{iri_of}
 use Rattle.csvw_description.specs.declared.foreign_key.ForeignKey.{ForeignKey}
+use Rattle.csvw_description.specs.Name.{numbered_names}
+use Rattle.csvw_description.specs.Plannable.{IsPlannable}
 use Rattle.csvw_description.specs.Keys.{declared_names, own_or, AreAmong, IsReferenced, IsForeignKey, KeysResolve}
-use Rattle.csvw_description.specs.Name.{name_of}
-use Rattle.csvw_description.specs.Name as name
-use Rattle.csvw_description.specs.Plannable as description
 use Rattle.csvw_columns.specs.Distinct.{AllDistinct}
-use Rattle.csvw_columns.specs.Fit.{IsFitDialect, numbered_names, IsFitSchema, IsFitTable, IsFitGroup}
+use Rattle.csvw_columns.specs.Fit.{IsFitGroup}
 use Rattle.csvw_columns.specs.Keys.{place_of, number_at, numbers_of, names_at, foreign_key, IsResolved, AreResolved}
-use Rattle.csvw_columns.specs.Plannable.{IsPlannable}
+use Rattle.csvw_columns.specs.Plannable.{CanBePlanned}
 use Rattle.csvw_columns.specs.PlanOf.{schema_of, table_plan, table_plans, targets_of}
 
-same_names : (i : ℕ) (cs : List ColumnDescription) → name.numbered_names i cs ≡ numbered_names i cs
-same_names i [] = refl
-same_names i (c ∷ cs) = ap (λ names. name_of (i + 1) c ∷ names) (same_names (i + 1) cs)
-
-fit_dialect : (d : Dialect) → description.IsFitDialect d → IsFitDialect d
-fit_dialect d fit = record { lawful = fit.lawful; skipped = fit.skipped }
-
-fit_schema : (s : Schema) → description.IsFitSchema s → IsFitSchema s
-fit_schema s fit = record {
-  limit = fit.limit;
-  inherited = fit.inherited;
-  datatypes = fit.datatypes;
-  names = subst AllDistinct (same_names 0 s.columns) fit.names;
-}
-
-fit_table : (t : TableDescription) → description.IsFitTable t → IsFitTable t
-fit_table t fit = record {
-  dialect = IfSome_then t.dialect fit.dialect fit_dialect;
-  inherited = fit.inherited;
-  schema = IfSome_then t.schema fit.schema fit_schema;
-}
-
-fit_group : (d : Description) → description.IsPlannable d → IsFitGroup d
-fit_group d fit = record {
-  dialect = IfSome_then d.dialect fit.dialect fit_dialect;
-  inherited = fit.inherited;
-  schema = IfSome_then d.schema fit.schema fit_schema;
-  limit = fit.limit;
-  tables = All-weaker description.IsFitTable IsFitTable fit_table d.tables fit.tables;
-}
+fit_group : (d : Description) → IsPlannable d → IsFitGroup d
+fit_group d fit = record { dialect = fit.dialect; inherited = fit.inherited; schema = fit.schema; limit = fit.limit; tables = fit.tables }
 
 -- ---- names and tables that keys find
 
@@ -104,11 +72,11 @@ place_at (t ∷ ts) i (suc k) text lt here apart =
 -- ---- the keys of a table
 
 declared_of : (t g : Option Schema) → declared_names (own_or t g) ≡ numbered_names 0 (schema_of t g).columns
-declared_of (Some s) g = same_names 0 s.columns
-declared_of None (Some s) = same_names 0 s.columns
+declared_of (Some s) g = refl
+declared_of None (Some s) = refl
 declared_of None None = refl
 
-module _ (d : Description) (fit : description.IsPlannable d) where
+module _ (d : Description) (fit : IsPlannable d) where
   module _ (key : ForeignKey) (t : TableDescription) (is : IsReferenced d key t) where
     place : place_of (map (λ t. iri_of t.url) d.tables) key.resource ≡ Some is.is_there.0
     place =
@@ -147,12 +115,7 @@ module _ (d : Description) (fit : description.IsPlannable d) where
     foreign_keys : All (IsForeignKey d own) schema.foreign_keys
 
   resolve : (s : Schema) → KeysResolve d s → AreFound (numbered_names 0 s.columns) s
-  resolve s keys =
-      let own = same_names 0 s.columns in
-      record {
-        primary_key = subst (λ ns. AreAmong ns s.primary_key) own keys.primary_key;
-        foreign_keys = subst (λ ns. All (IsForeignKey d ns) s.foreign_keys) own keys.foreign_keys;
-      }
+  resolve s keys = record { primary_key = keys.primary_key; foreign_keys = keys.foreign_keys }
 
   resolve_own : (t g : Option Schema) → IfSome t (KeysResolve d) → IfSome g (KeysResolve d)
       → AreFound (numbered_names 0 (schema_of t g).columns) (schema_of t g)
@@ -181,5 +144,5 @@ module _ (d : Description) (fit : description.IsPlannable d) where
       (resolved_table n t (All-head (λ t. IfSome t.schema (KeysResolve d)) t ts all))
       (resolved_tables (n + 1) ts (All-tail (λ t. IfSome t.schema (KeysResolve d)) t ts all))
 
-pub described : (d : Description) → description.IsPlannable d → IsPlannable d
+pub described : (d : Description) → IsPlannable d → CanBePlanned d
 described d fit = record { fit = fit_group d fit; keys = resolved_tables d fit 1 d.tables fit.table_keys }

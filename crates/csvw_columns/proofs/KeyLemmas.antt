@@ -5,8 +5,8 @@ use Rattle.std.specs.List.{position_from}
 use Rattle.std.proofs.lemmas.Bool.{cases_lt}
 use Rattle.std.proofs.lemmas.List.{get_or_past}
 use Rattle.csvw_description.specs.declared.column.ColumnDescription.{ColumnDescription}
-use Rattle.csvw_columns_core.specs.SchemaColumns.{column_limit}
-use Rattle.csvw_columns.specs.Fit.{numbered_names}
+use Rattle.csvw_description.specs.Plannable.{column_limit}
+use Rattle.csvw_description.specs.Name.{numbered_names}
 use Rattle.csvw_columns.specs.Keys.{place_of, number_at, names_at}
 
 found_from : (test : List ℕ → Bool) (i : ℕ) (texts : List (List ℕ)) → number_at (position_from test i texts) ≤ i + length texts

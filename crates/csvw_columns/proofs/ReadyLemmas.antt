@@ -16,10 +16,11 @@ use Rattle.csvw_description.specs.declared.inherited.Inherited.{Inherited}
 use Rattle.csvw_description.specs.declared.schema.Schema.{Schema}
 use Rattle.csvw_description.specs.declared.table.TableDescription.{TableDescription}
 use Rattle.csvw_columns_core.specs.Inherited.{inherited, string_type}
-use Rattle.csvw_columns_core.specs.SchemaColumns.{declared_from, column_limit}
-use Rattle.csvw_description.specs.Name.{name_of}
+use Rattle.csvw_columns_core.specs.SchemaColumns.{declared_from}
+use Rattle.csvw_description.specs.Name.{name_of, numbered_names}
 use Rattle.csvw_columns.specs.Distinct.{AllDistinct}
-use Rattle.csvw_columns.specs.Fit.{table_limit, IsFitDialect, HasSound, numbered_names, IsFitSchema, IsFitTable, IsFitGroup}
+use Rattle.csvw_description.specs.Plannable.{table_limit, IsFitDialect, HasSound, IsFitSchema, IsFitTable, column_limit}
+use Rattle.csvw_columns.specs.Fit.{IsFitGroup}
 use Rattle.csvw_columns.specs.PlanOf.{default_dialect, dialect_of, no_schema, schema_of, table_plan, table_plans, targets_of, plan_of}
 use Rattle.csvw_columns.specs.declared.references.Targets.{Targets}
 use Rattle.csvw_columns.specs.Ready.{AreSound, IsReady}

@@ -7,7 +7,8 @@ use Rattle.csvw_text.specs.declared.fault.Fault.{Fault}
 use Rattle.csvw_iri.specs.Link.{iri_of}
 use Rattle.csvw_columns_core.specs.HeaderColumns.{from_header}
 use Rattle.csvw_columns_core.specs.HeaderFits.{header_faults}
-use Rattle.csvw_columns_core.specs.SchemaColumns.{column_limit, declared_columns}
+use Rattle.csvw_description.specs.Plannable.{column_limit}
+use Rattle.csvw_columns_core.specs.SchemaColumns.{declared_columns}
 use Rattle.csvw_columns_core.specs.declared.column.Column.{Column}
 use Rattle.csvw_columns_core.specs.declared.columns.Columns.{Columns}
 use Rattle.csvw_columns_core.specs.declared.declared.Frame.{Frame}

@@ -1,7 +1,6 @@
 -- What is known of a group while its tables are planned.
 use Rattle.std.specs.Prelude.{◌≤◌, length, All}
-use Rattle.csvw_columns_core.specs.SchemaColumns.{column_limit}
-use Rattle.csvw_columns.specs.Fit.{table_limit}
+use Rattle.csvw_description.specs.Plannable.{table_limit, column_limit}
 use Rattle.csvw_columns.specs.declared.planning.Known.{Known}
 
 -- the limits are kept

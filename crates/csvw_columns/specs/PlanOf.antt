@@ -14,7 +14,7 @@ use Rattle.csvw_description.specs.declared.table.TableDescription.{TableDescript
 use Rattle.csvw_description.specs.Inherited.{no_inherited}
 use Rattle.csvw_columns_core.specs.Inherited.{first_of}
 use Rattle.csvw_columns_core.specs.SchemaColumns.{declared_columns}
-use Rattle.csvw_columns.specs.Fit.{numbered_names}
+use Rattle.csvw_description.specs.Name.{numbered_names}
 use Rattle.csvw_columns.specs.Keys.{numbers_of, foreign_key}
 use Rattle.csvw_columns.specs.Numbered.{are_numbered}
 use Rattle.csvw_columns.specs.declared.references.Keys.{Keys}

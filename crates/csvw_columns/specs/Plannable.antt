@@ -9,11 +9,11 @@ use Rattle.csvw_columns.specs.PlanOf.{plan_of}
 use Rattle.csvw_columns.specs.declared.plan.Plan.{Plan}
 
 -- its tables can be read, and what their keys name is there
-pub record IsPlannable (d : Description) : Type 0 where
+pub record CanBePlanned (d : Description) : Type 0 where
   pub fit : IsFitGroup d
   pub keys : All AreResolved (plan_of d).tables
 
 -- the answer is the plan, or a fault of a description that can't be planned; of want of memory nothing is said
 abbrev pub Builds : Description → Result Plan MetaFault → Type 0
-Builds d (Ok plan) = (plan ≡ plan_of d) × IsPlannable d
-Builds d (Err fault) = (fault.pointer ≡ []) × (fault.code ≢ Memory → IsPlannable d → ⊥)
+Builds d (Ok plan) = (plan ≡ plan_of d) × CanBePlanned d
+Builds d (Err fault) = (fault.pointer ≡ []) × (fault.code ≢ Memory → CanBePlanned d → ⊥)

@@ -3,7 +3,7 @@ use Rattle.std.specs.Prelude.{◌≤◌, List, [], ◌∷◌, length, None}
 use Rattle.csvw_dialect.specs.Lawful.{IsLawful}
 use Rattle.csvw_datatype.specs.Sound.{IsSound}
 use Rattle.csvw_columns_core.specs.Inherited.{inherited, string_type}
-use Rattle.csvw_columns_core.specs.SchemaColumns.{column_limit}
+use Rattle.csvw_description.specs.Plannable.{column_limit}
 use Rattle.csvw_columns_core.specs.declared.column.Column.{Column}
 use Rattle.csvw_columns.specs.Distinct.{AreNamedApart}
 use Rattle.csvw_columns.specs.declared.plan.TablePlan.{TablePlan}

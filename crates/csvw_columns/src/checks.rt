@@ -1,6 +1,8 @@
 //! Whether the tables of a description can be read, keys aside.
 ghost use Rattle.std.specs.Prelude.{◌≡◌, ◌↔◌, IfOk, IfSome, IsTrue, All};
-ghost use Rattle.csvw_columns.specs.Fit.{table_limit, IsFitDialect, HasSound, numbered_names, IsFitSchema, IsFitTable, IsFitGroup, Finds};
+ghost use Rattle.csvw_description.specs.Plannable.{table_limit, IsFitDialect, HasSound, IsFitSchema, IsFitTable};
+ghost use Rattle.csvw_description.specs.Name.{numbered_names};
+ghost use Rattle.csvw_columns.specs.Fit.{IsFitGroup, Finds};
 
 use crate::names::are_distinct;
 use csvw_columns_core::{COLUMN_LIMIT, SKIP_LIMIT};

@@ -2,7 +2,8 @@
 ghost use Rattle.std.specs.Prelude.{◌≡◌, ◌≤◌, ◌↔◌, IfOk, IsTrue, length};
 ghost use Rattle.csvw_iri.specs.Link.{iri_of};
 ghost use Rattle.csvw_columns_core.specs.HeaderColumns.{column_count, from_header};
-ghost use Rattle.csvw_columns_core.specs.SchemaColumns.{column_limit, declared_columns};
+ghost use Rattle.csvw_description.specs.Plannable.{column_limit};
+ghost use Rattle.csvw_columns_core.specs.SchemaColumns.{declared_columns};
 ghost use Rattle.csvw_columns.specs.HeaderMatch.{columns_of, header_columns, frame_of, IsWithin, GivesColumns, Matches};
 ghost use Rattle.csvw_columns.specs.Ready.{AreSound, IsReady};
 

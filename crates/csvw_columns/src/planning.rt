@@ -2,8 +2,9 @@
 ghost use Rattle.std.specs.Prelude.{◌≡◌, ◌≤◌, [], IfOk, IfSome, All, length, unwrap_or};
 ghost use Rattle.csvw_iri.specs.Link.{iri_of};
 ghost use Rattle.csvw_columns_core.specs.declared.declared.Frame.{Frame as TheFrame};
-ghost use Rattle.csvw_columns_core.specs.SchemaColumns.{column_limit, declared_columns};
-ghost use Rattle.csvw_columns.specs.Fit.{table_limit, IsFitDialect, IsFitSchema, IsFitTable, IsFitGroup};
+ghost use Rattle.csvw_columns_core.specs.SchemaColumns.{declared_columns};
+ghost use Rattle.csvw_description.specs.Plannable.{table_limit, IsFitDialect, IsFitSchema, IsFitTable, column_limit};
+ghost use Rattle.csvw_columns.specs.Fit.{IsFitGroup};
 ghost use Rattle.csvw_columns.specs.Known.{IsKnown};
 ghost use Rattle.csvw_columns.specs.PlanOf.{dialect_of, no_schema, schema_of, targets_of, table_plan, table_plans, plan_of};
 

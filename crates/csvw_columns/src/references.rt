@@ -1,9 +1,9 @@
 //! Keys by the numbers of their columns and tables.
 ghost use Rattle.std.specs.Prelude.{◌≡◌, ◌≤◌, ◌<◌, ◌↔◌, IfOk, IsTrue, All, length, map, unwrap_or};
 ghost use Rattle.csvw_iri.specs.Link.{iri_of};
-ghost use Rattle.csvw_columns_core.specs.SchemaColumns.{column_limit};
 ghost use Rattle.csvw_columns.specs.Keys.{place_of, number_at, numbers_of, names_at, foreign_key, IsResolved, AreResolved};
-ghost use Rattle.csvw_columns.specs.Fit.{table_limit, numbered_names};
+ghost use Rattle.csvw_description.specs.Plannable.{table_limit, column_limit};
+ghost use Rattle.csvw_description.specs.Name.{numbered_names};
 ghost use Rattle.csvw_columns.specs.PlanOf.{no_schema, schema_of, keys_of, targets_of};
 
 use crate::checks::numbered_names;

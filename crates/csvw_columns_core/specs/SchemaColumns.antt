@@ -7,10 +7,6 @@ use Rattle.csvw_columns_core.specs.declared.column.Column.{Column}
 use Rattle.csvw_columns_core.specs.Inherited.{properties_of}
 use Rattle.csvw_columns_core.specs.LiteralDatatype.{literal_datatype}
 
--- at most so many columns, and so many that are skipped
-abbrev pub column_limit : ℕ
-column_limit = 1024
-
 -- the number in the source, where skipped columns count; a virtual column has none
 abbrev pub source_number_of : Bool → ℕ → ℕ → Option ℕ
 source_number_of is_virtual skipped number = if is_virtual then None else Some (skipped + number)

@@ -3,7 +3,8 @@ ghost use Rattle.std.specs.Prelude.{◌≡◌, ◌<◌, ◌≤◌, ◌+◌, ◌^
 ghost use Rattle.csvw_iri.specs.Link.{iri_of};
 ghost use Rattle.csvw_columns_core.specs.Inherited.{properties_of};
 ghost use Rattle.csvw_columns_core.specs.LiteralDatatype.{literal_datatype};
-ghost use Rattle.csvw_columns_core.specs.SchemaColumns.{column_limit, source_number_of, declared, declared_columns};
+ghost use Rattle.csvw_description.specs.Plannable.{column_limit};
+ghost use Rattle.csvw_columns_core.specs.SchemaColumns.{source_number_of, declared, declared_columns};
 
 use crate::column::Column;
 use crate::properties::{Defaults, Properties};

@@ -2,7 +2,7 @@
 use Rattle.std.proofs.Common.{get_or, below_more, subst, ◌∙◌}
 use Rattle.std.proofs.lemmas.List.{get_or_default}
 use Rattle.csvw_description.specs.declared.table.TableDescription.{TableDescription}
-use Rattle.csvw_columns.specs.Fit.{IsFitTable}
+use Rattle.csvw_description.specs.Plannable.{IsFitTable}
 use Rattle.csvw_columns.proofs.checks.first_fault.Goals as goal
 
 pub loop-table-preserved : goal.loop-table-preserved

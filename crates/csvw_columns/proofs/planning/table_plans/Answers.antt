@@ -3,7 +3,7 @@ use Rattle.std.proofs.Common.{◌≡◌, ◌∙◌, ◌+◌, ◌∷◌, length, 
 use Rattle.std.specs.Prelude.{All}
 use Rattle.std.specs.Vec.Iter.{into_iter_items}
 use Rattle.std.proofs.lemmas.List.Elements.{All-tail}
-use Rattle.csvw_columns.specs.Fit.{IsFitTable}
+use Rattle.csvw_description.specs.Plannable.{IsFitTable}
 use Rattle.csvw_columns.specs.PlanOf.{table_plan}
 use Rattle.csvw_columns.proofs.PlanLemmas.{one_longer, next_made}
 use Rattle.csvw_columns.proofs.planning.table_plans.Goals as goal

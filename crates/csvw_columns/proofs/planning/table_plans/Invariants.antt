@@ -2,7 +2,7 @@
 use Rattle.std.proofs.Common.{◌≡◌, ◌++◌, ◌+◌, length}
 use Rattle.std.specs.Prelude.{All}
 use Rattle.std.specs.Vec.Iter.{into_iter_items}
-use Rattle.csvw_columns.specs.Fit.{IsFitTable}
+use Rattle.csvw_description.specs.Plannable.{IsFitTable}
 use Rattle.csvw_columns.specs.PlanOf.{table_plans}
 use Rattle.csvw_columns.proofs.planning.table_plans.Given as goal
 

@@ -1,6 +1,6 @@
 -- Those passed so far.
 use Rattle.std.proofs.Common.{◌≡◌, map, take}
-use Rattle.csvw_columns.specs.Fit.{numbered_names}
+use Rattle.csvw_description.specs.Name.{numbered_names}
 use Rattle.csvw_columns.specs.PlanOf.{schema_of}
 use Rattle.csvw_columns.proofs.references.all_names.Given as goal
 
