@@ -1,4 +1,4 @@
--- Where a text stops to begin a file, by the row at which its rows end.
+-- Where a text can't begin a file any more, by the row at which its rows end.
 use Rattle.std.proofs.Common.{◌≡◌, ◌≢◌, ℕ, zero, suc, ◌+◌, ◌-◌, ◌<◌, ◌≤◌, false, List, [], ◌∷◌, ◌++◌, length, take, drop, refl, sym, ap, ◌∙◌, subst}
 use Rattle.std.proofs.Common.{arith, append_assoc, length-append, length-drop, ◌⊎◌, inl, inr, encode_utf8_all}
 use Rattle.std.proofs.lemmas.Grind.{common_steps}

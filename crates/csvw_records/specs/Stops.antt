@@ -1,4 +1,4 @@
--- StopOf: where the bytes so far stop to begin a file, and by which rule (RFC 4180, section 2; RFC 3629, section 3).
+-- StopOf: where the bytes so far can't begin a file any more, and by which rule (RFC 4180, section 2; RFC 3629, section 3).
 use Rattle.std.specs.Prelude.{◌≡◌, ◌≢◌, ◌⊎◌, ℕ, ◌+◌, ◌-◌, ◌<◌, ◌≤◌, Bool, true, false, IsTrue, List, [], ◌∷◌, ◌++◌, length, take, drop, Some, IsSome}
 use Rattle.std.specs.Str.Lossy.{utf8_valid_len, utf8_error_len}
 use Rattle.csvw_dialect.specs.declared.dialect.Dialect.{Dialect}

@@ -1,4 +1,4 @@
-//! What the records of a CSV text are: its rows with their fields, files, and where a text stops to begin one.
+//! What the records of a CSV text are: its rows with their fields, files, and where a text can't begin one any more.
 #![tactic(auto)]
 
 pub mod laws;
