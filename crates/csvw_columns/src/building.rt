@@ -38,7 +38,7 @@ impl Plan {
     /// The plan of a description: each table with its own dialect and schema or those of its group, its columns with what
     /// they inherit, and its keys by numbers (Metadata Vocabulary for Tabular Data, sections 5.3 to 5.7). Where there is none,
     /// a fault of the whole description: `TooMany`, `BadDialect`, `BadDatatype`, `DuplicateName` or `BadReference`; `Memory`
-    /// where there is none of it.
+    /// where memory is wanting.
     #[tactic(auto, using(crate::proofs::ReadyLemmas::ready))]
     pub fn build(alloc: Global, description: Description) -> Result<Plan, MetaFault>
         ensures plan { Builds description result }

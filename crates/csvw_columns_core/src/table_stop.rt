@@ -19,7 +19,7 @@ pub enum TableStop {
 }
 
 impl TableStop {
-    /// What is wrong and what to do, as a sentence without its stop.
+    /// What is wrong and what to do, as a sentence without its full stop.
     fn sentence(&self) -> &'static str {
         match self {
             TableStop::Memory => "there is no memory: free some, and try again",

@@ -12,14 +12,23 @@ use std::alloc::{AllocError, Global};
 /// Lengths are in characters.
 #[derive(Debug, Drop, PartialEq, Eq)]
 pub struct Facets {
+    /// `length`: how many characters a text has.
     pub length: Option<u64>,
+    /// `minLength`: how many it has at least.
     pub min_length: Option<u64>,
+    /// `maxLength`: how many it has at most.
     pub max_length: Option<u64>,
+    /// `minimum`: the least value.
     pub minimum: Option<Value>,
+    /// `minInclusive`: the least value, too.
     pub min_inclusive: Option<Value>,
+    /// `minExclusive`: what each value is above.
     pub min_exclusive: Option<Value>,
+    /// `maximum`: the greatest value.
     pub maximum: Option<Value>,
+    /// `maxInclusive`: the greatest value, too.
     pub max_inclusive: Option<Value>,
+    /// `maxExclusive`: what each value is below.
     pub max_exclusive: Option<Value>,
 }
 
@@ -32,6 +41,7 @@ pub struct Datatype {
     pub id: Option<Iri>,
     /// Its `format`, where it has one.
     pub format: Option<Format>,
+    /// What values it takes besides their type.
     pub facets: Facets,
 }
 

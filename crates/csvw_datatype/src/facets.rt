@@ -10,10 +10,15 @@ use crate::value::Value;
 /// The facets that a value breaks, one for each code.
 #[derive(Clone, Copy, Debug, PartialEq, Eq)]
 pub struct Broken {
+    /// The text hasn't as many characters as `length` says.
     pub wrong_length: bool,
+    /// It has fewer than `minLength` says.
     pub too_short: bool,
+    /// It has more than `maxLength` says.
     pub too_long: bool,
+    /// The value is below `minimum` or `minInclusive`, or not above `minExclusive`.
     pub below_minimum: bool,
+    /// The value is above `maximum` or `maxInclusive`, or not below `maxExclusive`.
     pub above_maximum: bool,
 }
 

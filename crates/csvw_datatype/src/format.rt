@@ -10,7 +10,9 @@ use std::alloc::{AllocError, Global};
 /// The two texts of the truths (Model for Tabular Data and Metadata on the Web, section 6.4.3).
 #[derive(Debug, Drop, PartialEq, Eq)]
 pub struct TruthFormat {
+    /// What is written for true.
     pub if_true: Text,
+    /// What is written for false.
     pub if_false: Text,
 }
 
@@ -26,9 +28,13 @@ pub struct NumberFormat {
 /// How texts of a datatype are written, where it isn't the default way.
 #[derive(Debug, Drop, PartialEq, Eq)]
 pub enum Format {
+    /// Of booleans.
     Truth(TruthFormat),
+    /// Of integers, derived ones too, and decimals.
     Number(NumberFormat),
+    /// Of dates.
     Day(DateFormat),
+    /// Of dates with a time of day.
     Moment(MomentFormat),
 }
 

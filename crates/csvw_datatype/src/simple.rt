@@ -5,17 +5,29 @@ ghost use Rattle.csvw_datatype.specs.Names.{name_of, IsNamed, width_name};
 /// A derived integer type (XML Schema 1.1 part 2, sections 3.4.14 to 3.4.25).
 #[derive(Clone, Copy, Debug, PartialEq, Eq)]
 pub enum Width {
+    /// `long`: from -2^63 to 2^63 - 1.
     Long,
+    /// `int`: from -2^31 to 2^31 - 1.
     Int,
+    /// `short`: from -2^15 to 2^15 - 1.
     Short,
+    /// `byte`: from -2^7 to 2^7 - 1.
     Byte,
+    /// `unsignedLong`: from 0 to 2^64 - 1.
     UnsignedLong,
+    /// `unsignedInt`: from 0 to 2^32 - 1.
     UnsignedInt,
+    /// `unsignedShort`: from 0 to 2^16 - 1.
     UnsignedShort,
+    /// `unsignedByte`: from 0 to 2^8 - 1.
     UnsignedByte,
+    /// `nonNegativeInteger`: from 0.
     NonNegativeInteger,
+    /// `positiveInteger`: from 1.
     PositiveInteger,
+    /// `nonPositiveInteger`: up to 0.
     NonPositiveInteger,
+    /// `negativeInteger`: up to -1.
     NegativeInteger,
 }
 

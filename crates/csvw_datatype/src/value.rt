@@ -10,6 +10,7 @@ use std::alloc::{AllocError, Global};
 pub enum Value {
     /// A string or a URI.
     Text(Text),
+    /// A boolean.
     Truth(bool),
     /// A number, counted in units of 10^-18.
     Number(i128),

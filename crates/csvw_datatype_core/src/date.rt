@@ -9,8 +9,11 @@ use jiff_core::civil::Date;
 /// What parts the fields of a date.
 #[derive(Clone, Copy, Debug, PartialEq, Eq)]
 pub enum Separator {
+    /// `-`.
     Dash,
+    /// `/`.
     Slash,
+    /// `.`.
     Dot,
 }
 

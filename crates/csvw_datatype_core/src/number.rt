@@ -331,7 +331,7 @@ pub enum NumberFault {
 }
 
 impl NumberFault {
-    /// What is wrong and what to do, as a sentence without its stop.
+    /// What is wrong and what to do, as a sentence without its full stop.
     fn sentence(&self) -> &'static str {
         match self {
             NumberFault::Bad => {

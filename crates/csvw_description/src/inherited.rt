@@ -26,7 +26,7 @@ pub struct Inherited {
     pub null: Option<Shared<Seq<Text>>>,
     /// `ordered`: whether the items of a list keep their order in the graph.
     pub ordered: Option<bool>,
-    /// `required`: whether a cell may be null.
+    /// `required`: whether a null cell is a fault.
     pub required: Option<bool>,
     /// `separator`: what parts the items of a list; `Some(None)`: it is null, so that a cell is no list.
     pub separator: Option<Option<Shared<Text>>>,

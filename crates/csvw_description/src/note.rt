@@ -17,7 +17,9 @@ pub struct Note {
 #[cycle(note)]
 #[derive(Debug, Drop)]
 pub enum NoteValue {
+    /// A text, a number or a truth.
     Literal(NoteLiteral),
+    /// A node, and what is told of it.
     Object(NoteObject),
 }
 

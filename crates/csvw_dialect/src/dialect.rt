@@ -8,9 +8,13 @@ use std::alloc::{AllocError, Global};
 /// Which white space (tab, line feed, carriage return, space) is stripped from each field.
 #[derive(Clone, Copy, Debug, PartialEq, Eq)]
 pub enum Trim {
+    /// None of it.
     No,
+    /// What stands at the start.
     Start,
+    /// What stands at the end.
     End,
+    /// What stands at the start and at the end.
     Both,
 }
 

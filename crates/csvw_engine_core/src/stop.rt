@@ -26,14 +26,20 @@ pub enum Stop {
     TableCount,
     /// The text of a table stops being one in this row, by its source number from 1.
     Rows {
+        /// The table's number in its group, from 1.
         table: u32,
+        /// The row's number in its source, from 1.
         row: u64,
+        /// Why.
         stop: RowStop,
     },
     /// A table can't be annotated from this row on, by its source number from 1.
     Table {
+        /// The table's number in its group, from 1.
         table: u32,
+        /// The row's number in its source, from 1.
         row: u64,
+        /// Why.
         stop: TableStop,
     },
     /// There is no table of this number.

@@ -18,7 +18,7 @@ pub enum IriFault {
 }
 
 impl IriFault {
-    /// What is wrong and what to do, as a sentence without its stop.
+    /// What is wrong and what to do, as a sentence without its full stop.
     fn sentence(&self) -> &'static str {
         match self {
             IriFault::Memory => "there is no memory: free some, and try again",

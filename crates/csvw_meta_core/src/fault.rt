@@ -50,7 +50,7 @@ pub enum MetaCode {
 }
 
 impl MetaCode {
-    /// What is wrong and what to do, as a sentence without its stop.
+    /// What is wrong and what to do, as a sentence without its full stop.
     fn sentence(&self) -> &'static str {
         match self {
             MetaCode::Memory => "there is no memory: free some, and try again",

@@ -24,7 +24,7 @@ pub enum RowStop {
 }
 
 impl RowStop {
-    /// What is wrong and what to do, as a sentence without its stop.
+    /// What is wrong and what to do, as a sentence without its full stop.
     fn sentence(&self) -> &'static str {
         match self {
             RowStop::Memory => "there is no memory: free some, and try again",

@@ -13,7 +13,7 @@ pub enum ReportStop {
 }
 
 impl ReportStop {
-    /// What is wrong and what to do, as a sentence without its stop.
+    /// What is wrong and what to do, as a sentence without its full stop.
     fn sentence(&self) -> &'static str {
         match self {
             ReportStop::Memory => "there is no memory: free some, and try again",

@@ -20,7 +20,7 @@ pub enum TemplateFault {
 }
 
 impl TemplateFault {
-    /// What is wrong and what to do, as a sentence without its stop.
+    /// What is wrong and what to do, as a sentence without its full stop.
     fn sentence(&self) -> &'static str {
         match self {
             TemplateFault::Memory => "there is no memory: free some, and try again",

@@ -19,7 +19,9 @@ pub struct Place {
 /// Whether a fault makes its group invalid.
 #[derive(Clone, Copy, Debug, PartialEq, Eq, PartialOrd, Ord)]
 pub enum Kind {
+    /// It does.
     Error,
+    /// It leaves the group valid.
     Warning,
 }
 
@@ -36,14 +38,19 @@ pub enum Code {
     HeaderMismatch,
     /// A required cell has no value.
     Required,
+    /// A text is no boolean of the column's format.
     BadBoolean,
+    /// A text is no integer, in a column of integers or of a type derived from them.
     BadInteger,
+    /// A text is no decimal of the column's format.
     BadDecimal,
     /// A number of 10^20 or more in size, or finer than 10^-18.
     NumberTooLong,
     /// A number outside the range of its derived type.
     OutOfRange,
+    /// A text is no date of the column's format.
     BadDate,
+    /// A text is no date with a time of day of the column's format.
     BadDateTime,
     /// A text isn't as long as the facet `length` says.
     WrongLength,
@@ -68,7 +75,7 @@ pub enum Code {
 }
 
 impl Code {
-    /// What is wrong and what to do, as a sentence without its stop.
+    /// What is wrong and what to do, as a sentence without its full stop.
     fn sentence(&self) -> &'static str {
         match self {
             Code::UnknownProperty => {
@@ -142,8 +149,11 @@ impl Error for Code {}
 /// Something wrong at a place. Faults are ordered by table, row, column, code and kind.
 #[derive(Clone, Copy, Debug, PartialEq, Eq, PartialOrd, Ord)]
 pub struct Fault {
+    /// Where it is.
     pub place: Place,
+    /// What is wrong.
     pub code: Code,
+    /// Whether it makes its group invalid.
     pub kind: Kind,
 }
 

@@ -7,7 +7,7 @@ use std::alloc::AllocError;
 use std::error::Error;
 use std::fmt;
 
-/// Why a sink took no triple.
+/// Why a sink didn't take a triple whole: after `Device` it took a part of it, else nothing.
 #[derive(Clone, Copy, Debug, PartialEq, Eq)]
 pub enum SinkFault {
     /// There is no memory. The sink may be asked again.
@@ -19,7 +19,7 @@ pub enum SinkFault {
 }
 
 impl SinkFault {
-    /// What is wrong and what to do, as a sentence without its stop.
+    /// What is wrong and what to do, as a sentence without its full stop.
     fn sentence(&self) -> &'static str {
         match self {
             SinkFault::Memory => "there is no memory: free some, and try again",

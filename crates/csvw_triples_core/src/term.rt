@@ -10,32 +10,44 @@ use std::alloc::{AllocError, Global};
 /// What a triple begins with: an IRI or a blank node.
 #[derive(Debug, Drop)]
 pub enum Node {
+    /// An IRI.
     Named(Iri),
+    /// A blank node, by where it comes from.
     Blank(Origin),
 }
 
 /// A literal: its text, its datatype and perhaps its language, which comes with rdf:langString.
 #[derive(Debug, Drop)]
 pub struct Lit {
+    /// Its lexical form.
     pub text: Text,
+    /// Its datatype.
     pub datatype: Iri,
+    /// Its language, where it has one.
     pub lang: Option<LanguageTag>,
+    /// With a language its datatype is rdf:langString.
     pub ghost tagged: { is_some lang ≡ true → datatype ≡ lang_string },
 }
 
 /// What a triple ends with: an IRI, a blank node or a literal.
 #[derive(Debug, Drop)]
 pub enum Term {
+    /// An IRI.
     Named(Iri),
+    /// A blank node, by where it comes from.
     Blank(Origin),
+    /// A literal.
     Literal(Lit),
 }
 
 /// A triple: its subject, predicate and object.
 #[derive(Debug, Drop)]
 pub struct Triple {
+    /// Its subject.
     pub s: Node,
+    /// Its predicate.
     pub p: Iri,
+    /// Its object.
     pub o: Term,
 }
 

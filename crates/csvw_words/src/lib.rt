@@ -31,16 +31,22 @@ pub struct Group<'a> {
 pub enum Request<'a> {
     /// One table of this URL, without metadata, from this file.
     Plain {
+        /// The table's URL.
         url: &'a str,
+        /// The file that has the table.
         file: &'a str,
+        /// Whether each line of the graph is sent when it is made; else lines wait for a full buffer, but at a terminal.
         line_buffered: bool,
     },
     /// Is the group valid?
     Validate(Group<'a>),
     /// The graph of the group.
     Convert {
+        /// The group.
         group: Group<'a>,
+        /// Whether the graph is that of minimal mode; else it is that of standard mode.
         minimal: bool,
+        /// Whether each line of the graph is sent when it is made, as in `Plain`.
         line_buffered: bool,
     },
 }
