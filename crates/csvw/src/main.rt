@@ -11,15 +11,26 @@ mod tell;
 use command::command;
 use csvw_engine::Stop;
 use csvw_text::Counted;
+use csvw_words::{Request, requested};
 use opener::FileOpener;
+use std::alloc::Global;
 use std::io::{self, BufWriter, IsTerminal, Stderr, Stdout};
 use std::process::ExitCode;
 use std::{env, fs};
 use tell::{tell_mistake, tell_stop};
 
+/// Whether the words ask for each line when it is made.
+fn asks_for_lines(alloc: Global, words: &[String]) -> bool {
+    match requested(alloc, words) {
+        Ok(Request::Plain { line_buffered, .. } | Request::Convert { line_buffered, .. }) =>
+            line_buffered,
+        Ok(Request::Validate(_)) | Err(_) => false,
+    }
+}
+
 /// Whether each line is to be sent when it is made: where it is asked for, or shown at a terminal.
-fn is_line_buffered(words: &[String], out: &Stdout) -> bool {
-    out.is_terminal() || words.iter().any(|word| word.as_str() == "--line-buffered")
+fn is_line_buffered(alloc: Global, words: &[String], out: &Stdout) -> bool {
+    out.is_terminal() || asks_for_lines(alloc, words)
 }
 
 /// Runs the program on the words and streams of its process. At the end the buffer of standard output is
@@ -29,7 +40,7 @@ fn run(rt: &HostRuntime, err: &mut Counted<Stderr>) -> io::Result<u8> {
     let words = env::args(rt)?.collect::<Vec<String>>(alloc)?;
     let mut opener = FileOpener::new(rt, rt.stdin());
     let out = rt.stdout();
-    if is_line_buffered(words.as_slice(), &out) {
+    if is_line_buffered(alloc, words.as_slice(), &out) {
         // without a buffer: a line is one write
         let mut out = Counted::new(out);
         return Ok(command(alloc, words.as_slice(), &mut opener, &mut out, err));

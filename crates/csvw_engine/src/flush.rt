@@ -1,11 +1,12 @@
 //! The flushes at the end of a run.
-ghost use Rattle.std.specs.Prelude.{◌≡◌, IfErr};
+ghost use Rattle.std.specs.Prelude.{◌≡◌, Err, IfErr};
 ghost use Rattle.std.specs.Io.KnownBytes.{Keeps};
 ghost use Rattle.csvw_text.specs.Count.{after_call};
 ghost use Rattle.csvw_text.specs.Counted.{inner_of, failures_of};
 ghost use Rattle.csvw_engine_core.specs.declared.stop.Stop.TheVariants as stop;
 ghost use Rattle.csvw_engine.specs.Flushes.{IsFlushed};
 
+use csvw_report::Outcome;
 use csvw_session::Stop;
 use csvw_text::Counted;
 use std::io::Write;
@@ -36,4 +37,12 @@ pub(crate) fn flush_behind<T: Drop, W: Write>(
             ran
         }
     }
+}
+
+/// Stops before any table is read, behind a flush of what the caller wrote.
+pub(crate) fn refuse<W: Write>(w: &mut Counted<W>, stop: Stop) -> Result<Outcome, Stop>
+    ensures keeps { Keeps (W.contents (inner_of w.old)) (W.contents (inner_of w.new)) }
+    ensures flushed { IsFlushed (Err stop) result (failures_of w.old) (failures_of w.new) }
+{
+    flush_behind(w, Err(stop))
 }

@@ -6,7 +6,7 @@ ghost use Rattle.csvw_text.specs.Streams.{stream_of};
 ghost use Rattle.csvw_engine.specs.Runs.{IsPlanned, Runs};
 ghost use Rattle.csvw_meta.specs.Document.{Document, document, plain_description};
 
-use crate::flush::{flush, flush_behind};
+use crate::flush::{flush, flush_behind, refuse};
 use crate::group::{Way, convert_tables};
 use crate::plan::{planned, planned_alone};
 use crate::reporting::tell;
@@ -56,7 +56,7 @@ fn run_planned<R: Read, W: Write, V: Write>(
 {
     let PlannedRun { plan, way } = run;
     if readers.len() != plan.tables().len() {
-        return flush_behind(out, Err(Stop::TableCount));
+        return refuse(out, Stop::TableCount);
     }
     let ran = convert_tables(alloc, plan, way, readers, out);
     let told = tell(alloc, ran, report);
@@ -79,7 +79,7 @@ fn run_in<R: Read, W: Write, V: Write>(
     let way = asked.way;
     match planned(alloc, asked.meta, asked.base) {
         Ok(plan) => run_planned(alloc, PlannedRun { plan, way }, readers, out, report),
-        Err(stop) => flush_behind(out, Err(stop)),
+        Err(stop) => refuse(out, stop),
     }
 }
 
@@ -147,11 +147,13 @@ pub fn plain<R: Read, W: Write, V: Write>(
     ensures { Runs R.remaining (plain_description url.now) mode.Minimal (input.old ∷ []) (input.new ∷ [])
         (stream_of W.contents out.old out.new) (stream_of V.contents report.old report.new) result }
 {
+    // a slice is below 2^63 bytes, as a reader is that is one
+    if !may_hold::<Counted<R>>(1) {
+        return refuse(out, Stop::Memory);
+    }
     let plan = match planned_alone(alloc, url) {
-        // a slice is below 2^63 bytes, as a reader is that is one
-        Ok(_) if !may_hold::<Counted<R>>(1) => return flush_behind(out, Err(Stop::Memory)),
         Ok(plan) => plan,
-        Err(stop) => return flush_behind(out, Err(stop)),
+        Err(stop) => return refuse(out, stop),
     };
     let way = Way {
         mode: Mode::Minimal,
