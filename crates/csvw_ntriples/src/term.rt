@@ -1,6 +1,8 @@
 //! What a text in N-Triples says.
+ghost use Rattle.std.specs.Prelude.{◌≡◌, IfOk};
 
-use csvw_text::{LanguageTag, Text};
+use csvw_text::{LanguageTag, Text, both, copied_option};
+use std::alloc::{AllocError, Global};
 use std::error::Error;
 use std::fmt;
 
@@ -44,6 +46,58 @@ pub struct NtTriple {
     pub p: Text,
     /// Its object.
     pub o: NtTerm,
+}
+
+impl NtNode {
+    /// An equal node; `AllocError` where there is no memory.
+    pub fn clone(&self, alloc: Global) -> Result<NtNode, AllocError>
+        ensures { IfOk result (λ n. n ≡ self.now) }
+    {
+        match self {
+            NtNode::Named(iri) => Ok(NtNode::Named(iri.clone(alloc)?)),
+            NtNode::Blank(label) => Ok(NtNode::Blank(label.clone(alloc)?)),
+        }
+    }
+}
+
+impl NtLit {
+    /// An equal literal; `AllocError` where there is no memory.
+    pub fn clone(&self, alloc: Global) -> Result<NtLit, AllocError>
+        ensures { IfOk result (λ l. l ≡ self.now) }
+    {
+        let lang = copied_option(alloc, &self.lang);
+        let kind = both(self.datatype.clone(alloc), lang);
+        let (text, (datatype, lang)) = both(self.text.clone(alloc), kind)?;
+        Ok(NtLit {
+            text,
+            datatype,
+            lang,
+        })
+    }
+}
+
+impl NtTerm {
+    /// An equal term; `AllocError` where there is no memory.
+    pub fn clone(&self, alloc: Global) -> Result<NtTerm, AllocError>
+        ensures { IfOk result (λ t. t ≡ self.now) }
+    {
+        match self {
+            NtTerm::Named(iri) => Ok(NtTerm::Named(iri.clone(alloc)?)),
+            NtTerm::Blank(label) => Ok(NtTerm::Blank(label.clone(alloc)?)),
+            NtTerm::Literal(lit) => Ok(NtTerm::Literal(lit.clone(alloc)?)),
+        }
+    }
+}
+
+impl NtTriple {
+    /// An equal triple; `AllocError` where there is no memory.
+    pub fn clone(&self, alloc: Global) -> Result<NtTriple, AllocError>
+        ensures { IfOk result (λ t. t ≡ self.now) }
+    {
+        let ends = both(self.s.clone(alloc), self.o.clone(alloc));
+        let (p, (s, o)) = both(self.p.clone(alloc), ends)?;
+        Ok(NtTriple { s, p, o })
+    }
 }
 
 /// Why no document was read.
