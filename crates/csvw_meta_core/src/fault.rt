@@ -1,8 +1,8 @@
 //! What is wrong with a metadata document.
-ghost use Rattle.std.specs.Prelude.{◌≡◌};
+ghost use Rattle.std.specs.Prelude.{◌≡◌, IfOk};
 
 use csvw_text::Text;
-use std::alloc::{AllocError, AllocFailed};
+use std::alloc::{AllocError, AllocFailed, Global};
 use std::error::Error;
 use std::fmt;
 
@@ -115,6 +115,18 @@ pub struct MetaFault {
     pub code: MetaCode,
     /// The JSON Pointer (RFC 6901) of the value, or of the object where a property is missing.
     pub pointer: Text,
+}
+
+impl MetaFault {
+    /// An equal fault; `AllocError` where there is no memory.
+    pub fn clone(&self, alloc: Global) -> Result<MetaFault, AllocError>
+        ensures { IfOk result (λ f. f ≡ self.now) }
+    {
+        Ok(MetaFault {
+            code: self.code,
+            pointer: self.pointer.clone(alloc)?,
+        })
+    }
 }
 
 /// Why a part of a document isn't read.
