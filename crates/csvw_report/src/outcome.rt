@@ -1,10 +1,11 @@
 //! What a run that was not stopped found.
-ghost use Rattle.std.specs.Prelude.{◌≡◌};
+ghost use Rattle.std.specs.Prelude.{◌≡◌, IfOk};
 ghost use Rattle.std.specs.List.{list_all};
 ghost use Rattle.std.specs.List.Sorted.{IsPermutation, IsSorted};
 ghost use Rattle.csvw_report.specs.Order.{fault_cmp, is_no_error};
 
 use csvw_text::{Fault, Kind, Seq};
+use std::alloc::{AllocError, Global};
 
 /// What a run that was not stopped found.
 #[derive(Debug, Drop, PartialEq, Eq)]
@@ -31,6 +32,15 @@ impl Outcome {
             .as_slice()
             .iter()
             .all(|fault| is_no_error(fault))
+    }
+
+    /// An equal outcome; `AllocError` where there is no memory.
+    pub fn clone(&self, alloc: Global) -> Result<Outcome, AllocError>
+        ensures { IfOk result (λ o. o ≡ self.now) }
+    {
+        Ok(Outcome {
+            faults: Seq::of(self.faults.as_slice().to_vec(alloc)?),
+        })
     }
 }
 
