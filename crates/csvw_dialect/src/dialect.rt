@@ -2,7 +2,7 @@
 ghost use Rattle.std.specs.Prelude.{◌≡◌, ◌||◌, ◌==◌, IfOk, OnOk, OnErr, chars};
 ghost use Rattle.csvw_dialect.specs.Lawful.{IsLawful, IsDefault, has_break, prefix_of, prefix_breaks, delimiter_breaks, quote_breaks};
 
-use csvw_text::{Text, copied_option};
+use csvw_text::{Copied, Text, copied_option};
 use std::alloc::{AllocError, Global};
 
 /// Which white space (tab, line feed, carriage return, space) is stripped from each field.
@@ -156,5 +156,11 @@ impl Dialect {
             trim: self.trim,
             line_terminators: self.line_terminators,
         })
+    }
+}
+
+impl Copied for Dialect {
+    fn copied(&self, alloc: Global) -> Result<Dialect, AllocError> {
+        self.clone(alloc)
     }
 }
