@@ -2,6 +2,7 @@
 #![tactic(auto)]
 
 mod column;
+mod copies;
 mod description;
 mod foreign_key;
 mod inherited;

@@ -1,0 +1,252 @@
+//! Copies of descriptions.
+ghost use Rattle.std.specs.Prelude.{◌≡◌, IfOk};
+
+use crate::column::ColumnDescription;
+use crate::description::Description;
+use crate::foreign_key::ForeignKey;
+use crate::inherited::Inherited;
+use crate::note::{Note, NoteLiteral, NoteObject, NoteValue};
+use crate::schema::Schema;
+use crate::table::TableDescription;
+use csvw_text::{Copied, Seq, both, copied_option};
+use std::alloc::{AllocError, Global};
+
+impl Inherited {
+    /// Equal properties, which share their templates, texts and datatype; `AllocError` where there is no memory.
+    pub fn clone(&self, alloc: Global) -> Result<Inherited, AllocError>
+        ensures { IfOk result (λ i. i ≡ self.now) }
+    {
+        let about_url = copied_option(alloc, &self.about_url);
+        let property_url = copied_option(alloc, &self.property_url);
+        let value_url = copied_option(alloc, &self.value_url);
+        let datatype = copied_option(alloc, &self.datatype);
+        let default = copied_option(alloc, &self.default);
+        let lang = copied_option(alloc, &self.lang);
+        let null = copied_option(alloc, &self.null);
+        let separator = copied_option(alloc, &self.separator);
+        let urls = both(both(about_url, property_url), both(value_url, datatype));
+        let texts = both(both(default, lang), both(null, separator));
+        let (urls, texts) = both(urls, texts)?;
+        let ((about_url, property_url), (value_url, datatype)) = urls;
+        let ((default, lang), (null, separator)) = texts;
+        Ok(Inherited {
+            about_url,
+            property_url,
+            value_url,
+            datatype,
+            default,
+            lang,
+            null,
+            ordered: self.ordered,
+            required: self.required,
+            separator,
+        })
+    }
+}
+
+impl ColumnDescription {
+    /// An equal column; `AllocError` where there is no memory.
+    pub fn clone(&self, alloc: Global) -> Result<ColumnDescription, AllocError>
+        ensures { IfOk result (λ c. c ≡ self.now) }
+    {
+        let names = both(copied_option(alloc, &self.name), self.titles.clone(alloc));
+        let warnings = self.warnings.as_slice().to_vec(alloc);
+        let rest = both(self.inherited.clone(alloc), warnings);
+        let ((name, titles), (inherited, warnings)) = both(names, rest)?;
+        Ok(ColumnDescription {
+            name,
+            titles,
+            is_virtual: self.is_virtual,
+            suppressed: self.suppressed,
+            inherited,
+            warnings: Seq::of(warnings),
+        })
+    }
+}
+
+impl Copied for ColumnDescription {
+    fn copied(&self, alloc: Global) -> Result<ColumnDescription, AllocError> {
+        self.clone(alloc)
+    }
+}
+
+impl ForeignKey {
+    /// An equal key; `AllocError` where there is no memory.
+    pub fn clone(&self, alloc: Global) -> Result<ForeignKey, AllocError>
+        ensures { IfOk result (λ k. k ≡ self.now) }
+    {
+        let names = both(self.columns.clone(alloc), self.referenced.clone(alloc));
+        let (resource, (columns, referenced)) = both(self.resource.clone(alloc), names)?;
+        Ok(ForeignKey {
+            columns,
+            resource,
+            referenced,
+        })
+    }
+}
+
+impl Copied for ForeignKey {
+    fn copied(&self, alloc: Global) -> Result<ForeignKey, AllocError> {
+        self.clone(alloc)
+    }
+}
+
+impl NoteLiteral {
+    /// An equal literal; `AllocError` where there is no memory.
+    pub fn clone(&self, alloc: Global) -> Result<NoteLiteral, AllocError>
+        ensures { IfOk result (λ l. l ≡ self.now) }
+    {
+        let language = copied_option(alloc, &self.language);
+        let kind = both(self.datatype.clone(alloc), language);
+        let (text, (datatype, language)) = both(self.text.clone(alloc), kind)?;
+        Ok(NoteLiteral {
+            text,
+            datatype,
+            language,
+        })
+    }
+}
+
+impl NoteValue {
+    /// An equal value; `AllocError` where there is no memory.
+    #[cycle(copies)]
+    pub fn clone(&self, alloc: Global) -> Result<NoteValue, AllocError>
+        ensures { IfOk result (λ v. v ≡ self.now) }
+    {
+        match self {
+            NoteValue::Literal(literal) => Ok(NoteValue::Literal(literal.clone(alloc)?)),
+            NoteValue::Object(object) => Ok(NoteValue::Object(object.clone(alloc)?)),
+        }
+    }
+}
+
+impl Note {
+    /// An equal annotation; `AllocError` where there is no memory.
+    #[cycle(copies)]
+    pub fn clone(&self, alloc: Global) -> Result<Note, AllocError>
+        ensures { IfOk result (λ n. n ≡ self.now) }
+    {
+        let (key, value) = both(self.key.clone(alloc), self.value.clone(alloc))?;
+        Ok(Note { key, value })
+    }
+}
+
+impl NoteObject {
+    /// An equal object; `AllocError` where there is no memory.
+    #[cycle(copies)]
+    pub fn clone(&self, alloc: Global) -> Result<NoteObject, AllocError>
+        ensures { IfOk result (λ o. o ≡ self.now) }
+    {
+        let names = both(copied_option(alloc, &self.id), self.types.clone(alloc));
+        let ((id, types), notes) = both(names, copies(alloc, self.notes.as_slice()))?;
+        Ok(NoteObject { id, types, notes })
+    }
+}
+
+#[cycle(copies)]
+fn copies(alloc: Global, notes: &[Note]) -> Result<Seq<Note>, AllocError>
+    ensures { IfOk result (λ s. s ≡ notes.now) }
+{
+    let mut copies = Vec::new(alloc);
+    for note in notes {
+        copies.push(note.clone(alloc)?)?;
+    }
+    Ok(Seq::of(copies))
+}
+
+impl Copied for Note {
+    fn copied(&self, alloc: Global) -> Result<Note, AllocError> {
+        self.clone(alloc)
+    }
+}
+
+impl Schema {
+    /// An equal schema; `AllocError` where there is no memory.
+    pub fn clone(&self, alloc: Global) -> Result<Schema, AllocError>
+        ensures { IfOk result (λ s. s ≡ self.now) }
+    {
+        let columns = both(self.columns.clone(alloc), self.inherited.clone(alloc));
+        let keys = both(
+            self.primary_key.clone(alloc),
+            self.foreign_keys.clone(alloc),
+        );
+        let warnings = self.warnings.as_slice().to_vec(alloc);
+        let (columns, (keys, warnings)) = both(columns, both(keys, warnings))?;
+        let (columns, inherited) = columns;
+        let (primary_key, foreign_keys) = keys;
+        Ok(Schema {
+            columns,
+            primary_key,
+            foreign_keys,
+            inherited,
+            warnings: Seq::of(warnings),
+        })
+    }
+}
+
+impl Copied for Schema {
+    fn copied(&self, alloc: Global) -> Result<Schema, AllocError> {
+        self.clone(alloc)
+    }
+}
+
+impl TableDescription {
+    /// An equal table; `AllocError` where there is no memory.
+    pub fn clone(&self, alloc: Global) -> Result<TableDescription, AllocError>
+        ensures { IfOk result (λ t. t ≡ self.now) }
+    {
+        let names = both(self.url.clone(alloc), copied_option(alloc, &self.id));
+        let dialect = copied_option(alloc, &self.dialect);
+        let rules = both(dialect, copied_option(alloc, &self.schema));
+        let inherited = both(self.inherited.clone(alloc), self.notes.clone(alloc));
+        let warnings = self.warnings.as_slice().to_vec(alloc);
+        let rest = both(inherited, warnings);
+        let (names, (rules, rest)) = both(names, both(rules, rest))?;
+        let (url, id) = names;
+        let (dialect, schema) = rules;
+        let ((inherited, notes), warnings) = rest;
+        Ok(TableDescription {
+            url,
+            id,
+            dialect,
+            schema,
+            suppressed: self.suppressed,
+            inherited,
+            notes,
+            warnings: Seq::of(warnings),
+        })
+    }
+}
+
+impl Copied for TableDescription {
+    fn copied(&self, alloc: Global) -> Result<TableDescription, AllocError> {
+        self.clone(alloc)
+    }
+}
+
+impl Description {
+    /// An equal description; `AllocError` where there is no memory.
+    pub fn clone(&self, alloc: Global) -> Result<Description, AllocError>
+        ensures { IfOk result (λ d. d ≡ self.now) }
+    {
+        let tables = both(copied_option(alloc, &self.id), self.tables.clone(alloc));
+        let dialect = copied_option(alloc, &self.dialect);
+        let rules = both(dialect, copied_option(alloc, &self.schema));
+        let inherited = both(self.inherited.clone(alloc), self.notes.clone(alloc));
+        let warnings = self.warnings.as_slice().to_vec(alloc);
+        let rest = both(inherited, warnings);
+        let (tables, (rules, rest)) = both(tables, both(rules, rest))?;
+        let (id, tables) = tables;
+        let (dialect, schema) = rules;
+        let ((inherited, notes), warnings) = rest;
+        Ok(Description {
+            id,
+            tables,
+            dialect,
+            schema,
+            inherited,
+            notes,
+            warnings: Seq::of(warnings),
+        })
+    }
+}
