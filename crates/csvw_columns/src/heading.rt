@@ -7,7 +7,6 @@ ghost use Rattle.csvw_columns_core.specs.SchemaColumns.{declared_columns};
 ghost use Rattle.csvw_columns.specs.HeaderMatch.{columns_of, header_columns, frame_of, IsWithin, GivesColumns, Matches};
 ghost use Rattle.csvw_columns.specs.Ready.{AreSound, IsReady};
 
-use crate::copies::copied_inherited;
 use crate::names::are_named_apart;
 use crate::plan::TablePlan;
 use csvw_columns_core::{
@@ -22,8 +21,8 @@ fn frame_of(alloc: Global, plan: &TablePlan) -> Result<Frame, AllocError>
     ensures { IfOk result (λ f. f ≡ frame_of plan.now) }
 {
     let url = plan.url.clone(alloc);
-    let schema = copied_inherited(alloc, &plan.schema);
-    let table = copied_inherited(alloc, &plan.table);
+    let schema = plan.schema.clone(alloc);
+    let table = plan.table.clone(alloc);
     let (url, (schema, table)) = both(url, both(schema, table))?;
     Ok(Frame {
         url,

@@ -4,7 +4,6 @@
 mod building;
 mod checks;
 mod choices;
-mod copies;
 mod heading;
 pub mod laws;
 mod names;

@@ -1,12 +1,13 @@
 //! What is known of tables before their texts are read.
-ghost use Rattle.std.specs.Prelude.{◌≡◌, true};
+ghost use Rattle.std.specs.Prelude.{◌≡◌, true, IfOk};
 ghost use Rattle.csvw_columns.specs.Numbered.{are_numbered};
 
 use csvw_columns_core::Column;
 use csvw_description::{Inherited, Note};
 use csvw_dialect::Dialect;
 use csvw_iri::{Base, Iri};
-use csvw_text::{Fault, Seq};
+use csvw_text::{Copied, Fault, Seq, both, copied_option};
+use std::alloc::{AllocError, Global};
 
 /// A foreign key (Model for Tabular Data, section 4.2), by numbers.
 #[derive(Debug, Drop)]
@@ -63,7 +64,83 @@ pub struct Plan {
     pub ghost numbered: { are_numbered 1 tables ≡ true },
 }
 
+impl ForeignKeyPlan {
+    /// An equal key; `AllocError` where there is no memory.
+    pub fn clone(&self, alloc: Global) -> Result<ForeignKeyPlan, AllocError>
+        ensures { IfOk result (λ k. k ≡ self.now) }
+    {
+        let columns = self.columns.as_slice().to_vec(alloc);
+        let referenced = self.referenced.as_slice().to_vec(alloc);
+        let (columns, referenced) = both(columns, referenced)?;
+        Ok(ForeignKeyPlan {
+            columns: Seq::of(columns),
+            table: self.table,
+            referenced: Seq::of(referenced),
+        })
+    }
+}
+
+impl Copied for ForeignKeyPlan {
+    fn copied(&self, alloc: Global) -> Result<ForeignKeyPlan, AllocError> {
+        self.clone(alloc)
+    }
+}
+
+impl TablePlan {
+    /// An equal plan, whose properties share their templates, texts and datatypes; `AllocError` where there is no memory.
+    pub fn clone(&self, alloc: Global) -> Result<TablePlan, AllocError>
+        ensures { IfOk result (λ p. p ≡ self.now) }
+    {
+        let names = both(self.url.clone(alloc), copied_option(alloc, &self.id));
+        let columns = both(self.dialect.clone(alloc), self.declared.clone(alloc));
+        let inherited = both(self.schema.clone(alloc), self.table.clone(alloc));
+        let inherited = both(inherited, self.group.clone(alloc));
+        let primary_key = self.primary_key.as_slice().to_vec(alloc);
+        let keys = both(primary_key, self.foreign_keys.clone(alloc));
+        let rest = both(keys, self.notes.clone(alloc));
+        let (known, rest) = both(both(names, columns), both(inherited, rest))?;
+        let ((url, id), (dialect, declared)) = known;
+        let (((schema, table), group), ((primary_key, foreign_keys), notes)) = rest;
+        Ok(TablePlan {
+            number: self.number,
+            url,
+            id,
+            suppressed: self.suppressed,
+            dialect,
+            declared,
+            schema,
+            table,
+            group,
+            primary_key: Seq::of(primary_key),
+            foreign_keys,
+            notes,
+        })
+    }
+}
+
+impl Copied for TablePlan {
+    fn copied(&self, alloc: Global) -> Result<TablePlan, AllocError> {
+        self.clone(alloc)
+    }
+}
+
 impl Plan {
+    /// An equal plan, whose properties share their templates, texts and datatypes; `AllocError` where there is no memory.
+    pub fn clone(&self, alloc: Global) -> Result<Plan, AllocError>
+        ensures { IfOk result (λ p. p ≡ self.now) }
+    {
+        let names = both(copied_option(alloc, &self.id), self.notes.clone(alloc));
+        let warnings = self.warnings.as_slice().to_vec(alloc);
+        let tables = both(self.tables.clone(alloc), warnings);
+        let ((id, notes), (tables, warnings)) = both(names, tables)?;
+        Ok(Plan {
+            id,
+            notes,
+            tables,
+            warnings: Seq::of(warnings),
+        })
+    }
+
     /// Its tables, in order.
     pub fn tables(&self) -> &[TablePlan]
         ensures { result.now ≡ self.now.tables }

@@ -9,7 +9,6 @@ ghost use Rattle.csvw_columns.specs.Known.{IsKnown};
 ghost use Rattle.csvw_columns.specs.PlanOf.{dialect_of, no_schema, schema_of, targets_of, table_plan, table_plans, plan_of};
 
 use crate::choices::{dialect_of, schema_of};
-use crate::copies::copied_inherited;
 use crate::plan::{Plan, TablePlan};
 use crate::references::{Keys, Targets, keys_of, targets_of};
 use crate::warnings::unknown;
@@ -31,7 +30,7 @@ fn schema_inherited(alloc: Global, schema: &Option<Schema>) -> Result<Inherited,
     ensures { IfOk result (λ i. i ≡ (unwrap_or schema.now no_schema).inherited) }
 {
     match schema {
-        Some(schema) => copied_inherited(alloc, &schema.inherited),
+        Some(schema) => schema.inherited.clone(alloc),
         None => Ok(no_inherited()),
     }
 }
@@ -67,7 +66,7 @@ fn frame_of(
 {
     let url = table.url.clone(alloc);
     let schema = schema_inherited(alloc, schema);
-    let table = copied_inherited(alloc, &table.inherited);
+    let table = table.inherited.clone(alloc);
     let (url, (schema, table)) = both(url, both(schema, table))?;
     Ok(Frame {
         url,
@@ -113,7 +112,7 @@ fn bare_plan(
     let dialect = dialect_of(alloc, &table.dialect, &group.dialect)?;
     let id = copied_option(alloc, &table.id)?;
     let framed = framed(alloc, group, known, table, dialect.skip_columns);
-    let inherited = copied_inherited(alloc, &group.inherited);
+    let inherited = group.inherited.clone(alloc);
     let ((frame, declared), group) = both(framed, inherited)?;
     Ok(TablePlan {
         number,
