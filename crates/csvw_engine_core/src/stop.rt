@@ -1,13 +1,13 @@
 //! Why a run or a session stops.
 
-ghost use Rattle.std.specs.Prelude.{◌≡◌};
+ghost use Rattle.std.specs.Prelude.{◌≡◌, IfOk};
 ghost use Rattle.csvw_engine_core.specs.Stops.{of_fault, of_row_stop, of_table_stop};
 
 use csvw_columns::TableStop;
 use csvw_meta_core::MetaFault;
 use csvw_rows::RowStop;
 use csvw_triples::SinkFault;
-use std::alloc::{AllocError, AllocFailed};
+use std::alloc::{AllocError, AllocFailed, Global};
 use std::error::Error;
 use std::fmt;
 
@@ -53,6 +53,37 @@ pub enum Stop {
 }
 
 impl Stop {
+    /// An equal stop; `AllocError` where there is no memory.
+    pub fn clone(&self, alloc: Global) -> Result<Stop, AllocError>
+        ensures { IfOk result (λ s. s ≡ self.now) }
+    {
+        match self {
+            Stop::Memory => Ok(Stop::Memory),
+            Stop::Read => Ok(Stop::Read),
+            Stop::Write => Ok(Stop::Write),
+            Stop::Meta(fault) => Ok(Stop::Meta(fault.clone(alloc)?)),
+            Stop::TableCount => Ok(Stop::TableCount),
+            Stop::Rows { table, row, stop } => {
+                Ok(Stop::Rows {
+                    table: *table,
+                    row: *row,
+                    stop: *stop,
+                })
+            }
+            Stop::Table { table, row, stop } => {
+                Ok(Stop::Table {
+                    table: *table,
+                    row: *row,
+                    stop: *stop,
+                })
+            }
+            Stop::UnknownTable => Ok(Stop::UnknownTable),
+            Stop::AfterEnd => Ok(Stop::AfterEnd),
+            Stop::NotEnded => Ok(Stop::NotEnded),
+            Stop::Failed => Ok(Stop::Failed),
+        }
+    }
+
     /// A stop of the records of a table in this row; `Memory` is told as such.
     pub(crate) fn of_row_stop(table: u32, row: u64, stop: RowStop) -> Stop
         ensures { result ≡ of_row_stop table row stop }
