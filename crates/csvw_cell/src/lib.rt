@@ -3,11 +3,13 @@
 
 mod cell;
 mod codes;
+mod copies;
 mod item;
 mod list;
 mod parsing;
 mod plain;
 
 pub use cell::{Cell, CellValue, Item};
+pub use copies::copied_codes;
 pub use parsing::{parse, parse_into};
 pub use plain::parse_over;
