@@ -14,5 +14,4 @@ mod warnings;
 
 pub use csvw_columns_core::{Column, Columns, HeaderRow, TableStop};
 pub use heading::match_header;
-pub use names::by_name;
 pub use plan::{ForeignKeyPlan, Plan, TablePlan};

@@ -1,26 +1,14 @@
 //! The names of columns.
-ghost use Rattle.std.specs.Prelude.{◌≡◌, ◌↔◌, IfOk, IsTrue, map, find, bytes_eq};
-ghost use Rattle.std.specs.Option.{option_copied};
+ghost use Rattle.std.specs.Prelude.{◌≡◌, ◌↔◌, IfOk, IsTrue, map};
 ghost use Rattle.std.specs.BTreeSet.{IsFromIterResult};
 ghost use Rattle.std.specs.Cmp.Lexicographic.{slice_cmp};
 ghost use Rattle.std.specs.Ordering.{nat_cmp};
 ghost use Rattle.csvw_columns.specs.Distinct.{AllDistinct, AreNamedApart};
 
-use csvw_columns_core::{Column, Columns};
+use csvw_columns_core::Column;
 use csvw_description::Name;
 use std::alloc::{AllocError, Global};
 use std::collections::BTreeSet;
-
-/// The column of this name, the first one; `None` where there is none. It takes no memory.
-pub fn by_name<'a>(columns: &'a Columns, name: &str) -> Option<&'a Column>
-    ensures { option_copied result ≡ find (λ c. bytes_eq c.name name.now) columns.now.columns }
-{
-    columns
-        .columns
-        .as_slice()
-        .iter()
-        .find(|c| c.name.as_str() == name)
-}
 
 /// Copies of the names of columns.
 fn names_of(alloc: Global, columns: &[Column]) -> Result<Vec<Name>, AllocError>

@@ -1,5 +1,6 @@
 //! The columns of a table.
-ghost use Rattle.std.specs.Prelude.{◌≡◌, ◌<◌, length, slice_get, Some, not};
+ghost use Rattle.std.specs.Prelude.{◌≡◌, ◌<◌, length, slice_get, Some, not, find, bytes_eq};
+ghost use Rattle.std.specs.Option.{option_copied};
 ghost use Rattle.csvw_columns_core.specs.Columns.{field_count};
 
 use crate::column::Column;
@@ -34,6 +35,14 @@ impl Columns {
     {
         let columns = self.columns.as_slice();
         &columns[i]
+    }
+
+    /// The column of this name, the first one; `None` where there is none. It takes no memory.
+    pub fn by_name(&self, name: &str) -> Option<&Column>
+        ensures { option_copied result ≡ find (λ c. bytes_eq c.name name.now) self.now.columns }
+    {
+        let columns = self.columns.as_slice();
+        columns.iter().find(|c| c.name.as_str() == name)
     }
 
     /// How many fields a row of the table has: one for each column that isn't virtual.

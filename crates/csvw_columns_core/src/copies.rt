@@ -2,6 +2,8 @@
 ghost use Rattle.std.specs.Prelude.{◌≡◌, IfOk};
 
 use crate::column::Column;
+use crate::columns::Columns;
+use crate::header::HeaderRow;
 use crate::properties::Properties;
 use csvw_text::{Copied, both, copied_option};
 use std::alloc::{AllocError, Global};
@@ -68,5 +70,34 @@ impl Column {
 impl Copied for Column {
     fn copied(&self, alloc: Global) -> Result<Column, AllocError> {
         self.clone(alloc)
+    }
+}
+
+impl Columns {
+    /// Equal columns; `AllocError` where there is no memory.
+    pub fn clone(&self, alloc: Global) -> Result<Columns, AllocError>
+        ensures { IfOk result (λ c. c ≡ self.now) }
+    {
+        let id = copied_option(alloc, &self.id);
+        let urls = both(self.url.clone(alloc), id);
+        let (columns, (url, id)) = both(self.columns.clone(alloc), urls)?;
+        Ok(Columns {
+            columns,
+            url,
+            id,
+            suppressed: self.suppressed,
+        })
+    }
+}
+
+impl HeaderRow {
+    /// An equal header row; `AllocError` where there is no memory.
+    pub fn clone(&self, alloc: Global) -> Result<HeaderRow, AllocError>
+        ensures { IfOk result (λ r. r ≡ self.now) }
+    {
+        Ok(HeaderRow {
+            source: self.source,
+            cells: self.cells.clone(alloc)?,
+        })
     }
 }
