@@ -8,7 +8,7 @@ ghost use Rattle.csvw_annotate.specs.FieldAt.{field_at};
 use crate::linking::link_row;
 use crate::row::{AnnCell, Row};
 use csvw_cell::parse_over;
-use csvw_columns_core::{Column, TableStop};
+use csvw_columns_core::{Column, Columns, TableStop};
 use csvw_datatype::values_of_texts;
 use csvw_iri::Iri;
 use csvw_links::{LinkRoom, LinkedColumns, RowNumbers};
@@ -124,11 +124,13 @@ pub fn annotate_into(
 
 /// The annotated row of a data row of a table with these columns, whose datatypes have passed `Datatype::check` (Model for
 /// Tabular Data, sections 4.4, 4.5 and 6.4.2): what its cells say, and their links. `RaggedRow` exactly where it hasn't one field
-/// for each column that isn't virtual; `Memory` where there is none.
-pub fn annotate(alloc: Global, columns: &LinkedColumns, row: &RawRow) -> Result<Row, TableStop>
+/// for each column that isn't virtual; `Memory` where there is none. It binds the templates of the columns anew: for many rows,
+/// make `LinkedColumns` once, and call `annotate_into`.
+pub fn annotate(alloc: Global, columns: &Columns, row: &RawRow) -> Result<Row, TableStop>
     requires { AreSound columns.now.columns }
     ensures { Annotates columns.now (row_of row.now) result }
 {
+    let columns = LinkedColumns::new(alloc, columns.clone(alloc)?)?;
     let mut room = LinkRoom::new(alloc);
-    annotate_into(alloc, columns, row, Row::new(alloc), &mut room)
+    annotate_into(alloc, &columns, row, Row::new(alloc), &mut room)
 }

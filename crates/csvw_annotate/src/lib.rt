@@ -2,6 +2,7 @@
 #![tactic(auto)]
 
 mod annotating;
+mod copies;
 mod linking;
 mod row;
 mod scope;
