@@ -34,7 +34,7 @@ use Rattle.csvw_engine_core.specs.declared.stop.Stop.{Stop}
 use Rattle.csvw_engine_core.specs.declared.stop.Stop.TheVariants as stop
 use Rattle.csvw_group.specs.Annotated.{AreAnnotated}
 use Rattle.csvw_group.specs.Graph.{GraphOf}
-use Rattle.csvw_group.specs.Law.{Annotates, texts_of}
+use Rattle.csvw_group.specs.AtEnd.{Annotates, texts_of}
 use Rattle.csvw_group.specs.Part.{IsCutInOpening}
 use Rattle.csvw_group.specs.Stopped.{TookAll, TookBy, TookSome}
 use Rattle.csvw_group.specs.Violations.{rows_of, tables_violations, AreViolations}

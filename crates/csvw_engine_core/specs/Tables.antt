@@ -2,7 +2,7 @@
 use Rattle.std.specs.Prelude.{◌≡◌, ◌⊎◌, ◌<◌, ◌^◌, ◌-◌, ℕ, ◌+◌, Bool, true, false, List, [], ◌∷◌, ◌++◌, flat_map, length, Option, Some, None, Result, Ok, Err}
 use Rattle.csvw_text.specs.declared.fault.Fault.{Fault}
 use Rattle.csvw_records.specs.Files.{IsWhole}
-use Rattle.csvw_records.specs.Laws.{AreFirst}
+use Rattle.csvw_records.specs.FirstRows.{AreFirst}
 use Rattle.csvw_records.specs.RowValue.{Given}
 use Rattle.csvw_rows.specs.RowsState.{is_ended_of, unread, Holds, HasGiven, NoStop}
 use Rattle.csvw_records.specs.Stops.{StopOf}

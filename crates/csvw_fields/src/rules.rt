@@ -55,7 +55,7 @@ impl Rules {
     }
 
     /// Whether a row that begins with these bytes, at this place from 0, is skipped or a comment.
-    pub fn is_skipped(&self, place: u64, rest: &str) -> bool
+    pub fn is_note(&self, place: u64, rest: &str) -> bool
         ensures { result ≡ is_note self.now.dialect place (chars rest.now) }
     {
         place < self.dialect.skip_rows || self.begins_comment(rest)
@@ -71,7 +71,7 @@ impl Rules {
     }
 
     /// Whether a row that begins with these bytes may still become a comment.
-    pub fn may_begin_comment(&self, rest: &str) -> bool
+    pub fn may_be_note(&self, rest: &str) -> bool
         ensures { result ≡ may_be_note self.now.dialect (chars rest.now) }
     {
         match &self.dialect.comment_prefix {

@@ -6,7 +6,8 @@ use Rattle.csvw_text.specs.declared.fault.Fault.{Fault}
 use Rattle.csvw_dialect.specs.declared.dialect.Dialect.{Dialect}
 use Rattle.csvw_dialect.specs.Lawful.{IsLawful}
 use Rattle.csvw_records.specs.Files.{Row as FileRow, File, Body}
-use Rattle.csvw_records.specs.Laws.{AreFirst, ComeFirst, FilesHaveNoStop, FirstBegin, FirstStay, HaveOneList}
+use Rattle.csvw_records.specs.FirstRows.{AreFirst, ComeFirst}
+use Rattle.csvw_records.specs.Laws.{FilesHaveNoStop, FirstBegin, FirstStay, HaveOneList}
 use Rattle.csvw_records.specs.RowValue.{Given}
 use Rattle.csvw_records.specs.declared.stop.RowStop.{RowStop}
 use Rattle.csvw_columns_core.specs.declared.columns.Columns.{Columns}

@@ -25,7 +25,7 @@ use Rattle.csvw_session.specs.Sessions.{by_number, RowsGraph, TookGraph, Stands}
 use Rattle.csvw_session.specs.declared.session.Session.{Session}
 use Rattle.csvw_group.specs.Annotated.{Table}
 use Rattle.csvw_group.specs.Graph.{RowsOf}
-use Rattle.csvw_group.specs.Law.{Annotates, texts_of}
+use Rattle.csvw_group.specs.AtEnd.{Annotates, texts_of}
 use Rattle.csvw_group.proofs.Ending.{ends_as}
 use Rattle.csvw_group.proofs.Listing.{AreEnded, EachEnds, listed, as_many, passes_at, state_at, table_at, faults_are}
 

@@ -18,7 +18,7 @@ use Rattle.csvw_group.specs.Annotated.{Table, AreAnnotated}
 use Rattle.csvw_group.specs.AnyOrder.{HaveSameTexts, TookTheSame, EndTheSame}
 use Rattle.csvw_group.specs.Finished.{EndsAnnotated}
 use Rattle.csvw_group.specs.Graph.{GraphOf}
-use Rattle.csvw_group.specs.Law.{Annotates, texts_of}
+use Rattle.csvw_group.specs.AtEnd.{Annotates, texts_of}
 use Rattle.csvw_group.specs.OneTable.{HaveOneAnnotation}
 use Rattle.csvw_group.specs.Violations.{AreViolations, rows_of, tables_violations}
 

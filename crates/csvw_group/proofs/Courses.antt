@@ -26,7 +26,7 @@ use Rattle.csvw_engine_core.specs.declared.stop.Stop.TheVariants as stop
 use Rattle.csvw_group.specs.Annotated.{Table, IsAnnotated, AreAnnotated}
 use Rattle.csvw_group.specs.GoodEvents.{AllTaken, AreGood, AreInOrder, EndsWell, Goes, IsTakenOrLacks, LacksFirst}
 use Rattle.csvw_group.specs.GoodTexts.{GoesOnToTable, GoodTextsAreAccepted}
-use Rattle.csvw_group.specs.Law.{texts_of}
+use Rattle.csvw_group.specs.AtEnd.{texts_of}
 use Rattle.csvw_group.proofs.Parts.{at_place}
 use Rattle.csvw_group.proofs.Splitting.{first_in, none_in}
 

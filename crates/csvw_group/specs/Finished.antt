@@ -9,7 +9,7 @@ use Rattle.csvw_session.specs.Sessions.{Stands, TookGraph}
 use Rattle.csvw_session.specs.declared.session.Session.{Session}
 use Rattle.csvw_group.specs.Annotated.{Table, AreAnnotated}
 use Rattle.csvw_group.specs.Graph.{GraphOf}
-use Rattle.csvw_group.specs.Law.{texts_of}
+use Rattle.csvw_group.specs.AtEnd.{texts_of}
 use Rattle.csvw_group.specs.Violations.{AreViolations}
 
 -- the session took these events since it was handed its sink, and no others; each of its tables was ended, and this is its outcome

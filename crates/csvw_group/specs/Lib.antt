@@ -1,10 +1,10 @@
 pub mod Annotated
 pub mod AnyOrder
+pub mod AtEnd
 pub mod Finished
 pub mod GoodEvents
 pub mod GoodTexts
 pub mod Graph
-pub mod Law
 pub mod OneTable
 pub mod Part
 pub mod Stopped

@@ -2,7 +2,7 @@
 -- Generating RDF from Tabular Data on the Web, section 4.2).
 use Rattle.std.specs.Prelude.{◌≡◌, ◌≢◌, ◌⊎◌, ◌+◌, ℕ, Bool, true, List, [], ◌∷◌, ◌++◌, Contains, slice_get, Option, Some, None}
 use Rattle.csvw_text.specs.declared.fault.Fault.{Fault}
-use Rattle.csvw_records.specs.Laws.{AreFirst}
+use Rattle.csvw_records.specs.FirstRows.{AreFirst}
 use Rattle.csvw_records.specs.RowValue.{Given}
 use Rattle.csvw_rows.specs.RowsState.{HasGiven}
 use Rattle.csvw_columns_core.specs.declared.columns.Columns.{Columns}

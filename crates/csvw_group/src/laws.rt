@@ -16,7 +16,7 @@ ghost use Rattle.csvw_group.specs.AnyOrder.{HaveSameTexts, EndTheSame};
 ghost use Rattle.csvw_group.specs.Finished.{IsAtItsEnd, EndsAnnotated};
 ghost use Rattle.csvw_group.specs.GoodEvents.{AreGood, AreInOrder, EndsWell, Goes, IsTakenOrLacks, LacksFirst};
 ghost use Rattle.csvw_group.specs.GoodTexts.{GoodTextsAreAccepted};
-ghost use Rattle.csvw_group.specs.Law.{Annotates, texts_of};
+ghost use Rattle.csvw_group.specs.AtEnd.{Annotates, texts_of};
 ghost use Rattle.csvw_group.specs.OneTable.{HaveOneAnnotation};
 ghost use Rattle.csvw_group.specs.Stopped.{TookAll, TookBy};
 

@@ -9,7 +9,7 @@ use Rattle.std.specs.List.{list_all}
 use Rattle.std.specs.Fmt.{decimal, digits, digits_onto, digit_glyph}
 use Rattle.csvw_text.specs.Class.{is_digit_char}
 use Rattle.csvw_ntriples.specs.Written.{label}
-use Rattle.csvw_ntriples.specs.LabelLaw.{IsOrigin}
+use Rattle.csvw_ntriples.specs.Writable.{IsOrigin}
 use Rattle.csvw_triples_core.specs.declared.origin.Origin.{Origin}
 use Rattle.csvw_triples_core.specs.declared.origin.Origin.TheVariants.{Group, Table, Row, Subject, Entry, Note}
 

@@ -5,9 +5,8 @@ use Rattle.std.proofs.lemmas.List.Elements.{All-contains, All-from_recursion}
 use Rattle.std.specs.List.{AllByRecursion}
 use Rattle.csvw_triples_core.specs.declared.origin.Origin.{Origin}
 use Rattle.csvw_triples_core.specs.declared.term.Triple.{Triple}
-use Rattle.csvw_ntriples.specs.LabelLaw.{IsOrigin}
 use Rattle.csvw_ntriples.specs.SameUpTo.{Occurs, SameUpTo}
-use Rattle.csvw_ntriples.specs.Writable.{NodeFits, TermFits, TripleFits}
+use Rattle.csvw_ntriples.specs.Writable.{NodeFits, TermFits, TripleFits, IsOrigin}
 use Rattle.csvw_ntriples.specs.Written.{label, said}
 use Rattle.csvw_ntriples.proofs.LabelParts.{labels_differ}
 

@@ -1,14 +1,24 @@
 -- What the types of a triple keep, so that it can be written.
-use Rattle.std.specs.Prelude.{ℕ, ◌≡◌, List, Option, Some, None, true, IsUtf8}
+use Rattle.std.specs.Prelude.{ℕ, ◌≡◌, ◌<◌, ◌^◌, List, Option, Some, None, true, IsUtf8}
 use Rattle.csvw_text.specs.Language.{is_language_tag}
 use Rattle.csvw_iri.specs.Safe.{is_iri}
+use Rattle.csvw_triples_core.specs.declared.origin.Origin.{Origin}
+use Rattle.csvw_triples_core.specs.declared.origin.Origin.TheVariants.{Group, Table, Row, Subject, Entry, Note}
 use Rattle.csvw_triples_core.specs.declared.term.Node.{Node}
 use Rattle.csvw_triples_core.specs.declared.term.Node.TheVariants as node
 use Rattle.csvw_triples_core.specs.declared.term.Lit.{Lit}
 use Rattle.csvw_triples_core.specs.declared.term.Term.{Term}
 use Rattle.csvw_triples_core.specs.declared.term.Term.TheVariants as term
 use Rattle.csvw_triples_core.specs.declared.term.Triple.{Triple}
-use Rattle.csvw_ntriples.specs.LabelLaw.{IsOrigin}
+
+-- the numbers of an origin are below 2^64
+abbrev pub IsOrigin : Origin → Type 0
+IsOrigin Group = Unit {0}
+IsOrigin (Table t) = t < 2 ^ 64
+IsOrigin (Row t r) = (t < 2 ^ 64) × (r < 2 ^ 64)
+IsOrigin (Subject t r) = (t < 2 ^ 64) × (r < 2 ^ 64)
+IsOrigin (Entry t r c k) = (t < 2 ^ 64) × (r < 2 ^ 64) × (c < 2 ^ 64) × (k < 2 ^ 64)
+IsOrigin (Note n) = n < 2 ^ 64
 
 -- a text whose characters may all stand raw in an IRIREF
 abbrev pub IriFits : List ℕ → Type 0

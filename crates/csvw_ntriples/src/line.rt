@@ -2,8 +2,7 @@
 ghost use Rattle.std.specs.Prelude.{◌≡◌, ◌++◌, true, codes, OnOk};
 ghost use Rattle.csvw_ntriples.specs.Front.{IsFront, front_text};
 ghost use Rattle.csvw_ntriples.specs.Written.{iri_text, node_text, line_text};
-ghost use Rattle.csvw_ntriples.specs.LabelLaw.{IsOrigin};
-ghost use Rattle.csvw_ntriples.specs.Writable.{IriFits, NodeFits, TripleFits};
+ghost use Rattle.csvw_ntriples.specs.Writable.{IriFits, NodeFits, TripleFits, IsOrigin};
 
 use crate::row_label::RowLabel;
 use crate::scratch::Scratch;

@@ -3,8 +3,7 @@ ghost use Rattle.std.specs.Prelude.{◌≡◌, ◌∷◌, [], ◌++◌, true, On
 ghost use Rattle.csvw_ntriples.specs.Written.{label, escaped, iri_text, blank_text, string_text};
 ghost use Rattle.csvw_ntriples.specs.Written.{datatype_text, suffix_text, is_string_type, lit_text, term_text};
 ghost use Rattle.csvw_ntriples.specs.Front.{rest_text, object_text};
-ghost use Rattle.csvw_ntriples.specs.LabelLaw.{IsOrigin};
-ghost use Rattle.csvw_ntriples.specs.Writable.{IriFits, SuffixFits, LitFits, TermFits};
+ghost use Rattle.csvw_ntriples.specs.Writable.{IriFits, SuffixFits, LitFits, TermFits, IsOrigin};
 ghost use Rattle.csvw_triples_core.specs.declared.term.Term.TheVariants as term;
 ghost use Rattle.csvw_text.specs.Language.{is_language_tag};
 

@@ -5,7 +5,7 @@ use Rattle.csvw_description.specs.declared.note.NoteLiteral.{NoteLiteral}
 use Rattle.csvw_description.specs.declared.note.NoteObject.{NoteObject}
 use Rattle.csvw_description.specs.declared.note.NoteValue.{NoteValue}
 use Rattle.csvw_description.specs.declared.note.NoteValue.TheOpen.{NoteValue-F, Note-F, NoteObject-F}
-use Rattle.csvw_description.specs.declared.note.NoteValue.TheFolds.{fold-Note, fold-NoteObject, fold-NoteValue}
+use Rattle.csvw_description.specs.declared.note.NoteValue.TheFolds.{fold-Note, fold-NoteValue}
 use Rattle.csvw_triples_core.specs.declared.term.Lit.{Lit}
 use Rattle.csvw_triples_core.specs.Literal.{typed_lit, tagged_lit}
 
@@ -52,9 +52,6 @@ keyed = fold-Note Said Keyed Said value_step note_step object_step
 
 abbrev pub said : NoteValue → Said
 said = fold-NoteValue Said Keyed Said value_step note_step object_step
-
-abbrev pub object_said : NoteObject → Said
-object_said = fold-NoteObject Said Keyed Said value_step note_step object_step
 
 -- what a list of annotations says
 abbrev pub annotations : List Note → Annotations

@@ -1,53 +1,58 @@
 //! The IRIs that the triples of groups and tables name.
 ghost use Rattle.std.specs.Prelude.{◌≡◌};
-ghost use Rattle.csvw_triples.specs.CsvwVocabulary.{rdf_type, group_class, table_class, table_of_group, csvw_url};
-ghost use Rattle.csvw_iri.specs.Vocabulary.{lang_string};
+ghost use Rattle.csvw_triples.specs.CsvwVocabulary as vocabulary;
+ghost use Rattle.csvw_iri.specs.Vocabulary as datatypes;
 
 use csvw_iri::{Iri, named};
+use csvw_text::both;
 use std::alloc::{AllocError, Global};
 
 /// IRIs that triples name, whatever their group and its tables are (CSVW Namespace Vocabulary Terms).
 #[derive(Debug, Drop)]
 pub struct OpeningNames {
     /// rdf:type.
-    pub kind: Iri,
+    pub rdf_type: Iri,
     /// csvw:TableGroup.
-    pub group: Iri,
+    pub group_class: Iri,
     /// csvw:table.
-    pub member: Iri,
+    pub table: Iri,
     /// csvw:Table.
-    pub class: Iri,
+    pub table_class: Iri,
     /// csvw:url.
-    pub address: Iri,
+    pub url: Iri,
     /// rdf:langString.
-    pub tagged: Iri,
-    pub ghost is_kind: { kind ≡ rdf_type },
-    pub ghost is_group: { group ≡ group_class },
-    pub ghost is_member: { member ≡ table_of_group },
-    pub ghost is_class: { class ≡ table_class },
-    pub ghost is_address: { address ≡ csvw_url },
-    pub ghost is_tagged: { tagged ≡ lang_string },
+    pub lang_string: Iri,
+    pub ghost is_rdf_type: { rdf_type ≡ vocabulary.rdf_type },
+    pub ghost is_group_class: { group_class ≡ vocabulary.group_class },
+    pub ghost is_table: { table ≡ vocabulary.table_of_group },
+    pub ghost is_table_class: { table_class ≡ vocabulary.table_class },
+    pub ghost is_url: { url ≡ vocabulary.csvw_url },
+    pub ghost is_lang_string: { lang_string ≡ datatypes.lang_string },
 }
 
 impl OpeningNames {
     /// The names; `AllocError` where there is no memory.
     pub(crate) fn new(alloc: Global) -> Result<OpeningNames, AllocError> {
-        let kind = named(alloc, "http://www.w3.org/1999/02/22-rdf-syntax-ns#type")?;
-        let group = named(alloc, "http://www.w3.org/ns/csvw#TableGroup")?;
-        let member = named(alloc, "http://www.w3.org/ns/csvw#table")?;
-        let class = named(alloc, "http://www.w3.org/ns/csvw#Table")?;
-        let address = named(alloc, "http://www.w3.org/ns/csvw#url")?;
-        let tagged = named(
+        let rdf_type = named(alloc, "http://www.w3.org/1999/02/22-rdf-syntax-ns#type");
+        let group_class = named(alloc, "http://www.w3.org/ns/csvw#TableGroup");
+        let table = named(alloc, "http://www.w3.org/ns/csvw#table");
+        let table_class = named(alloc, "http://www.w3.org/ns/csvw#Table");
+        let url = named(alloc, "http://www.w3.org/ns/csvw#url");
+        let lang_string = named(
             alloc,
             "http://www.w3.org/1999/02/22-rdf-syntax-ns#langString",
-        )?;
+        );
+        let classes = both(rdf_type, both(group_class, table_class));
+        let (classes, rest) = both(classes, both(table, both(url, lang_string)))?;
+        let (rdf_type, (group_class, table_class)) = classes;
+        let (table, (url, lang_string)) = rest;
         Ok(OpeningNames {
-            kind,
-            group,
-            member,
-            class,
-            address,
-            tagged,
+            rdf_type,
+            group_class,
+            table,
+            table_class,
+            url,
+            lang_string,
         })
     }
 }

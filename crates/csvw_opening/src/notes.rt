@@ -32,7 +32,7 @@ fn lit_of(alloc: Global, names: &OpeningNames, literal: &NoteLiteral) -> Result<
     match &literal.language {
         None => Ok(Lit::typed(text, literal.datatype.clone(alloc)?)),
         Some(tag) => {
-            let datatype = names.tagged.clone(alloc)?;
+            let datatype = names.lang_string.clone(alloc)?;
             let lang = Some(tag.clone(alloc)?);
             Ok(Lit {
                 text,
@@ -87,7 +87,7 @@ fn kind_triple(
     ensures { IfOk result (λ x. x ≡ kind_triple node.now kind.now) }
 {
     let s = node.clone(alloc)?;
-    let p = names.kind.clone(alloc)?;
+    let p = names.rdf_type.clone(alloc)?;
     let o = Term::Named(kind.clone(alloc)?);
     Ok(Triple { s, p, o })
 }

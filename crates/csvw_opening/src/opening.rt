@@ -36,8 +36,8 @@ fn group_triple(alloc: Global, names: &OpeningNames, group: &Node) -> Result<Tri
     ensures { IfOk result (λ x. x ≡ group_triple group.now) }
 {
     let s = group.clone(alloc)?;
-    let p = names.kind.clone(alloc)?;
-    let o = Term::Named(names.group.clone(alloc)?);
+    let p = names.rdf_type.clone(alloc)?;
+    let o = Term::Named(names.group_class.clone(alloc)?);
     Ok(Triple { s, p, o })
 }
 
@@ -50,7 +50,7 @@ fn member_triple(
     ensures { IfOk result (λ x. x ≡ member_triple group.now table.now) }
 {
     let s = group.clone(alloc)?;
-    let p = names.member.clone(alloc)?;
+    let p = names.table.clone(alloc)?;
     let o = object_of(node_of(alloc, table)?);
     Ok(Triple { s, p, o })
 }
@@ -63,8 +63,8 @@ fn class_triple(
     ensures { IfOk result (λ x. x ≡ class_triple table.now) }
 {
     let s = node_of(alloc, table)?;
-    let p = names.kind.clone(alloc)?;
-    let o = Term::Named(names.class.clone(alloc)?);
+    let p = names.rdf_type.clone(alloc)?;
+    let o = Term::Named(names.table_class.clone(alloc)?);
     Ok(Triple { s, p, o })
 }
 
@@ -72,7 +72,7 @@ fn url_triple(alloc: Global, names: &OpeningNames, table: &TablePlan) -> Result<
     ensures { IfOk result (λ x. x ≡ url_triple table.now) }
 {
     let s = node_of(alloc, table)?;
-    let p = names.address.clone(alloc)?;
+    let p = names.url.clone(alloc)?;
     let o = Term::Named(table.url.iri().clone(alloc)?);
     Ok(Triple { s, p, o })
 }

@@ -1,10 +1,10 @@
 -- Laws that bind the definitions of rows, files and stops.
-use Rattle.std.specs.Prelude.{◌≡◌, ◌⊎◌, ℕ, ◌<◌, ◌≤◌, Bool, false, IsTrue, List, [], ◌++◌, take}
+use Rattle.std.specs.Prelude.{◌≡◌, ℕ, ◌<◌, ◌≤◌, Bool, false, IsTrue, List, [], ◌++◌, take}
 use Rattle.csvw_dialect.specs.declared.dialect.Dialect.{Dialect}
 use Rattle.csvw_records.specs.declared.stop.RowStop.{RowStop}
 use Rattle.csvw_dialect.specs.Lawful.{IsLawful}
-use Rattle.csvw_records.specs.Files.{Row, File, BeginsWithRows, Front, Body, content}
-use Rattle.csvw_records.specs.RowValue.{Given}
+use Rattle.csvw_records.specs.Files.{Row, File, Front}
+use Rattle.csvw_records.specs.FirstRows.{ComeFirst}
 use Rattle.csvw_records.specs.Stops.{Begins, StopsAt, StopOf}
 
 -- bytes are a file of at most one list of rows
@@ -21,16 +21,6 @@ FrontsGrow = (d : Dialect) (max : ℕ) (bytes more : List ℕ) (ended : Bool) (f
 abbrev pub StopsPart : Type 0
 StopsPart = (d : Dialect) (max : ℕ) (text : List ℕ) (n : ℕ) → StopsAt d max text n
     → ((k : ℕ) → k < n → Begins d max (take k text)) × ((k : ℕ) → n ≤ k → Begins d max (take k text) → ⊥)
-
--- these rows come first: the bytes begin with them, each with its terminator, or are a file of them
-abbrev pub ComeFirst : Dialect → ℕ → List ℕ → Bool → List Row → Type 0
-ComeFirst d max bytes ended rows = BeginsWithRows d max (content bytes) rows ⊎ (IsTrue ended × File d max bytes rows)
-
--- these are the header rows and data rows of some rows that come first
-pub record AreFirst (d : Dialect) (max : ℕ) (bytes : List ℕ) (ended : Bool) (given : List Given) : Type 0 where
-  pub rows : List Row
-  pub come : ComeFirst d max bytes ended rows
-  pub all : given ≡ Body d rows
 
 -- rows that come first begin the front
 abbrev pub FirstBegin : Type 0

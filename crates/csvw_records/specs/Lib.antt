@@ -1,4 +1,5 @@
 pub mod Files
+pub mod FirstRows
 pub mod Grammar
 pub mod Laws
 pub mod Lengths

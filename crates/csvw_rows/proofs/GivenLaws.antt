@@ -7,7 +7,7 @@ use Rattle.csvw_records.specs.Files.{Row, AreRows, EndsOpen, Front, Body, given,
 use Rattle.csvw_rows.specs.SourceState.{rest_of}
 use Rattle.csvw_records.specs.RowValue.{Given}
 use Rattle.csvw_records.specs.Stops.{Begins}
-use Rattle.csvw_records.specs.Laws.{ComeFirst}
+use Rattle.csvw_records.specs.FirstRows.{ComeFirst}
 use Rattle.csvw_rows.specs.Laws.{GivenBegin, GivenBeginLater, GivenFirst, GivenFirstLater, NothingGiven}
 use Rattle.csvw_records.proofs.FrontLaws.{Begun, by_file, begins_front_of, rows_later, begins_later_front}
 use Rattle.csvw_records.proofs.Stands.{no_more}

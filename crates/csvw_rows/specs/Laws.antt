@@ -3,7 +3,7 @@ use Rattle.std.specs.Prelude.{◌≡◌, ℕ, Bool, false, List, [], ◌++◌}
 use Rattle.csvw_dialect.specs.declared.dialect.Dialect.{Dialect}
 use Rattle.csvw_rows.specs.declared.rows.Rows.{Rows}
 use Rattle.csvw_records.specs.Files.{Row, Front, Body}
-use Rattle.csvw_records.specs.Laws.{AreFirst}
+use Rattle.csvw_records.specs.FirstRows.{AreFirst}
 use Rattle.csvw_records.specs.RowValue.{Given}
 use Rattle.csvw_rows.specs.RowsState.{Holds}
 

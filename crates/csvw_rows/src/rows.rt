@@ -224,7 +224,7 @@ impl Rows {
         let rest = self.source.rest();
         if 0 < self.draft.read_len()
             || self.row >= self.max_rows
-            || self.rules.is_skipped(self.row, rest)
+            || self.rules.is_note(self.row, rest)
         {
             return Ok(None);
         }
@@ -266,7 +266,7 @@ impl Rows {
         if self.row >= self.max_rows {
             return Ok(Known::Stop(RowStop::TooManyRows));
         }
-        if self.rules.is_skipped(self.row, self.source.rest()) {
+        if self.rules.is_note(self.row, self.source.rest()) {
             return Ok(self.read_note());
         }
         if self.may_become_comment() {
@@ -297,7 +297,7 @@ impl Rows {
     fn may_become_comment(&self) -> bool
         ensures { result ≡ may_go_on_to_note self.now }
     {
-        !self.is_last() && self.rules.may_begin_comment(self.source.rest())
+        !self.is_last() && self.rules.may_be_note(self.source.rest())
     }
 
     /// Reads the skipped row or comment at the front on from where it was left.

@@ -47,7 +47,7 @@ fn has_language(properties: &Properties) -> bool
 fn tagged(alloc: Global, names: &RdfNames, text: Text, tag: &LanguageTag) -> Result<Lit, AllocError>
     ensures { IfOk result (λ lit. lit ≡ tagged_lit text tag.now) }
 {
-    let datatype = names.tagged.clone(alloc)?;
+    let datatype = names.lang_string.clone(alloc)?;
     let lang = Some(tag.clone(alloc)?);
     Ok(Lit {
         text,

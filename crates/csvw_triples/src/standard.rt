@@ -125,7 +125,7 @@ impl Emitter {
     {
         let stem = Stem {
             s: table_node(self.alloc, place.table, &columns.id)?,
-            p: self.csvw.member.clone(self.alloc)?,
+            p: self.csvw.row.clone(self.alloc)?,
         };
         self.put_object(stem, Term::Blank(Origin::Row(place.table, place.row)), sink)
     }
@@ -133,15 +133,15 @@ impl Emitter {
     fn emit_class<S: TripleSink>(&mut self, place: RowPlace, sink: &mut S) -> Result<(), SinkFault>
         ensures { Puts S.gains S.is_open S.failed sink.old (class_triple place.table place.row ∷ []) sink.new result }
     {
-        let stem = row_stem(self.alloc, place, &self.csvw.kind)?;
-        let o = Term::Named(self.csvw.class.clone(self.alloc)?);
+        let stem = row_stem(self.alloc, place, &self.csvw.rdf_type)?;
+        let o = Term::Named(self.csvw.row_class.clone(self.alloc)?);
         self.put_object(stem, o, sink)
     }
 
     fn emit_number<S: TripleSink>(&mut self, place: RowPlace, sink: &mut S) -> Result<(), SinkFault>
         ensures { Puts S.gains S.is_open S.failed sink.old (number_triple place.table place.row ∷ []) sink.new result }
     {
-        let stem = row_stem(self.alloc, place, &self.csvw.number)?;
+        let stem = row_stem(self.alloc, place, &self.csvw.rownum)?;
         let literal = self.number_literal(place.row)?;
         self.put_object(stem, Term::Literal(literal), sink)
     }
@@ -159,7 +159,7 @@ impl Emitter {
             table: t,
             row: row.number,
         };
-        let stem = row_stem(self.alloc, place, &self.csvw.address)?;
+        let stem = row_stem(self.alloc, place, &self.csvw.url)?;
         let iri = self.row_url(columns, row)?;
         self.put_object(stem, Term::Named(iri), sink)
     }

@@ -1,12 +1,12 @@
 //! What the triples of a cell begin with, and where its list stands.
 ghost use Rattle.std.specs.Prelude.{◌≡◌, IfOk};
 ghost use Rattle.csvw_triples.specs.RowTriples.{subject_of, predicate_of};
-ghost use Rattle.csvw_triples.specs.Stems.{object_triple, entries_in};
+ghost use Rattle.csvw_triples.specs.Stems.{entries_in};
 
 use csvw_annotate::AnnCell;
 use csvw_columns_core::Column;
 use csvw_iri::Iri;
-use csvw_triples_core::{Node, Origin, Term, Triple};
+use csvw_triples_core::{Node, Origin};
 use std::alloc::{AllocError, Global};
 
 /// A row of a table.
@@ -88,14 +88,6 @@ impl Stem {
             s: self.s.clone(alloc)?,
             p: self.p.clone(alloc)?,
         })
-    }
-
-    /// The triple with this object. It takes no memory.
-    pub fn into_triple(self, o: Term) -> Triple
-        ensures { result ≡ object_triple self o }
-    {
-        let Stem { s, p } = self;
-        Triple { s, p, o }
     }
 }
 

@@ -3,7 +3,7 @@ use Rattle.std.proofs.Common.{sym, subst, length}
 use Rattle.csvw_columns.specs.declared.plan.Plan.{Plan}
 use Rattle.csvw_group.specs.Annotated.{AreAnnotated}
 use Rattle.csvw_group.specs.GoodEvents.{AreGood}
-use Rattle.csvw_group.specs.Law.{texts_of}
+use Rattle.csvw_group.specs.AtEnd.{texts_of}
 use Rattle.csvw_group.proofs.Courses.{ends_well}
 use Rattle.csvw_group.proofs.laws.good_sessions_finish.Goals as goal
 

@@ -28,7 +28,7 @@ returns-clause-row c =
     let same : cutter.text.now ≡ text = k.text ∙ c.items.ensures in
     let y = s.rules.same_symbols cutter.symbols k.symbols in
     let few : s.row < s.max_rows = (let h = c.if-self.false in omega (arith, h)) in
-    let note : is_note d s.row (chars c.rest-rest.result.now) ≡ false = sym c.is_skipped.ensures ∙ c.if-is_skipped.false in
+    let note : is_note d s.row (chars c.rest-rest.result.now) ≡ false = sym c.is_note.ensures ∙ c.if-is_note.false in
     let row = rw c.in-Some-2.is at c.in_ok-at.ensures.row in
     let here = subst (λ (l : List ℕ). IsCutRow d l (taken_of s.source) at spare bounds) same
     (subst (λ (n : ℕ). IsCutRow d cutter.text.now n at spare bounds) c.taken-start.ensures

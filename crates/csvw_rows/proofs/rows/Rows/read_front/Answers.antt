@@ -34,7 +34,7 @@ read_note-requires c =
       some = some_of (rest_of s.source) (sym (text_empty (rest_bytes s.source) u) ∙ ap (λ (l : List ℕ). length l == 0) (sym c.rest.ensures.value)
           ∙ sym c.is_empty.ensures ∙ c.if-is_empty.false);
       few = (let h = c.if-self.false in omega (arith, h));
-      note = ap (is_note s.rules.dialect s.row) (sym c.rest-2.ensures.chars) ∙ sym c.is_skipped.ensures ∙ c.if-is_skipped.true;
+      note = ap (is_note s.rules.dialect s.row) (sym c.rest-2.ensures.chars) ∙ sym c.is_note.ensures ∙ c.if-is_note.true;
     }
 
 pub open_front-requires : goal.open_front-requires
@@ -44,7 +44,7 @@ open_front-requires c =
     let some = some_of (rest_of s.source) (sym (text_empty (rest_bytes s.source) u) ∙ ap (λ (l : List ℕ). length l == 0) (sym c.rest.ensures.value)
     ∙ sym c.is_empty.ensures ∙ c.if-is_empty.false) in
     let few : s.row < s.max_rows = (let h = c.if-self.false in omega (arith, h)) in
-    let note = ap (is_note s.rules.dialect s.row) (sym c.rest-2.ensures.chars) ∙ sym c.is_skipped.ensures ∙ c.if-is_skipped.false in
+    let note = ap (is_note s.rules.dialect s.row) (sym c.rest-2.ensures.chars) ∙ sym c.is_note.ensures ∙ c.if-is_note.false in
     let may = may_both _ _ (sym c.may_become_comment.ensures ∙ c.if-may_become_comment.true) in
     subst (IsOpenFront _) (ap length (sym c.rest-then-may_become_comment.ensures.value)) (maybe_front _ some few note may.0 may.1)
 
@@ -56,6 +56,6 @@ read_draft-requires c =
       some = some_of (rest_of s.source) (sym (text_empty (rest_bytes s.source) u) ∙ ap (λ (l : List ℕ). length l == 0) (sym c.rest.ensures.value)
           ∙ sym c.is_empty.ensures ∙ c.if-is_empty.false);
       few = (let h = c.if-self.false in omega (arith, h));
-      note = ap (is_note s.rules.dialect s.row) (sym c.rest-2.ensures.chars) ∙ sym c.is_skipped.ensures ∙ c.if-is_skipped.false;
+      note = ap (is_note s.rules.dialect s.row) (sym c.rest-2.ensures.chars) ∙ sym c.is_note.ensures ∙ c.if-is_note.false;
       may_not = λ e. may_neither _ _ (sym c.may_become_comment.ensures ∙ c.if-may_become_comment.false) e;
     }
