@@ -20,7 +20,8 @@ use Rattle.csvw_engine.specs.Flushes.{IsFlushed}
 use Rattle.csvw_engine.specs.Groups.{Converts, EndsBy, HaveTables, TablesStop, TextsSoFar}
 use Rattle.csvw_engine.specs.Planning.{IsMetaStop}
 use Rattle.csvw_engine.specs.Reporting.{Reports, TellsOutcome}
-use Rattle.csvw_engine.specs.Runs.{StopsBehind, IsPlanned, IsReason, IsSound, Runs, Succeeds, StopsBefore, StopsSo, WriteFails, Wrote, WroteGraph, WroteGroup, Rises}
+use Rattle.csvw_engine.specs.Runs.{StopsBehind, IsPlanned, IsReason, IsSound, Runs, Succeeds, StopsBefore, StopsSo, WriteFails}
+use Rattle.csvw_engine.specs.Runs.{Wrote, WroteGraph, WroteGroup, Rises}
 use Rattle.csvw_engine.specs.Stopped.{Added, Leaves, WroteAll, WroteLines, WroteSome}
 use Rattle.csvw_engine.proofs.Flushing.{appends_kept, rose}
 use Rattle.csvw_meta.specs.Document.{Document}

@@ -20,7 +20,8 @@ told described fault reason (inl (c, e)) h = rw e tt
 told described fault reason (inr (apart, e)) h = rw e (h apart)
 
 -- what can be planned lacks nothing but memory
-pub lacks_memory : (d : Description) (fault : MetaFault) (reason : Stop) → CanBePlanned d → Builds d (Err fault) → TellsFault fault reason → reason ≡ stop.Memory
+pub lacks_memory : (d : Description) (fault : MetaFault) (reason : Stop) → CanBePlanned d → Builds d (Err fault) → TellsFault fault reason
+    → reason ≡ stop.Memory
 lacks_memory d fault reason can h (inl (c, e)) = e
 lacks_memory d fault reason can h (inr (apart, e)) = absurd (h.1 apart can)
 
