@@ -1,4 +1,4 @@
-//! Tests of the layers with long proofs, by their public calls: documents, graphs, reports and groups.
+//! Tests of the layers with long proofs, by their public calls: documents, graphs, reports, groups, and tables with their rows.
 #![tactic(auto)]
 
 #[cfg(test)]
@@ -12,4 +12,8 @@ mod notes;
 #[cfg(test)]
 mod reports;
 #[cfg(test)]
+mod rows;
+#[cfg(test)]
 mod standard;
+#[cfg(test)]
+mod tables;
