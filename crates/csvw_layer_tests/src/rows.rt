@@ -74,7 +74,7 @@ fn a_header_of_another_title_is_told(rt: HostRuntime) -> Result<(), Fail> {
 }
 
 /// What the text of a cell says in a column.
-fn parsed(alloc: Global, column: &Column, text: &str) -> Result<Cell, Fail> {
+pub(crate) fn parsed(alloc: Global, column: &Column, text: &str) -> Result<Cell, Fail> {
     match column.properties.datatype.get().check() {
         Ok(()) => Ok(parse(alloc, column, text)?),
         Err(_) => Err("no datatype")?,

@@ -267,11 +267,18 @@ impl Write for FullDevice {
     }
 }
 
-#[test]
-fn tells_a_flush_that_fails_in_place_of_a_stop(rt: HostRuntime) -> Result<(), Fail> {
-    let alloc = rt.alloc();
+/// What a run left that wrote to a full device.
+#[derive(Drop)]
+struct Lost {
+    status: u8,
+    failures: u64,
+    err: Vec<u8>,
+}
+
+/// Runs `plain` over a table of this URL, whose second row has a field too many.
+fn run_to_full_device(alloc: Global, url: &str) -> Result<Lost, AllocError> {
     let mut words = Vec::new(alloc);
-    for word in ["csvw", "plain", "http://example.org/p.csv", "p.csv"] {
+    for word in ["csvw", "plain", url, "p.csv"] {
         words.push(String::from_str(alloc, word)?)?;
     }
     let files = [File {
@@ -283,9 +290,21 @@ fn tells_a_flush_that_fails_in_place_of_a_stop(rt: HostRuntime) -> Result<(), Fa
     let mut err = Counted::new(Vec::new(alloc));
     let status = command(alloc, words.as_slice(), &mut opener, &mut out, &mut err);
     let Files { files: _ } = opener;
-    assert_eq!(rt; status, 4);
-    assert_eq!(rt; out.failures(), 1);
-    assert!(rt; err.into_inner().as_slice() == b"csvw: Write\n".as_slice());
+    Ok(Lost {
+        status,
+        failures: out.failures(),
+        err: err.into_inner(),
+    })
+}
+
+#[test]
+fn tells_a_flush_that_fails_in_place_of_a_stop(rt: HostRuntime) -> Result<(), Fail> {
+    for url in ["http://example.org/p.csv", "http://["] {
+        let lost = run_to_full_device(rt.alloc(), url)?;
+        assert_eq!(rt; lost.status, 4);
+        assert_eq!(rt; lost.failures, 1);
+        assert!(rt; lost.err.as_slice() == b"csvw: Write\n".as_slice());
+    }
     Ok(())
 }
 
