@@ -1,6 +1,8 @@
 -- A run that ends or stops, its report and its flushes.
-use Rattle.std.proofs.Common.{◌≡◌, ◌≢◌, ℕ, List, [], ◌++◌, length, refl, sym, ap, ◌∙◌, subst, inl, inr, Option, Result, Ok, Err}
+use Rattle.std.proofs.Common.{◌≡◌, ◌≢◌, ℕ, List, [], ◌++◌, length, ◌⊎◌, refl, sym, ap, ◌∙◌, subst, inl, inr, Option, Result, Ok, Err}
+use Rattle.std.proofs.Common.{append-nil}
 use Rattle.std.specs.Io.KnownBytes.{Keeps}
+use Rattle.std.proofs.KnownBytes.{Keeps-refl, Keeps-trans}
 use Rattle.csvw_text.specs.declared.counted.Counted.{Counted}
 use Rattle.csvw_text.specs.Count.{one_more}
 use Rattle.csvw_text.specs.Streams.{Stream, Sends, IsIdle}
@@ -21,7 +23,7 @@ use Rattle.csvw_engine.specs.Groups.{Converts, EndsBy, HaveTables, TablesStop, T
 use Rattle.csvw_engine.specs.Planning.{IsMetaStop}
 use Rattle.csvw_engine.specs.Reporting.{Reports, TellsOutcome}
 use Rattle.csvw_engine.specs.Runs.{StopsBehind, IsPlanned, IsReason, IsSound, Runs, Succeeds, StopsBefore, StopsSo, WriteFails}
-use Rattle.csvw_engine.specs.Runs.{Wrote, WroteGraph, WroteGroup, Rises}
+use Rattle.csvw_engine.specs.Runs.{ReportedFront, SentFront, Wrote, WroteGraph, WroteGroup, Rises}
 use Rattle.csvw_engine.specs.Stopped.{Added, Leaves, WroteAll, WroteLines, WroteSome}
 use Rattle.csvw_engine.proofs.Flushing.{appends_kept, rose}
 use Rattle.csvw_meta.specs.Document.{Document}
@@ -71,9 +73,9 @@ record ToldOk (outcome first : Outcome) (s : Stream) (old new : ℕ) : Type 0 wh
 
 told_ok : (outcome first : Outcome) (s : Stream) (told result : Result Outcome Stop) (old new : ℕ) → result ≡ Ok outcome → TellsOutcome first s told
     → IsFlushed told result old new → ToldOk outcome first s old new
-told_ok outcome first s told result old new r (inl (t, k)) (inl (e, n)) = record { same = ok_same first outcome result (e ∙ t) r; sent = k; steady = n }
-told_ok outcome first s told result old new r (inr (inl (t, k))) (inl (e, n)) = absurd (never outcome stop.Memory result (e ∙ t) r)
-told_ok outcome first s told result old new r (inr (inr (t, k))) (inl (e, n)) = absurd (never outcome stop.Write result (e ∙ t) r)
+told_ok outcome first s (Ok told) result old new r (same, k) (inl (e, n)) =
+    record { same = sym same ∙ ok_same told outcome result e r; sent = k; steady = n }
+told_ok outcome first s (Err reason) result old new r k (inl (e, n)) = absurd (never outcome reason result e r)
 told_ok outcome first s told result old new r t (inr (apart, e, n)) = absurd (never outcome stop.Write result e r)
 
 no_stop : (reason : Stop) (outcome : Outcome) (told result : Result Outcome Stop) (old new : ℕ) → told ≡ Err reason → result ≡ Ok outcome
@@ -148,9 +150,10 @@ module _ {R : Type 0} (remaining : R → Option (List ℕ)) (described : Documen
   stops_behind reason (events, gave, (because, left)) =
       (plan, events, record { planned = planned; many = many; gave = gave }, (because, leaves_kept reason events left))
 
-  -- the whole graph
-  group : HaveTables remaining plan olds news (λ tables. Added m out (GraphOf m plan tables) []) → WroteGroup remaining described m olds news after
-  group h = record {
+  -- the whole graph, without a report
+  group : HaveTables remaining plan olds news (λ tables. Added m out (GraphOf m plan tables) []) → IsIdle report_out
+      → WroteGroup remaining described m olds news after report_out
+  group h quiet = record {
     plan = plan;
     planned = planned;
     many = many;
@@ -159,10 +162,36 @@ module _ {R : Type 0} (remaining : R → Option (List ℕ)) (described : Documen
     tables = h.tables;
     annotated = h.annotated;
     added = added_kept (GraphOf m plan h.tables) [] m h.gives;
+    reported = inl (subst (Keeps report_out.held) (sym quiet.0) (Keeps-refl report_out.held));
   }
 
-  whole_group : (outcome : Outcome) → Converts remaining m plan olds news out (Ok outcome) → WroteGroup remaining described m olds news after
-  whole_group outcome h = group (record { texts = h.texts; read = h.read; tables = h.tables; annotated = h.annotated; gives = h.gives.1 })
+  -- what was sent of a report
+  front_of : (outcome : Outcome) (told : Result Outcome Stop) → TellsOutcome outcome report_out told → SentFront report_out (report outcome.faults)
+  front_of outcome (Ok told) (same, sent) =
+      record { front = report outcome.faults; rest = []; parts = sym (append-nil (report outcome.faults)); appended = sent.0 }
+  front_of outcome (Err stop.Memory) t = record { front = t.front; rest = t.rest; parts = t.parts; appended = t.sent.0 }
+  front_of outcome (Err stop.Write) t = record { front = t.front; rest = t.rest; parts = t.parts; appended = t.appended }
+  front_of outcome (Err other) t = absurd t
+
+  told_soundly : (outcome : Outcome) (told : Result Outcome Stop) → told ≢ Err stop.Write → TellsOutcome outcome report_out told → IsSound report_out
+  told_soundly outcome (Ok told) apart (same, sent) = sent.1
+  told_soundly outcome (Err stop.Memory) apart t = t.sent.1
+  told_soundly outcome (Err stop.Write) apart t = absurd (apart refl)
+  told_soundly outcome (Err other) apart t = absurd t
+
+  whole_group : (outcome : Outcome) (told : Result Outcome Stop) → Converts remaining m plan olds news out (Ok outcome)
+      → TellsOutcome outcome report_out told → WroteGroup remaining described m olds news after report_out
+  whole_group outcome told h t = record {
+    plan = plan;
+    planned = planned;
+    many = many;
+    texts = h.texts;
+    read = h.read;
+    tables = h.tables;
+    annotated = h.annotated;
+    added = added_kept (GraphOf m plan h.tables) [] m h.gives.1;
+    reported = inr (record { faults = outcome.faults; violations = h.violations; sent = front_of outcome told t });
+  }
 
   -- a flush that fails
   rises : IsSound out → failed ≡ one_more out.failed → Rises after
@@ -177,7 +206,7 @@ module _ {R : Type 0} (remaining : R → Option (List ℕ)) (described : Documen
       → StopsSo remaining described m olds news after report_out reason
   kept_stop stop.Memory e quiet (why, sound) = elim why [
     | inl s ↦ inr (inl (stops_behind stop.Memory s, e ∙ sound, quiet))
-    | inr (_, whole) ↦ inr (inr (group whole, e ∙ sound))
+    | inr (_, whole) ↦ inr (inr (group whole quiet, e ∙ sound, quiet.1))
   ]
   kept_stop stop.Read e quiet (why, sound) = (stops_behind stop.Read (not_memory stop.Read (λ k. cc) why), e ∙ sound, quiet)
   kept_stop stop.Write e quiet (why, fails) =
@@ -201,7 +230,7 @@ module _ {R : Type 0} (remaining : R → Option (List ℕ)) (described : Documen
       → WriteFails remaining described m olds news after report_out
   unflushed reason h quiet fails = elim h.0 [
     | inl s ↦ inr (inl ((reason, stops_behind reason s), fails, quiet))
-    | inr w ↦ inr (inr (group w.1, inl fails))
+    | inr w ↦ inr (inr (group w.1 quiet, inl (fails, quiet.1)))
   ]
 
   behind_stop : (reason : Stop) (result : Result Outcome Stop) → Converts remaining m plan olds news out (Err reason) → IsIdle report_out
@@ -212,11 +241,15 @@ module _ {R : Type 0} (remaining : R → Option (List ℕ)) (described : Documen
 
   behind_report : (outcome : Outcome) (told result : Result Outcome Stop) → Converts remaining m plan olds news out (Ok outcome) → IsSound out
       → TellsOutcome outcome report_out told → IsFlushed told result out.failed failed → StopsWith result
-  behind_report outcome told result h sound (inl (t, s)) (inl (e, n)) = subst StopsWith (sym (e ∙ t)) tt
-  behind_report outcome told result h sound (inr (inl (t, s))) (inl (e, n)) = subst StopsWith (sym (e ∙ t)) (inr (inr (whole_group outcome h, n ∙ sound)))
-  behind_report outcome told result h sound (inr (inr (t, s))) (inl (e, n)) =
-      subst StopsWith (sym (e ∙ t)) (inr (inr (whole_group outcome h, inr (rose report_out.failures report_out.failures report_out.failed refl s))))
-  behind_report outcome told result h sound t (inr (apart, e, n)) = subst StopsWith (sym e) (inr (inr (whole_group outcome h, inl (rises sound n))))
+  behind_report outcome (Ok told) result h sound t (inl (e, n)) = subst StopsWith (sym e) tt
+  behind_report outcome (Err stop.Memory) result h sound t (inl (e, n)) =
+      subst StopsWith (sym e) (inr (inr (whole_group outcome (Err stop.Memory) h t, n ∙ sound, t.sent.1)))
+  behind_report outcome (Err stop.Write) result h sound t (inl (e, n)) =
+      let failed = rose report_out.failures report_out.failures report_out.failed refl t.failed in
+      subst StopsWith (sym e) (inr (inr (whole_group outcome (Err stop.Write) h t, inr (n ∙ sound, failed))))
+  behind_report outcome (Err other) result h sound t (inl (e, n)) = absurd t
+  behind_report outcome told result h sound t (inr (apart, e, n)) =
+      subst StopsWith (sym e) (inr (inr (whole_group outcome told h t, inl (rises sound n, told_soundly outcome told apart t))))
 
   pub stops : (ran told result : Result Outcome Stop) → Converts remaining m plan olds news out ran → Reports ran report_out told
       → IsFlushed told result out.failed failed → StopsWith result
@@ -254,9 +287,11 @@ module _ {R : Type 0} (remaining : R → Option (List ℕ)) (described : Documen
 
   -- the whole graph was written, and reported
   pub ends_whole : (ran told result : Result Outcome Stop) (outcome : Outcome) → result ≡ Ok outcome → Converts remaining m plan olds news out ran
-      → Reports ran report_out told → IsFlushed told result out.failed failed → WroteGroup remaining described m olds news after × IsSound report_out
+      → Reports ran report_out told → IsFlushed told result out.failed failed
+      → WroteGroup remaining described m olds news after report_out × IsSound after × IsSound report_out
   ends_whole (Ok first) told result outcome r h t f =
-      let k = told_ok outcome first report_out told result out.failed failed r t f in (whole_group first h, k.sent.1)
+      let k = told_ok outcome first report_out told result out.failed failed r t f in
+      (whole_group first told h t, k.steady ∙ wrote_soundly m out plan h.tables h.gives.0, k.sent.1)
   ends_whole (Err reason) told result outcome r h t f = absurd (no_stop reason outcome told result out.failed failed t.0 r f)
 
   pub stops_with : (ran told result : Result Outcome Stop) (reason : Stop) → result ≡ Err reason → Converts remaining m plan olds news out ran
@@ -283,10 +318,34 @@ report_kept remaining described m olds news out report_out outcome holds failed 
   reported = sends_kept report_out holds failed (report outcome.faults) keeps e h.reported;
 }
 
+-- what was reported stays so behind a flush
+reported_kept : (plan : Plan) (tables : List Table) (s : Stream) (holds : Option (List ℕ)) (failed : ℕ) → Keeps s.holds holds
+    → Keeps s.held s.holds ⊎ ReportedFront plan tables s → Keeps s.held holds ⊎ ReportedFront plan tables (flushed s holds failed)
+reported_kept plan tables s holds failed keeps (inl k) = inl (Keeps-trans s.held s.holds holds k keeps)
+reported_kept plan tables s holds failed keeps (inr k) =
+    let f = k.sent in
+    inr (record {
+      faults = k.faults;
+      violations = k.violations;
+      sent = record { front = f.front; rest = f.rest; parts = f.parts; appended = appends_kept s.held s.holds holds f.front f.appended keeps };
+    })
+
 -- the flush of the report failed, behind the whole graph
 pub report_unsent : {R : Type 0} (remaining : R → Option (List ℕ)) (described : Document) (m : Mode) (olds news : List (Counted R))
     (out report_out : Stream)
-    (holds : Option (List ℕ)) (failed : ℕ) (reason : Stop) → reason ≡ stop.Write → failed ≡ one_more report_out.failed → IsSound report_out
-    → WroteGroup remaining described m olds news out → StopsSo remaining described m olds news out (flushed report_out holds failed) reason
-report_unsent remaining described m olds news out report_out holds failed reason is more sound group =
-    rw is (inr (inr (group, inr (rose report_out.failures report_out.failed failed sound more))))
+    (holds : Option (List ℕ)) (failed : ℕ) (reason : Stop) → Keeps report_out.holds holds → reason ≡ stop.Write → failed ≡ one_more report_out.failed
+    → WroteGroup remaining described m olds news out report_out × IsSound out × IsSound report_out
+    → StopsSo remaining described m olds news out (flushed report_out holds failed) reason
+report_unsent remaining described m olds news out report_out holds failed reason keeps is more (group, whole, sound) =
+    let kept : WroteGroup remaining described m olds news out (flushed report_out holds failed) = record {
+      plan = group.plan;
+      planned = group.planned;
+      many = group.many;
+      texts = group.texts;
+      read = group.read;
+      tables = group.tables;
+      annotated = group.annotated;
+      added = group.added;
+      reported = reported_kept group.plan group.tables report_out holds failed keeps group.reported;
+    } in
+    rw is (inr (inr (kept, inr (whole, rose report_out.failures report_out.failed failed sound more))))

@@ -1,6 +1,5 @@
 -- What is reported of a run.
-use Rattle.std.specs.Prelude.{◌≡◌, ◌⊎◌, ℕ, List, Result, Ok, Err}
-use Rattle.csvw_text.specs.Count.{one_more}
+use Rattle.std.specs.Prelude.{◌≡◌, ℕ, List, Result, Ok, Err}
 use Rattle.csvw_text.specs.Streams.{Stream, Sends, IsCut, IsIdle}
 use Rattle.csvw_report.specs.Report.{report}
 use Rattle.csvw_report.specs.Stops.{SendsFront}
@@ -14,10 +13,10 @@ StopsReport s text stop.Memory = SendsFront s text
 StopsReport s text stop.Write = IsCut s text
 StopsReport s text other = ⊥
 
--- the report was written; or it wasn't, for want of memory or because its writer failed
+-- the report was written whole, or stops
 abbrev pub TellsOutcome : Outcome → Stream → Result Outcome Stop → Type 0
-TellsOutcome outcome s result = ((result ≡ Ok outcome) × Sends s (report outcome.faults))
-    ⊎ (((result ≡ Err stop.Memory) × (s.failed ≡ s.failures)) ⊎ ((result ≡ Err stop.Write) × (s.failed ≡ one_more s.failures)))
+TellsOutcome outcome s (Ok told) = (told ≡ outcome) × Sends s (report outcome.faults)
+TellsOutcome outcome s (Err reason) = StopsReport s (report outcome.faults) reason
 
 -- behind a stop nothing is reported
 abbrev pub Reports : Result Outcome Stop → Stream → Result Outcome Stop → Type 0

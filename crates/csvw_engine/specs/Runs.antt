@@ -1,7 +1,7 @@
 -- What a run over a group of tables leaves (Generating RDF from Tabular Data on the Web, section 4.2; Model for Tabular Data, sections
 -- 6 and 8).
-use Rattle.std.specs.Prelude.{◌≡◌, ◌≢◌, ◌⊎◌, ◌<◌, ◌+◌, ◌-◌, ◌^◌, ℕ, true, List, [], length, slice_get, Option, Some, Result, Ok, Err}
-use Rattle.std.specs.Io.KnownBytes.{Keeps}
+use Rattle.std.specs.Prelude.{◌≡◌, ◌≢◌, ◌⊎◌, ◌<◌, ◌+◌, ◌-◌, ◌^◌, ℕ, true, List, [], ◌++◌, length, slice_get, Option, Some, Result, Ok, Err}
+use Rattle.std.specs.Io.KnownBytes.{Appends, Keeps}
 use Rattle.csvw_text.specs.declared.counted.Counted.{Counted}
 use Rattle.csvw_text.specs.declared.fault.Fault.{Fault}
 use Rattle.csvw_text.specs.Streams.{Stream, Sends, IsIdle}
@@ -132,9 +132,23 @@ abbrev pub StopsBehind : {R : Type 0} → (R → Option (List ℕ)) → Document
 StopsBehind remaining described mode olds news out reason =
     SoFar remaining described olds news (λ plan events. IsReason plan olds news reason events × Leaves mode plan out reason events)
 
--- the texts of the readers are the annotated tables of the group that is described, and their whole graph was written
+-- a front of a text was sent, which may be nothing and may be the whole
+pub record SentFront (s : Stream) (text : List ℕ) : Type 0 where
+  pub front : List ℕ
+  pub rest : List ℕ
+  pub parts : text ≡ front ++ rest
+  pub appended : Appends s.held s.holds front
+
+-- of the report of what these tables violate a front was sent
+pub record ReportedFront (plan : Plan) (tables : List Table) (report_out : Stream) : Type 0 where
+  pub faults : List Fault
+  pub violations : AreViolations plan tables faults
+  pub sent : SentFront report_out (report faults)
+
+-- the texts of the readers are the annotated tables of the group that is described, and their whole graph was written; of the report
+-- nothing was written, or a front
 pub record WroteGroup {R : Type 0} (remaining : R → Option (List ℕ)) (described : Document) (mode : Mode) (olds news : List (Counted R))
-    (out : Stream) : Type 0 where
+    (out report_out : Stream) : Type 0 where
   pub plan : Plan
   pub planned : IsPlanned described plan
   pub many : length olds ≡ length plan.tables
@@ -143,6 +157,7 @@ pub record WroteGroup {R : Type 0} (remaining : R → Option (List ℕ)) (descri
   pub tables : List Table
   pub annotated : AreAnnotated plan.tables texts tables
   pub added : Added mode out (GraphOf mode plan tables) []
+  pub reported : Keeps report_out.held report_out.holds ⊎ ReportedFront plan tables report_out
 
 -- nothing was read, written or reported, but for a flush, which didn't fail
 abbrev pub IsUntouched : {R : Type 0} → List (Counted R) → List (Counted R) → Stream → Stream → Type 0
@@ -166,12 +181,12 @@ abbrev pub FailsBefore : {R : Type 0} → Document → List (Counted R) → List
 FailsBefore described olds news out report_out =
     ((reason : Stop) × StopsBefore described olds reason) × (news ≡ olds) × Keeps out.held out.holds × Rises out × IsIdle report_out
 
--- there was no memory: before the tables, in one of them, or behind the whole graph; no write to `out` failed
+-- there was no memory: before the tables, in one of them, or behind the whole graph; no write failed
 abbrev pub LacksMemory : {R : Type 0} → (R → Option (List ℕ)) → Document → Mode → List (Counted R) → List (Counted R) → Stream → Stream → Type 0
 LacksMemory remaining described mode olds news out report_out =
     IsUntouched olds news out report_out
     ⊎ ((StopsBehind remaining described mode olds news out stop.Memory × IsSound out × IsIdle report_out)
-    ⊎ (WroteGroup remaining described mode olds news out × IsSound out))
+    ⊎ (WroteGroup remaining described mode olds news out report_out × IsSound out × IsSound report_out))
 
 -- a write failed: the flush behind a stop before the tables; of `out` within a line or between two, or in the flush behind a stop; or a
 -- flush or the report behind the whole graph
@@ -179,7 +194,8 @@ abbrev pub WriteFails : {R : Type 0} → (R → Option (List ℕ)) → Document 
 WriteFails remaining described mode olds news out report_out =
     FailsBefore described olds news out report_out
     ⊎ ((((reason : Stop) × StopsBehind remaining described mode olds news out reason) × Rises out × IsIdle report_out)
-    ⊎ (WroteGroup remaining described mode olds news out × (Rises out ⊎ Rises report_out)))
+    ⊎ (WroteGroup remaining described mode olds news out report_out
+    × ((Rises out × IsSound report_out) ⊎ (IsSound out × Rises report_out))))
 
 -- why a run stops, and what it has written by then
 abbrev pub StopsSo : {R : Type 0} → (R → Option (List ℕ)) → Document → Mode → List (Counted R) → List (Counted R) → Stream → Stream → Stop → Type 0

@@ -43,7 +43,7 @@ returns-in_err-flush g c =
     (report_unsent g.R.Read.remaining described c.args.run.way.mode c.args.readers.now c.convert_tables-ran.new.readers
     (stream_of g.W.Write.contents c.args.out.now c.flush_behind.new.w) (stream_of g.V.Write.contents c.args.report.now c.tell-told.new.report)
     (g.V.Write.contents (inner_of c.flush.new.w))
-    (failures_of c.flush.new.w) c.in_err-flush.field-0.0 c.in_err-flush.ensures.write c.in_err-flush.ensures.count done.1 done.0)
+    (failures_of c.flush.new.w) c.in_err-flush.field-0.0 c.in_err-flush.ensures.keeps c.in_err-flush.ensures.write c.in_err-flush.ensures.count done)
 
 pub returns : goal.returns
 returns g c =
