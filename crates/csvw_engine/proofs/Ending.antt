@@ -71,11 +71,15 @@ record ToldOk (outcome first : Outcome) (s : Stream) (old new : ℕ) : Type 0 wh
   pub sent : Sends s (report first.faults)
   pub steady : new ≡ old
 
+told_kept : (outcome first : Outcome) (s : Stream) (told result : Result Outcome Stop) (old new : ℕ) → result ≡ Ok outcome → TellsOutcome first s told
+    → result ≡ told → new ≡ old → ToldOk outcome first s old new
+told_kept outcome first s (Ok told) result old new r (same, k) e n =
+    record { same = sym same ∙ ok_same told outcome result e r; sent = k; steady = n }
+told_kept outcome first s (Err reason) result old new r k e n = absurd (never outcome reason result e r)
+
 told_ok : (outcome first : Outcome) (s : Stream) (told result : Result Outcome Stop) (old new : ℕ) → result ≡ Ok outcome → TellsOutcome first s told
     → IsFlushed told result old new → ToldOk outcome first s old new
-told_ok outcome first s (Ok told) result old new r (same, k) (inl (e, n)) =
-    record { same = sym same ∙ ok_same told outcome result e r; sent = k; steady = n }
-told_ok outcome first s (Err reason) result old new r k (inl (e, n)) = absurd (never outcome reason result e r)
+told_ok outcome first s told result old new r t (inl (e, n)) = told_kept outcome first s told result old new r t e n
 told_ok outcome first s told result old new r t (inr (apart, e, n)) = absurd (never outcome stop.Write result e r)
 
 no_stop : (reason : Stop) (outcome : Outcome) (told result : Result Outcome Stop) (old new : ℕ) → told ≡ Err reason → result ≡ Ok outcome
@@ -88,8 +92,8 @@ module _ {R : Type 0} (remaining : R → Option (List ℕ)) (described : Documen
     (keeps : Keeps out.held out.holds) (quiet : IsIdle report_out) where
   told_before : (reason : Stop) → StopsBefore described olds reason → IsSound out → StopsSo remaining described m olds olds out report_out reason
   told_before stop.Memory h sound = inl (refl, keeps, sound, quiet)
-  told_before (stop.Meta fault) h sound = (h, refl, keeps, sound, quiet)
-  told_before stop.TableCount h sound = (h, refl, keeps, sound, quiet)
+  told_before (stop.Meta fault) h sound = (h, (refl, keeps, sound, quiet))
+  told_before stop.TableCount h sound = (h, (refl, keeps, sound, quiet))
   told_before other h sound = absurd h
 
   pub stops_before : (reason : Stop) (result : Result Outcome Stop) → StopsBefore described olds reason

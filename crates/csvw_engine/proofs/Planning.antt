@@ -1,6 +1,6 @@
 -- The plan of a document, or its fault.
-use Rattle.std.proofs.Common.{◌≡◌, ◌≢◌, ◌≤◌, ◌+◌, ℕ, zero, suc, List, [], ◌∷◌, length, refl, sym, ap, ◌∙◌, subst, arith, inl, inr, Some}
-use Rattle.std.proofs.Common.{None, Ok, Err}
+use Rattle.std.proofs.Common.{◌≡◌, ◌≢◌, ◌≤◌, ◌+◌, ℕ, suc, List, [], ◌∷◌, length, refl, sym, ap, ◌∙◌, subst, inl, inr}
+use Rattle.std.proofs.Common.{Ok, Err}
 use Rattle.csvw_description.specs.declared.description.Description.{Description}
 use Rattle.csvw_description.specs.declared.table.TableDescription.{TableDescription}
 use Rattle.csvw_meta_core.specs.declared.fault.MetaCode.TheVariants.{Memory}
@@ -9,7 +9,6 @@ use Rattle.csvw_meta.specs.Document.{Document, IsFault}
 use Rattle.csvw_columns.specs.Plannable.{Builds, CanBePlanned}
 use Rattle.csvw_columns.specs.PlanOf.{targets_of, table_plans}
 use Rattle.csvw_columns.specs.declared.plan.Plan.{Plan}
-use Rattle.csvw_columns.specs.declared.plan.TablePlan.{TablePlan}
 use Rattle.csvw_engine_core.specs.declared.stop.Stop.{Stop}
 use Rattle.csvw_engine_core.specs.declared.stop.Stop.TheVariants as stop
 use Rattle.csvw_engine.specs.Planning.{IsMetaStop, TellsFault}

@@ -1,5 +1,5 @@
 -- The one reader as a slice.
-use Rattle.std.proofs.Common.{◌∙◌, [], ◌∷◌, refl, tt}
+use Rattle.std.proofs.Common.{◌∙◌, [], ◌∷◌, refl}
 use Rattle.csvw_text.specs.Streams.{stream_of}
 use Rattle.csvw_meta.specs.Document.{plain_description}
 use Rattle.csvw_triples_core.specs.declared.mode.Mode.TheVariants as mode
@@ -8,8 +8,8 @@ use Rattle.csvw_engine.proofs.Ending.{meta_before, stops_before}
 use Rattle.csvw_engine.proofs.Lone.{runs_lone}
 use Rattle.csvw_engine.proofs.run_group.plain.Goals as goal
 
-pub returns-then-may_hold : goal.returns-then-may_hold
-returns-then-may_hold g c =
+pub returns-then-not-may_hold : goal.returns-then-not-may_hold
+returns-then-not-may_hold g c =
     stops_before g.R.Read.remaining (plain_description c.args.url.now) mode.Minimal (c.args.input.now ∷ [])
     (stream_of g.W.Write.contents c.args.out.now c.refuse.new.w) (stream_of g.V.Write.contents c.args.report.now c.args.report.now)
     c.refuse.ensures.keeps (refl, refl) stop.Memory c.refuse.result tt c.refuse.ensures.flushed
@@ -18,10 +18,10 @@ pub returns-in-Err : goal.returns-in-Err
 returns-in-Err g c =
     let described = plain_description c.args.url.now in
     let readers = c.args.input.now ∷ [] in
-    let because = meta_before described readers c.in-Err.field-0 c.planned_alone.ensures.stop in
-    stops_before g.R.Read.remaining described mode.Minimal readers (stream_of g.W.Write.contents c.args.out.now c.refuse-2.new.w)
-    (stream_of g.V.Write.contents c.args.report.now c.args.report.now) c.refuse-2.ensures.keeps (refl, refl) c.in-Err.field-0 c.refuse-2.result
-    because c.refuse-2.ensures.flushed
+    let because = meta_before described readers c.in-Err.stop c.in-Err.ensures.stop in
+    stops_before g.R.Read.remaining described mode.Minimal readers (stream_of g.W.Write.contents c.args.out.now c.refuse-in-Err.new.w)
+    (stream_of g.V.Write.contents c.args.report.now c.args.report.now) c.refuse-in-Err.ensures.keeps (refl, refl) c.in-Err.stop c.refuse-in-Err.result
+    because c.refuse-in-Err.ensures.flushed
 
 pub returns : goal.returns
 returns g c =

@@ -9,7 +9,7 @@ pub returns-in-Err : goal.returns-in-Err
 returns-in-Err g c =
     let described = document c.args.asked.base.now c.args.asked.meta.now in
     let readers = c.args.readers.now in
-    let because = meta_before described readers c.in-Err.field-0 c.planned.ensures.stop in
+    let because = meta_before described readers c.in-Err.stop c.in-Err.ensures.stop in
     stops_before g.R.Read.remaining described c.args.asked.way.mode readers (stream_of g.W.Write.contents c.args.out.now c.refuse.new.w)
-    (stream_of g.V.Write.contents c.args.report.now c.args.report.now) c.refuse.ensures.keeps (refl, refl) c.in-Err.field-0 c.refuse.result because
+    (stream_of g.V.Write.contents c.args.report.now c.args.report.now) c.refuse.ensures.keeps (refl, refl) c.in-Err.stop c.refuse.result because
     c.refuse.ensures.flushed
