@@ -1,10 +1,11 @@
 //! Copies of plain data, which succeed where there is memory.
+ghost use Rattle.std.specs.Prelude.{IfOk};
 ghost use Rattle.csvw_annotate.specs.Annotated.{AreSound};
 
 use crate::rows::parsed;
-use crate::tables::{header, matched, next_row, plan_of, reader_of, table_at};
+use crate::tables::{columns_of, header, next_row, plan_of, reader_of};
 use csvw_annotate::Row;
-use csvw_cell::CellValue;
+use csvw_cell::{Cell, CellValue};
 use csvw_columns::{Columns, Plan};
 use csvw_engine::Stop;
 use csvw_meta::read;
@@ -21,40 +22,58 @@ const GROUP: &str = r#"{"@context":"http://www.w3.org/ns/csvw","tables":[
 "foreignKeys":[{"columnReference":"ref","reference":{"resource":"b.csv","columnReference":"k"}}]}},
 {"url":"b.csv","tableSchema":{"columns":[{"name":"k","separator":" "}],"primaryKey":"k"}}]}"#;
 
-#[test]
-fn descriptions(rt: HostRuntime) -> Result<(), Fail> {
-    let alloc = rt.alloc();
+/// The plan of a copy of a description.
+fn plan_of_copy(alloc: Global) -> Result<Plan, Fail> {
     let description = read(alloc, GROUP.as_bytes(), "http://example.org/")?;
     let copy = description.clone(alloc)?;
     drop(description);
-    let plan = Plan::build(alloc, copy)?;
-    assert_eq!(rt; plan.tables().len(), 2);
+    Ok(Plan::build(alloc, copy)?)
+}
+
+/// A copy of a plan.
+fn copied_plan(alloc: Global) -> Result<Plan, Fail> {
+    Ok(plan_of(alloc, GROUP)?.clone(alloc)?)
+}
+
+/// Whether it is the plan of `GROUP`.
+fn is_of_group(plan: &Plan) -> bool {
+    match plan.tables() {
+        [one, other] => {
+            one.dialect.delimiter == ';'
+                && one.foreign_keys.len() == 1
+                && one.notes.len() == 2
+                && other.primary_key.len() == 1
+        }
+        _ => false,
+    }
+}
+
+#[test]
+fn descriptions(rt: HostRuntime) -> Result<(), Fail> {
+    let plan = plan_of_copy(rt.alloc())?;
+    assert!(rt; is_of_group(&plan));
     Ok(())
 }
 
 #[test]
 fn plans(rt: HostRuntime) -> Result<(), Fail> {
-    let alloc = rt.alloc();
-    let plan = plan_of(alloc, GROUP)?;
-    let copy = plan.clone(alloc)?;
-    assert_eq!(rt; copy.tables().len(), 2);
-    let first = table_at(&copy, 0)?;
-    assert_eq!(rt; first.dialect.delimiter, ';');
-    assert_eq!(rt; first.foreign_keys.len(), 1);
-    assert_eq!(rt; first.notes.len(), 2);
+    let plan = copied_plan(rt.alloc())?;
+    assert!(rt; is_of_group(&plan));
     Ok(())
 }
 
 #[test]
-fn columns_and_header_rows(rt: HostRuntime) -> Result<(), Fail> {
-    let alloc = rt.alloc();
-    let plan = plan_of(alloc, GROUP)?;
-    let (columns, _) = matched(alloc, table_at(&plan, 0)?, &["ref"])?;
-    let columns = columns.clone(alloc)?;
-    assert_eq!(rt; columns.len(), 1);
-    let row = header(alloc, &["ref", "k"])?.clone(alloc)?;
+fn header_rows(rt: HostRuntime) -> Result<(), Fail> {
+    let row = header(rt.alloc(), &["ref", "k"])?.clone(rt.alloc())?;
     assert_eq!(rt; row.cells.len(), 2);
     Ok(())
+}
+
+/// A copy of the columns of the second table.
+fn copied_columns(alloc: Global) -> Result<Columns, Fail>
+    ensures { IfOk result (λ columns. AreSound columns.columns) }
+{
+    Ok(columns_of(alloc, GROUP, 1, &["k"])?.clone(alloc)?)
 }
 
 /// Whether it is a list of so many items.
@@ -65,15 +84,19 @@ fn is_list(value: &CellValue, count: usize) -> bool {
     }
 }
 
+/// A copy of what a text is in the column `k`.
+fn copied_cell(alloc: Global, columns: &Columns, text: &str) -> Result<Cell, Fail> {
+    match columns.by_name("k") {
+        Some(column) => Ok(parsed(alloc, column, text)?.clone(alloc)?),
+        None => Err("no column")?,
+    }
+}
+
 #[test]
-fn cells(rt: HostRuntime) -> Result<(), Fail> {
-    let alloc = rt.alloc();
-    let plan = plan_of(alloc, GROUP)?;
-    let (columns, _) = matched(alloc, table_at(&plan, 1)?, &["k"])?;
-    let Some(column) = columns.by_name("k") else {
-        return Err("no column")?;
-    };
-    let cell = parsed(alloc, column, "1 2 3")?.clone(alloc)?;
+fn columns_and_cells(rt: HostRuntime) -> Result<(), Fail> {
+    let columns = copied_columns(rt.alloc())?;
+    let cell = copied_cell(rt.alloc(), &columns, "1 2 3")?;
+    drop(columns);
     assert!(rt; is_list(&cell.value, 3));
     Ok(())
 }
@@ -90,16 +113,23 @@ fn copied_row(alloc: Global, columns: &Columns, text: &str) -> Result<Option<Row
     }
 }
 
+/// Whether it has one cell, which is a list of two items.
+fn has_list(row: &Option<Row>) -> bool {
+    match row {
+        Some(row) => match row.cells.as_slice() {
+            [cell] => is_list(&cell.value, 2),
+            _ => false,
+        },
+        None => false,
+    }
+}
+
 #[test]
 fn rows(rt: HostRuntime) -> Result<(), Fail> {
-    let alloc = rt.alloc();
-    let plan = plan_of(alloc, GROUP)?;
-    let (columns, _) = matched(alloc, table_at(&plan, 1)?, &["k"])?;
-    let Some(row) = copied_row(alloc, &columns, "k\n1 2\n")? else {
-        return Err("no row")?;
-    };
-    assert_eq!(rt; row.cells.len(), 1);
-    assert!(rt; is_list(&row.cells.as_slice()[0].value, 2));
+    let columns = copied_columns(rt.alloc())?;
+    let row = copied_row(rt.alloc(), &columns, "k\n1 2\n")?;
+    drop(columns);
+    assert!(rt; has_list(&row));
     Ok(())
 }
 

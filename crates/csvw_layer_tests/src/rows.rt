@@ -3,7 +3,7 @@ ghost use Rattle.csvw_annotate.specs.Annotated.{AreSound};
 ghost use Rattle.csvw_columns.specs.Ready.{IsReady};
 ghost use Rattle.csvw_triples.specs.HasForms.{HasForms};
 
-use crate::tables::{matched, next_row, plan_of, reader_of, table_at};
+use crate::tables::{columns_of, matched, next_row, plan_of, reader_of, table_at};
 use csvw_annotate::Row;
 use csvw_cell::{Cell, CellValue, Item, parse};
 use csvw_columns::{Column, Columns, TablePlan};
@@ -40,16 +40,18 @@ fn number_of(columns: &Columns, name: &str) -> Option<u32> {
     }
 }
 
+/// Whether they are the columns of `PLAIN`.
+fn are_named(columns: &Columns) -> bool {
+    columns.len() == 2
+        && number_of(columns, "id") == Some(1)
+        && number_of(columns, "name") == Some(2)
+        && number_of(columns, "Name") == None
+}
+
 #[test]
 fn columns_have_names(rt: HostRuntime) -> Result<(), Fail> {
-    let alloc = rt.alloc();
-    let plan = plan_of(alloc, PLAIN)?;
-    let (columns, faults) = matched(alloc, table_at(&plan, 0)?, &["id", "name"])?;
-    assert_eq!(rt; faults.len(), 0);
-    assert_eq!(rt; columns.len(), 2);
-    assert_eq!(rt; number_of(&columns, "id"), Some(1));
-    assert_eq!(rt; number_of(&columns, "name"), Some(2));
-    assert_eq!(rt; number_of(&columns, "Name"), None);
+    let columns = columns_of(rt.alloc(), PLAIN, 0, &["id", "name"])?;
+    assert!(rt; are_named(&columns));
     Ok(())
 }
 
@@ -64,11 +66,16 @@ fn tells(faults: &[Fault], wanted: &[(Code, u32, u64, u32)]) -> bool {
         })
 }
 
+/// What is wrong with a header of the first table.
+fn header_faults(alloc: Global, meta: &str, cells: &[&str]) -> Result<Vec<Fault>, Fail> {
+    let plan = plan_of(alloc, meta)?;
+    let (_, faults) = matched(alloc, table_at(&plan, 0)?, cells)?;
+    Ok(faults)
+}
+
 #[test]
 fn a_header_of_another_title_is_told(rt: HostRuntime) -> Result<(), Fail> {
-    let alloc = rt.alloc();
-    let plan = plan_of(alloc, TITLED)?;
-    let (_, faults) = matched(alloc, table_at(&plan, 0)?, &["ID", "n"])?;
+    let faults = header_faults(rt.alloc(), TITLED, &["ID", "n"])?;
     assert!(rt; tells(faults.as_slice(), &[(Code::HeaderMismatch, 1, 1, 1)]));
     Ok(())
 }
@@ -116,8 +123,7 @@ fn parse_each(rt: &impl Abort, alloc: Global, column: &Column) -> Result<(), Fai
 #[test]
 fn texts_of_integers(rt: HostRuntime) -> Result<(), Fail> {
     let alloc = rt.alloc();
-    let plan = plan_of(alloc, INTEGER)?;
-    let (columns, _) = matched(alloc, table_at(&plan, 0)?, &["id"])?;
+    let columns = columns_of(alloc, INTEGER, 0, &["id"])?;
     match columns.by_name("id") {
         Some(column) => parse_each(&rt, alloc, column),
         None => Err("no column")?,
@@ -166,16 +172,23 @@ fn emitted(alloc: Global, columns: &Columns, text: &str) -> Result<VecSink, Fail
     Ok(sink)
 }
 
+/// Whether these are the triples of Ann, whose number is 1.
+fn are_of_ann(triples: &[Triple]) -> bool {
+    match triples {
+        [id, name] => {
+            says(id, "http://example.org/p.csv#id", "1")
+                && says(name, "http://example.org/p.csv#name", "Ann")
+        }
+        _ => false,
+    }
+}
+
 #[test]
 fn a_row_is_put_into_a_vector(rt: HostRuntime) -> Result<(), Fail> {
-    let alloc = rt.alloc();
-    let plan = plan_of(alloc, PLAIN)?;
-    let (columns, _) = matched(alloc, table_at(&plan, 0)?, &["id", "name"])?;
-    let sink = emitted(alloc, &columns, "id,name\n1,Ann\n")?;
-    let triples = sink.triples();
-    assert_eq!(rt; triples.len(), 2);
-    assert!(rt; says(&triples[0], "http://example.org/p.csv#id", "1"));
-    assert!(rt; says(&triples[1], "http://example.org/p.csv#name", "Ann"));
+    let columns = columns_of(rt.alloc(), PLAIN, 0, &["id", "name"])?;
+    let sink = emitted(rt.alloc(), &columns, "id,name\n1,Ann\n")?;
+    drop(columns);
+    assert!(rt; are_of_ann(sink.triples()));
     Ok(())
 }
 
@@ -212,9 +225,8 @@ fn add_table(
     add_all(alloc, table.number, &columns, text, book)
 }
 
-#[test]
-fn a_book_tells_of_keys(rt: HostRuntime) -> Result<(), Fail> {
-    let alloc = rt.alloc();
+/// The book of the rows of two tables.
+fn book(alloc: Global) -> Result<KeyBook, Fail> {
     let plan = plan_of(alloc, KEYS)?;
     let mut book = KeyBook::new(alloc, &plan)?;
     add_table(
@@ -225,9 +237,20 @@ fn a_book_tells_of_keys(rt: HostRuntime) -> Result<(), Fail> {
         &mut book,
     )?;
     add_table(alloc, table_at(&plan, 1)?, "k", "k\n1\n01\n2\n", &mut book)?;
-    assert!(rt; tells(book.duplicates(1), &[]));
-    assert!(rt; tells(book.duplicates(2), &[(Code::DuplicateKey, 2, 3, 1)]));
+    Ok(book)
+}
+
+/// Whether the book has the second row of the second table twice, and nothing of the first.
+fn has_duplicate(book: &KeyBook) -> bool {
+    tells(book.duplicates(1), &[]) && tells(book.duplicates(2), &[(Code::DuplicateKey, 2, 3, 1)])
+}
+
+#[test]
+fn a_book_tells_of_keys(rt: HostRuntime) -> Result<(), Fail> {
+    let book = book(rt.alloc())?;
+    assert!(rt; has_duplicate(&book));
     let faults = book.finish()?;
+    drop(book);
     let wanted = [
         (Code::NoReferencedRow, 1, 2, 1),
         (Code::ManyReferencedRows, 1, 3, 1),

@@ -66,6 +66,24 @@ pub(crate) fn matched(
     }
 }
 
+/// The columns of a table of a document with this header, with which nothing is wrong.
+pub(crate) fn columns_of(
+    alloc: Global,
+    meta: &str,
+    i: usize,
+    cells: &[&str],
+) -> Result<Columns, Fail>
+    ensures { IfOk result (λ columns. AreSound columns.columns) }
+{
+    let plan = plan_of(alloc, meta)?;
+    let (columns, faults) = matched(alloc, table_at(&plan, i)?, cells)?;
+    if faults.is_empty() {
+        Ok(columns)
+    } else {
+        Err("a fault of the header")?
+    }
+}
+
 fn lawful(dialect: Dialect) -> Result<Dialect, BadDialect>
     ensures { IfOk result IsLawful }
 {
