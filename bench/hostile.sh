@@ -15,12 +15,8 @@ python3 "$bench/hostile_files.py" "$work"
 
 # The least processor seconds of the runs over a file, in pieces of so many bytes.
 least() {
-  local file=$1 size=$2 times=$work/times
-  rm -f "$times"
-  for _ in $(seq "$runs"); do
-    /usr/bin/time -f '%U %S' -a -o "$times" "$program" rows "$size" , <"$file" >/dev/null
-  done
-  awk 'NR == 1 || $1 + $2 < least { least = $1 + $2 } END { print (least > 0.01 ? least : 0.01) }' "$times"
+  local file=$1 size=$2
+  python3 "$bench/least.py" "$runs" "$file" "$program" rows "$size" ,
 }
 
 slow=0
@@ -32,7 +28,7 @@ for name in $names; do
   whole=$(least "$work/${name}_60.csv" 65536)
   byte=$(least "$work/${name}_6.csv" 1)
   line=$(awk -v n="$name" -v a="$whole" -v b="$whole_letters" -v c="$byte" -v d="$byte_letters" '
-    BEGIN { printf "| %s | %.2f | %.1f | %.2f | %.1f |", n, a, a / b, c, c / d; exit (a > 5 * b || c > 5 * d) }') || slow=1
+    BEGIN { printf "| %s | %.3f | %.1f | %.2f | %.1f |", n, a, a / b, c, c / d; exit (a > 5 * b || c > 5 * d) }') || slow=1
   echo "$line"
 done
 if [ "$slow" = 1 ]; then
