@@ -13,7 +13,9 @@ use std::alloc::{AllocError, Global};
 /// The items of a list, and what is wrong with them.
 #[derive(Debug, Drop)]
 pub struct JudgedItems {
+    /// One for each text, in their order.
     pub items: Seq<Item>,
+    /// The codes of all, in their order; one stands as often as it has causes.
     pub causes: Seq<Code>,
 }
 

@@ -37,15 +37,15 @@ inherited_or_none column schema table group = first_present (column ∷ schema �
 
 -- the properties of a column, from what stands in it, in its schema, in its table and in the group
 abbrev pub properties_of : Inherited → Inherited → Inherited → Inherited → Properties
-properties_of c s t g = record {
-  about_url = inherited_or_none c.about_url s.about_url t.about_url g.about_url;
-  property_url = inherited_or_none c.property_url s.property_url t.property_url g.property_url;
-  value_url = inherited_or_none c.value_url s.value_url t.value_url g.value_url;
-  datatype = inherited string_type c.datatype s.datatype t.datatype g.datatype;
-  default = inherited [] c.default s.default t.default g.default;
-  lang = inherited (codes "und") c.lang s.lang t.lang g.lang;
-  null = inherited ([] ∷ []) c.null s.null t.null g.null;
-  ordered = inherited false c.ordered s.ordered t.ordered g.ordered;
-  required = inherited false c.required s.required t.required g.required;
-  separator = inherited None c.separator s.separator t.separator g.separator;
+properties_of column schema table group = record {
+  about_url = inherited_or_none column.about_url schema.about_url table.about_url group.about_url;
+  property_url = inherited_or_none column.property_url schema.property_url table.property_url group.property_url;
+  value_url = inherited_or_none column.value_url schema.value_url table.value_url group.value_url;
+  datatype = inherited string_type column.datatype schema.datatype table.datatype group.datatype;
+  default = inherited [] column.default schema.default table.default group.default;
+  lang = inherited (codes "und") column.lang schema.lang table.lang group.lang;
+  null = inherited ([] ∷ []) column.null schema.null table.null group.null;
+  ordered = inherited false column.ordered schema.ordered table.ordered group.ordered;
+  required = inherited false column.required schema.required table.required group.required;
+  separator = inherited None column.separator schema.separator table.separator group.separator;
 }

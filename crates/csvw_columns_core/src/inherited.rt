@@ -1,11 +1,11 @@
 //! The properties of a column, with what it inherits.
-ghost use Rattle.std.specs.Prelude.{◌≡◌, Option, Ok, IfOk, unwrap_or, false};
+ghost use Rattle.std.specs.Prelude.{◌≡◌, Option, Ok, None, IfOk, [], ◌∷◌, codes, unwrap_or, false};
 ghost use Rattle.csvw_columns_core.specs.Inherited.{first_of, inherited, inherited_or_none, properties_of};
 
 use crate::properties::{Defaults, Properties};
 use csvw_description::Inherited;
 use csvw_template::Template;
-use csvw_text::{Copied, Shared, both, copied_option};
+use csvw_text::{Copied, LanguageTag, Seq, Shared, Text, both, copied_option};
 use std::alloc::{AllocError, Global};
 
 fn first_of<'a, T>(inner: &'a Option<T>, outer: &'a Option<T>) -> &'a Option<T>
@@ -71,35 +71,36 @@ struct Links {
 /// The templates that are found first in the column, its schema, its table and the group.
 fn found_links(
     alloc: Global,
-    c: &Inherited,
-    s: &Inherited,
-    t: &Inherited,
-    g: &Inherited,
+    column: &Inherited,
+    schema: &Inherited,
+    table: &Inherited,
+    group: &Inherited,
 ) -> Result<Links, AllocError>
-    ensures about { IfOk result (λ l. l.about_url ≡ inherited_or_none c.now.about_url s.now.about_url t.now.about_url g.now.about_url) }
-    ensures property { IfOk result (λ l. l.property_url ≡ inherited_or_none c.now.property_url s.now.property_url t.now.property_url g.now.property_url) }
-    ensures value { IfOk result (λ l. l.value_url ≡ inherited_or_none c.now.value_url s.now.value_url t.now.value_url g.now.value_url) }
+    ensures about { IfOk result (λ l. l.about_url ≡ inherited_or_none column.now.about_url schema.now.about_url table.now.about_url group.now.about_url) }
+    ensures property { IfOk result (λ l. l.property_url
+        ≡ inherited_or_none column.now.property_url schema.now.property_url table.now.property_url group.now.property_url) }
+    ensures value { IfOk result (λ l. l.value_url ≡ inherited_or_none column.now.value_url schema.now.value_url table.now.value_url group.now.value_url) }
 {
     let about_url = found(
         alloc,
-        &c.about_url,
-        &s.about_url,
-        &t.about_url,
-        &g.about_url,
+        &column.about_url,
+        &schema.about_url,
+        &table.about_url,
+        &group.about_url,
     );
     let property_url = found(
         alloc,
-        &c.property_url,
-        &s.property_url,
-        &t.property_url,
-        &g.property_url,
+        &column.property_url,
+        &schema.property_url,
+        &table.property_url,
+        &group.property_url,
     );
     let value_url = found(
         alloc,
-        &c.value_url,
-        &s.value_url,
-        &t.value_url,
-        &g.value_url,
+        &column.value_url,
+        &schema.value_url,
+        &table.value_url,
+        &group.value_url,
     );
     let (about_url, (property_url, value_url)) = both(about_url, both(property_url, value_url))?;
     Ok(Links {
@@ -109,51 +110,102 @@ fn found_links(
     })
 }
 
+/// The texts by which a column's cells are read.
+#[derive(Drop)]
+struct Texts {
+    default: Shared<Text>,
+    lang: Shared<LanguageTag>,
+    null: Shared<Seq<Text>>,
+    separator: Option<Shared<Text>>,
+}
+
 impl Defaults {
+    /// The texts that are found first in the column, its schema, its table and the group, else their defaults.
+    fn found_texts(
+        &self,
+        alloc: Global,
+        column: &Inherited,
+        schema: &Inherited,
+        table: &Inherited,
+        group: &Inherited,
+    ) -> Result<Texts, AllocError>
+        ensures default { IfOk result (λ t. t.default ≡ inherited [] column.now.default schema.now.default table.now.default group.now.default) }
+        ensures lang { IfOk result (λ t. t.lang ≡ inherited (codes "und") column.now.lang schema.now.lang table.now.lang group.now.lang) }
+        ensures null { IfOk result (λ t. t.null ≡ inherited ([] ∷ []) column.now.null schema.now.null table.now.null group.now.null) }
+        ensures separator { IfOk result (λ t. t.separator
+            ≡ inherited None column.now.separator schema.now.separator table.now.separator group.now.separator) }
+    {
+        let default = found(
+            alloc,
+            &column.default,
+            &schema.default,
+            &table.default,
+            &group.default,
+        );
+        let lang = found(alloc, &column.lang, &schema.lang, &table.lang, &group.lang);
+        let null = found(alloc, &column.null, &schema.null, &table.null, &group.null);
+        let separator = found(
+            alloc,
+            &column.separator,
+            &schema.separator,
+            &table.separator,
+            &group.separator,
+        );
+        let default = found_or(alloc, default, &self.default);
+        let lang = found_or(alloc, lang, &self.lang);
+        let null = found_or(alloc, null, &self.null);
+        let ((default, lang), (null, separator)) = both(
+            both(default, lang),
+            both(null, separator),
+        )?;
+        Ok(Texts {
+            default,
+            lang,
+            null,
+            separator: separator.unwrap_or(None),
+        })
+    }
+
     /// The inherited properties of a column, each the first that is present in the column, its schema, its table and the
     /// group, in this order, else its default (Metadata Vocabulary for Tabular Data, section 5.7). `AllocError` where
     /// there is no memory.
     pub fn inherited(
         &self,
         alloc: Global,
-        c: &Inherited,
-        s: &Inherited,
-        t: &Inherited,
-        g: &Inherited,
+        column: &Inherited,
+        schema: &Inherited,
+        table: &Inherited,
+        group: &Inherited,
     ) -> Result<Properties, AllocError>
-        ensures { IfOk result (λ p. p ≡ properties_of c.now s.now t.now g.now) }
+        ensures { IfOk result (λ p. p ≡ properties_of column.now schema.now table.now group.now) }
     {
-        let links = found_links(alloc, c, s, t, g);
-        let datatype = found(alloc, &c.datatype, &s.datatype, &t.datatype, &g.datatype);
-        let default = found(alloc, &c.default, &s.default, &t.default, &g.default);
-        let lang = found(alloc, &c.lang, &s.lang, &t.lang, &g.lang);
-        let null = found(alloc, &c.null, &s.null, &t.null, &g.null);
-        let separator = found(
+        let links = found_links(alloc, column, schema, table, group);
+        let texts = self.found_texts(alloc, column, schema, table, group);
+        let datatype = found(
             alloc,
-            &c.separator,
-            &s.separator,
-            &t.separator,
-            &g.separator,
+            &column.datatype,
+            &schema.datatype,
+            &table.datatype,
+            &group.datatype,
         );
         let datatype = found_or(alloc, datatype, &self.datatype);
-        let default = found_or(alloc, default, &self.default);
-        let lang = found_or(alloc, lang, &self.lang);
-        let null = found_or(alloc, null, &self.null);
-        let texts = both(both(default, lang), both(null, separator));
-        let (links, texts) = both(both(links, datatype), texts)?;
-        let (links, datatype) = links;
-        let ((default, lang), (null, separator)) = texts;
+        let (links, (texts, datatype)) = both(links, both(texts, datatype))?;
         Ok(Properties {
             about_url: links.about_url,
             property_url: links.property_url,
             value_url: links.value_url,
             datatype,
-            default,
-            lang,
-            null,
-            ordered: is_set(c.ordered, s.ordered, t.ordered, g.ordered),
-            required: is_set(c.required, s.required, t.required, g.required),
-            separator: separator.unwrap_or(None),
+            default: texts.default,
+            lang: texts.lang,
+            null: texts.null,
+            ordered: is_set(column.ordered, schema.ordered, table.ordered, group.ordered),
+            required: is_set(
+                column.required,
+                schema.required,
+                table.required,
+                group.required,
+            ),
+            separator: texts.separator,
         })
     }
 }

@@ -20,34 +20,53 @@ pub struct NumberRules {
 /// What a character can be in a number.
 #[derive(Clone, Copy)]
 pub enum Kind {
+    /// `0` to `9`, by its value.
     Digit(u8),
+    /// `+`.
     Plus,
+    /// `-`.
     Minus,
+    /// The decimal character.
     Point,
+    /// The group character.
     Group,
+    /// `%`, where it is allowed.
     Percent,
+    /// `‰`, where it is allowed.
     PerMille,
+    /// No character of a number.
     Other,
 }
 
 /// What was read last.
 #[derive(Clone, Copy)]
 pub enum Place {
+    /// Nothing.
     Start,
+    /// A sign.
     Sign,
+    /// A digit of the whole part.
     Whole,
+    /// A group character.
     Group,
+    /// The decimal character, with no digit in front of it.
     BarePoint,
+    /// The decimal character behind a digit, or a digit of the fraction.
     Fraction,
+    /// `%` or `‰`.
     Mark,
+    /// What no number begins with.
     Bad,
 }
 
 /// What a number ends with.
 #[derive(Clone, Copy)]
 pub enum Mark {
+    /// No mark.
     Plain,
+    /// `%`: hundredths.
     Percent,
+    /// `‰`: thousandths.
     PerMille,
 }
 

@@ -5,7 +5,9 @@ ghost use Rattle.csvw_keys.specs.Times.{more};
 /// How often something is there.
 #[derive(Clone, Copy, Debug, PartialEq, Eq)]
 pub enum Times {
+    /// Not at all.
     Never,
+    /// Once.
     Once,
     /// More than once.
     Often,

@@ -55,47 +55,24 @@ impl MetaCode {
         match self {
             MetaCode::Memory => "there is no memory: free some, and try again",
             MetaCode::TooLong => "the document or a template in it is too long: shorten it",
-            MetaCode::NotJson => {
-                "the bytes are no JSON text, or nest too deep: correct the document"
-            }
-            MetaCode::BadContext => {
-                "`@context` is missing or is another: write `http://www.w3.org/ns/csvw`"
-            }
-            MetaCode::BadProperty => {
-                "the value is of a wrong kind, or a property that is needed is missing: correct it by the vocabulary"
-            }
+            MetaCode::NotJson => "the bytes are no JSON text, or nest too deep: correct them",
+            MetaCode::BadContext => "`@context` is not that of CSVW: `http://www.w3.org/ns/csvw`",
+            MetaCode::BadProperty => "a value is of a wrong kind, or a property is missing",
             MetaCode::BadId => "an `@id` names a blank node: name it by a URL, or leave it out",
             MetaCode::BadUrl => "the text is no URL: correct it",
             MetaCode::UrlTooLong => "the text of a URL is too long: shorten it",
             MetaCode::NotSupported => "this part of the vocabulary is not supported: leave it out",
-            MetaCode::BadDialect => {
-                "no text can be read by this dialect: give its delimiter, quotes and line ends different characters"
-            }
-            MetaCode::BadDatatype => {
-                "the datatype cannot have this format or these facets: leave out what does not fit it"
-            }
-            MetaCode::BadTemplate => {
-                "the text is no URI template: write names between braces, as `{name}`"
-            }
-            MetaCode::TemplateLevel => {
-                "the template has an operator or a modifier of a higher level: use `{name}`, `{+name}` or `{#name}`"
-            }
-            MetaCode::BadName => {
-                "the name of a column is no name of a variable: use letters, digits and low lines, and no low line in front"
-            }
+            MetaCode::BadDialect => "delimiter, quotes and line ends clash: make them different",
+            MetaCode::BadDatatype => "the datatype cannot have this format or these facets",
+            MetaCode::BadTemplate => "the text is no URI template: write names as `{name}`",
+            MetaCode::TemplateLevel => "the template is of a level above 2: leave out its operator",
+            MetaCode::BadName => "a column's name has a `_` in front, or a wrong character",
             MetaCode::DuplicateName => "two columns of a table have one name: rename one of them",
-            MetaCode::VirtualOrder => {
-                "a virtual column stands in front of one that is not: write virtual columns last"
-            }
-            MetaCode::DuplicateTable => {
-                "two tables of the group have one URL: correct one of them, or leave it out"
-            }
-            MetaCode::BadReference => {
-                "a key names a column or a table that is not there: correct the name"
-            }
-            MetaCode::TooMany => {
-                "there are more items than the limit, or a number is above its own: write fewer or smaller ones"
-            }
+            MetaCode::VirtualOrder =>
+                "a virtual column stands too early: write it behind the others",
+            MetaCode::DuplicateTable => "two tables have one URL: correct one, or leave it out",
+            MetaCode::BadReference => "a key names a column or a table that is not there",
+            MetaCode::TooMany => "there are more items than the limit: write fewer",
         }
     }
 }

@@ -78,62 +78,28 @@ impl Code {
     /// What is wrong and what to do, as a sentence without its full stop.
     fn sentence(&self) -> &'static str {
         match self {
-            Code::UnknownProperty => {
-                "the vocabulary lists no such property: correct its name, or remove it"
-            }
-            Code::HeaderMissing => {
-                "there are fewer header rows than the dialect says: add them, or correct `headerRowCount`"
-            }
-            Code::HeaderCount => {
-                "a header row has not one cell for each column: give it as many cells as columns are described"
-            }
-            Code::HeaderMismatch => {
-                "a header cell is no title of its column: correct it, or add it to `titles`"
-            }
+            Code::UnknownProperty => "no such property is known: correct its name, or remove it",
+            Code::HeaderMissing => "header rows are missing: add them, or correct `headerRowCount`",
+            Code::HeaderCount => "a header row has not one cell for each column: correct it",
+            Code::HeaderMismatch => "a header cell is no title of its column: correct one of them",
             Code::Required => "a cell that is required has no value: fill it in",
-            Code::BadBoolean => {
-                "the text is no boolean of this format: write one of the two texts of `format`, else `true` or `false`"
-            }
-            Code::BadInteger => {
-                "the text is no integer: write digits, with a sign in front where it needs one"
-            }
-            Code::BadDecimal => {
-                "the text is no decimal of this format: write digits with one decimal character at most"
-            }
-            Code::NumberTooLong => {
-                "the number is 10^20 or more in size, or finer than 10^-18: round it"
-            }
-            Code::OutOfRange => {
-                "the number is outside the range of its datatype: correct it, or name a wider datatype"
-            }
-            Code::BadDate => {
-                "the text is no date of this format: write a day that there is, as `format` spells it"
-            }
-            Code::BadDateTime => {
-                "the text is no date and time of this format: write a moment that there is, as `format` spells it"
-            }
+            Code::BadBoolean => "the text is no boolean: write one that `format` allows",
+            Code::BadInteger => "the text is no integer: write digits, with a sign where needed",
+            Code::BadDecimal => "the text is no decimal: write it as `format` spells numbers",
+            Code::NumberTooLong => "the number is 10^20 or more, or finer than 10^-18: round it",
+            Code::OutOfRange => "the number is outside its datatype: correct one of them",
+            Code::BadDate => "the text is no date: write a day as `format` spells it",
+            Code::BadDateTime => "the text is no date and time: write one as `format` spells it",
             Code::WrongLength => "the value has another length than `length` says: correct it",
             Code::TooShort => "the value is shorter than `minLength` says: lengthen it",
             Code::TooLong => "the value is longer than `maxLength` says: shorten it",
-            Code::BelowMinimum => {
-                "the value is below the least that its datatype allows: correct it"
-            }
-            Code::AboveMaximum => {
-                "the value is above the greatest that its datatype allows: correct it"
-            }
+            Code::BelowMinimum => "the value is below the least that is allowed: correct it",
+            Code::AboveMaximum => "the value is above the greatest that is allowed: correct it",
             Code::BadUrl => "the text of a link is no URL: correct the cell or the template",
-            Code::UrlTooLong => {
-                "the text of a link has more than 65,536 bytes: shorten the cell or the template"
-            }
-            Code::DuplicateKey => {
-                "an earlier row has the same primary key: give one of both another key"
-            }
-            Code::NoReferencedRow => {
-                "no row has the key that the foreign key refers to: correct the cells, or add the row"
-            }
-            Code::ManyReferencedRows => {
-                "several rows have the key that the foreign key refers to: leave one of them"
-            }
+            Code::UrlTooLong => "the text of a link is over 65,536 bytes: shorten it",
+            Code::DuplicateKey => "an earlier row has the same primary key: change one of them",
+            Code::NoReferencedRow => "no row has this key: correct the foreign key, or add the row",
+            Code::ManyReferencedRows => "several rows have this key: leave one of them",
         }
     }
 }

@@ -5,11 +5,14 @@ ghost use Rattle.csvw_text.specs.Collapse.{collapse};
 
 use std::alloc::{AllocError, Global};
 
-/// Where the pass stands: before the first word, in a word, or in a gap after one.
+/// Where the pass stands.
 #[derive(Clone, Copy)]
 pub enum Stand {
+    /// Before the first word.
     Front,
+    /// In a word.
     Word,
+    /// Behind a word, in white space.
     Gap,
 }
 
