@@ -5,7 +5,8 @@ use Rattle.std.proofs.Math.Seq.{take-suc}
 use Rattle.csvw_datatype.specs.Sound.{IsSound}
 use Rattle.csvw_columns_core.specs.declared.column.Column.{Column}
 use Rattle.csvw_annotate.specs.declared.row.AnnCell.{AnnCell}
-use Rattle.csvw_annotate.specs.Annotated.{IsCell, AreCells, AreSound}
+use Rattle.csvw_annotate.specs.Annotated.{IsCell, AreCells}
+use Rattle.csvw_columns_core.specs.Sound.{AreSound}
 use Rattle.csvw_annotate.specs.FieldAt.{field_at}
 
 -- the datatype of one column

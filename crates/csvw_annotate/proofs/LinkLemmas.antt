@@ -13,13 +13,14 @@ use Rattle.csvw_cell.specs.declared.cell.CellValue.{CellValue}
 use Rattle.csvw_links.specs.Links.{no_link, joined, link_by, links_of, has_value, has_own_template, has_template}
 use Rattle.csvw_columns_core.specs.declared.columns.Columns.{Columns}
 use Rattle.csvw_links.specs.CellVariables.{variables}
-use Rattle.csvw_links.specs.HasForm.{HasForm}
+use Rattle.csvw_cell.specs.HasForm.{HasForm}
 use Rattle.csvw_links.specs.declared.linking.Links.{Links}
 use Rattle.csvw_links.specs.declared.linking.Made.{Made}
 use Rattle.csvw_links.specs.declared.numbers.RowNumbers.{RowNumbers}
 use Rattle.csvw_annotate.specs.declared.row.AnnCell.{AnnCell}
 use Rattle.csvw_annotate.specs.LinksAt.{AreLinksAt, IsAboutAt, IsAboutBefore, variables_of}
-use Rattle.csvw_annotate.specs.Linked.{IsPlain, ArePlain, HaveForms, values_of, with_links, linked, linked_in, each_linked}
+use Rattle.csvw_annotate.specs.HasForms.{CellsHaveForms}
+use Rattle.csvw_annotate.specs.Linked.{IsPlain, ArePlain, values_of, with_links, linked, linked_in, each_linked}
 
 -- the cells with the links of so many
 abbrev pub front : (Column → AnnCell → AnnCell) → ℕ → List Column → List AnnCell → List AnnCell
@@ -122,13 +123,13 @@ module _ (columns : Columns) (row : RowNumbers) (cells now : List AnnCell) (f : 
       subst P (sym (add-one i)) (λ column at. h column at ∙ same_about column)
 
 -- values that have forms are told by the values alone
-pub forms_of : (cells others : List AnnCell) → values_of cells ≡ values_of others → HaveForms others → HaveForms cells
+pub forms_of : (cells others : List AnnCell) → values_of cells ≡ values_of others → CellsHaveForms others → CellsHaveForms cells
 forms_of cells others e h = of_values cells (subst (λ vs. AllByRecursion HasForm vs) (sym e) (to_values others h)) where
-  to_values : (xs : List AnnCell) → HaveForms xs → AllByRecursion HasForm (values_of xs)
+  to_values : (xs : List AnnCell) → CellsHaveForms xs → AllByRecursion HasForm (values_of xs)
   to_values [] k = tt
   to_values (x ∷ xs) k = (k.0, to_values xs k.1)
 
-  of_values : (xs : List AnnCell) → AllByRecursion HasForm (values_of xs) → HaveForms xs
+  of_values : (xs : List AnnCell) → AllByRecursion HasForm (values_of xs) → CellsHaveForms xs
   of_values [] k = tt
   of_values (x ∷ xs) k = (k.0, of_values xs k.1)
 
@@ -141,7 +142,7 @@ module _ (columns : Columns) (row : RowNumbers) (i : ℕ) (cells now : List AnnC
   pub same_places : (all : List Column) → all ≡ columns.columns → length cells ≡ length columns.columns → length now ≡ length all
   same_places all e places = ap length is ∙ front_length (linked_in columns row (values_of cells)) i columns.columns cells ∙ places ∙ ap length (sym e)
 
-  pub same_forms : HaveForms cells → HaveForms now
+  pub same_forms : CellsHaveForms cells → CellsHaveForms now
   same_forms h = forms_of now cells same_values h
 
 pub plain_at : (cells : List AnnCell) (i : ℕ) (cell : AnnCell) → i < length cells → cell ≡ get_or cells i cell → ArePlain cells → IsPlain cell

@@ -1,7 +1,6 @@
 -- Annotated rows (Model for Tabular Data, sections 4.4, 4.5 and 6.4.2).
 use Rattle.std.specs.Prelude.{◌≡◌, ℕ, List, [], ◌∷◌, length, None, Result, Ok, Err}
 use Rattle.csvw_records.specs.RowValue.{Given}
-use Rattle.csvw_datatype.specs.Sound.{IsSound}
 use Rattle.csvw_columns_core.specs.Columns.{field_count}
 use Rattle.csvw_columns_core.specs.declared.column.Column.{Column}
 use Rattle.csvw_columns_core.specs.declared.columns.Columns.{Columns}
@@ -53,8 +52,3 @@ Annotates columns raw (Ok row) = IsRow columns raw row
 Annotates columns raw (Err RaggedRow) = Fits columns raw → ⊥
 Annotates columns raw (Err Memory) = Unit {0}
 Annotates columns raw (Err other) = ⊥
-
--- the datatype of each column has passed its check
-abbrev pub AreSound : List Column → Type 0
-AreSound [] = Unit {0}
-AreSound (column ∷ columns) = IsSound column.properties.datatype × AreSound columns

@@ -9,7 +9,6 @@ use Rattle.csvw_cell.specs.declared.cell.CellValue.{CellValue}
 use Rattle.csvw_links.specs.declared.linking.Links.{Links}
 use Rattle.csvw_links.specs.declared.numbers.RowNumbers.{RowNumbers}
 use Rattle.csvw_links.specs.CellVariables.{variables}
-use Rattle.csvw_links.specs.HasForm.{HasForm}
 use Rattle.csvw_links.specs.Links.{links_of, codes_of}
 use Rattle.csvw_annotate.specs.declared.row.AnnCell.{AnnCell}
 
@@ -19,10 +18,6 @@ IsPlain cell = (cell.about ≡ None) × (cell.property ≡ None) × (cell.link �
 
 abbrev pub ArePlain : List AnnCell → Type 0
 ArePlain cells = AllByRecursion IsPlain cells
-
--- the values have lexical forms
-abbrev pub HaveForms : List AnnCell → Type 0
-HaveForms cells = AllByRecursion (λ cell. HasForm cell.value) cells
 
 abbrev pub values_of : List AnnCell → List CellValue
 values_of cells = map (λ cell. cell.value) cells

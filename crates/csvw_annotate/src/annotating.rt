@@ -2,7 +2,8 @@
 ghost use Rattle.std.specs.Prelude.{◌≡◌, ◌<◌, ◌≤◌, [], None, IfOk, OnOk, length};
 ghost use Rattle.csvw_rows.specs.RowValue.{row_of};
 ghost use Rattle.csvw_datatype.specs.Sound.{IsSound};
-ghost use Rattle.csvw_annotate.specs.Annotated.{IsCell, AreCells, Annotates, AreSound};
+ghost use Rattle.csvw_annotate.specs.Annotated.{IsCell, AreCells, Annotates};
+ghost use Rattle.csvw_columns_core.specs.Sound.{AreSound};
 ghost use Rattle.csvw_annotate.specs.FieldAt.{field_at};
 
 use crate::linking::link_row;

@@ -2,7 +2,8 @@
 ghost use Rattle.std.specs.Prelude.{◌≡◌, ◌<◌, IfOk, OnOk, length};
 ghost use Rattle.csvw_links.specs.Links.{joined, no_link};
 ghost use Rattle.csvw_annotate.specs.LinksAt.{AreLinksAt, IsAboutAt, IsAboutBefore};
-ghost use Rattle.csvw_annotate.specs.Linked.{ArePlain, HaveForms, linked_cells, with_links};
+ghost use Rattle.csvw_annotate.specs.HasForms.{CellsHaveForms};
+ghost use Rattle.csvw_annotate.specs.Linked.{ArePlain, linked_cells, with_links};
 
 use crate::row::AnnCell;
 use crate::scope::RowScope;
@@ -54,7 +55,7 @@ fn about_at(
     scope: &RowScope,
 ) -> Result<Made, AllocError>
     requires places { length scope.now.cells.now ≡ length columns.now.columns }
-    requires forms { HaveForms scope.now.cells.now }
+    requires forms { CellsHaveForms scope.now.cells.now }
     requires place { place < length columns.now.columns }
     requires before { IsAboutBefore columns.now scope.now.row scope.now.cells.now place before }
     ensures { IfOk result (λ l. IsAboutAt columns.now scope.now.row scope.now.cells.now place l) }
@@ -73,7 +74,7 @@ fn links_at(
     scope: &RowScope,
 ) -> Result<Links, AllocError>
     requires places { length scope.now.cells.now ≡ length columns.now.columns }
-    requires forms { HaveForms scope.now.cells.now }
+    requires forms { CellsHaveForms scope.now.cells.now }
     requires place { place < length columns.now.columns }
     requires about { IsAboutAt columns.now scope.now.row scope.now.cells.now place about }
     ensures { IfOk result (λ l. AreLinksAt columns.now scope.now.row scope.now.cells.now place l) }
@@ -95,7 +96,7 @@ fn link_cells(
 ) -> Result<(), AllocError>
     requires places { length cells.old ≡ length columns.now.columns }
     requires plain { ArePlain cells.old }
-    requires forms { HaveForms cells.old }
+    requires forms { CellsHaveForms cells.old }
     ensures { OnOk result (cells.new ≡ linked_cells columns.now row cells.old) }
 {
     let all = columns.columns().columns.as_slice();
@@ -129,7 +130,7 @@ pub(crate) fn link_row(
 ) -> Result<(), AllocError>
     requires places { length cells.old ≡ length columns.now.columns }
     requires plain { ArePlain cells.old }
-    requires forms { HaveForms cells.old }
+    requires forms { CellsHaveForms cells.old }
     ensures { OnOk result (cells.new ≡ linked_cells columns.now row cells.old) }
 {
     if columns.any_has_template() {

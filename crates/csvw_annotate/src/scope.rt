@@ -3,7 +3,8 @@ ghost use Rattle.std.specs.Prelude.{◌≡◌, IfOk, IfSome, decimal, map};
 ghost use Rattle.csvw_template.specs.Bound.{var_at};
 ghost use Rattle.csvw_template.specs.declared.vars.Var.TheVariants.{One};
 ghost use Rattle.csvw_links.specs.CellVariables.{variable};
-ghost use Rattle.csvw_annotate.specs.Linked.{HaveForms, values_of};
+ghost use Rattle.csvw_annotate.specs.HasForms.{CellsHaveForms};
+ghost use Rattle.csvw_annotate.specs.Linked.{values_of};
 
 use crate::row::AnnCell;
 use csvw_links::{RowNumbers, text_of, variable};
@@ -24,11 +25,12 @@ pub(crate) struct RowScope<'b> {
 
 impl<'b> Values for RowScope<'b> {
     ghost use Rattle.csvw_links.specs.Bindings.{row_values};
-    ghost use Rattle.csvw_annotate.specs.Linked.{HaveForms, values_of};
+    ghost use Rattle.csvw_annotate.specs.HasForms.{CellsHaveForms};
+    ghost use Rattle.csvw_annotate.specs.Linked.{values_of};
 
     ghost values = { λ s. row_values s.row (values_of s.cells.now) };
 
-    ghost can_look_up = { λ s. HaveForms s.cells.now };
+    ghost can_look_up = { λ s. CellsHaveForms s.cells.now };
 
     fn var(&self, place: usize) -> Result<Var, AllocError> {
         match place {
@@ -55,7 +57,7 @@ fn number(alloc: Global, number: u64) -> Result<Var, AllocError>
 /// What the cell of a column stands for, by the column's place.
 #[tactic(auto, using(crate::proofs::ValuesLemmas::value_at, crate::proofs::ValuesLemmas::no_value_at, crate::proofs::ValuesLemmas::form_at))]
 fn var_of(alloc: Global, cells: &[AnnCell], i: usize) -> Result<Var, AllocError>
-    requires { HaveForms cells.now }
+    requires { CellsHaveForms cells.now }
     ensures { IfOk result (λ v. v ≡ var_at (map variable (values_of cells.now)) i) }
 {
     if i < cells.len() {

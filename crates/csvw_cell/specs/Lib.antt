@@ -1,3 +1,4 @@
 pub mod CellOf
 pub mod Codes
 pub mod Plain
+pub mod HasForm

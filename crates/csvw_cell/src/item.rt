@@ -15,10 +15,14 @@ use std::alloc::{AllocError, Global};
 /// An item, and what is wrong with it.
 #[derive(Debug, Drop)]
 pub struct Judged {
+    /// The value, or the text as a string where it isn't read.
     pub item: Item,
+    /// The code where it isn't read, else those of the facets that it breaks.
     pub causes: Seq<Code>,
 }
 
+/// Whether the base of a datatype is string.
+#[inline(always)]
 pub fn is_string(datatype: &Datatype) -> bool
     ensures { result ≡ is_string datatype.now }
 {

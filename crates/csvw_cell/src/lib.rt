@@ -11,5 +11,6 @@ mod plain;
 
 pub use cell::{Cell, CellValue, Item};
 pub use copies::copied_codes;
+pub use item::is_string;
 pub use parsing::{parse, parse_into};
 pub use plain::parse_over;

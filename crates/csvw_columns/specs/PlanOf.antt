@@ -4,6 +4,7 @@ use Rattle.std.specs.Prelude.{◌≡◌, ℕ, ◌+◌, ◌&&◌, List, [], ◌�
 use Rattle.std.proofs.Common.{refl, ap, ◌∙◌}
 use Rattle.std.proofs.lemmas.Bool.{eq-eqb}
 use Rattle.csvw_dialect.specs.declared.dialect.Dialect.{Dialect}
+use Rattle.csvw_dialect.specs.Lawful.{default_dialect}
 use Rattle.csvw_dialect.specs.declared.dialect.Trim.TheVariants.{No}
 use Rattle.csvw_iri.specs.Link.{iri_of}
 use Rattle.csvw_description.specs.Unknown.{unknown}
@@ -22,23 +23,7 @@ use Rattle.csvw_columns.specs.declared.references.Targets.{Targets}
 use Rattle.csvw_columns.specs.declared.plan.Plan.{Plan}
 use Rattle.csvw_columns.specs.declared.plan.TablePlan.{TablePlan}
 
--- the dialect where none is given (Metadata Vocabulary for Tabular Data, section 5.9)
-abbrev pub default_dialect : Dialect
-default_dialect = record {
-  delimiter = 44;
-  quote_char = Some 34;
-  double_quote = true;
-  comment_prefix = Some (35 ∷ []);
-  header_row_count = 1;
-  skip_rows = 0;
-  skip_columns = 0;
-  skip_blank_rows = false;
-  skip_initial_space = false;
-  trim = No;
-  line_terminators = record { crlf = true; lf = true };
-}
-
--- the table's own dialect, else that of its group, else the default
+-- the table's own dialect, else that of its group, else the default (Metadata Vocabulary for Tabular Data, section 5.9)
 abbrev pub dialect_of : Option Dialect → Option Dialect → Dialect
 dialect_of table group = unwrap_or (first_of table group) default_dialect
 

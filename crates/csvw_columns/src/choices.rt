@@ -1,20 +1,11 @@
 //! What a table takes from its group where it has none of its own.
 ghost use Rattle.std.specs.Prelude.{◌≡◌, IfOk};
 ghost use Rattle.csvw_columns_core.specs.Inherited.{first_of};
-ghost use Rattle.csvw_columns.specs.PlanOf.{default_dialect, dialect_of};
+ghost use Rattle.csvw_columns.specs.PlanOf.{dialect_of};
 
 use csvw_description::Schema;
 use csvw_dialect::Dialect;
 use std::alloc::{AllocError, Global};
-
-/// The default dialect.
-#[tactic(auto, using(crate::proofs::DialectLemmas::is_default))]
-fn default_dialect(alloc: Global) -> Result<Dialect, AllocError>
-    ensures { IfOk result (λ d. d ≡ default_dialect) }
-{
-    let dialect = Dialect::new(alloc)?;
-    Ok(dialect)
-}
 
 /// The table's own dialect, else that of its group, else the default. `AllocError` where there is no memory.
 pub(crate) fn dialect_of(
@@ -29,7 +20,7 @@ pub(crate) fn dialect_of(
     }
     match group {
         Some(dialect) => dialect.clone(alloc),
-        None => default_dialect(alloc),
+        None => Dialect::new(alloc),
     }
 }
 

@@ -4,3 +4,4 @@ pub mod LiteralDatatype
 pub mod SchemaColumns
 pub mod HeaderFits
 pub mod HeaderColumns
+pub mod Sound

@@ -38,16 +38,17 @@ quote_breaks delimiter double None = false
 quote_breaks delimiter double (Some q) = ((q == 13) || (q == 10)) || (q == delimiter) || (not double && (q == 92))
 
 -- the defaults
-pub record IsDefault (d : Dialect) : Type 0 where
-  pub delimiter : d.delimiter ≡ 44
-  pub quote_char : d.quote_char ≡ Some 34
-  pub double_quote : d.double_quote ≡ true
-  pub comment_prefix : d.comment_prefix ≡ Some (35 ∷ [])
-  pub header_row_count : d.header_row_count ≡ 1
-  pub skip_rows : d.skip_rows ≡ 0
-  pub skip_columns : d.skip_columns ≡ 0
-  pub skip_blank_rows : d.skip_blank_rows ≡ false
-  pub skip_initial_space : d.skip_initial_space ≡ false
-  pub trim : d.trim ≡ No
-  pub crlf : d.line_terminators.crlf ≡ true
-  pub lf : d.line_terminators.lf ≡ true
+abbrev pub default_dialect : Dialect
+default_dialect = record {
+  delimiter = 44;
+  quote_char = Some 34;
+  double_quote = true;
+  comment_prefix = Some (35 ∷ []);
+  header_row_count = 1;
+  skip_rows = 0;
+  skip_columns = 0;
+  skip_blank_rows = false;
+  skip_initial_space = false;
+  trim = No;
+  line_terminators = record { crlf = true; lf = true };
+}

@@ -1,6 +1,6 @@
 //! How a text is cut into rows and fields.
 ghost use Rattle.std.specs.Prelude.{◌≡◌, ◌||◌, ◌==◌, IfOk, OnOk, OnErr, chars};
-ghost use Rattle.csvw_dialect.specs.Lawful.{IsLawful, IsDefault, has_break, prefix_of, prefix_breaks, delimiter_breaks, quote_breaks};
+ghost use Rattle.csvw_dialect.specs.Lawful.{IsLawful, default_dialect, has_break, prefix_of, prefix_breaks, delimiter_breaks, quote_breaks};
 
 use csvw_text::{Copied, Text, copied_option};
 use std::alloc::{AllocError, Global};
@@ -79,7 +79,7 @@ impl Dialect {
     /// header row, nothing skipped or stripped, rows that end with CR LF or LF. `AllocError` where there
     /// is no memory.
     pub fn new(alloc: Global) -> Result<Dialect, AllocError>
-        ensures { IfOk result IsDefault }
+        ensures { IfOk result (λ d. d ≡ default_dialect) }
     {
         Ok(Dialect {
             delimiter: ',',

@@ -5,5 +5,4 @@ pub mod Headers
 pub mod Lists
 pub mod Moving
 pub mod Own
-pub mod Sound
 pub mod Steps

@@ -14,7 +14,7 @@ use Rattle.csvw_columns.specs.HeaderMatch.{IsMatch}
 use Rattle.csvw_columns.specs.declared.plan.TablePlan.{TablePlan}
 use Rattle.csvw_columns_core.specs.declared.table_stop.TableStop.{TableStop}
 use Rattle.csvw_triples_core.specs.declared.mode.Mode.{Mode}
-use Rattle.csvw_triples.specs.HasForms.{HasForms}
+use Rattle.csvw_annotate.specs.HasForms.{HasForms}
 use Rattle.csvw_annotate.specs.Annotated.{IsRow, AreCells, numbers_of}
 use Rattle.csvw_annotate.specs.Linked.{each_linked, linked_in, values_of}
 use Rattle.csvw_annotate.specs.declared.row.AnnCell.{AnnCell}

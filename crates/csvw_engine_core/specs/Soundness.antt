@@ -1,8 +1,8 @@
 -- Columns whose datatypes have passed their checks.
 use Rattle.std.specs.Prelude.{Option, Some, None}
 use Rattle.csvw_columns_core.specs.declared.columns.Columns.{Columns}
-use Rattle.csvw_annotate.specs.Annotated.{AreSound}
-use Rattle.csvw_annotate.specs.SoundProp.{AreSound-prop}
+use Rattle.csvw_columns_core.specs.Sound.{AreSound}
+use Rattle.csvw_columns_core.specs.Sound.{AreSound-prop}
 use mathlib.Core.HLevel.{Unit-prop}
 
 -- the datatype of each column has passed its check, where the columns are known

@@ -64,7 +64,6 @@ impl Head {
 
     /// Makes the columns from the header rows so far, or without any from the number of fields of the first data row, which has
     /// this source number.
-    #[tactic(auto, using(crate::proofs::Sound::same_sound))]
     pub(crate) fn settle(
         &mut self,
         alloc: Global,

@@ -8,13 +8,13 @@ ghost use Rattle.csvw_engine_core.specs.Tables.{IsNewTable, Steps, RowFits, Sett
 use crate::head::Head;
 use crate::step::{Step, annotated};
 use crate::stop::Stop;
-use csvw_annotate::{Row, annotate_into};
+use csvw_annotate::{Row, annotate_into, annotated_rows_have_forms};
 use csvw_columns::{Column, TablePlan};
 use csvw_links::LinkRoom;
 use csvw_rows::Rows;
 use csvw_rows::laws::given_first;
 use csvw_text::{Code, Fault, Kind, Place, Seq};
-use csvw_triples::{Mode, annotated_rows_have_forms};
+use csvw_triples::Mode;
 use std::alloc::{AllocError, Global};
 
 /// How many rows of all kinds a table has at most.

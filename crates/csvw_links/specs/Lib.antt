@@ -1,7 +1,6 @@
 pub mod Bindings
 pub mod BoundLinks
 pub mod CellVariables
-pub mod HasForm
 pub mod Links
 pub mod LowLine
 pub mod MadeAt

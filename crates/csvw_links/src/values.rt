@@ -1,7 +1,7 @@
 //! What the values of cells are in templates.
 ghost use Rattle.std.specs.Prelude.{◌≡◌, IfOk, IfSome, map};
 ghost use Rattle.csvw_template.specs.declared.vars.Var.TheVariants.{One};
-ghost use Rattle.csvw_links.specs.HasForm.{HasForm, HaveForms};
+ghost use Rattle.csvw_cell.specs.HasForm.{HasForm, HaveForms};
 ghost use Rattle.csvw_links.specs.CellVariables.{item_text, variable};
 
 use csvw_cell::{CellValue, Item};

@@ -1,4 +1,5 @@
 pub mod EachLemmas
+pub mod ItemsLemmas
 pub mod NamesLemmas
 pub mod PointerLemmas
 pub mod ReadLemmas

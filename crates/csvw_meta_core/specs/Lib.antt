@@ -6,3 +6,4 @@ pub mod Pointer
 pub mod Read
 pub mod Reads
 pub mod Rules
+pub mod Several

@@ -11,6 +11,7 @@ mod others;
 mod part;
 mod pointer;
 mod reader;
+mod several;
 
 pub use fault::{MetaCode, MetaFault, Refusal};
 pub use joining::joined;
@@ -23,3 +24,4 @@ pub use others::{CommonProperty, Listed};
 pub use part::Part;
 pub use pointer::Pointer;
 pub use reader::{NotYet, OrNull, Reader, each};
+pub use several::Several;

@@ -1,3 +1,2 @@
-pub mod ItemsLemmas
 pub mod NamingLemmas
 pub mod ReadLemmas

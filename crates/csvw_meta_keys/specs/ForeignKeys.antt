@@ -1,17 +1,17 @@
 -- Foreign keys (Metadata Vocabulary for Tabular Data, section 5.5.2.1).
 use Rattle.std.specs.Prelude.{ℕ, List, [], ◌∷◌, ◌++◌, codes}
-use Rattle.serde_json.specs.Data.{Data, null, boolean, number, string, array, object}
+use Rattle.serde_json.specs.Data.{Data}
 use Rattle.url.specs.Parts.{Parts}
 use Rattle.csvw_text.specs.declared.fault.Fault.{Fault}
 use Rattle.csvw_text.specs.declared.fault.Place.{Place}
-use Rattle.csvw_meta_core.specs.Read.{Read, fine, wrong, ◌>>=◌, needed, on_object}
+use Rattle.csvw_meta_core.specs.Read.{Read, fine, ◌>>=◌, needed, on_object}
+use Rattle.csvw_meta_core.specs.Several.{several}
 use Rattle.csvw_meta_core.specs.declared.others.CommonProperty.TheVariants.{Refused}
 use Rattle.csvw_meta_core.specs.Others.{others}
 use Rattle.csvw_meta_keys.specs.declared.column_names.KeyName.{KeyName}
 use Rattle.csvw_meta_keys.specs.declared.foreign_key.ForeignKeyFound.{ForeignKeyFound}
 use Rattle.csvw_meta_keys.specs.declared.reference.ReferenceFound.{ReferenceFound}
 use Rattle.csvw_meta_keys.specs.ColumnNames.{column_names}
-use Rattle.csvw_meta_keys.specs.Limited.{limited_items}
 use Rattle.csvw_meta_keys.specs.References.{reference, no_reference, no_resource}
 
 abbrev pub foreign_key_names : List (List ℕ)
@@ -42,9 +42,4 @@ foreign_key base place at d = on_object at d (no_foreign_key at) (foreign_key_of
 
 -- an array of at most 64 foreign keys
 abbrev pub foreign_keys : Parts → Place → List ℕ → Data → Read (List ForeignKeyFound)
-foreign_keys base place at (array ds) = limited_items 0 64 (foreign_key base place) at ds
-foreign_keys base place at null = wrong at null []
-foreign_keys base place at (boolean b) = wrong at (boolean b) []
-foreign_keys base place at (number n) = wrong at (number n) []
-foreign_keys base place at (string s) = wrong at (string s) []
-foreign_keys base place at (object ms) = wrong at (object ms) []
+foreign_keys base place at d = several 0 64 (λ n. foreign_key base place) at d

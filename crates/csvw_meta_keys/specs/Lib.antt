@@ -2,6 +2,5 @@ pub mod ColumnNames
 pub mod Described
 pub mod ForeignKeys
 pub mod Keys
-pub mod Limited
 pub mod Naming
 pub mod References

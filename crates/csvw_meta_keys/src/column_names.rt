@@ -3,14 +3,13 @@ ghost use Rattle.std.specs.Prelude.{◌≡◌, IfOk};
 ghost use Rattle.csvw_meta_core.specs.Pointer.{text_of};
 ghost use Rattle.csvw_meta_keys.specs.ColumnNames.{named_at, key_name, column_names};
 
-use crate::limited::{Limits, limited_items};
-use csvw_meta_core::{Part, Reader, Refusal};
+use csvw_meta_core::{NumberedReader, Part, Reader, Refusal, Several};
 use csvw_text::{Seq, Text};
 use serde_json::Value;
 use std::alloc::AllocError;
 
-/// How many columns a key has.
-const COLUMNS: Limits = Limits { least: 1, most: 16 };
+/// How many columns a key has at most.
+const MAX_COLUMNS: u32 = 16;
 
 /// The name of a column in a key, and where it stands.
 #[derive(Debug, Drop)]
@@ -34,12 +33,12 @@ fn name_here(part: &Part, name: &str) -> Result<KeyName, AllocError>
 #[derive(Drop)]
 struct KeyNameReader;
 
-impl Reader for KeyNameReader {
+impl NumberedReader for KeyNameReader {
     type Output = KeyName;
 
-    ghost reads = { λ _. key_name };
+    ghost reads = { λ _ n. key_name };
 
-    fn read(&self, part: &Part) -> Result<KeyName, Refusal> {
+    fn read(&self, _number: u32, part: &Part) -> Result<KeyName, Refusal> {
         match part.value.as_str() {
             Some(name) => Ok(name_here(part, name)?),
             None => Err(part.wrong()),
@@ -63,8 +62,14 @@ impl Reader for ColumnNames {
                 one.push(name_here(part, name.as_str())?)?;
                 Ok(one)
             }
-            Value::Array(items) => limited_items(part, &KeyNameReader, COLUMNS, items.as_slice()),
-            _ => Err(part.wrong()),
+            _ => {
+                let names = Several {
+                    reader: KeyNameReader,
+                    least: 1,
+                    most: MAX_COLUMNS,
+                };
+                names.read(part)
+            }
         }
     }
 }

@@ -10,7 +10,7 @@ ghost use Rattle.csvw_meta_keys.specs.ForeignKeys.{foreign_key_names, foreign_ke
 use crate::column_names::{ColumnNames, KeyName};
 use crate::reference::{ReferenceFound, ReferenceReader, Resource};
 use csvw_iri::Base;
-use csvw_meta_core::{CommonProperty, Listed, Part, Reader, Refusal};
+use csvw_meta_core::{CommonProperty, Listed, NumberedReader, Part, Reader, Refusal};
 use csvw_text::{Fault, Place, Seq, Text};
 use serde_json::Value;
 use std::alloc::AllocError;
@@ -85,14 +85,14 @@ pub(crate) struct ForeignKeyReader<'a> {
     pub(crate) place: Place,
 }
 
-impl<'a> Reader for ForeignKeyReader<'a> {
+impl<'a> NumberedReader for ForeignKeyReader<'a> {
     ghost use Rattle.csvw_meta_keys.specs.ForeignKeys.{foreign_key};
 
     type Output = ForeignKeyFound;
 
-    ghost reads = { λ r. foreign_key r.base.now r.place };
+    ghost reads = { λ r n. foreign_key r.base.now r.place };
 
-    fn read(&self, part: &Part) -> Result<ForeignKeyFound, Refusal> {
+    fn read(&self, _number: u32, part: &Part) -> Result<ForeignKeyFound, Refusal> {
         match part.value {
             Value::Object(_) => foreign_key_of(self.base, self.place, part),
             _ => Err(part.wrong()),

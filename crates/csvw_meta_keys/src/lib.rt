@@ -6,7 +6,6 @@ mod column_names;
 mod described;
 mod foreign_key;
 mod keys;
-mod limited;
 mod naming;
 mod reference;
 

@@ -1,7 +1,6 @@
 pub mod Emitting
 pub mod Runs
 pub mod Graphs
-pub mod FormsLemmas
 pub mod Fragments
 pub mod Walking
 pub mod Standards

@@ -4,7 +4,8 @@ ghost use Rattle.csvw_datatype.specs.Lexical.{IsWritable};
 ghost use Rattle.csvw_triples_core.specs.Taking.{FrontOf, Ends};
 ghost use Rattle.csvw_triples_core.specs.declared.term.Node.TheVariants as node;
 ghost use Rattle.csvw_triples_core.specs.declared.term.Term.TheVariants as term;
-ghost use Rattle.csvw_triples.specs.HasForms.{HaveForms, ValueHasForms, CellsHaveForms, HasForms};
+ghost use Rattle.csvw_cell.specs.HasForm.{HaveForms, HasForm};
+ghost use Rattle.csvw_annotate.specs.HasForms.{CellsHaveForms, HasForms};
 ghost use Rattle.csvw_triples.specs.Literals.{literal_of};
 ghost use Rattle.csvw_triples.specs.Puts.{Puts};
 ghost use Rattle.csvw_triples.specs.Stems.{object_triple, literal_triple, entries_in, entry_triples};
@@ -328,7 +329,7 @@ impl Emitter {
         value: &CellValue,
         sink: &mut S,
     ) -> Result<(), SinkFault>
-        requires { ValueHasForms value.now }
+        requires { HasForm value.now }
         ensures { Puts S.gains S.is_open S.failed sink.old
             (value_triples stem.s stem.p (entries_in place) column.now value.now) sink.new result }
     {
@@ -359,7 +360,7 @@ impl Emitter {
         cell: &AnnCell,
         sink: &mut S,
     ) -> Result<(), SinkFault>
-        requires { ValueHasForms cell.now.value }
+        requires { HasForm cell.now.value }
         ensures { Puts S.gains S.is_open S.failed sink.old
             (object_triples stem.s stem.p (entries_in place) column.now cell.now.value cell.now.link) sink.new result }
     {
@@ -377,7 +378,7 @@ impl Emitter {
         cell: &AnnCell,
         sink: &mut S,
     ) -> Result<(), SinkFault>
-        requires { ValueHasForms cell.now.value }
+        requires { HasForm cell.now.value }
         ensures { Puts S.gains S.is_open S.failed sink.old
             (object_triples (subject_of place.table place.row cell.now) (predicate_of column.now cell.now)
             (entries_of place.table place.row column.now) column.now cell.now.value cell.now.link) sink.new result }
@@ -417,7 +418,7 @@ impl Emitter {
         cell: &AnnCell,
         sink: &mut S,
     ) -> Result<(), SinkFault>
-        requires { ValueHasForms cell.now.value }
+        requires { HasForm cell.now.value }
         ensures { Puts S.gains S.is_open S.failed sink.old (cell_triples place.table place.row column.now cell.now) sink.new result }
     {
         if column.suppressed {

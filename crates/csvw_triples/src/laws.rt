@@ -1,16 +1,11 @@
 //! Laws about the triples that rows give.
 ghost use Rattle.std.specs.Prelude.{ℕ, List, ◌↔◌, Contains, flat_map, Some};
-ghost use Rattle.csvw_records.specs.RowValue.{Given};
 ghost use Rattle.csvw_columns_core.specs.declared.columns.Columns.{Columns as TheColumns};
-ghost use Rattle.csvw_annotate.specs.Annotated.{IsRow};
 ghost use Rattle.csvw_annotate.specs.declared.row.Row.{Row as TheRow};
 ghost use Rattle.csvw_triples_core.specs.declared.mode.Mode.{Mode as TheMode};
 ghost use Rattle.csvw_triples_core.specs.declared.term.Triple.{Triple as TheTriple};
-ghost use Rattle.csvw_triples.specs.HasForms.{HasForms};
 ghost use Rattle.csvw_triples.specs.ModeGraph.{RowGraph, TableGraph};
 ghost use Rattle.csvw_triples.specs.ModeTriples.{row_triples};
-
-use csvw_datatype::values_of_texts;
 
 /// The triples that a row gives are its graph, in each mode (csv2rdf, section 4.2).
 pub fn row_triples_are_row_graph()
@@ -23,10 +18,3 @@ pub fn rows_triples_are_table_graph()
     ensures { (m : TheMode) (t : ℕ) (columns : TheColumns) (rows : List TheRow) (x : TheTriple)
         → Contains (flat_map (row_triples m t columns) rows) x ↔ TableGraph m t (Some columns) rows x }
 {}
-
-/// The values of an annotated row have lexical forms.
-pub fn annotated_rows_have_forms()
-    ensures { (columns : TheColumns) (raw : Given) (row : TheRow) → IsRow columns raw row → HasForms row }
-{
-    values_of_texts();
-}

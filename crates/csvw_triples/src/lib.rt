@@ -14,8 +14,6 @@ pub use csvw_triples_core::{
     Lit, Mode, Node, Origin, SinkFault, Term, Triple, TripleSink, VecSink,
 };
 pub use emitter::{Emitter, emit_row};
-pub use laws::{
-    annotated_rows_have_forms, row_triples_are_row_graph, rows_triples_are_table_graph,
-};
+pub use laws::{row_triples_are_row_graph, rows_triples_are_table_graph};
 pub use putting::put_all;
 pub use standard::table_node;

@@ -7,28 +7,13 @@ ghost use Rattle.csvw_triples_core.specs.Literal.{tagged_lit, typed_lit};
 ghost use Rattle.csvw_triples.specs.Literals.{has_language, literal_of, read_literal};
 
 use crate::rdf::RdfNames;
-use csvw_cell::Item;
+use csvw_cell::{Item, is_string};
 use csvw_columns_core::{Column, Properties};
-use csvw_datatype::{Datatype, Simple, Value};
+use csvw_datatype::Value;
 use csvw_iri::Iri;
 use csvw_text::{LanguageTag, Text};
 use csvw_triples_core::{Lit, Term};
 use std::alloc::{AllocError, Global};
-
-fn is_string(datatype: &Datatype) -> bool
-    ensures { result ≡ is_string datatype.now }
-{
-    match datatype.simple {
-        Simple::Text => true,
-        Simple::Truth
-        | Simple::Whole
-        | Simple::Decimal
-        | Simple::Day
-        | Simple::Uri
-        | Simple::Derived(_)
-        | Simple::Moment => false,
-    }
-}
 
 /// Whether the tag is that of an undetermined language.
 fn is_undetermined(tag: &LanguageTag) -> bool

@@ -5,7 +5,8 @@ ghost use Rattle.csvw_triples_core.specs.Literal.{typed_lit};
 ghost use Rattle.csvw_triples_core.specs.Taking.{FrontOf, Ends};
 ghost use Rattle.csvw_iri.specs.Vocabulary.{xsd_integer};
 ghost use Rattle.csvw_triples.specs.CsvwVocabulary.{row_of_table};
-ghost use Rattle.csvw_triples.specs.HasForms.{CellsHaveForms, HasForms, ValueHasForms};
+ghost use Rattle.csvw_cell.specs.HasForm.{HasForm};
+ghost use Rattle.csvw_annotate.specs.HasForms.{CellsHaveForms, HasForms};
 ghost use Rattle.csvw_triples.specs.Puts.{Puts};
 ghost use Rattle.csvw_triples.specs.RowTriples.{subject_of};
 ghost use Rattle.csvw_triples.specs.StandardTriples.{table_node, row_node, object_of, row_fragment, row_url};
@@ -241,7 +242,7 @@ impl Emitter {
         cell: &AnnCell,
         sink: &mut S,
     ) -> Result<(), SinkFault>
-        requires { ValueHasForms cell.now.value }
+        requires { HasForm cell.now.value }
         ensures { Puts S.gains S.is_open S.failed sink.old
             (described_triples place.table place.row column.now (option_copied last.entry) cell.now) sink.new result }
     {

@@ -7,8 +7,8 @@ use Rattle.csvw_meta_core.specs.declared.fault.Refusal.{Refusal}
 use Rattle.csvw_meta_core.specs.Read.{Read}
 use Rattle.csvw_meta_core.specs.Reads.{Reads}
 use Rattle.csvw_meta_core.specs.Rules.{also}
-use Rattle.csvw_meta_keys.specs.Limited.{items_len}
-use Rattle.csvw_meta_keys.proofs.ReadLemmas.{fails_first, fails_last}
+use Rattle.csvw_meta_core.specs.Several.{items_len}
+use Rattle.csvw_meta_core.proofs.ReadLemmas.{fails_first, fails_last}
 
 pub items_len-items_view : (vs : List Value) → items_len (items_view vs) ≡ length vs
 items_len-items_view [] = refl
