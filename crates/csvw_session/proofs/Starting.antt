@@ -91,5 +91,5 @@ module _ {S : Type 0} (gains : S → List Triple → S → Type 0) (is_open : S 
   pub refused_by : (sink now : S) (f : SinkFault) → FrontOf gains sink (opening mode plan) now → Ends is_open failed sink now (Err f)
       → Refuses gains is_open failed plan mode sink now (of_fault f)
   refused_by sink now fault.Memory front ends = (front, ends)
-  refused_by sink now fault.Device front ends = (front, λ begun room. ends room)
-  refused_by sink now fault.Closed front ends = (front, λ begun room. absurd (never_open sink ends begun))
+  refused_by sink now fault.Device front ends = (front, ends.0, λ begun room. ends.1 room)
+  refused_by sink now fault.Closed front ends = (front, ends.1.0 ∙ ends.0, λ begun room. absurd (never_open sink ends.0 begun))

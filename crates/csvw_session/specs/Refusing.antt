@@ -1,5 +1,5 @@
 -- Why a session does not start.
-use Rattle.std.specs.Prelude.{◌≡◌, ◌<◌, ◌+◌, ◌-◌, ◌^◌, ℕ, Bool, true, List}
+use Rattle.std.specs.Prelude.{◌≡◌, ◌<◌, ◌+◌, ◌-◌, ◌^◌, ℕ, Bool, true, false, List}
 use Rattle.csvw_columns.specs.declared.plan.Plan.{Plan}
 use Rattle.csvw_triples_core.specs.Taking.{FrontOf, IsAsReady}
 use Rattle.csvw_triples_core.specs.declared.mode.Mode.{Mode}
@@ -11,6 +11,6 @@ use Rattle.csvw_engine_core.specs.declared.stop.Stop.TheVariants as stop
 -- Why a session does not start, and what its sink took by then: a front of what is told of the group.
 abbrev pub Refuses : {S : Type 0} → (S → List Triple → S → Type 0) → (S → Bool) → (S → ℕ) → Plan → Mode → S → S → Stop → Type 0
 Refuses gains is_open failed plan mode sink now stop.Memory = FrontOf gains sink (opening mode plan) now × IsAsReady is_open failed sink now
-Refuses gains is_open failed plan mode sink now stop.Write = FrontOf gains sink (opening mode plan) now
+Refuses gains is_open failed plan mode sink now stop.Write = FrontOf gains sink (opening mode plan) now × (is_open now ≡ false)
     × (is_open sink ≡ true → failed sink < 2 ^ 64 - 1 → failed now ≡ failed sink + 1)
 Refuses gains is_open failed plan mode sink now other = ⊥

@@ -13,8 +13,8 @@ module _ {S : Type 0} (gains : S → List Triple → S → Type 0) (is_open : S 
       → Ends is_open failed mid new r → Ends is_open failed old new r
   ends_later old mid new (Ok u) s h = (h.0 ∙ s.0, h.1 ∙ s.1)
   ends_later old mid new (Err Memory) s h = (h.0 ∙ s.0, h.1 ∙ s.1)
-  ends_later old mid new (Err Device) s h = λ q. h (rw s.1 q) ∙ ap (λ n. n + 1) s.1
-  ends_later old mid new (Err Closed) s h = sym s.0 ∙ h
+  ends_later old mid new (Err Device) s h = (h.0, λ room. h.1 (rw s.1 room) ∙ ap (λ n. n + 1) s.1)
+  ends_later old mid new (Err Closed) s h = (sym s.0 ∙ h.0, (h.1.0 ∙ s.0, h.1.1 ∙ s.1))
 
   -- a front of the first triples is one of them and more
   pub puts_front : (old new : S) (xs rest all : List Triple) (e : SinkFault) → all ≡ xs ++ rest

@@ -15,10 +15,10 @@ pub record FrontOf {S : Type 0} (gains : S → List Triple → S → Type 0) (ol
 abbrev pub IsAsReady : {S : Type 0} → (S → Bool) → (S → ℕ) → S → S → Type 0
 IsAsReady is_open failed old new = (is_open new ≡ is_open old) × (failed new ≡ failed old)
 
--- A sink stays ready in a call that answers Ok or Memory; Device comes only with one more failure, where the count has room,
--- Closed only from a sink that wasn't open.
+-- A sink stays ready in a call that answers Ok or Memory; after Device it isn't open, and one more failure is counted, where
+-- the count has room; Closed comes only from a sink that wasn't open, and leaves it so.
 abbrev pub Ends : {S : Type 0} → (S → Bool) → (S → ℕ) → S → S → Result Unit SinkFault → Type 0
 Ends is_open failed old new (Ok u) = IsAsReady is_open failed old new
 Ends is_open failed old new (Err Memory) = IsAsReady is_open failed old new
-Ends is_open failed old new (Err Device) = failed old < 2 ^ 64 - 1 → failed new ≡ failed old + 1
-Ends is_open failed old new (Err Closed) = is_open old ≡ false
+Ends is_open failed old new (Err Device) = (is_open new ≡ false) × (failed old < 2 ^ 64 - 1 → failed new ≡ failed old + 1)
+Ends is_open failed old new (Err Closed) = (is_open old ≡ false) × IsAsReady is_open failed old new
