@@ -1,8 +1,8 @@
 pub mod ColumnLemmas
 pub mod DistinctLemmas
-pub mod DialectLemmas
 pub mod PlanLemmas
 pub mod ReadyLemmas
 pub mod SoundLemmas
 pub mod KeyLemmas
 pub mod DescribedLemmas
+pub mod FreeLemmas

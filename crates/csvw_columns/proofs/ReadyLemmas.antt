@@ -6,7 +6,7 @@ use Rattle.std.proofs.lemmas.List.Elements.{All-nil, All-cons, All-head, All-tai
 use Rattle.csvw_dialect.specs.declared.dialect.Dialect.{Dialect}
 use Rattle.std.specs.Str.{chars}
 use Rattle.std.proofs.lemmas.Str.{chars-IsAscii}
-use Rattle.csvw_dialect.specs.Lawful.{IsLawful, has_break}
+use Rattle.csvw_dialect.specs.Lawful.{IsLawful, default_dialect, has_break}
 use Rattle.csvw_datatype.specs.declared.datatype.Datatype.{Datatype}
 use Rattle.csvw_datatype.specs.Sound.{IsSound}
 use Rattle.csvw_iri.specs.Link.{iri_of}
@@ -21,9 +21,10 @@ use Rattle.csvw_description.specs.Name.{name_of, numbered_names}
 use Rattle.csvw_columns.specs.Distinct.{AllDistinct}
 use Rattle.csvw_description.specs.Plannable.{table_limit, IsFitDialect, HasSound, IsFitSchema, IsFitTable, column_limit}
 use Rattle.csvw_columns.specs.Fit.{IsFitGroup}
-use Rattle.csvw_columns.specs.PlanOf.{default_dialect, dialect_of, no_schema, schema_of, table_plan, table_plans, targets_of, plan_of}
+use Rattle.csvw_columns.specs.PlanOf.{dialect_of, no_schema, schema_of, table_plan, table_plans, targets_of, plan_of}
 use Rattle.csvw_columns.specs.declared.references.Targets.{Targets}
-use Rattle.csvw_columns.specs.Ready.{AreSound, IsReady}
+use Rattle.csvw_columns.specs.Ready.{AreReady, IsReady}
+use Rattle.csvw_columns_core.specs.Sound.{AreSound}
 use Rattle.csvw_columns.specs.Known.{IsKnown}
 use Rattle.csvw_columns.specs.declared.planning.Known.{Known}
 use Rattle.csvw_columns.proofs.ColumnLemmas.{length-declared}
@@ -113,13 +114,11 @@ module _ (targets : Targets) (d : Description) (plannable : IsFitGroup d) where
         header = sound_of None s.inherited.datatype t.inherited.datatype d.inherited.datatype tt schema.inherited fit.inherited plannable.inherited;
       }
 
-  ready_tables : (n : ℕ) (ts : List TableDescription) → All IsFitTable ts → All IsReady (table_plans targets d n ts)
-  ready_tables n [] fit = All-nil IsReady
-  ready_tables n (t ∷ ts) fit =
-      let first : IsReady (table_plan targets d n t) = ready_table n t (All-head IsFitTable t ts fit) in
-      All-cons IsReady (table_plan targets d n t) (table_plans targets d (n + 1) ts) first (ready_tables (n + 1) ts (All-tail IsFitTable t ts fit))
+  ready_tables : (n : ℕ) (ts : List TableDescription) → All IsFitTable ts → AreReady (table_plans targets d n ts)
+  ready_tables n [] fit = tt
+  ready_tables n (t ∷ ts) fit = (ready_table n t (All-head IsFitTable t ts fit), ready_tables (n + 1) ts (All-tail IsFitTable t ts fit))
 
-pub ready : (d : Description) → IsFitGroup d → All IsReady (plan_of d).tables
+pub ready : (d : Description) → IsFitGroup d → AreReady (plan_of d).tables
 ready d plannable = ready_tables (targets_of d) d plannable 1 d.tables plannable.tables
 
 -- what is known of a group that is fit keeps the limits

@@ -11,7 +11,8 @@ use Rattle.csvw_columns_core.specs.SchemaColumns.{declared_from}
 use Rattle.csvw_columns_core.specs.declared.column.Column.{Column}
 use Rattle.csvw_columns_core.specs.declared.header.HeaderRow.{HeaderRow}
 use Rattle.csvw_columns.specs.HeaderMatch.{header_columns, declared_or, columns_of}
-use Rattle.csvw_columns.specs.Ready.{AreSound, IsReady}
+use Rattle.csvw_columns.specs.Ready.{IsReady}
+use Rattle.csvw_columns_core.specs.Sound.{AreSound}
 use Rattle.csvw_columns.specs.declared.plan.TablePlan.{TablePlan}
 
 -- no column has a datatype of its own

@@ -13,6 +13,6 @@ pub record IsFitGroup (description : Description) : Type 0 where
   pub limit : length description.tables ≤ table_limit
   pub tables : All IsFitTable description.tables
 
--- nothing is found exactly where the fact holds; of want of memory nothing is said
-abbrev pub Finds : Type 0 → Result (Option MetaCode) AllocError → Type 0
-Finds P result = IfOk result (λ found. MatchOption found P (λ code. P → ⊥))
+-- nothing is found where all is fit, else the code of what doesn't hold; of want of memory nothing is said
+abbrev pub Finds : Type 0 → (MetaCode → Type 0) → Result (Option MetaCode) AllocError → Type 0
+Finds IsFit HoldsFor result = IfOk result (λ found. MatchOption found IsFit (λ code. HoldsFor code → ⊥))

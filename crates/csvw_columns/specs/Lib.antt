@@ -1,5 +1,6 @@
 pub mod Distinct
 pub mod Fit
+pub mod FreeOf
 pub mod HeaderMatch
 pub mod Keys
 pub mod Known

@@ -4,6 +4,7 @@ use Rattle.csvw_description.specs.declared.description.Description.{Description}
 use Rattle.csvw_meta_core.specs.declared.fault.MetaFault.{MetaFault}
 use Rattle.csvw_meta_core.specs.declared.fault.MetaCode.TheVariants.{Memory}
 use Rattle.csvw_columns.specs.Fit.{IsFitGroup}
+use Rattle.csvw_columns.specs.FreeOf.{IsFreeOf}
 use Rattle.csvw_columns.specs.Keys.{AreResolved}
 use Rattle.csvw_columns.specs.PlanOf.{plan_of}
 use Rattle.csvw_columns.specs.declared.plan.Plan.{Plan}
@@ -13,7 +14,8 @@ pub record CanBePlanned (d : Description) : Type 0 where
   pub fit : IsFitGroup d
   pub keys : All AreResolved (plan_of d).tables
 
--- the answer is the plan, or a fault of a description that can't be planned; of want of memory nothing is said
+-- the answer is the plan, or a fault of the whole description, whose code tells what doesn't hold of it; of want of memory
+-- nothing is said
 abbrev pub Builds : Description → Result Plan MetaFault → Type 0
 Builds d (Ok plan) = (plan ≡ plan_of d) × CanBePlanned d
-Builds d (Err fault) = (fault.pointer ≡ []) × (fault.code ≢ Memory → CanBePlanned d → ⊥)
+Builds d (Err fault) = (fault.pointer ≡ []) × (fault.code ≢ Memory → IsFreeOf fault.code d → ⊥)

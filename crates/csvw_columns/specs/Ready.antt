@@ -2,16 +2,11 @@
 use Rattle.std.specs.Prelude.{◌≤◌, List, [], ◌∷◌, length, None}
 use Rattle.csvw_dialect.specs.Lawful.{IsLawful}
 use Rattle.csvw_datatype.specs.Sound.{IsSound}
+use Rattle.csvw_columns_core.specs.Sound.{AreSound}
 use Rattle.csvw_columns_core.specs.Inherited.{inherited, string_type}
 use Rattle.csvw_description.specs.Plannable.{column_limit}
-use Rattle.csvw_columns_core.specs.declared.column.Column.{Column}
 use Rattle.csvw_columns.specs.Distinct.{AreNamedApart}
 use Rattle.csvw_columns.specs.declared.plan.TablePlan.{TablePlan}
-
--- the datatype of each column has passed its check
-abbrev pub AreSound : List Column → Type 0
-AreSound [] = Unit {0}
-AreSound (column ∷ columns) = IsSound column.properties.datatype × AreSound columns
 
 -- the dialect and the datatypes have passed their checks, those of columns from a header too, and the limits are kept
 pub record IsReady (plan : TablePlan) : Type 0 where
@@ -21,3 +16,8 @@ pub record IsReady (plan : TablePlan) : Type 0 where
   pub names : AreNamedApart plan.declared
   pub declared : AreSound plan.declared
   pub header : IsSound (inherited string_type None plan.schema.datatype plan.table.datatype plan.group.datatype)
+
+-- each table can be read
+abbrev pub AreReady : List TablePlan → Type 0
+AreReady [] = Unit {0}
+AreReady (plan ∷ plans) = IsReady plan × AreReady plans

@@ -1,8 +1,9 @@
 //! From a description to its plan.
-ghost use Rattle.std.specs.Prelude.{◌≡◌, ◌≢◌, [], IfOk, MatchOption, All};
+ghost use Rattle.std.specs.Prelude.{◌≡◌, ◌≢◌, [], IfOk, MatchOption};
 ghost use Rattle.csvw_columns.specs.Fit.{IsFitGroup};
+ghost use Rattle.csvw_columns.specs.FreeOf.{GroupIsFreeOf};
 ghost use Rattle.csvw_columns.specs.Plannable.{Builds};
-ghost use Rattle.csvw_columns.specs.Ready.{IsReady};
+ghost use Rattle.csvw_columns.specs.Ready.{AreReady};
 ghost use Rattle.csvw_meta_core.specs.declared.fault.MetaCode.TheVariants.{Memory};
 
 use crate::checks::fault_of;
@@ -26,7 +27,7 @@ fn fault(alloc: Global, code: MetaCode) -> MetaFault
 
 /// Why a description's tables can't be read; `Memory` where there is none.
 fn refused(alloc: Global, description: &Description) -> Option<MetaCode>
-    ensures { MatchOption result (IsFitGroup description.now) (λ code. code ≢ Memory → IsFitGroup description.now → ⊥) }
+    ensures { MatchOption result (IsFitGroup description.now) (λ code. code ≢ Memory → GroupIsFreeOf code description.now → ⊥) }
 {
     match fault_of(alloc, description) {
         Ok(found) => found,
@@ -37,12 +38,14 @@ fn refused(alloc: Global, description: &Description) -> Option<MetaCode>
 impl Plan {
     /// The plan of a description: each table with its own dialect and schema or those of its group, its columns with what
     /// they inherit, and its keys by numbers (Metadata Vocabulary for Tabular Data, sections 5.3 to 5.7). Where there is none,
-    /// a fault of the whole description: `TooMany`, `BadDialect`, `BadDatatype`, `DuplicateName` or `BadReference`; `Memory`
-    /// where memory is wanting.
+    /// a fault of the whole description: `TooMany` where it has over 64 tables, or one of its schemas over 1,024 columns, or
+    /// one of its dialects skips over 1,024; `BadDialect` where texts can't be read by one of its dialects; `BadDatatype`
+    /// where a datatype doesn't fit together; `DuplicateName` where two columns of a schema have one name; `BadReference`
+    /// where a key names what isn't there. `Memory` where memory is wanting.
     #[tactic(auto, using(crate::proofs::ReadyLemmas::ready))]
     pub fn build(alloc: Global, description: Description) -> Result<Plan, MetaFault>
         ensures plan { Builds description result }
-        ensures ready { IfOk result (λ plan. All IsReady plan.tables) }
+        ensures ready { IfOk result (λ plan. AreReady plan.tables) }
     {
         if let Some(code) = refused(alloc, &description) {
             drop(description);

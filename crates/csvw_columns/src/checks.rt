@@ -1,8 +1,9 @@
 //! Whether the tables of a description can be read, keys aside.
-ghost use Rattle.std.specs.Prelude.{◌≡◌, ◌↔◌, IfOk, IfSome, IsTrue, All};
+ghost use Rattle.std.specs.Prelude.{◌≡◌, ◌↔◌, IfOk, IfSome, IsTrue, MatchOption, All};
 ghost use Rattle.csvw_description.specs.Plannable.{table_limit, IsFitDialect, HasSound, IsFitSchema, IsFitTable};
 ghost use Rattle.csvw_description.specs.Name.{numbered_names};
 ghost use Rattle.csvw_columns.specs.Fit.{IsFitGroup, Finds};
+ghost use Rattle.csvw_columns.specs.FreeOf.{DialectIsFreeOf, SchemaIsFreeOf, TableIsFreeOf, GroupIsFreeOf};
 
 use crate::names::are_distinct;
 use csvw_columns_core::{COLUMN_LIMIT, SKIP_LIMIT};
@@ -14,21 +15,24 @@ use std::alloc::{AllocError, Global};
 /// How many tables a group has at most.
 const TABLE_LIMIT: usize = 64;
 
-fn is_fit_dialect(dialect: &Dialect) -> bool
-    ensures { IsTrue result ↔ IsFitDialect dialect.now }
+fn dialect_fault(dialect: &Dialect) -> Option<MetaCode>
+    ensures { MatchOption result (IsFitDialect dialect.now) (λ code. DialectIsFreeOf code dialect.now → ⊥) }
 {
+    if dialect.skip_columns > SKIP_LIMIT {
+        return Some(MetaCode::TooMany);
+    }
     match dialect.check() {
-        Ok(()) => dialect.skip_columns <= SKIP_LIMIT,
-        Err(_) => false,
+        Ok(()) => None,
+        Err(_) => Some(MetaCode::BadDialect),
     }
 }
 
-fn has_fit_dialect(dialect: &Option<Dialect>) -> bool
-    ensures { IsTrue result ↔ IfSome dialect.now IsFitDialect }
+fn fault_of_dialect(dialect: &Option<Dialect>) -> Option<MetaCode>
+    ensures { MatchOption result (IfSome dialect.now IsFitDialect) (λ code. IfSome dialect.now (DialectIsFreeOf code) → ⊥) }
 {
     match dialect {
-        Some(dialect) => is_fit_dialect(dialect),
-        None => true,
+        Some(dialect) => dialect_fault(dialect),
+        None => None,
     }
 }
 
@@ -63,7 +67,7 @@ pub(crate) fn numbered_names(
 }
 
 fn schema_fault(alloc: Global, schema: &Schema) -> Result<Option<MetaCode>, AllocError>
-    ensures { Finds (IsFitSchema schema.now) result }
+    ensures { Finds (IsFitSchema schema.now) (λ code. SchemaIsFreeOf code schema.now) result }
 {
     if schema.columns.len() > COLUMN_LIMIT {
         return Ok(Some(MetaCode::TooMany));
@@ -79,7 +83,7 @@ fn schema_fault(alloc: Global, schema: &Schema) -> Result<Option<MetaCode>, Allo
 }
 
 fn fault_in(alloc: Global, schema: &Option<Schema>) -> Result<Option<MetaCode>, AllocError>
-    ensures { Finds (IfSome schema.now IsFitSchema) result }
+    ensures { Finds (IfSome schema.now IsFitSchema) (λ code. IfSome schema.now (SchemaIsFreeOf code)) result }
 {
     match schema {
         Some(schema) => schema_fault(alloc, schema),
@@ -88,10 +92,10 @@ fn fault_in(alloc: Global, schema: &Option<Schema>) -> Result<Option<MetaCode>, 
 }
 
 fn table_fault(alloc: Global, table: &TableDescription) -> Result<Option<MetaCode>, AllocError>
-    ensures { Finds (IsFitTable table.now) result }
+    ensures { Finds (IsFitTable table.now) (λ code. TableIsFreeOf code table.now) result }
 {
-    if !has_fit_dialect(&table.dialect) {
-        return Ok(Some(MetaCode::BadDialect));
+    if let Some(code) = fault_of_dialect(&table.dialect) {
+        return Ok(Some(code));
     }
     if !has_sound(&table.inherited) {
         return Ok(Some(MetaCode::BadDatatype));
@@ -103,7 +107,7 @@ fn table_fault(alloc: Global, table: &TableDescription) -> Result<Option<MetaCod
 }
 
 fn first_fault(alloc: Global, tables: &[TableDescription]) -> Result<Option<MetaCode>, AllocError>
-    ensures { Finds (All IsFitTable tables.now) result }
+    ensures { Finds (All IsFitTable tables.now) (λ code. All (TableIsFreeOf code) tables.now) result }
 {
     for table in tables {
         if let Some(code) = table_fault(alloc, table)? {
@@ -118,13 +122,13 @@ pub(crate) fn fault_of(
     alloc: Global,
     description: &Description,
 ) -> Result<Option<MetaCode>, AllocError>
-    ensures { Finds (IsFitGroup description.now) result }
+    ensures { Finds (IsFitGroup description.now) (λ code. GroupIsFreeOf code description.now) result }
 {
     if description.tables.len() > TABLE_LIMIT {
         return Ok(Some(MetaCode::TooMany));
     }
-    if !has_fit_dialect(&description.dialect) {
-        return Ok(Some(MetaCode::BadDialect));
+    if let Some(code) = fault_of_dialect(&description.dialect) {
+        return Ok(Some(code));
     }
     if !has_sound(&description.inherited) {
         return Ok(Some(MetaCode::BadDatatype));

@@ -5,7 +5,8 @@ ghost use Rattle.csvw_columns_core.specs.HeaderColumns.{column_count, from_heade
 ghost use Rattle.csvw_description.specs.Plannable.{column_limit};
 ghost use Rattle.csvw_columns_core.specs.SchemaColumns.{declared_columns};
 ghost use Rattle.csvw_columns.specs.HeaderMatch.{columns_of, header_columns, frame_of, IsWithin, GivesColumns, Matches};
-ghost use Rattle.csvw_columns.specs.Ready.{AreSound, IsReady};
+ghost use Rattle.csvw_columns.specs.Ready.{IsReady};
+ghost use Rattle.csvw_columns_core.specs.Sound.{AreSound};
 
 use crate::names::are_named_apart;
 use crate::plan::TablePlan;

@@ -3,10 +3,12 @@ use Rattle.std.proofs.Common.{◌≡◌, ◌≢◌, ◌≤◌, ◌+◌, ℕ, suc
 use Rattle.std.proofs.Common.{Ok, Err}
 use Rattle.csvw_description.specs.declared.description.Description.{Description}
 use Rattle.csvw_description.specs.declared.table.TableDescription.{TableDescription}
+use Rattle.csvw_meta_core.specs.declared.fault.MetaCode.{MetaCode}
 use Rattle.csvw_meta_core.specs.declared.fault.MetaCode.TheVariants.{Memory}
 use Rattle.csvw_meta_core.specs.declared.fault.MetaFault.{MetaFault}
 use Rattle.csvw_meta.specs.Document.{Document, IsFault}
-use Rattle.csvw_columns.specs.Plannable.{Builds, CanBePlanned}
+use Rattle.csvw_columns.specs.FreeOf.{IsFreeOf}
+use Rattle.csvw_columns.specs.Plannable.{Builds}
 use Rattle.csvw_columns.specs.PlanOf.{targets_of, table_plans}
 use Rattle.csvw_columns.specs.declared.plan.Plan.{Plan}
 use Rattle.csvw_engine_core.specs.declared.stop.Stop.{Stop}
@@ -19,10 +21,10 @@ told described fault reason (inl (c, e)) h = rw e tt
 told described fault reason (inr (apart, e)) h = rw e (h apart)
 
 -- what can be planned lacks nothing but memory
-pub lacks_memory : (d : Description) (fault : MetaFault) (reason : Stop) → CanBePlanned d → Builds d (Err fault) → TellsFault fault reason
-    → reason ≡ stop.Memory
-lacks_memory d fault reason can h (inl (c, e)) = e
-lacks_memory d fault reason can h (inr (apart, e)) = absurd (h.1 apart can)
+pub lacks_memory : (d : Description) (fault : MetaFault) (reason : Stop) → ((code : MetaCode) → IsFreeOf code d) → Builds d (Err fault)
+    → TellsFault fault reason → reason ≡ stop.Memory
+lacks_memory d fault reason free h (inl (c, e)) = e
+lacks_memory d fault reason free h (inr (apart, e)) = absurd (h.1 apart (free fault.code))
 
 -- a plan for each table
 as_many : (group d : Description) (n : ℕ) (tables : List TableDescription) → length (table_plans (targets_of group) d n tables) ≡ length tables

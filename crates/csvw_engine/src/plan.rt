@@ -3,18 +3,17 @@ ghost use Rattle.std.specs.Prelude.{◌≡◌, ◌≤◌, IfOk, IfErr, length};
 ghost use Rattle.csvw_columns.specs.PlanOf.{plan_of};
 ghost use Rattle.csvw_description.specs.Plannable.{IsPlannable};
 ghost use Rattle.csvw_meta.specs.Document.{document, plain_description};
-ghost use Rattle.csvw_session.specs.Ready.{AreReady};
+ghost use Rattle.csvw_columns.specs.Ready.{AreReady};
 ghost use Rattle.csvw_engine_core.specs.declared.stop.Stop.TheVariants as stop;
 ghost use Rattle.csvw_engine.specs.Planning.{IsMetaStop, TellsFault};
 ghost use Rattle.csvw_engine.specs.Runs.{IsPlanned};
 
 use csvw_columns::Plan;
-use csvw_columns::laws::described_can_be_planned;
+use csvw_columns::laws::{described_can_be_planned, planned_descriptions_are_free_of_faults};
 use csvw_description::Description;
 use csvw_meta::{plain, read};
 use csvw_meta_core::{MetaCode, MetaFault};
 use csvw_session::Stop;
-use csvw_session::laws::built_plans_are_ready;
 use std::alloc::Global;
 
 fn meta_stop(fault: MetaFault) -> Stop
@@ -35,7 +34,7 @@ fn built(alloc: Global, description: Description) -> Result<Plan, Stop>
     ensures memory { IfErr result (λ reason. reason ≡ stop.Memory) }
 {
     described_can_be_planned();
-    built_plans_are_ready();
+    planned_descriptions_are_free_of_faults();
     match Plan::build(alloc, description) {
         Ok(plan) => Ok(plan),
         Err(fault) => Err(meta_stop(fault)),

@@ -1,0 +1,6 @@
+-- By the code.
+use Rattle.csvw_columns.proofs.FreeLemmas.{free}
+use Rattle.csvw_columns.proofs.laws.planned_descriptions_are_free_of_faults.Goals as goal
+
+pub returns : goal.returns
+returns c = free
