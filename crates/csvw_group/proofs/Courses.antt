@@ -17,7 +17,7 @@ use Rattle.csvw_engine_core.specs.Tables.{is_ended}
 use Rattle.csvw_engine_core.specs.declared.table.Table.{Table as State}
 use Rattle.csvw_session.specs.Events.{Event, Feed, End, table_of, text_of, ended_in}
 use Rattle.csvw_session.specs.Finishing.{Finishes}
-use Rattle.csvw_session.specs.Ready.{AreReady}
+use Rattle.csvw_columns.specs.Ready.{AreReady}
 use Rattle.csvw_session.specs.Sessions.{HasNoTable, Stands, Takes, Told}
 use Rattle.csvw_session.specs.declared.session.Session.{Session}
 use Rattle.csvw_session.specs.declared.state.State.TheVariants as state

@@ -9,6 +9,5 @@ pub mod Listing
 pub mod OneCell
 pub mod OneTable
 pub mod Parts
-pub mod SoundColumns
 pub mod Splitting
 pub mod Stopping

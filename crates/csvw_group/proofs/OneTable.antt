@@ -13,7 +13,10 @@ use Rattle.csvw_records.specs.RowValue.{Given}
 use Rattle.csvw_cell.specs.declared.cell.Cell.{Cell}
 use Rattle.csvw_columns_core.specs.declared.column.Column.{Column}
 use Rattle.csvw_columns_core.specs.declared.columns.Columns.{Columns}
-use Rattle.csvw_columns.specs.Ready.{AreSound, IsReady}
+use Rattle.csvw_columns_core.specs.Sound.{AreSound}
+use Rattle.csvw_columns_core.specs.declared.header.HeaderRow.{HeaderRow}
+use Rattle.csvw_columns.specs.HeaderMatch.{columns_of}
+use Rattle.csvw_columns.specs.Ready.{IsReady}
 use Rattle.csvw_columns.specs.declared.plan.TablePlan.{TablePlan}
 use Rattle.csvw_annotate.specs.Annotated.{IsCell, AreCells, IsRow, numbers_of}
 use Rattle.csvw_annotate.specs.Linked.{linked_cells}
@@ -24,9 +27,9 @@ use Rattle.csvw_engine_core.specs.Tables.{max_rows}
 use Rattle.csvw_group.specs.Annotated.{Table, IsAnnotated, AreAnnotated}
 use Rattle.csvw_group.specs.OneTable.{HaveOneAnnotation}
 use Rattle.csvw_group.proofs.OneCell.{cell_is_one}
-use Rattle.csvw_group.proofs.SoundColumns.{sound_columns_of}
 
-module _ (one_value : (s : Simple) (f : Option Format) (text : List ℕ) (v w : Value) → IsFormatOf s f → ReadsAs s f text v → ReadsAs s f text w → v ≡ w)
+module _ (sound_columns : (plan : TablePlan) (rows : List HeaderRow) (width : Option ℕ) → IsReady plan → AreSound (columns_of plan rows width))
+    (one_value : (s : Simple) (f : Option Format) (text : List ℕ) (v w : Value) → IsFormatOf s f → ReadsAs s f text v → ReadsAs s f text w → v ≡ w)
     (value_or_code : (s : Simple) (f : Option Format) (text : List ℕ) (v : Value) (code : Code) → IsFormatOf s f → ReadsAs s f text v
     → ¬ MisreadAs s f text code)
     (one_code : (s : Simple) (f : Option Format) (text : List ℕ) (c d : Code) → IsFormatOf s f → MisreadAs s f text c → MisreadAs s f text d → c ≡ d)
@@ -77,7 +80,7 @@ module _ (one_value : (s : Simple) (f : Option Format) (text : List ℕ) (v w : 
       let faults : x.header_faults ≡ y.header_faults = h.head.faults ∙ sym g.head.faults in
       let sound : AreSound y.columns.columns =
       subst AreSound (sym (ap (λ (c : Columns). c.columns) g.head.columns))
-      (sound_columns_of plan (header_rows plan given) (first_width (header_count plan) given) ready) in
+      (sound_columns plan (header_rows plan given) (first_width (header_count plan) given) ready) in
       let rows : x.rows ≡ y.rows =
       rows_are_one y.columns (data_rows plan given) x.rows y.rows sound (subst (λ c. RowsAreAnnotated c (data_rows plan given) x.rows) columns h.has) g.has in
       λ i. record { columns = columns i; header_faults = faults i; rows = rows i }

@@ -1,7 +1,7 @@
 -- Texts are at most one list of annotated tables.
 use Rattle.std.specs.Prelude.{◌≡◌, ℕ, List}
 use Rattle.csvw_columns.specs.declared.plan.TablePlan.{TablePlan}
-use Rattle.csvw_session.specs.Ready.{AreReady}
+use Rattle.csvw_columns.specs.Ready.{AreReady}
 use Rattle.csvw_group.specs.Annotated.{Table, AreAnnotated}
 
 abbrev pub HaveOneAnnotation : Type 0

@@ -20,6 +20,7 @@ ghost use Rattle.csvw_group.specs.AtEnd.{Annotates, texts_of};
 ghost use Rattle.csvw_group.specs.OneTable.{HaveOneAnnotation};
 ghost use Rattle.csvw_group.specs.Stopped.{TookAll, TookBy};
 
+use csvw_columns::laws::columns_of_ready_tables_are_sound;
 use csvw_datatype::{one_code, one_value, value_or_code};
 use csvw_opening::opening_is_the_graphs;
 use csvw_records::laws::{files_have_no_stop, first_begin, first_stay, have_one_list};
@@ -70,6 +71,7 @@ pub fn stopped_sessions_give_parts<S: TripleSink>()
 pub fn texts_have_one_annotation()
     ensures { HaveOneAnnotation }
 {
+    columns_of_ready_tables_are_sound();
     one_value();
     value_or_code();
     one_code();

@@ -11,7 +11,7 @@ use Rattle.csvw_triples_core.specs.declared.term.Triple.{Triple}
 use Rattle.csvw_engine_core.specs.Tables.{is_ended}
 use Rattle.csvw_engine_core.specs.declared.table.Table.{Table}
 use Rattle.csvw_session.specs.Events.{Event, text_of, ended_in}
-use Rattle.csvw_session.specs.Ready.{AreReady}
+use Rattle.csvw_columns.specs.Ready.{AreReady}
 use Rattle.csvw_session.specs.Sessions.{Checks, Takes, Told, Stands}
 use Rattle.csvw_session.specs.declared.session.Session.{Session}
 use Rattle.csvw_engine_core.specs.declared.stop.Stop.{Stop}

@@ -1,7 +1,8 @@
 -- What a call on a table means for the session.
-use Rattle.std.proofs.Common.{◌≡◌, ◌<◌, ◌+◌, ℕ, Bool, true, false, List, [], ◌∷◌, ◌++◌, refl, sym, ap, ◌∙◌, subst, length, inl, inr, None, Ok, Err}
+use Rattle.std.proofs.Common.{◌≡◌, ◌<◌, ◌+◌, ℕ, Bool, true, false, List, [], ◌∷◌, ◌++◌, refl, sym, ap, ◌∙◌, subst, length, inl, inr, Option, None, Ok, Err}
 use Rattle.std.specs.Prelude.{slice_set}
 use Rattle.csvw_records.specs.RowValue.{Given}
+use Rattle.csvw_columns_core.specs.declared.columns.Columns.{Columns}
 use Rattle.csvw_columns.specs.declared.plan.TablePlan.{TablePlan}
 use Rattle.csvw_annotate.specs.declared.row.Row.{Row}
 use Rattle.csvw_triples_core.specs.declared.mode.Mode.{Mode}
@@ -11,10 +12,11 @@ use Rattle.csvw_engine_core.specs.Faults.{table_faults}
 use Rattle.csvw_engine_core.specs.Stops.{IsOf}
 use Rattle.csvw_engine_core.specs.declared.stop.Stop.{Stop}
 use Rattle.csvw_engine_core.specs.declared.stop.Stop.TheVariants as stop
-use Rattle.csvw_engine_core.specs.Tables.{outlets, TableHolds, KeepsColumns, GivesFront, TableOutcome, EndOutcome, columns_of, faults_of, is_ended}
+use Rattle.csvw_engine_core.specs.Tables.{outlets, IsStopped, TableHolds, KeepsColumns, GivesFront, GivesSome, TableOutcome, EndOutcome}
+use Rattle.csvw_engine_core.specs.Tables.{columns_of, faults_of, is_ended}
 use Rattle.csvw_engine_core.specs.declared.table.Table.{Table}
 use Rattle.csvw_session.specs.Events.{Event, Feed, End, text_of, ended_in}
-use Rattle.csvw_session.specs.Sessions.{IsOpenTable, IsTableAt, Told, Stands, Takes, IsRefusedHere}
+use Rattle.csvw_session.specs.Sessions.{AtTable, GainsFront, GainsSome, IsOpenTable, IsTableAt, Told, Stands, Takes, IsRefusedHere}
 use Rattle.csvw_session.specs.declared.session.Session.{Session}
 use Rattle.csvw_session.specs.declared.state.State.TheVariants as state
 use Rattle.csvw_session.proofs.Standing.{stands_on, same_faults, faults_more}
@@ -92,6 +94,74 @@ module _ {S : Type 0} (gains : S → List Triple → S → Type 0) (is_open : S 
       (subst (λ b. Told plan old.mode u bytes b (h.rows i ++ all.0.more)) (sym (end_same events (i + 1))) told))
       all.0.kept all.0.keeps none state_is all.0.took all.1
 
+  -- the table, with what the call leaves of it
+  at_table : (start : S) (events : List Event) (h : Stands gains is_open failed start events old) (Leaves : ℕ → TablePlan → List Given → Type 0)
+      → Leaves i plan (here start events h).1.given → AtTable old (i + 1) h.rows Leaves
+  at_table start events h Leaves leaves =
+      let k = here start events h in
+      record {
+        i = i;
+        number = refl;
+        plan = plan;
+        table = t;
+        is_at = is_at;
+        given = k.1.given;
+        was = record { head = k.1.holds.head.known; has = k.1.holds.has };
+        leaves = leaves;
+      }
+
+  module _ (piece : List ℕ) (start : S) (events : List Event) (h : Stands gains is_open failed start events old) where
+    abbrev fed_events : List Event
+    fed_events = events ++ Feed (i + 1) piece ∷ []
+
+    abbrev fed_text : List ℕ
+    fed_text = text_of events (i + 1) ++ piece
+
+    -- some rows of a piece
+    some_fed : GivesSome gains plan old.mode fed_text false (here start events h).1.given (h.rows i) old.sink new.sink
+        → GainsSome gains old new (i + 1) fed_events h.rows
+    some_fed some =
+        let going_on = (here start events h).0 in
+        at_table start events h
+        (λ j p given. GivesSome gains p old.mode (text_of fed_events (i + 1)) (ended_in fed_events (i + 1)) given (h.rows j) old.sink new.sink)
+        (rw (fed_same events (i + 1) piece, fed_ended events (i + 1) (i + 1) piece, going_on) some)
+
+    -- those in front of a stop in it
+    front_fed : (Why : List ℕ → Bool → TablePlan → Option Columns → List Given → Type 0)
+        → GivesFront gains plan old.mode fed_text false (here start events h).1.given (h.rows i) old.sink new.sink (Why fed_text false plan)
+        → GainsFront gains old new (i + 1) fed_events h.rows (Why (text_of fed_events (i + 1)) (ended_in fed_events (i + 1)))
+    front_fed Why front =
+        let going_on = (here start events h).0 in
+        at_table start events h
+        (λ j p given. GivesFront gains p old.mode (text_of fed_events (i + 1)) (ended_in fed_events (i + 1)) given (h.rows j) old.sink new.sink
+        (λ columns all. Why (text_of fed_events (i + 1)) (ended_in fed_events (i + 1)) p columns all))
+        (rw (fed_same events (i + 1) piece, fed_ended events (i + 1) (i + 1) piece, going_on) front)
+
+  module _ (start : S) (events : List Event) (h : Stands gains is_open failed start events old) where
+    abbrev ended_events : List Event
+    ended_events = events ++ End (i + 1) ∷ []
+
+    abbrev ended_text : List ℕ
+    ended_text = text_of events (i + 1)
+
+    -- some rows at the end
+    some_ended : GivesSome gains plan old.mode ended_text true (here start events h).1.given (h.rows i) old.sink new.sink
+        → GainsSome gains old new (i + 1) ended_events h.rows
+    some_ended some =
+        at_table start events h
+        (λ j p given. GivesSome gains p old.mode (text_of ended_events (i + 1)) (ended_in ended_events (i + 1)) given (h.rows j) old.sink new.sink)
+        (rw (end_text events (i + 1) (i + 1), end_same events (i + 1)) some)
+
+    -- those in front of a stop at it
+    front_ended : (Why : List ℕ → Bool → TablePlan → Option Columns → List Given → Type 0)
+        → GivesFront gains plan old.mode ended_text true (here start events h).1.given (h.rows i) old.sink new.sink (Why ended_text true plan)
+        → GainsFront gains old new (i + 1) ended_events h.rows (Why (text_of ended_events (i + 1)) (ended_in ended_events (i + 1)))
+    front_ended Why front =
+        at_table start events h
+        (λ j p given. GivesFront gains p old.mode (text_of ended_events (i + 1)) (ended_in ended_events (i + 1)) given (h.rows j) old.sink new.sink
+        (λ columns all. Why (text_of ended_events (i + 1)) (ended_in ended_events (i + 1)) p columns all))
+        (rw (end_text events (i + 1) (i + 1), end_same events (i + 1)) front)
+
   -- a piece was not taken in full
   pub unfed : (piece : List ℕ) (reason : Stop) → IsOf (i + 1) reason → new.state ≡ state.Failed
       → ((bytes : List ℕ) (given : List Given) (rows : List Row) → TableHolds plan old.mode t bytes false given rows
@@ -102,66 +172,32 @@ module _ {S : Type 0} (gains : S → List Triple → S → Type 0) (is_open : S 
     state_is,
     λ start events h.
         let k = here start events h in
-        let all = feeds (text_of events (i + 1)) k.1.given (h.rows i) k.1.holds in (
-          record {
-            i = i;
-            number = refl;
-            plan = plan;
-            table = t;
-            is_at = is_at;
-            given = k.1.given;
-            was = record { head = k.1.holds.head.known; has = k.1.holds.has };
-            leaves = rw (fed_same events (i + 1) piece, fed_ended events (i + 1) (i + 1) piece, k.0) all.0;
-          },
-          all.1,
-        ),
+        let all = feeds (text_of events (i + 1)) k.1.given (h.rows i) k.1.holds in
+        (some_fed piece start events h all.0, all.1),
   )
   unfed piece stop.Write own state_is feeds = (
     state_is,
     λ start events h.
         let k = here start events h in
-        let all = feeds (text_of events (i + 1)) k.1.given (h.rows i) k.1.holds in (
-          record {
-            i = i;
-            number = refl;
-            plan = plan;
-            table = t;
-            is_at = is_at;
-            given = k.1.given;
-            was = record { head = k.1.holds.head.known; has = k.1.holds.has };
-            leaves = rw (fed_same events (i + 1) piece, fed_ended events (i + 1) (i + 1) piece, k.0) all.0;
-          },
-          all.1,
-        ),
+        let all = feeds (text_of events (i + 1)) k.1.given (h.rows i) k.1.holds in
+        (some_fed piece start events h all.0, all.1),
   )
   unfed piece (stop.Rows table row reason) own state_is feeds = (
     state_is,
     own,
     λ start events h.
         let k = here start events h in
-        let all = feeds (text_of events (i + 1)) k.1.given (h.rows i) k.1.holds in (
-          record {
-            i = i;
-            number = refl;
-            plan = plan;
-            table = t;
-            is_at = is_at;
-            given = k.1.given;
-            was = record { head = k.1.holds.head.known; has = k.1.holds.has };
-            leaves = rw (fed_same events (i + 1) piece, fed_ended events (i + 1) (i + 1) piece, k.0) all.0;
-          },
-          all.1,
-        ),
+        let all = feeds (text_of events (i + 1)) k.1.given (h.rows i) k.1.holds in
+        (front_fed piece start events h (λ bytes ended p columns given. IsStopped p bytes ended given row reason) all.0, all.1),
   )
   unfed piece (stop.Table table row reason) own state_is feeds = (
     state_is,
     own,
     λ start events h.
         let k = here start events h in
-        let bytes : List ℕ = text_of events (i + 1) in
-        let all = feeds bytes k.1.given (h.rows i) k.1.holds in
-        let front : GivesFront gains plan old.mode (bytes ++ piece) false k.1.given (h.rows i) old.sink new.sink
-        (λ columns rows. IsRefusedHere plan columns (bytes ++ piece) false rows row reason) =
+        let all = feeds (text_of events (i + 1)) k.1.given (h.rows i) k.1.holds in
+        let front : GivesFront gains plan old.mode (fed_text piece start events h) false k.1.given (h.rows i) old.sink new.sink
+        (λ columns rows. IsRefusedHere plan columns (fed_text piece start events h) false rows row reason) =
         record {
           raws = all.0.raws;
           more = all.0.more;
@@ -170,19 +206,8 @@ module _ {S : Type 0} (gains : S → List Triple → S → Type 0) (is_open : S 
           table = all.0.table;
           why = inl all.0.why;
           took = all.0.took;
-        } in (
-          record {
-            i = i;
-            number = refl;
-            plan = plan;
-            table = t;
-            is_at = is_at;
-            given = k.1.given;
-            was = record { head = k.1.holds.head.known; has = k.1.holds.has };
-            leaves = rw (fed_same events (i + 1) piece, fed_ended events (i + 1) (i + 1) piece, k.0) front;
-          },
-          all.1,
-        ),
+        } in
+        (front_fed piece start events h (λ bytes ended p columns given. IsRefusedHere p columns bytes ended given row reason) front, all.1),
   )
   unfed piece other own state_is feeds = absurd own
 
@@ -195,66 +220,32 @@ module _ {S : Type 0} (gains : S → List Triple → S → Type 0) (is_open : S 
     state_is,
     λ start events h.
         let k = here start events h in
-        let all = ends (text_of events (i + 1)) k.1.given (h.rows i) k.1.holds in (
-          record {
-            i = i;
-            number = refl;
-            plan = plan;
-            table = t;
-            is_at = is_at;
-            given = k.1.given;
-            was = record { head = k.1.holds.head.known; has = k.1.holds.has };
-            leaves = rw (end_text events (i + 1) (i + 1), end_same events (i + 1)) all.0;
-          },
-          all.1,
-        ),
+        let all = ends (text_of events (i + 1)) k.1.given (h.rows i) k.1.holds in
+        (some_ended start events h all.0, all.1),
   )
   unended stop.Write own state_is ends = (
     state_is,
     λ start events h.
         let k = here start events h in
-        let all = ends (text_of events (i + 1)) k.1.given (h.rows i) k.1.holds in (
-          record {
-            i = i;
-            number = refl;
-            plan = plan;
-            table = t;
-            is_at = is_at;
-            given = k.1.given;
-            was = record { head = k.1.holds.head.known; has = k.1.holds.has };
-            leaves = rw (end_text events (i + 1) (i + 1), end_same events (i + 1)) all.0;
-          },
-          all.1,
-        ),
+        let all = ends (text_of events (i + 1)) k.1.given (h.rows i) k.1.holds in
+        (some_ended start events h all.0, all.1),
   )
   unended (stop.Rows table row reason) own state_is ends = (
     state_is,
     own,
     λ start events h.
         let k = here start events h in
-        let all = ends (text_of events (i + 1)) k.1.given (h.rows i) k.1.holds in (
-          record {
-            i = i;
-            number = refl;
-            plan = plan;
-            table = t;
-            is_at = is_at;
-            given = k.1.given;
-            was = record { head = k.1.holds.head.known; has = k.1.holds.has };
-            leaves = rw (end_text events (i + 1) (i + 1), end_same events (i + 1)) all.0;
-          },
-          all.1,
-        ),
+        let all = ends (text_of events (i + 1)) k.1.given (h.rows i) k.1.holds in
+        (front_ended start events h (λ bytes ended p columns given. IsStopped p bytes ended given row reason) all.0, all.1),
   )
   unended (stop.Table table row reason) own state_is ends = (
     state_is,
     own,
     λ start events h.
         let k = here start events h in
-        let bytes : List ℕ = text_of events (i + 1) in
-        let all = ends bytes k.1.given (h.rows i) k.1.holds in
-        let front : GivesFront gains plan old.mode bytes true k.1.given (h.rows i) old.sink new.sink
-        (λ columns rows. IsRefusedHere plan columns bytes true rows row reason) =
+        let all = ends (text_of events (i + 1)) k.1.given (h.rows i) k.1.holds in
+        let front : GivesFront gains plan old.mode (ended_text start events h) true k.1.given (h.rows i) old.sink new.sink
+        (λ columns rows. IsRefusedHere plan columns (ended_text start events h) true rows row reason) =
         record {
           raws = all.0.raws;
           more = all.0.more;
@@ -263,19 +254,8 @@ module _ {S : Type 0} (gains : S → List Triple → S → Type 0) (is_open : S 
           table = all.0.table;
           why = inr (refl, all.0.why);
           took = all.0.took;
-        } in (
-          record {
-            i = i;
-            number = refl;
-            plan = plan;
-            table = t;
-            is_at = is_at;
-            given = k.1.given;
-            was = record { head = k.1.holds.head.known; has = k.1.holds.has };
-            leaves = rw (end_text events (i + 1) (i + 1), end_same events (i + 1)) front;
-          },
-          all.1,
-        ),
+        } in
+        (front_ended start events h (λ bytes ended p columns given. IsRefusedHere p columns bytes ended given row reason) front, all.1),
   )
   unended other own state_is ends = absurd own
 

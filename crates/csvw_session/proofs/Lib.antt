@@ -3,7 +3,6 @@ pub mod Feeding
 pub mod Lists
 pub mod Numbers
 pub mod Order
-pub mod Readiness
 pub mod Standing
 pub mod Starting
 pub mod Texts

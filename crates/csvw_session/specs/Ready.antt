@@ -1,4 +1,4 @@
--- Plans whose tables can be read; that they can has one proof at most, so that it can stand in an invariant.
+-- That tables can be read has one proof at most, so that it can stand in an invariant.
 use Rattle.std.specs.Prelude.{List, [], ◌∷◌}
 use Rattle.std.proofs.Props.{props}
 use mathlib.Core.HLevel.{×_prop, Unit-prop}
@@ -7,13 +7,9 @@ use Rattle.csvw_dialect.specs.Lawful.{IsLawful}
 use Rattle.csvw_datatype.specs.SoundProp.{IsSound-prop}
 use Rattle.csvw_columns_core.specs.declared.column.Column.{Column}
 use Rattle.csvw_columns.specs.Distinct.{AreNamedApart}
-use Rattle.csvw_columns.specs.Ready.{AreSound, IsReady}
+use Rattle.csvw_columns.specs.Ready.{AreReady, IsReady}
+use Rattle.csvw_columns_core.specs.Sound.{AreSound-prop}
 use Rattle.csvw_columns.specs.declared.plan.TablePlan.{TablePlan}
-
--- each table can be read
-abbrev pub AreReady : List TablePlan → Type 0
-AreReady [] = Unit {0}
-AreReady (plan ∷ plans) = IsReady plan × AreReady plans
 
 lawful-prop : (d : Dialect) → IsProp (IsLawful d)
 lawful-prop d x y =
@@ -38,10 +34,6 @@ lawful-prop d x y =
       terminators = terminators_prop x.terminators y.terminators i;
     }
 
-sound-prop : (columns : List Column) → IsProp (AreSound columns)
-sound-prop [] = Unit-prop
-sound-prop (column ∷ columns) = ×_prop (IsSound-prop column.properties.datatype) (sound-prop columns)
-
 ready-prop : (plan : TablePlan) → IsProp (IsReady plan)
 ready-prop plan x y =
     let skipped_prop : IsProp _ = hlevel props in
@@ -52,7 +44,7 @@ ready-prop plan x y =
       skipped = skipped_prop x.skipped y.skipped i;
       limit = limit_prop x.limit y.limit i;
       names = names_prop x.names y.names i;
-      declared = sound-prop plan.declared x.declared y.declared i;
+      declared = AreSound-prop plan.declared x.declared y.declared i;
       header = IsSound-prop _ x.header y.header i;
     }
 

@@ -5,7 +5,8 @@ ghost use Rattle.csvw_triples_core.specs.Taking.{IsAsReady};
 ghost use Rattle.csvw_opening.specs.OpeningTriples.{opening};
 ghost use Rattle.csvw_engine_core.specs.Tables.{is_ended};
 ghost use Rattle.csvw_session.specs.Faults.{all_faults};
-ghost use Rattle.csvw_session.specs.Ready.{AreReady, AreReady-prop};
+ghost use Rattle.csvw_columns.specs.Ready.{AreReady};
+ghost use Rattle.csvw_session.specs.Ready.{AreReady-prop};
 ghost use Rattle.csvw_session.specs.NewTables.{AreNew};
 ghost use Rattle.csvw_session.specs.Refusing.{Refuses};
 

@@ -1,12 +1,11 @@
 //! The session over the tables that a document describes.
 ghost use Rattle.std.specs.Prelude.{IfSome};
-ghost use Rattle.csvw_session.specs.Ready.{AreReady};
+ghost use Rattle.csvw_columns.specs.Ready.{AreReady};
 
 use crate::counter::Counter;
 use csvw_columns::Plan;
 use csvw_meta::read;
 use csvw_session::Session;
-use csvw_session::laws::built_plans_are_ready;
 use csvw_triples_core::Mode;
 use std::alloc::Global;
 
@@ -25,7 +24,6 @@ const URL: &str = "http://example.org/rivers/metadata.json";
 fn plan(alloc: Global) -> Option<Plan>
     ensures { IfSome result (λ plan. AreReady plan.tables) }
 {
-    built_plans_are_ready();
     let Ok(description) = read(alloc, DOCUMENT.as_bytes(), URL) else {
         return None;
     };

@@ -1,10 +1,9 @@
 //! Sessions over the tables of a document.
 ghost use Rattle.std.specs.Prelude.{IfOk};
-ghost use Rattle.csvw_session.specs.Ready.{AreReady};
+ghost use Rattle.csvw_columns.specs.Ready.{AreReady};
 
 use csvw_columns::Plan;
 use csvw_meta::read;
-use csvw_session::laws::built_plans_are_ready;
 use csvw_session::{Refused, Session, Stop};
 use csvw_triples_core::{Mode, TripleSink};
 use std::alloc::Global;
@@ -17,7 +16,6 @@ pub(crate) const BASE: &str = "http://example.org/";
 fn plan_of(alloc: Global, meta: &str) -> Result<Plan, Fail>
     ensures { IfOk result (λ plan. AreReady plan.tables) }
 {
-    built_plans_are_ready();
     let description = read(alloc, meta.as_bytes(), BASE)?;
     Ok(Plan::build(alloc, description)?)
 }

@@ -22,7 +22,7 @@ use Rattle.csvw_engine_core.specs.Annotated.{AreAnnotated as AreRows, header_cou
 use Rattle.csvw_engine_core.specs.Faults.{row_faults, table_faults}
 use Rattle.csvw_engine_core.specs.Tables.{max_rows}
 use Rattle.csvw_report.specs.Order.{is_no_error}
-use Rattle.csvw_session.specs.Ready.{AreReady}
+use Rattle.csvw_columns.specs.Ready.{AreReady}
 use Rattle.csvw_columns.specs.Ready.{IsReady}
 use Rattle.csvw_group.specs.Annotated.{Table, AreAnnotated, IsAnnotated}
 use Rattle.csvw_group.specs.Violations.{AreViolations, rows_of, table_violations, tables_violations, violations}

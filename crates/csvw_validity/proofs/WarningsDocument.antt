@@ -33,7 +33,7 @@ use Rattle.csvw_meta_inherited.specs.Inherited.{inherited}
 use Rattle.csvw_meta.specs.Json.{json_of, without_bom}
 use Rattle.csvw_meta_inherited.specs.Names.{column_names, dialect_names, group_names, inherited_names, place_of, schema_names, sole_table_names, table_names}
 use Rattle.csvw_meta.specs.Schema.{columns, no_schema, schema, schema_of}
-use Rattle.csvw_meta.specs.Several.{several}
+use Rattle.csvw_meta_core.specs.Several.{several}
 use Rattle.csvw_meta.specs.Table.{no_table, table, table_of, table_others}
 use Rattle.csvw_meta.specs.UrlAlone.{own_base, plain_document}
 use Rattle.csvw_validity.proofs.Quiet.{Quiet, quiet_flat, quiet_join}

@@ -9,7 +9,7 @@ use Rattle.csvw_columns.specs.declared.plan.Plan.{Plan}
 use Rattle.csvw_report.specs.Order.{is_no_error}
 use Rattle.csvw_group.specs.Annotated.{Table, AreAnnotated}
 use Rattle.csvw_group.specs.Violations.{AreViolations}
-use Rattle.csvw_session.specs.Ready.{AreReady}
+use Rattle.csvw_columns.specs.Ready.{AreReady}
 use Rattle.csvw_validity.specs.Validity.{IsValid}
 
 -- A group is valid exactly where none of its violations is an error, where what is told of its document are warnings.
