@@ -9,7 +9,7 @@ use Rattle.csvw_meta_core.specs.declared.fault.MetaFault.{MetaFault}
 use Rattle.csvw_meta_core.specs.Pointer.{below}
 use Rattle.csvw_meta_core.specs.Read.{Read, on_object, optional, found, needed, each_numbered, under}
 use Rattle.csvw_meta_inherited.specs.Fine.{Ensures, also_fine, property_fine, each_fine}
-use Rattle.csvw_meta.specs.Several.{count_faults, items_len, some_items, several}
+use Rattle.csvw_meta_core.specs.Several.{count_faults, items_len, some_items, several}
 
 pub on_object_fine : {A : Type 0} (P : A → Type 0) (at : List ℕ) (d : Data) (dummy : A) (r : Read A) → Ensures r P → Ensures (on_object at d dummy r) P
 on_object_fine P at (object ms) dummy r p h = p h

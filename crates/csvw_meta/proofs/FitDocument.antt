@@ -39,7 +39,7 @@ use Rattle.csvw_meta.specs.Json.{json_of, without_bom}
 use Rattle.csvw_meta_inherited.specs.Names.{group_names, inherited_names, place_of}
 use Rattle.csvw_meta.specs.References.{reference_faults, schema_faults, table_at, table_faults, targets}
 use Rattle.csvw_meta.specs.Schema.{schema}
-use Rattle.csvw_meta.specs.Several.{several}
+use Rattle.csvw_meta_core.specs.Several.{several}
 use Rattle.csvw_meta.specs.Table.{no_table, table, table_of, table_others}
 use Rattle.csvw_meta.specs.UrlAlone.{own_base, plain_document}
 use Rattle.csvw_meta.proofs.FineLemmas.{on_object_fine, needed_fine, optional_fine, several_fine}

@@ -35,7 +35,7 @@ use Rattle.csvw_meta_inherited.specs.Inherited.{inherited}
 use Rattle.csvw_meta_inherited.specs.Names.{schema_names, inherited_names, place_of}
 use Rattle.csvw_meta.specs.Repeated.{repeated}
 use Rattle.csvw_meta.specs.Schema.{columns, column_faults, order_faults, name_faults, no_schema, schema, schema_of}
-use Rattle.csvw_meta.specs.Several.{several}
+use Rattle.csvw_meta_core.specs.Several.{several}
 use Rattle.csvw_meta.proofs.FineLemmas.{on_object_fine, several_fine}
 
 -- ---- texts of which none repeats an earlier one

@@ -11,7 +11,7 @@ use Rattle.csvw_meta_core.specs.Reads.{Fails, Reads}
 use Rattle.csvw_meta_inherited.specs.Fine.{Ensures}
 use Rattle.csvw_meta.specs.Described.{Describes, Judged, hanging_on, judged_by}
 
-none_in : {X : Type 0} (x : X) → Contains [] x → ⊥
+pub none_in : {X : Type 0} (x : X) → Contains [] x → ⊥
 none_in x c = let lt = c.1 in absurd (omega (arith, lt))
 
 no_group : (d : Description) → None ≡ Some d → ⊥

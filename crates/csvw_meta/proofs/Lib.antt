@@ -5,10 +5,10 @@ pub mod FitDocument
 pub mod FitKeys
 pub mod FitSchema
 pub mod HangingLemmas
-pub mod ItemsLemmas
 pub mod JsonLemmas
 pub mod MayBeLemmas
 pub mod ReadLemmas
 pub mod ReferencesLemmas
 pub mod RepeatedLemmas
 pub mod TitlesLemmas
+pub mod UrlFaults

@@ -18,7 +18,7 @@ use Rattle.csvw_meta.specs.Body.{given_dialect, body}
 use Rattle.csvw_description.specs.Inherited.{no_inherited}
 use Rattle.csvw_meta_inherited.specs.Names.{group_names, inherited_names, place_of}
 use Rattle.csvw_meta.specs.Repeated.{repeated}
-use Rattle.csvw_meta.specs.Several.{several}
+use Rattle.csvw_meta_core.specs.Several.{several}
 use Rattle.csvw_meta.specs.Table.{table}
 
 -- a table's URL, made safe

@@ -9,7 +9,6 @@ pub mod NamesRead
 pub mod References
 pub mod Repeated
 pub mod Schema
-pub mod Several
 pub mod Table
 pub mod Titles
 pub mod UrlAlone

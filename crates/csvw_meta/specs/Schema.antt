@@ -24,7 +24,7 @@ use Rattle.csvw_meta_inherited.specs.Inherited.{inherited}
 use Rattle.csvw_meta_inherited.specs.Names.{schema_names, inherited_names, place_of}
 use Rattle.csvw_meta.specs.NamesRead.{name_known}
 use Rattle.csvw_meta.specs.Repeated.{repeated}
-use Rattle.csvw_meta.specs.Several.{several}
+use Rattle.csvw_meta_core.specs.Several.{several}
 use Rattle.csvw_meta.specs.VirtualOrder.{misplaced}
 
 -- Names are unique per table: no two that could be read, by the columns' own faults, are equal.

@@ -7,11 +7,10 @@ ghost use Rattle.csvw_meta.specs.Group.{url_of, url_faults, group, description_o
 
 use crate::body::{Body, DialectGiven, read_body, read_dialect};
 use crate::repeated::repeated_at;
-use crate::several::Several;
 use crate::table::{TableFound, TableReader};
 use csvw_description::{Description, Note, TableDescription};
 use csvw_iri::Iri;
-use csvw_meta_core::{Fixed, IdReader, MetaCode, Part, Reader, Refusal, joined};
+use csvw_meta_core::{Fixed, IdReader, MetaCode, Part, Reader, Refusal, Several, joined};
 use csvw_meta_inherited::{Context, group_warnings, read_notes};
 use csvw_text::{Seq, Text, both};
 use std::alloc::{AllocError, Global};

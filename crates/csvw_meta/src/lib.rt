@@ -12,12 +12,15 @@ mod name;
 mod references;
 mod repeated;
 mod schema;
-mod several;
 mod table;
 mod titles;
 mod url_alone;
 mod virtual_order;
 
+pub use csvw_description::{
+    ColumnDescription, Description, ForeignKey, Inherited, Note, NoteLiteral, NoteObject,
+    NoteValue, Schema, TableDescription,
+};
 pub use csvw_meta_core::{MetaCode, MetaFault};
 pub use document::read;
 pub use url_alone::plain;

@@ -9,10 +9,9 @@ ghost use Rattle.csvw_meta.specs.Schema.{name_faults, order_faults, column_fault
 
 use crate::column::ColumnReader;
 use crate::repeated::repeated_at;
-use crate::several::Several;
 use crate::virtual_order::misplaced_at;
 use csvw_description::{ColumnDescription, ForeignKey, Schema};
-use csvw_meta_core::{Fixed, IdReader, MetaCode, NotYet, Part, Reader, Refusal, joined};
+use csvw_meta_core::{Fixed, IdReader, MetaCode, NotYet, Part, Reader, Refusal, Several, joined};
 use csvw_meta_inherited::{Context, InheritedFound, read_inherited, schema_warnings};
 use csvw_meta_keys::{KeysFound, read_keys};
 use csvw_text::{Fault, Place, Seq, Text};

@@ -6,7 +6,7 @@ ghost use Rattle.csvw_meta_core.specs.Pointer.{text_of};
 ghost use Rattle.csvw_meta_core.specs.Reads.{Reads};
 ghost use Rattle.csvw_meta.specs.Described.{Describes};
 ghost use Rattle.csvw_meta.specs.Document.{IsFault, group_in, judged, plain_description};
-ghost use Rattle.csvw_meta.specs.UrlAlone.{own_base, plain_document};
+ghost use Rattle.csvw_meta.specs.UrlAlone.{IsOfUrl, own_base, plain_document};
 
 use crate::document::described;
 use csvw_description::Description;
@@ -61,6 +61,7 @@ pub fn plain(alloc: Global, url: &str) -> Result<Description, MetaFault>
     ensures plannable { IfOk result IsPlannable }
     // What is refused has that fault.
     ensures fault { IfErr result (λ e. e.code ≢ MetaCode.Memory → IsFault (plain_description url.now) e) }
+    ensures url { IfErr result (λ e. e.code ≢ MetaCode.Memory → IsOfUrl e) }
 {
     datatypes_fit();
     dialects_fit();

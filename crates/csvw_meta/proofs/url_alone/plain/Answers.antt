@@ -1,8 +1,13 @@
--- No fault stands in the document that has that URL alone.
+-- No fault stands in the document that has that URL alone, or one of the URL.
 use Rattle.csvw_meta.specs.Document.{plain_description}
 use Rattle.csvw_meta.proofs.FitDocument.{group_plannable}
+use Rattle.csvw_meta.proofs.UrlFaults.{refused_by_url}
 use Rattle.csvw_meta.proofs.url_alone.plain.Goals as goal
 
 pub returns-in-Ok-clause-plannable : goal.returns-in-Ok-clause-plannable
 returns-in-Ok-clause-plannable c =
     group_plannable c.datatypes_fit.ensures c.dialects_fit.ensures (plain_description c.args.url.now) c.in-Ok.description c.in-Ok.ensures
+
+pub returns-in-Err-Fault-clause-url : goal.returns-in-Err-Fault-clause-url
+returns-in-Err-Fault-clause-url c =
+    λ apart. refused_by_url c.args.url.now c.in-Err-Fault.field-0 c.in-Err-Fault.fault c.in-Err-Fault.field-0-is c.in-Err-Fault.ensures

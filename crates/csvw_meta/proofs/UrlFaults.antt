@@ -1,0 +1,69 @@
+-- The faults of the document that has a URL alone are those of the URL.
+use Rattle.std.proofs.Common.{◌≡◌, ◌++◌, ℕ, zero, suc, List, [], ◌∷◌, Contains, Some, None, Result, Ok, Err, inl, inr, ap, sym, subst, arith, codes}
+use Rattle.url.specs.Parts.{Parts}
+use Rattle.csvw_iri.specs.Link.{base_of, bad, too_long}
+use Rattle.csvw_iri.specs.Link as iri
+use Rattle.csvw_meta_core.specs.declared.fault.MetaCode.TheVariants.{BadUrl, UrlTooLong}
+use Rattle.csvw_meta_core.specs.declared.fault.MetaFault.{MetaFault}
+use Rattle.csvw_meta_core.specs.declared.fault.Refusal.{Refusal}
+use Rattle.csvw_meta_core.specs.declared.fault.Refusal.TheVariants as refusal
+use Rattle.csvw_meta_core.specs.Links.{told, no_url}
+use Rattle.csvw_meta_core.specs.Pointer.{below}
+use Rattle.csvw_meta_notes.specs.Unlisted.{all_notes, all_warnings}
+use Rattle.csvw_meta_inherited.specs.Datatype.{given_datatype}
+use Rattle.csvw_meta_inherited.specs.Inherited.{inherited}
+use Rattle.csvw_meta_inherited.specs.declared.context.Context.{Context}
+use Rattle.csvw_meta.specs.Body.{given_dialect, body}
+use Rattle.csvw_meta.specs.Described.{Describes, described, within}
+use Rattle.csvw_meta.specs.Document.{IsFault, judged, plain_description}
+use Rattle.csvw_meta.specs.Table.{table_of}
+use Rattle.csvw_meta.specs.UrlAlone.{IsOfUrl, plain_document}
+use Rattle.csvw_meta.proofs.HangingLemmas.{none_in}
+use Rattle.csvw_meta.proofs.MayBeLemmas.{has_url, has_context}
+
+-- the pointer of the URL
+abbrev at_url : List ℕ
+at_url = below [] (codes "url")
+
+bad_url : (f : MetaFault) → record { code = BadUrl; pointer = at_url } ≡ f → IsOfUrl f
+bad_url f is = record { pointer = sym (ap (λ (g : MetaFault). g.pointer) is); code = inl (sym (ap (λ (g : MetaFault). g.code) is)) }
+
+long_url : (f : MetaFault) → record { code = UrlTooLong; pointer = at_url } ≡ f → IsOfUrl f
+long_url f is = record { pointer = sym (ap (λ (g : MetaFault). g.pointer) is); code = inr (sym (ap (λ (g : MetaFault). g.code) is)) }
+
+-- what a text that is no URL is told by
+of_told : (r : Result Parts iri.Refusal) (f : MetaFault) → Contains (told at_url no_url r).faults f → IsOfUrl f
+of_told (Ok url) f c = absurd (none_in f c)
+of_told (Err too_long) f (zero, lt, is) = long_url f is
+of_told (Err too_long) f (suc k, lt, is) = absurd (omega (arith, lt))
+of_told (Err bad) f (zero, lt, is) = bad_url f is
+of_told (Err bad) f (suc k, lt, is) = absurd (omega (arith, lt))
+
+-- the same with nothing behind it
+of_told_alone : (r : Result Parts iri.Refusal) (f : MetaFault) → Contains (((told at_url no_url r).faults ++ []) ++ []) f → IsOfUrl f
+of_told_alone (Ok url) f c = of_told (Ok url) f c
+of_told_alone (Err too_long) f c = of_told (Err too_long) f c
+of_told_alone (Err bad) f c = of_told (Err bad) f c
+
+-- within a context
+faults_within : (c : Context) (url : List ℕ) (f : MetaFault) → Contains (within c [] (plain_document url)).faults f → IsOfUrl f
+unfolding table_of given_dialect body inherited given_datatype all_notes all_warnings
+faults_within c url f h = of_told_alone (base_of (Some c.base) url) f h
+
+-- at the URL of the document
+faults_at : (base : Parts) (url : List ℕ) (f : MetaFault) → (described base [] (plain_document url)).IsFault f → IsOfUrl f
+faults_at base url f (inl c) = absurd (none_in f c)
+faults_at base url f (inr w) =
+    let some = (has_context base [] (plain_document url)).some in
+    faults_within some.0 url f (w some.0 some.1)
+
+url_faults : (url : List ℕ) (f : MetaFault) → IsFault (plain_description url) f → IsOfUrl f
+unfolding judged
+url_faults url f (inl c) = of_told (base_of None url) f c
+url_faults url f (inr w) =
+    let some = (has_url at_url url).some in
+    faults_at some.0 url f (w some.0 some.1)
+
+-- what a call that reads the document is refused with
+pub refused_by_url : (url : List ℕ) (e : Refusal) (f : MetaFault) → e ≡ refusal.Fault f → Describes (Err e) (judged (plain_description url)) → IsOfUrl f
+refused_by_url url e f is h = url_faults url f (subst (λ r. Describes (Err r) (judged (plain_description url))) is h)
