@@ -102,7 +102,7 @@ module _ {R : Type 0} (remaining : R → Option (List ℕ)) (described : Documen
       subst (Runs remaining described m olds olds out report_out) (sym e) (told_before reason h n)
   stops_before reason result h (inr (apart, e, n)) =
       subst (Runs remaining described m olds olds out report_out) (sym e)
-      (inl ((reason, h), refl, keeps, rose out.failures out.failures out.failed refl n, quiet))
+      (inl (refl, keeps, rose out.failures out.failures out.failed refl n, quiet))
 
 -- why a document is refused
 pub meta_before : {R : Type 0} (described : Document) (olds : List (Counted R)) (reason : Stop) → IsMetaStop described reason

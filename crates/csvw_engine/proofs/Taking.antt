@@ -311,7 +311,7 @@ module _ {R S : Type 0} (gains : S → List Triple → S → Type 0) (is_open : 
   pub refused : (reason : Stop) → Refuses gains is_open failed plan m sink now reason
       → TakesTables gains is_open failed remaining m plan olds olds sink now (Err reason)
   refused stop.Memory h = ((h.0.front, h.0.gained), inl ([], none_read remaining olds, (tt, took_opening h.0)), h.1)
-  refused stop.Write h = ((h.0.front, h.0.gained), inl ([], none_read remaining olds, (tt, took_opening h.0)), h.1)
+  refused stop.Write h = ((h.0.front, h.0.gained), inl ([], none_read remaining olds, (tt, took_opening h.0)), h.2)
   refused other h = absurd h
 
 -- a session at its start has its own plan and mode

@@ -26,7 +26,7 @@ use Rattle.csvw_meta.specs.Document.{Document, IsFault, group_in}
 use Rattle.csvw_report.specs.Report.{report}
 use Rattle.csvw_report.specs.declared.outcome.Outcome.{Outcome}
 use Rattle.csvw_session.specs.Events.{Event, text_of, ended_in}
-use Rattle.csvw_session.specs.Ready.{AreReady}
+use Rattle.csvw_columns.specs.Ready.{AreReady}
 use Rattle.csvw_session.specs.Sessions.{IsRefusedHere}
 use Rattle.csvw_engine_core.specs.declared.stop.Stop.{Stop}
 use Rattle.csvw_engine_core.specs.declared.stop.Stop.TheVariants as stop
@@ -176,10 +176,9 @@ StopsBefore described olds (stop.Meta fault) = IsFault described fault
 StopsBefore described olds stop.TableCount = Differ described olds
 StopsBefore described olds other = ⊥
 
--- the flush failed behind a stop before the tables, and nothing was read, written or reported
-abbrev pub FailsBefore : {R : Type 0} → Document → List (Counted R) → List (Counted R) → Stream → Stream → Type 0
-FailsBefore described olds news out report_out =
-    ((reason : Stop) × StopsBefore described olds reason) × (news ≡ olds) × Keeps out.held out.holds × Rises out × IsIdle report_out
+-- nothing was read, written or reported, and a flush failed
+abbrev pub FailsBefore : {R : Type 0} → List (Counted R) → List (Counted R) → Stream → Stream → Type 0
+FailsBefore olds news out report_out = (news ≡ olds) × Keeps out.held out.holds × Rises out × IsIdle report_out
 
 -- there was no memory: before the tables, in one of them, or behind the whole graph; no write failed
 abbrev pub LacksMemory : {R : Type 0} → (R → Option (List ℕ)) → Document → Mode → List (Counted R) → List (Counted R) → Stream → Stream → Type 0
@@ -192,7 +191,7 @@ LacksMemory remaining described mode olds news out report_out =
 -- flush or the report behind the whole graph
 abbrev pub WriteFails : {R : Type 0} → (R → Option (List ℕ)) → Document → Mode → List (Counted R) → List (Counted R) → Stream → Stream → Type 0
 WriteFails remaining described mode olds news out report_out =
-    FailsBefore described olds news out report_out
+    FailsBefore olds news out report_out
     ⊎ ((((reason : Stop) × StopsBehind remaining described mode olds news out reason) × Rises out × IsIdle report_out)
     ⊎ (WroteGroup remaining described mode olds news out report_out
     × ((Rises out × IsSound report_out) ⊎ (IsSound out × Rises report_out))))

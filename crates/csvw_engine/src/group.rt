@@ -1,7 +1,7 @@
 //! The tables of a group, from readers to N-Triples.
 ghost use Rattle.std.specs.Prelude.{◌≡◌, ◌<◌, ◌-◌, ◌^◌, length};
 ghost use Rattle.csvw_text.specs.Streams.{stream_of};
-ghost use Rattle.csvw_session.specs.Ready.{AreReady};
+ghost use Rattle.csvw_columns.specs.Ready.{AreReady};
 ghost use Rattle.csvw_session.specs.Sessions.{Starts};
 ghost use Rattle.csvw_engine.specs.Groups.{Converts, TakesTables};
 ghost use Rattle.csvw_engine.specs.Rooms.{IsRoomFor};

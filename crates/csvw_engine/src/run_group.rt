@@ -1,6 +1,6 @@
 //! Runs over a group of tables.
 ghost use Rattle.std.specs.Prelude.{◌≡◌, ◌≤◌, ◌∷◌, [], length};
-ghost use Rattle.csvw_session.specs.Ready.{AreReady};
+ghost use Rattle.csvw_columns.specs.Ready.{AreReady};
 ghost use Rattle.csvw_triples_core.specs.declared.mode.Mode.TheVariants as mode;
 ghost use Rattle.csvw_text.specs.Streams.{stream_of};
 ghost use Rattle.csvw_engine.specs.Runs.{IsPlanned, Runs};
