@@ -1,8 +1,9 @@
 //! Bases.
-use crate::telling::base_told;
-use csvw_iri::{Base, Iri, IriFault, with_fragment};
+use crate::claims::Claim;
+use crate::tables::Table;
+use crate::telling::base_tells;
+use csvw_iri::{Base, is_raw_text, with_fragment};
 use std::alloc::{AllocError, Global};
-use std::test::Fail;
 
 /// Texts, and behind `=>` the bases that they are.
 const BASES: &str = "\
@@ -22,61 +23,45 @@ dc:x=>dc:x
 http://[=>BadUrl
 ../p.csv=>http://example.org/p.csv";
 
-/// Whether the text of a row is the base behind it.
-fn row_is_base(alloc: Global, row: &str) -> Result<bool, AllocError> {
-    match row.split_once("=>") {
-        Some((text, want)) => Ok(base_told(alloc, Base::new(alloc, text))?.as_str() == want),
-        None => Ok(false),
-    }
-}
+pub(crate) static TABLES: [Table; 3] = [
+    Table {
+        base: "http://example.org/",
+        claim: Claim::IsBase,
+        rows: BASES,
+    },
+    Table {
+        base: "http://example.org/d/meta.json",
+        claim: Claim::Joins,
+        rows: JOINED,
+    },
+    Table {
+        base: "http://example.org/p.csv?a#b",
+        claim: Claim::HasFragment,
+        rows: "row=7=>http://example.org/p.csv?a#row=7",
+    },
+];
 
-/// What a text joins to, against a copy of a base.
-fn joined_to_copy(alloc: Global, base: &Base, text: &str) -> Result<String, AllocError> {
+/// Whether a text joins to a copy of a base so.
+pub(crate) fn joins(
+    alloc: Global,
+    base: &Base,
+    text: &str,
+    want: &str,
+) -> Result<bool, AllocError> {
     let copy = base.clone(alloc)?;
-    base_told(alloc, copy.join(alloc, text))
+    Ok(base_tells(alloc, copy.join(alloc, text), want))
 }
 
-/// What a text joins to, against a copy of the base of a document.
-fn joined(alloc: Global, text: &str) -> Result<String, IriFault> {
-    let base = Base::new(alloc, "http://example.org/d/meta.json")?;
-    Ok(joined_to_copy(alloc, &base, text)?)
-}
-
-/// Whether the text of a row joins to the base behind it.
-fn row_joins(alloc: Global, row: &str) -> Result<bool, IriFault> {
-    match row.split_once("=>") {
-        Some((text, want)) => Ok(joined(alloc, text)?.as_str() == want),
-        None => Ok(false),
+/// Whether a base with this fragment, which has to be raw, is what is wanted.
+pub(crate) fn has_fragment(
+    alloc: Global,
+    base: &Base,
+    fragment: &str,
+    want: &str,
+) -> Result<bool, AllocError> {
+    if !is_raw_text(fragment) {
+        return Ok(false);
     }
-}
-
-/// A base with a fragment added.
-fn with_row(alloc: Global, text: &str) -> Result<Iri, IriFault> {
-    let base = Base::new(alloc, text)?;
-    Ok(with_fragment(alloc, base.iri(), "row=7")?)
-}
-
-#[test]
-fn bases_have_no_fragment(rt: HostRuntime) -> Result<(), Fail> {
-    let alloc = rt.alloc();
-    for row in BASES.lines() {
-        assert!(rt; row_is_base(alloc, row)?, "{row}");
-    }
-    Ok(())
-}
-
-#[test]
-fn bases_join(rt: HostRuntime) -> Result<(), Fail> {
-    let alloc = rt.alloc();
-    for row in JOINED.lines() {
-        assert!(rt; row_joins(alloc, row)?, "{row}");
-    }
-    Ok(())
-}
-
-#[test]
-fn fragments_are_added(rt: HostRuntime) -> Result<(), Fail> {
-    let iri = with_row(rt.alloc(), "http://example.org/p.csv?a#b")?;
-    assert_eq!(rt; iri.as_str(), "http://example.org/p.csv?a#row=7");
-    Ok(())
+    let iri = with_fragment(alloc, base.iri(), fragment)?;
+    Ok(iri.as_str() == want)
 }

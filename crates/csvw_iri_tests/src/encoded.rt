@@ -1,8 +1,9 @@
 //! Texts percent-encoded, and links of which they are the end.
+use crate::claims::Claim;
+use crate::tables::Table;
 use crate::telling::tells;
-use csvw_iri::{Base, Iri, IriFault, OwnFront, link, push_percent_encoded};
+use csvw_iri::{Base, Iri, OwnFront, link, push_percent_encoded};
 use std::alloc::{AllocError, Global};
-use std::test::Fail;
 
 /// Texts and what they are percent-encoded, as Python's `urllib.parse.quote` gives it where `-._~` alone are safe.
 const ENCODED: &str = "\
@@ -17,20 +18,6 @@ it's=>it%27s
 😀=>%F0%9F%98%80
 =>";
 
-/// What URLs begin with, behind each of which the texts may stand that begin with an unreserved character but `.`.
-const FRONTS: &str = "\
-http://example.org/x/
-https://example.org/x/a
-http://example.org/x?q=
-http://example.org/x#
-http://example.org/x/?";
-
-/// What URLs begin with behind which no text is seen at once.
-const OTHER_FRONTS: &str = "\
-http://exa
-http://example.
-http://example.org/a/%";
-
 /// Texts that aren't seen at once to begin a segment, as they may be dot segments.
 const DOTS: &str = "\
 .
@@ -40,7 +27,66 @@ const DOTS: &str = "\
 é";
 
 /// Against what fragments resolve.
-const BASE: &str = "http://example.org/d/p.csv?v=1";
+pub(crate) const BASE: &str = "http://example.org/d/p.csv?v=1";
+
+/// What is claimed of the texts: behind fronts there may be those that begin with an unreserved character but `.`.
+pub(crate) static TABLES: [Table; 11] = [
+    Table {
+        base: BASE,
+        claim: Claim::Encodes,
+        rows: ENCODED,
+    },
+    Table {
+        base: BASE,
+        claim: Claim::IsBehind("http://example.org/x/"),
+        rows: ENCODED,
+    },
+    Table {
+        base: BASE,
+        claim: Claim::IsBehind("https://example.org/x/a"),
+        rows: ENCODED,
+    },
+    Table {
+        base: BASE,
+        claim: Claim::IsBehind("http://example.org/x?q="),
+        rows: ENCODED,
+    },
+    Table {
+        base: BASE,
+        claim: Claim::IsBehind("http://example.org/x#"),
+        rows: ENCODED,
+    },
+    Table {
+        base: BASE,
+        claim: Claim::IsBehind("http://example.org/x/?"),
+        rows: ENCODED,
+    },
+    Table {
+        base: BASE,
+        claim: Claim::IsFragment,
+        rows: ENCODED,
+    },
+    Table {
+        base: BASE,
+        claim: Claim::IsUnseen("http://example.org/x/"),
+        rows: DOTS,
+    },
+    Table {
+        base: BASE,
+        claim: Claim::IsUnseen("http://exa"),
+        rows: "a",
+    },
+    Table {
+        base: BASE,
+        claim: Claim::IsUnseen("http://example."),
+        rows: "a",
+    },
+    Table {
+        base: BASE,
+        claim: Claim::IsUnseen("http://example.org/a/%"),
+        rows: "a",
+    },
+];
 
 /// Whether an IRI was found, and is this.
 fn is_iri(found: Option<Iri>, want: &str) -> bool {
@@ -50,12 +96,6 @@ fn is_iri(found: Option<Iri>, want: &str) -> bool {
     }
 }
 
-/// Whether the link of a text against the base is what is wanted, in the general way.
-fn links_to(alloc: Global, text: &str, want: &str) -> Result<bool, IriFault> {
-    let base = Base::new(alloc, BASE)?;
-    Ok(tells(alloc, link(alloc, &base, text), want)?)
-}
-
 /// Whether the link of a front and a text is what is wanted, in the memory of an earlier one.
 fn follows(alloc: Global, own: &OwnFront, text: &str, want: &str) -> Result<bool, AllocError> {
     let mut room = String::new(alloc);
@@ -63,8 +103,8 @@ fn follows(alloc: Global, own: &OwnFront, text: &str, want: &str) -> Result<bool
     Ok(is_iri(own.encoded_link(alloc, text, &mut room, first)?, want))
 }
 
-/// Whether a text has the link that is wanted behind what is a front.
-fn is_behind(alloc: Global, front: &str, text: &str, want: &str) -> Result<bool, AllocError> {
+/// Whether a text is a front, behind which another has the link that is wanted.
+fn is_front(alloc: Global, front: &str, text: &str, want: &str) -> Result<bool, AllocError> {
     match OwnFront::of(alloc, front)? {
         Some(own) => follows(alloc, &own, text, want),
         None => Ok(false),
@@ -72,10 +112,31 @@ fn is_behind(alloc: Global, front: &str, text: &str, want: &str) -> Result<bool,
 }
 
 /// Whether the link of a front and a text is what the general way gives for both.
-fn is_linked(alloc: Global, front: &str, text: &str, encoded: &str) -> Result<bool, IriFault> {
+fn is_linked(
+    alloc: Global,
+    base: &Base,
+    front: &str,
+    text: &str,
+    encoded: &str,
+) -> Result<bool, AllocError> {
     let want = format!(in alloc; "{front}{encoded}")?;
-    let is_found = is_behind(alloc, front, text, want.as_str())?;
-    Ok(is_found && links_to(alloc, want.as_str(), want.as_str())?)
+    let is_general = tells(alloc, link(alloc, base, want.as_str()), want.as_str());
+    Ok(is_general && is_front(alloc, front, text, want.as_str())?)
+}
+
+/// Whether a text is linked behind a front, or isn't seen there at once, where it may be a dot segment.
+pub(crate) fn is_behind(
+    alloc: Global,
+    base: &Base,
+    front: &str,
+    text: &str,
+    encoded: &str,
+) -> Result<bool, AllocError> {
+    if front.ends_with('/') && encoded.starts_with('%') {
+        is_unseen(alloc, front, text)
+    } else {
+        is_linked(alloc, base, front, text, encoded)
+    }
 }
 
 /// Whether the link of a fragment to a base is what is wanted, in the memory of an earlier one.
@@ -86,23 +147,17 @@ fn is_added(alloc: Global, base: &Base, text: &str, want: &str) -> Result<bool, 
     Ok(is_iri(again, want))
 }
 
-/// Whether the link of a fragment to the base is what is wanted.
-fn is_on_base(alloc: Global, text: &str, want: &str) -> Result<bool, IriFault> {
-    let base = Base::new(alloc, BASE)?;
-    Ok(is_added(alloc, &base, text, want)?)
-}
-
-/// Whether a fragment is linked so in the general way.
-fn is_resolved(alloc: Global, encoded: &str, want: &str) -> Result<bool, IriFault> {
-    let fragment = format!(in alloc; "#{encoded}")?;
-    links_to(alloc, fragment.as_str(), want)
-}
-
 /// Whether the link of a fragment is the base and the encoded text behind a `#`.
-fn is_fragment(alloc: Global, text: &str, encoded: &str) -> Result<bool, IriFault> {
+pub(crate) fn is_fragment(
+    alloc: Global,
+    base: &Base,
+    text: &str,
+    encoded: &str,
+) -> Result<bool, AllocError> {
+    let fragment = format!(in alloc; "#{encoded}")?;
     let want = format!(in alloc; "{BASE}#{encoded}")?;
-    let is_found = is_on_base(alloc, text, want.as_str())?;
-    Ok(is_found && is_resolved(alloc, encoded, want.as_str())?)
+    let is_general = tells(alloc, link(alloc, base, fragment.as_str()), want.as_str());
+    Ok(is_general && is_added(alloc, base, text, want.as_str())?)
 }
 
 /// Whether there is no link of this front and a text that is seen at once.
@@ -112,7 +167,7 @@ fn has_no_link(alloc: Global, own: &OwnFront, text: &str) -> Result<bool, AllocE
 }
 
 /// Whether there is no link of a front and a text that is seen at once.
-fn is_unseen(alloc: Global, front: &str, text: &str) -> Result<bool, AllocError> {
+pub(crate) fn is_unseen(alloc: Global, front: &str, text: &str) -> Result<bool, AllocError> {
     match OwnFront::of(alloc, front)? {
         Some(own) => has_no_link(alloc, &own, text),
         None => Ok(false),
@@ -120,7 +175,11 @@ fn is_unseen(alloc: Global, front: &str, text: &str) -> Result<bool, AllocError>
 }
 
 /// Whether there is no link of a fragment to this base that is seen at once.
-fn has_no_fragment(alloc: Global, base: &Base, text: &str) -> Result<bool, AllocError> {
+pub(crate) fn is_unseen_fragment(
+    alloc: Global,
+    base: &Base,
+    text: &str,
+) -> Result<bool, AllocError> {
     let mut room = String::new(alloc);
     Ok(
         base.encoded_fragment(alloc, text, &mut room, None)?
@@ -128,106 +187,9 @@ fn has_no_fragment(alloc: Global, base: &Base, text: &str) -> Result<bool, Alloc
     )
 }
 
-/// Whether there is no link of a fragment to the base that is seen at once.
-fn is_unseen_fragment(alloc: Global, text: &str) -> Result<bool, IriFault> {
-    let base = Base::new(alloc, BASE)?;
-    Ok(has_no_fragment(alloc, &base, text)?)
-}
-
 /// Whether a text is percent-encoded so.
-fn encodes_to(alloc: Global, text: &str, want: &str) -> Result<bool, AllocError> {
+pub(crate) fn encodes(alloc: Global, text: &str, want: &str) -> Result<bool, AllocError> {
     let mut out = String::new(alloc);
     push_percent_encoded(&mut out, text)?;
     Ok(out.as_str() == want)
-}
-
-#[test]
-fn all_but_unreserved_are_encoded(rt: HostRuntime) -> Result<(), Fail> {
-    let alloc = rt.alloc();
-    for line in ENCODED.lines() {
-        let (text, want) = line.split_once("=>").unwrap_or((line, "no row"));
-        assert!(rt; encodes_to(alloc, text, want)?, "{text:?}");
-    }
-    Ok(())
-}
-
-#[test]
-fn encoded_texts_follow_fronts(rt: HostRuntime) -> Result<(), Fail> {
-    let alloc = rt.alloc();
-    for front in FRONTS.lines() {
-        for line in ENCODED.lines() {
-            let (text, encoded) = line.split_once("=>").unwrap_or((line, "no row"));
-            if front.ends_with('/') && encoded.starts_with('%') {
-                assert!(rt; is_unseen(alloc, front, text)?, "{front:?} {text:?}");
-            } else {
-                assert!(rt;
-                    is_linked(alloc, front, text, encoded)?,
-                    "{front:?} {text:?}"
-                );
-            }
-        }
-    }
-    Ok(())
-}
-
-#[test]
-fn encoded_texts_are_fragments(rt: HostRuntime) -> Result<(), Fail> {
-    let alloc = rt.alloc();
-    for line in ENCODED.lines() {
-        let (text, encoded) = line.split_once("=>").unwrap_or((line, "no row"));
-        assert!(rt; is_fragment(alloc, text, encoded)?, "{text:?}");
-    }
-    Ok(())
-}
-
-#[test]
-fn what_may_be_a_dot_segment_is_unseen(rt: HostRuntime) -> Result<(), Fail> {
-    let alloc = rt.alloc();
-    for text in DOTS.lines() {
-        assert!(rt;
-            is_unseen(alloc, "http://example.org/x/", text)?,
-            "{text:?}"
-        );
-    }
-    for front in OTHER_FRONTS.lines() {
-        assert!(rt; is_unseen(alloc, front, "a")?, "{front:?}");
-    }
-    Ok(())
-}
-
-/// What the letters of long links stand behind.
-const FRONT: &str = "http://example.org/x/";
-
-/// Whether so many letters are linked behind the front.
-fn letters_are_linked(alloc: Global, count: usize) -> Result<bool, IriFault> {
-    let text = "a".repeat(alloc, count)?;
-    is_linked(alloc, FRONT, text.as_str(), text.as_str())
-}
-
-/// Whether so many letters have no link behind the front that is seen at once.
-fn letters_are_unseen(alloc: Global, count: usize) -> Result<bool, AllocError> {
-    let text = "a".repeat(alloc, count)?;
-    is_unseen(alloc, FRONT, text.as_str())
-}
-
-/// Whether so many letters are linked as a fragment.
-fn letters_are_fragment(alloc: Global, count: usize) -> Result<bool, IriFault> {
-    let text = "a".repeat(alloc, count)?;
-    is_fragment(alloc, text.as_str(), text.as_str())
-}
-
-/// Whether so many letters have no link as a fragment that is seen at once.
-fn letters_are_no_fragment(alloc: Global, count: usize) -> Result<bool, IriFault> {
-    let text = "a".repeat(alloc, count)?;
-    is_unseen_fragment(alloc, text.as_str())
-}
-
-#[test]
-fn long_links_are_unseen(rt: HostRuntime) -> Result<(), Fail> {
-    let alloc = rt.alloc();
-    assert!(rt; letters_are_linked(alloc, 65_536 - FRONT.len())?);
-    assert!(rt; letters_are_unseen(alloc, 65_537 - FRONT.len())?);
-    assert!(rt; letters_are_fragment(alloc, 65_535)?);
-    assert!(rt; letters_are_no_fragment(alloc, 65_536)?);
-    Ok(())
 }

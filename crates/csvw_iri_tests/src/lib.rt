@@ -5,6 +5,8 @@
 #[cfg(test)]
 mod bases;
 #[cfg(test)]
+mod claims;
+#[cfg(test)]
 mod encoded;
 #[cfg(test)]
 mod iris;
@@ -14,5 +16,7 @@ mod limits;
 mod links;
 #[cfg(test)]
 mod own;
+#[cfg(test)]
+mod tables;
 #[cfg(test)]
 mod telling;

@@ -1,93 +1,43 @@
 //! Texts at the limit of 65,536 bytes, and past it.
-use crate::telling::{base_told, tells};
-use csvw_iri::{Base, IriFault, link, resolve};
-use std::alloc::{AllocError, Global};
-use std::test::Fail;
+use crate::claims::Claim;
+use crate::links::gives;
+use crate::tables::Case;
+use crate::telling::base_tells;
+use csvw_iri::Base;
+use std::alloc::Global;
 
-/// A text, and so many letters behind it.
-fn letters(alloc: Global, front: &str, count: usize) -> Result<String, AllocError> {
-    let mut text = String::from_str(alloc, front)?;
-    for _ in 0..count {
-        text.push('a')?;
-    }
-    Ok(text)
-}
+/// What the letters of long links stand behind.
+const FRONT: &str = "http://example.org/x/";
+
+/// What is claimed against `http://example.org/p.csv`. What is measured of a link is its text with its prefix replaced, here by 25 bytes.
+pub(crate) static TEXTS: [Case; 8] = [
+    (Claim::AllGive, ("", 65536), ("http://example.org/", 65536)),
+    (Claim::IsBase, ("", 65536), ("BadUrl", 0)),
+    (Claim::AllGive, ("", 65537), ("UrlTooLong", 0)),
+    (Claim::IsBase, ("", 65537), ("UrlTooLong", 0)),
+    (
+        Claim::Links,
+        ("dc:", 65511),
+        ("http://purl.org/dc/terms/", 65511),
+    ),
+    (Claim::Resolves, ("dc:", 65511), ("dc:", 65511)),
+    (Claim::Links, ("dc:", 65512), ("UrlTooLong", 0)),
+    (Claim::Resolves, ("dc:", 65512), ("dc:", 65512)),
+];
+
+/// What is claimed of texts percent-encoded, against the base of such texts.
+pub(crate) static ENCODED: [Case; 4] = [
+    (
+        Claim::IsBehind(FRONT),
+        ("", 65_536 - FRONT.len()),
+        ("", 65_536 - FRONT.len()),
+    ),
+    (Claim::IsUnseen(FRONT), ("", 65_537 - FRONT.len()), ("", 0)),
+    (Claim::IsFragment, ("", 65_535), ("", 65_535)),
+    (Claim::IsUnseenFragment, ("", 65_536), ("", 0)),
+];
 
 /// Whether each call that takes this base answers so.
-fn all_give_by(alloc: Global, base: &Base, text: &str, want: &str) -> Result<bool, AllocError> {
-    let resolves = tells(alloc, resolve(alloc, base, text), want)?;
-    let links = tells(alloc, link(alloc, base, text), want)?;
-    Ok(resolves && links && base_told(alloc, base.join(alloc, text))?.as_str() == want)
-}
-
-/// Whether each call that takes a base answers so.
-fn all_give(alloc: Global, text: &str, want: &str) -> Result<bool, IriFault> {
-    let base = Base::new(alloc, "http://example.org/p.csv")?;
-    Ok(all_give_by(alloc, &base, text, want)?)
-}
-
-/// Whether a text is past the limit in a link to this base, and resolves to itself.
-fn only_link_refuses_by(alloc: Global, base: &Base, text: &str) -> Result<bool, AllocError> {
-    let is_refused = tells(alloc, link(alloc, base, text), "UrlTooLong")?;
-    Ok(is_refused && tells(alloc, resolve(alloc, base, text), text)?)
-}
-
-/// Whether a text is past the limit in a link alone.
-fn only_link_refuses_text(alloc: Global, text: &str) -> Result<bool, IriFault> {
-    let base = Base::new(alloc, "http://example.org/p.csv")?;
-    Ok(only_link_refuses_by(alloc, &base, text)?)
-}
-
-/// Whether so many letters behind a prefix of 25 bytes are past the limit in a link alone.
-fn only_link_refuses(alloc: Global, count: usize) -> Result<bool, IriFault> {
-    let text = letters(alloc, "dc:", count)?;
-    only_link_refuses_text(alloc, text.as_str())
-}
-
-#[test]
-fn longest_text(rt: HostRuntime) -> Result<(), Fail> {
-    let alloc = rt.alloc();
-    let text = letters(alloc, "", 65536)?;
-    let want = letters(alloc, "http://example.org/", 65536)?;
-    assert!(rt; all_give(alloc, text.as_str(), want.as_str())?);
-    Ok(())
-}
-
-#[test]
-fn longest_text_without_base(rt: HostRuntime) -> Result<(), Fail> {
-    let alloc = rt.alloc();
-    let text = letters(alloc, "", 65536)?;
-    assert_eq!(rt;
-        base_told(alloc, Base::new(alloc, text.as_str()))?.as_str(),
-        "BadUrl"
-    );
-    Ok(())
-}
-
-#[test]
-fn too_long_text(rt: HostRuntime) -> Result<(), Fail> {
-    let alloc = rt.alloc();
-    let text = letters(alloc, "", 65537)?;
-    assert!(rt; all_give(alloc, text.as_str(), "UrlTooLong")?);
-    Ok(())
-}
-
-#[test]
-fn too_long_text_without_base(rt: HostRuntime) -> Result<(), Fail> {
-    let alloc = rt.alloc();
-    let text = letters(alloc, "", 65537)?;
-    assert_eq!(rt;
-        base_told(alloc, Base::new(alloc, text.as_str()))?.as_str(),
-        "UrlTooLong"
-    );
-    Ok(())
-}
-
-// what is measured is the text with its prefix replaced, here by 25 bytes
-#[test]
-fn longest_text_with_a_prefix(rt: HostRuntime) -> Result<(), Fail> {
-    let alloc = rt.alloc();
-    assert!(rt; !only_link_refuses(alloc, 65511)?);
-    assert!(rt; only_link_refuses(alloc, 65512)?);
-    Ok(())
+pub(crate) fn all_give(alloc: Global, base: &Base, text: &str, want: &str) -> bool {
+    gives(alloc, base, text, want) && base_tells(alloc, base.join(alloc, text), want)
 }

@@ -1,28 +1,29 @@
 //! Links and what they resolve to.
+use crate::claims::Claim;
+use crate::tables::Table;
 use crate::telling::tells;
-use csvw_iri::{Base, IriFault, expand_prefix, link, resolve};
+use csvw_iri::{Base, expand_prefix, link, resolve};
 use std::alloc::{AllocError, Global};
-use std::test::Fail;
 
-/// The prefixes of the CSVW context and what they stand for, one on each line.
+/// The prefixes of the CSVW context, and behind `=>` what they stand for.
 const PREFIXES: &str = "\
-dc http://purl.org/dc/terms/
-dcterms http://purl.org/dc/terms/
-dc11 http://purl.org/dc/elements/1.1/
-foaf http://xmlns.com/foaf/0.1/
-schema http://schema.org/
-skos http://www.w3.org/2004/02/skos/core#
-rdf http://www.w3.org/1999/02/22-rdf-syntax-ns#
-rdfs http://www.w3.org/2000/01/rdf-schema#
-owl http://www.w3.org/2002/07/owl#
-xsd http://www.w3.org/2001/XMLSchema#
-dcat http://www.w3.org/ns/dcat#
-csvw http://www.w3.org/ns/csvw#
-prov http://www.w3.org/ns/prov#
-org http://www.w3.org/ns/org#
-oa http://www.w3.org/ns/oa#
-qb http://purl.org/linked-data/cube#
-void http://rdfs.org/ns/void#";
+dc=>http://purl.org/dc/terms/
+dcterms=>http://purl.org/dc/terms/
+dc11=>http://purl.org/dc/elements/1.1/
+foaf=>http://xmlns.com/foaf/0.1/
+schema=>http://schema.org/
+skos=>http://www.w3.org/2004/02/skos/core#
+rdf=>http://www.w3.org/1999/02/22-rdf-syntax-ns#
+rdfs=>http://www.w3.org/2000/01/rdf-schema#
+owl=>http://www.w3.org/2002/07/owl#
+xsd=>http://www.w3.org/2001/XMLSchema#
+dcat=>http://www.w3.org/ns/dcat#
+csvw=>http://www.w3.org/ns/csvw#
+prov=>http://www.w3.org/ns/prov#
+org=>http://www.w3.org/ns/org#
+oa=>http://www.w3.org/ns/oa#
+qb=>http://purl.org/linked-data/cube#
+void=>http://rdfs.org/ns/void#";
 
 /// Texts, and behind `=>` what they resolve to against `http://example.org/d/p.csv?v=1`.
 const TEXTS: &str = "\
@@ -56,87 +57,62 @@ http://h.example:99999/=>BadUrl
 /// Texts without a prefix, one on each line.
 const OTHERS: &str = "dc\n\n:x\nDc:x\nex:y\n dc:x\ndct:x\ndc://x";
 
-/// Whether a text resolves by this base to what is wanted, and its link is the same.
-fn gives_by(alloc: Global, base: &Base, text: &str, want: &str) -> Result<bool, AllocError> {
-    let is_resolved = tells(alloc, resolve(alloc, base, text), want)?;
-    Ok(is_resolved && tells(alloc, link(alloc, base, text), want)?)
-}
+/// Against what the texts resolve.
+const BASE: &str = "http://example.org/d/p.csv?v=1#f";
+
+pub(crate) static TABLES: [Table; 5] = [
+    Table {
+        base: "http://example.org/p.csv",
+        claim: Claim::IsReplaced,
+        rows: PREFIXES,
+    },
+    Table {
+        base: BASE,
+        claim: Claim::Stays,
+        rows: PREFIXES,
+    },
+    Table {
+        base: BASE,
+        claim: Claim::Expands,
+        rows: OTHERS,
+    },
+    Table {
+        base: BASE,
+        claim: Claim::Expands,
+        rows: "dc:dc:x=>http://purl.org/dc/terms/dc:x",
+    },
+    Table {
+        base: BASE,
+        claim: Claim::Gives,
+        rows: TEXTS,
+    },
+];
 
 /// Whether a text resolves to what is wanted, and its link is the same.
-fn gives(alloc: Global, text: &str, want: &str) -> Result<bool, IriFault> {
-    let base = Base::new(alloc, "http://example.org/d/p.csv?v=1#f")?;
-    Ok(gives_by(alloc, &base, text, want)?)
-}
-
-/// Whether the text of a row resolves to what stands behind it.
-fn row_resolves(alloc: Global, row: &str) -> Result<bool, IriFault> {
-    match row.split_once("=>") {
-        Some((text, want)) => gives(alloc, text, want),
-        None => Ok(false),
-    }
-}
-
-/// Whether a text links to what is wanted.
-fn links_to(alloc: Global, text: &str, want: &str) -> Result<bool, IriFault> {
-    let base = Base::new(alloc, "http://example.org/p.csv")?;
-    Ok(tells(alloc, link(alloc, &base, text), want)?)
+pub(crate) fn gives(alloc: Global, base: &Base, text: &str, want: &str) -> bool {
+    tells(alloc, resolve(alloc, base, text), want) && tells(alloc, link(alloc, base, text), want)
 }
 
 /// Whether a prefix gives way to an IRI in a link.
-fn is_replaced(alloc: Global, prefix: &str, iri: &str) -> Result<bool, IriFault> {
+pub(crate) fn is_replaced(
+    alloc: Global,
+    base: &Base,
+    prefix: &str,
+    iri: &str,
+) -> Result<bool, AllocError> {
     let text = format!(in alloc; "{prefix}:a:b")?;
     let want = format!(in alloc; "{iri}a:b")?;
-    links_to(alloc, text.as_str(), want.as_str())
+    Ok(tells(alloc, link(alloc, base, text.as_str()), want.as_str()))
 }
 
 /// Whether a prefix stays where `//` follows.
-fn stays(alloc: Global, prefix: &str) -> Result<bool, IriFault> {
+pub(crate) fn stays(alloc: Global, base: &Base, prefix: &str) -> Result<bool, AllocError> {
     let text = format!(in alloc; "{prefix}://x")?;
-    gives(alloc, text.as_str(), text.as_str())
-}
-
-/// Whether the prefix of a row gives way to the IRI behind it, but where `//` follows.
-fn row_is_prefix(alloc: Global, row: &str) -> Result<bool, IriFault> {
-    match row.split_once(" ") {
-        Some((prefix, iri)) => Ok(is_replaced(alloc, prefix, iri)? && stays(alloc, prefix)?),
-        None => Ok(false),
-    }
+    Ok(gives(alloc, base, text.as_str(), text.as_str()))
 }
 
 /// Whether a text has this expansion.
-fn expands_to(alloc: Global, text: &str, want: &str) -> Result<bool, AllocError> {
-    Ok(expand_prefix(alloc, text)?.as_str() == want)
-}
-
-#[test]
-fn prefixes_are_replaced(rt: HostRuntime) -> Result<(), Fail> {
-    let alloc = rt.alloc();
-    for row in PREFIXES.lines() {
-        assert!(rt; row_is_prefix(alloc, row)?, "{row}");
-    }
-    Ok(())
-}
-
-#[test]
-fn other_texts_stay(rt: HostRuntime) -> Result<(), Fail> {
-    let alloc = rt.alloc();
-    for text in OTHERS.lines() {
-        assert!(rt; expands_to(alloc, text, text)?, "{text}");
-    }
-    Ok(())
-}
-
-#[test]
-fn one_prefix_is_replaced(rt: HostRuntime) -> Result<(), Fail> {
-    assert!(rt; expands_to(rt.alloc(), "dc:dc:x", "http://purl.org/dc/terms/dc:x")?);
-    Ok(())
-}
-
-#[test]
-fn texts_resolve(rt: HostRuntime) -> Result<(), Fail> {
-    let alloc = rt.alloc();
-    for row in TEXTS.lines() {
-        assert!(rt; row_resolves(alloc, row)?, "{row:?}");
-    }
-    Ok(())
+pub(crate) fn expands(alloc: Global, text: &str, want: &str) -> Result<bool, AllocError> {
+    let expansion = expand_prefix(alloc, text)?;
+    Ok(expansion.as_str() == want)
 }

@@ -1,8 +1,10 @@
 //! Texts whose links are seen in one pass over their bytes, and texts that come near to them.
+use crate::claims::Claim;
+use crate::links::gives;
+use crate::tables::Table;
 use crate::telling::tells;
-use csvw_iri::{Base, IriFault, OwnFront, link, link_over, resolve};
+use csvw_iri::{Base, OwnFront, link, link_over};
 use std::alloc::{AllocError, Global};
-use std::test::Fail;
 
 /// Texts that are their own links, one on each line.
 const OWN: &str = "\
@@ -113,99 +115,73 @@ http://example.org:80/x";
 /// Against what the texts resolve.
 const BASE: &str = "http://example.org/d/p.csv?v=1";
 
-/// Whether a text resolves to what is wanted, and both links are the same, also in the memory of an earlier one and behind fronts.
-fn gives(alloc: Global, text: &str, want: &str) -> Result<bool, IriFault> {
-    let base = Base::new(alloc, BASE)?;
-    gives_by(alloc, &base, text, want)
-}
+pub(crate) static TABLES: [Table; 4] = [
+    Table {
+        base: BASE,
+        claim: Claim::GivesOwn,
+        rows: OWN,
+    },
+    Table {
+        base: BASE,
+        claim: Claim::Follows,
+        rows: FRAGMENTS,
+    },
+    Table {
+        base: BASE,
+        claim: Claim::GivesOwn,
+        rows: OTHERS,
+    },
+    Table {
+        base: BASE,
+        claim: Claim::IsNoFront,
+        rows: NO_FRONTS,
+    },
+];
 
-fn gives_by(alloc: Global, base: &Base, text: &str, want: &str) -> Result<bool, IriFault> {
-    let is_resolved = tells(alloc, resolve(alloc, base, text), want)?;
-    let is_linked = tells(alloc, link(alloc, base, text), want)?;
-    let is_same = is_resolved && is_linked && gives_over(alloc, base, text, want)?;
-    Ok(is_same && gives_behind(alloc, base, text, want)?)
+/// Whether a text resolves to what is wanted, and both links are the same, also in the memory of an earlier one and behind fronts.
+pub(crate) fn gives_own(alloc: Global, base: &Base, text: &str, want: &str) -> bool {
+    gives(alloc, base, text, want)
+        && gives_over(alloc, base, text, want)
+        && gives_behind(alloc, base, text, want)
 }
 
 /// Whether a text has the link that is wanted in the memory of an earlier one.
-fn gives_over(alloc: Global, base: &Base, text: &str, want: &str) -> Result<bool, IriFault> {
-    let spare = link(alloc, base, "http://example.org/earlier")?;
-    Ok(tells(alloc, link_over(alloc, base, text, None, Some(spare)), want)?)
+fn gives_over(alloc: Global, base: &Base, text: &str, want: &str) -> bool {
+    match link(alloc, base, "http://example.org/earlier") {
+        Ok(spare) => tells(alloc, link_over(alloc, base, text, None, Some(spare)), want),
+        Err(_) => false,
+    }
 }
 
 /// Whether a text has the link that is wanted behind each front.
-fn gives_behind(alloc: Global, base: &Base, text: &str, want: &str) -> Result<bool, AllocError> {
+fn gives_behind(alloc: Global, base: &Base, text: &str, want: &str) -> bool {
     for line in FRONTS.lines() {
-        if !gives_behind_one(alloc, base, line, text, want)? {
-            return Ok(false);
+        if !gives_behind_one(alloc, base, line, text, want) {
+            return false;
         }
     }
-    Ok(true)
+    true
 }
 
 /// Whether a line is a front, and a text has the link that is wanted behind it.
-fn gives_behind_one(
-    alloc: Global,
-    base: &Base,
-    line: &str,
-    text: &str,
-    want: &str,
-) -> Result<bool, AllocError> {
-    match OwnFront::of(alloc, line)? {
-        Some(front) => tells(
+fn gives_behind_one(alloc: Global, base: &Base, line: &str, text: &str, want: &str) -> bool {
+    match OwnFront::of(alloc, line) {
+        Ok(Some(front)) => tells(
             alloc,
             link_over(alloc, base, text, Some(&front), None),
             want,
         ),
-        None => Ok(false),
+        _ => false,
     }
 }
 
 /// Whether the link of a text is the base's IRI and then the text.
-fn follows(alloc: Global, text: &str) -> Result<bool, IriFault> {
+pub(crate) fn follows(alloc: Global, base: &Base, text: &str) -> Result<bool, AllocError> {
     let want = format!(in alloc; "{BASE}{text}")?;
-    gives(alloc, text, want.as_str())
+    Ok(gives_own(alloc, base, text, want.as_str()))
 }
 
-/// Whether the text of a row resolves to what stands behind it.
-fn row_resolves(alloc: Global, row: &str) -> Result<bool, IriFault> {
-    match row.split_once("=>") {
-        Some((text, want)) => gives(alloc, text, want),
-        None => Ok(false),
-    }
-}
-
-#[test]
-fn own_links_stay(rt: HostRuntime) -> Result<(), Fail> {
-    let alloc = rt.alloc();
-    for text in OWN.lines() {
-        assert!(rt; gives(alloc, text, text)?, "{text:?}");
-    }
-    Ok(())
-}
-
-#[test]
-fn fragments_follow_the_base(rt: HostRuntime) -> Result<(), Fail> {
-    let alloc = rt.alloc();
-    for text in FRAGMENTS.lines() {
-        assert!(rt; follows(alloc, text)?, "{text:?}");
-    }
-    Ok(())
-}
-
-#[test]
-fn other_texts_are_parsed(rt: HostRuntime) -> Result<(), Fail> {
-    let alloc = rt.alloc();
-    for row in OTHERS.lines() {
-        assert!(rt; row_resolves(alloc, row)?, "{row:?}");
-    }
-    Ok(())
-}
-
-#[test]
-fn other_texts_are_no_fronts(rt: HostRuntime) -> Result<(), Fail> {
-    let alloc = rt.alloc();
-    for text in NO_FRONTS.lines() {
-        assert!(rt; OwnFront::of(alloc, text)?.is_none(), "{text:?}");
-    }
-    Ok(())
+/// Whether one pass over a text isn't enough.
+pub(crate) fn is_no_front(alloc: Global, text: &str) -> Result<bool, AllocError> {
+    Ok(OwnFront::of(alloc, text)?.is_none())
 }

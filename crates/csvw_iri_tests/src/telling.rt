@@ -1,31 +1,27 @@
-//! What a call answers, as a text.
+//! Whether a call answers what is wanted.
 use csvw_iri::{Base, Iri, IriFault};
-use std::alloc::{AllocError, Global};
+use std::alloc::Global;
 
-/// The text of an IRI, or the name of the fault.
-pub(crate) fn told(alloc: Global, answer: Result<Iri, IriFault>) -> Result<String, AllocError> {
-    match answer {
-        Ok(iri) => String::from_str(alloc, iri.as_str()),
-        Err(fault) => format!(in alloc; "{fault:?}"),
+/// Whether a fault has this name; not where there is no memory.
+fn is_shown(alloc: Global, fault: IriFault, want: &str) -> bool {
+    match format!(in alloc; "{fault:?}") {
+        Ok(name) => name.as_str() == want,
+        Err(_) => false,
     }
 }
 
 /// Whether a call answers the IRI, or the fault, with this text.
-pub(crate) fn tells(
-    alloc: Global,
-    answer: Result<Iri, IriFault>,
-    want: &str,
-) -> Result<bool, AllocError> {
-    Ok(told(alloc, answer)?.as_str() == want)
+pub(crate) fn tells(alloc: Global, answer: Result<Iri, IriFault>, want: &str) -> bool {
+    match answer {
+        Ok(iri) => iri.as_str() == want,
+        Err(fault) => is_shown(alloc, fault, want),
+    }
 }
 
-/// The text of a base, or the name of the fault.
-pub(crate) fn base_told(
-    alloc: Global,
-    answer: Result<Base, IriFault>,
-) -> Result<String, AllocError> {
+/// Whether a call answers the base, or the fault, with this text.
+pub(crate) fn base_tells(alloc: Global, answer: Result<Base, IriFault>, want: &str) -> bool {
     match answer {
-        Ok(base) => String::from_str(alloc, base.iri().as_str()),
-        Err(fault) => format!(in alloc; "{fault:?}"),
+        Ok(base) => base.iri().as_str() == want,
+        Err(fault) => is_shown(alloc, fault, want),
     }
 }

@@ -1,13 +1,12 @@
 //! The rows of generated texts, beside those that the crate `csv` reads of them.
 
 use crate::numbers::Numbers;
-use crate::reading::{pieces, write_field};
+use crate::reading::{Way, gives, write_field};
 use csv::{Reader, ReaderBuilder, StringRecord};
 use csvw_rows::Dialect;
-use std::alloc::Global;
+use std::alloc::{AllocError, Global};
 use std::fmt::Write;
 use std::process::Abort;
-use std::test::Fail;
 
 /// What may stand in a cell without quotes, at its start too.
 const PLAIN: [&str; 9] = [
@@ -36,23 +35,23 @@ const QUOTED: [&str; 10] = [
     "\u{1F600}",
 ];
 
-fn add_plain(text: &mut String, numbers: &mut Numbers, len: u64) -> Result<(), Fail> {
+fn add_plain(text: &mut String, numbers: &mut Numbers, len: u64) -> Result<(), AllocError> {
     for _ in 0..len {
         text.push_str(numbers.pick(&PLAIN))?;
     }
     Ok(())
 }
 
-fn add_quoted(text: &mut String, numbers: &mut Numbers, len: u64) -> Result<(), Fail> {
+fn add_quoted(text: &mut String, numbers: &mut Numbers, len: u64) -> Result<(), AllocError> {
     text.push('"')?;
     for _ in 0..len {
         text.push_str(numbers.pick(&QUOTED))?;
     }
-    Ok(text.push('"')?)
+    text.push('"')
 }
 
 /// A row of so many cells. One cell alone isn't empty, as the row would be blank.
-fn add_row(text: &mut String, numbers: &mut Numbers, columns: u64) -> Result<(), Fail> {
+fn add_row(text: &mut String, numbers: &mut Numbers, columns: u64) -> Result<(), AllocError> {
     for column in 0..columns {
         if 0 < column {
             text.push(',')?;
@@ -68,7 +67,7 @@ fn add_row(text: &mut String, numbers: &mut Numbers, columns: u64) -> Result<(),
 }
 
 /// Up to seven rows of equal length; the last may lack its terminator.
-fn add_rows(text: &mut String, numbers: &mut Numbers) -> Result<(), Fail> {
+fn add_rows(text: &mut String, numbers: &mut Numbers) -> Result<(), AllocError> {
     let columns = 1 + numbers.below(4);
     let rows = numbers.below(8);
     for row in 0..rows {
@@ -80,27 +79,20 @@ fn add_rows(text: &mut String, numbers: &mut Numbers) -> Result<(), Fail> {
     Ok(())
 }
 
-/// A text of such rows.
-fn generated(alloc: Global, numbers: &mut Numbers) -> Result<String, Fail> {
-    let mut text = String::new(alloc);
-    add_rows(&mut text, numbers)?;
-    Ok(text)
-}
-
 /// Writes a record as `write_row` writes a row of this source number.
-fn write_record(text: &mut String, record: &StringRecord, source: u64) -> Result<(), Fail> {
+fn write_record(text: &mut String, record: &StringRecord, source: u64) -> Result<(), AllocError> {
     write!(text, "{source}/{}", source.saturating_sub(1))?;
     for field in record.iter() {
         write_field(text, field)?;
     }
-    Ok(text.push_str("; ")?)
+    text.push_str("; ")
 }
 
 /// Whether there was a record.
-fn read_record(reader: &mut Reader<&[u8]>, record: &mut StringRecord) -> Result<bool, Fail> {
+fn read_record(reader: &mut Reader<&[u8]>, record: &mut StringRecord) -> Result<bool, AllocError> {
     match reader.read_record(record) {
         Ok(more) => Ok(more),
-        Err(_) => Err("no record")?,
+        Err(_) => Err(AllocError),
     }
 }
 
@@ -109,7 +101,7 @@ fn write_records(
     text: &mut String,
     reader: &mut Reader<&[u8]>,
     record: &mut StringRecord,
-) -> Result<(), Fail> {
+) -> Result<(), AllocError> {
     for source in 1..64 {
         if !read_record(reader, record)? {
             break;
@@ -119,47 +111,53 @@ fn write_records(
     Ok(())
 }
 
-fn records_of(alloc: Global, reader: &mut Reader<&[u8]>) -> Result<String, Fail> {
+/// Writes what the crate `csv` reads.
+fn write_read(text: &mut String, alloc: Global, bytes: &[u8]) -> Result<(), AllocError> {
     let mut record = StringRecord::new(alloc);
-    let mut text = String::new(alloc);
-    write_records(&mut text, reader, &mut record)?;
-    Ok(text)
-}
-
-/// What the crate `csv` reads.
-fn records(alloc: Global, bytes: &[u8]) -> Result<String, Fail> {
     let mut reader = ReaderBuilder::new()
         .has_headers(false)
         .from_reader(alloc, bytes);
-    records_of(alloc, &mut reader)
+    write_records(text, &mut reader, &mut record)
 }
 
 const TEXTS: u32 = 1000;
 
 /// Compares the rows of a text, in pieces of each length, with what is wanted.
-fn compare_pieces(rt: &impl Abort, alloc: Global, text: &str, want: &str) -> Result<(), Fail> {
+fn compare_pieces(rt: &impl Abort, alloc: Global, text: &str, want: &str) {
     for len in [1, 2, 3, 7, 1000] {
-        assert_eq!(rt;
-            pieces(alloc, Dialect::new(alloc)?, 1000, text.as_bytes(), len)?.as_str(),
-            want,
-            "{text:?} by {len}"
+        assert!(rt;
+            gives(
+                alloc,
+                Dialect::new(alloc),
+                1000,
+                Way::Pieces(text.as_bytes(), len),
+                want
+            ),
+            "{text:?} by {len}, and not {want:?}"
         );
     }
-    Ok(())
 }
 
-fn compare(rt: &impl Abort, alloc: Global, text: &str) -> Result<(), Fail> {
-    let want = records(alloc, text.as_bytes())?;
-    compare_pieces(rt, alloc, text, want.as_str())
+fn compare(rt: &impl Abort, alloc: Global, text: &str) {
+    let mut want = String::new(alloc);
+    assert!(rt;
+        write_read(&mut want, alloc, text.as_bytes()).is_ok(),
+        "{text:?}"
+    );
+    compare_pieces(rt, alloc, text, want.as_str());
+}
+
+/// Compares what a text of such rows gives.
+fn compare_next(rt: &impl Abort, alloc: Global, numbers: &mut Numbers) {
+    let mut text = String::new(alloc);
+    assert!(rt; add_rows(&mut text, numbers).is_ok());
+    compare(rt, alloc, text.as_str());
 }
 
 #[test]
-fn as_the_crate_csv(rt: HostRuntime) -> Result<(), Fail> {
-    let alloc = rt.alloc();
+fn as_the_crate_csv(rt: HostRuntime) {
     let mut numbers = Numbers(1);
     for _ in 0..TEXTS {
-        let text = generated(alloc, &mut numbers)?;
-        compare(&rt, alloc, text.as_str())?;
+        compare_next(&rt, rt.alloc(), &mut numbers);
     }
-    Ok(())
 }

@@ -2,8 +2,8 @@
 
 use crate::kind::{DEFAULT, Kind};
 use crate::numbers::Numbers;
-use crate::plain::{Front, plain};
-use crate::reading::pieces;
+use crate::plain::{Front, write_all};
+use crate::reading::{Way, gives};
 use csvw_rows::{Dialect, LineTerminators, Trim};
 use std::alloc::{AllocError, Global};
 use std::process::Abort;
@@ -40,16 +40,16 @@ const SYMBOLS: [&str; 10] = [
 
 const BREAKS: [&str; 3] = ["\n", "\r\n", "\r"];
 
-fn add_text(text: &mut String, numbers: &mut Numbers) -> Result<(), Fail> {
+fn add_text(text: &mut String, numbers: &mut Numbers) -> Result<(), AllocError> {
     let piece = if numbers.below(64) == 0 {
         numbers.pick(&SYMBOLS)
     } else {
         numbers.pick(&LETTERS)
     };
-    Ok(text.push_str(piece)?)
+    text.push_str(piece)
 }
 
-fn add_plain(text: &mut String, numbers: &mut Numbers, len: u64) -> Result<(), Fail> {
+fn add_plain(text: &mut String, numbers: &mut Numbers, len: u64) -> Result<(), AllocError> {
     for _ in 0..len {
         add_text(text, numbers)?;
     }
@@ -62,11 +62,11 @@ fn add_in_quotes(
     numbers: &mut Numbers,
     d: &Dialect,
     quote: char,
-) -> Result<(), Fail> {
+) -> Result<(), AllocError> {
     match numbers.below(8) {
         0 => {
             text.push(if d.double_quote { quote } else { '\\' })?;
-            Ok(text.push(quote)?)
+            text.push(quote)
         }
         1 => Ok(text.push(d.delimiter)?),
         2 => Ok(text.push_str(numbers.pick(&BREAKS))?),
@@ -80,15 +80,15 @@ fn add_quoted(
     d: &Dialect,
     quote: char,
     len: u64,
-) -> Result<(), Fail> {
+) -> Result<(), AllocError> {
     text.push(quote)?;
     for _ in 0..len {
         add_in_quotes(text, numbers, d, quote)?;
     }
-    Ok(text.push(quote)?)
+    text.push(quote)
 }
 
-fn add_cell(text: &mut String, numbers: &mut Numbers, d: &Dialect) -> Result<(), Fail> {
+fn add_cell(text: &mut String, numbers: &mut Numbers, d: &Dialect) -> Result<(), AllocError> {
     let len = numbers.below(5);
     match d.quote_char {
         Some(quote) if numbers.below(2) == 0 => {
@@ -102,7 +102,7 @@ fn add_cell(text: &mut String, numbers: &mut Numbers, d: &Dialect) -> Result<(),
 }
 
 /// A row of up to four cells, a comment where the dialect has comments, or an empty row.
-fn add_row(text: &mut String, numbers: &mut Numbers, d: &Dialect) -> Result<(), Fail> {
+fn add_row(text: &mut String, numbers: &mut Numbers, d: &Dialect) -> Result<(), AllocError> {
     if let Some(prefix) = &d.comment_prefix
         && numbers.below(8) == 0
     {
@@ -118,7 +118,7 @@ fn add_row(text: &mut String, numbers: &mut Numbers, d: &Dialect) -> Result<(), 
 }
 
 /// Up to eight rows, or some more than are taken.
-fn add_rows(text: &mut String, numbers: &mut Numbers, d: &Dialect) -> Result<(), Fail> {
+fn add_rows(text: &mut String, numbers: &mut Numbers, d: &Dialect) -> Result<(), AllocError> {
     let rows = if numbers.below(8) == 0 {
         60
     } else {
@@ -129,13 +129,6 @@ fn add_rows(text: &mut String, numbers: &mut Numbers, d: &Dialect) -> Result<(),
         text.push_str(terminator(numbers, d))?;
     }
     Ok(())
-}
-
-/// A text of such rows.
-fn generated(alloc: Global, numbers: &mut Numbers, d: &Dialect) -> Result<String, Fail> {
-    let mut text = String::new(alloc);
-    add_rows(&mut text, numbers, d)?;
-    Ok(text)
 }
 
 /// A terminator of the dialect.
@@ -166,48 +159,60 @@ fn front_of(alloc: Global, text: &str, len: usize) -> Result<Front, AllocError> 
 }
 
 /// Compares the rows of a text, in pieces of each length, with what is wanted.
-fn compare_pieces(
-    rt: &impl Abort,
-    alloc: Global,
-    d: &Dialect,
-    bytes: &[u8],
-    want: &str,
-) -> Result<(), Fail> {
+fn compare_pieces(rt: &impl Abort, alloc: Global, d: &Dialect, bytes: &[u8], want: &str) {
     for len in [1, 2, 3, 7, 1_000, 100_000] {
-        assert_eq!(rt;
-            pieces(alloc, d.clone(alloc)?, MAX_ROWS, bytes, len)?.as_str(),
-            want,
-            "{bytes:?} by {len}"
+        assert!(rt;
+            gives(
+                alloc,
+                d.clone(alloc),
+                MAX_ROWS,
+                Way::Pieces(bytes, len),
+                want
+            ),
+            "{bytes:?} by {len}, and not {want:?}"
         );
     }
-    Ok(())
 }
 
-/// What the plain reader finds in so many bytes at the front of a text.
-fn plain_front(alloc: Global, d: &Dialect, text: &str, len: usize) -> Result<String, Fail> {
-    let front = front_of(alloc, text, len)?;
-    plain(alloc, d, MAX_ROWS, &front)
-}
-
-fn compare_text(
-    rt: &impl Abort,
+/// Writes what the plain reader finds in so many bytes at the front of a text.
+fn write_plain_front(
+    out: &mut String,
     alloc: Global,
     d: &Dialect,
     text: &str,
     len: usize,
-) -> Result<(), Fail> {
-    let want = plain_front(alloc, d, text, len)?;
-    let (bytes, _) = text.as_bytes().split_at(len.min(text.len()));
-    compare_pieces(rt, alloc, d, bytes, want.as_str())
+) -> Result<(), AllocError> {
+    let front = front_of(alloc, text, len)?;
+    write_all(out, alloc, d, MAX_ROWS, &front)
 }
 
-/// Compares what texts give by the dialect. Up to three bytes are cut off their ends.
-fn compare(rt: &impl Abort, alloc: Global, d: &Dialect, numbers: &mut Numbers) -> Result<(), Fail> {
+fn compare_text(rt: &impl Abort, alloc: Global, d: &Dialect, text: &str, len: usize) {
+    let mut want = String::new(alloc);
+    assert!(rt;
+        write_plain_front(&mut want, alloc, d, text, len).is_ok(),
+        "{text:?}"
+    );
+    let (bytes, _) = text.as_bytes().split_at(len.min(text.len()));
+    compare_pieces(rt, alloc, d, bytes, want.as_str());
+}
+
+/// Compares what a text gives by the dialect. Up to three bytes are cut off its end.
+fn compare_next(rt: &impl Abort, alloc: Global, d: &Dialect, numbers: &mut Numbers) {
+    let mut text = String::new(alloc);
+    assert!(rt; add_rows(&mut text, numbers, d).is_ok());
+    let cut = numbers.below(4) as usize;
+    compare_text(rt, alloc, d, text.as_str(), text.len().saturating_sub(cut));
+}
+
+fn compare(
+    rt: &impl Abort,
+    alloc: Global,
+    kind: &Kind,
+    numbers: &mut Numbers,
+) -> Result<(), AllocError> {
+    let d = kind.dialect(alloc)?;
     for _ in 0..TEXTS {
-        let text = generated(alloc, numbers, d)?;
-        let cut = numbers.below(4) as usize;
-        let len = text.len().saturating_sub(cut);
-        compare_text(rt, alloc, d, text.as_str(), len)?;
+        compare_next(rt, alloc, &d, numbers);
     }
     Ok(())
 }
@@ -285,10 +290,9 @@ static KINDS: [Kind; 15] = [
 
 #[test]
 fn as_the_plain_reader(rt: HostRuntime) -> Result<(), Fail> {
-    let alloc = rt.alloc();
     let mut numbers = Numbers(1);
     for kind in &KINDS {
-        compare(&rt, alloc, &kind.dialect(alloc)?, &mut numbers)?;
+        compare(&rt, rt.alloc(), kind, &mut numbers)?;
     }
     Ok(())
 }

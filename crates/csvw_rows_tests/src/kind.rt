@@ -5,7 +5,7 @@ use csvw_text::Text;
 use std::alloc::{AllocError, Global};
 
 /// A dialect, with its comment prefix as a constant text.
-#[derive(Clone, Copy, Debug)]
+#[derive(Clone, Copy)]
 pub struct Kind {
     /// Between two fields.
     pub delimiter: char,

@@ -5,7 +5,6 @@ use csvw_rows::{Dialect, RowStop, Trim};
 use csvw_text::is_white;
 use std::alloc::{AllocError, Global};
 use std::fmt::Write;
-use std::test::Fail;
 
 /// The first characters of a text, and whether bytes that begin another one stand behind them.
 #[derive(Drop)]
@@ -85,6 +84,30 @@ fn behind(rest: &[char]) -> &[char] {
     }
 }
 
+/// What is next within quotes.
+#[derive(Clone, Copy)]
+enum Inside<'a> {
+    /// A character of the field, and what stands behind it.
+    Char(char, &'a [char]),
+    /// The quote that closes the field, and what stands behind it.
+    Close(&'a [char]),
+    /// The end of the text.
+    End,
+}
+
+fn next_quoted<'a>(d: &Dialect, quote: char, rest: &'a [char]) -> Inside<'a> {
+    match rest {
+        [a, b, behind @ ..] if d.double_quote && *a == quote && *b == quote => {
+            Inside::Char(quote, behind)
+        }
+        [c, behind @ ..] if *c == quote => Inside::Close(behind),
+        ['\\', c, behind @ ..] if !d.double_quote => Inside::Char(*c, behind),
+        ['\\'] if !d.double_quote => Inside::End,
+        [c, behind @ ..] => Inside::Char(*c, behind),
+        [] => Inside::End,
+    }
+}
+
 /// What stands behind the quote that closes a field; `None` where the text ends first.
 fn quoted<'a>(
     d: &Dialect,
@@ -94,23 +117,14 @@ fn quoted<'a>(
 ) -> Result<Option<&'a [char]>, AllocError> {
     let mut rest = text;
     for _ in text {
-        rest = match rest {
-            [a, b, behind @ ..] if d.double_quote && *a == quote && *b == quote => {
-                value.push(quote)?;
-                behind
+        match next_quoted(d, quote, rest) {
+            Inside::Char(c, behind) => {
+                value.push(c)?;
+                rest = behind;
             }
-            [c, behind @ ..] if *c == quote => return Ok(Some(behind)),
-            ['\\', c, behind @ ..] if !d.double_quote => {
-                value.push(*c)?;
-                behind
-            }
-            ['\\'] if !d.double_quote => return Ok(None),
-            [c, behind @ ..] => {
-                value.push(*c)?;
-                behind
-            }
-            [] => return Ok(None),
-        };
+            Inside::Close(behind) => return Ok(Some(behind)),
+            Inside::End => return Ok(None),
+        }
     }
     Ok(None)
 }
@@ -246,8 +260,8 @@ fn front_row<'a>(
     fields(alloc, d, sure, whole)
 }
 
-/// Adds the text of a field. White space waits until it is known not to be at the end.
-fn add_stripped(
+/// Writes the text of a field. White space waits until it is known not to be at the end.
+fn write_stripped(
     text: &mut String,
     white: &mut String,
     trim: Trim,
@@ -268,14 +282,6 @@ fn add_stripped(
     Ok(())
 }
 
-/// The text of a field, from its value.
-fn stripped(alloc: Global, trim: Trim, value: &str) -> Result<String, AllocError> {
-    let mut text = String::new(alloc);
-    let mut white = String::new(alloc);
-    add_stripped(&mut text, &mut white, trim, value)?;
-    Ok(text)
-}
-
 /// Writes the field of a value, unless it is passed; whether it is empty.
 fn write_value(
     text: &mut String,
@@ -283,8 +289,10 @@ fn write_value(
     d: &Dialect,
     value: &str,
     passed: bool,
-) -> Result<bool, Fail> {
-    let field = stripped(alloc, d.trim, value)?;
+) -> Result<bool, AllocError> {
+    let mut field = String::new(alloc);
+    let mut white = String::new(alloc);
+    write_stripped(&mut field, &mut white, d.trim, value)?;
     if !passed {
         write_field(text, field.as_str())?;
     }
@@ -297,7 +305,7 @@ fn write_values(
     alloc: Global,
     d: &Dialect,
     values: &[String],
-) -> Result<bool, Fail> {
+) -> Result<bool, AllocError> {
     let mut is_blank = d.skip_blank_rows;
     for (i, value) in values.iter().enumerate() {
         let passed = i < d.skip_columns as usize;
@@ -307,25 +315,34 @@ fn write_values(
     Ok(is_blank)
 }
 
-/// The fields of a row as `write_row` writes them; `None` for a row that gives nothing, as it is blank.
-fn fields_of(alloc: Global, d: &Dialect, values: &[String]) -> Result<Option<String>, Fail> {
-    let mut text = String::new(alloc);
-    let is_blank = write_values(&mut text, alloc, d, values)?;
-    Ok(if is_blank { None } else { Some(text) })
-}
-
 /// Writes a row of these fields behind so many that remained; how many remain with it.
 fn write_numbered(
     out: &mut String,
     d: &Dialect,
     numbers: (u64, u64),
     fields: &str,
-) -> Result<u64, Fail> {
+) -> Result<u64, AllocError> {
     let (source, remained) = numbers;
     let remained = remained.saturating_add(1);
     let number = remained.saturating_sub(u64::from(d.header_row_count));
     write!(out, "{source}/{number}{fields}; ")?;
     Ok(remained)
+}
+
+/// Writes a row of values as `write_row` does, unless it is blank, behind so many that remained; how many remain with it.
+fn write_given(
+    out: &mut String,
+    alloc: Global,
+    d: &Dialect,
+    numbers: (u64, u64),
+    values: &[String],
+) -> Result<u64, AllocError> {
+    let mut fields = String::new(alloc);
+    if write_values(&mut fields, alloc, d, values)? {
+        Ok(numbers.1)
+    } else {
+        write_numbered(out, d, numbers, fields.as_str())
+    }
 }
 
 /// Writes a row if it is given, behind so many that remained; how many remain with it.
@@ -335,12 +352,9 @@ fn write_plain(
     d: &Dialect,
     numbers: (u64, u64),
     values: Option<Vec<String>>,
-) -> Result<u64, Fail> {
+) -> Result<u64, AllocError> {
     match values {
-        Some(values) => match fields_of(alloc, d, values.as_slice())? {
-            Some(fields) => write_numbered(out, d, numbers, fields.as_str()),
-            None => Ok(numbers.1),
-        },
+        Some(values) => write_given(out, alloc, d, numbers, values.as_slice()),
         None => Ok(numbers.1),
     }
 }
@@ -371,7 +385,7 @@ fn write_front<'a>(
     d: &Dialect,
     at: Reading<'a>,
     whole: bool,
-) -> Result<Option<(&'a [char], u64)>, Fail> {
+) -> Result<Option<(&'a [char], u64)>, AllocError> {
     let stop = match front_row(alloc, d, at.source, at.rest, whole)? {
         Found::Row(values, behind) => {
             let remained = write_plain(out, alloc, d, (at.source, at.remained), values)?;
@@ -384,14 +398,14 @@ fn write_front<'a>(
     Ok(None)
 }
 
-/// Writes what a text gives row after row.
-fn write_all(
+/// Writes what a text gives row after row, by a dialect that takes at most so many rows.
+pub(crate) fn write_all(
     out: &mut String,
     alloc: Global,
     d: &Dialect,
     max_rows: u32,
     front: &Front,
-) -> Result<(), Fail> {
+) -> Result<(), AllocError> {
     let mut rest = unmarked(front.chars.as_slice());
     let mut remained = 0u64;
     for place in 0..=max_rows {
@@ -418,16 +432,4 @@ fn write_all(
         remained = now;
     }
     Ok(())
-}
-
-/// What a text gives row after row, by a dialect that takes at most so many rows.
-pub(crate) fn plain(
-    alloc: Global,
-    d: &Dialect,
-    max_rows: u32,
-    front: &Front,
-) -> Result<String, Fail> {
-    let mut out = String::new(alloc);
-    write_all(&mut out, alloc, d, max_rows, front)?;
-    Ok(out)
 }

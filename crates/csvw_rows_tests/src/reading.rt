@@ -1,35 +1,21 @@
 //! What `Rows` gives of a text, written as a line.
-ghost use Rattle.std.specs.Prelude.{◌<◌, IfOk};
-ghost use Rattle.csvw_dialect.specs.Lawful.{IsLawful};
-
-use csvw_rows::{BadDialect, Dialect, RawRow, RowStop, Rows};
+use csvw_rows::{Dialect, RawRow, RowStop, Rows};
 use std::alloc::{AllocError, Global};
 use std::fmt::Write;
-use std::test::Fail;
 
-fn lawful(dialect: Dialect) -> Result<Dialect, BadDialect>
-    ensures { IfOk result IsLawful }
-{
-    match dialect.check() {
-        Ok(()) => Ok(dialect),
-        Err(bad) => Err(bad),
+/// A reader of at most so many rows, by a dialect; none where there is no memory, and where the dialect isn't lawful.
+fn open(alloc: Global, dialect: Result<Dialect, AllocError>, max: u32) -> Option<Rows> {
+    let Ok(dialect) = dialect else {
+        return None;
+    };
+    if dialect.check().is_err() {
+        return None;
     }
-}
-
-fn reader(alloc: Global, dialect: Dialect, max: u32) -> Result<Rows, AllocError>
-    requires { IsLawful dialect }
-{
-    Rows::new(alloc, dialect, u64::from(max))
-}
-
-/// A reader of at most so many rows.
-pub(crate) fn open(alloc: Global, dialect: Dialect, max: u32) -> Result<Rows, Fail> {
-    let dialect = lawful(dialect)?;
-    Ok(reader(alloc, dialect, max)?)
+    Rows::new(alloc, dialect, u64::from(max)).ok()
 }
 
 /// Whether the bytes were taken.
-pub(crate) fn feed(rows: &mut Rows, piece: &[u8]) -> bool {
+fn feed(rows: &mut Rows, piece: &[u8]) -> bool {
     if rows.is_ended() {
         return false;
     }
@@ -37,7 +23,7 @@ pub(crate) fn feed(rows: &mut Rows, piece: &[u8]) -> bool {
 }
 
 /// Whether the text is ended now.
-pub(crate) fn end(rows: &mut Rows) -> bool {
+fn end(rows: &mut Rows) -> bool {
     if rows.is_ended() {
         return false;
     }
@@ -45,26 +31,26 @@ pub(crate) fn end(rows: &mut Rows) -> bool {
 }
 
 /// Writes a field.
-pub(crate) fn write_field(text: &mut String, field: &str) -> Result<(), Fail> {
-    Ok(write!(text, " {field:?}")?)
+pub(crate) fn write_field(text: &mut String, field: &str) -> Result<(), AllocError> {
+    write!(text, " {field:?}")
 }
 
 /// Writes a row as its source number, its row number and its fields.
-pub(crate) fn write_row(text: &mut String, row: RawRow<'_>) -> Result<(), Fail> {
+fn write_row(text: &mut String, row: RawRow<'_>) -> Result<(), AllocError> {
     write!(text, "{}/{}", row.source(), row.number())?;
     for i in 0..row.len() {
         write_field(text, row.field(i))?;
     }
-    Ok(text.push_str("; ")?)
+    text.push_str("; ")
 }
 
 /// Writes a stop at this row.
-pub(crate) fn write_stop(text: &mut String, stop: RowStop, row: u64) -> Result<(), Fail> {
-    Ok(write!(text, "{stop:?} {row}; ")?)
+pub(crate) fn write_stop(text: &mut String, stop: RowStop, row: u64) -> Result<(), AllocError> {
+    write!(text, "{stop:?} {row}; ")
 }
 
 /// Writes the next row, or the stop with its row; whether a row was there.
-fn write_next(text: &mut String, rows: &mut Rows) -> Result<bool, Fail> {
+fn write_next(text: &mut String, rows: &mut Rows) -> Result<bool, AllocError> {
     let stop = match rows.next() {
         Ok(Some(row)) => {
             write_row(text, row)?;
@@ -79,7 +65,7 @@ fn write_next(text: &mut String, rows: &mut Rows) -> Result<bool, Fail> {
 
 /// Writes the rows that are there now, each as its source number, its row number and its fields, and the
 /// stop with its row.
-pub(crate) fn write_rows(text: &mut String, rows: &mut Rows) -> Result<(), Fail> {
+fn write_rows(text: &mut String, rows: &mut Rows) -> Result<(), AllocError> {
     for _ in 0..64 {
         if !write_next(text, rows)? {
             break;
@@ -88,18 +74,26 @@ pub(crate) fn write_rows(text: &mut String, rows: &mut Rows) -> Result<(), Fail>
     Ok(())
 }
 
-/// The rows that are there now, as `write_rows` writes them.
-pub(crate) fn written(alloc: Global, rows: &mut Rows) -> Result<String, Fail> {
-    let mut text = String::new(alloc);
-    write_rows(&mut text, rows)?;
-    Ok(text)
+/// How a text goes to a reader.
+#[derive(Clone, Copy)]
+pub(crate) enum Way<'a> {
+    /// In pieces of so many bytes, up to the first stop; what is there is written behind each.
+    Pieces(&'a [u8], usize),
+    /// In two pieces, of which the first has so many bytes; what is there is written at the end.
+    Halves(&'a [u8], usize),
+    /// In these pieces; what is there is written behind each, and a bar.
+    Steps(&'a [&'a [u8]]),
+    /// A row with CR behind it, between two texts; what is there is written before the last of them, and at the end.
+    Row(&'a [u8], &'a [u8], &'a [u8]),
 }
 
-/// Writes what a text gives in pieces of so many bytes, up to its end or the first stop.
-fn write_pieces(text: &mut String, rows: &mut Rows, bytes: &[u8], len: usize) -> Result<(), Fail>
-    requires { 0 < len }
-{
-    for piece in bytes.chunks(len) {
+fn write_pieces(
+    text: &mut String,
+    rows: &mut Rows,
+    bytes: &[u8],
+    len: usize,
+) -> Result<(), AllocError> {
+    for piece in bytes.chunks(len.max(1)) {
         if !feed(rows, piece) {
             break;
         }
@@ -111,25 +105,67 @@ fn write_pieces(text: &mut String, rows: &mut Rows, bytes: &[u8], len: usize) ->
     Ok(())
 }
 
-/// What a text gives a reader in pieces of so many bytes.
-fn pieces_of(alloc: Global, rows: &mut Rows, bytes: &[u8], len: usize) -> Result<String, Fail>
-    requires { 0 < len }
-{
-    let mut text = String::new(alloc);
-    write_pieces(&mut text, rows, bytes, len)?;
-    Ok(text)
-}
-
-/// What a text gives in pieces of so many bytes, up to its end or the first stop.
-pub(crate) fn pieces(
-    alloc: Global,
-    dialect: Dialect,
-    max: u32,
+fn write_halves(
+    text: &mut String,
+    rows: &mut Rows,
     bytes: &[u8],
     len: usize,
-) -> Result<String, Fail>
-    requires { 0 < len }
-{
-    let mut rows = open(alloc, dialect, max)?;
-    pieces_of(alloc, &mut rows, bytes, len)
+) -> Result<(), AllocError> {
+    let (front, behind) = bytes.split_at(len.min(bytes.len()));
+    feed(rows, front);
+    feed(rows, behind);
+    end(rows);
+    write_rows(text, rows)
+}
+
+fn write_steps(text: &mut String, rows: &mut Rows, pieces: &[&[u8]]) -> Result<(), AllocError> {
+    for piece in pieces {
+        feed(rows, piece);
+        write_rows(text, rows)?;
+        text.push_str("| ")?;
+    }
+    end(rows);
+    write_rows(text, rows)
+}
+
+fn write_last(text: &mut String, rows: &mut Rows, piece: &[u8]) -> Result<(), AllocError> {
+    write_rows(text, rows)?;
+    feed(rows, piece);
+    end(rows);
+    write_rows(text, rows)
+}
+
+/// Writes what a text gives that goes to a reader in this way.
+fn write_way(text: &mut String, rows: &mut Rows, way: Way<'_>) -> Result<(), AllocError> {
+    match way {
+        Way::Pieces(bytes, len) => write_pieces(text, rows, bytes, len),
+        Way::Halves(bytes, len) => write_halves(text, rows, bytes, len),
+        Way::Steps(pieces) => write_steps(text, rows, pieces),
+        Way::Row(front, row, behind) => {
+            feed(rows, front);
+            feed(rows, row);
+            feed(rows, b"\r");
+            write_last(text, rows, behind)
+        }
+    }
+}
+
+/// Whether a text that goes to a reader in this way gives what is wanted.
+fn rows_give(alloc: Global, rows: &mut Rows, way: Way<'_>, want: &str) -> bool {
+    let mut text = String::new(alloc);
+    write_way(&mut text, rows, way).is_ok() && text.as_str() == want
+}
+
+/// Whether a text gives what is wanted by a dialect that takes at most so many rows.
+pub(crate) fn gives(
+    alloc: Global,
+    dialect: Result<Dialect, AllocError>,
+    max: u32,
+    way: Way<'_>,
+    want: &str,
+) -> bool {
+    match open(alloc, dialect, max) {
+        Some(mut rows) => rows_give(alloc, &mut rows, way, want),
+        None => false,
+    }
 }

@@ -1,59 +1,10 @@
 //! Worked rows, each text at every cut.
 
 use crate::kind::{DEFAULT, Kind};
-use crate::reading::{end, feed, open, write_rows, written};
-use csvw_rows::{LineTerminators, Rows, Trim};
-use std::alloc::Global;
+use crate::reading::{Way, gives};
+use csvw_rows::{LineTerminators, Trim};
+use std::alloc::{AllocError, Global};
 use std::process::Abort;
-use std::test::Fail;
-
-/// Writes what the pieces give, a bar behind what was there after each of them.
-fn write_steps(text: &mut String, rows: &mut Rows, pieces: &[&[u8]]) -> Result<(), Fail> {
-    for piece in pieces {
-        feed(rows, piece);
-        write_rows(text, rows)?;
-        text.push_str("| ")?;
-    }
-    end(rows);
-    write_rows(text, rows)
-}
-
-fn steps_of(alloc: Global, rows: &mut Rows, pieces: &[&[u8]]) -> Result<String, Fail> {
-    let mut text = String::new(alloc);
-    write_steps(&mut text, rows, pieces)?;
-    Ok(text)
-}
-
-/// What the pieces give by the default dialect, a bar behind what was there after each of them.
-fn steps(alloc: Global, pieces: &[&[u8]]) -> Result<String, Fail> {
-    let mut rows = open(alloc, DEFAULT.dialect(alloc)?, 1000)?;
-    steps_of(alloc, &mut rows, pieces)
-}
-
-/// What a text gives in two pieces.
-fn halves(alloc: Global, kind: &Kind, max: u32, a: &[u8], b: &[u8]) -> Result<String, Fail> {
-    let mut rows = open(alloc, kind.dialect(alloc)?, max)?;
-    feed(&mut rows, a);
-    feed(&mut rows, b);
-    end(&mut rows);
-    written(alloc, &mut rows)
-}
-
-/// Cuts the text everywhere.
-fn cuts(
-    rt: &impl Abort,
-    alloc: Global,
-    table: &Table,
-    text: &[u8],
-    want: &str,
-) -> Result<(), Fail> {
-    for i in 0..=text.len() {
-        let (a, b) = text.split_at(i);
-        let found = halves(alloc, &table.kind, table.max, a, b)?;
-        assert_eq!(rt; found.as_str(), want, "{text:?} at {i}");
-    }
-    Ok(())
-}
 
 /// Texts with what they give by a dialect that takes at most so many rows.
 #[derive(Clone, Copy)]
@@ -249,28 +200,33 @@ const TRIMMED: [(&[u8], &str); 3] = [
     ),
 ];
 
-/// Cuts each text of the table everywhere.
-fn cuts_of(rt: &impl Abort, alloc: Global, table: &Table) -> Result<(), Fail> {
-    for (text, want) in table.cases {
-        cuts(rt, alloc, table, text, want)?;
+/// Cuts the text everywhere.
+fn cuts(rt: &impl Abort, alloc: Global, table: &Table, text: &[u8], want: &str) {
+    for i in 0..=text.len() {
+        let way = Way::Halves(text, i);
+        assert!(rt;
+            gives(alloc, table.kind.dialect(alloc), table.max, way, want),
+            "{text:?} at {i}"
+        );
     }
-    Ok(())
 }
 
-fn cuts_of_all(rt: &impl Abort, alloc: Global, tables: &[Table]) -> Result<(), Fail> {
-    for table in tables {
-        cuts_of(rt, alloc, table)?;
+/// Cuts each text of the table everywhere.
+fn cuts_of(rt: &impl Abort, alloc: Global, table: &Table) {
+    for (text, want) in table.cases {
+        cuts(rt, alloc, table, text, want);
     }
-    Ok(())
 }
 
 #[test]
-fn at_every_cut(rt: HostRuntime) -> Result<(), Fail> {
-    cuts_of_all(&rt, rt.alloc(), &TABLES)
+fn at_every_cut(rt: HostRuntime) {
+    for table in &TABLES {
+        cuts_of(&rt, rt.alloc(), table);
+    }
 }
 
 /// Pieces, and what is there behind each: a row as soon as its terminator is known, and a stop that stays.
-const STEPS: [([&[u8]; 2], &str); 7] = [
+static STEPS: [([&[u8]; 2], &str); 7] = [
     ([b"id\n7\r", b"\n"], "1/0 \"id\"; | 2/1 \"7\"; | "),
     (
         [b"id\n\"a\"", b"\"b\"\n"],
@@ -293,18 +249,21 @@ const STEPS: [([&[u8]; 2], &str); 7] = [
 ];
 
 #[test]
-fn as_soon_as_it_is_known(rt: HostRuntime) -> Result<(), Fail> {
+fn as_soon_as_it_is_known(rt: HostRuntime) {
     let alloc = rt.alloc();
-    for (pieces, want) in STEPS {
-        assert_eq!(rt; steps(alloc, &pieces)?.as_str(), want);
+    for (pieces, want) in &STEPS {
+        let way = Way::Steps(pieces);
+        assert!(rt;
+            gives(alloc, DEFAULT.dialect(alloc), 1000, way, want),
+            "{pieces:?}"
+        );
     }
-    Ok(())
 }
 
 const LIMIT: usize = 1_048_576;
 
 /// A row of so many bytes: letters, alone or between quotes.
-fn row_of(alloc: Global, len: usize, quoted: bool) -> Result<Vec<u8>, Fail> {
+fn row_of(alloc: Global, len: usize, quoted: bool) -> Result<Vec<u8>, AllocError> {
     let mut row = Vec::new(alloc);
     for i in 0..len {
         let at_quote = quoted && (i == 0 || i == len - 1);
@@ -313,31 +272,10 @@ fn row_of(alloc: Global, len: usize, quoted: bool) -> Result<Vec<u8>, Fail> {
     Ok(row)
 }
 
-/// Writes what is there now, and what the last piece gives.
-fn write_last(text: &mut String, rows: &mut Rows, piece: &[u8]) -> Result<(), Fail> {
-    write_rows(text, rows)?;
-    feed(rows, piece);
-    end(rows);
-    write_rows(text, rows)
-}
+/// A text, the bytes of the row behind it and whether that is quoted, what stands behind the row and a CR, and what they give.
+type Long = (&'static [u8], usize, bool, &'static [u8], &'static str);
 
-fn last_of(alloc: Global, rows: &mut Rows, piece: &[u8]) -> Result<String, Fail> {
-    let mut text = String::new(alloc);
-    write_last(&mut text, rows, piece)?;
-    Ok(text)
-}
-
-/// What these pieces give, the row with CR behind it.
-fn fed(alloc: Global, front: &[u8], row: &[u8], behind: &[u8]) -> Result<String, Fail> {
-    let mut rows = open(alloc, DEFAULT.dialect(alloc)?, 9)?;
-    feed(&mut rows, front);
-    feed(&mut rows, row);
-    feed(&mut rows, b"\r");
-    last_of(alloc, &mut rows, behind)
-}
-
-/// A text, a row of so many bytes behind it, quoted or not, and what stands behind the row and a CR.
-const LONG: [(&[u8], usize, bool, &[u8], &str); 9] = [
+static LONG: [Long; 9] = [
     (b"", LIMIT, false, b"x", "RowTooLong 1; "),
     (b"", LIMIT, false, b"", "RowTooLong 1; "),
     (b"\xEF\xBB\xBF", LIMIT, false, b"x", "RowTooLong 1; "),
@@ -355,34 +293,50 @@ const LONG: [(&[u8], usize, bool, &[u8], &str); 9] = [
     (b"", LIMIT - 2, true, b"x", "TextAfterQuote 1; "),
 ];
 
+/// Whether a row of so many bytes gives what is wanted between two texts.
+fn long_gives(alloc: Global, front: &[u8], row: (usize, bool), behind: &[u8], want: &str) -> bool {
+    let (len, quoted) = row;
+    match row_of(alloc, len, quoted) {
+        Ok(row) => {
+            let way = Way::Row(front, row.as_slice(), behind);
+            gives(alloc, DEFAULT.dialect(alloc), 9, way, want)
+        }
+        Err(_) => false,
+    }
+}
+
 #[test]
-fn too_long(rt: HostRuntime) -> Result<(), Fail> {
-    let alloc = rt.alloc();
-    for (front, len, quoted, behind, want) in LONG {
-        let row = row_of(alloc, len, quoted)?;
-        assert_eq!(rt;
-            fed(alloc, front, row.as_slice(), behind)?.as_str(),
-            want,
+fn too_long(rt: HostRuntime) {
+    for (front, len, quoted, behind, want) in &LONG {
+        assert!(rt;
+            long_gives(rt.alloc(), front, (*len, *quoted), behind, want),
             "{len}"
         );
     }
-    Ok(())
 }
 
 /// What stands before the longest row, whether it is quoted, and how many letters it gives.
-const LONGEST: [(&[u8], bool, usize); 3] = [
+static LONGEST: [(&[u8], bool, usize); 3] = [
     (b"", false, LIMIT),
     (b"\xEF\xBB\xBF", false, LIMIT),
     (b"", true, LIMIT - 2),
 ];
 
+/// Whether the longest row gives so many letters.
+fn longest_gives(
+    alloc: Global,
+    front: &[u8],
+    quoted: bool,
+    letters: usize,
+) -> Result<bool, AllocError> {
+    let letters = "a".repeat(alloc, letters)?;
+    let want = format!(in alloc; "1/0 \"{}\"; ", letters.as_str())?;
+    Ok(long_gives(alloc, front, (LIMIT, quoted), b"\n", want.as_str()))
+}
+
 #[test]
-fn the_longest_row(rt: HostRuntime) -> Result<(), Fail> {
-    let alloc = rt.alloc();
-    for (front, quoted, letters) in LONGEST {
-        let row = row_of(alloc, LIMIT, quoted)?;
-        let text = fed(alloc, front, row.as_slice(), b"\n")?;
-        assert_eq!(rt; text.len().saturating_sub("1/0 \"\"; ".len()), letters);
+fn the_longest_row(rt: HostRuntime) {
+    for (front, quoted, letters) in &LONGEST {
+        assert!(rt; longest_gives(rt.alloc(), front, *quoted, *letters) == Ok(true));
     }
-    Ok(())
 }

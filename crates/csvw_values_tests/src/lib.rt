@@ -4,6 +4,10 @@
 #[cfg(test)]
 mod datatypes;
 #[cfg(test)]
+mod limits;
+#[cfg(test)]
+mod readings;
+#[cfg(test)]
 mod templates;
 #[cfg(test)]
 mod texts;

@@ -1,102 +1,126 @@
 //! The examples of RFC 6570 that have these operators alone, and texts that are no templates.
-use csvw_template::{Template, Var, Vars};
+use csvw_template::{Template, TemplateFault, Var, Vars};
 use csvw_text::{Seq, Text};
 use std::alloc::{AllocError, Global};
 use std::process::Abort;
 use std::test::Fail;
 
-/// Examples of RFC 6570, sections 1.2 and 3.2, and their expansions.
-const EXAMPLES: [(&str, &str); 32] = [
-    ("{var}", "value"),
-    ("{hello}", "Hello%20World%21"),
-    ("{half}", "50%25"),
-    ("O{empty}X", "OX"),
-    ("O{undef}X", "OX"),
-    ("map?{x,y}", "map?1024,768"),
-    ("{x,hello,y}", "1024,Hello%20World%21,768"),
-    ("?{x,empty}", "?1024,"),
-    ("?{x,undef}", "?1024"),
-    ("?{undef,y}", "?768"),
-    ("{list}", "red,green,blue"),
-    ("{+var}", "value"),
-    ("{+hello}", "Hello%20World!"),
-    ("{+half}", "50%25"),
-    ("{base}index", "http%3A%2F%2Fexample.com%2Fhome%2Findex"),
-    ("{+base}index", "http://example.com/home/index"),
-    ("O{+empty}X", "OX"),
-    ("O{+undef}X", "OX"),
-    ("{+path}/here", "/foo/bar/here"),
-    ("here?ref={+path}", "here?ref=/foo/bar"),
-    ("up{+path}{var}/here", "up/foo/barvalue/here"),
-    ("{+x,hello,y}", "1024,Hello%20World!,768"),
-    ("{+path,x}/here", "/foo/bar,1024/here"),
-    ("{+list}", "red,green,blue"),
-    ("X{#var}", "X#value"),
-    ("X{#hello}", "X#Hello%20World!"),
-    ("{#half}", "#50%25"),
-    ("foo{#empty}", "foo#"),
-    ("foo{#undef}", "foo"),
-    ("{#x,hello,y}", "#1024,Hello%20World!,768"),
-    ("{#path,x}/here", "#/foo/bar,1024/here"),
-    ("{#list}", "#red,green,blue"),
-];
+/// Examples of RFC 6570, sections 1.2 and 3.2, and behind `=>` their expansions.
+const EXAMPLES: &str = "\
+{var}=>value
+{hello}=>Hello%20World%21
+{half}=>50%25
+O{empty}X=>OX
+O{undef}X=>OX
+map?{x,y}=>map?1024,768
+{x,hello,y}=>1024,Hello%20World%21,768
+?{x,empty}=>?1024,
+?{x,undef}=>?1024
+?{undef,y}=>?768
+{list}=>red,green,blue
+{+var}=>value
+{+hello}=>Hello%20World!
+{+half}=>50%25
+{base}index=>http%3A%2F%2Fexample.com%2Fhome%2Findex
+{+base}index=>http://example.com/home/index
+O{+empty}X=>OX
+O{+undef}X=>OX
+{+path}/here=>/foo/bar/here
+here?ref={+path}=>here?ref=/foo/bar
+up{+path}{var}/here=>up/foo/barvalue/here
+{+x,hello,y}=>1024,Hello%20World!,768
+{+path,x}/here=>/foo/bar,1024/here
+{+list}=>red,green,blue
+X{#var}=>X#value
+X{#hello}=>X#Hello%20World!
+{#half}=>#50%25
+foo{#empty}=>foo#
+foo{#undef}=>foo
+{#x,hello,y}=>#1024,Hello%20World!,768
+{#path,x}/here=>#/foo/bar,1024/here
+{#list}=>#red,green,blue";
 
-/// Templates and their expansions.
-const TEMPLATES: [(&str, &str); 13] = [
-    ("", ""),
-    ("{x,undef,y}", "1024,768"),
-    ("{#undef,undef}", ""),
-    ("{#undef,x}", "#1024"),
-    ("{#none}{none}", ""),
-    ("{none,x,none,pair,nobody}", "1024,a,b%20c"),
-    ("{#pair}{+pair,pair}", "#a,b%20ca,b%20c,a,b%20c"),
-    ("{First%20Name}", "Ann"),
-    ("{First%20name}", ""),
-    ("{a.b}", "%2520%C3%A9%254"),
-    ("{+a.b}", "%20%C3%A9%254"),
-    ("{_row}{9}{%41}", ""),
-    (
-        "é a|%41%zz%4~:/?#[]@!$&'()*+,;=-._",
-        "%C3%A9%20a%7C%41%25zz%254~:/?#[]@!$&'()*+,;=-._",
-    ),
-];
+/// Templates, and behind `=>` their expansions.
+const TEMPLATES: &str = "\
+=>
+{x,undef,y}=>1024,768
+{#undef,undef}=>
+{#undef,x}=>#1024
+{#none}{none}=>
+{none,x,none,pair,nobody}=>1024,a,b%20c
+{#pair}{+pair,pair}=>#a,b%20ca,b%20c,a,b%20c
+{First%20Name}=>Ann
+{First%20name}=>
+{a.b}=>%2520%C3%A9%254
+{+a.b}=>%20%C3%A9%254
+{_row}{9}{%41}=>
+é a|%41%zz%4~:/?#[]@!$&'()*+,;=-._=>%C3%A9%20a%7C%41%25zz%254~:/?#[]@!$&'()*+,;=-._";
 
 /// Texts that are `BadTemplate`.
-const BAD: [&str; 34] = [
-    "{x", "{", "a{", "}", "a}b", "{x}}", "{x{y}", "{.x{y}", "{.x", "{x}{", "{}", "{+}", "{#}",
-    "{+,x}", "{:3}", "{*}", "{x,}", "{x,,y}", "{x,.y}", "{x,*}", "{x.}", "{x.*}", "{x..y}", "{%2}",
-    "{%2g}", "{x%}", "{x!}", "{x }", "{é}", "{+.x}", "{++x}", "{#/x}", "{x-y}", "{x!}{.y}",
-];
+const BAD: &str = "\
+{x
+{
+a{
+}
+a}b
+{x}}
+{x{y}
+{.x{y}
+{.x
+{x}{
+{}
+{+}
+{#}
+{+,x}
+{:3}
+{*}
+{x,}
+{x,,y}
+{x,.y}
+{x,*}
+{x.}
+{x.*}
+{x..y}
+{%2}
+{%2g}
+{x%}
+{x!}
+{x }
+{é}
+{+.x}
+{++x}
+{#/x}
+{x-y}
+{x!}{.y}";
 
 /// Texts that are `TemplateLevel`.
-const HIGHER: [&str; 23] = [
-    "{.}",
-    "{/}",
-    "{.x}",
-    "{/x}",
-    "{;x}",
-    "{?x}",
-    "{&x}",
-    "{=x}",
-    "{,x}",
-    "{!x}",
-    "{@x}",
-    "{|x}",
-    "{x:3}",
-    "{x*}",
-    "{x,y:3}",
-    "{x,y*}",
-    "{x*,y}",
-    "{+x*}",
-    "{#x,y.z:1,}",
-    "{x*!}",
-    "{.x}}",
-    "{.x}{y",
-    "{.\"}",
-];
+const HIGHER: &str = "\
+{.}
+{/}
+{.x}
+{/x}
+{;x}
+{?x}
+{&x}
+{=x}
+{,x}
+{!x}
+{@x}
+{|x}
+{x:3}
+{x*}
+{x,y:3}
+{x,y*}
+{x*,y}
+{+x*}
+{#x,y.z:1,}
+{x*!}
+{.x}}
+{.x}{y
+{.\"}";
 
 /// Variables of RFC 6570, section 3.2, and others, each with its one value.
-const ONES: [(&str, &str); 10] = [
+static ONES: [(&str, &str); 10] = [
     ("var", "value"),
     ("hello", "Hello World!"),
     ("path", "/foo/bar"),
@@ -148,53 +172,54 @@ fn many(alloc: Global, items: &[&str]) -> Result<Var, AllocError> {
     Ok(Var::Many(list))
 }
 
-/// The expansion of a text under these variables, or the name of its fault.
-fn expanded(alloc: Global, text: &str) -> Result<String, AllocError> {
+/// Whether a fault has this name; not where there is no memory.
+fn is_shown(alloc: Global, fault: TemplateFault, want: &str) -> bool {
+    match format!(in alloc; "{fault:?}") {
+        Ok(name) => name.as_str() == want,
+        Err(_) => false,
+    }
+}
+
+/// Whether a template expands so under variables.
+fn expands_to(alloc: Global, template: &Template, vars: &Vars, want: &str) -> bool {
+    match template.expand(alloc, vars) {
+        Ok(text) => text.as_str() == want,
+        Err(_) => false,
+    }
+}
+
+/// Whether a text expands so under variables, or has the fault of this name.
+fn expands(alloc: Global, vars: &Vars, text: &str, want: &str) -> bool {
     match Template::read(alloc, text) {
-        Ok(template) => template.expand(alloc, &variables(alloc)?),
-        Err(fault) => format!(in alloc; "{fault:?}"),
+        Ok(template) => expands_to(alloc, &template, vars, want),
+        Err(fault) => is_shown(alloc, fault, want),
     }
 }
 
-/// A text so many times.
-fn times(alloc: Global, text: &str, n: usize) -> Result<String, AllocError> {
-    let mut out = String::new(alloc);
-    for _ in 0..n {
-        out.push_str(text)?;
+/// Checks a text on each line, of which what is wanted stands behind `=>`, or is the same for all.
+fn expands_each(rt: &impl Abort, alloc: Global, vars: &Vars, rows: &str, all: &str) {
+    for row in rows.lines() {
+        let (text, want) = row.split_once("=>").unwrap_or((row, all));
+        assert!(rt; expands(alloc, vars, text, want), "{row:?}");
     }
-    Ok(out)
-}
-
-fn expands_each(rt: &impl Abort, alloc: Global, rows: &[(&str, &str)]) -> Result<(), AllocError> {
-    for (text, want) in rows {
-        assert!(rt; expanded(alloc, text)?.as_str() == *want, "{text:?}");
-    }
-    Ok(())
-}
-
-fn refuses_each(
-    rt: &impl Abort,
-    alloc: Global,
-    texts: &[&str],
-    fault: &str,
-) -> Result<(), AllocError> {
-    for text in texts {
-        assert!(rt; expanded(alloc, text)?.as_str() == fault, "{text:?}");
-    }
-    Ok(())
 }
 
 #[test]
 fn templates_and_other_texts(rt: HostRuntime) -> Result<(), Fail> {
     let alloc = rt.alloc();
-    expands_each(&rt, alloc, &EXAMPLES)?;
-    expands_each(&rt, alloc, &TEMPLATES)?;
-    refuses_each(&rt, alloc, &BAD, "BadTemplate")?;
-    Ok(refuses_each(&rt, alloc, &HIGHER, "TemplateLevel")?)
+    let vars = variables(alloc)?;
+    expands_each(&rt, alloc, &vars, EXAMPLES, "no row");
+    expands_each(&rt, alloc, &vars, TEMPLATES, "no row");
+    expands_each(&rt, alloc, &vars, BAD, "BadTemplate");
+    expands_each(&rt, alloc, &vars, HIGHER, "TemplateLevel");
+    Ok(())
 }
 
-/// Texts, and the answers to so many of them: so many other texts.
-const LONG: [(&str, usize, &str, usize); 6] = [
+/// A text and how often it stands, and the same of its answer.
+type Long = (&'static str, usize, &'static str, usize);
+
+/// Long texts, and their answers.
+static LONG: [Long; 6] = [
     ("a", 4096, "a", 4096),
     ("{x}", 32, "1024", 32),
     ("a", 4097, "TooLong", 1),
@@ -203,57 +228,69 @@ const LONG: [(&str, usize, &str, usize); 6] = [
     ("}{", 33, "TooLong", 1),
 ];
 
-fn long_each(
-    rt: &impl Abort,
+/// Whether a text expands to another one so many times.
+fn expands_to_many(
     alloc: Global,
-    rows: &[(&str, usize, &str, usize)],
-) -> Result<(), AllocError> {
-    for (text, n, part, parts) in rows {
-        let long = times(alloc, text, *n)?;
-        let want = times(alloc, part, *parts)?;
-        assert!(rt; expanded(alloc, long.as_str())?.as_str() == want.as_str());
+    vars: &Vars,
+    text: &str,
+    part: &str,
+    parts: usize,
+) -> Result<bool, AllocError> {
+    let want = part.repeat(alloc, parts)?;
+    Ok(expands(alloc, vars, text, want.as_str()))
+}
+
+/// Whether a long text has its answer.
+fn long_expands(alloc: Global, vars: &Vars, long: &Long) -> Result<bool, AllocError> {
+    let (text, n, part, parts) = long;
+    let text = text.repeat(alloc, *n)?;
+    expands_to_many(alloc, vars, text.as_str(), part, *parts)
+}
+
+fn long_each(rt: &impl Abort, alloc: Global, vars: &Vars, rows: &[Long]) {
+    for row in rows {
+        assert!(rt;
+            matches!(long_expands(alloc, vars, row), Ok(true)),
+            "{row:?}"
+        );
     }
-    Ok(())
 }
 
 #[test]
 fn long_templates(rt: HostRuntime) -> Result<(), Fail> {
-    Ok(long_each(&rt, rt.alloc(), &LONG)?)
-}
-
-/// Whether a template expands so under variables.
-fn expands_to(
-    alloc: Global,
-    template: &Template,
-    vars: &Vars,
-    want: &str,
-) -> Result<bool, AllocError> {
-    let text = template.expand(alloc, vars)?;
-    Ok(text.as_str() == want)
+    let vars = variables(rt.alloc())?;
+    long_each(&rt, rt.alloc(), &vars, &LONG);
+    Ok(())
 }
 
 /// Whether the copy of a variable's value is a list.
-fn is_list(alloc: Global, var: &Var) -> Result<bool, AllocError> {
-    let copy = var.clone(alloc)?;
-    Ok(matches!(copy, Var::Many(_)))
+fn is_list(alloc: Global, var: &Var) -> bool {
+    matches!(var.clone(alloc), Ok(Var::Many(_)))
 }
 
 /// Whether variables and their copy, of which alone `x` has a value, expand a template so.
-fn expand_apart(alloc: Global, vars: &Vars, copy: &Vars) -> Result<bool, Fail> {
-    let template = Template::read(alloc, "a{#x,y}b")?;
-    let is_kept = expands_to(alloc, &template, copy, "a#7,768b")?;
-    Ok(is_kept && expands_to(alloc, &template, vars, "a#768b")?)
+fn expand_apart(alloc: Global, vars: &Vars, copy: &Vars) -> bool {
+    match Template::read(alloc, "a{#x,y}b") {
+        Ok(template) => {
+            expands_to(alloc, &template, copy, "a#7,768b")
+                && expands_to(alloc, &template, vars, "a#768b")
+        }
+        Err(_) => false,
+    }
+}
+
+/// Whether a variable that is set anew keeps its value in a copy.
+fn are_set_anew(alloc: Global, vars: &mut Vars) -> Result<bool, AllocError> {
+    set_one(alloc, vars, "x", "7")?;
+    let copy = vars.clone()?;
+    vars.set("x", Var::Undefined)?;
+    Ok(expand_apart(alloc, vars, &copy) && is_list(alloc, copy.get("list")))
 }
 
 #[test]
 fn variables_are_set_anew(rt: HostRuntime) -> Result<(), Fail> {
-    let alloc = rt.alloc();
-    let mut vars = variables(alloc)?;
-    set_one(alloc, &mut vars, "x", "7")?;
-    let copy = vars.clone()?;
-    vars.set("x", Var::Undefined)?;
-    assert!(rt; expand_apart(alloc, &vars, &copy)?);
+    let mut vars = variables(rt.alloc())?;
+    assert!(rt; matches!(are_set_anew(rt.alloc(), &mut vars), Ok(true)));
     assert!(rt; matches!(vars.get("nobody"), Var::Undefined));
-    assert!(rt; is_list(alloc, copy.get("list"))?);
     Ok(())
 }

@@ -2,31 +2,43 @@
 use csvw_text::{Code, Copied, Fault, Kind, LanguageTag, Place, Text, collapse};
 use std::alloc::{AllocError, Global};
 use std::process::Abort;
-use std::test::Fail;
+
+/// Texts that are tags, one on each line.
+const TAGS: &str = "en\nen-GB\nx-1a\nde-Latn-DE-1996";
+
+/// Texts that are none, one on each line.
+const NO_TAGS: &str = "\n-\nen-\n-en\nen--GB\ne1\nen GB\nen-\u{e9}";
 
 fn is_a_tag(alloc: Global, text: &str) -> Result<bool, AllocError> {
     Ok(LanguageTag::of(alloc, Text::copied(alloc, text)?)?.is_some())
 }
 
-#[test]
-fn tags_are_words_parted_by_dashes(rt: HostRuntime) -> Result<(), Fail> {
-    let alloc = rt.alloc();
-    for tag in ["en", "en-GB", "x-1a", "de-Latn-DE-1996"] {
-        assert!(rt; is_a_tag(alloc, tag)?);
+fn are_tags(rt: &impl Abort, alloc: Global, texts: &str, want: bool) {
+    for text in texts.lines() {
+        assert!(rt; is_a_tag(alloc, text) == Ok(want), "{text:?}");
     }
-    for text in ["", "-", "en-", "-en", "en--GB", "e1", "en GB", "en-\u{e9}"] {
-        assert!(rt; !is_a_tag(alloc, text)?);
-    }
-    Ok(())
 }
 
 #[test]
-fn runs_of_white_space_are_one_space(rt: HostRuntime) -> Result<(), Fail> {
+fn tags_are_words_parted_by_dashes(rt: HostRuntime) {
+    are_tags(&rt, rt.alloc(), TAGS, true);
+    are_tags(&rt, rt.alloc(), NO_TAGS, false);
+}
+
+/// Whether the white space of a text collapses so.
+fn collapses_to(alloc: Global, text: &str, want: &str) -> bool {
+    match collapse(alloc, text) {
+        Ok(collapsed) => collapsed.as_str() == want,
+        Err(_) => false,
+    }
+}
+
+#[test]
+fn runs_of_white_space_are_one_space(rt: HostRuntime) {
     let alloc = rt.alloc();
-    assert!(rt; collapse(alloc, " a\t\tb\r\nc  ")?.as_str() == "a b c");
-    assert!(rt; collapse(alloc, "\n \t")?.as_str() == "");
-    assert!(rt; collapse(alloc, "a\u{a0} b")?.as_str() == "a\u{a0} b");
-    Ok(())
+    assert!(rt; collapses_to(alloc, " a\t\tb\r\nc  ", "a b c"));
+    assert!(rt; collapses_to(alloc, "\n \t", ""));
+    assert!(rt; collapses_to(alloc, "a\u{a0} b", "a\u{a0} b"));
 }
 
 #[test]

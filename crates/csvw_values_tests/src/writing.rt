@@ -1,9 +1,9 @@
 //! Writes that are cut off.
 use csvw_text::{Counted, Cut, write_out};
+use std::alloc::Global;
 use std::io;
 use std::io::Write;
 use std::process::Abort;
-use std::test::Fail;
 
 /// A writer that takes one byte a call, and fails once it took so many.
 #[derive(Drop)]
@@ -46,35 +46,31 @@ impl Write for FullWriter {
     }
 }
 
-#[test]
-fn goes_on_byte_by_byte(rt: HostRuntime) -> Result<(), Fail> {
+/// Whether `abc` goes so to a writer that takes so many bytes, which are these.
+fn is_written(alloc: Global, taken: &[u8], written: Result<(), Cut>, failures: u64) -> bool {
     let mut w = Counted::new(SlowWriter {
-        room: 3,
-        taken: Vec::new(rt.alloc()),
+        room: taken.len(),
+        taken: Vec::new(alloc),
     });
-    assert!(rt; write_out(&mut w, b"abc").is_ok());
-    assert_eq!(rt; w.failures(), 0);
-    assert!(rt; w.into_inner().taken.as_slice() == b"abc".as_slice());
-    Ok(())
+    let is_answer = write_out(&mut w, b"abc") == written && w.failures() == failures;
+    w.into_inner().taken.as_slice() == taken && is_answer
 }
 
 #[test]
-fn tells_how_many_bytes_went_out(rt: HostRuntime) -> Result<(), Fail> {
-    let mut w = Counted::new(SlowWriter {
-        room: 2,
-        taken: Vec::new(rt.alloc()),
-    });
-    assert_eq!(rt; write_out(&mut w, b"abc"), Err(Cut { sent: 2 }));
-    assert_eq!(rt; w.failures(), 1);
-    Ok(())
+fn goes_on_byte_by_byte(rt: HostRuntime) {
+    assert!(rt; is_written(rt.alloc(), b"abc", Ok(()), 0));
 }
 
 #[test]
-fn a_writer_that_takes_nothing_is_a_cut(rt: HostRuntime) -> Result<(), Fail> {
+fn tells_how_many_bytes_went_out(rt: HostRuntime) {
+    assert!(rt; is_written(rt.alloc(), b"ab", Err(Cut { sent: 2 }), 1));
+}
+
+#[test]
+fn a_writer_that_takes_nothing_is_a_cut(rt: HostRuntime) {
     let mut w = Counted::new(FullWriter);
     assert_eq!(rt; write_out(&mut w, b"abc"), Err(Cut { sent: 0 }));
     assert!(rt; w.flush().is_err());
     assert_eq!(rt; w.failures(), 2);
     assert!(rt; write_out(&mut w, b"").is_ok());
-    Ok(())
 }
