@@ -1,6 +1,6 @@
 //! Copies of plain data, which succeed where there is memory.
 ghost use Rattle.std.specs.Prelude.{IfOk};
-ghost use Rattle.csvw_annotate.specs.Annotated.{AreSound};
+ghost use Rattle.csvw_columns_core.specs.Sound.{AreSound};
 
 use crate::rows::parsed;
 use crate::tables::{columns_of, header, next_row, plan_of, reader_of};

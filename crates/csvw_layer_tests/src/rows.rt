@@ -1,7 +1,7 @@
 //! What a table's header, its cells and its rows give, call by call.
-ghost use Rattle.csvw_annotate.specs.Annotated.{AreSound};
+ghost use Rattle.csvw_columns_core.specs.Sound.{AreSound};
 ghost use Rattle.csvw_columns.specs.Ready.{IsReady};
-ghost use Rattle.csvw_triples.specs.HasForms.{HasForms};
+ghost use Rattle.csvw_annotate.specs.HasForms.{HasForms};
 
 use crate::tables::{columns_of, matched, next_row, plan_of, reader_of, table_at};
 use csvw_annotate::Row;

@@ -1,16 +1,16 @@
 //! Tables of documents, as the calls below take them: their columns, and their rows as they come.
-ghost use Rattle.std.specs.Prelude.{All, IfOk, IfSome};
-ghost use Rattle.csvw_annotate.specs.Annotated.{AreSound};
-ghost use Rattle.csvw_columns.specs.Ready.{IsReady};
+ghost use Rattle.std.specs.Prelude.{IfOk, IfSome};
+ghost use Rattle.csvw_columns_core.specs.Sound.{AreSound};
+ghost use Rattle.csvw_columns.specs.Ready.{AreReady, IsReady};
 ghost use Rattle.csvw_dialect.specs.Lawful.{IsLawful};
-ghost use Rattle.csvw_triples.specs.HasForms.{HasForms};
+ghost use Rattle.csvw_annotate.specs.HasForms.{HasForms};
 
-use csvw_annotate::{Row, annotate};
+use csvw_annotate::{Row, annotate, annotated_rows_have_forms};
+use csvw_columns::laws::each_table_is_ready;
 use csvw_columns::{Columns, HeaderRow, Plan, TablePlan, match_header};
 use csvw_meta::read;
 use csvw_rows::{BadDialect, Dialect, Rows};
 use csvw_text::{Fault, Seq, Text};
-use csvw_triples::annotated_rows_have_forms;
 use std::alloc::{AllocError, Global};
 use std::slice;
 use std::test::Fail;
@@ -20,7 +20,7 @@ const BASE: &str = "http://example.org/";
 
 /// The plan of the group that a document describes.
 pub(crate) fn plan_of(alloc: Global, meta: &str) -> Result<Plan, Fail>
-    ensures { IfOk result (λ plan. All IsReady plan.tables) }
+    ensures { IfOk result (λ plan. AreReady plan.tables) }
 {
     let description = read(alloc, meta.as_bytes(), BASE)?;
     Ok(Plan::build(alloc, description)?)
@@ -28,9 +28,10 @@ pub(crate) fn plan_of(alloc: Global, meta: &str) -> Result<Plan, Fail>
 
 /// The table at this place.
 pub(crate) fn table_at(plan: &Plan, i: usize) -> Result<&TablePlan, Fail>
-    requires { All IsReady plan.now.tables }
+    requires { AreReady plan.now.tables }
     ensures { IfOk result (λ table. IsReady table.now) }
 {
+    each_table_is_ready();
     match plan.tables().get(i) {
         Some(table) => Ok(table),
         None => Err("no table")?,
@@ -50,7 +51,6 @@ pub(crate) fn header(alloc: Global, cells: &[&str]) -> Result<HeaderRow, AllocEr
 }
 
 /// The columns of a table with this header, and what is wrong with it.
-#[tactic(auto, using(crate::proofs::Sound::same_sound))]
 pub(crate) fn matched(
     alloc: Global,
     table: &TablePlan,
