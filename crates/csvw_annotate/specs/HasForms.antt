@@ -1,4 +1,4 @@
--- Rows whose values have lexical forms.
+-- Rows whose values have lexical forms (XML Schema Part 2, section 3.3).
 use Rattle.std.specs.Prelude.{List}
 use Rattle.std.specs.List.{AllByRecursion}
 use Rattle.csvw_cell.specs.HasForm.{HasForm}

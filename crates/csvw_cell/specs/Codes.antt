@@ -1,4 +1,4 @@
--- What may be wrong with a cell.
+-- What may be wrong with a cell (Model for Tabular Data, section 6.4.2).
 use Rattle.std.specs.Prelude.{Bool, true, false, List, [], ◌∷◌, ◌++◌, filter, bytes_eq, if◌then◌else◌}
 use Rattle.std.specs.List.{list_any}
 use Rattle.csvw_text.specs.declared.fault.Code.{Code}

@@ -1,4 +1,5 @@
--- Values of cells that have lexical forms: numbers that a text can spell, and days and moments of the years 0001 to 9999.
+-- Values of cells that have lexical forms (XML Schema Part 2, section 3.3): numbers that a text can spell, and days and moments of
+-- the years 0001 to 9999.
 use Rattle.std.specs.Prelude.{List}
 use Rattle.std.specs.List.{AllByRecursion}
 use Rattle.csvw_datatype.specs.Lexical.{IsWritable}

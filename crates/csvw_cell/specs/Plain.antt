@@ -1,4 +1,4 @@
--- Cells whose text is their value, and cells that are no lists.
+-- Cells whose text is their value, and cells that are no lists (Model for Tabular Data, section 6.4.2).
 use Rattle.std.specs.Prelude.{ℕ, Bool, true, ◌&&◌, not, List, is_some}
 use Rattle.csvw_datatype.specs.Breaks.{has_lengths}
 use Rattle.csvw_datatype.specs.declared.value.Value.TheVariants.{Text}

@@ -1,4 +1,5 @@
--- What a fault of a description tells: by its code, what must hold of the description and doesn't.
+-- What a fault of a description tells: by its code, what must hold of the description and doesn't (Metadata Vocabulary for Tabular
+-- Data, sections 5.3 to 5.9).
 use Rattle.std.specs.Prelude.{◌≢◌, ◌≤◌, length, All, AllPairs, IfSome}
 use Rattle.csvw_dialect.specs.declared.dialect.Dialect.{Dialect}
 use Rattle.csvw_dialect.specs.Lawful.{IsLawful}

@@ -1,4 +1,5 @@
--- The descriptions that can be planned, and what `Plan::build` gives of a description.
+-- The descriptions that can be planned (Metadata Vocabulary for Tabular Data, sections 5.3 to 5.9), and what `Plan::build` gives of
+-- a description.
 use Rattle.std.specs.Prelude.{◌≡◌, ◌≢◌, [], Result, Ok, Err, All}
 use Rattle.csvw_description.specs.declared.description.Description.{Description}
 use Rattle.csvw_meta_core.specs.declared.fault.MetaFault.{MetaFault}

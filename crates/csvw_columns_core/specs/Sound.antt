@@ -1,4 +1,4 @@
--- Columns whose cells can be read.
+-- Columns whose cells can be read, since their datatypes fit together (Metadata Vocabulary for Tabular Data, section 5.11.2).
 use Rattle.std.specs.Prelude.{List, [], ◌∷◌}
 use mathlib.Core.HLevel.{×_prop, Unit-prop}
 use Rattle.csvw_datatype.specs.Sound.{IsSound}

@@ -1,4 +1,5 @@
--- The lexical forms of days and moments: the digits that are written, and the numbers that have a form.
+-- The lexical forms of days and moments (XML Schema Part 2, sections 3.3.7 to 3.3.9): the digits that are written, and the numbers
+-- that have a form.
 use Rattle.std.specs.Prelude.{◌≡◌, ℕ, ◌+◌, ◌/◌, ◌%◌, ◌<◌, List, [], ◌∷◌, ◌++◌, ℤ, pos, neg_ℤ, ◌≤ℤ◌, ◌+ℤ◌, ◌*ℤ◌}
 use Rattle.csvw_datatype_core.specs.declared.date.DateFormat.TheVariants.{YearFirst}
 use Rattle.csvw_datatype_core.specs.declared.moment.MomentFormat.TheVariants.{Seconds}

@@ -1,4 +1,4 @@
--- Why a text is no number.
+-- Why a text is no number (Model for Tabular Data, section 6.4.2).
 use Rattle.std.specs.Prelude.{ℕ, List, ℤ}
 use Rattle.csvw_datatype_core.specs.declared.number.NumberRules.{NumberRules}
 use Rattle.csvw_datatype_core.specs.declared.number.NumberFault.{NumberFault}

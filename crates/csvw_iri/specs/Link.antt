@@ -1,4 +1,4 @@
--- Links, by the URL Standard as the crate `url` defines it.
+-- Links, by the URL Standard (section 4.4) as the crate `url` defines it.
 use Rattle.std.specs.Prelude.{◌≡◌, ℕ, List, Option, Some, None, Result, Ok, Err, false, nat_lt, length, if◌then◌else◌}
 use Rattle.url.specs.Parts.{Parts, serialize, IsValid}
 use Rattle.url.specs.Parser.{parse_url, Parsed}

@@ -1,4 +1,4 @@
--- Where broken keys are told.
+-- Where broken keys are told (Model for Tabular Data, section 6.6).
 use Rattle.std.specs.Prelude.{ℕ, List, [], ◌∷◌}
 use Rattle.csvw_text.specs.declared.fault.Code.{Code}
 use Rattle.csvw_text.specs.declared.fault.Fault.{Fault}

@@ -1,4 +1,5 @@
--- What a part of a document says: the faults that stand in it, and where there are none its value.
+-- What a part of a document says (Metadata Vocabulary for Tabular Data, section 5.1): the faults that stand in it, and where there
+-- are none its value.
 use Rattle.std.specs.Prelude.{ℕ, ◌+◌, List, [], ◌∷◌, ◌++◌, Option, Some, None, ⊤}
 use Rattle.serde_json.specs.Data.{Num, unsigned, negative, float, Data, null, boolean, number, string, array, object, Items, no_items, item}
 use Rattle.serde_json.specs.Find.{get}

@@ -1,4 +1,5 @@
--- Arrays of a limited number of items. Where there are too many, each is judged all the same.
+-- Arrays (Metadata Vocabulary for Tabular Data, section 5.1.1) of a limited number of items. Where there are too many, each is
+-- judged all the same.
 use Rattle.std.specs.Prelude.{ℕ, ◌+◌, List, [], ◌∷◌, nat_lt, if◌then◌else◌}
 use Rattle.serde_json.specs.Data.{Data, null, boolean, number, string, array, object, Items, no_items, item}
 use Rattle.csvw_meta_core.specs.declared.fault.MetaCode.TheVariants.{BadProperty, TooMany}

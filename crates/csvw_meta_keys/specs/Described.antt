@@ -1,4 +1,5 @@
--- The keys of a schema as its description has them: names and URLs without the pointers at which they stand.
+-- The keys of a schema (Metadata Vocabulary for Tabular Data, section 5.5) as its description has them: names and URLs without the
+-- pointers at which they stand.
 use Rattle.std.specs.Prelude.{ℕ, List, map, flat_map}
 use Rattle.csvw_description.specs.declared.foreign_key.ForeignKey.{ForeignKey}
 use Rattle.csvw_text.specs.declared.fault.Fault.{Fault}

@@ -1,4 +1,4 @@
--- The bytes of a literal that are escaped.
+-- The bytes of a literal that are escaped (RDF 1.1 N-Triples, section 7).
 use Rattle.std.specs.Prelude.{ℕ, ◌≡◌, ◌<◌, ◌≤◌, Bool, false, ◌||◌, ◌==◌, List, get_or}
 
 -- `"`, `\`, LF or CR

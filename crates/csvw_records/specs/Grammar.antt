@@ -1,4 +1,4 @@
--- RowText: rows and fields by the dialect. A text is a list of characters.
+-- RowText: rows and fields by the dialect (Model for Tabular Data, section 8; RFC 4180, section 2). A text is a list of characters.
 use Rattle.std.specs.Prelude.{◌≡◌, ◌≢◌, ◌⊎◌, ℕ, ◌&&◌, nat_eq, if◌then◌else◌, IsTrue, List, [], ◌∷◌, ◌++◌, map, Some}
 use Rattle.std.specs.List.{starts_with}
 use Rattle.csvw_text.specs.Strip.{strip_start, strip_end}

@@ -1,4 +1,4 @@
--- Templates whose literals expand to themselves.
+-- Templates whose literals expand to themselves (RFC 6570, section 3.1).
 use Rattle.std.specs.Prelude.{List, Bool, true}
 use Rattle.std.specs.List.{list_all}
 use Rattle.csvw_template.specs.declared.part.Part.{Part}

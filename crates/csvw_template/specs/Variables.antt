@@ -1,4 +1,4 @@
--- Variables: a finite map from names to what they stand for, as a list of pairs without two of one name.
+-- Variables (RFC 6570, section 2.3): a finite map from names to what they stand for, as a list of pairs without two of one name.
 use Rattle.std.specs.Prelude.{ℕ, List, [], ◌∷◌, bytes_eq, if◌then◌else◌}
 use Rattle.csvw_template.specs.declared.vars.Var.{Var}
 use Rattle.csvw_template.specs.declared.vars.Var.TheVariants.{Undefined}

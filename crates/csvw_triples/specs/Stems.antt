@@ -1,4 +1,4 @@
--- The triples of one cell, by what they begin with and where its list stands.
+-- The triples of one cell (csv2rdf, section 4.6), by what they begin with and where its list stands.
 use Rattle.std.specs.Prelude.{ℕ, List, [], ◌∷◌}
 use Rattle.csvw_columns_core.specs.declared.column.Column.{Column}
 use Rattle.csvw_cell.specs.declared.cell.Item.{Item}
