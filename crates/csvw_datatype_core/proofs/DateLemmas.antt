@@ -344,64 +344,89 @@ compact_again y m d hy hm hd =
     let e : two_at d ≡ answer (digits_value 10 d) [] = ap two_at (sym (append-nil d)) ∙ two_again d [] hd in
     rw (a, b, e) refl
 
+-- two fields of one or two digits, whichever comes first, and a year, with a separator between them
+abbrev short_fields : Bool → ℕ → (ℕ → ℕ → ℕ → ℕ × ℕ × ℕ) → List ℕ → Option (ℕ × ℕ × ℕ)
+short_fields padded by order bs = do
+  a ← short_at padded bs
+  rest ← after_separator by a.1
+  b ← short_at padded rest
+  rest ← after_separator by b.1
+  y ← four_at rest
+  end ← at_end y.1
+  Some (order a.0 b.0 y.0)
+
+-- they are spelled
+record ShortFields (padded : Bool) (by : ℕ) (order : ℕ → ℕ → ℕ → ℕ × ℕ × ℕ) (bs : List ℕ) (x : ℕ × ℕ × ℕ) : Type 0 where
+  a : List ℕ
+  b : List ℕ
+  y : List ℕ
+  first : Short padded a
+  second : Short padded b
+  year : Digits 4 y
+  text : bs ≡ a ++ (by ∷ (b ++ (by ∷ y)))
+  are : x ≡ order (digits_value 10 a) (digits_value 10 b) (digits_value 10 y)
+
+short_fields_sound : (padded : Bool) (by : ℕ) (order : ℕ → ℕ → ℕ → ℕ × ℕ × ℕ) (bs : List ℕ) (x : ℕ × ℕ × ℕ)
+    → short_fields padded by order bs ≡ Some x → ShortFields padded by order bs x
+short_fields_sound padded by order bs x h =
+    let a = bind_number (short_at padded bs) _ _ h in
+    let r = bind_some (after_separator by a.after) _ _ a.rest_is in
+    let b = bind_number (short_at padded r.value) _ _ r.rest_is in
+    let q = bind_some (after_separator by b.after) _ _ b.rest_is in
+    let y = bind_number (four_at q.value) _ _ q.rest_is in
+    let e = bind_some (at_end y.after) _ _ y.rest_is in
+    let fa = short_sound padded bs a.value a.after a.first_is in
+    let fb = short_sound padded r.value b.value b.after b.first_is in
+    let fy = four_sound q.value y.value y.after y.first_is in
+    record {
+      a = fa.digits;
+      b = fb.digits;
+      y = fy.digits;
+      first = fa.right;
+      second = fb.right;
+      year = fy.right;
+      text = fa.front ∙ ap (λ t. fa.digits ++ t) (separator_sound by a.after r.value r.first_is
+          ∙ ap (λ t. by ∷ t) (fb.front ∙ ap (λ t. fb.digits ++ t) (separator_sound by b.after q.value q.first_is
+          ∙ ap (λ t. by ∷ t) (fy.front ∙ ap (λ t. fy.digits ++ t) (end_sound y.after e.value e.first_is) ∙ append-nil fy.digits))));
+      are = sym (some_same (order a.value b.value y.value) x e.rest_is) ∙ ap (λ v. order v b.value y.value) fa.value
+          ∙ ap (λ v. order (digits_value 10 fa.digits) v y.value) fb.value
+          ∙ ap (λ v. order (digits_value 10 fa.digits) (digits_value 10 fb.digits) v) fy.value;
+    }
+
 day_first_sound : (digits : FieldDigits) (by : Separator) (bs : List ℕ) (x : ℕ × ℕ × ℕ) → date_fields (DayFirst digits by) bs ≡ Some x
     → Spelled (DayFirst digits by) bs x
 unfolding date_fields
 day_first_sound digits by bs x h =
-    let p = separator_byte by in
-    let a = bind_number (short_at (is_padded digits) bs) _ _ h in
-    let r = bind_some (after_separator p a.after) _ _ a.rest_is in
-    let b = bind_number (short_at (is_padded digits) r.value) _ _ r.rest_is in
-    let q = bind_some (after_separator p b.after) _ _ b.rest_is in
-    let y = bind_number (four_at q.value) _ _ q.rest_is in
-    let e = bind_some (at_end y.after) _ _ y.rest_is in
-    let fa = short_sound (is_padded digits) bs a.value a.after a.first_is in
-    let fb = short_sound (is_padded digits) r.value b.value b.after b.first_is in
-    let fy = four_sound q.value y.value y.after y.first_is in
-    let s = some_same (y.value, b.value, a.value) x e.rest_is in
+    let s = short_fields_sound (is_padded digits) (separator_byte by) (λ d m y. (y, m, d)) bs x h in
     record {
-      y = fy.digits;
-      m = fb.digits;
-      d = fa.digits;
-      year = fy.right;
-      month = short_field (DayFirst digits by) (is_padded digits) fb.digits (λ e. e) fb.right;
-      date = short_field (DayFirst digits by) (is_padded digits) fa.digits (λ e. e) fa.right;
-      text = fa.front ∙ ap (λ t. fa.digits ++ t) (separator_sound p a.after r.value r.first_is
-          ∙ ap (λ t. p ∷ t) (fb.front ∙ ap (λ t. fb.digits ++ t) (separator_sound p b.after q.value q.first_is
-          ∙ ap (λ t. p ∷ t) (fy.front ∙ ap (λ t. fy.digits ++ t) (end_sound y.after e.value e.first_is) ∙ append-nil fy.digits))));
-      y_is = sym (ap (λ (x : ℕ × ℕ × ℕ). x.0) s) ∙ fy.value;
-      m_is = sym (ap (λ (x : ℕ × ℕ × ℕ). x.1) s) ∙ fb.value;
-      d_is = sym (ap (λ (x : ℕ × ℕ × ℕ). x.2) s) ∙ fa.value;
+      y = s.y;
+      m = s.b;
+      d = s.a;
+      year = s.year;
+      month = short_field (DayFirst digits by) (is_padded digits) s.b (λ e. e) s.second;
+      date = short_field (DayFirst digits by) (is_padded digits) s.a (λ e. e) s.first;
+      text = s.text;
+      y_is = ap (λ (x : ℕ × ℕ × ℕ). x.0) s.are;
+      m_is = ap (λ (x : ℕ × ℕ × ℕ). x.1) s.are;
+      d_is = ap (λ (x : ℕ × ℕ × ℕ). x.2) s.are;
     }
 
 month_first_sound : (digits : FieldDigits) (by : Separator) (bs : List ℕ) (x : ℕ × ℕ × ℕ) → date_fields (MonthFirst digits by) bs ≡ Some x
     → Spelled (MonthFirst digits by) bs x
 unfolding date_fields
 month_first_sound digits by bs x h =
-    let p = separator_byte by in
-    let a = bind_number (short_at (is_padded digits) bs) _ _ h in
-    let r = bind_some (after_separator p a.after) _ _ a.rest_is in
-    let b = bind_number (short_at (is_padded digits) r.value) _ _ r.rest_is in
-    let q = bind_some (after_separator p b.after) _ _ b.rest_is in
-    let y = bind_number (four_at q.value) _ _ q.rest_is in
-    let e = bind_some (at_end y.after) _ _ y.rest_is in
-    let fa = short_sound (is_padded digits) bs a.value a.after a.first_is in
-    let fb = short_sound (is_padded digits) r.value b.value b.after b.first_is in
-    let fy = four_sound q.value y.value y.after y.first_is in
-    let s = some_same (y.value, a.value, b.value) x e.rest_is in
+    let s = short_fields_sound (is_padded digits) (separator_byte by) (λ m d y. (y, m, d)) bs x h in
     record {
-      y = fy.digits;
-      m = fa.digits;
-      d = fb.digits;
-      year = fy.right;
-      month = short_field (MonthFirst digits by) (is_padded digits) fa.digits (λ e. e) fa.right;
-      date = short_field (MonthFirst digits by) (is_padded digits) fb.digits (λ e. e) fb.right;
-      text = fa.front ∙ ap (λ t. fa.digits ++ t) (separator_sound p a.after r.value r.first_is
-          ∙ ap (λ t. p ∷ t) (fb.front ∙ ap (λ t. fb.digits ++ t) (separator_sound p b.after q.value q.first_is
-          ∙ ap (λ t. p ∷ t) (fy.front ∙ ap (λ t. fy.digits ++ t) (end_sound y.after e.value e.first_is) ∙ append-nil fy.digits))));
-      y_is = sym (ap (λ (x : ℕ × ℕ × ℕ). x.0) s) ∙ fy.value;
-      m_is = sym (ap (λ (x : ℕ × ℕ × ℕ). x.1) s) ∙ fa.value;
-      d_is = sym (ap (λ (x : ℕ × ℕ × ℕ). x.2) s) ∙ fb.value;
+      y = s.y;
+      m = s.a;
+      d = s.b;
+      year = s.year;
+      month = short_field (MonthFirst digits by) (is_padded digits) s.a (λ e. e) s.first;
+      date = short_field (MonthFirst digits by) (is_padded digits) s.b (λ e. e) s.second;
+      text = s.text;
+      y_is = ap (λ (x : ℕ × ℕ × ℕ). x.0) s.are;
+      m_is = ap (λ (x : ℕ × ℕ × ℕ). x.1) s.are;
+      d_is = ap (λ (x : ℕ × ℕ × ℕ). x.2) s.are;
     }
 
 month_first_again : (digits : FieldDigits) (by : Separator) (y m d : List ℕ) → Digits 4 y → Short (is_padded digits) m → Short (is_padded digits) d

@@ -242,6 +242,30 @@ back_kept text rest left h e f =
     let n = length rest - length left in
     back_more text rest (take n rest) left h e (sym (take-append-drop n rest) ∙ ap (λ l. take n rest ++ l) f)
 
+-- the character at the front of what is left of a text, and the terminator that may stand there
+pub record OverChar (d : Dialect) (text left behind : List ℕ) (c len : ℕ) : Type 0 where
+  pub within : length left ≤ length text
+  pub back : drop (length text - length left) text ≡ left
+  pub same : chars left ≡ c ∷ chars behind
+  pub again : c ∷ chars behind ≡ chars (drop (length text - length left) text)
+  pub ends : nat_lt 0 (terminator_len d (c ∷ chars behind)) ≡ nat_lt 0 len
+
+pub over_char : (d : Dialect) (text rest left behind : List ℕ) (c : ℕ) (bytes : List ℕ) (len : ℕ) → length rest ≤ length text
+    → drop (length text - length rest) text ≡ rest → drop (length rest - length left) rest ≡ left → is_utf8 left ≡ true → left ≡ encode_utf8 c ++ behind
+    → bytes ≡ left → len ≡ terminator_len d bytes → OverChar d text left behind c len
+over_char d text rest left behind c bytes len within back kept is_text spelled same_bytes len_is =
+    let u = IsUtf8-from_is_utf8 left is_text in
+    let same : chars left ≡ c ∷ chars behind = chars_past_char left behind c u spelled in
+    let a = back_kept text rest left within back kept in
+    record {
+      within = a.0;
+      back = a.1;
+      same = same;
+      again = sym same ∙ ap chars (sym a.1);
+      ends = ap (λ l. nat_lt 0 (terminator_len d l)) (sym same)
+          ∙ ap (nat_lt 0) (term_same d left u ∙ ap (terminator_len d) (sym same_bytes) ∙ sym len_is);
+    }
+
 -- text that was kept in two parts
 pub both_kept : {E : Type 0} (d : Dialect) (old mid new : Draft) (text rest : List ℕ) (r : Result (Bor (List ℕ)) E) → Keeps d old mid text rest
     → IfOk r (λ left. Keeps d mid new rest left.now) → IfOk r (λ left. Keeps d old new text left.now)

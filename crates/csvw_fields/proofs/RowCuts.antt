@@ -49,7 +49,7 @@ cut_before d s text spare at n w y u within a stands =
 
 -- where a field of the rest lies in the whole
 module _ (d : Dialect) (text spare : List ℕ) (at : ℕ) (cut : Cut) (within : at ≤ length text) (k : IsCut d (drop at text) spare cut) where
-  pub bounds_one : (bounds : List Bound) → are_bounds text spare bounds ≡ true → are_bounds text spare (bounds ++ moved at cut.bound ∷ []) ≡ true
+  bounds_one : (bounds : List Bound) → are_bounds text spare bounds ≡ true → are_bounds text spare (bounds ++ moved at cut.bound ∷ []) ≡ true
   bounds_one bounds h = list_all-append (λ b. is_bound text spare b) bounds (moved at cut.bound ∷ [])
       ∙ both _ _ h (moved_is text spare at cut.bound within k.bounded).0
     where
@@ -67,14 +67,14 @@ module _ (d : Dialect) (text spare : List ℕ) (at : ℕ) (cut : Cut) (within : 
   next_rest : drop cut.next (drop at text) ≡ drop (at + cut.next) text
   next_rest = drop-drop cut.next at text
 
-  pub next_text : is_utf8 (drop (at + cut.next) text) ≡ true
+  next_text : is_utf8 (drop (at + cut.next) text) ≡ true
   next_text = ap is_utf8 (sym next_rest) ∙ k.rest_text
 
-  pub next_within : at + cut.next ≤ length text
+  next_within : at + cut.next ≤ length text
   next_within = let i = k.inside in omega (arith, i, within, length-drop at text)
 
   -- a field with a delimiter behind it
-  pub cut_more : (start : ℕ) (bounds : List Bound) → cut.ends ≡ false → IsCutTo d text start at spare bounds
+  cut_more : (start : ℕ) (bounds : List Bound) → cut.ends ≡ false → IsCutTo d text start at spare bounds
       → IsCutTo d text start (at + cut.next) spare (bounds ++ moved at cut.bound ∷ [])
   cut_more start bounds e c = record { values = c.values ++ k.value ∷ []; texts = texts_more c.values bounds c.texts; goes_on = goes }
     where
@@ -93,7 +93,7 @@ module _ (d : Dialect) (text spare : List ℕ) (at : ℕ) (cut : Cut) (within : 
           (w.0, w.1, subst (λ l. AreFields d w.0 l after) (sym (append_assoc c.values (k.value ∷ []) (v ∷ vs))) w.2)
 
   -- the last field
-  pub cut_last : (start : ℕ) (bounds : List Bound) → cut.ends ≡ true → start ≤ at → IsCutTo d text start at spare bounds
+  cut_last : (start : ℕ) (bounds : List Bound) → cut.ends ≡ true → start ≤ at → IsCutTo d text start at spare bounds
       → IsCutRow d text start (at + cut.next) spare (bounds ++ moved at cut.bound ∷ [])
   cut_last start bounds e s c =
       let h = k.ends e in
@@ -110,3 +110,27 @@ module _ (d : Dialect) (text spare : List ℕ) (at : ℕ) (cut : Cut) (within : 
         ends = subst (λ (l : List ℕ). 0 < terminator_len d l) next_rest h.0;
         texts = texts_more c.values bounds c.texts;
       }
+
+-- a row with one field more, whose text may stand in the second buffer, which grew
+pub record OneMore (d : Dialect) (text new : List ℕ) (start at : ℕ) (cut : Cut) (items : List Bound) : Type 0 where
+  pub is_text : is_utf8 (drop (at + cut.next) text) ≡ true
+  pub within : at + cut.next ≤ length text
+  pub bounded : are_bounds text new items ≡ true
+  pub goes_on : cut.ends ≡ false → IsCutTo d text start (at + cut.next) new items
+  pub ends : cut.ends ≡ true → start ≤ at → IsCutRow d text start (at + cut.next) new items
+
+pub one_more : (d : Dialect) (text old new : List ℕ) (start at : ℕ) (cut : Cut) (bounds items : List Bound) (item : Bound) → at ≤ length text
+    → IsCut d (drop at text) new cut → Grows old new → are_bounds text old bounds ≡ true → IsCutTo d text start at old bounds
+    → items ≡ bounds ++ item ∷ [] → item ≡ moved at cut.bound → OneMore d text new start at cut items
+one_more d text old new start at cut bounds items item within k grows bounded to pushed item_is =
+    let g = cut_grows d text old new start at bounds grows bounded to in
+    let are : items ≡ bounds ++ moved at cut.bound ∷ [] = pushed ∙ ap (λ b. bounds ++ b ∷ []) item_is in
+    record {
+      is_text = next_text d text new at cut within k;
+      within = next_within d text new at cut within k;
+      bounded = ap (are_bounds text new) are ∙ bounds_one d text new at cut within k bounds g.0;
+      goes_on = λ e. subst (λ (l : List Bound). IsCutTo d text start (at + cut.next) new l) (sym are)
+          (cut_more d text new at cut within k start bounds e g.1);
+      ends = λ e s. subst (λ (l : List Bound). IsCutRow d text start (at + cut.next) new l) (sym are)
+          (cut_last d text new at cut within k start bounds e s g.1);
+    }

@@ -1,11 +1,10 @@
-use Rattle.std.proofs.Common.{◌≡◌, ◌∙◌, ◌-◌, ◌∷◌, ◌++◌, List, ℕ, length, drop, chars, nat_lt, arith, refl, sym, ap}
+use Rattle.std.proofs.Common.{◌≡◌, ◌∙◌, ◌-◌, ◌++◌, List, ℕ, length, drop, chars, arith, refl, sym, ap}
 use Rattle.std.specs.Prelude.{encode_utf8}
 use Rattle.std.specs.Str.{is_utf8}
-use Rattle.std.proofs.lemmas.Str.{IsUtf8-from_is_utf8, is_utf8-from_IsUtf8, chars_past_char}
-use Rattle.csvw_records.specs.Grammar.{terminator_len}
+use Rattle.std.proofs.lemmas.Str.{IsUtf8-from_is_utf8, is_utf8-from_IsUtf8}
 use Rattle.csvw_fields.specs.Drafts.{values_of, runs_on}
 use Rattle.csvw_records.specs.Scan.{Found, Broken}
-use Rattle.csvw_fields.proofs.DraftLemmas.{term_same, back_more, back_kept, no_chars}
+use Rattle.csvw_fields.proofs.DraftLemmas.{over_char, back_more, no_chars}
 use Rattle.csvw_fields.proofs.draft.Draft.read.Goals as goal
 
 pub loop-left-init : goal.loop-left-init
@@ -37,58 +36,43 @@ pub loop-left-preserved : goal.loop-left-preserved
 loop-left-preserved c =
     let d = c.args.rules.now.dialect in
     let text : List ℕ = c.args.text.now in
-    let rest : List ℕ = c.loop-left.rest.now in
     let left : List ℕ = c.in_ok-left.left.now in
     let behind : List ℕ = c.as_str-rest.result.now in
     let k = c.in-Some.c in
     let i = c.loop-left.invariant in
     let q = c.in_ok-left.ensures.keeps in
-    let u = IsUtf8-from_is_utf8 left q.is_text in
-    let e = c.in-Some.ensures.steps in
-    let spelled : left ≡ encode_utf8 k ++ behind = sym c.chars-behind.ensures.rest ∙ e.0 ∙ ap (λ l. encode_utf8 k ++ l) (sym c.as_str-rest.ensures) in
-    let same : chars left ≡ k ∷ chars behind = chars_past_char left behind k u spelled in
-    let a = back_kept text rest left i.within i.back q.back in
-    let b = back_more text left (encode_utf8 k) behind a.0 a.1 spelled in
-    let ends : nat_lt 0 (terminator_len d (k ∷ chars behind)) ≡ nat_lt 0 c.terminator_at-ends.result =
-    ap (λ l. nat_lt 0 (terminator_len d l)) (sym same)
-    ∙ ap (nat_lt 0) (term_same d left u ∙ ap (terminator_len d) (sym c.as_bytes.ensures.value) ∙ sym c.terminator_at-ends.ensures.value) in
+    let spelled : left ≡ encode_utf8 k ++ behind = sym c.chars-behind.ensures.rest ∙ c.in-Some.ensures.steps.0
+    ∙ ap (λ l. encode_utf8 k ++ l) (sym c.as_str-rest.ensures) in
+    let m = over_char d text _ left behind k _ _ i.within i.back q.back q.is_text spelled c.as_bytes.ensures.value c.terminator_at-ends.ensures.value in
+    let b = back_more text left (encode_utf8 k) behind m.within m.back spelled in
     let s = rw c.in-Unfinished.is at c.in_ok-step.ensures.steps in
     record {
       within = b.0;
       back = b.1;
       is_text = is_utf8-from_IsUtf8 behind c.as_str-rest.utf8;
       read = c.in_ok-step.ensures.read ∙ c.in_ok-left.ensures.read ∙ i.read;
-      runs = i.runs ∙ q.runs ∙ ap (runs_on d c.keep_text.new.self) same ∙ s (chars behind) ends;
+      runs = i.runs ∙ q.runs ∙ ap (runs_on d c.keep_text.new.self) m.same ∙ s (chars behind) m.ends;
     }
 
 pub returns-in-Ended : goal.returns-in-Ended
 returns-in-Ended c =
     let d = c.args.rules.now.dialect in
     let text : List ℕ = c.args.text.now in
-    let rest : List ℕ = c.loop-left.rest.now in
     let left : List ℕ = c.in_ok-left.left.now in
-    let behind : List ℕ = c.next.new.self.rest.now in
-    let k = c.in-Some.c in
     let i = c.loop-left.invariant in
     let q = c.in_ok-left.ensures.keeps in
-    let u = IsUtf8-from_is_utf8 left q.is_text in
-    let e = c.in-Some.ensures.steps in
-    let spelled : left ≡ encode_utf8 k ++ behind = sym c.chars-behind.ensures.rest ∙ e.0 in
-    let same : chars left ≡ k ∷ chars behind = chars_past_char left behind k u spelled in
-    let a = back_kept text rest left i.within i.back q.back in
-    let ends : nat_lt 0 (terminator_len d (k ∷ chars behind)) ≡ nat_lt 0 c.terminator_at-ends.result =
-    ap (λ l. nat_lt 0 (terminator_len d l)) (sym same)
-    ∙ ap (nat_lt 0) (term_same d left u ∙ ap (terminator_len d) (sym c.as_bytes.ensures.value) ∙ sym c.terminator_at-ends.ensures.value) in
+    let m = over_char d text _ left _ c.in-Some.c _ _ i.within i.back q.back q.is_text (sym c.chars-behind.ensures.rest ∙ c.in-Some.ensures.steps.0)
+    c.as_bytes.ensures.value c.terminator_at-ends.ensures.value in
     let s = rw c.in-Ended.is at c.in_ok-step.ensures.steps in
-    let w = a.0 in
+    let w = m.within in
     let r = c.requires in (
       length text - length left,
       record {
         read = omega (arith, r, w);
         within = omega arith;
-        back = ap is_utf8 a.1 ∙ q.is_text;
-        found = i.runs ∙ q.runs ∙ ap (runs_on d c.keep_text.new.self) same ∙ s (chars behind) ends
-            ∙ ap (Found (values_of c.step.new.self)) (sym same ∙ ap chars (sym a.1));
+        back = ap is_utf8 m.back ∙ q.is_text;
+        found = i.runs ∙ q.runs ∙ ap (runs_on d c.keep_text.new.self) m.same ∙ s (chars c.next.new.self.rest.now) m.ends
+            ∙ ap (Found (values_of c.step.new.self)) m.again;
       },
     )
 
@@ -96,29 +80,20 @@ pub returns-in-Broken : goal.returns-in-Broken
 returns-in-Broken c =
     let d = c.args.rules.now.dialect in
     let text : List ℕ = c.args.text.now in
-    let rest : List ℕ = c.loop-left.rest.now in
     let left : List ℕ = c.in_ok-left.left.now in
-    let behind : List ℕ = c.next.new.self.rest.now in
-    let k = c.in-Some.c in
     let i = c.loop-left.invariant in
     let q = c.in_ok-left.ensures.keeps in
-    let u = IsUtf8-from_is_utf8 left q.is_text in
-    let e = c.in-Some.ensures.steps in
-    let spelled : left ≡ encode_utf8 k ++ behind = sym c.chars-behind.ensures.rest ∙ e.0 in
-    let same : chars left ≡ k ∷ chars behind = chars_past_char left behind k u spelled in
-    let a = back_kept text rest left i.within i.back q.back in
-    let ends : nat_lt 0 (terminator_len d (k ∷ chars behind)) ≡ nat_lt 0 c.terminator_at-ends.result =
-    ap (λ l. nat_lt 0 (terminator_len d l)) (sym same)
-    ∙ ap (nat_lt 0) (term_same d left u ∙ ap (terminator_len d) (sym c.as_bytes.ensures.value) ∙ sym c.terminator_at-ends.ensures.value) in
+    let m = over_char d text _ left _ c.in-Some.c _ _ i.within i.back q.back q.is_text (sym c.chars-behind.ensures.rest ∙ c.in-Some.ensures.steps.0)
+    c.as_bytes.ensures.value c.terminator_at-ends.ensures.value in
     let s = rw c.in-Broken.is at c.in_ok-step.ensures.steps in
-    let w = a.0 in
+    let w = m.within in
     let r = c.requires in (
       length text - length left,
       record {
         read = omega (arith, r, w);
         within = omega arith;
-        back = ap is_utf8 a.1 ∙ q.is_text;
-        broken = i.runs ∙ q.runs ∙ ap (runs_on d c.keep_text.new.self) same ∙ s (chars behind) ends
-            ∙ ap (Broken c.in-Broken.stop) (sym same ∙ ap chars (sym a.1));
+        back = ap is_utf8 m.back ∙ q.is_text;
+        broken = i.runs ∙ q.runs ∙ ap (runs_on d c.keep_text.new.self) m.same ∙ s (chars c.next.new.self.rest.now) m.ends
+            ∙ ap (Broken c.in-Broken.stop) m.again;
       },
     )
