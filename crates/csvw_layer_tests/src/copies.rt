@@ -1,20 +1,20 @@
 //! Copies of plain data, which succeed where there is memory.
-ghost use Rattle.std.specs.Prelude.{IfOk};
+ghost use Rattle.std.specs.Prelude.{IfSome};
 ghost use Rattle.csvw_columns_core.specs.Sound.{AreSound};
 
 use crate::rows::parsed;
-use crate::tables::{columns_of, header, next_row, plan_of, reader_of};
+use crate::tables::{columns_of, description_of, header, next_row, plan_of, planned, reader_of};
 use csvw_annotate::Row;
 use csvw_cell::{Cell, CellValue};
-use csvw_columns::{Columns, Plan};
+use csvw_columns::{Columns, HeaderRow, Plan};
 use csvw_engine::Stop;
-use csvw_meta::read;
+use csvw_meta::Description;
 use csvw_meta_core::{MetaCode, MetaFault};
-use csvw_ntriples::read as read_triples;
+use csvw_ntriples::{NtTriple, read};
 use csvw_report::Outcome;
+use csvw_rows::Rows;
 use csvw_text::{Code, Fault, Kind, Place, Seq, Text};
-use std::alloc::Global;
-use std::test::Fail;
+use std::alloc::{AllocError, Global};
 
 /// Two tables, of which one refers to the other and has a note and a dialect.
 const GROUP: &str = r#"{"@context":"http://www.w3.org/ns/csvw","tables":[
@@ -22,17 +22,21 @@ const GROUP: &str = r#"{"@context":"http://www.w3.org/ns/csvw","tables":[
 "foreignKeys":[{"columnReference":"ref","reference":{"resource":"b.csv","columnReference":"k"}}]}},
 {"url":"b.csv","tableSchema":{"columns":[{"name":"k","separator":" "}],"primaryKey":"k"}}]}"#;
 
+/// A copy of a description.
+fn copied_description(alloc: Global) -> Option<Description> {
+    let description = description_of(alloc, GROUP)?;
+    description.clone(alloc).ok()
+}
+
 /// The plan of a copy of a description.
-fn plan_of_copy(alloc: Global) -> Result<Plan, Fail> {
-    let description = read(alloc, GROUP.as_bytes(), "http://example.org/")?;
-    let copy = description.clone(alloc)?;
-    drop(description);
-    Ok(Plan::build(alloc, copy)?)
+fn plan_of_copy(alloc: Global) -> Option<Plan> {
+    planned(alloc, copied_description(alloc)?)
 }
 
 /// A copy of a plan.
-fn copied_plan(alloc: Global) -> Result<Plan, Fail> {
-    Ok(plan_of(alloc, GROUP)?.clone(alloc)?)
+fn copied_plan(alloc: Global) -> Option<Plan> {
+    let plan = plan_of(alloc, GROUP)?;
+    plan.clone(alloc).ok()
 }
 
 /// Whether it is the plan of `GROUP`.
@@ -48,32 +52,42 @@ fn is_of_group(plan: &Plan) -> bool {
     }
 }
 
-#[test]
-fn descriptions(rt: HostRuntime) -> Result<(), Fail> {
-    let plan = plan_of_copy(rt.alloc())?;
-    assert!(rt; is_of_group(&plan));
-    Ok(())
+/// Whether there is a plan of `GROUP`.
+fn is_plan(plan: Option<Plan>) -> bool {
+    match &plan {
+        Some(plan) => is_of_group(plan),
+        None => false,
+    }
 }
 
 #[test]
-fn plans(rt: HostRuntime) -> Result<(), Fail> {
-    let plan = copied_plan(rt.alloc())?;
-    assert!(rt; is_of_group(&plan));
-    Ok(())
+fn descriptions_and_plans(rt: HostRuntime) {
+    let alloc = rt.alloc();
+    assert!(rt; is_plan(plan_of_copy(alloc)));
+    assert!(rt; is_plan(copied_plan(alloc)));
+}
+
+/// A copy of a header row.
+fn copied_header(alloc: Global) -> Result<HeaderRow, AllocError> {
+    let row = header(alloc, &["ref", "k"])?;
+    row.clone(alloc)
 }
 
 #[test]
-fn header_rows(rt: HostRuntime) -> Result<(), Fail> {
-    let row = header(rt.alloc(), &["ref", "k"])?.clone(rt.alloc())?;
-    assert_eq!(rt; row.cells.len(), 2);
-    Ok(())
+fn header_rows(rt: HostRuntime) {
+    let row = copied_header(rt.alloc());
+    assert!(rt; matches!(&row, Ok(row) if row.cells.len() == 2));
 }
 
 /// A copy of the columns of the second table.
-fn copied_columns(alloc: Global) -> Result<Columns, Fail>
-    ensures { IfOk result (λ columns. AreSound columns.columns) }
+fn copied_columns(alloc: Global) -> Option<Columns>
+    ensures { IfSome result (λ columns. AreSound columns.columns) }
 {
-    Ok(columns_of(alloc, GROUP, 1, &["k"])?.clone(alloc)?)
+    let columns = columns_of(alloc, GROUP, 1, &["k"])?;
+    match columns.clone(alloc) {
+        Ok(copy) => Some(copy),
+        Err(_) => None,
+    }
 }
 
 /// Whether it is a list of so many items.
@@ -84,83 +98,154 @@ fn is_list(value: &CellValue, count: usize) -> bool {
     }
 }
 
-/// A copy of what a text is in the column `k`.
-fn copied_cell(alloc: Global, columns: &Columns, text: &str) -> Result<Cell, Fail> {
-    match columns.by_name("k") {
-        Some(column) => Ok(parsed(alloc, column, text)?.clone(alloc)?),
-        None => Err("no column")?,
+/// Whether a copy of a cell is a list of three items.
+fn copies_list(alloc: Global, cell: &Cell) -> bool {
+    match cell.clone(alloc) {
+        Ok(copy) => is_list(&copy.value, 3),
+        Err(_) => false,
     }
 }
 
-#[test]
-fn columns_and_cells(rt: HostRuntime) -> Result<(), Fail> {
-    let columns = copied_columns(rt.alloc())?;
-    let cell = copied_cell(rt.alloc(), &columns, "1 2 3")?;
-    drop(columns);
-    assert!(rt; is_list(&cell.value, 3));
-    Ok(())
-}
-
-/// A copy of the first row of a text, behind its header.
-fn copied_row(alloc: Global, columns: &Columns, text: &str) -> Result<Option<Row>, Fail>
-    requires { AreSound columns.now.columns }
-{
-    let mut rows = reader_of(alloc, text)?;
-    let _ = rows.next()?;
-    match next_row(alloc, columns, &mut rows)? {
-        Some(row) => Ok(Some(row.clone(alloc)?)),
-        None => Ok(None),
+/// Whether a copy of what a text is in the column `k` is a list of three items.
+fn copies_cell(alloc: Global, columns: &Columns) -> bool {
+    match parsed(alloc, columns, "k", "1 2 3") {
+        Some(cell) => copies_list(alloc, &cell),
+        None => false,
     }
 }
 
 /// Whether it has one cell, which is a list of two items.
-fn has_list(row: &Option<Row>) -> bool {
-    match row {
-        Some(row) => match row.cells.as_slice() {
-            [cell] => is_list(&cell.value, 2),
-            _ => false,
-        },
+fn has_list(row: &Row) -> bool {
+    match row.cells.as_slice() {
+        [cell] => is_list(&cell.value, 2),
+        _ => false,
+    }
+}
+
+/// Whether a copy of a row has one cell, which is a list of two items.
+fn copies_row(alloc: Global, row: &Row) -> bool {
+    match row.clone(alloc) {
+        Ok(copy) => has_list(&copy),
+        Err(_) => false,
+    }
+}
+
+/// Whether that is so of the first row behind the header.
+fn copies_next(alloc: Global, columns: &Columns, rows: &mut Rows) -> bool
+    requires { AreSound columns.now.columns }
+{
+    if rows.next().is_err() {
+        return false;
+    }
+    match next_row(alloc, columns, rows) {
+        Ok(Some(row)) => copies_row(alloc, &row),
+        Ok(None) | Err(_) => false,
+    }
+}
+
+/// Whether that is so of the first row of a text.
+fn copies_first(alloc: Global, columns: &Columns) -> bool
+    requires { AreSound columns.now.columns }
+{
+    match reader_of(alloc, "k\n1 2\n") {
+        Some(mut rows) => copies_next(alloc, columns, &mut rows),
         None => false,
     }
 }
 
 #[test]
-fn rows(rt: HostRuntime) -> Result<(), Fail> {
-    let columns = copied_columns(rt.alloc())?;
-    let row = copied_row(rt.alloc(), &columns, "k\n1 2\n")?;
-    drop(columns);
-    assert!(rt; has_list(&row));
-    Ok(())
+fn columns_cells_and_rows(rt: HostRuntime) {
+    let alloc = rt.alloc();
+    let columns = copied_columns(alloc);
+    assert!(rt; matches!(&columns, Some(columns) if copies_cell(alloc, columns)));
+    assert!(rt; matches!(&columns, Some(columns) if copies_first(alloc, columns)));
 }
 
-#[test]
-fn triples(rt: HostRuntime) -> Result<(), Fail> {
-    let alloc = rt.alloc();
-    let triples = read_triples(alloc, b"_:a <http://example.org/p> \"x\"@en .\n")?;
-    for triple in &triples {
-        let copy = triple.clone(alloc)?;
-        assert_eq!(rt; copy.p.as_str(), "http://example.org/p");
+/// Whether a copy of a triple has this predicate.
+fn copies_triple(alloc: Global, triple: &NtTriple, predicate: &str) -> bool {
+    match triple.clone(alloc) {
+        Ok(copy) => copy.p.as_str() == predicate,
+        Err(_) => false,
     }
-    Ok(())
 }
 
 #[test]
-fn stops(rt: HostRuntime) -> Result<(), Fail> {
+fn triples(rt: HostRuntime) {
     let alloc = rt.alloc();
-    let fault = MetaFault {
+    let triples = read(alloc, b"_:a <http://example.org/p> \"x\"@en .\n");
+    assert!(rt;
+        match &triples {
+            Ok(triples) => match triples.as_slice() {
+                [triple] => copies_triple(alloc, triple, "http://example.org/p"),
+                _ => false,
+            },
+            Err(_) => false,
+        }
+    );
+}
+
+/// A fault of the URL of a document.
+fn fault(alloc: Global) -> Result<MetaFault, AllocError> {
+    Ok(MetaFault {
         code: MetaCode::BadUrl,
         pointer: Text::copied(alloc, "/url")?,
-    };
-    let stop = Stop::Meta(fault.clone(alloc)?);
-    assert!(rt; stop.clone(alloc)? == Stop::Meta(fault));
-    Ok(())
+    })
+}
+
+/// The stop for a copy of a fault.
+fn stop_of(alloc: Global, fault: &MetaFault) -> Result<Stop, AllocError> {
+    Ok(Stop::Meta(fault.clone(alloc)?))
+}
+
+/// Whether it is the stop for this fault.
+fn is_stop_for(stop: &Stop, fault: &MetaFault) -> bool {
+    match stop {
+        Stop::Meta(found) => found == fault,
+        _ => false,
+    }
+}
+
+/// Whether a stop equals its copy.
+fn copies_stop(alloc: Global, stop: &Stop) -> bool {
+    match stop.clone(alloc) {
+        Ok(copy) => copy == *stop,
+        Err(_) => false,
+    }
+}
+
+/// Whether the stop for a copy of a fault is for that fault, and equals its copy.
+fn copies_fault(alloc: Global, fault: &MetaFault) -> Result<bool, AllocError> {
+    let stop = stop_of(alloc, fault)?;
+    Ok(is_stop_for(&stop, fault) && copies_stop(alloc, &stop))
+}
+
+/// Whether that is so of a fault of the URL of a document.
+fn copies_faults(alloc: Global) -> Result<bool, AllocError> {
+    let fault = fault(alloc)?;
+    copies_fault(alloc, &fault)
 }
 
 #[test]
-fn outcomes(rt: HostRuntime) -> Result<(), Fail> {
-    let alloc = rt.alloc();
-    let mut faults = Seq::new(alloc);
-    faults.push(Fault {
+fn stops(rt: HostRuntime) {
+    assert!(rt; matches!(copies_faults(rt.alloc()), Ok(true)));
+}
+
+/// Whether an outcome equals its copy.
+fn copies_outcome(alloc: Global, outcome: &Outcome) -> Result<bool, AllocError> {
+    Ok(outcome.clone(alloc)? == *outcome)
+}
+
+/// Whether the outcome with this fault equals its copy.
+fn copies_outcomes(alloc: Global, fault: Fault) -> Result<bool, AllocError> {
+    let outcome = Outcome {
+        faults: Seq::of([fault].to_vec(alloc)?),
+    };
+    copies_outcome(alloc, &outcome)
+}
+
+#[test]
+fn outcomes(rt: HostRuntime) {
+    let fault = Fault {
         kind: Kind::Error,
         code: Code::Required,
         place: Place {
@@ -168,8 +253,6 @@ fn outcomes(rt: HostRuntime) -> Result<(), Fail> {
             row: 2,
             column: 1,
         },
-    })?;
-    let outcome = Outcome { faults };
-    assert!(rt; outcome.clone(alloc)? == outcome);
-    Ok(())
+    };
+    assert!(rt; matches!(copies_outcomes(rt.alloc(), fault), Ok(true)));
 }

@@ -1,4 +1,4 @@
-//! Tests of the layers with long proofs, by their public calls: documents, graphs, reports, groups, and tables with their rows.
+//! Tests of the layers with long proofs, by their public calls: documents, plans, and tables with their rows.
 #![tactic(auto)]
 
 #[cfg(test)]
@@ -6,16 +6,8 @@ mod copies;
 #[cfg(test)]
 mod documents;
 #[cfg(test)]
-mod graphs;
-#[cfg(test)]
-mod groups;
-#[cfg(test)]
-mod notes;
-#[cfg(test)]
-mod reports;
+mod plans;
 #[cfg(test)]
 mod rows;
-#[cfg(test)]
-mod standard;
 #[cfg(test)]
 mod tables;

@@ -1,19 +1,19 @@
 //! What a table's header, its cells and its rows give, call by call.
 ghost use Rattle.csvw_columns_core.specs.Sound.{AreSound};
-ghost use Rattle.csvw_columns.specs.Ready.{IsReady};
+ghost use Rattle.csvw_columns.specs.Ready.{AreReady};
 ghost use Rattle.csvw_annotate.specs.HasForms.{HasForms};
 
-use crate::tables::{columns_of, matched, next_row, plan_of, reader_of, table_at};
+use crate::tables::{columns_of, matched, matched_in, next_row, plan_of, reader_of, table_at};
 use csvw_annotate::Row;
 use csvw_cell::{Cell, CellValue, Item, parse};
-use csvw_columns::{Column, Columns, TablePlan};
+use csvw_columns::{Columns, Plan};
 use csvw_datatype::Value;
 use csvw_keys::KeyBook;
+use csvw_rows::Rows;
 use csvw_text::{Code, Fault};
 use csvw_triples::{Mode, Node, Origin, Term, Triple, VecSink, emit_row};
 use std::alloc::Global;
 use std::process::Abort;
-use std::test::Fail;
 
 /// A table without metadata of its own.
 const PLAIN: &str = r#"{"@context":"http://www.w3.org/ns/csvw","url":"p.csv"}"#;
@@ -49,10 +49,9 @@ fn are_named(columns: &Columns) -> bool {
 }
 
 #[test]
-fn columns_have_names(rt: HostRuntime) -> Result<(), Fail> {
-    let columns = columns_of(rt.alloc(), PLAIN, 0, &["id", "name"])?;
-    assert!(rt; are_named(&columns));
-    Ok(())
+fn columns_have_names(rt: HostRuntime) {
+    let columns = columns_of(rt.alloc(), PLAIN, 0, &["id", "name"]);
+    assert!(rt; matches!(&columns, Some(columns) if are_named(columns)));
 }
 
 /// Whether this is all that is told: a code at this table, row and column.
@@ -66,25 +65,31 @@ fn tells(faults: &[Fault], wanted: &[(Code, u32, u64, u32)]) -> bool {
         })
 }
 
-/// What is wrong with a header of the first table.
-fn header_faults(alloc: Global, meta: &str, cells: &[&str]) -> Result<Vec<Fault>, Fail> {
-    let plan = plan_of(alloc, meta)?;
-    let (_, faults) = matched(alloc, table_at(&plan, 0)?, cells)?;
-    Ok(faults)
+/// Whether this is all that is told of a header of the first table.
+fn header_tells(
+    alloc: Global,
+    meta: &str,
+    cells: &[&str],
+    wanted: &[(Code, u32, u64, u32)],
+) -> bool {
+    match matched_in(alloc, meta, 0, cells) {
+        Some((_, faults)) => tells(faults.as_slice(), wanted),
+        None => false,
+    }
 }
 
 #[test]
-fn a_header_of_another_title_is_told(rt: HostRuntime) -> Result<(), Fail> {
-    let faults = header_faults(rt.alloc(), TITLED, &["ID", "n"])?;
-    assert!(rt; tells(faults.as_slice(), &[(Code::HeaderMismatch, 1, 1, 1)]));
-    Ok(())
+fn a_header_of_another_title_is_told(rt: HostRuntime) {
+    let wanted = [(Code::HeaderMismatch, 1, 1, 1)];
+    assert!(rt; header_tells(rt.alloc(), TITLED, &["ID", "n"], &wanted));
 }
 
-/// What the text of a cell says in a column.
-pub(crate) fn parsed(alloc: Global, column: &Column, text: &str) -> Result<Cell, Fail> {
+/// What the text of a cell says in the column of this name.
+pub(crate) fn parsed(alloc: Global, columns: &Columns, name: &str, text: &str) -> Option<Cell> {
+    let column = columns.by_name(name)?;
     match column.properties.datatype.get().check() {
-        Ok(()) => Ok(parse(alloc, column, text)?),
-        Err(_) => Err("no datatype")?,
+        Ok(()) => parse(alloc, column, text).ok(),
+        Err(_) => None,
     }
 }
 
@@ -112,21 +117,32 @@ static INTEGERS: [(&str, Result<i128, Option<Code>>); 4] = [
     ("", Err(None)),
 ];
 
-fn parse_each(rt: &impl Abort, alloc: Global, column: &Column) -> Result<(), Fail> {
-    for (text, wanted) in &INTEGERS {
-        let cell = parsed(alloc, column, text)?;
-        assert_eq!(rt; number_or_code(&cell), *wanted, "{text:?}");
+/// Whether a text in the column `id` is this.
+fn is_parsed(
+    alloc: Global,
+    columns: &Columns,
+    text: &str,
+    wanted: Result<i128, Option<Code>>,
+) -> bool {
+    match parsed(alloc, columns, "id", text) {
+        Some(cell) => number_or_code(&cell) == wanted,
+        None => false,
     }
-    Ok(())
+}
+
+fn parse_each(rt: &impl Abort, alloc: Global, columns: &Columns) {
+    for (text, wanted) in &INTEGERS {
+        assert!(rt; is_parsed(alloc, columns, text, *wanted), "{text:?}");
+    }
 }
 
 #[test]
-fn texts_of_integers(rt: HostRuntime) -> Result<(), Fail> {
+fn texts_of_integers(rt: HostRuntime) {
     let alloc = rt.alloc();
-    let columns = columns_of(alloc, INTEGER, 0, &["id"])?;
-    match columns.by_name("id") {
-        Some(column) => parse_each(&rt, alloc, column),
-        None => Err("no column")?,
+    let columns = columns_of(alloc, INTEGER, 0, &["id"]);
+    assert!(rt; columns.is_some());
+    if let Some(columns) = &columns {
+        parse_each(&rt, alloc, columns);
     }
 }
 
@@ -147,29 +163,26 @@ fn says(triple: &Triple, predicate: &str, text: &str) -> bool {
     is_about && is_text && triple.p.as_str() == predicate
 }
 
-/// Puts the triples of a row of the first table into a sink.
-fn emit(alloc: Global, columns: &Columns, row: &Row, sink: &mut VecSink) -> Result<(), Fail>
+/// Puts the triples of a row of the first table into a sink; whether they are there.
+fn emit(alloc: Global, columns: &Columns, row: &Row, sink: &mut VecSink) -> bool
     requires { HasForms row.now }
 {
     if row.cells.len() == columns.len() {
-        Ok(emit_row(alloc, columns, Mode::Minimal, 1, row, sink)?)
+        emit_row(alloc, columns, Mode::Minimal, 1, row, sink).is_ok()
     } else {
-        Err("no cell for each column")?
+        false
     }
 }
 
-/// The triples of the rows of a text, of which the first two are read.
-fn emitted(alloc: Global, columns: &Columns, text: &str) -> Result<VecSink, Fail>
+/// Puts the triples of the next row into a sink, if there is one behind the header; whether nothing failed.
+fn emit_next(alloc: Global, columns: &Columns, rows: &mut Rows, sink: &mut VecSink) -> bool
     requires { AreSound columns.now.columns }
 {
-    let mut rows = reader_of(alloc, text)?;
-    let mut sink = VecSink::new(alloc);
-    for _ in 0..2 {
-        if let Some(row) = next_row(alloc, columns, &mut rows)? {
-            emit(alloc, columns, &row, &mut sink)?;
-        }
+    match next_row(alloc, columns, rows) {
+        Ok(Some(row)) => emit(alloc, columns, &row, sink),
+        Ok(None) => true,
+        Err(_) => false,
     }
-    Ok(sink)
 }
 
 /// Whether these are the triples of Ann, whose number is 1.
@@ -183,61 +196,95 @@ fn are_of_ann(triples: &[Triple]) -> bool {
     }
 }
 
-#[test]
-fn a_row_is_put_into_a_vector(rt: HostRuntime) -> Result<(), Fail> {
-    let columns = columns_of(rt.alloc(), PLAIN, 0, &["id", "name"])?;
-    let sink = emitted(rt.alloc(), &columns, "id,name\n1,Ann\n")?;
-    drop(columns);
-    assert!(rt; are_of_ann(sink.triples()));
-    Ok(())
+/// Whether the rows of a text, of which the first two are read, give the triples of Ann.
+fn emits_ann(alloc: Global, columns: &Columns, rows: &mut Rows) -> bool
+    requires { AreSound columns.now.columns }
+{
+    let mut sink = VecSink::new(alloc);
+    let is_header = emit_next(alloc, columns, rows, &mut sink);
+    let is_row = emit_next(alloc, columns, rows, &mut sink);
+    is_header && is_row && are_of_ann(sink.triples())
 }
 
-/// Adds the rows of a text to the book, of which the first five are read.
-fn add_all(
+/// Whether the text of a header and Ann does so.
+fn text_emits_ann(alloc: Global, columns: &Columns) -> bool
+    requires { AreSound columns.now.columns }
+{
+    match reader_of(alloc, "id,name\n1,Ann\n") {
+        Some(mut rows) => emits_ann(alloc, columns, &mut rows),
+        None => false,
+    }
+}
+
+#[test]
+fn a_row_is_put_into_a_vector(rt: HostRuntime) {
+    let columns = columns_of(rt.alloc(), PLAIN, 0, &["id", "name"]);
+    assert!(rt; matches!(&columns, Some(columns) if text_emits_ann(rt.alloc(), columns)));
+}
+
+/// Adds the next row to the book, if there is one behind the header; whether nothing failed.
+fn add_next(
     alloc: Global,
     table: u32,
     columns: &Columns,
-    text: &str,
+    rows: &mut Rows,
     book: &mut KeyBook,
-) -> Result<(), Fail>
+) -> bool
     requires { AreSound columns.now.columns }
 {
-    let mut rows = reader_of(alloc, text)?;
+    match next_row(alloc, columns, rows) {
+        Ok(Some(row)) => book.add(table, &row).is_ok(),
+        Ok(None) => true,
+        Err(_) => false,
+    }
+}
+
+/// Adds the rows to the book, of which the first five are read.
+fn add_rows(
+    alloc: Global,
+    table: u32,
+    columns: &Columns,
+    rows: &mut Rows,
+    book: &mut KeyBook,
+) -> bool
+    requires { AreSound columns.now.columns }
+{
     for _ in 0..5 {
-        if let Some(row) = next_row(alloc, columns, &mut rows)? {
-            book.add(table, &row)?;
+        if !add_next(alloc, table, columns, rows, book) {
+            return false;
         }
     }
-    Ok(())
+    true
+}
+
+/// Adds the rows of a text to the book.
+fn add_text(alloc: Global, table: u32, columns: &Columns, text: &str, book: &mut KeyBook) -> bool
+    requires { AreSound columns.now.columns }
+{
+    match reader_of(alloc, text) {
+        Some(mut rows) => add_rows(alloc, table, columns, &mut rows, book),
+        None => false,
+    }
 }
 
 /// Adds the rows of a table of one column to the book.
 fn add_table(
     alloc: Global,
-    table: &TablePlan,
+    plan: &Plan,
+    i: usize,
     name: &str,
     text: &str,
     book: &mut KeyBook,
-) -> Result<(), Fail>
-    requires { IsReady table.now }
+) -> bool
+    requires { AreReady plan.now.tables }
 {
-    let (columns, _) = matched(alloc, table, &[name])?;
-    add_all(alloc, table.number, &columns, text, book)
-}
-
-/// The book of the rows of two tables.
-fn book(alloc: Global) -> Result<KeyBook, Fail> {
-    let plan = plan_of(alloc, KEYS)?;
-    let mut book = KeyBook::new(alloc, &plan)?;
-    add_table(
-        alloc,
-        table_at(&plan, 0)?,
-        "ref",
-        "ref\n9\n1\n2\n\n",
-        &mut book,
-    )?;
-    add_table(alloc, table_at(&plan, 1)?, "k", "k\n1\n01\n2\n", &mut book)?;
-    Ok(book)
+    let Some(table) = table_at(plan, i) else {
+        return false;
+    };
+    match matched(alloc, table, &[name]) {
+        Some((columns, _)) => add_text(alloc, table.number, &columns, text, book),
+        None => false,
+    }
 }
 
 /// Whether the book has the second row of the second table twice, and nothing of the first.
@@ -245,17 +292,43 @@ fn has_duplicate(book: &KeyBook) -> bool {
     tells(book.duplicates(1), &[]) && tells(book.duplicates(2), &[(Code::DuplicateKey, 2, 3, 1)])
 }
 
+/// Whether this is all that the book tells at the end.
+fn ends_with(book: &KeyBook, wanted: &[(Code, u32, u64, u32)]) -> bool {
+    match book.finish() {
+        Ok(faults) => tells(faults.as_slice(), wanted),
+        Err(_) => false,
+    }
+}
+
+/// What is told of the keys of both tables.
+static KEY_FAULTS: [(Code, u32, u64, u32); 3] = [
+    (Code::NoReferencedRow, 1, 2, 1),
+    (Code::ManyReferencedRows, 1, 3, 1),
+    (Code::DuplicateKey, 2, 3, 1),
+];
+
+/// Whether the book of the plan tells of the rows of two tables.
+fn tells_of_rows(alloc: Global, plan: &Plan, book: &mut KeyBook) -> bool
+    requires { AreReady plan.now.tables }
+{
+    add_table(alloc, plan, 0, "ref", "ref\n9\n1\n2\n\n", book)
+        && add_table(alloc, plan, 1, "k", "k\n1\n01\n2\n", book)
+        && has_duplicate(book)
+        && ends_with(book, &KEY_FAULTS)
+}
+
+/// Whether a new book of the plan does so.
+fn book_tells(alloc: Global, plan: &Plan) -> bool
+    requires { AreReady plan.now.tables }
+{
+    match KeyBook::new(alloc, plan) {
+        Ok(mut book) => tells_of_rows(alloc, plan, &mut book),
+        Err(_) => false,
+    }
+}
+
 #[test]
-fn a_book_tells_of_keys(rt: HostRuntime) -> Result<(), Fail> {
-    let book = book(rt.alloc())?;
-    assert!(rt; has_duplicate(&book));
-    let faults = book.finish()?;
-    drop(book);
-    let wanted = [
-        (Code::NoReferencedRow, 1, 2, 1),
-        (Code::ManyReferencedRows, 1, 3, 1),
-        (Code::DuplicateKey, 2, 3, 1),
-    ];
-    assert!(rt; tells(faults.as_slice(), &wanted));
-    Ok(())
+fn a_book_tells_of_keys(rt: HostRuntime) {
+    let plan = plan_of(rt.alloc(), KEYS);
+    assert!(rt; matches!(&plan, Some(plan) if book_tells(rt.alloc(), plan)));
 }

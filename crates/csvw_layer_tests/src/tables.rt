@@ -1,40 +1,54 @@
 //! Tables of documents, as the calls below take them: their columns, and their rows as they come.
-ghost use Rattle.std.specs.Prelude.{IfOk, IfSome};
+ghost use Rattle.std.specs.Prelude.{◌≡◌, IfOk, IfSome, false};
 ghost use Rattle.csvw_columns_core.specs.Sound.{AreSound};
 ghost use Rattle.csvw_columns.specs.Ready.{AreReady, IsReady};
 ghost use Rattle.csvw_dialect.specs.Lawful.{IsLawful};
+ghost use Rattle.csvw_rows.specs.RowsState.{is_ended_of};
 ghost use Rattle.csvw_annotate.specs.HasForms.{HasForms};
 
 use csvw_annotate::{Row, annotate, annotated_rows_have_forms};
 use csvw_columns::laws::each_table_is_ready;
 use csvw_columns::{Columns, HeaderRow, Plan, TablePlan, match_header};
-use csvw_meta::read;
-use csvw_rows::{BadDialect, Dialect, Rows};
+use csvw_meta::{Description, read};
+use csvw_rows::{Dialect, Rows};
 use csvw_text::{Fault, Seq, Text};
 use std::alloc::{AllocError, Global};
 use std::slice;
-use std::test::Fail;
 
 /// The URL of each document.
 const BASE: &str = "http://example.org/";
 
-/// The plan of the group that a document describes.
-pub(crate) fn plan_of(alloc: Global, meta: &str) -> Result<Plan, Fail>
-    ensures { IfOk result (λ plan. AreReady plan.tables) }
+/// The description of the group in a document.
+pub(crate) fn description_of(alloc: Global, meta: &str) -> Option<Description> {
+    read(alloc, meta.as_bytes(), BASE).ok()
+}
+
+/// The plan of a group.
+pub(crate) fn planned(alloc: Global, description: Description) -> Option<Plan>
+    ensures { IfSome result (λ plan. AreReady plan.tables) }
 {
-    let description = read(alloc, meta.as_bytes(), BASE)?;
-    Ok(Plan::build(alloc, description)?)
+    match Plan::build(alloc, description) {
+        Ok(plan) => Some(plan),
+        Err(_) => None,
+    }
+}
+
+/// The plan of the group that a document describes.
+pub(crate) fn plan_of(alloc: Global, meta: &str) -> Option<Plan>
+    ensures { IfSome result (λ plan. AreReady plan.tables) }
+{
+    planned(alloc, description_of(alloc, meta)?)
 }
 
 /// The table at this place.
-pub(crate) fn table_at(plan: &Plan, i: usize) -> Result<&TablePlan, Fail>
+pub(crate) fn table_at(plan: &Plan, i: usize) -> Option<&TablePlan>
     requires { AreReady plan.now.tables }
-    ensures { IfOk result (λ table. IsReady table.now) }
+    ensures { IfSome result (λ table. IsReady table.now) }
 {
     each_table_is_ready();
     match plan.tables().get(i) {
-        Some(table) => Ok(table),
-        None => Err("no table")?,
+        Some(table) => Some(table),
+        None => None,
     }
 }
 
@@ -55,65 +69,100 @@ pub(crate) fn matched(
     alloc: Global,
     table: &TablePlan,
     cells: &[&str],
-) -> Result<(Columns, Vec<Fault>), Fail>
+) -> Option<(Columns, Vec<Fault>)>
     requires { IsReady table.now }
-    ensures { IfOk result (λ found. AreSound found.0.columns) }
+    ensures { IfSome result (λ found. AreSound found.0.columns) }
 {
-    let row = header(alloc, cells)?;
+    let row = header(alloc, cells).ok()?;
     match match_header(alloc, table, slice::from_ref(&row), None) {
-        Ok(found) => Ok(found),
-        Err(stop) => Err(stop)?,
+        Ok(found) => Some(found),
+        Err(_) => None,
     }
 }
 
-/// The columns of a table of a document with this header, with which nothing is wrong.
-pub(crate) fn columns_of(
+/// The columns of a table of a plan with this header, and what is wrong with it.
+fn matched_at(alloc: Global, plan: &Plan, i: usize, cells: &[&str]) -> Option<(Columns, Vec<Fault>)>
+    requires { AreReady plan.now.tables }
+    ensures { IfSome result (λ found. AreSound found.0.columns) }
+{
+    matched(alloc, table_at(plan, i)?, cells)
+}
+
+/// The columns of a table of a document with this header, and what is wrong with it.
+pub(crate) fn matched_in(
     alloc: Global,
     meta: &str,
     i: usize,
     cells: &[&str],
-) -> Result<Columns, Fail>
-    ensures { IfOk result (λ columns. AreSound columns.columns) }
+) -> Option<(Columns, Vec<Fault>)>
+    ensures { IfSome result (λ found. AreSound found.0.columns) }
 {
     let plan = plan_of(alloc, meta)?;
-    let (columns, faults) = matched(alloc, table_at(&plan, i)?, cells)?;
+    matched_at(alloc, &plan, i, cells)
+}
+
+/// The columns of a table of a document with this header, with which nothing is wrong.
+pub(crate) fn columns_of(alloc: Global, meta: &str, i: usize, cells: &[&str]) -> Option<Columns>
+    ensures { IfSome result (λ columns. AreSound columns.columns) }
+{
+    let (columns, faults) = matched_in(alloc, meta, i, cells)?;
     if faults.is_empty() {
-        Ok(columns)
+        Some(columns)
     } else {
-        Err("a fault of the header")?
+        None
     }
 }
 
-fn lawful(dialect: Dialect) -> Result<Dialect, BadDialect>
-    ensures { IfOk result IsLawful }
+/// The default dialect.
+fn lawful(alloc: Global) -> Option<Dialect>
+    ensures { IfSome result IsLawful }
 {
+    let dialect = Dialect::new(alloc).ok()?;
     match dialect.check() {
-        Ok(()) => Ok(dialect),
-        Err(bad) => Err(bad),
+        Ok(()) => Some(dialect),
+        Err(_) => None,
+    }
+}
+
+/// A reader by the default dialect, whose text hasn't ended.
+fn reader(alloc: Global) -> Option<Rows>
+    ensures { IfSome result (λ rows. is_ended_of rows ≡ false) }
+{
+    match Rows::new(alloc, lawful(alloc)?, 100) {
+        Ok(rows) => Some(rows),
+        Err(_) => None,
     }
 }
 
 /// A reader of a text by the default dialect.
-pub(crate) fn reader_of(alloc: Global, text: &str) -> Result<Rows, Fail> {
-    let dialect = lawful(Dialect::new(alloc)?)?;
-    let mut rows = Rows::new(alloc, dialect, 100)?;
-    rows.feed(text.as_bytes())?;
-    Ok(rows)
+pub(crate) fn reader_of(alloc: Global, text: &str) -> Option<Rows> {
+    let mut rows = reader(alloc)?;
+    match rows.feed(text.as_bytes()) {
+        Ok(()) => Some(rows),
+        Err(_) => None,
+    }
 }
+
+/// There is a row, but it can't be read or annotated.
+#[derive(Clone, Copy)]
+pub(crate) struct Stopped;
 
 /// The next row of a text, annotated; `None` for a header row, and where there is none.
 pub(crate) fn next_row(
     alloc: Global,
     columns: &Columns,
     rows: &mut Rows,
-) -> Result<Option<Row>, Fail>
+) -> Result<Option<Row>, Stopped>
     requires { AreSound columns.now.columns }
     ensures { IfOk result (λ found. IfSome found HasForms) }
 {
     annotated_rows_have_forms();
     match rows.next() {
-        Ok(Some(raw)) if raw.number() > 0 => Ok(Some(annotate(alloc, columns, &raw)?)),
+        Ok(Some(raw)) if raw.number() > 0 => match annotate(alloc, columns, &raw) {
+            Ok(row) => Ok(Some(row)),
+            Err(_) => Err(Stopped),
+        },
         Ok(_) => Ok(None),
-        Err(stop) => Err(stop)?,
+        Err(_) => Err(Stopped),
     }
 }

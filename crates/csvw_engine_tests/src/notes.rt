@@ -1,8 +1,7 @@
 //! What annotations tell of groups and tables, by whole runs.
 
-use crate::standard::{Case, written};
+use crate::runs::{AMPLE, Case, End, each_leaves};
 use csvw_triples_core::Mode;
-use std::test::Fail;
 
 static CASES: [Case; 4] = [
     // a title in the language of the context, and a note with a type, a node and a literal
@@ -10,6 +9,7 @@ static CASES: [Case; 4] = [
         meta: r#"{"@context":["http://www.w3.org/ns/csvw",{"@language":"en"}],"url":"p.csv","dc:title":"T",
             "notes":[{"@type":"oa:Annotation","oa:hasBody":{"@value":"ok"},"dc:creator":{"@id":"http://x.org/me","foaf:name":"Me"}}]}"#,
         texts: &[b"id\n"],
+        end: End::Report,
         graph: concat!(
             "_:g <http://www.w3.org/1999/02/22-rdf-syntax-ns#type> <http://www.w3.org/ns/csvw#TableGroup> .\n",
             "_:g <http://www.w3.org/ns/csvw#table> _:t1 .\n",
@@ -22,12 +22,14 @@ static CASES: [Case; 4] = [
             "<http://x.org/me> <http://xmlns.com/foaf/0.1/name> \"Me\"@en .\n",
             "_:a1 <http://www.w3.org/ns/oa#hasBody> \"ok\" .\n",
         ),
+        faults: "",
     },
     // an array with a value of each kind
     Case {
         meta: r#"{"@context":"http://www.w3.org/ns/csvw","url":"p.csv","dc:subject":["a",3,true,null,{"@value":"x","@language":"de"},
             {"@value":"2024-01-01","@type":"xsd:date"}]}"#,
         texts: &[b"id\n"],
+        end: End::Report,
         graph: concat!(
             "_:g <http://www.w3.org/1999/02/22-rdf-syntax-ns#type> <http://www.w3.org/ns/csvw#TableGroup> .\n",
             "_:g <http://www.w3.org/ns/csvw#table> _:t1 .\n",
@@ -39,6 +41,7 @@ static CASES: [Case; 4] = [
             "_:t1 <http://purl.org/dc/terms/subject> \"x\"@de .\n",
             "_:t1 <http://purl.org/dc/terms/subject> \"2024-01-01\"^^<http://www.w3.org/2001/XMLSchema#date> .\n",
         ),
+        faults: "",
     },
     // nodes are numbered over the group and the tables that give something; properties stand in byte order
     Case {
@@ -47,6 +50,7 @@ static CASES: [Case; 4] = [
             {"url":"q.csv","notes":[[{"@type":["urn:t","urn:s"]}],"n"],"urn:a":{"@id":"p.csv#x"},
             "tableSchema":{"urn:d":{},"columns":[{"name":"k","urn:e":{}}]},"dialect":{"urn:f":{}}}]}"#,
         texts: &[b"k\n", b"k\n"],
+        end: End::Report,
         graph: concat!(
             "<http://example.org/g> <http://www.w3.org/1999/02/22-rdf-syntax-ns#type> <http://www.w3.org/ns/csvw#TableGroup> .\n",
             "<http://example.org/g> <urn:B> \"-1\"^^<http://www.w3.org/2001/XMLSchema#integer> .\n",
@@ -61,12 +65,14 @@ static CASES: [Case; 4] = [
             "_:a3 <http://www.w3.org/1999/02/22-rdf-syntax-ns#type> <urn:s> .\n",
             "_:t2 <http://www.w3.org/ns/csvw#note> \"n\" .\n",
         ),
+        faults: "",
     },
     // a key that is no IRI as it stands is made safe; a datatype that annotates nothing
     Case {
         meta: r#"{"@context":"http://www.w3.org/ns/csvw","url":"p.csv","x:a b":"l\n","schema:name":{"@value":true,"@type":"x:y|z"},
             "tableSchema":{"columns":[{"name":"id","datatype":{"base":"string","dc:title":{}}}]}}"#,
         texts: &[b"id\n"],
+        end: End::Report,
         graph: concat!(
             "_:g <http://www.w3.org/1999/02/22-rdf-syntax-ns#type> <http://www.w3.org/ns/csvw#TableGroup> .\n",
             "_:g <http://www.w3.org/ns/csvw#table> _:t1 .\n",
@@ -75,26 +81,16 @@ static CASES: [Case; 4] = [
             "_:t1 <http://schema.org/name> \"true\"^^<x:y%7Cz> .\n",
             "_:t1 <x:a%20b> \"l\\n\" .\n",
         ),
+        faults: "",
     },
 ];
 
-const HEADING: &str = "kind,code,table,row,column\n";
-
 #[test]
-fn annotations_are_told(rt: HostRuntime) -> Result<(), Fail> {
-    for case in &CASES {
-        let (graph, report) = written(rt.alloc(), case, Mode::Standard)?;
-        assert!(rt; graph.as_slice() == case.graph.as_bytes(), "{}", case.meta);
-        assert!(rt; report.as_slice() == HEADING.as_bytes(), "{}", case.meta);
-    }
-    Ok(())
+fn annotations_are_told(rt: HostRuntime) {
+    each_leaves(&rt, rt.alloc(), &CASES, Mode::Standard, AMPLE);
 }
 
 #[test]
-fn minimal_mode_tells_no_annotation(rt: HostRuntime) -> Result<(), Fail> {
-    for case in &CASES {
-        let (graph, _) = written(rt.alloc(), case, Mode::Minimal)?;
-        assert!(rt; graph.is_empty(), "{}", case.meta);
-    }
-    Ok(())
+fn minimal_mode_tells_no_annotation(rt: HostRuntime) {
+    each_leaves(&rt, rt.alloc(), &CASES, Mode::Minimal, 0);
 }
