@@ -11,7 +11,6 @@ use csvw_text::Counted;
 use csvw_triples_core::{Mode, TripleSink};
 use std::alloc::{AllocError, Global};
 use std::process::Abort;
-use std::test::Fail;
 
 /// A linear congruential generator.
 #[derive(Drop)]
@@ -95,16 +94,17 @@ fn feed_all<S: TripleSink>(
     Ok(())
 }
 
-/// Feeds and ends all tables, in an order that a seed gives, and finishes the session; its report.
-fn told<S: TripleSink>(
+/// Feeds and ends all tables, in an order that a seed gives; whether there is memory and no stop.
+fn is_fed<S: TripleSink>(
     alloc: Global,
     session: &mut Session<S>,
     texts: &[&'static [u8]],
     seed: u64,
-) -> Result<Vec<u8>, Fail> {
-    let mut sources = sources_of(alloc, texts)?;
-    feed_all(session, sources.as_mut_slice(), &mut Numbers(seed))?;
-    report_of(alloc, session)
+) -> bool {
+    match sources_of(alloc, texts) {
+        Ok(mut sources) => feed_all(session, sources.as_mut_slice(), &mut Numbers(seed)).is_ok(),
+        Err(_) => false,
+    }
 }
 
 /// The report of a session that is fed in an order that a seed gives, and whose graph goes to a writer.
@@ -114,19 +114,25 @@ fn told_into(
     mode: Mode,
     seed: u64,
     graph: &mut Counted<Vec<u8>>,
-) -> Result<Vec<u8>, Fail> {
+) -> Option<Vec<u8>> {
     let mut session = started(alloc, example.meta, mode, NtSink::new(alloc, graph))?;
-    told(alloc, &mut session, example.texts, seed)
+    if is_fed(alloc, &mut session, example.texts, seed) {
+        report_of(alloc, &mut session)
+    } else {
+        None
+    }
 }
 
 /// What a session leaves that is fed in an order that a seed gives.
-fn fed(alloc: Global, example: &Example, mode: Mode, seed: u64) -> Result<Left, Fail> {
+fn fed(alloc: Global, example: &Example, mode: Mode, seed: u64) -> Option<Left> {
     let mut graph = Counted::new(Vec::new(alloc));
-    let report = told_into(alloc, example, mode, seed, &mut graph)?;
-    Ok(Left {
-        graph: graph.into_inner(),
-        report,
-    })
+    match told_into(alloc, example, mode, seed, &mut graph) {
+        Some(report) => Some(Left {
+            graph: graph.into_inner(),
+            report,
+        }),
+        None => None,
+    }
 }
 
 /// A reader of each text.
@@ -141,67 +147,69 @@ fn readers_of(
     Ok(readers)
 }
 
-/// A run whose graph and report go to these writers.
-fn run_into(
+/// A run whose graph and report go to these writers; whether it ends with a report.
+fn is_run(
     alloc: Global,
     example: &Example,
     mode: Mode,
     graph: &mut Counted<Vec<u8>>,
     report: &mut Counted<Vec<u8>>,
-) -> Result<(), Fail> {
-    let mut readers = readers_of(alloc, example.texts)?;
-    let _ = run(
-        alloc,
-        example.meta.as_bytes(),
-        BASE,
-        readers.as_mut_slice(),
-        mode,
-        graph,
-        report,
-    )?;
-    Ok(())
+) -> bool {
+    match readers_of(alloc, example.texts) {
+        Ok(mut readers) => run(
+            alloc,
+            example.meta.as_bytes(),
+            BASE,
+            readers.as_mut_slice(),
+            mode,
+            graph,
+            report,
+        )
+        .is_ok(),
+        Err(_) => false,
+    }
 }
 
 /// What a run leaves.
-fn ran(alloc: Global, example: &Example, mode: Mode) -> Result<Left, Fail> {
+fn ran(alloc: Global, example: &Example, mode: Mode) -> Option<Left> {
     let mut graph = Counted::new(Vec::new(alloc));
     let mut report = Counted::new(Vec::new(alloc));
-    run_into(alloc, example, mode, &mut graph, &mut report)?;
-    Ok(Left {
-        graph: graph.into_inner(),
-        report: report.into_inner(),
-    })
+    if is_run(alloc, example, mode, &mut graph, &mut report) {
+        Some(Left {
+            graph: graph.into_inner(),
+            report: report.into_inner(),
+        })
+    } else {
+        None
+    }
 }
 
 /// Whether a session that is fed in the order of a seed leaves this.
-fn leaves(
-    alloc: Global,
-    example: &Example,
-    mode: Mode,
-    seed: u64,
-    expected: &Left,
-) -> Result<bool, Fail> {
-    let left = fed(alloc, example, mode, seed)?;
-    are_same(alloc, &left, expected)
+fn leaves(alloc: Global, example: &Example, mode: Mode, seed: u64, expected: &Left) -> bool {
+    match fed(alloc, example, mode, seed) {
+        Some(left) => are_same(alloc, &left, expected),
+        None => false,
+    }
+}
+
+/// Whether the sessions of 34 seeds leave this.
+fn each_leaves(alloc: Global, example: &Example, mode: Mode, expected: &Left) -> bool {
+    (0..34).all(|seed| leaves(alloc, example, mode, seed, expected))
 }
 
 /// Whether the sessions of 34 seeds leave what a run leaves.
-fn agree(alloc: Global, example: &Example, mode: Mode) -> Result<bool, Fail> {
-    let expected = ran(alloc, example, mode)?;
-    for seed in 0..34 {
-        if !leaves(alloc, example, mode, seed, &expected)? {
-            return Ok(false);
-        }
+fn agree(alloc: Global, example: &Example, mode: Mode) -> bool {
+    match ran(alloc, example, mode) {
+        Some(expected) => each_leaves(alloc, example, mode, &expected),
+        None => false,
     }
-    Ok(true)
 }
 
 #[test]
-fn any_order_of_events_leaves_what_a_run_leaves(rt: HostRuntime) -> Result<(), Fail> {
+fn any_order_of_events_leaves_what_a_run_leaves(rt: HostRuntime) {
     let alloc = rt.alloc();
     for example in &EXAMPLES {
-        assert!(rt; agree(alloc, example, Mode::Minimal)?);
-        assert!(rt; agree(alloc, example, Mode::Standard)?);
+        assert!(rt; agree(alloc, example, Mode::Minimal));
+        assert!(rt; agree(alloc, example, Mode::Standard));
     }
-    Ok(())
 }

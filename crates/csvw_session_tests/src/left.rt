@@ -1,11 +1,10 @@
 //! What sessions and runs leave.
 use csvw_report::write_report;
 use csvw_session::Session;
-use csvw_text::Counted;
+use csvw_text::{Counted, Fault};
 use csvw_triples_core::TripleSink;
 use std::alloc::{AllocError, Global};
 use std::str;
-use std::test::Fail;
 
 /// What tables left: their graph, and their report.
 #[derive(Drop)]
@@ -16,32 +15,53 @@ pub(crate) struct Left {
     pub(crate) report: Vec<u8>,
 }
 
-/// Finishes a session; its report.
-pub(crate) fn report_of<S: TripleSink>(
-    alloc: Global,
-    session: &mut Session<S>,
-) -> Result<Vec<u8>, Fail> {
-    let outcome = session.finish()?;
+/// The report of these faults.
+fn report(alloc: Global, faults: &[Fault]) -> Option<Vec<u8>> {
     let mut report = Counted::new(Vec::new(alloc));
-    write_report(alloc, outcome.faults.as_slice(), &mut report)?;
-    Ok(report.into_inner())
+    match write_report(alloc, faults, &mut report) {
+        Ok(()) => Some(report.into_inner()),
+        Err(_) => None,
+    }
+}
+
+/// Finishes a session; its report.
+pub(crate) fn report_of<S: TripleSink>(alloc: Global, session: &mut Session<S>) -> Option<Vec<u8>> {
+    match session.finish() {
+        Ok(outcome) => report(alloc, outcome.faults.as_slice()),
+        Err(_) => None,
+    }
 }
 
 /// The lines of a text, sorted.
-pub(crate) fn sorted_lines<'a>(alloc: Global, text: &'a str) -> Result<Vec<&'a str>, AllocError> {
+fn sorted_lines<'a>(alloc: Global, text: &'a str) -> Result<Vec<&'a str>, AllocError> {
     let mut lines = text.lines().collect::<Vec<&str>>(alloc)?;
     lines.sort()?;
     Ok(lines)
 }
 
+/// The lines of a graph, sorted.
+fn lines_of(alloc: Global, graph: &[u8]) -> Option<Vec<&str>> {
+    sorted_lines(alloc, str::from_utf8(graph).ok()?).ok()
+}
+
 /// Whether a graph has these lines, in whatever order it has them.
-pub(crate) fn has_lines(alloc: Global, graph: &[u8], lines: &[&str]) -> Result<bool, Fail> {
-    Ok(sorted_lines(alloc, str::from_utf8(graph)?)?.as_slice() == lines)
+pub(crate) fn has_lines(alloc: Global, graph: &[u8], lines: &[&str]) -> bool {
+    match lines_of(alloc, graph) {
+        Some(found) => found.as_slice() == lines,
+        None => false,
+    }
+}
+
+/// Whether both are the same graph, as sets of lines.
+fn is_same_graph(alloc: Global, a: &[u8], b: &[u8]) -> bool {
+    match lines_of(alloc, b) {
+        Some(lines) => has_lines(alloc, a, lines.as_slice()),
+        None => false,
+    }
 }
 
 /// Whether both are the same graph, as sets of lines, and the same report.
-pub(crate) fn are_same(alloc: Global, a: &Left, b: &Left) -> Result<bool, Fail> {
-    let lines = sorted_lines(alloc, str::from_utf8(b.graph.as_slice())?)?;
-    let same = has_lines(alloc, a.graph.as_slice(), lines.as_slice())?;
-    Ok(same && a.report.as_slice() == b.report.as_slice())
+pub(crate) fn are_same(alloc: Global, a: &Left, b: &Left) -> bool {
+    is_same_graph(alloc, a.graph.as_slice(), b.graph.as_slice())
+        && a.report.as_slice() == b.report.as_slice()
 }

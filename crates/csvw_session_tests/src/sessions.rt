@@ -1,23 +1,25 @@
 //! Sessions over the tables of a document.
-ghost use Rattle.std.specs.Prelude.{IfOk};
+ghost use Rattle.std.specs.Prelude.{IfSome};
 ghost use Rattle.csvw_columns.specs.Ready.{AreReady};
 
 use csvw_columns::Plan;
 use csvw_meta::read;
-use csvw_session::{Refused, Session, Stop};
+use csvw_session::{Session, Stop};
 use csvw_triples_core::{Mode, TripleSink};
 use std::alloc::Global;
-use std::test::Fail;
 
 /// The URL of each document.
 pub(crate) const BASE: &str = "http://example.org/";
 
 /// The plan of the group that a document describes.
-fn plan_of(alloc: Global, meta: &str) -> Result<Plan, Fail>
-    ensures { IfOk result (λ plan. AreReady plan.tables) }
+fn plan_of(alloc: Global, meta: &str) -> Option<Plan>
+    ensures { IfSome result (λ plan. AreReady plan.tables) }
 {
-    let description = read(alloc, meta.as_bytes(), BASE)?;
-    Ok(Plan::build(alloc, description)?)
+    let description = read(alloc, meta.as_bytes(), BASE).ok()?;
+    match Plan::build(alloc, description) {
+        Ok(plan) => Some(plan),
+        Err(_) => None,
+    }
 }
 
 /// A session over the tables of a document.
@@ -26,11 +28,11 @@ pub(crate) fn started<S: TripleSink + Drop>(
     meta: &str,
     mode: Mode,
     sink: S,
-) -> Result<Session<S>, Fail> {
+) -> Option<Session<S>> {
     let plan = plan_of(alloc, meta)?;
     match Session::start(alloc, plan, mode, sink) {
-        Ok(session) => Ok(session),
-        Err(Refused { stop, sink: _ }) => Err(Fail::from(stop)),
+        Ok(session) => Some(session),
+        Err(_) => None,
     }
 }
 
