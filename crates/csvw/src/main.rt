@@ -1,23 +1,14 @@
 //! `csvw`: CSV on the Web, validated and converted to RDF.
 #![tactic(auto)]
 
-mod command;
-mod group;
-mod names;
-mod opener;
-mod standard_input;
-mod tell;
-
-use command::command;
+use csvw_command::{FileOpener, command, tell_mistake, tell_stop};
 use csvw_engine::Stop;
 use csvw_text::Counted;
 use csvw_words::{Request, requested};
-use opener::FileOpener;
 use std::alloc::Global;
+use std::env;
 use std::io::{self, BufWriter, IsTerminal, Stderr, Stdout};
 use std::process::ExitCode;
-use std::{env, fs};
-use tell::{tell_mistake, tell_stop};
 
 /// Whether the words ask for each line when it is made.
 fn asks_for_lines(alloc: Global, words: &[String]) -> bool {

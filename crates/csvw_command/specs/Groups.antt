@@ -1,0 +1,136 @@
+-- What a run over the files of a group of tables does.
+use Rattle.std.specs.Prelude.{◌≡◌, ◌⊎◌, ℕ, Bool, true, false, List, [], ◌∷◌, ◌++◌, map, take, Option, None, Some, IfSome, Result, Ok, Err}
+use Rattle.clap.specs.Words.{Text}
+use Rattle.csvw_text.specs.declared.counted.Counted.{Counted}
+use Rattle.csvw_text.specs.Counted.{inner_of, failures_of}
+use Rattle.csvw_text.specs.Streams.{Stream, IsIdle}
+use Rattle.csvw_triples_core.specs.declared.mode.Mode.{Mode}
+use Rattle.csvw_triples_core.specs.declared.mode.Mode.TheVariants as mode
+use Rattle.csvw_report.specs.declared.outcome.Outcome.{Outcome}
+use Rattle.csvw_engine_core.specs.declared.stop.Stop.{Stop}
+use Rattle.csvw_engine_core.specs.declared.stop.Stop.TheVariants as stop
+use Rattle.csvw_engine.specs.Runs.{Runs}
+use Rattle.csvw_words.specs.declared.Group.{Group}
+use Rattle.csvw_command.specs.Answers.{TellsStop}
+use Rattle.csvw_command.specs.Status.{outcome_status}
+use Rattle.csvw_meta.specs.Document.{document}
+
+-- the bytes that a reader has, as far as they show whether a document is too long, which is at most 2^20 bytes
+abbrev pub IsDocument : Option (List ℕ) → List ℕ → Type 0
+IsDocument known bytes = IfSome known (λ xs. bytes ≡ take 1_048_577 xs)
+
+-- a reader failed, or there was no memory for what it gave
+abbrev pub IsReadStop : Stop → Type 0
+IsReadStop reason = (reason ≡ stop.Memory) ⊎ (reason ≡ stop.Read)
+
+-- a path gives this reader, which hasn't failed, and the rest follows
+pub record OpensFirst {O R : Type 0} (opens : O → Text → Option R → O → Type 0) (old : O) (path : Text) (r : Counted R) (Rest : O → Type 0) : Type 0 where
+  pub between : O
+  pub opened : opens old path (Some (inner_of r)) between
+  pub steady : failures_of r ≡ 0
+  pub rest : Rest between
+
+-- the paths give these readers, from the first on
+abbrev pub OpensAll : {O R : Type 0} → (O → Text → Option R → O → Type 0) → O → List Text → List (Counted R) → O → Type 0
+OpensAll opens old [] readers new = (readers ≡ []) × (new ≡ old)
+OpensAll opens old (path ∷ paths) [] new = ⊥
+OpensAll opens old (path ∷ paths) (r ∷ readers) new = OpensFirst opens old path r (λ between. OpensAll opens between paths readers new)
+
+-- the first of the paths gives no reader
+abbrev pub MissesFirst : {O R : Type 0} → (O → Text → Option R → O → Type 0) → O → List Text → O → Type 0
+MissesFirst opens old [] new = ⊥
+MissesFirst opens old (path ∷ paths) new = opens old path None new
+
+-- the first paths give readers; then the next gives none, or memory runs out
+pub record StopsOpening {O R : Type 0} (opens : O → Text → Option R → O → Type 0) (old : O) (paths : List Text) (new : O) (reason : Stop) : Type 0 where
+  pub front : List Text
+  pub rest : List Text
+  pub parts : paths ≡ front ++ rest
+  pub readers : List (Counted R)
+  pub between : O
+  pub opened : OpensAll opens old front readers between
+  pub fails : ((reason ≡ stop.Memory) × (new ≡ between)) ⊎ ((reason ≡ stop.Read) × MissesFirst opens between rest new)
+
+-- the paths of the files of a group
+abbrev pub paths_of : Group → List Text
+paths_of group = map (λ file. file.now) group.files.items
+
+-- the metadata is opened and read, and the files are opened behind it
+pub record OpensGroup {O R : Type 0} (opens : O → Text → Option R → O → Type 0) (remaining : R → Option (List ℕ)) (group : Group) (old new : O)
+    (bytes : List ℕ) (readers : List (Counted R)) : Type 0 where
+  pub reader : R
+  pub between : O
+  pub meta_opened : opens old group.meta.now (Some reader) between
+  pub meta_read : IsDocument (remaining reader) bytes
+  pub files_opened : OpensAll opens between (paths_of group) readers new
+
+-- the metadata is opened, and can't be read; no file of a table is opened
+pub record ReadsNoMeta {O R : Type 0} (opens : O → Text → Option R → O → Type 0) (group : Group) (old new : O) (reason : Stop) : Type 0 where
+  pub reader : R
+  pub meta_opened : opens old group.meta.now (Some reader) new
+  pub reason_is : IsReadStop reason
+
+-- the metadata is opened and read, and a file behind it isn't opened
+pub record LacksFile {O R : Type 0} (opens : O → Text → Option R → O → Type 0) (group : Group) (old new : O) (reason : Stop) : Type 0 where
+  pub reader : R
+  pub between : O
+  pub meta_opened : opens old group.meta.now (Some reader) between
+  pub stops : StopsOpening opens between (paths_of group) new reason
+
+-- why a group isn't opened
+abbrev pub OpensNot : {O R : Type 0} → (O → Text → Option R → O → Type 0) → Group → O → O → Stop → Type 0
+OpensNot opens group old new reason =
+    ((reason ≡ stop.Read) × opens old group.meta.now None new) ⊎ (ReadsNoMeta opens group old new reason ⊎ LacksFile opens group old new reason)
+
+-- the group isn't opened, which is told
+pub record TellsUnopened {O R : Type 0} (opens : O → Text → Option R → O → Type 0) (group : Group) (old new : O) (out err : Stream) (status : ℕ) : Type 0 where
+  pub reason : Stop
+  pub not_opened : OpensNot opens group old new reason
+  pub idle : IsIdle out
+  pub told : TellsStop reason err status
+
+-- what is told of a run's end behind it
+abbrev pub EndsSo : Result Outcome Stop → Stream → ℕ → Type 0
+EndsSo (Ok outcome) err status = IsIdle err × (status ≡ outcome_status outcome)
+EndsSo (Err reason) err status = TellsStop reason err status
+
+-- a run comes to its end, with what it leaves of `err`
+pub record ComesToEnd (Leaves : Stream → Result Outcome Stop → Type 0) (err : Stream) (status : ℕ) : Type 0 where
+  pub outcome : Outcome
+  pub leaves : Leaves err (Ok outcome)
+  pub status_is : status ≡ outcome_status outcome
+
+-- a run stops, and what `err` held and how often it had failed by then; the stop is told behind that
+pub record StopsEarly (Leaves : Stream → Result Outcome Stop → Type 0) (err : Stream) (status : ℕ) : Type 0 where
+  pub reason : Stop
+  pub held : Option (List ℕ)
+  pub failures : ℕ
+  pub leaves : Leaves (record err { holds = held; failed = failures }) (Err reason)
+  pub told : TellsStop reason (record err { held = held; failures = failures }) status
+
+-- The graph goes to `out`, and the report to `err`; where there is no graph, the report goes to `out`.
+abbrev pub Leaves : {R : Type 0} → (R → Option (List ℕ)) → Mode → List ℕ → List ℕ → List (Counted R) → List (Counted R) → Stream → Stream
+    → Result Outcome Stop → Type 0
+Leaves remaining mode.Validate meta base readers left out err result = Runs remaining (document base meta) mode.Validate readers left err out result
+Leaves remaining mode.Minimal meta base readers left out err result = Runs remaining (document base meta) mode.Minimal readers left out err result
+Leaves remaining mode.Standard meta base readers left out err result = Runs remaining (document base meta) mode.Standard readers left out err result
+
+-- the mode of a conversion, minimal or not
+abbrev pub conversion : Bool → Mode
+conversion true = mode.Minimal
+conversion false = mode.Standard
+
+-- the group is opened, and a run made over its readers
+pub record RunsOpened {O R : Type 0} (opens : O → Text → Option R → O → Type 0) (remaining : R → Option (List ℕ)) (mode : Mode) (group : Group)
+    (old new : O) (out err : Stream) (status : ℕ) : Type 0 where
+  pub bytes : List ℕ
+  pub readers : List (Counted R)
+  pub opened : OpensGroup opens remaining group old new bytes readers
+  pub left : List (Counted R)
+  pub runs : ComesToEnd (Leaves remaining mode bytes group.base.now readers left out) err status
+      ⊎ StopsEarly (Leaves remaining mode bytes group.base.now readers left out) err status
+
+-- What a run over the files of a group does, and the status that it ends with.
+abbrev pub RunsGroup : {O R : Type 0} → (O → Text → Option R → O → Type 0) → (R → Option (List ℕ)) → Mode → Group → O → O → Stream → Stream → ℕ → Type 0
+RunsGroup opens remaining mode group old new out err status =
+    RunsOpened opens remaining mode group old new out err status ⊎ TellsUnopened opens group old new out err status

@@ -1,0 +1,78 @@
+//! Where the program's files come from.
+ghost use Rattle.std.specs.Prelude.{◌≡◌, ℕ, List, Option, None};
+
+use crate::standard_input::STANDARD_INPUT;
+use std::fs;
+use std::io::{self, Read, Stdin};
+use std::rt::Files;
+
+/// Opens files to read.
+pub trait Opener {
+    /// What reads a file that was opened.
+    type Reader: Read + Drop;
+
+    // What a path gives, and what it leaves.
+    ghost opens: { Self → List ℕ → Option Self.Reader → Self → Type 0 };
+
+    /// The file of this path, or `None` where it can't be opened.
+    fn open(&mut self, path: &str) -> Option<Self::Reader>
+        ensures { opens self.old path.now result self.new };
+}
+
+/// A file, or standard input.
+#[derive(Drop)]
+pub enum Input<F> {
+    /// A file that was opened.
+    File(F),
+    /// Standard input.
+    Standard(Stdin),
+}
+
+impl<F: Read> Read for Input<F> {
+    // What a real file, pipe or terminal gives is told nowhere.
+    ghost remaining = { λ _. None };
+
+    fn read(&mut self, buf: &mut [u8]) -> io::Result<usize> {
+        match self {
+            Input::File(file) => file.read(buf),
+            Input::Standard(stdin) => stdin.read(buf),
+        }
+    }
+}
+
+/// Opens the files of a file system, and standard input by the name `-`, once.
+#[derive(Drop)]
+pub struct FileOpener<'a, R> {
+    /// What reaches the files.
+    rt: &'a R,
+    /// Standard input, until it is opened.
+    stdin: Option<Stdin>,
+}
+
+impl<'a, R: Files> FileOpener<'a, R> {
+    /// Opens the files that this runtime reaches, and this standard input.
+    pub fn new(rt: &'a R, stdin: Stdin) -> FileOpener<'a, R>
+        ensures { result.rt ≡ rt.entry }
+    {
+        FileOpener {
+            rt,
+            stdin: Some(stdin),
+        }
+    }
+}
+
+impl<'a, R: Files> Opener for FileOpener<'a, R> {
+    type Reader = Input<R::File>;
+
+    // `fs::open` says nothing of the file that a path gives.
+    ghost opens = { λ old _ _ new. new.rt ≡ old.rt };
+
+    fn open(&mut self, path: &str) -> Option<Input<R::File>> {
+        if path == STANDARD_INPUT {
+            let stdin = self.stdin.take()?;
+            return Some(Input::Standard(stdin));
+        }
+        let file = fs::open(self.rt, path).ok()?;
+        Some(Input::File(file))
+    }
+}

@@ -1,0 +1,137 @@
+//! What one run of the program does, over any files and writers.
+ghost use Rattle.std.specs.Prelude.{◌≡◌, ◌≤◌, map, string_bytes};
+ghost use Rattle.clap.specs.Words.{kind_of};
+ghost use Rattle.csvw_command.specs.Answers.{Answers, GivesText};
+ghost use Rattle.csvw_command.specs.Commands.{Commands, RunsPlain, RunsRequest};
+ghost use Rattle.csvw_text.specs.Streams.{stream_of};
+
+use crate::group::{ConvertedGroup, convert, tell_end, validate};
+use crate::opener::Opener;
+use crate::standard_input::reads_twice;
+use crate::tell::{SUCCESS, send, tell_mistake, tell_stop};
+use clap::Error;
+use clap::error::ErrorKind;
+use csvw_engine::{Stop, plain};
+use csvw_text::Counted;
+use csvw_words::{Request, requested};
+use std::alloc::Global;
+use std::io::Write;
+
+/// What is told of a command line that names standard input twice.
+const TWICE: &str = "csvw: standard input is named for two files, and can be read for one\n";
+
+fn give_help<W: Write, V: Write>(
+    alloc: Global,
+    text: &str,
+    out: &mut Counted<W>,
+    err: &mut Counted<V>,
+) -> u8
+    ensures given { GivesText text.now (stream_of W.contents out.old out.new) (stream_of V.contents err.old err.new) result }
+    ensures bound { result ≤ 4 }
+{
+    if send(out, text) {
+        SUCCESS
+    } else {
+        tell_stop(alloc, &Stop::Write, err)
+    }
+}
+
+/// Tells what `clap` answers in place of a request: help on `out`, a mistake on `err`.
+fn tell_words<W: Write, V: Write>(
+    alloc: Global,
+    answer: &Error,
+    out: &mut Counted<W>,
+    err: &mut Counted<V>,
+) -> u8
+    ensures answers { Answers (kind_of answer.now) (stream_of W.contents out.old out.new) (stream_of V.contents err.old err.new) result }
+    ensures bound { result ≤ 4 }
+{
+    let Ok(text) = answer.to_string(alloc) else {
+        return tell_stop(alloc, &Stop::Memory, err);
+    };
+    match answer.kind() {
+        ErrorKind::OutOfMemory => tell_stop(alloc, &Stop::Memory, err),
+        ErrorKind::DisplayHelp | ErrorKind::DisplayVersion => give_help(
+            alloc,
+            text.as_str(),
+            out,
+            err,
+        ),
+        _ => tell_mistake(text.as_str(), err),
+    }
+}
+
+/// A table without metadata.
+#[derive(Clone, Copy)]
+struct PlainTable<'a> {
+    /// Its URL.
+    url: &'a str,
+    /// The file that has it.
+    file: &'a str,
+}
+
+fn run_plain<O: Opener, W: Write, V: Write>(
+    alloc: Global,
+    table: PlainTable<'_>,
+    opener: &mut O,
+    out: &mut Counted<W>,
+    err: &mut Counted<V>,
+) -> u8
+    ensures runs { RunsPlain O.opens O.Reader.remaining table.entry.url.now table.entry.file.now opener.old opener.new
+        (stream_of W.contents out.old out.new) (stream_of V.contents err.old err.new) result }
+    ensures bound { result ≤ 4 }
+{
+    let Some(reader) = opener.open(table.file) else {
+        return tell_stop(alloc, &Stop::Read, err);
+    };
+    let mut input = Counted::new(reader);
+    let ran = plain(alloc, table.url, &mut input, out, err);
+    tell_end(alloc, &ran, err)
+}
+
+/// Does what the words ask for.
+fn run_request<O: Opener, W: Write, V: Write>(
+    alloc: Global,
+    request: &Request<'_>,
+    opener: &mut O,
+    out: &mut Counted<W>,
+    err: &mut Counted<V>,
+) -> u8
+    ensures runs { RunsRequest O.opens O.Reader.remaining request.now opener.old opener.new
+        (stream_of W.contents out.old out.new) (stream_of V.contents err.old err.new) result }
+    ensures bound { result ≤ 4 }
+{
+    match request {
+        Request::Plain { url, file, .. } => {
+            run_plain(alloc, PlainTable { url, file }, opener, out, err)
+        }
+        Request::Validate(group) => validate(alloc, group, opener, out, err),
+        Request::Convert { group, minimal, .. } => {
+            let minimal = *minimal;
+            convert(alloc, ConvertedGroup { group, minimal }, opener, out, err)
+        }
+    }
+}
+
+/// Runs the program on its words, the first of which is its name, and answers its exit status: 0 where
+/// there is no fault of kind error or help was asked for, 1 where there are faults, 2 where the command
+/// line is refused, as where it names standard input, `-`, for two files, 3 where metadata or a table is, 4 where a file or a stream failed or memory ran out.
+/// Help, graphs and the report of `validate` go to `out`, everything else to `err`, other reports among it;
+/// on 3 and 4 its last line tells the stop.
+pub fn command<O: Opener, W: Write, V: Write>(
+    alloc: Global,
+    words: &[String],
+    opener: &mut O,
+    out: &mut Counted<W>,
+    err: &mut Counted<V>,
+) -> u8
+    ensures commands { Commands O.opens O.Reader.remaining (map string_bytes words.now) opener.old opener.new
+        (stream_of W.contents out.old out.new) (stream_of V.contents err.old err.new) result }
+    ensures bound { result ≤ 4 }
+{
+    match requested(alloc, words) {
+        Ok(request) if reads_twice(&request) => tell_mistake(TWICE, err),
+        Ok(request) => run_request(alloc, &request, opener, out, err),
+        Err(answer) => tell_words(alloc, &answer, out, err),
+    }
+}

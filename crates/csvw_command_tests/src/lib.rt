@@ -1,0 +1,19 @@
+//! Tests of the program's command by its public calls, over files in memory: what it sends to its streams, and its status.
+#![tactic(auto)]
+
+#[cfg(test)]
+mod examples;
+#[cfg(test)]
+mod groups;
+#[cfg(test)]
+mod limits;
+#[cfg(test)]
+mod plain;
+#[cfg(test)]
+mod runs;
+#[cfg(test)]
+mod turns;
+#[cfg(test)]
+mod words;
+#[cfg(test)]
+mod writers;
