@@ -2,7 +2,7 @@
 use crate::cells::Cell::{Misread, Read};
 use crate::facets::FACETS;
 use crate::ranges::{DATES, RANGES};
-use csvw_links_tests::{Ran, run_over};
+use csvw_tables_tests::{Ran, run_over};
 use csvw_triples_core::Mode;
 use std::alloc::{AllocError, Global};
 use std::test::Fail;

@@ -1,5 +1,5 @@
 //! Documents with datatypes, and the graphs and reports that their tables give.
-use csvw_links_tests::run_over;
+use csvw_tables_tests::run_over;
 use csvw_triples_core::Mode;
 use std::alloc::{AllocError, Global};
 use std::test::Fail;

@@ -1,8 +1,8 @@
 //! Documents whose datatypes are refused.
 use crate::facets::REFUSED_FACETS;
-use csvw_links_tests::run_over;
 use csvw_meta_core::MetaCode;
 use csvw_session::Stop;
+use csvw_tables_tests::run_over;
 use csvw_triples_core::Mode;
 use std::alloc::{AllocError, Global};
 use std::test::Fail;

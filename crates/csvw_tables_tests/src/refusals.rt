@@ -1,11 +1,12 @@
-//! Documents whose keys are refused.
-use crate::running::{Order, run_over};
+//! Documents whose templates, virtual columns or keys are refused.
+use crate::running::run_over;
 use csvw_meta_core::MetaCode;
 use csvw_session::Stop;
+use csvw_triples_core::Mode;
 use std::alloc::{AllocError, Global};
-use std::test::Fail;
+use std::process::Abort;
 
-/// What stands in the schema of a document, and the fault that it is refused for.
+/// A document, and the fault that it is refused for.
 struct Case {
     /// What stands in its schema.
     schema: &'static str,
@@ -15,7 +16,35 @@ struct Case {
     pointer: &'static str,
 }
 
-static CASES: [Case; 17] = [
+static LINKS: [Case; 5] = [
+    Case {
+        schema: r#""aboutUrl":"{id""#,
+        code: MetaCode::BadTemplate,
+        pointer: "/tableSchema/aboutUrl",
+    },
+    Case {
+        schema: r#""propertyUrl":"{x:3}""#,
+        code: MetaCode::TemplateLevel,
+        pointer: "/tableSchema/propertyUrl",
+    },
+    Case {
+        schema: r#""columns":[{"valueUrl":7}]"#,
+        code: MetaCode::BadProperty,
+        pointer: "/tableSchema/columns/0/valueUrl",
+    },
+    Case {
+        schema: r#""columns":[{"name":"a","virtual":true},{"name":"b"}]"#,
+        code: MetaCode::VirtualOrder,
+        pointer: "/tableSchema/columns/1",
+    },
+    Case {
+        schema: r#""columns":[{"suppressOutput":"true"}]"#,
+        code: MetaCode::BadProperty,
+        pointer: "/tableSchema/columns/0/suppressOutput",
+    },
+];
+
+static KEYS: [Case; 17] = [
     Case {
         schema: r#""columns":[{"name":"k"},{"name":"l"}],"primaryKey":"m""#,
         code: MetaCode::BadReference,
@@ -110,24 +139,71 @@ static CASES: [Case; 17] = [
     },
 ];
 
-fn is_refused(alloc: Global, case: &Case) -> Result<bool, AllocError> {
-    let schema = case.schema;
-    let meta = format!(in alloc;
+/// Why a run over a document and an empty text stops, if it does.
+fn stop_of(alloc: Global, meta: &str) -> Option<Stop> {
+    run_over(alloc, meta, "", Mode::Minimal).ok()?.stop
+}
+
+/// The document with this schema.
+fn document(alloc: Global, schema: &str) -> Result<String, AllocError> {
+    format!(in alloc;
         "{{\"@context\":\"http://www.w3.org/ns/csvw\",\"url\":\"p.csv\",\"tableSchema\":{{{schema}}}}}"
-    )?;
-    let ran = run_over(alloc, meta.as_str(), &[""], Order::OneByOne)?;
-    Ok(match &ran.stop {
-        Some(Stop::Meta(fault)) => {
-            fault.code == case.code && fault.pointer.as_str() == case.pointer
-        }
-        _ => false,
-    })
+    )
+}
+
+/// Whether a document is refused for this fault.
+fn has_fault(alloc: Global, meta: &str, case: &Case) -> bool {
+    matches!(stop_of(alloc, meta), Some(Stop::Meta(fault)) if fault.code == case.code && fault.pointer.as_str() == case.pointer)
+}
+
+fn is_refused(alloc: Global, case: &Case) -> bool {
+    match document(alloc, case.schema) {
+        Ok(meta) => has_fault(alloc, meta.as_str(), case),
+        Err(_) => false,
+    }
+}
+
+/// Checks that each document is refused for its fault.
+fn each_is_refused(rt: &impl Abort, alloc: Global, cases: &[Case]) {
+    for case in cases {
+        assert!(rt; is_refused(alloc, case), "{}", case.schema);
+    }
 }
 
 #[test]
-fn documents_are_refused_at_their_fault(rt: HostRuntime) -> Result<(), Fail> {
-    for case in &CASES {
-        assert!(rt; is_refused(rt.alloc(), case)?, "{}", case.schema);
+fn links_are_refused_at_their_fault(rt: HostRuntime) {
+    each_is_refused(&rt, rt.alloc(), &LINKS);
+}
+
+#[test]
+fn keys_are_refused_at_their_fault(rt: HostRuntime) {
+    each_is_refused(&rt, rt.alloc(), &KEYS);
+}
+
+/// A document whose template has so many expressions.
+fn with_expressions(alloc: Global, count: usize) -> Result<String, AllocError> {
+    let mut meta = String::from_str(
+        alloc,
+        r#"{"@context":"http://www.w3.org/ns/csvw","url":"p.csv","aboutUrl":""#,
+    )?;
+    for _ in 0..count {
+        meta.push_str("{x}")?;
     }
-    Ok(())
+    meta.push_str("\"}")?;
+    Ok(meta)
+}
+
+/// Whether a template of so many expressions is too long; `None` where there is no memory.
+fn is_past(alloc: Global, count: usize) -> Option<bool> {
+    let meta = with_expressions(alloc, count).ok()?;
+    Some(
+        matches!(stop_of(alloc, meta.as_str()), Some(Stop::Meta(fault)) if fault.code == MetaCode::TooLong),
+    )
+}
+
+#[test]
+fn templates_have_a_limit(rt: HostRuntime) {
+    let alloc = rt.alloc();
+    assert!(rt; is_past(alloc, 33) == Some(true));
+    assert!(rt; is_past(alloc, 32) == Some(false));
 }

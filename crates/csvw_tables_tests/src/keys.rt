@@ -1,7 +1,7 @@
 //! Documents with keys, texts of their tables, and what is told of them.
-use crate::running::{Order, run_over};
-use std::alloc::{AllocError, Global};
-use std::test::Fail;
+use crate::running::{Order, is_report, run_in};
+use csvw_triples_core::Mode;
+use std::alloc::Global;
 
 /// A document, the texts of its tables, and the report without its first line.
 struct Case {
@@ -160,28 +160,19 @@ static CASES: [Case; 17] = [
     },
 ];
 
-/// The heading of a report, and these lines.
-fn report_of(alloc: Global, faults: &str) -> Result<String, AllocError> {
-    let mut report = String::from_str(alloc, "kind,code,table,row,column\n")?;
-    report.push_str(faults)?;
-    Ok(report)
-}
-
-fn is_told(alloc: Global, case: &Case, order: Order) -> Result<bool, AllocError> {
-    let ran = run_over(alloc, case.meta, case.texts, order)?;
-    let report = report_of(alloc, case.faults)?;
-    Ok(ran.stop.is_none() && ran.report.as_slice() == report.as_bytes())
+/// Whether a run in this order tells the case's faults alone.
+fn is_told(alloc: Global, case: &Case, order: Order) -> bool {
+    match run_in(alloc, case.meta, case.texts, Mode::Validate, order) {
+        Ok(ran) => ran.stop.is_none() && is_report(ran.report.as_slice(), case.faults),
+        Err(_) => false,
+    }
 }
 
 #[test]
-fn broken_keys_are_told(rt: HostRuntime) -> Result<(), Fail> {
+fn broken_keys_are_told(rt: HostRuntime) {
+    let alloc = rt.alloc();
     for case in &CASES {
-        assert!(rt;
-            is_told(rt.alloc(), case, Order::OneByOne)?,
-            "{}",
-            case.about
-        );
-        assert!(rt; is_told(rt.alloc(), case, Order::InTurn)?, "{}", case.about);
+        assert!(rt; is_told(alloc, case, Order::OneByOne), "{}", case.about);
+        assert!(rt; is_told(alloc, case, Order::InTurn), "{}", case.about);
     }
-    Ok(())
 }
