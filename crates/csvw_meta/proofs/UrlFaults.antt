@@ -11,7 +11,7 @@ use Rattle.csvw_meta_core.specs.Links.{told, no_url}
 use Rattle.csvw_meta_core.specs.Pointer.{below}
 use Rattle.csvw_meta_notes.specs.Unlisted.{all_notes, all_warnings}
 use Rattle.csvw_meta_inherited.specs.Datatype.{given_datatype}
-use Rattle.csvw_meta_inherited.specs.Inherited.{inherited}
+use Rattle.csvw_meta_inherited.specs.Inherited.{uri_templates, cell_texts, inherited}
 use Rattle.csvw_meta_inherited.specs.declared.context.Context.{Context}
 use Rattle.csvw_meta.specs.Body.{given_dialect, body}
 use Rattle.csvw_meta.specs.Described.{Describes, described, within}
@@ -47,7 +47,7 @@ of_told_alone (Err bad) f c = of_told (Err bad) f c
 
 -- within a context
 faults_within : (c : Context) (url : List ℕ) (f : MetaFault) → Contains (within c [] (plain_document url)).faults f → IsOfUrl f
-unfolding table_of given_dialect body inherited given_datatype all_notes all_warnings
+unfolding table_of given_dialect body inherited uri_templates cell_texts given_datatype all_notes all_warnings
 faults_within c url f h = of_told_alone (base_of (Some c.base) url) f h
 
 -- at the URL of the document

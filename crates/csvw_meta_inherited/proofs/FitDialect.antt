@@ -17,9 +17,11 @@ use Rattle.csvw_meta_core.specs.Read.{Read, fine, faulty, property, optional, or
 use Rattle.csvw_meta_core.specs.Kinds.{truth, whole, any_whole, character, fixed}
 use Rattle.csvw_meta_core.specs.Links.{id}
 use Rattle.csvw_meta_inherited.specs.declared.context.Context.{Context}
+use Rattle.csvw_meta_inherited.specs.declared.dialect.CellSymbols.{CellSymbols}
 use Rattle.csvw_meta_inherited.specs.declared.dialect.DialectFound.{DialectFound}
-use Rattle.csvw_meta_inherited.specs.Dialect.{is_break_char, mark, comment_prefix, terminator, terminators, joined, neither, all_symbols, clashes}
-use Rattle.csvw_meta_inherited.specs.Dialect.{dialect_parts, dialect_faults, lawful_dialect, trim, dialect_of, dialect, no_dialect}
+use Rattle.csvw_meta_inherited.specs.declared.dialect.HeaderAndSkips.{HeaderAndSkips}
+use Rattle.csvw_meta_inherited.specs.Dialect.{is_break_char, mark, comment_prefix, terminator, terminators, joined, neither, all_symbols, clashes, trim}
+use Rattle.csvw_meta_inherited.specs.Dialect.{cell_symbols, header_and_skips, dialect_parts, dialect_faults, lawful_dialect, dialect_of, dialect, no_dialect}
 use Rattle.csvw_meta_inherited.specs.Fine.{Ensures, each_fine, none_in_both, if_fine, also_fine, on_linked_fine, property_fine}
 use Rattle.csvw_meta_inherited.proofs.FineLemmas.{over_fine, on_kind_fine, or_null_fine}
 
@@ -146,6 +148,30 @@ default_prefix : IsPrefix (codes "#")
 unfolding chars
 default_prefix = refl
 
+record FitsInSymbols (symbols : CellSymbols) : Type 0 where
+  pub delimiter : IsMark symbols.delimiter
+  pub quote : IfSome symbols.quote_char IsMark
+
+symbols_fine : (at : List ℕ) (d : Data) → Ensures (cell_symbols at d) FitsInSymbols
+unfolding cell_symbols
+symbols_fine at d h =
+    let p1 = none_in_both (property (mark NotSupported) 44 at d (codes "delimiter")).faults _ h in
+    let p2 = none_in_both (property (or_null (mark BadProperty)) (Some 34) at d (codes "quoteChar")).faults _ p1.1 in
+    record {
+      delimiter = property_fine IsMark (mark NotSupported) (mark_fine NotSupported) 44 refl at d (codes "delimiter") p1.0;
+      quote = property_fine (λ o. IfSome o IsMark) (or_null (mark BadProperty)) (or_null_fine IsMark (mark BadProperty) (mark_fine BadProperty))
+          (Some 34) refl at d (codes "quoteChar") p2.0;
+    }
+
+skips_fine : (at : List ℕ) (d : Data) → Ensures (header_and_skips at d) (λ (skips : HeaderAndSkips). skips.skip_columns ≤ 1024)
+unfolding header_and_skips
+skips_fine at d h =
+    let p1 = none_in_both (property truth true at d (codes "header")).faults _ h in
+    let p2 = none_in_both (optional (whole 8) at d (codes "headerRowCount")).faults _ p1.1 in
+    let p3 = none_in_both (property any_whole 0 at d (codes "skipRows")).faults _ p2.1 in
+    let p4 = none_in_both (property (whole 1024) 0 at d (codes "skipColumns")).faults _ p3.1 in
+    property_fine (λ n. n ≤ 1024) (whole 1024) (whole_fine 1024) 0 (omega arith) at d (codes "skipColumns") p4.0
+
 -- all but the rule
 record FitsInParts (d : Dialect) : Type 0 where
   pub delimiter : IsMark d.delimiter
@@ -157,27 +183,21 @@ record FitsInParts (d : Dialect) : Type 0 where
 parts_fine : (at : List ℕ) (d : Data) → Ensures (dialect_parts at d) FitsInParts
 unfolding dialect_parts
 parts_fine at d h =
-    let p1 = none_in_both (property (mark NotSupported) 44 at d (codes "delimiter")).faults _ h in
-    let p2 = none_in_both (property (or_null (mark BadProperty)) (Some 34) at d (codes "quoteChar")).faults _ p1.1 in
-    let p3 = none_in_both (property truth true at d (codes "doubleQuote")).faults _ p2.1 in
-    let p4 = none_in_both (property (or_null comment_prefix) (Some (codes "#")) at d (codes "commentPrefix")).faults _ p3.1 in
-    let p5 = none_in_both (property truth true at d (codes "header")).faults _ p4.1 in
-    let p6 = none_in_both (optional (whole 8) at d (codes "headerRowCount")).faults _ p5.1 in
-    let p7 = none_in_both (property any_whole 0 at d (codes "skipRows")).faults _ p6.1 in
-    let p8 = none_in_both (property (whole 1024) 0 at d (codes "skipColumns")).faults _ p7.1 in
-    let p9 = none_in_both (property truth false at d (codes "skipBlankRows")).faults _ p8.1 in
-    let p10 = none_in_both (property truth false at d (codes "skipInitialSpace")).faults _ p9.1 in
-    let p11 = none_in_both (optional trim at d (codes "trim")).faults _ p10.1 in
-    let p12 = none_in_both (property terminators (record { crlf = true; lf = true }) at d (codes "lineTerminators")).faults _ p11.1 in
+    let p1 = none_in_both (cell_symbols at d).faults _ h in
+    let p2 = none_in_both (property (or_null comment_prefix) (Some (codes "#")) at d (codes "commentPrefix")).faults _ p1.1 in
+    let p3 = none_in_both (header_and_skips at d).faults _ p2.1 in
+    let p4 = none_in_both (property truth false at d (codes "skipInitialSpace")).faults _ p3.1 in
+    let p5 = none_in_both (optional trim at d (codes "trim")).faults _ p4.1 in
+    let p6 = none_in_both (property terminators (record { crlf = true; lf = true }) at d (codes "lineTerminators")).faults _ p5.1 in
+    let symbols = symbols_fine at d p1.0 in
     record {
-      delimiter = property_fine IsMark (mark NotSupported) (mark_fine NotSupported) 44 refl at d (codes "delimiter") p1.0;
-      quote = property_fine (λ o. IfSome o IsMark) (or_null (mark BadProperty)) (or_null_fine IsMark (mark BadProperty) (mark_fine BadProperty))
-          (Some 34) refl at d (codes "quoteChar") p2.0;
+      delimiter = symbols.delimiter;
+      quote = symbols.quote;
       prefix = property_fine (λ o. IfSome o IsPrefix) (or_null comment_prefix) (or_null_fine IsPrefix comment_prefix prefix_fine)
-          (Some (codes "#")) default_prefix at d (codes "commentPrefix") p4.0;
+          (Some (codes "#")) default_prefix at d (codes "commentPrefix") p2.0;
       terminators = property_fine HasTerminator terminators terminators_fine (record { crlf = true; lf = true }) refl
-          at d (codes "lineTerminators") p12.0;
-      skipped = property_fine (λ n. n ≤ 1024) (whole 1024) (whole_fine 1024) 0 (omega arith) at d (codes "skipColumns") p8.0;
+          at d (codes "lineTerminators") p6.0;
+      skipped = skips_fine at d p3.0;
     }
 
 -- ---- the whole

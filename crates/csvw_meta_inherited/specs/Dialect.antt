@@ -20,7 +20,9 @@ use Rattle.csvw_meta_core.specs.Kinds.{truth, whole, any_whole, character, fixed
 use Rattle.csvw_meta_core.specs.Links.{id}
 use Rattle.csvw_meta_notes.specs.Unlisted.{unlisted}
 use Rattle.csvw_meta_inherited.specs.declared.context.Context.{Context}
+use Rattle.csvw_meta_inherited.specs.declared.dialect.CellSymbols.{CellSymbols}
 use Rattle.csvw_meta_inherited.specs.declared.dialect.DialectFound.{DialectFound}
+use Rattle.csvw_meta_inherited.specs.declared.dialect.HeaderAndSkips.{HeaderAndSkips}
 use Rattle.csvw_meta_inherited.specs.Names.{dialect_names, place_of}
 
 abbrev pub is_break_char : ℕ → Bool
@@ -127,30 +129,48 @@ symbols faults at = record {
   double = could_read faults (below at (codes "doubleQuote"));
 }
 
-unfoldable pub dialect_parts : List ℕ → Data → Read Dialect
-dialect_parts at d = do
+-- what separates cells, what stands around escaped cells, and whether it is doubled in them
+unfoldable pub cell_symbols : List ℕ → Data → Read CellSymbols
+cell_symbols at d = do
   delimiter ← property (mark NotSupported) 44 at d (codes "delimiter")
   quote_char ← property (or_null (mark BadProperty)) (Some 34) at d (codes "quoteChar")
   double_quote ← property truth true at d (codes "doubleQuote")
-  comment_prefix ← property (or_null comment_prefix) (Some (codes "#")) at d (codes "commentPrefix")
+  fine (record { delimiter = delimiter; quote_char = quote_char; double_quote = double_quote })
+
+-- the number of header rows, and the rows and columns that are skipped
+unfoldable pub header_and_skips : List ℕ → Data → Read HeaderAndSkips
+header_and_skips at d = do
   header ← property truth true at d (codes "header")
   count ← optional (whole 8) at d (codes "headerRowCount")
   skip_rows ← property any_whole 0 at d (codes "skipRows")
   skip_columns ← property (whole 1024) 0 at d (codes "skipColumns")
   skip_blank_rows ← property truth false at d (codes "skipBlankRows")
+  fine (record {
+    header_row_count = header_rows header count;
+    skip_rows = skip_rows;
+    skip_columns = skip_columns;
+    skip_blank_rows = skip_blank_rows;
+  })
+
+-- the properties of a dialect, each by itself
+unfoldable pub dialect_parts : List ℕ → Data → Read Dialect
+dialect_parts at d = do
+  symbols ← cell_symbols at d
+  comment_prefix ← property (or_null comment_prefix) (Some (codes "#")) at d (codes "commentPrefix")
+  skips ← header_and_skips at d
   skip_initial_space ← property truth false at d (codes "skipInitialSpace")
   trim ← optional trim at d (codes "trim")
   line_terminators ← property terminators (record { crlf = true; lf = true }) at d (codes "lineTerminators")
   encoding ← property encoding tt at d (codes "encoding")
   fine (record {
-    delimiter = delimiter;
-    quote_char = quote_char;
-    double_quote = double_quote;
+    delimiter = symbols.delimiter;
+    quote_char = symbols.quote_char;
+    double_quote = symbols.double_quote;
     comment_prefix = comment_prefix;
-    header_row_count = header_rows header count;
-    skip_rows = skip_rows;
-    skip_columns = skip_columns;
-    skip_blank_rows = skip_blank_rows;
+    header_row_count = skips.header_row_count;
+    skip_rows = skips.skip_rows;
+    skip_columns = skips.skip_columns;
+    skip_blank_rows = skips.skip_blank_rows;
     skip_initial_space = skips_spaces trim skip_initial_space;
     trim = trim_of trim skip_initial_space;
     line_terminators = line_terminators;

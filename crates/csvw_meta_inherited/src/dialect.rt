@@ -7,7 +7,7 @@ ghost use Rattle.csvw_meta_core.specs.Pointer.{text_of};
 ghost use Rattle.csvw_meta_core.specs.Reads.{Reads};
 ghost use Rattle.csvw_meta_inherited.specs.Dialect.{mark, comment_prefix, trim, trim_named, encoding, is_utf8_name, terminator, terminators, joined};
 ghost use Rattle.csvw_meta_inherited.specs.Dialect.{header_rows, trim_of, skips_spaces, all_symbols, clashes, is_break_char};
-ghost use Rattle.csvw_meta_inherited.specs.Dialect.{dialect_parts, lawful_dialect, dialect_of};
+ghost use Rattle.csvw_meta_inherited.specs.Dialect.{cell_symbols, header_and_skips, dialect_parts, lawful_dialect, dialect_of};
 
 use crate::context::Context;
 use crate::unlisted::dialect_warnings;
@@ -256,9 +256,20 @@ fn clashes(dialect: &Dialect) -> bool
     }
 }
 
-#[tactic(auto, using(crate::proofs::ReadLemmas::fails_first), unfolding(crate::specs::Dialect::dialect_parts))]
-fn dialect_parts(part: &Part) -> Result<Dialect, Refusal>
-    ensures { Reads result (dialect_parts (text_of part.now.at) (view part.now.value.now)) }
+/// What separates cells, and what stands around escaped ones.
+#[derive(Drop)]
+struct CellSymbols {
+    /// `delimiter`: what stands between two cells.
+    delimiter: char,
+    /// `quoteChar`: what stands around escaped cells; none: no cell is escaped.
+    quote_char: Option<char>,
+    /// `doubleQuote`: whether a quote in an escaped cell is doubled.
+    double_quote: bool,
+}
+
+#[tactic(auto, using(crate::proofs::ReadLemmas::fails_first), unfolding(crate::specs::Dialect::cell_symbols))]
+fn cell_symbols(part: &Part) -> Result<CellSymbols, Refusal>
+    ensures { Reads result (cell_symbols (text_of part.now.at) (view part.now.value.now)) }
 {
     let delimiter = part.property(
         &Mark {
@@ -274,6 +285,48 @@ fn dialect_parts(part: &Part) -> Result<Dialect, Refusal>
     };
     let quote_char = part.property(&quote, Some('"'), "quoteChar")?;
     let double_quote = part.property(&Truth, true, "doubleQuote")?;
+    Ok(CellSymbols {
+        delimiter,
+        quote_char,
+        double_quote,
+    })
+}
+
+/// The number of header rows, and the rows and columns that are skipped.
+#[derive(Drop)]
+struct HeaderAndSkips {
+    /// `header` and `headerRowCount`: the number of header rows.
+    header_row_count: u8,
+    /// `skipRows`: how many rows at the front are skipped.
+    skip_rows: u64,
+    /// `skipColumns`: how many columns at the front are skipped.
+    skip_columns: u32,
+    /// `skipBlankRows`: whether rows are skipped whose cells are all empty.
+    skip_blank_rows: bool,
+}
+
+#[tactic(auto, using(crate::proofs::ReadLemmas::fails_first), unfolding(crate::specs::Dialect::header_and_skips))]
+fn header_and_skips(part: &Part) -> Result<HeaderAndSkips, Refusal>
+    ensures { Reads result (header_and_skips (text_of part.now.at) (view part.now.value.now)) }
+{
+    let header = part.property(&Truth, true, "header")?;
+    let count = part.optional(&WholeU8 { most: 8 }, "headerRowCount")?;
+    let skip_rows = part.property(&AnyWhole, 0, "skipRows")?;
+    let skip_columns = part.property(&WholeU32 { most: 1024 }, 0, "skipColumns")?;
+    let skip_blank_rows = part.property(&Truth, false, "skipBlankRows")?;
+    Ok(HeaderAndSkips {
+        header_row_count: header_rows(header, count),
+        skip_rows,
+        skip_columns,
+        skip_blank_rows,
+    })
+}
+
+#[tactic(auto, using(crate::proofs::ReadLemmas::fails_first), unfolding(crate::specs::Dialect::dialect_parts))]
+fn dialect_parts(part: &Part) -> Result<Dialect, Refusal>
+    ensures { Reads result (dialect_parts (text_of part.now.at) (view part.now.value.now)) }
+{
+    let symbols = cell_symbols(part)?;
     let prefix = Text::copied(part.alloc, "#")?;
     let comment_prefix = part.property(
         &OrNull {
@@ -282,11 +335,7 @@ fn dialect_parts(part: &Part) -> Result<Dialect, Refusal>
         Some(prefix),
         "commentPrefix",
     )?;
-    let header = part.property(&Truth, true, "header")?;
-    let count = part.optional(&WholeU8 { most: 8 }, "headerRowCount")?;
-    let skip_rows = part.property(&AnyWhole, 0, "skipRows")?;
-    let skip_columns = part.property(&WholeU32 { most: 1024 }, 0, "skipColumns")?;
-    let skip_blank_rows = part.property(&Truth, false, "skipBlankRows")?;
+    let skips = header_and_skips(part)?;
     let skip_initial_space = part.property(&Truth, false, "skipInitialSpace")?;
     let trim = part.optional(&TrimReader, "trim")?;
     let both = LineTerminators {
@@ -295,15 +344,16 @@ fn dialect_parts(part: &Part) -> Result<Dialect, Refusal>
     };
     let line_terminators = part.property(&Terminators, both, "lineTerminators")?;
     part.property(&Encoding, (), "encoding")?;
+    let delimiter = symbols.delimiter;
     Ok(Dialect {
         delimiter,
-        quote_char,
-        double_quote,
+        quote_char: symbols.quote_char,
+        double_quote: symbols.double_quote,
         comment_prefix,
-        header_row_count: header_rows(header, count),
-        skip_rows,
-        skip_columns,
-        skip_blank_rows,
+        header_row_count: skips.header_row_count,
+        skip_rows: skips.skip_rows,
+        skip_columns: skips.skip_columns,
+        skip_blank_rows: skips.skip_blank_rows,
         skip_initial_space: skips_spaces(trim, skip_initial_space),
         trim: trim_of(trim, skip_initial_space),
         line_terminators,
