@@ -1,6 +1,6 @@
 //! The fields of a row, found among its bytes. Symbols that are ASCII are their own bytes, and no byte of
 //! another character is below 128.
-ghost use Rattle.std.specs.Prelude.{◌≡◌, ◌≢◌, ◌≤◌, ◌<◌, ◌+◌, ◌^◌, true, false, length, drop, IfOk, IfSome, slice_index};
+ghost use Rattle.std.specs.Prelude.{◌≡◌, ◌≢◌, ◌≤◌, ◌<◌, ◌+◌, ◌^◌, None, true, false, length, drop, IfOk, IfSome, MatchOption, slice_index};
 ghost use Rattle.std.specs.Str.{is_utf8};
 ghost use Rattle.csvw_fields.specs.Bounds.{lent_bound, moved};
 ghost use Rattle.csvw_fields.specs.Cuts.{IsSymbols, NoneBefore, IsBehind, IsLent};
@@ -24,7 +24,8 @@ pub struct Symbols {
 impl Symbols {
     /// The symbols of a dialect whose rows are cut among their bytes; `None` for any other.
     pub fn of(dialect: &Dialect) -> Option<Symbols>
-        ensures { IfSome result (IsSymbols dialect.now) }
+        ensures symbols { IfSome result (IsSymbols dialect.now) }
+        ensures none { result ≡ None → (s : Symbols) → ¬ (IsSymbols dialect.now s) }
     {
         if dialect.trim != Trim::No || !dialect.double_quote {
             return None;
@@ -46,7 +47,7 @@ impl Symbols {
 }
 
 fn ascii(c: char) -> Option<u8>
-    ensures { IfSome result (λ b. (b ≡ c) × (b < 128)) }
+    ensures { MatchOption result (128 ≤ c) (λ b. (b ≡ c) × (b < 128)) }
 {
     if c.is_ascii() { Some(c as u8) } else { None }
 }

@@ -1,7 +1,8 @@
 //! The rows of a text, cut at the symbols of a dialect.
-ghost use Rattle.std.specs.Prelude.{◌≡◌, ◌≢◌, ◌≤◌, ◌<◌, ◌+◌, true, false, length, drop, IfOk, IfSome, slice_index};
+ghost use Rattle.std.specs.Prelude.{◌≡◌, ◌≢◌, ◌≤◌, ◌<◌, ◌+◌, ◌-◌, None, true, false, length, drop, IfOk, IfSome, MatchOption, slice_index};
 ghost use Rattle.std.specs.Str.{is_utf8};
 ghost use Rattle.csvw_dialect.specs.Lawful.{IsLawful};
+ghost use Rattle.csvw_records.specs.Lengths.{row_limit};
 ghost use Rattle.csvw_fields.specs.Bounds.{are_bounds};
 ghost use Rattle.csvw_fields.specs.Cuts.{IsSymbols, IsCut, IsUnescaped, Grows, IsCutRow, IsRowLen};
 ghost use Rattle.csvw_fields.specs.Marked.{is_symbol, is_quote, AreMarks, StandsAhead};
@@ -32,7 +33,7 @@ impl<'a> Cutter<'a> {
 
     /// Cuts the rows of a text by these rules; `None` where they have no symbols.
     pub fn of(rules: &'a Rules, text: &'a [u8]) -> Option<Cutter<'a>>
-        ensures { IfSome result (IsCutterOf rules.now text.now) }
+        ensures { MatchOption result (rules.now.symbols ≡ None) (IsCutterOf rules.now text.now) }
     {
         let symbols = rules.symbols?;
         Some(Cutter {
@@ -222,7 +223,8 @@ impl<'a> Cutter<'a> {
     pub fn row_len(self, start: usize, at: usize) -> Option<usize>
         requires start { start ≤ at }
         requires within { at ≤ length (text_of self) }
-        ensures { IfSome result (IsRowLen (dialect_of self.entry) (text_of self.entry) start at) }
+        ensures len { IfSome result (IsRowLen (dialect_of self.entry) (text_of self.entry) start at) }
+        ensures long { result ≡ None → row_limit < at - start }
     {
         if at - start > ROW_LIMIT {
             return None;

@@ -1,4 +1,3 @@
-use Rattle.std.proofs.Common.{sym}
 use Rattle.csvw_fields.proofs.cutter.Cutter.of.Goals as goal
 
 pub invariant_of-result : goal.invariant_of-result

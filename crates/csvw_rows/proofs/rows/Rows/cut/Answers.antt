@@ -38,4 +38,4 @@ returns-clause-row c =
     (subst (λ (x : List ℕ). IsRowLen d x (taken_of s.source) at n) same
     (subst (λ (m : ℕ). IsRowLen d cutter.text.now m at n) c.taken-start.ensures
     (subst (λ (x : Dialect). IsRowLen x cutter.text.now c.taken-start.result at n) k.dialect l))))
-    c.row_len.ensures
+    c.row_len.ensures.len
