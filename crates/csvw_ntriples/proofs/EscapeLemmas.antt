@@ -10,6 +10,7 @@ use Rattle.std.specs.List.{list_any}
 use Rattle.std.specs.Prelude.{flat_map}
 use lib.Lanes.{chunk, mask_l, zip2, top}
 use Rattle.csvw_ntriples.specs.Escape.{needs_escape, PlainBetween}
+use Rattle.csvw_ntriples.specs.PlainCopy.{IsPlainCopy}
 use Rattle.csvw_ntriples.specs.Written.{escaped}
 
 escaped_plain : (b : ℕ) → needs_escape b ≡ false → escaped b ≡ b ∷ []
@@ -31,9 +32,9 @@ escaped_same [] h = refl
 escaped_same (b ∷ bytes) h =
     rw (escaped_plain b (h 0 (omega arith) (omega arith)), escaped_same bytes (λ k p q. h (suc k) (omega arith) (omega arith))) refl
 
-pub escaped_on_plain : (b : Bool) (bytes : List ℕ) → OnTrue b (PlainBetween bytes 0 (length bytes)) → OnTrue b (flat_map escaped bytes ≡ bytes)
-escaped_on_plain true bytes h = escaped_same bytes h
-escaped_on_plain false bytes h = tt
+pub escaped_on_copy : (b : Bool) (bytes room : List ℕ) → OnTrue b (IsPlainCopy bytes room) → OnTrue b (room ≡ flat_map escaped bytes)
+escaped_on_copy true bytes room h = h.0 ∙ sym (escaped_same bytes h.1)
+escaped_on_copy false bytes room h = tt
 
 -- a comparison of a lane
 abbrev hit : ℕ → ℕ → ℕ

@@ -1,6 +1,7 @@
 pub mod Begun
 pub mod BodyPieces
 pub mod Composed
+pub mod CopyLemmas
 pub mod Cutting
 pub mod Decoded
 pub mod Denoted

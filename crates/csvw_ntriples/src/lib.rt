@@ -1,6 +1,7 @@
 //! N-Triples, written and read.
 #![tactic(auto)]
 
+mod copy;
 mod laws;
 mod line;
 mod nt_sink;

@@ -51,6 +51,7 @@ impl Line {
     }
 
     /// Cuts the line off in front of the text of the predicate, where its subject is this blank node.
+    #[inline(always)]
     fn keeps(&mut self, origin: &Origin) -> bool
         ensures { result ≡ true → self.new.bytes ≡ front_text origin.now }
     {
@@ -61,19 +62,21 @@ impl Line {
         false
     }
 
-    fn begin_anew(&mut self, origin: Origin) -> Result<(), AllocError>
-        ensures { OnOk result (self.new.bytes ≡ front_text origin) }
+    #[inline(never)]
+    fn begin_anew(&mut self, origin: &Origin) -> Result<(), AllocError>
+        ensures { OnOk result (self.new.bytes ≡ front_text origin.now) }
     {
         self.is_kept = false;
         self.bytes.truncate(0);
-        push_blank(&mut self.bytes, &mut self.row, origin)?;
+        push_blank(&mut self.bytes, &mut self.row, *origin)?;
         self.bytes.push_fixed(b" <")?;
         self.front = self.bytes.len();
-        self.subject = origin;
+        self.subject = *origin;
         self.is_kept = true;
         Ok(())
     }
 
+    #[inline(always)]
     fn begin_blank(&mut self, origin: &Origin) -> Result<(), AllocError>
         ensures text { OnOk result (self.new.bytes ≡ front_text origin.now) }
         ensures fits { OnOk result (IsOrigin origin.now) }
@@ -82,7 +85,7 @@ impl Line {
         if self.keeps(origin) {
             return Ok(());
         }
-        self.begin_anew(*origin)
+        self.begin_anew(origin)
     }
 
     fn begin_named(&mut self, iri: &Iri) -> Result<(), AllocError>
@@ -96,6 +99,7 @@ impl Line {
         self.bytes.push_fixed(b"> <")
     }
 
+    #[inline(always)]
     fn begin(&mut self, node: &Node) -> Result<(), AllocError>
         ensures text { OnOk result (self.new.bytes ≡ node_text node.now ++ codes " <") }
         ensures fits { OnOk result (NodeFits node.now) }
@@ -107,6 +111,7 @@ impl Line {
     }
 
     /// Becomes the line of a triple; after an error it may be a part of it.
+    #[inline(always)]
     pub(crate) fn refill(&mut self, triple: &Triple) -> Result<(), AllocError>
         ensures text { OnOk result (self.new.bytes ≡ line_text triple.now) }
         ensures fits { OnOk result (TripleFits triple.now) }

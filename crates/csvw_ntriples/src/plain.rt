@@ -1,10 +1,12 @@
-//! Whether the bytes of a literal stand as they are: many of them are looked at together. Two looks that overlap cover what is
-//! left over.
+//! Copies the bytes of a literal that stand as they are: many of them are looked at and copied together. Two looks that overlap
+//! cover what is left over.
 ghost use Rattle.std.specs.Prelude.{◌≡◌, ◌+◌, ◌≤◌, false, length, flat_map};
 ghost use Rattle.std.specs.Bool.{OnTrue};
 ghost use Rattle.csvw_ntriples.specs.Escape.{needs_escape, PlainBetween};
+ghost use Rattle.csvw_ntriples.specs.PlainCopy.{IsCopied, IsPlainCopy};
 ghost use Rattle.csvw_ntriples.specs.Written.{escaped};
 
+use crate::copy::copy_at;
 use std::simd::prelude::*;
 
 pub(crate) fn needs_escape(b: u8) -> bool
@@ -49,52 +51,105 @@ fn is_plain_16(bytes: &[u8], at: usize) -> bool
     (quoting | breaking).to_bitmask() == 0
 }
 
-fn is_plain_few(bytes: &[u8]) -> bool
-    ensures { OnTrue result (PlainBetween bytes.now 0 (length bytes.now)) }
+/// Copies 4 bytes from this place on, where none of them is escaped, and tells whether it did.
+#[inline(always)]
+fn copy_plain_4(room: &mut [u8], bytes: &[u8], at: usize) -> bool
+    requires within { at + 4 ≤ length bytes.now }
+    requires copied { IsCopied bytes.now room.old at }
+    ensures copied { OnTrue result (IsCopied bytes.now room.new (at + 4)) }
+    ensures plain { OnTrue result (PlainBetween bytes.now at (at + 4)) }
+{
+    if !is_plain_4(bytes, at) {
+        return false;
+    }
+    copy_at::<4>(room, bytes, at);
+    true
+}
+
+/// Copies 8 bytes from this place on, where none of them is escaped, and tells whether it did.
+#[inline(always)]
+fn copy_plain_8(room: &mut [u8], bytes: &[u8], at: usize) -> bool
+    requires within { at + 8 ≤ length bytes.now }
+    requires copied { IsCopied bytes.now room.old at }
+    ensures copied { OnTrue result (IsCopied bytes.now room.new (at + 8)) }
+    ensures plain { OnTrue result (PlainBetween bytes.now at (at + 8)) }
+{
+    if !is_plain_8(bytes, at) {
+        return false;
+    }
+    copy_at::<8>(room, bytes, at);
+    true
+}
+
+/// Copies 16 bytes from this place on, where none of them is escaped, and tells whether it did.
+#[inline(always)]
+fn copy_plain_16(room: &mut [u8], bytes: &[u8], at: usize) -> bool
+    requires within { at + 16 ≤ length bytes.now }
+    requires copied { IsCopied bytes.now room.old at }
+    ensures copied { OnTrue result (IsCopied bytes.now room.new (at + 16)) }
+    ensures plain { OnTrue result (PlainBetween bytes.now at (at + 16)) }
+{
+    if !is_plain_16(bytes, at) {
+        return false;
+    }
+    copy_at::<16>(room, bytes, at);
+    true
+}
+
+fn copy_plain_few(room: &mut [u8], bytes: &[u8]) -> bool
+    requires { length room.old ≡ length bytes.now }
+    ensures { OnTrue result (IsPlainCopy bytes.now room.new) }
 {
     for b in bytes {
         if needs_escape(*b) {
             return false;
         }
     }
+    room.copy_from_slice(bytes);
     true
 }
 
-fn is_plain_long(bytes: &[u8]) -> bool
-    requires { 16 ≤ length bytes.now }
-    ensures { OnTrue result (PlainBetween bytes.now 0 (length bytes.now)) }
+#[inline(always)]
+fn copy_plain_long(room: &mut [u8], bytes: &[u8]) -> bool
+    requires long { 16 ≤ length bytes.now }
+    requires same_len { length room.old ≡ length bytes.now }
+    ensures { OnTrue result (IsPlainCopy bytes.now room.new) }
 {
     let mut at = 0;
     while bytes.len() - at > 16 {
-        if !is_plain_16(bytes, at) {
+        if !copy_plain_16(room, bytes, at) {
             return false;
         }
         at += 16;
     }
-    is_plain_16(bytes, bytes.len() - 16)
+    copy_plain_16(room, bytes, bytes.len() - 16)
 }
 
-fn is_plain_short(bytes: &[u8]) -> bool
-    requires { length bytes.now ≤ 16 }
-    ensures { OnTrue result (PlainBetween bytes.now 0 (length bytes.now)) }
+#[inline(always)]
+fn copy_plain_short(room: &mut [u8], bytes: &[u8]) -> bool
+    requires short { length bytes.now ≤ 16 }
+    requires same_len { length room.old ≡ length bytes.now }
+    ensures { OnTrue result (IsPlainCopy bytes.now room.new) }
 {
     let len = bytes.len();
     if len >= 8 {
-        is_plain_8(bytes, 0) && is_plain_8(bytes, len - 8)
+        copy_plain_8(room, bytes, 0) && copy_plain_8(room, bytes, len - 8)
     } else if len >= 4 {
-        is_plain_4(bytes, 0) && is_plain_4(bytes, len - 4)
+        copy_plain_4(room, bytes, 0) && copy_plain_4(room, bytes, len - 4)
     } else {
-        is_plain_few(bytes)
+        copy_plain_few(room, bytes)
     }
 }
 
-/// Whether it is plain that none of the bytes is escaped.
-pub(crate) fn is_plain(bytes: &[u8]) -> bool
-    ensures { OnTrue result (flat_map escaped bytes.now ≡ bytes.now) }
+/// Copies bytes over as many others, where it is plain that none of them is escaped, and tells whether it did.
+#[inline(always)]
+pub(crate) fn copy_plain(room: &mut [u8], bytes: &[u8]) -> bool
+    requires { length room.old ≡ length bytes.now }
+    ensures { OnTrue result (room.new ≡ flat_map escaped bytes.now) }
 {
     if bytes.len() < 16 {
-        is_plain_short(bytes)
+        copy_plain_short(room, bytes)
     } else {
-        is_plain_long(bytes)
+        copy_plain_long(room, bytes)
     }
 }

@@ -1,6 +1,9 @@
 //! Bytes that are made anew again and again.
-ghost use Rattle.std.specs.Prelude.{◌≡◌, ◌+◌, ◌≤◌, ◌∷◌, [], ◌++◌, length, take, drop, OnOk};
+ghost use Rattle.std.specs.Prelude.{◌≡◌, ◌+◌, ◌≤◌, ◌∷◌, [], ◌++◌, length, take, drop, flat_map, IfOk, OnOk, MatchBool};
+ghost use Rattle.csvw_ntriples.specs.Written.{escaped};
 
+use crate::copy::copy_name;
+use crate::plain::copy_plain;
 use std::alloc::{AllocError, Global};
 use std::marker::Model;
 
@@ -41,7 +44,7 @@ fn widen(room: &mut Vec<u8>, len: usize, more: usize) -> Result<(), AllocError>
 
 /// Writes bytes over the first ones.
 #[inline(always)]
-fn overwrite<const N: usize>(room: &mut [u8], bytes: &[u8; N])
+pub(crate) fn overwrite<const N: usize>(room: &mut [u8], bytes: &[u8; N])
     requires { N ≤ length room.old }
     ensures { room.new ≡ bytes.now ++ drop N room.old }
 {
@@ -97,6 +100,38 @@ impl Scratch {
         self.room.as_mut_slice()[start..end].copy_from_slice(bytes);
         self.len = end;
         Ok(())
+    }
+
+    /// Adds the bytes of a name at the end.
+    #[inline(always)]
+    pub(crate) fn push_name(&mut self, bytes: &[u8]) -> Result<(), AllocError>
+        ensures { OnOk result (self.new ≡ self.old ++ bytes.now) }
+    {
+        let start = self.len;
+        if self.room.len() - start < bytes.len() {
+            widen(&mut self.room, start, bytes.len())?;
+        }
+        let end = start + bytes.len();
+        copy_name(&mut self.room.as_mut_slice()[start..end], bytes);
+        self.len = end;
+        Ok(())
+    }
+
+    /// Adds bytes at the end where it is plain that none of them is escaped, and tells whether it did.
+    #[inline(always)]
+    pub(crate) fn push_plain(&mut self, bytes: &[u8]) -> Result<bool, AllocError>
+        ensures { IfOk result (λ is_done. MatchBool is_done (self.new ≡ self.old ++ flat_map escaped bytes.now) (self.new ≡ self.old)) }
+    {
+        let start = self.len;
+        if self.room.len() - start < bytes.len() {
+            widen(&mut self.room, start, bytes.len())?;
+        }
+        let end = start + bytes.len();
+        if !copy_plain(&mut self.room.as_mut_slice()[start..end], bytes) {
+            return Ok(false);
+        }
+        self.len = end;
+        Ok(true)
     }
 
     /// Adds bytes whose number is known where it is called, so that no call is needed to copy them.

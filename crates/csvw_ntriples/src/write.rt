@@ -1,4 +1,4 @@
-//! The line of a triple.
+//! The line of a triple. What most lines take is inlined where a triple is put, and what few take is not.
 ghost use Rattle.std.specs.Prelude.{◌≡◌, ◌∷◌, [], ◌++◌, true, OnOk, flat_map, codes, decimal, Bool};
 ghost use Rattle.csvw_ntriples.specs.Written.{label, escaped, iri_text, blank_text, string_text};
 ghost use Rattle.csvw_ntriples.specs.Written.{datatype_text, suffix_text, is_string_type, lit_text, term_text};
@@ -7,7 +7,6 @@ ghost use Rattle.csvw_ntriples.specs.Writable.{IriFits, SuffixFits, LitFits, Ter
 ghost use Rattle.csvw_triples_core.specs.declared.term.Term.TheVariants as term;
 ghost use Rattle.csvw_text.specs.Language.{is_language_tag};
 
-use crate::plain::is_plain;
 use crate::row_label::RowLabel;
 use crate::scratch::Scratch;
 use csvw_iri::Iri;
@@ -23,7 +22,7 @@ pub(crate) fn push_iri(out: &mut Scratch, iri: &Iri) -> Result<(), AllocError>
     ensures text { OnOk result (out.new ≡ out.old ++ iri.now) }
     ensures fits { OnOk result (IriFits iri.now) }
 {
-    out.push(iri.as_str().as_bytes())
+    out.push_name(iri.as_str().as_bytes())
 }
 
 fn push_escape(out: &mut Scratch, b: u8) -> Result<(), AllocError>
@@ -38,6 +37,7 @@ fn push_escape(out: &mut Scratch, b: u8) -> Result<(), AllocError>
     }
 }
 
+#[inline(never)]
 fn push_each_escaped(out: &mut Scratch, bytes: &[u8]) -> Result<(), AllocError>
     ensures { OnOk result (out.new ≡ out.old ++ flat_map escaped bytes.now) }
 {
@@ -47,14 +47,14 @@ fn push_each_escaped(out: &mut Scratch, bytes: &[u8]) -> Result<(), AllocError>
     Ok(())
 }
 
+#[inline(always)]
 fn push_escaped(out: &mut Scratch, bytes: &[u8]) -> Result<(), AllocError>
     ensures { OnOk result (out.new ≡ out.old ++ flat_map escaped bytes.now) }
 {
-    if is_plain(bytes) {
-        out.push(bytes)
-    } else {
-        push_each_escaped(out, bytes)
+    if out.push_plain(bytes)? {
+        return Ok(());
     }
+    push_each_escaped(out, bytes)
 }
 
 /// A letter of a label and the number after it.
@@ -119,6 +119,7 @@ fn is_xsd_string(iri: &Iri) -> bool
 }
 
 /// Ends a literal that has a datatype, and its line.
+#[inline(never)]
 fn end_typed(out: &mut Scratch, iri: &Iri) -> Result<(), AllocError>
     ensures text { OnOk result (out.new ≡ out.old ++ 34 ∷ datatype_text iri.now ++ codes " .\n") }
     ensures fits { OnOk result (IriFits iri.now) }
@@ -177,6 +178,7 @@ fn push_labelled(out: &mut Scratch, last: &mut RowLabel, origin: Origin) -> Resu
 }
 
 /// Adds what stands behind the text of a predicate, where the object is a literal.
+#[inline(always)]
 fn push_literal(out: &mut Scratch, lit: &Lit) -> Result<(), AllocError>
     ensures text { OnOk result (out.new ≡ out.old ++ object_text (term.Literal lit.now)) }
     ensures fits { OnOk result (LitFits lit.now) }
@@ -187,6 +189,7 @@ fn push_literal(out: &mut Scratch, lit: &Lit) -> Result<(), AllocError>
 }
 
 /// Adds what stands behind the text of a predicate.
+#[inline(always)]
 fn push_object(out: &mut Scratch, last: &mut RowLabel, term: &Term) -> Result<(), AllocError>
     ensures text { OnOk result (out.new ≡ out.old ++ object_text term.now) }
     ensures fits { OnOk result (TermFits term.now) }
@@ -199,6 +202,7 @@ fn push_object(out: &mut Scratch, last: &mut RowLabel, term: &Term) -> Result<()
 }
 
 /// Adds what stands in the line of a triple from the text of its predicate on.
+#[inline(always)]
 pub(crate) fn push_rest(
     out: &mut Scratch,
     last: &mut RowLabel,
