@@ -10,6 +10,9 @@ use std::env;
 use std::io::{self, BufWriter, IsTerminal, Stderr, Stdout};
 use std::process::ExitCode;
 
+/// How many bytes of the output are kept before they are written.
+const BUFFERED: usize = 65_536;
+
 /// Whether the words ask for each line when it is made.
 fn asks_for_lines(alloc: Global, words: &[String]) -> bool {
     match requested(alloc, words) {
@@ -36,7 +39,7 @@ fn run(rt: &HostRuntime, err: &mut Counted<Stderr>) -> io::Result<u8> {
         let mut out = Counted::new(out);
         return Ok(command(alloc, words.as_slice(), &mut opener, &mut out, err));
     }
-    let mut out = Counted::new(BufWriter::new(alloc, out)?);
+    let mut out = Counted::new(BufWriter::with_capacity(alloc, BUFFERED, out)?);
     let status = command(alloc, words.as_slice(), &mut opener, &mut out, err);
     let (_, _) = out.into_inner().into_parts();
     Ok(status)

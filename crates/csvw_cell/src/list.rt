@@ -20,6 +20,7 @@ pub struct JudgedItems {
 }
 
 /// Whether the texts are one. Most are of two lengths.
+#[inline(always)]
 fn is_same(null: &Text, text: &str) -> bool
     ensures { result ≡ bytes_eq null.now text.now }
 {
@@ -30,7 +31,11 @@ fn is_same(null: &Text, text: &str) -> bool
 pub fn is_null(nulls: &[Text], text: &str) -> bool
     ensures { result ≡ is_null nulls.now text.now }
 {
-    nulls.iter().any(|null| is_same(null, text))
+    // Most columns have one text for null.
+    match nulls {
+        [null] => is_same(null, text),
+        _ => nulls.iter().any(|null| is_same(null, text)),
+    }
 }
 
 pub fn or_default<'a>(default: &'a str, text: &'a str) -> &'a str

@@ -3,7 +3,7 @@ ghost use Rattle.std.specs.Prelude.{◌≡◌, ◌≤◌, true, length, take, dr
 ghost use Rattle.std.specs.Str.{is_utf8};
 ghost use Rattle.std.specs.Str.Lossy.{utf8_valid_len, utf8_error_len};
 
-use simdutf8::from_utf8_baseline;
+use simdutf8::compat::from_utf8;
 use std::alloc::{AllocError, Global};
 
 /// The text at the front of the bytes, and whether what comes after it begins no character, whatever
@@ -12,9 +12,9 @@ pub fn valid_front(bytes: &[u8]) -> (&str, bool)
     ensures text { result.0.now ≡ take (utf8_valid_len bytes.now) bytes.now }
     ensures bad { result.1 ≡ is_some (utf8_error_len (drop (utf8_valid_len bytes.now) bytes.now)) }
 {
-    match from_utf8_baseline(bytes) {
+    match from_utf8(bytes) {
         Ok(text) => (text, false),
-        Err(e) => match from_utf8_baseline(&bytes[..e.valid_up_to()]) {
+        Err(e) => match from_utf8(&bytes[..e.valid_up_to()]) {
             Ok(text) => (text, e.error_len().is_some()),
             Err(_) => unreachable!(),
         },

@@ -115,7 +115,22 @@ impl Emitter {
         self.draft.o = o;
     }
 
+    /// Makes the literal of a value the object of the draft, in memory of its own. Most are made over the one before.
+    #[inline(never)]
+    fn make_literal(&mut self, column: &Column, item: &Item) -> Result<(), AllocError>
+        requires { IsWritable item.now.value }
+        ensures s { self.new.draft.s ≡ self.old.draft.s }
+        ensures p { self.new.draft.p ≡ self.old.draft.p }
+        ensures o { OnOk result (self.new.draft.o ≡ term.Literal (literal_of column.now item.now)) }
+    {
+        let spare = self.take_spare();
+        let literal = literal_of(self.alloc, &self.names, column, item, spare)?;
+        self.draft.o = Term::Literal(literal);
+        Ok(())
+    }
+
     /// Makes the literal of a value the object of the draft.
+    #[inline(always)]
     fn set_literal(&mut self, column: &Column, item: &Item) -> Result<(), AllocError>
         requires { IsWritable item.now.value }
         ensures s { self.new.draft.s ≡ self.old.draft.s }
@@ -125,10 +140,7 @@ impl Emitter {
         if refill(self.alloc, &mut self.draft.o, column, item)? {
             return Ok(());
         }
-        let spare = self.take_spare();
-        let literal = literal_of(self.alloc, &self.names, column, item, spare)?;
-        self.draft.o = Term::Literal(literal);
-        Ok(())
+        self.make_literal(column, item)
     }
 
     pub(crate) fn put_object<S: TripleSink>(
@@ -371,6 +383,7 @@ impl Emitter {
     }
 
     /// Puts the triples of a cell whose column isn't suppressed.
+    #[inline(never)]
     fn emit_any<S: TripleSink>(
         &mut self,
         place: RowPlace,
@@ -393,6 +406,7 @@ impl Emitter {
     }
 
     /// Puts the triple of a cell that has one value.
+    #[inline(always)]
     fn emit_single<S: TripleSink>(
         &mut self,
         place: RowPlace,
@@ -411,6 +425,7 @@ impl Emitter {
         put_one(&self.draft, sink)
     }
 
+    #[inline(always)]
     pub(crate) fn emit_cell<S: TripleSink>(
         &mut self,
         place: RowPlace,

@@ -75,6 +75,7 @@ pub(crate) fn literal_of(
 }
 
 /// Makes it the literal of a value and a datatype, in its memory.
+#[inline(always)]
 fn rewrite(
     alloc: Global,
     literal: &mut Lit,
@@ -99,6 +100,7 @@ fn is_typed_text(column: &Column, item: &Item) -> bool
 
 /// Makes an object that is a literal that of a value, in its memory, where neither has a language; tells whether it did.
 /// `AllocError` where there is no memory.
+#[inline(always)]
 pub(crate) fn refill(
     alloc: Global,
     o: &mut Term,
