@@ -1,6 +1,7 @@
 -- Text in which no symbol stands, as none of its bytes begins one.
 use Rattle.std.proofs.Common.{◌≡◌, ◌≢◌, ◌∙◌, ℕ, ◌-◌, ◌<◌, ◌≤◌, Bool, true, false, ◌&&◌, ◌==◌, not, if◌then◌else◌, List, [], ◌∷◌, ◌++◌, length, take}
-use Rattle.std.proofs.Common.{drop, zero, suc, get_or, Option, Some, None, refl, sym, ap, subst, arith, append_assoc, append-nil, length-take, ◌⊎◌, inl, inr, chars, nat_eq}
+use Rattle.std.proofs.Common.{drop, zero, suc, get_or, Option, Some, None, refl, sym, ap, subst, arith, append_assoc, append-nil, length-take, ◌⊎◌, inl, inr}
+use Rattle.std.proofs.Common.{chars, nat_eq}
 use Rattle.std.specs.Prelude.{IsUtf8, encode_utf8, encode_utf8_all, slice_index, unwrap_or}
 use Rattle.std.proofs.lemmas.Bool.Decides.{nat_tests}
 use Rattle.std.proofs.lemmas.Bool.{cases_lt}
@@ -16,10 +17,12 @@ use Rattle.csvw_fields.specs.FieldText.{IsLeads, HasNoSymbol, HasNoEscape, IsApa
 use Rattle.csvw_records.specs.Grammar.{terminator_len, IsPlain}
 use Rattle.csvw_records.specs.NextRow.{unsettled}
 use Rattle.csvw_records.specs.Scan.{Outcome, Found, Broken, Unfinished, quote_is, step_of, run, finish}
-use Rattle.csvw_records.proofs.Ascii.{Fails, fails_at, fails_right, ascii_at, no_cr}
-use Rattle.csvw_records.proofs.Lookahead.{is_char}
+use Rattle.csvw_fields.proofs.Ascii.{Fails, fails_at, fails_right, ascii_at, no_cr}
+use Rattle.csvw_fields.proofs.Tests.{is_char}
 use Rattle.csvw_fields.proofs.CutLemmas.{not_true, no_term, unsettled_last}
-use Rattle.csvw_records.proofs.RunSteps.{ends_at, act_run, run_plain, differs}
+use Rattle.csvw_fields.proofs.Tests.{differs}
+use Rattle.csvw_records.specs.PassLaws.{ends_at, act_run}
+use Rattle.csvw_records.specs.RecordLaws.{RecordLaws}
 
 -- the bytes before the first place
 pub first_free : (test : ℕ → Bool) (l : List ℕ) (o : Option ℕ) → IsFirstByte test l o
@@ -178,15 +181,16 @@ nothing_runs : (d : Dialect) (st : State) (vs : List (List ℕ)) (cur cs after :
 nothing_runs d st vs cur cs after e = ap (λ l. run d st vs cur (l ++ after)) e ∙ ap (λ l. run d st vs l after) (sym (append-nil cur))
     ∙ ap (λ l. run d st vs (cur ++ l) after) (sym e)
 
-pub clean_runs : (d : Dialect) (st : State) (vs : List (List ℕ)) (cur cs after : List ℕ) → IsClean d st cs after
-    → run d st vs cur (cs ++ after) ≡ run d st vs (cur ++ cs) after
-clean_runs d Start vs cur cs after h = nothing_runs d Start vs cur cs after h
-clean_runs d Plain vs cur cs after h =
-    sym (finish_open (run d Plain vs cur (cs ++ after))) ∙ run_plain false d vs cur cs after (plain_chunk d cs after h.0 h.1)
-    ∙ finish_open (run d Plain vs (cur ++ cs) after)
-clean_runs d Inside vs cur cs after h = inside_runs d vs cur cs after h
-clean_runs d Escaped vs cur cs after h = nothing_runs d Escaped vs cur cs after h
-clean_runs d Closed vs cur cs after h = nothing_runs d Closed vs cur cs after h
+module _ (laws : RecordLaws) where
+  pub clean_runs : (d : Dialect) (st : State) (vs : List (List ℕ)) (cur cs after : List ℕ) → IsClean d st cs after
+      → run d st vs cur (cs ++ after) ≡ run d st vs (cur ++ cs) after
+  clean_runs d Start vs cur cs after h = nothing_runs d Start vs cur cs after h
+  clean_runs d Plain vs cur cs after h =
+      sym (finish_open (run d Plain vs cur (cs ++ after))) ∙ laws.passes.run_plain false d vs cur cs after (plain_chunk d cs after h.0 h.1)
+      ∙ finish_open (run d Plain vs (cur ++ cs) after)
+  clean_runs d Inside vs cur cs after h = inside_runs d vs cur cs after h
+  clean_runs d Escaped vs cur cs after h = nothing_runs d Escaped vs cur cs after h
+  clean_runs d Closed vs cur cs after h = nothing_runs d Closed vs cur cs after h
 
 pub nothing_clean : (d : Dialect) (st : State) (cs after : List ℕ) → cs ≡ [] → IsClean d st cs after
 nothing_clean d Start cs after e = e

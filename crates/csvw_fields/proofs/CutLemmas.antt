@@ -18,9 +18,9 @@ use Rattle.csvw_fields.specs.Cuts.{IsSymbols, IsBehind, IsCut, NoneBefore}
 use Rattle.csvw_records.specs.Grammar.{terminator_len, IsPlain, AreUnits, escape_char}
 use Rattle.csvw_dialect.specs.Lawful.{IsLawful}
 use Rattle.csvw_records.specs.NextRow.{unsettled}
-use Rattle.csvw_records.proofs.Lookahead.{crlf_again, lf_again}
+use Rattle.csvw_fields.proofs.Tests.{crlf_again, lf_again}
 use Rattle.csvw_fields.proofs.BoundLemmas.{lent_is}
-use Rattle.csvw_records.proofs.Ascii.{Fails, fails_at, AsciiAt, ascii_at, none_pass, no_cr}
+use Rattle.csvw_fields.proofs.Ascii.{Fails, fails_at, AsciiAt, ascii_at, none_pass, no_cr}
 
 -- the tests
 or_three : (a b c : Bool) → (a || b || c) ≡ false → (a ≡ false) × (b ≡ false) × (c ≡ false)

@@ -1,6 +1,6 @@
 -- The front of a row that was read, and what reading it on does.
-use Rattle.std.proofs.Common.{◌≡◌, ◌∙◌, ℕ, zero, suc, ◌+◌, ◌-◌, ◌<◌, ◌≤◌, Bool, true, false, ◌&&◌, if◌then◌else◌, List, [], ◌∷◌, ◌++◌, map, length}
-use Rattle.std.proofs.Common.{take, drop, refl, sym, ap, subst, arith, append-nil, length-append, ◌⊎◌, inl, inr, chars, nat_lt, nat_eq}
+use Rattle.std.proofs.Common.{◌≡◌, ◌∙◌, ℕ, zero, suc, ◌+◌, ◌-◌, ◌<◌, ◌≤◌, Bool, true, ◌&&◌, if◌then◌else◌, List, [], ◌∷◌, ◌++◌, map, length}
+use Rattle.std.proofs.Common.{take, drop, refl, sym, ap, arith, append-nil, length-append, chars, nat_lt}
 use Rattle.std.specs.Prelude.{IsUtf8, encode_utf8, encode_utf8_all, slice_range, slice_index, nat_le, Result, Ok, Err, is_ok, IfOk, OnOk}
 use Rattle.std.specs.Borrow.{Bor}
 use Rattle.std.specs.Str.{is_utf8}
@@ -9,7 +9,7 @@ use Rattle.std.proofs.lemmas.Bool.Decides.{nat_tests}
 use Rattle.std.proofs.lemmas.List.{take-append-drop, drop-drop, map-append}
 use Rattle.std.proofs.lemmas.List.Folds.{list_all-append}
 use Rattle.std.proofs.lemmas.Str.{chars-nil, IsUtf8-nil, IsUtf8-append, IsUtf8-from_is_utf8, is_utf8-from_IsUtf8, chars-append, encodes-chars}
-use Rattle.std.proofs.lemmas.Str.{chars_past_char, encode_ascii, IsUtf8-take, IsCharBoundary-from_drop}
+use Rattle.std.proofs.lemmas.Str.{chars_past_char, IsUtf8-take, IsCharBoundary-from_drop}
 use Rattle.csvw_dialect.specs.declared.dialect.Dialect.{Dialect}
 use Rattle.csvw_fields.specs.declared.bound.Bound.{Bound}
 use Rattle.csvw_fields.specs.declared.draft.Draft.{Draft}
@@ -17,17 +17,14 @@ use Rattle.csvw_records.specs.declared.scan.State.{State}
 use Rattle.csvw_records.specs.declared.scan.State.TheVariants.{Start, Inside}
 use Rattle.csvw_records.specs.declared.scan.Step.TheVariants.{Open}
 use Rattle.csvw_records.specs.Scan.{step_of, run}
-use Rattle.csvw_records.proofs.RunSteps.{act_run}
+use Rattle.csvw_records.specs.PassLaws.{act_run}
 use Rattle.csvw_records.specs.NextRow.{settled}
-use Rattle.csvw_records.proofs.Joins.{settled_all}
-use Rattle.csvw_records.proofs.Ascii.{ascii_at, no_cr, term_chars}
-use Rattle.csvw_records.proofs.Complete.{nothing_ends}
-use Rattle.csvw_records.proofs.Lookahead.{and_three, is_char, one_end, lf_again, crlf_again}
-use Rattle.std.proofs.lemmas.Bool.{cases_lt}
+use Rattle.csvw_fields.proofs.Ascii.{ascii_at, no_cr}
 use Rattle.csvw_fields.specs.Bounds.{apart_all, texts_apart, is_apart}
 use Rattle.csvw_fields.specs.Drafts.{IsFresh, Keeps}
 use Rattle.csvw_records.specs.Grammar.{terminator_len}
 use Rattle.csvw_fields.proofs.BoundLemmas.{all_more}
+use Rattle.csvw_records.specs.RecordLaws.{RecordLaws}
 
 pub drop_nil : (n : ℕ) → drop n (let e : List ℕ = [] in e) ≡ []
 drop_nil zero = refl
@@ -136,9 +133,10 @@ settled_cut d r u crlf some cr =
     gone : (l : List ℕ) (n : ℕ) → n ≡ length l → drop n l ≡ []
     gone l n e = grind (arith, common_steps)
 
-pub settled_none : (d : Dialect) (r : List ℕ) → IsUtf8 r → (d.line_terminators.crlf ≡ true → 0 < length r → slice_index r (length r - 1) ≡ 13 → ⊥)
-    → chars r ≡ settled d (chars r)
-settled_none d r u n = sym (settled_all d (chars r)) ∙ ap (λ l. settled d (chars r) ++ l) (no_cr d r u n) ∙ append-nil (settled d (chars r))
+module _ (laws : RecordLaws) where
+  pub settled_none : (d : Dialect) (r : List ℕ) → IsUtf8 r → (d.line_terminators.crlf ≡ true → 0 < length r → slice_index r (length r - 1) ≡ 13 → ⊥)
+      → chars r ≡ settled d (chars r)
+  settled_none d r u n = sym (laws.passes.settled_all d (chars r)) ∙ ap (λ l. settled d (chars r) ++ l) (no_cr d r u n) ∙ append-nil (settled d (chars r))
 
 -- the texts of fields that are whole
 pub encoded_all : (texts : List ℕ) (bounds : List Bound) → apart_all texts bounds ≡ true
@@ -155,49 +153,6 @@ encoded_all texts (b ∷ bs) e =
 
     last : (a b c d : Bool) → (a && (b && (c && d))) ≡ true → d ≡ true
     last a b c d h = grind arith
-
--- a terminator among the characters is one among the bytes
-enc_low : (b : ℕ) (cs : List ℕ) → b < 128 → encode_utf8_all (b ∷ cs) ≡ b ∷ encode_utf8_all cs
-enc_low b cs h = ap (λ l. l ++ encode_utf8_all cs) (encode_ascii b h)
-
-one_code : (d : Dialect) (c : ℕ) (cs : List ℕ) → (d.line_terminators.lf ≡ true) × (nat_eq 10 c ≡ true) → 0 < terminator_len d (encode_utf8_all (c ∷ cs))
-one_code d c cs (l, e) =
-    let P : ℕ → Type 0 = λ k. 0 < terminator_len d (encode_utf8_all (k ∷ cs)) in
-    subst P (sym (is_char 10 c e)) (omega (arith, ap (terminator_len d) (enc_low 10 cs (omega arith)), lf_again d (encode_utf8_all cs) l))
-
-two_codes : (d : Dialect) (c e : ℕ) (cs : List ℕ) → (d.line_terminators.crlf && (nat_eq 13 c && (nat_eq 10 e && true))) ≡ true
-    → 0 < terminator_len d (encode_utf8_all (c ∷ e ∷ cs))
-two_codes d c e cs k =
-    let p = and_three d.line_terminators.crlf (nat_eq 13 c) (nat_eq 10 e) k in
-    let spelled : encode_utf8_all (13 ∷ 10 ∷ cs) ≡ 13 ∷ 10 ∷ encode_utf8_all cs = enc_low 13 (10 ∷ cs) (omega arith)
-    ∙ ap (λ l. 13 ∷ l) (enc_low 10 cs (omega arith)) in
-    let both : c ∷ e ∷ cs ≡ 13 ∷ 10 ∷ cs = ap (λ x. x ∷ e ∷ cs) (is_char 13 c p.1) ∙ ap (λ x. 13 ∷ x ∷ cs) (is_char 10 e p.2) in
-    let P : List ℕ → Type 0 = λ l. 0 < terminator_len d (encode_utf8_all l) in
-    subst P (sym both) (omega (arith, ap (terminator_len d) spelled, crlf_again d (encode_utf8_all cs) p.0))
-
-pub term_codes : (d : Dialect) (cs : List ℕ) → 0 < terminator_len d cs → 0 < terminator_len d (encode_utf8_all cs)
-term_codes d [] h = absurd (nothing_ends d h)
-term_codes d (c ∷ []) h = one_code d c []
-    (one_end d.line_terminators.crlf d.line_terminators.lf (nat_eq 13 c) (nat_eq 10 c) false false h (none d.line_terminators.crlf (nat_eq 13 c)))
-  where
-    none : (a b : Bool) → (a && (b && false)) ≡ false
-    none a b = grind arith
-term_codes d (c ∷ e ∷ cs) h = by_crlf (d.line_terminators.crlf && (nat_eq 13 c && (nat_eq 10 e && true))) refl
-  where
-    by_crlf : (b : Bool) → (d.line_terminators.crlf && (nat_eq 13 c && (nat_eq 10 e && true))) ≡ b → 0 < terminator_len d (encode_utf8_all (c ∷ e ∷ cs))
-    by_crlf true k = two_codes d c e cs k
-    by_crlf false k = one_code d c (e ∷ cs) (one_end d.line_terminators.crlf d.line_terminators.lf (nat_eq 13 c) (nat_eq 10 c) (nat_eq 10 e && true) false h k)
-
-pub term_same : (d : Dialect) (r : List ℕ) → IsUtf8 r → terminator_len d (chars r) ≡ terminator_len d r
-term_same d r u = by_bytes (cases_lt 0 (terminator_len d r))
-  where
-    by_chars : terminator_len d r ≤ 0 → (0 < terminator_len d (chars r)) ⊎ (terminator_len d (chars r) ≤ 0) → terminator_len d (chars r) ≡ terminator_len d r
-    by_chars z (inl h) = let k = term_codes d (chars r) h in absurd (omega (arith, z, k, ap (terminator_len d) (encodes-chars r u)))
-    by_chars z (inr h) = omega (arith, z, h)
-
-    by_bytes : (0 < terminator_len d r) ⊎ (terminator_len d r ≤ 0) → terminator_len d (chars r) ≡ terminator_len d r
-    by_bytes (inl h) = (term_chars d r h).same
-    by_bytes (inr z) = by_chars z (cases_lt 0 (terminator_len d (chars r)))
 
 -- the end of a text behind a character
 pub back_more : (text rest code behind : List ℕ) → length rest ≤ length text → drop (length text - length rest) text ≡ rest → rest ≡ code ++ behind
@@ -250,21 +205,22 @@ pub record OverChar (d : Dialect) (text left behind : List ℕ) (c len : ℕ) : 
   pub again : c ∷ chars behind ≡ chars (drop (length text - length left) text)
   pub ends : nat_lt 0 (terminator_len d (c ∷ chars behind)) ≡ nat_lt 0 len
 
-pub over_char : (d : Dialect) (text rest left behind : List ℕ) (c : ℕ) (bytes : List ℕ) (len : ℕ) → length rest ≤ length text
-    → drop (length text - length rest) text ≡ rest → drop (length rest - length left) rest ≡ left → is_utf8 left ≡ true → left ≡ encode_utf8 c ++ behind
-    → bytes ≡ left → len ≡ terminator_len d bytes → OverChar d text left behind c len
-over_char d text rest left behind c bytes len within back kept is_text spelled same_bytes len_is =
-    let u = IsUtf8-from_is_utf8 left is_text in
-    let same : chars left ≡ c ∷ chars behind = chars_past_char left behind c u spelled in
-    let a = back_kept text rest left within back kept in
-    record {
-      within = a.0;
-      back = a.1;
-      same = same;
-      again = sym same ∙ ap chars (sym a.1);
-      ends = ap (λ l. nat_lt 0 (terminator_len d l)) (sym same)
-          ∙ ap (nat_lt 0) (term_same d left u ∙ ap (terminator_len d) (sym same_bytes) ∙ sym len_is);
-    }
+module _ (laws : RecordLaws) where
+  pub over_char : (d : Dialect) (text rest left behind : List ℕ) (c : ℕ) (bytes : List ℕ) (len : ℕ) → length rest ≤ length text
+      → drop (length text - length rest) text ≡ rest → drop (length rest - length left) rest ≡ left → is_utf8 left ≡ true → left ≡ encode_utf8 c ++ behind
+      → bytes ≡ left → len ≡ terminator_len d bytes → OverChar d text left behind c len
+  over_char d text rest left behind c bytes len within back kept is_text spelled same_bytes len_is =
+      let u = IsUtf8-from_is_utf8 left is_text in
+      let same : chars left ≡ c ∷ chars behind = chars_past_char left behind c u spelled in
+      let a = back_kept text rest left within back kept in
+      record {
+        within = a.0;
+        back = a.1;
+        same = same;
+        again = sym same ∙ ap chars (sym a.1);
+        ends = ap (λ l. nat_lt 0 (terminator_len d l)) (sym same)
+            ∙ ap (nat_lt 0) (laws.terminators.term_same d left u ∙ ap (terminator_len d) (sym same_bytes) ∙ sym len_is);
+      }
 
 -- text that was kept in two parts
 pub both_kept : {E : Type 0} (d : Dialect) (old mid new : Draft) (text rest : List ℕ) (r : Result (Bor (List ℕ)) E) → Keeps d old mid text rest

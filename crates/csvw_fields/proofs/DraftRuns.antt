@@ -1,18 +1,19 @@
 -- A text that is read on from where it was left.
 use Rattle.std.proofs.Common.{◌≡◌, ◌∙◌, ℕ, zero, suc, ◌+◌, ◌<◌, ◌≤◌, Bool, true, false, ◌&&◌, if◌then◌else◌, List, [], ◌∷◌, ◌++◌, length, take, drop}
 use Rattle.std.proofs.Common.{refl, sym, ap, subst, arith, append_assoc, append-nil, length-append, length-drop, length-take, inl, inr, chars}
-use Rattle.std.specs.Prelude.{IsUtf8, encode_utf8_all, Result, Ok, Err, IfOk}
+use Rattle.std.specs.Prelude.{IsUtf8, Result, Ok, Err, IfOk}
 use Rattle.std.specs.Str.{is_utf8}
 use Rattle.std.proofs.lemmas.Grind.{common_steps}
 use Rattle.std.proofs.lemmas.List.{take-append-drop, drop-drop, append_cancel_left}
 use Rattle.std.proofs.Math.Seq.{take-append-add}
 use Rattle.std.proofs.lemmas.Str.{IsUtf8-append, IsUtf8-from_is_utf8, is_utf8-from_IsUtf8, IsUtf8-drop, IsCharBoundary-from_take, chars-nil}
-use Rattle.std.proofs.lemmas.Str.{chars-append, encodes-chars, encodes-append}
+use Rattle.std.proofs.lemmas.Str.{chars-append}
 use Rattle.csvw_dialect.specs.declared.dialect.Dialect.{Dialect}
 use Rattle.csvw_fields.specs.declared.draft.Draft.{Draft}
 use Rattle.csvw_fields.specs.declared.draft.Reading.{Reading}
 use Rattle.csvw_fields.specs.declared.draft.Reading.TheVariants as reading
-use Rattle.csvw_records.specs.declared.scan.State.TheVariants.{Start}
+use Rattle.csvw_records.specs.declared.scan.State.{State}
+use Rattle.csvw_records.specs.declared.scan.State.TheVariants.{Start, Plain, Inside, Escaped, Closed}
 use Rattle.csvw_records.specs.declared.stop.RowStop.{RowStop}
 use Rattle.csvw_records.specs.declared.stop.RowStop.TheVariants.{UnclosedQuote}
 use Rattle.csvw_fields.specs.Drafts.{read_of, state_of, values_of, current_of, runs_on, NoneArises, IsFresh, IsDraft, IsEnded, IsBrokenOff, IsOpen}
@@ -20,12 +21,18 @@ use Rattle.csvw_fields.specs.Drafts.{IsRowRead, IsBrokenThere, IsLeftInQuotes, R
 use Rattle.csvw_records.specs.Grammar.{terminator_len}
 use Rattle.csvw_records.specs.NextRow.{settled, unsettled}
 use Rattle.csvw_records.specs.Scan.{Found, Broken, Unfinished, run, finish, is_quoted}
-use Rattle.csvw_records.proofs.Ascii.{split_chars}
-use Rattle.csvw_records.proofs.Continue.{unsettled_is}
+use Rattle.csvw_fields.proofs.Ascii.{split_chars}
 use Rattle.csvw_fields.proofs.DraftLemmas.{front_text, text_gone, some_bytes}
-use Rattle.csvw_records.proofs.Joins.{Clear, goes_on, run_join, settled_all, settled_clear}
-use Rattle.csvw_records.proofs.LineLemmas.{unquoted_ends, broken_within}
-use Rattle.csvw_records.proofs.Lookahead.{crlf_again}
+use Rattle.csvw_records.specs.PassLaws.{Clear, goes_on}
+use Rattle.csvw_fields.proofs.Tests.{crlf_again}
+use Rattle.csvw_records.specs.RecordLaws.{RecordLaws}
+
+unquoted_ends : (st : State) (vs : List (List ℕ)) (cur : List ℕ) → is_quoted st ≡ false → finish (Unfinished st vs cur) true ≡ Found (vs ++ cur ∷ []) []
+unquoted_ends Start vs cur q = refl
+unquoted_ends Plain vs cur q = refl
+unquoted_ends Closed vs cur q = refl
+unquoted_ends Inside vs cur q = absurd cc
+unquoted_ends Escaped vs cur q = absurd cc
 
 -- a terminator is known by the next character
 clear_next : (d : Dialect) (front : List ℕ) (s : ℕ) (x y : List ℕ) → Clear d front (s ∷ x) → Clear d front (s ∷ y)
@@ -71,19 +78,20 @@ settled_one_more d [] b bs = refl
 settled_one_more d (c ∷ []) b bs = refl
 settled_one_more d (c ∷ e ∷ cs) b bs = ap (λ l. c ∷ l) (settled_one_more d (e ∷ cs) b bs)
 
-settled_same : (d : Dialect) (front : List ℕ) → ((more : List ℕ) → Clear d front more) → settled d front ≡ front
-settled_same d front clear = elim (unsettled_is d front) [
-  | inl e ↦ sym (append-nil (settled d front)) ∙ ap (λ l. settled d front ++ l) (sym e) ∙ settled_all d front
-  | inr p ↦
-      let cut : settled d front ++ 13 ∷ [] ≡ front = ap (λ l. settled d front ++ l) (sym p.0) ∙ settled_all d front in
-      let k = clear_back d (settled d front) (13 ∷ []) (10 ∷ []) (subst (λ (l : List ℕ). Clear d l (10 ∷ [])) (sym cut) (clear (10 ∷ []))) in
-      absurd (omega (arith, k.0, cr_alone d, crlf_again d [] p.1))
-]
+module _ (laws : RecordLaws) where
+  settled_same : (d : Dialect) (front : List ℕ) → ((more : List ℕ) → Clear d front more) → settled d front ≡ front
+  settled_same d front clear = elim (laws.passes.unsettled_is d front) [
+    | inl e ↦ sym (append-nil (settled d front)) ∙ ap (λ l. settled d front ++ l) (sym e) ∙ laws.passes.settled_all d front
+    | inr p ↦
+        let cut : settled d front ++ 13 ∷ [] ≡ front = ap (λ l. settled d front ++ l) (sym p.0) ∙ laws.passes.settled_all d front in
+        let k = clear_back d (settled d front) (13 ∷ []) (10 ∷ []) (subst (λ (l : List ℕ). Clear d l (10 ∷ [])) (sym cut) (clear (10 ∷ []))) in
+        absurd (omega (arith, k.0, cr_alone d, crlf_again d [] p.1))
+  ]
 
-pub settled_behind : (d : Dialect) (front behind : List ℕ) → ((more : List ℕ) → Clear d front (behind ++ more))
-    → settled d (front ++ behind) ≡ front ++ settled d behind
-settled_behind d front [] clear = ap (settled d) (append-nil front) ∙ settled_same d front clear ∙ sym (append-nil front)
-settled_behind d front (b ∷ bs) clear = settled_one_more d front b bs
+  pub settled_behind : (d : Dialect) (front behind : List ℕ) → ((more : List ℕ) → Clear d front (behind ++ more))
+      → settled d (front ++ behind) ≡ front ++ settled d behind
+  settled_behind d front [] clear = ap (settled d) (append-nil front) ∙ settled_same d front clear ∙ sym (append-nil front)
+  settled_behind d front (b ∷ bs) clear = settled_one_more d front b bs
 
 -- nothing was read
 pub fresh_draft : (d : Dialect) (s : Draft) (rest : List ℕ) → IsFresh s → is_utf8 rest ≡ true → IsDraft d s rest
@@ -123,31 +131,13 @@ draft_grows d s rest more i u =
       runs = ap (λ l. run d Start [] [] (chars l)) taken ∙ i.runs;
     }
 
-pub bytes_more : (old new more : List ℕ) → is_utf8 old ≡ true → is_utf8 new ≡ true → chars new ≡ chars old ++ more
-    → (new ≡ old ++ encode_utf8_all more) × IsUtf8 (encode_utf8_all more)
-bytes_more old new more u v e =
-    let uo = IsUtf8-from_is_utf8 old u in
-    let un = IsUtf8-from_is_utf8 new v in
-    let spelled : new ≡ old ++ encode_utf8_all more = sym (encodes-chars new un) ∙ ap encode_utf8_all e ∙ encodes-append (chars old) more
-    ∙ ap (λ l. l ++ encode_utf8_all more) (encodes-chars old uo) in
-    let front : take (length old) new ≡ old = ap (take (length old)) spelled ∙ fronts old (encode_utf8_all more) in
-    let back : drop (length old) new ≡ encode_utf8_all more = ap (drop (length old)) spelled ∙ backs old (encode_utf8_all more) in
-    let h : length old ≤ length new = (let k = ap length spelled in omega (arith, k, length-append old (encode_utf8_all more))) in
-    (spelled, subst IsUtf8 back (IsUtf8-drop new (length old) un (IsCharBoundary-from_take new (length old) un h (subst IsUtf8 (sym front) uo))))
-  where
-    fronts : (a b : List ℕ) → take (length a) (a ++ b) ≡ a
-    fronts a b = grind (arith, common_steps)
-
-    backs : (a b : List ℕ) → drop (length a) (a ++ b) ≡ b
-    backs a b = grind (arith, common_steps)
-
 pieces : (a b : ℕ) (l : List ℕ) → a ≤ length l → take (a + b) l ≡ take a l ++ take b (drop a l)
 pieces a b l h =
     let len : a ≡ length (take a l) = omega (arith, h, length-take a l) in
     ap (λ m. take (m + b) l) len ∙ ap (take (length (take a l) + b)) (sym (take-append-drop a l)) ∙ take-append-add (take a l) (drop a l) b
 
 -- what is settled of the text behind was read
-module _ (d : Dialect) (s : Draft) (rest text : List ℕ) (ur : IsUtf8 rest) (ut : IsUtf8 text) (i : IsDraft d s rest)
+module _ (laws : RecordLaws) (d : Dialect) (s : Draft) (rest text : List ℕ) (ur : IsUtf8 rest) (ut : IsUtf8 text) (i : IsDraft d s rest)
     (front : text ≡ take (length text) (drop (read_of s) rest)) (same : chars text ≡ settled d (chars (drop (read_of s) rest))) where
   abbrev n : ℕ
   n = read_of s
@@ -178,7 +168,8 @@ module _ (d : Dialect) (s : Draft) (rest text : List ℕ) (ur : IsUtf8 rest) (ut
 
   left : chars tail ≡ unsettled d (chars behind)
   left = append_cancel_left (chars text) (chars tail) (unsettled d (chars behind))
-      (sym (chars-append text tail ut) ∙ ap chars (sym whole) ∙ sym (settled_all d (chars behind)) ∙ ap (λ l. l ++ unsettled d (chars behind)) (sym same))
+      (sym (chars-append text tail ut) ∙ ap chars (sym whole) ∙ sym (laws.passes.settled_all d (chars behind))
+      ∙ ap (λ l. l ++ unsettled d (chars behind)) (sym same))
 
   split : chars rest ≡ before ++ chars behind
   split = split_chars rest n (front_text rest n ur i.within i.back)
@@ -187,7 +178,7 @@ module _ (d : Dialect) (s : Draft) (rest text : List ℕ) (ur : IsUtf8 rest) (ut
   further k h = sym (drop-drop k n rest) ∙ ap (drop k) whole ∙ drop_more k text tail h
 
   clears : (more : List ℕ) → Clear d before (chars text ++ (unsettled d (chars behind) ++ more))
-  clears more = subst (Clear d before) (ap (λ l. l ++ more) (sym (settled_all d (chars behind))
+  clears more = subst (Clear d before) (ap (λ l. l ++ more) (sym (laws.passes.settled_all d (chars behind))
       ∙ ap (λ l. l ++ unsettled d (chars behind)) (sym same)) ∙ append_assoc (chars text) (unsettled d (chars behind)) more)
       (clear_of d before (chars behind ++ more) (i.clear more))
 
@@ -195,7 +186,7 @@ module _ (d : Dialect) (s : Draft) (rest text : List ℕ) (ur : IsUtf8 rest) (ut
   clear_text = clear_front d before (chars text) (unsettled d (chars behind) ++ []) (clears [])
 
   clear_tail : (more : List ℕ) → Clear d (chars text) (unsettled d (chars behind) ++ more)
-  clear_tail more = subst (λ (l : List ℕ). Clear d l (unsettled d (chars behind) ++ more)) (sym same) (settled_clear d (chars behind) more)
+  clear_tail more = subst (λ (l : List ℕ). Clear d l (unsettled d (chars behind) ++ more)) (sym same) (laws.passes.settled_clear d (chars behind) more)
 
   taken : chars (take (n + length text) rest) ≡ before ++ chars text
   taken = ap chars (pieces n (length text) rest i.within)
@@ -203,7 +194,7 @@ module _ (d : Dialect) (s : Draft) (rest text : List ℕ) (ur : IsUtf8 rest) (ut
 
   all_settled : before ++ chars text ≡ settled d (chars rest)
   all_settled = ap (λ l. before ++ l) same
-      ∙ sym (settled_behind d before (chars behind) (λ more. clear_of d before (chars behind ++ more) (i.clear more))) ∙ ap (settled d) (sym split)
+      ∙ sym (settled_behind laws d before (chars behind) (λ more. clear_of d before (chars behind ++ more) (i.clear more))) ∙ ap (settled d) (sym split)
 
   pieces_all : chars rest ≡ before ++ (chars text ++ chars tail)
   pieces_all = split ∙ ap (λ l. before ++ l) (ap chars whole ∙ chars-append text tail ut)
@@ -221,7 +212,8 @@ module _ (d : Dialect) (s : Draft) (rest text : List ℕ) (ur : IsUtf8 rest) (ut
               (subst (λ (l : List ℕ). NoneArises d l (unsettled d (chars behind) ++ more)) (sym here)
               (clear_at d (before ++ chars text) (unsettled d (chars behind) ++ more)
               (clear_join d before (chars text) (unsettled d (chars behind) ++ more) (clears more) clear_text (clear_tail more))));
-          runs = ap (run d Start [] []) here ∙ run_join d Start [] [] before (chars text) clear_text ∙ ap (λ o. goes_on d o (chars text)) i.runs ∙ e;
+          runs = ap (run d Start [] []) here ∙ laws.passes.run_join d Start [] [] before (chars text) clear_text ∙ ap (λ o. goes_on d o (chars text)) i.runs
+              ∙ e;
         };
         all = here ∙ all_settled;
       }
@@ -238,10 +230,10 @@ module _ (d : Dialect) (s : Draft) (rest text : List ℕ) (ur : IsUtf8 rest) (ut
         within = (let r = k.read in let l = long.1 in omega (arith, r, l, w));
         back = ap is_utf8 gone ∙ is_utf8-from_IsUtf8 (drop len text ++ tail) (IsUtf8-append (drop len text) tail uk utail);
         found = ap (λ o. finish o false) (ap (run d Start [] []) pieces_all
-            ∙ run_join d Start [] [] before (chars text ++ chars tail)
+            ∙ laws.passes.run_join d Start [] [] before (chars text ++ chars tail)
             (subst (λ (l : List ℕ). Clear d before (chars text ++ l)) (append-nil (unsettled d (chars behind)) ∙ sym left) (clears []))
             ∙ ap (λ o. goes_on d o (chars text ++ chars tail)) i.runs
-            ∙ run_join d (state_of s) (values_of s) (current_of s) (chars text) (chars tail)
+            ∙ laws.passes.run_join d (state_of s) (values_of s) (current_of s) (chars text) (chars tail)
             (subst (Clear d (chars text)) (append-nil (unsettled d (chars behind)) ∙ sym left) (clear_tail []))
             ∙ ap (λ o. goes_on d o (chars tail)) k.found
             ∙ ap (Found (values_of t)) (sym (ap chars gone ∙ chars-append (drop len text) tail uk)));
@@ -255,7 +247,7 @@ module _ (d : Dialect) (s : Draft) (rest text : List ℕ) (ur : IsUtf8 rest) (ut
       let gone : drop (read_of t) rest ≡ drop len text ++ tail = ap (λ k. drop k rest) k.read ∙ further len w in
       let uk = IsUtf8-from_is_utf8 (drop len text) k.back in
       let left_chars : chars (drop (read_of t) rest) ≡ chars (drop len text) ++ chars tail = ap chars gone ∙ chars-append (drop len text) tail uk in
-      let some = (broken_within d (state_of s) (values_of s) (current_of s) (chars text) stop (chars (drop len text)) k.broken).1 in
+      let some = (laws.passes.broken_within d (state_of s) (values_of s) (current_of s) (chars text) stop (chars (drop len text)) k.broken).1 in
       let more = some_bytes (drop len text) some in
       let there = is_utf8-from_IsUtf8 (drop len text ++ tail) (IsUtf8-append (drop len text) tail uk utail) in
       let back : is_utf8 (drop (read_of t) rest) ≡ true = ap is_utf8 gone ∙ there in
@@ -266,10 +258,10 @@ module _ (d : Dialect) (s : Draft) (rest text : List ℕ) (ur : IsUtf8 rest) (ut
         within = inside;
         back = back;
         broken = ap (run d Start [] []) pieces_all
-            ∙ run_join d Start [] [] before (chars text ++ chars tail)
+            ∙ laws.passes.run_join d Start [] [] before (chars text ++ chars tail)
             (subst (λ (l : List ℕ). Clear d before (chars text ++ l)) (append-nil (unsettled d (chars behind)) ∙ sym left) (clears []))
             ∙ ap (λ o. goes_on d o (chars text ++ chars tail)) i.runs
-            ∙ run_join d (state_of s) (values_of s) (current_of s) (chars text) (chars tail)
+            ∙ laws.passes.run_join d (state_of s) (values_of s) (current_of s) (chars text) (chars tail)
             (subst (Clear d (chars text)) (append-nil (unsettled d (chars behind)) ∙ sym left) (clear_tail []))
             ∙ ap (λ o. goes_on d o (chars tail)) k.broken
             ∙ ap (Broken stop) (sym left_chars);
@@ -289,16 +281,17 @@ module _ (d : Dialect) (s : Draft) (rest text : List ℕ) (ur : IsUtf8 rest) (ut
             );
       }
 
-pub reads_goes : {E : Type 0} (d : Dialect) (s t : Draft) (rest text : List ℕ) (r : Result Reading E) → IsUtf8 rest → IsUtf8 text → IsDraft d s rest
-    → text ≡ take (length text) (drop (read_of s) rest)
-    → chars text ≡ settled d (chars (drop (read_of s) rest)) → IfOk r (Reads d s t text) → IfOk r (GoesOn d false t rest)
-reads_goes d s t rest text (Ok reading.Unfinished) ur ut i front same e = (refl, reads_open d s rest text ur ut i front same t e.0 e.1)
-reads_goes d s t rest text (Ok reading.Ended) ur ut i front same e = reads_row d s rest text ur ut i front same t e.0 e.1
-reads_goes d s t rest text (Ok (reading.Broken stop)) ur ut i front same e = inl (reads_broken d s rest text ur ut i front same t stop e.0 e.1)
-reads_goes d s t rest text (Err x) ur ut i front same e = e
+module _ (laws : RecordLaws) where
+  pub reads_goes : {E : Type 0} (d : Dialect) (s t : Draft) (rest text : List ℕ) (r : Result Reading E) → IsUtf8 rest → IsUtf8 text → IsDraft d s rest
+      → text ≡ take (length text) (drop (read_of s) rest)
+      → chars text ≡ settled d (chars (drop (read_of s) rest)) → IfOk r (Reads d s t text) → IfOk r (GoesOn d false t rest)
+  reads_goes d s t rest text (Ok reading.Unfinished) ur ut i front same e = (refl, reads_open laws d s rest text ur ut i front same t e.0 e.1)
+  reads_goes d s t rest text (Ok reading.Ended) ur ut i front same e = reads_row laws d s rest text ur ut i front same t e.0 e.1
+  reads_goes d s t rest text (Ok (reading.Broken stop)) ur ut i front same e = inl (reads_broken laws d s rest text ur ut i front same t stop e.0 e.1)
+  reads_goes d s t rest text (Err x) ur ut i front same e = e
 
 -- the last text, of which all was read
-module _ (d : Dialect) (s : Draft) (rest : List ℕ) (ur : IsUtf8 rest) (i : IsDraft d s rest) where
+module _ (laws : RecordLaws) (d : Dialect) (s : Draft) (rest : List ℕ) (ur : IsUtf8 rest) (i : IsDraft d s rest) where
   abbrev all_behind : List ℕ
   all_behind = drop (read_of s) rest
 
@@ -306,7 +299,7 @@ module _ (d : Dialect) (s : Draft) (rest : List ℕ) (ur : IsUtf8 rest) (i : IsD
   runs_all =
       let read = chars (take (read_of s) rest) in
       ap (run d Start [] []) (split_chars rest (read_of s) (front_text rest (read_of s) ur i.within i.back))
-      ∙ run_join d Start [] [] read (chars all_behind)
+      ∙ laws.passes.run_join d Start [] [] read (chars all_behind)
       (subst (λ (l : List ℕ). Clear d read l) (append-nil (chars all_behind)) (clear_of d read (chars all_behind ++ []) (i.clear [])))
       ∙ ap (λ o. goes_on d o (chars all_behind)) i.runs
 
@@ -341,7 +334,7 @@ module _ (d : Dialect) (s : Draft) (rest : List ℕ) (ur : IsUtf8 rest) (i : IsD
   last_broken t stop len k =
       let gone : drop (read_of t) rest ≡ drop len all_behind = ap (λ n. drop n rest) k.read ∙ sym (drop-drop len (read_of s) rest) in
       let more = some_bytes (drop len all_behind)
-      ((broken_within d (state_of s) (values_of s) (current_of s) (chars all_behind) stop (chars (drop len all_behind)) k.broken).1) in
+      ((laws.passes.broken_within d (state_of s) (values_of s) (current_of s) (chars all_behind) stop (chars (drop len all_behind)) k.broken).1) in
       record {
         within = (let r = k.read in let w = k.within in let l = all_long in omega (arith, r, w, l, more, length-drop len all_behind));
         back = ap is_utf8 gone ∙ k.back;

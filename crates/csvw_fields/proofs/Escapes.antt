@@ -16,7 +16,7 @@ use Rattle.csvw_fields.specs.declared.cut.Symbols.{Symbols}
 use Rattle.csvw_fields.specs.Bounds.{is_bound}
 use Rattle.csvw_fields.specs.Cuts.{IsSymbols, IsBehind, IsCut, Unescapes, IsUnescaped}
 use Rattle.csvw_records.specs.Grammar.{AreUnits}
-use Rattle.csvw_records.proofs.Ascii.{AsciiAt, ascii_at, chars_ascii, fails_at, none_pass}
+use Rattle.csvw_fields.proofs.Ascii.{AsciiAt, ascii_at, chars_ascii, fails_at, none_pass}
 use Rattle.csvw_fields.proofs.BoundLemmas.{apart_is}
 use Rattle.csvw_fields.proofs.CutLemmas.{units_of, byte_low, quoted_is, same_of, not_true}
 

@@ -1,13 +1,15 @@
-pub mod BoundLemmas
+mod Ascii
+mod BoundLemmas
 mod CleanLemmas
-pub mod CutLemmas
+mod CutLemmas
 mod DecodeLemmas
 mod DecodeSteps
-pub mod DraftLemmas
-pub mod DraftRuns
+mod DraftLemmas
+mod DraftRuns
 mod Escapes
 mod MarkLemmas
 mod QuoteLemmas
 mod RowCuts
 mod Starts
+mod Tests
 mod TrimLemmas

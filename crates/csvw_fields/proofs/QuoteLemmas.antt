@@ -11,8 +11,9 @@ use Rattle.csvw_dialect.specs.declared.dialect.Dialect.{Dialect}
 use Rattle.csvw_fields.specs.FieldText.{AreDoubled}
 use Rattle.csvw_fields.proofs.CleanLemmas.{alone}
 use Rattle.csvw_fields.proofs.CutLemmas.{no_term}
-use Rattle.csvw_records.proofs.Ascii.{split_chars}
-use Rattle.csvw_records.proofs.RunSteps.{act_run, ends_at, differs, no_end}
+use Rattle.csvw_fields.proofs.Ascii.{split_chars}
+use Rattle.csvw_fields.proofs.Tests.{differs, no_end}
+use Rattle.csvw_records.specs.PassLaws.{act_run, ends_at}
 use Rattle.csvw_records.specs.Grammar.{terminator_len}
 use Rattle.csvw_records.specs.Scan.{quote_is, step_of, run}
 use Rattle.csvw_records.specs.declared.scan.State.{State}

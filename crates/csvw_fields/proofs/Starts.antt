@@ -4,7 +4,12 @@ use Rattle.std.specs.Prelude.{encode_utf8, encode_utf8_all}
 use Rattle.std.proofs.lemmas.List.{take_more}
 use Rattle.std.proofs.lemmas.Str.{cons_from_encodes, length-le-encodes}
 use Rattle.csvw_records.specs.AtFront.{IsCommon}
-use Rattle.csvw_records.proofs.LineLemmas.{get_any}
+use Rattle.std.proofs.Common.{refl, zero, suc}
+
+get_any : (l : List ℕ) (k a b : ℕ) → k < length l → get_or l k a ≡ get_or l k b
+get_any [] k a b h = absurd (omega arith)
+get_any (x ∷ xs) zero a b h = refl
+get_any (x ∷ xs) (suc k) a b h = get_any xs k a b (omega arith)
 
 get_drop : (t es : List ℕ) (i c : ℕ) → drop i t ≡ c ∷ es → (i < length t) × (get_or t i 0 ≡ c)
 get_drop [] es zero c e = absurd cc

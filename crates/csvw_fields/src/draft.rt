@@ -12,6 +12,7 @@ use crate::quotes::doubled_quotes;
 use crate::rules::Rules;
 use crate::trim::trim_fields;
 use csvw_dialect::{Dialect, Trim};
+use csvw_records::laws::record_laws;
 use csvw_records::{RowStop, State, Step, is_quoted, next_step};
 use std::alloc::{AllocError, Global};
 use std::mem::swap;
@@ -162,6 +163,7 @@ impl Draft {
         ensures read { read_of self.new ≡ read_of self.old }
         ensures keeps { IfOk result (λ left. Keeps rules.now.dialect self.old self.new rest.now left.now) }
     {
+        record_laws();
         let len = rules.leads.clean_len(&rules.dialect, self.state, rest);
         let (text, left) = rest.split_at(len);
         self.texts.extend_from_slice(text.as_bytes())?;
@@ -185,6 +187,7 @@ impl Draft {
         requires { end ≡ read_of self.old + length text.now }
         ensures { IfOk result (Reads rules.now.dialect self.old self.new text.now) }
     {
+        record_laws();
         let mut rest = text;
         loop {
             let left = self.keep_text(rules, rest)?;
@@ -227,6 +230,7 @@ impl Draft {
         requires { IsDraft rules.now.dialect self.old rest.now }
         ensures { IfOk result (GoesOn rules.now.dialect true self.new rest.now) }
     {
+        record_laws();
         let (_, behind) = rest.split_at(self.read);
         match self.read(rules, behind, rest.len())? {
             Reading::Unfinished => {
@@ -246,6 +250,7 @@ impl Draft {
         requires { IsDraft rules.now.dialect self.old rest.now }
         ensures { IfOk result (GoesOn rules.now.dialect false self.new rest.now) }
     {
+        record_laws();
         let (_, behind) = rest.split_at(self.read);
         let text = settled(&rules.dialect, behind);
         let end = rest.len() - (behind.len() - text.len());
@@ -303,6 +308,7 @@ pub fn settled<'a>(d: &Dialect, text: &'a str) -> &'a str
     ensures chars { chars result.now ≡ settled d.now (chars text.now) }
     ensures bytes { result.now ≡ settled d.now text.now }
 {
+    record_laws();
     let len = text.len();
     if d.line_terminators.crlf && 0 < len && text.as_bytes()[len - 1] == b'\r' {
         text.split_at(len - 1).0

@@ -7,6 +7,7 @@ mod cutter;
 mod decode;
 mod draft;
 mod field;
+pub mod laws;
 mod leads;
 mod marks;
 mod quotes;

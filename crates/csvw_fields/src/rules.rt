@@ -14,6 +14,7 @@ use crate::cut::Symbols;
 use crate::decode::chars_of;
 use crate::leads::Leads;
 use csvw_dialect::Dialect;
+use csvw_records::laws::record_laws;
 use csvw_text::Seq;
 use std::alloc::{AllocError, Global};
 
@@ -64,6 +65,7 @@ impl Rules {
     fn begins_comment(&self, rest: &str) -> bool
         ensures { result ≡ begins_with (chars rest.now) (prefix_of self.now.dialect) }
     {
+        record_laws();
         match &self.dialect.comment_prefix {
             Some(prefix) => begins_with(rest.as_bytes(), prefix.as_str().as_bytes()),
             None => false,
@@ -74,6 +76,7 @@ impl Rules {
     pub fn may_be_note(&self, rest: &str) -> bool
         ensures { result ≡ may_be_note self.now.dialect (chars rest.now) }
     {
+        record_laws();
         match &self.dialect.comment_prefix {
             Some(prefix) => prefix.as_str().as_bytes().starts_with(rest.as_bytes()),
             None => false,

@@ -2,36 +2,18 @@
 use Rattle.std.proofs.Common.{◌≡◌, ◌≢◌, ℕ, Bool, true, false, ◌&&◌, ◌==◌, not, if◌then◌else◌, List, [], ◌∷◌, ◌++◌, Some, refl, sym, ap, ◌∙◌, subst}
 use Rattle.std.proofs.Common.{arith, append_assoc, append-nil, inl, inr, IsTrue}
 use Rattle.csvw_dialect.specs.declared.dialect.Dialect.{Dialect}
-use Rattle.csvw_records.specs.declared.stop.RowStop.{RowStop}
 use Rattle.csvw_records.specs.declared.stop.RowStop.TheVariants.{BadQuote, TextAfterQuote}
 use Rattle.csvw_records.specs.declared.scan.State.{State}
 use Rattle.csvw_records.specs.declared.scan.State.TheVariants.{Start, Plain, Inside, Escaped, Closed}
 use Rattle.csvw_records.specs.declared.scan.Step.{Step}
 use Rattle.csvw_records.specs.declared.scan.Step.TheVariants.{Keep, Skip, Open, Next, End, Stop}
-use Rattle.csvw_records.specs.Grammar.{terminator_len, IsPlain, AreSkipped, AreUnits, IsUnit, IsOpened, IsQuoted, IsField}
-use Rattle.csvw_records.specs.Stops.{AfterFields, HasBadQuote, HasTextAfter}
-use Rattle.csvw_records.specs.Scan.{Outcome, Found, Broken, Unfinished, quote_is, step_of, run}
-use Rattle.csvw_records.proofs.RunSteps.{ends_at, act_run}
-use Rattle.csvw_records.proofs.Sound.{start_view, plain_view, inside_view, closed_view, no_ends_is, is_same, not_same, no_quote_is, quote_here}
-use Rattle.csvw_records.proofs.Sound.{no_quote_here, and_both, not_true, keep_unit, escape_unit, double_unit, same_quote}
-
--- what was read of a field
-abbrev pub IsReading : Dialect → State → List ℕ → List ℕ → List ℕ → Type 0
-IsReading d Start src cur text = ((q : ℕ) → d.quote_char ≡ Some q → AreSkipped d q src) × IsPlain d src text × (cur ≡ src)
-IsReading d Plain src cur text = ((q : ℕ) → d.quote_char ≡ Some q → AreSkipped d q src → ⊥) × IsPlain d src text × (cur ≡ src)
-IsReading d Inside src cur text = IsOpened d src cur
-IsReading d Escaped src cur text = (opened : List ℕ) × IsOpened d opened cur × (src ≡ opened ++ 92 ∷ []) × (d.double_quote ≡ false)
-IsReading d Closed src cur text = IsQuoted d src cur
-
-abbrev pub IsRule : Dialect → List ℕ → RowStop → Type 0
-IsRule d text BadQuote = HasBadQuote d text
-IsRule d text TextAfterQuote = HasTextAfter d text
-IsRule d text other = ⊥
-
-abbrev pub Tells : Dialect → List ℕ → Outcome → Type 0
-Tells d text (Found vs after) = Unit {0}
-Tells d text (Broken stop rest) = IsRule d text stop
-Tells d text (Unfinished st vs cur) = (values : List (List ℕ)) × (src : List ℕ) × AfterFields d text values src × IsReading d st src cur []
+use Rattle.csvw_records.specs.Grammar.{terminator_len, IsPlain, AreSkipped, AreUnits, IsUnit, IsOpened, IsField}
+use Rattle.csvw_records.specs.Stops.{AfterFields}
+use Rattle.csvw_records.specs.Scan.{quote_is, step_of, run}
+use Rattle.csvw_records.specs.PassLaws.{ends_at, act_run}
+use Rattle.csvw_records.proofs.Sound.{start_view, plain_view, inside_view, closed_view, no_ends_is, is_same, not_same, no_quote_is, quote_here, no_quote_here}
+use Rattle.csvw_records.proofs.Sound.{and_both, not_true, keep_unit, escape_unit, double_unit, same_quote}
+use Rattle.csvw_records.specs.RowLaws.{IsReading, Tells}
 
 fields_snoc : (d : Dialect) (text : List ℕ) (values : List (List ℕ)) (source more v : List ℕ) → AfterFields d text values (source ++ d.delimiter ∷ more)
     → IsField d source v (d.delimiter ∷ more) → AfterFields d text (values ++ v ∷ []) more

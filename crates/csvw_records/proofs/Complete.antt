@@ -9,7 +9,8 @@ use Rattle.csvw_records.specs.Grammar.{terminator_len, IsPlain, AreSkipped, AreU
 use Rattle.csvw_dialect.specs.Lawful.{IsLawful}
 use Rattle.csvw_records.specs.Files.{EndsRow}
 use Rattle.csvw_records.specs.Scan.{Found, quote_is, pass}
-use Rattle.csvw_records.proofs.RunSteps.{ends_at, run_by, differs, no_quote, no_end, run_plain}
+use Rattle.csvw_records.proofs.RunSteps.{run_by, differs, no_quote, no_end, run_plain}
+use Rattle.csvw_records.specs.PassLaws.{ends_at}
 use Rattle.std.proofs.lemmas.Bool.Decides.{nat_tests}
 
 -- a delimiter or a terminator comes after the field

@@ -17,8 +17,10 @@ use Rattle.csvw_records.specs.Scan.{Outcome, Found, Broken, Unfinished, run, pas
 use Rattle.csvw_records.specs.NextRow.{settled, unsettled, line_of, found_row, next_row, terminator_of, may_be_note, begins_prefix}
 use Rattle.csvw_records.specs.PartOfRow.{Continues}
 use Rattle.csvw_records.proofs.RunSteps.{no_end}
-use Rattle.csvw_records.proofs.Joins.{Clear, line_join, settled_all, settled_clear}
-use Rattle.csvw_records.proofs.Notes.{is_break, BeginsBreak, note_same, note_stays, terminator_breaks}
+use Rattle.csvw_records.proofs.Joins.{line_join, settled_all, settled_clear}
+use Rattle.csvw_records.specs.PassLaws.{Clear}
+use Rattle.csvw_records.proofs.Notes.{note_same, note_stays, terminator_breaks}
+use Rattle.csvw_records.specs.TerminatorLaws.{is_break, BeginsBreak}
 use Rattle.csvw_records.proofs.RowLaws.{row_sound, row_complete, line_sound, line_complete, line_some}
 use Rattle.csvw_records.proofs.Complete.{nothing_ends}
 use Rattle.csvw_records.proofs.Sound.{sound}

@@ -6,12 +6,12 @@ use Rattle.csvw_dialect.specs.declared.dialect.Dialect.{Dialect}
 use Rattle.csvw_dialect.specs.Lawful.{IsLawful}
 use Rattle.csvw_records.specs.Files.{Row, IsRow, AreRows, AreAllRows, EndsOpen, KeepsLimits, Front, content}
 use Rattle.csvw_records.specs.Stops.{Begins}
-use Rattle.csvw_records.specs.Laws.{HaveOneList, FrontsGrow, StopsPart, FirstBegin}
-use Rattle.csvw_records.specs.Laws.{FirstStay}
+use Rattle.csvw_records.specs.Laws.{HaveOneList, FrontsGrow, StopsPart, FirstBegin, FirstStay}
 use Rattle.csvw_records.proofs.RowLaws.{row_unique, rows_prefix}
 use Rattle.csvw_records.proofs.Lookahead.{rows_again}
 use Rattle.csvw_records.proofs.Stands.{no_more, no_row_in_last, begins_front}
 use Rattle.csvw_records.proofs.Utf8.{content_more}
+use Rattle.csvw_records.specs.FrontLaws.{Begun}
 
 -- the longer of two lists has one more
 one_more : (d : Dialect) (text : List ℕ) (xs ys : List Row) (rest later : List ℕ) → IsLawful d → AreRows d 0 text xs rest → AreRows d 0 text ys later
@@ -23,9 +23,6 @@ one_more d text xs ys rest later w r s h = split (rows_prefix d 0 text xs ys res
         → (b : Row) × (bs : List Row) × AreRows d (length xs) rest (b ∷ bs) later
     split ([], e, rows) = absurd (let n : length ys ≡ length (xs ++ []) = ap length e in omega (arith, length-append xs (let k : List Row = [] in k)))
     split (b ∷ bs, e, rows) = (b, bs, subst (λ (n : ℕ). AreRows d n rest (b ∷ bs) later) (let z : 0 + length xs ≡ length xs = omega arith in z) rows)
-
-abbrev pub Begun : List Row → List Row → Type 0
-Begun rows front = (more : List Row) × (front ≡ rows ++ more)
 
 pub by_file : (d : Dialect) (text : List ℕ) (rows front : List Row) (rest : List ℕ) → IsLawful d → AreRows d 0 text rows rest ⊎ EndsOpen d text rows
     → AreAllRows d text front → Begun rows front

@@ -1,5 +1,5 @@
 -- Texts that go on to a file, which have no stop.
-use Rattle.std.proofs.Common.{◌≡◌, ℕ, ◌+◌, ◌<◌, ◌≤◌, Bool, true, false, List, [], ◌++◌, length, take, drop, Option, Some, None, refl, sym, ap, ◌∙◌, subst}
+use Rattle.std.proofs.Common.{◌≡◌, ℕ, ◌<◌, ◌≤◌, Bool, true, false, List, [], ◌++◌, length, take, drop, Option, Some, None, refl, sym, ap, ◌∙◌, subst}
 use Rattle.std.proofs.Common.{arith, append-nil, ◌⊎◌, inl, inr, IsTrue}
 use Rattle.std.specs.Prelude.{is_some, IsSome}
 use Rattle.std.specs.Str.Lossy.{utf8_valid_len, utf8_error_len}
@@ -18,11 +18,12 @@ use Rattle.csvw_records.specs.PartOfRow.{Breaks, Goes}
 use Rattle.csvw_records.specs.Stops.{Begins, StopOf, StopsInText, StopsInBytes, StopsAtEnd}
 use Rattle.csvw_records.proofs.Complete.{nothing_ends}
 use Rattle.csvw_records.proofs.Continue.{fields_next}
-use Rattle.csvw_records.proofs.Joins.{goes_on}
+use Rattle.csvw_records.specs.PassLaws.{goes_on}
 use Rattle.csvw_records.proofs.Lookahead.{rows_again}
 use Rattle.csvw_records.proofs.Notes.{note_never}
 use Rattle.csvw_records.proofs.RowLaws.{row_complete, row_unique}
-use Rattle.csvw_records.proofs.Sees.{sees, run_on, Sees}
+use Rattle.csvw_records.proofs.Sees.{sees, run_on}
+use Rattle.csvw_records.specs.RowLaws.{Sees}
 use Rattle.csvw_records.proofs.Stands.{goes_begins, begins_front}
 use Rattle.csvw_records.proofs.Texts.{byte_len_take}
 

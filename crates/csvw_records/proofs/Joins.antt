@@ -8,20 +8,9 @@ use Rattle.csvw_records.specs.declared.scan.State.TheVariants.{Start, Inside}
 use Rattle.csvw_records.specs.declared.scan.Step.{Step}
 use Rattle.csvw_records.specs.declared.scan.Step.TheVariants.{Keep, Skip, Open, Next, End, Stop}
 use Rattle.csvw_records.specs.Grammar.{terminator_len}
-use Rattle.csvw_records.specs.Scan.{Outcome, Found, Broken, Unfinished, step_of, run}
+use Rattle.csvw_records.specs.Scan.{step_of, run}
 use Rattle.csvw_records.specs.NextRow.{settled, unsettled, line_of}
-use Rattle.csvw_records.proofs.RunSteps.{ends_at, act_run}
-
--- no terminator arises where the texts are joined
-abbrev pub Clear : Dialect → List ℕ → List ℕ → Type 0
-Clear d [] q = Unit {0}
-Clear d (c ∷ cs) q = (terminator_len d (c ∷ cs ++ q) ≡ terminator_len d (c ∷ cs)) × Clear d cs q
-
--- how a pass goes on
-abbrev pub goes_on : Dialect → Outcome → List ℕ → Outcome
-goes_on d (Found vs after) q = Found vs (after ++ q)
-goes_on d (Broken stop rest) q = Broken stop (rest ++ q)
-goes_on d (Unfinished st vs cur) q = run d st vs cur q
+use Rattle.csvw_records.specs.PassLaws.{ends_at, act_run, Clear, goes_on}
 
 join_step : (d : Dialect) (vs : List (List ℕ)) (cur : List ℕ) (c : ℕ) (cs q : List ℕ) (s : Step)
     → ((st : State) (vs : List (List ℕ)) (cur : List ℕ) → run d st vs cur (cs ++ q) ≡ goes_on d (run d st vs cur cs) q)

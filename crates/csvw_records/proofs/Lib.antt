@@ -1,22 +1,20 @@
-pub mod Ascii
-pub mod Bodies
-pub mod Broken
-pub mod ByteLens
-pub mod Complete
-pub mod Continue
-pub mod FrontLaws
-pub mod GoingOn
+mod Broken
+mod Complete
+mod Continue
+mod FrontLaws
+mod GoingOn
 mod GoodTexts
-pub mod Joins
-pub mod LineLemmas
-pub mod Lookahead
-pub mod Notes
-pub mod Prefixes
-pub mod RowLaws
-pub mod RunSteps
-pub mod Sees
-pub mod Shown
+mod Joins
+mod Lookahead
+mod Notes
+mod Prefixes
+mod RowLaws
+mod RunSteps
+mod Sees
+mod SettledLemmas
+mod Shown
 mod Sound
-pub mod Stands
-pub mod Texts
-pub mod Utf8
+mod Stands
+mod Terminators
+mod Texts
+mod Utf8

@@ -7,6 +7,7 @@ use Rattle.csvw_dialect.specs.declared.dialect.Dialect.{Dialect}
 use Rattle.csvw_records.specs.Grammar.{terminator_len, IsPlain, IsField, AreFields, RowText}
 use Rattle.csvw_records.specs.Files.{Row, IsRow, AreRows, HasNoTerminator, is_note}
 use Rattle.csvw_records.proofs.Complete.{nothing_ends}
+use Rattle.csvw_records.specs.RowLaws.{Again}
 
 plain_again : (d : Dialect) (source : List ℕ) (x : ℕ) (r q : List ℕ) → IsPlain d source (x ∷ r) → IsPlain d source (x ∷ q)
 plain_again d [] x r q p = tt
@@ -125,12 +126,6 @@ term_stays d after more h =
 
 is_some : (n x : ℕ) (l : List ℕ) → n ≡ length (x ∷ l) → 0 < n
 is_some n x l e = omega arith
-
--- rows before other text
-pub record Again (d : Dialect) (i : ℕ) (text : List ℕ) (rows : List Row) (rest : List ℕ) : Type 0 where
-  pub front : List ℕ
-  pub spelled : text ≡ front ++ rest
-  pub again : (more : List ℕ) → AreRows d i (front ++ more) rows more
 
 pub rows_again : (d : Dialect) (i : ℕ) (text : List ℕ) (rows : List Row) (rest : List ℕ) → AreRows d i text rows rest → Again d i text rows rest
 rows_again d i text [] rest e = record { front = []; spelled = e; again = λ more. refl }

@@ -9,15 +9,7 @@ use Rattle.csvw_records.specs.Files.{EndsRow, begins_with, is_note}
 use Rattle.csvw_dialect.specs.Lawful.{prefix_of}
 use Rattle.csvw_dialect.specs.Lawful.{IsLawful, has_break, prefix_breaks}
 use Rattle.csvw_records.specs.NextRow.{begins_prefix, may_be_note}
-
--- CR or LF
-abbrev pub is_break : ℕ → Bool
-is_break c = (c == 13) || (c == 10)
-
--- a text that is empty or begins with a line break
-abbrev pub BeginsBreak : List ℕ → Type 0
-BeginsBreak [] = Unit {0}
-BeginsBreak (c ∷ cs) = is_break c ≡ true
+use Rattle.csvw_records.specs.TerminatorLaws.{is_break, BeginsBreak}
 
 heads : (crlf lf a x y b z w : Bool) → a ≡ z → b ≡ w → 0 < (if crlf && (a && x) then 2 else (if lf && (b && y) then 1 else 0)) → (z || w) ≡ true
 heads crlf lf a x y b z w e f h = grind (arith, nat_tests)

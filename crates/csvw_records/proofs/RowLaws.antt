@@ -10,9 +10,11 @@ use Rattle.csvw_records.specs.Files.{Row, IsRow, AreRows, EndsRow, HasNoTerminat
 use Rattle.csvw_records.specs.NextRow.{line_of, found_row, next_row}
 use Rattle.std.proofs.lemmas.List.{append_cancel_right}
 use Rattle.csvw_records.proofs.Notes.{note_same, ends_break}
-use Rattle.csvw_records.proofs.RunSteps.{ends_at, no_end}
+use Rattle.csvw_records.proofs.RunSteps.{no_end}
+use Rattle.csvw_records.specs.PassLaws.{ends_at}
 use Rattle.csvw_records.proofs.Complete.{run_fields, has_end, nothing_ends}
 use Rattle.csvw_records.proofs.Sound.{sound, start_is_fields, ends_is, no_ends_is}
+use Rattle.csvw_records.specs.RowLaws.{ReadsRow, SameRow}
 
 -- a skipped row or a comment
 pub line_complete : (f : Bool) (d : Dialect) (text after : List ℕ) → HasNoTerminator d text after → EndsRow f d after → line_of f d (text ++ after) ≡ Some after
@@ -65,11 +67,6 @@ row_complete f d i row after w r h =
     ap (λ (b : Bool). if b then option_map (λ l. (None, l)) (line_of f d (row.text ++ after)) else found_row d (pass f d Start [] [] (row.text ++ after))) same
     ∙ by_kind f d i row after (is_note d i row.text) same w r h
 
--- a text begins with one row
-pub record SameRow (a b : Row) (after later : List ℕ) : Type 0 where
-  pub row : a ≡ b
-  pub rest : after ≡ later
-
 pub row_unique : (f : Bool) (d : Dialect) (i : ℕ) (a b : Row) (after later : List ℕ) → IsLawful d → a.text ++ after ≡ b.text ++ later
     → IsRow d i a after → EndsRow f d after → IsRow d i b later → EndsRow f d later → SameRow a b after later
 row_unique f d i a b after later w e r h s k =
@@ -93,13 +90,6 @@ rows_prefix d i text (a ∷ xs) (b ∷ ys) rest later w (after, e, row, ends, ro
     (subst (λ (x : List ℕ). AreRows d (i + 1) (drop (terminator_len d x) x) ys later) (sym same.rest) rows') shorter in
     let place : i + 1 + length xs ≡ i + length (a ∷ xs) = omega arith in
     (deeper.0, ap (λ x. x ∷ ys) (sym same.row) ∙ ap (λ x. a ∷ x) deeper.1, subst (λ (n : ℕ). AreRows d n rest deeper.0 later) place deeper.2)
-
--- what is found is a row that is there
-pub record ReadsRow (f : Bool) (d : Dialect) (i : ℕ) (text : List ℕ) (fields : Option (List (List ℕ))) (after : List ℕ) : Type 0 where
-  pub row : List ℕ
-  pub spelled : text ≡ row ++ after
-  pub is_row : IsRow d i (record { text = row; fields = fields }) after
-  pub ends : EndsRow f d after
 
 pub found_sound : (f : Bool) (d : Dialect) (text : List ℕ) (o : Outcome) (fields : Option (List (List ℕ))) (after : List ℕ)
     → pass f d Start [] [] text ≡ o → found_row d o ≡ Some (fields, after)

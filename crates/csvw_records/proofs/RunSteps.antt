@@ -1,7 +1,8 @@
 -- One step of the pass, by what the step is.
 use Rattle.std.proofs.Common.{◌≡◌, ◌≢◌, ℕ, Bool, false, ◌==◌, if◌then◌else◌, List, [], ◌∷◌, ◌++◌, nat_lt, Option, Some, None, refl, sym, ap, ◌∙◌}
-use Rattle.std.proofs.Common.{arith, append_assoc, append-nil}
+use Rattle.std.proofs.Common.{arith, append_assoc, append-nil, length, ◌<◌, ◌≤◌}
 use Rattle.csvw_dialect.specs.declared.dialect.Dialect.{Dialect}
+use Rattle.csvw_records.specs.declared.stop.RowStop.{RowStop}
 use Rattle.csvw_records.specs.declared.stop.RowStop.TheVariants.{BadQuote}
 use Rattle.csvw_records.specs.declared.scan.State.{State}
 use Rattle.csvw_records.specs.declared.scan.State.TheVariants.{Start, Plain, Inside}
@@ -10,10 +11,7 @@ use Rattle.csvw_records.specs.declared.scan.Step.TheVariants.{Keep, Skip, Open, 
 use Rattle.csvw_records.specs.Grammar.{terminator_len, IsPlain}
 use Rattle.csvw_records.specs.Scan.{Outcome, Found, Broken, quote_is, step_of, run, pass, finish}
 use Rattle.std.proofs.lemmas.Bool.Decides.{nat_tests}
-
--- whether a terminator stands at the front
-abbrev pub ends_at : Dialect → List ℕ → Bool
-ends_at d text = nat_lt 0 (terminator_len d text)
+use Rattle.csvw_records.specs.PassLaws.{ends_at, act_run}
 
 -- what the pass does after a step
 abbrev pub act : Bool → Dialect → List (List ℕ) → List ℕ → ℕ → List ℕ → Step → Outcome
@@ -23,14 +21,6 @@ act f d vs cur c cs Open = pass f d Inside vs [] cs
 act f d vs cur c cs Next = pass f d Start (vs ++ cur ∷ []) [] cs
 act f d vs cur c cs End = Found (vs ++ cur ∷ []) (c ∷ cs)
 act f d vs cur c cs (Stop stop) = Broken stop (c ∷ cs)
-
-abbrev pub act_run : Dialect → List (List ℕ) → List ℕ → ℕ → List ℕ → Step → Outcome
-act_run d vs cur c cs (Keep next) = run d next vs (cur ++ c ∷ []) cs
-act_run d vs cur c cs (Skip next) = run d next vs cur cs
-act_run d vs cur c cs Open = run d Inside vs [] cs
-act_run d vs cur c cs Next = run d Start (vs ++ cur ∷ []) [] cs
-act_run d vs cur c cs End = Found (vs ++ cur ∷ []) (c ∷ cs)
-act_run d vs cur c cs (Stop stop) = Broken stop (c ∷ cs)
 
 act_finish : (f : Bool) (d : Dialect) (vs : List (List ℕ)) (cur : List ℕ) (c : ℕ) (cs : List ℕ) (s : Step)
     → finish (act_run d vs cur c cs s) f ≡ act f d vs cur c cs s
@@ -69,3 +59,27 @@ run_plain f d vs cur (c ∷ cs) after p =
     (plain_is _ _ _ (no_end d (c ∷ cs ++ after) p.2) (differs c d.delimiter p.0) (no_quote d.quote_char c p.1))
     ∙ run_plain f d vs (cur ++ c ∷ []) cs after p.3
     ∙ ap (λ l. pass f d Plain vs l after) (append_assoc cur (c ∷ []) cs)
+
+-- a broken rule leaves some of the text
+act_broken : (d : Dialect) (vs : List (List ℕ)) (cur : List ℕ) (c : ℕ) (cs : List ℕ) (s : Step) (stop : RowStop) (rest : List ℕ)
+    → ((st : State) (vs : List (List ℕ)) (cur : List ℕ) → run d st vs cur cs ≡ Broken stop rest → (length rest ≤ length cs) × (0 < length rest))
+    → act_run d vs cur c cs s ≡ Broken stop rest → (length rest ≤ length (c ∷ cs)) × (0 < length rest)
+act_broken d vs cur c cs (Keep next) stop rest ih e = let r = ih next vs (cur ++ c ∷ []) e in
+    ((let k = r.0 in let h : length rest ≤ length (c ∷ cs) = omega (arith, k) in h), r.1)
+act_broken d vs cur c cs (Skip next) stop rest ih e = let r = ih next vs cur e in
+    ((let k = r.0 in let h : length rest ≤ length (c ∷ cs) = omega (arith, k) in h), r.1)
+act_broken d vs cur c cs Open stop rest ih e = let r = ih Inside vs [] e in
+    ((let k = r.0 in let h : length rest ≤ length (c ∷ cs) = omega (arith, k) in h), r.1)
+act_broken d vs cur c cs Next stop rest ih e = let r = ih Start (vs ++ cur ∷ []) [] e in
+    ((let k = r.0 in let h : length rest ≤ length (c ∷ cs) = omega (arith, k) in h), r.1)
+act_broken d vs cur c cs End stop rest ih e = absurd cc
+act_broken d vs cur c cs (Stop s) stop rest ih e =
+    let same : c ∷ cs ≡ rest = cc in
+    let n = ap length same in
+    ((let h : length rest ≤ length (c ∷ cs) = omega (arith, n) in h), (let h : 0 < length rest = omega (arith, n) in h))
+
+pub broken_within : (d : Dialect) (st : State) (vs : List (List ℕ)) (cur text : List ℕ) (stop : RowStop) (rest : List ℕ)
+    → run d st vs cur text ≡ Broken stop rest → (length rest ≤ length text) × (0 < length rest)
+broken_within d st vs cur [] stop rest e = absurd cc
+broken_within d st vs cur (c ∷ cs) stop rest e =
+    act_broken d vs cur c cs (step_of d st c (ends_at d (c ∷ cs))) stop rest (λ st vs cur. broken_within d st vs cur cs stop rest) e

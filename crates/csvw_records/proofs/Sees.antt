@@ -1,8 +1,7 @@
 -- Each part of a text goes on to a row, or breaks a rule, or has a row in it.
 use Rattle.std.proofs.Common.{◌≡◌, ℕ, ◌<◌, ◌≤◌, Bool, true, false, ◌&&◌, ◌==◌, not, if◌then◌else◌, List, [], ◌∷◌, ◌++◌, map, length, Option, Some}
-use Rattle.std.proofs.Common.{None, option_map, refl, sym, ap, ◌∙◌, subst, arith, append_assoc, append-nil, ◌⊎◌, inl, inr, unwrap_or}
+use Rattle.std.proofs.Common.{None, option_map, refl, sym, ap, ◌∙◌, subst, arith, append_assoc, append-nil, inl, inr, unwrap_or}
 use Rattle.csvw_dialect.specs.declared.dialect.Dialect.{Dialect}
-use Rattle.csvw_records.specs.declared.stop.RowStop.{RowStop}
 use Rattle.csvw_records.specs.declared.scan.State.{State}
 use Rattle.csvw_records.specs.declared.scan.State.TheVariants.{Start, Plain, Inside, Escaped, Closed}
 use Rattle.csvw_records.specs.declared.scan.Step.TheVariants.{Keep, Skip}
@@ -11,16 +10,17 @@ use Rattle.csvw_dialect.specs.Lawful.{IsLawful}
 use Rattle.csvw_records.specs.Files.{Row, IsRow, EndsRow, is_note}
 use Rattle.csvw_records.specs.Scan.{Outcome, Found, Broken, Unfinished, quote_is, is_quoted, step_of, run, finish}
 use Rattle.csvw_records.specs.NextRow.{settled, unsettled, line_of, found_row, next_row, terminator_of, may_be_note}
-use Rattle.csvw_records.specs.PartOfRow.{Continues, Breaks, HasRow}
-use Rattle.csvw_records.proofs.RunSteps.{ends_at, act_run, differs}
-use Rattle.csvw_records.proofs.Joins.{goes_on, run_join, line_joins, settled_all, settled_clear}
+use Rattle.csvw_records.specs.PartOfRow.{Continues, HasRow}
+use Rattle.csvw_records.proofs.RunSteps.{differs}
+use Rattle.csvw_records.specs.PassLaws.{ends_at, act_run, goes_on}
+use Rattle.csvw_records.proofs.Joins.{run_join, line_joins, settled_all, settled_clear}
 use Rattle.csvw_records.proofs.Notes.{note_never}
 use Rattle.csvw_records.proofs.RowLaws.{row_sound}
 use Rattle.csvw_records.proofs.Complete.{start_after, closed_after, plain_found, same_test}
-use Rattle.csvw_records.proofs.Broken.{run_tells, Tells}
-use Rattle.csvw_records.proofs.Continue.{term_some, unsettled_is, closing, found_within, not_in_unsettled, row_reaches, regroup, settled_len}
-use Rattle.csvw_records.proofs.Continue.{settled_fits, found_is_row, other_found, fields_next, note_next, take_front, take_long, clear_all}
-use Rattle.csvw_records.proofs.Continue.{continues_note, continues_maybe}
+use Rattle.csvw_records.proofs.Broken.{run_tells}
+use Rattle.csvw_records.specs.RowLaws.{Tells, Sees}
+use Rattle.csvw_records.proofs.Continue.{term_some, unsettled_is, closing, found_within, not_in_unsettled, row_reaches, regroup, settled_len, settled_fits}
+use Rattle.csvw_records.proofs.Continue.{found_is_row, other_found, fields_next, note_next, take_front, take_long, clear_all, continues_note, continues_maybe}
 
 -- outside quotes the terminator ends the row
 ends_unquoted : (d : Dialect) (st : State) (vs : List (List ℕ)) (cur : List ℕ) → IsLawful d → is_quoted st ≡ false
@@ -209,10 +209,6 @@ continues_quoted d i part st vs cur w n m e t = record {
         let f = sym (ap (λ o. found_row d (finish o false)) (passes rest)) ∙ sym (fields_next false d i (part ++ rest) (note_never d i part rest n m))
         ∙ other_found d i part rest after other w e' r h in
         row_reaches part rest other.text after e' (reaches d on.to vs on.kept rest after other.fields f)
-
--- what a part is
-abbrev pub Sees : Dialect → ℕ → List ℕ → Type 0
-Sees d i part = HasRow d i part ⊎ (((len : ℕ) × Continues d i part len) ⊎ ((stop : RowStop) × Breaks d i part stop))
 
 has_end : (d : Dialect) (after : List ℕ) → EndsRow false d after → 0 < terminator_len d after
 has_end d after (inl h) = h

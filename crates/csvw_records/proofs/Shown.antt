@@ -17,12 +17,15 @@ use Rattle.csvw_records.specs.NextRow.{settled, unsettled, found_row, next_row, 
 use Rattle.csvw_records.specs.PartOfRow.{Breaks}
 use Rattle.csvw_records.specs.Stops.{AfterFields, IsBroken, IsLeftOpen}
 use Rattle.csvw_records.specs.AtFront.{IsCommon, IsPrefixLen, IsCr, IsShown, IsWrong}
-use Rattle.csvw_records.proofs.Joins.{goes_on, settled_all}
+use Rattle.csvw_records.proofs.Joins.{settled_all}
+use Rattle.csvw_records.specs.PassLaws.{goes_on}
 use Rattle.csvw_records.proofs.Notes.{note_stays}
-use Rattle.csvw_records.proofs.Broken.{run_tells, Tells, IsRule}
+use Rattle.csvw_records.proofs.Broken.{run_tells}
+use Rattle.csvw_records.specs.RowLaws.{Tells, IsRule}
 use Rattle.csvw_records.proofs.Continue.{unsettled_is, settled_len, fields_next, starts_split}
 use Rattle.csvw_records.proofs.Sees.{run_on}
-use Rattle.csvw_records.proofs.LineLemmas.{settled_last, broken_within}
+use Rattle.csvw_records.proofs.SettledLemmas.{settled_last}
+use Rattle.csvw_records.proofs.RunSteps.{broken_within}
 
 take_len : (n : ℕ) (l : List ℕ) → n ≤ length l → length (take n l) ≡ n
 take_len n l h = grind (arith, common_steps)

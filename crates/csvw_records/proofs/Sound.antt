@@ -10,7 +10,8 @@ use Rattle.csvw_records.specs.declared.scan.Step.TheVariants.{Keep, Skip, Open, 
 use Rattle.csvw_records.specs.Grammar.{terminator_len, IsPlain, AreSkipped, AreUnits, IsUnit, IsOpened, IsField, AreFields}
 use Rattle.csvw_records.specs.Files.{EndsRow}
 use Rattle.csvw_records.specs.Scan.{Found, Broken, quote_is, pass}
-use Rattle.csvw_records.proofs.RunSteps.{ends_at, run_by}
+use Rattle.csvw_records.proofs.RunSteps.{run_by}
+use Rattle.csvw_records.specs.PassLaws.{ends_at}
 use Rattle.std.proofs.lemmas.Bool.Decides.{nat_tests}
 
 -- inside quotes: what is left of the field, its closing quote included

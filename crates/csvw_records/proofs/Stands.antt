@@ -16,7 +16,7 @@ use Rattle.csvw_records.specs.PartOfRow.{Goes, Ends, NoRow, NoLast, FirstEnd}
 use Rattle.csvw_records.specs.Stops.{AreRowsWithin, Begins, StopsAt}
 use Rattle.csvw_records.proofs.RowLaws.{row_unique, rows_prefix}
 use Rattle.csvw_records.proofs.Continue.{term_some, term_len}
-use Rattle.csvw_records.proofs.Lookahead.{Again}
+use Rattle.csvw_records.specs.RowLaws.{Again}
 use Rattle.csvw_records.proofs.Texts.{IsShort, within_of, within_less, within_are, within_behind}
 use Rattle.csvw_records.proofs.Complete.{nothing_ends}
 

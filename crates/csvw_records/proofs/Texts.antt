@@ -17,7 +17,7 @@ use Rattle.csvw_records.specs.Scan.{finish}
 use Rattle.csvw_records.specs.NextRow.{unsettled, terminator_of, found_row}
 use Rattle.csvw_records.specs.PartOfRow.{Continues, Breaks, HasRow, Goes, Ends, NoRow, FirstEnd}
 use Rattle.csvw_records.specs.Stops.{AreRowsWithin}
-use Rattle.csvw_records.proofs.Joins.{goes_on}
+use Rattle.csvw_records.specs.PassLaws.{goes_on}
 use Rattle.csvw_records.proofs.Notes.{note_never}
 use Rattle.csvw_records.proofs.RowLaws.{row_unique}
 use Rattle.csvw_records.proofs.Continue.{term_some, other_found, fields_next}

@@ -1,16 +1,15 @@
 -- The text of bytes that go on.
 use Rattle.std.proofs.Common.{◌≡◌, ℕ, zero, suc, ◌+◌, ◌-◌, ◌<◌, ◌≤◌, Bool, true, false, not, ◌==◌, if◌then◌else◌, List, [], ◌∷◌, ◌++◌, length, take}
-use Rattle.std.proofs.Common.{drop, refl, sym, ap, ◌∙◌, subst, arith, append_assoc, length-append, length-drop, inl, inr, chars}
+use Rattle.std.proofs.Common.{drop, refl, sym, ap, ◌∙◌, subst, arith, append_assoc, length-append, inl, inr, chars}
 use Rattle.std.specs.Prelude.{IsUtf8}
 use Rattle.std.specs.Str.{is_utf8}
 use Rattle.std.specs.Str.Lossy.{valid_len_up_to, utf8_valid_len}
 use Rattle.std.proofs.lemmas.Grind.{common_steps}
 use Rattle.std.proofs.lemmas.Bool.{cases_lt}
-use Rattle.std.proofs.lemmas.Bool.Decides.{nat_tests}
 use Rattle.std.proofs.lemmas.List.{take-append-drop}
 use Rattle.std.proofs.lemmas.Str.{IsUtf8-from_is_utf8, is_utf8-from_IsUtf8, IsUtf8-nil, IsUtf8-append, IsUtf8-drop, IsCharBoundary-from_take}
-use Rattle.std.proofs.lemmas.Str.{utf8_valid_len_le, chars-append, chars-nil}
-use Rattle.csvw_records.specs.Files.{text_of, content, without_mark, is_text, is_empty}
+use Rattle.std.proofs.lemmas.Str.{utf8_valid_len_le, chars-append}
+use Rattle.csvw_records.specs.Files.{text_of, content, without_mark, is_empty}
 use Rattle.csvw_records.proofs.Lookahead.{behind_front}
 
 up_to_valid : (bs : List ℕ) (n : ℕ) → IsUtf8 (take (valid_len_up_to bs n) bs)
@@ -124,36 +123,6 @@ by_begun (x ∷ xs) c = by_test (x == 65279)
     by_test : (b : Bool) → (if b then xs ++ c else x ∷ xs ++ c) ≡ (if b then xs else x ∷ xs) ++ c
     by_test true = refl
     by_test false = refl
-
-take_none : (n : ℕ) → take n (let e : List ℕ = [] in e) ≡ []
-take_none zero = refl
-take_none (suc n) = refl
-
-pub text_none : text_of (let e : List ℕ = [] in e) ≡ []
-text_none = ap chars (take_none (utf8_valid_len [])) ∙ chars-nil
-
--- whether the bytes are a text
-pub is_text_of : (bytes : List ℕ) → drop (utf8_valid_len bytes) bytes ≡ [] → is_text bytes ≡ true
-is_text_of bytes e =
-    let k = utf8_valid_len_le bytes in
-    let same : utf8_valid_len bytes ≡ length bytes = omega (arith, k, ap length e, length-drop (utf8_valid_len bytes) bytes) in
-    grind (arith, nat_tests)
-
-pub no_text_of : (bytes : List ℕ) → (drop (utf8_valid_len bytes) bytes ≡ [] → ⊥) → is_text bytes ≡ false
-no_text_of bytes n = by_test (is_text bytes) refl
-  where
-    by_test : (b : Bool) → is_text bytes ≡ b → b ≡ false
-    by_test false e = refl
-    by_test true e = let same : utf8_valid_len bytes ≡ length bytes = grind (arith, nat_tests) in absurd (n (ap (λ n. drop n bytes) same ∙ all bytes))
-      where
-        all : (l : List ℕ) → drop (length l) l ≡ []
-        all l = grind (arith, common_steps)
-
-pub text_ends : (bytes : List ℕ) → is_text bytes ≡ true → drop (utf8_valid_len bytes) bytes ≡ []
-text_ends bytes e = let same : utf8_valid_len bytes ≡ length bytes = grind (arith, nat_tests) in ap (λ n. drop n bytes) same ∙ all bytes
-  where
-    all : (l : List ℕ) → drop (length l) l ≡ []
-    all l = grind (arith, common_steps)
 
 -- the content of bytes that go on
 pub content_more : (bytes piece : List ℕ) → (more : List ℕ) × (content (bytes ++ piece) ≡ content bytes ++ more)

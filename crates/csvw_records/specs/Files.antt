@@ -1,6 +1,6 @@
 -- The rows of a text, and which of them a reader gives (RFC 4180, section 2; Model for Tabular Data, section 8).
 use Rattle.std.specs.Prelude.{◌≡◌, ◌≢◌, ◌⊎◌, ℕ, ◌+◌, ◌-◌, ◌<◌, ◌≤◌, Bool, true, false, ◌&&◌, ◌||◌, ◌==◌, nat_eq, nat_lt, if◌then◌else◌, IsTrue, List}
-use Rattle.std.specs.Prelude.{[], ◌∷◌, ◌++◌, map, length, take, drop, filter_map, Option, Some, None, option_map, MatchBool, encode_utf8_all, chars}
+use Rattle.std.specs.Prelude.{[], ◌∷◌, ◌++◌, map, length, take, drop, filter_map, Option, Some, None, MatchBool, encode_utf8_all, chars}
 use Rattle.std.specs.List.{starts_with, enumerate_from, list_all, All}
 use Rattle.std.specs.Str.Lossy.{utf8_valid_len}
 use Rattle.csvw_dialect.specs.declared.dialect.Dialect.{Dialect}

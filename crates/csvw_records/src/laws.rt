@@ -1,5 +1,6 @@
 //! Laws that bind the definitions of rows, files and stops. The calls do nothing.
 ghost use Rattle.csvw_records.specs.Laws.{HaveOneList, FrontsGrow, StopsPart, FirstBegin, FirstStay, FilesHaveNoStop};
+ghost use Rattle.csvw_records.specs.RecordLaws.{RecordsAreLawful};
 
 /// Bytes are a file of at most one list of rows.
 pub fn have_one_list()
@@ -30,4 +31,9 @@ pub fn first_stay()
 /// Bytes that go on to a file, or are one, have no stop.
 pub fn files_have_no_stop()
     ensures { FilesHaveNoStop }
+{}
+
+/// The laws of texts, terminators, passes and rows by which a reader of rows is proved.
+pub fn record_laws()
+    ensures { RecordsAreLawful }
 {}

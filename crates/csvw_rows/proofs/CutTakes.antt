@@ -19,12 +19,10 @@ use Rattle.csvw_records.specs.Lengths.{byte_len, row_limit}
 use Rattle.csvw_rows.specs.NextRows.{TakesRow, is_last}
 use Rattle.csvw_rows.specs.RowsState.{HasFields, after_of}
 use Rattle.csvw_rows.specs.SourceState.{text_items, taken_of, rest_of}
-use Rattle.csvw_records.proofs.Notes.{note_same, ends_break}
-use Rattle.csvw_records.proofs.Ascii.{term_chars, term_text}
-use Rattle.csvw_records.proofs.Lookahead.{term_within}
-use Rattle.csvw_records.proofs.Utf8.{drop_past}
+use Rattle.csvw_rows.proofs.TextLemmas.{drop_past}
+use Rattle.csvw_records.specs.RecordLaws.{RecordLaws}
 
-module _ (d : Dialect) (text : List ℕ) (start at : ℕ) (spare : List ℕ) (bounds : List Bound) (ut : is_utf8 (drop start text) ≡ true)
+module _ (laws : RecordLaws) (d : Dialect) (text : List ℕ) (start at : ℕ) (spare : List ℕ) (bounds : List Bound) (ut : is_utf8 (drop start text) ≡ true)
     (k : IsCutRow d text start at spare bounds) where
   row_bytes : byte_len k.row ≡ at - start
   row_bytes =
@@ -40,13 +38,14 @@ module _ (d : Dialect) (text : List ℕ) (start at : ℕ) (spare : List ℕ) (bo
       → TakesRow whole d max i (chars (drop start text)) (length k.row + terminator_len d (drop at text)) (Some (map (trimmed d.trim) k.values))
   cut_takes whole max i w few note short =
       let after = chars (drop at text) in
-      let t = term_chars d (drop at text) k.ends in
+      let t = laws.terminators.term_chars d (drop at text) k.ends in
       let e = k.ends in
       let same = t.same in
       let ends : 0 < terminator_len d after = omega (arith, e, same) in
-      let long = term_within d after ends in
+      let long = laws.terminators.term_within d after ends in
       let s = k.spelled in
-      let mine : is_note d i k.row ≡ false = sym (note_same d i k.row after w (ends_break false d after (inl ends))) ∙ ap (is_note d i) (sym s) ∙ note in
+      let mine : is_note d i k.row ≡ false = sym (laws.terminators.note_same d i k.row after w (laws.terminators.ends_break false d after (inl ends)))
+      ∙ ap (is_note d i) (sym s) ∙ note in
       record {
         some = omega (arith, e);
         within = omega (arith, long, same, ap length s, length-append k.row after);
@@ -75,13 +74,14 @@ module _ (d : Dialect) (text : List ℕ) (start at : ℕ) (spare : List ℕ) (bo
   pub cut_text : is_utf8 (drop ((at - start) + terminator_len d (drop at text)) (drop start text)) ≡ true
   cut_text =
       let rest = drop at text in
-      ap is_utf8 cut_rest ∙ is_utf8-from_IsUtf8 (drop (terminator_len d rest) rest) (term_text d rest k.ends (IsUtf8-from_is_utf8 rest k.rest_text))
+      ap is_utf8 cut_rest ∙ is_utf8-from_IsUtf8 (drop (terminator_len d rest) rest)
+      (laws.terminators.term_text d rest k.ends (IsUtf8-from_is_utf8 rest k.rest_text))
 
   pub cut_same : chars (drop ((at - start) + terminator_len d (drop at text)) (drop start text))
       ≡ drop (length k.row + terminator_len d (drop at text)) (chars (drop start text))
   cut_same =
       let after = chars (drop at text) in
-      let t = term_chars d (drop at text) k.ends in
+      let t = laws.terminators.term_chars d (drop at text) k.ends in
       ap chars cut_rest ∙ t.behind
       ∙ sym (ap (drop (length k.row + terminator_len d (drop at text))) k.spelled ∙ drop_past k.row after (terminator_len d (drop at text)))
 
@@ -97,25 +97,26 @@ no_note d i rest h e = neither (nat_lt i d.skip_rows) (begins_with (chars rest) 
     neither : (a b : Bool) → a ≡ false → b ≡ false → (a || b) ≡ false
     neither a b f g = rw (f, g) refl
 
--- the fields of the row at the front of a reader's text were cut
-pub cut_has : (t : Rows) (at n : ℕ) → t.rules.dialect.trim ≡ No → t.row < t.max_rows → is_note t.rules.dialect t.row (rest_of t.source) ≡ false
-    → IsCutRow t.rules.dialect (text_items t.source) (taken_of t.source) at t.spare.items t.fields.items
-    → IsRowLen t.rules.dialect (text_items t.source) (taken_of t.source) at n → HasFields t n
-cut_has t at n trim few note k l =
-    let d = t.rules.dialect in
-    let text = text_items t.source in
-    let start = taken_of t.source in
-    let ut = t.source.is_text in
-    record {
-      values = k.values;
-      row = record {
-        len = length k.row + terminator_len d (drop at text);
-        front = record {
-          within = (let h = cut_within d text start at t.spare.items t.fields.items ut k l.within in let v = l.value in omega (arith, h, v));
-          is_text = ap (λ m. is_utf8 (drop m (drop start text))) l.value ∙ cut_text d text start at t.spare.items t.fields.items ut k;
-          same = ap (λ m. chars (drop m (drop start text))) l.value ∙ cut_same d text start at t.spare.items t.fields.items ut k;
+module _ (laws : RecordLaws) where
+  -- the fields of the row at the front of a reader's text were cut
+  pub cut_has : (t : Rows) (at n : ℕ) → t.rules.dialect.trim ≡ No → t.row < t.max_rows → is_note t.rules.dialect t.row (rest_of t.source) ≡ false
+      → IsCutRow t.rules.dialect (text_items t.source) (taken_of t.source) at t.spare.items t.fields.items
+      → IsRowLen t.rules.dialect (text_items t.source) (taken_of t.source) at n → HasFields t n
+  cut_has t at n trim few note k l =
+      let d = t.rules.dialect in
+      let text = text_items t.source in
+      let start = taken_of t.source in
+      let ut = t.source.is_text in
+      record {
+        values = k.values;
+        row = record {
+          len = length k.row + terminator_len d (drop at text);
+          front = record {
+            within = (let h = cut_within laws d text start at t.spare.items t.fields.items ut k l.within in let v = l.value in omega (arith, h, v));
+            is_text = ap (λ m. is_utf8 (drop m (drop start text))) l.value ∙ cut_text laws d text start at t.spare.items t.fields.items ut k;
+            same = ap (λ m. chars (drop m (drop start text))) l.value ∙ cut_same laws d text start at t.spare.items t.fields.items ut k;
+          };
+          takes = cut_takes laws d text start at t.spare.items t.fields.items ut k (is_last (after_of t)) t.max_rows t.row t.rules.lawful few note l.short;
         };
-        takes = cut_takes d text start at t.spare.items t.fields.items ut k (is_last (after_of t)) t.max_rows t.row t.rules.lawful few note l.short;
-      };
-      texts = k.texts ∙ sym (ap (λ x. map (λ v. encode_utf8_all (trimmed x v)) k.values) trim);
-    }
+        texts = k.texts ∙ sym (ap (λ x. map (λ v. encode_utf8_all (trimmed x v)) k.values) trim);
+      }

@@ -21,37 +21,38 @@ use Rattle.csvw_rows.specs.Notes.{NoneBegins}
 use Rattle.csvw_rows.specs.RowsState.{HasRow, HasFields, IsReadable, IsReadRow, IsNoteNext, IsNoteRead, HasNoEnd, after_of}
 use Rattle.csvw_records.specs.Scan.{pass}
 use Rattle.csvw_rows.specs.SourceState.{rest_bytes, rest_of}
-use Rattle.csvw_records.proofs.Ascii.{split_chars, term_chars, term_text}
-use Rattle.csvw_records.proofs.Continue.{fields_next, take_front}
-use Rattle.csvw_fields.proofs.DraftLemmas.{front_text, term_same, text_gone}
-use Rattle.csvw_records.proofs.Lookahead.{term_within}
+use Rattle.csvw_rows.proofs.TextLemmas.{split_chars}
+use Rattle.csvw_rows.proofs.TextLemmas.{take_front}
+use Rattle.csvw_rows.proofs.TextLemmas.{front_text, text_gone}
 use Rattle.csvw_rows.proofs.NextLemmas.{found_takes, found_stops, seen_of}
 use Rattle.csvw_rows.proofs.NoteLemmas.{ends_text, line_here, line_last, none_before}
+use Rattle.csvw_records.specs.RecordLaws.{RecordLaws}
 
--- behind a terminator, or behind none
-behind_text : (d : Dialect) (r : List ℕ) → is_utf8 r ≡ true → is_utf8 (drop (terminator_len d r) r) ≡ true
-behind_text d r u = by_end (cases_lt 0 (terminator_len d r))
-  where
-    by_end : (0 < terminator_len d r) ⊎ (terminator_len d r ≤ 0) → is_utf8 (drop (terminator_len d r) r) ≡ true
-    by_end (inl h) = is_utf8-from_IsUtf8 (drop (terminator_len d r) r) (term_text d r h (IsUtf8-from_is_utf8 r u))
-    by_end (inr z) = ap (λ n. is_utf8 (drop n r)) (let e : terminator_len d r ≡ 0 = omega (arith, z) in e) ∙ u
+module _ (laws : RecordLaws) where
+  -- behind a terminator, or behind none
+  behind_text : (d : Dialect) (r : List ℕ) → is_utf8 r ≡ true → is_utf8 (drop (terminator_len d r) r) ≡ true
+  behind_text d r u = by_end (cases_lt 0 (terminator_len d r))
+    where
+      by_end : (0 < terminator_len d r) ⊎ (terminator_len d r ≤ 0) → is_utf8 (drop (terminator_len d r) r) ≡ true
+      by_end (inl h) = is_utf8-from_IsUtf8 (drop (terminator_len d r) r) (laws.terminators.term_text d r h (IsUtf8-from_is_utf8 r u))
+      by_end (inr z) = ap (λ n. is_utf8 (drop n r)) (let e : terminator_len d r ≡ 0 = omega (arith, z) in e) ∙ u
 
-behind_chars : (d : Dialect) (r : List ℕ) → chars (drop (terminator_len d r) r) ≡ drop (terminator_len d r) (chars r)
-behind_chars d r = by_end (cases_lt 0 (terminator_len d r))
-  where
-    by_end : (0 < terminator_len d r) ⊎ (terminator_len d r ≤ 0) → chars (drop (terminator_len d r) r) ≡ drop (terminator_len d r) (chars r)
-    by_end (inl h) = (term_chars d r h).behind
-    by_end (inr z) = let e : terminator_len d r ≡ 0 = omega (arith, z) in ap (λ n. chars (drop n r)) e ∙ sym (ap (λ n. drop n (chars r)) e)
+  behind_chars : (d : Dialect) (r : List ℕ) → chars (drop (terminator_len d r) r) ≡ drop (terminator_len d r) (chars r)
+  behind_chars d r = by_end (cases_lt 0 (terminator_len d r))
+    where
+      by_end : (0 < terminator_len d r) ⊎ (terminator_len d r ≤ 0) → chars (drop (terminator_len d r) r) ≡ drop (terminator_len d r) (chars r)
+      by_end (inl h) = (laws.terminators.term_chars d r h).behind
+      by_end (inr z) = let e : terminator_len d r ≡ 0 = omega (arith, z) in ap (λ n. chars (drop n r)) e ∙ sym (ap (λ n. drop n (chars r)) e)
 
-term_inside : (d : Dialect) (after : List ℕ) → terminator_len d after ≤ length after
-term_inside d after = by_end (cases_lt 0 (terminator_len d after))
-  where
-    by_end : (0 < terminator_len d after) ⊎ (terminator_len d after ≤ 0) → terminator_len d after ≤ length after
-    by_end (inl h) = term_within d after h
-    by_end (inr z) = omega (arith, z)
+  term_inside : (d : Dialect) (after : List ℕ) → terminator_len d after ≤ length after
+  term_inside d after = by_end (cases_lt 0 (terminator_len d after))
+    where
+      by_end : (0 < terminator_len d after) ⊎ (terminator_len d after ≤ 0) → terminator_len d after ≤ length after
+      by_end (inl h) = laws.terminators.term_within d after h
+      by_end (inr z) = omega (arith, z)
 
 -- a row at the front of a reader's text, which ends behind so many bytes
-module _ (t : Rows) (len : ℕ) (fields : Option (List (List ℕ))) (few : t.row < t.max_rows) (some : rest_of t.source ≢ [])
+module _ (laws : RecordLaws) (t : Rows) (len : ℕ) (fields : Option (List (List ℕ))) (few : t.row < t.max_rows) (some : rest_of t.source ≢ [])
     (within : len ≤ length (rest_bytes t.source)) (back : is_utf8 (drop len (rest_bytes t.source)) ≡ true)
     (next_is : next_row (is_last (after_of t)) t.rules.dialect t.row (rest_of t.source) ≡ Some (fields, chars (drop len (rest_bytes t.source)))) where
   abbrev d : Dialect
@@ -98,47 +99,48 @@ module _ (t : Rows) (len : ℕ) (fields : Option (List (List ℕ))) (few : t.row
   found = record { within = omega (arith, ap length spelled, length-append front after); found = next_is ∙ ap (λ l. Some (fields, l)) (sym dropped) }
 
   same : terminator_len d after ≡ term
-  same = term_same d (drop len rest) (IsUtf8-from_is_utf8 (drop len rest) back)
+  same = laws.terminators.term_same d (drop len rest) (IsUtf8-from_is_utf8 (drop len rest) back)
 
   row_has : (n : ℕ) → len ≤ row_limit → n ≡ len + term → term ≤ length (drop len rest) → HasRow t n fields
   row_has n short value inside = record {
     len = length (take count text) + term;
     front = record {
       within = omega (arith, inside, value, within, length-drop len rest);
-      is_text = ap is_utf8 behind ∙ behind_text d (drop len rest) back;
-      same = ap chars behind ∙ behind_chars d (drop len rest)
+      is_text = ap is_utf8 behind ∙ behind_text laws d (drop len rest) back;
+      same = ap chars behind ∙ behind_chars laws d (drop len rest)
           ∙ sym (ap (λ k. drop (k + term) text) (ap length taken) ∙ sym (drop-drop term count text) ∙ ap (drop term) dropped);
     };
-    takes = found_takes (is_last (after_of t)) d t.max_rows t.row text after count term fields t.rules.lawful few some found
-        (omega (arith, short, bytes)) (sym dropped) (sym same) (let k = term_inside d after in omega (arith, k, same));
+    takes = found_takes laws (is_last (after_of t)) d t.max_rows t.row text after count term fields t.rules.lawful few some found
+        (omega (arith, short, bytes)) (sym dropped) (sym same) (let k = term_inside laws d after in omega (arith, k, same));
   }
     where
       behind : drop n rest ≡ drop term (drop len rest)
       behind = ap (λ m. drop m rest) value ∙ sym (drop-drop term len rest)
 
   row_stops : row_limit < len → StopsHere (is_last (after_of t)) d t.max_rows t.row text RowTooLong
-  row_stops long = found_stops (is_last (after_of t)) d t.max_rows t.row text count t.rules.lawful few some (omega (arith, long, bytes)) fields
-      (seen_of (is_last (after_of t)) d t.row text count fields t.rules.lawful found) found
+  row_stops long = found_stops laws (is_last (after_of t)) d t.max_rows t.row text count t.rules.lawful few some (omega (arith, long, bytes)) fields
+      (seen_of laws (is_last (after_of t)) d t.row text count fields t.rules.lawful found) found
 
--- the row that was read
-read_next : (t : Rows) (len : ℕ) → IsReadable t → (r : IsReadRow t len)
-    → next_row (is_last (after_of t)) t.rules.dialect t.row (rest_of t.source)
-    ≡ Some (Some (map (trimmed t.rules.dialect.trim) r.values), chars (drop len (rest_bytes t.source)))
-read_next t len k r = fields_next (is_last (after_of t)) t.rules.dialect t.row (rest_of t.source) k.note ∙ ap (found_row t.rules.dialect) r.found
+module _ (laws : RecordLaws) where
+  -- the row that was read
+  read_next : (t : Rows) (len : ℕ) → IsReadable t → (r : IsReadRow t len)
+      → next_row (is_last (after_of t)) t.rules.dialect t.row (rest_of t.source)
+      ≡ Some (Some (map (trimmed t.rules.dialect.trim) r.values), chars (drop len (rest_bytes t.source)))
+  read_next t len k r = laws.passes.fields_next (is_last (after_of t)) t.rules.dialect t.row (rest_of t.source) k.note ∙ ap (found_row t.rules.dialect) r.found
 
-pub read_has : (t : Rows) (len n : ℕ) → IsReadable t → IsReadRow t len → len ≤ row_limit
-    → n ≡ len + terminator_len t.rules.dialect (drop len (rest_bytes t.source))
-    → terminator_len t.rules.dialect (drop len (rest_bytes t.source)) ≤ length (drop len (rest_bytes t.source)) → HasFields t n
-read_has t len n k r short value inside =
-    record {
-      values = r.values;
-      row = row_has t len (Some (map (trimmed t.rules.dialect.trim) r.values)) k.few k.some r.within r.back (read_next t len k r) n short value inside;
-      texts = r.texts;
-    }
+  pub read_has : (t : Rows) (len n : ℕ) → IsReadable t → IsReadRow t len → len ≤ row_limit
+      → n ≡ len + terminator_len t.rules.dialect (drop len (rest_bytes t.source))
+      → terminator_len t.rules.dialect (drop len (rest_bytes t.source)) ≤ length (drop len (rest_bytes t.source)) → HasFields t n
+  read_has t len n k r short value inside =
+      record {
+        values = r.values;
+        row = row_has laws t len (Some (map (trimmed t.rules.dialect.trim) r.values)) k.few k.some r.within r.back (read_next t len k r) n short value inside;
+        texts = r.texts;
+      }
 
-pub read_stops : (t : Rows) (len : ℕ) → IsReadable t → IsReadRow t len → row_limit < len
-    → StopsHere (is_last (after_of t)) t.rules.dialect t.max_rows t.row (rest_of t.source) RowTooLong
-read_stops t len k r long = row_stops t len (Some (map (trimmed t.rules.dialect.trim) r.values)) k.few k.some r.within r.back (read_next t len k r) long
+  pub read_stops : (t : Rows) (len : ℕ) → IsReadable t → IsReadRow t len → row_limit < len
+      → StopsHere (is_last (after_of t)) t.rules.dialect t.max_rows t.row (rest_of t.source) RowTooLong
+  read_stops t len k r long = row_stops laws t len (Some (map (trimmed t.rules.dialect.trim) r.values)) k.few k.some r.within r.back (read_next t len k r) long
 
 -- and so is one without fields
 note_finds : (f : Bool) (d : Dialect) (i : ℕ) (text : List ℕ) → is_note d i text ≡ true
@@ -149,41 +151,43 @@ note_next_is : (t : Rows) (len : ℕ) → IsNoteNext t → IsNoteRead t len
     → next_row (is_last (after_of t)) t.rules.dialect t.row (rest_of t.source) ≡ Some (None, chars (drop len (rest_bytes t.source)))
 note_next_is t len k r = note_finds (is_last (after_of t)) t.rules.dialect t.row (rest_of t.source) k.note ∙ ap (option_map (λ l. (None, l))) r.line
 
-pub note_has : (t : Rows) (len n : ℕ) → IsNoteNext t → IsNoteRead t len → len ≤ row_limit
-    → n ≡ len + terminator_len t.rules.dialect (drop len (rest_bytes t.source))
-    → terminator_len t.rules.dialect (drop len (rest_bytes t.source)) ≤ length (drop len (rest_bytes t.source)) → HasRow t n None
-note_has t len n k r short value inside = row_has t len None k.few k.some r.within r.back (note_next_is t len k r) n short value inside
+module _ (laws : RecordLaws) where
+  pub note_has : (t : Rows) (len n : ℕ) → IsNoteNext t → IsNoteRead t len → len ≤ row_limit
+      → n ≡ len + terminator_len t.rules.dialect (drop len (rest_bytes t.source))
+      → terminator_len t.rules.dialect (drop len (rest_bytes t.source)) ≤ length (drop len (rest_bytes t.source)) → HasRow t n None
+  note_has t len n k r short value inside = row_has laws t len None k.few k.some r.within r.back (note_next_is t len k r) n short value inside
 
-pub note_stops : (t : Rows) (len : ℕ) → IsNoteNext t → IsNoteRead t len → row_limit < len
-    → StopsHere (is_last (after_of t)) t.rules.dialect t.max_rows t.row (rest_of t.source) RowTooLong
-note_stops t len k r long = row_stops t len None k.few k.some r.within r.back (note_next_is t len k r) long
+  pub note_stops : (t : Rows) (len : ℕ) → IsNoteNext t → IsNoteRead t len → row_limit < len
+      → StopsHere (is_last (after_of t)) t.rules.dialect t.max_rows t.row (rest_of t.source) RowTooLong
+  note_stops t len k r long = row_stops laws t len None k.few k.some r.within r.back (note_next_is t len k r) long
 
--- the line at the front ends there
-pub line_ends : (t : Rows) (at : ℕ) → (t.note ≤ at) × (at < length (rest_bytes t.source))
-    × (0 < terminator_len t.rules.dialect (drop at (rest_bytes t.source))) × NoneBegins t.rules.dialect (rest_bytes t.source) t.note at → IsNoteRead t at
-line_ends t at (_, within, ends, none) =
-    let d = t.rules.dialect in
-    let rest = rest_bytes t.source in
-    let u = IsUtf8-from_is_utf8 rest t.source.is_text in
-    let back = ends_text d rest at u within ends in
-    record {
-      within = omega (arith, within);
-      back = back;
-      line = line_here (is_last (after_of t)) d rest at u (omega (arith, within)) back (none_before d rest t.note at t.noted none)
-          (omega (arith, ends, term_same d (drop at rest) (IsUtf8-from_is_utf8 (drop at rest) back)));
-    }
+  -- the line at the front ends there
+  pub line_ends : (t : Rows) (at : ℕ) → (t.note ≤ at) × (at < length (rest_bytes t.source))
+      × (0 < terminator_len t.rules.dialect (drop at (rest_bytes t.source))) × NoneBegins t.rules.dialect (rest_bytes t.source) t.note at → IsNoteRead t at
+  line_ends t at (_, within, ends, none) =
+      let d = t.rules.dialect in
+      let rest = rest_bytes t.source in
+      let u = IsUtf8-from_is_utf8 rest t.source.is_text in
+      let back = ends_text laws d rest at u within ends in
+      record {
+        within = omega (arith, within);
+        back = back;
+        line = line_here laws (is_last (after_of t)) d rest at u (omega (arith, within)) back (none_before d rest t.note at t.noted none)
+            (omega (arith, ends, laws.terminators.term_same d (drop at rest) (IsUtf8-from_is_utf8 (drop at rest) back)));
+      }
 
 pub none_ends : (t : Rows) → NoneBegins t.rules.dialect (rest_bytes t.source) t.note (length (rest_bytes t.source)) → HasNoEnd t
 none_ends t none = none_before t.rules.dialect (rest_bytes t.source) t.note (length (rest_bytes t.source)) t.noted none
 
--- or with the last text
-pub last_ends : (t : Rows) (len : ℕ) → len ≡ length (rest_bytes t.source) → is_last (after_of t) ≡ true → HasNoEnd t → IsNoteRead t len
-last_ends t len e last none =
-    let d = t.rules.dialect in
-    let rest = rest_bytes t.source in
-    let u = IsUtf8-from_is_utf8 rest t.source.is_text in
-    record {
-      within = omega (arith, e);
-      back = text_gone rest len e;
-      line = ap (λ f. line_of f d (rest_of t.source)) last ∙ line_last d rest u none ∙ ap (λ n. Some (chars (drop n rest))) (sym e);
-    }
+module _ (laws : RecordLaws) where
+  -- or with the last text
+  pub last_ends : (t : Rows) (len : ℕ) → len ≡ length (rest_bytes t.source) → is_last (after_of t) ≡ true → HasNoEnd t → IsNoteRead t len
+  last_ends t len e last none =
+      let d = t.rules.dialect in
+      let rest = rest_bytes t.source in
+      let u = IsUtf8-from_is_utf8 rest t.source.is_text in
+      record {
+        within = omega (arith, e);
+        back = text_gone rest len e;
+        line = ap (λ f. line_of f d (rest_of t.source)) last ∙ line_last laws d rest u none ∙ ap (λ n. Some (chars (drop n rest))) (sym e);
+      }

@@ -1,12 +1,15 @@
-pub mod CutTakes
-pub mod DraftRows
-pub mod GivenLaws
-pub mod NextLemmas
-pub mod NoteLemmas
-pub mod OpenFronts
-pub mod Readings
-pub mod RowSteps
-pub mod ShownBytes
-pub mod SourceSteps
-pub mod Sources
-pub mod States
+mod Bodies
+mod ByteLens
+mod CutTakes
+mod DraftRows
+mod GivenLaws
+mod NextLemmas
+mod NoteLemmas
+mod OpenFronts
+mod Readings
+mod RowSteps
+mod ShownBytes
+mod SourceSteps
+mod Sources
+mod States
+mod TextLemmas

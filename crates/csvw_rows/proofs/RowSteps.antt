@@ -8,6 +8,7 @@ use Rattle.csvw_rows.specs.NextRows.{Waits, StopGives}
 use Rattle.csvw_rows.proofs.States.{is_done, is_reading, is_stopped}
 use Rattle.csvw_rows.specs.SourceState.{rest_of, Decodes}
 use Rattle.csvw_rows.specs.RowsState.{HasRead, Stays, Turns, Refills, after_of, unread, Passes}
+use Rattle.csvw_records.specs.RecordLaws.{RecordLaws}
 
 pub refills_stay : (s t : Rows) → Refills s t → Stays s t
 refills_stay s t r d max bytes ended given h = record {
@@ -62,11 +63,12 @@ refills_again s t u r q = record {
   remained = q.remained ∙ r.remained;
 }
 
--- no row is complete where it was
-pub waits_turns : (s t : Rows) → Refills s t → Waits (after_of t) t.rules.dialect t.max_rows t.row (rest_of t.source) → Turns s t (Ok turn.Waits)
-waits_turns s t r g = turns_from s t t (Ok turn.Waits) r (refl, (λ d max bytes ended given h. h), is_done t g, is_reading t g)
+module _ (laws : RecordLaws) where
+  -- no row is complete where it was
+  pub waits_turns : (s t : Rows) → Refills s t → Waits (after_of t) t.rules.dialect t.max_rows t.row (rest_of t.source) → Turns s t (Ok turn.Waits)
+  waits_turns s t r g = turns_from s t t (Ok turn.Waits) r (refl, (λ d max bytes ended given h. h), is_done laws t g, is_reading laws t g)
 
--- a stop stands where it was
-pub stop_turns : (s t : Rows) (stop : RowStop) → Refills s t → StopGives (after_of t) t.rules.dialect t.max_rows t.row (rest_of t.source) stop
-    → Turns s t (Err stop)
-stop_turns s t stop r g = turns_from s t t (Err stop) r (refl, is_stopped t stop g)
+  -- a stop stands where it was
+  pub stop_turns : (s t : Rows) (stop : RowStop) → Refills s t → StopGives (after_of t) t.rules.dialect t.max_rows t.row (rest_of t.source) stop
+      → Turns s t (Err stop)
+  stop_turns s t stop r g = turns_from s t t (Err stop) r (refl, is_stopped laws t stop g)

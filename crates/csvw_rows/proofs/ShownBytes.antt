@@ -12,8 +12,8 @@ use Rattle.csvw_dialect.specs.declared.dialect.Dialect.{Dialect}
 use Rattle.csvw_dialect.specs.Lawful.{prefix_of}
 use Rattle.csvw_records.specs.Lengths.{byte_len}
 use Rattle.csvw_records.specs.AtFront.{IsPrefixLen, IsCr, IsShownAt, IsShown, IsShownLen}
-use Rattle.csvw_records.proofs.Ascii.{split_chars}
-use Rattle.csvw_fields.proofs.DraftLemmas.{front_text, no_chars}
+use Rattle.csvw_rows.proofs.TextLemmas.{split_chars}
+use Rattle.csvw_rows.proofs.TextLemmas.{front_text, no_chars}
 
 get_at : (a b : List ℕ) → get_or (a ++ b) (length a) 0 ≡ get_or b 0 0
 get_at [] b = refl

@@ -1,16 +1,22 @@
 //! Laws of what a reader gave. The calls do nothing.
 ghost use Rattle.csvw_rows.specs.Laws.{GivenBegin, GivenBeginLater, GivenFirst, GivenFirstLater, NothingGiven};
 
+use csvw_records::laws::record_laws;
+
 /// The rows that a reader gave begin the rows of its front.
 pub fn given_begin()
     ensures { GivenBegin }
-{}
+{
+    record_laws();
+}
 
 /// The rows that a reader gave of bytes that haven't ended begin the rows of the front of all that they
 /// go on to.
 pub fn given_begin_later()
     ensures { GivenBeginLater }
-{}
+{
+    record_laws();
+}
 
 /// What a reader gave are the header rows and data rows of rows that come first in its text.
 pub fn given_first()
@@ -20,9 +26,13 @@ pub fn given_first()
 /// What a reader gave of bytes that haven't ended comes first in all that they go on to.
 pub fn given_first_later()
     ensures { GivenFirstLater }
-{}
+{
+    record_laws();
+}
 
 /// Of nothing read nothing was given.
 pub fn nothing_given()
     ensures { NothingGiven }
-{}
+{
+    record_laws();
+}

@@ -15,7 +15,9 @@ use crate::note::line_end;
 use crate::raw_row::RawRow;
 use crate::source::Source;
 use csvw_dialect::Dialect;
+use csvw_fields::laws::field_laws;
 use csvw_fields::{Bound, Cutter, Draft, Marks, Reading, Rules, all_empty, settled, terminator_at};
+use csvw_records::laws::record_laws;
 use csvw_records::{ROW_LIMIT, RowStop, is_quoted};
 use std::alloc::{AllocError, Global};
 
@@ -74,6 +76,7 @@ impl Rows {
         ensures ended { IfOk result (λ r. is_ended_of r ≡ false) }
         ensures holds { IfOk result (λ r. Holds r dialect max_rows [] false []) }
     {
+        field_laws();
         Ok(Rows {
             rules: Rules::new(alloc, dialect)?,
             max_rows,
@@ -111,6 +114,8 @@ impl Rows {
         ensures feeds { Feeds self.old self.new piece.now result }
         ensures keeps { KeepsStop self.old self.new result }
     {
+        record_laws();
+        field_laws();
         if let Some(stop) = self.stop {
             return Err(stop);
         }
@@ -218,6 +223,7 @@ impl Rows {
         ensures refills { Refills self.old self.new }
         ensures row { IfOk result (λ o. IfSome o (HasFields self.new)) }
     {
+        record_laws();
         let Some(cutter) = Cutter::of(&self.rules, self.source.items()) else {
             return Ok(None);
         };
@@ -241,6 +247,7 @@ impl Rows {
         ensures turns { Turns self.old self.new result }
         ensures stop { stop_of self.new ≡ stop_of self.old }
     {
+        record_laws();
         if let Some(len) = self.cut()? {
             return Ok(self.pass_fields(len));
         }
@@ -260,6 +267,7 @@ impl Rows {
         ensures refills { Refills self.old self.new }
         ensures known { IfOk result (IsKnown self.new) }
     {
+        record_laws();
         if self.source.rest().is_empty() {
             return Ok(self.waits());
         }
@@ -306,6 +314,7 @@ impl Rows {
         ensures refills { Refills self.old self.new }
         ensures known { IsKnown self.new result }
     {
+        record_laws();
         match self.note_end() {
             Some(len) => self.ended_note(len),
             None => {
@@ -319,6 +328,7 @@ impl Rows {
     fn note_end(&self) -> Option<usize>
         ensures { EndsNote self.now result }
     {
+        record_laws();
         let rest = self.source.rest();
         match line_end(&self.rules.dialect, rest.as_bytes(), self.note) {
             Some(len) => Some(len),
@@ -340,6 +350,7 @@ impl Rows {
         requires read { IsNoteRead self.now len }
         ensures { IsKnown self.now result }
     {
+        record_laws();
         if len > ROW_LIMIT {
             return Known::Stop(RowStop::RowTooLong);
         }
@@ -353,6 +364,7 @@ impl Rows {
         requires { IsOpenFront self.now len }
         ensures { IsKnown self.now result }
     {
+        record_laws();
         if len > ROW_LIMIT {
             return Known::Stop(RowStop::RowTooLong);
         }
@@ -365,6 +377,8 @@ impl Rows {
         ensures refills { Refills self.old self.new }
         ensures known { IfOk result (IsKnown self.new) }
     {
+        record_laws();
+        field_laws();
         let is_last = self.is_last();
         match self.draft.go_on(&self.rules, self.source.rest(), is_last) {
             Ok(Reading::Unfinished) => Ok(self.open_front(self.sure_len())),
@@ -394,6 +408,7 @@ impl Rows {
         requires wrong { IsWrongRow self.now len stop }
         ensures { IsKnown self.now result }
     {
+        record_laws();
         if len > ROW_LIMIT {
             return Known::Stop(RowStop::RowTooLong);
         }
@@ -418,6 +433,7 @@ impl Rows {
         requires read { IsReadRow self.now len }
         ensures { IsKnown self.now result }
     {
+        record_laws();
         if len > ROW_LIMIT {
             return Known::Stop(RowStop::RowTooLong);
         }
@@ -435,6 +451,7 @@ impl Rows {
         ensures fields { fields_of self.new ≡ fields_of self.old }
         ensures bounds { self.new.fields ≡ self.old.fields }
     {
+        field_laws();
         self.source.take(len);
         self.draft.clear();
         self.note = 0;
@@ -447,6 +464,8 @@ impl Rows {
         ensures turns { Turns self.old self.new (Ok result) }
         ensures stop { stop_of self.new ≡ stop_of self.old }
     {
+        record_laws();
+        field_laws();
         self.pass(len);
         if self.rules.dialect.skip_blank_rows && all_empty(self.fields.as_slice()) {
             return Turn::Passed;

@@ -5,6 +5,7 @@ ghost use Rattle.std.specs.Str.{is_utf8};
 ghost use Rattle.csvw_records.specs.Files.{without_mark};
 
 use csvw_fields::valid_front;
+use csvw_records::laws::record_laws;
 use std::alloc::{AllocError, Global};
 
 const BYTE_ORDER_MARK: char = '\u{FEFF}';
@@ -65,6 +66,7 @@ impl Source {
         ensures pushes { (piece : List ℕ) → bytes.now ≡ pending_of self.old ++ piece → OnOk result (Pushes self.old self.new piece) }
         ensures grows { OnOk result (Grows self.old self.new) }
     {
+        record_laws();
         let (text, is_bad) = valid_front(bytes);
         let pending = tail(self.alloc, bytes, text.len())?;
         self.add(text)?;

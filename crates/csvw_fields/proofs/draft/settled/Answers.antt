@@ -1,7 +1,7 @@
 use Rattle.std.proofs.Common.{◌≡◌, ◌∙◌, ◌-◌, List, ℕ, length, chars, arith, sym, ap, subst}
+use Rattle.csvw_records.specs.RecordLaws.{laws_of}
 use Rattle.std.specs.Prelude.{slice_index}
 use Rattle.csvw_fields.proofs.DraftLemmas.{settled_cut, settled_none}
-use Rattle.csvw_records.proofs.LineLemmas.{settled_last, settled_same}
 use Rattle.csvw_fields.proofs.draft.settled.Goals as goal
 use Rattle.csvw_fields.proofs.draft.settled.Goals.{else-d-via-then-d+then-len-gt0+else-as_bytes-len-eq13, else-d-via-then-d+else-len-gt0, else-d-via-else-d}
 
@@ -14,7 +14,7 @@ returns-then-as_bytes-len-eq13-clause-chars c =
 pub returns-else-d-clause-chars : goal.returns-else-d-clause-chars
 returns-else-d-clause-chars c =
     let text : List ℕ = c.args.text.now in
-    settled_none c.args.d.now text c.utf8.text (λ crlf some cr. elim c.else-d.branch [
+    settled_none (laws_of c.record_laws.ensures) c.args.d.now text c.utf8.text (λ crlf some cr. elim c.else-d.branch [
       | else-d-via-then-d+then-len-gt0+else-as_bytes-len-eq13 w ↦ w.if-as_bytes-len-eq13.false
           (subst (λ (l : List ℕ). slice_index l (length text - 1) ≡ 13) (sym w.as_bytes.ensures.value) cr)
       | else-d-via-then-d+else-len-gt0 w ↦ (let h = w.if-len-gt0.false in absurd (omega (arith, h, some)))
@@ -24,13 +24,13 @@ returns-else-d-clause-chars c =
 pub returns-then-as_bytes-len-eq13-clause-bytes : goal.returns-then-as_bytes-len-eq13-clause-bytes
 returns-then-as_bytes-len-eq13-clause-bytes c =
     let text : List ℕ = c.args.text.now in
-    c.split_at.ensures.front ∙ settled_last c.args.d.now text c.if-d.true c.if-len-gt0.true
+    c.split_at.ensures.front ∙ (laws_of c.record_laws.ensures).passes.settled_last c.args.d.now text c.if-d.true c.if-len-gt0.true
     (subst (λ (l : List ℕ). slice_index l (length text - 1) ≡ 13) c.as_bytes.ensures.value c.if-as_bytes-len-eq13.true)
 
 pub returns-else-d-clause-bytes : goal.returns-else-d-clause-bytes
 returns-else-d-clause-bytes c =
     let text : List ℕ = c.args.text.now in
-    settled_same c.args.d.now text (λ crlf some cr. elim c.else-d.branch [
+    (laws_of c.record_laws.ensures).passes.settled_same c.args.d.now text (λ crlf some cr. elim c.else-d.branch [
       | else-d-via-then-d+then-len-gt0+else-as_bytes-len-eq13 w ↦ w.if-as_bytes-len-eq13.false
           (subst (λ (l : List ℕ). slice_index l (length text - 1) ≡ 13) (sym w.as_bytes.ensures.value) cr)
       | else-d-via-then-d+else-len-gt0 w ↦ (let h = w.if-len-gt0.false in absurd (omega (arith, h, some)))

@@ -1,5 +1,5 @@
 use Rattle.std.proofs.Common.{not, if◌then◌else◌, Bool, true, sym, ap, ◌∙◌, ◌==◌, length, chars}
-use Rattle.csvw_records.proofs.Ascii.{text_empty}
+use Rattle.csvw_rows.proofs.TextLemmas.{text_empty}
 use Rattle.csvw_rows.proofs.source.has_begun.Goals as goal
 
 pub returns-else-begun : goal.returns-else-begun

@@ -1,4 +1,5 @@
 use Rattle.std.proofs.Common.{◌∙◌, List, ℕ, drop, sym, subst, inl, inr}
+use Rattle.csvw_records.specs.RecordLaws.{laws_of}
 use Rattle.std.proofs.lemmas.Str.{IsUtf8-from_is_utf8, IsCharBoundary-from_drop}
 use Rattle.csvw_fields.specs.declared.draft.Reading.TheVariants as reading
 use Rattle.csvw_fields.specs.Drafts.{Reads, read_of}
@@ -19,7 +20,7 @@ returns-in_ok-close_field-in-Unfinished c =
     let u = c.close_field.new.self in
     let k : Reads d s t c.split_at.result.1.now reading.Unfinished = rw c.in-Unfinished.is at c.in_ok-read.ensures in
     let r : Reads d s t (drop (read_of s) rest) reading.Unfinished = subst (λ (l : List ℕ). Reads d s t l reading.Unfinished) c.split_at.ensures.back k in
-    last_open d s rest c.utf8.rest c.requires t u r.0 r.1
+    last_open (laws_of c.record_laws.ensures) d s rest c.utf8.rest c.requires t u r.0 r.1
     (sym c.is_quoted.ensures ∙ c.if-is_quoted.false) c.close_field.ensures.read c.in_ok-close_field-in-Unfinished.ensures.values
 
 pub returns-in-Ended : goal.returns-in-Ended
@@ -30,7 +31,7 @@ returns-in-Ended c =
     let t = c.read.new.self in
     let k : Reads d s t c.split_at.result.1.now reading.Ended = rw c.in-Ended.is at c.in_ok-read.ensures in
     let r : Reads d s t (drop (read_of s) rest) reading.Ended = subst (λ (l : List ℕ). Reads d s t l reading.Ended) c.split_at.ensures.back k in
-    last_ended d s rest c.utf8.rest c.requires t r.0 r.1
+    last_ended (laws_of c.record_laws.ensures) d s rest c.utf8.rest c.requires t r.0 r.1
 
 pub returns-then-is_quoted : goal.returns-then-is_quoted
 returns-then-is_quoted c =
@@ -40,7 +41,7 @@ returns-then-is_quoted c =
     let t = c.read.new.self in
     let k : Reads d s t c.split_at.result.1.now reading.Unfinished = rw c.in-Unfinished.is at c.in_ok-read.ensures in
     let r : Reads d s t (drop (read_of s) rest) reading.Unfinished = subst (λ (l : List ℕ). Reads d s t l reading.Unfinished) c.split_at.ensures.back k in
-    inr (last_left d s rest c.utf8.rest c.requires t r.0 r.1 (sym c.is_quoted.ensures ∙ c.if-is_quoted.true))
+    inr (last_left (laws_of c.record_laws.ensures) d s rest c.utf8.rest c.requires t r.0 r.1 (sym c.is_quoted.ensures ∙ c.if-is_quoted.true))
 
 pub returns-in-Broken : goal.returns-in-Broken
 returns-in-Broken c =
@@ -51,4 +52,4 @@ returns-in-Broken c =
     let stop = c.in-Broken.stop in
     let k : Reads d s t c.split_at.result.1.now (reading.Broken stop) = rw c.in-Broken.is at c.in_ok-read.ensures in
     let r : Reads d s t (drop (read_of s) rest) (reading.Broken stop) = subst (λ (l : List ℕ). Reads d s t l (reading.Broken stop)) c.split_at.ensures.back k in
-    inl (last_broken d s rest c.utf8.rest c.requires t stop r.0 r.1)
+    inl (last_broken (laws_of c.record_laws.ensures) d s rest c.utf8.rest c.requires t stop r.0 r.1)

@@ -1,10 +1,11 @@
 use Rattle.std.proofs.Common.{rules, ◌≡◌, ◌∙◌, ◌-◌, List, ℕ, ◌++◌, length, take, drop, map, chars, arith, sym, ap, Ok}
+use Rattle.csvw_records.specs.RecordLaws.{laws_of}
 use Rattle.std.proofs.lemmas.Str.{IsUtf8-take, IsUtf8-drop, is_utf8-from_IsUtf8}
 use Rattle.std.specs.Str.{is_utf8}
 use Rattle.csvw_fields.specs.Bounds.{texts_apart}
 use Rattle.csvw_fields.specs.Drafts.{values_of, current_of}
 use Rattle.csvw_records.specs.Scan.{run}
-use Rattle.csvw_records.proofs.Ascii.{split_chars}
+use Rattle.csvw_fields.proofs.Ascii.{split_chars}
 use Rattle.csvw_fields.proofs.CleanLemmas.{clean_runs}
 use Rattle.csvw_fields.proofs.DraftLemmas.{kept_text, kept_apart, kept_texts}
 use Rattle.csvw_fields.proofs.draft.Draft.keep_clean.Goals as goal
@@ -45,7 +46,8 @@ returns-clause-keeps c =
       is_text = ap is_utf8 c.split_at.ensures.back ∙ is_utf8-from_IsUtf8 (drop n rest) (IsUtf8-drop rest n c.utf8.rest c.clean_len-len.ensures.boundary);
       back = ap (λ m. drop m rest) same ∙ sym c.split_at.ensures.back;
       runs = ap (run d s.state (values_of s) (current_of s)) (split_chars rest n u)
-          ∙ clean_runs d s.state (values_of s) (current_of s) (chars (take n rest)) (chars (drop n rest)) c.clean_len-len.ensures.clean
+          ∙ clean_runs (laws_of c.record_laws.ensures) d s.state (values_of s) (current_of s) (chars (take n rest))
+          (chars (drop n rest)) c.clean_len-len.ensures.clean
           ∙ ap (λ vs. run d s.state vs (current_of s ++ chars (take n rest)) (chars (drop n rest))) (sym values)
           ∙ ap (λ cur. run d s.state kept cur (chars (drop n rest))) (sym current)
           ∙ ap (λ l. run d s.state kept (chars (drop s.from c.extend_from_slice.new.self.items)) (chars l)) (sym c.split_at.ensures.back);

@@ -1,4 +1,5 @@
 use Rattle.std.proofs.Common.{◌≡◌, ◌∙◌, ◌-◌, ◌++◌, List, ℕ, length, drop, chars, arith, refl, sym, ap}
+use Rattle.csvw_records.specs.RecordLaws.{laws_of}
 use Rattle.std.specs.Prelude.{encode_utf8}
 use Rattle.std.specs.Str.{is_utf8}
 use Rattle.std.proofs.lemmas.Str.{IsUtf8-from_is_utf8, is_utf8-from_IsUtf8}
@@ -43,7 +44,7 @@ loop-left-preserved c =
     let q = c.in_ok-left.ensures.keeps in
     let spelled : left ≡ encode_utf8 k ++ behind = sym c.chars-behind.ensures.rest ∙ c.in-Some.ensures.steps.0
     ∙ ap (λ l. encode_utf8 k ++ l) (sym c.as_str-rest.ensures) in
-    let m = over_char d text _ left behind k _ _ i.within i.back q.back q.is_text spelled c.as_bytes.ensures.value c.terminator_at-ends.ensures.value in
+    let m = over_char (laws_of c.record_laws.ensures) d text _ left behind k _ _ i.within i.back q.back q.is_text spelled c.as_bytes.ensures.value c.terminator_at-ends.ensures.value in
     let b = back_more text left (encode_utf8 k) behind m.within m.back spelled in
     let s = rw c.in-Unfinished.is at c.in_ok-step.ensures.steps in
     record {
@@ -61,7 +62,8 @@ returns-in-Ended c =
     let left : List ℕ = c.in_ok-left.left.now in
     let i = c.loop-left.invariant in
     let q = c.in_ok-left.ensures.keeps in
-    let m = over_char d text _ left _ c.in-Some.c _ _ i.within i.back q.back q.is_text (sym c.chars-behind.ensures.rest ∙ c.in-Some.ensures.steps.0)
+    let m = over_char (laws_of c.record_laws.ensures) d text _ left _ c.in-Some.c _ _ i.within i.back q.back q.is_text
+    (sym c.chars-behind.ensures.rest ∙ c.in-Some.ensures.steps.0)
     c.as_bytes.ensures.value c.terminator_at-ends.ensures.value in
     let s = rw c.in-Ended.is at c.in_ok-step.ensures.steps in
     let w = m.within in
@@ -83,7 +85,8 @@ returns-in-Broken c =
     let left : List ℕ = c.in_ok-left.left.now in
     let i = c.loop-left.invariant in
     let q = c.in_ok-left.ensures.keeps in
-    let m = over_char d text _ left _ c.in-Some.c _ _ i.within i.back q.back q.is_text (sym c.chars-behind.ensures.rest ∙ c.in-Some.ensures.steps.0)
+    let m = over_char (laws_of c.record_laws.ensures) d text _ left _ c.in-Some.c _ _ i.within i.back q.back q.is_text
+    (sym c.chars-behind.ensures.rest ∙ c.in-Some.ensures.steps.0)
     c.as_bytes.ensures.value c.terminator_at-ends.ensures.value in
     let s = rw c.in-Broken.is at c.in_ok-step.ensures.steps in
     let w = m.within in

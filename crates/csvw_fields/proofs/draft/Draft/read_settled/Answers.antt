@@ -1,4 +1,5 @@
 use Rattle.std.proofs.Common.{◌∙◌, List, ℕ, length, take, drop, chars, ap}
+use Rattle.csvw_records.specs.RecordLaws.{laws_of}
 use Rattle.std.proofs.lemmas.Str.{IsUtf8-from_is_utf8, IsCharBoundary-from_drop}
 use Rattle.csvw_records.specs.NextRow.{settled}
 use Rattle.csvw_fields.proofs.DraftRuns.{reads_goes}
@@ -16,5 +17,5 @@ returns c =
     let rest : List ℕ = c.args.rest.now in
     let back = c.split_at.ensures.back in
     let text : List ℕ = c.settled-text.result.now in
-    reads_goes d s c.read.new.self rest text c.read.result c.utf8.rest c.settled-text.utf8 c.requires
+    reads_goes (laws_of c.record_laws.ensures) d s c.read.new.self rest text c.read.result c.utf8.rest c.settled-text.utf8 c.requires
     (c.settled-text.ensures.front ∙ ap (take (length text)) back) (c.settled-text.ensures.chars ∙ ap (λ l. settled d (chars l)) back) c.read.ensures

@@ -1,12 +1,17 @@
 use Rattle.std.proofs.Common.{◌≡◌, ◌∙◌, ◌<◌, ℕ, List, chars, false, sym, ap, subst, arith}
+use Rattle.csvw_records.specs.RecordLaws.{laws_of}
+use Rattle.std.specs.Prelude.{Option, Some, None, IfSome}
 use Rattle.csvw_dialect.specs.declared.dialect.Dialect.{Dialect}
 use Rattle.csvw_fields.specs.Cuts.{IsCutRow, IsRowLen}
 use Rattle.csvw_records.specs.Files.{is_note}
 use Rattle.csvw_fields.specs.Marked.{is_symbol, AreMarks}
 use Rattle.csvw_rows.specs.SourceState.{text_items, taken_of}
-use Rattle.csvw_fields.proofs.CutLemmas.{some_gives}
 use Rattle.csvw_rows.proofs.CutTakes.{cut_has}
 use Rattle.csvw_rows.proofs.rows.Rows.cut.Goals as goal
+
+some_gives : {X : Type 0} (P Q : X → Type 0) (r : Option X) → ((x : X) → P x → Q x) → IfSome r P → IfSome r Q
+some_gives P Q None f h = tt
+some_gives P Q (Some x) f h = f x h
 
 pub cut_row-requires-clause-marks : goal.cut_row-requires-clause-marks
 cut_row-requires-clause-marks c =
@@ -34,7 +39,7 @@ returns-clause-row c =
     (subst (λ (n : ℕ). IsCutRow d cutter.text.now n at spare bounds) c.taken-start.ensures
     (subst (λ (x : Dialect). IsCutRow x cutter.text.now c.taken-start.result at spare bounds) k.dialect row)) in
     some_gives (IsRowLen cutter.dialect.now cutter.text.now c.taken-start.result at) _ c.row_len.result
-    (λ n l. cut_has _ at n y.trim few (ap (is_note d s.row) (sym c.rest-rest.ensures.chars) ∙ note) here
+    (λ n l. cut_has (laws_of c.record_laws.ensures) _ at n y.trim few (ap (is_note d s.row) (sym c.rest-rest.ensures.chars) ∙ note) here
     (subst (λ (x : List ℕ). IsRowLen d x (taken_of s.source) at n) same
     (subst (λ (m : ℕ). IsRowLen d cutter.text.now m at n) c.taken-start.ensures
     (subst (λ (x : Dialect). IsRowLen x cutter.text.now c.taken-start.result at n) k.dialect l))))

@@ -1,4 +1,5 @@
 use Rattle.std.proofs.Common.{◌≡◌, ◌∙◌, ◌+◌, length, drop, arith, ap}
+use Rattle.csvw_records.specs.RecordLaws.{laws_of}
 use Rattle.csvw_records.specs.Grammar.{terminator_len}
 use Rattle.csvw_rows.specs.SourceState.{rest_bytes}
 use Rattle.csvw_rows.proofs.DraftRows.{read_has, read_stops}
@@ -11,9 +12,10 @@ returns c =
     let behind : c.split_at.result.1.now ≡ drop len (rest_bytes s.source) = c.split_at.ensures.back
     ∙ ap (drop len) (c.as_bytes.ensures.value ∙ c.rest.ensures.value) in
     let past = c.if-len-gt-ROW_LIMIT.false in
-    read_has s len _ c.requires.readable c.requires.read (omega (arith, past))
+    read_has (laws_of c.record_laws.ensures) s len _ c.requires.readable c.requires.read (omega (arith, past))
     (ap (λ n. len + n) (c.terminator_at.ensures.value ∙ ap (terminator_len s.rules.dialect) behind))
     (omega (arith, c.terminator_at.ensures.value ∙ ap (terminator_len s.rules.dialect) behind, c.terminator_at.ensures.within, ap length behind))
 
 pub returns-then-len-gt-ROW_LIMIT : goal.returns-then-len-gt-ROW_LIMIT
-returns-then-len-gt-ROW_LIMIT c = read_stops c.args.self.now c.args.len c.requires.readable c.requires.read c.if-len-gt-ROW_LIMIT.true
+returns-then-len-gt-ROW_LIMIT c = read_stops
+    (laws_of c.record_laws.ensures) c.args.self.now c.args.len c.requires.readable c.requires.read c.if-len-gt-ROW_LIMIT.true

@@ -1,8 +1,10 @@
 use Rattle.std.proofs.Common.{refl, sym, subst}
+use Rattle.csvw_fields.specs.FieldLaws.{field_laws_of}
+use Rattle.csvw_records.specs.RecordLaws.{laws_of}
 use Rattle.std.specs.Prelude.{encode_utf8_all}
 use Rattle.csvw_fields.specs.Drafts.{IsDraft}
 use Rattle.csvw_rows.specs.SourceState.{rest_bytes}
-use Rattle.csvw_fields.proofs.DraftRuns.{fresh_draft, draft_grows, bytes_more}
+use Rattle.csvw_rows.proofs.TextLemmas.{bytes_more}
 use Rattle.csvw_rows.proofs.States.{feed_holds}
 use Rattle.csvw_rows.specs.Notes.{IsNoted}
 use Rattle.csvw_rows.proofs.NoteLemmas.{noted_grows}
@@ -13,7 +15,8 @@ invariant_of-self-clause-drafted c =
     let s = c.args.self.now in
     let g = c.in-Ok.ensures.grows in
     let b = bytes_more (rest_bytes s.source) (rest_bytes c.push.new.self) g.0 s.source.is_text c.push.new.self.is_text g.1 in
-    subst (IsDraft s.rules.dialect s.draft) (sym b.0) (draft_grows s.rules.dialect s.draft (rest_bytes s.source) (encode_utf8_all g.0) s.drafted b.1)
+    subst (IsDraft s.rules.dialect s.draft) (sym b.0) ((field_laws_of c.field_laws.ensures).draft_grows s.rules.dialect s.draft (rest_bytes s.source)
+    (encode_utf8_all g.0) s.drafted b.1)
 
 pub invariant_of-self-clause-noted : goal.invariant_of-self-clause-noted
 invariant_of-self-clause-noted c =
@@ -24,11 +27,12 @@ invariant_of-self-clause-noted c =
 
 pub invariant_of-self-in-Err-clause-drafted : goal.invariant_of-self-in-Err-clause-drafted
 invariant_of-self-in-Err-clause-drafted c =
-    fresh_draft c.args.self.now.rules.dialect c.clear-in-Err.new.self (rest_bytes c.push.new.self) c.clear-in-Err.ensures c.push.new.self.is_text
+    (field_laws_of c.field_laws.ensures).fresh_draft c.args.self.now.rules.dialect c.clear-in-Err.new.self
+    (rest_bytes c.push.new.self) c.clear-in-Err.ensures c.push.new.self.is_text
 
 pub returns-in-Ok-clause-feeds : goal.returns-in-Ok-clause-feeds
 returns-in-Ok-clause-feeds c = λ d max bytes given h.
-    feed_holds c.args.self.now _ d max bytes c.args.piece.now given h refl refl refl refl refl refl c.in-Ok.ensures.pushes
+    feed_holds (laws_of c.record_laws.ensures) c.args.self.now _ d max bytes c.args.piece.now given h refl refl refl refl refl refl c.in-Ok.ensures.pushes
 
 pub invariant_of-self-clause-marked : goal.invariant_of-self-clause-marked
 invariant_of-self-clause-marked c s is = c.none-self.ensures _ _

@@ -1,7 +1,7 @@
 use Rattle.std.proofs.Common.{refl}
+use Rattle.csvw_fields.specs.FieldLaws.{field_laws_of}
 use Rattle.csvw_rows.proofs.States.{new_holds}
 use Rattle.csvw_rows.specs.SourceState.{rest_bytes}
-use Rattle.csvw_fields.proofs.DraftRuns.{fresh_draft}
 use Rattle.csvw_rows.proofs.rows.Rows.new.Goals as goal
 
 pub returns-clause-holds : goal.returns-clause-holds
@@ -10,7 +10,8 @@ returns-clause-holds c =
     c.new-2.ensures.pending c.new-2.ensures.bad
 
 pub invariant_of-result-clause-drafted : goal.invariant_of-result-clause-drafted
-invariant_of-result-clause-drafted c = fresh_draft c.in_ok-new.field-0.dialect c.new-5.result (rest_bytes c.new-2.result) c.new-5.ensures c.new-2.result.is_text
+invariant_of-result-clause-drafted c = (field_laws_of c.field_laws.ensures).fresh_draft c.in_ok-new.field-0.dialect c.new-5.result
+    (rest_bytes c.new-2.result) c.new-5.ensures c.new-2.result.is_text
 
 pub invariant_of-result-clause-marked : goal.invariant_of-result-clause-marked
 invariant_of-result-clause-marked c s is = c.none.ensures _ _

@@ -1,4 +1,5 @@
 use Rattle.std.proofs.Common.{None, Ok, refl}
+use Rattle.csvw_records.specs.RecordLaws.{laws_of}
 use Rattle.csvw_rows.proofs.RowSteps.{turns_from, refills_again, waits_turns, stop_turns, less_unread}
 use Rattle.csvw_rows.proofs.States.{note_stays}
 use Rattle.csvw_rows.specs.declared.next.Turn.TheVariants as turn
@@ -16,13 +17,13 @@ returns-in-Row-clause-turns c =
 
 pub returns-in-Waits-clause-turns : goal.returns-in-Waits-clause-turns
 returns-in-Waits-clause-turns c =
-    waits_turns c.args.self.now c.read_front.new.self
+    waits_turns (laws_of c.record_laws.ensures) c.args.self.now c.read_front.new.self
     (refills_again c.args.self.now c.cut.new.self c.read_front.new.self c.cut.ensures.refills c.read_front.ensures.refills)
     (rw c.in-Waits.is at c.in_ok-len-2.ensures.known)
 
 pub returns-in-Stop-clause-turns : goal.returns-in-Stop-clause-turns
 returns-in-Stop-clause-turns c =
-    stop_turns c.args.self.now c.read_front.new.self c.in-Stop.stop
+    stop_turns (laws_of c.record_laws.ensures) c.args.self.now c.read_front.new.self c.in-Stop.stop
     (refills_again c.args.self.now c.cut.new.self c.read_front.new.self c.cut.ensures.refills c.read_front.ensures.refills)
     (rw c.in-Stop.is at c.in_ok-len-2.ensures.known)
 
@@ -33,5 +34,9 @@ returns-in-Note-clause-turns c =
     let t = c.pass.new.self in
     let k : HasRow u c.in-Note.len None = rw c.in-Note.is at c.in_ok-len-2.ensures.known in
     let p = c.pass.ensures.passes k.len k.front in
-    turns_from s u t (Ok turn.Passed) (refills_again s c.cut.new.self u c.cut.ensures.refills c.read_front.ensures.refills)
-    (p.ended, less_unread u t k.len p k.takes.some k.takes.within, note_stays u t k.len None p c.pass.ensures.remained k.takes (λ n. refl))
+    turns_from s u t (Ok turn.Passed) (refills_again s c.cut.new.self u c.cut.ensures.refills c.read_front.ensures.refills) (
+      p.ended,
+      less_unread u t k.len p k.takes.some k.takes.within,
+      note_stays (laws_of c.record_laws.ensures) u t k.len None p c.pass.ensures.remained k.takes
+          (λ n. refl),
+    )
