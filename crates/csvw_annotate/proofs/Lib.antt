@@ -1,6 +1,6 @@
-pub mod BoundLemmas
-pub mod CellsLemmas
-pub mod FormsLemmas
-pub mod LinkLemmas
-pub mod ValuesLemmas
-pub mod Unlinked
+mod BoundLemmas
+mod CellsLemmas
+mod FormsLemmas
+mod LinkLemmas
+mod ValuesLemmas
+mod Unlinked

@@ -1,4 +1,4 @@
-pub mod ListLemmas
-pub mod NormalLemmas
-pub mod TypedLemmas
-pub mod JudgedLemmas
+mod ListLemmas
+mod NormalLemmas
+mod TypedLemmas
+mod JudgedLemmas

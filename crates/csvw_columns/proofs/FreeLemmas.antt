@@ -1,5 +1,5 @@
 -- What is fit is free of all that a fault tells.
-use Rattle.std.specs.Prelude.{Option, Some, None, IfSome, All}
+use Rattle.std.specs.Prelude.{Option, Some, None, IfSome}
 use Rattle.std.proofs.lemmas.List.Elements.{All-weaker}
 use Rattle.csvw_dialect.specs.declared.dialect.Dialect.{Dialect}
 use Rattle.csvw_description.specs.Plannable.{IsFitDialect, HasSound, IsFitSchema, IsFitTable}

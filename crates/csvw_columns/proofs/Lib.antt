@@ -1,8 +1,8 @@
-pub mod ColumnLemmas
-pub mod DistinctLemmas
-pub mod PlanLemmas
-pub mod ReadyLemmas
-pub mod SoundLemmas
-pub mod KeyLemmas
-pub mod DescribedLemmas
-pub mod FreeLemmas
+mod ColumnLemmas
+mod DistinctLemmas
+mod PlanLemmas
+mod ReadyLemmas
+mod SoundLemmas
+mod KeyLemmas
+mod DescribedLemmas
+mod FreeLemmas

@@ -16,7 +16,7 @@ use Rattle.csvw_columns_core.specs.declared.header.HeaderRow.{HeaderRow}
 use Rattle.csvw_columns.specs.Distinct.{AreNamedApart}
 use Rattle.csvw_columns.specs.declared.plan.TablePlan.{TablePlan}
 use Rattle.csvw_columns_core.specs.declared.table_stop.TableStop.{TableStop}
-use Rattle.csvw_columns_core.specs.declared.table_stop.TableStop.TheVariants.{Memory, DuplicateName, TooManyColumns, RaggedRow}
+use Rattle.csvw_columns_core.specs.declared.table_stop.TableStop.TheVariants.{Memory, DuplicateName, TooManyColumns}
 
 -- what its columns have of the table
 abbrev pub frame_of : TablePlan → Frame

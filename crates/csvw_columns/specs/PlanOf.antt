@@ -1,11 +1,10 @@
 -- The plan of a group of tables (Metadata Vocabulary for Tabular Data, sections 5.3 to 5.7; Model for Tabular Data,
 -- sections 4.1 and 4.2).
-use Rattle.std.specs.Prelude.{◌≡◌, ℕ, ◌+◌, ◌&&◌, List, [], ◌∷◌, map, Option, Some, true, false, unwrap_or}
+use Rattle.std.specs.Prelude.{◌≡◌, ℕ, ◌+◌, ◌&&◌, List, [], ◌∷◌, map, Option, true, unwrap_or}
 use Rattle.std.proofs.Common.{refl, ap, ◌∙◌}
 use Rattle.std.proofs.lemmas.Bool.{eq-eqb}
 use Rattle.csvw_dialect.specs.declared.dialect.Dialect.{Dialect}
 use Rattle.csvw_dialect.specs.Lawful.{default_dialect}
-use Rattle.csvw_dialect.specs.declared.dialect.Trim.TheVariants.{No}
 use Rattle.csvw_iri.specs.Link.{iri_of}
 use Rattle.csvw_description.specs.Unknown.{unknown}
 use Rattle.csvw_description.specs.declared.description.Description.{Description}

@@ -1,4 +1,4 @@
-pub mod InheritedLemmas
-pub mod DeclaredLemmas
-pub mod HeaderLemmas
-pub mod XsdLemmas
+mod InheritedLemmas
+mod DeclaredLemmas
+mod HeaderLemmas
+mod XsdLemmas

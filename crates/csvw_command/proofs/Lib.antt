@@ -1,6 +1,6 @@
-pub mod Counting
-pub mod Documents
-pub mod Ending
-pub mod Opening
-pub mod Running
-pub mod Sending
+mod Counting
+mod Documents
+mod Ending
+mod Opening
+mod Running
+mod Sending

@@ -1,9 +1,9 @@
-pub mod BreaksLemmas
-pub mod CharacterLemmas
-pub mod BarLemmas
-pub mod FormatLemmas
-pub mod LawLemmas
-pub mod OneForm
-pub mod FacetLemmas
-pub mod AgreementLemmas
-pub mod BoundLemmas
+mod BreaksLemmas
+mod CharacterLemmas
+mod BarLemmas
+mod FormatLemmas
+mod LawLemmas
+mod OneForm
+mod FacetLemmas
+mod AgreementLemmas
+mod BoundLemmas

@@ -1,23 +1,23 @@
-pub mod ScanLemmas
-pub mod Accepts
-pub mod KindLemmas
-pub mod Spelled
-pub mod SpellingLemmas
-pub mod Counts
-pub mod Answer
-pub mod ReadLemmas
-pub mod ShortLemmas
-pub mod LexicalLemmas
-pub mod ScaledLemmas
-pub mod LexicalNumber
-pub mod DateLemmas
-pub mod AsciiLemmas
-pub mod TimeLemmas
-pub mod LexicalDateLemmas
-pub mod LawfulLemmas
-pub mod OneValue
-pub mod OneText
-pub mod OneNumberText
-pub mod FormLemmas
-pub mod EveryDay
-pub mod ValueLemmas
+mod ScanLemmas
+mod Accepts
+mod KindLemmas
+mod Spelled
+mod SpellingLemmas
+mod Counts
+mod Answer
+mod ReadLemmas
+mod ShortLemmas
+mod LexicalLemmas
+mod ScaledLemmas
+mod LexicalNumber
+mod DateLemmas
+mod AsciiLemmas
+mod TimeLemmas
+mod LexicalDateLemmas
+mod LawfulLemmas
+mod OneValue
+mod OneText
+mod OneNumberText
+mod FormLemmas
+mod EveryDay
+mod ValueLemmas

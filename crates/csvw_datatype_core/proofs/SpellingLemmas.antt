@@ -2,9 +2,8 @@
 use Rattle.std.proofs.Common.{◌≡◌, ℕ, inr, ◌+◌, ◌*◌, ◌/◌, ◌%◌, ◌^◌, ◌<◌, ◌≤◌, List, [], ◌∷◌, ◌++◌, length, take, set}
 use Rattle.std.proofs.Common.{replicate, refl, sym, ap, ◌∙◌, arith, subst}
 use Rattle.std.proofs.lemmas.List.{length-set, length-take-le, append_assoc, take_more_set}
-use Rattle.std.specs.Str.{IsAscii}
 use Rattle.csvw_datatype_core.specs.LexicalNumbers.{AppendsFraction, AppendsPart}
-use Rattle.csvw_datatype_core.proofs.AsciiLemmas.{AllAscii, is_ascii, appended}
+use Rattle.csvw_datatype_core.proofs.AsciiLemmas.{AllAscii, appended}
 use Rattle.csvw_datatype_core.proofs.ScaledLemmas.{IsScaled, scaled_begins, scaled_step, scaled_ends, digit_below, digits_left}
 
 -- the first bytes of the buffer are the point and digits, of which the rest of the fraction is left

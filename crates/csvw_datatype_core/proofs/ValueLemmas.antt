@@ -1,5 +1,5 @@
 -- The functions give the values that texts are.
-use Rattle.std.proofs.Common.{◌≡◌, ℕ, ◌+◌, ◌*◌, ◌<◌, List, refl, ap, true, false, cond, Bool, Option, Some, None, ℤ, pos, MatchOption, arith, take}
+use Rattle.std.proofs.Common.{◌≡◌, ℕ, ◌+◌, ◌*◌, List, refl, true, false, cond, Bool, Option, Some, None, ℤ, MatchOption, arith, take}
 use Rattle.std.proofs.Common.{drop, take-append-drop}
 use Rattle.std.proofs.lemmas.Bool.Decides.{nat_tests}
 use Rattle.csvw_datatype_core.specs.declared.number.NumberRules.{NumberRules}

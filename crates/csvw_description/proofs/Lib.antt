@@ -1,1 +1,1 @@
-pub mod NameLemmas
+mod NameLemmas

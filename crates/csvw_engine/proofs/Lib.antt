@@ -1,8 +1,8 @@
-pub mod Converting
-pub mod Ending
-pub mod Flushing
-pub mod GoodRuns
-pub mod Lone
-pub mod Planning
-pub mod Taking
-pub mod Writing
+mod Converting
+mod Ending
+mod Flushing
+mod GoodRuns
+mod Lone
+mod Planning
+mod Taking
+mod Writing

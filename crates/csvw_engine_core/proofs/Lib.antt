@@ -1,8 +1,8 @@
-pub mod Ending
-pub mod Faults
-pub mod Going
-pub mod Headers
-pub mod Lists
-pub mod Moving
-pub mod Own
-pub mod Steps
+mod Ending
+mod Faults
+mod Going
+mod Headers
+mod Lists
+mod Moving
+mod Own
+mod Steps

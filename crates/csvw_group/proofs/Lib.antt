@@ -1,13 +1,13 @@
-pub mod Accepting
-pub mod Annotating
-pub mod AnyOrder
-pub mod Bodies
-pub mod Courses
-pub mod Ending
-pub mod Headers
-pub mod Listing
-pub mod OneCell
-pub mod OneTable
-pub mod Parts
-pub mod Splitting
-pub mod Stopping
+mod Accepting
+mod Annotating
+mod AnyOrder
+mod Bodies
+mod Courses
+mod Ending
+mod Headers
+mod Listing
+mod OneCell
+mod OneTable
+mod Parts
+mod Splitting
+mod Stopping

@@ -3,29 +3,26 @@ use Rattle.std.proofs.Common.{◌≡◌, ◌==◌, ◌||◌, ◌&&◌, ℕ}
 use Rattle.std.proofs.Common.{true, false, not, Bool, Some, List, [], ◌∷◌, ◌++◌, length, All, refl, sym, ap, ◌∙◌, subst, nat_le, nat_lt}
 use Rattle.std.proofs.Common.{arith, ◌≤◌, slice_index_or, Ok, ◌⊎◌, inl, inr}
 use Rattle.std.proofs.lemmas.List.Folds.{list_all-append}
-use Rattle.std.specs.Prelude.{codes}
-use Rattle.std.proofs.lemmas.Bool.{and_parts, and_from, cond-true}
+use Rattle.std.proofs.lemmas.Bool.{and_parts, cond-true}
 use Rattle.std.proofs.lemmas.Bool.Decides.{nat_tests}
 use Rattle.std.proofs.lemmas.List.Elements.{All-head, All-tail}
-use Rattle.percent_encoding.specs.AsciiSet.{contains}
-use Rattle.percent_encoding.specs.Percent.{IsKept, percent_encode}
+use Rattle.percent_encoding.specs.Percent.{IsKept}
 use Rattle.percent_encoding.proofs.PercentLemmas.{IsEscapeByte, All-percent_encode}
 use Rattle.url.specs.Parts.{Parts}
 use Rattle.url.proofs.SetLemmas.{kept_by_smaller, kept_from_passes}
 use Rattle.csvw_text.specs.Class.{is_unreserved_char}
 use Rattle.csvw_iri.specs.declared.encoded.TheConstants.{BUT_UNRESERVED}
 use Rattle.csvw_iri.specs.declared.own.Place.{Place}
-use Rattle.csvw_iri.specs.declared.own.Place.TheVariants.{Front, Segment, Path, Query, Fragment}
+use Rattle.csvw_iri.specs.declared.own.Place.TheVariants.{Segment, Path, Query, Fragment}
 use Rattle.csvw_iri.specs.declared.own.TheConstants.{BUT_STAYING}
-use Rattle.csvw_iri.specs.Safe.{is_iri, is_forbidden}
+use Rattle.csvw_iri.specs.Safe.{is_iri}
 use Rattle.csvw_iri.specs.Link.{max_text, link_of}
-use Rattle.csvw_iri.specs.Encoded.{encoded_byte, percent_encoded}
-use Rattle.csvw_iri.specs.Own.{IsOwnFront, IsOwnLink, IsFragmentLink, goes_on, is_end, step}
+use Rattle.csvw_iri.specs.Encoded.{percent_encoded}
+use Rattle.csvw_iri.specs.Own.{IsOwnFront, goes_on, is_end, step}
 use Rattle.csvw_iri.proofs.EncodedLemmas.{all_but_unreserved, unreserved_kept}
 use Rattle.csvw_iri.proofs.StayingLemmas.{in_path, in_query, in_fragment}
 use Rattle.csvw_iri.proofs.FrontLemmas.{GoesOn, goes_behind}
-use Rattle.csvw_iri.proofs.OwnLinks.{all_raw, own_link, own_raw}
-use Rattle.csvw_iri.proofs.FragmentLinks.{fragment_link, fragment_raw}
+use Rattle.csvw_iri.proofs.OwnLinks.{own_link, own_raw}
 
 -- `%` or a hexadecimal digit in upper case
 abbrev is_escape_byte : ℕ → Bool

@@ -1,9 +1,9 @@
-pub mod SafeLemmas
-pub mod LinkLemmas
-pub mod OwnLemmas
-pub mod OwnLinks
-pub mod FragmentLinks
-pub mod StayingLemmas
-pub mod FrontLemmas
-pub mod EncodedLemmas
-pub mod EncodedLinks
+mod SafeLemmas
+mod LinkLemmas
+mod OwnLemmas
+mod OwnLinks
+mod FragmentLinks
+mod StayingLemmas
+mod FrontLemmas
+mod EncodedLemmas
+mod EncodedLinks

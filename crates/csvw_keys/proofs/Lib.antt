@@ -1,10 +1,10 @@
-pub mod BookLemmas
-pub mod EqualLemmas
-pub mod HeldLemmas
-pub mod ListLemmas
-pub mod OrderLemmas
-pub mod PrimaryLemmas
-pub mod ReferenceLemmas
-pub mod ReferringLemmas
-pub mod ServingLemmas
-pub mod TallyLemmas
+mod BookLemmas
+mod EqualLemmas
+mod HeldLemmas
+mod ListLemmas
+mod OrderLemmas
+mod PrimaryLemmas
+mod ReferenceLemmas
+mod ReferringLemmas
+mod ServingLemmas
+mod TallyLemmas

@@ -1,14 +1,14 @@
-pub mod ExactLemmas
-pub mod FineLemmas
-pub mod FirstLemmas
-pub mod FitDocument
-pub mod FitKeys
-pub mod FitSchema
-pub mod HangingLemmas
-pub mod JsonLemmas
-pub mod MayBeLemmas
-pub mod ReadLemmas
-pub mod ReferencesLemmas
-pub mod RepeatedLemmas
-pub mod TitlesLemmas
-pub mod UrlFaults
+mod ExactLemmas
+mod FineLemmas
+mod FirstLemmas
+mod FitDocument
+mod FitKeys
+mod FitSchema
+mod HangingLemmas
+mod JsonLemmas
+mod MayBeLemmas
+mod ReadLemmas
+mod ReferencesLemmas
+mod RepeatedLemmas
+mod TitlesLemmas
+mod UrlFaults

@@ -1,5 +1,5 @@
 -- The faults of the document that has a URL alone are those of the URL.
-use Rattle.std.proofs.Common.{◌≡◌, ◌++◌, ℕ, zero, suc, List, [], ◌∷◌, Contains, Some, None, Result, Ok, Err, inl, inr, ap, sym, subst, arith, codes}
+use Rattle.std.proofs.Common.{◌≡◌, ◌++◌, ℕ, zero, suc, List, [], Contains, Some, None, Result, Ok, Err, inl, inr, ap, sym, subst, arith, codes}
 use Rattle.url.specs.Parts.{Parts}
 use Rattle.csvw_iri.specs.Link.{base_of, bad, too_long}
 use Rattle.csvw_iri.specs.Link as iri

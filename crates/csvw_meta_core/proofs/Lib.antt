@@ -1,5 +1,5 @@
-pub mod EachLemmas
-pub mod ItemsLemmas
-pub mod NamesLemmas
-pub mod PointerLemmas
-pub mod ReadLemmas
+mod EachLemmas
+mod ItemsLemmas
+mod NamesLemmas
+mod PointerLemmas
+mod ReadLemmas

@@ -1,3 +1,3 @@
-pub mod NameLemmas
-pub mod ReadLemmas
-pub mod SoundLemmas
+mod NameLemmas
+mod ReadLemmas
+mod SoundLemmas

@@ -1,2 +1,2 @@
-pub mod FitLemmas
-pub mod ReadLemmas
+mod FitLemmas
+mod ReadLemmas

@@ -1,4 +1,4 @@
-pub mod PatternLemmas
-pub mod ReadLemmas
-pub mod TruthLemmas
-pub mod SoundLemmas
+mod PatternLemmas
+mod ReadLemmas
+mod TruthLemmas
+mod SoundLemmas

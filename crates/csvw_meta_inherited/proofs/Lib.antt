@@ -1,4 +1,4 @@
-pub mod ContextLemmas
-pub mod FineLemmas
-pub mod FitDialect
-pub mod ReadLemmas
+mod ContextLemmas
+mod FineLemmas
+mod FitDialect
+mod ReadLemmas

@@ -1,2 +1,2 @@
-pub mod NamingLemmas
-pub mod ReadLemmas
+mod NamingLemmas
+mod ReadLemmas

@@ -1,5 +1,5 @@
 -- What keys name (Metadata Vocabulary for Tabular Data, sections 5.5.1 and 5.5.2).
-use Rattle.std.specs.Prelude.{ℕ, ◌&&◌, nat_eq, List, [], ◌∷◌, ◌++◌, Bool, true, false, bytes_eq, length, flat_map, Option, Some, None, if◌then◌else◌}
+use Rattle.std.specs.Prelude.{ℕ, nat_eq, List, [], ◌∷◌, ◌++◌, Bool, true, false, bytes_eq, length, flat_map, Option, Some, None, if◌then◌else◌}
 use Rattle.std.specs.List.{list_any}
 use Rattle.csvw_meta_core.specs.declared.fault.MetaCode.TheVariants.{BadReference}
 use Rattle.csvw_meta_core.specs.declared.fault.MetaFault.{MetaFault}

@@ -1,3 +1,3 @@
-pub mod AddsLemmas
-pub mod FitsLemmas
-pub mod ReadLemmas
+mod AddsLemmas
+mod FitsLemmas
+mod ReadLemmas

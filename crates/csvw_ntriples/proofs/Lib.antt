@@ -1,22 +1,22 @@
-pub mod Begun
-pub mod BodyPieces
-pub mod Composed
-pub mod CopyLemmas
-pub mod Cutting
-pub mod Decoded
-pub mod Denoted
-pub mod Documents
-pub mod EscapeLemmas
-pub mod Fronts
-pub mod Hex
-pub mod LabelParts
-pub mod LabelRuns
-pub mod Labels
-pub mod Lines
-pub mod OnLines
-pub mod Once
-pub mod Pieces
-pub mod Runs
-pub mod SameGraphs
-pub mod Spelled
-pub mod Unbroken
+mod Begun
+mod BodyPieces
+mod Composed
+mod CopyLemmas
+mod Cutting
+mod Decoded
+mod Denoted
+mod Documents
+mod EscapeLemmas
+mod Fronts
+mod Hex
+mod LabelParts
+mod LabelRuns
+mod Labels
+mod Lines
+mod OnLines
+mod Once
+mod Pieces
+mod Runs
+mod SameGraphs
+mod Spelled
+mod Unbroken

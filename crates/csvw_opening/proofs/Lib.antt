@@ -1,4 +1,4 @@
-pub mod InLists
-pub mod Noting
-pub mod Openings
-pub mod Numbers
+mod InLists
+mod Noting
+mod Openings
+mod Numbers

@@ -2,7 +2,6 @@
 use Rattle.std.specs.Prelude.{ℕ, List, [], ◌∷◌, map, Option, Some, None}
 use Rattle.csvw_description.specs.declared.note.Note.{Note}
 use Rattle.csvw_description.specs.declared.note.NoteLiteral.{NoteLiteral}
-use Rattle.csvw_description.specs.declared.note.NoteObject.{NoteObject}
 use Rattle.csvw_description.specs.declared.note.NoteValue.{NoteValue}
 use Rattle.csvw_description.specs.declared.note.NoteValue.TheOpen.{NoteValue-F, Note-F, NoteObject-F}
 use Rattle.csvw_description.specs.declared.note.NoteValue.TheFolds.{fold-Note, fold-NoteValue}

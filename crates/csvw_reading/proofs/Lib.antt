@@ -1,4 +1,4 @@
-pub mod NextTable
-pub mod Readers
-pub mod Tables
-pub mod Turning
+mod NextTable
+mod Readers
+mod Tables
+mod Turning

@@ -1,4 +1,4 @@
-pub mod LineFacts
-pub mod OneOrder
-pub mod OrderFacts
-pub mod Sending
+mod LineFacts
+mod OneOrder
+mod OrderFacts
+mod Sending

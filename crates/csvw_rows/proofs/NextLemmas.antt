@@ -1,6 +1,6 @@
 -- What stands at the front, from the line there.
-use Rattle.std.proofs.Common.{◌≡◌, ◌≢◌, ℕ, zero, suc, ◌+◌, ◌<◌, ◌≤◌, Bool, true, false, List, [], ◌∷◌, ◌++◌, length, take, drop, Option, None}
-use Rattle.std.proofs.Common.{refl, sym, ap, ◌∙◌, subst, arith, append_assoc, append-nil, length-append, length-drop, ◌⊎◌, inl, inr, ◌==◌}
+use Rattle.std.proofs.Common.{◌≡◌, ◌≢◌, ℕ, zero, suc, ◌+◌, ◌<◌, ◌≤◌, Bool, true, false, List, [], ◌∷◌, ◌++◌, length, take, drop, Option, None, refl, sym, ap}
+use Rattle.std.proofs.Common.{◌∙◌, subst, arith, append_assoc, append-nil, length-append, length-drop, ◌⊎◌, inl, inr, ◌==◌}
 use Rattle.std.proofs.lemmas.Bool.Decides.{nat_tests}
 use Rattle.std.proofs.lemmas.Bool.{cases_lt}
 use Rattle.std.proofs.lemmas.List.{take-append-drop, append_cancel_right, drop-drop}
@@ -22,10 +22,8 @@ use Rattle.csvw_records.specs.AtFront.{IsFound, IsWrong}
 use Rattle.csvw_rows.specs.NextRows.{TakesRow, StopsHere, StopGives, is_last}
 use Rattle.csvw_records.specs.PassLaws.{goes_on}
 use Rattle.csvw_records.specs.RowLaws.{Tells, IsRule, Sees}
-use Rattle.csvw_rows.proofs.TextLemmas.{take_all}
+use Rattle.csvw_rows.proofs.TextLemmas.{take_all, same_front}
 use Rattle.csvw_rows.proofs.ByteLens.{byte_len_take}
-use Rattle.csvw_rows.proofs.TextLemmas.{same_front}
-use Rattle.csvw_records.specs.NextRow.{unsettled}
 use Rattle.csvw_records.specs.RecordLaws.{RecordLaws}
 
 module _ (laws : RecordLaws) where

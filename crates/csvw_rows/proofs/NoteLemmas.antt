@@ -1,7 +1,6 @@
 -- A line among the bytes and among the characters.
-use Rattle.std.proofs.Common.{◌≡◌, ◌∙◌, ℕ, suc, ◌<◌, ◌≤◌, if◌then◌else◌, Bool, false, true, List, [], ◌∷◌, ◌++◌, length, take, drop, get_or, Option}
-use Rattle.std.proofs.Common.{Some, None, refl, sym, ap, subst, arith, append_assoc, append-nil, length-append, drop-cons, ◌⊎◌, inl, inr, chars}
-use Rattle.std.proofs.Common.{nat_lt, zero}
+use Rattle.std.proofs.Common.{◌≡◌, ◌∙◌, ℕ, suc, ◌<◌, ◌≤◌, if◌then◌else◌, Bool, false, true, List, [], ◌∷◌, ◌++◌, length, take, drop, get_or, Option, Some}
+use Rattle.std.proofs.Common.{None, refl, sym, ap, subst, arith, append_assoc, append-nil, length-append, drop-cons, ◌⊎◌, inl, inr, chars, nat_lt, zero}
 use Rattle.std.specs.Prelude.{IsUtf8, encode_utf8_all}
 use Rattle.std.specs.Str.{is_utf8}
 use Rattle.std.specs.Char.{len_utf8}
@@ -15,10 +14,8 @@ use Rattle.csvw_records.specs.Grammar.{terminator_len}
 use Rattle.csvw_records.specs.Lengths.{byte_len}
 use Rattle.csvw_records.specs.NextRow.{settled, unsettled, line_of}
 use Rattle.csvw_rows.specs.Notes.{NoneBegins, IsNoted}
-use Rattle.csvw_rows.proofs.TextLemmas.{split_chars}
+use Rattle.csvw_rows.proofs.TextLemmas.{split_chars, front_text, text_gone, drop_more}
 use Rattle.csvw_rows.proofs.ByteLens.{byte_len_past}
-use Rattle.csvw_rows.proofs.TextLemmas.{front_text, text_gone}
-use Rattle.csvw_rows.proofs.TextLemmas.{drop_more}
 use Rattle.csvw_records.specs.TerminatorLaws.{is_break, BeginsBreak}
 use Rattle.csvw_records.specs.PassLaws.{Clear}
 use Rattle.csvw_fields.specs.Drafts.{NoneArises}

@@ -1,8 +1,8 @@
-pub mod Checking
-pub mod Feeding
-pub mod Lists
-pub mod Numbers
-pub mod Order
-pub mod Standing
-pub mod Starting
-pub mod Texts
+mod Checking
+mod Feeding
+mod Lists
+mod Numbers
+mod Order
+mod Standing
+mod Starting
+mod Texts

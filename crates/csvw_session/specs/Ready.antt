@@ -5,7 +5,6 @@ use mathlib.Core.HLevel.{×_prop, Unit-prop}
 use Rattle.csvw_dialect.specs.declared.dialect.Dialect.{Dialect}
 use Rattle.csvw_dialect.specs.Lawful.{IsLawful}
 use Rattle.csvw_datatype.specs.SoundProp.{IsSound-prop}
-use Rattle.csvw_columns_core.specs.declared.column.Column.{Column}
 use Rattle.csvw_columns.specs.Distinct.{AreNamedApart}
 use Rattle.csvw_columns.specs.Ready.{AreReady, IsReady}
 use Rattle.csvw_columns_core.specs.Sound.{AreSound-prop}

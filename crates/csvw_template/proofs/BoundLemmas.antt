@@ -11,7 +11,7 @@ use Rattle.csvw_template.specs.declared.part.Operator.{Operator}
 use Rattle.csvw_template.specs.declared.part.Part.{Part}
 use Rattle.csvw_template.specs.declared.part.Part.TheVariants.{Literal, Expression}
 use Rattle.csvw_template.specs.declared.vars.Var.{Var}
-use Rattle.csvw_template.specs.Bound.{bound, bound_values, expand_bound, expand_bound_part, is_at, stands_for, varies, BoundGivesTheSame, ConstantGivesTheSame}
+use Rattle.csvw_template.specs.Bound.{bound, bound_values, expand_bound, is_at, stands_for, varies, BoundGivesTheSame, ConstantGivesTheSame}
 use Rattle.csvw_template.specs.Expand.{expand, kept, signed, value, values}
 use Rattle.csvw_template.specs.Variables.{Variables, lookup}
 

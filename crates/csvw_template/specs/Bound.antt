@@ -1,5 +1,5 @@
 -- Templates whose names are bound: what each stands for was found once, and is a text, or stands at a place of values.
-use Rattle.std.specs.Prelude.{◌≡◌, ℕ, ◌||◌, List, [], ◌∷◌, Bool, true, false, map}
+use Rattle.std.specs.Prelude.{◌≡◌, ℕ, List, [], Bool, true, false, map}
 use Rattle.std.specs.List.{flat_map, filter_map, list_any, slice_index_or}
 use Rattle.csvw_template.specs.declared.bound.Binding.{Binding}
 use Rattle.csvw_template.specs.declared.bound.Binding.TheVariants.{Nothing, Constant, At}

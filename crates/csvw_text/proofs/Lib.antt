@@ -1,4 +1,4 @@
-pub mod LanguageLemmas
-pub mod SpacesLemmas
-pub mod WritingLemmas
-pub mod StripLemmas
+mod LanguageLemmas
+mod SpacesLemmas
+mod WritingLemmas
+mod StripLemmas

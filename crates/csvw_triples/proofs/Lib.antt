@@ -1,8 +1,8 @@
-pub mod Emitting
-pub mod Runs
-pub mod Graphs
-pub mod Fragments
-pub mod Walking
-pub mod Standards
-pub mod StandardGraphs
-pub mod ModeGraphs
+mod Emitting
+mod Runs
+mod Graphs
+mod Fragments
+mod Walking
+mod Standards
+mod StandardGraphs
+mod ModeGraphs

@@ -1,6 +1,6 @@
-pub mod Headers
-pub mod KeysQuiet
-pub mod Quiet
-pub mod Validating
-pub mod WarningsDocument
-pub mod WarningsRead
+mod Headers
+mod KeysQuiet
+mod Quiet
+mod Validating
+mod WarningsDocument
+mod WarningsRead

@@ -1,6 +1,5 @@
-use Rattle.std.proofs.Common.{arith, ◌+◌, ◌/◌, ◌^◌, ◌<◌, ◌≡◌, refl, OnOk}
-use Rattle.csvw_datatype_core.proofs.AsciiLemmas.{is_ascii}
-use Rattle.csvw_datatype_core.proofs.SpellingLemmas.{spelling_begins, spelling_step, spelling_ends, spelled_digit, place_left}
+use Rattle.std.proofs.Common.{arith, refl}
+use Rattle.csvw_datatype_core.proofs.SpellingLemmas.{spelling_begins, spelling_step, spelling_ends}
 use Rattle.csvw_datatype_core.proofs.lexical_number.push_fraction.Goals as goal
 
 pub loop-rest-init : goal.loop-rest-init
