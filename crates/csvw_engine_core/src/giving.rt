@@ -54,7 +54,7 @@ fn drain<S: TripleSink>(
 {
     let alloc = table.alloc;
     given_first();
-    let mut emitter = Emitter::new(alloc)?;
+    let mut emitter = Emitter::boxed(alloc)?;
     let mut spare = Row::new(alloc);
     let mut room = LinkRoom::new(alloc);
     loop {
@@ -62,7 +62,7 @@ fn drain<S: TripleSink>(
             Step::Row(row) => {
                 table.tell(&row)?;
                 keys.add(table.number, &row)?;
-                give(&mut emitter, table, &row, sink)?;
+                give(&mut *emitter, table, &row, sink)?;
                 spare = row;
             }
             Step::Header => spare = Row::new(alloc),

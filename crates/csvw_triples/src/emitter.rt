@@ -22,8 +22,8 @@ use crate::stem::{ListPlace, RowPlace, Stem, predicate_of, subject_of};
 use csvw_annotate::{AnnCell, Row};
 use csvw_cell::{CellValue, Item};
 use csvw_columns_core::{Column, Columns};
-use csvw_iri::Iri;
-use csvw_text::Text;
+use csvw_iri::{Iri, named};
+use csvw_text::{Text, both};
 use csvw_triples_core::{Mode, Node, Origin, SinkFault, Term, Triple, TripleSink};
 use std::alloc::{AllocError, Global};
 use std::mem;
@@ -47,25 +47,34 @@ pub struct Emitter {
     pub(crate) address: Iri,
 }
 
+/// A triple and the IRI of a row, in whose memory the first ones are made.
+fn first_draft(alloc: Global) -> Result<(Triple, Iri), AllocError> {
+    let p = named(alloc, "http://www.w3.org/ns/csvw#row")?;
+    let address = p.clone(alloc)?;
+    let s = Node::Blank(Origin::Group);
+    let o = Term::Blank(Origin::Group);
+    Ok((Triple { s, p, o }, address))
+}
+
 impl Emitter {
     /// An emitter; `AllocError` where there is no memory.
     pub fn new(alloc: Global) -> Result<Emitter, AllocError> {
-        let names = RdfNames::new(alloc)?;
-        let draft = Triple {
-            s: Node::Blank(Origin::Group),
-            p: names.first.clone(alloc)?,
-            o: Term::Blank(Origin::Group),
-        };
-        let address = names.first.clone(alloc)?;
+        let names = both(RdfNames::new(alloc), CsvwNames::new(alloc));
+        let ((names, csvw), (draft, address)) = both(names, first_draft(alloc))?;
         Ok(Emitter {
             alloc,
             names,
-            csvw: CsvwNames::new(alloc)?,
+            csvw,
             draft,
             spare: Text::new(alloc),
             fragment: Text::new(alloc),
             address,
         })
+    }
+
+    /// An emitter on the heap, which its owner lets go of by one call; `AllocError` where there is no memory.
+    pub fn boxed(alloc: Global) -> Result<Box<Emitter>, AllocError> {
+        Ok(Box::new(alloc, Emitter::new(alloc)?)?)
     }
 
     /// Makes it the subject and the predicate of the draft.
@@ -545,6 +554,6 @@ pub fn emit_row<S: TripleSink>(
     ensures err { OnErr result (FrontOf S.gains sink.old (row_triples mode t columns.now row.now) sink.new) }
     ensures sink { Ends S.is_open S.failed sink.old sink.new result }
 {
-    let mut emitter = Emitter::new(alloc)?;
+    let mut emitter = Emitter::boxed(alloc)?;
     emitter.emit_row(columns, mode, t, row, sink)
 }
