@@ -1,4 +1,7 @@
 //! Documents that are read whole: what is asked of each.
+ghost use Rattle.std.specs.Prelude.{map, IfOk, IfSome};
+ghost use Rattle.std.specs.List.{Contains};
+
 use csvw_description::Description;
 use csvw_meta::read;
 use csvw_meta_core::MetaCode;
@@ -98,7 +101,9 @@ pub fn first_unread(
     alloc: Global,
     frame: (&str, &str),
     cases: &[Accepted],
-) -> Result<Option<&'static str>, AllocError> {
+) -> Result<Option<&'static str>, AllocError>
+    ensures { IfOk result (λ found. IfSome found (λ text. Contains (map (λ case. case.text) cases.now) text)) }
+{
     for case in cases {
         if !accepts(alloc, frame, case)? {
             return Ok(Some(case.text));
@@ -114,7 +119,9 @@ pub fn first_unrefused(
     frame: (&str, &str),
     at: &str,
     cases: &[Refused],
-) -> Result<Option<&'static str>, AllocError> {
+) -> Result<Option<&'static str>, AllocError>
+    ensures { IfOk result (λ found. IfSome found (λ text. Contains (map (λ case. case.text) cases.now) text)) }
+{
     for case in cases {
         if !refuses(alloc, frame, at, case)? {
             return Ok(Some(case.text));
