@@ -6,7 +6,7 @@ use csvw_columns_core::Column;
 use csvw_description::{Inherited, Note};
 use csvw_dialect::Dialect;
 use csvw_iri::{Base, Iri};
-use csvw_text::{Copied, Fault, Seq, both, copied_option};
+use csvw_text::{Copied, Fault, Seq, both, copied_items, copied_option};
 use std::alloc::{AllocError, Global};
 
 /// A foreign key (Model for Tabular Data, section 4.2), by numbers.
@@ -69,13 +69,13 @@ impl ForeignKeyPlan {
     pub fn clone(&self, alloc: Global) -> Result<ForeignKeyPlan, AllocError>
         ensures { IfOk result (λ k. k ≡ self.now) }
     {
-        let columns = self.columns.as_slice().to_vec(alloc);
-        let referenced = self.referenced.as_slice().to_vec(alloc);
+        let columns = copied_items(alloc, &self.columns);
+        let referenced = copied_items(alloc, &self.referenced);
         let (columns, referenced) = both(columns, referenced)?;
         Ok(ForeignKeyPlan {
-            columns: Seq::of(columns),
+            columns,
             table: self.table,
-            referenced: Seq::of(referenced),
+            referenced,
         })
     }
 }
@@ -95,7 +95,7 @@ impl TablePlan {
         let columns = both(self.dialect.clone(alloc), self.declared.clone(alloc));
         let inherited = both(self.schema.clone(alloc), self.table.clone(alloc));
         let inherited = both(inherited, self.group.clone(alloc));
-        let primary_key = self.primary_key.as_slice().to_vec(alloc);
+        let primary_key = copied_items(alloc, &self.primary_key);
         let keys = both(primary_key, self.foreign_keys.clone(alloc));
         let rest = both(keys, self.notes.clone(alloc));
         let (known, rest) = both(both(names, columns), both(inherited, rest))?;
@@ -111,7 +111,7 @@ impl TablePlan {
             schema,
             table,
             group,
-            primary_key: Seq::of(primary_key),
+            primary_key,
             foreign_keys,
             notes,
         })
@@ -130,14 +130,14 @@ impl Plan {
         ensures { IfOk result (λ p. p ≡ self.now) }
     {
         let names = both(copied_option(alloc, &self.id), self.notes.clone(alloc));
-        let warnings = self.warnings.as_slice().to_vec(alloc);
+        let warnings = copied_items(alloc, &self.warnings);
         let tables = both(self.tables.clone(alloc), warnings);
         let ((id, notes), (tables, warnings)) = both(names, tables)?;
         Ok(Plan {
             id,
             notes,
             tables,
-            warnings: Seq::of(warnings),
+            warnings,
         })
     }
 

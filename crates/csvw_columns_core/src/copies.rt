@@ -5,7 +5,7 @@ use crate::column::Column;
 use crate::columns::Columns;
 use crate::header::HeaderRow;
 use crate::properties::Properties;
-use csvw_text::{Copied, both, copied_option};
+use csvw_text::{Copied, both, both_copied, copied_option};
 use std::alloc::{AllocError, Global};
 
 impl Properties {
@@ -13,17 +13,11 @@ impl Properties {
     pub fn clone(&self, alloc: Global) -> Result<Properties, AllocError>
         ensures { IfOk result (λ p. p ≡ self.now) }
     {
-        let about_url = copied_option(alloc, &self.about_url);
-        let property_url = copied_option(alloc, &self.property_url);
-        let value_url = copied_option(alloc, &self.value_url);
-        let datatype = self.datatype.clone(alloc);
-        let default = self.default.clone(alloc);
-        let lang = self.lang.clone(alloc);
-        let null = self.null.clone(alloc);
-        let separator = copied_option(alloc, &self.separator);
-        let urls = both(both(about_url, property_url), both(value_url, datatype));
-        let texts = both(both(default, lang), both(null, separator));
-        let (urls, texts) = both(urls, texts)?;
+        let links = both_copied(alloc, &self.about_url, &self.property_url);
+        let values = both_copied(alloc, &self.value_url, &self.datatype);
+        let texts = both_copied(alloc, &self.default, &self.lang);
+        let parts = both_copied(alloc, &self.null, &self.separator);
+        let (urls, texts) = both(both(links, values), both(texts, parts))?;
         let ((about_url, property_url), (value_url, datatype)) = urls;
         let ((default, lang), (null, separator)) = texts;
         Ok(Properties {
@@ -46,9 +40,8 @@ impl Column {
     pub fn clone(&self, alloc: Global) -> Result<Column, AllocError>
         ensures { IfOk result (λ c. c ≡ self.now) }
     {
-        let names = both(self.name.clone(alloc), self.titles.clone(alloc));
-        let predicate = self.predicate.clone(alloc);
-        let iris = both(predicate, self.literal_datatype.clone(alloc));
+        let names = both_copied(alloc, &self.name, &self.titles);
+        let iris = both_copied(alloc, &self.predicate, &self.literal_datatype);
         let (names, (iris, properties)) = both(names, both(iris, self.properties.clone(alloc)))?;
         let (name, titles) = names;
         let (predicate, literal_datatype) = iris;

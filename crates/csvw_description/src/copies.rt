@@ -8,7 +8,7 @@ use crate::inherited::Inherited;
 use crate::note::{Note, NoteLiteral, NoteObject, NoteValue};
 use crate::schema::Schema;
 use crate::table::TableDescription;
-use csvw_text::{Copied, Seq, both, copied_option};
+use csvw_text::{Copied, Seq, both, both_copied, copied_items, copied_option};
 use std::alloc::{AllocError, Global};
 
 impl Inherited {
@@ -16,17 +16,11 @@ impl Inherited {
     pub fn clone(&self, alloc: Global) -> Result<Inherited, AllocError>
         ensures { IfOk result (λ i. i ≡ self.now) }
     {
-        let about_url = copied_option(alloc, &self.about_url);
-        let property_url = copied_option(alloc, &self.property_url);
-        let value_url = copied_option(alloc, &self.value_url);
-        let datatype = copied_option(alloc, &self.datatype);
-        let default = copied_option(alloc, &self.default);
-        let lang = copied_option(alloc, &self.lang);
-        let null = copied_option(alloc, &self.null);
-        let separator = copied_option(alloc, &self.separator);
-        let urls = both(both(about_url, property_url), both(value_url, datatype));
-        let texts = both(both(default, lang), both(null, separator));
-        let (urls, texts) = both(urls, texts)?;
+        let links = both_copied(alloc, &self.about_url, &self.property_url);
+        let values = both_copied(alloc, &self.value_url, &self.datatype);
+        let texts = both_copied(alloc, &self.default, &self.lang);
+        let parts = both_copied(alloc, &self.null, &self.separator);
+        let (urls, texts) = both(both(links, values), both(texts, parts))?;
         let ((about_url, property_url), (value_url, datatype)) = urls;
         let ((default, lang), (null, separator)) = texts;
         Ok(Inherited {
@@ -49,8 +43,8 @@ impl ColumnDescription {
     pub fn clone(&self, alloc: Global) -> Result<ColumnDescription, AllocError>
         ensures { IfOk result (λ c. c ≡ self.now) }
     {
-        let names = both(copied_option(alloc, &self.name), self.titles.clone(alloc));
-        let warnings = self.warnings.as_slice().to_vec(alloc);
+        let names = both_copied(alloc, &self.name, &self.titles);
+        let warnings = copied_items(alloc, &self.warnings);
         let rest = both(self.inherited.clone(alloc), warnings);
         let ((name, titles), (inherited, warnings)) = both(names, rest)?;
         Ok(ColumnDescription {
@@ -59,7 +53,7 @@ impl ColumnDescription {
             is_virtual: self.is_virtual,
             suppressed: self.suppressed,
             inherited,
-            warnings: Seq::of(warnings),
+            warnings,
         })
     }
 }
@@ -75,7 +69,7 @@ impl ForeignKey {
     pub fn clone(&self, alloc: Global) -> Result<ForeignKey, AllocError>
         ensures { IfOk result (λ k. k ≡ self.now) }
     {
-        let names = both(self.columns.clone(alloc), self.referenced.clone(alloc));
+        let names = both_copied(alloc, &self.columns, &self.referenced);
         let (resource, (columns, referenced)) = both(self.resource.clone(alloc), names)?;
         Ok(ForeignKey {
             columns,
@@ -137,7 +131,7 @@ impl NoteObject {
     pub fn clone(&self, alloc: Global) -> Result<NoteObject, AllocError>
         ensures { IfOk result (λ o. o ≡ self.now) }
     {
-        let names = both(copied_option(alloc, &self.id), self.types.clone(alloc));
+        let names = both_copied(alloc, &self.id, &self.types);
         let ((id, types), notes) = both(names, copies(alloc, self.notes.as_slice()))?;
         Ok(NoteObject { id, types, notes })
     }
@@ -166,11 +160,8 @@ impl Schema {
         ensures { IfOk result (λ s. s ≡ self.now) }
     {
         let columns = both(self.columns.clone(alloc), self.inherited.clone(alloc));
-        let keys = both(
-            self.primary_key.clone(alloc),
-            self.foreign_keys.clone(alloc),
-        );
-        let warnings = self.warnings.as_slice().to_vec(alloc);
+        let keys = both_copied(alloc, &self.primary_key, &self.foreign_keys);
+        let warnings = copied_items(alloc, &self.warnings);
         let (columns, (keys, warnings)) = both(columns, both(keys, warnings))?;
         let (columns, inherited) = columns;
         let (primary_key, foreign_keys) = keys;
@@ -179,7 +170,7 @@ impl Schema {
             primary_key,
             foreign_keys,
             inherited,
-            warnings: Seq::of(warnings),
+            warnings,
         })
     }
 }
@@ -196,11 +187,9 @@ impl TableDescription {
         ensures { IfOk result (λ t. t ≡ self.now) }
     {
         let names = both(self.url.clone(alloc), copied_option(alloc, &self.id));
-        let dialect = copied_option(alloc, &self.dialect);
-        let rules = both(dialect, copied_option(alloc, &self.schema));
+        let rules = both_copied(alloc, &self.dialect, &self.schema);
         let inherited = both(self.inherited.clone(alloc), self.notes.clone(alloc));
-        let warnings = self.warnings.as_slice().to_vec(alloc);
-        let rest = both(inherited, warnings);
+        let rest = both(inherited, copied_items(alloc, &self.warnings));
         let (names, (rules, rest)) = both(names, both(rules, rest))?;
         let (url, id) = names;
         let (dialect, schema) = rules;
@@ -213,7 +202,7 @@ impl TableDescription {
             suppressed: self.suppressed,
             inherited,
             notes,
-            warnings: Seq::of(warnings),
+            warnings,
         })
     }
 }
@@ -229,12 +218,10 @@ impl Description {
     pub fn clone(&self, alloc: Global) -> Result<Description, AllocError>
         ensures { IfOk result (λ d. d ≡ self.now) }
     {
-        let tables = both(copied_option(alloc, &self.id), self.tables.clone(alloc));
-        let dialect = copied_option(alloc, &self.dialect);
-        let rules = both(dialect, copied_option(alloc, &self.schema));
+        let tables = both_copied(alloc, &self.id, &self.tables);
+        let rules = both_copied(alloc, &self.dialect, &self.schema);
         let inherited = both(self.inherited.clone(alloc), self.notes.clone(alloc));
-        let warnings = self.warnings.as_slice().to_vec(alloc);
-        let rest = both(inherited, warnings);
+        let rest = both(inherited, copied_items(alloc, &self.warnings));
         let (tables, (rules, rest)) = both(tables, both(rules, rest))?;
         let (id, tables) = tables;
         let (dialect, schema) = rules;
@@ -246,7 +233,7 @@ impl Description {
             schema,
             inherited,
             notes,
-            warnings: Seq::of(warnings),
+            warnings,
         })
     }
 }

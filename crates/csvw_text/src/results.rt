@@ -1,7 +1,8 @@
 //! Two results together.
 ghost use Rattle.std.specs.Prelude.{◌≡◌, Ok, IfOk};
 
-use std::alloc::AllocError;
+use crate::seq::Copied;
+use std::alloc::{AllocError, Global};
 
 /// Both values; `AllocError` where one of them is. Large ones that are taken out together leave no early return between them
 /// that lets go of the first: each such return drops it part by part, in code of its own.
@@ -18,4 +19,15 @@ pub fn both<A: Drop, B: Drop>(
         },
         Err(error) => Err(error),
     }
+}
+
+/// Equal values of both; `AllocError` where there is no memory.
+pub fn both_copied<A: Copied + Drop, B: Copied + Drop>(
+    alloc: Global,
+    first: &A,
+    second: &B,
+) -> Result<(A, B), AllocError>
+    ensures { IfOk result (λ both. (both.0 ≡ first.now) × (both.1 ≡ second.now)) }
+{
+    both(first.copied(alloc), second.copied(alloc))
 }

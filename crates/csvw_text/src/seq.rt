@@ -114,6 +114,13 @@ fn copies<T: Copied + Drop>(alloc: Global, items: &[T]) -> Result<Vec<T>, AllocE
     Ok(copies)
 }
 
+/// An equal list of what is copied as it stands; `AllocError` where there is no memory.
+pub fn copied_items<T: Copy>(alloc: Global, items: &Seq<T>) -> Result<Seq<T>, AllocError>
+    ensures { IfOk result (λ s. s ≡ items.now) }
+{
+    Ok(Seq::of(Vec::from_slice(alloc, items.as_slice())?))
+}
+
 /// An equal option; `AllocError` where there is no memory.
 pub fn copied_option<T: Copied + Drop>(
     alloc: Global,
