@@ -3,6 +3,7 @@ ghost use Rattle.std.specs.Prelude.{◌≡◌, ◌≤◌, ◌<◌, MatchOption, 
 ghost use Rattle.csvw_datatype_core.specs.Dates.{IsDay, day_number, ReadsDate};
 ghost use Rattle.std.specs.Char.{IsAsciiDigit};
 ghost use Rattle.csvw_datatype_core.specs.Fields.{two_at, short_at, four_at, after_separator, date_fields, option_view, at_end};
+ghost use Rattle.csvw_datatype_core.specs.declared.date.DateFormat.TheVariants.{Compact, DayFirst, MonthFirst, YearFirst};
 
 use jiff_core::civil::Date;
 
@@ -97,42 +98,61 @@ fn day_of(year: u16, month: u8, day: u8) -> Option<i32>
     }
 }
 
-#[tactic(auto, unfolding(crate::specs::Fields::date_fields))]
 fn fields(format: DateFormat, bytes: &[u8]) -> Option<(u16, u8, u8)>
     ensures { result ≡ date_fields format bytes.now }
 {
     match format {
-        DateFormat::YearFirst => {
-            let (year, rest) = four(bytes)?;
-            let (month, rest) = two(past(rest, b'-')?)?;
-            let (day, rest) = two(past(rest, b'-')?)?;
-            ended(rest)?;
-            Some((year, month, day))
-        }
-        DateFormat::Compact => {
-            let (year, rest) = four(bytes)?;
-            let (month, rest) = two(rest)?;
-            let (day, rest) = two(rest)?;
-            ended(rest)?;
-            Some((year, month, day))
-        }
-        DateFormat::DayFirst(digits, by) => {
-            let padded = digits.is_padded();
-            let (day, rest) = short(bytes, padded)?;
-            let (month, rest) = short(past(rest, by.byte())?, padded)?;
-            let (year, rest) = four(past(rest, by.byte())?)?;
-            ended(rest)?;
-            Some((year, month, day))
-        }
-        DateFormat::MonthFirst(digits, by) => {
-            let padded = digits.is_padded();
-            let (month, rest) = short(bytes, padded)?;
-            let (day, rest) = short(past(rest, by.byte())?, padded)?;
-            let (year, rest) = four(past(rest, by.byte())?)?;
-            ended(rest)?;
-            Some((year, month, day))
-        }
+        DateFormat::YearFirst => year_first(bytes),
+        DateFormat::Compact => compact(bytes),
+        DateFormat::DayFirst(digits, by) => day_first(digits, by, bytes),
+        DateFormat::MonthFirst(digits, by) => month_first(digits, by, bytes),
     }
+}
+
+#[tactic(auto, unfolding(crate::specs::Fields::date_fields))]
+fn year_first(bytes: &[u8]) -> Option<(u16, u8, u8)>
+    ensures { result ≡ date_fields YearFirst bytes.now }
+{
+    let (year, rest) = four(bytes)?;
+    let (month, rest) = two(past(rest, b'-')?)?;
+    let (day, rest) = two(past(rest, b'-')?)?;
+    ended(rest)?;
+    Some((year, month, day))
+}
+
+#[tactic(auto, unfolding(crate::specs::Fields::date_fields))]
+fn compact(bytes: &[u8]) -> Option<(u16, u8, u8)>
+    ensures { result ≡ date_fields Compact bytes.now }
+{
+    let (year, rest) = four(bytes)?;
+    let (month, rest) = two(rest)?;
+    let (day, rest) = two(rest)?;
+    ended(rest)?;
+    Some((year, month, day))
+}
+
+#[tactic(auto, unfolding(crate::specs::Fields::date_fields))]
+fn day_first(digits: FieldDigits, by: Separator, bytes: &[u8]) -> Option<(u16, u8, u8)>
+    ensures { result ≡ date_fields (DayFirst digits by) bytes.now }
+{
+    let padded = digits.is_padded();
+    let (day, rest) = short(bytes, padded)?;
+    let (month, rest) = short(past(rest, by.byte())?, padded)?;
+    let (year, rest) = four(past(rest, by.byte())?)?;
+    ended(rest)?;
+    Some((year, month, day))
+}
+
+#[tactic(auto, unfolding(crate::specs::Fields::date_fields))]
+fn month_first(digits: FieldDigits, by: Separator, bytes: &[u8]) -> Option<(u16, u8, u8)>
+    ensures { result ≡ date_fields (MonthFirst digits by) bytes.now }
+{
+    let padded = digits.is_padded();
+    let (month, rest) = short(bytes, padded)?;
+    let (day, rest) = short(past(rest, by.byte())?, padded)?;
+    let (year, rest) = four(past(rest, by.byte())?)?;
+    ended(rest)?;
+    Some((year, month, day))
 }
 
 pub(crate) fn ended(bytes: &[u8]) -> Option<()>
