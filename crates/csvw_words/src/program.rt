@@ -141,12 +141,8 @@ fn group_command<'a>(
     ensures app { IfOk result (λ command. app_of command ≡ group_app name.entry.now) }
     ensures local { IfOk result (λ command. (out-Command command).has_globals ≡ false) }
 {
-    Command::new(alloc, name)
-        .about(about)
-        .arg(base(alloc))?
-        .arg(meta(alloc))?
-        .arg(files(alloc))?
-        .arg(turns(alloc))
+    let args = vec![in alloc; base(alloc), meta(alloc), files(alloc), turns(alloc)]?;
+    Command::new(alloc, name).about(about).args(args)
 }
 
 fn validate_command<'a>(alloc: Global) -> Result<Command<'a>, AllocError>
@@ -177,11 +173,10 @@ fn plain_command<'a>(alloc: Global) -> Result<Command<'a>, AllocError>
     ensures app { IfOk result (λ command. app_of command ≡ plain_app) }
     ensures local { IfOk result (λ command. (out-Command command).has_globals ≡ false) }
 {
+    let args = vec![in alloc; url(alloc), file(alloc), line_buffered(alloc)]?;
     Command::new(alloc, PLAIN)
         .about("Converts one CSV file without metadata to N-Triples on standard output")
-        .arg(url(alloc))?
-        .arg(file(alloc))?
-        .arg(line_buffered(alloc))
+        .args(args)
 }
 
 /// The whole command line.
