@@ -6,7 +6,7 @@ use Rattle.csvw_iri.specs.Vocabulary.{lang_string, xsd_string}
 use Rattle.csvw_ntriples.specs.Character.{is_blank}
 use Rattle.csvw_ntriples.specs.Terminal.{InBytes, IsString, IsLangtag}
 use Rattle.csvw_ntriples.specs.Grammar.{Takes, IsMark, TakesIri, TakesBlank, TakesNode, TakesSuffix, TakesLit, TakesTerm, IsIdle, IsTripleLine}
-use Rattle.csvw_ntriples.specs.Reading.{IsRun, dark, Finds, FindsBeforeDot, TagBefore, Answers, LineGives}
+use Rattle.csvw_ntriples.specs.Reading.{IsRun, dark, Finds, FindsBeforeDot, TagBefore, Answers, EndsLine, LineGives}
 use Rattle.csvw_ntriples.specs.declared.reading.literal.Suffix.{Suffix}
 use Rattle.csvw_ntriples.specs.declared.term.NtFault.{NtFault}
 use Rattle.csvw_ntriples.specs.declared.term.NtFault.TheVariants.{Memory, Syntax}
@@ -253,26 +253,25 @@ object_at text a b p s f h t (x, y, end, _, subject, predicate, object, _, _) =
     subst (λ z. TakesTerm t.o z end) i.1 object
 
 pub no_object : (text a b p : List ℕ) (s : NtNode) → TakesNode s text a → TakesIri p a b
-    → ((o : NtTerm) (rest : List ℕ) → TakesTerm o b rest → dark rest ≡ Some 46 → ⊥) → (t : NtTriple) → IsTripleLine text t → ⊥
+    → ((o : NtTerm) → EndsLine b o → ⊥) → (t : NtTriple) → IsTripleLine text t → ⊥
 no_object text a b p s f h none t g =
-    let (_, _, end, behind, _, _, _, dot, _) = g in
-    none t.o end (object_at text a b p s f h t g) (dot_dark end behind dot)
+    let (_, _, end, behind, _, _, _, dot, idle) = g in
+    none t.o (end, behind, object_at text a b p s f h t g, dot, idle)
 
-pub no_dot : (text a b e p : List ℕ) (s : NtNode) → TakesNode s text a → TakesIri p a b
-    → ((o : NtTerm) (rest : List ℕ) → TakesTerm o b rest → dark rest ≡ Some 46 → rest ≡ e)
-    → ((end : List ℕ) → Takes (IsMark (codes ".")) tt e end → ⊥) → (t : NtTriple) → IsTripleLine text t → ⊥
-no_dot text a b e p s f h once none t g =
-    let (_, _, end, behind, _, _, _, dot, _) = g in
-    let same = once t.o end (object_at text a b p s f h t g) (dot_dark end behind dot) in
+pub no_dark : (text : List ℕ) → ((o : NtTerm) (rest : List ℕ) → TakesTerm o text rest → dark rest ≡ Some 46 → ⊥) → (o : NtTerm) → EndsLine text o → ⊥
+no_dark text none o (end, behind, object, dot, _) = none o end object (dot_dark end behind dot)
+
+pub no_dot : (text e : List ℕ) → ((o : NtTerm) (rest : List ℕ) → TakesTerm o text rest → dark rest ≡ Some 46 → rest ≡ e)
+    → ((end : List ℕ) → Takes (IsMark (codes ".")) tt e end → ⊥) → (o : NtTerm) → EndsLine text o → ⊥
+no_dot text e once none o (before, behind, object, dot, _) =
+    let same = once o before object (dot_dark before behind dot) in
     none behind (subst (λ z. Takes (IsMark (codes ".")) tt z behind) same dot)
 
-pub no_end : (text a b e end p : List ℕ) (s : NtNode) → TakesNode s text a → TakesIri p a b
-    → ((o : NtTerm) (rest : List ℕ) → TakesTerm o b rest → dark rest ≡ Some 46 → rest ≡ e)
-    → Takes (IsMark (codes ".")) tt e end → (IsIdle end → ⊥) → (t : NtTriple) → IsTripleLine text t → ⊥
-no_end text a b e end p s f h once dot none t g =
-    let (_, _, before, behind, _, _, _, t_dot, idle) = g in
-    let same = once t.o before (object_at text a b p s f h t g) (dot_dark before behind t_dot) in
-    let left = dot_once e behind end (subst (λ z. Takes (IsMark (codes ".")) tt z behind) same t_dot) dot in
+pub no_end : (text e end : List ℕ) → ((o : NtTerm) (rest : List ℕ) → TakesTerm o text rest → dark rest ≡ Some 46 → rest ≡ e)
+    → Takes (IsMark (codes ".")) tt e end → (IsIdle end → ⊥) → (o : NtTerm) → EndsLine text o → ⊥
+no_end text e end once dot none o (before, behind, object, o_dot, idle) =
+    let same = once o before object (dot_dark before behind o_dot) in
+    let left = dot_once e behind end (subst (λ z. Takes (IsMark (codes ".")) tt z behind) same o_dot) dot in
     none (subst IsIdle left idle)
 
 pub no_line : (text : List ℕ) → (IsIdle text → ⊥) → ((t : NtTriple) → IsTripleLine text t → ⊥) → (o : Option NtTriple) → LineGives text o → ⊥

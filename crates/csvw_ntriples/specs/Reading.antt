@@ -1,6 +1,6 @@
 -- What the parts of the reader find at the front of a text of characters.
 use Rattle.std.specs.Prelude.{ℕ, ◌≡◌, ◌||◌, ◌==◌, List, [], ◌∷◌, ◌++◌, Bool, false, true, if◌then◌else◌, Option, Some, None, Result, Ok, Err, ◌⊎◌}
-use Rattle.std.specs.Prelude.{IsTrue, length, encode_utf8_all}
+use Rattle.std.specs.Prelude.{IsTrue, length, encode_utf8_all, codes}
 use Rattle.std.specs.Borrow.{Bor}
 use Rattle.std.specs.Char.{IsScalar}
 use Rattle.std.specs.List.{list_all}
@@ -8,7 +8,7 @@ use Rattle.std.specs.Str.Parse.{AllDigits, digits_value}
 use Rattle.csvw_text.specs.Language.{is_letter_or_digit_char, is_language_tag}
 use Rattle.csvw_ntriples.specs.Character.{is_blank, is_label_start, is_label_char, is_raw_in_iri, is_raw_in_string, escape_of}
 use Rattle.csvw_ntriples.specs.Terminal.{IsNumbered, Spells, IsLabel}
-use Rattle.csvw_ntriples.specs.Grammar.{IsIdle, IsTripleLine, IsLongest}
+use Rattle.csvw_ntriples.specs.Grammar.{IsIdle, IsTripleLine, IsLongest, IsMark, Takes, TakesTerm}
 use Rattle.csvw_ntriples.specs.declared.reading.runs.Class.{Class}
 use Rattle.csvw_ntriples.specs.declared.reading.runs.Class.TheVariants as class
 use Rattle.csvw_ntriples.specs.declared.reading.runs.Start.{Start}
@@ -17,6 +17,7 @@ use Rattle.csvw_ntriples.specs.declared.reading.enclosed.Enclosed.{Enclosed}
 use Rattle.csvw_ntriples.specs.declared.reading.enclosed.Enclosed.TheVariants as enclosed
 use Rattle.csvw_ntriples.specs.declared.term.NtFault.{NtFault}
 use Rattle.csvw_ntriples.specs.declared.term.NtFault.TheVariants.{Memory, Syntax}
+use Rattle.csvw_ntriples.specs.declared.term.NtTerm.{NtTerm}
 use Rattle.csvw_ntriples.specs.declared.term.NtTriple.{NtTriple}
 
 -- runs of characters
@@ -84,6 +85,10 @@ abbrev pub FindsBeforeDot : {V : Type 0} → (V → List ℕ → Type 0) → Res
 FindsBeforeDot {V} R (Ok r) = R r.0 r.1.now × ((v : V) (rest : List ℕ) → R v rest → dark rest ≡ Some 46 → rest ≡ r.1.now)
 FindsBeforeDot R (Err Memory) = Unit {0}
 FindsBeforeDot {V} R (Err Syntax) = (v : V) (rest : List ℕ) → R v rest → dark rest ≡ Some 46 → ⊥
+
+-- the term that a line ends with, before its dot
+abbrev pub EndsLine : List ℕ → NtTerm → Type 0
+EndsLine text o = (after end : List ℕ) × TakesTerm o text after × Takes (IsMark (codes ".")) tt after end × IsIdle end
 
 -- what a line gives
 abbrev pub LineGives : List ℕ → Option NtTriple → Type 0

@@ -8,6 +8,7 @@ ghost use Rattle.csvw_ntriples.specs.declared.term.NtTriple.{NtTriple as TheTrip
 use super::character::is_line_break;
 use super::triple_line::line;
 use crate::{NtFault, NtTriple};
+use csvw_text::Seq;
 use std::alloc::Global;
 
 /// The characters in front of the first line break, and those after it where there is one.
@@ -29,7 +30,7 @@ fn triples(alloc: Global, text: &[char]) -> Result<Vec<NtTriple>, NtFault>
     ensures found { IfOk result (λ v. DenotesText text.now v.items) }
     ensures none { result ≡ Err NtFault.Syntax → (ts : List TheTriple) → DenotesText text.now ts → ⊥ }
 {
-    let mut triples = Vec::new(alloc);
+    let mut triples = Seq::new(alloc);
     let mut rest = Some(text);
     while let Some(lines) = rest {
         let (front, next) = first_line(lines);
@@ -40,7 +41,7 @@ fn triples(alloc: Global, text: &[char]) -> Result<Vec<NtTriple>, NtFault>
         }
         rest = next;
     }
-    Ok(triples)
+    Ok(triples.into_vec())
 }
 
 /// Reads a document of N-Triples (RDF 1.1 N-Triples, section 7): the triples that it denotes, in their

@@ -97,10 +97,7 @@ fn piece(kind: Enclosed, text: &[char]) -> Option<(char, &[char])>
     match *letter {
         'u' => numbered(rest, 4),
         'U' => numbered(rest, 8),
-        other => {
-            let c = escape(kind, other)?;
-            Some((c, rest))
-        }
+        other => Some((escape(kind, other)?, rest)),
     }
 }
 

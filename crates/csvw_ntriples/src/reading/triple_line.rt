@@ -1,6 +1,6 @@
 //! The triple of a line.
 ghost use Rattle.csvw_ntriples.specs.Grammar.{TakesNode, TakesTerm, IsTripleLine};
-ghost use Rattle.csvw_ntriples.specs.Reading.{Finds, FindsBeforeDot, Answers, LineGives};
+ghost use Rattle.csvw_ntriples.specs.Reading.{Finds, FindsBeforeDot, Answers, EndsLine, LineGives};
 
 use super::label::blank;
 use super::literal::literal;
@@ -47,21 +47,25 @@ fn term(alloc: Global, text: &[char]) -> Result<(NtTerm, &[char]), NtFault>
     }
 }
 
+/// The object that a line ends with, before its dot and perhaps a comment.
+fn object(alloc: Global, text: &[char]) -> Result<NtTerm, NtFault>
+    ensures { Answers (EndsLine text.now) result }
+{
+    let (object, rest) = term(alloc, text)?;
+    match after_dot(rest) {
+        Some(end) if is_idle(end) => Ok(object),
+        _ => Err(NtFault::Syntax),
+    }
+}
+
 /// The triple of a line that has one.
 fn triple(alloc: Global, text: &[char]) -> Result<NtTriple, NtFault>
     ensures { Answers (IsTripleLine text.now) result }
 {
     let (s, after_subject) = node(alloc, text)?;
     let (p, after_predicate) = iri(alloc, after_subject)?;
-    let (o, after_object) = term(alloc, after_predicate)?;
-    let Some(end) = after_dot(after_object) else {
-        return Err(NtFault::Syntax);
-    };
-    if is_idle(end) {
-        Ok(NtTriple { s, p, o })
-    } else {
-        Err(NtFault::Syntax)
-    }
+    let o = object(alloc, after_predicate)?;
+    Ok(NtTriple { s, p, o })
 }
 
 /// The triple of a line, or `None` where the line is empty but for spaces, tabs and a comment.
@@ -71,6 +75,5 @@ pub(crate) fn line(alloc: Global, text: &[char]) -> Result<Option<NtTriple>, NtF
     if is_idle(text) {
         return Ok(None);
     }
-    let triple = triple(alloc, text)?;
-    Ok(Some(triple))
+    Ok(Some(triple(alloc, text)?))
 }

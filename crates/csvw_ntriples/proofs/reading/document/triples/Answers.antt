@@ -17,9 +17,9 @@ loop-rest-preserved-in-Ok c =
     let g = subst (λ (z : Option NtTriple). LineGives front z) c.in-Some-2.is c.in_ok-triple.ensures in
     record {
       whole = whole_on c.args.text.now front c.loop-rest.rest c.first_line.result.1
-          (Some c.in-Some-2.triple) _ _ e g c.in-Ok.ensures.items c.loop-rest.invariant.whole;
+          (Some c.in-Some-2.triple) _ _ e g c.in-Ok.ensures.ok c.loop-rest.invariant.whole;
       only = only_on c.args.text.now front c.loop-rest.rest c.first_line.result.1
-          (Some c.in-Some-2.triple) _ _ e g c.in-Ok.ensures.items c.loop-rest.invariant.only;
+          (Some c.in-Some-2.triple) _ _ e g c.in-Ok.ensures.ok c.loop-rest.invariant.only;
     }
 
 pub loop-rest-preserved : goal.loop-rest-preserved
@@ -28,11 +28,11 @@ loop-rest-preserved c =
     let n = next_lines c.args.text.now front c.in-Some.lines c.first_line.result.1 c.first_line.ensures in
     let e = ap rest_lines c.in-Some.is ∙ n.0 in
     let g = subst (λ (z : Option NtTriple). LineGives front z) c.in_default-2.is c.in_ok-triple.ensures in
-    let same = sym (append-nil c.loop-rest.triples.items) in
+    let same = sym (append-nil c.loop-rest.triples) in
     record {
-      whole = whole_on c.args.text.now front c.loop-rest.rest c.first_line.result.1 None c.loop-rest.triples.items c.loop-rest.triples.items e g same
+      whole = whole_on c.args.text.now front c.loop-rest.rest c.first_line.result.1 None c.loop-rest.triples c.loop-rest.triples e g same
           c.loop-rest.invariant.whole;
-      only = only_on c.args.text.now front c.loop-rest.rest c.first_line.result.1 None c.loop-rest.triples.items c.loop-rest.triples.items e g same
+      only = only_on c.args.text.now front c.loop-rest.rest c.first_line.result.1 None c.loop-rest.triples c.loop-rest.triples e g same
           c.loop-rest.invariant.only;
     }
 
@@ -40,7 +40,7 @@ pub returns-clause-found : goal.returns-clause-found
 returns-clause-found c =
     let ended = subst (λ (z : Option (Bor (List ℕ))). AreLines (rest_lines z) []) (sym c.in_default.is) refl in
     let whole = c.loop-rest.invariant.whole [] ended in
-    subst (λ (z : List NtTriple). DenotesText c.args.text.now z) (append-nil c.loop-rest.triples.items) whole
+    subst (λ (z : List NtTriple). DenotesText c.args.text.now z) (append-nil c.loop-rest.triples ∙ sym c.into_vec.ensures) whole
 
 pub returns-in_err-triple-clause-none : goal.returns-in_err-triple-clause-none
 returns-in_err-triple-clause-none c =

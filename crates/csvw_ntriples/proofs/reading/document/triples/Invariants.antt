@@ -6,8 +6,8 @@ use Rattle.csvw_ntriples.proofs.reading.document.triples.Given as goal
 
 abbrev pub invariant-loop-rest : goal.invariant-loop-rest
 invariant-loop-rest l = record {
-  whole : (ts : List NtTriple) → AreLines (rest_lines l.rest) ts → DenotesText l.text (l.triples.items ++ ts);
-  only : (ts : List NtTriple) → DenotesText l.text ts → (us : List NtTriple) × (ts ≡ l.triples.items ++ us) × AreLines (rest_lines l.rest) us;
+  whole : (ts : List NtTriple) → AreLines (rest_lines l.rest) ts → DenotesText l.text (l.triples ++ ts);
+  only : (ts : List NtTriple) → DenotesText l.text ts → (us : List NtTriple) × (ts ≡ l.triples ++ us) × AreLines (rest_lines l.rest) us;
 }
 
 abbrev pub decreases-loop-rest : goal.decreases-loop-rest
