@@ -50,8 +50,9 @@ fn take(rt: &HostRuntime, session: &mut Session<Counter>) -> io::Result<Result<O
     Ok(session.finish())
 }
 
-/// Reports the faults of the tables.
-fn report(rt: &HostRuntime, outcome: &Outcome) -> io::Result<()> {
+/// Tells how many triples there are in all, and reports the faults of the tables.
+fn report(rt: &HostRuntime, counter: &Counter, outcome: &Outcome) -> io::Result<()> {
+    println!(rt; "{} triples in all", counter.count())?;
     let mut out = Counted::new(rt.stdout());
     match write_report(rt.alloc(), outcome.faults.as_slice(), &mut out) {
         Ok(()) => Ok(()),
@@ -63,8 +64,10 @@ fn main(rt: HostRuntime) -> io::Result<()> {
     let Some(mut session) = session_over(rt.alloc()) else {
         return eprintln!(rt; "the session did not start");
     };
-    match take(&rt, &mut session)? {
-        Ok(outcome) => report(&rt, &outcome),
+    let taken = take(&rt, &mut session);
+    let counter = session.into_sink();
+    match taken? {
+        Ok(outcome) => report(&rt, &counter, &outcome),
         Err(stop) => eprintln!(rt; "the session stopped: {stop:?}"),
     }
 }

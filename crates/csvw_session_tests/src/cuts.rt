@@ -107,6 +107,20 @@ fn is_fed<S: TripleSink>(
     }
 }
 
+/// The report of a session that is fed in an order that a seed gives.
+fn told<S: TripleSink>(
+    alloc: Global,
+    session: &mut Session<S>,
+    texts: &[&'static [u8]],
+    seed: u64,
+) -> Option<Vec<u8>> {
+    if is_fed(alloc, session, texts, seed) {
+        report_of(alloc, session)
+    } else {
+        None
+    }
+}
+
 /// The report of a session that is fed in an order that a seed gives, and whose graph goes to a writer.
 fn told_into(
     alloc: Global,
@@ -116,11 +130,9 @@ fn told_into(
     graph: &mut Counted<Vec<u8>>,
 ) -> Option<Vec<u8>> {
     let mut session = started(alloc, example.meta, mode, NtSink::new(alloc, graph))?;
-    if is_fed(alloc, &mut session, example.texts, seed) {
-        report_of(alloc, &mut session)
-    } else {
-        None
-    }
+    let report = told(alloc, &mut session, example.texts, seed);
+    session.into_sink();
+    report
 }
 
 /// What a session leaves that is fed in an order that a seed gives.

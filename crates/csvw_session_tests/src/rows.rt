@@ -50,7 +50,9 @@ fn told<S: TripleSink>(alloc: Global, session: &mut Session<S>) -> Option<Vec<u8
 /// The report of a session whose graph goes to a writer.
 fn told_into(alloc: Global, graph: &mut Counted<Vec<u8>>) -> Option<Vec<u8>> {
     let mut session = started(alloc, KEYS, Mode::Minimal, NtSink::new(alloc, graph))?;
-    told(alloc, &mut session)
+    let report = told(alloc, &mut session);
+    session.into_sink();
+    report
 }
 
 /// Whether a session tells this report, whose graph goes to a writer.
@@ -106,7 +108,11 @@ fn stops<S: TripleSink>(session: &mut Session<S>) -> bool {
 /// Whether a session stops whose graph goes to this writer.
 fn stops_at(alloc: Global, out: &mut Counted<Full>) -> bool {
     match started(alloc, KEYS, Mode::Standard, NtSink::new(alloc, out)) {
-        Some(mut session) => stops(&mut session),
+        Some(mut session) => {
+            let stopped = stops(&mut session);
+            session.into_sink();
+            stopped
+        }
         None => false,
     }
 }
