@@ -39,7 +39,7 @@ items_snoc d (t ∷ texts) items codes text item its (i, others, c, theirs, e, f
 )
 
 -- a part that is null, and one that isn't
-pub texts_null : (p : Properties) (parts : List (List ℕ)) (part : List ℕ) → is_null p.null (item_text p part) ≡ true
+texts_null : (p : Properties) (parts : List (List ℕ)) (part : List ℕ) → is_null p.null (item_text p part) ≡ true
     → texts_of p (parts ++ part ∷ []) ≡ texts_of p parts
 texts_null p [] part e = rw e refl
 texts_null p (x ∷ parts) part e = kept (not (is_null p.null (item_text p x))) (item_text p x) (texts_null p parts part e)
@@ -75,3 +75,12 @@ one_item f p parts i d text item its items new_items codes new_codes lt e n j g 
     (subst (λ x. AreItems p.datatype (texts_of p front ++ text ∷ []) x new_codes) (sym g)
     (subst (λ x. AreItems p.datatype (texts_of p front ++ text ∷ []) (items ++ item ∷ []) x) (sym h)
     (items_snoc p.datatype (texts_of p front) items codes text item its so_far j)))
+
+-- the same items where one more part is null
+pub no_item : {R : Type 0} (f : R → List ℕ) (p : Properties) (parts : List R) (i : ℕ) (d : R) (text : List ℕ) (items : List Item) (codes : List Code)
+    → i < length parts → text ≡ item_text p (f (get_or parts i d)) → is_null p.null text ≡ true
+    → AreItems p.datatype (texts_of p (map f (take i parts))) items codes → AreItems p.datatype (texts_of p (map f (take (i + 1) parts))) items codes
+no_item f p parts i d text items codes lt e n so_far =
+    let t : texts_of p (map f (take (i + 1) parts)) ≡ texts_of p (map f (take i parts)) =
+    ap (texts_of p) (take_map_suc f parts i d lt) ∙ texts_null p (map f (take i parts)) (f (get_or parts i d)) (sym (ap (is_null p.null) e) ∙ n) in
+    subst (λ texts. AreItems p.datatype texts items codes) (sym t) so_far

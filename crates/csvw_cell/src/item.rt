@@ -13,7 +13,7 @@ use csvw_text::{Code, Seq, Text};
 use std::alloc::{AllocError, Global};
 
 /// An item, and what is wrong with it.
-#[derive(Debug, Drop)]
+#[derive(Drop)]
 pub struct Judged {
     /// The value, or the text as a string where it isn't read.
     pub item: Item,

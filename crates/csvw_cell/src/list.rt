@@ -11,7 +11,7 @@ use csvw_text::{Code, Seq, Text, strip_end, strip_start};
 use std::alloc::{AllocError, Global};
 
 /// The items of a list, and what is wrong with them.
-#[derive(Debug, Drop)]
+#[derive(Drop)]
 pub struct JudgedItems {
     /// One for each text, in their order.
     pub items: Seq<Item>,

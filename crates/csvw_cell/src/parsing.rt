@@ -103,9 +103,10 @@ fn single(
         text,
         text_of(alloc, spare),
     )?;
+    let faults = in_order(alloc, judged.causes.as_slice())?;
     Ok(Cell {
         value: CellValue::One(judged.item),
-        faults: in_order(alloc, judged.causes.as_slice())?,
+        faults,
     })
 }
 
@@ -120,9 +121,10 @@ fn list_of(
 {
     let parts = parts(alloc, separator, text)?;
     let judged = judge_items(alloc, properties, parts.as_slice())?;
+    let faults = in_order(alloc, judged.causes.as_slice())?;
     Ok(Cell {
         value: CellValue::Many(judged.items),
-        faults: in_order(alloc, judged.causes.as_slice())?,
+        faults,
     })
 }
 

@@ -4,5 +4,6 @@ mod PlanLemmas
 mod ReadyLemmas
 mod SoundLemmas
 mod KeyLemmas
+mod MapLemmas
 mod DescribedLemmas
 mod FreeLemmas

@@ -110,7 +110,6 @@ fn in_table(alloc: Global, plan: &TablePlan, columns: Seq<Column>) -> Result<Col
 /// those that come from the header rows, or without header rows one for each field of the first data row, of which there
 /// are so many. `TooManyColumns` where there are over 1,024 of them, or over 1,024 columns of the source are skipped; else
 /// `DuplicateName` where two have one name. `Memory` where there is none. It never answers `RaggedRow`.
-#[tactic(auto, using(crate::proofs::SoundLemmas::sound_at))]
 pub fn match_header(
     alloc: Global,
     plan: &TablePlan,

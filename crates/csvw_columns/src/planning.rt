@@ -110,10 +110,10 @@ fn bare_plan(
     ensures { IfOk result (λ p. p ≡ record (table_plan known.now.targets group.now number table.now) { primary_key = []; foreign_keys = []; notes = [] }) }
 {
     let dialect = dialect_of(alloc, &table.dialect, &group.dialect)?;
-    let id = copied_option(alloc, &table.id)?;
     let framed = framed(alloc, group, known, table, dialect.skip_columns);
-    let inherited = group.inherited.clone(alloc);
-    let ((frame, declared), group) = both(framed, inherited)?;
+    let id = copied_option(alloc, &table.id);
+    let rest = both(id, group.inherited.clone(alloc));
+    let ((frame, declared), (id, group)) = both(framed, rest)?;
     Ok(TablePlan {
         number,
         url: frame.url,

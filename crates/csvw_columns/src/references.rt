@@ -11,7 +11,7 @@ use crate::choices::schema_of;
 use crate::plan::{ForeignKeyPlan, TablePlan};
 use csvw_description::{Description, ForeignKey, Name, Schema, TableDescription};
 use csvw_iri::Iri;
-use csvw_text::{Seq, Text};
+use csvw_text::{Seq, Text, both};
 use std::alloc::{AllocError, Global};
 
 /// What foreign keys refer to.
@@ -71,10 +71,10 @@ fn all_names(
 pub(crate) fn targets_of(alloc: Global, group: &Description) -> Result<Targets, AllocError>
     ensures { IfOk result (λ t. t ≡ targets_of group.now) }
 {
-    Ok(Targets {
-        urls: urls_of(alloc, group.tables.as_slice())?,
-        names: all_names(alloc, &group.schema, group.tables.as_slice())?,
-    })
+    let urls = urls_of(alloc, group.tables.as_slice());
+    let names = all_names(alloc, &group.schema, group.tables.as_slice());
+    let (urls, names) = both(urls, names)?;
+    Ok(Targets { urls, names })
 }
 
 fn place_of_name(names: &[Name], name: &str) -> Option<usize>
@@ -99,7 +99,6 @@ fn number_at(place: Option<usize>) -> u32
     }
 }
 
-#[tactic(auto, using(crate::proofs::KeyLemmas::number_within))]
 fn numbers_of(alloc: Global, names: &[Name], key: &[Text]) -> Result<Seq<u32>, AllocError>
     requires { length names.now ≤ column_limit }
     ensures { IfOk result (λ s. s ≡ numbers_of names.now key.now) }
@@ -138,10 +137,13 @@ fn foreign_key(
 {
     let place = place_of_url(targets.urls.as_slice(), key.resource.as_str());
     let referenced = names_at(targets.names.as_slice(), place);
+    let columns = numbers_of(alloc, own, key.columns.as_slice());
+    let referenced = numbers_of(alloc, referenced, key.referenced.as_slice());
+    let (columns, referenced) = both(columns, referenced)?;
     Ok(ForeignKeyPlan {
-        columns: numbers_of(alloc, own, key.columns.as_slice())?,
+        columns,
         table: number_at(place),
-        referenced: numbers_of(alloc, referenced, key.referenced.as_slice())?,
+        referenced,
     })
 }
 
@@ -204,10 +206,10 @@ pub(crate) fn keys_of(
     ensures { IfOk result (λ k. k ≡ keys_of targets.now (unwrap_or schema.now no_schema)) }
 {
     let own = declared_names(alloc, schema)?;
-    Ok(Keys {
-        primary: primary_key(alloc, own.as_slice(), schema)?,
-        foreign: foreign_keys(alloc, targets, own.as_slice(), schema)?,
-    })
+    let primary = primary_key(alloc, own.as_slice(), schema);
+    let foreign = foreign_keys(alloc, targets, own.as_slice(), schema);
+    let (primary, foreign) = both(primary, foreign)?;
+    Ok(Keys { primary, foreign })
 }
 
 fn are_numbers(numbers: &[u32]) -> bool

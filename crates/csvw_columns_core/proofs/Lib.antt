@@ -1,4 +1,5 @@
 mod InheritedLemmas
+mod SameLemmas
 mod DeclaredLemmas
 mod HeaderLemmas
 mod XsdLemmas

@@ -58,8 +58,8 @@ impl Frame {
             × (found.1 ≡ literal_datatype found.0.datatype)) }
     {
         let properties = defaults.inherited(alloc, own, &self.schema, &self.table, group)?;
-        let literal_datatype = literal_datatype(alloc, properties.datatype.get())?;
-        Ok((properties, literal_datatype))
+        let literal_datatype = literal_datatype(alloc, properties.datatype.get());
+        both(Ok(properties), literal_datatype)
     }
 
     /// The column of a description, with its number from 1 (Metadata Vocabulary for Tabular Data, sections 5.6 and 5.7;

@@ -4,7 +4,7 @@ use Rattle.std.proofs.Common.{inr, refl, ap, sym, ◌∙◌, subst, append_assoc
 use Rattle.std.specs.Prelude.{codes, IfSome}
 use Rattle.std.specs.List.{list_all}
 use Rattle.std.specs.Char.{is_digit, is_ascii_digit, to_ascii_lowercase}
-use Rattle.std.proofs.lemmas.Bool.{cond-false, cond_both, true≢false, and_from}
+use Rattle.std.proofs.lemmas.Bool.{cond-false, cond_both, true≢false, and_from, and_parts, eqb-true}
 use Rattle.std.proofs.lemmas.Bool.Decides.{nat_tests}
 use Rattle.std.proofs.lemmas.List.Elements.{All-nil, All-cons, All-weaker}
 use Rattle.percent_encoding.specs.Percent.{IsKept}
@@ -143,26 +143,33 @@ module _ (scheme : List ℕ) (is_scheme : IsScheme scheme) (kind : scheme_type s
 
 -- ---- nothing is to be made safe
 
+-- a byte is raw where it is one that is
+raw_as : (b k : ℕ) → (b == k) ≡ true → not (is_forbidden k) ≡ true → not (is_forbidden b) ≡ true
+raw_as b k same raw = ap (λ n. not (is_forbidden n)) (eqb-true b k same) ∙ raw
+
+plain_raw : (b : ℕ) → is_plain b ≡ true → not (is_forbidden b) ≡ true
+plain_raw b plain = grind (arith, nat_tests)
+
 path_raw : (b : ℕ) (bytes : List ℕ) → goes_on (of_path b) bytes ≡ true → not (is_forbidden b) ≡ true
 path_raw b bytes =
     let P : Option Place → Type 0 = λ p. goes_on p bytes ≡ true → not (is_forbidden b) ≡ true in
-    cond_both (b == 47) _ _ P (λ e h. grind (arith, nat_tests))
-    (λ _. cond_both (b == 63) _ _ P (λ e h. grind (arith, nat_tests))
-    (λ _. cond_both (b == 35) _ _ P (λ e h. grind (arith, nat_tests))
-    (λ _. cond_both (is_plain b) _ _ P (λ e h. grind (arith, nat_tests)) (λ _ h. absurd (true≢false (sym h))))))
+    cond_both (b == 47) _ _ P (λ e h. raw_as b 47 e refl)
+    (λ _. cond_both (b == 63) _ _ P (λ e h. raw_as b 63 e refl)
+    (λ _. cond_both (b == 35) _ _ P (λ e h. raw_as b 35 e refl)
+    (λ _. cond_both (is_plain b) _ _ P (λ e h. plain_raw b e) (λ _ h. absurd (true≢false (sym h))))))
 
 label_raw : (b : ℕ) (bytes : List ℕ) → goes_on (of_label b) bytes ≡ true → not (is_forbidden b) ≡ true
 label_raw b bytes =
     let P : Option Place → Type 0 = λ p. goes_on p bytes ≡ true → not (is_forbidden b) ≡ true in
     cond_both (is_of_label b) _ _ P (λ e h. grind (arith, nat_tests))
-    (λ _. cond_both (b == 46) _ _ P (λ e h. grind (arith, nat_tests))
-    (λ _. cond_both (b == 47) _ _ P (λ e h. grind (arith, nat_tests)) (λ _ h. absurd (true≢false (sym h)))))
+    (λ _. cond_both (b == 46) _ _ P (λ e h. raw_as b 46 e refl)
+    (λ _. cond_both (b == 47) _ _ P (λ e h. raw_as b 47 e refl) (λ _ h. absurd (true≢false (sym h)))))
 
 query_raw : (b : ℕ) (bytes : List ℕ) → goes_on (of_query b) bytes ≡ true → not (is_forbidden b) ≡ true
 query_raw b bytes =
     let P : Option Place → Type 0 = λ p. goes_on p bytes ≡ true → not (is_forbidden b) ≡ true in
-    cond_both (b == 35) _ _ P (λ e h. grind (arith, nat_tests))
-    (λ _. cond_both (is_plain b && not (b == 39)) _ _ P (λ e h. grind (arith, nat_tests)) (λ _ h. absurd (true≢false (sym h))))
+    cond_both (b == 35) _ _ P (λ e h. raw_as b 35 e refl)
+    (λ _. cond_both (is_plain b && not (b == 39)) _ _ P (λ e h. plain_raw b (and_parts _ _ e).0) (λ _ h. absurd (true≢false (sym h))))
 
 step_raw : (place : Place) (b : ℕ) (bytes : List ℕ) → goes_on (step place b) bytes ≡ true → not (is_forbidden b) ≡ true
 step_raw Front b bytes =
@@ -171,15 +178,15 @@ step_raw Front b bytes =
 step_raw Label b bytes = label_raw b bytes
 step_raw Segment b bytes =
     let P : Option Place → Type 0 = λ p. goes_on p bytes ≡ true → not (is_forbidden b) ≡ true in
-    cond_both (b == 46) _ _ P (λ e h. grind (arith, nat_tests)) (λ _. cond_both (b == 37) _ _ P (λ e h. grind (arith, nat_tests)) (λ _. path_raw b bytes))
+    cond_both (b == 46) _ _ P (λ e h. raw_as b 46 e refl) (λ _. cond_both (b == 37) _ _ P (λ e h. raw_as b 37 e refl) (λ _. path_raw b bytes))
 step_raw Percent b bytes =
     cond_both (b == 50) _ _ (λ p. goes_on p bytes ≡ true → not (is_forbidden b) ≡ true)
-    (λ e h. grind (arith, nat_tests)) (λ _. path_raw b bytes)
+    (λ e h. raw_as b 50 e refl) (λ _. path_raw b bytes)
 step_raw Path b bytes = path_raw b bytes
 step_raw Query b bytes = query_raw b bytes
 step_raw Fragment b bytes =
     cond_both (is_plain b) _ _ (λ p. goes_on p bytes ≡ true → not (is_forbidden b) ≡ true)
-    (λ e h. grind (arith, nat_tests)) (λ _ h. absurd (true≢false (sym h)))
+    (λ e h. plain_raw b e) (λ _ h. absurd (true≢false (sym h)))
 
 reaches : (next : Option Place) (bytes : List ℕ) → ((place : Place) → goes_on (Some place) bytes ≡ true → is_iri bytes ≡ true)
     → goes_on next bytes ≡ true → is_iri bytes ≡ true

@@ -1,7 +1,8 @@
--- A list in which one element after the other is replaced.
-use Rattle.std.proofs.Common.{◌≡◌, ◌≤◌, ◌<◌, ◌+◌, ℕ, List, All, get_or, length, map, set, sym, ◌∙◌, subst, arith, Result, Ok, Err, OnOk}
+-- A list in which one element after the other is replaced or added.
+use Rattle.std.proofs.Common.{◌≡◌, ◌≤◌, ◌<◌, ◌+◌, ℕ, List, [], ◌∷◌, ◌++◌, All, get_or, length, map, set, take}
+use Rattle.std.proofs.Common.{sym, ap, ◌∙◌, subst, arith, Result, Ok, Err, OnOk}
 use Rattle.std.proofs.Math.Seq.{map-set_same}
-use Rattle.std.proofs.lemmas.List.{get_or-set_other}
+use Rattle.std.proofs.lemmas.List.{get_or-set_other, map_more}
 use Rattle.std.proofs.lemmas.List.Elements.{All-get_or, All-set}
 
 module _ {X : Type 0} (xs : List X) (i : ℕ) (d y : X) where
@@ -21,3 +22,9 @@ module _ {X : Type 0} (xs : List X) (i : ℕ) (d y : X) where
 pub on_ok : {A E P Q : Type 0} (r : Result A E) → OnOk r P → (P → Q) → OnOk r Q
 on_ok (Ok a) h f = f h
 on_ok (Err e) h f = tt
+
+-- what is made of one element more
+pub map_longer : {A B : Type 0} (f : A → B) (xs : List A) (i : ℕ) (x : A) {ys more : List B} {y : B} → i < length xs → x ≡ get_or xs i x
+    → ys ≡ map f (take i xs) → more ≡ ys ++ y ∷ [] → y ≡ f x → more ≡ map f (take (i + 1) xs)
+map_longer f xs i x {ys} {more} {y} lt is so_far e one =
+    e ∙ ap (λ l. l ++ y ∷ []) so_far ∙ ap (λ z. map f (take i xs) ++ z ∷ []) (one ∙ ap f is) ∙ sym (map_more f xs i x lt)

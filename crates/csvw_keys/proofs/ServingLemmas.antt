@@ -1,6 +1,6 @@
 -- Books count what keys refer to, and one book more takes nothing away.
 use Rattle.std.proofs.Common.{◌≡◌, ℕ, List, [], ◌∷◌, ◌++◌, Bool, true, false, Option, Some, refl, ap, ◌∙◌, All, flat_map, is_some, nat_eq, bytes_eq}
-use Rattle.std.proofs.Common.{◌||◌, None, if◌then◌else◌, MatchOption}
+use Rattle.std.proofs.Common.{◌||◌, ◌==◌, None, if◌then◌else◌, length, MatchOption}
 use Rattle.std.specs.Cmp.Lexicographic.{bytes_decides}
 use Rattle.std.specs.List.{list_any}
 use Rattle.std.proofs.lemmas.Bool.{and_from, eq-eqb, or_left, or_right, false≢true}
@@ -71,3 +71,8 @@ module _ (purposes : List Purpose) where
   primary_served table [] = All-nil (λ rule. is_served purposes rule ≡ true)
   primary_served table (c ∷ cs) =
       All-cons (λ rule. is_served purposes rule ≡ true) (Unique table (c ∷ cs)) [] refl (All-nil (λ rule. is_served purposes rule ≡ true))
+
+-- a table with columns in its primary key
+pub primary_of_some : (table : ℕ) (columns : List ℕ) → (length columns == 0) ≡ false → primary_rules table columns ≡ Unique table columns ∷ []
+primary_of_some table [] e = cc
+primary_of_some table (c ∷ cs) e = refl

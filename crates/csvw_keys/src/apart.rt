@@ -7,7 +7,7 @@ use std::alloc::{AllocError, Global};
 use std::cmp::Ordering;
 
 /// A value that lies apart, so that it takes the place of a pointer, and that its copies share. It is compared as the value.
-#[derive(Debug, Drop)]
+#[derive(Drop)]
 pub struct Apart<T> {
     /// The value.
     pub(crate) value: Shared<T>,

@@ -16,7 +16,7 @@ use std::alloc::{AllocError, Global};
 use std::cmp::Ordering;
 
 /// A key as it is kept. It is compared as its value.
-#[derive(Debug, Drop, PartialEq, Eq, PartialOrd)]
+#[derive(Drop, PartialEq, Eq, PartialOrd)]
 pub struct HeldKey {
     /// Its value.
     pub(crate) value: HeldValue,

@@ -13,7 +13,7 @@ use std::alloc::{AllocError, Global};
 
 /// What is kept of a key: of one column that is no list its value. It takes 24 bytes, since a number is in halves and what is
 /// long lies apart.
-#[derive(Debug, Drop, PartialEq, Eq, PartialOrd, Ord)]
+#[derive(Drop, PartialEq, Eq, PartialOrd, Ord)]
 pub enum HeldValue {
     /// A null cell.
     Null,

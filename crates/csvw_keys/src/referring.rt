@@ -10,7 +10,7 @@ use csvw_text::Seq;
 use std::alloc::{AllocError, Global};
 
 /// A row that refers to others.
-#[derive(Debug, Drop)]
+#[derive(Drop)]
 pub struct Referring {
     /// Its key.
     pub(crate) key: HeldKey,

@@ -35,7 +35,7 @@ pub enum AboutLink {
 }
 
 /// Which link it is.
-#[derive(Clone, Copy, Debug, PartialEq, Eq)]
+#[derive(Clone, Copy)]
 pub enum Which {
     /// The about link.
     About,

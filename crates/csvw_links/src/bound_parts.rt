@@ -5,7 +5,7 @@ ghost use Rattle.csvw_links.specs.Simple.{IsSimple};
 use crate::simple::{SimpleLink, simple_of};
 use csvw_iri::OwnFront;
 use csvw_template::BoundPart;
-use csvw_text::Seq;
+use csvw_text::{Seq, both};
 use std::alloc::{AllocError, Global};
 use std::marker::Model;
 
@@ -37,10 +37,13 @@ impl BoundParts {
     pub(crate) fn new(alloc: Global, parts: Seq<BoundPart>) -> Result<BoundParts, AllocError>
         ensures { IfOk result (λ b. b ≡ parts) }
     {
+        let front = front_of(alloc, parts.as_slice());
+        let simple = simple_of(alloc, parts.as_slice());
+        let (front, simple) = both(front, simple)?;
         Ok(BoundParts {
-            front: front_of(alloc, parts.as_slice())?,
-            simple: simple_of(alloc, parts.as_slice())?,
             parts,
+            front,
+            simple,
         })
     }
 

@@ -12,7 +12,7 @@ use crate::linking::{Made, has_template, has_value, no_link};
 use csvw_cell::CellValue;
 use csvw_columns_core::{Column, Columns};
 use csvw_template::{Values, bound_gives_the_same};
-use csvw_text::Seq;
+use csvw_text::{Seq, both};
 use std::alloc::{AllocError, Global};
 use std::marker::Model;
 
@@ -67,10 +67,14 @@ impl LinkedColumns {
     pub fn new(alloc: Global, columns: Columns) -> Result<LinkedColumns, AllocError>
         ensures { IfOk result (λ l. l ≡ columns) }
     {
+        let properties = bind_links(alloc, &columns, Which::Property);
+        let values = bind_links(alloc, &columns, Which::Value);
+        let links = both(properties, values);
+        let (abouts, (properties, values)) = both(bind_abouts(alloc, &columns), links)?;
         Ok(LinkedColumns {
-            abouts: bind_abouts(alloc, &columns)?,
-            properties: bind_links(alloc, &columns, Which::Property)?,
-            values: bind_links(alloc, &columns, Which::Value)?,
+            abouts,
+            properties,
+            values,
             any: any_has_template(columns.columns.as_slice()),
             columns,
         })

@@ -82,7 +82,6 @@ fn body_of(schema: Option<SchemaFound>, found: InheritedFound) -> Body
 }
 
 /// The schema and the inherited properties of the table of this number, 0 for the group.
-#[tactic(auto, using(crate::proofs::ReadLemmas::fails_first), unfolding(crate::specs::Body::body))]
 pub(crate) fn read_body(context: &Context, table: u32, part: &Part) -> Result<Body, Refusal>
     ensures { Reads result (body context.now table (text_of part.now.at) (view part.now.value.now)) }
 {

@@ -37,7 +37,6 @@ impl<'a> NumberedReader for ColumnReader<'a> {
     }
 }
 
-#[tactic(auto, using(crate::proofs::ReadLemmas::fails_first), unfolding(crate::specs::Column::column_of))]
 fn column_of(reader: &ColumnReader, number: u32, part: &Part) -> Result<ColumnDescription, Refusal>
     ensures { Reads result (column_of reader.now.context.now reader.now.table number (text_of part.now.at) (view part.now.value.now)) }
 {

@@ -192,7 +192,6 @@ fn with_keys(
     Ok(SchemaFound { schema, keys })
 }
 
-#[tactic(auto, using(crate::proofs::ReadLemmas::fails_first), unfolding(crate::specs::Schema::schema_of))]
 fn schema_of(context: &Context, table: u32, part: &Part) -> Result<SchemaFound, Refusal>
     ensures { Reads result (schema_of context.now table (text_of part.now.at) (view part.now.value.now)) }
 {

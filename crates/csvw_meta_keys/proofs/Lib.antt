@@ -1,2 +1,3 @@
+mod DescribedLemmas
 mod NamingLemmas
 mod ReadLemmas

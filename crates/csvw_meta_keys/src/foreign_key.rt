@@ -10,8 +10,8 @@ ghost use Rattle.csvw_meta_keys.specs.ForeignKeys.{foreign_key_names, foreign_ke
 use crate::column_names::{ColumnNames, KeyName};
 use crate::reference::{ReferenceFound, ReferenceReader, Resource};
 use csvw_iri::Base;
-use csvw_meta_core::{CommonProperty, Listed, NumberedReader, Part, Reader, Refusal};
-use csvw_text::{Fault, Place, Seq, Text};
+use csvw_meta_core::{CommonProperty, Listed, NumberedReader, Part, Reader, Refusal, joined};
+use csvw_text::{Fault, Place, Seq, Text, both};
 use serde_json::Value;
 use std::alloc::AllocError;
 
@@ -45,35 +45,33 @@ fn warnings_of(place: Place, part: &Part) -> Result<Seq<Fault>, Refusal>
     listed.read(part)
 }
 
-/// The foreign key of these columns, with the warnings on it and on what it refers to.
-fn joined(
-    at: Text,
+/// The foreign key of these columns that the part is, with the warnings on it and on what it refers to.
+fn with_reference(
+    part: &Part,
     warnings: Seq<Fault>,
     columns: Seq<KeyName>,
     reference: ReferenceFound,
 ) -> Result<ForeignKeyFound, AllocError>
-    ensures { IfOk result (λ k. k ≡ joined at warnings columns reference) }
+    ensures { IfOk result (λ k. k ≡ joined (text_of part.now.at) warnings columns reference) }
 {
-    let mut all = warnings.into_vec();
-    all.append(&mut reference.warnings.into_vec())?;
+    let warnings = joined(warnings, reference.warnings);
+    let (at, warnings) = both(part.at.text(part.alloc), warnings)?;
     Ok(ForeignKeyFound {
         at,
         columns,
         resource: reference.resource,
         referenced: reference.columns,
-        warnings: Seq::of(all),
+        warnings,
     })
 }
 
-#[tactic(auto, using(crate::proofs::ReadLemmas::fails_first), unfolding(crate::specs::ForeignKeys::foreign_key_of))]
 fn foreign_key_of(base: &Base, place: Place, part: &Part) -> Result<ForeignKeyFound, Refusal>
     ensures { Reads result (foreign_key_of base.now place (text_of part.now.at) (view part.now.value.now)) }
 {
     let warnings = warnings_of(place, part)?;
     let columns = part.needed(&ColumnNames, "columnReference")?;
     let reference = part.needed(&ReferenceReader { base, place }, "reference")?;
-    let at = part.at.text(part.alloc)?;
-    Ok(joined(at, warnings, columns, reference)?)
+    Ok(with_reference(part, warnings, columns, reference)?)
 }
 
 /// A foreign key.

@@ -25,7 +25,6 @@ pub struct KeysFound {
 
 /// The keys of the schema that the part is; URLs in them are resolved against the base, and warnings on them are told at the
 /// place.
-#[tactic(auto, using(crate::proofs::ReadLemmas::fails_first), unfolding(crate::specs::Keys::keys))]
 pub fn read_keys(base: &Base, place: Place, part: &Part) -> Result<KeysFound, Refusal>
     ensures { Reads result (keys base.now place (text_of part.now.at) (view part.now.value.now)) }
 {

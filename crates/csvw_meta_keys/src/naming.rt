@@ -75,7 +75,6 @@ fn check_sides(alloc: Global, key: &ForeignKeyFound) -> Result<(), Refusal>
     }
 }
 
-#[tactic(auto, using(crate::proofs::ReadLemmas::fails_first))]
 fn check_table(
     alloc: Global,
     own: &[Text],

@@ -4,13 +4,14 @@ ghost use Rattle.serde_json.specs.View.{view};
 ghost use Rattle.csvw_meta_core.specs.Pointer.{text_of};
 ghost use Rattle.csvw_meta_core.specs.Others.{others};
 ghost use Rattle.csvw_meta_core.specs.declared.others.CommonProperty.TheVariants.{Refused};
+ghost use Rattle.csvw_meta_core.specs.Read.{fine};
 ghost use Rattle.csvw_meta_core.specs.Reads.{Reads};
 ghost use Rattle.csvw_meta_keys.specs.References.{reference_names, reference_of, resource};
 
 use crate::column_names::{ColumnNames, KeyName};
 use csvw_iri::{Base, Iri};
 use csvw_meta_core::{CommonProperty, Listed, NotYet, Part, Reader, Refusal, UrlReader};
-use csvw_text::{Fault, Place, Seq, Text};
+use csvw_text::{Fault, Place, Seq, Text, both};
 use serde_json::Value;
 
 /// The properties that are listed for what a foreign key refers to.
@@ -36,6 +37,14 @@ pub(crate) struct ReferenceFound {
     pub(crate) warnings: Seq<Fault>,
 }
 
+/// The table of this URL, which stands there.
+fn resource_of(part: &Part, url: &Iri) -> Result<Resource, Refusal>
+    ensures { Reads result (fine (record { url = url.now; at = text_of part.now.at })) }
+{
+    let (url, at) = both(url.clone(part.alloc), part.at.text(part.alloc))?;
+    Ok(Resource { url, at })
+}
+
 /// A URL of a table, resolved against a base and without its fragment; `UrlTooLong` or `BadUrl` where it resolves to none.
 #[derive(Drop)]
 struct ResourceReader<'a> {
@@ -50,10 +59,7 @@ impl<'a> Reader for ResourceReader<'a> {
 
     fn read(&self, part: &Part) -> Result<Resource, Refusal> {
         let url = UrlReader { base: self.base }.read(part)?;
-        Ok(Resource {
-            url: url.iri().clone(part.alloc)?,
-            at: part.at.text(part.alloc)?,
-        })
+        resource_of(part, url.iri())
     }
 }
 
@@ -69,7 +75,6 @@ fn warnings_of(place: Place, part: &Part) -> Result<Seq<Fault>, Refusal>
     listed.read(part)
 }
 
-#[tactic(auto, using(crate::proofs::ReadLemmas::fails_first), unfolding(crate::specs::References::reference_of))]
 fn reference_of(base: &Base, place: Place, part: &Part) -> Result<ReferenceFound, Refusal>
     ensures { Reads result (reference_of base.now place (text_of part.now.at) (view part.now.value.now)) }
 {

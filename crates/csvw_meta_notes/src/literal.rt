@@ -68,7 +68,6 @@ fn with_own(
 }
 
 /// The literal of the object that the part is, which has these members, with that `@value`.
-#[tactic(auto, using(crate::proofs::ReadLemmas::fails_first), unfolding(crate::specs::Literals::literal))]
 pub(crate) fn read_literal(
     part: &Part,
     vocabulary: &Vocabulary,

@@ -56,7 +56,6 @@ fn check_literal_member(part: &Part, name: &str, value: &Value) -> Result<(), Re
 }
 
 /// Whether an object may be a literal: `BadProperty` at a member that is another keyword or a common property.
-#[tactic(auto, using(crate::proofs::ReadLemmas::fails_first))]
 pub(crate) fn check_literal_members(
     part: &Part,
     members: &Map<String, Value>,
@@ -97,7 +96,6 @@ fn check_node_member(part: &Part, name: &str, value: &Value) -> Result<(), Refus
 }
 
 /// Whether an object may be a node: `NotSupported` at a list or a set, `BadProperty` at a member that is another keyword.
-#[tactic(auto, using(crate::proofs::ReadLemmas::fails_first))]
 pub(crate) fn check_node_members(part: &Part, members: &Map<String, Value>) -> Result<(), Refusal>
     ensures { Reads result (each_member node_member (text_of part.now.at) (members_view members.now.entries)) }
 {

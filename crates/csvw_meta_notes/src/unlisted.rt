@@ -14,7 +14,6 @@ use csvw_text::{Fault, Place, Seq};
 
 /// The warnings, at this place, on an object of a kind for which these names are listed and those that it shares with other
 /// kinds. Its common properties are judged, and give nothing; a fault that stands in them, or `Memory`.
-#[tactic(auto, using(crate::proofs::ReadLemmas::fails_first), unfolding(crate::specs::Unlisted::unlisted))]
 pub fn read_unlisted(
     context: &NoteContext,
     names: &[&str],
@@ -39,7 +38,6 @@ pub fn read_unlisted(
 
 /// What a group or a table is annotated with: what its common properties say, in the byte order of their keys, and then its
 /// `notes`; a fault that stands in them, or `Memory`.
-#[tactic(auto, using(crate::proofs::ReadLemmas::fails_first), unfolding(crate::specs::Unlisted::all_notes))]
 pub fn read_all_notes(context: &NoteContext, part: &Part) -> Result<Seq<Note>, Refusal>
     ensures { Reads result (all_notes context.now.base.now context.now.language.now (text_of part.now.at) (view part.now.value.now)) }
 {
@@ -50,7 +48,6 @@ pub fn read_all_notes(context: &NoteContext, part: &Part) -> Result<Seq<Note>, R
 
 /// The warnings, at this place, on a group or a table, for which these names are listed and those that it shares with other
 /// kinds, and on its annotations.
-#[tactic(auto, using(crate::proofs::ReadLemmas::fails_first), unfolding(crate::specs::Unlisted::all_warnings))]
 pub fn read_all_warnings(
     names: &[&str],
     shared: &[&str],

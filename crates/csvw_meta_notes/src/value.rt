@@ -124,7 +124,6 @@ fn read_object<'p>(
 }
 
 #[cycle(value)]
-#[tactic(auto, using(crate::proofs::ReadLemmas::fails_first), unfolding(crate::specs::Nodes::node))]
 fn read_node<'p>(
     scope: &Scope,
     part: &'p Part<'p>,

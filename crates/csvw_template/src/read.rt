@@ -139,18 +139,15 @@ fn of_operator(alloc: Global, operator: Operator, text: &str) -> Result<Part, Te
     ensures { Gives (λ p. p) told result (of_operator operator text.now) }
 {
     match kind_of(text.as_bytes()) {
-        Kind::Names => {
-            let names = names(alloc, text)?;
-            Ok(Part::Expression(operator, Seq::of(names)))
-        }
+        Kind::Names => Ok(Part::Expression(operator, names(alloc, text)?)),
         Kind::Higher => Err(TemplateFault::TemplateLevel),
         Kind::Bad => Err(TemplateFault::BadTemplate),
     }
 }
 
 /// The names of a list, which commas part.
-fn names(alloc: Global, text: &str) -> Result<Vec<Text>, AllocError>
-    ensures { IfOk result (λ v. v.items ≡ slice_split is_comma text.now) }
+fn names(alloc: Global, text: &str) -> Result<Seq<Text>, AllocError>
+    ensures { IfOk result (λ names. names ≡ slice_split is_comma text.now) }
 {
     let names = cut_at_commas(alloc, text)?;
     copies(alloc, names.as_slice())
@@ -162,10 +159,10 @@ fn cut_at_commas<'a>(alloc: Global, text: &'a str) -> Result<Vec<&'a str>, Alloc
     text.split(',').collect(alloc)
 }
 
-fn copies(alloc: Global, texts: &[&str]) -> Result<Vec<Text>, AllocError>
-    ensures { IfOk result (λ v. v.items ≡ map (λ x. x.now) texts.now) }
+fn copies(alloc: Global, texts: &[&str]) -> Result<Seq<Text>, AllocError>
+    ensures { IfOk result (λ copies. copies ≡ map (λ x. x.now) texts.now) }
 {
-    let mut copies = Vec::new(alloc);
+    let mut copies = Seq::new(alloc);
     for text in texts {
         copies.push(Text::copied(alloc, text)?)?;
     }

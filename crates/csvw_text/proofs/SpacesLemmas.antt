@@ -1,11 +1,13 @@
 -- The pass gives the collapsed text.
-use Rattle.std.proofs.Common.{◌≡◌, ℕ, true, false, cond, List, [], ◌∷◌, ◌++◌, refl, sym, ap, ◌∙◌, ⊎_elim, ◌==◌, arith}
+use Rattle.std.proofs.Common.{◌≡◌, ℕ, true, false, cond, List, [], ◌∷◌, ◌++◌, refl, sym, ap, ap₂, ◌∙◌, ⊎_elim, ◌==◌, append_assoc, arith}
+use Rattle.std.proofs.Common.{encode_utf8, encode_utf8_all}
 use Rattle.std.proofs.lemmas.Bool.{cases_Bool, cond-true, cond-false}
 use Rattle.std.proofs.lemmas.Bool.Decides.{nat_tests}
+use Rattle.std.proofs.lemmas.List.Concat.{flat_map-append}
 use Rattle.csvw_text.specs.declared.spaces.Stand.{Stand}
 use Rattle.csvw_text.specs.declared.spaces.Stand.TheVariants.{Front, Word, Gap}
 use Rattle.csvw_text.specs.Collapse.{is_break, is_space, spaced, unled, before_word, single, collapse}
-use Rattle.csvw_text.specs.Spaces.{next, with_gap, rest}
+use Rattle.csvw_text.specs.Spaces.{next, pushed, with_gap, rest}
 
 unled_twice : (xs : List ℕ) → unled (unled xs) ≡ unled xs
 unled_twice [] = refl
@@ -67,3 +69,14 @@ rest_made s (c ∷ cs) =
 
 pub rest_collapse : (cs : List ℕ) → rest Front cs ≡ collapse cs
 rest_collapse cs = rest_made Front cs
+
+-- what the pass has written and what it writes for the rest, one character on
+pub goes_on : (out longer : List ℕ) (stand after : Stand) (yielded : List ℕ) (c : ℕ) → longer ≡ out ++ encode_utf8_all (pushed stand c)
+    → after ≡ next stand (is_space c)
+    → ((tail : List ℕ) → out ++ encode_utf8_all (rest stand tail) ≡ encode_utf8_all (rest Front (yielded ++ tail))) → (tail : List ℕ)
+    → longer ++ encode_utf8_all (rest after tail) ≡ encode_utf8_all (rest Front ((yielded ++ c ∷ []) ++ tail))
+goes_on out longer stand after yielded c pushes moves written tail =
+    ap₂ (λ l s. l ++ encode_utf8_all (rest s tail)) pushes moves
+    ∙ append_assoc out (encode_utf8_all (pushed stand c)) (encode_utf8_all (rest (next stand (is_space c)) tail))
+    ∙ ap (λ l. out ++ l) (sym (flat_map-append encode_utf8 (pushed stand c) (rest (next stand (is_space c)) tail))) ∙ written (c ∷ tail)
+    ∙ ap (λ l. encode_utf8_all (rest Front l)) (sym (append_assoc yielded (c ∷ []) tail))

@@ -1,7 +1,9 @@
-use Rattle.std.proofs.Common.{◌≡◌, ◌∙◌, true, sym, subst}
+use Rattle.std.proofs.Common.{◌≡◌, ◌∙◌, true, sym, ap, subst, All}
+use Rattle.std.proofs.lemmas.List.Elements.{All-push}
 use Rattle.std.specs.List.{list_any}
-use Rattle.csvw_keys.specs.Books.{counts_in, purposes_of}
-use Rattle.csvw_keys.proofs.ServingLemmas.{counted_by, counted_now, from_some}
+use Rattle.csvw_keys.specs.declared.book.Book.{Book}
+use Rattle.csvw_keys.specs.Books.{KeepsBook, counts_in, is_served, no_rows, purposes_of, rules_in}
+use Rattle.csvw_keys.proofs.ServingLemmas.{counted_by, counted_now, from_some, no_rule_more, served_still}
 use Rattle.csvw_keys.proofs.key_book.serve.Goals as goal
 
 pub returns-then-is_some-clause-served : goal.returns-then-is_some-clause-served
@@ -13,3 +15,18 @@ pub returns-clause-served : goal.returns-clause-served
 returns-clause-served c =
     subst (λ bs. list_any (counts_in c.args.table c.args.columns.now) (purposes_of bs) ≡ true) (sym c.in_ok-push.ensures.items)
     (counted_now c.args.books.now.items c.in_ok-book.book c.args.table c.args.columns.now c.in_ok-book.ensures.purpose)
+
+pub returns-clause-rules : goal.returns-clause-rules
+returns-clause-rules c =
+    ap rules_in c.in_ok-push.ensures.items
+    ∙ no_rule_more c.args.books.now.items c.in_ok-book.book c.args.table c.args.columns.now c.in_ok-book.ensures.purpose
+
+pub returns-clause-keeps : goal.returns-clause-keeps
+returns-clause-keeps c = λ all.
+    let keeps = λ (b : Book). KeepsBook b no_rows in
+    subst (All keeps) (sym c.in_ok-push.ensures.items) (All-push keeps c.args.books.now.items c.in_ok-book.book all c.in_ok-book.ensures.keeps)
+
+pub returns-clause-more : goal.returns-clause-more
+returns-clause-more c = λ rule served.
+    subst (λ bs. is_served (purposes_of bs) rule ≡ true) (sym c.in_ok-push.ensures.items)
+    (served_still c.args.books.now.items c.in_ok-book.book rule served)

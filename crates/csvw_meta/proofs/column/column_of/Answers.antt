@@ -1,5 +1,7 @@
 -- A fault of each part is told, behind those that have none.
+use Rattle.std.proofs.Common.{refl}
 use Rattle.serde_json.specs.View.{view}
+use Rattle.csvw_meta_core.specs.declared.fault.Refusal.TheVariants as refusal
 use Rattle.csvw_meta_core.specs.Pointer.{text_of}
 use Rattle.csvw_meta.specs.Column.{column_of}
 use Rattle.csvw_meta.proofs.ReadLemmas.{fails_first, later, refused}
@@ -75,3 +77,25 @@ returns-in_err-found c =
     (later _ _ _ _ c.in_ok-optional.ensures (later _ _ _ _ c.in_ok-optional-2.ensures (later _ _ _ _ c.in_ok-is_virtual.ensures (
     later _ _ _ _ c.in_ok-suppressed.ensures (later _ _ _ _ c.in_ok-warnings.ensures (later _ _ _ _ c.in_ok-name.ensures (
     later _ _ _ _ (rw c.new.ensures at c.in_ok-titles.ensures) (fails_first _ _ _ c.in_err-found.ensures))))))))
+
+pub returns-in_err-warnings-2 : goal.returns-in_err-warnings-2
+returns-in_err-warnings-2 c =
+    refused c.from_residual-in_err-warnings-2.result refusal.Memory
+    (column_of c.args.reader.now.context.now c.args.reader.now.table c.args.number (text_of c.args.part.now.at) (view c.args.part.now.value.now))
+    c.from_residual-in_err-warnings-2.ensures.1 tt
+
+pub returns : goal.returns
+unfolding column_of
+returns c =
+    rw (
+      c.in_ok-optional.ensures,
+      c.in_ok-optional-2.ensures,
+      c.in_ok-is_virtual.ensures,
+      c.in_ok-suppressed.ensures,
+      c.in_ok-warnings.ensures,
+      c.in_ok-name.ensures,
+      rw c.new.ensures at c.in_ok-titles.ensures,
+      c.in_ok-found.ensures,
+      c.in_ok-warnings-2.ensures,
+    )
+    refl

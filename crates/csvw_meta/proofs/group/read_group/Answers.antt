@@ -1,7 +1,7 @@
 -- A fault of each part is told, behind those that have none.
 use Rattle.serde_json.specs.View.{view}
 use Rattle.csvw_meta_core.specs.Pointer.{text_of}
-use Rattle.std.proofs.Common.{[]}
+use Rattle.std.proofs.Common.{[], refl}
 use Rattle.csvw_meta.specs.Group.{group}
 use Rattle.csvw_meta.proofs.ReadLemmas.{fails_first, later, refused}
 use Rattle.csvw_meta.proofs.group.read_group.Goals as goal
@@ -42,3 +42,17 @@ returns-in_err-id c =
     (group c.args.context.now (text_of c.args.part.now.at) (view c.args.part.now.value.now)) c.from_residual-in_err-id.ensures.1
     (later _ _ _ _ c.in_ok-optional.ensures (later _ _ _ _ c.in_ok-notes.ensures (later _ _ _ _ c.in_ok-warnings.ensures (
     later _ _ _ _ (c.in_ok-tables.ensures []) (fails_first _ _ _ c.in_err-id.ensures)))))
+
+pub returns : goal.returns
+unfolding group
+returns c =
+    rw (
+      c.in_ok-optional.ensures,
+      c.in_ok-notes.ensures,
+      c.in_ok-warnings.ensures,
+      c.in_ok-tables.ensures [],
+      c.in_ok-id.ensures,
+      c.in_ok-given.ensures,
+      c.in_ok-body.ensures,
+    )
+    refl

@@ -1,5 +1,7 @@
 -- A fault of each part is told, behind those that have none.
+use Rattle.std.proofs.Common.{refl}
 use Rattle.serde_json.specs.View.{view}
+use Rattle.csvw_meta_core.specs.declared.fault.Refusal.TheVariants as refusal
 use Rattle.csvw_meta_core.specs.Pointer.{text_of}
 use Rattle.csvw_meta.specs.Schema.{schema_of}
 use Rattle.csvw_meta.proofs.ReadLemmas.{fails_first, later, refused}
@@ -58,3 +60,24 @@ returns-in_err-keys c =
     (later _ _ _ _ c.in_ok-optional.ensures (later _ _ _ _ c.in_ok-optional-2.ensures (later _ _ _ _ c.in_ok-optional-3.ensures (
     later _ _ _ _ c.in_ok-warnings.ensures (later _ _ _ _ (rw c.new.ensures at c.in_ok-columns.ensures) (later _ _ _ _ c.in_ok-found.ensures (
     fails_first _ _ _ c.in_err-keys.ensures)))))))
+
+pub returns-in_err-with_keys : goal.returns-in_err-with_keys
+returns-in_err-with_keys c =
+    refused c.from_residual-in_err-with_keys.result refusal.Memory
+    (schema_of c.args.context.now c.args.table (text_of c.args.part.now.at) (view c.args.part.now.value.now))
+    c.from_residual-in_err-with_keys.ensures.1 tt
+
+pub returns : goal.returns
+unfolding schema_of
+returns c =
+    rw (
+      c.in_ok-optional.ensures,
+      c.in_ok-optional-2.ensures,
+      c.in_ok-optional-3.ensures,
+      c.in_ok-warnings.ensures,
+      rw c.new.ensures at c.in_ok-columns.ensures,
+      c.in_ok-found.ensures,
+      c.in_ok-keys.ensures,
+      c.in_ok-with_keys.ensures,
+    )
+    refl

@@ -44,7 +44,8 @@ loop-left-preserved c =
     let q = c.in_ok-left.ensures.keeps in
     let spelled : left ≡ encode_utf8 k ++ behind = sym c.chars-behind.ensures.rest ∙ c.in-Some.ensures.steps.0
     ∙ ap (λ l. encode_utf8 k ++ l) (sym c.as_str-rest.ensures) in
-    let m = over_char (laws_of c.record_laws.ensures) d text _ left behind k _ _ i.within i.back q.back q.is_text spelled c.as_bytes.ensures.value c.terminator_at-ends.ensures.value in
+    let m = over_char (laws_of c.record_laws.ensures) d text _ left behind k _ _ i.within i.back q.back q.is_text spelled
+    c.as_bytes.ensures.value c.terminator_at-ends.ensures.value in
     let b = back_more text left (encode_utf8 k) behind m.within m.back spelled in
     let s = rw c.in-Unfinished.is at c.in_ok-step.ensures.steps in
     record {

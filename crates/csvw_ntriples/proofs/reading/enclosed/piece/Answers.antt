@@ -19,7 +19,7 @@ returns-in-U c =
     (two_heads _ _ _ _ _ 92 85 c.in_ok-first.ensures.cases.0 c.in_ok-letter.ensures.cases.0 c.if-first-ne92.false c.in-U.is)
     (inr (refl, refl)) c.numbered-in-U.ensures
 
-pub returns-in_ok-c-in_default : goal.returns-in_ok-c-in_default
-returns-in_ok-c-in_default c =
-    escape_piece c.args.kind c.args.text.now c.in_ok-letter.rest.now c.in_ok-c-in_default.c c.in_ok-letter.letter.now
-    (two_heads _ _ _ _ _ 92 _ c.in_ok-first.ensures.cases.0 c.in_ok-letter.ensures.cases.0 c.if-first-ne92.false refl) (sym c.in_ok-c-in_default.ensures)
+pub returns-in_ok-escape-in_default : goal.returns-in_ok-escape-in_default
+returns-in_ok-escape-in_default c =
+    escape_piece c.args.kind c.args.text.now c.in_ok-letter.rest.now c.in_ok-escape-in_default.field-0 c.in_ok-letter.letter.now
+    (two_heads _ _ _ _ _ 92 _ c.in_ok-first.ensures.cases.0 c.in_ok-letter.ensures.cases.0 c.if-first-ne92.false refl) (sym c.in_ok-escape-in_default.ensures)
