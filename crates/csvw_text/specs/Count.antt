@@ -1,7 +1,7 @@
--- How a count of failures goes on. It stays at the greatest u64.
-use Rattle.std.specs.Prelude.{ℕ, ◌+◌, ◌-◌, ◌^◌, min, List, [], ◌∷◌, Result, Ok, Err, suc, zero}
+-- How a count of failures, or of reads that report the end, goes on. It stays at the greatest u64.
+use Rattle.std.specs.Prelude.{ℕ, ◌+◌, ◌-◌, ◌^◌, min, Bool, true, false, List, [], ◌∷◌, Result, Ok, Err, suc, zero}
 
--- one failure more
+-- one more
 abbrev pub one_more : ℕ → ℕ
 one_more n = min (n + 1) (2 ^ 64 - 1)
 
@@ -16,3 +16,15 @@ after_write (Err e) bytes n = one_more n
 after_write (Ok k) [] n = n
 after_write (Ok zero) (b ∷ bytes) n = one_more n
 after_write (Ok (suc k)) (b ∷ bytes) n = n
+
+-- the count of ends after a read: one more where it gave nothing although the buffer has room
+abbrev pub after_read : {E : Type 0} → Result ℕ E → List ℕ → ℕ → ℕ
+after_read (Err e) buf n = n
+after_read (Ok k) [] n = n
+after_read (Ok zero) (b ∷ buf) n = one_more n
+after_read (Ok (suc k)) (b ∷ buf) n = n
+
+-- the count of ends of a reader that reported its end once, or not at all
+abbrev pub after_end : Bool → ℕ → ℕ
+after_end true n = one_more n
+after_end false n = n

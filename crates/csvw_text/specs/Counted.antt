@@ -9,3 +9,7 @@ inner_of c = c.inner
 -- how often it failed
 abbrev pub failures_of : {T : Type 0} → Counted T → ℕ
 failures_of c = c.failures
+
+-- how many reads reported the end
+abbrev pub ends_of : {T : Type 0} → Counted T → ℕ
+ends_of c = c.ends

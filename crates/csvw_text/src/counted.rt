@@ -6,23 +6,30 @@ ghost use Rattle.std.specs.Io.{ReadsAtMost, WritesAtMost};
 use std::io;
 use std::io::{Read, Write};
 
-/// A reader or writer with a count of its failures: of the calls that answered an error, and of the
-/// writes that took nothing of some bytes. The count stays at the greatest `u64`.
+/// A reader or writer with a count of its failures: of the calls that returned an error, and of the
+/// writes that took nothing of some bytes. It also counts the reads that reported the end: those that
+/// returned 0 bytes although the buffer has room. Each count stays at the greatest `u64`.
 #[derive(Drop)]
 pub struct Counted<T> {
     inner: T,
     failures: u64,
+    ends: u64,
 }
 
 impl<T> Counted<T> {
-    ghost use Rattle.csvw_text.specs.Counted.{inner_of, failures_of};
+    ghost use Rattle.csvw_text.specs.Counted.{inner_of, failures_of, ends_of};
 
-    /// A reader or writer that hasn't failed.
+    /// A reader or writer that hasn't failed and hasn't reported its end.
     pub fn new(inner: T) -> Counted<T>
         ensures inner { inner_of result ≡ inner }
         ensures failures { failures_of result ≡ 0 }
+        ensures ends { ends_of result ≡ 0 }
     {
-        Counted { inner, failures: 0 }
+        Counted {
+            inner,
+            failures: 0,
+            ends: 0,
+        }
     }
 
     /// How often it failed.
@@ -32,18 +39,29 @@ impl<T> Counted<T> {
         self.failures
     }
 
+    /// How many reads reported the end: they returned 0 bytes although the buffer had room.
+    pub fn ends(&self) -> u64
+        ensures { result ≡ ends_of self.now }
+    {
+        self.ends
+    }
+
     /// The reader or writer.
     pub fn into_inner(self) -> T
         ensures { result ≡ inner_of self }
     {
-        let Counted { inner, failures: _ } = self;
+        let Counted {
+            inner,
+            failures: _,
+            ends: _,
+        } = self;
         inner
     }
 }
 
 impl<R: Read> Read for Counted<R> {
-    ghost use Rattle.csvw_text.specs.Counted.{inner_of, failures_of};
-    ghost use Rattle.csvw_text.specs.Count.{after_call};
+    ghost use Rattle.csvw_text.specs.Counted.{inner_of, failures_of, ends_of};
+    ghost use Rattle.csvw_text.specs.Count.{after_call, after_read};
 
     ghost remaining = { λ c. R.remaining (inner_of c) };
 
@@ -51,17 +69,24 @@ impl<R: Read> Read for Counted<R> {
         ensures bound { ReadsAtMost result buf.new }
         ensures bytes { ReadConsumes (R.remaining (inner_of self.old)) (R.remaining (inner_of self.new)) result buf.new }
         ensures count { failures_of self.new ≡ after_call result (failures_of self.old) }
+        ensures ends { ends_of self.new ≡ after_read result buf.new (ends_of self.old) }
     {
+        let has_room = !buf.is_empty();
         let result = self.inner.read(buf);
-        if result.is_err() {
-            self.failures = self.failures.saturating_add(1);
+        match &result {
+            Ok(n) => {
+                if *n == 0 && has_room {
+                    self.ends = self.ends.saturating_add(1);
+                }
+            }
+            Err(_) => self.failures = self.failures.saturating_add(1),
         }
         result
     }
 }
 
 impl<W: Write> Write for Counted<W> {
-    ghost use Rattle.csvw_text.specs.Counted.{inner_of, failures_of};
+    ghost use Rattle.csvw_text.specs.Counted.{inner_of, failures_of, ends_of};
     ghost use Rattle.csvw_text.specs.Count.{after_call, after_write};
 
     ghost contents = { λ c. W.contents (inner_of c) };
@@ -70,6 +95,7 @@ impl<W: Write> Write for Counted<W> {
         ensures bound { WritesAtMost result buf.now }
         ensures bytes { WriteAppends (W.contents (inner_of self.old)) (W.contents (inner_of self.new)) result buf.now }
         ensures count { failures_of self.new ≡ after_write result buf.now (failures_of self.old) }
+        ensures ends { ends_of self.new ≡ ends_of self.old }
     {
         let result = self.inner.write(buf);
         let failed = match &result {
@@ -85,6 +111,7 @@ impl<W: Write> Write for Counted<W> {
     fn flush(&mut self) -> io::Result<()>
         ensures bytes { Keeps (W.contents (inner_of self.old)) (W.contents (inner_of self.new)) }
         ensures count { failures_of self.new ≡ after_call result (failures_of self.old) }
+        ensures ends { ends_of self.new ≡ ends_of self.old }
     {
         let result = self.inner.flush();
         if result.is_err() {
