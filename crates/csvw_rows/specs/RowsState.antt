@@ -109,10 +109,10 @@ abbrev pub IsStopped : Rows → RowStop → ℕ → Type 0
 IsStopped old stop row = stop ≢ Memory → (d : Dialect) (max : ℕ) (bytes : List ℕ) (ended : Bool) (given : List Given) → Holds old d max bytes ended given
     → HasGiven d max bytes ended given × StopOf d max bytes ended stop row
 
--- a stop that is answered stays, and is answered by every later call
+-- a stop that is returned stays: every later call returns it, and the row that is being read stays the same
 abbrev pub KeepsStop : {T : Type 0} → Rows → Rows → Result T RowStop → Type 0
 KeepsStop old new (Ok x) = (stop_of old ≡ None) × (stop_of new ≡ None)
-KeepsStop old new (Err e) = (stop_of new ≡ Some e) × ((stop : RowStop) → stop_of old ≡ Some stop → stop ≡ e)
+KeepsStop old new (Err e) = (stop_of new ≡ Some e) × ((stop : RowStop) → stop_of old ≡ Some stop → (stop ≡ e) × (reading_of new ≡ reading_of old))
 
 -- after a call that takes some more bytes
 abbrev pub Feeds : Rows → Rows → List ℕ → Result Unit RowStop → Type 0

@@ -100,7 +100,7 @@ impl Rows {
         self.ended
     }
 
-    /// The source number, from 1, of the row that is being read: one more than there are complete rows.
+    /// The source number, from 1, of the row that is being read: one more than there are complete rows. After a stop it stays the same.
     pub fn row(&self) -> u64
         ensures { result ≡ reading_of self.now }
     {
