@@ -5,7 +5,7 @@ ghost use Rattle.std.specs.Char.{IsAsciiDigit};
 ghost use Rattle.csvw_datatype_core.specs.Fields.{two_at, short_at, four_at, after_separator, date_fields, option_view, at_end};
 ghost use Rattle.csvw_datatype_core.specs.declared.date.DateFormat.TheVariants.{Compact, DayFirst, MonthFirst, YearFirst};
 
-use jiff_core::civil::Date;
+use jiff::civil::Date;
 
 /// What parts the fields of a date.
 #[derive(Clone, Copy, Debug, PartialEq, Eq)]
@@ -93,7 +93,7 @@ fn day_of(year: u16, month: u8, day: u8) -> Option<i32>
         return None;
     }
     match Date::new(year as i16, month as i8, day as i8) {
-        Ok(date) => Some(date.to_unix_epoch_day()),
+        Ok(date) => Some(date.to_plain().to_unix_epoch_day()),
         Err(_) => None,
     }
 }
