@@ -3,12 +3,12 @@ ghost use Rattle.std.specs.Prelude.{◌≡◌};
 ghost use Rattle.std.specs.Io.KnownBytes.{Keeps, ReadConsumes, WriteAppends};
 ghost use Rattle.std.specs.Io.{ReadsAtMost, WritesAtMost};
 
-use std::io;
-use std::io::{Read, Write};
+use std::io::{self, ErrorKind, Read, Write};
 
 /// A reader or writer with a count of its failures: of the calls that returned an error, and of the
 /// writes that took nothing of some bytes. It also counts the reads that reported the end: those that
-/// returned 0 bytes although the buffer has room. Each count stays at the greatest `u64`.
+/// returned 0 bytes although the buffer has room. Each count stays at the greatest `u64`. A call that is
+/// interrupted (`ErrorKind::Interrupted`) is made again, and isn't counted.
 #[derive(Drop)]
 pub struct Counted<T> {
     inner: T,
@@ -59,6 +59,47 @@ impl<T> Counted<T> {
     }
 }
 
+/// Reads; a call that is interrupted is made again.
+fn read_again<R: Read>(reader: &mut R, buf: &mut [u8]) -> io::Result<usize>
+    ensures bound { ReadsAtMost result buf.new }
+    ensures bytes { ReadConsumes (R.remaining reader.old) (R.remaining reader.new) result buf.new }
+{
+    for _ in 0..u64::MAX {
+        match reader.read(buf) {
+            Err(fault) if fault.kind() == ErrorKind::Interrupted => {}
+            result => return result,
+        }
+    }
+    reader.read(buf)
+}
+
+/// Writes; a call that is interrupted is made again.
+fn write_again<W: Write>(writer: &mut W, buf: &[u8]) -> io::Result<usize>
+    ensures bound { WritesAtMost result buf.now }
+    ensures bytes { WriteAppends (W.contents writer.old) (W.contents writer.new) result buf.now }
+{
+    for _ in 0..u64::MAX {
+        match writer.write(buf) {
+            Err(fault) if fault.kind() == ErrorKind::Interrupted => {}
+            result => return result,
+        }
+    }
+    writer.write(buf)
+}
+
+/// Flushes; a call that is interrupted is made again.
+fn flush_again<W: Write>(writer: &mut W) -> io::Result<()>
+    ensures { Keeps (W.contents writer.old) (W.contents writer.new) }
+{
+    for _ in 0..u64::MAX {
+        match writer.flush() {
+            Err(fault) if fault.kind() == ErrorKind::Interrupted => {}
+            result => return result,
+        }
+    }
+    writer.flush()
+}
+
 impl<R: Read> Read for Counted<R> {
     ghost use Rattle.csvw_text.specs.Counted.{inner_of, failures_of, ends_of};
     ghost use Rattle.csvw_text.specs.Count.{after_call, after_read};
@@ -72,7 +113,7 @@ impl<R: Read> Read for Counted<R> {
         ensures ends { ends_of self.new ≡ after_read result buf.new (ends_of self.old) }
     {
         let has_room = !buf.is_empty();
-        let result = self.inner.read(buf);
+        let result = read_again(&mut self.inner, buf);
         match &result {
             Ok(n) => {
                 if *n == 0 && has_room {
@@ -97,7 +138,7 @@ impl<W: Write> Write for Counted<W> {
         ensures count { failures_of self.new ≡ after_write result buf.now (failures_of self.old) }
         ensures ends { ends_of self.new ≡ ends_of self.old }
     {
-        let result = self.inner.write(buf);
+        let result = write_again(&mut self.inner, buf);
         let failed = match &result {
             Ok(n) => *n == 0 && !buf.is_empty(),
             Err(_) => true,
@@ -113,7 +154,7 @@ impl<W: Write> Write for Counted<W> {
         ensures count { failures_of self.new ≡ after_call result (failures_of self.old) }
         ensures ends { ends_of self.new ≡ ends_of self.old }
     {
-        let result = self.inner.flush();
+        let result = flush_again(&mut self.inner);
         if result.is_err() {
             self.failures = self.failures.saturating_add(1);
         }
