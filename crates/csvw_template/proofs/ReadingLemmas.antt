@@ -242,3 +242,34 @@ unfolding template
 reading text =
     cond_both (is_past text) (Err TooLong) (whole text) (IsTheReading text) (λ e. past_reading text (past_from text e))
     (λ e. within_reading text (within_from text e))
+
+-- no answer of the function is Memory
+abbrev IsNoMemory : Parts → Type 0
+IsNoMemory (Ok parts) = Unit {0}
+IsNoMemory (Err Memory) = ⊥
+IsNoMemory (Err TooLong) = Unit {0}
+IsNoMemory (Err BadTemplate) = Unit {0}
+IsNoMemory (Err TemplateLevel) = Unit {0}
+
+found_no_memory : (text : List ℕ) (r : Parts) → Found text r → IsNoMemory r
+found_no_memory text (Ok parts) f = tt
+found_no_memory text (Err Memory) f = f
+found_no_memory text (Err TooLong) f = tt
+found_no_memory text (Err BadTemplate) f = tt
+found_no_memory text (Err TemplateLevel) f = tt
+
+no_memory : (text : List ℕ) → IsNoMemory (template text)
+unfolding template
+no_memory text =
+    cond_both (is_past text) (Err TooLong) (whole text) IsNoMemory (λ e. tt) (λ e. found_no_memory text (whole text) (found text))
+
+-- two readings of a text are one, as each has an answer that the grammar has
+agree : (text : List ℕ) (answer r : Parts) → IsNoMemory r → IsTheReading text r → IsTheReading text answer → answer ≡ r
+agree text answer (Ok parts) n reads other = (other.is_template parts).1 ((reads.is_template parts).0 refl)
+agree text answer (Err Memory) n reads other = absurd n
+agree text answer (Err TooLong) n reads other = other.too_long.1 (reads.too_long.0 refl)
+agree text answer (Err BadTemplate) n reads other = other.bad.1 (reads.bad.0 refl)
+agree text answer (Err TemplateLevel) n reads other = other.higher.1 (reads.higher.0 refl)
+
+pub only_reading : (text : List ℕ) (answer : Parts) → IsTheReading text answer → answer ≡ template text
+only_reading text answer other = agree text answer (template text) (no_memory text) (reading text) other

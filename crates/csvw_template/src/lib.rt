@@ -20,5 +20,5 @@ pub use bound::{Binding, BoundPart, Names, Values, bound_gives_the_same, push_bo
 pub use fault::TemplateFault;
 pub use part::{Operator, Part};
 pub use scope::Scope;
-pub use template::Template;
+pub use template::{Template, texts_have_one_reading};
 pub use vars::{Var, Vars};

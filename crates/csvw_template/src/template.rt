@@ -1,11 +1,11 @@
 //! URI templates.
-ghost use Rattle.std.specs.Prelude.{◌≡◌, ◌++◌, ◌↔◌, IfOk, IsTrue, OnOk, string_bytes};
+ghost use Rattle.std.specs.Prelude.{◌≡◌, ◌++◌, ◌↔◌, IfOk, IsTrue, List, OnOk, ℕ, string_bytes};
 ghost use Rattle.csvw_text.specs.Gives.{Gives};
 ghost use Rattle.csvw_template.specs.Fault.{told};
 ghost use Rattle.csvw_template.specs.Expand.{expand};
 ghost use Rattle.csvw_template.specs.Grammar.{IsTheReading};
 ghost use Rattle.csvw_template.specs.Plain.{are_plain, is_plain_part};
-ghost use Rattle.csvw_template.specs.Reading.{template, is_past};
+ghost use Rattle.csvw_template.specs.Reading.{Parts, template, is_past};
 
 use crate::encode::is_plain_text;
 use crate::expand::push_parts;
@@ -121,6 +121,12 @@ impl Template {
         })
     }
 }
+
+/// A law: each text has one reading by the grammar, its parts or its fault, and `Template::read` returns it.
+pub fn texts_have_one_reading()
+    ensures reading { (text : List ℕ) → IsTheReading text (template text) }
+    ensures only { (text : List ℕ) (answer : Parts) → IsTheReading text answer → answer ≡ template text }
+{}
 
 impl Copied for Template {
     fn copied(&self, alloc: Global) -> Result<Template, AllocError> {
