@@ -17,6 +17,7 @@ use Rattle.csvw_engine_core.specs.Tables.{is_ended}
 use Rattle.csvw_engine_core.specs.declared.table.Table.{Table as State}
 use Rattle.csvw_session.specs.Events.{Event, Feed, End, table_of, text_of, ended_in}
 use Rattle.csvw_session.specs.Finishing.{Finishes}
+use Rattle.csvw_session.specs.Order.{AreInOrder}
 use Rattle.csvw_columns.specs.Ready.{AreReady}
 use Rattle.csvw_session.specs.Sessions.{HasNoTable, Stands, Takes, Told}
 use Rattle.csvw_session.specs.declared.session.Session.{Session}
@@ -24,7 +25,7 @@ use Rattle.csvw_session.specs.declared.state.State.TheVariants as state
 use Rattle.csvw_engine_core.specs.declared.stop.Stop.{Stop}
 use Rattle.csvw_engine_core.specs.declared.stop.Stop.TheVariants as stop
 use Rattle.csvw_group.specs.Annotated.{Table, IsAnnotated, AreAnnotated}
-use Rattle.csvw_group.specs.GoodEvents.{AllTaken, AreGood, AreInOrder, EndsWell, Goes, IsTakenOrLacks, LacksFirst}
+use Rattle.csvw_group.specs.GoodEvents.{AllTaken, AreGood, EndsWell, Goes, IsTakenOrLacks, LacksFirst}
 use Rattle.csvw_group.specs.GoodTexts.{GoesOnToTable, GoodTextsAreAccepted}
 use Rattle.csvw_group.specs.AtEnd.{texts_of}
 use Rattle.csvw_group.proofs.Parts.{at_place}

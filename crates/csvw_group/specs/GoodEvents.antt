@@ -1,20 +1,16 @@
 -- Good lists of events, and what a session answers to them.
-use Rattle.std.specs.Prelude.{◌≡◌, ◌⊎◌, ◌≤◌, ℕ, Bool, true, false, List, [], ◌∷◌, ◌++◌, Contains, Result, Ok, Err}
+use Rattle.std.specs.Prelude.{◌≡◌, ◌⊎◌, ◌≤◌, ℕ, Bool, true, List, [], ◌∷◌, ◌++◌, Contains, Result, Ok, Err}
 use Rattle.std.specs.List.{list_all}
 use Rattle.csvw_triples_core.specs.declared.term.Triple.{Triple}
 use Rattle.csvw_report.specs.declared.outcome.Outcome.{Outcome}
 use Rattle.csvw_engine_core.specs.Tables.{is_ended}
 use Rattle.csvw_session.specs.Events.{Event, table_of, ended_in}
 use Rattle.csvw_session.specs.Finishing.{Finishes}
+use Rattle.csvw_session.specs.Order.{AreInOrder}
 use Rattle.csvw_session.specs.Sessions.{Stands, Takes}
 use Rattle.csvw_session.specs.declared.session.Session.{Session}
 use Rattle.csvw_engine_core.specs.declared.stop.Stop.{Stop}
 use Rattle.csvw_engine_core.specs.declared.stop.Stop.TheVariants as stop
-
--- each event is of one of so many tables, which have numbers from 1, and comes before the end of that table was told
-pub record AreInOrder (many : ℕ) (events : List Event) : Type 0 where
-  pub known : (event : Event) → Contains events event → (1 ≤ table_of event) × (table_of event ≤ many)
-  pub before_end : (front rest : List Event) (event : Event) → events ≡ front ++ event ∷ rest → ended_in front (table_of event) ≡ false
 
 -- each table is ended once, after its pieces
 pub record AreGood (many : ℕ) (events : List Event) : Type 0 where

@@ -5,6 +5,7 @@ ghost use Rattle.csvw_columns.specs.declared.plan.Plan.{Plan as ThePlan};
 ghost use Rattle.csvw_engine_core.specs.Tables.{is_ended};
 ghost use Rattle.csvw_opening.specs.OpeningTriples.{opening};
 ghost use Rattle.csvw_session.specs.Events.{Event, table_of};
+ghost use Rattle.csvw_session.specs.Order.{AreInOrder};
 ghost use Rattle.csvw_session.specs.Sessions.{Stands, Starts, Takes};
 ghost use Rattle.csvw_session.specs.declared.session.Session.{Session as TheSession};
 ghost use Rattle.csvw_engine_core.specs.declared.stop.Stop.{Stop};
@@ -14,7 +15,7 @@ ghost use Rattle.csvw_report.specs.declared.outcome.Outcome.{Outcome as TheOutco
 ghost use Rattle.csvw_group.specs.Annotated.{Table, AreAnnotated};
 ghost use Rattle.csvw_group.specs.AnyOrder.{HaveSameTexts, EndTheSame};
 ghost use Rattle.csvw_group.specs.Finished.{IsAtItsEnd, EndsAnnotated};
-ghost use Rattle.csvw_group.specs.GoodEvents.{AreGood, AreInOrder, EndsWell, Goes, IsTakenOrLacks, LacksFirst};
+ghost use Rattle.csvw_group.specs.GoodEvents.{AreGood, EndsWell, Goes, IsTakenOrLacks, LacksFirst};
 ghost use Rattle.csvw_group.specs.GoodTexts.{GoodTextsAreAccepted};
 ghost use Rattle.csvw_group.specs.AtEnd.{Annotates, texts_of};
 ghost use Rattle.csvw_group.specs.OneTable.{HaveOneAnnotation};

@@ -1,3 +1,5 @@
+mod Bytes
+mod Growing
 mod NextTable
 mod Readers
 mod Tables

@@ -1,12 +1,16 @@
 -- A reader of a list read on.
-use Rattle.std.proofs.Common.{◌≡◌, ◌≢◌, ◌<◌, ◌+◌, ℕ, List, length, sym, ap, ◌∙◌, subst, arith, inl, inr, ◌⊎◌, Option, Some}
+use Rattle.std.proofs.Common.{◌≡◌, ◌≢◌, ◌<◌, ◌+◌, ℕ, zero, suc, true, false, List, [], ◌∷◌, ◌++◌, length, take, refl, sym, ap, ◌∙◌, subst, arith}
+use Rattle.std.proofs.Common.{inl, inr, ◌⊎◌, append-nil, Option, Some, Result, Ok, Err}
 use Rattle.std.specs.Prelude.{slice_get, slice_set}
 use Rattle.std.proofs.lemmas.Bool.Decides.{eqb_tells}
 use Rattle.std.proofs.lemmas.Option.{slice_get-get_or, slice_get_within, get_or_from_slice_get}
 use Rattle.std.proofs.lemmas.List.{get_or-set_same, get_or-set_other}
 use Rattle.std.proofs.Math.ListN.{length-set}
+use Rattle.std.proofs.KnownBytes.{Consumes-kept, Consumes-nil, Consumes-trans}
+use Rattle.std.specs.Io.KnownBytes.{Consumes, IsAtEnd, Keeps}
 use Rattle.csvw_text.specs.declared.counted.Counted.{Counted}
-use Rattle.csvw_text.specs.Counted.{failures_of}
+use Rattle.csvw_text.specs.Count.{after_read, one_more}
+use Rattle.csvw_text.specs.Counted.{ends_of, failures_of, inner_of}
 use Rattle.csvw_session.specs.Events.{Event, text_of, ended_in}
 use Rattle.csvw_reading.specs.Reading.{Gave, GaveTexts, AreSteady}
 use Rattle.csvw_reading.specs.TableReading.{GoesOn}
@@ -69,3 +73,53 @@ module _ {R : Type 0} (remaining : R → Option (List ℕ)) (olds news : List (C
           let first : r ≡ a = one_at olds i r a was (subst (λ n. slice_get olds n ≡ Some a) same p) in
           let second : b ≡ s = set_same news i s b below (subst (λ n. slice_get (slice_set news i s) n ≡ Some b) same q) in
           ap failures_of second ∙ e ∙ ap failures_of first
+
+-- the count of ends after a read of some bytes, and after one of none
+read_some : {E : Type 0} (r : Result ℕ E) (k : ℕ) (buf : List ℕ) (n : ℕ) → r ≡ Ok k → 0 < k → after_read r buf n ≡ n
+read_some (Err e) k buf n is some = refl
+read_some (Ok j) k [] n is some = refl
+read_some (Ok zero) k (b ∷ buf) n is some = let none : k ≡ 0 = cc in absurd (omega (arith, some, none))
+read_some (Ok (suc j)) k (b ∷ buf) n is some = refl
+
+read_none : {E : Type 0} (r : Result ℕ E) (k : ℕ) (buf : List ℕ) (n : ℕ) → r ≡ Ok k → k ≡ 0 → 0 < length buf → after_read r buf n ≡ one_more n
+read_none (Err e) k buf n is none room = cc
+read_none (Ok j) k [] n is none room = absurd (omega (arith, room))
+read_none (Ok zero) k (b ∷ buf) n is none room = refl
+read_none (Ok (suc j)) k (b ∷ buf) n is none room = cc
+
+-- a reader gave nothing so far
+pub gave_none : {R : Type 0} (remaining : R → Option (List ℕ)) (r : Counted R) → Gave remaining r r [] false
+gave_none remaining r = record { consumed = Consumes-nil (remaining (inner_of r)); at_end = λ e. cc; ended_is = refl }
+
+-- a reader gave these bytes, and was read once more
+module _ {R : Type 0} (remaining : R → Option (List ℕ)) (first old new : Counted R) (bytes : List ℕ) (gave : Gave remaining first old bytes false) where
+  pub gave_kept : Keeps (remaining (inner_of old)) (remaining (inner_of new)) → ends_of new ≡ ends_of old → Gave remaining first new bytes false
+  gave_kept kept same = record {
+    consumed = Consumes-kept (remaining (inner_of first)) (remaining (inner_of old)) (remaining (inner_of new)) bytes gave.consumed kept;
+    at_end = λ e. cc;
+    ended_is = same ∙ gave.ended_is;
+  }
+
+  pub gave_piece : {E : Type 0} (r : Result ℕ E) (k : ℕ) (buf : List ℕ) → r ≡ Ok k → 0 < k
+      → Consumes (remaining (inner_of old)) (remaining (inner_of new)) (take k buf)
+      → ends_of new ≡ after_read r buf (ends_of old) → Gave remaining first new (bytes ++ take k buf) false
+  gave_piece r k buf is some eaten ends = record {
+    consumed = Consumes-trans (remaining (inner_of first)) (remaining (inner_of old)) (remaining (inner_of new)) bytes (take k buf) gave.consumed eaten;
+    at_end = λ e. cc;
+    ended_is = ends ∙ read_some r k buf (ends_of old) is some ∙ gave.ended_is;
+  }
+
+  pub gave_end : {E : Type 0} (r : Result ℕ E) (k : ℕ) (buf : List ℕ) → r ≡ Ok k → k ≡ 0 → 0 < length buf
+      → Consumes (remaining (inner_of old)) (remaining (inner_of new)) (take k buf)
+      → (k ≡ 0 → 0 < length buf → IsAtEnd (remaining (inner_of new))) → ends_of new ≡ after_read r buf (ends_of old)
+      → Gave remaining first new bytes true
+  gave_end r k buf is none room eaten at_end ends =
+      let eaten_none : Consumes (remaining (inner_of old)) (remaining (inner_of new)) [] =
+      subst (λ n. Consumes (remaining (inner_of old)) (remaining (inner_of new)) (take n buf)) none eaten in
+      let all : Consumes (remaining (inner_of first)) (remaining (inner_of new)) (bytes ++ []) =
+      Consumes-trans (remaining (inner_of first)) (remaining (inner_of old)) (remaining (inner_of new)) bytes [] gave.consumed eaten_none in
+      record {
+        consumed = subst (λ (xs : List ℕ). Consumes (remaining (inner_of first)) (remaining (inner_of new)) xs) (append-nil bytes) all;
+        at_end = λ _. at_end none room;
+        ended_is = ends ∙ read_none r k buf (ends_of old) is none room ∙ ap one_more gave.ended_is;
+      }

@@ -1,3 +1,4 @@
+pub mod ReadOrder
 pub mod Reading
 pub mod TableReading
 pub mod TablesReading

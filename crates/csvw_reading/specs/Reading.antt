@@ -1,20 +1,22 @@
 -- What the tables of a session are after their readers were read, one after the other.
-use Rattle.std.specs.Prelude.{◌≡◌, ◌⊎◌, ◌<◌, ◌≤◌, ◌+◌, ◌^◌, ℕ, Bool, true, List, [], ◌∷◌, ◌++◌, length, slice_get, Option, Some, Result, Ok, Err}
+use Rattle.std.specs.Prelude.{◌≡◌, ◌⊎◌, ◌<◌, ◌+◌, ◌^◌, ℕ, Bool, true, List, [], ◌∷◌, ◌++◌, length, slice_get, Option, Some, Result, Ok, Err}
 use Rattle.std.specs.Io.KnownBytes.{Consumes, IsAtEnd}
 use Rattle.csvw_text.specs.declared.counted.Counted.{Counted}
-use Rattle.csvw_text.specs.Count.{one_more}
-use Rattle.csvw_text.specs.Counted.{inner_of, failures_of}
+use Rattle.csvw_text.specs.Count.{one_more, after_end}
+use Rattle.csvw_text.specs.Counted.{inner_of, failures_of, ends_of}
 use Rattle.csvw_triples_core.specs.declared.term.Triple.{Triple}
 use Rattle.csvw_session.specs.Events.{Event, table_of, text_of, ended_in}
 use Rattle.csvw_session.specs.Sessions.{Stands, Takes}
 use Rattle.csvw_session.specs.declared.session.Session.{Session}
 use Rattle.csvw_engine_core.specs.declared.stop.Stop.{Stop}
 use Rattle.csvw_engine_core.specs.declared.stop.Stop.TheVariants as stop
+use Rattle.csvw_reading.specs.ReadOrder.{AreReadIn}
 
--- a reader gave these bytes, and they ended where it told its end
+-- a reader gave these bytes, and reported its end once if they ended, and else not at all
 pub record Gave {R : Type 0} (remaining : R → Option (List ℕ)) (old new : Counted R) (bytes : List ℕ) (ended : Bool) : Type 0 where
   pub consumed : Consumes (remaining (inner_of old)) (remaining (inner_of new)) bytes
   pub at_end : ended ≡ true → IsAtEnd (remaining (inner_of new))
+  pub ended_is : ends_of new ≡ after_end ended (ends_of old)
 
 -- the reader of each table gave its text
 pub record GaveTexts {R : Type 0} (remaining : R → Option (List ℕ)) (old new : List (Counted R)) (events : List Event) : Type 0 where
@@ -39,7 +41,7 @@ pub record OneFailed {R : Type 0} (old new : List (Counted R)) : Type 0 where
 abbrev pub IsSame : {S : Type 0} → Session S → Session S → Type 0
 IsSame old new = (new.plan ≡ old.plan) × (new.mode ≡ old.mode)
 
--- the session took these events, but the last, which it answered with a stop
+-- the session took these events, but for the last, at which it stopped
 pub record StopsAt {S : Type 0} (gains : S → List Triple → S → Type 0) (is_open : S → Bool) (failed : S → ℕ) (start : S) (old new : Session S)
     (events : List Event) (reason : Stop) : Type 0 where
   pub before : List Event
@@ -52,46 +54,52 @@ pub record StopsAt {S : Type 0} (gains : S → List Triple → S → Type 0) (is
   pub stands : Stands gains is_open failed start before session
   pub takes : Takes gains is_open failed session new t event (Err reason)
 
--- many reads were made, each of which gave an event
+-- all 2^40 reads were made
 abbrev pub AreMany : List Event → Type 0
-AreMany events = 2 ^ 40 ≤ length events
+AreMany events = length events ≡ 2 ^ 40
 
 -- each table was read to its end
 pub record ReadsAll {R S : Type 0} (gains : S → List Triple → S → Type 0) (is_open : S → Bool) (failed : S → ℕ) (remaining : R → Option (List ℕ))
-    (start : S) (olds news : List (Counted R)) (old new : Session S) : Type 0 where
+    (Order : ℕ → List Event → Type 0) (limit : ℕ) (start : S) (olds news : List (Counted R)) (old new : Session S) : Type 0 where
   pub events : List Event
+  pub read : AreReadIn Order (length olds) limit events
   pub same : IsSame old new
   pub stands : Stands gains is_open failed start events new
   pub gave : GaveTexts remaining olds news events
   pub steady : AreSteady olds news
   pub ended : (i : ℕ) → i < length olds → ended_in events (i + 1) ≡ true
 
--- a read failed, or too many were made; all rows of the texts so far were given
+-- a read failed, or all 2^40 reads were made; all rows of the texts so far were given
 pub record ReadFails {R S : Type 0} (gains : S → List Triple → S → Type 0) (is_open : S → Bool) (failed : S → ℕ) (remaining : R → Option (List ℕ))
-    (start : S) (olds news : List (Counted R)) (old new : Session S) : Type 0 where
+    (Order : ℕ → List Event → Type 0) (limit : ℕ) (start : S) (olds news : List (Counted R)) (old new : Session S) : Type 0 where
   pub events : List Event
+  pub read : AreReadIn Order (length olds) limit events
   pub same : IsSame old new
   pub stands : Stands gains is_open failed start events new
   pub gave : GaveTexts remaining olds news events
   pub blame : OneFailed olds news ⊎ (AreMany events × AreSteady olds news)
 
--- an event was answered with a stop
+-- the session stopped at an event
 pub record EventStops {R S : Type 0} (gains : S → List Triple → S → Type 0) (is_open : S → Bool) (failed : S → ℕ) (remaining : R → Option (List ℕ))
-    (start : S) (olds news : List (Counted R)) (old new : Session S) (reason : Stop) : Type 0 where
+    (Order : ℕ → List Event → Type 0) (limit : ℕ) (start : S) (olds news : List (Counted R)) (old new : Session S) (reason : Stop) : Type 0 where
   pub events : List Event
+  pub read : AreReadIn Order (length olds) limit events
   pub stops : StopsAt gains is_open failed start old new events reason
   pub gave : GaveTexts remaining olds news events
   pub steady : AreSteady olds news
 
--- after all tables were read, or why not
-abbrev pub Reads : {R S : Type 0} → (S → List Triple → S → Type 0) → (S → Bool) → (S → ℕ) → (R → Option (List ℕ)) → S → List (Counted R)
-    → List (Counted R) → Session S → Session S → Result Unit Stop → Type 0
-Reads gains is_open failed remaining start olds news old new (Ok u) = ReadsAll gains is_open failed remaining start olds news old new
-Reads gains is_open failed remaining start olds news old new (Err stop.Read) = ReadFails gains is_open failed remaining start olds news old new
-Reads gains is_open failed remaining start olds news old new (Err stop.Memory) = EventStops gains is_open failed remaining start olds news old new stop.Memory
-Reads gains is_open failed remaining start olds news old new (Err stop.Write) = EventStops gains is_open failed remaining start olds news old new stop.Write
-Reads gains is_open failed remaining start olds news old new (Err (stop.Rows t row reason)) =
-    EventStops gains is_open failed remaining start olds news old new (stop.Rows t row reason)
-Reads gains is_open failed remaining start olds news old new (Err (stop.Table t row reason)) =
-    EventStops gains is_open failed remaining start olds news old new (stop.Table t row reason)
-Reads gains is_open failed remaining start olds news old new (Err other) = ⊥
+-- After all tables were read in this order, in pieces of at most so many bytes; or why not.
+abbrev pub Reads : {R S : Type 0} → (S → List Triple → S → Type 0) → (S → Bool) → (S → ℕ) → (R → Option (List ℕ)) → (ℕ → List Event → Type 0) → ℕ → S
+    → List (Counted R) → List (Counted R) → Session S → Session S → Result Unit Stop → Type 0
+Reads gains is_open failed remaining Order limit start olds news old new (Ok u) = ReadsAll gains is_open failed remaining Order limit start olds news old new
+Reads gains is_open failed remaining Order limit start olds news old new (Err stop.Read) =
+    ReadFails gains is_open failed remaining Order limit start olds news old new
+Reads gains is_open failed remaining Order limit start olds news old new (Err stop.Memory) =
+    EventStops gains is_open failed remaining Order limit start olds news old new stop.Memory
+Reads gains is_open failed remaining Order limit start olds news old new (Err stop.Write) =
+    EventStops gains is_open failed remaining Order limit start olds news old new stop.Write
+Reads gains is_open failed remaining Order limit start olds news old new (Err (stop.Rows t row reason)) =
+    EventStops gains is_open failed remaining Order limit start olds news old new (stop.Rows t row reason)
+Reads gains is_open failed remaining Order limit start olds news old new (Err (stop.Table t row reason)) =
+    EventStops gains is_open failed remaining Order limit start olds news old new (stop.Table t row reason)
+Reads gains is_open failed remaining Order limit start olds news old new (Err other) = ⊥

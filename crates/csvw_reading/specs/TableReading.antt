@@ -1,5 +1,5 @@
 -- What one table of a session is after its reader was read.
-use Rattle.std.specs.Prelude.{◌≡◌, ◌≢◌, ◌⊎◌, ◌<◌, ◌≤◌, ◌^◌, ℕ, Bool, true, false, List, [], length, Option, Result, Ok, Err}
+use Rattle.std.specs.Prelude.{◌≡◌, ◌≢◌, ◌⊎◌, ◌<◌, ◌≤◌, ◌+◌, ◌^◌, ℕ, Bool, true, false, List, [], length, Option, Result, Ok, Err}
 use Rattle.csvw_text.specs.declared.counted.Counted.{Counted}
 use Rattle.csvw_text.specs.Count.{one_more}
 use Rattle.csvw_text.specs.Counted.{failures_of}
@@ -9,24 +9,32 @@ use Rattle.csvw_session.specs.Sessions.{Stands}
 use Rattle.csvw_session.specs.declared.session.Session.{Session}
 use Rattle.csvw_engine_core.specs.declared.stop.Stop.{Stop}
 use Rattle.csvw_engine_core.specs.declared.stop.Stop.TheVariants as stop
+use Rattle.csvw_reading.specs.ReadOrder.{AreReadIn, AreTableByTable, count_of}
 use Rattle.csvw_reading.specs.Reading.{Gave, StopsAt}
 
--- the session has table t, and no event of it came yet
-pub record IsNext {S : Type 0} (s : Session S) (events : List Event) (t : ℕ) : Type 0 where
+-- table t is next: no event of it came yet, and each table before it was ended
+pub record IsNext {S : Type 0} (s : Session S) (piece : List ℕ) (many limit : ℕ) (events : List Event) (t : ℕ) : Type 0 where
+  pub tables : length s.plan.tables ≡ many
+  pub room : length piece ≡ limit
   pub some : 0 < t
-  pub within : t ≤ length s.plan.tables
+  pub within : t ≤ many
   pub text : text_of events t ≡ []
   pub not_ended : ended_in events t ≡ false
+  pub before : (u : ℕ) → 1 ≤ u → u < t → ended_in events u ≡ true
+  pub read : AreReadIn AreTableByTable many limit events
 
 -- the events go on with some of table t alone
 pub record GoesOn (t : ℕ) (events later : List Event) : Type 0 where
   pub text : (u : ℕ) → u ≢ t → text_of later u ≡ text_of events u
   pub ended : (u : ℕ) → u ≢ t → ended_in later u ≡ ended_in events u
+  pub count : (u : ℕ) → u ≢ t → count_of later u ≡ count_of events u
+  pub own : count_of later t + length events ≡ count_of events t + length later
 
--- the session took these bytes of table t, and perhaps its end
-pub record Took {S : Type 0} (gains : S → List Triple → S → Type 0) (is_open : S → Bool) (failed : S → ℕ) (start : S) (events : List Event) (t : ℕ)
-    (bytes : List ℕ) (ended : Bool) (now : Session S) (reads : ℕ) : Type 0 where
+-- the session took these bytes of table t, and perhaps its end; all events fit
+pub record Took {S : Type 0} (gains : S → List Triple → S → Type 0) (is_open : S → Bool) (failed : S → ℕ) (start : S) (Fit : List Event → Type 0)
+    (events : List Event) (t : ℕ) (bytes : List ℕ) (ended : Bool) (now : Session S) (reads : ℕ) : Type 0 where
   pub later : List Event
+  pub fit : Fit later
   pub goes : GoesOn t events later
   pub text : text_of later t ≡ bytes
   pub ended_is : ended_in later t ≡ ended
@@ -35,40 +43,44 @@ pub record Took {S : Type 0} (gains : S → List Triple → S → Type 0) (is_op
 
 -- the reader of the table was read to its end
 pub record TableEnds {R S : Type 0} (gains : S → List Triple → S → Type 0) (is_open : S → Bool) (failed : S → ℕ) (remaining : R → Option (List ℕ))
-    (start : S) (events : List Event) (t : ℕ) (r s : Counted R) (new : Session S) (reads : ℕ) : Type 0 where
+    (start : S) (Fit : List Event → Type 0) (events : List Event) (t : ℕ) (r s : Counted R) (new : Session S) (reads : ℕ) : Type 0 where
   pub bytes : List ℕ
-  pub took : Took gains is_open failed start events t bytes true new reads
+  pub took : Took gains is_open failed start Fit events t bytes true new reads
   pub gave : Gave remaining r s bytes true
   pub steady : failures_of s ≡ failures_of r
 
--- it failed, or too many reads were made
+-- it failed, or all 2^40 reads were made
 pub record TableFails {R S : Type 0} (gains : S → List Triple → S → Type 0) (is_open : S → Bool) (failed : S → ℕ) (remaining : R → Option (List ℕ))
-    (start : S) (events : List Event) (t : ℕ) (r s : Counted R) (new : Session S) : Type 0 where
+    (start : S) (Fit : List Event → Type 0) (events : List Event) (t : ℕ) (r s : Counted R) (new : Session S) : Type 0 where
   pub bytes : List ℕ
   pub reads : ℕ
-  pub took : Took gains is_open failed start events t bytes false new reads
+  pub took : Took gains is_open failed start Fit events t bytes false new reads
   pub gave : Gave remaining r s bytes false
-  pub blame : (failures_of s ≡ one_more (failures_of r)) ⊎ ((2 ^ 40 ≤ reads) × (failures_of s ≡ failures_of r))
+  pub blame : (failures_of s ≡ one_more (failures_of r)) ⊎ ((reads ≡ 2 ^ 40) × (failures_of s ≡ failures_of r))
 
--- an event of the table was answered with a stop
+-- the session stopped at an event of the table
 pub record TableStops {R S : Type 0} (gains : S → List Triple → S → Type 0) (is_open : S → Bool) (failed : S → ℕ) (remaining : R → Option (List ℕ))
-    (start : S) (events : List Event) (t : ℕ) (r s : Counted R) (old new : Session S) (reason : Stop) : Type 0 where
+    (start : S) (Fit : List Event → Type 0) (events : List Event) (t : ℕ) (r s : Counted R) (old new : Session S) (reason : Stop) : Type 0 where
   pub later : List Event
+  pub fit : Fit later
   pub goes : GoesOn t events later
   pub stops : StopsAt gains is_open failed start old new later reason
   pub gave : Gave remaining r s (text_of later t) (ended_in later t)
   pub steady : failures_of s ≡ failures_of r
 
-abbrev pub TableReads : {R S : Type 0} → (S → List Triple → S → Type 0) → (S → Bool) → (S → ℕ) → (R → Option (List ℕ)) → S → List Event → ℕ
-    → Counted R → Counted R → Session S → Session S → ℕ → Result Unit Stop → Type 0
-TableReads gains is_open failed remaining start events t r s old new reads (Ok u) = TableEnds gains is_open failed remaining start events t r s new reads
-TableReads gains is_open failed remaining start events t r s old new reads (Err stop.Read) = TableFails gains is_open failed remaining start events t r s new
-TableReads gains is_open failed remaining start events t r s old new reads (Err stop.Memory) =
-    TableStops gains is_open failed remaining start events t r s old new stop.Memory
-TableReads gains is_open failed remaining start events t r s old new reads (Err stop.Write) =
-    TableStops gains is_open failed remaining start events t r s old new stop.Write
-TableReads gains is_open failed remaining start events t r s old new reads (Err (stop.Rows u row reason)) =
-    TableStops gains is_open failed remaining start events t r s old new (stop.Rows u row reason)
-TableReads gains is_open failed remaining start events t r s old new reads (Err (stop.Table u row reason)) =
-    TableStops gains is_open failed remaining start events t r s old new (stop.Table u row reason)
-TableReads gains is_open failed remaining start events t r s old new reads (Err other) = ⊥
+-- what the reader and the session are after a table was read
+abbrev pub TableReads : {R S : Type 0} → (S → List Triple → S → Type 0) → (S → Bool) → (S → ℕ) → (R → Option (List ℕ)) → S
+    → (List Event → Type 0) → List Event → ℕ → Counted R → Counted R → Session S → Session S → ℕ → Result Unit Stop → Type 0
+TableReads gains is_open failed remaining start Fit events t r s old new reads (Ok u) =
+    TableEnds gains is_open failed remaining start Fit events t r s new reads
+TableReads gains is_open failed remaining start Fit events t r s old new reads (Err stop.Read) =
+    TableFails gains is_open failed remaining start Fit events t r s new
+TableReads gains is_open failed remaining start Fit events t r s old new reads (Err stop.Memory) =
+    TableStops gains is_open failed remaining start Fit events t r s old new stop.Memory
+TableReads gains is_open failed remaining start Fit events t r s old new reads (Err stop.Write) =
+    TableStops gains is_open failed remaining start Fit events t r s old new stop.Write
+TableReads gains is_open failed remaining start Fit events t r s old new reads (Err (stop.Rows u row reason)) =
+    TableStops gains is_open failed remaining start Fit events t r s old new (stop.Rows u row reason)
+TableReads gains is_open failed remaining start Fit events t r s old new reads (Err (stop.Table u row reason)) =
+    TableStops gains is_open failed remaining start Fit events t r s old new (stop.Table u row reason)
+TableReads gains is_open failed remaining start Fit events t r s old new reads (Err other) = ⊥

@@ -5,12 +5,14 @@ use Rattle.csvw_triples_core.specs.declared.term.Triple.{Triple}
 use Rattle.csvw_session.specs.Events.{Event, text_of, ended_in}
 use Rattle.csvw_session.specs.Sessions.{Stands}
 use Rattle.csvw_session.specs.declared.session.Session.{Session}
+use Rattle.csvw_reading.specs.ReadOrder.{AreReadIn, AreTableByTable}
 use Rattle.csvw_reading.specs.Reading.{GaveTexts, AreSteady}
 
 -- the first n tables were read to their ends, and no event of the others came
 pub record ReadFirst {R S : Type 0} (gains : S → List Triple → S → Type 0) (is_open : S → Bool) (failed : S → ℕ) (remaining : R → Option (List ℕ))
-    (start : S) (n : ℕ) (olds news : List (Counted R)) (now : Session S) (reads : ℕ) : Type 0 where
+    (limit : ℕ) (start : S) (n : ℕ) (olds news : List (Counted R)) (now : Session S) (reads : ℕ) : Type 0 where
   pub events : List Event
+  pub read : AreReadIn AreTableByTable (length olds) limit events
   pub stands : Stands gains is_open failed start events now
   pub many : length events ≡ reads
   pub gave : GaveTexts remaining olds news events

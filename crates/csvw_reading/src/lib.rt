@@ -1,6 +1,7 @@
 //! Readers as the events of a session: tables read one after the other, or in turn.
 #![tactic(auto)]
 
+pub mod laws;
 mod reading;
 mod turns;
 

@@ -2,6 +2,7 @@
 ghost use Rattle.std.specs.Prelude.{◌≡◌, ◌<◌, ◌^◌, ◌-◌, ℕ, List, [], length};
 ghost use Rattle.csvw_session.specs.Events.{Event};
 ghost use Rattle.csvw_session.specs.Sessions.{Stands};
+ghost use Rattle.csvw_reading.specs.ReadOrder.{AreReadIn, AreTableByTable};
 ghost use Rattle.csvw_reading.specs.Reading.{IsSame, Reads};
 ghost use Rattle.csvw_reading.specs.TableReading.{IsNext, TableReads};
 
@@ -25,9 +26,10 @@ fn read_table<R: Read, S: TripleSink>(
     requires { 0 < length piece.old }
     ensures same { IsSame session.old session.new }
     ensures room { length piece.new ≡ length piece.old }
-    ensures reads { (start : S) (events : List Event) → Stands S.gains S.is_open S.failed start events session.old
-        → IsNext session.old events t → length events ≡ reads.old
-        → TableReads S.gains S.is_open S.failed R.remaining start events t reader.old reader.new session.old session.new reads.new result }
+    ensures reads { (start : S) (many limit : ℕ) (events : List Event) → Stands S.gains S.is_open S.failed start events session.old
+        → IsNext session.old piece.old many limit events t → length events ≡ reads.old
+        → TableReads S.gains S.is_open S.failed R.remaining start (AreReadIn AreTableByTable many limit) events t
+        reader.old reader.new session.old session.new reads.new result }
 {
     texts_grow();
     while *reads < MAX_READS {
@@ -43,9 +45,9 @@ fn read_table<R: Read, S: TripleSink>(
     Err(Stop::Read)
 }
 
-/// Reads the readers of all tables of a session, from the first on, each to its end, in pieces of at most
-/// the length of `piece`. `Read` where a reader failed in this call, or 2^40 reads were made; else the stop of
-/// the session.
+/// Reads the readers of all tables of a session, from the first on, each to its end, in pieces of at most the length of `piece`.
+/// Each read gives the session a piece that is not empty, or the end of its table. The call fails with `Read` if a reader
+/// failed, or after 2^40 reads; else with the stop of the session.
 pub fn read_tables<R: Read, S: TripleSink>(
     session: &mut Session<S>,
     readers: &mut [Counted<R>],
@@ -56,7 +58,7 @@ pub fn read_tables<R: Read, S: TripleSink>(
     ensures same { IsSame session.old session.new }
     ensures reads { (start : S) → Stands S.gains S.is_open S.failed start [] session.old
         → length readers.old ≡ length session.old.plan.tables
-        → Reads S.gains S.is_open S.failed R.remaining start readers.old readers.new session.old session.new result }
+        → Reads S.gains S.is_open S.failed R.remaining AreTableByTable (length piece.old) start readers.old readers.new session.old session.new result }
 {
     texts_grow();
     let mut reads = 0;

@@ -4,8 +4,9 @@ ghost use Rattle.csvw_text.specs.declared.counted.Counted.{Counted as TheReader}
 ghost use Rattle.csvw_text.specs.Counted.{failures_of};
 ghost use Rattle.csvw_session.specs.Events.{Event, text_of};
 ghost use Rattle.csvw_session.specs.Sessions.{Stands};
+ghost use Rattle.csvw_reading.specs.ReadOrder.{AreInTurn, AreReadIn};
 ghost use Rattle.csvw_reading.specs.Reading.{Gave, IsSame, Reads};
-ghost use Rattle.csvw_reading.specs.TurnsReading.{AreOpen, IsOpen, NoneFrom, PieceReads};
+ghost use Rattle.csvw_reading.specs.TurnsReading.{AreOpen, IsFirstFrom, IsNextFrom, IsOpen, NoneFrom, PieceReads};
 
 use crate::reading::MAX_READS;
 use csvw_session::laws::texts_grow;
@@ -14,9 +15,9 @@ use csvw_text::Counted;
 use csvw_triples_core::TripleSink;
 use std::io::Read;
 
-/// The first of the tables that are open, at this place from 0 or behind it.
+/// The first open table at the place `from` or after it; places count from 0.
 fn open_from(going: &[bool], from: usize) -> Option<usize>
-    ensures { MatchOption result (NoneFrom from going.now) (λ i. slice_get going.now i ≡ Some true) }
+    ensures { MatchOption result (NoneFrom from going.now) (λ i. IsFirstFrom from going.now i) }
 {
     for i in from..going.len() {
         if going[i] {
@@ -26,9 +27,9 @@ fn open_from(going: &[bool], from: usize) -> Option<usize>
     None
 }
 
-/// The next of the tables that are open, behind which the first one comes again.
+/// The next open table: the first one at the place `from` or after it, else the first of all.
 fn next_open(going: &[bool], from: usize) -> Option<usize>
-    ensures { MatchOption result (NoneFrom 0 going.now) (λ i. slice_get going.now i ≡ Some true) }
+    ensures { MatchOption result (NoneFrom 0 going.now) (λ i. IsNextFrom from going.now i) }
 {
     match open_from(going, from) {
         Some(i) => Some(i),
@@ -36,7 +37,7 @@ fn next_open(going: &[bool], from: usize) -> Option<usize>
     }
 }
 
-/// Takes what one read of the reader of table `t`, from 1, gives: a piece, or its end; whether the table goes on.
+/// Takes what one read of the reader of table `t`, from 1, gives: a piece, or the end. Returns whether the table goes on.
 fn read_piece<R: Read, S: TripleSink>(
     session: &mut Session<S>,
     t: u32,
@@ -46,9 +47,11 @@ fn read_piece<R: Read, S: TripleSink>(
     requires { 0 < length piece.old }
     ensures same { IsSame session.old session.new }
     ensures room { length piece.new ≡ length piece.old }
-    ensures reads { (start : S) (events : List Event) (first : TheReader R) → Stands S.gains S.is_open S.failed start events session.old
-        → IsOpen session.old events t → Gave R.remaining first reader.old (text_of events t) false → failures_of reader.old ≡ failures_of first
-        → PieceReads S.gains S.is_open S.failed R.remaining start events t first reader.new session.old session.new (length events + 1) result }
+    ensures reads { (start : S) (many limit : ℕ) (events : List Event) (first : TheReader R) → Stands S.gains S.is_open S.failed start events session.old
+        → IsOpen session.old piece.old many limit events t → Gave R.remaining first reader.old (text_of events t) false
+        → failures_of reader.old ≡ failures_of first
+        → PieceReads S.gains S.is_open S.failed R.remaining start (AreReadIn AreInTurn many limit) events t
+        first reader.new session.old session.new (length events + 1) result }
 {
     texts_grow();
     let Ok(n) = reader.read(piece) else {
@@ -62,9 +65,10 @@ fn read_piece<R: Read, S: TripleSink>(
     Ok(true)
 }
 
-/// Reads the readers of all tables of a session, each to its end, one piece of at most the length of `piece` of each in turn;
-/// `going` has a `true` for each of them. `Read` where a reader failed in this call, or 2^40 reads were made; else the stop of the
-/// session.
+/// Reads the readers of all tables of a session, each to its end, in pieces of at most the length of `piece`. It reads each open
+/// table once, from the first on, before it reads any of them again. `going` has a `true` for each table. Each read gives the
+/// session a piece that is not empty, or the end of its table. The call fails with `Read` if a reader failed, or after 2^40
+/// reads; else with the stop of the session.
 pub fn read_turns<R: Read, S: TripleSink>(
     session: &mut Session<S>,
     readers: &mut [Counted<R>],
@@ -78,7 +82,7 @@ pub fn read_turns<R: Read, S: TripleSink>(
     ensures same { IsSame session.old session.new }
     ensures reads { (start : S) → Stands S.gains S.is_open S.failed start [] session.old
         → length readers.old ≡ length session.old.plan.tables
-        → Reads S.gains S.is_open S.failed R.remaining start readers.old readers.new session.old session.new result }
+        → Reads S.gains S.is_open S.failed R.remaining AreInTurn (length piece.old) start readers.old readers.new session.old session.new result }
 {
     texts_grow();
     let mut reads = 0;

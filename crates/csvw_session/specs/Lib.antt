@@ -3,6 +3,7 @@ pub mod Faults
 pub mod Finishing
 pub mod Laws
 pub mod NewTables
+pub mod Order
 pub mod Ready
 pub mod Refusing
 pub mod Sessions

@@ -1,10 +1,10 @@
 -- The bytes so far, and what the session and the reader are after them.
 use Rattle.std.proofs.Common.{◌≡◌, ◌-◌, ℕ, List, false, length}
-use Rattle.std.specs.Io.KnownBytes.{Consumes}
-use Rattle.csvw_text.specs.Counted.{inner_of, failures_of}
+use Rattle.csvw_text.specs.Counted.{failures_of}
 use Rattle.csvw_session.specs.Events.{Event}
 use Rattle.csvw_session.specs.Sessions.{Stands}
-use Rattle.csvw_reading.specs.Reading.{IsSame}
+use Rattle.csvw_reading.specs.ReadOrder.{AreReadIn, AreTableByTable}
+use Rattle.csvw_reading.specs.Reading.{Gave, IsSame}
 use Rattle.csvw_reading.specs.TableReading.{IsNext, Took}
 use Rattle.csvw_reading.proofs.reading.read_table.Given as goal
 
@@ -14,11 +14,13 @@ invariant-loop-reads g l = record {
   room : length l.piece ≡ length l.initial.piece;
   steady : failures_of l.reader ≡ failures_of l.initial.reader;
   bytes : List ℕ;
-  consumed : Consumes (g.R.Read.remaining (inner_of l.initial.reader)) (g.R.Read.remaining (inner_of l.reader)) bytes;
-  took : (start : _) (events : List Event) → Stands g.S.TripleSink.gains g.S.TripleSink.is_open g.S.TripleSink.failed start events l.initial.session
-      → IsNext l.initial.session events l.initial.t
+  gave : Gave g.R.Read.remaining l.initial.reader l.reader bytes false;
+  took : (start : _) (many limit : ℕ) (events : List Event)
+      → Stands g.S.TripleSink.gains g.S.TripleSink.is_open g.S.TripleSink.failed start events l.initial.session
+      → IsNext l.initial.session l.initial.piece many limit events l.initial.t
       → length events ≡ l.initial.reads
-      → Took g.S.TripleSink.gains g.S.TripleSink.is_open g.S.TripleSink.failed start events l.initial.t bytes false l.session l.reads;
+      → Took g.S.TripleSink.gains g.S.TripleSink.is_open g.S.TripleSink.failed start (AreReadIn AreTableByTable many limit) events l.initial.t bytes false
+      l.session l.reads;
 }
 
 abbrev pub decreases-loop-reads : goal.decreases-loop-reads

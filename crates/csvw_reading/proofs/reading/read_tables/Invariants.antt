@@ -14,5 +14,6 @@ invariant-loop-i g l = record {
   untouched : (j : ℕ) (r : _) → l.i ≤ j → slice_get l.readers j ≡ Some r → slice_get l.initial.readers j ≡ Some r;
   read : (start : _) → Stands g.S.TripleSink.gains g.S.TripleSink.is_open g.S.TripleSink.failed start [] l.initial.session
       → length l.initial.readers ≡ length l.initial.session.plan.tables
-      → ReadFirst g.S.TripleSink.gains g.S.TripleSink.is_open g.S.TripleSink.failed g.R.Read.remaining start l.i l.initial.readers l.readers l.session l.reads;
+      → ReadFirst g.S.TripleSink.gains g.S.TripleSink.is_open g.S.TripleSink.failed g.R.Read.remaining (length l.initial.piece) start l.i l.initial.readers
+      l.readers l.session l.reads;
 }

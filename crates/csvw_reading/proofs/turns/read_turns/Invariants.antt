@@ -1,4 +1,4 @@
--- Pieces of the tables were read so far, and those that are open were not ended.
+-- Pieces of the tables were read in turn so far, and those that are open were not ended.
 use Rattle.std.proofs.Common.{◌≡◌, ◌-◌, [], length}
 use Rattle.csvw_session.specs.Sessions.{Stands}
 use Rattle.csvw_reading.specs.Reading.{IsSame}
@@ -13,8 +13,8 @@ invariant-loop-reads g l = record {
   flags : length l.going ≡ length l.initial.going;
   read : (start : _) → Stands g.S.TripleSink.gains g.S.TripleSink.is_open g.S.TripleSink.failed start [] l.initial.session
       → length l.initial.readers ≡ length l.initial.session.plan.tables
-      → ReadSome g.S.TripleSink.gains g.S.TripleSink.is_open g.S.TripleSink.failed g.R.Read.remaining start l.going l.initial.readers l.readers
-      l.session l.reads;
+      → ReadSome g.S.TripleSink.gains g.S.TripleSink.is_open g.S.TripleSink.failed g.R.Read.remaining (length l.initial.piece) start l.going l.from
+      l.initial.readers l.readers l.session l.reads;
 }
 
 abbrev pub decreases-loop-reads : goal.decreases-loop-reads
