@@ -36,10 +36,9 @@ declared_or (c ∷ cs) others = c ∷ cs
 abbrev pub columns_of : TablePlan → List HeaderRow → Option ℕ → List Column
 columns_of plan rows width = declared_or plan.declared (header_columns plan rows width)
 
--- no more columns than the limit, and no more that are skipped
-pub record IsWithin (plan : TablePlan) (rows : List HeaderRow) (width : Option ℕ) : Type 0 where
-  pub columns : length (columns_of plan rows width) ≤ column_limit
-  pub skipped : plan.dialect.skip_columns ≤ column_limit
+-- no more columns than the limit
+abbrev pub IsWithin : TablePlan → List HeaderRow → Option ℕ → Type 0
+IsWithin plan rows width = length (columns_of plan rows width) ≤ column_limit
 
 -- the columns and the faults of the header
 pub record IsMatch (plan : TablePlan) (rows : List HeaderRow) (width : Option ℕ) (found : Columns) (told : List Fault) : Type 0 where
@@ -48,7 +47,7 @@ pub record IsMatch (plan : TablePlan) (rows : List HeaderRow) (width : Option �
   pub columns : found ≡ record { columns = columns_of plan rows width; url = plan.url; id = plan.id; suppressed = plan.suppressed }
   pub faults : told ≡ header_faults plan.number plan.dialect.header_row_count (columns_of plan rows width) rows
 
--- two columns have one name, where the limits are kept
+-- two columns have one name, where the limit is kept
 pub record IsRepeated (plan : TablePlan) (rows : List HeaderRow) (width : Option ℕ) : Type 0 where
   pub within : IsWithin plan rows width
   pub names : AreNamedApart (columns_of plan rows width) → ⊥
@@ -61,7 +60,7 @@ Matches plan rows width (Err DuplicateName) = IsRepeated plan rows width
 Matches plan rows width (Err Memory) = Unit {0}
 Matches plan rows width (Err other) = ⊥
 
--- the columns alone, where the limits are kept
+-- the columns alone, where the limit is kept
 abbrev pub GivesColumns : TablePlan → List HeaderRow → Option ℕ → Result (List Column) TableStop → Type 0
 GivesColumns plan rows width (Ok columns) = IsWithin plan rows width × (columns ≡ columns_of plan rows width)
 GivesColumns plan rows width (Err TooManyColumns) = IsWithin plan rows width → ⊥

@@ -11,7 +11,7 @@ ghost use Rattle.csvw_columns_core.specs.Sound.{AreSound};
 use crate::names::are_named_apart;
 use crate::plan::TablePlan;
 use csvw_columns_core::{
-    COLUMN_LIMIT, Column, Columns, Defaults, Frame, HeaderRow, SKIP_LIMIT, TableStop, column_count,
+    COLUMN_LIMIT, Column, Columns, Defaults, Frame, HeaderRow, TableStop, column_count,
     from_header, header_faults,
 };
 use csvw_text::{Fault, Seq, both, copied_option};
@@ -41,8 +41,7 @@ fn header_columns(
     rows: &[HeaderRow],
     width: Option<usize>,
 ) -> Result<Seq<Column>, AllocError>
-    requires skipped { plan.now.dialect.skip_columns ≤ column_limit }
-    requires limit { column_count rows.now width ≤ column_limit }
+    requires { column_count rows.now width ≤ column_limit }
     ensures { IfOk result (λ cs. cs ≡ header_columns plan.now rows.now width) }
 {
     let descriptions = from_header(alloc, rows, width)?;
@@ -65,14 +64,14 @@ fn count(plan: &TablePlan, rows: &[HeaderRow], width: Option<usize>) -> usize
     }
 }
 
-/// Whether the limits are kept.
+/// Whether the limit is kept.
 fn is_within(plan: &TablePlan, rows: &[HeaderRow], width: Option<usize>) -> bool
     ensures { IsTrue result ↔ IsWithin plan.now rows.now width }
 {
-    plan.dialect.skip_columns <= SKIP_LIMIT && count(plan, rows, width) <= COLUMN_LIMIT
+    count(plan, rows, width) <= COLUMN_LIMIT
 }
 
-/// The columns; `TooManyColumns` where the limits aren't kept.
+/// The columns; `TooManyColumns` where there are over 1,024.
 fn columns_of(
     alloc: Global,
     plan: &TablePlan,
@@ -108,8 +107,8 @@ fn in_table(alloc: Global, plan: &TablePlan, columns: Seq<Column>) -> Result<Col
 /// The columns of a table, once its header is known, and what is wrong with the header (Metadata Vocabulary for Tabular
 /// Data, sections 5.6 and 6.4; Model for Tabular Data, section 8): the columns that are declared, or where there are none,
 /// those that come from the header rows, or without header rows one for each field of the first data row, of which there
-/// are so many. `TooManyColumns` where there are over 1,024 of them, or over 1,024 columns of the source are skipped; else
-/// `DuplicateName` where two have one name. `Memory` where there is none. It never answers `RaggedRow`.
+/// are so many. `TooManyColumns` where there are over 1,024 of them; else `DuplicateName` where two have one name. `Memory`
+/// where there is none. It never answers `RaggedRow`.
 pub fn match_header(
     alloc: Global,
     plan: &TablePlan,

@@ -43,8 +43,7 @@ fn declared(
     group: &Inherited,
     schema: &Option<Schema>,
 ) -> Result<Seq<Column>, AllocError>
-    requires skipped { frame.now.skip_columns ≤ column_limit }
-    requires limit { length (unwrap_or schema.now no_schema).columns ≤ column_limit }
+    requires { length (unwrap_or schema.now no_schema).columns ≤ column_limit }
     ensures { IfOk result (λ cs. cs ≡ declared_columns (iri_of frame.now.url) frame.now.skip_columns frame.now.schema frame.now.table
         group.now (unwrap_or schema.now no_schema).columns) }
 {
@@ -84,8 +83,7 @@ fn framed(
     table: &TableDescription,
     skip_columns: u32,
 ) -> Result<(Frame, Seq<Column>), AllocError>
-    requires skipped { skip_columns ≤ column_limit }
-    requires limit { length (schema_of table.now.schema group.now.schema).columns ≤ column_limit }
+    requires { length (schema_of table.now.schema group.now.schema).columns ≤ column_limit }
     ensures { let schema = schema_of table.now.schema group.now.schema in
         let frame : TheFrame = record { url = table.now.url; skip_columns = skip_columns; schema = schema.inherited; table = table.now.inherited } in
         IfOk result (λ p. (p.0 ≡ frame) × (p.1 ≡ declared_columns (iri_of table.now.url) skip_columns schema.inherited table.now.inherited
@@ -105,8 +103,7 @@ fn bare_plan(
     number: u32,
     table: &TableDescription,
 ) -> Result<TablePlan, AllocError>
-    requires skipped { (dialect_of table.now.dialect group.now.dialect).skip_columns ≤ column_limit }
-    requires limit { length (schema_of table.now.schema group.now.schema).columns ≤ column_limit }
+    requires { length (schema_of table.now.schema group.now.schema).columns ≤ column_limit }
     ensures { IfOk result (λ p. p ≡ record (table_plan known.now.targets group.now number table.now) { primary_key = []; foreign_keys = []; notes = [] }) }
 {
     let dialect = dialect_of(alloc, &table.dialect, &group.dialect)?;
@@ -150,7 +147,6 @@ fn table_plan(
     mut table: TableDescription,
 ) -> Result<TablePlan, AllocError>
     requires known { IsKnown known.now }
-    requires skipped { (dialect_of table.dialect group.now.dialect).skip_columns ≤ column_limit }
     requires limit { length (schema_of table.schema group.now.schema).columns ≤ column_limit }
     ensures { IfOk result (λ p. p ≡ table_plan known.now.targets group.now number table) }
 {

@@ -16,7 +16,7 @@ pub struct Column {
     /// Its number in its table, from 1.
     pub number: u32,
     /// Its number in the source, from 1, where skipped columns count; `None`: it is virtual.
-    pub source_number: Option<u32>,
+    pub source_number: Option<u64>,
     /// Whether it has no field in the source.
     pub is_virtual: bool,
     /// Whether its cells give no triples.

@@ -1,5 +1,5 @@
 //! The columns that a schema declares.
-ghost use Rattle.std.specs.Prelude.{◌≡◌, ◌<◌, ◌≤◌, ◌+◌, ◌^◌, IfOk, length};
+ghost use Rattle.std.specs.Prelude.{◌≡◌, ◌≤◌, IfOk, length};
 ghost use Rattle.csvw_iri.specs.Link.{iri_of};
 ghost use Rattle.csvw_columns_core.specs.Inherited.{properties_of};
 ghost use Rattle.csvw_columns_core.specs.LiteralDatatype.{literal_datatype};
@@ -34,14 +34,13 @@ pub struct Frame {
 }
 
 /// The source number of a column: none of a virtual one.
-fn source_number_of(is_virtual: bool, skip_columns: u32, number: u32) -> Option<u32>
-    requires { skip_columns + number < 2 ^ 32 }
+fn source_number_of(is_virtual: bool, skip_columns: u32, number: u32) -> Option<u64>
     ensures { result ≡ source_number_of is_virtual skip_columns number }
 {
     if is_virtual {
         None
     } else {
-        Some(skip_columns + number)
+        Some(u64::from(skip_columns) + u64::from(number))
     }
 }
 
@@ -72,7 +71,6 @@ impl Frame {
         number: u32,
         description: &ColumnDescription,
     ) -> Result<Column, AllocError>
-        requires number { self.now.skip_columns + number < 2 ^ 32 }
         ensures { IfOk result (λ c. c ≡ declared (iri_of self.now.url) self.now.skip_columns self.now.schema self.now.table group.now number description.now) }
     {
         let name = description.resolved_name(alloc, number as usize)?;
@@ -104,8 +102,7 @@ impl Frame {
         group: &Inherited,
         descriptions: &[ColumnDescription],
     ) -> Result<Seq<Column>, AllocError>
-        requires skipped { self.now.skip_columns ≤ column_limit }
-        requires limit { length descriptions.now ≤ column_limit }
+        requires { length descriptions.now ≤ column_limit }
         ensures { IfOk result (λ cs. cs ≡ declared_columns (iri_of self.now.url) self.now.skip_columns
             self.now.schema self.now.table group.now descriptions.now) }
     {

@@ -38,11 +38,11 @@ fn number_binding(alloc: Global, number: u64) -> Result<Binding, AllocError>
     Ok(Binding::Constant(Text::of(format!(in alloc; "{number}")?)))
 }
 
-fn source_binding(alloc: Global, number: Option<u32>) -> Result<Binding, AllocError>
+fn source_binding(alloc: Global, number: Option<u64>) -> Result<Binding, AllocError>
     ensures { IfOk result (λ b. b ≡ source_binding number) }
 {
     match number {
-        Some(number) => number_binding(alloc, u64::from(number)),
+        Some(number) => number_binding(alloc, number),
         None => Ok(Binding::Nothing),
     }
 }
