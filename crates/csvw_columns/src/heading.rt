@@ -11,7 +11,7 @@ ghost use Rattle.csvw_columns_core.specs.Sound.{AreSound};
 use crate::names::are_named_apart;
 use crate::plan::TablePlan;
 use csvw_columns_core::{
-    COLUMN_LIMIT, Column, Columns, Defaults, Frame, HeaderRow, TableStop, column_count,
+    COLUMN_LIMIT, Column, ColumnList, Columns, Defaults, Frame, HeaderRow, TableStop, column_count,
     from_header, header_faults,
 };
 use csvw_text::{Fault, Seq, both, copied_option};
@@ -95,7 +95,8 @@ fn in_table(alloc: Global, plan: &TablePlan, columns: Seq<Column>) -> Result<Col
 {
     let url = plan.url.clone(alloc);
     let id = copied_option(alloc, &plan.id);
-    let (url, id) = both(url, id)?;
+    let urls = both(url, id);
+    let (columns, (url, id)) = both(ColumnList::of(alloc, columns), urls)?;
     Ok(Columns {
         columns,
         url,

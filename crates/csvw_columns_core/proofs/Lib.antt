@@ -3,3 +3,4 @@ mod SameLemmas
 mod DeclaredLemmas
 mod HeaderLemmas
 mod XsdLemmas
+mod PlaceLemmas

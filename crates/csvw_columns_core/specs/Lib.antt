@@ -1,5 +1,6 @@
 pub mod Inherited
 pub mod Columns
+pub mod ByName
 pub mod LiteralDatatype
 pub mod SchemaColumns
 pub mod HeaderFits

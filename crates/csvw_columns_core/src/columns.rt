@@ -4,14 +4,14 @@ ghost use Rattle.std.specs.Option.{option_copied};
 ghost use Rattle.csvw_columns_core.specs.Columns.{field_count};
 
 use crate::column::Column;
+use crate::column_list::ColumnList;
 use csvw_iri::{Base, Iri};
-use csvw_text::Seq;
 
 /// The columns of a table, in their order, and what the graph tells of the table (Model for Tabular Data, section 4.2).
 #[derive(Debug, Drop)]
 pub struct Columns {
     /// The columns. Virtual ones come last.
-    pub columns: Seq<Column>,
+    pub columns: ColumnList,
     /// The table's URL.
     pub url: Base,
     /// The table's `@id`.
@@ -41,8 +41,7 @@ impl Columns {
     pub fn by_name(&self, name: &str) -> Option<&Column>
         ensures { option_copied result ≡ find (λ c. bytes_eq c.name name.now) self.now.columns }
     {
-        let columns = self.columns.as_slice();
-        columns.iter().find(|c| c.name.as_str() == name)
+        self.columns.by_name(name)
     }
 
     /// How many fields a row of the table has: one for each column that isn't virtual.

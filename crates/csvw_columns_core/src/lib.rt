@@ -2,6 +2,7 @@
 #![tactic(auto)]
 
 mod column;
+mod column_list;
 mod columns;
 mod copies;
 mod declared;
@@ -13,6 +14,7 @@ mod table_stop;
 mod xsd;
 
 pub use column::Column;
+pub use column_list::ColumnList;
 pub use columns::Columns;
 pub use declared::{COLUMN_LIMIT, Frame, SKIP_LIMIT};
 pub use header::{HeaderRow, header_faults};
