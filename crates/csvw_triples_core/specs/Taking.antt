@@ -1,15 +1,28 @@
 -- What a sink has taken after a call that puts several triples.
-use Rattle.std.specs.Prelude.{◌≡◌, ℕ, ◌+◌, ◌<◌, ◌^◌, ◌-◌, Bool, false, List, ◌++◌, Result, Ok, Err}
+use Rattle.std.specs.Prelude.{◌≡◌, ℕ, ◌+◌, ◌<◌, ◌^◌, ◌-◌, Bool, false, List, ◌∷◌, ◌++◌, Result, Ok, Err}
 use Rattle.csvw_triples_core.specs.declared.term.Triple.{Triple}
 use Rattle.csvw_triples_core.specs.declared.sink.SinkFault.{SinkFault}
 use Rattle.csvw_triples_core.specs.declared.sink.SinkFault.TheVariants.{Memory, Device, Closed}
 
--- From one state to another a front of these triples was taken; of its last only a part, where a device failed within it.
-pub record FrontOf {S : Type 0} (gains : S → List Triple → S → Type 0) (old : S) (all : List Triple) (new : S) : Type 0 where
+-- From one state to another these triples were taken whole, and the device failed within the first of the rest.
+pub record IsCutAfter {S : Type 0} (gains : S → List Triple → S → Type 0) (cuts : S → Triple → S → Type 0) (old : S) (front rest : List Triple)
+    (new : S) : Type 0 where
+  pub middle : S
+  pub before : gains old front middle
+  pub next : Triple
+  pub more : List Triple
+  pub rest_is : rest ≡ next ∷ more
+  pub cut : cuts middle next new
+
+-- From one state to another a front of these triples was taken, each of them whole. Where the device failed, it failed within
+-- the triple after this front.
+pub record FrontOf {S : Type 0} (gains : S → List Triple → S → Type 0) (cuts : S → Triple → S → Type 0) (old : S) (all : List Triple) (new : S)
+    (Fails : Type 0) : Type 0 where
   pub front : List Triple
   pub rest : List Triple
   pub parts : all ≡ front ++ rest
   pub gained : gains old front new
+  pub cut : Fails → IsCutAfter gains cuts old front rest new
 
 -- open or not as before, and no failure was counted
 abbrev pub IsAsReady : {S : Type 0} → (S → Bool) → (S → ℕ) → S → S → Type 0

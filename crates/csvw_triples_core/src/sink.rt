@@ -7,7 +7,7 @@ use std::alloc::AllocError;
 use std::error::Error;
 use std::fmt;
 
-/// Why a sink didn't take a triple whole: after `Device` it took a part of it, else nothing.
+/// Why a sink didn't take a triple. After `Device` at most a proper part of the triple went out, else nothing.
 #[derive(Clone, Copy, Debug, PartialEq, Eq)]
 pub enum SinkFault {
     /// There is no memory. The sink may be asked again.
@@ -51,9 +51,11 @@ impl From<AllocError> for SinkFault {
 
 /// What takes triples, one after the other.
 pub trait TripleSink {
-    /// The sink went from one state to another, and took these triples, in their order: of the last only a
-    /// part where its device failed within it.
+    /// The sink went from one state to another, and took these triples whole, in their order.
     ghost gains: { Self → List TheTriple → Self → Type 0 };
+
+    /// The device failed within this triple: from one state to another at most a proper part of it went out.
+    ghost cuts: { Self → TheTriple → Self → Type 0 };
 
     /// No device failed so far.
     ghost is_open: { Self → Bool };
@@ -65,12 +67,12 @@ pub trait TripleSink {
     fn failures(&self) -> u64
         ensures { result ≡ failed self.now };
 
-    /// Takes a triple at the end, or answers why it didn't: after `Device` a part of it was taken, else
-    /// nothing.
+    /// Takes a triple at the end, or returns why it didn't. On an error the sink gains nothing, and after
+    /// `Device` the device failed within this triple.
     fn put(&mut self, triple: &Triple) -> Result<(), SinkFault>
         ensures ok { OnOk result (gains self.old (triple.now ∷ []) self.new) }
-        ensures err { result ≢ Err SinkFault.Device → OnErr result (gains self.old [] self.new) }
-        ensures cut { result ≡ Err SinkFault.Device → gains self.old (triple.now ∷ []) self.new }
+        ensures err { OnErr result (gains self.old [] self.new) }
+        ensures cut { result ≡ Err SinkFault.Device → cuts self.old triple.now self.new }
         ensures open { OnOk result (IsTrue (is_open self.new)) }
         ensures closed { (result ≡ Err SinkFault.Closed) ↔ (is_open self.old ≡ false) }
         ensures memory { result ≢ Err SinkFault.Device → is_open self.new ≡ is_open self.old }

@@ -35,6 +35,8 @@ impl VecSink {
 impl TripleSink for VecSink {
     ghost gains = { λ old ts new. triples_of new ≡ triples_of old ++ ts };
 
+    ghost cuts = { λ _ _ _. ⊥ };
+
     ghost is_open = { λ _. true };
 
     ghost failed = { λ _. 0 };
