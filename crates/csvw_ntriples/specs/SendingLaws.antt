@@ -1,5 +1,5 @@
 -- How the states of a sink follow one another.
-use Rattle.std.proofs.Common.{◌≡◌, ℕ, List, [], ◌∷◌, ◌++◌, Bool, true, false, Option, Some, None, refl, sym, ap, ◌∙◌, append_assoc, append-nil, take}
+use Rattle.std.proofs.Common.{◌≡◌, ℕ, List, [], ◌∷◌, ◌++◌, Bool, true, false, Option, Some, None, refl, ap, ◌∙◌, append_assoc, append-nil, take}
 use Rattle.std.proofs.KnownBytes.{Appends-nil, Appends-trans, Appends-kept}
 use Rattle.std.proofs.lemmas.List.Concat.{flat_map-append}
 use Rattle.std.specs.Io.KnownBytes.{Keeps}
@@ -32,19 +32,27 @@ sends_nothing a false = (refl, Keeps-same a)
 
 pub sends_on : (a b c : Option (List ℕ)) (o p q : Bool) (xs ys : List Triple) → Sends a o xs b p → Sends b p ys c q → Sends a o (xs ++ ys) c q
 sends_on a b c true true true xs ys f g = rw (written-append xs ys) (Appends-trans a b c (written xs) (written ys) f g)
-sends_on a b c true true false xs ys f g =
-    let front = g.0 in let cut = g.1 in let n = g.2 in let part = take n (written (cut ∷ [])) in (
-      xs ++ front,
+sends_on a b c true true false xs ys f (cut, k) =
+    let part = take k.sent (written (cut ∷ [])) in (
       cut,
-      n,
-      ap (λ z. xs ++ z) g.3 ∙ sym (append_assoc xs front (cut ∷ [])),
-      g.4,
-      rw (written-append xs front, append_assoc (written xs) (written front) part) (Appends-trans a b c (written xs) (written front ++ part) f g.5),
+      record {
+        fits = k.fits;
+        sent = k.sent;
+        short = k.short;
+        added = rw (written-append xs ys, append_assoc (written xs) (written ys) part) (Appends-trans a b c (written xs) (written ys ++ part) f k.added);
+      },
     )
 sends_on a b c true false true xs ys f g = absurd g
-sends_on a b c true false false xs ys f g =
-    let same : xs ++ ys ≡ xs = ap (λ z. xs ++ z) g.0 ∙ append-nil xs in
-    (f.0, f.1, f.2, same ∙ f.3, f.4, Appends-kept a b c (written f.0 ++ take f.2 (written (f.1 ∷ []))) f.5 g.1)
+sends_on a b c true false false xs ys (cut, k) g =
+    let same : xs ++ ys ≡ xs = ap (λ z. xs ++ z) g.0 ∙ append-nil xs in (
+      cut,
+      record {
+        fits = k.fits;
+        sent = k.sent;
+        short = k.short;
+        added = rw same (Appends-kept a b c (written xs ++ take k.sent (written (cut ∷ []))) k.added g.1);
+      },
+    )
 sends_on a b c false true q xs ys f g = absurd f
 sends_on a b c false false true xs ys f g = absurd g
 sends_on a b c false false false xs ys f g = (ap (λ z. z ++ ys) f.0 ∙ g.0, Keeps-trans a b c f.1 g.1)

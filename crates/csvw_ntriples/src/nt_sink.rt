@@ -1,5 +1,5 @@
 //! A sink that writes N-Triples.
-ghost use Rattle.std.specs.Prelude.{◌≡◌, true};
+ghost use Rattle.std.specs.Prelude.{◌≡◌, true, false, []};
 ghost use Rattle.csvw_ntriples.specs.NtSink.{sink_out, sink_is_open};
 
 use crate::line::Line;
@@ -46,7 +46,7 @@ impl<'a, W: Write> NtSink<'a, W> {
 }
 
 impl<'a, W: Write> TripleSink for NtSink<'a, W> {
-    ghost use Rattle.csvw_ntriples.specs.Sending.{Sends};
+    ghost use Rattle.csvw_ntriples.specs.Sending.{IsCutIn, Sends};
     ghost use Rattle.std.proofs.Common.{refl, ◌∙◌};
     ghost use Rattle.std.specs.List.{AllByRecursion};
     ghost use Rattle.csvw_ntriples.specs.SendingLaws.{all_fit, sends_nothing, sends_on};
@@ -58,6 +58,10 @@ impl<'a, W: Write> TripleSink for NtSink<'a, W> {
         ((sink_out b).ghost_name ≡ (sink_out a).ghost_name) × AllByRecursion TripleFits ts
         × Sends (W.contents (inner_of (sink_out a).now)) (sink_is_open a) ts
         (W.contents (inner_of (sink_out b).now)) (sink_is_open b) };
+
+    ghost cuts = { λ a t b.
+        ((sink_out b).ghost_name ≡ (sink_out a).ghost_name) × (sink_is_open a ≡ true) × (sink_is_open b ≡ false)
+        × IsCutIn t (W.contents (inner_of (sink_out a).now)) (W.contents (inner_of (sink_out b).now)) [] };
 
     ghost is_open = { λ s. sink_is_open s };
 
