@@ -12,33 +12,33 @@ use Rattle.csvw_triples.specs.Puts.{Puts}
 use Rattle.csvw_triples.specs.StandardTriples.{described_triples, described_cells, last_after}
 use Rattle.csvw_triples.proofs.Emitting.{puts_nothing, puts_then, puts_part, puts_same}
 
-module _ {S : Type 0} (gains : S → List Triple → S → Type 0) (is_open : S → Bool) (failed : S → ℕ) where
+module _ {S : Type 0} (gains : S → List Triple → S → Type 0) (cuts : S → Triple → S → Type 0) (is_open : S → Bool) (failed : S → ℕ) where
   -- all but the rest was put
   pub record Walked (old : S) (all rest : List Triple) (new : S) : Type 0 where
     pub done : List Triple
     pub parts : all ≡ done ++ rest
-    pub puts : Puts gains is_open failed old done new (Ok tt)
+    pub puts : Puts gains cuts is_open failed old done new (Ok tt)
 
   pub starts : (stays : (s : S) → gains s [] s) (s : S) (all : List Triple) → Walked s all all s
-  starts stays s all = record { done = []; parts = refl; puts = puts_nothing gains is_open failed stays s [] refl }
+  starts stays s all = record { done = []; parts = refl; puts = puts_nothing gains cuts is_open failed stays s [] refl }
 
-  pub ends : (old new : S) (all rest : List Triple) → rest ≡ [] → Walked old all rest new → Puts gains is_open failed old all new (Ok tt)
+  pub ends : (old new : S) (all rest : List Triple) → rest ≡ [] → Walked old all rest new → Puts gains cuts is_open failed old all new (Ok tt)
   ends old new all rest e w =
-      puts_same gains is_open failed old new w.done all (Ok tt) (sym (append-nil w.done) ∙ ap (λ ts. w.done ++ ts) (sym e) ∙ sym w.parts) w.puts
+      puts_same gains cuts is_open failed old new w.done all (Ok tt) (sym (append-nil w.done) ∙ ap (λ ts. w.done ++ ts) (sym e) ∙ sym w.parts) w.puts
 
   module _ (goes_on : (a b c : S) (xs ys : List Triple) → gains a xs b → gains b ys c → gains a (xs ++ ys) c) where
     pub walks_on : (old mid new : S) (all rest more others : List Triple) → rest ≡ more ++ others → Walked old all rest mid
-        → Puts gains is_open failed mid more new (Ok tt) → Walked old all others new
+        → Puts gains cuts is_open failed mid more new (Ok tt) → Walked old all others new
     walks_on old mid new all rest more others e w p = record {
       done = w.done ++ more;
       parts = w.parts ∙ ap (λ ts. w.done ++ ts) e ∙ sym (append_assoc w.done more others);
-      puts = puts_then gains is_open failed goes_on old mid new w.done more (w.done ++ more) (Ok tt) refl w.puts p;
+      puts = puts_then gains cuts is_open failed goes_on old mid new w.done more (w.done ++ more) (Ok tt) refl w.puts p;
     }
 
     pub walk_fails : (old mid new : S) (all rest more others : List Triple) (f : SinkFault) → rest ≡ more ++ others → Walked old all rest mid
-        → Puts gains is_open failed mid more new (Err f) → Puts gains is_open failed old all new (Err f)
+        → Puts gains cuts is_open failed mid more new (Err f) → Puts gains cuts is_open failed old all new (Err f)
     walk_fails old mid new all rest more others f e w p =
-        puts_part gains is_open failed goes_on old mid new w.done more others all f
+        puts_part gains cuts is_open failed goes_on old mid new w.done more others all f
         (w.parts ∙ ap (λ ts. w.done ++ ts) e ∙ sym (append_assoc w.done more others)) w.puts p
 
 -- what isn't suppressed is given whole

@@ -1,5 +1,5 @@
 //! The triples of rows, put into a sink.
-ghost use Rattle.std.specs.Prelude.{◌≡◌, [], ◌∷◌, length, map, IfOk, OnOk, OnErr, if◌then◌else◌};
+ghost use Rattle.std.specs.Prelude.{◌≡◌, [], ◌∷◌, length, map, IfOk, IfErr, OnOk, if◌then◌else◌};
 ghost use Rattle.csvw_datatype.specs.Lexical.{IsWritable};
 ghost use Rattle.csvw_triples_core.specs.Taking.{FrontOf, Ends};
 ghost use Rattle.csvw_triples_core.specs.declared.term.Node.TheVariants as node;
@@ -158,7 +158,7 @@ impl Emitter {
         o: Term,
         sink: &mut S,
     ) -> Result<(), SinkFault>
-        ensures { Puts S.gains S.is_open S.failed sink.old (object_triple stem o ∷ []) sink.new result }
+        ensures { Puts S.gains S.cuts S.is_open S.failed sink.old (object_triple stem o ∷ []) sink.new result }
     {
         self.aim(stem);
         self.set_object(o);
@@ -173,7 +173,7 @@ impl Emitter {
         sink: &mut S,
     ) -> Result<(), SinkFault>
         requires { IsWritable item.now.value }
-        ensures { Puts S.gains S.is_open S.failed sink.old (literal_triple stem column.now item.now ∷ []) sink.new result }
+        ensures { Puts S.gains S.cuts S.is_open S.failed sink.old (literal_triple stem column.now item.now ∷ []) sink.new result }
     {
         self.aim(stem);
         self.set_literal(column, item)?;
@@ -189,7 +189,7 @@ impl Emitter {
         sink: &mut S,
     ) -> Result<(), SinkFault>
         requires { IsWritable item.now.value }
-        ensures { Puts S.gains S.is_open S.failed sink.old (literal_triple stem.now column.now item.now ∷ []) sink.new result }
+        ensures { Puts S.gains S.cuts S.is_open S.failed sink.old (literal_triple stem.now column.now item.now ∷ []) sink.new result }
     {
         let stem = stem.clone(self.alloc)?;
         self.emit_item(stem, column, item, sink)
@@ -203,7 +203,7 @@ impl Emitter {
         sink: &mut S,
     ) -> Result<(), SinkFault>
         requires { HaveForms items.now }
-        ensures { Puts S.gains S.is_open S.failed sink.old (map (literal_triple stem.now column.now) items.now) sink.new result }
+        ensures { Puts S.gains S.cuts S.is_open S.failed sink.old (map (literal_triple stem.now column.now) items.now) sink.new result }
     {
         for i in 0..items.len() {
             self.emit_one(stem, column, &items[i], sink)?;
@@ -251,7 +251,7 @@ impl Emitter {
         sink: &mut S,
     ) -> Result<(), SinkFault>
         requires { IsWritable item.now.value }
-        ensures { Puts S.gains S.is_open S.failed sink.old
+        ensures { Puts S.gains S.cuts S.is_open S.failed sink.old
             (triple (node.Blank entry) rdf_first (term.Literal (literal_of column.now item.now)) ∷ []) sink.new result }
     {
         let stem = self.first_stem(entry)?;
@@ -265,7 +265,7 @@ impl Emitter {
         rest: Term,
         sink: &mut S,
     ) -> Result<(), SinkFault>
-        ensures { Puts S.gains S.is_open S.failed sink.old (triple (node.Blank entry) rdf_rest rest ∷ []) sink.new result }
+        ensures { Puts S.gains S.cuts S.is_open S.failed sink.old (triple (node.Blank entry) rdf_rest rest ∷ []) sink.new result }
     {
         let stem = self.rest_stem(entry)?;
         self.put_object(stem, rest, sink)
@@ -281,7 +281,7 @@ impl Emitter {
         sink: &mut S,
     ) -> Result<(), SinkFault>
         requires { IsWritable item.now.value }
-        ensures { Puts S.gains S.is_open S.failed sink.old (entry_triples entry column.now item.now rest) sink.new result }
+        ensures { Puts S.gains S.cuts S.is_open S.failed sink.old (entry_triples entry column.now item.now rest) sink.new result }
     {
         self.emit_first(entry, column, item, sink)?;
         self.emit_rest(entry, rest, sink)
@@ -295,7 +295,7 @@ impl Emitter {
         sink: &mut S,
     ) -> Result<(), SinkFault>
         requires { HaveForms items.now }
-        ensures { Puts S.gains S.is_open S.failed sink.old (list_triples (entries_in place) column.now 1 items.now) sink.new result }
+        ensures { Puts S.gains S.cuts S.is_open S.failed sink.old (list_triples (entries_in place) column.now 1 items.now) sink.new result }
     {
         for i in 0..items.len() {
             let k = i as u64 + 1;
@@ -314,7 +314,7 @@ impl Emitter {
         sink: &mut S,
     ) -> Result<(), SinkFault>
         requires { HaveForms items.now }
-        ensures { Puts S.gains S.is_open S.failed sink.old
+        ensures { Puts S.gains S.cuts S.is_open S.failed sink.old
             (object_triple stem (list_node (entries_in place) 1 items.now)
             ∷ list_triples (entries_in place) column.now 1 items.now) sink.new result }
     {
@@ -332,7 +332,7 @@ impl Emitter {
         sink: &mut S,
     ) -> Result<(), SinkFault>
         requires { HaveForms items.now }
-        ensures { Puts S.gains S.is_open S.failed sink.old
+        ensures { Puts S.gains S.cuts S.is_open S.failed sink.old
             (items_triples stem.s stem.p (entries_in place) column.now items.now) sink.new result }
     {
         if column.properties.ordered {
@@ -351,7 +351,7 @@ impl Emitter {
         sink: &mut S,
     ) -> Result<(), SinkFault>
         requires { HasForm value.now }
-        ensures { Puts S.gains S.is_open S.failed sink.old
+        ensures { Puts S.gains S.cuts S.is_open S.failed sink.old
             (value_triples stem.s stem.p (entries_in place) column.now value.now) sink.new result }
     {
         match value {
@@ -367,7 +367,7 @@ impl Emitter {
         link: &Iri,
         sink: &mut S,
     ) -> Result<(), SinkFault>
-        ensures { Puts S.gains S.is_open S.failed sink.old (object_triple stem (term.Named link.now) ∷ []) sink.new result }
+        ensures { Puts S.gains S.cuts S.is_open S.failed sink.old (object_triple stem (term.Named link.now) ∷ []) sink.new result }
     {
         let o = Term::Named(link.clone(self.alloc)?);
         self.put_object(stem, o, sink)
@@ -382,7 +382,7 @@ impl Emitter {
         sink: &mut S,
     ) -> Result<(), SinkFault>
         requires { HasForm cell.now.value }
-        ensures { Puts S.gains S.is_open S.failed sink.old
+        ensures { Puts S.gains S.cuts S.is_open S.failed sink.old
             (object_triples stem.s stem.p (entries_in place) column.now cell.now.value cell.now.link) sink.new result }
     {
         match &cell.link {
@@ -401,7 +401,7 @@ impl Emitter {
         sink: &mut S,
     ) -> Result<(), SinkFault>
         requires { HasForm cell.now.value }
-        ensures { Puts S.gains S.is_open S.failed sink.old
+        ensures { Puts S.gains S.cuts S.is_open S.failed sink.old
             (object_triples (subject_of place.table place.row cell.now) (predicate_of column.now cell.now)
             (entries_of place.table place.row column.now) column.now cell.now.value cell.now.link) sink.new result }
     {
@@ -425,7 +425,7 @@ impl Emitter {
         sink: &mut S,
     ) -> Result<(), SinkFault>
         requires { IsWritable item.now.value }
-        ensures { Puts S.gains S.is_open S.failed sink.old
+        ensures { Puts S.gains S.cuts S.is_open S.failed sink.old
             (triple (subject_of place.table place.row cell.now) (predicate_of column.now cell.now)
             (term.Literal (literal_of column.now item.now)) ∷ []) sink.new result }
     {
@@ -443,7 +443,7 @@ impl Emitter {
         sink: &mut S,
     ) -> Result<(), SinkFault>
         requires { HasForm cell.now.value }
-        ensures { Puts S.gains S.is_open S.failed sink.old (cell_triples place.table place.row column.now cell.now) sink.new result }
+        ensures { Puts S.gains S.cuts S.is_open S.failed sink.old (cell_triples place.table place.row column.now cell.now) sink.new result }
     {
         if column.suppressed {
             return Ok(());
@@ -464,7 +464,7 @@ impl Emitter {
     ) -> Result<(), SinkFault>
         requires places { length cells.now ≡ length columns.now }
         requires forms { CellsHaveForms cells.now }
-        ensures { Puts S.gains S.is_open S.failed sink.old (cells_triples place.table place.row columns.now cells.now) sink.new result }
+        ensures { Puts S.gains S.cuts S.is_open S.failed sink.old (cells_triples place.table place.row columns.now cells.now) sink.new result }
     {
         for i in 0..cells.len() {
             self.emit_cell(place, &columns[i], &cells[i], sink)?;
@@ -481,7 +481,7 @@ impl Emitter {
     ) -> Result<(), SinkFault>
         requires places { length row.now.cells ≡ length columns.now.columns }
         requires forms { HasForms row.now }
-        ensures { Puts S.gains S.is_open S.failed sink.old (minimal_triples t columns.now row.now) sink.new result }
+        ensures { Puts S.gains S.cuts S.is_open S.failed sink.old (minimal_triples t columns.now row.now) sink.new result }
     {
         if columns.suppressed {
             return Ok(());
@@ -508,7 +508,7 @@ impl Emitter {
     ) -> Result<(), SinkFault>
         requires places { length row.now.cells ≡ length columns.now.columns }
         requires forms { HasForms row.now }
-        ensures { Puts S.gains S.is_open S.failed sink.old (row_triples mode t columns.now row.now) sink.new result }
+        ensures { Puts S.gains S.cuts S.is_open S.failed sink.old (row_triples mode t columns.now row.now) sink.new result }
     {
         match mode {
             Mode::Validate => Ok(()),
@@ -519,8 +519,8 @@ impl Emitter {
 
     /// Puts the triples of a row of table `t`, whose values have lexical forms, by the mode (csv2rdf, section 4.2): those of
     /// its cells, in their order; in mode `Standard` what is told of the row in front, and before a cell what it adds to
-    /// what the row describes; in mode `Validate` none. After an error a front of them was taken, of whose last triple only a part
-    /// after `Device`, and the fault is one that the sink answered in this call, or `Memory`.
+    /// what the row describes; in mode `Validate` none. After an error the sink took a front of them, each triple whole, and after
+    /// `Device` the device failed within the next one. The fault is one that the sink returned in this call, or `Memory`.
     pub fn emit_row<S: TripleSink>(
         &mut self,
         columns: &Columns,
@@ -532,7 +532,8 @@ impl Emitter {
         requires places { length row.now.cells ≡ length columns.now.columns }
         requires forms { HasForms row.now }
         ensures ok { OnOk result (S.gains sink.old (row_triples mode t columns.now row.now) sink.new) }
-        ensures err { OnErr result (FrontOf S.gains sink.old (row_triples mode t columns.now row.now) sink.new) }
+        ensures err { IfErr result (λ fault. FrontOf S.gains S.cuts sink.old (row_triples mode t columns.now row.now) sink.new
+            (fault ≡ SinkFault.Device)) }
         ensures sink { Ends S.is_open S.failed sink.old sink.new result }
     {
         self.emit(columns, mode, t, row, sink)
@@ -551,7 +552,8 @@ pub fn emit_row<S: TripleSink>(
     requires places { length row.now.cells ≡ length columns.now.columns }
     requires forms { HasForms row.now }
     ensures ok { OnOk result (S.gains sink.old (row_triples mode t columns.now row.now) sink.new) }
-    ensures err { OnErr result (FrontOf S.gains sink.old (row_triples mode t columns.now row.now) sink.new) }
+    ensures err { IfErr result (λ fault. FrontOf S.gains S.cuts sink.old (row_triples mode t columns.now row.now) sink.new
+        (fault ≡ SinkFault.Device)) }
     ensures sink { Ends S.is_open S.failed sink.old sink.new result }
 {
     let mut emitter = Emitter::boxed(alloc)?;

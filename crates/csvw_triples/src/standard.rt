@@ -122,7 +122,7 @@ impl Emitter {
         place: RowPlace,
         sink: &mut S,
     ) -> Result<(), SinkFault>
-        ensures { Puts S.gains S.is_open S.failed sink.old (member_triple place.table columns.now place.row ∷ []) sink.new result }
+        ensures { Puts S.gains S.cuts S.is_open S.failed sink.old (member_triple place.table columns.now place.row ∷ []) sink.new result }
     {
         let stem = Stem {
             s: table_node(self.alloc, place.table, &columns.id)?,
@@ -132,7 +132,7 @@ impl Emitter {
     }
 
     fn emit_class<S: TripleSink>(&mut self, place: RowPlace, sink: &mut S) -> Result<(), SinkFault>
-        ensures { Puts S.gains S.is_open S.failed sink.old (class_triple place.table place.row ∷ []) sink.new result }
+        ensures { Puts S.gains S.cuts S.is_open S.failed sink.old (class_triple place.table place.row ∷ []) sink.new result }
     {
         let stem = row_stem(self.alloc, place, &self.csvw.rdf_type)?;
         let o = Term::Named(self.csvw.row_class.clone(self.alloc)?);
@@ -140,7 +140,7 @@ impl Emitter {
     }
 
     fn emit_number<S: TripleSink>(&mut self, place: RowPlace, sink: &mut S) -> Result<(), SinkFault>
-        ensures { Puts S.gains S.is_open S.failed sink.old (number_triple place.table place.row ∷ []) sink.new result }
+        ensures { Puts S.gains S.cuts S.is_open S.failed sink.old (number_triple place.table place.row ∷ []) sink.new result }
     {
         let stem = row_stem(self.alloc, place, &self.csvw.rownum)?;
         let literal = self.number_literal(place.row)?;
@@ -154,7 +154,7 @@ impl Emitter {
         row: &Row,
         sink: &mut S,
     ) -> Result<(), SinkFault>
-        ensures { Puts S.gains S.is_open S.failed sink.old (url_triple t columns.now row.now ∷ []) sink.new result }
+        ensures { Puts S.gains S.cuts S.is_open S.failed sink.old (url_triple t columns.now row.now ∷ []) sink.new result }
     {
         let place = RowPlace {
             table: t,
@@ -172,7 +172,7 @@ impl Emitter {
         place: RowPlace,
         sink: &mut S,
     ) -> Result<(), SinkFault>
-        ensures { Puts S.gains S.is_open S.failed sink.old
+        ensures { Puts S.gains S.cuts S.is_open S.failed sink.old
             (member_triple place.table columns.now place.row ∷ class_triple place.table place.row ∷ []) sink.new result }
     {
         self.emit_member(columns, place, sink)?;
@@ -187,7 +187,7 @@ impl Emitter {
         row: &Row,
         sink: &mut S,
     ) -> Result<(), SinkFault>
-        ensures { Puts S.gains S.is_open S.failed sink.old
+        ensures { Puts S.gains S.cuts S.is_open S.failed sink.old
             (number_triple t row.now.number ∷ url_triple t columns.now row.now ∷ []) sink.new result }
     {
         let place = RowPlace {
@@ -205,7 +205,7 @@ impl Emitter {
         row: &Row,
         sink: &mut S,
     ) -> Result<(), SinkFault>
-        ensures { Puts S.gains S.is_open S.failed sink.old (row_front t columns.now row.now) sink.new result }
+        ensures { Puts S.gains S.cuts S.is_open S.failed sink.old (row_front t columns.now row.now) sink.new result }
     {
         let place = RowPlace {
             table: t,
@@ -222,7 +222,7 @@ impl Emitter {
         cell: &AnnCell,
         sink: &mut S,
     ) -> Result<(), SinkFault>
-        ensures { Puts S.gains S.is_open S.failed sink.old
+        ensures { Puts S.gains S.cuts S.is_open S.failed sink.old
             (describes_triples place.table place.row (option_copied last.entry) cell.now) sink.new result }
     {
         if is_described(last, cell) {
@@ -243,7 +243,7 @@ impl Emitter {
         sink: &mut S,
     ) -> Result<(), SinkFault>
         requires { HasForm cell.now.value }
-        ensures { Puts S.gains S.is_open S.failed sink.old
+        ensures { Puts S.gains S.cuts S.is_open S.failed sink.old
             (described_triples place.table place.row column.now (option_copied last.entry) cell.now) sink.new result }
     {
         if column.suppressed {
@@ -262,7 +262,7 @@ impl Emitter {
     ) -> Result<(), SinkFault>
         requires places { length cells.now ≡ length columns.now }
         requires forms { CellsHaveForms cells.now }
-        ensures { Puts S.gains S.is_open S.failed sink.old
+        ensures { Puts S.gains S.cuts S.is_open S.failed sink.old
             (described_cells place.table place.row None (zip columns.now cells.now)) sink.new result }
     {
         let mut last: Option<&AnnCell> = None;
@@ -286,7 +286,7 @@ impl Emitter {
     ) -> Result<(), SinkFault>
         requires places { length row.now.cells ≡ length columns.now.columns }
         requires forms { HasForms row.now }
-        ensures { Puts S.gains S.is_open S.failed sink.old (standard_triples t columns.now row.now) sink.new result }
+        ensures { Puts S.gains S.cuts S.is_open S.failed sink.old (standard_triples t columns.now row.now) sink.new result }
     {
         if columns.suppressed {
             return Ok(());

@@ -8,5 +8,5 @@ use Rattle.csvw_triples.proofs.emitter.Emitter.emit_all_described.Given as goal
 abbrev pub invariant-loop-i : goal.invariant-loop-i
 invariant-loop-i g l =
     let s = g.S.TripleSink in
-    Walked s.gains s.is_open s.failed l.initial.sink (described_cells l.place.table l.place.row None (zip l.columns l.cells))
+    Walked s.gains s.cuts s.is_open s.failed l.initial.sink (described_cells l.place.table l.place.row None (zip l.columns l.cells))
     (from l.place.table l.place.row l.columns l.cells l.i (option_copied l.last)) l.sink

@@ -11,7 +11,7 @@ pub returns-in_err-emit_cell : goal.returns-in_err-emit_cell
 returns-in_err-emit_cell g c =
     let p = err_from_is_err_and c.from_residual.result c.from_residual.ensures.1 in
     let s = g.S.TripleSink in
-    let part = puts_part s.gains s.is_open s.failed g.met.S.TripleSink.goes_on c.args.sink.now c.loop-i.sink c.emit_cell.new.sink in
+    let part = puts_part s.gains s.cuts s.is_open s.failed g.met.S.TripleSink.goes_on c.args.sink.now c.loop-i.sink c.emit_cell.new.sink in
     let t = c.args.place.table in
     let number = c.args.place.row in
     let columns = c.args.columns.now in
@@ -25,7 +25,7 @@ returns-in_err-emit_cell g c =
 pub loop-i-preserved : goal.loop-i-preserved
 loop-i-preserved g c =
     let s = g.S.TripleSink in
-    let then = puts_then s.gains s.is_open s.failed g.met.S.TripleSink.goes_on c.args.sink.now c.loop-i.sink c.emit_cell.new.sink in
+    let then = puts_then s.gains s.cuts s.is_open s.failed g.met.S.TripleSink.goes_on c.args.sink.now c.loop-i.sink c.emit_cell.new.sink in
     let place = c.args.place in
     let more = cells_more place.table place.row c.args.columns.now c.args.cells.now c.loop-i.i c.index-columns-i.result c.index-cells-i.result
     (omega arith) (omega arith) c.index-columns-i.is c.index-cells-i.is in
@@ -35,5 +35,5 @@ pub returns : goal.returns
 returns g c =
     let s = g.S.TripleSink in
     let place = c.args.place in
-    puts_same s.gains s.is_open s.failed c.args.sink.now c.loop-i.sink _ _ (Ok tt)
+    puts_same s.gains s.cuts s.is_open s.failed c.args.sink.now c.loop-i.sink _ _ (Ok tt)
     (cells_all place.table place.row c.args.columns.now c.args.cells.now c.loop-i.i c.requires.places (omega arith)) c.loop-i.invariant

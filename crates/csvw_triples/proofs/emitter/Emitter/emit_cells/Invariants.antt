@@ -7,4 +7,4 @@ use Rattle.csvw_triples.proofs.emitter.Emitter.emit_cells.Given as goal
 abbrev pub invariant-loop-i : goal.invariant-loop-i
 invariant-loop-i g l =
     let s = g.S.TripleSink in
-    Puts s.gains s.is_open s.failed l.initial.sink (cells_so_far l.place.table l.place.row l.columns l.cells l.i) l.sink (Ok tt)
+    Puts s.gains s.cuts s.is_open s.failed l.initial.sink (cells_so_far l.place.table l.place.row l.columns l.cells l.i) l.sink (Ok tt)

@@ -11,7 +11,7 @@ pub returns-in_err-emit_describes : goal.returns-in_err-emit_describes
 returns-in_err-emit_describes g c =
     let p = err_from_is_err_and c.from_residual.result c.from_residual.ensures.1 in
     let s = g.S.TripleSink in
-    let front = puts_front s.gains s.is_open s.failed c.args.sink.now c.emit_describes.new.sink in
+    let front = puts_front s.gains s.cuts s.is_open s.failed c.args.sink.now c.emit_describes.new.sink in
     let column = c.args.column.now in
     let place = c.args.place in
     let all = describes_triples place.table place.row (option_copied c.args.last) c.args.cell.now
@@ -21,7 +21,7 @@ returns-in_err-emit_describes g c =
 pub returns : goal.returns
 returns g c =
     let s = g.S.TripleSink in
-    let then = puts_then s.gains s.is_open s.failed g.met.S.TripleSink.goes_on c.args.sink.now c.emit_describes.new.sink c.emit_cell.new.sink in
+    let then = puts_then s.gains s.cuts s.is_open s.failed g.met.S.TripleSink.goes_on c.args.sink.now c.emit_describes.new.sink c.emit_cell.new.sink in
     let column = c.args.column.now in
     let place = c.args.place in
     let all = describes_triples place.table place.row (option_copied c.args.last) c.args.cell.now

@@ -12,7 +12,7 @@ use Rattle.csvw_triples.proofs.emitter.Emitter.emit_entries.Goals as goal
 pub loop-i-init : goal.loop-i-init
 loop-i-init g c =
     let s = g.S.TripleSink in
-    puts_nothing s.gains s.is_open s.failed g.met.S.TripleSink.stays c.args.sink.now _
+    puts_nothing s.gains s.cuts s.is_open s.failed g.met.S.TripleSink.stays c.args.sink.now _
     (front_none (entries_in c.args.place) c.args.column.now 1 c.args.items.now)
 
 pub returns-in_err-rest : goal.returns-in_err-rest
@@ -24,15 +24,15 @@ returns-in_err-rest g c =
     let column = c.args.column.now in
     let items = c.args.items.now in
     let left = list_triples entry column (1 + c.loop-i.i) (drop c.loop-i.i items) in
-    let none = no_memory s.gains s.is_open s.failed g.met.S.TripleSink.stays c.loop-i.sink left in
-    rw (p.1, p.2) (puts_then s.gains s.is_open s.failed goes_on c.args.sink.now c.loop-i.sink c.loop-i.sink _ _ _ (Err Memory)
+    let none = no_memory s.gains s.cuts s.is_open s.failed g.met.S.TripleSink.stays c.loop-i.sink left in
+    rw (p.1, p.2) (puts_then s.gains s.cuts s.is_open s.failed goes_on c.args.sink.now c.loop-i.sink c.loop-i.sink _ _ _ (Err Memory)
     (entries_left entry column items c.loop-i.i) c.loop-i.invariant none)
 
 pub returns-in_err-emit_entry : goal.returns-in_err-emit_entry
 returns-in_err-emit_entry g c =
     let p = err_from_is_err_and c.from_residual-in_err-emit_entry.result c.from_residual-in_err-emit_entry.ensures.1 in
     let s = g.S.TripleSink in
-    let part = puts_part s.gains s.is_open s.failed g.met.S.TripleSink.goes_on c.args.sink.now c.loop-i.sink c.emit_entry.new.sink in
+    let part = puts_part s.gains s.cuts s.is_open s.failed g.met.S.TripleSink.goes_on c.args.sink.now c.loop-i.sink c.emit_entry.new.sink in
     let entry = entries_in c.args.place in
     let column = c.args.column.now in
     let items = c.args.items.now in
@@ -45,7 +45,7 @@ returns-in_err-emit_entry g c =
 pub loop-i-preserved : goal.loop-i-preserved
 loop-i-preserved g c =
     let s = g.S.TripleSink in
-    let then = puts_then s.gains s.is_open s.failed g.met.S.TripleSink.goes_on c.args.sink.now c.loop-i.sink c.emit_entry.new.sink in
+    let then = puts_then s.gains s.cuts s.is_open s.failed g.met.S.TripleSink.goes_on c.args.sink.now c.loop-i.sink c.emit_entry.new.sink in
     let entry = entries_in c.args.place in
     let i = c.loop-i.i in
     let more = entry_put entry c.args.column.now c.args.items.now i (i + 1) c.index-items-i.result c.entry.result c.in_ok-rest.rest
@@ -55,5 +55,5 @@ loop-i-preserved g c =
 pub returns : goal.returns
 returns g c =
     let s = g.S.TripleSink in
-    puts_same s.gains s.is_open s.failed c.args.sink.now c.loop-i.sink _ _ (Ok tt)
+    puts_same s.gains s.cuts s.is_open s.failed c.args.sink.now c.loop-i.sink _ _ (Ok tt)
     (entries_all (entries_in c.args.place) c.args.column.now c.args.items.now c.loop-i.i (omega arith)) c.loop-i.invariant

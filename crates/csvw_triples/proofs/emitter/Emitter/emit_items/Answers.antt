@@ -12,7 +12,7 @@ pub returns-in_err-emit_one : goal.returns-in_err-emit_one
 returns-in_err-emit_one g c =
     let p = err_from_is_err_and c.from_residual.result c.from_residual.ensures.1 in
     let s = g.S.TripleSink in
-    let part = puts_part s.gains s.is_open s.failed g.met.S.TripleSink.goes_on c.args.sink.now c.loop-i.sink c.emit_one.new.sink in
+    let part = puts_part s.gains s.cuts s.is_open s.failed g.met.S.TripleSink.goes_on c.args.sink.now c.loop-i.sink c.emit_one.new.sink in
     let f : Item → Triple = literal_triple c.args.stem.now c.args.column.now in
     let items = c.args.items.now in
     let more = items_more f items c.loop-i.i c.index-items-i.result (omega arith) c.index-items-i.is in

@@ -8,4 +8,4 @@ use Rattle.csvw_triples.proofs.emitter.Emitter.emit_items.Given as goal
 abbrev pub invariant-loop-i : goal.invariant-loop-i
 invariant-loop-i g l =
     let s = g.S.TripleSink in
-    Puts s.gains s.is_open s.failed l.initial.sink (map (literal_triple l.stem l.column) (take l.i l.items)) l.sink (Ok tt)
+    Puts s.gains s.cuts s.is_open s.failed l.initial.sink (map (literal_triple l.stem l.column) (take l.i l.items)) l.sink (Ok tt)

@@ -11,7 +11,7 @@ pub returns-in_err-emit_front : goal.returns-in_err-emit_front
 returns-in_err-emit_front g c =
     let p = err_from_is_err_and c.from_residual.result c.from_residual.ensures.1 in
     let s = g.S.TripleSink in
-    let front = puts_front s.gains s.is_open s.failed c.args.sink.now c.emit_front.new.sink in
+    let front = puts_front s.gains s.cuts s.is_open s.failed c.args.sink.now c.emit_front.new.sink in
     let columns = c.args.columns.now in
     let row = c.args.row.now in
     let all = row_front c.args.t columns row ++ described_cells c.args.t row.number None (zip columns.columns row.cells) in
@@ -20,7 +20,7 @@ returns-in_err-emit_front g c =
 pub returns : goal.returns
 returns g c =
     let s = g.S.TripleSink in
-    let then = puts_then s.gains s.is_open s.failed g.met.S.TripleSink.goes_on c.args.sink.now c.emit_front.new.sink c.emit_all_described.new.sink in
+    let then = puts_then s.gains s.cuts s.is_open s.failed g.met.S.TripleSink.goes_on c.args.sink.now c.emit_front.new.sink c.emit_all_described.new.sink in
     let columns = c.args.columns.now in
     let row = c.args.row.now in
     let all = row_front c.args.t columns row ++ described_cells c.args.t row.number None (zip columns.columns row.cells) in
