@@ -1,5 +1,5 @@
 //! The triples of a group and its tables, put into a sink.
-ghost use Rattle.std.specs.Prelude.{◌≡◌, ◌++◌, IfOk, OnOk, OnErr};
+ghost use Rattle.std.specs.Prelude.{◌≡◌, ◌++◌, IfErr, IfOk, OnOk};
 ghost use Rattle.csvw_triples_core.specs.Taking.{FrontOf, Ends};
 ghost use Rattle.csvw_opening.specs.Annotations.{annotations};
 ghost use Rattle.csvw_opening.specs.Blanks.{blanks};
@@ -172,8 +172,8 @@ fn opening(alloc: Global, plan: &Plan, mode: Mode) -> Result<Vec<Triple>, AllocE
 }
 
 /// Puts the triples that tell of a group and its tables, and what their annotations say, in mode `Standard`, in their order
-/// (csv2rdf, section 4.2); in the other modes none. After an error a front of them was taken, of whose last triple only a part
-/// after `Device`, and the fault is one that the sink answered in this call, or `Memory`.
+/// (csv2rdf, section 4.2); in the other modes none. After an error the sink took a front of them, each triple whole, and after
+/// `Device` the device failed within the next one. The fault is one that the sink returned in this call, or `Memory`.
 pub fn emit_opening<S: TripleSink>(
     alloc: Global,
     plan: &Plan,
@@ -181,7 +181,7 @@ pub fn emit_opening<S: TripleSink>(
     sink: &mut S,
 ) -> Result<(), SinkFault>
     ensures ok { OnOk result (S.gains sink.old (opening mode plan.now) sink.new) }
-    ensures err { OnErr result (FrontOf S.gains sink.old (opening mode plan.now) sink.new) }
+    ensures err { IfErr result (λ fault. FrontOf S.gains S.cuts sink.old (opening mode plan.now) sink.new (fault ≡ SinkFault.Device)) }
     ensures sink { Ends S.is_open S.failed sink.old sink.new result }
 {
     let triples = opening(alloc, plan, mode)?;
