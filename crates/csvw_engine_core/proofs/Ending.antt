@@ -37,12 +37,12 @@ short_rows plan given h = ap (map header_row) (take_all (header_count plan) give
 short_data : (plan : TablePlan) (given : List Given) → length given < needed (header_count plan) → data_rows plan given ≡ []
 short_data plan given h = drop_all (header_count plan) given (below_needed (header_count plan) (length given) h)
 
-module _ {S : Type 0} (gains : S → List Triple → S → Type 0) (is_open : S → Bool) (failed : S → ℕ)
+module _ {S : Type 0} (gains : S → List Triple → S → Type 0) (cuts : S → Triple → S → Type 0) (is_open : S → Bool) (failed : S → ℕ)
     (stays : (s : S) → gains s [] s) (goes_on : (a b c : S) (xs ys : List Triple) → gains a xs b → gains b ys c → gains a (xs ++ ys) c)
     (plan : TablePlan) (mode : Mode) (bytes : List ℕ) (given : List Given) (rows : List Row) (old : Table) (before now : Outlets S) where
   -- a stop in front of the end
-  pub ends_wrong : (new : Table) (reason : Stop) → TableOutcome gains is_open failed plan mode bytes true given rows old new before now (Err reason)
-      → EndOutcome gains is_open failed plan mode bytes given rows old new before now (Err reason)
+  pub ends_wrong : (new : Table) (reason : Stop) → TableOutcome gains cuts is_open failed plan mode bytes true given rows old new before now (Err reason)
+      → EndOutcome gains cuts is_open failed plan mode bytes given rows old new before now (Err reason)
   ends_wrong new stop.Memory h = h
   ends_wrong new stop.Write h = h
   ends_wrong new (stop.Rows table row reason) h = h
@@ -53,9 +53,9 @@ module _ {S : Type 0} (gains : S → List Triple → S → Type 0) (is_open : S 
   ends_wrong new other h = absurd h
 
   pub end_err : (new : Table) (r : Result Unit Stop) (e f : Stop) → r ≡ Err e → e ≡ f
-      → EndOutcome gains is_open failed plan mode bytes given rows old new before now (Err f)
-      → EndOutcome gains is_open failed plan mode bytes given rows old new before now r
-  end_err new r e f p q so = subst (EndOutcome gains is_open failed plan mode bytes given rows old new before now) (sym (p ∙ ap Err q)) so
+      → EndOutcome gains cuts is_open failed plan mode bytes given rows old new before now (Err f)
+      → EndOutcome gains cuts is_open failed plan mode bytes given rows old new before now r
+  end_err new r e f p q so = subst (EndOutcome gains cuts is_open failed plan mode bytes given rows old new before now) (sym (p ∙ ap Err q)) so
 
   module _ (mid : Table) (all : GivesAll gains plan mode bytes true given rows old mid before now) where
     abbrev g : Gone gains plan mode bytes true given rows old mid before now
@@ -129,10 +129,10 @@ module _ {S : Type 0} (gains : S → List Triple → S → Type 0) (is_open : S 
 
       -- or is refused
       settle_ends : GivenFirst → IsAsReady is_open failed before.sink now.sink → (new : Table) (r : Result Unit Stop) → SettlesHead plan mid new r
-          → EndOutcome gains is_open failed plan mode bytes given rows old new before now r
+          → EndOutcome gains cuts is_open failed plan mode bytes given rows old new before now r
       settle_ends law ready new (Ok u) (same, settled) = (settled_end new same settled, ready)
       settle_ends law ready new (Err stop.Memory) s =
-          (some_given gains is_open failed stays goes_on plan mode bytes true given rows old before law mid now g, ready)
+          (some_given gains cuts is_open failed stays goes_on plan mode bytes true given rows old before law mid now g, ready)
       settle_ends law ready new (Err (stop.Table table row reason)) (_, (_, gives_none, source)) = (
         record {
           raws = g.raws;
@@ -157,8 +157,8 @@ module _ {S : Type 0} (gains : S → List Triple → S → Type 0) (is_open : S 
       settle_ends law ready new (Err other) s = absurd s.1
 
     pub ends : GivenFirst → IsAsReady is_open failed before.sink now.sink → (new : Table) (r : Result Unit Stop) → SettlesTable plan mid new r
-        → EndOutcome gains is_open failed plan mode bytes given rows old new before now r
+        → EndOutcome gains cuts is_open failed plan mode bytes given rows old new before now r
     ends law ready new r (inl (columns, known, same, ok)) =
-        subst (EndOutcome gains is_open failed plan mode bytes given rows old new before now) (sym ok)
+        subst (EndOutcome gains cuts is_open failed plan mode bytes given rows old new before now) (sym ok)
         (subst (λ t. GivesWhole gains plan mode bytes rows old t before now) (sym same) (known_end columns known), ready)
     ends law ready new r (inr (none, settles)) = settle_ends none law ready new r settles

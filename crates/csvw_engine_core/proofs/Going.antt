@@ -13,17 +13,51 @@ use Rattle.csvw_keys.specs.Books.{KeepsKeys}
 use Rattle.csvw_keys.specs.KeyRules.{KeyRule}
 use Rattle.csvw_keys.specs.Tables.{with_row, with_rows}
 use Rattle.csvw_keys.specs.declared.key_book.KeyBook.{KeyBook}
-use Rattle.csvw_triples_core.specs.Taking.{FrontOf, IsAsReady}
+use Rattle.csvw_triples_core.specs.Taking.{Ends, FrontOf, IsAsReady, IsCutAfter}
 use Rattle.csvw_triples_core.specs.declared.mode.Mode.{Mode}
+use Rattle.csvw_triples_core.specs.declared.sink.SinkFault.{SinkFault}
+use Rattle.csvw_triples_core.specs.declared.sink.SinkFault.TheVariants as fault
 use Rattle.csvw_triples_core.specs.declared.term.Triple.{Triple}
 use Rattle.csvw_triples.specs.ModeTriples.{row_triples}
 use Rattle.csvw_engine_core.specs.Annotated.{IsTable, HasRows}
 use Rattle.csvw_engine_core.specs.Faults.{row_faults, table_faults}
+use Rattle.csvw_engine_core.specs.Stops.{of_fault}
 use Rattle.csvw_engine_core.specs.Tables.{max_rows, TableHolds, KeepsColumns, Keeps, Goes, StopsTable, IsStopped, IsRefused, IsAtRest, Gives, Gone}
 use Rattle.csvw_engine_core.specs.Tables.{GivesAll, GivesSome, GivesFront, TableOutcome, Outlets, AddsRows, table_triples}
 use Rattle.csvw_engine_core.specs.declared.stop.Stop.{Stop}
 use Rattle.csvw_engine_core.specs.declared.stop.Stop.TheVariants as stop
 use Rattle.csvw_engine_core.specs.declared.table.Table.{Table}
+
+-- what the fault of a sink means for the row that it was given
+pub gave_part : {S : Type 0} (gains : S → List Triple → S → Type 0) (cuts : S → Triple → S → Type 0) (is_open : S → Bool) (failed : S → ℕ)
+    (ts : List Triple) (old new : S) (e : SinkFault)
+    → FrontOf gains cuts old ts new (e ≡ fault.Device) → Ends is_open failed old new (Err e)
+    → Gives gains cuts is_open failed ts old new (Err (of_fault e))
+gave_part gains cuts is_open failed ts old new fault.Memory f ends =
+    (record { front = f.front; rest = f.rest; parts = f.parts; gained = f.gained; cut = λ fails. absurd fails }, ends)
+gave_part gains cuts is_open failed ts old new fault.Device f ends = (
+  record { front = f.front; rest = f.rest; parts = f.parts; gained = f.gained; cut = λ begun. f.cut refl },
+  ends.0,
+  λ begun room. ends.1 room,
+)
+gave_part gains cuts is_open failed ts old new fault.Closed f ends =
+    let never : is_open old ≡ true → ⊥ = λ begun. let wrong : false ≡ true = sym ends.0 ∙ begun in cc in (
+      record { front = f.front; rest = f.rest; parts = f.parts; gained = f.gained; cut = λ begun. absurd (never begun) },
+      ends.1.0 ∙ ends.0,
+      λ begun room. absurd (never begun),
+    )
+
+-- and where the row is one of a table whose columns are known
+pub gave_row : {S : Type 0} (gains : S → List Triple → S → Type 0) (cuts : S → Triple → S → Type 0) (is_open : S → Bool) (failed : S → ℕ)
+    (mode : Mode) (t : ℕ) (known : Option Columns) (columns : Columns) (row : Row) (old new : S) (e : SinkFault) (r : Result Unit Stop) (f : Stop)
+    → known ≡ Some columns → r ≡ Err f → f ≡ of_fault e
+    → FrontOf gains cuts old (row_triples mode t columns row) new (e ≡ fault.Device) → Ends is_open failed old new (Err e)
+    → Gives gains cuts is_open failed (table_triples mode t known (row ∷ [])) old new r
+gave_row gains cuts is_open failed mode t known columns row old new e r f is p q front ends =
+    let own = subst (λ ts. FrontOf gains cuts old ts new (e ≡ fault.Device)) (sym (append-nil (row_triples mode t columns row))) front in
+    subst (λ z. Gives gains cuts is_open failed (table_triples mode t z (row ∷ [])) old new r) (sym is)
+    (subst (Gives gains cuts is_open failed (table_triples mode t (Some columns) (row ∷ [])) old new) (sym (p ∙ ap Err q))
+    (gave_part gains cuts is_open failed (row_triples mode t columns row ++ []) old new e own ends))
 
 pub no_triples : (mode : Mode) (t : ℕ) (columns : Option Columns) → table_triples mode t columns [] ≡ []
 no_triples mode t None = refl
@@ -90,7 +124,7 @@ pub holds_told : (plan : TablePlan) (mode : Mode) (t : Table) (faults : List Fau
     → TableHolds plan mode t bytes ended given rows → TableHolds plan mode (record t { faults = faults }) bytes ended given rows
 holds_told plan mode t faults bytes ended given rows h = record { number_is = h.number_is; mode_is = h.mode_is; reader = h.reader; head = h.head; has = h.has }
 
-module _ {S : Type 0} (gains : S → List Triple → S → Type 0) (is_open : S → Bool) (failed : S → ℕ)
+module _ {S : Type 0} (gains : S → List Triple → S → Type 0) (cuts : S → Triple → S → Type 0) (is_open : S → Bool) (failed : S → ℕ)
     (stays : (s : S) → gains s [] s) (goes_on : (a b c : S) (xs ys : List Triple) → gains a xs b → gains b ys c → gains a (xs ++ ys) c)
     (plan : TablePlan) (mode : Mode) (bytes : List ℕ) (ended : Bool) (given : List Given) (rows : List Row) where
   pub gone_nothing : (t : Table) (s : Outlets S) → TableHolds plan mode t bytes ended given rows → Gone gains plan mode bytes ended given rows t t s s
@@ -208,21 +242,34 @@ module _ {S : Type 0} (gains : S → List Triple → S → Type 0) (is_open : S 
     table_of : (t : Table) (gs : List Given) (rs : List Row) → TableHolds plan mode t bytes ended gs rs → IsTable plan gs t.head.columns t.head.faults rs
     table_of t gs rs h = record { head = h.head.known; has = h.has }
 
-    part_of_all : (now : Outlets S) (ts : List Triple) → gains start.sink ts now.sink → FrontOf gains start.sink ts now.sink
-    part_of_all now ts g = record { front = ts; rest = []; parts = sym (append-nil ts); gained = g }
+    part_of_all : (now : Outlets S) (ts : List Triple) → gains start.sink ts now.sink → FrontOf gains cuts start.sink ts now.sink ⊥
+    part_of_all now ts g = record { front = ts; rest = []; parts = sym (append-nil ts); gained = g; cut = λ fails. absurd fails }
 
-    part_on : (now after : Outlets S) (xs ys : List Triple) → gains start.sink xs now.sink → FrontOf gains now.sink ys after.sink
-        → FrontOf gains start.sink (xs ++ ys) after.sink
-    part_on now after xs ys g f = record {
+    -- a cut after more triples
+    cut_on : (now after : S) (xs front rest : List Triple) → gains start.sink xs now → IsCutAfter gains cuts now front rest after
+        → IsCutAfter gains cuts start.sink (xs ++ front) rest after
+    cut_on now after xs front rest g k = record {
+      middle = k.middle;
+      before = goes_on start.sink now k.middle xs front g k.before;
+      next = k.next;
+      more = k.more;
+      rest_is = k.rest_is;
+      cut = k.cut;
+    }
+
+    part_on : (now after : Outlets S) (xs ys : List Triple) (Fails Before : Type 0) → (Fails → Before) → gains start.sink xs now.sink
+        → FrontOf gains cuts now.sink ys after.sink Before → FrontOf gains cuts start.sink (xs ++ ys) after.sink Fails
+    part_on now after xs ys Fails Before so g f = record {
       front = xs ++ f.front;
       rest = f.rest;
       parts = ap (λ z. xs ++ z) f.parts ∙ sym (append_assoc xs f.front f.rest);
       gained = goes_on start.sink now.sink after.sink xs f.front g f.gained;
+      cut = λ fails. cut_on now.sink after.sink xs f.front f.rest g (f.cut (so fails));
     }
 
     -- between two rows
     pub some_given : GivenFirst → (t : Table) (now : Outlets S) → Gone gains plan mode bytes ended given rows first t start now
-        → GivesSome gains plan mode bytes ended given rows start.sink now.sink
+        → GivesSome gains cuts plan mode bytes ended given rows start.sink now.sink ⊥
     some_given law t now g = record {
       raws = g.raws;
       more = g.more;
@@ -234,11 +281,12 @@ module _ {S : Type 0} (gains : S → List Triple → S → Type 0) (is_open : S 
     }
 
     -- within the triples of a row
-    pub row_cut : GivenFirst → (old mid new : Table) (now after : Outlets S) (row : Row) → Keeps old mid → Goes plan old mid (λ r. r ++ row ∷ [])
+    pub row_cut : GivenFirst → (old mid new : Table) (now after : Outlets S) (row : Row) (Fails Before : Type 0) → (Fails → Before) → Keeps old mid
+        → Goes plan old mid (λ r. r ++ row ∷ [])
         → new ≡ record mid { faults = new.faults }
-        → FrontOf gains now.sink (table_triples new.mode new.number new.head.columns (row ∷ [])) after.sink
-        → Gone gains plan mode bytes ended given rows first old start now → GivesSome gains plan mode bytes ended given rows start.sink after.sink
-    row_cut law old mid new now after row keeps goes same cut g =
+        → FrontOf gains cuts now.sink (table_triples new.mode new.number new.head.columns (row ∷ [])) after.sink Before
+        → Gone gains plan mode bytes ended given rows first old start now → GivesSome gains cuts plan mode bytes ended given rows start.sink after.sink Fails
+    row_cut law old mid new now after row Fails Before so keeps goes same cut g =
         let k = held_row old mid new now row goes same g in
         let columns : new.head.columns ≡ mid.head.columns = ap (λ (t : Table). t.head.columns) same in
         let stay : KeepsColumns old new = λ c e. columns ∙ keeps.columns c e in
@@ -249,11 +297,11 @@ module _ {S : Type 0} (gains : S → List Triple → S → Type 0) (is_open : S 
           columns = new.head.columns;
           faults = new.head.faults;
           table = table_of new (given ++ (g.raws ++ k.0 ∷ [])) (rows ++ (g.more ++ row ∷ [])) k.1;
-          took = subst (λ ts. FrontOf gains start.sink ts after.sink) (sym (triples_more mode plan.number new.head.columns g.more (row ∷ [])))
+          took = subst (λ ts. FrontOf gains cuts start.sink ts after.sink Fails) (sym (triples_more mode plan.number new.head.columns g.more (row ∷ [])))
               (part_on now after (table_triples mode plan.number new.head.columns g.more) (table_triples mode plan.number new.head.columns (row ∷ []))
-              (took_on old new now stay g)
-              (subst (λ m. FrontOf gains now.sink (table_triples m plan.number new.head.columns (row ∷ [])) after.sink) k.1.mode_is
-              (subst (λ n. FrontOf gains now.sink (table_triples new.mode n new.head.columns (row ∷ [])) after.sink) k.1.number_is cut)));
+              Fails Before so (took_on old new now stay g)
+              (subst (λ m. FrontOf gains cuts now.sink (table_triples m plan.number new.head.columns (row ∷ [])) after.sink Before) k.1.mode_is
+              (subst (λ n. FrontOf gains cuts now.sink (table_triples new.mode n new.head.columns (row ∷ [])) after.sink Before) k.1.number_is cut)));
         }
 
     all_given : (t : Table) (now : Outlets S) (Why : Option Columns → List Given → Type 0)
@@ -272,7 +320,7 @@ module _ {S : Type 0} (gains : S → List Triple → S → Type 0) (is_open : S 
     -- a stop in the text
     pub text_stops : GivenFirst → (t new : Table) (now : Outlets S) (reason : Stop) → StopsTable plan t reason → IsAsReady is_open failed start.sink now.sink
         → Gone gains plan mode bytes ended given rows first t start now
-        → TableOutcome gains is_open failed plan mode bytes ended given rows first new start now (Err reason)
+        → TableOutcome gains cuts is_open failed plan mode bytes ended given rows first new start now (Err reason)
     text_stops law t new now stop.Memory so ready g = (some_given law t now g, ready)
     text_stops law t new now (stop.Rows table row reason) (_, so) ready g =
         (all_given t now (λ columns all. IsStopped plan bytes ended all row reason) g (so mode bytes ended (given ++ g.raws) (rows ++ g.more) g.holds), ready)
@@ -289,21 +337,22 @@ module _ {S : Type 0} (gains : S → List Triple → S → Type 0) (is_open : S 
     -- a stop at the sink
     pub sink_stops : GivenFirst → (old mid new : Table) (now after : Outlets S) (row : Row) (reason : Stop) → Keeps old mid
         → Goes plan old mid (λ r. r ++ row ∷ []) → new ≡ record mid { faults = new.faults }
-        → Gives gains is_open failed (table_triples new.mode new.number new.head.columns (row ∷ [])) now.sink after.sink (Err reason)
+        → Gives gains cuts is_open failed (table_triples new.mode new.number new.head.columns (row ∷ [])) now.sink after.sink (Err reason)
         → IsAsReady is_open failed start.sink now.sink
         → Gone gains plan mode bytes ended given rows first old start now
-        → TableOutcome gains is_open failed plan mode bytes ended given rows first new start after (Err reason)
+        → TableOutcome gains cuts is_open failed plan mode bytes ended given rows first new start after (Err reason)
     sink_stops law old mid new now after row stop.Memory keeps goes same gave ready g =
-        (row_cut law old mid new now after row keeps goes same gave.0 g, ready_on start now after ready gave.1)
+        (row_cut law old mid new now after row ⊥ ⊥ (λ fails. fails) keeps goes same gave.0 g, ready_on start now after ready gave.1)
     sink_stops law old mid new now after row stop.Write keeps goes same gave ready g = (
-      row_cut law old mid new now after row keeps goes same gave.0 g,
-      λ is_ready room. gave.1 (ready.0 ∙ is_ready) (rw ready.1 room)
-          ∙ ap (λ n. n + 1) ready.1,
+      row_cut law old mid new now after row (is_open start.sink ≡ true) (is_open now.sink ≡ true) (λ begun. ready.0 ∙ begun) keeps goes same gave.0 g,
+      gave.1,
+      λ begun room. gave.2 (ready.0 ∙ begun) (rw ready.1 room) ∙ ap (λ n. n + 1) ready.1,
     )
     sink_stops law old mid new now after row other keeps goes same gave ready g = absurd gave
 
     -- an answer that tells a stop
     pub outcome_err : (new : Table) (now : Outlets S) (r : Result Unit Stop) (e f : Stop) → r ≡ Err e → e ≡ f
-        → TableOutcome gains is_open failed plan mode bytes ended given rows first new start now (Err f)
-        → TableOutcome gains is_open failed plan mode bytes ended given rows first new start now r
-    outcome_err new now r e f p q so = subst (TableOutcome gains is_open failed plan mode bytes ended given rows first new start now) (sym (p ∙ ap Err q)) so
+        → TableOutcome gains cuts is_open failed plan mode bytes ended given rows first new start now (Err f)
+        → TableOutcome gains cuts is_open failed plan mode bytes ended given rows first new start now r
+    outcome_err new now r e f p q so =
+        subst (TableOutcome gains cuts is_open failed plan mode bytes ended given rows first new start now) (sym (p ∙ ap Err q)) so

@@ -33,13 +33,15 @@ holds_moved plan mode t rows bytes more ended closed given annotated move h = re
 }
 
 -- the reader had no memory for more of the text
-pub unfed : {S : Type 0} (gains : S → List Triple → S → Type 0) (is_open : S → Bool) (failed : S → ℕ) (stays : (s : S) → gains s [] s) (law : GivenFirstLater)
+pub unfed : {S : Type 0} (gains : S → List Triple → S → Type 0) (cuts : S → Triple → S → Type 0) (is_open : S → Bool) (failed : S → ℕ)
+    (stays : (s : S) → gains s [] s) (law : GivenFirstLater)
     (plan : TablePlan) (mode : Mode) (t new : Table) (bytes piece : List ℕ) (given : List Given) (rows : List Row) (s : Outlets S) (stop : RowStop) (row : ℕ)
     → (stop_of t.rows ≡ Some stop) ⊎ (stop ≡ row_stop.Memory) → TableHolds plan mode t bytes false given rows
-    → TableOutcome gains is_open failed plan mode (bytes ++ piece) false given rows t new s s (Err (of_row_stop plan.number row stop))
-unfed gains is_open failed stays law plan mode t new bytes piece given rows s stop row (inl e) h = let wrong : None ≡ Some stop = sym h.reader.no_stop ∙ e in cc
-unfed gains is_open failed stays law plan mode t new bytes piece given rows s stop row (inr e) h =
-    subst (λ z. TableOutcome gains is_open failed plan mode (bytes ++ piece) false given rows t new s s (Err (of_row_stop plan.number row z))) (sym e) (
+    → TableOutcome gains cuts is_open failed plan mode (bytes ++ piece) false given rows t new s s (Err (of_row_stop plan.number row stop))
+unfed gains cuts is_open failed stays law plan mode t new bytes piece given rows s stop row (inl e) h =
+    let wrong : None ≡ Some stop = sym h.reader.no_stop ∙ e in cc
+unfed gains cuts is_open failed stays law plan mode t new bytes piece given rows s stop row (inr e) h =
+    subst (λ z. TableOutcome gains cuts is_open failed plan mode (bytes ++ piece) false given rows t new s s (Err (of_row_stop plan.number row z))) (sym e) (
       record {
         raws = [];
         more = [];
@@ -57,18 +59,19 @@ unfed gains is_open failed stays law plan mode t new bytes piece given rows s st
           rest = [];
           parts = no_triples mode plan.number t.head.columns;
           gained = stays s.sink;
+          cut = λ fails. absurd fails;
         };
       },
       (refl, refl),
     )
 
 -- what a call leaves of the table that took more of its text
-pub outcome_moved : {S : Type 0} (gains : S → List Triple → S → Type 0) (is_open : S → Bool) (failed : S → ℕ) (plan : TablePlan) (mode : Mode)
-    (bytes : List ℕ) (ended : Bool) (given : List Given) (annotated : List Row)
+pub outcome_moved : {S : Type 0} (gains : S → List Triple → S → Type 0) (cuts : S → Triple → S → Type 0) (is_open : S → Bool) (failed : S → ℕ)
+    (plan : TablePlan) (mode : Mode) (bytes : List ℕ) (ended : Bool) (given : List Given) (annotated : List Row)
     (t new : Table) (rows : Rows) (before now : Outlets S) (r : Result Unit Stop)
-    → TableOutcome gains is_open failed plan mode bytes ended given annotated (record t { rows = rows }) new before now r
-    → TableOutcome gains is_open failed plan mode bytes ended given annotated t new before now r
-outcome_moved gains is_open failed plan mode bytes ended given annotated t new rows before now (Ok u) h = (
+    → TableOutcome gains cuts is_open failed plan mode bytes ended given annotated (record t { rows = rows }) new before now r
+    → TableOutcome gains cuts is_open failed plan mode bytes ended given annotated t new before now r
+outcome_moved gains cuts is_open failed plan mode bytes ended given annotated t new rows before now (Ok u) h = (
   record {
     gone = record {
       raws = h.0.gone.raws;
@@ -83,21 +86,21 @@ outcome_moved gains is_open failed plan mode bytes ended given annotated t new r
   },
   h.1,
 )
-outcome_moved gains is_open failed plan mode bytes ended given annotated t new rows before now (Err stop.Memory) h = h
-outcome_moved gains is_open failed plan mode bytes ended given annotated t new rows before now (Err stop.Write) h = h
-outcome_moved gains is_open failed plan mode bytes ended given annotated t new rows before now (Err (stop.Rows table row reason)) h = h
-outcome_moved gains is_open failed plan mode bytes ended given annotated t new rows before now (Err (stop.Table table row reason)) h = h
-outcome_moved gains is_open failed plan mode bytes ended given annotated t new rows before now (Err other) h = absurd h
+outcome_moved gains cuts is_open failed plan mode bytes ended given annotated t new rows before now (Err stop.Memory) h = h
+outcome_moved gains cuts is_open failed plan mode bytes ended given annotated t new rows before now (Err stop.Write) h = h
+outcome_moved gains cuts is_open failed plan mode bytes ended given annotated t new rows before now (Err (stop.Rows table row reason)) h = h
+outcome_moved gains cuts is_open failed plan mode bytes ended given annotated t new rows before now (Err (stop.Table table row reason)) h = h
+outcome_moved gains cuts is_open failed plan mode bytes ended given annotated t new rows before now (Err other) h = absurd h
 
-pub end_moved : {S : Type 0} (gains : S → List Triple → S → Type 0) (is_open : S → Bool) (failed : S → ℕ) (plan : TablePlan) (mode : Mode)
-    (bytes : List ℕ) (given : List Given) (annotated : List Row)
+pub end_moved : {S : Type 0} (gains : S → List Triple → S → Type 0) (cuts : S → Triple → S → Type 0) (is_open : S → Bool) (failed : S → ℕ)
+    (plan : TablePlan) (mode : Mode) (bytes : List ℕ) (given : List Given) (annotated : List Row)
     (t new : Table) (rows : Rows) (before now : Outlets S) (r : Result Unit Stop)
-    → EndOutcome gains is_open failed plan mode bytes given annotated (record t { rows = rows }) new before now r
-    → EndOutcome gains is_open failed plan mode bytes given annotated t new before now r
-end_moved gains is_open failed plan mode bytes given annotated t new rows before now (Ok u) h =
+    → EndOutcome gains cuts is_open failed plan mode bytes given annotated (record t { rows = rows }) new before now r
+    → EndOutcome gains cuts is_open failed plan mode bytes given annotated t new before now r
+end_moved gains cuts is_open failed plan mode bytes given annotated t new rows before now (Ok u) h =
     (record { more = h.0.more; holds = h.0.holds; took = h.0.took; kept = h.0.kept; told = h.0.told; keeps = h.0.keeps }, h.1)
-end_moved gains is_open failed plan mode bytes given annotated t new rows before now (Err stop.Memory) h = h
-end_moved gains is_open failed plan mode bytes given annotated t new rows before now (Err stop.Write) h = h
-end_moved gains is_open failed plan mode bytes given annotated t new rows before now (Err (stop.Rows table row reason)) h = h
-end_moved gains is_open failed plan mode bytes given annotated t new rows before now (Err (stop.Table table row reason)) h = h
-end_moved gains is_open failed plan mode bytes given annotated t new rows before now (Err other) h = absurd h
+end_moved gains cuts is_open failed plan mode bytes given annotated t new rows before now (Err stop.Memory) h = h
+end_moved gains cuts is_open failed plan mode bytes given annotated t new rows before now (Err stop.Write) h = h
+end_moved gains cuts is_open failed plan mode bytes given annotated t new rows before now (Err (stop.Rows table row reason)) h = h
+end_moved gains cuts is_open failed plan mode bytes given annotated t new rows before now (Err (stop.Table table row reason)) h = h
+end_moved gains cuts is_open failed plan mode bytes given annotated t new rows before now (Err other) h = absurd h

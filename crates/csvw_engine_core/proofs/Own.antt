@@ -25,11 +25,11 @@ own_in_text plan t (stop.Rows table row reason) so = so.0
 own_in_text plan t (stop.Table table row reason) so = so.0
 own_in_text plan t other so = absurd so
 
-pub own_at_sink : {S : Type 0} (gains : S → List Triple → S → Type 0) (is_open : S → Bool) (failed : S → ℕ) (triples : List Triple) (old new : S) (t : ℕ)
-    (reason : Stop) → Gives gains is_open failed triples old new (Err reason) → IsOf t reason
-own_at_sink gains is_open failed triples old new t stop.Memory gave = tt
-own_at_sink gains is_open failed triples old new t stop.Write gave = tt
-own_at_sink gains is_open failed triples old new t other gave = absurd gave
+pub own_at_sink : {S : Type 0} (gains : S → List Triple → S → Type 0) (cuts : S → Triple → S → Type 0) (is_open : S → Bool) (failed : S → ℕ)
+    (triples : List Triple) (old new : S) (t : ℕ) (reason : Stop) → Gives gains cuts is_open failed triples old new (Err reason) → IsOf t reason
+own_at_sink gains cuts is_open failed triples old new t stop.Memory gave = tt
+own_at_sink gains cuts is_open failed triples old new t stop.Write gave = tt
+own_at_sink gains cuts is_open failed triples old new t other gave = absurd gave
 
 pub own_at_end : (plan : TablePlan) (old new : Table) (r : Result Unit Stop) → SettlesTable plan old new r → IfErr r (λ reason. IsOf plan.number reason)
 own_at_end plan old new r (inl (columns, known, same, ok)) = subst (λ z. IfErr z (λ reason. IsOf plan.number reason)) (sym ok) tt

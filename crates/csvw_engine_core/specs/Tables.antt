@@ -122,12 +122,13 @@ table_triples mode t None rows = []
 table_triples mode t (Some columns) rows = flat_map (row_triples mode t columns) rows
 
 -- after a row was given to the sink, and its faults were told
-abbrev pub Gives : {S : Type 0} → (S → List Triple → S → Type 0) → (S → Bool) → (S → ℕ) → List Triple → S → S → Result Unit Stop → Type 0
-Gives gains is_open failed triples old new (Ok u) = gains old triples new × IsAsReady is_open failed old new
-Gives gains is_open failed triples old new (Err stop.Memory) = FrontOf gains old triples new × IsAsReady is_open failed old new
-Gives gains is_open failed triples old new (Err stop.Write) = FrontOf gains old triples new
-    × (is_open old ≡ true → failed old < 2 ^ 64 - 1 → failed new ≡ failed old + 1)
-Gives gains is_open failed triples old new (Err other) = ⊥
+abbrev pub Gives : {S : Type 0} → (S → List Triple → S → Type 0) → (S → Triple → S → Type 0) → (S → Bool) → (S → ℕ) → List Triple → S → S
+    → Result Unit Stop → Type 0
+Gives gains cuts is_open failed triples old new (Ok u) = gains old triples new × IsAsReady is_open failed old new
+Gives gains cuts is_open failed triples old new (Err stop.Memory) = FrontOf gains cuts old triples new ⊥ × IsAsReady is_open failed old new
+Gives gains cuts is_open failed triples old new (Err stop.Write) = FrontOf gains cuts old triples new (is_open old ≡ true)
+    × (is_open new ≡ false) × (is_open old ≡ true → failed old < 2 ^ 64 - 1 → failed new ≡ failed old + 1)
+Gives gains cuts is_open failed triples old new (Err other) = ⊥
 
 -- what rows go to: the sink for their triples, and the book for their keys
 pub record Outlets (S : Type 0) : Type 0 where
@@ -158,16 +159,17 @@ pub record GivesAll {S : Type 0} (gains : S → List Triple → S → Type 0) (p
   pub gone : Gone gains plan mode bytes ended given rows old new before now
   pub at_rest : IsAtRest plan bytes ended (given ++ gone.raws)
 
--- Some of the rows were given, and perhaps a front of the next one's triples.
-pub record GivesSome {S : Type 0} (gains : S → List Triple → S → Type 0) (plan : TablePlan) (mode : Mode) (bytes : List ℕ) (ended : Bool)
-    (given : List Given) (rows : List Row) (before now : S) : Type 0 where
+-- Some of the rows were given, of the last of them perhaps a front of its triples. Where the device failed, it failed within the
+-- triple after these.
+pub record GivesSome {S : Type 0} (gains : S → List Triple → S → Type 0) (cuts : S → Triple → S → Type 0) (plan : TablePlan) (mode : Mode)
+    (bytes : List ℕ) (ended : Bool) (given : List Given) (rows : List Row) (before now : S) (Fails : Type 0) : Type 0 where
   pub raws : List Given
   pub more : List Row
   pub first : AreFirst plan.dialect max_rows bytes ended (given ++ raws)
   pub columns : Option Columns
   pub faults : List Fault
   pub table : IsTable plan (given ++ raws) columns faults (rows ++ more)
-  pub took : FrontOf gains before (table_triples mode plan.number columns more) now
+  pub took : FrontOf gains cuts before (table_triples mode plan.number columns more) now Fails
 
 -- All rows in front of a stop were given.
 pub record GivesFront {S : Type 0} (gains : S → List Triple → S → Type 0) (plan : TablePlan) (mode : Mode) (bytes : List ℕ) (ended : Bool)
@@ -181,22 +183,22 @@ pub record GivesFront {S : Type 0} (gains : S → List Triple → S → Type 0) 
   pub took : gains before (table_triples mode plan.number columns more) now
 
 -- what a call leaves, by its answer
-abbrev pub TableOutcome : {S : Type 0} → (S → List Triple → S → Type 0) → (S → Bool) → (S → ℕ) → TablePlan → Mode → List ℕ → Bool → List Given
-    → List Row → Table → Table → Outlets S → Outlets S → Result Unit Stop → Type 0
-TableOutcome gains is_open failed plan mode bytes ended given rows old new before now (Ok u) =
+abbrev pub TableOutcome : {S : Type 0} → (S → List Triple → S → Type 0) → (S → Triple → S → Type 0) → (S → Bool) → (S → ℕ) → TablePlan → Mode
+    → List ℕ → Bool → List Given → List Row → Table → Table → Outlets S → Outlets S → Result Unit Stop → Type 0
+TableOutcome gains cuts is_open failed plan mode bytes ended given rows old new before now (Ok u) =
     GivesAll gains plan mode bytes ended given rows old new before now × IsAsReady is_open failed before.sink now.sink
-TableOutcome gains is_open failed plan mode bytes ended given rows old new before now (Err stop.Memory) =
-    GivesSome gains plan mode bytes ended given rows before.sink now.sink × IsAsReady is_open failed before.sink now.sink
-TableOutcome gains is_open failed plan mode bytes ended given rows old new before now (Err stop.Write) =
-    GivesSome gains plan mode bytes ended given rows before.sink now.sink
-    × (is_open before.sink ≡ true → failed before.sink < 2 ^ 64 - 1 → failed now.sink ≡ failed before.sink + 1)
-TableOutcome gains is_open failed plan mode bytes ended given rows old new before now (Err (stop.Rows table row reason)) =
+TableOutcome gains cuts is_open failed plan mode bytes ended given rows old new before now (Err stop.Memory) =
+    GivesSome gains cuts plan mode bytes ended given rows before.sink now.sink ⊥ × IsAsReady is_open failed before.sink now.sink
+TableOutcome gains cuts is_open failed plan mode bytes ended given rows old new before now (Err stop.Write) =
+    GivesSome gains cuts plan mode bytes ended given rows before.sink now.sink (is_open before.sink ≡ true)
+    × (is_open now.sink ≡ false) × (is_open before.sink ≡ true → failed before.sink < 2 ^ 64 - 1 → failed now.sink ≡ failed before.sink + 1)
+TableOutcome gains cuts is_open failed plan mode bytes ended given rows old new before now (Err (stop.Rows table row reason)) =
     GivesFront gains plan mode bytes ended given rows before.sink now.sink (λ columns all. IsStopped plan bytes ended all row reason)
     × IsAsReady is_open failed before.sink now.sink
-TableOutcome gains is_open failed plan mode bytes ended given rows old new before now (Err (stop.Table table row reason)) =
+TableOutcome gains cuts is_open failed plan mode bytes ended given rows old new before now (Err (stop.Table table row reason)) =
     GivesFront gains plan mode bytes ended given rows before.sink now.sink (λ columns all. IsRefused plan columns bytes ended all row reason)
     × IsAsReady is_open failed before.sink now.sink
-TableOutcome gains is_open failed plan mode bytes ended given rows old new before now (Err other) = ⊥
+TableOutcome gains cuts is_open failed plan mode bytes ended given rows old new before now (Err other) = ⊥
 
 -- The whole text is a table: these are its columns and rows.
 pub record HoldsWhole (plan : TablePlan) (mode : Mode) (t : Table) (bytes : List ℕ) (rows : List Row) : Type 0 where
@@ -225,22 +227,22 @@ IsRefusedAtEnd plan columns bytes given row stop =
     IsRefused plan columns bytes true given row stop ⊎ (IsAtRest plan bytes true given × (columns ≡ None) × RefusesEnd plan given row stop)
 
 -- what the end of a text leaves, by its answer
-abbrev pub EndOutcome : {S : Type 0} → (S → List Triple → S → Type 0) → (S → Bool) → (S → ℕ) → TablePlan → Mode → List ℕ → List Given → List Row
-    → Table → Table → Outlets S → Outlets S → Result Unit Stop → Type 0
-EndOutcome gains is_open failed plan mode bytes given rows old new before now (Ok u) =
+abbrev pub EndOutcome : {S : Type 0} → (S → List Triple → S → Type 0) → (S → Triple → S → Type 0) → (S → Bool) → (S → ℕ) → TablePlan → Mode → List ℕ
+    → List Given → List Row → Table → Table → Outlets S → Outlets S → Result Unit Stop → Type 0
+EndOutcome gains cuts is_open failed plan mode bytes given rows old new before now (Ok u) =
     GivesWhole gains plan mode bytes rows old new before now × IsAsReady is_open failed before.sink now.sink
-EndOutcome gains is_open failed plan mode bytes given rows old new before now (Err stop.Memory) =
-    GivesSome gains plan mode bytes true given rows before.sink now.sink × IsAsReady is_open failed before.sink now.sink
-EndOutcome gains is_open failed plan mode bytes given rows old new before now (Err stop.Write) =
-    GivesSome gains plan mode bytes true given rows before.sink now.sink
-    × (is_open before.sink ≡ true → failed before.sink < 2 ^ 64 - 1 → failed now.sink ≡ failed before.sink + 1)
-EndOutcome gains is_open failed plan mode bytes given rows old new before now (Err (stop.Rows table row reason)) =
+EndOutcome gains cuts is_open failed plan mode bytes given rows old new before now (Err stop.Memory) =
+    GivesSome gains cuts plan mode bytes true given rows before.sink now.sink ⊥ × IsAsReady is_open failed before.sink now.sink
+EndOutcome gains cuts is_open failed plan mode bytes given rows old new before now (Err stop.Write) =
+    GivesSome gains cuts plan mode bytes true given rows before.sink now.sink (is_open before.sink ≡ true)
+    × (is_open now.sink ≡ false) × (is_open before.sink ≡ true → failed before.sink < 2 ^ 64 - 1 → failed now.sink ≡ failed before.sink + 1)
+EndOutcome gains cuts is_open failed plan mode bytes given rows old new before now (Err (stop.Rows table row reason)) =
     GivesFront gains plan mode bytes true given rows before.sink now.sink (λ columns all. IsStopped plan bytes true all row reason)
     × IsAsReady is_open failed before.sink now.sink
-EndOutcome gains is_open failed plan mode bytes given rows old new before now (Err (stop.Table table row reason)) =
+EndOutcome gains cuts is_open failed plan mode bytes given rows old new before now (Err (stop.Table table row reason)) =
     GivesFront gains plan mode bytes true given rows before.sink now.sink (λ columns all. IsRefusedAtEnd plan columns bytes all row reason)
     × IsAsReady is_open failed before.sink now.sink
-EndOutcome gains is_open failed plan mode bytes given rows old new before now (Err other) = ⊥
+EndOutcome gains cuts is_open failed plan mode bytes given rows old new before now (Err other) = ⊥
 
 -- after the end of the text, where the columns weren't known; of want of memory nothing is said
 abbrev pub SettlesHead : TablePlan → Table → Table → Result Unit Stop → Type 0

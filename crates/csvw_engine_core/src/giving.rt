@@ -25,7 +25,7 @@ fn give<S: TripleSink>(
     sink: &mut S,
 ) -> Result<(), Stop>
     requires { RowFits table.now.head.columns row.now }
-    ensures { Gives S.gains S.is_open S.failed (table_triples table.now.mode table.now.number table.now.head.columns (row.now ∷ []))
+    ensures { Gives S.gains S.cuts S.is_open S.failed (table_triples table.now.mode table.now.number table.now.head.columns (row.now ∷ []))
         sink.old sink.new result }
 {
     match &table.head.columns {
@@ -49,7 +49,7 @@ fn drain<S: TripleSink>(
     ensures own { IfErr result (λ stop. IsOf plan.now.number stop) }
     ensures drains { (mode : TheMode) (bytes : List ℕ) (ended : Bool) (given : List Given) (rows : List TheRow)
         → TableHolds plan.now mode table.old bytes ended given rows
-        → TableOutcome S.gains S.is_open S.failed plan.now mode bytes ended given rows table.old table.new
+        → TableOutcome S.gains S.cuts S.is_open S.failed plan.now mode bytes ended given rows table.old table.new
         (outlets sink.old keys.old) (outlets sink.new keys.new) result }
 {
     let alloc = table.alloc;
@@ -85,7 +85,7 @@ pub fn feed_table<S: TripleSink>(
     ensures own { IfErr result (λ stop. IsOf plan.now.number stop) }
     ensures feeds { (mode : TheMode) (bytes : List ℕ) (given : List Given) (rows : List TheRow)
         → TableHolds plan.now mode table.old bytes false given rows
-        → TableOutcome S.gains S.is_open S.failed plan.now mode (bytes ++ piece.now) false given rows table.old table.new
+        → TableOutcome S.gains S.cuts S.is_open S.failed plan.now mode (bytes ++ piece.now) false given rows table.old table.new
         (outlets sink.old keys.old) (outlets sink.new keys.new) result }
 {
     given_first_later();
@@ -107,7 +107,7 @@ pub fn end_table<S: TripleSink>(
     ensures own { IfErr result (λ stop. IsOf plan.now.number stop) }
     ensures ends { (mode : TheMode) (bytes : List ℕ) (given : List Given) (rows : List TheRow)
         → TableHolds plan.now mode table.old bytes false given rows
-        → EndOutcome S.gains S.is_open S.failed plan.now mode bytes given rows table.old table.new
+        → EndOutcome S.gains S.cuts S.is_open S.failed plan.now mode bytes given rows table.old table.new
         (outlets sink.old keys.old) (outlets sink.new keys.new) result }
 {
     given_first();

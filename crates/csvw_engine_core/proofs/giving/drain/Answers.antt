@@ -12,12 +12,12 @@ pub returns-in_err-emitter-clause-drains : goal.returns-in_err-emitter-clause-dr
 returns-in_err-emitter-clause-drains g c = λ mode bytes ended given rows h.
     let s = g.S.TripleSink in
     let p = err_from_is_err_and c.from_residual.result c.from_residual.ensures.1 in
-    outcome_err s.gains s.is_open s.failed g.met.S.TripleSink.stays g.met.S.TripleSink.goes_on c.args.plan.now mode bytes ended given rows
+    outcome_err s.gains s.cuts s.is_open s.failed g.met.S.TripleSink.stays g.met.S.TripleSink.goes_on c.args.plan.now mode bytes ended given rows
     c.args.table.now (outlets c.args.sink.now c.args.keys.now) c.args.table.now (outlets c.args.sink.now c.args.keys.now)
     c.from_residual.result p.0 stop.Memory p.1 p.2 (
-      some_given s.gains s.is_open s.failed g.met.S.TripleSink.stays g.met.S.TripleSink.goes_on c.args.plan.now mode bytes ended given rows
+      some_given s.gains s.cuts s.is_open s.failed g.met.S.TripleSink.stays g.met.S.TripleSink.goes_on c.args.plan.now mode bytes ended given rows
           c.args.table.now (outlets c.args.sink.now c.args.keys.now) c.given_first.ensures c.args.table.now (outlets c.args.sink.now c.args.keys.now)
-          (gone_nothing s.gains s.is_open s.failed g.met.S.TripleSink.stays g.met.S.TripleSink.goes_on c.args.plan.now mode bytes ended given rows
+          (gone_nothing s.gains s.cuts s.is_open s.failed g.met.S.TripleSink.stays g.met.S.TripleSink.goes_on c.args.plan.now mode bytes ended given rows
           c.args.table.now (outlets c.args.sink.now c.args.keys.now) h),
       (refl, refl),
     )
@@ -27,7 +27,7 @@ loop-room-init g c = record {
   ended = refl;
   ready = (refl, refl);
   gone = λ mode bytes ended given rows h. let s = g.S.TripleSink in
-      gone_nothing s.gains s.is_open s.failed g.met.S.TripleSink.stays g.met.S.TripleSink.goes_on c.args.plan.now mode bytes ended given rows
+      gone_nothing s.gains s.cuts s.is_open s.failed g.met.S.TripleSink.stays g.met.S.TripleSink.goes_on c.args.plan.now mode bytes ended given rows
       c.args.table.now (outlets c.args.sink.now c.args.keys.now) h;
 }
 
@@ -37,10 +37,10 @@ returns-in_err-row-clause-drains g c = λ mode bytes ended given rows h.
     let i = c.loop-room.invariant in
     let e = c.in_err-row.ensures in
     let p = err_from_is_err_and c.from_residual-in_err-row.result c.from_residual-in_err-row.ensures.1 in
-    outcome_err s.gains s.is_open s.failed g.met.S.TripleSink.stays g.met.S.TripleSink.goes_on c.args.plan.now mode bytes ended given rows
+    outcome_err s.gains s.cuts s.is_open s.failed g.met.S.TripleSink.stays g.met.S.TripleSink.goes_on c.args.plan.now mode bytes ended given rows
     c.args.table.now (outlets c.args.sink.now c.args.keys.now) c.next_row.new.table (outlets c.loop-room.sink c.loop-room.keys)
     c.from_residual-in_err-row.result p.0 _ p.1 p.2
-    (text_stops s.gains s.is_open s.failed g.met.S.TripleSink.stays g.met.S.TripleSink.goes_on c.args.plan.now mode bytes ended given rows
+    (text_stops s.gains s.cuts s.is_open s.failed g.met.S.TripleSink.stays g.met.S.TripleSink.goes_on c.args.plan.now mode bytes ended given rows
     c.args.table.now (outlets c.args.sink.now c.args.keys.now) c.given_first.ensures
     c.loop-room.table c.next_row.new.table (outlets c.loop-room.sink c.loop-room.keys) _ e.1 i.ready (i.gone mode bytes ended given rows h))
 
@@ -49,10 +49,10 @@ returns-in_err-tell-in-Row-clause-drains g c = λ mode bytes ended given rows h.
     let s = g.S.TripleSink in
     let i = c.loop-room.invariant in
     let p = err_from_is_err_and c.from_residual-in_err-tell-in-Row.result c.from_residual-in_err-tell-in-Row.ensures.1 in
-    outcome_err s.gains s.is_open s.failed g.met.S.TripleSink.stays g.met.S.TripleSink.goes_on c.args.plan.now mode bytes ended given rows
+    outcome_err s.gains s.cuts s.is_open s.failed g.met.S.TripleSink.stays g.met.S.TripleSink.goes_on c.args.plan.now mode bytes ended given rows
     c.args.table.now (outlets c.args.sink.now c.args.keys.now) c.tell.new.self (outlets c.loop-room.sink c.loop-room.keys)
     c.from_residual-in_err-tell-in-Row.result p.0 stop.Memory p.1 p.2 (
-      some_given s.gains s.is_open s.failed g.met.S.TripleSink.stays g.met.S.TripleSink.goes_on c.args.plan.now mode bytes ended given rows
+      some_given s.gains s.cuts s.is_open s.failed g.met.S.TripleSink.stays g.met.S.TripleSink.goes_on c.args.plan.now mode bytes ended given rows
           c.args.table.now (outlets c.args.sink.now c.args.keys.now) c.given_first.ensures c.loop-room.table
           (outlets c.loop-room.sink c.loop-room.keys)
           (i.gone mode bytes ended given rows h),
@@ -66,10 +66,10 @@ returns-in_err-add-in-Row-clause-drains g c = λ mode bytes ended given rows h.
     let begun = outlets c.args.sink.now c.args.keys.now in
     let now = outlets c.loop-room.sink c.loop-room.keys in
     let p = err_from_is_err_and c.from_residual-in_err-add-in-Row.result c.from_residual-in_err-add-in-Row.ensures.1 in
-    outcome_err s.gains s.is_open s.failed g.met.S.TripleSink.stays g.met.S.TripleSink.goes_on c.args.plan.now mode bytes ended given rows
+    outcome_err s.gains s.cuts s.is_open s.failed g.met.S.TripleSink.stays g.met.S.TripleSink.goes_on c.args.plan.now mode bytes ended given rows
     c.args.table.now begun c.tell.new.self
     (outlets c.loop-room.sink c.add.new.self) c.from_residual-in_err-add-in-Row.result p.0 stop.Memory p.1 p.2 (
-      some_given s.gains s.is_open s.failed g.met.S.TripleSink.stays g.met.S.TripleSink.goes_on c.args.plan.now mode bytes ended given rows
+      some_given s.gains s.cuts s.is_open s.failed g.met.S.TripleSink.stays g.met.S.TripleSink.goes_on c.args.plan.now mode bytes ended given rows
           c.args.table.now begun
           c.given_first.ensures c.loop-room.table now (i.gone mode bytes ended given rows h),
       i.ready,
@@ -81,10 +81,10 @@ returns-in_err-give-in-Row-clause-drains g c = λ mode bytes ended given rows h.
     let i = c.loop-room.invariant in
     let k = rw c.in-Row.is at c.in_ok-row.ensures in
     let p = err_from_is_err_and c.from_residual-in_err-give-in-Row.result c.from_residual-in_err-give-in-Row.ensures.1 in
-    outcome_err s.gains s.is_open s.failed g.met.S.TripleSink.stays g.met.S.TripleSink.goes_on c.args.plan.now mode bytes ended given rows
+    outcome_err s.gains s.cuts s.is_open s.failed g.met.S.TripleSink.stays g.met.S.TripleSink.goes_on c.args.plan.now mode bytes ended given rows
     c.args.table.now (outlets c.args.sink.now c.args.keys.now) c.tell.new.self (outlets c.give.new.sink c.add.new.self)
     c.from_residual-in_err-give-in-Row.result p.0 _ p.1 p.2
-    (sink_stops s.gains s.is_open s.failed g.met.S.TripleSink.stays g.met.S.TripleSink.goes_on c.args.plan.now mode bytes ended given rows
+    (sink_stops s.gains s.cuts s.is_open s.failed g.met.S.TripleSink.stays g.met.S.TripleSink.goes_on c.args.plan.now mode bytes ended given rows
     c.args.table.now (outlets c.args.sink.now c.args.keys.now) c.given_first.ensures
     c.loop-room.table c.next_row.new.table c.tell.new.self (outlets c.loop-room.sink c.loop-room.keys)
     (outlets c.give.new.sink c.add.new.self) c.in-Row.row _ k.0 k.3 c.in_ok-tell-in-Row.ensures.same c.in_err-give-in-Row.ensures i.ready
@@ -102,7 +102,7 @@ loop-room-preserved-in-Row g c =
       ended = ap (λ (x : Table). is_ended x) t.same ∙ (k.0.ended ∙ i.ended);
       ready = (stays.0 ∙ i.ready.0, stays.1 ∙ i.ready.1);
       gone = λ mode bytes ended given rows h.
-          gone_row s.gains s.is_open s.failed g.met.S.TripleSink.stays g.met.S.TripleSink.goes_on c.args.plan.now mode bytes ended given rows
+          gone_row s.gains s.cuts s.is_open s.failed g.met.S.TripleSink.stays g.met.S.TripleSink.goes_on c.args.plan.now mode bytes ended given rows
           c.args.table.now (outlets c.args.sink.now c.args.keys.now)
           c.loop-room.table c.next_row.new.table c.tell.new.self (outlets c.loop-room.sink c.loop-room.keys)
           (outlets c.give.new.sink c.add.new.self) c.in-Row.row k.0 k.3 t.same t.told gave.0 c.in_ok-add-in-Row.ensures
@@ -118,7 +118,7 @@ loop-room-preserved g c =
       ended = k.0.ended ∙ i.ended;
       ready = i.ready;
       gone = λ mode bytes ended given rows h.
-          gone_header s.gains s.is_open s.failed g.met.S.TripleSink.stays g.met.S.TripleSink.goes_on c.args.plan.now mode bytes ended given rows
+          gone_header s.gains s.cuts s.is_open s.failed g.met.S.TripleSink.stays g.met.S.TripleSink.goes_on c.args.plan.now mode bytes ended given rows
           c.args.table.now (outlets c.args.sink.now c.args.keys.now)
           c.loop-room.table c.next_row.new.table (outlets c.loop-room.sink c.loop-room.keys) k.0 k.2 (i.gone mode bytes ended given rows h);
     }
@@ -128,7 +128,7 @@ returns-in-Nothing-clause-drains g c = λ mode bytes ended given rows h.
     let s = g.S.TripleSink in
     let i = c.loop-room.invariant in
     let k = rw c.in-Nothing.is at c.in_ok-row.ensures in (
-      gone_same s.gains s.is_open s.failed g.met.S.TripleSink.stays g.met.S.TripleSink.goes_on c.args.plan.now mode bytes ended given rows
+      gone_same s.gains s.cuts s.is_open s.failed g.met.S.TripleSink.stays g.met.S.TripleSink.goes_on c.args.plan.now mode bytes ended given rows
           c.args.table.now (outlets c.args.sink.now c.args.keys.now)
           c.loop-room.table c.next_row.new.table (outlets c.loop-room.sink c.loop-room.keys) k.0 k.1 (i.gone mode bytes ended given rows h),
       i.ready,
@@ -154,4 +154,4 @@ returns-in_err-give-in-Row-clause-own g c =
     let s = g.S.TripleSink in
     let p = err_from_is_err_and c.from_residual-in_err-give-in-Row.result c.from_residual-in_err-give-in-Row.ensures.1 in
     own_err c.args.plan.now.number c.from_residual-in_err-give-in-Row.result p.0 _ p.1 p.2
-    (own_at_sink s.gains s.is_open s.failed _ _ _ c.args.plan.now.number _ c.in_err-give-in-Row.ensures)
+    (own_at_sink s.gains s.cuts s.is_open s.failed _ _ _ c.args.plan.now.number _ c.in_err-give-in-Row.ensures)

@@ -23,12 +23,12 @@ returns-in_err-drain-in-Ok g c = record {
         head = c.args.table.now.head;
         faults = c.args.table.now.faults;
       } in
-      end_moved s.gains s.is_open s.failed c.args.plan.now mode bytes given rows c.args.table.now c.drain.new.table c.end.new.self
+      end_moved s.gains s.cuts s.is_open s.failed c.args.plan.now mode bytes given rows c.args.table.now c.drain.new.table c.end.new.self
       (outlets c.args.sink.now c.args.keys.now) (outlets c.drain.new.sink c.drain.new.keys) c.from_residual.result
-      (end_err s.gains s.is_open s.failed g.met.S.TripleSink.stays g.met.S.TripleSink.goes_on c.args.plan.now mode bytes given rows mid
+      (end_err s.gains s.cuts s.is_open s.failed g.met.S.TripleSink.stays g.met.S.TripleSink.goes_on c.args.plan.now mode bytes given rows mid
       (outlets c.args.sink.now c.args.keys.now) (outlets c.drain.new.sink c.drain.new.keys) c.drain.new.table
       c.from_residual.result p.0 _ p.1 p.2
-      (ends_wrong s.gains s.is_open s.failed g.met.S.TripleSink.stays g.met.S.TripleSink.goes_on c.args.plan.now mode bytes given rows mid
+      (ends_wrong s.gains s.cuts s.is_open s.failed g.met.S.TripleSink.stays g.met.S.TripleSink.goes_on c.args.plan.now mode bytes given rows mid
       (outlets c.args.sink.now c.args.keys.now) (outlets c.drain.new.sink c.drain.new.keys) c.drain.new.table _
       (c.in_err-drain-in-Ok.ensures.drains mode bytes true given rows
       (holds_moved c.args.plan.now mode c.args.table.now c.end.new.self bytes bytes false true given rows
@@ -51,9 +51,9 @@ returns-in_ok-drain-in-Ok g c = record {
       let k = c.in_ok-drain-in-Ok.ensures.drains mode bytes true given rows
       (holds_moved c.args.plan.now mode c.args.table.now c.end.new.self bytes bytes false true given rows
       (c.in-Ok.ensures.closes c.args.plan.now.dialect max_rows bytes given) h) in
-      end_moved s.gains s.is_open s.failed c.args.plan.now mode bytes given rows c.args.table.now c.settle.new.self c.end.new.self
+      end_moved s.gains s.cuts s.is_open s.failed c.args.plan.now mode bytes given rows c.args.table.now c.settle.new.self c.end.new.self
       (outlets c.args.sink.now c.args.keys.now) (outlets c.drain.new.sink c.drain.new.keys) c.settle.result
-      (ends s.gains s.is_open s.failed g.met.S.TripleSink.stays g.met.S.TripleSink.goes_on c.args.plan.now mode bytes given rows mid
+      (ends s.gains s.cuts s.is_open s.failed g.met.S.TripleSink.stays g.met.S.TripleSink.goes_on c.args.plan.now mode bytes given rows mid
       (outlets c.args.sink.now c.args.keys.now) (outlets c.drain.new.sink c.drain.new.keys) c.drain.new.table k.0
       c.given_first.ensures k.1 c.settle.new.self c.settle.result c.settle.ensures);
 }

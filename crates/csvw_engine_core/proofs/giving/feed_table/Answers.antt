@@ -7,7 +7,7 @@ use Rattle.csvw_engine_core.proofs.giving.feed_table.Goals as goal
 pub returns-in-Ok-clause-feeds : goal.returns-in-Ok-clause-feeds
 returns-in-Ok-clause-feeds g c = λ mode bytes given rows h.
     let s = g.S.TripleSink in
-    outcome_moved s.gains s.is_open s.failed c.args.plan.now mode (bytes ++ c.args.piece.now) false given rows c.args.table.now c.drain.new.table
+    outcome_moved s.gains s.cuts s.is_open s.failed c.args.plan.now mode (bytes ++ c.args.piece.now) false given rows c.args.table.now c.drain.new.table
     c.feed.new.self (outlets c.args.sink.now c.args.keys.now) (outlets c.drain.new.sink c.drain.new.keys) c.drain.result
     (c.drain.ensures.drains mode (bytes ++ c.args.piece.now) false given rows
     (holds_moved c.args.plan.now mode c.args.table.now c.feed.new.self bytes (bytes ++ c.args.piece.now) false false given rows
@@ -17,7 +17,7 @@ pub returns-in-Err-clause-feeds : goal.returns-in-Err-clause-feeds
 returns-in-Err-clause-feeds g c = λ mode bytes given rows h.
     let s = g.S.TripleSink in
     rw c.of_row_stop.ensures
-    (unfed s.gains s.is_open s.failed g.met.S.TripleSink.stays c.given_first_later.ensures c.args.plan.now mode c.args.table.now
+    (unfed s.gains s.cuts s.is_open s.failed g.met.S.TripleSink.stays c.given_first_later.ensures c.args.plan.now mode c.args.table.now
     (record {
       alloc = c.args.table.now.alloc;
       number = c.args.table.now.number;
