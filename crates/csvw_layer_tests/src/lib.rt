@@ -6,6 +6,8 @@ mod copies;
 #[cfg(test)]
 mod documents;
 #[cfg(test)]
+mod opening;
+#[cfg(test)]
 mod plans;
 #[cfg(test)]
 mod rows;

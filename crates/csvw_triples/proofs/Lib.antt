@@ -1,8 +1,4 @@
-mod Emitting
-mod Runs
-mod Graphs
-mod Fragments
-mod Walking
-mod Standards
-mod StandardGraphs
-mod ModeGraphs
+mod InLists
+mod Noting
+mod Openings
+mod Numbers

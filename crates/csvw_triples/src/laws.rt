@@ -1,20 +1,18 @@
-//! Laws about the triples that rows give.
-ghost use Rattle.std.specs.Prelude.{ℕ, List, ◌↔◌, Contains, flat_map, Some};
-ghost use Rattle.csvw_columns_core.specs.declared.columns.Columns.{Columns as TheColumns};
-ghost use Rattle.csvw_annotate.specs.declared.row.Row.{Row as TheRow};
+//! Laws about the triples of groups and tables. The calls do nothing.
+ghost use Rattle.std.specs.Prelude.{◌≡◌, ◌↔◌, Contains, length};
+ghost use Rattle.csvw_columns.specs.declared.plan.Plan.{Plan as ThePlan};
 ghost use Rattle.csvw_triples_core.specs.declared.mode.Mode.{Mode as TheMode};
 ghost use Rattle.csvw_triples_core.specs.declared.term.Triple.{Triple as TheTriple};
-ghost use Rattle.csvw_triples.specs.ModeGraph.{RowGraph, TableGraph};
-ghost use Rattle.csvw_triples.specs.ModeTriples.{row_triples};
+ghost use Rattle.csvw_triples.specs.Numbering.{note_numbers, counted};
+ghost use Rattle.csvw_triples.specs.Opening.{Opening};
+ghost use Rattle.csvw_triples.specs.OpeningTriples.{opening};
 
-/// The triples that a row gives are its graph, in each mode (csv2rdf, section 4.2).
-pub fn row_triples_are_row_graph()
-    ensures { (m : TheMode) (t : ℕ) (columns : TheColumns) (row : TheRow) (x : TheTriple)
-        → Contains (row_triples m t columns row) x ↔ RowGraph m t columns row x }
+/// The triples of a group and its tables are what is told of them, in each mode (csv2rdf, section 4.2).
+pub fn opening_is_the_graphs()
+    ensures { (m : TheMode) (plan : ThePlan) (x : TheTriple) → Contains (opening m plan) x ↔ Opening m plan x }
 {}
 
-/// The triples that all rows of a table give are the graph of these rows, in each mode (csv2rdf, section 4.2).
-pub fn rows_triples_are_table_graph()
-    ensures { (m : TheMode) (t : ℕ) (columns : TheColumns) (rows : List TheRow) (x : TheTriple)
-        → Contains (flat_map (row_triples m t columns) rows) x ↔ TableGraph m t (Some columns) rows x }
+/// The objects of annotations that become blank nodes are numbered from 1, in the order in which the triples lead to them.
+pub fn notes_are_numbered_in_order()
+    ensures { (m : TheMode) (plan : ThePlan) → note_numbers (opening m plan) ≡ counted 0 (length (note_numbers (opening m plan))) }
 {}

@@ -1,19 +1,17 @@
-//! The triples that rows give.
+//! The triples of a group of tables: those of the opening, which come before any row, and those of each row.
 #![tactic(auto)]
 
-mod csvw_names;
-mod emitter;
+mod draft;
 mod laws;
-mod literals;
-mod putting;
-mod rdf;
-mod standard;
-mod stem;
+mod names;
+mod notes;
+mod opening;
 
 pub use csvw_triples_core::{
     Lit, Mode, Node, Origin, SinkFault, Term, Triple, TripleSink, VecSink,
 };
-pub use emitter::{Emitter, emit_row};
-pub use laws::{row_triples_are_row_graph, rows_triples_are_table_graph};
-pub use putting::put_all;
-pub use standard::table_node;
+pub use csvw_triples_rows::{
+    Emitter, emit_row, row_triples_are_row_graph, rows_triples_are_table_graph,
+};
+pub use laws::{notes_are_numbered_in_order, opening_is_the_graphs};
+pub use opening::emit_opening;

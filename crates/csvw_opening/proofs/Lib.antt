@@ -1,4 +1,0 @@
-mod InLists
-mod Noting
-mod Openings
-mod Numbers

@@ -1,9 +1,0 @@
--- The triples of the types passed so far stand there.
-use Rattle.std.proofs.Common.{◌≡◌, ◌++◌, map, take}
-use Rattle.csvw_opening.specs.NotesTriples.{kind_triple}
-use Rattle.csvw_opening.proofs.notes.push_kinds.Given as goal
-
-abbrev pub invariant-loop-kind : goal.invariant-loop-kind
-invariant-loop-kind l =
-    (l.draft.triples.items ≡ l.initial.draft.triples.items ++ map (kind_triple l.node) (take l.kind-index l.types))
-    × (l.draft.blanks ≡ l.initial.draft.blanks)

@@ -1,8 +1,0 @@
-pub mod Annotations
-pub mod Blanks
-pub mod NotesTriples
-pub mod Notes
-pub mod OpeningTriples
-pub mod Opening
-pub mod Growing
-pub mod Numbering

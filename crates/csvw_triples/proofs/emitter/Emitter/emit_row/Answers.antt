@@ -1,8 +1,0 @@
--- What was taken by the fault.
-use Rattle.csvw_triples.proofs.Emitting.{front_of}
-use Rattle.csvw_triples.proofs.emitter.Emitter.emit_row.Goals as goal
-
-pub returns-clause-err : goal.returns-clause-err
-returns-clause-err g c =
-    let s = g.S.TripleSink in
-    front_of s.gains s.cuts s.is_open s.failed c.args.sink.now c.emit.new.sink _ c.emit.result c.emit.ensures.takes

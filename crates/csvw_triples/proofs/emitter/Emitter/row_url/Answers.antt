@@ -1,9 +1,0 @@
--- A row's place in its source stands raw.
-use Rattle.std.proofs.Common.{◌≡◌, ◌∙◌, ℕ, List, true, sym, subst}
-use Rattle.csvw_iri.specs.Safe.{is_iri}
-use Rattle.csvw_triples.proofs.Fragments.{fragment_raw}
-use Rattle.csvw_triples.proofs.emitter.Emitter.row_url.Goals as goal
-
-pub refill_with_fragment-requires-clause-raw : goal.refill_with_fragment-requires-clause-raw
-refill_with_fragment-requires-clause-raw c =
-    subst (λ (text : List ℕ). is_iri text ≡ true) (sym (c.as_str.ensures ∙ c.in_ok-refill_fragment.ensures)) (fragment_raw c.args.row.now.source)

@@ -1,8 +1,0 @@
--- What was taken by the fault.
-use Rattle.csvw_triples.proofs.Emitting.{front_of}
-use Rattle.csvw_triples.proofs.putting.put_all.Goals as goal
-
-pub returns-clause-err : goal.returns-clause-err
-returns-clause-err g c =
-    let s = g.S.TripleSink in
-    front_of s.gains s.cuts s.is_open s.failed c.args.sink.now c.put_each.new.sink c.args.triples.now c.put_each.result c.put_each.ensures.takes

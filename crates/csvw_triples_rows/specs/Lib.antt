@@ -1,0 +1,11 @@
+pub mod Vocabulary
+pub mod Literals
+pub mod Puts
+pub mod RowTriples
+pub mod Stems
+pub mod Graph
+pub mod CsvwVocabulary
+pub mod StandardTriples
+pub mod Standard
+pub mod ModeTriples
+pub mod ModeGraph

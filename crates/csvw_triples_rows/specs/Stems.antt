@@ -1,0 +1,32 @@
+-- The triples of one cell (csv2rdf, section 4.6), by what they begin with and where its list stands.
+use Rattle.std.specs.Prelude.{ℕ, List, [], ◌∷◌}
+use Rattle.csvw_columns_core.specs.declared.column.Column.{Column}
+use Rattle.csvw_cell.specs.declared.cell.Item.{Item}
+use Rattle.csvw_triples_core.specs.declared.origin.Origin.{Origin}
+use Rattle.csvw_triples_core.specs.declared.origin.Origin.TheVariants.{Entry}
+use Rattle.csvw_triples_core.specs.declared.term.Node.TheVariants as node
+use Rattle.csvw_triples_core.specs.declared.term.Term.{Term}
+use Rattle.csvw_triples_core.specs.declared.term.Term.TheVariants as term
+use Rattle.csvw_triples_core.specs.declared.term.Triple.{Triple}
+use Rattle.csvw_triples_rows.specs.declared.stem.ListPlace.{ListPlace}
+use Rattle.csvw_triples_rows.specs.declared.stem.Stem.{Stem}
+use Rattle.csvw_triples_rows.specs.Literals.{literal_of}
+use Rattle.csvw_triples_rows.specs.RowTriples.{triple}
+use Rattle.csvw_triples_rows.specs.Vocabulary.{rdf_first, rdf_rest}
+
+-- a triple of the cell, by its object
+abbrev pub object_triple : Stem → Term → Triple
+object_triple stem o = triple stem.s stem.p o
+
+-- the triple of a value or an item
+abbrev pub literal_triple : Stem → Column → Item → Triple
+literal_triple stem column item = object_triple stem (term.Literal (literal_of column item))
+
+-- the entries of its list
+abbrev pub entries_in : ListPlace → ℕ → Origin
+entries_in place k = Entry place.table place.row place.column k
+
+-- the triples of an entry, by what follows it
+abbrev pub entry_triples : Origin → Column → Item → Term → List Triple
+entry_triples entry column item rest =
+    triple (node.Blank entry) rdf_first (term.Literal (literal_of column item)) ∷ triple (node.Blank entry) rdf_rest rest ∷ []

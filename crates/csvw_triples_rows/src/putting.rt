@@ -1,0 +1,33 @@
+//! Lists of triples, put into a sink.
+ghost use Rattle.std.specs.Prelude.{◌≡◌, [], ◌∷◌, OnOk, IfErr};
+ghost use Rattle.csvw_triples_core.specs.Taking.{FrontOf, Ends};
+ghost use Rattle.csvw_triples_rows.specs.Puts.{Puts};
+
+use csvw_triples_core::{SinkFault, Triple, TripleSink};
+
+/// Puts a triple.
+#[inline(always)]
+pub(crate) fn put_one<S: TripleSink>(triple: &Triple, sink: &mut S) -> Result<(), SinkFault>
+    ensures { Puts S.gains S.cuts S.is_open S.failed sink.old (triple.now ∷ []) sink.new result }
+{
+    sink.put(triple)
+}
+
+fn put_each<S: TripleSink>(triples: &[Triple], sink: &mut S) -> Result<(), SinkFault>
+    ensures { Puts S.gains S.cuts S.is_open S.failed sink.old triples.now sink.new result }
+{
+    for triple in triples {
+        put_one(triple, sink)?;
+    }
+    Ok(())
+}
+
+/// Puts triples, in their order. After an error the sink took a front of them, each triple whole, and after `Device` the device
+/// failed within the next one. The fault is one that the sink returned in this call.
+pub fn put_all<S: TripleSink>(triples: &[Triple], sink: &mut S) -> Result<(), SinkFault>
+    ensures ok { OnOk result (S.gains sink.old triples.now sink.new) }
+    ensures err { IfErr result (λ fault. FrontOf S.gains S.cuts sink.old triples.now sink.new (fault ≡ SinkFault.Device)) }
+    ensures sink { Ends S.is_open S.failed sink.old sink.new result }
+{
+    put_each(triples, sink)
+}

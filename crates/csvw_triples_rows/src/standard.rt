@@ -1,0 +1,306 @@
+//! The triples of rows in standard mode, put into a sink.
+ghost use Rattle.std.specs.Prelude.{◌≡◌, [], ◌∷◌, ◌++◌, IfOk, OnOk, OnErr, None, length, decimal, option_copied};
+ghost use Rattle.std.specs.List.{zip};
+ghost use Rattle.csvw_triples_core.specs.Literal.{typed_lit};
+ghost use Rattle.csvw_triples_core.specs.Taking.{FrontOf, Ends};
+ghost use Rattle.csvw_iri.specs.Vocabulary.{xsd_integer};
+ghost use Rattle.csvw_triples_rows.specs.CsvwVocabulary.{row_of_table};
+ghost use Rattle.csvw_cell.specs.HasForm.{HasForm};
+ghost use Rattle.csvw_annotate.specs.HasForms.{CellsHaveForms, HasForms};
+ghost use Rattle.csvw_triples_rows.specs.Puts.{Puts};
+ghost use Rattle.csvw_triples_rows.specs.RowTriples.{subject_of};
+ghost use Rattle.csvw_triples_rows.specs.StandardTriples.{table_node, row_node, object_of, row_fragment, row_url};
+ghost use Rattle.csvw_triples_rows.specs.StandardTriples.{member_triple, class_triple, number_triple, url_triple, row_front};
+ghost use Rattle.csvw_triples_rows.specs.StandardTriples.{same_about, is_described, describes_triples, described_triples};
+ghost use Rattle.csvw_triples_rows.specs.StandardTriples.{last_after, described_cells, standard_triples};
+
+use crate::emitter::Emitter;
+use crate::stem::{RowPlace, Stem};
+use csvw_annotate::{AnnCell, Row};
+use csvw_columns_core::{Column, Columns};
+use csvw_iri::Iri;
+use csvw_text::Text;
+use csvw_triples_core::{Lit, Node, Origin, SinkFault, Term, TripleSink};
+use itoa::Buffer;
+use std::alloc::{AllocError, Global};
+
+/// The node of table `t`: its `@id`, else its blank node; `AllocError` where there is no memory.
+pub fn table_node(alloc: Global, t: u32, id: &Option<Iri>) -> Result<Node, AllocError>
+    ensures { IfOk result (λ s. s ≡ table_node t id.now) }
+{
+    match id {
+        Some(iri) => Ok(Node::Named(iri.clone(alloc)?)),
+        None => Ok(Node::Blank(Origin::Table(t))),
+    }
+}
+
+/// What a cell is about, as an object.
+fn subject_as_object(alloc: Global, place: RowPlace, cell: &AnnCell) -> Result<Term, AllocError>
+    ensures { IfOk result (λ o. o ≡ object_of (subject_of place.table place.row cell.now)) }
+{
+    match &cell.about {
+        Some(iri) => Ok(Term::Named(iri.clone(alloc)?)),
+        None => Ok(Term::Blank(Origin::Subject(place.table, place.row))),
+    }
+}
+
+/// The row and a predicate.
+fn row_stem(alloc: Global, place: RowPlace, predicate: &Iri) -> Result<Stem, AllocError>
+    ensures s { IfOk result (λ stem. stem.s ≡ row_node place.table place.row) }
+    ensures p { IfOk result (λ stem. stem.p ≡ predicate.now) }
+{
+    Ok(Stem {
+        s: Node::Blank(Origin::Row(place.table, place.row)),
+        p: predicate.clone(alloc)?,
+    })
+}
+
+/// Writes where a row stands in its source over a text.
+fn refill_fragment(text: &mut Text, source: u64) -> Result<(), AllocError>
+    ensures { OnOk result (text.new ≡ row_fragment source) }
+{
+    let mut digits = Buffer::new();
+    text.refill("row=")?;
+    text.push_str(digits.format(source))
+}
+
+fn same_about(a: &Option<Iri>, b: &Option<Iri>) -> bool
+    ensures { result ≡ same_about a.now b.now }
+{
+    match (a, b) {
+        (None, None) => true,
+        (Some(x), Some(y)) => x.as_str() == y.as_str(),
+        (Some(_), None) | (None, Some(_)) => false,
+    }
+}
+
+fn is_described(last: Option<&AnnCell>, cell: &AnnCell) -> bool
+    ensures { result ≡ is_described (option_copied last.entry) cell.now }
+{
+    match last {
+        Some(before) => same_about(&before.about, &cell.about),
+        None => false,
+    }
+}
+
+/// The last cell whose column isn't suppressed, after one more.
+fn last_after<'a>(
+    column: &Column,
+    last: Option<&'a AnnCell>,
+    cell: &'a AnnCell,
+) -> Option<&'a AnnCell>
+    ensures { option_copied result ≡ last_after column.now (option_copied last.entry) cell.now }
+{
+    if column.suppressed { last } else { Some(cell) }
+}
+
+impl Emitter {
+    /// A number as a literal, in the memory of the last one.
+    fn number_literal(&mut self, number: u64) -> Result<Lit, AllocError>
+        ensures { IfOk result (λ lit. lit ≡ typed_lit (decimal number) xsd_integer) }
+    {
+        let mut digits = Buffer::new();
+        let mut text = self.take_spare();
+        text.refill(digits.format(number))?;
+        Ok(Lit::typed(text, self.csvw.integer.clone(self.alloc)?))
+    }
+
+    /// The IRI of a row: its table's URL and where it stands in its source.
+    fn row_url(&mut self, columns: &Columns, row: &Row) -> Result<Iri, AllocError>
+        ensures { IfOk result (λ iri. iri ≡ row_url columns.now row.now) }
+    {
+        refill_fragment(&mut self.fragment, row.source)?;
+        let url = columns.url.iri();
+        self.address
+            .refill_with_fragment(self.alloc, url, self.fragment.as_str())?;
+        self.address.clone(self.alloc)
+    }
+
+    fn emit_member<S: TripleSink>(
+        &mut self,
+        columns: &Columns,
+        place: RowPlace,
+        sink: &mut S,
+    ) -> Result<(), SinkFault>
+        ensures { Puts S.gains S.cuts S.is_open S.failed sink.old (member_triple place.table columns.now place.row ∷ []) sink.new result }
+    {
+        let stem = Stem {
+            s: table_node(self.alloc, place.table, &columns.id)?,
+            p: self.csvw.row.clone(self.alloc)?,
+        };
+        self.put_object(stem, Term::Blank(Origin::Row(place.table, place.row)), sink)
+    }
+
+    fn emit_class<S: TripleSink>(&mut self, place: RowPlace, sink: &mut S) -> Result<(), SinkFault>
+        ensures { Puts S.gains S.cuts S.is_open S.failed sink.old (class_triple place.table place.row ∷ []) sink.new result }
+    {
+        let stem = row_stem(self.alloc, place, &self.csvw.rdf_type)?;
+        let o = Term::Named(self.csvw.row_class.clone(self.alloc)?);
+        self.put_object(stem, o, sink)
+    }
+
+    fn emit_number<S: TripleSink>(&mut self, place: RowPlace, sink: &mut S) -> Result<(), SinkFault>
+        ensures { Puts S.gains S.cuts S.is_open S.failed sink.old (number_triple place.table place.row ∷ []) sink.new result }
+    {
+        let stem = row_stem(self.alloc, place, &self.csvw.rownum)?;
+        let literal = self.number_literal(place.row)?;
+        self.put_object(stem, Term::Literal(literal), sink)
+    }
+
+    fn emit_url<S: TripleSink>(
+        &mut self,
+        columns: &Columns,
+        t: u32,
+        row: &Row,
+        sink: &mut S,
+    ) -> Result<(), SinkFault>
+        ensures { Puts S.gains S.cuts S.is_open S.failed sink.old (url_triple t columns.now row.now ∷ []) sink.new result }
+    {
+        let place = RowPlace {
+            table: t,
+            row: row.number,
+        };
+        let stem = row_stem(self.alloc, place, &self.csvw.url)?;
+        let iri = self.row_url(columns, row)?;
+        self.put_object(stem, Term::Named(iri), sink)
+    }
+
+    /// Puts that the table has the row, and the row's class.
+    fn emit_kind<S: TripleSink>(
+        &mut self,
+        columns: &Columns,
+        place: RowPlace,
+        sink: &mut S,
+    ) -> Result<(), SinkFault>
+        ensures { Puts S.gains S.cuts S.is_open S.failed sink.old
+            (member_triple place.table columns.now place.row ∷ class_triple place.table place.row ∷ []) sink.new result }
+    {
+        self.emit_member(columns, place, sink)?;
+        self.emit_class(place, sink)
+    }
+
+    /// Puts the row's number, and where it stands in its source.
+    fn emit_source<S: TripleSink>(
+        &mut self,
+        columns: &Columns,
+        t: u32,
+        row: &Row,
+        sink: &mut S,
+    ) -> Result<(), SinkFault>
+        ensures { Puts S.gains S.cuts S.is_open S.failed sink.old
+            (number_triple t row.now.number ∷ url_triple t columns.now row.now ∷ []) sink.new result }
+    {
+        let place = RowPlace {
+            table: t,
+            row: row.number,
+        };
+        self.emit_number(place, sink)?;
+        self.emit_url(columns, t, row, sink)
+    }
+
+    fn emit_front<S: TripleSink>(
+        &mut self,
+        columns: &Columns,
+        t: u32,
+        row: &Row,
+        sink: &mut S,
+    ) -> Result<(), SinkFault>
+        ensures { Puts S.gains S.cuts S.is_open S.failed sink.old (row_front t columns.now row.now) sink.new result }
+    {
+        let place = RowPlace {
+            table: t,
+            row: row.number,
+        };
+        self.emit_kind(columns, place, sink)?;
+        self.emit_source(columns, t, row, sink)
+    }
+
+    fn emit_describes<S: TripleSink>(
+        &mut self,
+        place: RowPlace,
+        last: Option<&AnnCell>,
+        cell: &AnnCell,
+        sink: &mut S,
+    ) -> Result<(), SinkFault>
+        ensures { Puts S.gains S.cuts S.is_open S.failed sink.old
+            (describes_triples place.table place.row (option_copied last.entry) cell.now) sink.new result }
+    {
+        if is_described(last, cell) {
+            return Ok(());
+        }
+        let stem = row_stem(self.alloc, place, &self.csvw.describes)?;
+        let o = subject_as_object(self.alloc, place, cell)?;
+        self.put_object(stem, o, sink)
+    }
+
+    /// Puts what a cell adds to what the row is about, and the cell's triples.
+    fn emit_described<S: TripleSink>(
+        &mut self,
+        place: RowPlace,
+        column: &Column,
+        last: Option<&AnnCell>,
+        cell: &AnnCell,
+        sink: &mut S,
+    ) -> Result<(), SinkFault>
+        requires { HasForm cell.now.value }
+        ensures { Puts S.gains S.cuts S.is_open S.failed sink.old
+            (described_triples place.table place.row column.now (option_copied last.entry) cell.now) sink.new result }
+    {
+        if column.suppressed {
+            return Ok(());
+        }
+        self.emit_describes(place, last, cell, sink)?;
+        self.emit_cell(place, column, cell, sink)
+    }
+
+    fn emit_all_described<S: TripleSink>(
+        &mut self,
+        place: RowPlace,
+        columns: &[Column],
+        cells: &[AnnCell],
+        sink: &mut S,
+    ) -> Result<(), SinkFault>
+        requires places { length cells.now ≡ length columns.now }
+        requires forms { CellsHaveForms cells.now }
+        ensures { Puts S.gains S.cuts S.is_open S.failed sink.old
+            (described_cells place.table place.row None (zip columns.now cells.now)) sink.new result }
+    {
+        let mut last: Option<&AnnCell> = None;
+        for i in 0..cells.len() {
+            let column = &columns[i];
+            let cell = &cells[i];
+            self.emit_described(place, column, last, cell, sink)?;
+            last = last_after(column, last, cell);
+        }
+        Ok(())
+    }
+
+    /// Puts the triples of a row of table `t` in standard mode, whose values have lexical forms, in their order (csv2rdf,
+    /// section 4.2).
+    pub(crate) fn emit_standard<S: TripleSink>(
+        &mut self,
+        columns: &Columns,
+        t: u32,
+        row: &Row,
+        sink: &mut S,
+    ) -> Result<(), SinkFault>
+        requires places { length row.now.cells ≡ length columns.now.columns }
+        requires forms { HasForms row.now }
+        ensures { Puts S.gains S.cuts S.is_open S.failed sink.old (standard_triples t columns.now row.now) sink.new result }
+    {
+        if columns.suppressed {
+            return Ok(());
+        }
+        let place = RowPlace {
+            table: t,
+            row: row.number,
+        };
+        self.emit_front(columns, t, row, sink)?;
+        self.emit_all_described(
+            place,
+            columns.columns.as_slice(),
+            row.cells.as_slice(),
+            sink,
+        )
+    }
+}
