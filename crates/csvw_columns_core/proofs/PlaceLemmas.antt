@@ -1,5 +1,6 @@
 -- The map of names and the list of columns go by the same places.
-use Rattle.std.proofs.Common.{◌≡◌, ◌∙◌, ℕ, ◌+◌, ◌<◌, zero, suc, Bool, true, false, cond, List, [], ◌∷◌, length, take, get_or, slice_get, find, Option, Some, None}
+use Rattle.std.proofs.Common.{◌≡◌, ◌∙◌, ℕ, ◌+◌, ◌<◌, zero, suc, Bool, true, false, cond, List, [], ◌∷◌, length, take, get_or, slice_get, find, Option, Some}
+use Rattle.std.proofs.Common.{None}
 use Rattle.std.proofs.Common.{refl, sym, ap, subst, arith, add-one, add-zero, is_some, ⊎_elim, true≢false, Bor}
 use Rattle.std.specs.Prelude.{String, bytes_eq}
 use Rattle.std.specs.Option.{option_copied, option_or}
@@ -77,20 +78,6 @@ same_name : (name other : List ℕ) → bytes_eq name other ≡ true → name �
 same_name name other e = (bytes_decides name other).0 e
 
 module _ {Y S : Type 0} (old : HashMap (String Y) ℕ S) (column : Column) (place : ℕ) where
-  -- the name has a place already
-  pub keeps_places : is_some (get_by_text old column.name) ≡ true → AddsPlace old old column place
-  keeps_places there name =
-      ⊎_elim (λ (e : bytes_eq column.name name ≡ true).
-      let here = subst (λ n. is_some (get_by_text old n) ≡ true) (same_name column.name name e) there in
-      known (get_by_text old name) _ here)
-      (λ (e : bytes_eq column.name name ≡ false).
-      sym (ap (λ o. option_or (get_by_text old name) o) (cond-false _ _ _ e) ∙ or_none (get_by_text old name)))
-      (cases_Bool (bytes_eq column.name name))
-    where
-      known : (o p : Option ℕ) → is_some o ≡ true → o ≡ option_or o p
-      known None p e = absurd (true≢false (sym e))
-      known (Some x) p e = refl
-
   -- the name has none
   pub adds_place : (new : HashMap (String Y) ℕ S) → is_some (get_by_text old column.name) ≡ false
       → ((name : List ℕ) → get_by_text new name ≡ update bytes_eq (get_by_text old) column.name (Some place) name) → AddsPlace old new column place

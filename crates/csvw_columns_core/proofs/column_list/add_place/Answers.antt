@@ -4,7 +4,7 @@ use Rattle.std.specs.Prelude.{bytes_eq, string_bytes}
 use Rattle.std.specs.HashMap.{get_by_text}
 use Rattle.std.specs.Map.{update}
 use Rattle.std.proofs.lemmas.Map.Text.{hash_map_updates_text}
-use Rattle.csvw_columns_core.proofs.PlaceLemmas.{adds_place, keeps_places}
+use Rattle.csvw_columns_core.proofs.PlaceLemmas.{adds_place}
 use Rattle.csvw_columns_core.proofs.column_list.add_place.Goals as goal
 
 pub returns-in_ok-insert : goal.returns-in_ok-insert

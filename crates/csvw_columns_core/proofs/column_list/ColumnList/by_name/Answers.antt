@@ -15,5 +15,6 @@ pub returns : goal.returns
 returns c =
     let name = c.args.name.now in
     let at = sym (ap (λ cs. place_of cs name) c.self.view_is) ∙ sym (c.self.invariant name) ∙ sym c.in_ok-place.ensures.value in
-    lent_at c.as_slice.result.now c.in_ok-place.place.now c.get-2.result c.get-2.ensures.lookup ∙ ap (λ cs. slice_get cs c.in_ok-place.place.now) (c.as_slice.ensures ∙ c.self.view_is)
+    lent_at c.as_slice.result.now c.in_ok-place.place.now c.get-2.result c.get-2.ensures.lookup ∙ ap (λ cs. slice_get cs c.in_ok-place.place.now)
+    (c.as_slice.ensures ∙ c.self.view_is)
     ∙ sym (at_place c.args.self.now name c.in_ok-place.place.now at)
