@@ -12,3 +12,4 @@ mod ReferencesLemmas
 mod RepeatedLemmas
 mod TitlesLemmas
 mod UrlFaults
+mod VariableLemmas

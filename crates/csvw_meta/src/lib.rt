@@ -9,6 +9,7 @@ mod group;
 mod json;
 pub mod laws;
 mod name;
+mod read_description;
 mod references;
 mod repeated;
 mod schema;
@@ -23,4 +24,5 @@ pub use csvw_description::{
 };
 pub use csvw_meta_core::{MetaCode, MetaFault};
 pub use document::read;
+pub use read_description::ReadDescription;
 pub use url_alone::plain;

@@ -14,7 +14,7 @@ mod unlisted;
 pub use context::{Context, read_context};
 pub use dialect::{DialectFound, DialectReader};
 pub use inherited::{InheritedFound, read_inherited};
-pub use laws::dialects_fit;
+pub use laws::{dialects_fit, templates_are_read};
 pub use unlisted::{
     column_warnings, dialect_warnings, group_warnings, read_notes, schema_warnings,
     sole_table_warnings, table_warnings,

@@ -9,6 +9,8 @@ mod contexts;
 mod groups;
 #[cfg(test)]
 mod limits;
+#[cfg(test)]
+mod named;
 mod reading;
 #[cfg(test)]
 mod tables;

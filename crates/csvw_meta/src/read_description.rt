@@ -1,0 +1,43 @@
+//! The calls that read descriptions, under the name of their type.
+ghost use Rattle.std.specs.Prelude.{◌≡◌, ◌≢◌, Some, IfOk, IfErr};
+ghost use Rattle.csvw_description.specs.Plannable.{IsPlannable};
+ghost use Rattle.csvw_meta.specs.Document.{IsFault, document, group_in, plain_description};
+ghost use Rattle.csvw_meta.specs.UrlAlone.{IsOfUrl};
+
+use csvw_description::Description;
+use csvw_meta_core::{MetaCode, MetaFault};
+use std::alloc::Global;
+
+/// `Description::read` and `Description::plain`, once this trait is in scope.
+///
+/// ```text
+/// use csvw_meta::{Description, ReadDescription};
+///
+/// let described = Description::read(alloc, bytes, "http://example.org/m.json")?;
+/// ```
+pub trait ReadDescription: Sized {
+    /// The group that a document describes, at its own URL, as the function [`read`](crate::read) returns it.
+    fn read(alloc: Global, bytes: &[u8], base: &str) -> Result<Self, MetaFault>;
+
+    /// The group of the one table of a URL, as the function [`plain`](crate::plain) returns it.
+    fn plain(alloc: Global, url: &str) -> Result<Self, MetaFault>;
+}
+
+impl ReadDescription for Description {
+    fn read(alloc: Global, bytes: &[u8], base: &str) -> Result<Description, MetaFault>
+        ensures found { IfOk result (λ d. group_in (document base.now bytes.now) ≡ Some d) }
+        ensures plannable { IfOk result IsPlannable }
+        ensures fault { IfErr result (λ e. e.code ≢ MetaCode.Memory → IsFault (document base.now bytes.now) e) }
+    {
+        crate::document::read(alloc, bytes, base)
+    }
+
+    fn plain(alloc: Global, url: &str) -> Result<Description, MetaFault>
+        ensures found { IfOk result (λ d. group_in (plain_description url.now) ≡ Some d) }
+        ensures plannable { IfOk result IsPlannable }
+        ensures fault { IfErr result (λ e. e.code ≢ MetaCode.Memory → IsFault (plain_description url.now) e) }
+        ensures url { IfErr result (λ e. e.code ≢ MetaCode.Memory → IsOfUrl e) }
+    {
+        crate::url_alone::plain(alloc, url)
+    }
+}
