@@ -19,7 +19,7 @@ use Rattle.csvw_triples_core.specs.Taking.{FrontOf, IsAsReady}
 use Rattle.csvw_triples_core.specs.declared.mode.Mode.{Mode}
 use Rattle.csvw_triples_core.specs.declared.term.Triple.{Triple}
 use Rattle.csvw_annotate.specs.HasForms.{HasForms}
-use Rattle.csvw_triples.specs.ModeTriples.{row_triples}
+use Rattle.csvw_triples_rows.specs.ModeTriples.{row_triples}
 use Rattle.csvw_engine_core.specs.Annotated.{IsTable, IsWholeTable, HasRows, Refuses, RefusesEnd}
 use Rattle.csvw_engine_core.specs.Faults.{table_faults}
 use Rattle.csvw_engine_core.specs.Heads.{HeadHolds, Settles}

@@ -15,7 +15,7 @@ use csvw_columns::TablePlan;
 use csvw_keys::KeyBook;
 use csvw_links::LinkRoom;
 use csvw_rows::laws::{given_first, given_first_later};
-use csvw_triples::{Emitter, TripleSink};
+use csvw_triples_rows::{Emitter, TripleSink};
 
 /// Puts the triples of a row.
 fn give<S: TripleSink>(

@@ -6,7 +6,7 @@ ghost use Rattle.csvw_engine_core.specs.Stops.{of_fault, of_row_stop, of_table_s
 use csvw_columns::TableStop;
 use csvw_meta_core::MetaFault;
 use csvw_rows::RowStop;
-use csvw_triples::SinkFault;
+use csvw_triples_rows::SinkFault;
 use std::alloc::{AllocError, AllocFailed, Global};
 use std::error::Error;
 use std::fmt;

@@ -14,7 +14,7 @@ use csvw_links::LinkRoom;
 use csvw_rows::Rows;
 use csvw_rows::laws::given_first;
 use csvw_text::{Code, Fault, Kind, Place, Seq};
-use csvw_triples::Mode;
+use csvw_triples_rows::Mode;
 use std::alloc::{AllocError, Global};
 
 /// How many rows of all kinds a table has at most.

@@ -62,12 +62,13 @@ ended_at gains is_open failed s t i table start events number at e h =
     subst (λ n. ended_in events n ≡ true) number (found_at gains is_open failed s i table start events at e h (slice_get_cases s.plan.tables i).1)
 
 -- a call that is not taken
-pub refused_call : {S : Type 0} (gains : S → List Triple → S → Type 0) (is_open : S → Bool) (failed : S → ℕ) (s : Session S) (t : ℕ) (event : Event) (e : Stop)
-    → Checks s t (Err e) → Takes gains is_open failed s s t event (Err e)
-refused_call gains is_open failed s t event stop.Failed k = (refl, k)
-refused_call gains is_open failed s t event stop.UnknownTable k = (refl, k.0, k.1)
-refused_call gains is_open failed s t event stop.AfterEnd (f, known, inl finished) =
+pub refused_call : {S : Type 0} (gains : S → List Triple → S → Type 0) (cuts : S → Triple → S → Type 0) (is_open : S → Bool) (failed : S → ℕ)
+    (s : Session S) (t : ℕ) (event : Event) (e : Stop)
+    → Checks s t (Err e) → Takes gains cuts is_open failed s s t event (Err e)
+refused_call gains cuts is_open failed s t event stop.Failed k = (refl, k)
+refused_call gains cuts is_open failed s t event stop.UnknownTable k = (refl, k.0, k.1)
+refused_call gains cuts is_open failed s t event stop.AfterEnd (f, known, inl finished) =
     (refl, f, λ start events h. let wrong : state.Finished ≡ state.Open = sym finished ∙ h.state_is in cc)
-refused_call gains is_open failed s t event stop.AfterEnd (f, known, inr w) =
+refused_call gains cuts is_open failed s t event stop.AfterEnd (f, known, inr w) =
     (refl, f, λ start events h. ended_at gains is_open failed s t w.0 w.1 start events w.2 w.3 w.4 h)
-refused_call gains is_open failed s t event other k = absurd k
+refused_call gains cuts is_open failed s t event other k = absurd k

@@ -42,7 +42,7 @@ faults_on plan t u rows more keeps none before told =
     ∙ (ap (λ z. z ++ table_faults plan.number (columns_of u) more) (before ∙ sym (same_faults plan.number (columns_of t) (columns_of u) rows keeps none))
     ∙ sym (faults_more plan.number (columns_of u) rows more))
 
-module _ {S : Type 0} (gains : S → List Triple → S → Type 0) (is_open : S → Bool) (failed : S → ℕ)
+module _ {S : Type 0} (gains : S → List Triple → S → Type 0) (cuts : S → Triple → S → Type 0) (is_open : S → Bool) (failed : S → ℕ)
     (goes_on : (a b c : S) (xs ys : List Triple) → gains a xs b → gains b ys c → gains a (xs ++ ys) c)
     (old new : Session S) (i : ℕ) (plan : TablePlan) (t u : Table) (is_at : IsTableAt old i plan t) (below : i < length old.tables.items)
     (going : is_ended t ≡ false)
@@ -55,7 +55,8 @@ module _ {S : Type 0} (gains : S → List Triple → S → Type 0) (is_open : S 
   -- a piece was taken
   pub fed : (piece : List ℕ) → new.state ≡ state.Open
       → ((bytes : List ℕ) (given : List Given) (rows : List Row) → TableHolds plan old.mode t bytes false given rows
-      → TableOutcome gains is_open failed plan old.mode (bytes ++ piece) false given rows t u (outlets old.sink old.keys) (outlets new.sink new.keys) (Ok tt))
+      → TableOutcome gains cuts is_open failed plan old.mode (bytes ++ piece) false given rows t u (outlets old.sink old.keys) (outlets new.sink new.keys)
+      (Ok tt))
       → (start : S) (events : List Event) → Stands gains is_open failed start events old
       → Stands gains is_open failed start (events ++ Feed (i + 1) piece ∷ []) new
   fed piece state_is feeds start events h =
@@ -77,7 +78,7 @@ module _ {S : Type 0} (gains : S → List Triple → S → Type 0) (is_open : S 
   -- the end was taken
   pub ended : new.state ≡ state.Open
       → ((bytes : List ℕ) (given : List Given) (rows : List Row) → TableHolds plan old.mode t bytes false given rows
-      → EndOutcome gains is_open failed plan old.mode bytes given rows t u (outlets old.sink old.keys) (outlets new.sink new.keys) (Ok tt))
+      → EndOutcome gains cuts is_open failed plan old.mode bytes given rows t u (outlets old.sink old.keys) (outlets new.sink new.keys) (Ok tt))
       → (start : S) (events : List Event) → Stands gains is_open failed start events old → Stands gains is_open failed start (events ++ End (i + 1) ∷ []) new
   ended state_is ends start events h =
       let k = here start events h in
@@ -118,12 +119,12 @@ module _ {S : Type 0} (gains : S → List Triple → S → Type 0) (is_open : S 
     fed_text = text_of events (i + 1) ++ piece
 
     -- some rows of a piece
-    some_fed : GivesSome gains plan old.mode fed_text false (here start events h).1.given (h.rows i) old.sink new.sink
-        → GainsSome gains old new (i + 1) fed_events h.rows
-    some_fed some =
+    some_fed : (Fails : Type 0) → GivesSome gains cuts plan old.mode fed_text false (here start events h).1.given (h.rows i) old.sink new.sink Fails
+        → GainsSome gains cuts old new (i + 1) fed_events h.rows Fails
+    some_fed Fails some =
         let going_on = (here start events h).0 in
         at_table start events h
-        (λ j p given. GivesSome gains p old.mode (text_of fed_events (i + 1)) (ended_in fed_events (i + 1)) given (h.rows j) old.sink new.sink)
+        (λ j p given. GivesSome gains cuts p old.mode (text_of fed_events (i + 1)) (ended_in fed_events (i + 1)) given (h.rows j) old.sink new.sink Fails)
         (rw (fed_same events (i + 1) piece, fed_ended events (i + 1) (i + 1) piece, going_on) some)
 
     -- those in front of a stop in it
@@ -145,11 +146,12 @@ module _ {S : Type 0} (gains : S → List Triple → S → Type 0) (is_open : S 
     ended_text = text_of events (i + 1)
 
     -- some rows at the end
-    some_ended : GivesSome gains plan old.mode ended_text true (here start events h).1.given (h.rows i) old.sink new.sink
-        → GainsSome gains old new (i + 1) ended_events h.rows
-    some_ended some =
+    some_ended : (Fails : Type 0) → GivesSome gains cuts plan old.mode ended_text true (here start events h).1.given (h.rows i) old.sink new.sink Fails
+        → GainsSome gains cuts old new (i + 1) ended_events h.rows Fails
+    some_ended Fails some =
         at_table start events h
-        (λ j p given. GivesSome gains p old.mode (text_of ended_events (i + 1)) (ended_in ended_events (i + 1)) given (h.rows j) old.sink new.sink)
+        (λ j p given. GivesSome gains cuts p old.mode (text_of ended_events (i + 1)) (ended_in ended_events (i + 1)) given (h.rows j) old.sink new.sink
+        Fails)
         (rw (end_text events (i + 1) (i + 1), end_same events (i + 1)) some)
 
     -- those in front of a stop at it
@@ -165,22 +167,22 @@ module _ {S : Type 0} (gains : S → List Triple → S → Type 0) (is_open : S 
   -- a piece was not taken in full
   pub unfed : (piece : List ℕ) (reason : Stop) → IsOf (i + 1) reason → new.state ≡ state.Failed
       → ((bytes : List ℕ) (given : List Given) (rows : List Row) → TableHolds plan old.mode t bytes false given rows
-      → TableOutcome gains is_open failed plan old.mode (bytes ++ piece) false given rows t u (outlets old.sink old.keys) (outlets new.sink new.keys)
+      → TableOutcome gains cuts is_open failed plan old.mode (bytes ++ piece) false given rows t u (outlets old.sink old.keys) (outlets new.sink new.keys)
       (Err reason))
-      → Takes gains is_open failed old new (i + 1) (Feed (i + 1) piece) (Err reason)
+      → Takes gains cuts is_open failed old new (i + 1) (Feed (i + 1) piece) (Err reason)
   unfed piece stop.Memory own state_is feeds = (
     state_is,
     λ start events h.
         let k = here start events h in
         let all = feeds (text_of events (i + 1)) k.1.given (h.rows i) k.1.holds in
-        (some_fed piece start events h all.0, all.1),
+        (some_fed piece start events h ⊥ all.0, all.1),
   )
   unfed piece stop.Write own state_is feeds = (
     state_is,
     λ start events h.
         let k = here start events h in
         let all = feeds (text_of events (i + 1)) k.1.given (h.rows i) k.1.holds in
-        (some_fed piece start events h all.0, all.1),
+        (some_fed piece start events h (is_open old.sink ≡ true) all.0, all.1, all.2),
   )
   unfed piece (stop.Rows table row reason) own state_is feeds = (
     state_is,
@@ -214,21 +216,21 @@ module _ {S : Type 0} (gains : S → List Triple → S → Type 0) (is_open : S 
   -- the end was not taken in full
   pub unended : (reason : Stop) → IsOf (i + 1) reason → new.state ≡ state.Failed
       → ((bytes : List ℕ) (given : List Given) (rows : List Row) → TableHolds plan old.mode t bytes false given rows
-      → EndOutcome gains is_open failed plan old.mode bytes given rows t u (outlets old.sink old.keys) (outlets new.sink new.keys) (Err reason))
-      → Takes gains is_open failed old new (i + 1) (End (i + 1)) (Err reason)
+      → EndOutcome gains cuts is_open failed plan old.mode bytes given rows t u (outlets old.sink old.keys) (outlets new.sink new.keys) (Err reason))
+      → Takes gains cuts is_open failed old new (i + 1) (End (i + 1)) (Err reason)
   unended stop.Memory own state_is ends = (
     state_is,
     λ start events h.
         let k = here start events h in
         let all = ends (text_of events (i + 1)) k.1.given (h.rows i) k.1.holds in
-        (some_ended start events h all.0, all.1),
+        (some_ended start events h ⊥ all.0, all.1),
   )
   unended stop.Write own state_is ends = (
     state_is,
     λ start events h.
         let k = here start events h in
         let all = ends (text_of events (i + 1)) k.1.given (h.rows i) k.1.holds in
-        (some_ended start events h all.0, all.1),
+        (some_ended start events h (is_open old.sink ≡ true) all.0, all.1, all.2),
   )
   unended (stop.Rows table row reason) own state_is ends = (
     state_is,
@@ -262,30 +264,31 @@ module _ {S : Type 0} (gains : S → List Triple → S → Type 0) (is_open : S 
   -- the same by the number of the table
   pub fed_at : (n : ℕ) → i + 1 ≡ n → (piece : List ℕ) → new.state ≡ state.Open
       → ((bytes : List ℕ) (given : List Given) (rows : List Row) → TableHolds plan old.mode t bytes false given rows
-      → TableOutcome gains is_open failed plan old.mode (bytes ++ piece) false given rows t u (outlets old.sink old.keys) (outlets new.sink new.keys) (Ok tt))
+      → TableOutcome gains cuts is_open failed plan old.mode (bytes ++ piece) false given rows t u (outlets old.sink old.keys) (outlets new.sink new.keys)
+      (Ok tt))
       → (start : S) (events : List Event) → Stands gains is_open failed start events old → Stands gains is_open failed start (events ++ Feed n piece ∷ []) new
   fed_at n e piece state_is feeds start events h =
       subst (λ m. Stands gains is_open failed start (events ++ Feed m piece ∷ []) new) e (fed piece state_is feeds start events h)
 
   pub ended_at : (n : ℕ) → i + 1 ≡ n → new.state ≡ state.Open
       → ((bytes : List ℕ) (given : List Given) (rows : List Row) → TableHolds plan old.mode t bytes false given rows
-      → EndOutcome gains is_open failed plan old.mode bytes given rows t u (outlets old.sink old.keys) (outlets new.sink new.keys) (Ok tt))
+      → EndOutcome gains cuts is_open failed plan old.mode bytes given rows t u (outlets old.sink old.keys) (outlets new.sink new.keys) (Ok tt))
       → (start : S) (events : List Event) → Stands gains is_open failed start events old → Stands gains is_open failed start (events ++ End n ∷ []) new
   ended_at n e state_is ends start events h = subst (λ m. Stands gains is_open failed start (events ++ End m ∷ []) new) e (ended state_is ends start events h)
 
   pub unfed_at : (n : ℕ) → i + 1 ≡ n → (piece : List ℕ) (reason : Stop) → IsOf n reason → new.state ≡ state.Failed
       → ((bytes : List ℕ) (given : List Given) (rows : List Row) → TableHolds plan old.mode t bytes false given rows
-      → TableOutcome gains is_open failed plan old.mode (bytes ++ piece) false given rows t u (outlets old.sink old.keys) (outlets new.sink new.keys)
+      → TableOutcome gains cuts is_open failed plan old.mode (bytes ++ piece) false given rows t u (outlets old.sink old.keys) (outlets new.sink new.keys)
       (Err reason))
-      → Takes gains is_open failed old new n (Feed n piece) (Err reason)
+      → Takes gains cuts is_open failed old new n (Feed n piece) (Err reason)
   unfed_at n e piece reason own state_is feeds =
-      subst (λ m. Takes gains is_open failed old new m (Feed m piece) (Err reason)) e
+      subst (λ m. Takes gains cuts is_open failed old new m (Feed m piece) (Err reason)) e
       (unfed piece reason (subst (λ m. IsOf m reason) (sym e) own) state_is feeds)
 
   pub unended_at : (n : ℕ) → i + 1 ≡ n → (reason : Stop) → IsOf n reason → new.state ≡ state.Failed
       → ((bytes : List ℕ) (given : List Given) (rows : List Row) → TableHolds plan old.mode t bytes false given rows
-      → EndOutcome gains is_open failed plan old.mode bytes given rows t u (outlets old.sink old.keys) (outlets new.sink new.keys) (Err reason))
-      → Takes gains is_open failed old new n (End n) (Err reason)
+      → EndOutcome gains cuts is_open failed plan old.mode bytes given rows t u (outlets old.sink old.keys) (outlets new.sink new.keys) (Err reason))
+      → Takes gains cuts is_open failed old new n (End n) (Err reason)
   unended_at n e reason own state_is ends =
-      subst (λ m. Takes gains is_open failed old new m (End m) (Err reason)) e
+      subst (λ m. Takes gains cuts is_open failed old new m (End m) (Err reason)) e
       (unended reason (subst (λ m. IsOf m reason) (sym e) own) state_is ends)

@@ -16,7 +16,7 @@ use Rattle.csvw_keys.specs.Tables.{with_rows}
 use Rattle.csvw_triples_core.specs.Taking.{IsAsReady}
 use Rattle.csvw_triples_core.specs.declared.mode.Mode.{Mode}
 use Rattle.csvw_triples_core.specs.declared.term.Triple.{Triple}
-use Rattle.csvw_triples.specs.ModeTriples.{row_triples}
+use Rattle.csvw_triples_rows.specs.ModeTriples.{row_triples}
 use Rattle.csvw_engine_core.specs.Faults.{row_faults, table_faults}
 use Rattle.csvw_engine_core.specs.Tables.{AddsRows, KeepsColumns, table_triples, columns_of}
 use Rattle.csvw_engine_core.specs.declared.table.Table.{Table}

@@ -8,7 +8,7 @@ use Rattle.csvw_triples_core.specs.declared.mode.Mode.{Mode}
 use Rattle.csvw_triples_core.specs.declared.sink.SinkFault.{SinkFault}
 use Rattle.csvw_triples_core.specs.declared.sink.SinkFault.TheVariants as fault
 use Rattle.csvw_triples_core.specs.declared.term.Triple.{Triple}
-use Rattle.csvw_opening.specs.OpeningTriples.{opening}
+use Rattle.csvw_triples.specs.OpeningTriples.{opening}
 use Rattle.csvw_engine_core.specs.Stops.{of_fault}
 use Rattle.csvw_engine_core.specs.Tables.{IsNewTable, columns_of}
 use Rattle.csvw_engine_core.specs.declared.table.Table.{Table}
@@ -80,16 +80,30 @@ module _ {S : Type 0} (gains : S → List Triple → S → Type 0) (is_open : S 
       nothing_in : (x : Triple) → Contains [] x → ⊥
       nothing_in x c = let h = c.1 in absurd (omega arith)
 
-module _ {S : Type 0} (gains : S → List Triple → S → Type 0) (is_open : S → Bool) (failed : S → ℕ) (plan : Plan) (mode : Mode) where
+module _ {S : Type 0} (gains : S → List Triple → S → Type 0) (cuts : S → Triple → S → Type 0) (is_open : S → Bool) (failed : S → ℕ)
+    (plan : Plan) (mode : Mode) where
   -- before anything was put
-  pub refused_early : (sink : S) → gains sink [] sink → Refuses gains is_open failed plan mode sink sink stop.Memory
-  refused_early sink stays = (record { front = []; rest = opening mode plan; parts = refl; gained = stays }, (refl, refl))
+  pub refused_early : (sink : S) → gains sink [] sink → Refuses gains cuts is_open failed plan mode sink sink stop.Memory
+  refused_early sink stays =
+      (record { front = []; rest = opening mode plan; parts = refl; gained = stays; cut = λ fails. absurd fails }, (refl, refl))
 
   never_open : (sink : S) → is_open sink ≡ false → is_open sink ≡ true → ⊥
   never_open sink e f = let wrong : false ≡ true = sym e ∙ f in cc
 
-  pub refused_by : (sink now : S) (f : SinkFault) → FrontOf gains sink (opening mode plan) now → Ends is_open failed sink now (Err f)
-      → Refuses gains is_open failed plan mode sink now (of_fault f)
-  refused_by sink now fault.Memory front ends = (front, ends)
-  refused_by sink now fault.Device front ends = (front, ends.0, λ begun room. ends.1 room)
-  refused_by sink now fault.Closed front ends = (front, ends.1.0 ∙ ends.0, λ begun room. absurd (never_open sink ends.0 begun))
+  -- a front, by another word for the failure
+  by_failure : (sink now : S) (Fails Before : Type 0) → (Fails → Before) → FrontOf gains cuts sink (opening mode plan) now Before
+      → FrontOf gains cuts sink (opening mode plan) now Fails
+  by_failure sink now Fails Before so f =
+      record { front = f.front; rest = f.rest; parts = f.parts; gained = f.gained; cut = λ fails. f.cut (so fails) }
+
+  pub refused_by : (sink now : S) (f : SinkFault) → FrontOf gains cuts sink (opening mode plan) now (f ≡ fault.Device)
+      → Ends is_open failed sink now (Err f)
+      → Refuses gains cuts is_open failed plan mode sink now (of_fault f)
+  refused_by sink now fault.Memory front ends = (by_failure sink now ⊥ (fault.Memory ≡ fault.Device) (λ fails. absurd fails) front, ends)
+  refused_by sink now fault.Device front ends =
+      (by_failure sink now (is_open sink ≡ true) (fault.Device ≡ fault.Device) (λ begun. refl) front, ends.0, λ begun room. ends.1 room)
+  refused_by sink now fault.Closed front ends = (
+    by_failure sink now (is_open sink ≡ true) (fault.Closed ≡ fault.Device) (λ begun. absurd (never_open sink ends.0 begun)) front,
+    ends.1.0 ∙ ends.0,
+    λ begun room. absurd (never_open sink ends.0 begun),
+  )

@@ -4,13 +4,14 @@ use Rattle.csvw_columns.specs.declared.plan.Plan.{Plan}
 use Rattle.csvw_triples_core.specs.Taking.{FrontOf, IsAsReady}
 use Rattle.csvw_triples_core.specs.declared.mode.Mode.{Mode}
 use Rattle.csvw_triples_core.specs.declared.term.Triple.{Triple}
-use Rattle.csvw_opening.specs.OpeningTriples.{opening}
+use Rattle.csvw_triples.specs.OpeningTriples.{opening}
 use Rattle.csvw_engine_core.specs.declared.stop.Stop.{Stop}
 use Rattle.csvw_engine_core.specs.declared.stop.Stop.TheVariants as stop
 
--- Why a session does not start, and what its sink took by then: a front of what is told of the group.
-abbrev pub Refuses : {S : Type 0} → (S → List Triple → S → Type 0) → (S → Bool) → (S → ℕ) → Plan → Mode → S → S → Stop → Type 0
-Refuses gains is_open failed plan mode sink now stop.Memory = FrontOf gains sink (opening mode plan) now × IsAsReady is_open failed sink now
-Refuses gains is_open failed plan mode sink now stop.Write = FrontOf gains sink (opening mode plan) now × (is_open now ≡ false)
+-- Why a session does not start, and what its sink took by then: a front of the triples on the group. Each of them was taken
+-- whole, and where the device failed, it failed within the next one.
+abbrev pub Refuses : {S : Type 0} → (S → List Triple → S → Type 0) → (S → Triple → S → Type 0) → (S → Bool) → (S → ℕ) → Plan → Mode → S → S → Stop → Type 0
+Refuses gains cuts is_open failed plan mode sink now stop.Memory = FrontOf gains cuts sink (opening mode plan) now ⊥ × IsAsReady is_open failed sink now
+Refuses gains cuts is_open failed plan mode sink now stop.Write = FrontOf gains cuts sink (opening mode plan) now (is_open sink ≡ true) × (is_open now ≡ false)
     × (is_open sink ≡ true → failed sink < 2 ^ 64 - 1 → failed now ≡ failed sink + 1)
-Refuses gains is_open failed plan mode sink now other = ⊥
+Refuses gains cuts is_open failed plan mode sink now other = ⊥

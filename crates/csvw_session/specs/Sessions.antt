@@ -12,7 +12,7 @@ use Rattle.csvw_keys.specs.KeyRules.{rules_of}
 use Rattle.csvw_triples_core.specs.Taking.{IsAsReady}
 use Rattle.csvw_triples_core.specs.declared.mode.Mode.{Mode}
 use Rattle.csvw_triples_core.specs.declared.term.Triple.{Triple}
-use Rattle.csvw_opening.specs.OpeningTriples.{opening}
+use Rattle.csvw_triples.specs.OpeningTriples.{opening}
 use Rattle.csvw_engine_core.specs.Annotated.{IsTable}
 use Rattle.csvw_engine_core.specs.Faults.{table_faults}
 use Rattle.csvw_engine_core.specs.Tables.{TableHolds, HoldsWhole, IsAtRest, IsStopped, IsRefused, IsRefusedAtEnd, GivesSome, GivesFront}
@@ -119,10 +119,12 @@ abbrev pub IsRefusedHere : TablePlan → Option Columns → List ℕ → Bool �
 IsRefusedHere plan columns bytes ended given row stop =
     IsRefused plan columns bytes ended given row stop ⊎ ((ended ≡ true) × IsRefusedAtEnd plan columns bytes given row stop)
 
--- what the sink gained in a call that was cut short: triples of some of the rows more of the table, and a part of the next row's
-abbrev pub GainsSome : {S : Type 0} → (S → List Triple → S → Type 0) → Session S → Session S → ℕ → List Event → (ℕ → List Row) → Type 0
-GainsSome gains old new t events rows =
-    AtTable old t rows (λ i plan given. GivesSome gains plan old.mode (text_of events t) (ended_in events t) given (rows i) old.sink new.sink)
+-- what the sink gained in a call that was cut short: a front of the triples of some of the rows more of the table, each of them
+-- whole, and where its device failed, the triple after these that was cut
+abbrev pub GainsSome : {S : Type 0} → (S → List Triple → S → Type 0) → (S → Triple → S → Type 0) → Session S → Session S → ℕ → List Event
+    → (ℕ → List Row) → Type 0 → Type 0
+GainsSome gains cuts old new t events rows Fails =
+    AtTable old t rows (λ i plan given. GivesSome gains cuts plan old.mode (text_of events t) (ended_in events t) given (rows i) old.sink new.sink Fails)
 
 -- what it gained in a call that stopped in the text: the triples of all rows in front of the stop
 abbrev pub GainsFront : {S : Type 0} → (S → List Triple → S → Type 0) → Session S → Session S → ℕ → List Event → (ℕ → List Row)
@@ -131,29 +133,31 @@ GainsFront gains old new t events rows Why =
     AtTable old t rows (λ i plan given. GivesFront gains plan old.mode (text_of events t) (ended_in events t) given (rows i) old.sink new.sink
     (λ columns all. Why plan columns all))
 
--- An event of table t was taken, or why not. A stop in the text and want of memory leave the session failed.
-abbrev pub Takes : {S : Type 0} → (S → List Triple → S → Type 0) → (S → Bool) → (S → ℕ) → Session S → Session S → ℕ → Event → Result Unit Stop → Type 0
-Takes {S} gains is_open failed old new t event (Ok u) =
+-- An event of table t was taken, or why not. A stop in the text and want of memory leave the session failed, and a failed write
+-- leaves its sink closed.
+abbrev pub Takes : {S : Type 0} → (S → List Triple → S → Type 0) → (S → Triple → S → Type 0) → (S → Bool) → (S → ℕ) → Session S → Session S → ℕ → Event
+    → Result Unit Stop → Type 0
+Takes {S} gains cuts is_open failed old new t event (Ok u) =
     (start : S) (events : List Event) → Stands gains is_open failed start events old → Stands gains is_open failed start (events ++ event ∷ []) new
-Takes gains is_open failed old new t event (Err stop.Failed) = (new ≡ old) × (old.state ≡ state.Failed)
-Takes gains is_open failed old new t event (Err stop.UnknownTable) = (new ≡ old) × (old.state ≢ state.Failed) × HasNoTable old t
-Takes {S} gains is_open failed old new t event (Err stop.AfterEnd) = (new ≡ old) × (old.state ≢ state.Failed)
+Takes gains cuts is_open failed old new t event (Err stop.Failed) = (new ≡ old) × (old.state ≡ state.Failed)
+Takes gains cuts is_open failed old new t event (Err stop.UnknownTable) = (new ≡ old) × (old.state ≢ state.Failed) × HasNoTable old t
+Takes {S} gains cuts is_open failed old new t event (Err stop.AfterEnd) = (new ≡ old) × (old.state ≢ state.Failed)
     × ((start : S) (events : List Event) → Stands gains is_open failed start events old → ended_in events t ≡ true)
-Takes {S} gains is_open failed old new t event (Err stop.Memory) = (new.state ≡ state.Failed)
+Takes {S} gains cuts is_open failed old new t event (Err stop.Memory) = (new.state ≡ state.Failed)
     × ((start : S) (events : List Event) (h : Stands gains is_open failed start events old)
-    → GainsSome gains old new t (events ++ event ∷ []) h.rows × IsAsReady is_open failed old.sink new.sink)
-Takes {S} gains is_open failed old new t event (Err stop.Write) = (new.state ≡ state.Failed)
+    → GainsSome gains cuts old new t (events ++ event ∷ []) h.rows ⊥ × IsAsReady is_open failed old.sink new.sink)
+Takes {S} gains cuts is_open failed old new t event (Err stop.Write) = (new.state ≡ state.Failed)
     × ((start : S) (events : List Event) (h : Stands gains is_open failed start events old)
-    → GainsSome gains old new t (events ++ event ∷ []) h.rows
-    × (is_open old.sink ≡ true → failed old.sink < 2 ^ 64 - 1 → failed new.sink ≡ failed old.sink + 1))
-Takes {S} gains is_open failed old new t event (Err (stop.Rows u row reason)) = (new.state ≡ state.Failed) × (u ≡ t)
+    → GainsSome gains cuts old new t (events ++ event ∷ []) h.rows (is_open old.sink ≡ true)
+    × (is_open new.sink ≡ false) × (is_open old.sink ≡ true → failed old.sink < 2 ^ 64 - 1 → failed new.sink ≡ failed old.sink + 1))
+Takes {S} gains cuts is_open failed old new t event (Err (stop.Rows u row reason)) = (new.state ≡ state.Failed) × (u ≡ t)
     × ((start : S) (events : List Event) (h : Stands gains is_open failed start events old)
     → GainsFront gains old new t (events ++ event ∷ []) h.rows
     (λ plan columns all. IsStopped plan (text_of (events ++ event ∷ []) t) (ended_in (events ++ event ∷ []) t) all row reason)
     × IsAsReady is_open failed old.sink new.sink)
-Takes {S} gains is_open failed old new t event (Err (stop.Table u row reason)) = (new.state ≡ state.Failed) × (u ≡ t)
+Takes {S} gains cuts is_open failed old new t event (Err (stop.Table u row reason)) = (new.state ≡ state.Failed) × (u ≡ t)
     × ((start : S) (events : List Event) (h : Stands gains is_open failed start events old)
     → GainsFront gains old new t (events ++ event ∷ []) h.rows
     (λ plan columns all. IsRefusedHere plan columns (text_of (events ++ event ∷ []) t) (ended_in (events ++ event ∷ []) t) all row reason)
     × IsAsReady is_open failed old.sink new.sink)
-Takes gains is_open failed old new t event (Err other) = ⊥
+Takes gains cuts is_open failed old new t event (Err other) = ⊥

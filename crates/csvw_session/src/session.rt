@@ -2,7 +2,7 @@
 ghost use Rattle.std.specs.Prelude.{◌≡◌, ◌↔◌, ◌⊎◌, ◌<◌, ◌+◌, length, ◌++◌, IsTrue, IfOk, IfErr, OnOk, MatchOption};
 ghost use Rattle.std.specs.List.{list_all};
 ghost use Rattle.csvw_triples_core.specs.Taking.{IsAsReady};
-ghost use Rattle.csvw_opening.specs.OpeningTriples.{opening};
+ghost use Rattle.csvw_triples.specs.OpeningTriples.{opening};
 ghost use Rattle.csvw_engine_core.specs.Tables.{is_ended};
 ghost use Rattle.csvw_session.specs.Faults.{all_faults};
 ghost use Rattle.csvw_columns.specs.Ready.{AreReady};
@@ -14,10 +14,10 @@ use crate::state::State;
 use csvw_columns::{Plan, TablePlan};
 use csvw_engine_core::{Stop, Table, end_table, feed_table};
 use csvw_keys::KeyBook;
-use csvw_opening::emit_opening;
 use csvw_report::{Outcome, sorted};
 use csvw_text::{Fault, Seq};
-use csvw_triples::{Mode, TripleSink};
+use csvw_triples::emit_opening;
+use csvw_triples_rows::{Mode, TripleSink};
 use std::alloc::{AllocError, Global};
 
 /// Tables that come in pieces, and a sink for their triples.
@@ -39,7 +39,7 @@ pub struct Session<S> {
 pub struct Refused<S> {
     /// Why.
     pub stop: Stop,
-    /// The sink that was handed in, which may have taken a part of the opening.
+    /// The sink that was handed in, which may have taken a front of the opening.
     pub sink: S,
 }
 
@@ -66,7 +66,7 @@ fn open_tables<S: TripleSink>(
     ensures tables { IfOk result (λ tables. AreNew mode plan.now.tables tables.items) }
     ensures opened { IfOk result (λ tables. S.gains sink.old (opening mode plan.now) sink.new) }
     ensures ready { IfOk result (λ tables. IsAsReady S.is_open S.failed sink.old sink.new) }
-    ensures refused { IfErr result (λ stop. Refuses S.gains S.is_open S.failed plan.now mode sink.old sink.new stop) }
+    ensures refused { IfErr result (λ stop. Refuses S.gains S.cuts S.is_open S.failed plan.now mode sink.old sink.new stop) }
 {
     let Ok(tables) = new_tables(alloc, plan.tables(), mode) else {
         return Err(Stop::Memory);
@@ -121,12 +121,12 @@ impl<S: TripleSink> Session<S> {
 
     /// A session over the tables of a plan as `Plan::build` gives it, of whose texts nothing was read. In mode `Standard` its sink
     /// takes what is told of the group and its tables (csv2rdf, section 4.2). `Refused` with `Memory` where there is none and with
-    /// `Write` where the sink's device failed, and with the sink, which took a front of that, of whose last triple only a part
-    /// after `Write`.
+    /// `Write` where the sink's device failed. It holds the sink, which took a front of these triples, each of them whole. After
+    /// `Write` the sink is closed, and its device may have failed within the next triple.
     pub fn start(alloc: Global, plan: Plan, mode: Mode, sink: S) -> Result<Session<S>, Refused<S>>
         requires { AreReady plan.tables }
         ensures stands { IfOk result (λ s. Starts S.gains S.is_open S.failed plan mode sink s) }
-        ensures refused { IfErr result (λ r. Refuses S.gains S.is_open S.failed plan mode sink r.sink r.stop) }
+        ensures refused { IfErr result (λ r. Refuses S.gains S.cuts S.is_open S.failed plan mode sink r.sink r.stop) }
     {
         let Ok(keys) = KeyBook::new(alloc, &plan) else {
             return Err(Refused {
@@ -185,7 +185,7 @@ impl<S: TripleSink> Session<S> {
     /// nothing. `Rows` or `Table` behind all rows in front of one that can't be read or annotated, `Write` where the sink's device
     /// failed, and `Memory`: these stop the session.
     pub fn feed(&mut self, t: u32, piece: &[u8]) -> Result<(), Stop>
-        ensures takes { Takes S.gains S.is_open S.failed self.old self.new t (Feed t piece.now) result }
+        ensures takes { Takes S.gains S.cuts S.is_open S.failed self.old self.new t (Feed t piece.now) result }
         ensures order { IsRefusedInOrder self.old t result }
         ensures same { (self.new.plan ≡ self.old.plan) × (self.new.mode ≡ self.old.mode) }
     {
@@ -205,7 +205,7 @@ impl<S: TripleSink> Session<S> {
 
     /// Takes the end of table `t`, numbered from 1, and gives each row that is left. It answers as `feed` does.
     pub fn end(&mut self, t: u32) -> Result<(), Stop>
-        ensures takes { Takes S.gains S.is_open S.failed self.old self.new t (End t) result }
+        ensures takes { Takes S.gains S.cuts S.is_open S.failed self.old self.new t (End t) result }
         ensures order { IsRefusedInOrder self.old t result }
         ensures same { (self.new.plan ≡ self.old.plan) × (self.new.mode ≡ self.old.mode) }
     {

@@ -31,6 +31,8 @@ impl TripleSink for Counter {
 
     ghost gains = { λ old ts new. new.count ≡ old.count + length ts };
 
+    ghost cuts = { λ _ _ _. ⊥ };
+
     ghost is_open = { λ _. true };
 
     ghost failed = { λ _. 0 };
