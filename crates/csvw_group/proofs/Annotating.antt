@@ -10,10 +10,10 @@ use Rattle.csvw_columns.specs.declared.plan.TablePlan.{TablePlan}
 use Rattle.csvw_annotate.specs.declared.row.Row.{Row}
 use Rattle.csvw_triples_core.specs.declared.mode.Mode.{Mode}
 use Rattle.csvw_triples_core.specs.declared.term.Triple.{Triple}
-use Rattle.csvw_triples.specs.ModeGraph.{TableGraph}
-use Rattle.csvw_triples.specs.ModeTriples.{row_triples}
-use Rattle.csvw_opening.specs.Opening.{Opening}
-use Rattle.csvw_opening.specs.OpeningTriples.{opening}
+use Rattle.csvw_triples_rows.specs.ModeGraph.{TableGraph}
+use Rattle.csvw_triples_rows.specs.ModeTriples.{row_triples}
+use Rattle.csvw_triples.specs.Opening.{Opening}
+use Rattle.csvw_triples.specs.OpeningTriples.{opening}
 use Rattle.csvw_engine_core.specs.Tables.{table_triples, columns_of, is_ended}
 use Rattle.csvw_engine_core.specs.declared.table.Table.{Table as State}
 use Rattle.csvw_session.specs.Events.{Event, ended_in}

@@ -74,7 +74,8 @@ lawful_at [] i plan ready e = cc
 lawful_at (p ∷ plans) zero plan ready e = let same : p ≡ plan = cc in subst (λ (z : TablePlan). IsLawful z.dialect) same ready.0.dialect
 lawful_at (p ∷ plans) (suc i) plan ready e = lawful_at plans i plan ready.1 e
 
-module _ (accepted : GoodTextsAreAccepted) {S : Type 0} (gains : S → List Triple → S → Type 0) (is_open : S → Bool) (failed : S → ℕ)
+module _ (accepted : GoodTextsAreAccepted) {S : Type 0} (gains : S → List Triple → S → Type 0) (cuts : S → Triple → S → Type 0)
+    (is_open : S → Bool) (failed : S → ℕ)
     (start : S) (events more : List Event) (event : Event) (old new : Session S) (tables : List Table) (h : Stands gains is_open failed start events old)
     (order : AreInOrder (length old.plan.tables) (events ++ event ∷ more)) (are : AreAnnotated old.plan.tables (texts_of (events ++ event ∷ more)) tables) where
   abbrev t : ℕ
@@ -106,7 +107,7 @@ module _ (accepted : GoodTextsAreAccepted) {S : Type 0} (gains : S → List Trip
       let low = known.0 in let high = known.1 in let many = old.many in
       elim none [ inl zero_is ↦ omega (arith, low, zero_is) | inr past ↦ omega (arith, high, many, past) ]
 
-  pub taken_or_lacks : (answer : Result Unit Stop) → Takes gains is_open failed old new t event answer → IsTakenOrLacks answer
+  pub taken_or_lacks : (answer : Result Unit Stop) → Takes gains cuts is_open failed old new t event answer → IsTakenOrLacks answer
   taken_or_lacks (Ok u) k = tt
   taken_or_lacks (Err stop.Memory) k = inl refl
   taken_or_lacks (Err stop.Write) k = inr refl
@@ -135,15 +136,15 @@ was_ended plan mode table bytes true rows told e = told.stands.ended
 was_ended plan mode table bytes false rows told e = cc
 
 -- what the law says of one call
-abbrev pub GoodEventsAreTaken : {S : Type 0} → (S → List Triple → S → Type 0) → (S → Bool) → (S → ℕ) → Type 0
-GoodEventsAreTaken {S} gains is_open failed =
+abbrev pub GoodEventsAreTaken : {S : Type 0} → (S → List Triple → S → Type 0) → (S → Triple → S → Type 0) → (S → Bool) → (S → ℕ) → Type 0
+GoodEventsAreTaken {S} gains cuts is_open failed =
     (start : S) (events more : List Event) (event : Event) (old new : Session S) (tables : List Table) (answer : Result Unit Stop)
     → Stands gains is_open failed start events old → AreInOrder (length old.plan.tables) (events ++ event ∷ more)
     → AreAnnotated old.plan.tables (texts_of (events ++ event ∷ more)) tables
-    → Takes gains is_open failed old new (table_of event) event answer → IsTakenOrLacks answer
+    → Takes gains cuts is_open failed old new (table_of event) event answer → IsTakenOrLacks answer
 
-module _ {S : Type 0} (gains : S → List Triple → S → Type 0) (is_open : S → Bool) (failed : S → ℕ)
-    (law : GoodEventsAreTaken gains is_open failed) (start : S) where
+module _ {S : Type 0} (gains : S → List Triple → S → Type 0) (cuts : S → Triple → S → Type 0) (is_open : S → Bool) (failed : S → ℕ)
+    (law : GoodEventsAreTaken gains cuts is_open failed) (start : S) where
   -- each call answered Ok, and the session stands for all events
   record IsThere (events : List Event) (answers : List (Result Unit Stop)) (s last : Session S) : Type 0 where
     pub taken : AllTaken answers
@@ -173,7 +174,7 @@ module _ {S : Type 0} (gains : S → List Triple → S → Type 0) (is_open : S 
   course : (done events : List Event) (s last : Session S) (answers : List (Result Unit Stop)) (tables : List Table)
       → Stands gains is_open failed start done s → AreInOrder (length s.plan.tables) (done ++ events)
       → AreAnnotated s.plan.tables (texts_of (done ++ events)) tables
-      → Goes gains is_open failed s events answers last → LacksFirst answers ⊎ IsThere (done ++ events) answers s last
+      → Goes gains cuts is_open failed s events answers last → LacksFirst answers ⊎ IsThere (done ++ events) answers s last
   course done [] s last answers tables h order are k = inr (record {
     taken = λ answer c. absurd (none_in answer (subst (λ l. Contains l answer) k.0 c));
     stands = subst (Stands gains is_open failed start (done ++ [])) (sym k.1) (subst (λ es. Stands gains is_open failed start es s) (sym (append-nil done)) h);
@@ -226,7 +227,7 @@ module _ {S : Type 0} (gains : S → List Triple → S → Type 0) (is_open : S 
   finishes events s finished (Err other) h ended k = absurd k
 
   pub ends_well : (s last : Session S) (events : List Event) (answers : List (Result Unit Stop)) (tables : List Table) → Stands gains is_open failed start [] s
-      → AreGood (length s.plan.tables) events → AreAnnotated s.plan.tables (texts_of events) tables → Goes gains is_open failed s events answers last
+      → AreGood (length s.plan.tables) events → AreAnnotated s.plan.tables (texts_of events) tables → Goes gains cuts is_open failed s events answers last
       → LacksFirst answers ⊎ EndsWell gains is_open failed start events answers last
   ends_well s last events answers tables h good are k = elim (course [] events s last answers tables h good.in_order are k) [
     | inl lacks ↦ inl lacks

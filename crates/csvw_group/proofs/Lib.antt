@@ -11,3 +11,4 @@ mod OneTable
 mod Parts
 mod Splitting
 mod Stopping
+mod Taking

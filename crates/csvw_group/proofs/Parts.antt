@@ -18,9 +18,9 @@ use Rattle.csvw_annotate.specs.declared.row.Row.{Row}
 use Rattle.csvw_triples_core.specs.declared.mode.Mode.{Mode}
 use Rattle.csvw_triples_core.specs.declared.mode.Mode.TheVariants as mode
 use Rattle.csvw_triples_core.specs.declared.term.Triple.{Triple}
-use Rattle.csvw_triples.specs.ModeGraph.{TableGraph}
-use Rattle.csvw_opening.specs.Opening.{Opening}
-use Rattle.csvw_opening.specs.OpeningTriples.{opening}
+use Rattle.csvw_triples_rows.specs.ModeGraph.{TableGraph}
+use Rattle.csvw_triples.specs.Opening.{Opening}
+use Rattle.csvw_triples.specs.OpeningTriples.{opening}
 use Rattle.csvw_engine_core.specs.Tables.{IsAtRest, TableHolds, max_rows, table_triples, columns_of}
 use Rattle.csvw_engine_core.specs.declared.table.Table.{Table as State}
 use Rattle.csvw_session.specs.Events.{Event, text_of, ended_in}
@@ -41,7 +41,7 @@ abbrev pub part_at : List State → (ℕ → List Row) → ℕ → TablePart
 part_at ts rows i = record { columns = columns_at (slice_get ts i); rows = rows i }
 
 -- no text has no rows
-no_content : content [] ≡ []
+pub no_content : content [] ≡ []
 no_content = ap (λ cs. without_mark cs) (ap (λ (bs : List ℕ). chars bs) (take-nil (utf8_valid_len [])) ∙ chars-nil)
 
 nothing_behind : (text after : List ℕ) → [] ≡ text ++ after → after ≡ []
@@ -72,7 +72,7 @@ nothing d max = record {
   all = refl;
 }
 
-all_given : NothingGiven → (plan : TablePlan) (m : Mode) (t : State) (text : List ℕ) (given : List Given) (rows : List Row)
+pub all_given : NothingGiven → (plan : TablePlan) (m : Mode) (t : State) (text : List ℕ) (given : List Given) (rows : List Row)
     → TableHolds plan m t text false given rows
     → (text ≡ []) ⊎ IsAtRest plan text false given → HasGiven plan.dialect max_rows text false given
 all_given law plan m t text given rows h (inr rest) = rest.all

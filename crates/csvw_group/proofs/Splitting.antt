@@ -6,8 +6,8 @@ use Rattle.csvw_columns_core.specs.declared.columns.Columns.{Columns}
 use Rattle.csvw_annotate.specs.declared.row.Row.{Row}
 use Rattle.csvw_triples_core.specs.declared.mode.Mode.{Mode}
 use Rattle.csvw_triples_core.specs.declared.term.Triple.{Triple}
-use Rattle.csvw_triples.specs.ModeGraph.{RowGraph}
-use Rattle.csvw_triples.specs.ModeTriples.{row_triples}
+use Rattle.csvw_triples_rows.specs.ModeGraph.{RowGraph}
+use Rattle.csvw_triples_rows.specs.ModeTriples.{row_triples}
 use Rattle.csvw_engine_core.specs.Tables.{table_triples}
 use Rattle.csvw_group.specs.Part.{FirstRowGraph}
 

@@ -1,5 +1,5 @@
 -- What a session took by a stop.
-use Rattle.std.proofs.Common.{◌≡◌, ◌≢◌, ◌⊎◌, ◌+◌, ℕ, Bool, List, [], ◌∷◌, ◌++◌, refl, sym, ap, ◌∙◌, subst, arith, inl, inr, append-nil, append_assoc}
+use Rattle.std.proofs.Common.{◌≡◌, ◌≢◌, ◌⊎◌, ◌+◌, ℕ, Bool, true, List, [], ◌∷◌, ◌++◌, refl, sym, ap, ◌∙◌, subst, arith, inl, inr, append-nil, append_assoc}
 use Rattle.std.proofs.Common.{Contains, Option, Some, None, Err}
 use Rattle.std.specs.Prelude.{slice_get}
 use Rattle.std.proofs.lemmas.Bool.Decides.{eqb_tells}
@@ -14,9 +14,9 @@ use Rattle.csvw_annotate.specs.declared.row.Row.{Row}
 use Rattle.csvw_triples_core.specs.Taking.{IsAsReady}
 use Rattle.csvw_triples_core.specs.declared.mode.Mode.{Mode}
 use Rattle.csvw_triples_core.specs.declared.term.Triple.{Triple}
-use Rattle.csvw_triples.specs.ModeGraph.{TableGraph}
-use Rattle.csvw_triples.specs.ModeTriples.{row_triples}
-use Rattle.csvw_opening.specs.OpeningTriples.{opening}
+use Rattle.csvw_triples_rows.specs.ModeGraph.{TableGraph}
+use Rattle.csvw_triples_rows.specs.ModeTriples.{row_triples}
+use Rattle.csvw_triples.specs.OpeningTriples.{opening}
 use Rattle.csvw_engine_core.specs.Annotated.{IsTable}
 use Rattle.csvw_engine_core.specs.Tables.{table_triples, columns_of, header_faults_of}
 use Rattle.csvw_engine_core.specs.declared.table.Table.{Table as State}
@@ -69,7 +69,7 @@ end_stays : TextsGrow → (events : List Event) (event : Event) (u : ℕ) → u 
 end_stays grow events (Feed t piece) u ne = grow.fed_ended events t u piece
 end_stays grow events (End t) u ne = grow.end_other events t u ne
 
-module _ {S : Type 0} (gains : S → List Triple → S → Type 0) (is_open : S → Bool) (failed : S → ℕ)
+module _ {S : Type 0} (gains : S → List Triple → S → Type 0) (cuts : S → Triple → S → Type 0) (is_open : S → Bool) (failed : S → ℕ)
     (goes_on : (a b c : S) (xs ys : List Triple) → gains a xs b → gains b ys c → gains a (xs ++ ys) c)
     (openings : OpeningIsGraph) (rows_law : RowsAreGraph) (row_law : RowIsGraph) (nothing_given : NothingGiven) (grow : TextsGrow)
     (sink start : S) (events : List Event) (event : Event) (old : Session S) (opened : gains sink (opening old.mode old.plan) start)
@@ -194,7 +194,7 @@ module _ {S : Type 0} (gains : S → List Triple → S → Type 0) (is_open : S 
 
   module _ (new : Session S) (t : ℕ) (is_of : table_of event ≡ t) where
     -- a call that was cut short
-    module _ (at : GainsSome gains old new t later h.rows) where
+    module _ (Fails Before : Type 0) (so : Fails → Before) (at : GainsSome gains cuts old new t later h.rows Before) where
       number : at.i + 1 ≡ table_of event
       number = at.number ∙ sym is_of
 
@@ -251,14 +251,20 @@ module _ {S : Type 0} (gains : S → List Triple → S → Type 0) (is_open : S 
             next = λ x xs f. subst (λ (p : TablePart). FirstRowGraph old.mode at.plan.number p.columns s.behind x) (sym here) (s.next x xs f);
           }
 
-      took_some : TookSome gains is_open failed old.mode old.plan later sink new.sink
+      took_some : TookSome gains cuts is_open failed old.mode old.plan later sink new.sink Fails
       took_some = record {
         taken = before.taken;
         middle = old.sink;
         gained = before.gained;
         ready = (h.ready.0 ∙ ready.0, h.ready.1 ∙ ready.1);
         more = table_triples old.mode at.plan.number at.leaves.columns at.leaves.more;
-        took = at.leaves.took;
+        took = record {
+          front = at.leaves.took.front;
+          rest = at.leaves.took.rest;
+          parts = at.leaves.took.parts;
+          gained = at.leaves.took.gained;
+          cut = λ fails. at.leaves.took.cut (so fails);
+        };
         cut = λ front rest e. inr (cut_in_table front rest e);
       }
 
@@ -320,10 +326,11 @@ module _ {S : Type 0} (gains : S → List Triple → S → Type 0) (is_open : S 
         };
       }
 
-    pub took_by : (reason : Stop) → Takes gains is_open failed old new t event (Err reason)
-        → TookBy gains is_open failed old.mode old.plan later sink new.sink reason
-    took_by stop.Memory k = took_some (k.1 start events h).0
-    took_by stop.Write k = took_some (k.1 start events h).0
+    pub took_by : (reason : Stop) → Takes gains cuts is_open failed old new t event (Err reason)
+        → TookBy gains cuts is_open failed old.mode old.plan later sink new.sink reason
+    took_by stop.Memory k = took_some ⊥ ⊥ (λ fails. fails) (k.1 start events h).0
+    took_by stop.Write k =
+        took_some (is_open sink ≡ true) (is_open old.sink ≡ true) (λ begun. h.ready.0 ∙ (ready.0 ∙ begun)) (k.1 start events h).0
     took_by (stop.Rows u row reason) k =
         took_front _ (k.2 start events h).0
         (λ plan columns given why rows faults table. record { given = given; faults = faults; table = inl table; all = inl why.all })

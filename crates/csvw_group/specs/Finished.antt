@@ -1,7 +1,7 @@
 -- A session each of whose tables was ended, and what its outcome tells.
 use Rattle.std.specs.Prelude.{ℕ, Bool, List}
 use Rattle.csvw_triples_core.specs.declared.term.Triple.{Triple}
-use Rattle.csvw_opening.specs.OpeningTriples.{opening}
+use Rattle.csvw_triples.specs.OpeningTriples.{opening}
 use Rattle.csvw_report.specs.declared.outcome.Outcome.{Outcome}
 use Rattle.csvw_session.specs.Events.{Event}
 use Rattle.csvw_session.specs.Finishing.{HasOutcome}

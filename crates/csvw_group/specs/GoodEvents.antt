@@ -27,17 +27,18 @@ IsTakenOrLacks (Ok u) = Unit {0}
 IsTakenOrLacks (Err reason) = Lacks reason
 
 -- what a call of `feed` or `end` says of its event
-pub record Calls {S : Type 0} (gains : S → List Triple → S → Type 0) (is_open : S → Bool) (failed : S → ℕ) (old new : Session S) (event : Event)
-    (answer : Result Unit Stop) : Type 0 where
-  pub takes : Takes gains is_open failed old new (table_of event) event answer
+pub record Calls {S : Type 0} (gains : S → List Triple → S → Type 0) (cuts : S → Triple → S → Type 0) (is_open : S → Bool) (failed : S → ℕ)
+    (old new : Session S) (event : Event) (answer : Result Unit Stop) : Type 0 where
+  pub takes : Takes gains cuts is_open failed old new (table_of event) event answer
   pub plan_is : new.plan ≡ old.plan
 
 -- calls for these events, one after the other, with these answers, which leave the session so
-abbrev pub Goes : {S : Type 0} → (S → List Triple → S → Type 0) → (S → Bool) → (S → ℕ) → Session S → List Event → List (Result Unit Stop) → Session S → Type 0
-Goes gains is_open failed s [] answers last = (answers ≡ []) × (last ≡ s)
-Goes gains is_open failed s (event ∷ events) [] last = ⊥
-Goes {S} gains is_open failed s (event ∷ events) (answer ∷ answers) last =
-    (next : Session S) × Calls gains is_open failed s next event answer × Goes gains is_open failed next events answers last
+abbrev pub Goes : {S : Type 0} → (S → List Triple → S → Type 0) → (S → Triple → S → Type 0) → (S → Bool) → (S → ℕ) → Session S → List Event
+    → List (Result Unit Stop) → Session S → Type 0
+Goes gains cuts is_open failed s [] answers last = (answers ≡ []) × (last ≡ s)
+Goes gains cuts is_open failed s (event ∷ events) [] last = ⊥
+Goes {S} gains cuts is_open failed s (event ∷ events) (answer ∷ answers) last =
+    (next : Session S) × Calls gains cuts is_open failed s next event answer × Goes gains cuts is_open failed next events answers last
 
 -- each call answered Ok
 abbrev pub AllTaken : List (Result Unit Stop) → Type 0

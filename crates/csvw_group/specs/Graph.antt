@@ -4,8 +4,8 @@ use Rattle.csvw_columns.specs.declared.plan.Plan.{Plan}
 use Rattle.csvw_columns.specs.declared.plan.TablePlan.{TablePlan}
 use Rattle.csvw_triples_core.specs.declared.mode.Mode.{Mode}
 use Rattle.csvw_triples_core.specs.declared.term.Triple.{Triple}
-use Rattle.csvw_triples.specs.ModeGraph.{TableGraph}
-use Rattle.csvw_opening.specs.Opening.{Opening}
+use Rattle.csvw_triples_rows.specs.ModeGraph.{TableGraph}
+use Rattle.csvw_triples.specs.Opening.{Opening}
 use Rattle.csvw_group.specs.Annotated.{Table}
 
 -- the triples of the rows of all its tables, by the mode

@@ -8,4 +8,5 @@ pub mod Graph
 pub mod OneTable
 pub mod Part
 pub mod Stopped
+pub mod Taken
 pub mod Violations

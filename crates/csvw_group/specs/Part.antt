@@ -12,8 +12,8 @@ use Rattle.csvw_columns_core.specs.declared.table_stop.TableStop.{TableStop}
 use Rattle.csvw_annotate.specs.declared.row.Row.{Row}
 use Rattle.csvw_triples_core.specs.declared.mode.Mode.{Mode}
 use Rattle.csvw_triples_core.specs.declared.term.Triple.{Triple}
-use Rattle.csvw_triples.specs.ModeGraph.{RowGraph, TableGraph}
-use Rattle.csvw_opening.specs.Opening.{Opening}
+use Rattle.csvw_triples_rows.specs.ModeGraph.{RowGraph, TableGraph}
+use Rattle.csvw_triples.specs.Opening.{Opening}
 use Rattle.csvw_engine_core.specs.Annotated.{IsTable, IsWholeTable}
 use Rattle.csvw_engine_core.specs.Tables.{max_rows}
 use Rattle.csvw_session.specs.Events.{Event, table_of, text_of, ended_in}

@@ -3,7 +3,7 @@ ghost use Rattle.std.specs.Prelude.{◌≡◌, ◌⊎◌, ◌++◌, ◌∷◌, �
 ghost use Rattle.std.specs.List.{list_all};
 ghost use Rattle.csvw_columns.specs.declared.plan.Plan.{Plan as ThePlan};
 ghost use Rattle.csvw_engine_core.specs.Tables.{is_ended};
-ghost use Rattle.csvw_opening.specs.OpeningTriples.{opening};
+ghost use Rattle.csvw_triples.specs.OpeningTriples.{opening};
 ghost use Rattle.csvw_session.specs.Events.{Event, table_of};
 ghost use Rattle.csvw_session.specs.Order.{AreInOrder};
 ghost use Rattle.csvw_session.specs.Sessions.{Stands, Starts, Takes};
@@ -20,16 +20,17 @@ ghost use Rattle.csvw_group.specs.GoodTexts.{GoodTextsAreAccepted};
 ghost use Rattle.csvw_group.specs.AtEnd.{Annotates, texts_of};
 ghost use Rattle.csvw_group.specs.OneTable.{HaveOneAnnotation};
 ghost use Rattle.csvw_group.specs.Stopped.{TookAll, TookBy};
+ghost use Rattle.csvw_group.specs.Taken.{AreTaken};
 
 use csvw_columns::laws::columns_of_ready_tables_are_sound;
 use csvw_datatype::{one_code, one_value, value_or_code};
-use csvw_opening::opening_is_the_graphs;
 use csvw_records::laws::{files_have_no_stop, first_begin, first_stay, have_one_list};
 use csvw_report::laws::sorts_to_one;
 use csvw_rows::laws::nothing_given;
 use csvw_session::laws::texts_grow;
-use csvw_triples::{row_triples_are_row_graph, rows_triples_are_table_graph};
+use csvw_triples::opening_is_the_graphs;
 use csvw_triples_core::TripleSink;
+use csvw_triples_rows::{row_triples_are_row_graph, rows_triples_are_table_graph};
 
 /// Where each table of a session was ended, the texts of its events are annotated tables; its sink, which took what is told of
 /// the group in front of them, took their graph, and its faults are their violations.
@@ -52,14 +53,25 @@ pub fn sessions_give_all<S: TripleSink>()
     nothing_given();
 }
 
+/// Of the events that a session took, no stop is in the text of a table so far, and no table refuses a row of its text: the rows are
+/// tables so far, and whole tables where the text has ended.
+pub fn taken_events_are_tables<S: TripleSink>()
+    ensures { (start : S) (events : List Event) (s : TheSession S) → Stands S.gains S.is_open S.failed start events s
+        → AreTaken s.plan.tables events }
+{
+    nothing_given();
+    files_have_no_stop();
+}
+
 /// What the sink of a session took by a stop: after `Rows` and `Table` the graph with all rows in front of the stop; after `Memory`
 /// and `Write` that with all rows of each other table, and of the table of the event with some, at least those that it had before,
-/// and some triples of its next row.
+/// and some triples of its next row. These are whole triples. After `Write` the device failed within the next one, where the sink
+/// was open.
 pub fn stopped_sessions_give_parts<S: TripleSink>()
     ensures { (sink start : S) (events : List Event) (event : Event) (old new : TheSession S) (t : ℕ) (reason : Stop)
         → S.gains sink (opening old.mode old.plan) start → IsAsReady S.is_open S.failed sink start → Stands S.gains S.is_open S.failed start events old
-        → table_of event ≡ t → Takes S.gains S.is_open S.failed old new t event (Err reason)
-        → TookBy S.gains S.is_open S.failed old.mode old.plan (events ++ event ∷ []) sink new.sink reason }
+        → table_of event ≡ t → Takes S.gains S.cuts S.is_open S.failed old new t event (Err reason)
+        → TookBy S.gains S.cuts S.is_open S.failed old.mode old.plan (events ++ event ∷ []) sink new.sink reason }
 {
     opening_is_the_graphs();
     rows_triples_are_table_graph();
@@ -117,7 +129,7 @@ pub fn good_events_are_taken<S: TripleSink>()
     ensures { (start : S) (events more : List Event) (event : Event) (old new : TheSession S) (tables : List Table) (answer : Result Unit Stop)
         → Stands S.gains S.is_open S.failed start events old → AreInOrder (length old.plan.tables) (events ++ event ∷ more)
         → AreAnnotated old.plan.tables (texts_of (events ++ event ∷ more)) tables
-        → Takes S.gains S.is_open S.failed old new (table_of event) event answer → IsTakenOrLacks answer }
+        → Takes S.gains S.cuts S.is_open S.failed old new (table_of event) event answer → IsTakenOrLacks answer }
 {
     good_texts_are_accepted();
 }
@@ -129,7 +141,7 @@ pub fn good_sessions_finish<S: TripleSink>()
     ensures { (plan : ThePlan) (mode : TheMode) (sink : S) (s last : TheSession S) (events : List Event)
         (answers : List (Result Unit Stop)) (tables : List Table)
         → Starts S.gains S.is_open S.failed plan mode sink s → AreGood (length plan.tables) events → AreAnnotated plan.tables (texts_of events) tables
-        → Goes S.gains S.is_open S.failed s events answers last
+        → Goes S.gains S.cuts S.is_open S.failed s events answers last
         → LacksFirst answers ⊎ EndsWell S.gains S.is_open S.failed s.sink events answers last }
 {
     good_events_are_taken::<S>();

@@ -115,15 +115,17 @@ module _ (one : HaveOneList) (plan : TablePlan) (ready : IsReady plan) (text : L
   valid_table q =
       let both = quiet_parts table.header_faults (table_faults plan.number (Some table.columns) table.rows) q in
       record {
-        header = λ file is_file. subst IsHeaded (one plan.dialect max_rows text annotated.file file ready.dialect annotated.is_file is_file)
-            (given_header both.0);
+        file = annotated.file;
+        is_file = annotated.is_file;
+        header = given_header both.0;
         cells = sound_rows plan.number table.columns _ table.rows annotated.whole.has both.1;
       }
 
   pub table_quiet : IsValidTable plan text table → Quiet (table_violations plan table)
   table_quiet valid =
       quiet_join table.header_faults (table_faults plan.number (Some table.columns) table.rows)
-      (header_quiet (valid.header annotated.file annotated.is_file)) (quiet_rows plan.number table.columns table.rows valid.cells)
+      (header_quiet (subst IsHeaded (one plan.dialect max_rows text valid.file annotated.file ready.dialect valid.is_file annotated.is_file) valid.header))
+      (quiet_rows plan.number table.columns table.rows valid.cells)
 
 -- what holds of the table of each plan, at each place from 0
 abbrev EachTable : (ℕ → TablePlan → Table → Type 0) → List TablePlan → List Table → Type 0

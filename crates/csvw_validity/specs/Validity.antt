@@ -39,10 +39,11 @@ HasHeader (suc n) columns rows = FitsHeader (suc n) columns rows
 abbrev pub IsSoundRow : Row → Type 0
 IsSoundRow row = All (λ cell. cell.faults ≡ []) row.cells
 
--- a table of this text: it has its header, and no cell of it has a code
+-- a table of this text, which is a file: it has its header, and no cell of it has a code
 pub record IsValidTable (plan : TablePlan) (text : List ℕ) (table : Table) : Type 0 where
-  pub header : (file : List FileRow) → File plan.dialect max_rows text file
-      → HasHeader (header_count plan) table.columns.columns (header_rows plan (Body plan.dialect file))
+  pub file : List FileRow
+  pub is_file : File plan.dialect max_rows text file
+  pub header : HasHeader (header_count plan) table.columns.columns (header_rows plan (Body plan.dialect file))
   pub cells : All IsSoundRow table.rows
 
 -- no two keys are equal

@@ -11,6 +11,6 @@ pub returns : goal.returns
 returns g c =
     let s = g.S.TripleSink in
     λ plan mode sink session last events answers tables starts good are k.
-    ends_well s.gains s.is_open s.failed c.good_events_are_taken.ensures session.sink session last events answers tables starts.stands
+    ends_well s.gains s.cuts s.is_open s.failed c.good_events_are_taken.ensures session.sink session last events answers tables starts.stands
     (subst (λ (p : Plan). AreGood (length p.tables) events) (sym starts.plan_is) good)
     (subst (λ (p : Plan). AreAnnotated p.tables (texts_of events) tables) (sym starts.plan_is) are) k
