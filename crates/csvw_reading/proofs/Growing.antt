@@ -42,7 +42,7 @@ was_open grow events event t e = by_flag (ended_in events t) refl
     by_flag false was = was
     by_flag true was = let wrong : true ≡ false = sym (stays_ended grow events event t was) ∙ e in cc
 
--- A front of the events is all of them, or lacks the last one.
+-- A front of the events is all of them, or a front of all but the last one.
 pub parted : (events front rest : List Event) (event : Event) → events ++ event ∷ [] ≡ front ++ rest
     → ((rest ≡ []) × (front ≡ events ++ event ∷ [])) ⊎ ((more : List Event) × (rest ≡ more ++ event ∷ []) × (events ≡ front ++ more))
 parted events [] rest event e = inr (events, sym e, refl)

@@ -34,10 +34,11 @@ none_given remaining olds = record {
 pub none_failed : {R : Type 0} (olds : List (Counted R)) → AreSteady olds olds
 none_failed olds = λ i r s p q. ap failures_of (one_at olds i s r q p)
 
-pub first_read : {R S : Type 0} (gains : S → List Triple → S → Type 0) (is_open : S → Bool) (failed : S → ℕ) (remaining : R → Option (List ℕ)) (limit : ℕ)
+pub first_read : {R S : Type 0} (gains : S → List Triple → S → Type 0) (cuts : S → Triple → S → Type 0) (is_open : S → Bool) (failed : S
+    → ℕ) (remaining : R → Option (List ℕ)) (limit : ℕ)
     (start : S) (olds : List (Counted R)) (now : Session S) → Stands gains is_open failed start [] now
     → ReadFirst gains is_open failed remaining limit start 0 olds olds now 0
-first_read gains is_open failed remaining limit start olds now h = record {
+first_read gains cuts is_open failed remaining limit start olds now h = record {
   events = [];
   read = record {
     reads = none_made (length olds) limit;
@@ -52,7 +53,8 @@ first_read gains is_open failed remaining limit start olds now h = record {
   not_ended = λ i le. refl;
 }
 
-module _ {R S : Type 0} (gains : S → List Triple → S → Type 0) (is_open : S → Bool) (failed : S → ℕ) (remaining : R → Option (List ℕ)) (limit : ℕ)
+module _ {R S : Type 0} (gains : S → List Triple → S → Type 0) (cuts : S → Triple → S → Type 0) (is_open : S → Bool) (failed : S → ℕ) (remaining : R
+    → Option (List ℕ)) (limit : ℕ)
     (start : S) (n : ℕ) (olds news : List (Counted R)) (old : Session S) (reads : ℕ)
     (k : ReadFirst gains is_open failed remaining limit start n olds news old reads) where
   pub is_next : (piece : List ℕ) → length old.plan.tables ≡ length olds → length piece ≡ limit → n < length olds
@@ -96,7 +98,8 @@ module _ {R S : Type 0} (gains : S → List Triple → S → Type 0) (is_open : 
     }
 
 -- a table stops, or its reader fails, after these events
-module _ {R S : Type 0} (gains : S → List Triple → S → Type 0) (is_open : S → Bool) (failed : S → ℕ) (remaining : R → Option (List ℕ))
+module _ {R S : Type 0} (gains : S → List Triple → S → Type 0) (cuts : S → Triple → S → Type 0) (is_open : S → Bool) (failed : S → ℕ) (remaining : R
+    → Option (List ℕ))
     (Order : ℕ → List Event → Type 0) (limit : ℕ) (start : S) (n : ℕ)
     (olds news : List (Counted R)) (old : Session S) (events : List Event) (gave : GaveTexts remaining olds news events) (steady : AreSteady olds news)
     (r s : Counted R) (new : Session S) (below : n < length news) (was : slice_get olds n ≡ Some r) where
@@ -116,8 +119,8 @@ module _ {R S : Type 0} (gains : S → List Triple → S → Type 0) (is_open : 
       ];
     }
 
-    stops_at : (later : List Event) (reason : Stop) → StopsAt gains is_open failed start old new later reason
-        → StopsAt gains is_open failed start first new later reason
+    stops_at : (later : List Event) (reason : Stop) → StopsAt gains cuts is_open failed start old new later reason
+        → StopsAt gains cuts is_open failed start first new later reason
     stops_at later reason h = record {
       before = h.before;
       event = h.event;
@@ -130,8 +133,8 @@ module _ {R S : Type 0} (gains : S → List Triple → S → Type 0) (is_open : 
       takes = h.takes;
     }
 
-    stops : (reason : Stop) → TableStops gains is_open failed remaining start (AreReadIn Order (length olds) limit) events (n + 1) r s old new reason
-        → EventStops gains is_open failed remaining Order limit start olds (slice_set news n s) first new reason
+    stops : (reason : Stop) → TableStops gains cuts is_open failed remaining start (AreReadIn Order (length olds) limit) events (n + 1) r s old new reason
+        → EventStops gains cuts is_open failed remaining Order limit start olds (slice_set news n s) first new reason
     stops reason e = record {
       events = e.later;
       read = e.fit;
@@ -141,8 +144,8 @@ module _ {R S : Type 0} (gains : S → List Triple → S → Type 0) (is_open : 
     }
 
     pub ends_early : (reason : Stop) (last : ℕ)
-        → TableReads gains is_open failed remaining start (AreReadIn Order (length olds) limit) events (n + 1) r s old new last (Err reason)
-        → Reads gains is_open failed remaining Order limit start olds (slice_set news n s) first new (Err reason)
+        → TableReads gains cuts is_open failed remaining start (AreReadIn Order (length olds) limit) events (n + 1) r s old new last (Err reason)
+        → Reads gains cuts is_open failed remaining Order limit start olds (slice_set news n s) first new (Err reason)
     ends_early stop.Memory last h = stops stop.Memory h
     ends_early stop.Write last h = stops stop.Write h
     ends_early stop.Read last h = fails h

@@ -78,7 +78,8 @@ module _ {S : Type 0} (s : Session S) (room : List ℕ) (many limit : ℕ) (even
       let not_ended : ended_in events (table_of event) ≡ false = subst (λ u. ended_in events u ≡ false) (sym is) h.not_ended in
       record { reads = reads_next many limit events event least most not_ended h.read.reads h.few sized; order = h.turn event is }
 
-module _ {S : Type 0} (gains : S → List Triple → S → Type 0) (is_open : S → Bool) (failed : S → ℕ) (grow : TextsGrow) (start : S)
+module _ {S : Type 0} (gains : S → List Triple → S → Type 0) (cuts : S → Triple → S → Type 0) (is_open : S → Bool) (failed : S
+    → ℕ) (grow : TextsGrow) (start : S)
     (Fit : List Event → Type 0) (events : List Event) (t : ℕ) where
   -- before any
   pub took_none : (s : Session S) (reads : ℕ) → Stands gains is_open failed start events s → Fit events → text_of events t ≡ [] → ended_in events t ≡ false
@@ -108,7 +109,7 @@ module _ {S : Type 0} (gains : S → List Triple → S → Type 0) (is_open : S 
 
   pub took_piece : (old new : Session S) (bytes piece : List ℕ) (reads : ℕ) (u : Unit {0})
       (k : Took gains is_open failed start Fit events t bytes false old reads) → Fit (k.later ++ Feed t piece ∷ [])
-      → Takes gains is_open failed old new t (Feed t piece) (Ok u) → Took gains is_open failed start Fit events t (bytes ++ piece) false new (reads + 1)
+      → Takes gains cuts is_open failed old new t (Feed t piece) (Ok u) → Took gains is_open failed start Fit events t (bytes ++ piece) false new (reads + 1)
   took_piece old new bytes piece reads u k fit takes = record {
     later = k.later ++ Feed t piece ∷ [];
     fit = fit;
@@ -121,7 +122,7 @@ module _ {S : Type 0} (gains : S → List Triple → S → Type 0) (is_open : S 
 
   took_end : (old new : Session S) (bytes : List ℕ) (reads : ℕ) (u : Unit {0})
       (k : Took gains is_open failed start Fit events t bytes false old reads) → Fit (k.later ++ End t ∷ [])
-      → Takes gains is_open failed old new t (End t) (Ok u) → Took gains is_open failed start Fit events t bytes true new (reads + 1)
+      → Takes gains cuts is_open failed old new t (End t) (Ok u) → Took gains is_open failed start Fit events t bytes true new (reads + 1)
   took_end old new bytes reads u k fit takes = record {
     later = k.later ++ End t ∷ [];
     fit = fit;
@@ -138,8 +139,8 @@ module _ {S : Type 0} (gains : S → List Triple → S → Type 0) (is_open : S 
     -- an event at which the session stopped
     module _ (event : Event) (is_of : table_of event ≡ t) (fit : Fit (k.later ++ event ∷ [])) (goes : GoesOn t events (k.later ++ event ∷ []))
         (gave : Gave remaining r s (text_of (k.later ++ event ∷ []) t) (ended_in (k.later ++ event ∷ []) t)) (steady : failures_of s ≡ failures_of r) where
-      stopped : (reason : Stop) → Takes gains is_open failed old new t event (Err reason)
-          → TableStops gains is_open failed remaining start Fit events t r s first new reason
+      stopped : (reason : Stop) → Takes gains cuts is_open failed old new t event (Err reason)
+          → TableStops gains cuts is_open failed remaining start Fit events t r s first new reason
       stopped reason takes = record {
         later = k.later ++ event ∷ [];
         fit = fit;
@@ -149,8 +150,8 @@ module _ {S : Type 0} (gains : S → List Triple → S → Type 0) (is_open : S 
         steady = steady;
       }
 
-      pub stops : (reason : Stop) (last : ℕ) → Takes gains is_open failed old new t event (Err reason)
-          → TableReads gains is_open failed remaining start Fit events t r s first new last (Err reason)
+      pub stops : (reason : Stop) (last : ℕ) → Takes gains cuts is_open failed old new t event (Err reason)
+          → TableReads gains cuts is_open failed remaining start Fit events t r s first new last (Err reason)
       stops stop.Memory last takes = stopped stop.Memory takes
       stops stop.Write last takes = stopped stop.Write takes
       stops (stop.Rows u row reason) last takes = stopped (stop.Rows u row reason) takes
@@ -166,8 +167,8 @@ module _ {S : Type 0} (gains : S → List Triple → S → Type 0) (is_open : S 
 
     -- the end of the table
     pub ends : Fit (k.later ++ End t ∷ []) → Gave remaining r s bytes true → failures_of s ≡ failures_of r → (result : Result Unit Stop)
-        → Takes gains is_open failed old new t (End t) result
-        → TableReads gains is_open failed remaining start Fit events t r s first new (reads + 1) result
+        → Takes gains cuts is_open failed old new t (End t) result
+        → TableReads gains cuts is_open failed remaining start Fit events t r s first new (reads + 1) result
     ends fit gave steady (Ok u) takes = record { bytes = bytes; took = took_end old new bytes reads u k fit takes; gave = gave; steady = steady }
     ends fit gave steady (Err reason) takes =
         stops (End t) refl fit (goes_ended grow t events k.later k.goes)
@@ -177,8 +178,8 @@ module _ {S : Type 0} (gains : S → List Triple → S → Type 0) (is_open : S 
 
     -- a piece at which it stopped
     pub unfed : (piece : List ℕ) → Fit (k.later ++ Feed t piece ∷ []) → Gave remaining r s (bytes ++ piece) false → failures_of s ≡ failures_of r
-        → (reason : Stop) (last : ℕ) → Takes gains is_open failed old new t (Feed t piece) (Err reason)
-        → TableReads gains is_open failed remaining start Fit events t r s first new last (Err reason)
+        → (reason : Stop) (last : ℕ) → Takes gains cuts is_open failed old new t (Feed t piece) (Err reason)
+        → TableReads gains cuts is_open failed remaining start Fit events t r s first new last (Err reason)
     unfed piece fit gave steady reason last takes =
         stops (Feed t piece) refl fit (goes_fed grow t piece events k.later k.goes)
         (subst (λ b. Gave remaining r s (text_of (k.later ++ Feed t piece ∷ []) t) b) (sym (grow.fed_ended k.later t t piece ∙ k.ended_is))

@@ -20,10 +20,11 @@ use Rattle.csvw_reading.proofs.NextTable.{gave_as, none_failed, none_given}
 use Rattle.csvw_reading.proofs.Readers.{gave_next, steady_next, set_same, set_other, here_or_not}
 
 -- no reader was read
-pub none_read : {R S : Type 0} (gains : S → List Triple → S → Type 0) (is_open : S → Bool) (failed : S → ℕ) (remaining : R → Option (List ℕ)) (limit : ℕ)
+pub none_read : {R S : Type 0} (gains : S → List Triple → S → Type 0) (cuts : S → Triple → S → Type 0) (is_open : S → Bool) (failed : S → ℕ) (remaining : R
+    → Option (List ℕ)) (limit : ℕ)
     (start : S) (going : List Bool) (olds : List (Counted R)) (now : Session S) → AreOpen going → Stands gains is_open failed start [] now
     → ReadSome gains is_open failed remaining limit start going 0 olds olds now 0
-none_read gains is_open failed remaining limit start going olds now all h = record {
+none_read gains cuts is_open failed remaining limit start going olds now all h = record {
   events = [];
   read = record {
     reads = none_made (length olds) limit;
@@ -38,11 +39,12 @@ none_read gains is_open failed remaining limit start going olds now all h = reco
 }
 
 -- where no table is open, each was ended
-pub all_ended : {R S : Type 0} (gains : S → List Triple → S → Type 0) (is_open : S → Bool) (failed : S → ℕ) (remaining : R → Option (List ℕ)) (limit : ℕ)
+pub all_ended : {R S : Type 0} (gains : S → List Triple → S → Type 0) (cuts : S → Triple → S → Type 0) (is_open : S → Bool) (failed : S → ℕ) (remaining : R
+    → Option (List ℕ)) (limit : ℕ)
     (start : S) (going : List Bool) (from : ℕ) (olds news : List (Counted R)) (now : Session S) (reads : ℕ)
     (k : ReadSome gains is_open failed remaining limit start going from olds news now reads)
     → length going ≡ length olds → NoneFrom 0 going → (i : ℕ) → i < length olds → ended_in k.events (i + 1) ≡ true
-all_ended gains is_open failed remaining limit start going from olds news now reads k many none i below =
+all_ended gains cuts is_open failed remaining limit start going from olds news now reads k many none i below =
     by_flag (get_or going i false) (slice_get-get_or going i false (omega (arith, below, many)))
   where
     by_flag : (b : Bool) → slice_get going i ≡ Some b → ended_in k.events (i + 1) ≡ true
@@ -159,7 +161,8 @@ in_turn_next grow many going from events event size open_is order turns =
         (subst (λ v. ended_in (events ++ event ∷ []) v ≡ false) (sym first) p)
         (subst (λ v. ended_in (events ++ event ∷ []) v ≡ false) (sym second) q)))
 
-module _ {R S : Type 0} (gains : S → List Triple → S → Type 0) (is_open : S → Bool) (failed : S → ℕ) (remaining : R → Option (List ℕ)) (limit : ℕ)
+module _ {R S : Type 0} (gains : S → List Triple → S → Type 0) (cuts : S → Triple → S → Type 0) (is_open : S → Bool) (failed : S → ℕ) (remaining : R
+    → Option (List ℕ)) (limit : ℕ)
     (start : S) (going : List Bool) (from : ℕ) (olds news : List (Counted R)) (old : Session S) (reads : ℕ)
     (k : ReadSome gains is_open failed remaining limit start going from olds news old reads)
     (n : ℕ) (r s : Counted R) (new : Session S) (below : n < length news) (inside : n < length going) (was : slice_get olds n ≡ Some r) where
@@ -238,13 +241,13 @@ module _ {R S : Type 0} (gains : S → List Triple → S → Type 0) (is_open : 
   }
 
   read_any : IsNextFrom from going n → (b : Bool)
-      → PieceReads gains is_open failed remaining start Fit k.events (n + 1) r s old new (length k.events + 1) (Ok b)
+      → PieceReads gains cuts is_open failed remaining start Fit k.events (n + 1) r s old new (length k.events + 1) (Ok b)
       → ReadSome gains is_open failed remaining limit start (slice_set going n b) (n + 1) olds (slice_set news n s) new (length k.events + 1)
   read_any next true e = piece_read next e
   read_any next false e = end_read next e
 
   pub read_on : IsNextFrom from going n → (b : Bool)
-      → PieceReads gains is_open failed remaining start Fit k.events (n + 1) r s old new (length k.events + 1) (Ok b)
+      → PieceReads gains cuts is_open failed remaining start Fit k.events (n + 1) r s old new (length k.events + 1) (Ok b)
       → ReadSome gains is_open failed remaining limit start (slice_set going n b) (n + 1) olds (slice_set news n s) new (reads + 1)
   read_on next b e =
       subst (λ m. ReadSome gains is_open failed remaining limit start (slice_set going n b) (n + 1) olds (slice_set news n s) new (m + 1)) k.many

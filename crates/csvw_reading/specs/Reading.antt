@@ -42,7 +42,8 @@ abbrev pub IsSame : {S : Type 0} → Session S → Session S → Type 0
 IsSame old new = (new.plan ≡ old.plan) × (new.mode ≡ old.mode)
 
 -- the session took these events, but for the last, at which it stopped
-pub record StopsAt {S : Type 0} (gains : S → List Triple → S → Type 0) (is_open : S → Bool) (failed : S → ℕ) (start : S) (old new : Session S)
+pub record StopsAt {S : Type 0} (gains : S → List Triple → S → Type 0) (cuts : S → Triple → S → Type 0) (is_open : S → Bool) (failed : S → ℕ) (start : S)
+    (old new : Session S)
     (events : List Event) (reason : Stop) : Type 0 where
   pub before : List Event
   pub event : Event
@@ -52,7 +53,7 @@ pub record StopsAt {S : Type 0} (gains : S → List Triple → S → Type 0) (is
   pub session : Session S
   pub same : IsSame old session
   pub stands : Stands gains is_open failed start before session
-  pub takes : Takes gains is_open failed session new t event (Err reason)
+  pub takes : Takes gains cuts is_open failed session new t event (Err reason)
 
 -- all 2^40 reads were made
 abbrev pub AreMany : List Event → Type 0
@@ -80,26 +81,29 @@ pub record ReadFails {R S : Type 0} (gains : S → List Triple → S → Type 0)
   pub blame : OneFailed olds news ⊎ (AreMany events × AreSteady olds news)
 
 -- the session stopped at an event
-pub record EventStops {R S : Type 0} (gains : S → List Triple → S → Type 0) (is_open : S → Bool) (failed : S → ℕ) (remaining : R → Option (List ℕ))
+pub record EventStops {R S : Type 0} (gains : S → List Triple → S → Type 0) (cuts : S → Triple → S → Type 0) (is_open : S → Bool) (failed : S → ℕ)
+    (remaining : R → Option (List ℕ))
     (Order : ℕ → List Event → Type 0) (limit : ℕ) (start : S) (olds news : List (Counted R)) (old new : Session S) (reason : Stop) : Type 0 where
   pub events : List Event
   pub read : AreReadIn Order (length olds) limit events
-  pub stops : StopsAt gains is_open failed start old new events reason
+  pub stops : StopsAt gains cuts is_open failed start old new events reason
   pub gave : GaveTexts remaining olds news events
   pub steady : AreSteady olds news
 
 -- After all tables were read in this order, in pieces of at most so many bytes; or why not.
-abbrev pub Reads : {R S : Type 0} → (S → List Triple → S → Type 0) → (S → Bool) → (S → ℕ) → (R → Option (List ℕ)) → (ℕ → List Event → Type 0) → ℕ → S
+abbrev pub Reads : {R S : Type 0} → (S → List Triple → S → Type 0) → (S → Triple → S → Type 0) → (S → Bool) → (S → ℕ) → (R → Option (List ℕ)) → (ℕ
+    → List Event → Type 0) → ℕ → S
     → List (Counted R) → List (Counted R) → Session S → Session S → Result Unit Stop → Type 0
-Reads gains is_open failed remaining Order limit start olds news old new (Ok u) = ReadsAll gains is_open failed remaining Order limit start olds news old new
-Reads gains is_open failed remaining Order limit start olds news old new (Err stop.Read) =
+Reads gains cuts is_open failed remaining Order limit start olds news old new (Ok u) = ReadsAll gains is_open failed remaining Order limit start olds news
+    old new
+Reads gains cuts is_open failed remaining Order limit start olds news old new (Err stop.Read) =
     ReadFails gains is_open failed remaining Order limit start olds news old new
-Reads gains is_open failed remaining Order limit start olds news old new (Err stop.Memory) =
-    EventStops gains is_open failed remaining Order limit start olds news old new stop.Memory
-Reads gains is_open failed remaining Order limit start olds news old new (Err stop.Write) =
-    EventStops gains is_open failed remaining Order limit start olds news old new stop.Write
-Reads gains is_open failed remaining Order limit start olds news old new (Err (stop.Rows t row reason)) =
-    EventStops gains is_open failed remaining Order limit start olds news old new (stop.Rows t row reason)
-Reads gains is_open failed remaining Order limit start olds news old new (Err (stop.Table t row reason)) =
-    EventStops gains is_open failed remaining Order limit start olds news old new (stop.Table t row reason)
-Reads gains is_open failed remaining Order limit start olds news old new (Err other) = ⊥
+Reads gains cuts is_open failed remaining Order limit start olds news old new (Err stop.Memory) =
+    EventStops gains cuts is_open failed remaining Order limit start olds news old new stop.Memory
+Reads gains cuts is_open failed remaining Order limit start olds news old new (Err stop.Write) =
+    EventStops gains cuts is_open failed remaining Order limit start olds news old new stop.Write
+Reads gains cuts is_open failed remaining Order limit start olds news old new (Err (stop.Rows t row reason)) =
+    EventStops gains cuts is_open failed remaining Order limit start olds news old new (stop.Rows t row reason)
+Reads gains cuts is_open failed remaining Order limit start olds news old new (Err (stop.Table t row reason)) =
+    EventStops gains cuts is_open failed remaining Order limit start olds news old new (stop.Table t row reason)
+Reads gains cuts is_open failed remaining Order limit start olds news old new (Err other) = ⊥

@@ -59,28 +59,29 @@ pub record TableFails {R S : Type 0} (gains : S → List Triple → S → Type 0
   pub blame : (failures_of s ≡ one_more (failures_of r)) ⊎ ((reads ≡ 2 ^ 40) × (failures_of s ≡ failures_of r))
 
 -- the session stopped at an event of the table
-pub record TableStops {R S : Type 0} (gains : S → List Triple → S → Type 0) (is_open : S → Bool) (failed : S → ℕ) (remaining : R → Option (List ℕ))
+pub record TableStops {R S : Type 0} (gains : S → List Triple → S → Type 0) (cuts : S → Triple → S → Type 0) (is_open : S → Bool) (failed : S → ℕ)
+    (remaining : R → Option (List ℕ))
     (start : S) (Fit : List Event → Type 0) (events : List Event) (t : ℕ) (r s : Counted R) (old new : Session S) (reason : Stop) : Type 0 where
   pub later : List Event
   pub fit : Fit later
   pub goes : GoesOn t events later
-  pub stops : StopsAt gains is_open failed start old new later reason
+  pub stops : StopsAt gains cuts is_open failed start old new later reason
   pub gave : Gave remaining r s (text_of later t) (ended_in later t)
   pub steady : failures_of s ≡ failures_of r
 
 -- what the reader and the session are after a table was read
-abbrev pub TableReads : {R S : Type 0} → (S → List Triple → S → Type 0) → (S → Bool) → (S → ℕ) → (R → Option (List ℕ)) → S
+abbrev pub TableReads : {R S : Type 0} → (S → List Triple → S → Type 0) → (S → Triple → S → Type 0) → (S → Bool) → (S → ℕ) → (R → Option (List ℕ)) → S
     → (List Event → Type 0) → List Event → ℕ → Counted R → Counted R → Session S → Session S → ℕ → Result Unit Stop → Type 0
-TableReads gains is_open failed remaining start Fit events t r s old new reads (Ok u) =
+TableReads gains cuts is_open failed remaining start Fit events t r s old new reads (Ok u) =
     TableEnds gains is_open failed remaining start Fit events t r s new reads
-TableReads gains is_open failed remaining start Fit events t r s old new reads (Err stop.Read) =
+TableReads gains cuts is_open failed remaining start Fit events t r s old new reads (Err stop.Read) =
     TableFails gains is_open failed remaining start Fit events t r s new
-TableReads gains is_open failed remaining start Fit events t r s old new reads (Err stop.Memory) =
-    TableStops gains is_open failed remaining start Fit events t r s old new stop.Memory
-TableReads gains is_open failed remaining start Fit events t r s old new reads (Err stop.Write) =
-    TableStops gains is_open failed remaining start Fit events t r s old new stop.Write
-TableReads gains is_open failed remaining start Fit events t r s old new reads (Err (stop.Rows u row reason)) =
-    TableStops gains is_open failed remaining start Fit events t r s old new (stop.Rows u row reason)
-TableReads gains is_open failed remaining start Fit events t r s old new reads (Err (stop.Table u row reason)) =
-    TableStops gains is_open failed remaining start Fit events t r s old new (stop.Table u row reason)
-TableReads gains is_open failed remaining start Fit events t r s old new reads (Err other) = ⊥
+TableReads gains cuts is_open failed remaining start Fit events t r s old new reads (Err stop.Memory) =
+    TableStops gains cuts is_open failed remaining start Fit events t r s old new stop.Memory
+TableReads gains cuts is_open failed remaining start Fit events t r s old new reads (Err stop.Write) =
+    TableStops gains cuts is_open failed remaining start Fit events t r s old new stop.Write
+TableReads gains cuts is_open failed remaining start Fit events t r s old new reads (Err (stop.Rows u row reason)) =
+    TableStops gains cuts is_open failed remaining start Fit events t r s old new (stop.Rows u row reason)
+TableReads gains cuts is_open failed remaining start Fit events t r s old new reads (Err (stop.Table u row reason)) =
+    TableStops gains cuts is_open failed remaining start Fit events t r s old new (stop.Table u row reason)
+TableReads gains cuts is_open failed remaining start Fit events t r s old new reads (Err other) = ⊥

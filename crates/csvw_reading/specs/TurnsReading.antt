@@ -55,14 +55,14 @@ pub record TableGoes {R S : Type 0} (gains : S → List Triple → S → Type 0)
   pub steady : failures_of s ≡ failures_of r
 
 -- after one read of the reader of a table, which was r before all reads: whether the table goes on, or why it stops
-abbrev pub PieceReads : {R S : Type 0} → (S → List Triple → S → Type 0) → (S → Bool) → (S → ℕ) → (R → Option (List ℕ)) → S
+abbrev pub PieceReads : {R S : Type 0} → (S → List Triple → S → Type 0) → (S → Triple → S → Type 0) → (S → Bool) → (S → ℕ) → (R → Option (List ℕ)) → S
     → (List Event → Type 0) → List Event → ℕ → Counted R → Counted R → Session S → Session S → ℕ → Result Bool Stop → Type 0
-PieceReads gains is_open failed remaining start Fit events t r s old new reads (Ok true) =
+PieceReads gains cuts is_open failed remaining start Fit events t r s old new reads (Ok true) =
     TableGoes gains is_open failed remaining start Fit events t r s new reads
-PieceReads gains is_open failed remaining start Fit events t r s old new reads (Ok false) =
+PieceReads gains cuts is_open failed remaining start Fit events t r s old new reads (Ok false) =
     TableEnds gains is_open failed remaining start Fit events t r s new reads
-PieceReads gains is_open failed remaining start Fit events t r s old new reads (Err reason) =
-    TableReads gains is_open failed remaining start Fit events t r s old new reads (Err reason)
+PieceReads gains cuts is_open failed remaining start Fit events t r s old new reads (Err reason) =
+    TableReads gains cuts is_open failed remaining start Fit events t r s old new reads (Err reason)
 
 -- the readers gave pieces so far; the tables that are open were not ended
 pub record ReadSome {R S : Type 0} (gains : S → List Triple → S → Type 0) (is_open : S → Bool) (failed : S → ℕ) (remaining : R → Option (List ℕ))

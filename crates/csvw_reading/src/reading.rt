@@ -28,7 +28,7 @@ fn read_table<R: Read, S: TripleSink>(
     ensures room { length piece.new ≡ length piece.old }
     ensures reads { (start : S) (many limit : ℕ) (events : List Event) → Stands S.gains S.is_open S.failed start events session.old
         → IsNext session.old piece.old many limit events t → length events ≡ reads.old
-        → TableReads S.gains S.is_open S.failed R.remaining start (AreReadIn AreTableByTable many limit) events t
+        → TableReads S.gains S.cuts S.is_open S.failed R.remaining start (AreReadIn AreTableByTable many limit) events t
         reader.old reader.new session.old session.new reads.new result }
 {
     texts_grow();
@@ -58,7 +58,7 @@ pub fn read_tables<R: Read, S: TripleSink>(
     ensures same { IsSame session.old session.new }
     ensures reads { (start : S) → Stands S.gains S.is_open S.failed start [] session.old
         → length readers.old ≡ length session.old.plan.tables
-        → Reads S.gains S.is_open S.failed R.remaining AreTableByTable (length piece.old) start readers.old readers.new session.old session.new result }
+        → Reads S.gains S.cuts S.is_open S.failed R.remaining AreTableByTable (length piece.old) start readers.old readers.new session.old session.new result }
 {
     texts_grow();
     let mut reads = 0;

@@ -50,7 +50,7 @@ fn read_piece<R: Read, S: TripleSink>(
     ensures reads { (start : S) (many limit : ℕ) (events : List Event) (first : TheReader R) → Stands S.gains S.is_open S.failed start events session.old
         → IsOpen session.old piece.old many limit events t → Gave R.remaining first reader.old (text_of events t) false
         → failures_of reader.old ≡ failures_of first
-        → PieceReads S.gains S.is_open S.failed R.remaining start (AreReadIn AreInTurn many limit) events t
+        → PieceReads S.gains S.cuts S.is_open S.failed R.remaining start (AreReadIn AreInTurn many limit) events t
         first reader.new session.old session.new (length events + 1) result }
 {
     texts_grow();
@@ -82,7 +82,7 @@ pub fn read_turns<R: Read, S: TripleSink>(
     ensures same { IsSame session.old session.new }
     ensures reads { (start : S) → Stands S.gains S.is_open S.failed start [] session.old
         → length readers.old ≡ length session.old.plan.tables
-        → Reads S.gains S.is_open S.failed R.remaining AreInTurn (length piece.old) start readers.old readers.new session.old session.new result }
+        → Reads S.gains S.cuts S.is_open S.failed R.remaining AreInTurn (length piece.old) start readers.old readers.new session.old session.new result }
 {
     texts_grow();
     let mut reads = 0;

@@ -17,7 +17,8 @@ loop-reads-init g c =
       steady = refl;
       bytes = [];
       gave = gave_none g.R.Read.remaining c.args.reader.now;
-      took = λ start many limit events h next made. took_none s.gains s.is_open s.failed c.texts_grow.ensures start (AreReadIn AreTableByTable many limit)
+      took = λ start many limit events h next made. took_none s.gains s.cuts s.is_open s.failed c.texts_grow.ensures start
+          (AreReadIn AreTableByTable many limit)
           events c.args.t c.args.session.now c.args.reads.now h next.read next.text next.not_ended made;
     }
 
@@ -39,7 +40,7 @@ loop-reads-preserved g c =
           c.in-Ok.ensures.bytes.0 c.read.ensures.ends;
       took = λ start many limit events h next made.
           let k = i.took start many limit events h next made in
-          took_piece s.gains s.is_open s.failed c.texts_grow.ensures start (AreReadIn AreTableByTable many limit) events c.args.t c.loop-reads.session
+          took_piece s.gains s.cuts s.is_open s.failed c.texts_grow.ensures start (AreReadIn AreTableByTable many limit) events c.args.t c.loop-reads.session
           c.feed.new.self i.bytes (take n buf) c.loop-reads.reads c.in_ok-feed.field-0 k
           (next_fits c.args.session.now c.args.piece.now many limit events c.args.t c.texts_grow.ensures next k.later k.fit k.goes k.ended_is
           (let test = c.loop-reads-test.true in let length_is = k.many in omega (arith, test, length_is)) (Feed c.args.t (take n buf)) refl
@@ -54,7 +55,8 @@ returns-then-n-eq0-clause-reads g c =
     let room : 0 < length c.read.new.buf = (let some = c.requires in omega (arith, same_room, some)) in
     λ start many limit events h next made.
     let k = i.took start many limit events h next made in
-    ends s.gains s.is_open s.failed c.texts_grow.ensures start (AreReadIn AreTableByTable many limit) events c.args.t g.R.Read.remaining c.args.reader.now
+    ends s.gains s.cuts s.is_open s.failed c.texts_grow.ensures start (AreReadIn AreTableByTable many limit) events c.args.t g.R.Read.remaining
+    c.args.reader.now
     c.read.new.self c.args.session.now c.loop-reads.session c.end.new.self i.bytes c.loop-reads.reads k i.same next.some
     (let within = next.within in let tables = next.tables in omega (arith, within, tables))
     (next_fits c.args.session.now c.args.piece.now many limit events c.args.t c.texts_grow.ensures next k.later k.fit k.goes k.ended_is
@@ -76,7 +78,7 @@ returns-in_err-feed-clause-reads g c =
     λ start many limit events h next made.
     let k = i.took start many limit events h next made in
     rw (p.1, p.2)
-    (unfed s.gains s.is_open s.failed c.texts_grow.ensures start (AreReadIn AreTableByTable many limit) events c.args.t g.R.Read.remaining
+    (unfed s.gains s.cuts s.is_open s.failed c.texts_grow.ensures start (AreReadIn AreTableByTable many limit) events c.args.t g.R.Read.remaining
     c.args.reader.now c.read.new.self c.args.session.now c.loop-reads.session c.feed.new.self i.bytes c.loop-reads.reads k i.same next.some
     (let most = next.within in let tables = next.tables in omega (arith, most, tables)) (take n buf)
     (next_fits c.args.session.now c.args.piece.now many limit events c.args.t c.texts_grow.ensures next k.later k.fit k.goes k.ended_is

@@ -1,4 +1,4 @@
--- A table was read to its end, or stops; all were read.
+-- A table was read to its end, or stopped; all tables were read.
 use Rattle.std.proofs.Common.{◌≡◌, ◌<◌, refl, sym, ap, ◌∙◌, arith, get_or, length}
 use Rattle.std.proofs.lemmas.Option.{slice_get-get_or}
 use Rattle.std.proofs.lemmas.Result.{err_from_is_err_and}
@@ -15,7 +15,8 @@ loop-i-init g c =
       room = refl;
       lengths = refl;
       untouched = λ j r le e. e;
-      read = λ start h many. first_read s.gains s.is_open s.failed g.R.Read.remaining (length c.args.piece.now) start c.args.readers.now c.args.session.now h;
+      read = λ start h many. first_read s.gains s.cuts s.is_open s.failed g.R.Read.remaining (length c.args.piece.now) start c.args.readers.now
+          c.args.session.now h;
     }
 
 pub loop-i-preserved : goal.loop-i-preserved
@@ -38,9 +39,10 @@ loop-i-preserved g c =
       read = λ start h many.
           let k = i.read start h many in
           let tables : length c.loop-i.session.plan.tables ≡ length c.args.readers.now = ap (λ p. length p.tables) i.same.0 ∙ sym many in
-          read_next s.gains s.is_open s.failed g.R.Read.remaining limit start n c.args.readers.now c.loop-i.readers c.loop-i.session c.loop-i.reads k r
+          read_next s.gains s.cuts s.is_open s.failed g.R.Read.remaining limit start n c.args.readers.now c.loop-i.readers c.loop-i.session c.loop-i.reads k r
           c.read_table.new.reader c.read_table.new.session below was
-          c.read_table.new.reads (t.reads start (length c.args.readers.now) limit k.events k.stands (is_next s.gains s.is_open s.failed g.R.Read.remaining
+          c.read_table.new.reads (t.reads start (length c.args.readers.now) limit k.events k.stands (is_next s.gains s.cuts s.is_open s.failed
+          g.R.Read.remaining
           limit start n c.args.readers.now c.loop-i.readers c.loop-i.session c.loop-i.reads k c.loop-i.piece tables i.room within) k.many);
     }
 
@@ -60,10 +62,10 @@ returns-in_err-read_table-clause-reads g c =
     let k = i.read start h many in
     let tables : length c.loop-i.session.plan.tables ≡ length c.args.readers.now = ap (λ p. length p.tables) i.same.0 ∙ sym many in
     rw (p.1, p.2)
-    (ends_early s.gains s.is_open s.failed g.R.Read.remaining AreTableByTable limit start n c.args.readers.now c.loop-i.readers c.loop-i.session k.events
+    (ends_early s.gains s.cuts s.is_open s.failed g.R.Read.remaining AreTableByTable limit start n c.args.readers.now c.loop-i.readers c.loop-i.session k.events
     k.gave k.steady r c.read_table.new.reader c.read_table.new.session below was
     c.args.session.now i.same (t.same.0 ∙ i.same.0, t.same.1 ∙ i.same.1) c.in_err-read_table.field-0.0 c.read_table.new.reads
-    (t.reads start (length c.args.readers.now) limit k.events k.stands (is_next s.gains s.is_open s.failed g.R.Read.remaining limit start n
+    (t.reads start (length c.args.readers.now) limit k.events k.stands (is_next s.gains s.cuts s.is_open s.failed g.R.Read.remaining limit start n
     c.args.readers.now c.loop-i.readers c.loop-i.session c.loop-i.reads k c.loop-i.piece tables i.room within) k.many))
 
 pub returns-clause-reads : goal.returns-clause-reads

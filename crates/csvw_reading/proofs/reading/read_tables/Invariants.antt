@@ -1,4 +1,4 @@
--- The tables in front were read, and the readers of the others were not.
+-- The first tables were read, and the readers of the others were not.
 use Rattle.std.proofs.Common.{◌≡◌, ◌≤◌, ℕ, [], length, Some}
 use Rattle.std.specs.Prelude.{slice_get}
 use Rattle.csvw_session.specs.Sessions.{Stands}

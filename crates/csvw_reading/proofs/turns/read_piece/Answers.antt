@@ -15,7 +15,7 @@ returns-in_default-clause-reads g c =
     λ start many limit events first h going gave steady. record {
       bytes = text_of events c.args.t;
       reads = length events;
-      took = took_so_far s.gains s.is_open s.failed c.texts_grow.ensures start (AreReadIn AreInTurn many limit) events c.args.t c.args.session.now
+      took = took_so_far s.gains s.cuts s.is_open s.failed c.texts_grow.ensures start (AreReadIn AreInTurn many limit) events c.args.t c.args.session.now
           (length events) h going.read going.not_ended refl;
       gave = gave_kept g.R.Read.remaining first c.args.reader.now c.read.new.self (text_of events c.args.t) gave c.in_default.ensures.bytes
           c.in_default.ensures.ends;
@@ -28,9 +28,9 @@ returns-then-n-eq0-clause-reads g c =
     let same_room : length c.read.new.buf ≡ length c.args.piece.now = search rules in
     let room : 0 < length c.read.new.buf = (let some = c.requires in omega (arith, same_room, some)) in
     λ start many limit events first h going gave steady.
-    ends s.gains s.is_open s.failed c.texts_grow.ensures start (AreReadIn AreInTurn many limit) events c.args.t g.R.Read.remaining first c.read.new.self
+    ends s.gains s.cuts s.is_open s.failed c.texts_grow.ensures start (AreReadIn AreInTurn many limit) events c.args.t g.R.Read.remaining first c.read.new.self
     c.args.session.now c.args.session.now c.end.new.self (text_of events c.args.t) (length events)
-    (took_so_far s.gains s.is_open s.failed c.texts_grow.ensures start (AreReadIn AreInTurn many limit) events c.args.t c.args.session.now
+    (took_so_far s.gains s.cuts s.is_open s.failed c.texts_grow.ensures start (AreReadIn AreInTurn many limit) events c.args.t c.args.session.now
     (length events) h going.read going.not_ended refl)
     (refl, refl) going.some (let within = going.within in let tables = going.tables in omega (arith, within, tables))
     (turn_fits c.args.session.now c.args.piece.now many limit events c.args.t going (End c.args.t) refl (end_sized limit c.args.t))
@@ -46,9 +46,9 @@ returns-in_err-end-clause-reads g c =
     let p = err_from_is_err_and c.from_residual.result c.from_residual.ensures.1 in
     λ start many limit events first h going gave steady.
     rw (p.1, p.2)
-    (ends s.gains s.is_open s.failed c.texts_grow.ensures start (AreReadIn AreInTurn many limit) events c.args.t g.R.Read.remaining first c.read.new.self
+    (ends s.gains s.cuts s.is_open s.failed c.texts_grow.ensures start (AreReadIn AreInTurn many limit) events c.args.t g.R.Read.remaining first c.read.new.self
     c.args.session.now c.args.session.now c.end.new.self (text_of events c.args.t) (length events)
-    (took_so_far s.gains s.is_open s.failed c.texts_grow.ensures start (AreReadIn AreInTurn many limit) events c.args.t c.args.session.now
+    (took_so_far s.gains s.cuts s.is_open s.failed c.texts_grow.ensures start (AreReadIn AreInTurn many limit) events c.args.t c.args.session.now
     (length events) h going.read going.not_ended refl)
     (refl, refl) going.some (let within = going.within in let tables = going.tables in omega (arith, within, tables))
     (turn_fits c.args.session.now c.args.piece.now many limit events c.args.t going (End c.args.t) refl (end_sized limit c.args.t))
@@ -67,9 +67,9 @@ returns-in_err-feed-clause-reads g c =
     let p = err_from_is_err_and c.from_residual-in_err-feed.result c.from_residual-in_err-feed.ensures.1 in
     λ start many limit events first h going gave steady.
     rw (p.1, p.2)
-    (unfed s.gains s.is_open s.failed c.texts_grow.ensures start (AreReadIn AreInTurn many limit) events c.args.t g.R.Read.remaining first
+    (unfed s.gains s.cuts s.is_open s.failed c.texts_grow.ensures start (AreReadIn AreInTurn many limit) events c.args.t g.R.Read.remaining first
     c.read.new.self c.args.session.now c.args.session.now c.feed.new.self (text_of events c.args.t) (length events)
-    (took_so_far s.gains s.is_open s.failed c.texts_grow.ensures start (AreReadIn AreInTurn many limit) events c.args.t c.args.session.now
+    (took_so_far s.gains s.cuts s.is_open s.failed c.texts_grow.ensures start (AreReadIn AreInTurn many limit) events c.args.t c.args.session.now
     (length events) h going.read going.not_ended refl)
     (refl, refl) going.some (let within = going.within in let tables = going.tables in omega (arith, within, tables)) (take n buf)
     (turn_fits c.args.session.now c.args.piece.now many limit events c.args.t going (Feed c.args.t (take n buf)) refl
@@ -88,9 +88,9 @@ returns-clause-reads g c =
     let same_room : length buf ≡ length c.args.piece.now = search rules in
     λ start many limit events first h going gave steady. record {
       bytes = text_of events c.args.t ++ take n buf;
-      took = took_piece s.gains s.is_open s.failed c.texts_grow.ensures start (AreReadIn AreInTurn many limit) events c.args.t c.args.session.now
+      took = took_piece s.gains s.cuts s.is_open s.failed c.texts_grow.ensures start (AreReadIn AreInTurn many limit) events c.args.t c.args.session.now
           c.feed.new.self (text_of events c.args.t) (take n buf) (length events) c.in_ok-feed.field-0
-          (took_so_far s.gains s.is_open s.failed c.texts_grow.ensures start (AreReadIn AreInTurn many limit) events c.args.t c.args.session.now
+          (took_so_far s.gains s.cuts s.is_open s.failed c.texts_grow.ensures start (AreReadIn AreInTurn many limit) events c.args.t c.args.session.now
           (length events) h going.read going.not_ended refl)
           (turn_fits c.args.session.now c.args.piece.now many limit events c.args.t going (Feed c.args.t (take n buf)) refl
           (piece_sized limit c.args.t n buf some inside (same_room ∙ going.room)))

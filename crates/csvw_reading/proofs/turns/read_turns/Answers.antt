@@ -17,7 +17,7 @@ loop-reads-init g c =
       lengths = refl;
       flags = refl;
       read = λ start h many.
-          none_read s.gains s.is_open s.failed g.R.Read.remaining (length c.args.piece.now) start c.args.going.now
+          none_read s.gains s.cuts s.is_open s.failed g.R.Read.remaining (length c.args.piece.now) start c.args.going.now
           c.args.readers.now c.args.session.now c.requires.all_open h;
     }
 
@@ -33,7 +33,7 @@ returns-in_default-clause-reads g c =
       stands = k.stands;
       gave = k.gave;
       steady = k.steady;
-      ended = all_ended s.gains s.is_open s.failed g.R.Read.remaining (length c.args.piece.now) start c.loop-reads.going c.loop-reads.from
+      ended = all_ended s.gains s.cuts s.is_open s.failed g.R.Read.remaining (length c.args.piece.now) start c.loop-reads.going c.loop-reads.from
           c.args.readers.now c.loop-reads.readers c.loop-reads.session c.loop-reads.reads k
           (i.flags ∙ c.requires.many) c.in_default.ensures;
     }
@@ -106,17 +106,17 @@ loop-reads-preserved g c =
       read = λ start h many.
           let k = i.read start h many in
           let tables : length c.loop-reads.session.plan.tables ≡ length c.args.readers.now = ap (λ p. length p.tables) i.same.0 ∙ sym many in
-          read_on s.gains s.is_open s.failed g.R.Read.remaining limit start c.loop-reads.going c.loop-reads.from c.args.readers.now c.loop-reads.readers
+          read_on s.gains s.cuts s.is_open s.failed g.R.Read.remaining limit start c.loop-reads.going c.loop-reads.from c.args.readers.now c.loop-reads.readers
           c.loop-reads.session c.loop-reads.reads k n first c.read_piece.new.reader c.read_piece.new.session below inside was c.in-Some.ensures
           c.in_ok-goes_on.goes_on
           (t.reads start (length c.args.readers.now) limit k.events first k.stands
-          (is_open_here s.gains s.is_open s.failed g.R.Read.remaining limit start c.loop-reads.going c.loop-reads.from c.args.readers.now
+          (is_open_here s.gains s.cuts s.is_open s.failed g.R.Read.remaining limit start c.loop-reads.going c.loop-reads.from c.args.readers.now
           c.loop-reads.readers c.loop-reads.session c.loop-reads.reads k n first c.read_piece.new.reader c.read_piece.new.session below inside was
           c.texts_grow.ensures c.loop-reads.piece tables i.room size (omega (arith, test)) c.in-Some.ensures)
-          (gave_here s.gains s.is_open s.failed g.R.Read.remaining limit start c.loop-reads.going c.loop-reads.from c.args.readers.now
+          (gave_here s.gains s.cuts s.is_open s.failed g.R.Read.remaining limit start c.loop-reads.going c.loop-reads.from c.args.readers.now
           c.loop-reads.readers c.loop-reads.session c.loop-reads.reads k n first c.read_piece.new.reader c.read_piece.new.session below inside was
           r is c.in-Some.ensures)
-          (steady_here s.gains s.is_open s.failed g.R.Read.remaining limit start c.loop-reads.going c.loop-reads.from c.args.readers.now
+          (steady_here s.gains s.cuts s.is_open s.failed g.R.Read.remaining limit start c.loop-reads.going c.loop-reads.from c.args.readers.now
           c.loop-reads.readers c.loop-reads.session c.loop-reads.reads k n first c.read_piece.new.reader c.read_piece.new.session below inside was
           r is));
     }
@@ -144,17 +144,17 @@ returns-in_err-goes_on-clause-reads g c =
     let k = i.read start h many in
     let tables : length c.loop-reads.session.plan.tables ≡ length c.args.readers.now = ap (λ p. length p.tables) i.same.0 ∙ sym many in
     rw (p.1, p.2)
-    (ends_early s.gains s.is_open s.failed g.R.Read.remaining AreInTurn limit start n c.args.readers.now c.loop-reads.readers c.loop-reads.session
+    (ends_early s.gains s.cuts s.is_open s.failed g.R.Read.remaining AreInTurn limit start n c.args.readers.now c.loop-reads.readers c.loop-reads.session
     k.events k.gave k.steady first c.read_piece.new.reader c.read_piece.new.session below was
     c.args.session.now i.same (t.same.0 ∙ i.same.0, t.same.1 ∙ i.same.1) c.in_err-goes_on.field-0.0 (length k.events + 1)
     (t.reads start (length c.args.readers.now) limit k.events first k.stands
-    (is_open_here s.gains s.is_open s.failed g.R.Read.remaining limit start c.loop-reads.going c.loop-reads.from c.args.readers.now
+    (is_open_here s.gains s.cuts s.is_open s.failed g.R.Read.remaining limit start c.loop-reads.going c.loop-reads.from c.args.readers.now
     c.loop-reads.readers c.loop-reads.session c.loop-reads.reads k n first c.read_piece.new.reader c.read_piece.new.session below inside was
     c.texts_grow.ensures c.loop-reads.piece tables i.room size (omega (arith, test)) c.in-Some.ensures)
-    (gave_here s.gains s.is_open s.failed g.R.Read.remaining limit start c.loop-reads.going c.loop-reads.from c.args.readers.now
+    (gave_here s.gains s.cuts s.is_open s.failed g.R.Read.remaining limit start c.loop-reads.going c.loop-reads.from c.args.readers.now
     c.loop-reads.readers c.loop-reads.session c.loop-reads.reads k n first c.read_piece.new.reader c.read_piece.new.session below inside was
     r is c.in-Some.ensures)
-    (steady_here s.gains s.is_open s.failed g.R.Read.remaining limit start c.loop-reads.going c.loop-reads.from c.args.readers.now
+    (steady_here s.gains s.cuts s.is_open s.failed g.R.Read.remaining limit start c.loop-reads.going c.loop-reads.from c.args.readers.now
     c.loop-reads.readers c.loop-reads.session c.loop-reads.reads k n first c.read_piece.new.reader c.read_piece.new.session below inside was
     r is)))
 
