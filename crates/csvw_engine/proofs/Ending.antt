@@ -22,8 +22,9 @@ use Rattle.csvw_engine.specs.Flushes.{IsFlushed}
 use Rattle.csvw_engine.specs.Groups.{Converts, EndsBy, HaveTables, TablesStop, TextsSoFar}
 use Rattle.csvw_engine.specs.Planning.{IsMetaStop}
 use Rattle.csvw_engine.specs.Reporting.{Reports, TellsOutcome}
-use Rattle.csvw_engine.specs.Runs.{StopsBehind, IsPlanned, IsReason, IsSound, Runs, Succeeds, StopsBefore, StopsSo, WriteFails}
+use Rattle.csvw_engine.specs.Runs.{StopsAfter, IsPlanned, IsSound, Succeeds, StopsSo, WriteFails}
 use Rattle.csvw_engine.specs.Runs.{ReportedFront, SentFront, Wrote, WroteGraph, WroteGroup, Rises}
+use Rattle.csvw_engine.specs.Texts.{IsReason}
 use Rattle.csvw_engine.specs.Stopped.{Added, Leaves, WroteAll, WroteLines, WroteSome}
 use Rattle.csvw_engine.proofs.Flushing.{appends_kept, rose}
 use Rattle.csvw_meta.specs.Document.{Document}
@@ -80,39 +81,23 @@ told_kept outcome first s (Err reason) result old new r k e n = absurd (never ou
 told_ok : (outcome first : Outcome) (s : Stream) (told result : Result Outcome Stop) (old new : ℕ) → result ≡ Ok outcome → TellsOutcome first s told
     → IsFlushed told result old new → ToldOk outcome first s old new
 told_ok outcome first s told result old new r t (inl (e, n)) = told_kept outcome first s told result old new r t e n
-told_ok outcome first s told result old new r t (inr (apart, e, n)) = absurd (never outcome stop.Write result e r)
+told_ok outcome first s told result old new r t (inr (e, n)) = absurd (never outcome stop.Write result e r)
 
 no_stop : (reason : Stop) (outcome : Outcome) (told result : Result Outcome Stop) (old new : ℕ) → told ≡ Err reason → result ≡ Ok outcome
     → IsFlushed told result old new → ⊥
 no_stop reason outcome told result old new t r (inl (e, n)) = never outcome reason result (e ∙ t) r
-no_stop reason outcome told result old new t r (inr (apart, e, n)) = never outcome stop.Write result e r
+no_stop reason outcome told result old new t r (inr (e, n)) = never outcome stop.Write result e r
 
--- a stop before the tables, behind its flush
-module _ {R : Type 0} (remaining : R → Option (List ℕ)) (described : Document) (m : Mode) (olds : List (Counted R)) (out report_out : Stream)
-    (keeps : Keeps out.held out.holds) (quiet : IsIdle report_out) where
-  told_before : (reason : Stop) → StopsBefore described olds reason → IsSound out → StopsSo remaining described m olds olds out report_out reason
-  told_before stop.Memory h sound = inl (refl, keeps, sound, quiet)
-  told_before (stop.Meta fault) h sound = (h, (refl, keeps, sound, quiet))
-  told_before stop.TableCount h sound = (h, (refl, keeps, sound, quiet))
-  told_before other h sound = absurd h
+-- a stop before the tables, for which the document is the reason
+pub stops_before : {R : Type 0} (remaining : R → Option (List ℕ)) (order : ℕ → List Event → Type 0) (described : Document) (m : Mode)
+    (olds : List (Counted R)) (out report_out : Stream) → IsIdle out → IsIdle report_out → (reason : Stop) → IsMetaStop described reason
+    → StopsSo remaining order described m olds olds out report_out reason
+stops_before remaining order described m olds out report_out still quiet stop.Memory h = inl (refl, still, quiet)
+stops_before remaining order described m olds out report_out still quiet (stop.Meta fault) h = (h, (refl, still, quiet))
+stops_before remaining order described m olds out report_out still quiet other h = absurd h
 
-  pub stops_before : (reason : Stop) (result : Result Outcome Stop) → StopsBefore described olds reason
-      → IsFlushed (Err reason) result out.failures out.failed → Runs remaining described m olds olds out report_out result
-  stops_before reason result h (inl (e, n)) =
-      subst (Runs remaining described m olds olds out report_out) (sym e) (told_before reason h n)
-  stops_before reason result h (inr (apart, e, n)) =
-      subst (Runs remaining described m olds olds out report_out) (sym e)
-      (inl (refl, keeps, rose out.failures out.failures out.failed refl n, quiet))
-
--- why a document is refused
-pub meta_before : {R : Type 0} (described : Document) (olds : List (Counted R)) (reason : Stop) → IsMetaStop described reason
-    → StopsBefore described olds reason
-meta_before described olds stop.Memory h = tt
-meta_before described olds (stop.Meta fault) h = h
-meta_before described olds other h = absurd h
-
-module _ {R : Type 0} (remaining : R → Option (List ℕ)) (described : Document) (m : Mode) (olds news : List (Counted R)) (plan : Plan)
-    (planned : IsPlanned described plan) (many : length olds ≡ length plan.tables)
+module _ {R : Type 0} (remaining : R → Option (List ℕ)) (order : ℕ → List Event → Type 0) (described : Document) (m : Mode)
+    (olds news : List (Counted R)) (plan : Plan) (planned : IsPlanned described plan) (many : length olds ≡ length plan.tables)
     (out : Stream) (holds : Option (List ℕ)) (failed : ℕ) (keeps : Keeps out.holds holds) (report_out : Stream) where
   abbrev after : Stream
   after = flushed out holds failed
@@ -148,20 +133,20 @@ module _ {R : Type 0} (remaining : R → Option (List ℕ)) (described : Documen
 
   -- the texts so far, and what was written of them
   abbrev InTexts : Stop → Type 0
-  InTexts reason = TextsSoFar remaining olds news (λ events. IsReason plan olds news reason events × Leaves m plan out reason events)
+  InTexts reason = TextsSoFar remaining order olds news (λ events. IsReason plan olds news reason events × Leaves m plan out reason events)
 
-  stops_behind : (reason : Stop) → InTexts reason → StopsBehind remaining described m olds news after reason
-  stops_behind reason (events, gave, (because, left)) =
+  stops_after : (reason : Stop) → InTexts reason → StopsAfter remaining order described m olds news after reason
+  stops_after reason (events, gave, (because, left)) =
       (plan, events, record { planned = planned; many = many; gave = gave }, (because, leaves_kept reason events left))
 
   -- the whole graph, without a report
-  group : HaveTables remaining plan olds news (λ tables. Added m out (GraphOf m plan tables) []) → IsIdle report_out
-      → WroteGroup remaining described m olds news after report_out
+  group : HaveTables remaining order plan olds news (λ tables. Added m out (GraphOf m plan tables) []) → IsIdle report_out
+      → WroteGroup remaining order described m olds news after report_out
   group h quiet = record {
     plan = plan;
     planned = planned;
     many = many;
-    texts = h.texts;
+    events = h.events;
     read = h.read;
     tables = h.tables;
     annotated = h.annotated;
@@ -177,19 +162,20 @@ module _ {R : Type 0} (remaining : R → Option (List ℕ)) (described : Documen
   front_of outcome (Err stop.Write) t = record { front = t.front; rest = t.rest; parts = t.parts; appended = t.appended }
   front_of outcome (Err other) t = absurd t
 
-  told_soundly : (outcome : Outcome) (told : Result Outcome Stop) → told ≢ Err stop.Write → TellsOutcome outcome report_out told → IsSound report_out
-  told_soundly outcome (Ok told) apart (same, sent) = sent.1
-  told_soundly outcome (Err stop.Memory) apart t = t.sent.1
-  told_soundly outcome (Err stop.Write) apart t = absurd (apart refl)
-  told_soundly outcome (Err other) apart t = absurd t
+  -- the report failed, or it didn't
+  told_or_rose : (outcome : Outcome) (told : Result Outcome Stop) → TellsOutcome outcome report_out told → IsSound report_out ⊎ Rises report_out
+  told_or_rose outcome (Ok told) (same, sent) = inl sent.1
+  told_or_rose outcome (Err stop.Memory) t = inl t.sent.1
+  told_or_rose outcome (Err stop.Write) t = inr (rose report_out.failures report_out.failures report_out.failed refl t.failed)
+  told_or_rose outcome (Err other) t = absurd t
 
-  whole_group : (outcome : Outcome) (told : Result Outcome Stop) → Converts remaining m plan olds news out (Ok outcome)
-      → TellsOutcome outcome report_out told → WroteGroup remaining described m olds news after report_out
+  whole_group : (outcome : Outcome) (told : Result Outcome Stop) → Converts remaining order m plan olds news out (Ok outcome)
+      → TellsOutcome outcome report_out told → WroteGroup remaining order described m olds news after report_out
   whole_group outcome told h t = record {
     plan = plan;
     planned = planned;
     many = many;
-    texts = h.texts;
+    events = h.events;
     read = h.read;
     tables = h.tables;
     annotated = h.annotated;
@@ -202,23 +188,23 @@ module _ {R : Type 0} (remaining : R → Option (List ℕ)) (described : Documen
   rises sound e = rose out.failures out.failed failed sound e
 
   not_memory : (reason : Stop) → reason ≢ stop.Memory
-      → TablesStop remaining plan olds news (Leaves m plan out) (λ tables. Added m out (GraphOf m plan tables) []) reason
+      → TablesStop remaining order plan olds news (Leaves m plan out) (λ tables. Added m out (GraphOf m plan tables) []) reason
       → InTexts reason
   not_memory reason apart h = elim h [ inl s ↦ s | inr w ↦ absurd (apart w.0) ]
 
-  kept_stop : (reason : Stop) → failed ≡ out.failed → IsIdle report_out → Converts remaining m plan olds news out (Err reason)
-      → StopsSo remaining described m olds news after report_out reason
+  kept_stop : (reason : Stop) → failed ≡ out.failed → IsIdle report_out → Converts remaining order m plan olds news out (Err reason)
+      → StopsSo remaining order described m olds news after report_out reason
   kept_stop stop.Memory e quiet (why, sound) = elim why [
-    | inl s ↦ inr (inl (stops_behind stop.Memory s, e ∙ sound, quiet))
+    | inl s ↦ inr (inl (stops_after stop.Memory s, e ∙ sound, quiet))
     | inr (_, whole) ↦ inr (inr (group whole quiet, e ∙ sound, quiet.1))
   ]
-  kept_stop stop.Read e quiet (why, sound) = (stops_behind stop.Read (not_memory stop.Read (λ k. cc) why), e ∙ sound, quiet)
+  kept_stop stop.Read e quiet (why, sound) = (stops_after stop.Read (not_memory stop.Read (λ k. cc) why), e ∙ sound, quiet)
   kept_stop stop.Write e quiet (why, fails) =
-      inr (inl ((stop.Write, stops_behind stop.Write (not_memory stop.Write (λ k. cc) why)), (λ room. e ∙ fails room), quiet))
+      inl ((stop.Write, stops_after stop.Write (not_memory stop.Write (λ k. cc) why)), (λ room. e ∙ fails room), quiet)
   kept_stop (stop.Rows t row reason) e quiet (why, sound) =
-      (stops_behind (stop.Rows t row reason) (not_memory (stop.Rows t row reason) (λ k. cc) why), e ∙ sound, quiet)
+      (stops_after (stop.Rows t row reason) (not_memory (stop.Rows t row reason) (λ k. cc) why), e ∙ sound, quiet)
   kept_stop (stop.Table t row reason) e quiet (why, sound) =
-      (stops_behind (stop.Table t row reason) (not_memory (stop.Table t row reason) (λ k. cc) why), e ∙ sound, quiet)
+      (stops_after (stop.Table t row reason) (not_memory (stop.Table t row reason) (λ k. cc) why), e ∙ sound, quiet)
   kept_stop other e quiet (why, _) = let (_, _, (because, _)) = not_memory other (λ k. cc) why in absurd because
 
   stop_sound : (reason : Stop) → reason ≢ stop.Write → EndsBy (IsSound out) (Rises out) reason → IsSound out
@@ -228,47 +214,45 @@ module _ {R : Type 0} (remaining : R → Option (List ℕ)) (described : Documen
   -- an answer that is a stop
   abbrev StopsWith : Result Outcome Stop → Type 0
   StopsWith (Ok outcome) = Unit {0}
-  StopsWith (Err reason) = StopsSo remaining described m olds news after report_out reason
+  StopsWith (Err reason) = StopsSo remaining order described m olds news after report_out reason
 
-  unflushed : (reason : Stop) → Converts remaining m plan olds news out (Err reason) → IsIdle report_out → Rises after
-      → WriteFails remaining described m olds news after report_out
+  unflushed : (reason : Stop) → Converts remaining order m plan olds news out (Err reason) → IsIdle report_out → Rises after
+      → WriteFails remaining order described m olds news after report_out
   unflushed reason h quiet fails = elim h.0 [
-    | inl s ↦ inr (inl ((reason, stops_behind reason s), fails, quiet))
-    | inr w ↦ inr (inr (group w.1 quiet, inl (fails, quiet.1)))
+    | inl s ↦ inl ((reason, stops_after reason s), fails, quiet)
+    | inr w ↦ inr (group w.1 quiet, inl (fails, inl quiet.1))
   ]
 
-  behind_stop : (reason : Stop) (result : Result Outcome Stop) → Converts remaining m plan olds news out (Err reason) → IsIdle report_out
-      → IsFlushed (Err reason) result out.failed failed → StopsWith result
-  behind_stop reason result h quiet (inl (e, n)) = subst StopsWith (sym e) (kept_stop reason n quiet h)
-  behind_stop reason result h quiet (inr (apart, e, n)) =
-      subst StopsWith (sym e) (unflushed reason h quiet (rises (stop_sound reason (λ w. apart (ap Err w)) h.1) n))
+  after_stop : (reason : Stop) (result : Result Outcome Stop) → reason ≢ stop.Write → Converts remaining order m plan olds news out (Err reason)
+      → IsIdle report_out → IsFlushed (Err reason) result out.failed failed → StopsWith result
+  after_stop reason result apart h quiet (inl (e, n)) = subst StopsWith (sym e) (kept_stop reason n quiet h)
+  after_stop reason result apart h quiet (inr (e, n)) = subst StopsWith (sym e) (unflushed reason h quiet (rises (stop_sound reason apart h.1) n))
 
-  behind_report : (outcome : Outcome) (told result : Result Outcome Stop) → Converts remaining m plan olds news out (Ok outcome) → IsSound out
+  after_report : (outcome : Outcome) (told result : Result Outcome Stop) → Converts remaining order m plan olds news out (Ok outcome) → IsSound out
       → TellsOutcome outcome report_out told → IsFlushed told result out.failed failed → StopsWith result
-  behind_report outcome (Ok told) result h sound t (inl (e, n)) = subst StopsWith (sym e) tt
-  behind_report outcome (Err stop.Memory) result h sound t (inl (e, n)) =
+  after_report outcome (Ok told) result h sound t (inl (e, n)) = subst StopsWith (sym e) tt
+  after_report outcome (Err stop.Memory) result h sound t (inl (e, n)) =
       subst StopsWith (sym e) (inr (inr (whole_group outcome (Err stop.Memory) h t, n ∙ sound, t.sent.1)))
-  behind_report outcome (Err stop.Write) result h sound t (inl (e, n)) =
+  after_report outcome (Err stop.Write) result h sound t (inl (e, n)) =
       let failed = rose report_out.failures report_out.failures report_out.failed refl t.failed in
-      subst StopsWith (sym e) (inr (inr (whole_group outcome (Err stop.Write) h t, inr (n ∙ sound, failed))))
-  behind_report outcome (Err other) result h sound t (inl (e, n)) = absurd t
-  behind_report outcome told result h sound t (inr (apart, e, n)) =
-      subst StopsWith (sym e) (inr (inr (whole_group outcome told h t, inl (rises sound n, told_soundly outcome told apart t))))
+      subst StopsWith (sym e) (inr (whole_group outcome (Err stop.Write) h t, inr (n ∙ sound, failed)))
+  after_report outcome (Err other) result h sound t (inl (e, n)) = absurd t
+  after_report outcome told result h sound t (inr (e, n)) =
+      subst StopsWith (sym e) (inr (whole_group outcome told h t, inl (rises sound n, told_or_rose outcome told t)))
 
-  pub stops : (ran told result : Result Outcome Stop) → Converts remaining m plan olds news out ran → Reports ran report_out told
+  pub stops : (ran told result : Result Outcome Stop) → ran ≢ Err stop.Write → Converts remaining order m plan olds news out ran → Reports ran report_out told
       → IsFlushed told result out.failed failed → StopsWith result
-  stops (Ok outcome) told result h t f = behind_report outcome told result h (wrote_soundly m out plan h.tables h.gives.0) t f
-  stops (Err reason) told result h t f = behind_stop reason result h t.1 (subst (λ z. IsFlushed z result out.failed failed) t.0 f)
+  stops (Ok outcome) told result apart h t f = after_report outcome told result h (wrote_soundly m out plan h.tables h.gives.0) t f
+  stops (Err reason) told result apart h t f = after_stop reason result (λ e. apart (ap Err e)) h t.1 (subst (λ z. IsFlushed z result out.failed failed) t.0 f)
 
-  succeeded : (outcome : Outcome) → Converts remaining m plan olds news out (Ok outcome) → failed ≡ out.failed → Sends report_out (report outcome.faults)
-      → Succeeds remaining described m olds news after report_out outcome
+  succeeded : (outcome : Outcome) → Converts remaining order m plan olds news out (Ok outcome) → failed ≡ out.failed → Sends report_out (report outcome.faults)
+      → Succeeds remaining order described m olds news after report_out outcome
   succeeded outcome h e s = record {
     plan = plan;
     planned = planned;
     many = many;
-    texts = h.texts;
+    events = h.events;
     read = h.read;
-    steady = h.steady;
     tables = h.tables;
     annotated = h.annotated;
     wrote = wrote_kept m out holds failed plan h.tables keeps e h.gives.0;
@@ -276,45 +260,54 @@ module _ {R : Type 0} (remaining : R → Option (List ℕ)) (described : Documen
     reported = s;
   }
 
-  reported : (outcome first : Outcome) (told result : Result Outcome Stop) → result ≡ Ok outcome → Converts remaining m plan olds news out (Ok first)
+  reported : (outcome first : Outcome) (told result : Result Outcome Stop) → result ≡ Ok outcome → Converts remaining order m plan olds news out (Ok first)
       → TellsOutcome first report_out told
-      → IsFlushed told result out.failed failed → Succeeds remaining described m olds news after report_out outcome
+      → IsFlushed told result out.failed failed → Succeeds remaining order described m olds news after report_out outcome
   reported outcome first told result r h t f =
       let k = told_ok outcome first report_out told result out.failed failed r t f in
-      subst (λ z. Succeeds remaining described m olds news after report_out z) k.same (succeeded first h k.steady k.sent)
+      subst (λ z. Succeeds remaining order described m olds news after report_out z) k.same (succeeded first h k.steady k.sent)
 
-  pub succeeds : (ran told result : Result Outcome Stop) (outcome : Outcome) → result ≡ Ok outcome → Converts remaining m plan olds news out ran
+  pub succeeds : (ran told result : Result Outcome Stop) (outcome : Outcome) → result ≡ Ok outcome → Converts remaining order m plan olds news out ran
       → Reports ran report_out told
-      → IsFlushed told result out.failed failed → Succeeds remaining described m olds news after report_out outcome
+      → IsFlushed told result out.failed failed → Succeeds remaining order described m olds news after report_out outcome
   succeeds (Ok first) told result outcome r h t f = reported outcome first told result r h t f
   succeeds (Err reason) told result outcome r h t f = absurd (no_stop reason outcome told result out.failed failed t.0 r f)
 
   -- the whole graph was written, and reported
-  pub ends_whole : (ran told result : Result Outcome Stop) (outcome : Outcome) → result ≡ Ok outcome → Converts remaining m plan olds news out ran
+  pub ends_whole : (ran told result : Result Outcome Stop) (outcome : Outcome) → result ≡ Ok outcome → Converts remaining order m plan olds news out ran
       → Reports ran report_out told → IsFlushed told result out.failed failed
-      → WroteGroup remaining described m olds news after report_out × IsSound after × IsSound report_out
+      → WroteGroup remaining order described m olds news after report_out × IsSound after × IsSound report_out
   ends_whole (Ok first) told result outcome r h t f =
       let k = told_ok outcome first report_out told result out.failed failed r t f in
       (whole_group first told h t, k.steady ∙ wrote_soundly m out plan h.tables h.gives.0, k.sent.1)
   ends_whole (Err reason) told result outcome r h t f = absurd (no_stop reason outcome told result out.failed failed t.0 r f)
 
-  pub stops_with : (ran told result : Result Outcome Stop) (reason : Stop) → result ≡ Err reason → Converts remaining m plan olds news out ran
+  pub stops_with : (ran told result : Result Outcome Stop) (reason : Stop) → ran ≢ Err stop.Write → result ≡ Err reason
+      → Converts remaining order m plan olds news out ran
       → Reports ran report_out told → IsFlushed told result out.failed failed
-      → StopsSo remaining described m olds news after report_out reason
-  stops_with ran told result reason r h t f = subst StopsWith r (stops ran told result h t f)
+      → StopsSo remaining order described m olds news after report_out reason
+  stops_with ran told result reason apart r h t f = subst StopsWith r (stops ran told result apart h t f)
+
+-- a failed write in the tables, after which nothing was sent
+pub write_stops : {R : Type 0} (remaining : R → Option (List ℕ)) (order : ℕ → List Event → Type 0) (described : Document) (m : Mode)
+    (olds news : List (Counted R)) (plan : Plan) → IsPlanned described plan → length olds ≡ length plan.tables → (out report_out : Stream)
+    → IsIdle report_out → Converts remaining order m plan olds news out (Err stop.Write)
+    → StopsSo remaining order described m olds news out report_out stop.Write
+write_stops remaining order described m olds news plan planned many out report_out quiet h =
+    kept_stop remaining order described m olds news plan planned many out out.holds out.failed (Keeps-refl out.holds) report_out stop.Write refl quiet h
 
 -- the report was flushed
-pub report_kept : {R : Type 0} (remaining : R → Option (List ℕ)) (described : Document) (m : Mode) (olds news : List (Counted R))
+pub report_kept : {R : Type 0} (remaining : R → Option (List ℕ)) (order : ℕ → List Event → Type 0) (described : Document) (m : Mode) (olds news : List
+    (Counted R))
     (out report_out : Stream) (outcome : Outcome) (holds : Option (List ℕ)) (failed : ℕ)
-    → Keeps report_out.holds holds → failed ≡ report_out.failed → Succeeds remaining described m olds news out report_out outcome
-    → Succeeds remaining described m olds news out (flushed report_out holds failed) outcome
-report_kept remaining described m olds news out report_out outcome holds failed keeps e h = record {
+    → Keeps report_out.holds holds → failed ≡ report_out.failed → Succeeds remaining order described m olds news out report_out outcome
+    → Succeeds remaining order described m olds news out (flushed report_out holds failed) outcome
+report_kept remaining order described m olds news out report_out outcome holds failed keeps e h = record {
   plan = h.plan;
   planned = h.planned;
   many = h.many;
-  texts = h.texts;
+  events = h.events;
   read = h.read;
-  steady = h.steady;
   tables = h.tables;
   annotated = h.annotated;
   wrote = h.wrote;
@@ -322,7 +315,7 @@ report_kept remaining described m olds news out report_out outcome holds failed 
   reported = sends_kept report_out holds failed (report outcome.faults) keeps e h.reported;
 }
 
--- what was reported stays so behind a flush
+-- what was reported stays so after a flush
 reported_kept : (plan : Plan) (tables : List Table) (s : Stream) (holds : Option (List ℕ)) (failed : ℕ) → Keeps s.holds holds
     → Keeps s.held s.holds ⊎ ReportedFront plan tables s → Keeps s.held holds ⊎ ReportedFront plan tables (flushed s holds failed)
 reported_kept plan tables s holds failed keeps (inl k) = inl (Keeps-trans s.held s.holds holds k keeps)
@@ -334,22 +327,22 @@ reported_kept plan tables s holds failed keeps (inr k) =
       sent = record { front = f.front; rest = f.rest; parts = f.parts; appended = appends_kept s.held s.holds holds f.front f.appended keeps };
     })
 
--- the flush of the report failed, behind the whole graph
-pub report_unsent : {R : Type 0} (remaining : R → Option (List ℕ)) (described : Document) (m : Mode) (olds news : List (Counted R))
-    (out report_out : Stream)
+-- the flush of the report failed after the whole graph
+pub report_unsent : {R : Type 0} (remaining : R → Option (List ℕ)) (order : ℕ → List Event → Type 0) (described : Document) (m : Mode)
+    (olds news : List (Counted R)) (out report_out : Stream)
     (holds : Option (List ℕ)) (failed : ℕ) (reason : Stop) → Keeps report_out.holds holds → reason ≡ stop.Write → failed ≡ one_more report_out.failed
-    → WroteGroup remaining described m olds news out report_out × IsSound out × IsSound report_out
-    → StopsSo remaining described m olds news out (flushed report_out holds failed) reason
-report_unsent remaining described m olds news out report_out holds failed reason keeps is more (group, whole, sound) =
-    let kept : WroteGroup remaining described m olds news out (flushed report_out holds failed) = record {
+    → WroteGroup remaining order described m olds news out report_out × IsSound out × IsSound report_out
+    → StopsSo remaining order described m olds news out (flushed report_out holds failed) reason
+report_unsent remaining order described m olds news out report_out holds failed reason keeps is more (group, whole, sound) =
+    let kept : WroteGroup remaining order described m olds news out (flushed report_out holds failed) = record {
       plan = group.plan;
       planned = group.planned;
       many = group.many;
-      texts = group.texts;
+      events = group.events;
       read = group.read;
       tables = group.tables;
       annotated = group.annotated;
       added = group.added;
       reported = reported_kept group.plan group.tables report_out holds failed keeps group.reported;
     } in
-    rw is (inr (inr (kept, inr (whole, rose report_out.failures report_out.failed failed sound more))))
+    rw is (inr (kept, inr (whole, rose report_out.failures report_out.failed failed sound more)))

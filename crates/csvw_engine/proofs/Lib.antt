@@ -3,6 +3,7 @@ mod Ending
 mod Flushing
 mod GoodRuns
 mod Lone
+mod Ordering
 mod Planning
 mod Taking
 mod Writing

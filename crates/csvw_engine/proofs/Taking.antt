@@ -8,7 +8,7 @@ use Rattle.std.specs.List.Sorted.{IsPermutation}
 use Rattle.std.proofs.lemmas.List.Sorted.{IsPermutation-trans, IsPermutation-append_right}
 use Rattle.std.proofs.KnownBytes.{Consumes-nil}
 use Rattle.std.proofs.lemmas.List.Elements.{Contains-append_left, Contains-append_right}
-use Rattle.csvw_text.specs.Counted.{inner_of}
+use Rattle.csvw_text.specs.Counted.{inner_of, failures_of}
 use Rattle.csvw_text.specs.declared.counted.Counted.{Counted}
 use Rattle.csvw_text.specs.declared.fault.Fault.{Fault}
 use Rattle.csvw_columns.specs.declared.plan.Plan.{Plan}
@@ -18,8 +18,8 @@ use Rattle.csvw_columns_core.specs.declared.table_stop.TableStop.{TableStop}
 use Rattle.csvw_triples_core.specs.Taking.{FrontOf, IsAsReady}
 use Rattle.csvw_triples_core.specs.declared.mode.Mode.{Mode}
 use Rattle.csvw_triples_core.specs.declared.term.Triple.{Triple}
-use Rattle.csvw_opening.specs.Opening.{Opening}
-use Rattle.csvw_opening.specs.OpeningTriples.{opening}
+use Rattle.csvw_triples.specs.Opening.{Opening}
+use Rattle.csvw_triples.specs.OpeningTriples.{opening}
 use Rattle.csvw_engine_core.specs.Tables.{is_ended}
 use Rattle.csvw_engine_core.specs.declared.table.Table.{Table}
 use Rattle.csvw_report.specs.declared.outcome.Outcome.{Outcome}
@@ -38,9 +38,11 @@ use Rattle.csvw_group.specs.AtEnd.{Annotates, texts_of}
 use Rattle.csvw_group.specs.Part.{IsCutInOpening}
 use Rattle.csvw_group.specs.Stopped.{TookAll, TookBy, TookSome}
 use Rattle.csvw_group.specs.Violations.{rows_of, tables_violations, AreViolations}
-use Rattle.csvw_reading.specs.Reading.{Gave, GaveTexts, IsSame, Reads, ReadsAll, StopsAt}
+use Rattle.csvw_group.specs.Taken.{AreTaken, AreTakenBefore}
+use Rattle.csvw_reading.specs.ReadOrder.{AreReadIn}
+use Rattle.csvw_reading.specs.Reading.{AreSteady, Gave, GaveTexts, IsSame, Reads, ReadsAll, StopsAt}
 use Rattle.csvw_engine.specs.Groups.{EndsBy, GainsSome, HaveTables, SinkLeaves, TablesStop, TakesTables, TookTables}
-use Rattle.csvw_engine.specs.Runs.{ReadWhole, StopsInText, RefusedInText}
+use Rattle.csvw_engine.specs.Texts.{AreTakenButLast, GaveEvents, IsReason, ReadToEnds, RefusedInText, StopsInText, piece_limit}
 
 -- each of the tables has ended
 all_ended : (plans : List TablePlan) (tables : List Table) → length tables ≡ length plans
@@ -66,21 +68,20 @@ with_keys given violated keys told listed same order all =
     IsPermutation-trans (violated ++ keys) (violated ++ told) listed (IsPermutation-append_right violated keys told order)
     (subst (λ fs. IsPermutation (fs ++ told) listed) same all)
 
-module _ {R S : Type 0} (gains : S → List Triple → S → Type 0) (is_open : S → Bool) (failed : S → ℕ) (remaining : R → Option (List ℕ))
+module _ {R S : Type 0} (gains : S → List Triple → S → Type 0) (cuts : S → Triple → S → Type 0) (is_open : S → Bool) (failed : S → ℕ)
+    (remaining : R → Option (List ℕ)) (order : ℕ → List Event → Type 0)
     (goes_on : (a b c : S) (xs ys : List Triple) → gains a xs b → gains b ys c → gains a (xs ++ ys) c) (sink start : S)
     (as_ready : IsAsReady is_open failed sink start) (olds news : List (Counted R)) where
-  -- texts that were read whole
-  read_whole : (events : List Event) → GaveTexts remaining olds news events → ((i : ℕ) → i < length olds → ended_in events (i + 1) ≡ true)
-      → ReadWhole remaining olds news (texts_of events)
-  read_whole events gave ended i r s p q =
-      subst (λ b. Gave remaining r s (text_of events (i + 1)) b) (ended i (slice_get_within olds i r p)) (gave.each i r s p q)
-
   -- the session was read to its end
-  module _ (old middle new : Session S) (all : ReadsAll gains is_open failed remaining start olds news old middle) (many : length olds ≡ length old.plan.tables)
+  module _ (old middle new : Session S) (all : ReadsAll gains is_open failed remaining order piece_limit start olds news old middle)
+      (many : length olds ≡ length old.plan.tables)
       (opened : gains sink (opening old.mode old.plan) start)
       (law : (events : List Event) (s : Session S) → gains sink (opening s.mode s.plan) start → Stands gains is_open failed start events s
       → list_all is_ended s.tables.items ≡ true
       → Annotates gains sink events s) where
+    read_to_ends : ReadToEnds remaining order olds news all.events
+    read_to_ends = record { gave = record { gave = all.gave; read = all.read }; steady = all.steady; ended = all.ended }
+
     each_ended : list_all is_ended middle.tables.items ≡ true
     each_ended =
         all_ended middle.plan.tables middle.tables.items middle.many
@@ -109,11 +110,10 @@ module _ {R S : Type 0} (gains : S → List Triple → S → Type 0) (is_open : 
     }
 
     whole : (outcome : Outcome) → Finishes middle new (Ok outcome)
-        → TakesTables gains is_open failed remaining old.mode old.plan olds news sink new.sink (Ok outcome)
+        → TakesTables gains cuts is_open failed remaining order old.mode old.plan olds news sink new.sink (Ok outcome)
     whole outcome fin = record {
-      texts = texts_of all.events;
-      read = read_whole all.events all.gave all.ended;
-      steady = all.steady;
+      events = all.events;
+      read = read_to_ends;
       tables = read_tables.tables;
       annotated = annotated;
       violations = subst (λ (p : Plan). AreViolations p read_tables.tables outcome.faults) all.same.0 (record {
@@ -126,10 +126,10 @@ module _ {R S : Type 0} (gains : S → List Triple → S → Type 0) (is_open : 
       gives = took_tables fin.0.sink;
     }
 
-    unfinished : new.sink ≡ middle.sink → HaveTables remaining old.plan olds news (TookTables gains is_open failed old.mode old.plan sink new.sink)
+    unfinished : new.sink ≡ middle.sink → HaveTables remaining order old.plan olds news (TookTables gains is_open failed old.mode old.plan sink new.sink)
     unfinished e = record {
-      texts = texts_of all.events;
-      read = read_whole all.events all.gave all.ended;
+      events = all.events;
+      read = read_to_ends;
       tables = read_tables.tables;
       annotated = annotated;
       gives = took_tables e;
@@ -139,7 +139,7 @@ module _ {R S : Type 0} (gains : S → List Triple → S → Type 0) (is_open : 
     none_open e = let ended = each_ended in cc
 
     pub finished : (result : Result Outcome Stop) → Finishes middle new result
-        → TakesTables gains is_open failed remaining old.mode old.plan olds news sink new.sink result
+        → TakesTables gains cuts is_open failed remaining order old.mode old.plan olds news sink new.sink result
     finished (Ok outcome) fin = whole outcome fin
     finished (Err stop.Memory) fin = (
       (
@@ -160,8 +160,9 @@ module _ {R S : Type 0} (gains : S → List Triple → S → Type 0) (is_open : 
       → TookAll gains s.mode s.plan events sink s.sink)
       (part_law : (events : List Event) (event : Event) (s t : Session S) (n : ℕ) (reason : Stop) → gains sink (opening s.mode s.plan) start
       → IsAsReady is_open failed sink start → Stands gains is_open failed start events s → table_of event ≡ n
-      → Takes gains is_open failed s t n event (Err reason)
-      → TookBy gains is_open failed s.mode s.plan (events ++ event ∷ []) sink t.sink reason) where
+      → Takes gains cuts is_open failed s t n event (Err reason)
+      → TookBy gains cuts is_open failed s.mode s.plan (events ++ event ∷ []) sink t.sink reason)
+      (taken_law : (events : List Event) (s : Session S) → Stands gains is_open failed start events s → AreTaken s.plan.tables events) where
     -- the same by the plan and the mode of the session at its start
     at_own : (P : Mode → Plan → Type 0) (s : Session S) → IsSame old s → P s.mode s.plan → P old.mode old.plan
     at_own P s same p = subst (λ (z : Plan). P old.mode z) same.0 (subst (λ m. P m s.plan) same.1 p)
@@ -170,15 +171,16 @@ module _ {R S : Type 0} (gains : S → List Triple → S → Type 0) (is_open : 
     opened_at s same =
         subst (λ (p : Plan). gains sink (opening s.mode p) start) (sym same.0) (subst (λ m. gains sink (opening m old.plan) start) (sym same.1) opened)
 
-    behind_event : (events : List Event) (reason : Stop) → StopsAt gains is_open failed start old new events reason
-        → TookBy gains is_open failed old.mode old.plan events sink new.sink reason
+    behind_event : (events : List Event) (reason : Stop) → StopsAt gains cuts is_open failed start old new events reason
+        → TookBy gains cuts is_open failed old.mode old.plan events sink new.sink reason
     behind_event events reason s =
-        at_own (λ m p. TookBy gains is_open failed m p events sink new.sink reason) s.session s.same
-        (subst (λ es. TookBy gains is_open failed s.session.mode s.session.plan es sink new.sink reason) (sym s.all)
+        at_own (λ m p. TookBy gains cuts is_open failed m p events sink new.sink reason) s.session s.same
+        (subst (λ es. TookBy gains cuts is_open failed s.session.mode s.session.plan es sink new.sink reason) (sym s.all)
         (part_law s.before s.event s.session new s.t reason (opened_at s.session s.same) as_ready s.stands s.of_table s.takes))
 
     -- what its sink took by then
-    some_gained : (reason : Stop) → Reads gains is_open failed remaining start olds news old new (Err reason) → GainsSome gains start new.sink
+    some_gained : (reason : Stop) → Reads gains cuts is_open failed remaining order piece_limit start olds news old new (Err reason)
+        → GainsSome gains start new.sink
     some_gained stop.Memory h =
         let s = h.stops in
         let k = s.takes.1 start s.before s.stands in (
@@ -208,7 +210,21 @@ module _ {R S : Type 0} (gains : S → List Triple → S → Type 0) (is_open : 
     ready_at : (between : S) → IsAsReady is_open failed start between → IsAsReady is_open failed between new.sink → IsAsReady is_open failed sink new.sink
     ready_at between x y = ready_on is_open failed sink start new.sink as_ready (ready_on is_open failed start between new.sink x y)
 
-    in_text : (events : List Event) (t row : ℕ) (reason : RowStop) → StopsAt gains is_open failed start old new events (stop.Rows t row reason)
+    -- the events before the last were taken
+    taken_before : (events : List Event) (reason : Stop) (t : ℕ) (s : StopsAt gains cuts is_open failed start old new events reason) → s.t ≡ t
+        → AreTakenBefore old.plan.tables events t
+    taken_before events reason t s e = record {
+      before = s.before;
+      event = s.event;
+      all = s.all;
+      of_table = s.of_table ∙ e;
+      taken = subst (λ (p : Plan). AreTaken p.tables s.before) s.same.0 (taken_law s.before s.session s.stands);
+    }
+
+    taken_but_last : (events : List Event) (reason : Stop) → StopsAt gains cuts is_open failed start old new events reason → AreTakenButLast old.plan events
+    taken_but_last events reason s = inr (s.t, taken_before events reason s.t s refl)
+
+    in_text : (events : List Event) (t row : ℕ) (reason : RowStop) → StopsAt gains cuts is_open failed start old new events (stop.Rows t row reason)
         → StopsInText old.plan events t row reason
     in_text events t row reason s =
         let at = (s.takes.2 start s.before s.stands).0 in record {
@@ -216,11 +232,16 @@ module _ {R S : Type 0} (gains : S → List Triple → S → Type 0) (is_open : 
           number = at.number ∙ sym s.takes.1;
           table = at.plan;
           is_at = subst (λ (p : Plan). slice_get p.tables at.i ≡ Some at.plan) s.same.0 at.is_at.0;
+          before = taken_before events (stop.Rows t row reason) t s (sym s.takes.1);
           given = at.given ++ at.leaves.raws;
+          columns = at.leaves.columns;
+          faults = at.leaves.faults;
+          rows = _;
+          rows_before = at.leaves.table;
           stopped = rw (s.all, s.takes.1) at.leaves.why;
         }
 
-    refused_in : (events : List Event) (t row : ℕ) (reason : TableStop) → StopsAt gains is_open failed start old new events (stop.Table t row reason)
+    refused_in : (events : List Event) (t row : ℕ) (reason : TableStop) → StopsAt gains cuts is_open failed start old new events (stop.Table t row reason)
         → RefusedInText old.plan events t row reason
     refused_in events t row reason s =
         let at = (s.takes.2 start s.before s.stands).0 in record {
@@ -228,54 +249,73 @@ module _ {R S : Type 0} (gains : S → List Triple → S → Type 0) (is_open : 
           number = at.number ∙ sym s.takes.1;
           table = at.plan;
           is_at = subst (λ (p : Plan). slice_get p.tables at.i ≡ Some at.plan) s.same.0 at.is_at.0;
+          before = taken_before events (stop.Table t row reason) t s (sym s.takes.1);
           given = at.given ++ at.leaves.raws;
           columns = at.leaves.columns;
           faults = at.leaves.faults;
           rows = _;
-          in_front = at.leaves.table;
+          rows_before = at.leaves.table;
           refused = rw (s.all, s.takes.1) at.leaves.why;
         }
 
-    stopped : (reason : Stop) → Reads gains is_open failed remaining start olds news old new (Err reason)
-        → TablesStop remaining old.plan olds news (SinkLeaves gains is_open failed old.mode old.plan sink new.sink)
+    stopped : (reason : Stop) → Reads gains cuts is_open failed remaining order piece_limit start olds news old new (Err reason)
+        → TablesStop remaining order old.plan olds news (SinkLeaves gains cuts is_open failed old.mode old.plan sink new.sink)
         (TookTables gains is_open failed old.mode old.plan sink new.sink) reason
-    stopped stop.Memory h = inl (h.events, h.gave, (tt, behind_event h.events stop.Memory h.stops))
-    stopped stop.Write h = inl (h.events, h.gave, (tt, behind_event h.events stop.Write h.stops))
+    stopped stop.Memory h =
+        inl (
+          h.events,
+          record { gave = h.gave; read = h.read },
+          ((h.steady, taken_but_last h.events stop.Memory h.stops), behind_event h.events stop.Memory h.stops),
+        )
+    stopped stop.Write h =
+        inl (
+          h.events,
+          record { gave = h.gave; read = h.read },
+          ((h.steady, taken_but_last h.events stop.Write h.stops), behind_event h.events stop.Write h.stops),
+        )
     stopped stop.Read h = inl (
       h.events,
-      h.gave,
+      record { gave = h.gave; read = h.read },
       (
-        elim h.blame [ inl f ↦ inl f | inr m ↦ inr m.0 ],
+        (h.blame, subst (λ (p : Plan). AreTaken p.tables h.events) h.same.0 (taken_law h.events new h.stands)),
         at_own (λ m p. TookAll gains m p h.events sink new.sink) new h.same (all_law h.events new (opened_at new h.same) h.stands),
       ),
     )
     stopped (stop.Rows t row reason) h =
-        inl (h.events, h.gave, (in_text h.events t row reason h.stops, behind_event h.events (stop.Rows t row reason) h.stops))
+        inl (
+          h.events,
+          record { gave = h.gave; read = h.read },
+          ((h.steady, in_text h.events t row reason h.stops), behind_event h.events (stop.Rows t row reason) h.stops),
+        )
     stopped (stop.Table t row reason) h =
-        inl (h.events, h.gave, (refused_in h.events t row reason h.stops, behind_event h.events (stop.Table t row reason) h.stops))
+        inl (
+          h.events,
+          record { gave = h.gave; read = h.read },
+          ((h.steady, refused_in h.events t row reason h.stops), behind_event h.events (stop.Table t row reason) h.stops),
+        )
     stopped other h = absurd h
 
-    ends_by : (reason : Stop) → Reads gains is_open failed remaining start olds news old new (Err reason)
+    ends_by : (reason : Stop) → Reads gains cuts is_open failed remaining order piece_limit start olds news old new (Err reason)
         → EndsBy (IsAsReady is_open failed sink new.sink) (is_open sink ≡ true → failed sink < 2 ^ 64 - 1 → failed new.sink ≡ failed sink + 1) reason
     ends_by stop.Memory h = let s = h.stops in ready_at s.session.sink s.stands.ready (s.takes.1 start s.before s.stands).1
     ends_by stop.Read h = ready_on is_open failed sink start new.sink as_ready h.stands.ready
     ends_by stop.Write h =
         let s = h.stops in
         let r = ready_on is_open failed sink start s.session.sink as_ready s.stands.ready in
-        λ begun room. (s.takes.1 start s.before s.stands).1 (r.0 ∙ begun) (rw r.1 room) ∙ ap (λ n. n + 1) r.1
+        λ begun room. (s.takes.1 start s.before s.stands).2 (r.0 ∙ begun) (rw r.1 room) ∙ ap (λ n. n + 1) r.1
     ends_by (stop.Rows t row reason) h = let s = h.stops in ready_at s.session.sink s.stands.ready (s.takes.2 start s.before s.stands).1
     ends_by (stop.Table t row reason) h = let s = h.stops in ready_at s.session.sink s.stands.ready (s.takes.2 start s.before s.stands).1
     ends_by other h = absurd h
 
-    pub stops : (reason : Stop) → Reads gains is_open failed remaining start olds news old new (Err reason)
-        → TakesTables gains is_open failed remaining old.mode old.plan olds news sink new.sink (Err reason)
+    pub stops : (reason : Stop) → Reads gains cuts is_open failed remaining order piece_limit start olds news old new (Err reason)
+        → TakesTables gains cuts is_open failed remaining order old.mode old.plan olds news sink new.sink (Err reason)
     stops reason h = (gained_behind (some_gained reason h), stopped reason h, ends_by reason h)
 
 -- what is told of the group
 abbrev pub OpeningIsGraph : Type 0
 OpeningIsGraph = (m : Mode) (plan : Plan) (x : Triple) → Contains (opening m plan) x ↔ Opening m plan x
 
-opening_cut : OpeningIsGraph → (m : Mode) (plan : Plan) (front rest : List Triple) → opening m plan ≡ front ++ rest → IsCutInOpening m plan [] front rest
+pub opening_cut : OpeningIsGraph → (m : Mode) (plan : Plan) (front rest : List Triple) → opening m plan ≡ front ++ rest → IsCutInOpening m plan [] front rest
 opening_cut law m plan front rest e = record {
   none = refl;
   within = λ x c. (law m plan x).0 (subst (λ ts. Contains ts x) (sym e) (Contains-append_left front rest x c));
@@ -287,31 +327,48 @@ same_place : {X : Type 0} (xs : List X) (i : ℕ) (x y : X) → slice_get xs i �
 same_place xs i x y e f = let k : Some x ≡ Some y = sym e ∙ f in cc
 
 -- no reader was read
-pub none_read : {R : Type 0} (remaining : R → Option (List ℕ)) (olds : List (Counted R)) → GaveTexts remaining olds olds []
-none_read remaining olds = record {
+none_given : {R : Type 0} (remaining : R → Option (List ℕ)) (olds : List (Counted R)) → GaveTexts remaining olds olds []
+none_given remaining olds = record {
   many = refl;
   each = λ i r s p q. subst (λ z. Gave remaining r z [] false) (same_place olds i r s p q)
-      (record { consumed = Consumes-nil (remaining (inner_of r)); at_end = λ e. cc });
+      (record { consumed = Consumes-nil (remaining (inner_of r)); at_end = λ e. cc; ended_is = refl });
+}
+
+pub none_failed : {R : Type 0} (olds : List (Counted R)) → AreSteady olds olds
+none_failed olds i r s p q = ap failures_of (sym (same_place olds i r s p q))
+
+pub none_read : {R : Type 0} (remaining : R → Option (List ℕ)) (order : ℕ → List Event → Type 0) (olds : List (Counted R))
+    → AreReadIn order (length olds) piece_limit [] → GaveEvents remaining order (length olds) olds olds []
+none_read remaining order olds by = record { gave = none_given remaining olds; read = by }
+
+-- a front of what is told of the group was taken
+abbrev pub took_opening : {S : Type 0} (gains : S → List Triple → S → Type 0) (cuts : S → Triple → S → Type 0) (is_open : S → Bool) (failed : S → ℕ)
+    (law : OpeningIsGraph) (m : Mode) (plan : Plan) (sink now : S) (stays : gains sink [] sink) (Fails : Type 0)
+    → FrontOf gains cuts sink (opening m plan) now Fails → TookSome gains cuts is_open failed m plan [] sink now Fails
+took_opening gains cuts is_open failed law m plan sink now stays Fails h = record {
+  taken = [];
+  middle = sink;
+  gained = stays;
+  ready = (refl, refl);
+  more = opening m plan;
+  took = h;
+  cut = λ front rest e. inl (opening_cut law m plan front rest e);
 }
 
 -- a session that did not start
-module _ {R S : Type 0} (gains : S → List Triple → S → Type 0) (is_open : S → Bool) (failed : S → ℕ) (remaining : R → Option (List ℕ)) (law : OpeningIsGraph)
-    (m : Mode) (plan : Plan) (olds : List (Counted R)) (sink now : S) (stays : gains sink [] sink) where
-  took_opening : FrontOf gains sink (opening m plan) now → TookSome gains is_open failed m plan [] sink now
-  took_opening h = record {
-    taken = [];
-    middle = sink;
-    gained = stays;
-    ready = (refl, refl);
-    more = opening m plan;
-    took = h;
-    cut = λ front rest e. inl (opening_cut law m plan front rest e);
-  }
+module _ {R S : Type 0} (gains : S → List Triple → S → Type 0) (cuts : S → Triple → S → Type 0) (is_open : S → Bool) (failed : S → ℕ)
+    (remaining : R → Option (List ℕ)) (law : OpeningIsGraph)
+    (order : ℕ → List Event → Type 0) (m : Mode) (plan : Plan) (olds : List (Counted R)) (by : AreReadIn order (length olds) piece_limit [])
+    (sink now : S) (stays : gains sink [] sink) where
+  some_taken : (Fails : Type 0) → FrontOf gains cuts sink (opening m plan) now Fails → TookSome gains cuts is_open failed m plan [] sink now Fails
+  some_taken = took_opening gains cuts is_open failed law m plan sink now stays
 
-  pub refused : (reason : Stop) → Refuses gains is_open failed plan m sink now reason
-      → TakesTables gains is_open failed remaining m plan olds olds sink now (Err reason)
-  refused stop.Memory h = ((h.0.front, h.0.gained), inl ([], none_read remaining olds, (tt, took_opening h.0)), h.1)
-  refused stop.Write h = ((h.0.front, h.0.gained), inl ([], none_read remaining olds, (tt, took_opening h.0)), h.2)
+  pub refused : (reason : Stop) → Refuses gains cuts is_open failed plan m sink now reason
+      → TakesTables gains cuts is_open failed remaining order m plan olds olds sink now (Err reason)
+  refused stop.Memory h =
+      ((h.0.front, h.0.gained), inl ([], none_read remaining order olds by, ((none_failed olds, inl refl), some_taken ⊥ h.0)), h.1)
+  refused stop.Write h =
+      ((h.0.front, h.0.gained), inl ([], none_read remaining order olds by, ((none_failed olds, inl refl), some_taken (is_open sink ≡ true) h.0)), h.2)
   refused other h = absurd h
 
 -- a session at its start has its own plan and mode

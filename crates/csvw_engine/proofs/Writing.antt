@@ -1,5 +1,5 @@
 -- The graph of a group, as N-Triples.
-use Rattle.std.proofs.Common.{◌≡◌, ◌↔◌, ◌<◌, ◌+◌, ◌-◌, ◌^◌, ℕ, Bool, true, false, List, [], ◌∷◌, ◌++◌, refl, sym, ap, ◌∙◌, subst, arith, inl, inr}
+use Rattle.std.proofs.Common.{◌≡◌, ◌↔◌, ◌<◌, ◌+◌, ◌-◌, ◌^◌, ℕ, true, List, [], ◌∷◌, ◌++◌, length, refl, sym, ap, ◌∙◌, subst, arith, inl, inr}
 use Rattle.std.proofs.Common.{append-nil, append_assoc, map, take, Contains, Option, Some, None, Result, Ok, Err}
 use Rattle.std.proofs.KnownBytes.{Appends-nil, Appends-trans}
 use Rattle.std.specs.List.{AllByRecursion}
@@ -10,7 +10,7 @@ use Rattle.csvw_text.specs.Streams.{Stream, stream_of}
 use Rattle.csvw_columns_core.specs.declared.columns.Columns.{Columns}
 use Rattle.csvw_columns.specs.declared.plan.Plan.{Plan}
 use Rattle.csvw_annotate.specs.declared.row.Row.{Row}
-use Rattle.csvw_triples_core.specs.Taking.{IsAsReady}
+use Rattle.csvw_triples_core.specs.Taking.{IsAsReady, IsCutAfter}
 use Rattle.csvw_triples_core.specs.declared.mode.Mode.{Mode}
 use Rattle.csvw_triples_core.specs.declared.mode.Mode.TheVariants as mode
 use Rattle.csvw_triples_core.specs.declared.term.Triple.{Triple}
@@ -18,7 +18,6 @@ use Rattle.csvw_ntriples.specs.declared.nt_sink.NtSink.{NtSink}
 use Rattle.csvw_ntriples.specs.Grammar.{Denotes}
 use Rattle.csvw_ntriples.specs.NtSink.{sink_out, sink_is_open}
 use Rattle.csvw_ntriples.specs.SameUpTo.{SameUpTo}
-use Rattle.csvw_ntriples.specs.Sending.{Sends}
 use Rattle.csvw_ntriples.specs.SendingLaws.{all_fit, written-append}
 use Rattle.csvw_ntriples.specs.Writable.{TripleFits}
 use Rattle.csvw_ntriples.specs.Written.{written, said}
@@ -32,10 +31,15 @@ use Rattle.csvw_group.specs.Graph.{GraphOf}
 use Rattle.csvw_group.specs.Part.{TablePart, FirstRowGraph, PartGraph, IsCutShort}
 use Rattle.csvw_group.specs.Stopped.{TookAll, TookSome}
 use Rattle.csvw_engine.specs.Groups.{Converts, EndsBy, SinkLeaves, TakesTables}
-use Rattle.csvw_engine.specs.Runs.{IsReason, Wrote, WroteGraph}
+use Rattle.csvw_engine.specs.Runs.{Wrote, WroteGraph}
+use Rattle.csvw_engine.specs.Rooms.{IsOrder}
+use Rattle.csvw_engine.specs.Texts.{IsReason, piece_limit}
+use Rattle.csvw_engine.specs.declared.room.Order.{Order}
+use Rattle.csvw_reading.specs.ReadOrder.{AreReadIn}
+use Rattle.csvw_engine.specs.Lines.{cuts_lines}
 use Rattle.csvw_engine.specs.Stopped.{Added, IsFrontOfLine, Leaves, WroteAll, WroteLines, WroteSome}
 use Rattle.csvw_engine.proofs.Converting.{takes, failed_of, none_in, same_by, sends_whole}
-use Rattle.csvw_engine.proofs.Taking.{none_read}
+use Rattle.csvw_engine.proofs.Taking.{none_failed, none_read}
 
 -- what the lines of triples denote
 pub record LineLaws : Type 0 where
@@ -79,52 +83,9 @@ no_line : (plan : Plan) (events : List Event) (ts rest : List Triple) (more : Li
 no_line plan events ts [] more h line = line
 no_line plan events ts (x ∷ xs) more h line = absurd (none_next plan events ts (x ∷ xs) h x xs refl)
 
--- what a sink that was open did to the bytes of its writer: whole lines of a front, and perhaps a front of the next line
-record CutFrom (held holds : Option (List ℕ)) (all : List Triple) : Type 0 where
-  pub front : List Triple
-  pub rest : List Triple
-  pub more : List ℕ
-  pub parts : all ≡ front ++ rest
-  pub line : IsFrontOfLine rest more
-  pub fits : AllByRecursion TripleFits front
-  pub added : Appends held holds (written front ++ more)
-
 no_more : (rest : List Triple) → IsFrontOfLine rest []
 no_more [] = refl
 no_more (next ∷ rest) = inl refl
-
-first_fit : (front : List Triple) (cut : Triple) → AllByRecursion TripleFits (front ++ cut ∷ []) → AllByRecursion TripleFits front
-first_fit [] cut h = tt
-first_fit (x ∷ front) cut h = (h.0, first_fit front cut h.1)
-
-last_fits : (front : List Triple) (cut : Triple) → AllByRecursion TripleFits (front ++ cut ∷ []) → TripleFits cut
-last_fits [] cut h = h.0
-last_fits (x ∷ front) cut h = last_fits front cut h.1
-
-cut_from : (held holds : Option (List ℕ)) (a b : Bool) (all ts rest : List Triple) → all ≡ ts ++ rest → AllByRecursion TripleFits ts → a ≡ true
-    → Sends held a ts holds b
-    → CutFrom held holds all
-cut_from held holds true true all ts rest p fit q s =
-    record {
-      front = ts;
-      rest = rest;
-      more = [];
-      parts = p;
-      line = no_more rest;
-      fits = fit;
-      added = subst (λ xs. Appends held holds xs) (sym (append-nil (written ts))) s;
-    }
-cut_from held holds true false all ts rest p fit q (front, cut, n, ts_are, short, added) =
-    let fits = subst (AllByRecursion TripleFits) ts_are fit in record {
-      front = front;
-      rest = cut ∷ rest;
-      more = take n (written (cut ∷ []));
-      parts = p ∙ ap (λ z. z ++ rest) ts_are ∙ append_assoc front (cut ∷ []) rest;
-      line = inr (last_fits front cut fits, n, short, refl);
-      fits = first_fit front cut fits;
-      added = added;
-    }
-cut_from held holds false b all ts rest p fit q s = cc
 
 -- a stream that a sink writes to, from one state to another
 pub record Streams {W : Type 0} (contents : W → Option (List ℕ)) (out : Stream) (start now : NtSink W) : Type 0 where
@@ -146,11 +107,12 @@ streams_of contents out wrote start now o p q = record {
 }
 
 -- the sink lends the same writer
-pub same_lent : {R W : Type 0} (contents : W → Option (List ℕ)) (remaining : R → Option (List ℕ)) (m : Mode) (plan : Plan)
-    (olds news : List (Counted R)) (start now : NtSink W) (result : Result Outcome Stop)
-    → TakesTables (takes contents) sink_is_open failed_of remaining m plan olds news start now result → (sink_out now).ghost_name ≡ (sink_out start).ghost_name
-same_lent contents remaining m plan olds news start now (Ok outcome) h = h.gives.took.gained.0
-same_lent contents remaining m plan olds news start now (Err reason) ((_, (lent, _, _)), _, _) = lent
+pub same_lent : {R W : Type 0} (contents : W → Option (List ℕ)) (remaining : R → Option (List ℕ))
+    (order : ℕ → List Event → Type 0) (m : Mode) (plan : Plan) (olds news : List (Counted R)) (start now : NtSink W) (result : Result Outcome Stop)
+    → TakesTables (takes contents) (cuts_lines contents) sink_is_open failed_of remaining order m plan olds news start now result
+    → (sink_out now).ghost_name ≡ (sink_out start).ghost_name
+same_lent contents remaining order m plan olds news start now (Ok outcome) h = h.gives.took.gained.0
+same_lent contents remaining order m plan olds news start now (Err reason) ((_, (lent, _, _)), _, _) = lent
 
 module _ {W : Type 0} (contents : W → Option (List ℕ)) (laws : LineLaws) (out : Stream) (start now : NtSink W) (streams : Streams contents out start now) where
   steady : IsAsReady sink_is_open failed_of start now → out.failed ≡ out.failures
@@ -205,7 +167,8 @@ module _ {W : Type 0} (contents : W → Option (List ℕ)) (laws : LineLaws) (ou
   all_written m plan events k r =
       record { parts = k.parts; have = k.have; added = graph_added m (λ z. PartGraph z plan k.parts) (no_part plan k.parts) k.took r }
 
-  module _ (m : Mode) (plan : Plan) (events : List Event) (k : TookSome (takes contents) sink_is_open failed_of m plan events start now) where
+  module _ (m : Mode) (plan : Plan) (events : List Event) (Fails : Type 0)
+      (k : TookSome (takes contents) (cuts_lines contents) sink_is_open failed_of m plan events start now Fails) where
     -- up to the last call
     before : Appends out.held (contents (inner_of (sink_out k.middle).now)) (written k.taken)
     before = rw streams.held
@@ -220,43 +183,72 @@ module _ {W : Type 0} (contents : W → Option (List ℕ)) (laws : LineLaws) (ou
         (sym (append_assoc (written k.taken) (written front) more) ∙ ap (λ xs. xs ++ more) (sym (written-append k.taken front)))
         (Appends-trans out.held (contents (inner_of (sink_out k.middle).now)) out.holds (written k.taken) (written front ++ more) before a)
 
-    some_written : (front rest : List Triple) (more : List ℕ) → k.more ≡ front ++ rest → IsFrontOfLine rest more → AllByRecursion TripleFits front
-        → Appends (contents (inner_of (sink_out k.middle).now)) out.holds (written front ++ more) → WroteSome m plan out events more
-    some_written front rest more e line fits a =
-        let cut = k.cut front rest e in record {
-          triples = k.taken ++ front;
-          rest = rest;
-          cut = cut;
-          line = line;
-          added = lines_added m (Contains (k.taken ++ front)) (k.taken ++ front) more (all_fit k.taken front k.gained.1 fits) (both front more a)
-              (λ v. nothing_in (k.taken ++ front)
-              (none_cut plan events (k.taken ++ front) rest (subst (λ z. IsCutShort z plan events (k.taken ++ front) rest) v cut)))
-              (λ v. no_line plan events (k.taken ++ front) rest more (subst (λ z. IsCutShort z plan events (k.taken ++ front) rest) v cut) line)
-              (λ x. (λ c. c, λ c. c));
+    -- these triples were written, these were to come, and these bytes are a front of the next line
+    pub record WroteFront (more : List ℕ) : Type 0 where
+      pub wrote : WroteSome m plan out events more
+      pub triples_are : wrote.triples ≡ k.taken ++ k.took.front
+      pub rest_is : wrote.rest ≡ k.took.rest
+
+    some_written : (more : List ℕ) → IsFrontOfLine k.took.rest more
+        → Appends (contents (inner_of (sink_out k.middle).now)) out.holds (written k.took.front ++ more) → WroteFront more
+    some_written more line a =
+        let front = k.took.front in
+        let rest = k.took.rest in
+        let cut = k.cut front rest k.took.parts in record {
+          wrote = record {
+            triples = k.taken ++ front;
+            rest = rest;
+            cut = cut;
+            line = line;
+            added = lines_added m (Contains (k.taken ++ front)) (k.taken ++ front) more (all_fit k.taken front k.gained.1 k.took.gained.1)
+                (both front more a)
+                (λ v. nothing_in (k.taken ++ front)
+                (none_cut plan events (k.taken ++ front) rest (subst (λ z. IsCutShort z plan events (k.taken ++ front) rest) v cut)))
+                (λ v. no_line plan events (k.taken ++ front) rest more (subst (λ z. IsCutShort z plan events (k.taken ++ front) rest) v cut) line)
+                (λ x. (λ c. c, λ c. c));
+          };
+          triples_are = refl;
+          rest_is = refl;
         }
 
-    pub lacking : IsAsReady sink_is_open failed_of start now → WroteSome m plan out events []
+    pub lacking : IsAsReady sink_is_open failed_of start now → WroteFront []
     lacking r =
-        some_written k.took.front k.took.rest [] k.took.parts (no_more k.took.rest) k.took.gained.1
+        some_written [] (no_more k.took.rest)
         (subst (λ xs. Appends (contents (inner_of (sink_out k.middle).now)) out.holds xs) (sym (append-nil (written k.took.front)))
         (rw streams.holds
         (sends_whole (contents (inner_of (sink_out k.middle).now)) (contents (inner_of (sink_out now).now)) (sink_is_open k.middle)
         (sink_is_open now) k.took.front
         (k.ready.0 ∙ streams.begun) (r.0 ∙ streams.begun) k.took.gained.2)))
 
-    pub failing : (more : List ℕ) × WroteSome m plan out events more
-    failing =
-        let c = cut_from (contents (inner_of (sink_out k.middle).now)) (contents (inner_of (sink_out now).now)) (sink_is_open k.middle) (sink_is_open now)
-        k.more k.took.front k.took.rest k.took.parts k.took.gained.1 (k.ready.0 ∙ streams.begun) k.took.gained.2 in
-        (c.more, some_written c.front c.rest c.more c.parts c.line c.fits (rw streams.holds c.added))
+    -- the front of a line that was sent of the triple within which the writer failed
+    module _ (c : IsCutAfter (takes contents) (cuts_lines contents) k.middle k.took.front k.took.rest now) where
+      sent : List ℕ
+      sent = take c.cut.3.sent (written (c.next ∷ []))
+
+      its_line : IsFrontOfLine k.took.rest sent
+      unfolding sent
+      its_line = rw c.rest_is (inr (c.cut.3.fits, c.cut.3.sent, c.cut.3.short, refl))
+
+      its_bytes : Appends (contents (inner_of (sink_out k.middle).now)) out.holds (written k.took.front ++ sent)
+      unfolding sent
+      its_bytes =
+          rw streams.holds
+          (Appends-trans (contents (inner_of (sink_out k.middle).now)) (contents (inner_of (sink_out c.middle).now)) (contents (inner_of (sink_out now).now))
+          (written k.took.front) (take c.cut.3.sent (written (c.next ∷ [])))
+          (sends_whole (contents (inner_of (sink_out k.middle).now)) (contents (inner_of (sink_out c.middle).now)) (sink_is_open k.middle)
+          (sink_is_open c.middle) k.took.front (k.ready.0 ∙ streams.begun) c.cut.1 c.before.2) c.cut.3.added)
+
+    pub failing : Fails → (more : List ℕ) × WroteFront more
+    failing fails = let c = k.took.cut fails in (sent c, some_written (sent c) (its_line c) (its_bytes c))
 
   leaves : (m : Mode) (plan : Plan) (reason : Stop) (events : List Event) → {R : Type 0} (olds news : List (Counted R)) → IsReason plan olds news reason events
-      → SinkLeaves (takes contents) sink_is_open failed_of m plan start now reason events
+      → SinkLeaves (takes contents) (cuts_lines contents) sink_is_open failed_of m plan start now reason events
       → EndsBy (IsAsReady sink_is_open failed_of start now)
       (sink_is_open start ≡ true → failed_of start < 2 ^ 64 - 1 → failed_of now ≡ failed_of start + 1) reason
       → Leaves m plan out reason events
-  leaves m plan stop.Memory events olds news because k r = lacking m plan events k r
-  leaves m plan stop.Write events olds news because k r = failing m plan events k
+  leaves m plan stop.Memory events olds news because k r = (lacking m plan events ⊥ k r).wrote
+  leaves m plan stop.Write events olds news because k r =
+      let w = failing m plan events (sink_is_open start ≡ true) k streams.begun in (w.0, w.1.wrote)
   leaves m plan stop.Read events olds news because k r = all_written m plan events k r
   leaves m plan (stop.Rows t row reason) events olds news because k r = all_written m plan events k r
   leaves m plan (stop.Table t row reason) events olds news because k r = all_written m plan events k r
@@ -281,24 +273,25 @@ module _ {W : Type 0} (contents : W → Option (List ℕ)) (laws : LineLaws) (ou
       → Added m out (GraphOf m plan tables) []
   graph_of m plan tables k r = graph_added m (λ z. GraphOf z plan tables) (no_graph plan tables) k r
 
-  pub converted : {R : Type 0} (remaining : R → Option (List ℕ)) (m : Mode) (plan : Plan) (olds news : List (Counted R)) (result : Result Outcome Stop)
-      → TakesTables (takes contents) sink_is_open failed_of remaining m plan olds news start now result → Converts remaining m plan olds news out result
-  converted remaining m plan olds news (Ok outcome) h = record {
-    texts = h.texts;
+  pub converted : {R : Type 0} (remaining : R → Option (List ℕ)) (order : ℕ → List Event → Type 0) (m : Mode) (plan : Plan)
+      (olds news : List (Counted R)) (result : Result Outcome Stop)
+      → TakesTables (takes contents) (cuts_lines contents) sink_is_open failed_of remaining order m plan olds news start now result
+      → Converts remaining order m plan olds news out result
+  converted remaining order m plan olds news (Ok outcome) h = record {
+    events = h.events;
     read = h.read;
-    steady = h.steady;
     tables = h.tables;
     annotated = h.annotated;
     violations = h.violations;
     gives = (wrote m plan h.tables h.gives.took h.gives.ready, graph_of m plan h.tables h.gives.took h.gives.ready);
   }
-  converted remaining m plan olds news (Err reason) (_, stops, ends) = (
+  converted remaining order m plan olds news (Err reason) (_, stops, ends) = (
     elim stops [
       | inl (events, gave, (because, left)) ↦ inl (events, gave, (because, leaves m plan reason events olds news because left ends))
       | inr (memory, whole) ↦ inr (
         memory,
         record {
-          texts = whole.texts;
+          events = whole.events;
           read = whole.read;
           tables = whole.tables;
           annotated = whole.annotated;
@@ -310,29 +303,31 @@ module _ {W : Type 0} (contents : W → Option (List ℕ)) (laws : LineLaws) (ou
         ∙ (fails streams.begun (rw streams.failures at room) ∙ ap (λ n. n + 1) (sym streams.failures))) reason ends,
   )
 
-  -- at a plan and a mode that are these
-  pub converted_at : {R : Type 0} (remaining : R → Option (List ℕ)) (m n : Mode) (plan other : Plan) (olds news : List (Counted R))
-      (result : Result Outcome Stop) → n ≡ m → other ≡ plan
-      → TakesTables (takes contents) sink_is_open failed_of remaining n other olds news start now result → Converts remaining m plan olds news out result
-  converted_at remaining m n plan other olds news result e f h =
-      converted remaining m plan olds news result
-      (subst (λ z. TakesTables (takes contents) sink_is_open failed_of remaining z plan olds news start now result) e
-      (subst (λ z. TakesTables (takes contents) sink_is_open failed_of remaining n z olds news start now result) f h))
+  -- at an order, a plan and a mode that are these
+  pub converted_at : {R : Type 0} (remaining : R → Option (List ℕ)) (order own : Order) (m n : Mode) (plan other : Plan) (olds news : List (Counted R))
+      (result : Result Outcome Stop) → own ≡ order → n ≡ m → other ≡ plan
+      → TakesTables (takes contents) (cuts_lines contents) sink_is_open failed_of remaining (IsOrder own) n other olds news start now result
+      → Converts remaining (IsOrder order) m plan olds news out result
+  converted_at remaining order own m n plan other olds news result d e f h =
+      converted remaining (IsOrder order) m plan olds news result
+      (subst (λ o. TakesTables (takes contents) (cuts_lines contents) sink_is_open failed_of remaining (IsOrder o) m plan olds news start now result) d
+      (subst (λ z. TakesTables (takes contents) (cuts_lines contents) sink_is_open failed_of remaining (IsOrder own) z plan olds news start now result) e
+      (subst (λ z. TakesTables (takes contents) (cuts_lines contents) sink_is_open failed_of remaining (IsOrder own) n z olds news start now result) f h)))
 
 -- a stream that was left alone
 abbrev pub untouched : Option (List ℕ) → ℕ → Stream
 untouched known n = record { held = known; holds = known; failures = n; failed = n }
 
 -- nothing was written, for want of memory before the tables
-pub nothing_written : {R : Type 0} (laws : LineLaws) (remaining : R → Option (List ℕ)) (m : Mode) (plan : Plan) (olds : List (Counted R))
-    (known : Option (List ℕ)) (n : ℕ)
-    → Converts remaining m plan olds olds (untouched known n) (Err stop.Memory)
-nothing_written laws remaining m plan olds known n = (
+pub nothing_written : {R : Type 0} (laws : LineLaws) (remaining : R → Option (List ℕ)) (order : ℕ → List Event → Type 0) (m : Mode) (plan : Plan)
+    (olds : List (Counted R)) (by : AreReadIn order (length olds) piece_limit []) (known : Option (List ℕ)) (n : ℕ)
+    → Converts remaining order m plan olds olds (untouched known n) (Err stop.Memory)
+nothing_written laws remaining order m plan olds by known n = (
   inl (
     [],
-    none_read remaining olds,
+    none_read remaining order olds by,
     (
-      tt,
+      (none_failed olds, inl refl),
       record {
         triples = [];
         rest = [];

@@ -7,3 +7,4 @@ pub mod Reporting
 pub mod Rooms
 pub mod Runs
 pub mod Stopped
+pub mod Texts

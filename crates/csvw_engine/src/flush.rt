@@ -1,16 +1,23 @@
 //! The flushes at the end of a run.
-ghost use Rattle.std.specs.Prelude.{◌≡◌, Err, IfErr};
+ghost use Rattle.std.specs.Prelude.{◌≡◌, ◌↔◌, Err, IfErr, IsTrue};
 ghost use Rattle.std.specs.Io.KnownBytes.{Keeps};
 ghost use Rattle.csvw_text.specs.Count.{after_call};
 ghost use Rattle.csvw_text.specs.Counted.{inner_of, failures_of};
 ghost use Rattle.csvw_engine_core.specs.declared.stop.Stop.TheVariants as stop;
 ghost use Rattle.csvw_engine.specs.Flushes.{IsFlushed};
 
-use csvw_report::Outcome;
 use csvw_session::Stop;
 use csvw_text::Counted;
 use std::io::Write;
 
+/// Whether a run stopped because its writer failed. Nothing more is sent to that writer.
+pub(crate) fn is_failed_write<T>(ran: &Result<T, Stop>) -> bool
+    ensures { IsTrue result ↔ (ran.now ≡ Err stop.Write) }
+{
+    matches!(ran, Err(Stop::Write))
+}
+
+/// Flushes a writer. `Write` where that fails.
 pub(crate) fn flush<W: Write>(w: &mut Counted<W>) -> Result<(), Stop>
     ensures keeps { Keeps (W.contents (inner_of w.old)) (W.contents (inner_of w.new)) }
     ensures count { failures_of w.new ≡ after_call result (failures_of w.old) }
@@ -22,27 +29,14 @@ pub(crate) fn flush<W: Write>(w: &mut Counted<W>) -> Result<(), Stop>
     }
 }
 
-/// Flushes what a run wrote before its answer is told; behind a failed write nothing more is sent.
-pub(crate) fn flush_behind<T: Drop, W: Write>(
+/// Flushes what a run wrote before its result is returned. `Write` where that fails.
+pub(crate) fn flush_after<T: Drop, W: Write>(
     w: &mut Counted<W>,
     ran: Result<T, Stop>,
 ) -> Result<T, Stop>
     ensures keeps { Keeps (W.contents (inner_of w.old)) (W.contents (inner_of w.new)) }
     ensures flushed { IsFlushed ran result (failures_of w.old) (failures_of w.new) }
 {
-    match ran {
-        Err(Stop::Write) => Err(Stop::Write),
-        ran => {
-            flush(w)?;
-            ran
-        }
-    }
-}
-
-/// Stops before any table is read, behind a flush of what the caller wrote.
-pub(crate) fn refuse<W: Write>(w: &mut Counted<W>, stop: Stop) -> Result<Outcome, Stop>
-    ensures keeps { Keeps (W.contents (inner_of w.old)) (W.contents (inner_of w.new)) }
-    ensures flushed { IsFlushed (Err stop) result (failures_of w.old) (failures_of w.new) }
-{
-    flush_behind(w, Err(stop))
+    flush(w)?;
+    ran
 }

@@ -4,16 +4,18 @@ ghost use Rattle.csvw_text.specs.Streams.{stream_of};
 ghost use Rattle.csvw_columns.specs.Ready.{AreReady};
 ghost use Rattle.csvw_session.specs.Sessions.{Starts};
 ghost use Rattle.csvw_engine.specs.Groups.{Converts, TakesTables};
-ghost use Rattle.csvw_engine.specs.Rooms.{IsRoomFor};
+ghost use Rattle.csvw_engine.specs.Rooms.{IsOrder, IsRoomFor, order_in};
 
 use crate::room::{Order, Room, read_all};
 use csvw_columns::Plan;
-use csvw_group::laws::{sessions_annotate, sessions_give_all, stopped_sessions_give_parts};
+use csvw_group::laws::{
+    sessions_annotate, sessions_give_all, stopped_sessions_give_parts, taken_events_are_tables,
+};
 use csvw_ntriples::{NtSink, labels_name_one_to_one, written_denotes};
-use csvw_opening::opening_is_the_graphs;
 use csvw_report::Outcome;
 use csvw_session::{Refused, Session, Stop};
 use csvw_text::Counted;
+use csvw_triples::opening_is_the_graphs;
 use csvw_triples_core::{Mode, TripleSink};
 use std::alloc::Global;
 use std::io::{Read, Write};
@@ -37,11 +39,13 @@ fn take_tables<R: Read, S: TripleSink>(
     requires few { length readers.old < 2 ^ 32 - 1 }
     ensures { (sink : S) → Starts S.gains S.is_open S.failed session.old.plan session.old.mode sink session.old
         → length readers.old ≡ length session.old.plan.tables
-        → TakesTables S.gains S.is_open S.failed R.remaining session.old.mode session.old.plan readers.old readers.new sink session.new.sink result }
+        → TakesTables S.gains S.cuts S.is_open S.failed R.remaining (IsOrder (order_in room.old.going)) session.old.mode session.old.plan
+        readers.old readers.new sink session.new.sink result }
 {
     sessions_annotate::<S>();
     sessions_give_all::<S>();
     stopped_sessions_give_parts::<S>();
+    taken_events_are_tables::<S>();
     read_all(session, readers, room)?;
     session.finish()
 }
@@ -57,7 +61,7 @@ pub(crate) fn convert_tables<R: Read, W: Write>(
     requires ready { AreReady plan.tables }
     requires many { length readers.old ≡ length plan.tables }
     requires few { length readers.old < 2 ^ 32 - 1 }
-    ensures { Converts R.remaining way.mode plan readers.old readers.new (stream_of W.contents out.old out.new) result }
+    ensures { Converts R.remaining (IsOrder way.order) way.mode plan readers.old readers.new (stream_of W.contents out.old out.new) result }
 {
     written_denotes();
     labels_name_one_to_one();

@@ -3,7 +3,8 @@ ghost use Rattle.std.specs.Prelude.{◌≡◌, ◌<◌, ◌-◌, ◌^◌, ℕ, [
 ghost use Rattle.csvw_session.specs.Sessions.{Stands};
 ghost use Rattle.csvw_reading.specs.Reading.{IsSame, Reads};
 ghost use Rattle.csvw_reading.specs.TurnsReading.{AreOpen};
-ghost use Rattle.csvw_engine.specs.Rooms.{IsRoomFor};
+ghost use Rattle.csvw_engine.specs.Rooms.{IsOrder, IsRoomFor, order_in};
+ghost use Rattle.csvw_engine.specs.Texts.{piece_limit};
 
 use csvw_reading::{read_tables, read_turns};
 use csvw_session::{Session, Stop};
@@ -15,10 +16,10 @@ use std::io::Read;
 /// The order in which tables are read.
 #[derive(Clone, Copy)]
 pub(crate) enum Order {
-    /// One after the other.
-    OneByOne,
-    /// A piece of each in turn.
-    InTurn,
+    /// One table after the other.
+    TableByTable,
+    /// A piece of each table in turn.
+    InTurns,
 }
 
 /// Room to read tables in.
@@ -50,12 +51,13 @@ fn all_open(alloc: Global, many: usize) -> Result<Vec<bool>, AllocError>
 impl Room {
     /// Room for so many tables; `AllocError` where there is no memory.
     pub(crate) fn new(alloc: Global, order: Order, many: usize) -> Result<Room, AllocError>
-        ensures { IfOk result (λ room. IsRoomFor many room) }
+        ensures room { IfOk result (λ room. IsRoomFor many room) }
+        ensures order { IfOk result (λ room. order_in room.going ≡ order) }
     {
         let piece = buffer_of(alloc, PIECE)?;
         let going = match order {
-            Order::OneByOne => None,
-            Order::InTurn => Some(all_open(alloc, many)?),
+            Order::TableByTable => None,
+            Order::InTurns => Some(all_open(alloc, many)?),
         };
         Ok(Room { piece, going })
     }
@@ -72,7 +74,8 @@ pub(crate) fn read_all<R: Read, S: TripleSink>(
     ensures same { IsSame session.old session.new }
     ensures reads { (start : S) → Stands S.gains S.is_open S.failed start [] session.old
         → length readers.old ≡ length session.old.plan.tables
-        → Reads S.gains S.is_open S.failed R.remaining start readers.old readers.new session.old session.new result }
+        → Reads S.gains S.cuts S.is_open S.failed R.remaining (IsOrder (order_in room.old.going)) piece_limit start readers.old readers.new
+        session.old session.new result }
 {
     let piece = room.piece.as_mut_slice();
     match &mut room.going {

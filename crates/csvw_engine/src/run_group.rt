@@ -3,10 +3,12 @@ ghost use Rattle.std.specs.Prelude.{◌≡◌, ◌≤◌, ◌∷◌, [], length}
 ghost use Rattle.csvw_columns.specs.Ready.{AreReady};
 ghost use Rattle.csvw_triples_core.specs.declared.mode.Mode.TheVariants as mode;
 ghost use Rattle.csvw_text.specs.Streams.{stream_of};
+ghost use Rattle.csvw_reading.specs.ReadOrder.{AreInTurn, AreTableByTable};
+ghost use Rattle.csvw_engine.specs.Rooms.{IsOrder};
 ghost use Rattle.csvw_engine.specs.Runs.{IsPlanned, Runs};
 ghost use Rattle.csvw_meta.specs.Document.{Document, document, plain_description};
 
-use crate::flush::{flush, flush_behind, refuse};
+use crate::flush::{flush, flush_after, is_failed_write};
 use crate::group::{Way, convert_tables};
 use crate::plan::{planned, planned_alone};
 use crate::reporting::tell;
@@ -51,16 +53,20 @@ fn run_planned<R: Read, W: Write, V: Write>(
 ) -> Result<Outcome, Stop>
     requires ready { AreReady run.plan.tables }
     requires few { length run.plan.tables ≤ 64 }
-    ensures { (described : Document) → IsPlanned described run.plan → Runs R.remaining described run.way.mode readers.old readers.new
+    ensures { (described : Document) → IsPlanned described run.plan
+        → Runs R.remaining (IsOrder run.way.order) described run.way.mode readers.old readers.new
         (stream_of W.contents out.old out.new) (stream_of V.contents report.old report.new) result }
 {
     let PlannedRun { plan, way } = run;
     if readers.len() != plan.tables().len() {
-        return refuse(out, Stop::TableCount);
+        return Err(Stop::TableCount);
     }
     let ran = convert_tables(alloc, plan, way, readers, out);
+    if is_failed_write(&ran) {
+        return ran;
+    }
     let told = tell(alloc, ran, report);
-    let outcome = flush_behind(out, told)?;
+    let outcome = flush_after(out, told)?;
     flush(report)?;
     Ok(outcome)
 }
@@ -73,21 +79,20 @@ fn run_in<R: Read, W: Write, V: Write>(
     out: &mut Counted<W>,
     report: &mut Counted<V>,
 ) -> Result<Outcome, Stop>
-    ensures { Runs R.remaining (document asked.entry.base.now asked.entry.meta.now) asked.entry.way.mode readers.old readers.new
+    ensures { Runs R.remaining (IsOrder asked.entry.way.order) (document asked.entry.base.now asked.entry.meta.now) asked.entry.way.mode
+        readers.old readers.new
         (stream_of W.contents out.old out.new) (stream_of V.contents report.old report.new) result }
 {
     let way = asked.way;
-    match planned(alloc, asked.meta, asked.base) {
-        Ok(plan) => run_planned(alloc, PlannedRun { plan, way }, readers, out, report),
-        Err(stop) => refuse(out, stop),
-    }
+    let plan = planned(alloc, asked.meta, asked.base)?;
+    run_planned(alloc, PlannedRun { plan, way }, readers, out, report)
 }
 
 /// Reads a group of tables, as the metadata document `meta` at the URL `base` describes them: the nth reader has the text of the nth
 /// table. In mode `Minimal` it writes the graph of their cells to `out` (csv2rdf, section 4.2), in mode `Standard` also what is told
 /// of the group, its tables and their rows, in mode `Validate` nothing; then the faults to `report`, in order. Tables are read one
-/// after the other, in pieces of at most 65,536 bytes. At the end each writer is flushed once. Before a stop is answered the rows in
-/// front of it are written, and `out` is flushed; after a failed write nothing more is sent.
+/// after the other, in pieces of at most 65,536 bytes. At the end each writer is flushed once. Before a stop in the tables is returned
+/// the rows before it are written, and `out` is flushed. After a failed write nothing more is sent to that writer.
 ///
 /// `Meta` with a fault of the document; `TableCount` where readers and tables differ in number; `Rows` and `Table` with the first row
 /// of a table that can't be read or annotated; `Read` and `Write` where a reader or writer failed in this call, `Read` also after
@@ -101,12 +106,12 @@ pub fn run<R: Read, W: Write, V: Write>(
     out: &mut Counted<W>,
     report: &mut Counted<V>,
 ) -> Result<Outcome, Stop>
-    ensures { Runs R.remaining (document base.now meta.now) mode readers.old readers.new
+    ensures { Runs R.remaining AreTableByTable (document base.now meta.now) mode readers.old readers.new
         (stream_of W.contents out.old out.new) (stream_of V.contents report.old report.new) result }
 {
     let way = Way {
         mode,
-        order: Order::OneByOne,
+        order: Order::TableByTable,
     };
     run_in(alloc, Asked { meta, base, way }, readers, out, report)
 }
@@ -122,12 +127,12 @@ pub fn run_turns<R: Read, W: Write, V: Write>(
     out: &mut Counted<W>,
     report: &mut Counted<V>,
 ) -> Result<Outcome, Stop>
-    ensures { Runs R.remaining (document base.now meta.now) mode readers.old readers.new
+    ensures { Runs R.remaining AreInTurn (document base.now meta.now) mode readers.old readers.new
         (stream_of W.contents out.old out.new) (stream_of V.contents report.old report.new) result }
 {
     let way = Way {
         mode,
-        order: Order::InTurn,
+        order: Order::InTurns,
     };
     run_in(alloc, Asked { meta, base, way }, readers, out, report)
 }
@@ -144,20 +149,17 @@ pub fn plain<R: Read, W: Write, V: Write>(
     out: &mut Counted<W>,
     report: &mut Counted<V>,
 ) -> Result<Outcome, Stop>
-    ensures { Runs R.remaining (plain_description url.now) mode.Minimal (input.old ∷ []) (input.new ∷ [])
+    ensures { Runs R.remaining AreTableByTable (plain_description url.now) mode.Minimal (input.old ∷ []) (input.new ∷ [])
         (stream_of W.contents out.old out.new) (stream_of V.contents report.old report.new) result }
 {
     // a slice is below 2^63 bytes, as a reader is that is one
     if !may_hold::<Counted<R>>(1) {
-        return refuse(out, Stop::Memory);
+        return Err(Stop::Memory);
     }
-    let plan = match planned_alone(alloc, url) {
-        Ok(plan) => plan,
-        Err(stop) => return refuse(out, stop),
-    };
+    let plan = planned_alone(alloc, url)?;
     let way = Way {
         mode: Mode::Minimal,
-        order: Order::OneByOne,
+        order: Order::TableByTable,
     };
     let run = PlannedRun { plan, way };
     let readers = slice::from_mut(input);

@@ -1,8 +1,9 @@
 -- By the texts that the readers have left; no fault stands in what describes a group.
+use Rattle.csvw_engine.specs.Rooms.{IsOrder}
 use Rattle.csvw_engine.proofs.GoodRuns.{ok_or_lacks}
 use Rattle.csvw_engine.proofs.laws.good_runs_succeed.Goals as goal
 
 pub returns : goal.returns
-returns g c = λ described mode olds news out report_out result good h.
-    ok_or_lacks c.good_texts_are_accepted.ensures c.groups_have_no_faults.ensures.group g.R.Read.remaining described olds news good mode out report_out
-    result h
+returns g c = λ order described mode olds news out report_out result good h.
+    ok_or_lacks c.good_texts_are_accepted.ensures c.groups_have_no_faults.ensures.group c.reads_are_bytes.ensures g.R.Read.remaining (IsOrder order) described
+    olds news good mode out report_out result h

@@ -10,7 +10,7 @@ pub returns-clause-event : goal.returns-clause-event
 returns-clause-event g c =
     let s = g.S.TripleSink in
     λ old new t event result failed takes order.
-    (subst (λ (r : Result Unit Stop). Takes s.gains s.is_open s.failed old new t event r) (order.failed.1 failed) takes).0
+    (subst (λ (r : Result Unit Stop). Takes s.gains s.cuts s.is_open s.failed old new t event r) (order.failed.1 failed) takes).0
 
 pub returns-clause-finish : goal.returns-clause-finish
 returns-clause-finish g c = λ old new result failed finishes order.

@@ -1,15 +1,16 @@
 -- The document is refused.
 use Rattle.std.proofs.Common.{refl}
+use Rattle.std.proofs.lemmas.Result.{err_from_is_err_and}
 use Rattle.csvw_text.specs.Streams.{stream_of}
 use Rattle.csvw_meta.specs.Document.{document}
-use Rattle.csvw_engine.proofs.Ending.{meta_before, stops_before}
+use Rattle.csvw_engine.specs.Rooms.{IsOrder}
+use Rattle.csvw_engine.proofs.Ending.{stops_before}
 use Rattle.csvw_engine.proofs.run_group.run_in.Goals as goal
 
-pub returns-in-Err : goal.returns-in-Err
-returns-in-Err g c =
-    let described = document c.args.asked.base.now c.args.asked.meta.now in
-    let readers = c.args.readers.now in
-    let because = meta_before described readers c.in-Err.stop c.in-Err.ensures.stop in
-    stops_before g.R.Read.remaining described c.args.asked.way.mode readers (stream_of g.W.Write.contents c.args.out.now c.refuse.new.w)
-    (stream_of g.V.Write.contents c.args.report.now c.args.report.now) c.refuse.ensures.keeps (refl, refl) c.in-Err.stop c.refuse.result because
-    c.refuse.ensures.flushed
+pub returns-in_err-plan : goal.returns-in_err-plan
+returns-in_err-plan g c =
+    let p = err_from_is_err_and c.from_residual.result c.from_residual.ensures.1 in
+    rw (p.1, p.2)
+    (stops_before g.R.Read.remaining (IsOrder c.args.asked.way.order) (document c.args.asked.base.now c.args.asked.meta.now) c.args.asked.way.mode
+    c.args.readers.now (stream_of g.W.Write.contents c.args.out.now c.args.out.now) (stream_of g.V.Write.contents c.args.report.now c.args.report.now)
+    (refl, refl) (refl, refl) c.in_err-plan.field-0.0 c.in_err-plan.ensures.stop)
