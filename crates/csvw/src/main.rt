@@ -6,9 +6,10 @@ use csvw_engine::Stop;
 use csvw_text::Counted;
 use csvw_words::{Request, requested};
 use std::alloc::Global;
-use std::env;
 use std::io::{self, BufWriter, IsTerminal, Stderr, Stdout};
 use std::process::ExitCode;
+use std::rt::Files;
+use std::{env, fs};
 
 /// How many bytes of the output are kept before they are written.
 const BUFFERED: usize = 65_536;
@@ -27,9 +28,15 @@ fn is_line_buffered(alloc: Global, words: &[String], out: &Stdout) -> bool {
     out.is_terminal() || asks_for_lines(alloc, words)
 }
 
+/// The null device, which takes the descriptor of a standard stream that is closed: a file that is opened later gets none of theirs.
+fn null_device<R: Files>(rt: &R) -> Option<R::File> {
+    fs::open(rt, "/dev/null").ok()
+}
+
 /// Runs the program on the words and streams of its process. At the end the buffer of standard output is
 /// let go unsent: it is empty, or what a failed write left of it.
 fn run(rt: &HostRuntime, err: &mut Counted<Stderr>) -> io::Result<u8> {
+    let _standard = (null_device(rt), null_device(rt), null_device(rt));
     let alloc = rt.alloc();
     let words = env::args(rt)?.collect::<Vec<String>>(alloc)?;
     let mut opener = FileOpener::new(rt, rt.stdin());

@@ -5,7 +5,7 @@ use Rattle.csvw_engine_core.specs.declared.stop.Stop.{Stop}
 use Rattle.csvw_text.specs.declared.counted.Counted.{Counted}
 use Rattle.csvw_text.specs.Streams.{Stream}
 use Rattle.csvw_engine.specs.Runs.{Runs}
-use Rattle.csvw_command.specs.Groups.{ComesToEnd, EndsSo, StopsEarly, Leaves, conversion}
+use Rattle.csvw_command.specs.Groups.{ComesToEnd, EndsSo, StopsEarly, Leaves, conversion, order_of}
 use Rattle.csvw_command.proofs.Sending.{stream}
 use Rattle.csvw_meta.specs.Document.{document}
 
@@ -25,9 +25,9 @@ ends L a b c n m k (Err reason) status leaves end = inr (record {
 })
 
 -- what a conversion leaves, its graph on `out` in both modes
-pub converts : {R : Type 0} (remaining : R → Option (List ℕ)) (minimal : Bool) (meta base : List ℕ) (readers left : List (Counted R))
+pub converts : {R : Type 0} (remaining : R → Option (List ℕ)) (minimal turns : Bool) (meta base : List ℕ) (readers left : List (Counted R))
     (out err : Stream) (result : Result Outcome Stop)
-    → Runs remaining (document base meta) (conversion minimal) readers left out err result
-    → Leaves remaining (conversion minimal) meta base readers left out err result
-converts remaining true meta base readers left out err result h = h
-converts remaining false meta base readers left out err result h = h
+    → Runs remaining (order_of turns) (document base meta) (conversion minimal) readers left out err result
+    → Leaves remaining (conversion minimal) turns meta base readers left out err result
+converts remaining true turns meta base readers left out err result h = h
+converts remaining false turns meta base readers left out err result h = h

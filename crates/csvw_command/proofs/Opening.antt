@@ -8,7 +8,9 @@ use Rattle.csvw_text.specs.declared.counted.Counted.{Counted}
 use Rattle.csvw_text.specs.Counted.{inner_of, failures_of}
 use Rattle.csvw_words.specs.declared.Group.{Group}
 use Rattle.csvw_engine_core.specs.declared.stop.Stop.TheVariants as stop
-use Rattle.csvw_command.specs.Groups.{OpensAll, OpensGroup, StopsOpening}
+use Rattle.csvw_engine_core.specs.declared.stop.Stop.{Stop}
+use Rattle.csvw_command.specs.Documents.{IsReadStop}
+use Rattle.csvw_command.specs.Groups.{OpensAll, OpensGroup, OpensNot, StopsOpening}
 
 -- one path more
 pub opens_next : {O R : Type 0} (opens : O → Text → Option R → O → Type 0) (old : O) (paths : List Text) (readers : List (Counted R)) (between : O)
@@ -91,3 +93,16 @@ pub opened_as : {O R : Type 0} (opens : O → Text → Option R → O → Type 0
     → OpensGroup opens remaining group old new same_bytes same_readers
 opened_as opens remaining group old new bytes same_bytes readers same_readers p q opened =
     subst (λ b. OpensGroup opens remaining group old new b same_readers) (sym p) (subst (λ r. OpensGroup opens remaining group old new bytes r) (sym q) opened)
+
+-- the metadata is opened and can't be read
+pub unread : {O R : Type 0} (opens : O → Text → Option R → O → Type 0) (group : Group) (old : O) (gave : Option R) (new : O) (reader : R)
+    (fresh after : Counted R) (reason : Stop)
+    → opens old group.meta.now gave new → gave ≡ Some reader → inner_of fresh ≡ reader → failures_of fresh ≡ 0 → IsReadStop fresh after reason
+    → OpensNot opens group old new reason
+unread opens group old gave new reader fresh after reason opened some inner steady stops = inr (inl (record {
+  reader = fresh;
+  meta_opened = subst (λ x. opens old group.meta.now x new) (some ∙ ap Some (sym inner)) opened;
+  steady = steady;
+  after = after;
+  reason_is = stops;
+}))

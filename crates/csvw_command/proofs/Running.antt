@@ -7,6 +7,7 @@ use Rattle.csvw_meta.specs.Document.{plain_description}
 use Rattle.csvw_triples_core.specs.declared.mode.Mode.TheVariants as mode
 use Rattle.csvw_report.specs.declared.outcome.Outcome.{Outcome}
 use Rattle.csvw_engine_core.specs.declared.stop.Stop.{Stop}
+use Rattle.csvw_reading.specs.ReadOrder.{AreTableByTable}
 use Rattle.csvw_engine.specs.Runs.{Runs}
 use Rattle.csvw_command.specs.Commands.{RunsOver}
 use Rattle.csvw_command.specs.Groups.{EndsSo}
@@ -15,7 +16,7 @@ use Rattle.csvw_command.proofs.Ending.{ends}
 pub runs_over : {R V : Type 0} (remaining : R → Option (List ℕ)) (told : V → Option (List ℕ)) (url : List ℕ) (input left : Counted R) (reader : R)
     (out : Stream) (err reported last : Counted V) (result : Result Outcome Stop)
     → (status : ℕ) → inner_of input ≡ reader → failures_of input ≡ 0
-    → Runs remaining (plain_description url) mode.Minimal (input ∷ []) (left ∷ []) out (stream_of told err reported) result
+    → Runs remaining AreTableByTable (plain_description url) mode.Minimal (input ∷ []) (left ∷ []) out (stream_of told err reported) result
     → EndsSo result (stream_of told reported last) status
     → RunsOver remaining url reader out (stream_of told err last) status
 runs_over remaining told url input left reader out err reported last result status inner failures runs end = record {
@@ -23,7 +24,8 @@ runs_over remaining told url input left reader out err reported last result stat
   is_reader = inner;
   steady = failures;
   left = left;
-  runs = ends (Runs remaining (plain_description url) mode.Minimal (input ∷ []) (left ∷ []) out) (told (inner_of err)) (told (inner_of reported))
+  runs = ends (Runs remaining AreTableByTable (plain_description url) mode.Minimal (input ∷ []) (left ∷ []) out) (told (inner_of err)) (told
+      (inner_of reported))
       (told (inner_of last))
       (failures_of err) (failures_of reported) (failures_of last) result status runs end;
 }

@@ -8,6 +8,7 @@ use Rattle.csvw_words.specs.Asked.{Asks, program_app}
 use Rattle.csvw_words.specs.declared.Request.{Request}
 use Rattle.csvw_words.specs.declared.Request.TheVariants.{Convert, Plain, Validate}
 use Rattle.csvw_meta.specs.Document.{plain_description}
+use Rattle.csvw_reading.specs.ReadOrder.{AreTableByTable}
 use Rattle.csvw_engine.specs.Runs.{Runs}
 use Rattle.csvw_command.specs.Answers.{Answers, TellsMistake, TellsStop}
 use Rattle.csvw_command.specs.StandardInput.{inputs_of}
@@ -22,8 +23,8 @@ pub record RunsOver {R : Type 0} (remaining : R → Option (List ℕ)) (url : Te
   pub is_reader : inner_of input ≡ reader
   pub steady : failures_of input ≡ 0
   pub left : Counted R
-  pub runs : ComesToEnd (Runs remaining (plain_description url) mode.Minimal (input ∷ []) (left ∷ []) out) err status
-      ⊎ StopsEarly (Runs remaining (plain_description url) mode.Minimal (input ∷ []) (left ∷ []) out) err status
+  pub runs : ComesToEnd (Runs remaining AreTableByTable (plain_description url) mode.Minimal (input ∷ []) (left ∷ []) out) err status
+      ⊎ StopsEarly (Runs remaining AreTableByTable (plain_description url) mode.Minimal (input ∷ []) (left ∷ []) out) err status
 
 -- what follows from the reader that a file's path gave
 abbrev pub RunsOn : {R : Type 0} → (R → Option (List ℕ)) → Text → Stream → Stream → ℕ → Option R → Type 0

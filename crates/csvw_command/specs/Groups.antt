@@ -1,5 +1,5 @@
 -- What a run over the files of a group of tables does.
-use Rattle.std.specs.Prelude.{◌≡◌, ◌⊎◌, ℕ, Bool, true, false, List, [], ◌∷◌, ◌++◌, map, take, Option, None, Some, IfSome, Result, Ok, Err}
+use Rattle.std.specs.Prelude.{◌≡◌, ◌⊎◌, ℕ, Bool, true, false, List, [], ◌∷◌, ◌++◌, map, Option, None, Some, IfSome, Result, Ok, Err}
 use Rattle.clap.specs.Words.{Text}
 use Rattle.csvw_text.specs.declared.counted.Counted.{Counted}
 use Rattle.csvw_text.specs.Counted.{inner_of, failures_of}
@@ -9,19 +9,14 @@ use Rattle.csvw_triples_core.specs.declared.mode.Mode.TheVariants as mode
 use Rattle.csvw_report.specs.declared.outcome.Outcome.{Outcome}
 use Rattle.csvw_engine_core.specs.declared.stop.Stop.{Stop}
 use Rattle.csvw_engine_core.specs.declared.stop.Stop.TheVariants as stop
+use Rattle.csvw_session.specs.Events.{Event}
+use Rattle.csvw_reading.specs.ReadOrder.{AreInTurn, AreTableByTable}
 use Rattle.csvw_engine.specs.Runs.{Runs}
 use Rattle.csvw_words.specs.declared.Group.{Group}
 use Rattle.csvw_command.specs.Answers.{TellsStop}
+use Rattle.csvw_command.specs.Documents.{IsDocument, IsReadStop}
 use Rattle.csvw_command.specs.Status.{outcome_status}
 use Rattle.csvw_meta.specs.Document.{document}
-
--- the bytes that a reader has, as far as they show whether a document is too long, which is at most 2^20 bytes
-abbrev pub IsDocument : Option (List ℕ) → List ℕ → Type 0
-IsDocument known bytes = IfSome known (λ xs. bytes ≡ take 1_048_577 xs)
-
--- a reader failed, or there was no memory for what it gave
-abbrev pub IsReadStop : Stop → Type 0
-IsReadStop reason = (reason ≡ stop.Memory) ⊎ (reason ≡ stop.Read)
 
 -- a path gives this reader, which hasn't failed, and the rest follows
 pub record OpensFirst {O R : Type 0} (opens : O → Text → Option R → O → Type 0) (old : O) (path : Text) (r : Counted R) (Rest : O → Type 0) : Type 0 where
@@ -64,11 +59,13 @@ pub record OpensGroup {O R : Type 0} (opens : O → Text → Option R → O → 
   pub meta_read : IsDocument (remaining reader) bytes
   pub files_opened : OpensAll opens between (paths_of group) readers new
 
--- the metadata is opened, and can't be read; no file of a table is opened
+-- the metadata is opened, and its reader, which hadn't failed before, fails, or memory runs out; no file of a table is opened
 pub record ReadsNoMeta {O R : Type 0} (opens : O → Text → Option R → O → Type 0) (group : Group) (old new : O) (reason : Stop) : Type 0 where
-  pub reader : R
-  pub meta_opened : opens old group.meta.now (Some reader) new
-  pub reason_is : IsReadStop reason
+  pub reader : Counted R
+  pub meta_opened : opens old group.meta.now (Some (inner_of reader)) new
+  pub steady : failures_of reader ≡ 0
+  pub after : Counted R
+  pub reason_is : IsReadStop reader after reason
 
 -- the metadata is opened and read, and a file behind it isn't opened
 pub record LacksFile {O R : Type 0} (opens : O → Text → Option R → O → Type 0) (group : Group) (old new : O) (reason : Stop) : Type 0 where
@@ -108,12 +105,20 @@ pub record StopsEarly (Leaves : Stream → Result Outcome Stop → Type 0) (err 
   pub leaves : Leaves (record err { holds = held; failed = failures }) (Err reason)
   pub told : TellsStop reason (record err { held = held; failures = failures }) status
 
+-- the order in which the tables are read: in turn, or one after the other
+abbrev pub order_of : Bool → ℕ → List Event → Type 0
+order_of true = AreInTurn
+order_of false = AreTableByTable
+
 -- The graph goes to `out`, and the report to `err`; where there is no graph, the report goes to `out`.
-abbrev pub Leaves : {R : Type 0} → (R → Option (List ℕ)) → Mode → List ℕ → List ℕ → List (Counted R) → List (Counted R) → Stream → Stream
+abbrev pub Leaves : {R : Type 0} → (R → Option (List ℕ)) → Mode → Bool → List ℕ → List ℕ → List (Counted R) → List (Counted R) → Stream → Stream
     → Result Outcome Stop → Type 0
-Leaves remaining mode.Validate meta base readers left out err result = Runs remaining (document base meta) mode.Validate readers left err out result
-Leaves remaining mode.Minimal meta base readers left out err result = Runs remaining (document base meta) mode.Minimal readers left out err result
-Leaves remaining mode.Standard meta base readers left out err result = Runs remaining (document base meta) mode.Standard readers left out err result
+Leaves remaining mode.Validate turns meta base readers left out err result =
+    Runs remaining (order_of turns) (document base meta) mode.Validate readers left err out result
+Leaves remaining mode.Minimal turns meta base readers left out err result =
+    Runs remaining (order_of turns) (document base meta) mode.Minimal readers left out err result
+Leaves remaining mode.Standard turns meta base readers left out err result =
+    Runs remaining (order_of turns) (document base meta) mode.Standard readers left out err result
 
 -- the mode of a conversion, minimal or not
 abbrev pub conversion : Bool → Mode
@@ -127,8 +132,8 @@ pub record RunsOpened {O R : Type 0} (opens : O → Text → Option R → O → 
   pub readers : List (Counted R)
   pub opened : OpensGroup opens remaining group old new bytes readers
   pub left : List (Counted R)
-  pub runs : ComesToEnd (Leaves remaining mode bytes group.base.now readers left out) err status
-      ⊎ StopsEarly (Leaves remaining mode bytes group.base.now readers left out) err status
+  pub runs : ComesToEnd (Leaves remaining mode group.turns bytes group.base.now readers left out) err status
+      ⊎ StopsEarly (Leaves remaining mode group.turns bytes group.base.now readers left out) err status
 
 -- What a run over the files of a group does, and the status that it ends with.
 abbrev pub RunsGroup : {O R : Type 0} → (O → Text → Option R → O → Type 0) → (R → Option (List ℕ)) → Mode → Group → O → O → Stream → Stream → ℕ → Type 0

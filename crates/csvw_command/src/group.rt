@@ -1,11 +1,12 @@
 //! Runs over the files of a group of tables.
 ghost use Rattle.std.specs.Prelude.{◌≡◌, ◌≤◌, IfErr, IfOk, map};
-ghost use Rattle.csvw_command.specs.Groups.{EndsSo, IsDocument, IsReadStop, OpensAll, OpensGroup, OpensNot, RunsGroup, StopsOpening, conversion};
+ghost use Rattle.csvw_command.specs.Groups.{EndsSo, OpensAll, OpensGroup, OpensNot, RunsGroup, StopsOpening, conversion, order_of};
 ghost use Rattle.csvw_engine.specs.Runs.{Runs};
 ghost use Rattle.csvw_text.specs.Streams.{stream_of};
 ghost use Rattle.csvw_triples_core.specs.declared.mode.Mode.TheVariants as mode;
 ghost use Rattle.csvw_meta.specs.Document.{document};
 
+use crate::metadata::read_document;
 use crate::opener::Opener;
 use crate::tell::{outcome_status, tell_stop};
 use csvw_engine::{Outcome, Stop, run, run_turns};
@@ -13,10 +14,7 @@ use csvw_text::Counted;
 use csvw_triples_core::Mode;
 use csvw_words::Group;
 use std::alloc::Global;
-use std::io::{ErrorKind, Read, Write};
-
-/// How many bytes of metadata are read at most: one more than a document may have.
-const META_BYTES: u64 = 1_048_577;
+use std::io::{Read, Write};
 
 /// What a run over a group reads.
 #[derive(Drop)]
@@ -25,19 +23,6 @@ struct Opened<R> {
     meta: Vec<u8>,
     /// The files of the tables.
     readers: Vec<Counted<R>>,
-}
-
-fn read_meta<R: Read + Drop>(alloc: Global, reader: R) -> Result<Vec<u8>, Stop>
-    ensures document { IfOk result (λ bytes. IsDocument (R.remaining reader) bytes.items) }
-    ensures stop { IfErr result IsReadStop }
-{
-    let mut bytes = Vec::new(alloc);
-    let mut front = reader.take(META_BYTES);
-    match front.read_to_end(&mut bytes) {
-        Ok(_) => Ok(bytes),
-        Err(fault) if fault.kind() == ErrorKind::OutOfMemory => Err(Stop::Memory),
-        Err(_) => Err(Stop::Read),
-    }
 }
 
 /// Opens the files of all tables.
@@ -61,7 +46,7 @@ fn open_all<O: Opener>(
     Ok(readers)
 }
 
-/// Opens and reads the metadata, and opens the files behind it.
+/// Opens and reads the metadata, and then opens the files of the tables.
 fn open_group<O: Opener>(
     alloc: Global,
     group: &Group<'_>,
@@ -73,7 +58,8 @@ fn open_group<O: Opener>(
     let Some(reader) = opener.open(group.meta) else {
         return Err(Stop::Read);
     };
-    let meta = read_meta(alloc, reader)?;
+    let mut reader = Counted::new(reader);
+    let meta = read_document(alloc, &mut reader)?;
     let readers = open_all(alloc, group.files.as_slice(), opener)?;
     Ok(Opened { meta, readers })
 }
@@ -110,7 +96,8 @@ fn run_over<R: Read, W: Write, V: Write>(
     out: &mut Counted<W>,
     report: &mut Counted<V>,
 ) -> Result<Outcome, Stop>
-    ensures { Runs R.remaining (document asked.entry.base.now asked.entry.meta.now) asked.entry.mode readers.old readers.new
+    ensures { Runs R.remaining (order_of asked.entry.turns) (document asked.entry.base.now asked.entry.meta.now) asked.entry.mode
+        readers.old readers.new
         (stream_of W.contents out.old out.new) (stream_of V.contents report.old report.new) result }
 {
     let Asked {

@@ -2,6 +2,7 @@
 #![tactic(auto)]
 
 mod group;
+mod metadata;
 mod names;
 mod opener;
 mod program;

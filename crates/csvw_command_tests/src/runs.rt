@@ -140,12 +140,12 @@ fn owned(alloc: Global, words: &[&str]) -> Result<Vec<String>, AllocError> {
 }
 
 /// The status of a run of these words over these files; `None` where there is no memory for the words.
-pub(crate) fn status_of<W: Write>(
+pub(crate) fn status_of<W: Write, V: Write>(
     alloc: Global,
     words: &[&str],
     files: &[File<'_>],
     out: &mut Counted<W>,
-    err: &mut Counted<Vec<u8>>,
+    err: &mut Counted<V>,
 ) -> Option<u8> {
     let words = owned(alloc, words).ok()?;
     let mut opener = Files { files };

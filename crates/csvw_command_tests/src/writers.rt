@@ -54,23 +54,98 @@ static RAGGED: [File<'static>; 1] = [File {
     bytes: b"id\n1\n2,3\n",
 }];
 
-/// Whether a run of these words that writes to a full device tells that, in place of the stop that it comes to, and failed once.
-fn tells_a_full_device(alloc: Global, words: &[&str]) -> bool {
+/// What a run leaves that writes to a full device.
+#[derive(Drop)]
+struct Lost {
+    /// Its status.
+    status: u8,
+    /// How often the device failed.
+    failures: u64,
+    /// What standard error got.
+    err: &'static [u8],
+}
+
+/// Whether a run over a table of this URL, which writes to a full device, leaves this.
+fn leaves(alloc: Global, url: &str, lost: &Lost) -> bool {
     let mut out = Counted::new(FullDevice);
     let mut err = Counted::new(Vec::new(alloc));
-    let status = status_of(alloc, words, &RAGGED, &mut out, &mut err);
+    let status = status_of(
+        alloc,
+        &["csvw", "plain", url, "p.csv"],
+        &RAGGED,
+        &mut out,
+        &mut err,
+    );
     let err = err.into_inner();
-    status == Some(4) && out.failures() == 1 && err.as_slice() == STOP
+    status == Some(lost.status) && out.failures() == lost.failures && err.as_slice() == lost.err
 }
 
 #[test]
-fn a_flush_that_fails_is_told_in_place_of_a_stop(rt: HostRuntime) {
-    let alloc = rt.alloc();
-    // a ragged row, and a URL that is none
-    for url in ["http://example.org/p.csv", "http://["] {
-        assert!(rt;
-            tells_a_full_device(alloc, &["csvw", "plain", url, "p.csv"]),
-            "{url}"
-        );
+fn a_flush_that_fails_is_reported_in_place_of_a_stop_in_a_table(rt: HostRuntime) {
+    let lost = Lost {
+        status: 4,
+        failures: 1,
+        err: STOP,
+    };
+    assert!(rt; leaves(rt.alloc(), "http://example.org/p.csv", &lost));
+}
+
+#[test]
+fn nothing_is_flushed_before_the_tables(rt: HostRuntime) {
+    let lost = Lost {
+        status: 3,
+        failures: 0,
+        err: b"csvw: metadata BadUrl /url\n",
+    };
+    assert!(rt; leaves(rt.alloc(), "http://[", &lost));
+}
+
+/// A writer that keeps what it takes until it is flushed.
+#[derive(Drop)]
+struct Kept {
+    /// The bytes that wait for a flush.
+    waiting: Vec<u8>,
+    /// The bytes that were flushed.
+    flushed: Vec<u8>,
+}
+
+impl Write for Kept {
+    fn write(&mut self, buf: &[u8]) -> io::Result<usize> {
+        match self.waiting.extend_from_slice(buf) {
+            Ok(()) => Ok(buf.len()),
+            Err(_) => Err(io::Error::from(io::ErrorKind::OutOfMemory)),
+        }
     }
+
+    fn flush(&mut self) -> io::Result<()> {
+        if self
+            .flushed
+            .extend_from_slice(self.waiting.as_slice())
+            .is_err()
+        {
+            return Err(io::Error::from(io::ErrorKind::OutOfMemory));
+        }
+        self.waiting.clear();
+        Ok(())
+    }
+}
+
+/// The graph of `NAMES`: 92 bytes.
+const GRAPH: &[u8] =
+    b"_:t1r1s <http://example.org/p.csv#id> \"1\" .\n_:t1r1s <http://example.org/p.csv#name> \"Ann\" .\n";
+
+#[test]
+fn the_graph_is_flushed_where_the_report_fails(rt: HostRuntime) {
+    let alloc = rt.alloc();
+    let mut out = Counted::new(Kept {
+        waiting: Vec::new(alloc),
+        flushed: Vec::new(alloc),
+    });
+    let mut err = Counted::new(Full {
+        room: 0,
+        taken: Vec::new(alloc),
+    });
+    let status = status_of(alloc, PLAIN, &NAMES, &mut out, &mut err);
+    assert!(rt; status == Some(4));
+    assert!(rt; out.into_inner().flushed.as_slice() == GRAPH);
 }

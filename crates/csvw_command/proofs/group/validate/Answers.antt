@@ -23,7 +23,7 @@ returns-in-Ok-clause-runs g c =
       opened = opened_as g.O.Opener.opens g.O.Reader.Read.remaining c.args.group.now c.args.opener.now c.open_group.new.opener group.meta.items bytes
           group.readers.items readers same_bytes same_readers c.in-Ok.ensures.opened;
       left = c.run_over-ran.new.readers;
-      runs = ends (Leaves g.O.Reader.Read.remaining mode.Validate bytes c.args.group.now.base.now readers c.run_over-ran.new.readers out)
+      runs = ends (Leaves g.O.Reader.Read.remaining mode.Validate c.args.group.now.turns bytes c.args.group.now.base.now readers c.run_over-ran.new.readers out)
           (told (inner_of c.args.err.now)) (told (inner_of c.run_over-ran.new.out)) (told (inner_of c.tell_end.new.err)) (failures_of c.args.err.now)
           (failures_of c.run_over-ran.new.out) (failures_of c.tell_end.new.err)
           c.run_over-ran.result c.tell_end.result c.run_over-ran.ensures c.tell_end.ensures.end;
