@@ -1,4 +1,3 @@
 mod LanguageLemmas
 mod SpacesLemmas
-mod WritingLemmas
 mod StripLemmas

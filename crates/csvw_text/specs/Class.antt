@@ -1,5 +1,5 @@
--- Classes of characters: white space (XML 1.0, production S), unreserved and reserved characters of a URI
--- (RFC 3986, sections 2.2 and 2.3).
+-- Classes of characters: white space, and unreserved and reserved characters of a URI (XML 1.0, production S; RFC 3986, sections
+-- 2.2 and 2.3).
 use Rattle.std.specs.Prelude.{ℕ, ◌==◌, ◌||◌, ◌&&◌, Bool, nat_le, codes}
 use Rattle.std.specs.List.{list_any}
 

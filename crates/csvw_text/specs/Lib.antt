@@ -1,11 +1,7 @@
 pub mod formers
 pub mod Class
-pub mod Code
 pub mod Collapse
-pub mod Count
-pub mod Counted
 pub mod Gives
 pub mod Language
 pub mod Spaces
-pub mod Streams
 pub mod Strip

@@ -1,4 +1,4 @@
--- Texts without the white space at their start and end, as lists of characters (Model for Tabular Data, section 6.4.2).
+-- Texts without the white space at their start and end, as lists of characters (Model for Tabular Data, section 6.4).
 use Rattle.std.specs.Prelude.{ℕ, List, [], ◌∷◌, reverse, if◌then◌else◌}
 use Rattle.csvw_text.specs.Class.{is_white_char}
 

@@ -1,4 +1,4 @@
-//! Equality and order of texts and lists, which are those of their bytes and elements.
+//! Equality and order of texts and lists: those of their bytes and elements.
 ghost use Rattle.std.specs.Prelude.{◌≡◌, Some, refl};
 ghost use Rattle.std.specs.Ordering.{nat_cmp};
 ghost use Rattle.std.specs.Prelude.{nat_eq};

@@ -1,4 +1,4 @@
-//! Language tags.
+//! `LanguageTag`: the language tags of N-Triples.
 ghost use Rattle.std.specs.Prelude.{◌≡◌, true, false, map, MatchOption, IfOk};
 ghost use Rattle.std.specs.List.{slice_split, list_all};
 ghost use Rattle.csvw_text.specs.Class.{is_letter_char, is_digit_char};
@@ -8,8 +8,10 @@ use crate::{Copied, Text};
 use std::alloc::{AllocError, Global};
 use std::marker::Model;
 
-/// A language tag: words parted by single `-`, the first of ASCII letters, the others of ASCII letters
-/// and digits (RDF 1.1 N-Triples, production LANGTAG, without its `@`). Contracts see its bytes.
+/// A language tag (RDF 1.1 N-Triples, production LANGTAG, without its `@`). Contracts see its bytes.
+///
+/// A tag is a list of words with a single `-` between them. The first word has ASCII letters. The others have ASCII
+/// letters and digits.
 #[derive(Debug, Drop, PartialEq, Eq, PartialOrd, Ord)]
 pub struct LanguageTag {
     text: Text,
@@ -29,7 +31,7 @@ impl Model for LanguageTag {
 }
 
 impl LanguageTag {
-    /// The tag that a text is, or `None` where it is none; `AllocError` where there is no memory.
+    /// Returns the tag that a text is, or `None` if the text is not a tag. Returns `AllocError` if memory runs out.
     pub fn of(alloc: Global, text: Text) -> Result<Option<LanguageTag>, AllocError>
         ensures { IfOk result (λ tag. MatchOption tag (is_language_tag text ≡ false) (λ t. (t ≡ text) × (is_language_tag text ≡ true))) }
     {
@@ -40,7 +42,7 @@ impl LanguageTag {
         }
     }
 
-    /// The tag as a slice.
+    /// Returns the tag as a slice.
     pub fn as_str(&self) -> &str
         ensures value { result.now ≡ self.now }
         ensures tag { is_language_tag self.now ≡ true }
@@ -48,7 +50,7 @@ impl LanguageTag {
         self.text.as_str()
     }
 
-    /// An equal tag; `AllocError` where there is no memory.
+    /// Returns an equal tag, or `AllocError` if memory runs out.
     pub fn clone(&self, alloc: Global) -> Result<LanguageTag, AllocError>
         ensures { IfOk result (λ t. t ≡ self.now) }
     {

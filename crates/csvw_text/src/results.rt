@@ -4,8 +4,10 @@ ghost use Rattle.std.specs.Prelude.{◌≡◌, Ok, IfOk};
 use crate::seq::Copied;
 use std::alloc::{AllocError, Global};
 
-/// Both values; `AllocError` where one of them is. Large ones that are taken out together leave no early return between them
-/// that lets go of the first: each such return drops it part by part, in code of its own.
+/// Returns both values, or `AllocError` if one of the results is an `AllocError`.
+///
+/// Each early return drops the values that exist by then, part by part, in code of its own. Two large values that are
+/// taken out together have no early return between them.
 pub fn both<A: Drop, B: Drop>(
     first: Result<A, AllocError>,
     second: Result<B, AllocError>,
@@ -21,7 +23,7 @@ pub fn both<A: Drop, B: Drop>(
     }
 }
 
-/// Equal values of both; `AllocError` where there is no memory.
+/// Returns equal values of both, or `AllocError` if memory runs out.
 pub fn both_copied<A: Copied + Drop, B: Copied + Drop>(
     alloc: Global,
     first: &A,

@@ -1,17 +1,17 @@
-//! A list that contracts see as the list of its elements, and what can be copied.
+//! `Seq`: a list that contracts see as the list of its elements. `Copied`: what can be copied.
 ghost use Rattle.std.specs.Prelude.{◌≡◌, [], ◌∷◌, ◌++◌, length, IfOk, OnOk, OnErr};
 
 use std::alloc::{AllocError, Global};
 use std::marker::Model;
 
-/// What can be copied to an equal value, where there is memory.
+/// A type whose values can be copied to equal values.
 pub trait Copied: Sized {
-    /// An equal value; `AllocError` where there is no memory.
+    /// Returns an equal value, or `AllocError` if memory runs out.
     fn copied(&self, alloc: Global) -> Result<Self, AllocError>
         ensures { IfOk result (λ x. x ≡ self.now) };
 }
 
-/// A list, which a contract sees as the list of its elements.
+/// A list. Contracts see it as the list of its elements.
 #[derive(Debug, Drop)]
 pub struct Seq<T> {
     inner: Vec<T>,
@@ -29,7 +29,7 @@ impl<T> Model for Seq<T> {
 }
 
 impl<T> Seq<T> {
-    /// The empty list. It takes no memory.
+    /// Returns the empty list. It takes no memory.
     pub fn new(alloc: Global) -> Seq<T>
         ensures { result ≡ [] }
     {
@@ -38,14 +38,14 @@ impl<T> Seq<T> {
         }
     }
 
-    /// The list of a vector's elements. It takes no memory.
+    /// Returns the list of a vector's elements. It takes no memory.
     pub fn of(items: Vec<T>) -> Seq<T>
         ensures { result ≡ items.items }
     {
         Seq { inner: items }
     }
 
-    /// The vector that it holds. It takes no memory.
+    /// Returns the vector that the list holds. It takes no memory.
     pub fn into_vec(self) -> Vec<T>
         ensures { result.items ≡ self }
     {
@@ -53,28 +53,28 @@ impl<T> Seq<T> {
         inner
     }
 
-    /// The elements, as a slice.
+    /// Returns the elements as a slice.
     pub fn as_slice(&self) -> &[T]
         ensures { result.now ≡ self.now }
     {
         self.inner.as_slice()
     }
 
-    /// How many elements there are.
+    /// Returns the number of elements.
     pub fn len(&self) -> usize
         ensures { result ≡ length self.now }
     {
         self.inner.len()
     }
 
-    /// Whether there are none.
+    /// Returns whether the list is empty.
     pub fn is_empty(&self) -> bool
         ensures { result ≡ Rattle.std.specs.Prelude.nat_eq (length self.now) 0 }
     {
         self.inner.is_empty()
     }
 
-    /// Adds an element at the end; unchanged where there is no memory.
+    /// Adds an element at the end. If memory runs out, it returns `AllocError` and the list is unchanged.
     pub fn push(&mut self, x: T) -> Result<(), AllocError>
     where
         T: Drop,
@@ -86,8 +86,19 @@ impl<T> Seq<T> {
     }
 }
 
+impl<T: Copy> Seq<T> {
+    /// Adds copies of the elements at the end. If memory runs out, it returns `AllocError` and the list is unchanged.
+    pub fn extend_from_slice(&mut self, more: &[T]) -> Result<(), AllocError>
+        ensures ok { OnOk result (self.new ≡ self.old ++ more.now) }
+        ensures err { OnErr result (self.new ≡ self.old) }
+    {
+        self.inner.extend_from_slice(more)?;
+        Ok(())
+    }
+}
+
 impl<T: Copied + Drop> Seq<T> {
-    /// An equal list; `AllocError` where there is no memory.
+    /// Returns an equal list, or `AllocError` if memory runs out.
     pub fn clone(&self, alloc: Global) -> Result<Seq<T>, AllocError>
         ensures { IfOk result (λ s. s ≡ self.now) }
     {
@@ -114,14 +125,14 @@ fn copies<T: Copied + Drop>(alloc: Global, items: &[T]) -> Result<Vec<T>, AllocE
     Ok(copies)
 }
 
-/// An equal list of what is copied as it stands; `AllocError` where there is no memory.
+/// Returns an equal list of elements that are `Copy`, or `AllocError` if memory runs out.
 pub fn copied_items<T: Copy>(alloc: Global, items: &Seq<T>) -> Result<Seq<T>, AllocError>
     ensures { IfOk result (λ s. s ≡ items.now) }
 {
     Ok(Seq::of(Vec::from_slice(alloc, items.as_slice())?))
 }
 
-/// An equal option; `AllocError` where there is no memory.
+/// Returns an equal option, or `AllocError` if memory runs out.
 pub fn copied_option<T: Copied + Drop>(
     alloc: Global,
     value: &Option<T>,

@@ -1,4 +1,4 @@
-//! A value that is shared.
+//! `Shared`: a value that its clones share.
 ghost use Rattle.std.specs.Prelude.{◌≡◌, IfOk};
 
 use crate::Copied;
@@ -7,6 +7,8 @@ use std::marker::Model;
 use std::rc::Rc;
 
 /// A value that its clones share. Contracts see the value.
+///
+/// What many columns inherit is shared: a datatype, the texts that are null, a template. A clone takes no memory.
 #[derive(Debug, Drop)]
 pub struct Shared<T> {
     inner: Rc<T>,
@@ -21,7 +23,7 @@ impl<T> Model for Shared<T> {
 }
 
 impl<T> Shared<T> {
-    /// The value, to be shared; `AllocError` where there is no memory.
+    /// Returns the value as a shared one, or `AllocError` if memory runs out.
     pub fn new(alloc: Global, value: T) -> Result<Shared<T>, AllocError>
     where
         T: Drop,
@@ -33,14 +35,14 @@ impl<T> Shared<T> {
         }
     }
 
-    /// The value.
+    /// Returns the value.
     pub fn get(&self) -> &T
         ensures { result.now ≡ self.now }
     {
         self.inner.as_ref()
     }
 
-    /// The same value, which is shared: it takes no memory, and is an `AllocError` only where the count of the owners is
+    /// Returns the same value, shared. It takes no memory. It is an `AllocError` only if the count of the owners is
     /// at its greatest.
     pub fn clone(&self, _alloc: Global) -> Result<Shared<T>, AllocError>
     where

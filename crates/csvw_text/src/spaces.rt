@@ -1,18 +1,18 @@
-//! White space replaced and collapsed, the first two steps of reading a cell.
+//! `collapse`: white space is replaced and collapsed, the first two steps of reading a cell.
 ghost use Rattle.std.specs.Prelude.{◌≡◌, IfOk, OnOk, string_bytes, ◌++◌, encode_utf8_all};
 ghost use Rattle.std.specs.Str.{chars};
 ghost use Rattle.csvw_text.specs.Collapse.{collapse};
 
 use std::alloc::{AllocError, Global};
 
-/// Where the pass stands.
+/// The place of the pass in the text.
 #[derive(Clone, Copy)]
 pub enum Stand {
     /// Before the first word.
     Front,
     /// In a word.
     Word,
-    /// Behind a word, in white space.
+    /// After a word, in white space.
     Gap,
 }
 
@@ -51,7 +51,10 @@ fn push_next(out: &mut String, stand: Stand, c: char) -> Result<(), AllocError>
     out.push(c)
 }
 
-/// CR, LF and tab are spaces, runs of spaces are one, and the ends have none.
+/// Returns the text with white space collapsed (Model for Tabular Data, section 6.4).
+///
+/// Each CR, LF and tab becomes a space. Each run of spaces becomes one space. The spaces at both ends are removed.
+/// Returns `AllocError` if memory runs out.
 pub fn collapse(alloc: Global, text: &str) -> Result<String, AllocError>
     ensures { IfOk result (λ s. string_bytes s ≡ encode_utf8_all (collapse (chars text.now))) }
 {

@@ -1,10 +1,11 @@
-//! Texts without the white space at their start and end.
+//! `strip_start` and `strip_end`: texts without the white space at their start or end.
 ghost use Rattle.std.specs.Prelude.{◌≡◌, ◌≤◌, ◌-◌, length, take, drop, chars};
 ghost use Rattle.csvw_text.specs.Strip.{strip_start, strip_end};
 
 use crate::is_white;
 
-/// The text without white space at its start: tab, line feed, carriage return and space. It takes no memory.
+/// Returns the text without the white space at its start: tab, line feed, carriage return and space. It takes no
+/// memory.
 pub fn strip_start(text: &str) -> &str
     ensures within { length result.now ≤ length text.now }
     ensures value { result.now ≡ drop (length text.now - length result.now) text.now }
@@ -23,7 +24,8 @@ pub fn strip_start(text: &str) -> &str
     }
 }
 
-/// The text without white space at its end: tab, line feed, carriage return and space. It takes no memory.
+/// Returns the text without the white space at its end: tab, line feed, carriage return and space. It takes no
+/// memory.
 pub fn strip_end(text: &str) -> &str
     ensures within { length result.now ≤ length text.now }
     ensures value { result.now ≡ take (length result.now) text.now }

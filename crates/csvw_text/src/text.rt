@@ -1,11 +1,11 @@
-//! A text that contracts see as its UTF-8 bytes.
+//! `Text`: a text that contracts see as its UTF-8 bytes.
 ghost use Rattle.std.specs.Prelude.{◌≡◌, [], ◌++◌, IfOk, OnOk, OnErr, string_bytes, length};
 
 use crate::Copied;
 use std::alloc::{AllocError, Global};
 use std::marker::Model;
 
-/// A text, which a contract sees as its UTF-8 bytes.
+/// A text. Contracts see it as its UTF-8 bytes.
 #[derive(Debug, Drop)]
 pub struct Text {
     inner: String,
@@ -20,7 +20,7 @@ impl Model for Text {
 }
 
 impl Text {
-    /// The empty text. It takes no memory.
+    /// Returns the empty text. It takes no memory.
     pub fn new(alloc: Global) -> Text
         ensures { result ≡ [] }
     {
@@ -29,14 +29,14 @@ impl Text {
         }
     }
 
-    /// The text of a string. It takes no memory.
+    /// Returns the text of a string. It takes no memory.
     pub fn of(text: String) -> Text
         ensures { result ≡ string_bytes text }
     {
         Text { inner: text }
     }
 
-    /// A copy of a text; `AllocError` where there is no memory.
+    /// Returns a copy of a text, or `AllocError` if memory runs out.
     pub fn copied(alloc: Global, text: &str) -> Result<Text, AllocError>
         ensures { IfOk result (λ t. t ≡ text.now) }
     {
@@ -45,28 +45,28 @@ impl Text {
         })
     }
 
-    /// The text as a slice.
+    /// Returns the text as a slice.
     pub fn as_str(&self) -> &str
         ensures { result.now ≡ self.now }
     {
         self.inner.as_str()
     }
 
-    /// Its number of bytes.
+    /// Returns the number of bytes.
     pub fn len(&self) -> usize
         ensures { result ≡ length self.now }
     {
         self.inner.len()
     }
 
-    /// Whether it has no character.
+    /// Returns whether the text is empty.
     pub fn is_empty(&self) -> bool
         ensures { result ≡ Rattle.std.specs.Prelude.nat_eq (length self.now) 0 }
     {
         self.inner.is_empty()
     }
 
-    /// Adds a text at the end; unchanged where there is no memory.
+    /// Adds a text at the end. If memory runs out, it returns `AllocError` and the text is unchanged.
     pub fn push_str(&mut self, text: &str) -> Result<(), AllocError>
         ensures ok { OnOk result (self.new ≡ self.old ++ text.now) }
         ensures err { OnErr result (self.new ≡ self.old) }
@@ -74,7 +74,8 @@ impl Text {
         self.inner.push_str(text)
     }
 
-    /// Becomes a copy of a text, and keeps its memory; empty where there is none for the text.
+    /// Replaces the text by a copy of another, and keeps its memory. If memory runs out, it returns `AllocError` and
+    /// the text is empty.
     pub fn refill(&mut self, text: &str) -> Result<(), AllocError>
         ensures ok { OnOk result (self.new ≡ text.now) }
         ensures err { OnErr result (self.new ≡ []) }
@@ -83,7 +84,7 @@ impl Text {
         self.push_str(text)
     }
 
-    /// The string that it holds. It takes no memory.
+    /// Returns the string that the text holds. It takes no memory.
     pub fn into_string(self) -> String
         ensures { string_bytes result ≡ self }
     {
@@ -91,7 +92,7 @@ impl Text {
         inner
     }
 
-    /// An equal text; `AllocError` where there is no memory.
+    /// Returns an equal text, or `AllocError` if memory runs out.
     pub fn clone(&self, alloc: Global) -> Result<Text, AllocError>
         ensures { IfOk result (λ t. t ≡ self.now) }
     {

@@ -1,4 +1,4 @@
--- The passes of all characters give the collapsed text.
+-- The passes over all characters write the collapsed text.
 use Rattle.std.proofs.Common.{◌≡◌, string_bytes, sym, ap, ◌∙◌, map-id, append-nil, [], encode_utf8_all}
 use Rattle.std.proofs.lemmas.Iterator.{YieldsList-from_chars}
 use Rattle.std.proofs.lemmas.Iterator.Consumers.{YieldsList-end}

@@ -1,4 +1,4 @@
--- `Seq` as a type that may hold the type that holds it: its value is the list of its elements, whose places are those of the vector.
+-- `Seq` as a type that may hold the type that holds it. Its value is the list of its elements. Their places are those of the vector.
 use mathlib.Core.Path.{◌≡◌, refl, sym}
 use mathlib.Core.List.{List, []}
 use mathlib.Core.Former.{Former, this, list, via, children}

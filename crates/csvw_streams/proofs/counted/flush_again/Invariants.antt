@@ -1,6 +1,6 @@
 -- The calls so far failed, and left the bytes as they were.
 use Rattle.std.specs.Io.KnownBytes.{Keeps}
-use Rattle.csvw_text.proofs.counted.flush_again.Given as goal
+use Rattle.csvw_streams.proofs.counted.flush_again.Given as goal
 
 abbrev pub invariant-loop : goal.invariant-loop
 invariant-loop g l = Keeps (g.W.Write.contents l.initial.writer) (g.W.Write.contents l.writer)

@@ -1,7 +1,7 @@
--- One more write goes on with the front that was sent.
+-- One more write extends the front that was sent.
 use Rattle.std.proofs.Common.{arith, ◌∙◌}
-use Rattle.csvw_text.proofs.WritingLemmas.{sent_rest, after_write-some}
-use Rattle.csvw_text.proofs.writing.write_out.Goals as goal
+use Rattle.csvw_streams.proofs.WritingLemmas.{sent_rest, after_write-some}
+use Rattle.csvw_streams.proofs.writing.write_out.Goals as goal
 
 pub loop-sent-preserved : goal.loop-sent-preserved
 loop-sent-preserved g c = record {

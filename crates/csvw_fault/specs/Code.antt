@@ -1,10 +1,10 @@
--- The names of the codes, as reports spell them.
+-- The names of fault codes, as reports spell them.
 use Rattle.std.specs.Prelude.{ℕ, List, codes}
-use Rattle.csvw_text.specs.declared.fault.Code.{Code}
-use Rattle.csvw_text.specs.declared.fault.Code.TheVariants.{UnknownProperty, HeaderMissing, HeaderCount, HeaderMismatch, Required, BadBoolean}
-use Rattle.csvw_text.specs.declared.fault.Code.TheVariants.{BadInteger, BadDecimal, NumberTooLong, OutOfRange, BadDate, BadDateTime, WrongLength}
-use Rattle.csvw_text.specs.declared.fault.Code.TheVariants.{TooShort, TooLong, BelowMinimum, AboveMaximum, BadUrl, UrlTooLong, DuplicateKey}
-use Rattle.csvw_text.specs.declared.fault.Code.TheVariants.{NoReferencedRow, ManyReferencedRows}
+use Rattle.csvw_fault.specs.declared.fault.Code.{Code}
+use Rattle.csvw_fault.specs.declared.fault.Code.TheVariants.{UnknownProperty, HeaderMissing, HeaderCount, HeaderMismatch, Required, BadBoolean}
+use Rattle.csvw_fault.specs.declared.fault.Code.TheVariants.{BadInteger, BadDecimal, NumberTooLong, OutOfRange, BadDate, BadDateTime, WrongLength}
+use Rattle.csvw_fault.specs.declared.fault.Code.TheVariants.{TooShort, TooLong, BelowMinimum, AboveMaximum, BadUrl, UrlTooLong, DuplicateKey}
+use Rattle.csvw_fault.specs.declared.fault.Code.TheVariants.{NoReferencedRow, ManyReferencedRows}
 
 -- the name of the variant
 abbrev pub name_of : Code → List ℕ

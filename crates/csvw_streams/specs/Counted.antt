@@ -1,6 +1,6 @@
--- What contracts see of a `Counted`.
+-- The parts of a `Counted` that contracts cite.
 use Rattle.std.specs.Prelude.{ℕ}
-use Rattle.csvw_text.specs.declared.counted.Counted.{Counted}
+use Rattle.csvw_streams.specs.declared.counted.Counted.{Counted}
 
 -- the reader or writer
 abbrev pub inner_of : {T : Type 0} → Counted T → T

@@ -17,7 +17,7 @@ pub struct Counted<T> {
 }
 
 impl<T> Counted<T> {
-    ghost use Rattle.csvw_text.specs.Counted.{inner_of, failures_of, ends_of};
+    ghost use Rattle.csvw_streams.specs.Counted.{inner_of, failures_of, ends_of};
 
     /// A reader or writer that hasn't failed and hasn't reported its end.
     pub fn new(inner: T) -> Counted<T>
@@ -73,7 +73,10 @@ fn read_again<R: Read>(reader: &mut R, buf: &mut [u8]) -> io::Result<usize>
     reader.read(buf)
 }
 
-/// Writes; a call that is interrupted is made again.
+/// Writes after a call that was interrupted; a call that is interrupted is made again. It is seldom called, so
+/// it stays out of the callers of `write`.
+#[cold]
+#[inline(never)]
 fn write_again<W: Write>(writer: &mut W, buf: &[u8]) -> io::Result<usize>
     ensures bound { WritesAtMost result buf.now }
     ensures bytes { WriteAppends (W.contents writer.old) (W.contents writer.new) result buf.now }
@@ -101,8 +104,8 @@ fn flush_again<W: Write>(writer: &mut W) -> io::Result<()>
 }
 
 impl<R: Read> Read for Counted<R> {
-    ghost use Rattle.csvw_text.specs.Counted.{inner_of, failures_of, ends_of};
-    ghost use Rattle.csvw_text.specs.Count.{after_call, after_read};
+    ghost use Rattle.csvw_streams.specs.Counted.{inner_of, failures_of, ends_of};
+    ghost use Rattle.csvw_streams.specs.Count.{after_call, after_read};
 
     ghost remaining = { λ c. R.remaining (inner_of c) };
 
@@ -127,8 +130,8 @@ impl<R: Read> Read for Counted<R> {
 }
 
 impl<W: Write> Write for Counted<W> {
-    ghost use Rattle.csvw_text.specs.Counted.{inner_of, failures_of, ends_of};
-    ghost use Rattle.csvw_text.specs.Count.{after_call, after_write};
+    ghost use Rattle.csvw_streams.specs.Counted.{inner_of, failures_of, ends_of};
+    ghost use Rattle.csvw_streams.specs.Count.{after_call, after_write};
 
     ghost contents = { λ c. W.contents (inner_of c) };
 
@@ -138,7 +141,13 @@ impl<W: Write> Write for Counted<W> {
         ensures count { failures_of self.new ≡ after_write result buf.now (failures_of self.old) }
         ensures ends { ends_of self.new ≡ ends_of self.old }
     {
-        let result = write_again(&mut self.inner, buf);
+        let result = match self.inner.write(buf) {
+            Err(fault) if fault.kind() == ErrorKind::Interrupted => write_again(
+                &mut self.inner,
+                buf,
+            ),
+            result => result,
+        };
         let failed = match &result {
             Ok(n) => *n == 0 && !buf.is_empty(),
             Err(_) => true,

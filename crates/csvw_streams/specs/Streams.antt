@@ -1,11 +1,11 @@
--- What is sent to a stream.
+-- The bytes that are sent to a stream, and whether it failed.
 use Rattle.std.specs.Prelude.{◌≡◌, ◌⊎◌, ℕ, List, ◌++◌, Option}
 use Rattle.std.specs.Io.KnownBytes.{Appends}
-use Rattle.csvw_text.specs.declared.counted.Counted.{Counted}
-use Rattle.csvw_text.specs.Count.{one_more}
-use Rattle.csvw_text.specs.Counted.{inner_of, failures_of}
+use Rattle.csvw_streams.specs.declared.counted.Counted.{Counted}
+use Rattle.csvw_streams.specs.Count.{one_more}
+use Rattle.csvw_streams.specs.Counted.{inner_of, failures_of}
 
--- A stream before and after: the bytes that its writer holds, where it tells them, and how often it failed.
+-- A stream before and after: the bytes that its writer holds, if it reports them, and its count of failures.
 pub record Stream : Type 0 where
   pub held : Option (List ℕ)
   pub holds : Option (List ℕ)
@@ -28,7 +28,7 @@ IsIdle s = (s.holds ≡ s.held) × (s.failed ≡ s.failures)
 abbrev pub Sends : Stream → List ℕ → Type 0
 Sends s text = Appends s.held s.holds text × (s.failed ≡ s.failures)
 
--- a front of the text was sent, which may be the whole, and the stream failed behind it
+-- a front of the text was sent, which may be the whole text; then the stream failed
 pub record IsCut (s : Stream) (text : List ℕ) : Type 0 where
   pub front : List ℕ
   pub rest : List ℕ
@@ -36,6 +36,6 @@ pub record IsCut (s : Stream) (text : List ℕ) : Type 0 where
   pub appended : Appends s.held s.holds front
   pub failed : s.failed ≡ one_more s.failures
 
--- the text was sent, as far as the stream takes it
+-- the whole text was sent, or a front of it before the stream failed
 abbrev pub Tells : Stream → List ℕ → Type 0
 Tells s text = Sends s text ⊎ IsCut s text

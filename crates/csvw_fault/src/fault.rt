@@ -1,81 +1,81 @@
-//! Faults of tables, each with its place.
+//! `Fault`: what is wrong with a table, a row or a cell, with its place.
 ghost use Rattle.std.specs.Prelude.{◌≡◌};
-ghost use Rattle.csvw_text.specs.Code.{name_of};
+ghost use Rattle.csvw_fault.specs.Code.{name_of};
 
 use std::error::Error;
 use std::fmt;
 
-/// Where a fault is. A number is 0 where there is none.
+/// The place of a fault. A number is 0 if the fault has no such place.
 #[derive(Clone, Copy, Debug, PartialEq, Eq, PartialOrd, Ord)]
 pub struct Place {
-    /// The table's number in its group, from 1.
+    /// The number of the table in its group, from 1.
     pub table: u32,
-    /// The row's number in its source, from 1; skipped, comment and blank rows count.
+    /// The number of the row in its source, from 1. Skipped rows, comments and blank rows count.
     pub row: u64,
-    /// The column's number, from 1; skipped columns don't count.
+    /// The number of the column, from 1. Skipped columns don't count.
     pub column: u32,
 }
 
-/// Whether a fault makes its group invalid.
+/// Says whether a fault makes its group invalid.
 #[derive(Clone, Copy, Debug, PartialEq, Eq, PartialOrd, Ord)]
 pub enum Kind {
-    /// It does.
+    /// The fault makes its group invalid.
     Error,
-    /// It leaves the group valid.
+    /// The fault leaves the group valid.
     Warning,
 }
 
-/// What is wrong.
+/// Says what is wrong.
 #[derive(Clone, Copy, Debug, PartialEq, Eq, PartialOrd, Ord)]
 pub enum Code {
-    /// A property of the metadata that the vocabulary doesn't list; the one warning.
+    /// The vocabulary doesn't list a property of the metadata. This is the one warning.
     UnknownProperty,
-    /// There are fewer header rows than the dialect says.
+    /// The table has fewer header rows than the dialect says.
     HeaderMissing,
-    /// A header row hasn't one cell for each column.
+    /// A header row does not have one cell for each column.
     HeaderCount,
-    /// A header cell is no title of its column.
+    /// A header cell is not a title of its column.
     HeaderMismatch,
     /// A required cell has no value.
     Required,
-    /// A text is no boolean of the column's format.
+    /// The text is not a boolean of the column's format.
     BadBoolean,
-    /// A text is no integer, in a column of integers or of a type derived from them.
+    /// The text is not an integer. The column is of integers or of a type derived from them.
     BadInteger,
-    /// A text is no decimal of the column's format.
+    /// The text is not a decimal of the column's format.
     BadDecimal,
-    /// A number of 10^20 or more in size, or finer than 10^-18.
+    /// The number is 10^20 or more in size, or finer than 10^-18.
     NumberTooLong,
-    /// A number outside the range of its derived type.
+    /// The number is outside the range of its derived type.
     OutOfRange,
-    /// A text is no date of the column's format.
+    /// The text is not a date of the column's format.
     BadDate,
-    /// A text is no date with a time of day of the column's format.
+    /// The text is not a date with a time of day of the column's format.
     BadDateTime,
-    /// A text isn't as long as the facet `length` says.
+    /// The text does not have the length that the facet `length` says.
     WrongLength,
-    /// A text is shorter than the facet `minLength`.
+    /// The text is shorter than the facet `minLength` says.
     TooShort,
-    /// A text is longer than the facet `maxLength`.
+    /// The text is longer than the facet `maxLength` says.
     TooLong,
-    /// A value is below its least.
+    /// The value is below the least value that the facets allow.
     BelowMinimum,
-    /// A value is above its greatest.
+    /// The value is above the greatest value that the facets allow.
     AboveMaximum,
-    /// A link is no URL.
+    /// The link is not a URL.
     BadUrl,
-    /// The text of a link is past its limit.
+    /// The text of the link is longer than its limit.
     UrlTooLong,
     /// An earlier row has the same primary key.
     DuplicateKey,
     /// No row has the key that a foreign key refers to.
     NoReferencedRow,
-    /// Several rows have the key that a foreign key refers to.
+    /// More than one row has the key that a foreign key refers to.
     ManyReferencedRows,
 }
 
 impl Code {
-    /// What is wrong and what to do, as a sentence without its full stop.
+    /// Returns what is wrong and what to do, as a sentence without its full stop.
     fn sentence(&self) -> &'static str {
         match self {
             Code::UnknownProperty => "no such property is known: correct its name, or remove it",
@@ -115,16 +115,16 @@ impl Error for Code {}
 /// Something wrong at a place. Faults are ordered by table, row, column, code and kind.
 #[derive(Clone, Copy, Debug, PartialEq, Eq, PartialOrd, Ord)]
 pub struct Fault {
-    /// Where it is.
+    /// The place of the fault.
     pub place: Place,
     /// What is wrong.
     pub code: Code,
-    /// Whether it makes its group invalid.
+    /// Says whether the fault makes its group invalid.
     pub kind: Kind,
 }
 
 impl Code {
-    /// The name of the variant, as reports spell it.
+    /// Returns the name of the variant, as reports spell it.
     pub fn name(&self) -> &'static str
         ensures { result.now ≡ name_of self.now }
     {

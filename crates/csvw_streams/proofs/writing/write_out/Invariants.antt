@@ -1,8 +1,8 @@
 -- So far the front of the bytes was sent, and nothing failed.
 use Rattle.std.proofs.Common.{◌≡◌, ◌≤◌, ◌-◌, take, length}
 use Rattle.std.specs.Io.KnownBytes.{Appends}
-use Rattle.csvw_text.specs.Counted.{inner_of, failures_of}
-use Rattle.csvw_text.proofs.writing.write_out.Given as goal
+use Rattle.csvw_streams.specs.Counted.{inner_of, failures_of}
+use Rattle.csvw_streams.proofs.writing.write_out.Given as goal
 
 abbrev pub invariant-loop-sent : goal.invariant-loop-sent
 invariant-loop-sent g l = record {

@@ -1,0 +1,2 @@
+mod PartsLemmas
+mod WritingLemmas

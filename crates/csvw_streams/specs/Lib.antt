@@ -1,0 +1,4 @@
+pub mod Count
+pub mod Counted
+pub mod Lines
+pub mod Streams
