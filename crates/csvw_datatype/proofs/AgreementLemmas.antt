@@ -1,4 +1,4 @@
--- The facets fit the type and each other where the standards' words say so.
+-- The facets fit the type and each other exactly if the standards' words say so.
 use Rattle.std.proofs.Common.{◌≡◌, ◌↔◌, ◌⊎◌, inl, inr, ℕ, ◌≤◌, ◌||◌, ◌&&◌, not, nat_lt, Bool, true, false, Option, Some, None, is_some, refl, arith}
 use Rattle.std.specs.Prelude.{IsTrue}
 use Rattle.std.proofs.lemmas.Bool.Decides.{nat_tests}
@@ -7,7 +7,8 @@ use Rattle.csvw_datatype.specs.declared.simple.Simple.{Simple}
 use Rattle.csvw_datatype.specs.declared.simple.Simple.TheVariants as simples
 use Rattle.csvw_datatype.specs.declared.datatype.Facets.{Facets}
 use Rattle.csvw_datatype.specs.Breaks.{fails, is_below, is_over, is_not_under, has_lengths}
-use Rattle.csvw_datatype.specs.Sound.{is_text, lengths_apply, lengths_agree, side_agrees, bounds_agree, first_of}
+use Rattle.csvw_datatype.specs.Sound.{lengths_apply, lengths_agree, side_agrees, bounds_agree, first_of}
+use Rattle.csvw_datatype.specs.Strings.{is_text}
 use Rattle.csvw_datatype.specs.Facets.{IsLess, IsAtMost}
 use Rattle.csvw_datatype.specs.Agreement.{IfBoth, AreSame, LengthsApply, LengthsAgree, BoundsAgree, min_of, max_of}
 use Rattle.csvw_datatype.proofs.FacetLemmas.{below, up_to}

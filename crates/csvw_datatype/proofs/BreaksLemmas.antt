@@ -1,5 +1,5 @@
--- Where no facet asks for a length, none is broken, and where no facet is a bound, none of these is. Texts and truths break
--- no bound, and what is no text breaks no length.
+-- If no facet asks for a length, no length is broken. If no facet is a bound, no bound is broken. Texts and booleans break no bound, and only texts break a
+-- length.
 use Rattle.std.proofs.Common.{◌≡◌, ℕ, List, ◌||◌, Bool, true, false, Option, Some, None, is_some, ◌==◌, not, nat_lt, refl, sym, ap, ◌∙◌}
 use Rattle.csvw_datatype.specs.declared.value.Value.{Value}
 use Rattle.csvw_datatype.specs.declared.value.Value.TheVariants.{Text, Truth, Number, Day, Moment}

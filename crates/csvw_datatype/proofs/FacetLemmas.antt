@@ -1,4 +1,4 @@
--- The broken facets are those of which the standards' words hold.
+-- The broken facets are those that are broken by the standards' words.
 use Rattle.std.proofs.Common.{◌≢◌, ◌↔◌, ◌⊎◌, inl, inr, ℕ, ◌<◌, ◌||◌, ◌==◌, not, nat_lt, Bool, true, false, Option, Some, None, length, refl, arith, ℤ}
 use Rattle.std.proofs.Common.{◌<ℤ◌, ◌≤ℤ◌}
 use Rattle.std.specs.Prelude.{IsTrue}

@@ -1,5 +1,5 @@
--- Which facets fit the type and each other, in the standards' words (Model for Tabular Data and Metadata on the Web, sections
--- 4.6.1 and 4.6.2; Metadata Vocabulary for Tabular Data, section 5.11.2).
+-- The facets that fit the type and each other, in the standards' words (Model for Tabular Data, sections 4.6.1 and 4.6.2;
+-- Metadata Vocabulary for Tabular Data, section 5.11.2).
 use Rattle.std.specs.Prelude.{◌≡◌, ◌⊎◌, ◌≤◌, Option, None, IfSome}
 use Rattle.csvw_datatype.specs.declared.value.Value.{Value}
 use Rattle.csvw_datatype.specs.declared.simple.Simple.{Simple}
@@ -8,7 +8,7 @@ use Rattle.csvw_datatype.specs.declared.datatype.Facets.{Facets}
 use Rattle.csvw_datatype.specs.Sound.{first_of}
 use Rattle.csvw_datatype.specs.Facets.{IsLess, IsAtMost}
 
--- where both are there, this holds of them
+-- if both are set, this holds of them
 abbrev pub IfBoth : {A B : Type 0} → Option A → Option B → (A → B → Type 0) → Type 0
 IfBoth a b P = IfSome a (λ x. IfSome b (λ y. P x y))
 
@@ -16,7 +16,7 @@ IfBoth a b P = IfSome a (λ x. IfSome b (λ y. P x y))
 abbrev pub AreSame : Value → Value → Type 0
 AreSame a b = (IsLess a b → ⊥) × (IsLess b a → ⊥)
 
--- length, minLength and maxLength stand on strings alone
+-- length, minLength and maxLength are for strings alone
 abbrev pub LengthsApply : Simple → Facets → Type 0
 LengthsApply s f = (s ≡ simples.Text) ⊎ ((f.length ≡ None) × (f.min_length ≡ None) × (f.max_length ≡ None))
 
@@ -33,9 +33,8 @@ min_of f = first_of f.minimum f.min_inclusive
 abbrev pub max_of : Facets → Option Value
 max_of f = first_of f.maximum f.max_inclusive
 
--- two names of a bound say the same; an inclusive and an exclusive bound don't stand together; minInclusive is neither greater
--- than maxInclusive nor greater than or equal to maxExclusive; minExclusive is neither greater than maxExclusive nor greater
--- than or equal to maxInclusive
+-- Two names of a bound say the same. An inclusive and an exclusive bound are not set together. minInclusive is neither greater than maxInclusive nor greater
+-- than or equal to maxExclusive. minExclusive is neither greater than maxExclusive nor greater than or equal to maxInclusive.
 pub record BoundsAgree (f : Facets) : Type 0 where
   pub one_minimum : IfBoth f.minimum f.min_inclusive AreSame
   pub one_maximum : IfBoth f.maximum f.max_inclusive AreSame

@@ -1,5 +1,5 @@
--- The bounds that texts and whole numbers are (Metadata Vocabulary for Tabular Data, section 5.11.2; Model for Tabular Data and
--- Metadata on the Web, section 4.6.2): a text is read in the default format of its type.
+-- The bounds that texts and whole numbers are (Metadata Vocabulary for Tabular Data, section 5.11.2; Model for Tabular Data,
+-- section 4.6.2): a text is read in the default format of its type.
 use Rattle.std.specs.Prelude.{ℕ, ◌^◌, ◌&&◌, not, nat_lt, Bool, true, Option, Some, None, option_and_then, if◌then◌else◌, List, ℤ, pos, ◌*ℤ◌, unsigned_abs}
 use Rattle.std.specs.Str.{chars}
 use lib.Signed.{lt_z}

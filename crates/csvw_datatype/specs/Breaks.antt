@@ -1,5 +1,5 @@
--- The facets that a value breaks (Metadata Vocabulary for Tabular Data, section 5.11.2; Model for Tabular Data and
--- Metadata on the Web, sections 4.6.1 and 4.6.2).
+-- The facets that a value breaks (Metadata Vocabulary for Tabular Data, section 5.11.2; Model for Tabular Data, sections 4.6.1
+-- and 4.6.2).
 use Rattle.std.specs.Prelude.{ℕ, ◌==◌, ◌||◌, nat_lt, not, Bool, false, Option, Some, None, is_some, length}
 use Rattle.std.specs.Str.{chars}
 use lib.Signed.{lt_z}
@@ -83,7 +83,7 @@ breaks v f = record (length_breaks v f) {
 abbrev pub unbroken : Broken
 unbroken = record { wrong_length = false; too_short = false; too_long = false; below_minimum = false; above_maximum = false }
 
--- a facet speaks of such a value: a length of a text, a bound of what has an order
+-- a facet is about such a value: a length about a text, a bound about a value with an order
 abbrev pub is_faceted : Value → Facets → Bool
 is_faceted (Text text) f = has_lengths f
 is_faceted (Truth b) f = false

@@ -6,12 +6,12 @@ use Rattle.std.specs.Str.{chars}
 abbrev pub IsCharacter : List ℕ → ℕ → Type 0
 IsCharacter text c = chars text ≡ c ∷ []
 
--- the character of a text, or a default where there is no text
+-- the character of a text, or a default if there is no text
 abbrev pub IsCharacterOr : ℕ → Option (List ℕ) → ℕ → Type 0
 IsCharacterOr default None c = c ≡ default
 IsCharacterOr default (Some text) c = IsCharacter text c
 
--- the character of a text, or none where there is no text
+-- the character of a text, or none if there is no text
 abbrev pub IsOptionalCharacter : Option (List ℕ) → Option ℕ → Type 0
 IsOptionalCharacter None o = o ≡ None
 IsOptionalCharacter (Some text) None = ⊥

@@ -1,5 +1,5 @@
--- What each facet asks of a value, in the standards' words (Model for Tabular Data and Metadata on the Web, sections 4.6.1
--- and 4.6.2; Metadata Vocabulary for Tabular Data, section 5.11.2; XML Schema 1.1 part 2, section 4.3).
+-- The values that keep each facet, in the standards' words (Model for Tabular Data, sections 4.6.1 and 4.6.2; Metadata Vocabulary
+-- for Tabular Data, section 5.11.2; XML Schema Part 2, section 4.3).
 use Rattle.std.specs.Prelude.{◌≢◌, ◌↔◌, ◌⊎◌, ℕ, ◌<◌, IsTrue, Option, Some, None, length, ◌<ℤ◌, ◌≤ℤ◌}
 use Rattle.std.specs.Str.{chars}
 use Rattle.csvw_datatype.specs.declared.value.Value.{Value}
@@ -51,7 +51,7 @@ IsBelowMinimum v f = IsThereAnd f.minimum (λ b. IsLess v b) ⊎ (IsThereAnd f.m
 abbrev pub IsAboveMaximum : Value → Facets → Type 0
 IsAboveMaximum v f = IsThereAnd f.maximum (λ b. IsLess b v) ⊎ (IsThereAnd f.max_inclusive (λ b. IsLess b v) ⊎ IsThereAnd f.max_exclusive (λ b. IsAtMost b v))
 
--- each code stands exactly where the value breaks one of its facets
+-- each code is set exactly if the value breaks one of its facets
 pub record SaysWhatBreaks (v : Value) (f : Facets) (broken : Broken) : Type 0 where
   pub length : IsTrue broken.wrong_length ↔ HasOtherLength v f
   pub min_length : IsTrue broken.too_short ↔ IsShorter v f

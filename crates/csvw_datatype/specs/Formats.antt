@@ -1,4 +1,4 @@
--- Formats that a datatype may have (Model for Tabular Data and Metadata on the Web, sections 6.4.2 to 6.4.4).
+-- The formats that a datatype may have (Model for Tabular Data, sections 6.4.2 to 6.4.4).
 use Rattle.std.specs.Prelude.{◌≢◌, ℕ, true, Option, Some, None, List, ◌∷◌, ◌++◌}
 use Rattle.csvw_datatype_core.specs.declared.number.NumberRules.{NumberRules}
 use Rattle.csvw_datatype_core.specs.Numbers.{IsLawful}
@@ -11,7 +11,7 @@ use Rattle.csvw_datatype.specs.declared.format.NumberFormat.{NumberFormat}
 use Rattle.csvw_datatype.specs.declared.format.Format.{Format}
 use Rattle.csvw_datatype.specs.declared.format.Format.TheVariants as formats
 
--- two different texts of truths
+-- two different texts of booleans
 abbrev pub AreTruthTexts : TruthFormat → Type 0
 AreTruthTexts f = IsTruthText f.if_true × IsTruthText f.if_false × (f.if_true ≢ f.if_false)
 
@@ -19,7 +19,7 @@ AreTruthTexts f = IsTruthText f.if_true × IsTruthText f.if_false × (f.if_true 
 abbrev pub truth_pattern : TruthFormat → List ℕ
 truth_pattern f = f.if_true ++ (124 ∷ f.if_false)
 
--- the format has the characters of these texts; the decimal character is "." where it is absent
+-- the format has the characters of these texts; the decimal character is "." if it is absent
 pub record IsNumberFormat (decimal_char group_char : Option (List ℕ)) (f : NumberFormat) : Type 0 where
   pub decimal : IsCharacterOr 46 decimal_char f.decimal_char
   pub group : IsOptionalCharacter group_char f.group_char

@@ -1,4 +1,4 @@
--- The lexical forms of values (XML Schema 1.1 part 2, section 3).
+-- The lexical forms of values (XML Schema Part 2, section 3).
 use Rattle.std.specs.Prelude.{◌≡◌, ℕ, codes, List, if◌then◌else◌}
 use Rattle.std.specs.Str.{chars}
 use Rattle.csvw_datatype_core.specs.declared.date.DateFormat.TheVariants.{YearFirst}

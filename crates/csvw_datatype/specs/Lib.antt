@@ -1,6 +1,7 @@
 pub mod Characters
 pub mod Bars
 pub mod Names
+pub mod Strings
 pub mod Widths
 pub mod Formats
 pub mod Breaks

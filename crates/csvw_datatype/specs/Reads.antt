@@ -1,9 +1,9 @@
--- Which value a text is under a datatype, and what is wrong where it is none (Model for Tabular Data and Metadata on
--- the Web, section 6.4; XML Schema 1.1 part 2, section 3).
+-- The value of a text under a datatype, and the code if it has none (Model for Tabular Data, section 6.4; XML Schema Part 2,
+-- section 3).
 use Rattle.std.specs.Prelude.{◌≡◌, ℕ, ◌⊎◌, Bool, true, false, Option, Some, None, codes, List, ℤ}
 use Rattle.std.specs.Str.{chars}
-use Rattle.csvw_text.specs.declared.fault.Code.{Code}
-use Rattle.csvw_text.specs.declared.fault.Code.TheVariants.{BadBoolean, BadInteger, BadDecimal, NumberTooLong, OutOfRange, BadDate, BadDateTime}
+use Rattle.csvw_fault.specs.declared.fault.Code.{Code}
+use Rattle.csvw_fault.specs.declared.fault.Code.TheVariants.{BadBoolean, BadInteger, BadDecimal, NumberTooLong, OutOfRange, BadDate, BadDateTime}
 use Rattle.csvw_datatype_core.specs.declared.number.NumberRules.{NumberRules}
 use Rattle.csvw_datatype_core.specs.declared.number.NumberFault.{NumberFault}
 use Rattle.csvw_datatype_core.specs.declared.number.NumberFault.TheVariants as faults
@@ -25,12 +25,12 @@ use Rattle.csvw_datatype.specs.declared.datatype.Datatype.{Datatype}
 use Rattle.csvw_datatype.specs.Formats.{format_rules}
 use Rattle.csvw_datatype.specs.Widths.{IsInWidth}
 
--- the texts of the truths
+-- the texts of booleans
 abbrev pub SpellsTruth : Option Format → List ℕ → Bool → Type 0
 SpellsTruth (Some (formats.Truth f)) text b = ((b ≡ true) × (text ≡ f.if_true)) ⊎ ((b ≡ false) × (text ≡ f.if_false))
 SpellsTruth _ text b = ((b ≡ true) × ((text ≡ codes "true") ⊎ (text ≡ codes "1"))) ⊎ ((b ≡ false) × ((text ≡ codes "false") ⊎ (text ≡ codes "0")))
 
--- how integers are written: with a group character where the format has one
+-- how integers are written: with a group character if the format has one
 abbrev pub whole_rules : Option Format → NumberRules
 whole_rules (Some (formats.Number f)) = record { decimal_char = None; group_char = f.group_char; allows_marks = false }
 whole_rules _ = record { decimal_char = None; group_char = None; allows_marks = false }
@@ -71,7 +71,7 @@ number_code bad faults.TooLong = NumberTooLong
 abbrev pub MisreadsNumber : Code → NumberRules → List ℕ → Code → Type 0
 MisreadsNumber bad rules text code = (fault : NumberFault) × MisreadNumber rules (chars text) fault × (code ≡ number_code bad fault)
 
--- the text is no value, for this reason
+-- the text is not a value, for this reason
 abbrev pub MisreadAs : Simple → Option Format → List ℕ → Code → Type 0
 MisreadAs simples.Text format text code = ⊥
 MisreadAs simples.Uri format text code = ⊥
@@ -84,6 +84,6 @@ MisreadAs simples.Decimal format text code = MisreadsNumber BadDecimal (decimal_
 MisreadAs simples.Day format text code = ((day : ℤ) → ¬ ReadsDate (date_format format) text day) × (code ≡ BadDate)
 MisreadAs simples.Moment format text code = ((moment : ℤ) → ¬ ReadsMoment (moment_format format) text moment) × (code ≡ BadDateTime)
 
--- the text is no value under a datatype, for this reason
+-- the text is not a value under a datatype, for this reason
 abbrev pub Misread : Datatype → List ℕ → Code → Type 0
 Misread d text code = MisreadAs d.simple d.format text code

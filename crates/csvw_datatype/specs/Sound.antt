@@ -1,5 +1,5 @@
--- Datatypes that fit together (Metadata Vocabulary for Tabular Data, section 5.11.2; Model for Tabular Data and
--- Metadata on the Web, sections 4.6.1 and 4.6.2).
+-- Sound datatypes: their parts fit together (Metadata Vocabulary for Tabular Data, section 5.11.2; Model for Tabular Data,
+-- sections 4.6.1 and 4.6.2).
 use Rattle.std.specs.Prelude.{◌≡◌, ◌<◌, ◌%◌, ◌^◌, ◌&&◌, ◌||◌, not, nat_lt, Bool, true, false, Option, Some, None, IfSome, is_some, ℤ, unsigned_abs}
 use Rattle.csvw_datatype_core.specs.LexicalDates.{IsDayNumber, IsMomentNumber}
 use Rattle.csvw_datatype.specs.declared.value.Value.{Value}
@@ -10,6 +10,7 @@ use Rattle.csvw_datatype.specs.declared.datatype.Facets.{Facets}
 use Rattle.csvw_datatype.specs.declared.datatype.Datatype.{Datatype}
 use Rattle.csvw_datatype.specs.Breaks.{has_lengths, is_below, fails, is_over, is_not_under}
 use Rattle.csvw_datatype.specs.Formats.{IsFormatOf}
+use Rattle.csvw_datatype.specs.Strings.{is_text}
 use Rattle.csvw_datatype.specs.Widths.{IsInWidth}
 
 -- a number that a text can spell, as a count of units of 10^-18
@@ -47,31 +48,27 @@ pub record AreBoundsOf (s : Simple) (f : Facets) : Type 0 where
   pub max_inclusive : IfSome f.max_inclusive (IsBoundOf s)
   pub max_exclusive : IfSome f.max_exclusive (IsBoundOf s)
 
-abbrev pub is_text : Simple → Bool
-is_text simples.Text = true
-is_text _ = false
-
 -- lengths are facets of strings alone
 abbrev pub lengths_apply : Simple → Facets → Bool
 lengths_apply s f = is_text s || not (has_lengths f)
 
--- `minLength` isn't above `maxLength`, and `length` not below `minLength` or above `maxLength`
+-- `minLength` is not above `maxLength`, and `length` is neither below `minLength` nor above `maxLength`
 abbrev pub lengths_agree : Facets → Bool
 lengths_agree f =
     not (fails (λ n k. nat_lt n k) f.max_length f.min_length || fails (λ n k. nat_lt n k) f.length f.min_length
     || fails (λ n k. nat_lt n k) f.max_length f.length)
 
--- two bounds of one side, both inclusive, are equal, and none stands beside an exclusive one
+-- two inclusive bounds of one side are equal, and neither is set beside an exclusive one
 abbrev pub side_agrees : Option Value → Option Value → Option Value → Bool
 side_agrees bound inclusive exclusive =
     not (fails (λ a b. is_below a b || is_below b a) bound inclusive) && not (is_some exclusive && (is_some bound || is_some inclusive))
 
--- the first that is there
+-- the first one that is set
 abbrev pub first_of : Option Value → Option Value → Option Value
 first_of None b = b
 first_of (Some a) b = Some a
 
--- a lower bound isn't above an upper one, nor equal to it where exactly one of them is exclusive
+-- a lower bound isn't above an upper one; it isn't equal to it if exactly one of them is exclusive
 abbrev pub sides_agree : Option Value → Option Value → Option Value → Option Value → Bool
 sides_agree low low_exclusive high high_exclusive =
     not (is_over low high || is_over low_exclusive high_exclusive || is_not_under low high_exclusive || is_not_under low_exclusive high)

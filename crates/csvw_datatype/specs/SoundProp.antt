@@ -1,4 +1,4 @@
--- That a datatype is sound has one proof at most, so that it can stand in an invariant.
+-- That a datatype is sound has one proof at most, so an invariant can contain it.
 use Rattle.std.specs.Prelude.{◌≡◌, ℤ, true, Option, Some, None, IfSome}
 use Rattle.std.proofs.Props.{props}
 use mathlib.Core.HLevel.{×_prop, Unit-prop}

@@ -1,10 +1,10 @@
--- The ranges of the derived integer types (XML Schema 1.1 part 2, sections 3.4.14 to 3.4.25).
+-- The ranges of the derived integer types (XML Schema Part 2, sections 3.4.14 to 3.4.25).
 use Rattle.std.specs.Prelude.{◌-◌, ◌^◌, Option, Some, None, ℤ, pos, neg_ℤ, ◌*ℤ◌, ◌≤ℤ◌}
 use Rattle.csvw_datatype.specs.declared.simple.Width.{Width}
 use Rattle.csvw_datatype.specs.declared.simple.Width.TheVariants.{Long, Int, Short, Byte, UnsignedLong, UnsignedInt, UnsignedShort, UnsignedByte}
 use Rattle.csvw_datatype.specs.declared.simple.Width.TheVariants.{NonNegativeInteger, PositiveInteger, NonPositiveInteger, NegativeInteger}
 
--- the least number of a type, where it has one
+-- the least number of a type, if it has one
 abbrev pub least : Width → Option ℤ
 least Long = Some (neg_ℤ (pos (2 ^ 63)))
 least Int = Some (neg_ℤ (pos (2 ^ 31)))
@@ -19,7 +19,7 @@ least PositiveInteger = Some (pos 1)
 least NonPositiveInteger = None
 least NegativeInteger = None
 
--- the greatest number of a type, where it has one
+-- the greatest number of a type, if it has one
 abbrev pub greatest : Width → Option ℤ
 greatest Long = Some (pos (2 ^ 63 - 1))
 greatest Int = Some (pos (2 ^ 31 - 1))

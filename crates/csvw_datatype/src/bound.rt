@@ -19,12 +19,14 @@ use csvw_datatype_core::{
     read_moment, read_number, values_read,
 };
 
-/// A whole number that is a value of some type is below this in size.
+/// A whole number that is a value of some type is below this limit in size.
 const WHOLE_LIMIT: u128 = 100_000_000_000_000_000_000;
 
 impl Simple {
-    /// The value that a text is as a bound of the type, in its default format; `None` where it is none, or the
-    /// values of the type have no order (Metadata Vocabulary for Tabular Data, section 5.11.2).
+    /// Returns the bound of the type that a text is, in the type's default format (Metadata Vocabulary for Tabular
+    /// Data, section 5.11.2).
+    ///
+    /// Returns `None` if the text is not a value of the type, or if the values of the type have no order.
     #[tactic(auto, unfolding(crate::specs::Bounds::bound_of))]
     pub fn bound(self, text: &str) -> Option<Value>
         ensures { result ≡ bound_of self text.now }
@@ -40,8 +42,9 @@ impl Simple {
         }
     }
 
-    /// The value that a whole number is as a bound of the type; `None` where it is none, or the values of the type
-    /// are no numbers.
+    /// Returns the bound of the type that a whole number is.
+    ///
+    /// Returns `None` if the number is not a value of the type, or if the values of the type are not numbers.
     #[tactic(auto, unfolding(crate::specs::Bounds::bound_of_whole))]
     pub fn whole_bound(self, number: i128) -> Option<Value>
         ensures { result ≡ bound_of_whole self number }
@@ -101,7 +104,7 @@ fn moment_of(text: &str) -> Option<i64>
     read_moment(MomentFormat::Seconds, text)
 }
 
-/// A law: the bound that a text is, is the value that the text is in the default format, and each bound fits its type.
+/// A law: the bound that a text is, is the value of the text in the default format. Each bound fits its type.
 pub fn bounds_read()
     ensures text { (s : Simple) (text : List ℕ) → has_bounds s ≡ true
         → MatchOption (bound_of s text) ((v : Value) → ReadsAs s None text v → ⊥) (ReadsAs s None text) }

@@ -1,9 +1,10 @@
-//! Whether a datatype's format and facets fit together.
+//! The check that a datatype's format and facets fit together.
 ghost use Rattle.std.specs.Prelude.{◌≡◌, ◌↔◌, ◌<◌, ◌^◌, ◌%◌, ◌||◌, not, option_copied, IsTrue, IsOk, IfSome, Some, unsigned_abs};
 ghost use Rattle.csvw_datatype_core.specs.LexicalDates.{IsDayNumber, IsMomentNumber};
 ghost use Rattle.csvw_datatype.specs.Breaks.{is_below, fails};
 ghost use Rattle.csvw_datatype.specs.Formats.{IsFormatOf};
-ghost use Rattle.csvw_datatype.specs.Sound.{IsSound, IsBoundOf, AreBoundsOf, IsNumberSize, IsWholeNumber, is_text};
+ghost use Rattle.csvw_datatype.specs.Sound.{IsSound, IsBoundOf, AreBoundsOf, IsNumberSize, IsWholeNumber};
+ghost use Rattle.csvw_datatype.specs.Strings.{is_text};
 ghost use Rattle.csvw_datatype.specs.Sound.{lengths_apply, lengths_agree, side_agrees, sides_agree, first_of, bounds_agree, agree};
 
 use crate::datatype::{Datatype, Facets};
@@ -13,7 +14,7 @@ use crate::simple::Simple;
 use crate::value::Value;
 use crate::width::{UNIT, is_in_width};
 
-/// Numbers are below 10^20 in size, so that they count less than this many units of 10^-18.
+/// Numbers are below 10^20 in size, so each has fewer than this many units of 10^-18.
 const NUMBER_LIMIT: u128 = 100_000_000_000_000_000_000_000_000_000_000_000_000;
 
 /// 1 January of the year 1 and 31 December of the year 9999, in days since 1 January 1970.
@@ -26,14 +27,16 @@ const FIRST_MOMENT: i64 = -62_135_596_800;
 
 const LAST_MOMENT: i64 = 253_402_300_799;
 
-/// The format or the facets of a datatype don't fit together.
+/// The error of a datatype whose format or facets don't fit together.
 #[derive(Clone, Copy, Debug, PartialEq, Eq)]
 pub struct BadDatatype;
 
 impl Datatype {
-    /// Whether the format is one of the type's and the facets fit the type and each other: lengths stand on
-    /// strings alone, bounds are values of an ordered type, and no facet rules out what another asks for. It
-    /// takes no memory (Metadata Vocabulary for Tabular Data, section 5.11.2).
+    /// Checks that the format is one of the type's and that the facets fit the type and each other (Metadata
+    /// Vocabulary for Tabular Data, section 5.11.2).
+    ///
+    /// Lengths are for strings alone, bounds are values of an ordered type, and no facet rules out what another asks
+    /// for. Returns `BadDatatype` otherwise. It takes no memory.
     pub fn check(&self) -> Result<(), BadDatatype>
         ensures { IsOk result ↔ IsSound self.now }
     {
@@ -57,8 +60,8 @@ impl Datatype {
 }
 
 impl Facets {
-    /// Whether no facet rules out what another asks for. It takes no memory (Metadata Vocabulary for Tabular Data,
-    /// section 5.11.2).
+    /// Returns whether no facet rules out what another asks for. It takes no memory (Metadata Vocabulary for Tabular
+    /// Data, section 5.11.2).
     pub fn agree(&self) -> bool
         ensures { result ≡ agree self.now }
     {

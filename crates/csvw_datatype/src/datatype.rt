@@ -1,5 +1,6 @@
-//! A datatype of a column.
+//! `Datatype` and `Facets`: a datatype of a column.
 ghost use Rattle.std.specs.Prelude.{◌≡◌, IfOk};
+ghost use Rattle.csvw_datatype.specs.Strings.{is_string};
 
 use crate::format::Format;
 use crate::simple::Simple;
@@ -8,47 +9,47 @@ use csvw_iri::Iri;
 use csvw_text::{both, copied_option};
 use std::alloc::{AllocError, Global};
 
-/// What values a column takes besides their type (Metadata Vocabulary for Tabular Data, section 5.11.2).
-/// Lengths are in characters.
+/// The values that a column takes, besides their type (Metadata Vocabulary for Tabular Data, section 5.11.2). Lengths
+/// are in characters.
 #[derive(Debug, Drop, PartialEq, Eq)]
 pub struct Facets {
-    /// `length`: how many characters a text has.
+    /// `length`: the number of characters of a text.
     pub length: Option<u64>,
-    /// `minLength`: how many it has at least.
+    /// `minLength`: the least number of characters.
     pub min_length: Option<u64>,
-    /// `maxLength`: how many it has at most.
+    /// `maxLength`: the greatest number of characters.
     pub max_length: Option<u64>,
     /// `minimum`: the least value.
     pub minimum: Option<Value>,
     /// `minInclusive`: the least value, too.
     pub min_inclusive: Option<Value>,
-    /// `minExclusive`: what each value is above.
+    /// `minExclusive`: each value is above it.
     pub min_exclusive: Option<Value>,
     /// `maximum`: the greatest value.
     pub maximum: Option<Value>,
     /// `maxInclusive`: the greatest value, too.
     pub max_inclusive: Option<Value>,
-    /// `maxExclusive`: what each value is below.
+    /// `maxExclusive`: each value is below it.
     pub max_exclusive: Option<Value>,
 }
 
 /// A datatype (Metadata Vocabulary for Tabular Data, section 5.11.2).
 #[derive(Debug, Drop, PartialEq, Eq)]
 pub struct Datatype {
-    /// Its `base`.
+    /// The `base`.
     pub simple: Simple,
-    /// Its `@id`, where it has one.
+    /// The `@id`, if there is one.
     pub id: Option<Iri>,
-    /// Its `format`, where it has one.
+    /// The `format`, if there is one.
     pub format: Option<Format>,
-    /// What values it takes besides their type.
+    /// The values that the datatype takes, besides their type.
     pub facets: Facets,
 }
 
 impl Facets {
     ghost use Rattle.csvw_datatype.specs.Breaks.{no_facets};
 
-    /// No facet.
+    /// Returns facets of which none is set.
     pub fn new() -> Facets
         ensures { result ≡ no_facets }
     {
@@ -65,7 +66,7 @@ impl Facets {
         }
     }
 
-    /// Equal facets; `AllocError` where there is no memory.
+    /// Returns equal facets, or `AllocError` if memory runs out.
     pub fn clone(&self, alloc: Global) -> Result<Facets, AllocError>
         ensures { IfOk result (λ f. f ≡ self.now) }
     {
@@ -95,7 +96,24 @@ impl Facets {
 }
 
 impl Datatype {
-    /// An equal datatype; `AllocError` where there is no memory.
+    /// Returns whether the base is `string`.
+    #[inline(always)]
+    pub fn is_string(&self) -> bool
+        ensures { result ≡ is_string self.now }
+    {
+        match self.simple {
+            Simple::Text => true,
+            Simple::Truth
+            | Simple::Whole
+            | Simple::Decimal
+            | Simple::Day
+            | Simple::Uri
+            | Simple::Derived(_)
+            | Simple::Moment => false,
+        }
+    }
+
+    /// Returns an equal datatype, or `AllocError` if memory runs out.
     pub fn clone(&self, alloc: Global) -> Result<Datatype, AllocError>
         ensures { IfOk result (λ d. d ≡ self.now) }
     {

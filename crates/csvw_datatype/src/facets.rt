@@ -10,11 +10,11 @@ use crate::value::Value;
 /// The facets that a value breaks, one for each code.
 #[derive(Clone, Copy, Debug, PartialEq, Eq)]
 pub struct Broken {
-    /// The text hasn't as many characters as `length` says.
+    /// The text does not have as many characters as `length` says.
     pub wrong_length: bool,
-    /// It has fewer than `minLength` says.
+    /// The text has fewer characters than `minLength` says.
     pub too_short: bool,
-    /// It has more than `maxLength` says.
+    /// The text has more characters than `maxLength` says.
     pub too_long: bool,
     /// The value is below `minimum` or `minInclusive`, or not above `minExclusive`.
     pub below_minimum: bool,
@@ -23,7 +23,8 @@ pub struct Broken {
 }
 
 impl Datatype {
-    /// Whether some facet speaks of such a value: a length of a text, a bound of what has an order. Where none does,
+    /// Returns whether some facet is about such a value: a length about a text, a bound about a value with an order.
+    /// Otherwise the value breaks no facet.
     /// the value breaks none.
     #[inline(always)]
     pub fn is_faceted(&self, value: &Value) -> bool
@@ -37,7 +38,8 @@ impl Datatype {
         }
     }
 
-    /// The facets that a value breaks. It takes no memory (Metadata Vocabulary for Tabular Data, section 5.11.2).
+    /// Returns the facets that a value breaks. It takes no memory (Metadata Vocabulary for Tabular Data, section
+    /// 5.11.2).
     pub fn facets(&self, value: &Value) -> Broken
         ensures { result ≡ breaks value.now self.now.facets }
     {
@@ -80,7 +82,7 @@ fn has_bounds(facets: &Facets) -> bool
     )
 }
 
-// A text is measured only where a facet asks for its length.
+// The text is measured only if a facet asks for its length.
 fn broken_lengths(value: &Value, facets: &Facets) -> Broken
     ensures { result ≡ length_breaks value.now facets.now }
 {

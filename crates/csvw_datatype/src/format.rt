@@ -7,34 +7,34 @@ use csvw_datatype_core::{DateFormat, MomentFormat, NumberRules};
 use csvw_text::{Copied, Text};
 use std::alloc::{AllocError, Global};
 
-/// The two texts of the truths (Model for Tabular Data and Metadata on the Web, section 6.4.3).
+/// The two texts of booleans (Model for Tabular Data and Metadata on the Web, section 6.4.3).
 #[derive(Debug, Drop, PartialEq, Eq)]
 pub struct TruthFormat {
-    /// What is written for true.
+    /// The text of true.
     pub if_true: Text,
-    /// What is written for false.
+    /// The text of false.
     pub if_false: Text,
 }
 
 /// The characters of a number (Model for Tabular Data and Metadata on the Web, section 6.4.2).
 #[derive(Clone, Copy, Debug, PartialEq, Eq)]
 pub struct NumberFormat {
-    /// `decimalChar`, what stands before a fraction.
+    /// `decimalChar`, the character before a fraction.
     pub decimal_char: char,
-    /// `groupChar`, what may stand between two digits of the whole part.
+    /// `groupChar`, the character that may be between two digits of the whole part.
     pub group_char: Option<char>,
 }
 
-/// How texts of a datatype are written, where it isn't the default way.
+/// The way in which texts of a datatype are written, if it isn't the default.
 #[derive(Debug, Drop, PartialEq, Eq)]
 pub enum Format {
-    /// Of booleans.
+    /// The format of booleans.
     Truth(TruthFormat),
-    /// Of integers, derived ones too, and decimals.
+    /// The format of integers, derived ones too, and of decimals.
     Number(NumberFormat),
-    /// Of dates.
+    /// The format of dates.
     Day(DateFormat),
-    /// Of dates with a time of day.
+    /// The format of dates with a time of day.
     Moment(MomentFormat),
 }
 
@@ -42,9 +42,10 @@ impl TruthFormat {
     ghost use Rattle.csvw_datatype.specs.declared.format.TruthFormat.{TruthFormat};
     ghost use Rattle.csvw_datatype.specs.Formats.{AreTruthTexts, truth_pattern};
 
-    /// The format of a pattern: two different texts, neither empty, with one `|` between them; `None` where
-    /// the pattern isn't that, `AllocError` where there is no memory
-    /// (Model for Tabular Data and Metadata on the Web, section 6.4.3).
+    /// Returns the format of a pattern: two different texts, neither empty, with one `|` between them (Model for
+    /// Tabular Data and Metadata on the Web, section 6.4.3).
+    ///
+    /// Returns `None` if the pattern isn't that, and `AllocError` if memory runs out.
     pub fn of(alloc: Global, pattern: &str) -> Result<Option<TruthFormat>, AllocError>
         ensures { IfOk result (λ o. MatchOption o ((f : TruthFormat) → AreTruthTexts f → pattern.now ≢ truth_pattern f)
             (λ f. AreTruthTexts f × (pattern.now ≡ truth_pattern f))) }
@@ -63,7 +64,7 @@ impl TruthFormat {
         }
     }
 
-    /// Whether the two texts differ, and neither is empty or holds `|`.
+    /// Returns whether the two texts differ, and neither is empty or contains `|`.
     pub(crate) fn is_lawful(&self) -> bool
         ensures { IsTrue result ↔ AreTruthTexts self.now }
     {
@@ -72,7 +73,7 @@ impl TruthFormat {
             && self.if_true != self.if_false
     }
 
-    /// An equal format; `AllocError` where there is no memory.
+    /// Returns an equal format, or `AllocError` if memory runs out.
     pub fn clone(&self, alloc: Global) -> Result<TruthFormat, AllocError>
         ensures { IfOk result (λ f. f ≡ self.now) }
     {
@@ -87,8 +88,8 @@ impl NumberFormat {
     ghost use Rattle.csvw_datatype.specs.declared.format.NumberFormat.{NumberFormat};
     ghost use Rattle.csvw_datatype.specs.Formats.{IsNumberFormat, format_rules};
 
-    /// The format of the texts of `decimalChar`, which is `.` where it is absent, and `groupChar`; `None` where
-    /// one of them isn't one character (Metadata Vocabulary for Tabular Data, section 5.11.2).
+    /// Returns the format of the texts of `decimalChar`, which is `.` if it is absent, and `groupChar`. Returns
+    /// `None` if one of them isn't one character (Metadata Vocabulary for Tabular Data, section 5.11.2).
     pub fn of(decimal_char: Option<&str>, group_char: Option<&str>) -> Option<NumberFormat>
         ensures { MatchOption result
             ((f : NumberFormat) → ¬ IsNumberFormat (option_copied decimal_char.entry) (option_copied group_char.entry) f)
@@ -108,7 +109,7 @@ impl NumberFormat {
         })
     }
 
-    /// How decimals are written in the format.
+    /// Returns how decimals are written in the format.
     pub(crate) fn rules(&self) -> NumberRules
         ensures { result ≡ format_rules self.now }
     {
@@ -121,7 +122,7 @@ impl NumberFormat {
 }
 
 impl Format {
-    /// An equal format; `AllocError` where there is no memory.
+    /// Returns an equal format, or `AllocError` if memory runs out.
     pub fn clone(&self, alloc: Global) -> Result<Format, AllocError>
         ensures { IfOk result (λ f. f ≡ self.now) }
     {

@@ -1,7 +1,7 @@
 //! Laws: a text has one value or one code, a value has one lexical form, and facets say what the standards do.
 ghost use Rattle.std.specs.Prelude.{◌≡◌, ◌↔◌, IsTrue, true, List, ℕ, Option};
 ghost use Rattle.std.specs.Str.{IsUtf8};
-ghost use Rattle.csvw_text.specs.declared.fault.Code.{Code};
+ghost use Rattle.csvw_fault.specs.declared.fault.Code.{Code};
 ghost use Rattle.csvw_datatype.specs.Formats.{IsFormatOf};
 ghost use Rattle.csvw_datatype.specs.Reads.{ReadsAs, MisreadAs};
 ghost use Rattle.csvw_datatype.specs.Lexical.{IsWritable, IsLexical, lexical_of};
@@ -63,7 +63,7 @@ pub fn one_form()
     one_moment_text();
 }
 
-/// A law: that form is the text that a function gives, which is a lexical form.
+/// A law: that form is the text that a function returns, which is a lexical form.
 pub fn lexical_forms()
     ensures only { (v : Value) (text : List ℕ) → IsUtf8 text → IsWritable v → IsLexical v text → text ≡ lexical_of v }
     ensures lexical { (v : Value) → IsWritable v → IsLexical v (lexical_of v) }
@@ -72,7 +72,7 @@ pub fn lexical_forms()
     date_forms();
 }
 
-/// A law: of the facets that a value breaks each code says what the standards' words say.
+/// A law: the codes of the facets that a value breaks say what the standards' words say.
 pub fn broken_facets()
     ensures { (v : Value) (f : Facets) → SaysWhatBreaks v f (breaks v f) }
 {}
@@ -84,7 +84,7 @@ pub fn sound_facets()
     ensures bounds_agree { (f : Facets) → IsTrue (bounds_agree f) ↔ BoundsAgree f }
 {}
 
-/// Whether `==` holds of two values, which it does where they are the same text, truth, number, day or moment.
+/// Returns whether `==` holds of two values: they are the same text, boolean, number, day or moment.
 pub fn are_equal(a: &Value, b: &Value) -> bool
     ensures { IsTrue result ↔ (a.now ≡ b.now) }
 {

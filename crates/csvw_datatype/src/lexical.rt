@@ -11,10 +11,11 @@ use csvw_text::Text;
 use std::alloc::{AllocError, Global};
 
 impl Value {
-    /// The lexical form of a value: a text as it is, `true` or `false`, a number without what may be left out,
-    /// `yyyy-MM-dd` or `yyyy-MM-ddTHH:mm:ss`; `AllocError` where there is no memory. A number is below 10^20 in
-    /// size, a day or a moment is of the years 0001 to 9999. The form is read again as the same value
-    /// (XML Schema 1.1 part 2, section 3).
+    /// Returns the lexical form of a value (XML Schema 1.1 part 2, section 3), which is read again as the same value.
+    ///
+    /// The form is a text as it is, `true` or `false`, a number without what may be left out, `yyyy-MM-dd` or
+    /// `yyyy-MM-ddTHH:mm:ss`. A number must be below 10^20 in size. A day or a moment must be of the years 0001 to
+    /// 9999. Returns `AllocError` if memory runs out.
     pub fn lexical(&self, alloc: Global) -> Result<String, AllocError>
         requires { IsWritable self.now }
         ensures form { IfOk result (λ s. IsLexical self.now (string_bytes s)) }
@@ -30,8 +31,8 @@ impl Value {
         }
     }
 
-    /// Makes a text the lexical form of a value, as `lexical` gives it, in its memory; `AllocError` where there is none, and then
-    /// nothing is said of the text.
+    /// Writes the lexical form of a value over a text, in its memory. Returns `AllocError` if memory runs out.
+    /// Nothing is then said of the text.
     #[inline(always)]
     pub fn refill_lexical(&self, text: &mut Text) -> Result<(), AllocError>
         requires { IsWritable self.now }

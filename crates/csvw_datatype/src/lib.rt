@@ -1,4 +1,22 @@
-//! Datatypes of columns: which value a text is, which facets it breaks, and the lexical forms of values.
+//! Datatypes of columns: the value of a text, the facets that it breaks, and the lexical forms of values.
+//!
+//! # Promises
+//!
+//! - `Datatype::read` returns the value of a text exactly if there is one, else the code (`Reads`, `Misread`).
+//! - The laws `one_value`, `value_or_code` and `one_code`: a text has one value or one code.
+//! - `facets` returns the facets that a value breaks, in the standards' words: the law `broken_facets`.
+//!   `is_faceted` returns false only if the value breaks none (`breaks`).
+//! - `check` returns Ok exactly if a datatype is sound. Its facets then fit the type and each other: the law
+//!   `sound_facets`.
+//! - `Facets::agree` returns whether facets fit each other.
+//! - `Value::lexical` returns the lexical form. A value has one: the law `one_form`. Values that were read have one:
+//!   the law `values_of_texts`.
+//! - `are_equal` returns whether two values are equal.
+//! - `Datatype::is_string` returns whether the base is `string` (`is_string`).
+//! - `Simple::bound` and `whole_bound` return the bounds that texts and whole numbers are: the law `bounds_read`.
+//!
+//! That a datatype is sound has at most one proof (`IsSound-prop`). So an invariant of a crate above can keep that it
+//! was checked.
 #![tactic(auto)]
 
 mod bound;

@@ -1,4 +1,4 @@
-//! Which value a text is under a datatype.
+//! The value of a text under a datatype.
 ghost use Rattle.std.specs.Prelude.{◌≡◌, IfOk, MatchResult};
 ghost use Rattle.csvw_datatype_core.specs.Numbers.{IsLawful};
 ghost use Rattle.csvw_datatype.specs.declared.simple.Simple.TheVariants as simples;
@@ -20,11 +20,14 @@ use csvw_text::{Code, Text};
 use std::alloc::{AllocError, Global};
 
 impl Datatype {
-    /// The value that a text is, or the code of why it is none: `BadBoolean`, `BadInteger`, `BadDecimal`,
-    /// `BadDate` or `BadDateTime` where it isn't written as one, `NumberTooLong` where a number is 10^20 or more
-    /// in size or no whole multiple of 10^-18, and else `OutOfRange` where it is outside its derived type.
-    /// `AllocError` where there is no memory. The datatype has passed `check`
-    /// (Model for Tabular Data and Metadata on the Web, section 6.4).
+    /// Returns the value that a text is, or the code of why it is none (Model for Tabular Data and Metadata on the
+    /// Web, section 6.4). The datatype must have passed `check`.
+    ///
+    /// - `BadBoolean`, `BadInteger`, `BadDecimal`, `BadDate` or `BadDateTime` if the text isn't written as one.
+    /// - `NumberTooLong` if a number is 10^20 or more in size or not a whole multiple of 10^-18.
+    /// - Otherwise `OutOfRange` if the number is outside its derived type.
+    ///
+    /// Returns `AllocError` if memory runs out.
     #[inline(always)]
     #[tactic(auto, using(crate::proofs::LawLemmas::writable_answer))]
     pub fn read(&self, alloc: Global, text: &str) -> Result<Result<Value, Code>, AllocError>

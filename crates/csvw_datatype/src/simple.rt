@@ -94,7 +94,7 @@ impl Width {
 }
 
 impl Simple {
-    /// The name of the type in XML Schema, after `http://www.w3.org/2001/XMLSchema#`.
+    /// Returns the name of the type in XML Schema, after `http://www.w3.org/2001/XMLSchema#`.
     pub fn name(self) -> &'static str
         ensures { result.now ≡ name_of self }
     {
@@ -110,8 +110,8 @@ impl Simple {
         }
     }
 
-    /// The type of a name; `None` where it is none of them. `datetime` is another name of `dateTime`
-    /// (Metadata Vocabulary for Tabular Data, section 5.11.1).
+    /// Returns the type of a name, or `None` if no type has it. `datetime` is another name of `dateTime` (Metadata
+    /// Vocabulary for Tabular Data, section 5.11.1).
     pub fn of(name: &str) -> Option<Simple>
         ensures { MatchOption result ((s : Simple) → ¬ IsNamed name.now s) (IsNamed name.now) }
     {

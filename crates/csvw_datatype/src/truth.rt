@@ -1,10 +1,10 @@
-//! How a text writes a truth.
+//! How a text writes a boolean.
 ghost use Rattle.std.specs.Prelude.{◌≡◌, MatchOption, Bool};
 ghost use Rattle.csvw_datatype.specs.Reads.{SpellsTruth};
 
 use crate::format::Format;
 
-/// The truth that a text writes.
+/// Returns the boolean that a text writes.
 pub(crate) fn read_truth(format: &Option<Format>, text: &str) -> Option<bool>
     ensures { MatchOption result ((b : Bool) → ¬ SpellsTruth format.now text.now b) (SpellsTruth format.now text.now) }
 {

@@ -4,8 +4,8 @@ ghost use Rattle.std.specs.Prelude.{◌≡◌, IfOk};
 use csvw_text::{Copied, Text};
 use std::alloc::{AllocError, Global};
 
-/// The value of a cell, or of an item of one. Two values are equal where they are equal texts, truths, numbers,
-/// days or moments; an integer equals a decimal of the same number.
+/// The value of a cell, or of an item of one. Two values are equal if they are equal texts, booleans, numbers, days
+/// or moments. An integer equals a decimal of the same number.
 #[derive(Debug, Drop, PartialEq, Eq, PartialOrd, Ord)]
 pub enum Value {
     /// A string or a URI.
@@ -21,7 +21,7 @@ pub enum Value {
 }
 
 impl Value {
-    /// An equal value; `AllocError` where there is no memory.
+    /// Returns an equal value, or `AllocError` if memory runs out.
     pub fn clone(&self, alloc: Global) -> Result<Value, AllocError>
         ensures { IfOk result (λ v. v ≡ self.now) }
     {

@@ -4,10 +4,10 @@ ghost use Rattle.csvw_datatype.specs.Widths.{least, greatest, in_units, IsFrom, 
 
 use crate::simple::Width;
 
-/// How many units of 10^-18 a one is.
+/// The number of units of 10^-18 in one.
 pub(crate) const UNIT: i128 = 1_000_000_000_000_000_000;
 
-/// Whether a number in units of 10^-18 is in the range of a type.
+/// Returns whether a number in units of 10^-18 is in the range of a type.
 pub(crate) fn is_in_width(width: Width, number: i128) -> bool
     ensures { IsTrue result ↔ IsInWidth width number }
 {

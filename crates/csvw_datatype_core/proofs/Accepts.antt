@@ -1,4 +1,4 @@
--- What the pass accepts is spelled as a number.
+-- A text that the pass accepts spells a number.
 use Rattle.std.proofs.Common.{◌≡◌, ◌≢◌, ℕ, List, [], ◌∷◌, ◌++◌, refl, sym, ap, subst, ◌∙◌, Bool, true, false, Option, Some, None, IsSome, inl, inr}
 use Rattle.std.proofs.Common.{arith, ◌&&◌, ◌==◌}
 use Rattle.std.specs.List.{AllByRecursion}

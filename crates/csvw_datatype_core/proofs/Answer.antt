@@ -1,4 +1,4 @@
--- What `count` answers is the count of the number that the text spells, where there is one.
+-- `count` returns the count of the number that the text spells, if there is one.
 use Rattle.std.proofs.Common.{◌≡◌, ◌≢◌, ℕ, ◌+◌, ◌*◌, ◌/◌, ◌%◌, ◌^◌, ◌≤◌, ◌<◌, min, List, [], ◌∷◌, ◌++◌, length, refl, sym, ap, subst, ◌∙◌, Bool, true}
 use Rattle.std.proofs.Common.{false, cond, Option, Some, None, inl, inr, ⊎_elim, ◌⊎◌, arith, ◌||◌, not, ◌==◌, filter, nat_le, unwrap_or, lit≤}
 use Rattle.std.proofs.Common.{mul-le-mul_right}

@@ -1,4 +1,4 @@
--- The count of a number, from the digits as the pass holds them.
+-- The count of a number, from the digits that the pass keeps.
 use Rattle.std.proofs.Common.{◌≡◌, ℕ, suc, ◌+◌, ◌-◌, ◌*◌, ◌/◌, ◌%◌, ◌^◌, ◌≤◌, ◌<◌, List, [], ◌∷◌, length, refl, sym, ap, subst, ◌∙◌, Bool, true}
 use Rattle.std.proofs.Common.{false, arith, ◌&&◌, ◌||◌, not, ◌==◌, mul_assoc, lit≤, zero, mul-le-mul_right}
 use Rattle.std.specs.List.{AllByRecursion}

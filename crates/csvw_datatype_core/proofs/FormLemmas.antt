@@ -1,4 +1,4 @@
--- A text that is the form of a number, a day or a moment is the one that the functions give.
+-- A text that is the form of a number, a day or a moment is the one that the functions return.
 use Rattle.std.proofs.Common.{rules, ◌≡◌, ℕ, zero, suc, ◌+◌, ◌/◌, ◌%◌, ◌^◌, ◌<◌, ◌≤◌, Bool, true, false, cond, ◌&&◌, ◌⊎◌, inl, inr, ⊎_elim, Option}
 use Rattle.std.proofs.Common.{Some, None, unwrap_or, List, [], ◌∷◌, ◌++◌, length, refl, sym, ap, subst, ◌∙◌, arith, append_assoc, append-nil}
 use Rattle.std.proofs.Common.{length-append, ℤ, pos, negsuc, ◌+ℤ◌, ◌*ℤ◌, unsigned_abs, encode_utf8_all, nat_le, FitsSigned}

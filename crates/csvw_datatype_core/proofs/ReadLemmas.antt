@@ -1,4 +1,4 @@
--- What the pass says of a text.
+-- The result of the pass over a text.
 use Rattle.std.proofs.Common.{◌≡◌, ℕ, List, refl, sym, ap, subst, ◌∙◌, true, false, cond, Option, Some, None, ℤ, pos, neg_ℤ}
 use Rattle.csvw_datatype_core.specs.declared.number.NumberRules.{NumberRules}
 use Rattle.csvw_datatype_core.specs.Scan.{ends}

@@ -1,4 +1,4 @@
--- What is spelled as a number is accepted, and what the pass then holds.
+-- The pass accepts a text that spells a number, and the numbers that it keeps then.
 use Rattle.std.proofs.Common.{◌≡◌, ◌≢◌, ℕ, ◌+◌, ◌-◌, ◌*◌, ◌^◌, min, List, [], ◌∷◌, ◌++◌, refl, sym, ap, subst, ◌∙◌, Bool, true, false, Option, Some}
 use Rattle.std.proofs.Common.{None, IsSome, inl, inr, arith, unwrap_or, filter}
 use Rattle.std.specs.List.{AllByRecursion}

@@ -1,4 +1,4 @@
--- The digits of a fraction are spelled behind a point in a buffer.
+-- The digits of a fraction are written after a point in a buffer.
 use Rattle.std.proofs.Common.{◌≡◌, ℕ, inr, ◌+◌, ◌*◌, ◌/◌, ◌%◌, ◌^◌, ◌<◌, ◌≤◌, List, [], ◌∷◌, ◌++◌, length, take, set}
 use Rattle.std.proofs.Common.{replicate, refl, sym, ap, ◌∙◌, arith, subst}
 use Rattle.std.proofs.lemmas.List.{length-set, length-take-le, append_assoc, take_more_set}

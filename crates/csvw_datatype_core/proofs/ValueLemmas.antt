@@ -1,4 +1,4 @@
--- The functions give the values that texts are.
+-- The functions return the values of texts.
 use Rattle.std.proofs.Common.{◌≡◌, ℕ, ◌+◌, ◌*◌, List, refl, true, false, cond, Bool, Option, Some, None, ℤ, MatchOption, arith, take}
 use Rattle.std.proofs.Common.{drop, take-append-drop}
 use Rattle.std.proofs.lemmas.Bool.Decides.{nat_tests}

@@ -1,5 +1,5 @@
--- The patterns of dates and moments (Model for Tabular Data and Metadata on the Web, section 6.4.4; their letters
--- are those of Unicode Technical Standard 35, "Date Field Symbol Table").
+-- The patterns of dates and moments (Model for Tabular Data, section 6.4.4), with the letters of Unicode Technical Standard 35,
+-- "Date Field Symbol Table".
 use Rattle.std.specs.Prelude.{ℕ, codes, List, ◌∷◌, ◌++◌}
 use Rattle.csvw_datatype_core.specs.declared.date.FieldDigits.{FieldDigits}
 use Rattle.csvw_datatype_core.specs.declared.date.FieldDigits.TheVariants.{Two, OneOrTwo}

@@ -1,4 +1,4 @@
--- Dates: the texts that write one, and which (Model for Tabular Data and Metadata on the Web, section 6.4.4).
+-- Dates: the texts that write a date, and which date (Model for Tabular Data, section 6.4.4).
 use Rattle.std.specs.Prelude.{◌≡◌, ℕ, ◌≤◌, ◌⊎◌, Bool, true, false, List, ◌∷◌, ◌++◌, length, ℤ, pos}
 use Rattle.std.specs.List.{AllByRecursion}
 use Rattle.std.specs.Char.{IsAsciiDigit}
@@ -16,7 +16,7 @@ separator_byte Dash = 45
 separator_byte Slash = 47
 separator_byte Dot = 46
 
--- a day or a month has two digits, with a zero in front where it is below ten
+-- a day or a month has two digits, with a zero before it if it is below ten
 abbrev pub is_padded : FieldDigits → Bool
 is_padded Two = true
 is_padded OneOrTwo = false

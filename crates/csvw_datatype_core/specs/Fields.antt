@@ -1,4 +1,4 @@
--- The fields at the front of a text.
+-- The fields at the start of a text of a date or a moment.
 use Rattle.std.specs.Prelude.{ℕ, ◌+◌, ◌-◌, ◌*◌, Bool, not, ◌&&◌, ◌==◌, Option, Some, None, List, [], ◌∷◌, if◌then◌else◌}
 use Rattle.std.specs.Char.{is_ascii_digit}
 use Rattle.csvw_datatype_core.specs.declared.date.DateFormat.{DateFormat}

@@ -1,4 +1,4 @@
--- The lexical forms of numbers, days and moments, each as the one text that it is (XML Schema 1.1 part 2, sections 3.3.3, 3.3.7
+-- The lexical forms of numbers, days and moments, each as the one text that it is (XML Schema Part 2, sections 3.3.3, 3.3.7
 -- and 3.3.9).
 use Rattle.std.specs.Prelude.{ℕ, zero, suc, ◌+◌, ◌/◌, ◌%◌, ◌^◌, ◌==◌, ◌&&◌, nat_le, Bool, Option, Some, None, unwrap_or, List, [], ◌∷◌, ◌++◌}
 use Rattle.std.specs.Prelude.{if◌then◌else◌, ℤ, pos, negsuc, unsigned_abs, ◌+ℤ◌, ◌*ℤ◌}
@@ -13,16 +13,16 @@ abbrev pub sign_form : ℤ → List ℕ
 sign_form (pos n) = []
 sign_form (negsuc n) = 45 ∷ []
 
--- the digits of n units of 10^-e behind a point, up to the last that isn't 0
+-- the digits of n units of 10^-e after a point, up to the last that isn't 0
 unfoldable pub fraction_digits : ℕ → ℕ → List ℕ
 fraction_digits zero n = []
 fraction_digits (suc e) n = if n == 0 then [] else (48 + n / 10 ^ e) ∷ fraction_digits e (n % 10 ^ e)
 
--- nothing where the number is whole
+-- nothing if the number is whole
 abbrev pub fraction_form : ℕ → List ℕ
 fraction_form n = if n == 0 then [] else 46 ∷ fraction_digits 18 n
 
--- a number of so many units of 10^-18
+-- a number of this many units of 10^-18
 unfoldable pub number_form : ℤ → List ℕ
 number_form z = sign_form z ++ decimal (unsigned_abs z / 10 ^ 18) ++ fraction_form (unsigned_abs z % 10 ^ 18)
 

@@ -1,4 +1,4 @@
--- The test of a format's characters.
+-- The test of the characters of a number format.
 use Rattle.std.specs.Prelude.{ℕ, ◌==◌, ◌||◌, not, Bool, true, Option, Some, None}
 use Rattle.std.specs.Char.{is_ascii_digit}
 

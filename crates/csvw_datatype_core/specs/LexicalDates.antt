@@ -26,17 +26,17 @@ four_digits n = two_digits (n / 100) ++ two_digits (n % 100)
 abbrev pub date_digits : ℕ → ℕ → ℕ → List ℕ
 date_digits y m d = date_text YearFirst (four_digits y) (two_digits m) (two_digits d)
 
--- a time of day behind a "T", by its hour, minute and second
+-- a time of day after a "T", by its hour, minute and second
 abbrev pub time_digits : ℕ → ℕ → ℕ → List ℕ
 time_digits h m s = 84 ∷ (two_digits h ++ (58 ∷ (two_digits m ++ (58 ∷ two_digits s))))
 
--- the date with this day number stands at the end
+-- the date with this day number is added at the end
 pub record AppendsDate (old new : List ℕ) (day : ℤ) : Type 0 where
   pub text : List ℕ
   pub appended : new ≡ old ++ text
   pub is_date : ReadsDate YearFirst text day
 
--- the time of day stands at the end
+-- the time of day is added at the end
 pub record AppendsTime (old new : List ℕ) (second : ℕ) : Type 0 where
   pub text : List ℕ
   pub appended : new ≡ old ++ text

@@ -1,5 +1,5 @@
--- Moments: the texts that write a date and a time of day without a zone, and which (Model for Tabular Data and
--- Metadata on the Web, section 6.4.4; XML Schema 1.1 part 2, section 3.3.7).
+-- Moments: the texts that write a date and a time of day without a zone, and which moment (Model for Tabular Data, section 6.4.4;
+-- XML Schema Part 2, section 3.3.7).
 use Rattle.std.specs.Prelude.{◌≡◌, ℕ, ◌+◌, ◌*◌, ◌<◌, List, [], ◌∷◌, ◌++◌, length, ℤ, pos, ◌+ℤ◌, ◌*ℤ◌}
 use Rattle.std.specs.List.{AllByRecursion}
 use Rattle.std.specs.Char.{IsAsciiDigit}
@@ -13,7 +13,7 @@ use Rattle.csvw_datatype_core.specs.Dates.{ReadsDate}
 abbrev pub IsPair : List ℕ → ℕ → Type 0
 IsPair ds limit = AllByRecursion IsAsciiDigit ds × (length ds ≡ 2) × (digits_value 10 ds < limit)
 
--- the seconds are ":" and two digits; they are absent where the format has none
+-- the seconds are ":" and two digits; they are absent if the format has none
 abbrev pub IsSeconds : MomentFormat → List ℕ → List ℕ → Type 0
 IsSeconds Seconds tail ds = (tail ≡ 58 ∷ ds) × IsPair ds 60
 IsSeconds Minutes tail ds = (tail ≡ []) × (ds ≡ [])

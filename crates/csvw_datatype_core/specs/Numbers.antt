@@ -1,5 +1,4 @@
--- Numbers: the texts that spell one, and which one (Model for Tabular Data and Metadata on the Web,
--- section 6.4.2).
+-- Numbers: the texts that spell a number, and which number (Model for Tabular Data, section 6.4.2).
 use Rattle.std.specs.Prelude.{◌≡◌, ◌≢◌, IfSome, ℕ, ◌*◌, ◌^◌, ◌<◌, ◌⊎◌, true, Option, Some, None, IsSome, unwrap_or, List, [], ◌∷◌, ◌++◌, length}
 use Rattle.std.specs.Prelude.{filter, ℤ, pos, neg_ℤ}
 use Rattle.std.specs.List.{AllByRecursion}
@@ -14,7 +13,7 @@ pub data Sign : Type 0 where
   Plus : Sign
   Minus : Sign
 
--- the parts of a number's text; the fraction is what follows the decimal character, where there is one
+-- the parts of a number's text; the fraction, if there is one, is what follows the decimal character
 pub record Parts : Type 0 where
   pub sign : Sign
   pub whole : List ℕ
@@ -46,18 +45,18 @@ divisor PerMille = 1000
 abbrev pub text_of : NumberRules → Parts → List ℕ
 text_of rules p = sign_text p.sign ++ (p.whole ++ (fraction_text rules.decimal_char p.fraction ++ mark_text p.mark))
 
--- digits, one at least, with single group characters between them
+-- one digit or more, with single group characters between them
 abbrev pub IsGrouped : Option ℕ → List ℕ → Type 0
 IsGrouped group [] = ⊥
 IsGrouped group (c ∷ []) = IsAsciiDigit c
 IsGrouped group (c ∷ d ∷ cs) = IsAsciiDigit c × (IsGrouped group (d ∷ cs) ⊎ ((group ≡ Some d) × IsGrouped group cs))
 
--- a fraction, where there is one, is digits, and the column has a decimal character
+-- a fraction, if there is one, is digits, and the column has a decimal character
 abbrev pub IsFraction : NumberRules → Option (List ℕ) → Type 0
 IsFraction rules None = Unit {0}
 IsFraction rules (Some digits) = IsSome rules.decimal_char × AllByRecursion IsAsciiDigit digits
 
--- a mark only where the column has a format
+-- a mark only if the column has a format
 abbrev pub IsMarked : NumberRules → Mark → Type 0
 IsMarked rules Plain = Unit {0}
 IsMarked rules Percent = rules.allows_marks ≡ true
@@ -66,7 +65,7 @@ IsMarked rules PerMille = rules.allows_marks ≡ true
 abbrev pub fraction_digits : Parts → List ℕ
 fraction_digits p = unwrap_or p.fraction []
 
--- the parts are those of a number; the whole part or the fraction's digits may be missing, not both
+-- the parts are those of a number; the whole part or the fraction's digits may be missing, but not both
 pub record IsNumber (rules : NumberRules) (p : Parts) : Type 0 where
   pub whole : (p.whole ≡ []) ⊎ IsGrouped rules.group_char p.whole
   pub fraction : IsFraction rules p.fraction

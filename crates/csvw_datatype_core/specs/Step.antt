@@ -1,4 +1,4 @@
--- The numbers that the pass keeps.
+-- The numbers that the pass over a number keeps.
 use Rattle.std.specs.Prelude.{◌≡◌, ℕ, ◌+◌, ◌*◌, ◌/◌, ◌%◌, ◌^◌, min, ◌≤◌, ◌==◌, ◌&&◌, ◌||◌, not, nat_le, true, false, Option, Some, None}
 use Rattle.std.specs.Prelude.{if◌then◌else◌, List, [], ◌∷◌, Bool}
 use Rattle.std.specs.Str.{chars}
@@ -48,11 +48,11 @@ pub record IsSmall (s : Scan) : Type 0 where
   pub whole : s.whole ≤ 10 ^ 23
   pub fraction : s.fraction + 10 * s.weight ≤ 10 ^ 18
 
--- the pass over a text goes on as this one over the rest of it
+-- the pass over a text continues as this pass over the rest of it
 abbrev pub Continues : NumberRules → Scan → List ℕ → Scan → List ℕ → Type 0
 Continues rules s text t rest = run rules s (chars text) ≡ run rules t (chars rest)
 
--- no fraction was begun
+-- no fraction has begun
 pub record IsBegun (s : Scan) : Type 0 where
   pub fraction : s.fraction ≡ 0
   pub weight : s.weight ≡ 10 ^ 17

@@ -1,4 +1,4 @@
--- The fields of a time of day, from the front of a text on (Model for Tabular Data, section 6.4.4).
+-- The fields of a time of day, from the start of a text (Model for Tabular Data, section 6.4.4).
 use Rattle.std.specs.Prelude.{ℕ, ◌<◌, Option, Some, List}
 use Rattle.csvw_datatype_core.specs.declared.moment.MomentFormat.{MomentFormat}
 use Rattle.csvw_datatype_core.specs.declared.moment.MomentFormat.TheVariants.{Seconds, Minutes}

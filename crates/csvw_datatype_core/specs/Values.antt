@@ -1,4 +1,4 @@
--- The number, the day or the moment that a text is, where it is one: what the relations say, as functions.
+-- The number, the day or the moment that a text is, if it is one, as functions.
 use Rattle.std.specs.Prelude.{ℕ, ◌+◌, ◌*◌, ◌&&◌, nat_lt, nat_le, Bool, Option, Some, None, if◌then◌else◌, List, take, drop, ℤ, pos, neg_ℤ, ◌+ℤ◌, ◌*ℤ◌}
 use Rattle.jiff_core.specs.Calendar.{days_in_month}
 use Rattle.csvw_datatype_core.specs.declared.number.NumberRules.{NumberRules}

@@ -1,11 +1,11 @@
-//! Bytes that are all ASCII, and so are text.
+//! Bytes that are all ASCII, so they are text.
 ghost use Rattle.std.specs.Prelude.{◌≡◌, ◌++◌, OnOk};
 ghost use Rattle.std.specs.Str.{IsAscii};
 
 use csvw_text::Text;
 use std::alloc::AllocError;
 
-/// The bytes as a text.
+/// Returns the bytes as a text.
 fn as_text(bytes: &[u8]) -> &str
     requires { IsAscii bytes.now }
     ensures { result.now ≡ bytes.now }
@@ -13,7 +13,7 @@ fn as_text(bytes: &[u8]) -> &str
     unsafe { str::from_utf8_unchecked(bytes) }
 }
 
-/// Adds bytes at the end of a text.
+/// Adds bytes at the end of a text. Returns `AllocError` if memory runs out.
 pub(crate) fn push_ascii(out: &mut Text, bytes: &[u8]) -> Result<(), AllocError>
     requires { IsAscii bytes.now }
     ensures { OnOk result (out.new ≡ out.old ++ bytes.now) }
@@ -21,7 +21,7 @@ pub(crate) fn push_ascii(out: &mut Text, bytes: &[u8]) -> Result<(), AllocError>
     out.push_str(as_text(bytes))
 }
 
-/// Becomes the bytes.
+/// Replaces the text by the bytes. Returns `AllocError` if memory runs out.
 pub(crate) fn refill_ascii(out: &mut Text, bytes: &[u8]) -> Result<(), AllocError>
     requires { IsAscii bytes.now }
     ensures { OnOk result (out.new ≡ bytes.now) }

@@ -7,7 +7,7 @@ ghost use Rattle.csvw_datatype_core.specs.declared.date.DateFormat.TheVariants.{
 
 use jiff::civil::Date;
 
-/// What parts the fields of a date.
+/// The separator between the fields of a date.
 #[derive(Clone, Copy, Debug, PartialEq, Eq)]
 pub enum Separator {
     /// `-`.
@@ -18,7 +18,7 @@ pub enum Separator {
     Dot,
 }
 
-/// How many digits a day or a month has.
+/// The number of digits of a day or a month.
 #[derive(Clone, Copy, Debug, PartialEq, Eq)]
 pub enum FieldDigits {
     /// `dd` and `MM`.
@@ -27,17 +27,17 @@ pub enum FieldDigits {
     OneOrTwo,
 }
 
-/// The order of a date's fields, their digits and what parts them
-/// (Model for Tabular Data and Metadata on the Web, section 6.4.4).
+/// The order of a date's fields, their digits and their separator (Model for Tabular Data and Metadata on the Web,
+/// section 6.4.4).
 #[derive(Clone, Copy, Debug, PartialEq, Eq)]
 pub enum DateFormat {
     /// `yyyy-MM-dd`.
     YearFirst,
     /// `yyyyMMdd`.
     Compact,
-    /// `dd-MM-yyyy` and the like.
+    /// `dd-MM-yyyy` and the like, with other digits or another separator.
     DayFirst(FieldDigits, Separator),
-    /// `MM-dd-yyyy` and the like.
+    /// `MM-dd-yyyy` and the like, with other digits or another separator.
     MonthFirst(FieldDigits, Separator),
 }
 
@@ -65,8 +65,9 @@ impl FieldDigits {
     }
 }
 
-/// The day that a text writes, in days since 1 January 1970; `None` where the text isn't in the format,
-/// or no day of the years 0001 to 9999 has these fields.
+/// Returns the day that a text writes, in days since 1 January 1970.
+///
+/// Returns `None` if the text isn't in the format, or if no day of the years 0001 to 9999 has these fields.
 #[inline(always)]
 pub fn read_date(format: DateFormat, text: &str) -> Option<i32>
     ensures { MatchOption result ((day : ℤ) → ReadsDate format text.now day → ⊥) (ReadsDate format text.now) }
@@ -211,7 +212,7 @@ fn four(bytes: &[u8]) -> Option<(u16, &[u8])>
 ghost use Rattle.std.specs.Prelude.{List, ℕ};
 ghost use Rattle.csvw_datatype_core.specs.LexicalDates.{IsDayNumber};
 
-/// A law: a text is one date at most, and one of the years 0001 to 9999.
+/// A law: a text is one date at most, and that date is in the years 0001 to 9999.
 pub fn one_date()
     ensures same { (f : DateFormat) (text : List ℕ) (a b : ℤ) → ReadsDate f text a → ReadsDate f text b → a ≡ b }
     ensures in_range { (f : DateFormat) (text : List ℕ) (day : ℤ) → ReadsDate f text day → IsDayNumber day }

@@ -8,7 +8,7 @@ impl DateFormat {
     ghost use Rattle.csvw_datatype_core.specs.declared.date.DateFormat.{DateFormat};
     ghost use Rattle.csvw_datatype_core.specs.DatePatterns.{date_pattern};
 
-    /// The format of a pattern such as `dd/MM/yyyy`; `None` where it is none of the fourteen
+    /// Returns the format of a pattern such as `dd/MM/yyyy`, or `None` if it is not one of the fourteen patterns
     /// (Model for Tabular Data and Metadata on the Web, section 6.4.4).
     pub fn of(pattern: &str) -> Option<DateFormat>
         ensures { MatchOption result ((f : DateFormat) → pattern.now ≢ date_pattern f)
@@ -38,8 +38,8 @@ impl MomentFormat {
     ghost use Rattle.csvw_datatype_core.specs.declared.moment.MomentFormat.{MomentFormat};
     ghost use Rattle.csvw_datatype_core.specs.DatePatterns.{moment_pattern};
 
-    /// The format of a pattern; `None` where it is none of the two
-    /// (Model for Tabular Data and Metadata on the Web, section 6.4.4).
+    /// Returns the format of a pattern, or `None` if it is not one of the two patterns (Model for Tabular Data and
+    /// Metadata on the Web, section 6.4.4).
     pub fn of(pattern: &str) -> Option<MomentFormat>
         ensures { MatchOption result ((f : MomentFormat) → pattern.now ≢ moment_pattern f)
             (λ f. pattern.now ≡ moment_pattern f) }

@@ -14,8 +14,9 @@ use csvw_text::Text;
 use jiff_core::civil::Date;
 use std::alloc::{AllocError, Global};
 
-/// Makes a text the lexical form `yyyy-MM-dd` of a day, in days since 1 January 1970, of the years 0001 to 9999, in its memory;
-/// `AllocError` where there is none (XML Schema 1.1 part 2, section 3.3.9).
+/// Writes the lexical form `yyyy-MM-dd` of a day over a text, in its memory (XML Schema 1.1 part 2, section 3.3.9).
+///
+/// The day is in days since 1 January 1970, and in the years 0001 to 9999. Returns `AllocError` if memory runs out.
 pub fn refill_date(out: &mut Text, day: i32) -> Result<(), AllocError>
     requires { IsDayNumber day }
     ensures { OnOk result (out.new ≡ date_form day) }
@@ -23,8 +24,9 @@ pub fn refill_date(out: &mut Text, day: i32) -> Result<(), AllocError>
     write_date(out, day)
 }
 
-/// The lexical form `yyyy-MM-dd` of a day, in days since 1 January 1970, of the years 0001 to 9999;
-/// `AllocError` where there is no memory (XML Schema 1.1 part 2, section 3.3.9).
+/// Returns the lexical form `yyyy-MM-dd` of a day (XML Schema 1.1 part 2, section 3.3.9).
+///
+/// The day is in days since 1 January 1970, and in the years 0001 to 9999. Returns `AllocError` if memory runs out.
 pub fn date_text(alloc: Global, day: i32) -> Result<String, AllocError>
     requires { IsDayNumber day }
     ensures form { IfOk result (λ s. ReadsDate YearFirst (string_bytes s) day) }
@@ -35,8 +37,11 @@ pub fn date_text(alloc: Global, day: i32) -> Result<String, AllocError>
     Ok(out.into_string())
 }
 
-/// Makes a text the lexical form `yyyy-MM-ddTHH:mm:ss` of a moment, in seconds since 1 January 1970, of the years 0001 to 9999,
-/// in its memory; `AllocError` where there is none (XML Schema 1.1 part 2, section 3.3.7).
+/// Writes the lexical form `yyyy-MM-ddTHH:mm:ss` of a moment over a text, in its memory (XML Schema 1.1 part 2,
+/// section 3.3.7).
+///
+/// The moment is in seconds since 1 January 1970, and in the years 0001 to 9999. Returns `AllocError` if memory runs
+/// out.
 pub fn refill_moment(out: &mut Text, moment: i64) -> Result<(), AllocError>
     requires { IsMomentNumber moment }
     ensures { OnOk result (out.new ≡ moment_form moment) }
@@ -46,8 +51,10 @@ pub fn refill_moment(out: &mut Text, moment: i64) -> Result<(), AllocError>
     push_time(out, second)
 }
 
-/// The lexical form `yyyy-MM-ddTHH:mm:ss` of a moment, in seconds since 1 January 1970, of the years 0001 to
-/// 9999; `AllocError` where there is no memory (XML Schema 1.1 part 2, section 3.3.7).
+/// Returns the lexical form `yyyy-MM-ddTHH:mm:ss` of a moment (XML Schema 1.1 part 2, section 3.3.7).
+///
+/// The moment is in seconds since 1 January 1970, and in the years 0001 to 9999. Returns `AllocError` if memory runs
+/// out.
 pub fn moment_text(alloc: Global, moment: i64) -> Result<String, AllocError>
     requires { IsMomentNumber moment }
     ensures form { IfOk result (λ s. ReadsMoment Seconds (string_bytes s) moment) }
@@ -58,7 +65,7 @@ pub fn moment_text(alloc: Global, moment: i64) -> Result<String, AllocError>
     Ok(out.into_string())
 }
 
-/// How many days lie between 1 January of the year 1 and of 1970.
+/// The number of days from 1 January of the year 1 to 1 January 1970.
 const DAYS_BEFORE_1970: i32 = 719_162;
 
 fn day_and_second(moment: i64) -> (i32, u32)
@@ -155,8 +162,8 @@ pub fn one_moment_text()
     ensures { (s t : List ℕ) (moment : ℤ) → ReadsMoment Seconds s moment → ReadsMoment Seconds t moment → s ≡ t }
 {}
 
-/// A law: the text of a day of the years 0001 to 9999 in the form `yyyy-MM-dd` is the one that a function gives, and no other;
-/// so is that of a moment in the form `yyyy-MM-ddTHH:mm:ss`.
+/// A law: the text of a day of the years 0001 to 9999 in the form `yyyy-MM-dd` is the one that a function returns,
+/// and no other. The same holds of a moment in the form `yyyy-MM-ddTHH:mm:ss`.
 pub fn date_forms()
     ensures day { (text : List ℕ) (day : ℤ) → ReadsDate YearFirst text day → text ≡ date_form day }
     ensures moment { (text : List ℕ) (moment : ℤ) → ReadsMoment Seconds text moment → text ≡ moment_form moment }

@@ -13,16 +13,18 @@ use std::alloc::{AllocError, Global};
 
 const UNIT: u128 = 1_000_000_000_000_000_000;
 
-/// `UNIT` is 2^18 times this, 5^18.
+/// `UNIT` is 2^18 times this number, which is 5^18.
 const FIVES: u64 = 3_814_697_265_625;
 
 const TWOS: u128 = 262_144;
 
-/// The weight of the first digit behind the point.
+/// The weight of the first digit after the point.
 const TENTH: u64 = 100_000_000_000_000_000;
 
-/// Makes a text the lexical form of a number in units of 10^-18, below 10^38 of them in size, in its memory: `-` only below zero,
-/// no zero that could be left out, no point where it is whole; `AllocError` where there is no memory.
+/// Writes the lexical form of a number over a text, in its memory.
+///
+/// The number is in units of 10^-18, below 10^38 of them in size. The form has `-` only below zero, no zero that
+/// could be left out, and no point if the number is whole. Returns `AllocError` if memory runs out.
 pub fn refill_number(out: &mut Text, number: i128) -> Result<(), AllocError>
     requires { unsigned_abs number < 10 ^ 38 }
     ensures { OnOk result (out.new ≡ number_form number) }
@@ -35,7 +37,8 @@ pub fn refill_number(out: &mut Text, number: i128) -> Result<(), AllocError>
     Ok(())
 }
 
-/// How many times `UNIT` goes into a count. A number below 4,800,000 is divided in 64 bits, which takes a tenth of the time.
+/// Returns how many times `UNIT` goes into a count. A number below 4,800,000 is divided in 64 bits, which takes a
+/// tenth of the time.
 #[inline(always)]
 fn whole_part(count: u128) -> u128
     ensures { result ≡ count / 10 ^ 18 }
@@ -48,8 +51,10 @@ fn whole_part(count: u128) -> u128
     }
 }
 
-/// The lexical form of a number in units of 10^-18, below 10^38 of them in size: `-` only below zero, no zero
-/// that could be left out, no point where it is whole; `AllocError` where there is no memory.
+/// Returns the lexical form of a number.
+///
+/// The number is in units of 10^-18, below 10^38 of them in size. The form has `-` only below zero, no zero that
+/// could be left out, and no point if the number is whole. Returns `AllocError` if memory runs out.
 pub fn number_text(alloc: Global, number: i128) -> Result<String, AllocError>
     requires { unsigned_abs number < 10 ^ 38 }
     ensures form { IfOk result (λ s. IsLexicalNumber (chars (string_bytes s)) number) }
@@ -60,7 +65,7 @@ pub fn number_text(alloc: Global, number: i128) -> Result<String, AllocError>
     Ok(out.into_string())
 }
 
-/// Becomes a sign alone.
+/// Replaces the text by the sign alone.
 fn refill_sign(out: &mut Text, negative: bool) -> Result<(), AllocError>
     ensures { OnOk result (out.new ≡ (if negative then 45 ∷ [] else [])) }
 {
@@ -74,7 +79,7 @@ fn push_decimal(out: &mut Text, n: u128) -> Result<(), AllocError>
     out.push_str(digits.format(n))
 }
 
-/// Adds a point and the digits of a fraction up to the last that isn't 0, or nothing where it is 0.
+/// Adds a point and the digits of a fraction up to the last that isn't 0. Adds nothing if the fraction is 0.
 fn push_fraction(out: &mut Text, fraction: u64) -> Result<(), AllocError>
     requires { fraction < 10 ^ 18 }
     ensures { OnOk result (AppendsPart out.old out.new fraction) }
@@ -99,8 +104,8 @@ pub fn one_number_text()
     ensures { (cs ds : List ℕ) (z : ℤ) → IsLexicalNumber cs z → IsLexicalNumber ds z → cs ≡ ds }
 {}
 
-/// A law: the lexical form of a number below 10^38 units in size is the text that a function gives, and no other; its bytes are
-/// its characters.
+/// A law: the lexical form of a number below 10^38 units in size is the text that a function returns, and no other.
+/// Its bytes are its characters.
 pub fn number_forms()
     ensures form { (text : List ℕ) (z : ℤ) → unsigned_abs z < 10 ^ 38 → IsLexicalNumber text z → text ≡ number_form z }
     ensures lexical { (z : ℤ) → unsigned_abs z < 10 ^ 38 → IsLexicalNumber (chars (number_form z)) z }

@@ -1,4 +1,13 @@
-//! How texts write numbers, dates and moments, and the lexical forms of these.
+//! How texts write numbers, dates and moments, and their lexical forms: the lower part of csvw_datatype.
+//!
+//! # Promises
+//!
+//! - `read_number`, `read_date` and `read_moment` return a value exactly if the text is one by the grammar, and that
+//!   value.
+//! - The law `values_read` says the same with functions.
+//! - The laws `one_number`, `one_date` and `one_moment`: a text has one value at most.
+//! - `number_text`, `date_text` and `moment_text` return a lexical form, which is read again as the value.
+//! - The laws `one_number_text`, `one_date_text` and `one_moment_text`: a value has one lexical form.
 #![tactic(auto)]
 
 mod ascii;

@@ -5,20 +5,21 @@ ghost use Rattle.csvw_datatype_core.specs.TimeFields.{IsTimeOfDay, time_fields, 
 
 use crate::date::{DateFormat, ended, past, read_day, two};
 
-/// How fine a moment is (Model for Tabular Data and Metadata on the Web, section 6.4.4).
+/// The precision of a moment (Model for Tabular Data and Metadata on the Web, section 6.4.4).
 #[derive(Clone, Copy, Debug, PartialEq, Eq)]
 pub enum MomentFormat {
     /// `yyyy-MM-ddTHH:mm:ss`.
     Seconds,
-    /// `yyyy-MM-ddTHH:mm`, where the seconds are 0.
+    /// `yyyy-MM-ddTHH:mm`. The seconds are 0.
     Minutes,
 }
 
-/// How long a date is in the format `yyyy-MM-dd`.
+/// The number of bytes of a date in the format `yyyy-MM-dd`.
 const DATE_LEN: usize = 10;
 
-/// The moment that a text writes, in seconds since 1 January 1970 of days that all have 86,400; `None` where
-/// the text isn't in the format, or its day isn't one of the years 0001 to 9999.
+/// Returns the moment that a text writes, in seconds since 1 January 1970. Each day has 86,400 seconds.
+///
+/// Returns `None` if the text isn't in the format, or if its day isn't one of the years 0001 to 9999.
 pub fn read_moment(format: MomentFormat, text: &str) -> Option<i64>
     ensures { MatchOption result ((moment : ℤ) → ReadsMoment format text.now moment → ⊥) (ReadsMoment format text.now) }
 {
@@ -85,7 +86,7 @@ fn last_field(format: MomentFormat, bytes: &[u8]) -> Option<u8>
 ghost use Rattle.std.specs.Prelude.{List};
 ghost use Rattle.csvw_datatype_core.specs.LexicalDates.{IsMomentNumber};
 
-/// A law: a text is one moment at most, and one of the years 0001 to 9999.
+/// A law: a text is one moment at most, and that moment is in the years 0001 to 9999.
 pub fn one_moment()
     ensures same { (f : MomentFormat) (text : List ℕ) (a b : ℤ) → ReadsMoment f text a → ReadsMoment f text b → a ≡ b }
     ensures in_range { (f : MomentFormat) (text : List ℕ) (moment : ℤ)

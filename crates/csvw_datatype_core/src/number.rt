@@ -9,9 +9,9 @@ use std::fmt;
 /// How a column writes its numbers.
 #[derive(Clone, Copy, Debug, PartialEq, Eq)]
 pub struct NumberRules {
-    /// What stands before a fraction; none where numbers have no fraction.
+    /// The character before a fraction. `None` if numbers have no fraction.
     pub decimal_char: Option<char>,
-    /// What may stand between two digits of the whole part.
+    /// The character that may be between two digits of the whole part.
     pub group_char: Option<char>,
     /// Whether `%` or `‰` may end a number.
     pub allows_marks: bool,
@@ -20,7 +20,7 @@ pub struct NumberRules {
 /// What a character can be in a number.
 #[derive(Clone, Copy)]
 pub enum Kind {
-    /// `0` to `9`, by its value.
+    /// `0` to `9`, as its value.
     Digit(u8),
     /// `+`.
     Plus,
@@ -30,11 +30,11 @@ pub enum Kind {
     Point,
     /// The group character.
     Group,
-    /// `%`, where it is allowed.
+    /// `%`, if it is allowed.
     Percent,
-    /// `‰`, where it is allowed.
+    /// `‰`, if it is allowed.
     PerMille,
-    /// No character of a number.
+    /// Not a character of a number.
     Other,
 }
 
@@ -49,17 +49,17 @@ pub enum Place {
     Whole,
     /// A group character.
     Group,
-    /// The decimal character, with no digit in front of it.
+    /// The decimal character, with no digit before it.
     BarePoint,
-    /// The decimal character behind a digit, or a digit of the fraction.
+    /// The decimal character after a digit, or a digit of the fraction.
     Fraction,
     /// `%` or `‰`.
     Mark,
-    /// What no number begins with.
+    /// Characters with which no number begins.
     Bad,
 }
 
-/// What a number ends with.
+/// The mark at the end of a number.
 #[derive(Clone, Copy)]
 pub enum Mark {
     /// No mark.
@@ -112,8 +112,8 @@ impl NumberRules {
     ghost use Rattle.csvw_datatype_core.specs.Lawful.{is_free_option, differ};
     ghost use Rattle.csvw_datatype_core.specs.Scan.{kind_of, IsBelowTen};
 
-    /// Whether the two characters differ from each other and from all others of a number, and are none of
-    /// carriage return, line feed and tab.
+    /// Returns whether the two characters differ from each other and from all others of a number, and none is
+    /// carriage return, line feed or tab.
     pub fn is_lawful(&self) -> bool
         ensures { IsTrue result ↔ IsLawful self.now }
     {
@@ -191,7 +191,7 @@ pub struct Scan {
 
 const WHOLE_LIMIT: u128 = 100_000_000_000_000_000_000_000;
 
-/// Ten times a whole part below it fits in 64 bits.
+/// Ten times a whole part below this limit fits in 64 bits.
 const SHORT_LIMIT: u128 = 1_000_000_000_000_000_000;
 
 impl Scan {
@@ -307,7 +307,7 @@ impl Scan {
         }
     }
 
-    /// The number in units of 10^-18, where it is a whole count of them below 10^38.
+    /// Returns the number in units of 10^-18, if it is a whole count of them below 10^38.
     fn count(self) -> Option<u128>
         requires { IsSmall self }
         ensures value { result ≡ count_of self }
@@ -340,17 +340,17 @@ fn scan_text(rules: &NumberRules, text: &str) -> Scan
     scan
 }
 
-/// Why a text is no number.
+/// Why a text is not a number.
 #[derive(Clone, Copy, Debug, PartialEq, Eq)]
 pub enum NumberFault {
-    /// It isn't spelled as one.
+    /// The text does not spell a number.
     Bad,
-    /// It is 10^20 or more in size, or no whole multiple of 10^-18.
+    /// The number is 10^20 or more in size, or not a whole multiple of 10^-18.
     TooLong,
 }
 
 impl NumberFault {
-    /// What is wrong and what to do, as a sentence without its full stop.
+    /// Returns what is wrong and what to do, as a sentence without its full stop.
     fn sentence(&self) -> &'static str {
         match self {
             NumberFault::Bad => {
@@ -390,9 +390,11 @@ fn any_number(rules: &NumberRules, text: &str) -> Result<i128, NumberFault>
     }
 }
 
-/// The number that a text spells, in units of 10^-18; `Bad` where it spells none, else `TooLong` where the
-/// number is 10^20 or more in size or no whole count of them. The rules have passed `is_lawful`
-/// (Model for Tabular Data and Metadata on the Web, section 6.4.2).
+/// Returns the number that a text spells, in units of 10^-18 (Model for Tabular Data and Metadata on the Web, section
+/// 6.4.2).
+///
+/// Returns `Bad` if the text does not spell a number. Otherwise returns `TooLong` if the number is 10^20 or more in
+/// size, or not a whole count of units. The rules must have passed `is_lawful`.
 #[inline(always)]
 pub fn read_number(rules: &NumberRules, text: &str) -> Result<i128, NumberFault>
     requires { IsLawful rules.now }

@@ -1,4 +1,4 @@
-//! Numbers that are short, by their bytes.
+//! Short numbers, read by their bytes.
 ghost use Rattle.std.specs.Prelude.{◌≡◌, ◌+◌, ◌*◌, ◌^◌, ◌<◌, IfSome};
 ghost use Rattle.std.specs.Str.{chars};
 ghost use Rattle.csvw_datatype_core.specs.declared.number.NumberRules.{NumberRules};
@@ -9,7 +9,7 @@ ghost use Rattle.csvw_datatype_core.specs.Step.{begun, Continues, EndsWith, IsBe
 
 use crate::number::{NumberRules, holds, signed};
 
-/// Ten times a whole part below it fits in 64 bits.
+/// Ten times a whole part below this limit fits in 64 bits.
 const SHORT_LIMIT: u64 = 1_000_000_000_000_000_000;
 
 const UNIT: u128 = 1_000_000_000_000_000_000;
@@ -17,14 +17,14 @@ const UNIT: u128 = 1_000_000_000_000_000_000;
 /// The weight of the first digit of a fraction.
 const TENTH: u64 = 100_000_000_000_000_000;
 
-/// A whole part as far as it was read, and the bytes behind it.
+/// A whole part as far as it was read, and the bytes after it.
 #[derive(Clone, Copy)]
 struct Whole<'a> {
     value: u64,
     rest: &'a [u8],
 }
 
-/// Goes over the digits of a whole part behind the first, until it is long.
+/// Reads the digits of a whole part after the first one, until the whole part is long.
 fn whole_digits(first: u8, bytes: &[u8]) -> Whole<'_>
     ensures { (rules : NumberRules) (s : Scan) → IsBegun s → s.place ≡ places.Whole → s.whole ≡ first
         → Continues rules s bytes.now (record s { whole = result.value }) result.rest.now }
@@ -42,7 +42,8 @@ fn whole_digits(first: u8, bytes: &[u8]) -> Whole<'_>
     }
 }
 
-/// A fraction as far as it was read, in units of 10^-18, the weight of the next digit, and the bytes behind it.
+/// A fraction as far as it was read, in units of 10^-18, the weight of the next digit, and the bytes after the
+/// fraction.
 #[derive(Clone, Copy)]
 struct Fraction<'a> {
     units: u64,
@@ -50,7 +51,7 @@ struct Fraction<'a> {
     rest: &'a [u8],
 }
 
-/// Goes over the digits of a fraction, 18 at most.
+/// Reads the digits of a fraction, 18 at most.
 fn fraction_digits(bytes: &[u8]) -> Fraction<'_>
     ensures { (rules : NumberRules) (s : Scan) → IsBegun s → s.place ≡ places.Fraction
         → Continues rules s bytes.now (record s { fraction = result.units; weight = result.weight }) result.rest.now }
@@ -76,7 +77,7 @@ fn fraction_digits(bytes: &[u8]) -> Fraction<'_>
     }
 }
 
-/// The fraction that follows a whole part, 0 where none does.
+/// Returns the fraction that follows a whole part, or 0 if none follows.
 fn fraction_behind(rules: &NumberRules, bytes: &[u8]) -> Option<u64>
     requires { IsLawful rules.now }
     ensures { IfSome result (λ units. (s : Scan) → IsBegun s → s.place ≡ places.Whole → EndsWith rules.now s bytes.now units) }
@@ -95,7 +96,7 @@ fn fraction_behind(rules: &NumberRules, bytes: &[u8]) -> Option<u64>
     }
 }
 
-/// The sign that was read, and the bytes behind it.
+/// The sign that was read, and the bytes after it.
 #[derive(Clone, Copy)]
 struct Signed<'a> {
     /// Whether there is a sign.
@@ -127,7 +128,7 @@ fn sign_read(text: &[u8]) -> Signed<'_>
     }
 }
 
-/// The number of digits, in units of 10^-18; `None` where it may be written otherwise, or be long.
+/// Returns the number of the digits, in units of 10^-18, or `None` if the text may be written otherwise or be long.
 fn short_count(rules: &NumberRules, read: Signed<'_>) -> Option<u128>
     requires { IsLawful rules.now }
     ensures count { IfSome result (λ n. CountsWith rules.now (signed_begun read.entry.has_sign read.entry.minus) read.entry.digits.now n) }
@@ -143,7 +144,7 @@ fn short_count(rules: &NumberRules, read: Signed<'_>) -> Option<u128>
     }
 }
 
-/// The number that a text of digits spells; `None` where it may be written otherwise, or be long.
+/// Returns the number that a text of digits spells, or `None` if the text may be written otherwise or be long.
 pub(crate) fn short_number(rules: &NumberRules, text: &[u8]) -> Option<i128>
     requires { IsLawful rules.now }
     ensures { IfSome result (ReadsNumber rules.now (chars text.now)) }

@@ -1,4 +1,4 @@
-//! Laws: the number, the day or the moment that a text is, given by functions.
+//! Laws: the number, the day or the moment of a text, as functions.
 ghost use Rattle.std.specs.Prelude.{List, ℕ, ℤ, MatchOption};
 ghost use Rattle.csvw_datatype_core.specs.Numbers.{IsLawful, ReadsNumber};
 ghost use Rattle.csvw_datatype_core.specs.Dates.{ReadsDate};
@@ -9,7 +9,7 @@ use crate::date::DateFormat;
 use crate::moment::MomentFormat;
 use crate::number::NumberRules;
 
-/// A law: a text is the number, the day or the moment that these functions give, and none where they give none.
+/// A law: a text is the number, the day or the moment that these functions return. It is none if they return none.
 pub fn values_read()
     ensures number { (rules : NumberRules) (cs : List ℕ) → IsLawful rules
         → MatchOption (number_value rules cs) ((z : ℤ) → ReadsNumber rules cs z → ⊥) (ReadsNumber rules cs) }

@@ -1,4 +1,4 @@
--- Percent-encoded texts go on in the path, the query or the fragment where they stand.
+-- Percent-encoded texts stay in the path, the query or the fragment in which they are.
 use Rattle.std.proofs.Common.{◌≡◌, ◌==◌, ◌||◌, ◌&&◌, ℕ}
 use Rattle.std.proofs.Common.{true, false, not, Bool, Some, List, [], ◌∷◌, ◌++◌, length, All, refl, sym, ap, ◌∙◌, subst, nat_le, nat_lt}
 use Rattle.std.proofs.Common.{arith, ◌≤◌, slice_index_or, Ok, ◌⊎◌, inl, inr}

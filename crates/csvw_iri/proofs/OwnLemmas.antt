@@ -1,4 +1,4 @@
--- What a pass over the bytes behind `http://` finds: the parts of a URL that the URL Standard writes in these bytes.
+-- A pass over the bytes after `http://` finds the parts of a URL. The URL Standard writes that URL in these bytes.
 use Rattle.std.proofs.Common.{◌≡◌, ◌≢◌, ℕ, ◌<◌, Bool, true, false, not, ◌&&◌, ◌||◌, ◌==◌, ◌⊎◌, List, [], ◌∷◌, ◌++◌, get_or, Option, Some, None, All}
 use Rattle.std.proofs.Common.{inl, inr, refl, ap, sym, ◌∙◌, subst, ⊎_elim, append_assoc, append-nil, arith}
 use Rattle.std.specs.Prelude.{is_some, unwrap_or, IfSome}

@@ -1,4 +1,4 @@
--- A text behind whose scheme a pass finds the parts of a URL is that URL's text, and resolves to itself.
+-- If a pass over the bytes after the scheme finds the parts of a URL, the text is that URL's text and resolves to itself.
 use Rattle.std.proofs.Common.{◌≡◌, ℕ, ◌<◌, true, false, not, ◌&&◌, ◌||◌, ◌==◌, List, [], ◌∷◌, ◌++◌, length, get_or, Option, Some, None, Ok, All, inl}
 use Rattle.std.proofs.Common.{inr, refl, ap, sym, ◌∙◌, subst, append_assoc, arith, nat_lt, lit<}
 use Rattle.std.specs.Prelude.{codes, IfSome}

@@ -1,4 +1,4 @@
--- Links, by the URL Standard (section 4.4) as the crate `url` defines it.
+-- The URL of a text, a base and a link, as the crate `url` defines them (URL Standard, section 4.4).
 use Rattle.std.specs.Prelude.{◌≡◌, ℕ, List, Option, Some, None, Result, Ok, Err, false, nat_lt, length, if◌then◌else◌}
 use Rattle.url.specs.Parts.{Parts, serialize, IsValid}
 use Rattle.url.specs.Parser.{parse_url, Parsed}
@@ -16,7 +16,7 @@ abbrev pub of_parse : Parsed Parts → Result Parts Refusal
 of_parse (Ok url) = Ok url
 of_parse (Err e) = Err bad
 
--- the URL of a text, against a base where there is one; a long text is told first
+-- the URL of a text, against a base if there is one; a text that is too long is refused first
 unfoldable pub url_of : Option Parts → List ℕ → Result Parts Refusal
 url_of base text = if nat_lt max_text (length text) then Err too_long else of_parse (parse_url base text)
 

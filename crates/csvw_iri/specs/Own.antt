@@ -1,5 +1,5 @@
--- Texts whose links are seen without the URL Standard's parser: `http` and `https` URLs as that standard writes them, and fragments.
--- They aren't all texts of which this is so, but those whose bytes say so one after the other.
+-- Texts whose links need no parser of the URL Standard: `http` and `https` URLs as that standard writes them, and fragments. These definitions take only such
+-- texts whose bytes show it one after the other. There are more such texts.
 use Rattle.std.specs.Prelude.{◌≡◌, ◌⊎◌, ℕ, ◌==◌, ◌||◌, ◌&&◌, ◌++◌, List, [], ◌∷◌, Bool, true, false, not, nat_lt, codes, Option, Some, None, Ok, if◌then◌else◌}
 use Rattle.csvw_text.specs.Class.{is_within}
 use Rattle.url.specs.Parts.{Parts, IsValid}
@@ -20,7 +20,7 @@ IsFragmentLink text = (base : Parts) → IsValid base → base.fragment ≡ None
 abbrev pub IsOfScheme : List ℕ → List ℕ → Type 0
 IsOfScheme text rest = (text ≡ codes "http://" ++ rest) ⊎ (text ≡ codes "https://" ++ rest)
 
--- an ASCII character that may stand raw in an IRIREF
+-- an ASCII character that may be raw in an IRIREF
 abbrev pub is_plain : ℕ → Bool
 is_plain b = nat_lt b 127 && not (is_forbidden b)
 
@@ -46,8 +46,8 @@ of_path b =
 abbrev pub of_query : ℕ → Option Place
 of_query b = if b == 35 then Some Fragment else (if is_plain b && not (b == 39) then Some Query else None)
 
--- The place after a byte. A label begins with a letter, so that the host is no IPv4 address, and a segment neither with `.` nor with
--- `%2`, so that it is no dot segment.
+-- The place after a byte. A label begins with a letter, so the host is not an IPv4 address. A segment begins neither with `.` nor with `%2`, so it is not a
+-- dot segment.
 abbrev pub step : Place → ℕ → Option Place
 step Front b = if is_lower b then Some Label else None
 step Label b = of_label b
@@ -57,7 +57,7 @@ step Path b = of_path b
 step Query b = of_query b
 step Fragment b = if is_plain b then Some Fragment else None
 
--- a path stands behind the host
+-- the host has ended, and a path follows it
 abbrev pub is_end : Place → Bool
 is_end Front = false
 is_end Label = false
@@ -67,13 +67,13 @@ is_end Path = true
 is_end Query = true
 is_end Fragment = true
 
--- the bytes go on from the place to an end
+-- the bytes continue from the place to an end
 abbrev pub goes_on : Option Place → List ℕ → Bool
 goes_on None bytes = false
 goes_on (Some place) [] = is_end place
 goes_on (Some place) (b ∷ bytes) = goes_on (step place b) bytes
 
--- the place to which bytes lead from a place; none where the pass ends in them
+-- the place to which bytes lead from a place; none if the pass ends in them
 abbrev pub after : Option Place → List ℕ → Option Place
 after None bytes = None
 after (Some place) [] = Some place

@@ -1,5 +1,5 @@
--- The prefixes of the CSVW namespace document's context (https://www.w3.org/ns/csvw) that are read,
--- and a text with its prefix replaced.
+-- The prefixes of the context of the CSVW namespace (https://www.w3.org/ns/csvw) that are replaced, and a text with its prefix
+-- replaced.
 use Rattle.std.specs.Prelude.{ℕ, ◌==◌, ◌++◌, List, Bool, codes, bytes_eq, if◌then◌else◌, [], ◌∷◌, Option, Some, None, nat_lt, nat_eq, length}
 use Rattle.std.specs.List.{before_first, after_first, position_or_len, starts_with}
 
@@ -35,12 +35,12 @@ iri_of_prefix name = first_of name prefixes
 abbrev pub is_colon : ℕ → Bool
 is_colon b = b == 58
 
--- what stands for the text before the first colon, or nothing where the text stays as it is
+-- the IRI of the prefix and the rest; the text as it is if there is no prefix
 abbrev pub expanded_by : Option (List ℕ) → List ℕ → List ℕ → List ℕ
 expanded_by None rest text = text
 expanded_by (Some iri) rest text = if starts_with nat_eq rest (codes "//") then text else iri ++ rest
 
--- Where the text before the first colon is a prefix and `//` doesn't follow, it is replaced.
+-- If the text before the first colon is a prefix and `//` doesn't follow, it is replaced.
 unfoldable pub expanded : List ℕ → List ℕ
 expanded text =
     if nat_lt (position_or_len is_colon text) (length text)

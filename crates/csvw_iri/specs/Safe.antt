@@ -1,4 +1,4 @@
--- What stands raw in an IRIREF (N-Triples 1.1, section 7), and a text with all else percent-encoded.
+-- The characters that may be raw in an IRIREF (RDF 1.1 N-Triples, section 7), and a text with all others percent-encoded.
 use Rattle.std.specs.Prelude.{ℕ, ◌==◌, ◌||◌, List, Bool, not, nat_le, if◌then◌else◌, [], ◌∷◌}
 use Rattle.std.specs.List.{list_any, list_all, flat_map}
 use Rattle.percent_encoding.specs.Percent.{percent_encode_byte}
@@ -14,7 +14,7 @@ safe_byte b = if is_forbidden b then percent_encode_byte b else b ∷ []
 unfoldable pub safe : List ℕ → List ℕ
 safe text = flat_map safe_byte text
 
--- each character may stand raw in an IRIREF
+-- each character may be raw in an IRIREF
 abbrev pub is_iri : List ℕ → Bool
 is_iri text = list_all (λ b. not (is_forbidden b)) text
 

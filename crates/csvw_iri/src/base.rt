@@ -1,4 +1,4 @@
-//! URLs without a fragment, against which texts resolve.
+//! `Base`: a URL without a fragment, against which texts resolve.
 ghost use Rattle.std.specs.Prelude.{◌≡◌, ◌++◌, IfOk, IfSome, Some, None, Ok, true, false, codes};
 ghost use Rattle.csvw_iri.specs.Encoded.{percent_encoded};
 ghost use Rattle.csvw_iri.specs.Safe.{is_iri, has_hash};
@@ -16,7 +16,7 @@ use std::alloc::{AllocError, Global};
 use std::marker::Model;
 use url::{ParseError, Url};
 
-/// How many bytes a text to resolve has at most.
+/// The greatest number of bytes of a text to resolve.
 pub(crate) const MAX_TEXT: usize = 65536;
 
 /// A URL without a fragment.
@@ -47,16 +47,17 @@ impl Copied for Base {
 }
 
 impl Base {
-    /// The URL that the text is, without its fragment. `UrlTooLong` where the text has more than
-    /// 65,536 bytes, else `BadUrl` where it is no URL (URL Standard, section 4.4); `Memory` where
-    /// there is none.
+    /// Returns the URL that the text is, without its fragment.
+    ///
+    /// Returns `UrlTooLong` if the text has more than 65,536 bytes. Otherwise returns `BadUrl` if the text is not a
+    /// URL (URL Standard, section 4.4). Returns `Memory` if memory runs out.
     pub fn new(alloc: Global, text: &str) -> Result<Base, IriFault>
         ensures { Gives (λ b. b) refusal result (base_of None text.now) }
     {
         Ok(Base::of(alloc, parsed(alloc, text)?)?)
     }
 
-    /// The URL that the text resolves to against this one, without its fragment. Faults are those of
+    /// Returns the URL that the text resolves to against this one, without its fragment. The faults are those of
     /// `new`.
     pub fn join(&self, alloc: Global, text: &str) -> Result<Base, IriFault>
         ensures { Gives (λ b. b) refusal result (base_of (Some self.now) text.now) }
@@ -64,7 +65,7 @@ impl Base {
         Ok(Base::of(alloc, self.joined(text)?)?)
     }
 
-    /// The URL, made safe. It has no `#`.
+    /// Returns the URL, made safe. It has no `#`.
     pub fn iri(&self) -> &Iri
         ensures value { result.now ≡ iri_of self.now }
         ensures no_hash { has_hash result.now ≡ false }
@@ -72,7 +73,7 @@ impl Base {
         &self.iri
     }
 
-    /// An equal base; `AllocError` where there is no memory.
+    /// Returns an equal base, or `AllocError` if memory runs out.
     pub fn clone(&self, alloc: Global) -> Result<Base, AllocError>
         ensures { IfOk result (λ b. b ≡ self.now) }
     {
@@ -82,7 +83,8 @@ impl Base {
         })
     }
 
-    /// The link of a fragment with its `#`, as `is_fragment` knows it: the IRI and then the text, in the memory of another IRI.
+    /// Returns the link of a fragment with its `#`, for which `is_fragment` is true: the IRI and then the text, in
+    /// the memory of another IRI.
     pub(crate) fn fragment_link(
         &self,
         alloc: Global,
@@ -96,8 +98,11 @@ impl Base {
         Iri::over(alloc, self.iri.as_str(), text, spare)
     }
 
-    /// The link of `#` and the percent-encoded text, in the memory of an IRI that is no longer needed where no clone shares that; `None`
-    /// where it is past the limit. `room` is for the text with its `#`. `AllocError` where there is no memory.
+    /// Returns the link of `#` and the percent-encoded text.
+    ///
+    /// The link is made in the memory of an IRI that is no longer needed, if no clone shares that memory. `room` is
+    /// for the text with its `#`. Returns `None` if the text is longer than the limit. Returns `AllocError` if memory
+    /// runs out.
     pub fn encoded_fragment(
         &self,
         alloc: Global,

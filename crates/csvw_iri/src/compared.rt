@@ -1,4 +1,4 @@
-//! Equality and order of IRIs, which are those of their texts.
+//! Equality and order of IRIs: those of their texts.
 ghost use Rattle.std.specs.Prelude.{◌≡◌, Some, refl, nat_eq};
 ghost use Rattle.std.specs.Ordering.{nat_cmp};
 ghost use Rattle.std.specs.Cmp;

@@ -1,24 +1,23 @@
-//! Why a text gives no IRI.
+//! `IriFault`: why a text has no IRI.
 ghost use Rattle.std.specs.Prelude.{◌≡◌};
 
 use std::alloc::{AllocError, AllocFailed};
 use std::error::Error;
 use std::fmt;
 
-/// Why a text gives no IRI, in the order in which they are tested but for `Memory`, which may come
-/// before any of them.
+/// Why a text has no IRI, in the order in which the faults are tested. `Memory` may come before any of them.
 #[derive(Clone, Copy, Debug, PartialEq, Eq)]
 pub enum IriFault {
-    /// There is no memory for it.
+    /// Memory ran out.
     Memory,
     /// The text to resolve is longer than 65,536 bytes.
     UrlTooLong,
-    /// The text is no URL, or resolves to none, by the URL Standard.
+    /// The text is not a URL, or does not resolve to one, by the URL Standard.
     BadUrl,
 }
 
 impl IriFault {
-    /// What is wrong and what to do, as a sentence without its full stop.
+    /// Returns what is wrong and what to do, as a sentence without its full stop.
     fn sentence(&self) -> &'static str {
         match self {
             IriFault::Memory => "there is no memory: free some, and try again",

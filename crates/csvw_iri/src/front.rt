@@ -1,4 +1,8 @@
-//! Constant texts with which the URLs of many rows begin, over whose bytes one pass is enough.
+//! `OwnFront`: a constant text with which the URLs of many rows begin.
+//!
+//! If a template begins with an `http` or `https` URL, the pass over what is the same in each row is made once. The
+//! pass over a row's text continues from there. A percent-encoded text needs no pass of its own: it stays in the
+//! path, the query or the fragment in which it is.
 ghost use Rattle.std.specs.Prelude.{◌≡◌, ◌++◌, IfOk, IfSome, Ok, Some, true};
 ghost use Rattle.url.specs.Parts.{Parts};
 ghost use Rattle.csvw_iri.specs.Encoded.{percent_encoded};
@@ -15,12 +19,13 @@ use csvw_text::{Text, is_unreserved};
 use std::alloc::{AllocError, Global};
 use std::marker::Model;
 
-/// The text with which absolute URLs begin, as which contracts see it, and where the pass over their bytes stands behind it.
+/// The text with which absolute URLs begin, and the place of the pass over their bytes after it. Contracts see the
+/// text.
 #[derive(Drop)]
 pub struct OwnFront {
-    /// The text: `http://` or `https://`, and what stands behind that.
+    /// The text: `http://` or `https://`, and what follows that.
     text: Text,
-    /// The place to which its bytes lead.
+    /// The place to which the bytes of the text lead.
     place: Place,
 }
 
@@ -36,8 +41,10 @@ impl Model for OwnFront {
 }
 
 impl OwnFront {
-    /// The front that the text is; `None` where it doesn't begin with `http://` or `https://`, or where the URL Standard might write
-    /// it in another way. `AllocError` where there is no memory.
+    /// Returns the front that the text is.
+    ///
+    /// Returns `None` if the text does not begin with `http://` or `https://`, or if the URL Standard might write it
+    /// in another way. Returns `AllocError` if memory runs out.
     pub fn of(alloc: Global, text: &str) -> Result<Option<OwnFront>, AllocError>
         ensures { IfOk result (λ found. IfSome found (λ front. front ≡ text.now)) }
     {
@@ -50,9 +57,11 @@ impl OwnFront {
         }))
     }
 
-    /// The link of the front and the percent-encoded text behind it, whatever the base, in the memory of an IRI that is no longer
-    /// needed where no clone shares that; `None` where it isn't seen at once, and where it is past the limit. `room` is for the encoded
-    /// text. `AllocError` where there is no memory.
+    /// Returns the link of the front and then the percent-encoded text, for any base.
+    ///
+    /// The link is made in the memory of an IRI that is no longer needed, if no clone shares that memory. `room` is
+    /// for the encoded text. Returns `None` if the link needs the parser or is longer than the limit. Returns
+    /// `AllocError` if memory runs out.
     pub fn encoded_link(
         &self,
         alloc: Global,
@@ -74,8 +83,8 @@ impl OwnFront {
         Ok(Some(iri))
     }
 
-    /// Whether the text begins with the front, is short enough, and is seen at once to be an absolute URL as the URL Standard writes
-    /// it, with nothing that IRIREF forbids.
+    /// Returns true only if the text begins with the front, has at most 65,536 bytes, and is an absolute URL as the
+    /// URL Standard writes it, with nothing that IRIREF forbids.
     fn is_own(&self, text: &str) -> bool
         ensures link { result ≡ true → IsOwnLink text.now }
         ensures raw { result ≡ true → is_iri text.now ≡ true }
@@ -90,7 +99,7 @@ impl OwnFront {
     }
 }
 
-/// Whether a pass is seen at once to go on from the place over the percent-encoded text to an end.
+/// Returns true only if a pass continues from the place over the percent-encoded text to an end.
 fn takes(place: Place, text: &str) -> bool
     ensures { result ≡ true → goes_on (Some place) (percent_encoded text.now) ≡ true }
 {
@@ -101,7 +110,7 @@ fn takes(place: Place, text: &str) -> bool
     }
 }
 
-/// Whether the text is seen at once to begin no dot segment.
+/// Returns true only if the text does not begin a dot segment.
 fn begins_segment(text: &[u8]) -> bool
     ensures { result ≡ true → goes_on (Some Segment) (percent_encoded text.now) ≡ true }
 {
@@ -111,7 +120,7 @@ fn begins_segment(text: &[u8]) -> bool
     }
 }
 
-/// What follows the first text, where the other one begins with it.
+/// Returns what follows the first text, if the other text begins with it.
 fn behind<'a>(first: &str, text: &'a str) -> Option<&'a str>
     ensures { IfSome result (λ rest. text.now ≡ first.now ++ rest.now) }
 {
@@ -121,14 +130,14 @@ fn behind<'a>(first: &str, text: &'a str) -> Option<&'a str>
     }
 }
 
-/// The place to which the bytes of a text lead that begins with `http://` or `https://`.
+/// Returns the place to which the bytes of a text lead that begins with `http://` or `https://`.
 fn place_behind(text: &str) -> Option<Place>
     ensures { IfSome result (λ place. IsOwnFront text.now place) }
 {
     after(Place::Front, behind_scheme(text.as_bytes())?)
 }
 
-/// Whether the text is seen at once to be its own link, with nothing that IRIREF forbids: by the front, where there is one.
+/// Returns true only if the text is its own link, with nothing that IRIREF forbids. Uses the front if one is given.
 pub(crate) fn is_own_behind(front: Option<&OwnFront>, text: &str) -> bool
     ensures link { result ≡ true → IsOwnLink text.now }
     ensures raw { result ≡ true → is_iri text.now ≡ true }

@@ -1,4 +1,6 @@
-//! A shared text whose characters may all stand raw in an IRIREF.
+//! `Iri`: a shared text whose characters may all be raw in an IRIREF.
+//!
+//! Clones of an `Iri` take no memory, so predicates and datatypes are made once for each column.
 ghost use Rattle.std.specs.Prelude.{◌≡◌, ◌++◌, true, false, codes, string_bytes, IfOk, OnOk};
 ghost use Rattle.csvw_iri.specs.Safe.{is_iri, has_hash};
 
@@ -7,8 +9,8 @@ use std::alloc::{AllocError, Global};
 use std::marker::Model;
 use std::rc::Rc;
 
-/// An IRI: a text whose characters may all stand raw in an IRIREF (N-Triples 1.1, section 7), so
-/// that it has no backslash and no escape. Clones share one text.
+/// An IRI: a text whose characters may all be raw in an IRIREF (N-Triples 1.1, section 7). So it has no backslash and
+/// no escape. Clones share one text.
 #[derive(Drop)]
 pub struct Iri {
     shared: Rc<Text>,
@@ -26,7 +28,7 @@ impl Model for Iri {
 }
 
 impl Iri {
-    /// The IRI of a text whose characters all stand raw; `AllocError` where there is no memory.
+    /// Returns the IRI of a text whose characters may all be raw, or `AllocError` if memory runs out.
     pub(crate) fn of(alloc: Global, text: String) -> Result<Iri, AllocError>
         requires { is_iri (string_bytes text) ≡ true }
         ensures { IfOk result (λ i. i ≡ string_bytes text) }
@@ -37,7 +39,7 @@ impl Iri {
         }
     }
 
-    /// Its text. It takes no memory.
+    /// Returns the text. It takes no memory.
     pub fn as_str(&self) -> &str
         ensures value { result.now ≡ self.now }
         ensures raw { is_iri self.now ≡ true }
@@ -45,8 +47,8 @@ impl Iri {
         self.shared.as_ref().as_str()
     }
 
-    /// The IRI of two texts whose characters all stand raw, one behind the other, in the memory of an IRI that is no longer needed
-    /// where no clone shares that; `AllocError` where there is no memory.
+    /// Returns the IRI of two texts, one after the other, whose characters may all be raw. It is made in the memory
+    /// of an IRI that is no longer needed, if no clone shares that memory. Returns `AllocError` if memory runs out.
     pub(crate) fn over(
         alloc: Global,
         front: &str,
@@ -68,7 +70,7 @@ impl Iri {
         Iri::of(alloc, joined)
     }
 
-    /// Becomes the IRI of two texts where no clone shares its memory, and tells whether it did.
+    /// Becomes the IRI of two texts if no clone shares its memory. Returns whether it did.
     fn refill(&mut self, front: &str, rest: &str) -> Result<bool, AllocError>
         requires front { is_iri front.now ≡ true }
         requires rest { is_iri rest.now ≡ true }
@@ -81,8 +83,10 @@ impl Iri {
         Ok(false)
     }
 
-    /// Becomes another IRI, `#` and the text, in its memory where no clone shares it; `AllocError` where there is no memory: it
-    /// may then be a part of them. The text is ready for it where `is_raw_text` says so, and `Base::iri` has no `#`.
+    /// Becomes another IRI, `#` and the text, in its own memory if no clone shares it.
+    ///
+    /// The text is ready if `is_raw_text` returns true for it. `Base::iri` has no `#`. Returns `AllocError` if memory
+    /// runs out. It may then be a part of the new IRI.
     pub fn refill_with_fragment(
         &mut self,
         alloc: Global,
@@ -100,8 +104,8 @@ impl Iri {
         Ok(())
     }
 
-    /// An equal IRI, which shares the text: it takes no memory, and is an `AllocError` only where the
-    /// count of the owners is at its greatest.
+    /// Returns an equal IRI, which shares the text. It takes no memory. It is an `AllocError` only if the count of
+    /// the owners is at its greatest.
     pub fn clone(&self, _alloc: Global) -> Result<Iri, AllocError>
         ensures { IfOk result (λ i. i ≡ self.now) }
     {
@@ -117,7 +121,7 @@ impl Copied for Iri {
     }
 }
 
-/// Writes two texts over another text, which is a part of them after an error.
+/// Writes two texts over another text. After an error that text is a part of them.
 fn refill_two(joined: &mut Text, front: &str, rest: &str) -> Result<(), AllocError>
     requires front { is_iri front.now ≡ true }
     requires rest { is_iri rest.now ≡ true }
@@ -128,7 +132,7 @@ fn refill_two(joined: &mut Text, front: &str, rest: &str) -> Result<(), AllocErr
     joined.push_str(rest)
 }
 
-/// Writes an IRI, `#` and a text over another text, which is a part of them after an error.
+/// Writes an IRI, `#` and a text over another text. After an error that text is a part of them.
 fn refill_joined(joined: &mut Text, iri: &str, text: &str) -> Result<(), AllocError>
     requires iri { is_iri iri.now ≡ true }
     requires raw { is_iri text.now ≡ true }
@@ -140,8 +144,9 @@ fn refill_joined(joined: &mut Text, iri: &str, text: &str) -> Result<(), AllocEr
     joined.push_str(text)
 }
 
-/// The IRI, `#` and the text; `AllocError` where there is no memory. The text is ready for it where
-/// `is_raw_text` says so, and `Base::iri` has no `#`.
+/// Returns the IRI, `#` and the text, or `AllocError` if memory runs out.
+///
+/// The text is ready if `is_raw_text` returns true for it. `Base::iri` has no `#`.
 pub fn with_fragment(alloc: Global, iri: &Iri, text: &str) -> Result<Iri, AllocError>
     requires no_hash { has_hash iri.now ≡ false }
     requires raw { is_iri text.now ≡ true }

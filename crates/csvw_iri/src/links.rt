@@ -13,9 +13,10 @@ use crate::prefix::expand_prefix;
 use crate::safe::made_safe;
 use std::alloc::Global;
 
-/// The IRI that the text resolves to against the base (URL Standard, section 4.4), made safe.
-/// `UrlTooLong` where the text has more than 65,536 bytes, else `BadUrl` where it resolves to none;
-/// `Memory` where there is none.
+/// Returns the IRI that the text resolves to against the base (URL Standard, section 4.4), made safe.
+///
+/// Returns `UrlTooLong` if the text has more than 65,536 bytes. Otherwise returns `BadUrl` if the text does not
+/// resolve to a URL. Returns `Memory` if memory runs out.
 pub fn resolve(alloc: Global, base: &Base, text: &str) -> Result<Iri, IriFault>
     ensures { Gives (λ i. i) refusal result (resolved base.now text.now) }
 {
@@ -23,16 +24,20 @@ pub fn resolve(alloc: Global, base: &Base, text: &str) -> Result<Iri, IriFault>
     Ok(made_safe(alloc, url.as_str())?)
 }
 
-/// The IRI that the text resolves to once its prefix is replaced. Faults are those of `resolve`; what
-/// is measured is the text after that step.
+/// Returns the IRI that the text resolves to once its prefix is replaced.
+///
+/// The faults are those of `resolve`. The limit applies to the text after its prefix is replaced.
 pub fn link(alloc: Global, base: &Base, text: &str) -> Result<Iri, IriFault>
     ensures { Gives (λ i. i) refusal result (link_of base.now text.now) }
 {
     link_over(alloc, base, text, None, None)
 }
 
-/// The same link, in the memory of an IRI that is no longer needed, where it is seen at once and no clone shares that memory. It is
-/// seen the sooner where it begins with a front that is given; it may begin otherwise.
+/// Returns the same link as `link`, with the same faults.
+///
+/// If the link is found without a parser, it is made in the memory of an IRI that is no longer needed, unless a clone
+/// shares that memory. It is found sooner if the text begins with the front that is given. The text may begin
+/// otherwise.
 pub fn link_over(
     alloc: Global,
     base: &Base,

@@ -1,4 +1,8 @@
-//! Texts whose links are seen in one pass over their bytes: URLs as the URL Standard writes them, and fragments.
+//! Links without a parser: URLs as the URL Standard writes them, and fragments.
+//!
+//! The expansion of a template is mostly an `http` or `https` URL as the URL Standard writes it, or a fragment. One
+//! pass over its bytes finds that. Its link is then the text itself, or the base's IRI and the text. Any other text
+//! is parsed.
 ghost use Rattle.std.specs.Prelude.{◌≡◌, ◌≤◌, ◌++◌, true, Some, IfSome, codes, length, drop};
 ghost use Rattle.csvw_iri.specs.Safe.{is_iri};
 ghost use Rattle.csvw_iri.specs.Own.{IsOwnLink, IsFragmentLink, IsOfScheme};
@@ -8,7 +12,7 @@ use crate::base::MAX_TEXT;
 use crate::safe::is_raw;
 use percent_encoding::{AsciiSet, NON_ALPHANUMERIC, ascii_set};
 
-/// All of ASCII but `%` and the characters that are unreserved in a URI (RFC 3986, section 2.3).
+/// All of ASCII except `%` and the characters that are unreserved in a URI (RFC 3986, section 2.3).
 const BUT_STAYING: AsciiSet = ascii_set!(
     NON_ALPHANUMERIC
         .remove(b'%')
@@ -18,7 +22,7 @@ const BUT_STAYING: AsciiSet = ascii_set!(
         .remove(b'~')
 );
 
-/// Where a pass over the bytes behind `http://` stands.
+/// The place of a pass over the bytes after `http://`.
 #[derive(Clone, Copy, Debug, PartialEq, Eq)]
 pub(crate) enum Place {
     /// Before a label of the host.
@@ -37,7 +41,7 @@ pub(crate) enum Place {
     Fragment,
 }
 
-/// Whether the byte is an ASCII character that may stand raw in an IRIREF.
+/// Returns whether the byte is an ASCII character that may be raw in an IRIREF.
 fn is_plain(b: u8) -> bool
     ensures { result ≡ is_plain b }
 {
@@ -98,7 +102,7 @@ fn of_query(b: u8) -> Option<Place>
     }
 }
 
-/// The place after the byte; `None` where the URL Standard might write it in another way.
+/// Returns the place after the byte, or `None` if the URL Standard might write the bytes in another way.
 fn step(place: Place, b: u8) -> Option<Place>
     ensures { result ≡ step place b }
 {
@@ -124,8 +128,10 @@ fn is_end(place: Place) -> bool
     !matches!(place, Place::Front | Place::Label)
 }
 
-/// Whether the byte is seen at once to leave the place as it is: in a label a letter in lower case or a digit, in a segment, the query
-/// or the fragment a character that is unreserved in a URI or `%`.
+/// Returns true only if the byte leaves the place as it is.
+///
+/// In a label such a byte is a letter in lower case or a digit. In a segment, the query or the fragment it is a
+/// character that is unreserved in a URI, or `%`.
 #[tactic(auto, using(crate::proofs::StayingLemmas::staying))]
 fn stays(place: Place, b: u8) -> bool
     ensures { result ≡ true → step place b ≡ Some place }
@@ -140,7 +146,7 @@ fn stays(place: Place, b: u8) -> bool
     }
 }
 
-/// How many bytes in front are seen at once to leave the place as it is.
+/// Returns how many of the first bytes leave the place as it is. It may count fewer.
 fn staying(place: Place, bytes: &[u8]) -> usize
     ensures within { result ≤ length bytes.now }
     ensures stays { goes_on (Some place) (drop result bytes.now) ≡ goes_on (Some place) bytes.now }
@@ -153,7 +159,7 @@ fn staying(place: Place, bytes: &[u8]) -> usize
     bytes.len()
 }
 
-/// Whether the bytes go on from the place to an end.
+/// Returns whether the bytes continue from the place to an end.
 pub(crate) fn goes_on(from: Place, bytes: &[u8]) -> bool
     ensures { result ≡ goes_on (Some from) bytes.now }
 {
@@ -170,7 +176,8 @@ pub(crate) fn goes_on(from: Place, bytes: &[u8]) -> bool
     is_end(place)
 }
 
-/// The place to which the bytes lead from a place; `None` where the URL Standard might write them in another way.
+/// Returns the place to which the bytes lead from a place, or `None` if the URL Standard might write them in another
+/// way.
 pub(crate) fn after(from: Place, bytes: &[u8]) -> Option<Place>
     ensures { result ≡ after (Some from) bytes.now }
 {
@@ -184,7 +191,7 @@ pub(crate) fn after(from: Place, bytes: &[u8]) -> Option<Place>
     Some(place)
 }
 
-/// What follows `http://` or `https://`.
+/// Returns what follows `http://` or `https://`.
 pub(crate) fn behind_scheme(text: &[u8]) -> Option<&[u8]>
     ensures { IfSome result (λ rest. IsOfScheme text.now rest.now) }
 {
@@ -194,15 +201,17 @@ pub(crate) fn behind_scheme(text: &[u8]) -> Option<&[u8]>
     }
 }
 
-/// What follows `#`.
+/// Returns what follows `#`.
 fn behind_hash(text: &[u8]) -> Option<&[u8]>
     ensures { IfSome result (λ rest. text.now ≡ codes "#" ++ rest.now) }
 {
     text.strip_prefix(b"#")
 }
 
-/// Whether the text is short enough, and seen at once to be an absolute URL as the URL Standard writes it, with nothing that IRIREF
-/// forbids: it is its own link.
+/// Returns true only if the text is its own link.
+///
+/// Such a text has at most 65,536 bytes. It is an absolute URL as the URL Standard writes it, with nothing that IRIREF
+/// forbids.
 pub(crate) fn is_own(text: &str) -> bool
     ensures link { result ≡ true → IsOwnLink text.now }
     ensures raw { result ≡ true → is_iri text.now ≡ true }
@@ -216,8 +225,9 @@ pub(crate) fn is_own(text: &str) -> bool
     }
 }
 
-/// Whether the text is short enough, and `#` and ASCII characters that may stand raw in an IRIREF: its link is the base's IRI and then
-/// the text.
+/// Returns true only if the link of the text is the base's IRI and then the text.
+///
+/// Such a text has at most 65,536 bytes. It is `#` and ASCII characters that may be raw in an IRIREF.
 pub(crate) fn is_fragment(text: &str) -> bool
     ensures link { result ≡ true → IsFragmentLink text.now }
     ensures raw { result ≡ true → is_iri text.now ≡ true }

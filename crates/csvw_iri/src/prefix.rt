@@ -1,4 +1,4 @@
-//! Prefixes of the CSVW context, and a text with its prefix replaced.
+//! `expand_prefix`: a text with its prefix of the CSVW context replaced.
 ghost use Rattle.std.specs.Prelude.{◌≡◌, IfOk, string_bytes};
 ghost use Rattle.csvw_iri.specs.Prefix.{expanded, iri_of_prefix, is_colon};
 ghost use Rattle.std.specs.Prelude.{MatchOption, nat_lt, nat_eq, length, true, false, codes};
@@ -47,10 +47,11 @@ fn begins_with_slashes(text: &str) -> bool
     text.starts_with("//")
 }
 
-/// The text with its prefix replaced: where what stands before the first colon is one of the
-/// prefixes and `//` doesn't follow, the prefix and the colon give way to its IRI (Metadata
-/// Vocabulary for Tabular Data, section 5.8 on names of common properties, which section 5.1.3
-/// asks of links too). Else the text as it is. `AllocError` where there is no memory.
+/// Returns the text with its prefix replaced, or `AllocError` if memory runs out.
+///
+/// If the text before the first colon is one of the prefixes and `//` doesn't follow, that text and the colon are
+/// replaced by the IRI of the prefix. Otherwise the text stays as it is. Metadata Vocabulary for Tabular Data,
+/// section 5.8, says so of the names of common properties, and section 5.1.3 asks it of links too.
 #[tactic(auto, unfolding(crate::specs::Prefix::expanded))]
 pub fn expand_prefix(alloc: Global, text: &str) -> Result<String, AllocError>
     ensures { IfOk result (λ s. string_bytes s ≡ expanded text.now) }

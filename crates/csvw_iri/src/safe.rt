@@ -7,15 +7,15 @@ use crate::iri::Iri;
 use percent_encoding::percent_encode_byte;
 use std::alloc::{AllocError, Global};
 
-/// Whether the character may stand raw in an IRIREF (N-Triples 1.1, section 7): it is none of
-/// U+0000 to U+0020 and `<>"{}|^` with backquote and backslash.
+/// Returns whether the character may be raw in an IRIREF (N-Triples 1.1, section 7): it is none of U+0000 to U+0020
+/// and none of `<>"{}|^` with backquote and backslash.
 pub fn is_raw(c: char) -> bool
     ensures { result ≡ not (is_forbidden c) }
 {
     !(c <= ' ' || matches!(c, '"' | '<' | '>' | '\\' | '^' | '`' | '{' | '|' | '}'))
 }
 
-/// Whether each character of the text may stand raw in an IRIREF.
+/// Returns whether each character of the text may be raw in an IRIREF.
 pub fn is_raw_text(text: &str) -> bool
     ensures { result ≡ is_iri text.now }
 {
@@ -28,14 +28,14 @@ pub fn is_raw_text(text: &str) -> bool
     true
 }
 
-/// The text with what IRIREF forbids percent-encoded; `AllocError` where there is no memory.
+/// Returns the text with what IRIREF forbids percent-encoded, or `AllocError` if memory runs out.
 pub fn made_safe(alloc: Global, text: &str) -> Result<Iri, AllocError>
     ensures { IfOk result (λ i. i ≡ safe text.now) }
 {
     Iri::of(alloc, safe_text(alloc, text)?)
 }
 
-/// The IRI that a text is, whose characters all stand raw; `AllocError` where there is no memory.
+/// Returns the IRI of a text whose characters may all be raw, or `AllocError` if memory runs out.
 pub fn named(alloc: Global, text: &str) -> Result<Iri, AllocError>
     requires { is_iri text.now ≡ true }
     ensures { IfOk result (λ i. i ≡ text.now) }

@@ -1,4 +1,4 @@
--- What `expression` answers: an expression, one of a higher level, or neither.
+-- The result of `expression`: an expression, one of a higher level, or neither.
 use Rattle.std.proofs.Common.{◌≡◌, ℕ, List, [], ◌∷◌, ◌++◌, true, false, Some, Result, Ok, Err, refl, ap, sym, subst, ◌∙◌, append_assoc, append-nil}
 use Rattle.std.proofs.Common.{arith, ◌==◌, flat_map}
 use Rattle.std.specs.List.{slice_split}

@@ -1,4 +1,4 @@
--- The parts that a text is read as are those that spell it, and a fault is the first.
+-- The parts that are read spell the text, and a fault that is read is the first.
 use Rattle.std.proofs.Common.{◌≡◌, ℕ, ◌<◌, List, [], ◌∷◌, ◌++◌, false, Result, Ok, Err, length, refl, ap, sym, subst, ◌∙◌, append_assoc, append-nil}
 use Rattle.std.proofs.Common.{arith, ◌||◌, flat_map, All, ◌⊎◌, ⊎_elim, inl, inr}
 use Rattle.std.specs.List.{slice_split, onto_first, list_any}

@@ -1,4 +1,4 @@
--- The pass over a list of names tells lists of names, with what may stand behind them.
+-- The pass over a text finds whether it is a list of names, and whether a modifier follows them.
 use Rattle.std.proofs.Common.{◌≡◌, ℕ, List, [], ◌∷◌, ◌++◌, Bool, true, false, cond, Option, Some, None, refl, ap, sym, subst, ◌∙◌, flat_map}
 use Rattle.std.proofs.Common.{append_assoc, append-nil, arith, All, ◌==◌, ◌||◌}
 use Rattle.std.specs.List.{slice_split}

@@ -1,4 +1,4 @@
--- What is read is what the grammar has.
+-- The parts that are read are those of the grammar.
 use Rattle.std.proofs.Common.{◌≡◌, ℕ, ◌<◌, ◌≤◌, List, [], ◌∷◌, ◌++◌, true, false, Result, Ok, Err, length, refl, ap, sym, subst, ◌∙◌, append_assoc}
 use Rattle.std.proofs.Common.{append-nil, arith, flat_map, All, ⊎_elim, inl, inr, nat_lt, count_by}
 use Rattle.std.specs.List.{slice_split, list_any}

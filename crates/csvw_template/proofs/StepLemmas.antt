@@ -1,4 +1,4 @@
--- What a loop over a list has after one step more.
+-- The state of a loop over a list after one more step.
 use Rattle.std.proofs.Common.{◌≡◌, ℕ, ◌+◌, ◌<◌, Bool, true, false, ◌&&◌, List, Some, length, drop, get_or, suc}
 use Rattle.std.proofs.Common.{sym, ap, ◌∙◌, add-one, drop-cons}
 use Rattle.std.specs.List.{list_all}

@@ -1,4 +1,4 @@
--- A map after a name is put.
+-- A map after the value of a name is set.
 use Rattle.std.proofs.Common.{◌≡◌, ℕ, ◌<◌, List, [], ◌∷◌, ◌++◌, Bool, true, false, cond, Option, Some, None, get_or, set, length, nat_lt, refl, ap}
 use Rattle.std.proofs.Common.{sym, subst, ◌∙◌, position, bytes_eq, arith, suc, zero, ⊎_elim}
 use Rattle.std.specs.List.{position_or_len}

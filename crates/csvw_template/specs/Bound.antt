@@ -1,4 +1,4 @@
--- Templates whose names are bound: what each stands for was found once, and is a text, or stands at a place of values.
+-- Templates whose names are bound. What each name stands for was looked up once: it is a text, a place of values, or nothing.
 use Rattle.std.specs.Prelude.{◌≡◌, ℕ, List, [], Bool, true, false, map}
 use Rattle.std.specs.List.{flat_map, filter_map, list_any, slice_index_or}
 use Rattle.csvw_template.specs.declared.bound.Binding.{Binding}
@@ -13,7 +13,7 @@ use Rattle.csvw_template.specs.declared.vars.Var.TheVariants.{Undefined, One}
 use Rattle.csvw_template.specs.Expand.{kept, value, signed, expand}
 use Rattle.csvw_template.specs.Variables.{Variables, lookup}
 
--- what stands at a place of values; behind them nothing
+-- the value at a place; after the last place nothing
 abbrev pub var_at : List Var → ℕ → Var
 var_at values place = slice_index_or values place Undefined
 
@@ -23,7 +23,7 @@ stands_for values Nothing = Undefined
 stands_for values (Constant text) = One text
 stands_for values (At place) = var_at values place
 
--- a part with its names bound; a literal is as it expands
+-- a part with its names bound; a literal is written as it expands
 abbrev pub bound_part : (List ℕ → Binding) → Part → BoundPart
 bound_part binding_of (Literal text) = Written (kept text)
 bound_part binding_of (Expression operator names) = Values operator (map binding_of names)
@@ -42,7 +42,7 @@ expand_bound_part values (Values operator bindings) = signed operator (bound_val
 unfoldable pub expand_bound : List Var → List BoundPart → List ℕ
 expand_bound values parts = flat_map (expand_bound_part values) parts
 
--- it stands at a place of values
+-- the binding is to a place of values
 abbrev pub is_at : Binding → Bool
 is_at Nothing = false
 is_at (Constant text) = false
@@ -52,16 +52,16 @@ abbrev pub varies_in : BoundPart → Bool
 varies_in (Written text) = false
 varies_in (Values operator bindings) = list_any is_at bindings
 
--- its expansion may differ under other values
+-- the expansion may differ under other values
 abbrev pub varies : List BoundPart → Bool
 varies parts = list_any varies_in parts
 
--- Where each name is bound to what it stands for, a template with its names bound expands to the same text.
+-- If each name is bound to what it stands for, a template with its names bound expands to the same text.
 abbrev pub BoundGivesTheSame : Type 0
 BoundGivesTheSame =
     (vars : Variables) (values : List Var) (binding_of : List ℕ → Binding) → ((name : List ℕ) → stands_for values (binding_of name) ≡ lookup vars name)
     → (parts : List Part) → expand_bound values (bound binding_of parts) ≡ expand vars parts
 
--- Where parts don't vary, they expand to the same text under all values.
+-- If parts don't vary, they expand to the same text under all values.
 abbrev pub ConstantGivesTheSame : Type 0
 ConstantGivesTheSame = (parts : List BoundPart) → varies parts ≡ false → (values : List Var) → expand_bound values parts ≡ expand_bound [] parts

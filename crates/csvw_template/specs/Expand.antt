@@ -41,7 +41,7 @@ encoded Simple text = percent_encoded text
 encoded Reserved text = kept text
 encoded Fragment text = kept text
 
--- What a variable gives: its text, or its items parted by commas. A list without items is undefined.
+-- The value of a variable: its text, or its items with commas between them. A list without items is undefined.
 abbrev pub value : Operator → Var → Option (List ℕ)
 value operator Undefined = None
 value operator (One text) = Some (encoded operator text)
@@ -52,13 +52,13 @@ value operator (Many (item ∷ items)) = Some (listed (map (encoded operator) (i
 abbrev pub values : Operator → Variables → List (List ℕ) → List (List ℕ)
 values operator vars names = filter_map (λ name. value operator (lookup vars name)) names
 
--- what stands before the first value (section 3.2.4)
+-- the text before the first value (section 3.2.4)
 abbrev pub sign : Operator → List ℕ
 sign Simple = []
 sign Reserved = []
 sign Fragment = 35 ∷ []
 
--- values parted by commas, with the sign before them where there is one
+-- values with commas between them, after the sign if there is a value
 abbrev pub signed : Operator → List (List ℕ) → List ℕ
 signed operator [] = []
 signed operator (text ∷ texts) = sign operator ++ listed (text ∷ texts)
@@ -70,12 +70,12 @@ expand_part vars (Expression operator names) = signed operator (values operator 
 unfoldable pub expand : Variables → List Part → List ℕ
 expand vars parts = flat_map (expand_part vars) parts
 
--- what stands before a value
+-- the text before a value
 abbrev pub lead : Operator → Bool → List ℕ
 lead operator true = sign operator
 lead operator false = 44 ∷ []
 
--- one value more was written, where there is one
+-- one more value was written, if there is one
 abbrev pub Adds : Operator → Bool → Option (List ℕ) → Bool → List ℕ → List ℕ → Type 0
 Adds operator is_first None is_defined old new = (is_defined ≡ false) × (new ≡ old)
 Adds operator is_first (Some text) is_defined old new =

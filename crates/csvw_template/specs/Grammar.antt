@@ -1,5 +1,5 @@
--- What a template is (RFC 6570, sections 2 to 2.4, with the operators none, `+` and `#`), and which fault
--- stands first in a text that is none. Nothing here says how a text is read.
+-- What a template is, and the first fault of a text that is not a template (RFC 6570, sections 2 to 2.4). The operators are none,
+-- `+` and `#`. Nothing here says how a text is read.
 use Rattle.std.specs.Prelude.{◌≡◌, ◌↔◌, ◌==◌, ◌||◌, ◌++◌, ◌∷◌, [], ℕ, List, Bool, true, false, Result, Ok, Err, length, ◌≤◌, ◌<◌, ◌⊎◌, count_by}
 use Rattle.std.specs.List.{flat_map, All}
 use Rattle.csvw_template.specs.declared.fault.TemplateFault.{TemplateFault}
@@ -18,7 +18,7 @@ is_open b = b == 123
 abbrev pub is_close : ℕ → Bool
 is_close b = b == 125
 
--- neither `{` nor `}` stands in it
+-- it has neither `{` nor `}`
 abbrev pub HasNoBrace : List ℕ → Type 0
 HasNoBrace text = All (λ b. (is_open b || is_close b) ≡ false) text
 
@@ -39,7 +39,7 @@ spelling parts = flat_map spelling_of parts
 abbrev pub IsLiteral : List ℕ → Type 0
 IsLiteral text = (0 < length text) × HasNoBrace text
 
--- no two literals stand side by side
+-- no literal follows another one
 abbrev pub AreParts : List Part → Type 0
 AreParts [] = Unit {0}
 AreParts (Literal text ∷ []) = IsLiteral text
@@ -52,7 +52,7 @@ AreParts (Expression operator names ∷ parts) = AreNames names × AreParts part
 abbrev pub IsTemplate : List ℕ → List Part → Type 0
 IsTemplate text parts = AreParts parts × (text ≡ spelling parts)
 
--- what stands between the braces of an expression
+-- the text between the braces of an expression
 pub record IsExpression (inner : List ℕ) : Type 0 where
   pub operator : Operator
   pub names : List (List ℕ)
@@ -80,8 +80,8 @@ abbrev pub IsEndOrOpen : List ℕ → Type 0
 IsEndOrOpen [] = Unit {0}
 IsEndOrOpen (b ∷ more) = b ≡ 123
 
--- A text that begins with `}`, with a `{` that isn't closed before the next or the end, or with braces
--- round what is neither an expression nor one of a higher level.
+-- A text that begins with `}`, with a `{` that isn't closed before the next or the end, or with braces around a text that is neither an expression nor one of
+-- a higher level.
 pub data BeginsBad (text : List ℕ) : Type 0 where
   closes_none : (more : List ℕ) → text ≡ 125 ∷ more → BeginsBad text
   not_closed : (inner more : List ℕ) → HasNoBrace inner → IsEndOrOpen more → text ≡ 123 ∷ inner ++ more → BeginsBad text
@@ -93,7 +93,7 @@ pub data BeginsHigher (text : List ℕ) : Type 0 where
   higher : (inner more : List ℕ)
       → HasNoBrace inner → IsHigher inner → text ≡ 123 ∷ inner ++ 125 ∷ more → BeginsHigher text
 
--- The fault is the first from the left: a template stands in front of it.
+-- The fault is the first from the left: the text before it is a template.
 pub record IsFirst (Begins : List ℕ → Type 0) (text : List ℕ) : Type 0 where
   pub front : List ℕ
   pub rest : List ℕ
@@ -109,8 +109,7 @@ IsWithin text = (length text ≤ 4096) × (count_by is_open text ≤ 32)
 abbrev pub IsPast : List ℕ → Type 0
 IsPast text = (4096 < length text) ⊎ (32 < count_by is_open text)
 
--- The answer is the text's parts, or why it has none: a text past its limits is told first, then the
--- fault that stands first.
+-- The answer is the text's parts, or why it has none. A text that is longer than its limits is reported first, then the first fault from the left.
 pub record IsTheReading (text : List ℕ) (answer : Result (List Part) TemplateFault) : Type 0 where
   pub too_long : (answer ≡ Err TooLong) ↔ IsPast text
   pub is_template : (parts : List Part) → (answer ≡ Ok parts) ↔ (IsWithin text × IsTemplate text parts)

@@ -1,5 +1,5 @@
--- Variable names (RFC 6570, section 2.3): varname = varchar *( ["."] varchar ), where
--- varchar = ALPHA / DIGIT / "_" / pct-encoded. Names of a list are parted by commas.
+-- Names of variables, and lists of names with commas between them (RFC 6570, section 2.3): varname = varchar *( ["."] varchar ),
+-- varchar = ALPHA / DIGIT / "_" / pct-encoded.
 use Rattle.std.specs.Prelude.{◌≡◌, ℕ, ◌==◌, ◌||◌, ◌++◌, List, [], ◌∷◌, Bool, true, false}
 use Rattle.std.specs.List.{flat_map, All}
 use Rattle.csvw_text.specs.Class.{is_within, is_letter_char, is_digit_char}
@@ -20,7 +20,7 @@ IsVarchar (b ∷ h ∷ []) = ⊥
 IsVarchar (b ∷ h ∷ l ∷ []) = (b ≡ 37) × (is_hex h ≡ true) × (is_hex l ≡ true)
 IsVarchar (b ∷ h ∷ l ∷ c ∷ more) = ⊥
 
--- a further varchar, with a dot in front or without
+-- one more varchar, with a dot before it or without
 abbrev pub further : Bool × List ℕ → List ℕ
 further v = elim v.0 [ true ↦ 46 ∷ v.1 | false ↦ v.1 ]
 
@@ -40,7 +40,7 @@ AreNames (name ∷ names) = IsName name × All IsName names
 abbrev pub after_comma : List ℕ → List ℕ
 after_comma text = 44 ∷ text
 
--- texts, parted by commas
+-- texts with commas between them
 abbrev pub listed : List (List ℕ) → List ℕ
 listed [] = []
 listed (text ∷ texts) = text ++ flat_map after_comma texts

@@ -1,5 +1,5 @@
--- The parts of a text as a function. The text is cut at each `{`; what follows one is cut at its first `}`.
--- That it is the reading of `Grammar` is a clause of `Template::read`.
+-- The parts of a text, as a function. The text is cut at each `{`. What follows one is cut at its first `}`. A clause of `Template::read` says that this is
+-- the reading of `Grammar`.
 use Rattle.std.specs.Prelude.{ℕ, ◌==◌, ◌&&◌, ◌||◌, ◌++◌, List, [], ◌∷◌, Bool, true, false, nat_lt, length, if◌then◌else◌, Result, Ok, Err, Option}
 use Rattle.std.specs.Prelude.{Some, None, count_by}
 use Rattle.std.specs.List.{slice_split, list_any, before_first, after_first}
@@ -17,7 +17,7 @@ use Rattle.csvw_template.specs.Fault.{◌>>=◌}
 use Rattle.csvw_template.specs.Grammar.{is_open, is_close, is_level_operator, is_modifier}
 use Rattle.csvw_template.specs.Name.{is_hex, is_name_byte}
 
--- the begin of a varchar
+-- the place after the first character of a varchar
 abbrev pub varchar_step : ℕ → Option Place
 varchar_step b = if b == 37 then Some Percent else (if is_name_byte b then Some Char else None)
 
@@ -36,7 +36,7 @@ is_end Dot = false
 is_end Percent = false
 is_end Digit = false
 
--- names, names with a modifier behind them, or neither
+-- names, names with a modifier after them, or neither
 abbrev pub kind : Option Place → List ℕ → Kind
 kind None bs = Bad
 kind (Some place) [] = if is_end place then Names else Bad
@@ -53,11 +53,11 @@ by_kind Names operator text = Ok (Expression operator (slice_split is_comma text
 by_kind Higher operator text = Err TemplateLevel
 by_kind Bad operator text = Err BadTemplate
 
--- what stands behind the operator
+-- the expression of the text after the operator
 abbrev pub of_operator : Operator → List ℕ → Result Part TemplateFault
 of_operator operator text = by_kind (kind_of text) operator text
 
--- what stands between `{` and `}`
+-- the expression of the text between `{` and `}`
 abbrev pub expression : List ℕ → Result Part TemplateFault
 expression [] = Err BadTemplate
 expression (b ∷ rest) =
@@ -72,11 +72,11 @@ abbrev pub literal : List ℕ → List Part
 literal [] = []
 literal (b ∷ bs) = Literal (b ∷ bs) ∷ []
 
--- what stands in front of the next `{`
+-- the parts of the text before the next `{`
 abbrev pub outside : List ℕ → Parts
 outside text = if list_any is_close text then Err BadTemplate else Ok (literal text)
 
--- what follows one `{`, up to the next
+-- the parts of what follows one `{`, up to the next
 abbrev pub opened : List ℕ → Parts
 opened piece =
     if list_any is_close piece

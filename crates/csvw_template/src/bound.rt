@@ -1,4 +1,4 @@
-//! Templates whose names are bound: what each stands for is found once, and not at each expansion.
+//! Templates whose names are bound: what each name stands for is looked up once, and not at each expansion.
 ghost use Rattle.std.specs.Prelude.{◌≡◌, ◌++◌, ℕ, List, IfOk, IfSome, OnOk, map, string_bytes};
 ghost use Rattle.std.specs.List.{list_any};
 ghost use Rattle.csvw_template.specs.Bound.{bound, bound_part, bound_values, expand_bound, expand_bound_part, is_at, stands_for, var_at, varies, varies_in};
@@ -23,50 +23,50 @@ pub enum Binding {
     Nothing,
     /// A text.
     Constant(Text),
-    /// What stands at this place of the values, from 0.
+    /// The value at this place of the values, from 0.
     At(usize),
 }
 
 /// A part of a template whose names are bound.
 #[derive(Debug, Drop)]
 pub enum BoundPart {
-    /// A literal as it expands.
+    /// A literal, as it expands.
     Written(Text),
-    /// An expression: its operator and what its names are bound to.
+    /// An expression: its operator, and what its names are bound to.
     Values(Operator, Seq<Binding>),
 }
 
-/// What knows to what names are bound.
+/// A type that knows what names are bound to.
 pub trait Names {
-    /// What each is bound to.
+    /// What each name is bound to.
     ghost binding_of: { Self → List ℕ → TheBinding };
 
-    /// What a name is bound to; `AllocError` where there is no memory.
+    /// Returns what a name is bound to, or `AllocError` if memory runs out.
     fn binding(&self, alloc: Global, name: &str) -> Result<Binding, AllocError>
         ensures { IfOk result (λ b. b ≡ binding_of self.now name.now) };
 }
 
-/// Values by their places.
+/// Values by their places, from 0.
 pub trait Values {
     /// The values.
     ghost values: { Self → List TheVar };
 
-    /// When they can be asked for.
+    /// The condition on which the values can be asked for.
     ghost can_look_up: { Self → Type 0 };
 
-    /// The value at a place; `AllocError` where there is no memory.
+    /// Returns the value at a place, or `AllocError` if memory runs out.
     fn var(&self, place: usize) -> Result<Var, AllocError>
         requires { can_look_up self.now }
         ensures { IfOk result (λ v. v ≡ var_at (values self.now) place) };
 
-    /// The text that stands at a place, where it can be lent. `None` says nothing of the place.
+    /// Returns the text at a place, if it can be lent. `None` says nothing of the place.
     fn text(&self, place: usize) -> Option<&str>
         requires { can_look_up self.now }
         ensures { IfSome result (λ text. var_at (values self.now) place ≡ One text.now) };
 }
 
 impl Template {
-    /// Its parts with the names bound; `AllocError` where there is no memory.
+    /// Returns the parts of the template with the names bound, or `AllocError` if memory runs out.
     pub fn bind<N: Names>(&self, alloc: Global, names: &N) -> Result<Seq<BoundPart>, AllocError>
         ensures { IfOk result (λ parts. parts ≡ bound (N.binding_of names.now) self.now) }
     {
@@ -74,7 +74,8 @@ impl Template {
     }
 }
 
-/// Bound templates expand to what the templates expand to, and to the same under all values where they don't vary.
+/// A law: bound templates expand to the same texts as the templates. If they don't vary, they expand to the same text
+/// under all values.
 pub fn bound_gives_the_same()
     ensures same { BoundGivesTheSame }
     ensures constant { ConstantGivesTheSame }
@@ -106,7 +107,7 @@ fn bind_part<N: Names>(alloc: Global, part: &Part, names: &N) -> Result<BoundPar
     }
 }
 
-/// A literal as it expands.
+/// Returns a literal as it expands, or `AllocError` if memory runs out.
 fn written(alloc: Global, text: &str) -> Result<Text, AllocError>
     ensures { IfOk result (λ t. t ≡ kept text.now) }
 {
@@ -129,7 +130,7 @@ fn bind_names<N: Names>(
     Ok(bindings)
 }
 
-/// Adds the expansion of bound parts under these values; `AllocError` where there is no memory.
+/// Adds the expansion of bound parts under these values. Returns `AllocError` if memory runs out.
 #[tactic(auto, unfolding(crate::specs::Bound::expand_bound))]
 pub fn push_bound<V: Values>(
     out: &mut String,
@@ -180,7 +181,7 @@ fn push_bindings<V: Values>(
     Ok(())
 }
 
-/// Adds what a binding stands for, after the sign or a comma, and tells whether it stands for something.
+/// Adds what a binding stands for, after the sign or a comma. Returns whether it stands for something.
 fn push_binding<V: Values>(
     out: &mut String,
     operator: Operator,
@@ -202,7 +203,7 @@ fn push_binding<V: Values>(
     }
 }
 
-/// Adds what stands at a place, after the sign or a comma, and tells whether something does.
+/// Adds the value at a place, after the sign or a comma. Returns whether there is one.
 fn push_at<V: Values>(
     out: &mut String,
     operator: Operator,
@@ -243,7 +244,7 @@ fn varies_in(part: &BoundPart) -> bool
     }
 }
 
-/// Whether the expansion of bound parts may differ under other values.
+/// Returns whether the expansion of bound parts may differ under other values.
 pub fn varies(parts: &[BoundPart]) -> bool
     ensures { result ≡ varies parts.now }
 {

@@ -45,7 +45,7 @@ pub(crate) fn push_kept(out: &mut String, text: &str) -> Result<(), AllocError>
     Ok(())
 }
 
-/// Whether each character is unreserved or reserved.
+/// Returns whether each character is unreserved or reserved.
 pub(crate) fn is_plain_text(text: &str) -> bool
     ensures { result ≡ list_all is_plain text.now }
 {

@@ -29,7 +29,7 @@ pub(crate) fn push_parts<S: Scope>(
     Ok(())
 }
 
-/// Adds what a part expands to, which is the part itself where it is a literal of plain characters.
+/// Adds what a part expands to. A literal of plain characters expands to itself.
 #[tactic(auto, using(crate::proofs::PlainLemmas::plain_stays))]
 fn push_part<S: Scope>(
     alloc: Global,
@@ -91,7 +91,7 @@ pub(crate) fn push_one(
     push_encoded(out, operator, text)
 }
 
-/// Adds what a variable gives, after the sign or a comma, and tells whether it is defined.
+/// Adds the value of a variable, after the sign or a comma. Returns whether the variable is defined.
 pub(crate) fn push_value(
     out: &mut String,
     operator: Operator,

@@ -1,26 +1,26 @@
-//! Why a text is no template.
+//! `TemplateFault`: why a text is not a template.
 ghost use Rattle.std.specs.Prelude.{◌≡◌};
 
 use std::alloc::{AllocError, AllocFailed};
 use std::error::Error;
 use std::fmt;
 
-/// Why a text is no template. `TooLong` is tested first, then the text from the left; `Memory` may come
-/// before any of them.
+/// Why a text is not a template. `TooLong` is tested first, then the text from the left. `Memory` may come before any
+/// of them.
 #[derive(Clone, Copy, Debug, PartialEq, Eq)]
 pub enum TemplateFault {
-    /// There is no memory for it.
+    /// Memory ran out.
     Memory,
     /// The text has more than 4,096 bytes or more than 32 `{`.
     TooLong,
-    /// A brace has no partner, or what stands between braces is no expression.
+    /// A brace has no partner, or the text between braces is not an expression.
     BadTemplate,
-    /// An expression is of a higher level: it has another operator than `+` and `#`, or a modifier.
+    /// An expression is of a higher level. It has an operator other than `+` and `#`, or a modifier.
     TemplateLevel,
 }
 
 impl TemplateFault {
-    /// What is wrong and what to do, as a sentence without its full stop.
+    /// Returns what is wrong and what to do, as a sentence without its full stop.
     fn sentence(&self) -> &'static str {
         match self {
             TemplateFault::Memory => "there is no memory: free some, and try again",

@@ -1,10 +1,10 @@
-//! The list of variable names in an expression, told from what is none in one pass.
+//! The list of variable names in an expression. One pass finds whether a text is such a list.
 ghost use Rattle.std.specs.Prelude.{◌≡◌};
 ghost use Rattle.csvw_template.specs.Name.{is_hex, is_name_byte};
 ghost use Rattle.csvw_template.specs.Grammar.{is_modifier};
 ghost use Rattle.csvw_template.specs.Reading.{varchar_step, step, kind_of, is_end};
 
-/// Where in a list of names the pass stands.
+/// The place of the pass in a list of names.
 #[derive(Clone, Copy, Debug, PartialEq, Eq)]
 pub(crate) enum Place {
     /// Before a name.
@@ -22,9 +22,9 @@ pub(crate) enum Place {
 /// What a text after the operator is.
 #[derive(Clone, Copy, Debug, PartialEq, Eq)]
 pub(crate) enum Kind {
-    /// Names, parted by commas.
+    /// Names, with commas between them.
     Names,
-    /// Names with a modifier behind them.
+    /// Names with a modifier after them.
     Higher,
     /// Neither.
     Bad,

@@ -1,17 +1,17 @@
-//! The parts of a template.
+//! `Part` and `Operator`: the parts of a template.
 ghost use Rattle.std.specs.Prelude.{◌≡◌, IfOk};
 
 use csvw_text::{Copied, Seq, Text};
 use std::alloc::{AllocError, Global};
 
-/// What stands before the names of an expression (RFC 6570, section 2.2).
+/// The operator before the names of an expression (RFC 6570, section 2.2).
 #[derive(Clone, Copy, Debug, PartialEq, Eq)]
 pub enum Operator {
-    /// None: all but unreserved characters are encoded.
+    /// No operator. All but unreserved characters are encoded.
     Simple,
-    /// `+`: reserved characters and triplets stay too.
+    /// `+`. Reserved characters and triplets stay too.
     Reserved,
-    /// `#`: the same, after a `#`.
+    /// `#`. The same as `+`, after a `#`.
     Fragment,
 }
 
@@ -25,7 +25,7 @@ pub enum Part {
 }
 
 impl Part {
-    /// An equal part; `AllocError` where there is no memory.
+    /// Returns an equal part, or `AllocError` if memory runs out.
     pub fn clone(&self, alloc: Global) -> Result<Part, AllocError>
         ensures { IfOk result (λ p. p ≡ self.now) }
     {

@@ -1,4 +1,4 @@
-//! The parts of a text: it is cut at each `{`, and what follows one at its first `}`.
+//! The parts of a text. The text is cut at each `{`, and what follows one is cut at its first `}`.
 ghost use Rattle.std.specs.Prelude.{◌≡◌, ◌<◌, IfOk, MatchOption, map, length, slice_index, drop, count_by, true, false};
 ghost use Rattle.std.specs.List.{slice_split, list_any, before_first, after_first};
 ghost use Rattle.csvw_text.specs.Gives.{Gives};
@@ -13,21 +13,21 @@ use crate::part::{Operator, Part};
 use csvw_text::{Seq, Text};
 use std::alloc::{AllocError, Global};
 
-/// How many `{` there are.
+/// Returns the number of `{`.
 pub(crate) fn count_open(text: &[u8]) -> usize
     ensures { result ≡ count_by is_open text.now }
 {
     text.iter().filter(|b| **b == b'{').count()
 }
 
-/// The text, cut at each `{`.
+/// Returns the text, cut at each `{`.
 pub(crate) fn pieces<'a>(alloc: Global, text: &'a str) -> Result<Vec<&'a str>, AllocError>
     ensures { IfOk result (λ v. map (λ x. x.now) v.items ≡ slice_split is_open text.now) }
 {
     text.split('{').collect(alloc)
 }
 
-/// The parts of a text that is cut at each `{`.
+/// Returns the parts of a text that is cut at each `{`.
 pub(crate) fn of_pieces(alloc: Global, pieces: &[&str]) -> Result<Vec<Part>, TemplateFault>
     ensures { Gives (λ v. v.items) told result (of_pieces (map (λ x. x.now) pieces.now)) }
 {
@@ -53,7 +53,7 @@ fn all_opened(alloc: Global, pieces: &[&str]) -> Result<Vec<Part>, TemplateFault
     Ok(parts)
 }
 
-/// What follows one `{`, up to the next: an expression, its `}` and what stands behind it.
+/// Returns the parts of what follows one `{`, up to the next: an expression, its `}` and what follows that.
 fn opened(alloc: Global, piece: &str) -> Result<Vec<Part>, TemplateFault>
     ensures { Gives (λ v. v.items) told result (opened piece.now) }
 {
@@ -76,7 +76,7 @@ fn split_at_close(text: &str) -> Option<(&str, &str)>
     text.split_once('}')
 }
 
-/// A text outside braces.
+/// Returns the parts of a text outside braces.
 fn outside(alloc: Global, text: &str) -> Result<Vec<Part>, TemplateFault>
     ensures { Gives (λ v. v.items) told result (outside text.now) }
 {
@@ -102,7 +102,7 @@ fn literal(alloc: Global, text: &str) -> Result<Vec<Part>, AllocError>
     Ok(parts)
 }
 
-/// The expression that stands between braces.
+/// Returns the expression of the text between braces.
 fn expression(alloc: Global, text: &str) -> Result<Part, TemplateFault>
     ensures { Gives (λ p. p) told result (expression text.now) }
 {
@@ -134,7 +134,7 @@ fn after_first(text: &str) -> &str
     &text[1..]
 }
 
-/// The expression of what stands behind an operator.
+/// Returns the expression of the text after an operator.
 fn of_operator(alloc: Global, operator: Operator, text: &str) -> Result<Part, TemplateFault>
     ensures { Gives (λ p. p) told result (of_operator operator text.now) }
 {
@@ -145,7 +145,7 @@ fn of_operator(alloc: Global, operator: Operator, text: &str) -> Result<Part, Te
     }
 }
 
-/// The names of a list, which commas part.
+/// Returns the names of a list with commas between them.
 fn names(alloc: Global, text: &str) -> Result<Seq<Text>, AllocError>
     ensures { IfOk result (λ names. names ≡ slice_split is_comma text.now) }
 {

@@ -1,4 +1,4 @@
-//! What names stand for, wherever it is kept.
+//! `Scope`: what names stand for, wherever it is kept.
 ghost use Rattle.std.specs.Prelude.{◌≡◌, IfOk, IfSome};
 ghost use Rattle.csvw_template.specs.Variables.{Variables, lookup};
 ghost use Rattle.csvw_template.specs.declared.vars.Var.TheVariants.{One};
@@ -6,20 +6,20 @@ ghost use Rattle.csvw_template.specs.declared.vars.Var.TheVariants.{One};
 use crate::vars::{Var, Vars};
 use std::alloc::{AllocError, Global};
 
-/// What knows the variables of a template.
+/// A type that knows the variables of a template.
 pub trait Scope {
-    /// The variables that it stands for.
+    /// The variables that the scope has.
     ghost variables: { Self → Variables };
 
-    /// When it can be asked.
+    /// The condition on which the scope can be asked.
     ghost can_look_up: { Self → Type 0 };
 
-    /// What a name stands for; `AllocError` where there is no memory.
+    /// Returns what a name stands for, or `AllocError` if memory runs out.
     fn var(&self, alloc: Global, name: &str) -> Result<Var, AllocError>
         requires { can_look_up self.now }
         ensures { IfOk result (λ v. v ≡ lookup (variables self.now) name.now) };
 
-    /// The text that a name stands for, where it can be lent. `None` says nothing of the name.
+    /// Returns the text that a name stands for, if it can be lent. `None` says nothing of the name.
     fn text(&self, name: &str) -> Option<&str>
         requires { can_look_up self.now }
         ensures { IfSome result (λ text. lookup (variables self.now) name.now ≡ One text.now) }

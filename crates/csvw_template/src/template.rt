@@ -1,4 +1,4 @@
-//! URI templates.
+//! `Template`: a URI template.
 ghost use Rattle.std.specs.Prelude.{◌≡◌, ◌++◌, ◌↔◌, IfOk, IsTrue, List, OnOk, ℕ, string_bytes};
 ghost use Rattle.csvw_text.specs.Gives.{Gives};
 ghost use Rattle.csvw_template.specs.Fault.{told};
@@ -18,20 +18,20 @@ use csvw_text::{Copied, Seq, Text};
 use std::alloc::{AllocError, Global};
 use std::marker::Model;
 
-/// How many bytes a template has at most.
+/// The greatest number of bytes of a template.
 const MAX_LEN: usize = 4096;
 
-/// How many `{` a template has at most.
+/// The greatest number of `{` of a template.
 const MAX_OPEN: usize = 32;
 
-/// A URI template, which a contract sees as its parts.
+/// A URI template. Contracts see it as its parts.
 #[derive(Debug, Drop)]
 pub struct Template {
-    /// The text that it was read from.
+    /// The text that the template was read from.
     text: Text,
     /// Its parts, in order.
     parts: Seq<Part>,
-    /// Whether its literals expand to themselves, as most do.
+    /// Whether its literals expand to themselves. Most do.
     is_plain: bool,
 }
 
@@ -49,11 +49,16 @@ impl Model for Template {
 }
 
 impl Template {
-    /// The template that the text is (RFC 6570, section 2). `TooLong` where it has more than 4,096 bytes or
-    /// more than 32 `{`; else the fault that is first from the left: `BadTemplate` for a `{` without its `}`
-    /// before the next `{` or the end, for a `}` that closes none and for what is no expression between
-    /// braces, `TemplateLevel` for an expression that begins with one of `./;?&=,!@|` or has `:` or `*` after
-    /// a name. `Memory` where there is none.
+    /// Returns the template that the text is (RFC 6570, section 2).
+    ///
+    /// Returns `TooLong` if the text has more than 4,096 bytes or more than 32 `{`. Otherwise returns the first fault
+    /// from the left:
+    ///
+    /// - `BadTemplate` for a `{` without its `}` before the next `{` or the end, or for a `}` that closes no `{`.
+    /// - `BadTemplate` for a text between braces that is not an expression.
+    /// - `TemplateLevel` for an expression that begins with one of `./;?&=,!@|`, or has `:` or `*` after a name.
+    ///
+    /// Returns `Memory` if memory runs out.
     #[tactic(auto, using(crate::proofs::ReadingLemmas::reading), unfolding(crate::specs::Reading::template))]
     pub fn read(alloc: Global, text: &str) -> Result<Template, TemplateFault>
         ensures value { Gives (λ t. t) told result (template text.now) }
@@ -73,8 +78,8 @@ impl Template {
         })
     }
 
-    /// The expansion (RFC 6570, section 3), where a name that the map doesn't have and a list without items
-    /// are undefined; `AllocError` where there is no memory.
+    /// Returns the expansion (RFC 6570, section 3), or `AllocError` if memory runs out. A name that the map doesn't
+    /// have is undefined, and so is a list without items.
     pub fn expand(&self, alloc: Global, vars: &Vars) -> Result<String, AllocError>
         ensures { IfOk result (λ s. string_bytes s ≡ expand vars.now self.now) }
     {
@@ -83,7 +88,7 @@ impl Template {
         Ok(out)
     }
 
-    /// Adds the expansion under the variables of a scope; `AllocError` where there is no memory.
+    /// Adds the expansion under the variables of a scope. Returns `AllocError` if memory runs out.
     pub fn expand_into<S: Scope>(
         &self,
         alloc: Global,
@@ -96,21 +101,21 @@ impl Template {
         push_parts(alloc, out, self.parts.as_slice(), self.is_plain, scope)
     }
 
-    /// Its parts, in order.
+    /// Returns the parts, in order.
     pub fn parts(&self) -> &[Part]
         ensures { result.now ≡ self.now }
     {
         self.parts.as_slice()
     }
 
-    /// Whether it is equal to another template, which is so exactly where both are read from one text.
+    /// Returns whether the template is equal to another one, which holds exactly if both are read from one text.
     pub fn is_same(&self, other: &Template) -> bool
         ensures { IsTrue result ↔ self.now ≡ other.now }
     {
         self.text.as_str() == other.text.as_str()
     }
 
-    /// An equal template; `AllocError` where there is no memory.
+    /// Returns an equal template, or `AllocError` if memory runs out.
     pub fn clone(&self, alloc: Global) -> Result<Template, AllocError>
         ensures { IfOk result (λ t. t ≡ self.now) }
     {
@@ -122,7 +127,7 @@ impl Template {
     }
 }
 
-/// A law: each text has one reading by the grammar, its parts or its fault, and `Template::read` returns it.
+/// A law: each text has one reading by the grammar, its parts or its fault. `Template::read` returns it.
 pub fn texts_have_one_reading()
     ensures reading { (text : List ℕ) → IsTheReading text (template text) }
     ensures only { (text : List ℕ) (answer : Parts) → IsTheReading text answer → answer ≡ template text }

@@ -1,4 +1,4 @@
-//! What variables stand for.
+//! `Var` and `Vars`: what variables stand for.
 ghost use Rattle.std.specs.Prelude.{◌≡◌, ℕ, List, [], bytes_eq, position, if◌then◌else◌, IfOk, OnOk, OnErr};
 ghost use Rattle.csvw_template.specs.Variables.{lookup, put};
 
@@ -13,12 +13,12 @@ pub enum Var {
     Undefined,
     /// A text.
     One(Text),
-    /// A list of texts. One without items counts as undefined where it is expanded.
+    /// A list of texts. The expansion treats a list without items as undefined.
     Many(Seq<Text>),
 }
 
 impl Var {
-    /// An equal value; `AllocError` where there is no memory.
+    /// Returns an equal value, or `AllocError` if memory runs out.
     pub fn clone(&self, alloc: Global) -> Result<Var, AllocError>
         ensures { IfOk result (λ v. v ≡ self.now) }
     {
@@ -57,7 +57,7 @@ impl Model for Vars {
 }
 
 impl Vars {
-    /// The map in which each name is undefined. It takes no memory; `alloc` is kept for `set`.
+    /// Returns the map in which each name is undefined. It takes no memory. `alloc` is kept for `set`.
     pub fn new(alloc: Global) -> Vars
         ensures { result ≡ [] }
     {
@@ -68,8 +68,8 @@ impl Vars {
         }
     }
 
-    /// What a name stands for; `Undefined` where it was never set. Names are compared as texts. It takes no
-    /// memory.
+    /// Returns what a name stands for, or `Undefined` if the name was never set. Names are compared as texts. It
+    /// takes no memory.
     pub fn get(&self, name: &str) -> &Var
         ensures { result.now ≡ lookup self.now name.now }
     {
@@ -81,7 +81,7 @@ impl Vars {
         &self.undefined
     }
 
-    /// Lets a name stand for a value. `AllocError` where there is no memory; the map is then unchanged.
+    /// Lets a name stand for a value. If memory runs out, it returns `AllocError` and the map is unchanged.
     pub fn set(&mut self, name: &str, value: Var) -> Result<(), AllocError>
         ensures ok { OnOk result (self.new ≡ put self.old name.now value) }
         ensures found { OnOk result ((other : List ℕ) → lookup self.new other
@@ -101,7 +101,7 @@ impl Vars {
         }
     }
 
-    /// An equal map; `AllocError` where there is no memory.
+    /// Returns an equal map, or `AllocError` if memory runs out.
     pub fn clone(&self) -> Result<Vars, AllocError>
         ensures { IfOk result (λ v. v ≡ self.now) }
     {
@@ -112,7 +112,7 @@ impl Vars {
         })
     }
 
-    /// Where the pair of a name is.
+    /// Returns the place of the pair of a name.
     fn position(&self, name: &str) -> Option<usize>
         ensures { result ≡ position (λ p. bytes_eq p.0 name.now) self.now }
     {

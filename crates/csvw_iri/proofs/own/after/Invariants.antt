@@ -1,4 +1,4 @@
--- What is left leads to the same place.
+-- The rest of the bytes leads to the same place.
 use Rattle.std.proofs.Common.{◌≡◌, drop, Some}
 use Rattle.csvw_iri.specs.Own.{after}
 use Rattle.csvw_iri.proofs.own.after.Given as goal

@@ -1,4 +1,4 @@
--- What is left decides.
+-- The rest of the bytes decides.
 use Rattle.std.proofs.Common.{◌≡◌, length, Some}
 use Rattle.csvw_iri.specs.Own.{goes_on}
 use Rattle.csvw_iri.proofs.own.goes_on.Given as goal

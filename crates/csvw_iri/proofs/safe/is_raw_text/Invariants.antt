@@ -1,4 +1,4 @@
--- What is left decides.
+-- The rest of the text decides.
 use Rattle.std.proofs.Common.{◌≡◌, drop}
 use Rattle.csvw_iri.specs.Safe.{is_iri}
 use Rattle.csvw_iri.proofs.safe.is_raw_text.Given as goal

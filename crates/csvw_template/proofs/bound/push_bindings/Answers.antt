@@ -1,4 +1,4 @@
--- One binding more is expanded.
+-- One more binding is expanded.
 use Rattle.std.proofs.Common.{string_bytes}
 use Rattle.csvw_template.specs.declared.bound.Binding.{Binding}
 use Rattle.csvw_template.specs.Bound.{stands_for}

@@ -1,4 +1,4 @@
--- One character more is plain.
+-- One more character is plain.
 use Rattle.std.proofs.Common.{◌∙◌}
 use Rattle.csvw_template.specs.Expand.{is_plain}
 use Rattle.csvw_template.proofs.StepLemmas.{all_on}

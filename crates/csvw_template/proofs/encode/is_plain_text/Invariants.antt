@@ -1,4 +1,4 @@
--- What is left decides.
+-- The rest of the text decides.
 use Rattle.std.proofs.Common.{◌≡◌, drop}
 use Rattle.std.specs.List.{list_all}
 use Rattle.csvw_template.specs.Expand.{is_plain}

@@ -1,4 +1,4 @@
--- A triplet is written as it stands, since each of its characters is one byte.
+-- A triplet is written as it is, since each of its characters is one byte.
 use Rattle.std.proofs.Common.{◌≡◌, ℕ, ◌<◌, ◌≤◌, List, [], ◌∷◌, ◌++◌, true, take, get_or, ap, arith, append_assoc, ⊎_elim}
 use Rattle.std.proofs.Common.{◌||◌, ◌&&◌, ◌==◌, Result, Ok, Err, OnOk, is_ok, cond}
 use Rattle.std.specs.declared.alloc.AllocError.{AllocError}

@@ -1,4 +1,4 @@
--- One name more is expanded.
+-- One more name is expanded.
 use Rattle.std.proofs.Common.{ℕ, List, string_bytes, refl}
 use Rattle.csvw_template.specs.Expand.{value}
 use Rattle.csvw_template.specs.Variables.{lookup}

@@ -1,4 +1,4 @@
--- One character more is read.
+-- One more character is read.
 use Rattle.std.proofs.Common.{sym, ◌∙◌}
 use Rattle.std.proofs.lemmas.Bool.{and_left, and_right}
 use Rattle.csvw_template.proofs.StepLemmas.{kind_on}

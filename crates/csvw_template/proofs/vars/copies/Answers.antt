@@ -1,4 +1,4 @@
--- One pair more is copied.
+-- One more pair is copied.
 use Rattle.std.proofs.Common.{◌≡◌, ℕ, ◌+◌, ◌<◌, List, [], ◌∷◌, ◌++◌, length, take, get_or, ap, sym, ◌∙◌}
 use Rattle.std.proofs.lemmas.List.{take_more}
 use Rattle.csvw_template.specs.declared.vars.Var.{Var}
