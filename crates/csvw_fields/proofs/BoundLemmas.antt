@@ -1,4 +1,4 @@
--- What a bound that holds says.
+-- The text of a bound that is within its buffer.
 use Rattle.std.proofs.Common.{◌≡◌, ◌∙◌, ℕ, ◌+◌, ◌-◌, ◌≤◌, Bool, true, false, ◌&&◌, ◌==◌, if◌then◌else◌, List, [], ◌∷◌, ◌++◌, length, take, drop, refl}
 use Rattle.std.proofs.Common.{sym, ap, subst, arith, length-append, length-take, length-drop, Ok, Err}
 use Rattle.std.specs.Prelude.{IsUtf8, slice_range, nat_le, Result, OnOk}

@@ -1,4 +1,4 @@
--- Text in which no symbol stands, as none of its bytes begins one.
+-- Text without a symbol, as none of its bytes begins one.
 use Rattle.std.proofs.Common.{◌≡◌, ◌≢◌, ◌∙◌, ℕ, ◌-◌, ◌<◌, ◌≤◌, Bool, true, false, ◌&&◌, ◌==◌, not, if◌then◌else◌, List, [], ◌∷◌, ◌++◌, length, take}
 use Rattle.std.proofs.Common.{drop, zero, suc, get_or, Option, Some, None, refl, sym, ap, subst, arith, append_assoc, append-nil, length-take, ◌⊎◌, inl, inr}
 use Rattle.std.proofs.Common.{chars, nat_eq}
@@ -8,7 +8,7 @@ use Rattle.std.proofs.lemmas.Bool.{cases_lt}
 use Rattle.std.proofs.lemmas.List.{get_or-take}
 use Rattle.std.proofs.lemmas.Str.{encodes-chars, encode_ascii}
 use Rattle.memchr.specs.Find.{is_byte2, is_byte3, IsFirstByte}
-use Rattle.csvw_dialect.specs.declared.dialect.Dialect.{Dialect}
+use Rattle.csvw_records.specs.declared.dialect.Dialect.{Dialect}
 use Rattle.csvw_fields.specs.declared.leads.Leads.{Leads}
 use Rattle.csvw_records.specs.declared.scan.State.{State}
 use Rattle.csvw_records.specs.declared.scan.State.TheVariants.{Start, Plain, Inside, Escaped, Closed}

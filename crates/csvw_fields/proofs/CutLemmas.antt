@@ -9,14 +9,14 @@ use Rattle.std.proofs.lemmas.Bool.Decides.{nat_tests}
 use Rattle.std.proofs.lemmas.List.{get_or-take, drop-drop}
 use Rattle.std.proofs.lemmas.Str.{IsUtf8-from_is_utf8, is_utf8-from_IsUtf8, encodes-chars}
 use Rattle.memchr.specs.Find.{is_byte3, is_byte}
-use Rattle.csvw_dialect.specs.declared.dialect.Dialect.{Dialect}
+use Rattle.csvw_records.specs.declared.dialect.Dialect.{Dialect}
 use Rattle.csvw_fields.specs.declared.bound.Bound.{Bound}
 use Rattle.csvw_fields.specs.declared.cut.Cut.{Cut}
 use Rattle.csvw_fields.specs.declared.cut.Symbols.{Symbols}
 use Rattle.csvw_fields.specs.Bounds.{bytes_at, is_bound, lent_bound}
 use Rattle.csvw_fields.specs.Cuts.{IsSymbols, IsBehind, IsCut, NoneBefore}
 use Rattle.csvw_records.specs.Grammar.{terminator_len, IsPlain, AreUnits, escape_char}
-use Rattle.csvw_dialect.specs.Lawful.{IsLawful}
+use Rattle.csvw_records.specs.Lawful.{IsLawful}
 use Rattle.csvw_records.specs.NextRow.{unsettled}
 use Rattle.csvw_fields.proofs.Tests.{crlf_again, lf_again}
 use Rattle.csvw_fields.proofs.BoundLemmas.{lent_is}

@@ -1,4 +1,4 @@
--- Where the text of some bytes ends.
+-- The place where the text of some bytes ends.
 use Rattle.std.proofs.Common.{◌≡◌, ℕ, List, [], take, drop, length, refl, sym, ap, ◌∙◌, arith, false}
 use Rattle.std.proofs.lemmas.Grind.{common_steps}
 use Rattle.std.proofs.lemmas.Str.{utf8_valid_len-IsUtf8}

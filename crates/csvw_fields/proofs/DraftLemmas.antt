@@ -10,7 +10,7 @@ use Rattle.std.proofs.lemmas.List.{take-append-drop, drop-drop, map-append}
 use Rattle.std.proofs.lemmas.List.Folds.{list_all-append}
 use Rattle.std.proofs.lemmas.Str.{chars-nil, IsUtf8-nil, IsUtf8-append, IsUtf8-from_is_utf8, is_utf8-from_IsUtf8, chars-append, encodes-chars}
 use Rattle.std.proofs.lemmas.Str.{chars_past_char, IsUtf8-take, IsCharBoundary-from_drop}
-use Rattle.csvw_dialect.specs.declared.dialect.Dialect.{Dialect}
+use Rattle.csvw_records.specs.declared.dialect.Dialect.{Dialect}
 use Rattle.csvw_fields.specs.declared.bound.Bound.{Bound}
 use Rattle.csvw_fields.specs.declared.draft.Draft.{Draft}
 use Rattle.csvw_records.specs.declared.scan.State.{State}

@@ -1,4 +1,4 @@
--- A text that is read on from where it was left.
+-- A text that is read on from the place where reading stopped.
 use Rattle.std.proofs.Common.{◌≡◌, ◌∙◌, ℕ, zero, suc, ◌+◌, ◌<◌, ◌≤◌, Bool, true, false, ◌&&◌, if◌then◌else◌, List, [], ◌∷◌, ◌++◌, length, take, drop, refl}
 use Rattle.std.proofs.Common.{sym, ap, subst, arith, append_assoc, append-nil, length-append, length-drop, length-take, inl, inr, chars}
 use Rattle.std.specs.Prelude.{IsUtf8, Result, Ok, Err, IfOk}
@@ -7,7 +7,7 @@ use Rattle.std.proofs.lemmas.Grind.{common_steps}
 use Rattle.std.proofs.lemmas.List.{take-append-drop, drop-drop, append_cancel_left}
 use Rattle.std.proofs.Math.Seq.{take-append-add}
 use Rattle.std.proofs.lemmas.Str.{IsUtf8-append, IsUtf8-from_is_utf8, is_utf8-from_IsUtf8, IsUtf8-drop, IsCharBoundary-from_take, chars-nil, chars-append}
-use Rattle.csvw_dialect.specs.declared.dialect.Dialect.{Dialect}
+use Rattle.csvw_records.specs.declared.dialect.Dialect.{Dialect}
 use Rattle.csvw_fields.specs.declared.draft.Draft.{Draft}
 use Rattle.csvw_fields.specs.declared.draft.Reading.{Reading}
 use Rattle.csvw_fields.specs.declared.draft.Reading.TheVariants as reading

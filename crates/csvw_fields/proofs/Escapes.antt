@@ -9,7 +9,7 @@ use Rattle.std.proofs.lemmas.Str.{IsUtf8-from_is_utf8, is_utf8-from_IsUtf8, IsUt
 use Rattle.std.proofs.lemmas.Str.{chars-nil}
 use Rattle.memchr.specs.Find.{is_byte}
 use Rattle.csvw_fields.specs.Marked.{is_quote, StandsAhead}
-use Rattle.csvw_dialect.specs.declared.dialect.Dialect.{Dialect}
+use Rattle.csvw_records.specs.declared.dialect.Dialect.{Dialect}
 use Rattle.csvw_fields.specs.declared.bound.Bound.{Bound}
 use Rattle.csvw_fields.specs.declared.cut.Cut.{Cut}
 use Rattle.csvw_fields.specs.declared.cut.Symbols.{Symbols}

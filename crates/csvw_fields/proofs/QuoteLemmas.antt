@@ -1,4 +1,4 @@
--- Doubled quotes go on a field inside quotes by a quote each.
+-- Each pair of doubled quotes adds a quote to a field inside quotes.
 use Rattle.std.proofs.Common.{◌≡◌, ◌∙◌, ℕ, zero, suc, ◌+◌, ◌<◌, ◌≤◌, Bool, true, false, ◌&&◌, ◌==◌, if◌then◌else◌, List, [], ◌∷◌, ◌++◌, length, take, drop}
 use Rattle.std.proofs.Common.{get_or, Some, refl, sym, ap, subst, arith, add-one, append-nil, append_assoc, length-take, inr, chars}
 use Rattle.std.specs.Prelude.{IsUtf8, slice_index}
@@ -6,8 +6,8 @@ use Rattle.std.specs.Str.{IsCharBoundary}
 use Rattle.std.proofs.lemmas.Bool.Decides.{nat_tests}
 use Rattle.std.proofs.lemmas.List.{get_or-take}
 use Rattle.std.proofs.lemmas.Str.{chars-nil, chars-IsAscii, IsUtf8-from_ascii, IsCharBoundary-start, IsCharBoundary-after_ascii}
-use Rattle.csvw_dialect.specs.Lawful.{IsLawful}
-use Rattle.csvw_dialect.specs.declared.dialect.Dialect.{Dialect}
+use Rattle.csvw_records.specs.Lawful.{IsLawful}
+use Rattle.csvw_records.specs.declared.dialect.Dialect.{Dialect}
 use Rattle.csvw_fields.specs.FieldText.{AreDoubled}
 use Rattle.csvw_fields.proofs.CleanLemmas.{alone}
 use Rattle.csvw_fields.proofs.CutLemmas.{no_term}

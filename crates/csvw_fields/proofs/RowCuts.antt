@@ -5,7 +5,7 @@ use Rattle.std.specs.Prelude.{encode_utf8_all, slice_index}
 use Rattle.std.specs.Str.{is_utf8}
 use Rattle.std.proofs.lemmas.List.{drop-drop, get_or-drop, map-append}
 use Rattle.std.proofs.lemmas.List.Folds.{list_all-append}
-use Rattle.csvw_dialect.specs.declared.dialect.Dialect.{Dialect}
+use Rattle.csvw_records.specs.declared.dialect.Dialect.{Dialect}
 use Rattle.csvw_fields.specs.declared.bound.Bound.{Bound}
 use Rattle.csvw_fields.specs.declared.cut.Cut.{Cut}
 use Rattle.csvw_fields.specs.Bounds.{bytes_at, is_bound, are_bounds, fields_at, moved, lent_bound}
@@ -13,7 +13,7 @@ use Rattle.csvw_fields.specs.Cuts.{IsSymbols, IsCut, IsCutRow, IsCutTo, Grows}
 use Rattle.csvw_records.specs.Grammar.{terminator_len, IsField, AreFields}
 use Rattle.memchr.specs.Find.{NoneBefore, Passes}
 use Rattle.csvw_fields.specs.declared.cut.Symbols.{Symbols}
-use Rattle.csvw_dialect.specs.Lawful.{IsLawful}
+use Rattle.csvw_records.specs.Lawful.{IsLawful}
 use Rattle.csvw_fields.specs.Marked.{is_symbol}
 use Rattle.csvw_fields.proofs.CutLemmas.{inner_cut, not_true}
 use Rattle.csvw_fields.proofs.BoundLemmas.{bounds_more, moved_is}

@@ -1,7 +1,7 @@
 -- Tests of characters, and the terminators that they are.
 use Rattle.std.proofs.Common.{◌≡◌, ◌≢◌, ℕ, Bool, true, false, ◌&&◌, ◌==◌, if◌then◌else◌, List, ◌∷◌, refl, ap, arith, nat_eq, nat_lt}
 use Rattle.std.proofs.lemmas.Bool.Decides.{nat_tests}
-use Rattle.csvw_dialect.specs.declared.dialect.Dialect.{Dialect}
+use Rattle.csvw_records.specs.declared.dialect.Dialect.{Dialect}
 use Rattle.csvw_records.specs.Grammar.{terminator_len}
 use Rattle.csvw_records.specs.PassLaws.{ends_at}
 

@@ -3,8 +3,8 @@ use Rattle.std.specs.Prelude.{◌≡◌, ℕ, ◌+◌, ◌-◌, ◌<◌, ◌≤�
 use Rattle.std.specs.Prelude.{if◌then◌else◌, slice_index}
 use Rattle.std.specs.Str.{is_utf8}
 use Rattle.memchr.specs.Find.{is_byte3}
-use Rattle.csvw_dialect.specs.declared.dialect.Dialect.{Dialect}
-use Rattle.csvw_dialect.specs.declared.dialect.Trim.TheVariants.{No}
+use Rattle.csvw_records.specs.declared.dialect.Dialect.{Dialect}
+use Rattle.csvw_records.specs.declared.dialect.Trim.TheVariants.{No}
 use Rattle.csvw_fields.specs.declared.bound.Bound.{Bound}
 use Rattle.csvw_fields.specs.declared.cut.Cut.{Cut}
 use Rattle.csvw_fields.specs.declared.cut.Symbols.{Symbols}
@@ -22,17 +22,17 @@ pub record IsSymbols (d : Dialect) (s : Symbols) : Type 0 where
   pub quote : d.quote_char ≡ (if s.quoted then Some s.quote else None)
   pub unquoted : s.quoted ≡ false → s.quote ≡ s.delimiter
 
--- no symbol stands before this place
+-- no symbol is before this place
 abbrev pub NoneBefore : Symbols → List ℕ → ℕ → Type 0
 NoneBefore s rest at = (k : ℕ) → k < at → is_byte3 s.delimiter s.quote 10 (slice_index rest k) ≡ false
 
--- the text of a field lies there, and at this place stands what comes behind it: a terminator, or a delimiter
+-- the text of a field has this bound; a terminator or a delimiter is at this place, after the field
 pub record IsBehind (d : Dialect) (s : Symbols) (rest : List ℕ) (bound : Bound) (at : ℕ) (cut : Cut) : Type 0 where
   pub bound_is : cut.bound ≡ bound
   pub ends : cut.ends ≡ true → (cut.next ≡ at) × (0 < terminator_len d (drop at rest))
   pub goes_on : cut.ends ≡ false → (cut.next ≡ at + 1) × (at < length rest) × (slice_index rest at ≡ s.delimiter)
 
--- the field at the front of the text, whose own text lies there or in a second buffer, and what comes behind it
+-- the field at the start of the text, whose own text is there or in a second buffer, and what comes after it
 pub record IsCut (d : Dialect) (rest spare : List ℕ) (cut : Cut) : Type 0 where
   pub source : List ℕ
   pub value : List ℕ
@@ -46,22 +46,22 @@ pub record IsCut (d : Dialect) (rest spare : List ℕ) (cut : Cut) : Type 0 wher
   pub goes_on : cut.ends ≡ false → (0 < cut.next) × (after ≡ d.delimiter ∷ chars (drop cut.next rest))
   pub ends : cut.ends ≡ true → (0 < terminator_len d (drop cut.next rest)) × (after ≡ chars (drop cut.next rest))
 
--- the second buffer has no part in it
+-- the second buffer isn't used for it
 abbrev pub IsLent : Dialect → List ℕ → Cut → Type 0
 IsLent d rest cut = (spare : List ℕ) → IsCut d rest spare cut
 
--- something was written behind what was there
+-- something was written after what was there
 abbrev pub Grows : List ℕ → List ℕ → Type 0
 Grows old new = (more : List ℕ) × (new ≡ old ++ more)
 
--- the text that these bytes inside quotes stand for was written
+-- the text that these bytes inside quotes mean was written
 pub record Unescapes (quote : ℕ) (inside old new : List ℕ) : Type 0 where
   pub text : List ℕ
   pub is_text : is_utf8 text ≡ true
   pub written : new ≡ old ++ text
   pub units : (d : Dialect) → d.double_quote ≡ true → AreUnits d quote (chars inside) (chars text)
 
--- so it was for the bytes up to the quote at this place
+-- the same for the bytes up to the quote at this place
 pub record IsUnescaped (quote : ℕ) (inside old new : List ℕ) (at : ℕ) : Type 0 where
   pub within : at < length inside
   pub closes : slice_index inside at ≡ quote
@@ -79,8 +79,8 @@ pub record IsCutRow (d : Dialect) (text : List ℕ) (start at : ℕ) (spare : Li
   pub ends : 0 < terminator_len d (drop at text)
   pub texts : fields_at text spare bounds ≡ map encode_utf8_all values
 
--- the fields from start up to this place were cut, each with the delimiter behind it: before the fields of a row
--- that go on there, they are fields of one row
+-- The fields from start up to this place were cut, each with the delimiter after it. With the fields of a row that continues there, they are the fields of
+-- one row.
 pub record IsCutTo (d : Dialect) (text : List ℕ) (start at : ℕ) (spare : List ℕ) (bounds : List Bound) : Type 0 where
   pub values : List (List ℕ)
   pub texts : fields_at text spare bounds ≡ map encode_utf8_all values

@@ -1,6 +1,6 @@
--- What cuts the rows of a text.
+-- The state of a `Cutter`.
 use Rattle.std.specs.Prelude.{◌≡◌, ℕ, List, Some}
-use Rattle.csvw_dialect.specs.declared.dialect.Dialect.{Dialect}
+use Rattle.csvw_records.specs.declared.dialect.Dialect.{Dialect}
 use Rattle.csvw_fields.specs.declared.cut.Symbols.{Symbols}
 use Rattle.csvw_fields.specs.declared.cutter.Cutter.{Cutter}
 use Rattle.csvw_fields.specs.declared.rules.Rules.{Rules}

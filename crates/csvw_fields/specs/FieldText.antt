@@ -1,6 +1,6 @@
--- Text in which a pass over a field goes on as it was, and doubled quotes.
+-- Text in which a pass over a field stays in its state, and doubled quotes.
 use Rattle.std.specs.Prelude.{◌≡◌, ◌≢◌, ◌⊎◌, ℕ, ◌+◌, ◌<◌, ◌≤◌, true, false, List, [], ◌∷◌, length, take, Some, encode_utf8, slice_index}
-use Rattle.csvw_dialect.specs.declared.dialect.Dialect.{Dialect}
+use Rattle.csvw_records.specs.declared.dialect.Dialect.{Dialect}
 use Rattle.csvw_fields.specs.declared.leads.Leads.{Leads}
 use Rattle.csvw_records.specs.declared.scan.State.{State}
 use Rattle.csvw_records.specs.declared.scan.State.TheVariants.{Start, Plain, Inside, Escaped, Closed}
@@ -27,7 +27,7 @@ HasNoEscape d (c ∷ cs) = (quote_is d.quote_char c ≡ false) × (d.double_quot
 abbrev pub IsApart : Dialect → List ℕ → List ℕ → Type 0
 IsApart d cs after = (unsettled d cs ≡ []) ⊎ (take 1 after ≢ 10 ∷ [])
 
--- the text of a field goes on in this state, with these characters behind it
+-- the text of a field continues in this state, with these characters after it
 abbrev pub IsClean : Dialect → State → List ℕ → List ℕ → Type 0
 IsClean d Start cs after = cs ≡ []
 IsClean d Plain cs after = HasNoSymbol d cs × IsApart d cs after
@@ -35,7 +35,7 @@ IsClean d Inside cs after = HasNoEscape d cs
 IsClean d Escaped cs after = cs ≡ []
 IsClean d Closed cs after = cs ≡ []
 
--- so many doubled quotes, which are ASCII characters, stand at the front of text that goes on a field inside quotes
+-- text that continues a field inside quotes begins with so many doubled quotes, which are ASCII characters
 pub record AreDoubled (d : Dialect) (st : State) (text : List ℕ) (n : ℕ) : Type 0 where
   pub quote : ℕ
   pub inside : 0 < n → st ≡ Inside

@@ -1,4 +1,4 @@
--- Which bytes of a part of a text are symbols.
+-- The bytes of a part of a text that are symbols.
 use Rattle.std.specs.Prelude.{◌≡◌, ℕ, ◌+◌, ◌≤◌, Bool, List, length, map, Option, Some, MatchOption}
 use lib.Lanes.{chunk, mask_l}
 use Rattle.memchr.specs.Find.{is_byte, is_byte3, Nowhere, NoneBefore, Passes}
@@ -19,7 +19,7 @@ pub record AreMarks (test : ℕ → Bool) (text : List ℕ) (m : Marks) : Type 0
   pub within : m.from + m.len ≤ length text
   pub mask : m.mask ≡ mask_l (map test (chunk m.from m.len text))
 
--- they are the marks of these symbols, where there are some
+-- they are the marks of these symbols, if there are some
 abbrev pub Marked : Option Symbols → List ℕ → Marks → Type 0
 Marked symbols text m = (s : Symbols) → symbols ≡ Some s → AreMarks (is_symbol s) text m
 

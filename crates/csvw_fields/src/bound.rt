@@ -1,20 +1,20 @@
-//! Where the text of a field lies.
+//! `Bound`: the place of the text of a field.
 ghost use Rattle.std.specs.Prelude.{◌≡◌, true};
 ghost use Rattle.csvw_fields.specs.Bounds.{bytes_at, is_bound};
 
-/// Where the text of a field lies: among the bytes that were read or, where it stands `apart`, in a
-/// second buffer. Its places are bytes from 0, and `to` is behind the last.
+/// The place of the text of a field: among the bytes that were read or, if `apart` is true, in a second buffer.
+/// Places are in bytes from 0.
 #[derive(Clone, Copy, Debug, PartialEq, Eq)]
 pub struct Bound {
-    /// Its first byte, from 0.
+    /// The place of the first byte, from 0.
     pub from: usize,
-    /// The place behind its last byte.
+    /// The place after the last byte.
     pub to: usize,
-    /// Whether it lies in the second buffer.
+    /// Whether the text is in the second buffer.
     pub apart: bool,
 }
 
-/// The text of a field, of the bytes that were read and the second buffer.
+/// Returns the text of a field. `text` is the bytes that were read, and `spare` is the second buffer.
 pub fn text_at<'a>(text: &'a [u8], spare: &'a [u8], bound: Bound) -> &'a str
     requires { is_bound text.now spare.now bound ≡ true }
     ensures { result.now ≡ bytes_at text.now spare.now bound }

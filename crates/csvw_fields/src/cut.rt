@@ -1,28 +1,28 @@
-//! The fields of a row, found among its bytes. Symbols that are ASCII are their own bytes, and no byte of
-//! another character is below 128.
+//! The fields of a row, found among its bytes. A symbol that is ASCII is its own byte. No byte of another character
+//! is below 128.
 ghost use Rattle.std.specs.Prelude.{◌≡◌, ◌≢◌, ◌≤◌, ◌<◌, ◌+◌, ◌^◌, None, true, false, length, drop, IfOk, IfSome, MatchOption, slice_index};
 ghost use Rattle.std.specs.Str.{is_utf8};
 ghost use Rattle.csvw_fields.specs.Bounds.{lent_bound, moved};
 ghost use Rattle.csvw_fields.specs.Cuts.{IsSymbols, NoneBefore, IsBehind, IsLent};
 ghost use Rattle.csvw_records.specs.Grammar.{terminator_len};
-ghost use Rattle.csvw_dialect.specs.Lawful.{IsLawful};
+ghost use Rattle.csvw_records.specs.Lawful.{IsLawful};
 
 use crate::bound::Bound;
-use csvw_dialect::{Dialect, Trim};
+use csvw_records::{Dialect, Trim};
 
-/// The symbols of a dialect as bytes. The quote is one only where fields may be `quoted`.
+/// The symbols of a dialect, as bytes. The quote is a symbol only if fields may be `quoted`.
 #[derive(Clone, Copy, Debug, PartialEq, Eq)]
 pub struct Symbols {
     /// The delimiter.
     pub delimiter: u8,
-    /// The quote; the delimiter where no field may be quoted.
+    /// The quote. It is the delimiter if no field may be quoted.
     pub quote: u8,
     /// Whether fields may be quoted.
     pub quoted: bool,
 }
 
 impl Symbols {
-    /// The symbols of a dialect whose rows are cut among their bytes; `None` for any other.
+    /// Returns the symbols of a dialect, if its rows are cut among their bytes. Returns `None` for any other dialect.
     pub fn of(dialect: &Dialect) -> Option<Symbols>
         ensures symbols { IfSome result (IsSymbols dialect.now) }
         ensures none { result ≡ None → (s : Symbols) → ¬ (IsSymbols dialect.now s) }
@@ -52,19 +52,18 @@ fn ascii(c: char) -> Option<u8>
     if c.is_ascii() { Some(c as u8) } else { None }
 }
 
-/// A field that was found, by places behind its first byte: where its text lies, and the place of what
-/// comes behind it, which is the next field or, where it `ends` the row, the terminator.
+/// A field that was found. Its places are counted from its first byte.
 #[derive(Clone, Copy, Debug, PartialEq, Eq)]
 pub struct Cut {
-    /// Where its text lies.
+    /// The bound of the text of the field.
     pub bound: Bound,
-    /// The place of what comes behind it, in bytes.
+    /// The place after the field, in bytes. The next field is there or, if the field `ends` the row, the terminator.
     pub next: usize,
-    /// Whether that is the terminator.
+    /// Whether the terminator is there.
     pub ends: bool,
 }
 
-/// How many bytes at the front are a terminator; 0 where none stands there.
+/// Returns the number of bytes of the terminator at the start, or 0 if there is none.
 pub fn terminator_at(d: &Dialect, rest: &[u8]) -> usize
     ensures value { result ≡ terminator_len d.now rest.now }
     ensures within { result ≤ length rest.now }
@@ -76,7 +75,7 @@ pub fn terminator_at(d: &Dialect, rest: &[u8]) -> usize
     }
 }
 
-/// A text that lies there.
+/// Returns the bound of a text among the bytes that were read.
 pub(crate) fn lent(from: usize, to: usize) -> Bound
     ensures { result ≡ lent_bound from to }
 {
@@ -87,7 +86,7 @@ pub(crate) fn lent(from: usize, to: usize) -> Bound
     }
 }
 
-/// A field whose text lies there, where what comes behind it stands at this place.
+/// Returns the field with this text, if a delimiter or a terminator is at this place after it.
 pub(crate) fn behind(
     d: &Dialect,
     symbols: Symbols,
@@ -116,7 +115,7 @@ pub(crate) fn behind(
     None
 }
 
-/// The last field of a row, without quotes, where the first symbol is a line feed at this place.
+/// Returns the last field of a row, without quotes. The first symbol is a line feed, at this place.
 pub(crate) fn cut_last(d: &Dialect, symbols: Symbols, rest: &[u8], at: usize) -> Option<Cut>
     requires lawful { IsLawful d.now }
     requires symbols { IsSymbols d.now symbols }
@@ -144,7 +143,7 @@ pub(crate) fn cut_last(d: &Dialect, symbols: Symbols, rest: &[u8], at: usize) ->
 }
 
 impl Cut {
-    /// Where the text of a field lies that begins at this place.
+    /// Returns the bound of the text of a field that begins at this place.
     pub(crate) fn bound_at(self, at: usize) -> Bound
         requires ordered { self.bound.from ≤ self.bound.to }
         requires within { self.bound.apart ≡ false → at + self.bound.to < 2 ^ 64 }

@@ -1,7 +1,11 @@
-//! The rows of a text, cut at the symbols of a dialect.
+//! `Cutter`: the rows of a text, cut at the symbols of a dialect.
+//!
+//! Masks of 64 bytes, which are kept from row to row, and `memchr` find the symbols. A row that is cut takes no
+//! memory of its own. The text of a field is lent from the bytes. If it isn't the same as the bytes there, it is
+//! written to a second buffer.
 ghost use Rattle.std.specs.Prelude.{◌≡◌, ◌≢◌, ◌≤◌, ◌<◌, ◌+◌, ◌-◌, None, true, false, length, drop, IfOk, IfSome, MatchOption, slice_index};
 ghost use Rattle.std.specs.Str.{is_utf8};
-ghost use Rattle.csvw_dialect.specs.Lawful.{IsLawful};
+ghost use Rattle.csvw_records.specs.Lawful.{IsLawful};
 ghost use Rattle.csvw_records.specs.Lengths.{row_limit};
 ghost use Rattle.csvw_fields.specs.Bounds.{are_bounds};
 ghost use Rattle.csvw_fields.specs.Cuts.{IsSymbols, IsCut, IsUnescaped, Grows, IsCutRow, IsRowLen};
@@ -11,8 +15,7 @@ use crate::bound::Bound;
 use crate::cut::{Cut, Symbols, behind, cut_last, lent, terminator_at};
 use crate::marks::{Marks, next_quote, next_symbol};
 use crate::rules::Rules;
-use csvw_dialect::Dialect;
-use csvw_records::ROW_LIMIT;
+use csvw_records::{Dialect, ROW_LIMIT};
 use std::alloc::AllocError;
 
 /// Cuts the rows of a text at the symbols of a dialect.
@@ -20,7 +23,7 @@ use std::alloc::AllocError;
 pub struct Cutter<'a> {
     /// The dialect.
     dialect: &'a Dialect,
-    /// Its symbols.
+    /// The symbols of the dialect.
     symbols: Symbols,
     /// The text as bytes.
     text: &'a [u8],
@@ -31,7 +34,7 @@ pub struct Cutter<'a> {
 impl<'a> Cutter<'a> {
     ghost use Rattle.csvw_fields.specs.Cutters.{dialect_of, symbols_of, text_of, IsCutterOf};
 
-    /// Cuts the rows of a text by these rules; `None` where they have no symbols.
+    /// Returns the cutter of a text by these rules, or `None` if they have no symbols.
     pub fn of(rules: &'a Rules, text: &'a [u8]) -> Option<Cutter<'a>>
         ensures { MatchOption result (rules.now.symbols ≡ None) (IsCutterOf rules.now text.now) }
     {
@@ -43,7 +46,7 @@ impl<'a> Cutter<'a> {
         })
     }
 
-    /// Whether a quote stands at this place.
+    /// Returns whether a quote is at this place.
     fn has_quote(self, at: usize) -> bool
         ensures stands { result ≡ true → (at < length self.entry.text.now) × (slice_index self.entry.text.now at ≡ self.entry.symbols.quote) }
         ensures other { result ≡ false → at < length self.entry.text.now → slice_index self.entry.text.now at ≢ self.entry.symbols.quote }
@@ -51,8 +54,8 @@ impl<'a> Cutter<'a> {
         at < self.text.len() && self.text[at] == self.symbols.quote
     }
 
-    /// Writes what the characters inside quotes stand for behind the texts of a buffer. They begin at this place,
-    /// and so many bytes come before the first quote. Answers how many come before the quote that closes them.
+    /// Writes what the characters inside quotes mean after the texts of a buffer. They begin at this place, and so
+    /// many bytes come before the first quote. Returns how many bytes come before the quote that closes them.
     fn unescape(
         self,
         start: usize,
@@ -85,8 +88,8 @@ impl<'a> Cutter<'a> {
         Ok(Some(at + len - start))
     }
 
-    /// A field in quotes with an escape, where so many bytes come before the first quote inside. Its text is
-    /// written behind those of the second buffer.
+    /// Cuts a field in quotes with an escape, if so many bytes come before the first quote inside. Its text is
+    /// written after those of the second buffer.
     fn cut_escaped(
         self,
         start: usize,
@@ -118,8 +121,8 @@ impl<'a> Cutter<'a> {
         Ok(behind(self.dialect, self.symbols, rest, bound, close + 2))
     }
 
-    /// A field in quotes. Its text is lent from the bytes or, where a quote is doubled, written behind those of
-    /// the second buffer.
+    /// Cuts a field in quotes. Its text is lent from the bytes or, if a quote is doubled, written after those of the
+    /// second buffer.
     fn cut_quoted(
         self,
         start: usize,
@@ -151,9 +154,9 @@ impl<'a> Cutter<'a> {
         ))
     }
 
-    /// The field that begins at this place, where so many bytes come before its first symbol, which is no
-    /// delimiter, if it is found without a look at each of its characters. Its text is lent from the bytes or,
-    /// where a quote is doubled, written behind those of the second buffer.
+    /// Cuts the field that begins at this place, if that needs no look at each of its characters. So many bytes come
+    /// before its first symbol, which is not a delimiter. Its text is lent from the bytes or, if a quote is doubled,
+    /// written after those of the second buffer.
     fn cut_field(
         self,
         start: usize,
@@ -180,9 +183,10 @@ impl<'a> Cutter<'a> {
         self.cut_quoted(start, marks, spare)
     }
 
-    /// The fields of the row that begins at this place, a byte from 0, and where its terminator stands; `None`
-    /// where it isn't whole or takes a look at each of its characters, `AllocError` where there is no memory. The
-    /// marks serve the rows behind it, too.
+    /// Cuts the fields of the row that begins at this place, a byte from 0. Returns the place of its terminator.
+    ///
+    /// Returns `None` if the row isn't whole, or if it needs a look at each of its characters. Returns `AllocError`
+    /// if memory runs out. The marks can be used for the rows after it, too.
     pub fn cut_row(
         self,
         start: usize,
@@ -219,7 +223,8 @@ impl<'a> Cutter<'a> {
         Ok(None)
     }
 
-    /// How many bytes the row from a place on has with its terminator, which stands at this place, unless it is too long.
+    /// Returns how many bytes the row from `start` has with its terminator, which is at `at`. Returns `None` if the
+    /// row is too long.
     pub fn row_len(self, start: usize, at: usize) -> Option<usize>
         requires start { start ≤ at }
         requires within { at ≤ length (text_of self) }

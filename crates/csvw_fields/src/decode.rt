@@ -6,8 +6,7 @@ ghost use Rattle.std.specs.Str.Lossy.{utf8_valid_len, utf8_error_len};
 use simdutf8::compat::from_utf8;
 use std::alloc::{AllocError, Global};
 
-/// The text at the front of the bytes, and whether what comes after it begins no character, whatever
-/// follows.
+/// Returns the text at the start of the bytes, and whether the bytes after it begin no character, whatever follows.
 pub fn valid_front(bytes: &[u8]) -> (&str, bool)
     ensures text { result.0.now ≡ take (utf8_valid_len bytes.now) bytes.now }
     ensures bad { result.1 ≡ is_some (utf8_error_len (drop (utf8_valid_len bytes.now) bytes.now)) }
@@ -21,14 +20,14 @@ pub fn valid_front(bytes: &[u8]) -> (&str, bool)
     }
 }
 
-/// The characters of a text; `AllocError` where there is no memory.
+/// Returns the characters of a text, or `AllocError` if memory runs out.
 pub fn chars_of(alloc: Global, text: &str) -> Result<Vec<char>, AllocError>
     ensures { IfOk result (λ v. v.items ≡ chars text.now) }
 {
     text.chars().collect(alloc)
 }
 
-/// How many characters a text has.
+/// Returns the number of characters of a text.
 pub fn char_count(text: &str) -> usize
     ensures value { result ≡ length (chars text.now) }
     ensures within { result ≤ length text.now }
@@ -36,7 +35,7 @@ pub fn char_count(text: &str) -> usize
     text.chars().count()
 }
 
-/// How many bytes the first characters take.
+/// Returns the number of bytes of the first `count` characters.
 pub fn front_len(text: &str, count: usize) -> usize
     ensures within { result ≤ length text.now }
     ensures text { is_utf8 (drop result text.now) ≡ true }

@@ -1,4 +1,6 @@
-//! The front of a row whose end wasn't read yet, and what reads it on.
+//! `Draft`: the front of a row whose end wasn't read yet, which is read on when more bytes come.
+//!
+//! Many characters are read at once if none of them, or each pair of doubled quotes, means anything else.
 ghost use Rattle.std.specs.Prelude.{◌≡◌, ◌≤◌, ◌+◌, true, false, [], ◌∷◌, ◌++◌, length, take, drop, chars, map, encode_utf8_all, IfOk, OnOk};
 ghost use Rattle.std.specs.Str.{is_utf8};
 ghost use Rattle.csvw_fields.specs.Bounds.{apart_all, texts_apart};
@@ -11,35 +13,35 @@ use crate::cut::terminator_at;
 use crate::quotes::doubled_quotes;
 use crate::rules::Rules;
 use crate::trim::trim_fields;
-use csvw_dialect::{Dialect, Trim};
 use csvw_records::laws::record_laws;
-use csvw_records::{RowStop, State, Step, is_quoted, next_step};
+use csvw_records::{Dialect, RowStop, State, Step, Trim, is_quoted, next_step};
 use std::alloc::{AllocError, Global};
 use std::mem::swap;
 
-/// What reading a row on came to.
+/// The result of reading on.
 #[derive(Clone, Copy, Debug, PartialEq, Eq)]
 pub enum Reading {
     /// The text ended within the row.
     Unfinished,
-    /// A terminator stands behind the row.
+    /// A terminator follows the row.
     Ended,
     /// The next character breaks a rule, or the last text ended within quotes.
     Broken(RowStop),
 }
 
-/// The front of a row: where in a field it ends, and the values of the fields. The last of them isn't whole.
+/// The front of a row: the values of its fields and the place in a field at which it ends. The last field isn't
+/// whole.
 #[derive(Drop)]
 pub struct Draft {
-    /// How many bytes of the row were read.
+    /// The number of bytes of the row that were read.
     read: usize,
-    /// Where in a field it ends.
+    /// The place in a field at which the front ends.
     state: State,
-    /// The place in `texts` at which the field begins that isn't whole, in bytes from 0.
+    /// The place in `texts` at which the last field begins, in bytes from 0.
     from: usize,
-    /// The values of all fields, one behind the other.
+    /// The values of all fields, one after the other.
     texts: Vec<u8>,
-    /// Where the values of the whole fields lie in `texts`.
+    /// The bounds of the whole fields in `texts`.
     bounds: Vec<Bound>,
     ghost within: { from ≤ length texts.items },
     ghost is_text: { is_utf8 (drop from texts.items) ≡ true },
@@ -49,7 +51,7 @@ pub struct Draft {
 impl Draft {
     ghost use Rattle.csvw_fields.specs.Drafts.{read_of, state_of, values_of, current_of, IsFresh, IsDraft, Keeps, Steps, Reads, GoesOn};
 
-    /// Nothing was read.
+    /// Returns a draft of which nothing was read.
     pub fn new(alloc: Global) -> Draft
         ensures { IsFresh result }
     {
@@ -73,14 +75,14 @@ impl Draft {
         self.bounds.clear();
     }
 
-    /// How many bytes of the row were read.
+    /// Returns the number of bytes of the row that were read.
     pub fn read_len(&self) -> usize
         ensures { result ≡ read_of self.now }
     {
         self.read
     }
 
-    /// Where in a field the row was left.
+    /// Returns the place in a field at which reading stopped.
     pub fn state(&self) -> State
         ensures { result ≡ state_of self.now }
     {
@@ -99,7 +101,7 @@ impl Draft {
         self.texts.extend_from_slice(text.as_bytes())
     }
 
-    /// Ends the last field, and begins one behind it.
+    /// Ends the last field, and begins one after it.
     fn close_field(&mut self) -> Result<(), AllocError>
         ensures read { read_of self.new ≡ read_of self.old }
         ensures state { state_of self.new ≡ state_of self.old }
@@ -116,7 +118,7 @@ impl Draft {
         Ok(())
     }
 
-    /// Takes one character, which a terminator may begin with.
+    /// Reads one character. `ends` says whether a terminator begins with it.
     fn step(&mut self, d: &Dialect, c: char, ends: bool) -> Result<Reading, AllocError>
         ensures read { read_of self.new ≡ read_of self.old }
         ensures steps { IfOk result (Steps d.now self.old self.new c ends) }
@@ -149,7 +151,7 @@ impl Draft {
         }
     }
 
-    /// Takes what is sure to be the text of the last field, and answers what is left.
+    /// Reads what is text of the last field for sure, and returns what is left.
     fn keep_text<'a>(&mut self, rules: &Rules, rest: &'a str) -> Result<&'a str, AllocError>
         ensures read { read_of self.new ≡ read_of self.old }
         ensures keeps { IfOk result (λ left. Keeps rules.now.dialect self.old self.new rest.now left.now) }
@@ -158,7 +160,7 @@ impl Draft {
         self.keep_quotes(rules, left)
     }
 
-    /// Takes text in which nothing has a meaning of its own, and answers what is left.
+    /// Reads text in which nothing has a meaning of its own, and returns what is left.
     fn keep_clean<'a>(&mut self, rules: &Rules, rest: &'a str) -> Result<&'a str, AllocError>
         ensures read { read_of self.new ≡ read_of self.old }
         ensures keeps { IfOk result (λ left. Keeps rules.now.dialect self.old self.new rest.now left.now) }
@@ -170,7 +172,7 @@ impl Draft {
         Ok(left)
     }
 
-    /// Takes doubled quotes, and answers what is left.
+    /// Reads doubled quotes, and returns what is left.
     fn keep_quotes<'a>(&mut self, rules: &Rules, rest: &'a str) -> Result<&'a str, AllocError>
         ensures read { read_of self.new ≡ read_of self.old }
         ensures keeps { IfOk result (λ left. Keeps rules.now.dialect self.old self.new rest.now left.now) }
@@ -182,7 +184,8 @@ impl Draft {
         Ok(left)
     }
 
-    /// Reads the row on, up to its end or that of the text, which has so many bytes with what was read.
+    /// Reads the row on, up to its end or the end of the text. `end` is the number of bytes of the text and of what
+    /// was read.
     fn read(&mut self, rules: &Rules, text: &str, end: usize) -> Result<Reading, AllocError>
         requires { end ≡ read_of self.old + length text.now }
         ensures { IfOk result (Reads rules.now.dialect self.old self.new text.now) }
@@ -212,8 +215,8 @@ impl Draft {
         }
     }
 
-    /// Reads the row on, of which this text is what there is, with what was read before. The end of the
-    /// last text ends its row. `AllocError` where there is no memory.
+    /// Reads the row on. The text is all of the row that there is, with what was read before. The end of the last
+    /// text ends its row. Returns `AllocError` if memory runs out.
     pub fn go_on(&mut self, rules: &Rules, rest: &str, is_last: bool) -> Result<Reading, AllocError>
         requires { IsDraft rules.now.dialect self.old rest.now }
         ensures { IfOk result (GoesOn rules.now.dialect is_last self.new rest.now) }
@@ -257,8 +260,8 @@ impl Draft {
         self.read(rules, text, end)
     }
 
-    /// Gives the fields of a row that has ended, stripped, and forgets it; `AllocError` where there is no
-    /// memory.
+    /// Returns the fields of a row that has ended, stripped, and forgets the row. Returns `AllocError` if memory runs
+    /// out.
     pub fn take_fields(
         &mut self,
         trim: Trim,
@@ -274,7 +277,7 @@ impl Draft {
         given
     }
 
-    /// Gives the texts of the fields, which stay where they were without their texts.
+    /// Moves out the texts of the fields. The fields stay without their texts.
     fn give(
         &mut self,
         trim: Trim,
@@ -302,7 +305,7 @@ impl Draft {
     }
 }
 
-/// The text without a CR at its end that may begin a terminator.
+/// Returns the text without a CR at its end that may begin a terminator.
 pub fn settled<'a>(d: &Dialect, text: &'a str) -> &'a str
     ensures front { result.now ≡ take (length result.now) text.now }
     ensures chars { chars result.now ≡ settled d.now (chars text.now) }

@@ -4,7 +4,7 @@ ghost use Rattle.std.specs.List.{list_all};
 
 use crate::bound::Bound;
 
-/// Whether no field has a text.
+/// Returns whether the texts of all fields are empty.
 pub fn all_empty(bounds: &[Bound]) -> bool
     ensures { result ≡ list_all (λ b. b.from == b.to) bounds.now }
 {

@@ -1,26 +1,25 @@
-//! The bytes that a dialect's symbols begin with in UTF-8. A text without such a byte has no such symbol.
+//! The first bytes of a dialect's symbols in UTF-8. A text without such a byte has no such symbol.
 ghost use Rattle.std.specs.Prelude.{◌≡◌, ◌≢◌, ◌≤◌, ◌<◌, ◌-◌, true, false, [], ◌∷◌, length, take, drop, chars, encode_utf8, slice_index};
 ghost use Rattle.std.specs.Str.{IsCharBoundary};
 ghost use Rattle.csvw_fields.specs.FieldText.{IsLeads, IsClean};
 ghost use Rattle.csvw_records.specs.declared.scan.State.TheVariants.{Plain, Inside};
 
-use csvw_dialect::Dialect;
-use csvw_records::State;
+use csvw_records::{Dialect, State};
 use memchr::{memchr2, memchr3};
 
-/// The first bytes of the delimiter, of the quote, and of what begins an escape. Where no field is quoted,
-/// the delimiter's stands for the quote's, and where quotes are doubled, the quote's for the escape's.
+/// The first bytes of the delimiter, of the quote, and of the character that begins an escape. If no field is quoted,
+/// the delimiter's byte is used for the quote's. If quotes are doubled, the quote's byte is used for the escape's.
 #[derive(Clone, Copy, Debug, PartialEq, Eq)]
 pub struct Leads {
-    /// That of the delimiter.
+    /// The first byte of the delimiter.
     delimiter: u8,
-    /// That of the quote.
+    /// The first byte of the quote.
     quote: u8,
-    /// That of what begins an escape.
+    /// The first byte of the character that begins an escape.
     escape: u8,
 }
 
-/// The first byte of a character.
+/// Returns the first byte of a character.
 fn lead(c: char) -> u8
     ensures { take 1 (encode_utf8 c) ≡ result ∷ [] }
 {
@@ -29,7 +28,7 @@ fn lead(c: char) -> u8
 }
 
 impl Leads {
-    /// The first bytes of a dialect's symbols.
+    /// Returns the first bytes of a dialect's symbols.
     pub fn of(d: &Dialect) -> Leads
         ensures { IsLeads d.now result }
     {
@@ -46,9 +45,10 @@ impl Leads {
         }
     }
 
-    /// How many bytes at the front are sure to be the text of a field that is left in this state. All bytes that are
-    /// looked at are among them but the last, which a later step looks at once more; one behind a CR may be that last
-    /// one twice, so each byte is looked at a bounded number of times.
+    /// Returns how many of the first bytes are text of a field in this state for sure.
+    ///
+    /// All bytes that are looked at are among them, except the last one, which a later step looks at once more. A
+    /// byte after a CR may be that last one twice. So each byte is looked at a bounded number of times.
     pub(crate) fn clean_len(self, d: &Dialect, state: State, text: &str) -> usize
         requires { IsLeads d.now self }
         ensures boundary { IsCharBoundary text.now result }
@@ -69,7 +69,7 @@ impl Leads {
     }
 }
 
-/// This place, if it is between two characters, else 0.
+/// Returns this place if it is between two characters, else 0.
 fn boundary_at(text: &str, at: usize) -> usize
     ensures within { result ≤ at }
     ensures kept { 0 < result → result ≡ at }
@@ -78,7 +78,7 @@ fn boundary_at(text: &str, at: usize) -> usize
     if text.is_char_boundary(at) { at } else { 0 }
 }
 
-/// Whether a CR stands in front of this place.
+/// Returns whether a CR is before this place.
 fn ends_in_cr(bytes: &[u8], end: usize) -> bool
     requires { end ≤ length bytes.now }
     ensures some { result ≡ true → (0 < end) × (slice_index bytes.now (end - 1) ≡ 13) }
@@ -87,7 +87,7 @@ fn ends_in_cr(bytes: &[u8], end: usize) -> bool
     0 < end && bytes[end - 1] == b'\r'
 }
 
-/// This place or, where a CR stands in front of it, that of the CR, if it is between two characters, else 0.
+/// Returns this place, or that of the CR if one is before it. Returns 0 if that place isn't between two characters.
 fn place_before(text: &str, at: usize) -> usize
     requires { at ≤ length text.now }
     ensures within { result ≤ at }

@@ -1,4 +1,23 @@
-//! The fields of a row, from its bytes: cut out at once, or read on as more bytes come.
+//! Fields of a row, from its bytes: the layer between csvw_records and csvw_rows.
+//!
+//! If the delimiter and the quote of a dialect are ASCII, quotes are doubled and nothing is trimmed, a row is cut
+//! among its bytes: see `Cutter`. A row that can't be cut so, or isn't whole yet, is a `Draft`. It is read on from
+//! the place where reading stopped. So a piece of the text is read once. Both ways are proved against one grammar,
+//! that of csvw_records, which is for characters.
+//!
+//! # Promises
+//!
+//! For every lawful dialect:
+//!
+//! - `Cutter::cut_row` returns the fields of a row by the grammar and where the row ends (`IsCutRow`). `row_len`
+//!   returns its length (`IsRowLen`).
+//! - `Draft::go_on` reads what the pass over the characters reads (`GoesOn`). It ends where the row ends, or reports
+//!   the rule that is broken there.
+//! - `take_fields` and `text_at`: each field is text, in the place that its bound says.
+//! - `Rules::is_note` returns whether a row is skipped or a comment.
+//! - `Symbols::of` returns the symbols by which the rows of a dialect are cut, exactly if it has such symbols
+//!   (`IsSymbols`).
+//! - `field_laws`: the laws of drafts and bounds by which csvw_rows is proved.
 #![tactic(auto)]
 
 mod bound;

@@ -1,4 +1,4 @@
-//! Where the symbols of a row stand among its bytes: many of them are looked at together.
+//! `Marks`: the places of the symbols of a row among its bytes. Many bytes are looked at together.
 ghost use Rattle.std.specs.Prelude.{◌≡◌, ℕ, List, Bool, true, ◌+◌, ◌^◌, ◌<◌, ◌≤◌, length};
 ghost use Rattle.memchr.specs.Find.{is_byte3};
 ghost use Rattle.csvw_fields.specs.Marked.{is_symbol, is_quote, AreMarks, IsAhead};
@@ -7,22 +7,22 @@ use crate::cut::Symbols;
 use memchr::memchr3;
 use std::simd::prelude::*;
 
-/// How many bytes are looked at together.
+/// The number of bytes that are looked at together.
 const LANES: usize = 64;
 
-/// Which bytes of a part of a text are symbols: a bit of the mask for each, the lowest for the first.
+/// The bytes of a part of a text that are symbols. The mask has a bit for each byte, the lowest for the first.
 #[derive(Clone, Copy, Debug, PartialEq, Eq)]
 pub struct Marks {
     /// The place of the part's first byte, from 0.
     from: usize,
-    /// How many bytes the part has, 64 at most.
+    /// The number of bytes of the part, 64 at most.
     len: usize,
     /// The bits.
     mask: u64,
 }
 
 impl Marks {
-    /// No byte was looked at yet.
+    /// Returns marks of no bytes.
     pub fn none() -> Marks
         ensures { (test : ℕ → Bool) (text : List ℕ) → AreMarks test text result }
     {
@@ -33,16 +33,16 @@ impl Marks {
         }
     }
 
-    /// Whether this place is in the part.
+    /// Returns whether this place is in the part.
     fn has(self, at: usize) -> bool
         requires { self.from + self.len < 2 ^ 64 }
         ensures { result ≡ true → (self.from ≤ at) × (at < self.from + self.len) }
     {
-        // A place before the part wraps to one behind it.
+        // A place before the part wraps to one after it.
         at.wrapping_sub(self.from) < self.len
     }
 
-    /// How many bytes of the part come before its first symbol from this place on.
+    /// Returns how many bytes of the part come before its first symbol from this place on.
     fn ahead(self, at: usize) -> Option<usize>
         requires low { self.from ≤ at }
         requires high { at < self.from + self.len }
@@ -57,7 +57,7 @@ impl Marks {
     }
 }
 
-/// The marks of the bytes from this place on.
+/// Returns the marks of the bytes from this place on.
 fn marks_from(delimiter: u8, quote: u8, text: &[u8], from: usize) -> Marks
     requires { from + LANES ≤ length text.now }
     ensures marks { AreMarks (is_byte3 delimiter quote 10) text.now result }
@@ -75,8 +75,8 @@ fn marks_from(delimiter: u8, quote: u8, text: &[u8], from: usize) -> Marks
     }
 }
 
-/// How many bytes from this place on come before the first symbol, if one follows. The marks are made anew.
-/// It takes two bytes and no `Symbols`, which each of its many callers would have to write to memory.
+/// Returns how many bytes from this place on come before the first symbol, if one follows. It makes the marks anew.
+/// Its arguments are two bytes and not `Symbols`, which each of its many callers would have to write to memory.
 #[inline(never)]
 fn look_on(delimiter: u8, quote: u8, text: &[u8], at: usize, marks: &mut Marks) -> Option<usize>
     requires marks { AreMarks (is_byte3 delimiter quote 10) text.now marks.old }
@@ -97,7 +97,7 @@ fn look_on(delimiter: u8, quote: u8, text: &[u8], at: usize, marks: &mut Marks) 
     Some(LANES + len)
 }
 
-/// How many bytes from this place on come before the first symbol, if one follows.
+/// Returns how many bytes from this place on come before the first symbol, if one follows.
 #[inline(always)]
 pub(crate) fn next_symbol(
     symbols: Symbols,
@@ -118,7 +118,7 @@ pub(crate) fn next_symbol(
     look_on(symbols.delimiter, symbols.quote, text, at, marks)
 }
 
-/// How many bytes from this place on come before the first quote, if one follows.
+/// Returns how many bytes from this place on come before the first quote, if one follows.
 #[inline(always)]
 pub(crate) fn next_quote(
     symbols: Symbols,

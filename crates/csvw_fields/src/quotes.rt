@@ -1,12 +1,11 @@
-//! Quotes inside quotes, many of them together.
+//! Doubled quotes inside quotes, many of them together.
 ghost use Rattle.std.specs.Prelude.{◌≡◌, ◌≤◌, ◌<◌, ℕ, length, slice_index};
 ghost use Rattle.csvw_fields.specs.FieldText.{AreDoubled};
 
-use csvw_dialect::Dialect;
-use csvw_records::State;
+use csvw_records::{Dialect, State};
 
-/// How many doubled quotes stand at the front of text that goes on a field which is left in this state; 0 where
-/// it isn't inside quotes, and where the quote is no ASCII character.
+/// Returns the number of doubled quotes at the start of text that continues a field in this state. Returns 0 if the
+/// state isn't inside quotes, or if the quote is not an ASCII character.
 pub(crate) fn doubled_quotes(d: &Dialect, state: State, text: &str) -> usize
     ensures { AreDoubled d.now state text.now result }
 {
@@ -18,7 +17,7 @@ pub(crate) fn doubled_quotes(d: &Dialect, state: State, text: &str) -> usize
     }
 }
 
-/// How many of the first bytes are this one.
+/// Returns how many of the first bytes are this byte.
 fn run_len(byte: u8, bytes: &[u8]) -> usize
     ensures within { result ≤ length bytes.now }
     ensures same { (k : ℕ) → k < result → slice_index bytes.now k ≡ byte }

@@ -1,19 +1,19 @@
-//! A dialect with its comment prefix as characters.
+//! `Rules`: a dialect with its comment prefix as characters.
 ghost use Rattle.std.specs.Prelude.{◌≡◌, ◌≤◌, nat_eq, false, Some, length, IfOk, chars};
 ghost use Rattle.std.specs.List.{starts_with};
 ghost use Rattle.csvw_fields.specs.FieldText.{IsLeads};
 ghost use Rattle.csvw_fields.specs.Cuts.{IsSymbols};
 ghost use Rattle.csvw_fields.specs.declared.cut.Symbols.{Symbols};
 ghost use Rattle.csvw_records.specs.Files.{begins_with, is_note};
-ghost use Rattle.csvw_dialect.specs.Lawful.{prefix_of};
-ghost use Rattle.csvw_dialect.specs.Lawful.{IsLawful};
+ghost use Rattle.csvw_records.specs.Lawful.{prefix_of};
+ghost use Rattle.csvw_records.specs.Lawful.{IsLawful};
 ghost use Rattle.csvw_records.specs.NextRow.{may_be_note};
 ghost use Rattle.csvw_records.specs.AtFront.{IsCommon, IsPrefixLen};
 
 use crate::cut::Symbols;
 use crate::decode::chars_of;
 use crate::leads::Leads;
-use csvw_dialect::Dialect;
+use csvw_records::Dialect;
 use csvw_records::laws::record_laws;
 use csvw_text::Seq;
 use std::alloc::{AllocError, Global};
@@ -23,11 +23,11 @@ use std::alloc::{AllocError, Global};
 pub struct Rules {
     /// The dialect.
     pub dialect: Dialect,
-    /// Its comment prefix.
+    /// The comment prefix.
     pub prefix: Option<Seq<char>>,
-    /// Its symbols, where its rows are cut among their bytes.
+    /// The symbols, if rows of the dialect are cut among their bytes.
     pub symbols: Option<Symbols>,
-    /// The first bytes of its symbols.
+    /// The first bytes of the symbols.
     pub leads: Leads,
     ghost same_prefix: { prefix ≡ prefix_of dialect },
     ghost lawful: { IsLawful dialect },
@@ -36,7 +36,7 @@ pub struct Rules {
 }
 
 impl Rules {
-    /// The rules of a dialect; `AllocError` where there is no memory.
+    /// Returns the rules of a dialect, or `AllocError` if memory runs out.
     pub fn new(alloc: Global, dialect: Dialect) -> Result<Rules, AllocError>
         requires { IsLawful dialect }
         ensures { IfOk result (λ r. r.dialect ≡ dialect) }
@@ -55,7 +55,8 @@ impl Rules {
         })
     }
 
-    /// Whether a row that begins with these bytes, at this place from 0, is skipped or a comment.
+    /// Returns whether a row that begins with these bytes is skipped or a comment. `place` is its place among all
+    /// rows, from 0.
     pub fn is_note(&self, place: u64, rest: &str) -> bool
         ensures { result ≡ is_note self.now.dialect place (chars rest.now) }
     {
@@ -72,7 +73,7 @@ impl Rules {
         }
     }
 
-    /// Whether a row that begins with these bytes may still become a comment.
+    /// Returns whether a row that begins with these bytes may still become a comment.
     pub fn may_be_note(&self, rest: &str) -> bool
         ensures { result ≡ may_be_note self.now.dialect (chars rest.now) }
     {
@@ -83,7 +84,7 @@ impl Rules {
         }
     }
 
-    /// How many characters at the front of the text the comment prefix has too.
+    /// Returns how many of the first characters of the text and of the comment prefix are the same.
     pub fn common_len(&self, rest: &str) -> usize
         ensures { IsPrefixLen (prefix_of self.now.dialect) (chars rest.now) result }
     {
@@ -94,7 +95,7 @@ impl Rules {
     }
 }
 
-/// Whether the bytes begin with the prefix: mostly their first one tells.
+/// Returns whether the bytes begin with the prefix. Mostly the first byte decides.
 fn begins_with(bytes: &[u8], prefix: &[u8]) -> bool
     ensures { result ≡ starts_with nat_eq bytes.now prefix.now }
 {
@@ -104,7 +105,7 @@ fn begins_with(bytes: &[u8], prefix: &[u8]) -> bool
     bytes.starts_with(prefix)
 }
 
-/// How many characters at the front are the same.
+/// Returns how many of the first characters are the same.
 fn same_len(a: &[char], b: &str) -> usize
     ensures { IsCommon a.now (chars b.now) result }
 {

@@ -1,15 +1,15 @@
-//! White space that a dialect strips from the texts of fields (tab, line feed, carriage return, space).
+//! The white space that a dialect strips from the texts of fields (tab, line feed, carriage return, space).
 ghost use Rattle.std.specs.Prelude.{◌≡◌, ◌≤◌, ◌+◌, true, length, take, drop, map, chars, encode_utf8_all, slice_range, OnOk};
 ghost use Rattle.std.specs.Str.{is_utf8};
 ghost use Rattle.csvw_fields.specs.Bounds.{is_apart, apart_all, texts_apart};
 ghost use Rattle.csvw_records.specs.Grammar.{trimmed};
 
 use crate::bound::{Bound, text_at};
-use csvw_dialect::Trim;
+use csvw_records::Trim;
 use csvw_text::{strip_end, strip_start};
 use std::alloc::AllocError;
 
-/// How many bytes are stripped at the start of a text, and how many remain behind them.
+/// Returns how many bytes are stripped at the start of a text, and how many remain after them.
 fn kept(trim: Trim, text: &str) -> (usize, usize)
     ensures within { result.0 + result.1 ≤ length text.now }
     ensures text { is_utf8 (take result.1 (drop result.0 text.now)) ≡ true }
@@ -29,7 +29,7 @@ fn kept(trim: Trim, text: &str) -> (usize, usize)
     }
 }
 
-/// Where the text of a field lies that is stripped.
+/// Returns the bound of the text of a field that is stripped.
 fn trimmed_bound(trim: Trim, texts: &[u8], bound: Bound) -> Bound
     requires { is_apart texts.now bound ≡ true }
     ensures apart { is_apart texts.now result ≡ true }
@@ -44,7 +44,7 @@ fn trimmed_bound(trim: Trim, texts: &[u8], bound: Bound) -> Bound
     }
 }
 
-/// Where the texts of fields lie that are stripped; `AllocError` where there is no memory.
+/// Replaces the bounds of fields by those of their stripped texts. Returns `AllocError` if memory runs out.
 pub(crate) fn trim_fields(
     trim: Trim,
     texts: &[u8],

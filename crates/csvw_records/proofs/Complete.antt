@@ -1,12 +1,12 @@
--- A row that is spelled so is read so.
+-- A row of the grammar is read as that row.
 use Rattle.std.proofs.Common.{◌≡◌, ◌≢◌, ℕ, ◌<◌, Bool, true, false, ◌&&◌, ◌==◌, not, if◌then◌else◌, List, [], ◌∷◌, ◌++◌, Some, refl, sym, ap, ◌∙◌}
 use Rattle.std.proofs.Common.{subst, arith, append_assoc, append-nil, ◌⊎◌, inl, inr, IsTrue}
-use Rattle.csvw_dialect.specs.declared.dialect.Dialect.{Dialect}
+use Rattle.csvw_records.specs.declared.dialect.Dialect.{Dialect}
 use Rattle.csvw_records.specs.declared.stop.RowStop.TheVariants.{BadQuote, TextAfterQuote}
 use Rattle.csvw_records.specs.declared.scan.State.TheVariants.{Start, Plain, Inside, Escaped, Closed}
 use Rattle.csvw_records.specs.declared.scan.Step.TheVariants.{Keep, Skip, Open, Next, End, Stop}
 use Rattle.csvw_records.specs.Grammar.{terminator_len, IsPlain, AreSkipped, AreUnits, escape_char, IsQuoted, IsField, AreFields}
-use Rattle.csvw_dialect.specs.Lawful.{IsLawful}
+use Rattle.csvw_records.specs.Lawful.{IsLawful}
 use Rattle.csvw_records.specs.Files.{EndsRow}
 use Rattle.csvw_records.specs.Scan.{Found, quote_is, pass}
 use Rattle.csvw_records.proofs.RunSteps.{run_by, differs, no_quote, no_end, run_plain}

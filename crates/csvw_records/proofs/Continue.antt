@@ -1,4 +1,4 @@
--- A part of a row goes on to a row, or breaks a rule, or a row is complete in it.
+-- A part of a row begins a row, or breaks a rule, or a row is complete in it.
 use Rattle.std.proofs.Common.{◌≡◌, ℕ, ◌+◌, ◌<◌, ◌≤◌, Bool, true, false, ◌&&◌, ◌||◌, ◌==◌, if◌then◌else◌, List, [], ◌∷◌, ◌++◌, length, take, Option}
 use Rattle.std.proofs.Common.{Some, None, option_map, refl, sym, ap, ◌∙◌, subst, arith, append_assoc, append-nil, length-append, ◌⊎◌, inl, inr}
 use Rattle.std.proofs.Common.{nat_lt, nat_eq}
@@ -6,13 +6,13 @@ use Rattle.std.specs.List.{starts_with}
 use Rattle.std.proofs.lemmas.Bool.Decides.{nat_tests}
 use Rattle.std.proofs.lemmas.Grind.{common_steps}
 use Rattle.std.proofs.lemmas.List.{append_cancel_right}
-use Rattle.csvw_dialect.specs.declared.dialect.Dialect.{Dialect}
+use Rattle.csvw_records.specs.declared.dialect.Dialect.{Dialect}
 use Rattle.csvw_records.specs.declared.scan.State.{State}
 use Rattle.csvw_records.specs.declared.scan.State.TheVariants.{Start}
 use Rattle.csvw_records.specs.Grammar.{terminator_len}
-use Rattle.csvw_dialect.specs.Lawful.{IsLawful, has_break, prefix_breaks}
+use Rattle.csvw_records.specs.Lawful.{IsLawful, has_break, prefix_breaks}
 use Rattle.csvw_records.specs.Files.{Row, IsRow, EndsRow, is_note, begins_with}
-use Rattle.csvw_dialect.specs.Lawful.{prefix_of}
+use Rattle.csvw_records.specs.Lawful.{prefix_of}
 use Rattle.csvw_records.specs.Scan.{Outcome, Found, Broken, Unfinished, run, pass, finish}
 use Rattle.csvw_records.specs.NextRow.{settled, unsettled, line_of, found_row, next_row, terminator_of, may_be_note, begins_prefix}
 use Rattle.csvw_records.specs.PartOfRow.{Continues}

@@ -2,11 +2,11 @@
 use Rattle.std.proofs.Common.{◌≡◌, ℕ, zero, suc, ◌+◌, ◌<◌, ◌≤◌, Bool, true, false, List, [], ◌∷◌, ◌++◌, length, take, refl, sym, ap, ◌∙◌, subst}
 use Rattle.std.proofs.Common.{arith, append_assoc, append-nil, length-append, ◌⊎◌, inl, inr}
 use Rattle.std.proofs.lemmas.Bool.{cases_lt}
-use Rattle.csvw_dialect.specs.declared.dialect.Dialect.{Dialect}
-use Rattle.csvw_dialect.specs.Lawful.{IsLawful}
+use Rattle.csvw_records.specs.declared.dialect.Dialect.{Dialect}
+use Rattle.csvw_records.specs.Lawful.{IsLawful}
 use Rattle.csvw_records.specs.Files.{Row, IsRow, AreRows, AreAllRows, EndsOpen, KeepsLimits, Front, content}
 use Rattle.csvw_records.specs.Stops.{Begins}
-use Rattle.csvw_records.specs.Laws.{HaveOneList, FrontsGrow, StopsPart, FirstBegin, FirstStay}
+use Rattle.csvw_records.specs.ListLaws.{HaveOneList, FrontsGrow, StopsPart, FirstBegin, FirstStay}
 use Rattle.csvw_records.proofs.RowLaws.{row_unique, rows_prefix}
 use Rattle.csvw_records.proofs.Lookahead.{rows_again}
 use Rattle.csvw_records.proofs.Stands.{no_more, no_row_in_last, begins_front}

@@ -1,12 +1,12 @@
--- Texts that go on to a file, which have no stop.
+-- Texts that begin a file have no stop.
 use Rattle.std.proofs.Common.{◌≡◌, ℕ, ◌<◌, ◌≤◌, Bool, true, false, List, [], ◌++◌, length, take, drop, Option, Some, None, refl, sym, ap, ◌∙◌, subst}
 use Rattle.std.proofs.Common.{arith, append-nil, ◌⊎◌, inl, inr, IsTrue}
 use Rattle.std.specs.Prelude.{is_some, IsSome}
 use Rattle.std.specs.Str.Lossy.{utf8_valid_len, utf8_error_len}
 use Rattle.std.proofs.lemmas.Grind.{common_steps}
 use Rattle.std.proofs.lemmas.List.{take-append-drop}
-use Rattle.csvw_dialect.specs.declared.dialect.Dialect.{Dialect}
-use Rattle.csvw_dialect.specs.Lawful.{IsLawful}
+use Rattle.csvw_records.specs.declared.dialect.Dialect.{Dialect}
+use Rattle.csvw_records.specs.Lawful.{IsLawful}
 use Rattle.csvw_records.specs.declared.stop.RowStop.{RowStop}
 use Rattle.csvw_records.specs.declared.scan.State.TheVariants.{Start}
 use Rattle.csvw_records.specs.Grammar.{terminator_len}

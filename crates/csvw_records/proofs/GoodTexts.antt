@@ -1,4 +1,4 @@
--- Bytes that go on to a file begin one, and have no stop.
+-- Bytes that are the start of a file begin one, and have no stop.
 use Rattle.std.proofs.Common.{◌≡◌, ℕ, suc, ◌+◌, ◌<◌, ◌≤◌, Bool, true, false, nat_lt, List, [], ◌∷◌, ◌++◌, length, take, drop, refl, sym, ap}
 use Rattle.std.proofs.Common.{◌∙◌, subst, arith, append_assoc, append-nil, length-append, length-drop, take-append-drop, ◌⊎◌, inl, inr}
 use Rattle.std.specs.Prelude.{IsUtf8, is_some, encode_utf8_all}
@@ -10,10 +10,10 @@ use Rattle.std.proofs.lemmas.List.{take_all, take-append-le}
 use Rattle.std.proofs.lemmas.List.Elements.{All-head}
 use Rattle.std.proofs.lemmas.Str.{IsUtf8-append, IsUtf8-drop, IsUtf8-encode, IsCharBoundary-from_take, length-encode, len_utf8_bounds, utf8_valid_len_le}
 use lib.Utf8.{scalars}
-use Rattle.csvw_dialect.specs.declared.dialect.Dialect.{Dialect}
-use Rattle.csvw_dialect.specs.Lawful.{IsLawful}
+use Rattle.csvw_records.specs.declared.dialect.Dialect.{Dialect}
+use Rattle.csvw_records.specs.Lawful.{IsLawful}
 use Rattle.csvw_records.specs.Files.{Row, AreRows, EndsOpen, File, KeepsLimits, content, is_text}
-use Rattle.csvw_records.specs.Laws.{FilesHaveNoStop}
+use Rattle.csvw_records.specs.ListLaws.{FilesHaveNoStop}
 use Rattle.csvw_records.specs.Stops.{Begins}
 use Rattle.csvw_records.proofs.GoingOn.{last_goes, goes_on_begins, no_stop}
 use Rattle.csvw_records.proofs.Stands.{All-before, All-behind, begins_front}

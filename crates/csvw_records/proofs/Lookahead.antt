@@ -1,9 +1,9 @@
--- A row doesn't depend on what comes behind its terminator.
+-- A row doesn't depend on the text after its terminator.
 use Rattle.std.proofs.Common.{◌≡◌, ℕ, ◌+◌, ◌<◌, ◌≤◌, Bool, true, false, ◌&&◌, if◌then◌else◌, List, [], ◌∷◌, ◌++◌, length, drop, Some, None, refl, sym}
 use Rattle.std.proofs.Common.{ap, ◌∙◌, subst, arith, append_assoc, length-append, inl, inr, nat_eq, MatchBool}
 use Rattle.std.proofs.lemmas.Bool.Decides.{nat_tests}
 use Rattle.std.proofs.Math.Seq.{drop-append_seam}
-use Rattle.csvw_dialect.specs.declared.dialect.Dialect.{Dialect}
+use Rattle.csvw_records.specs.declared.dialect.Dialect.{Dialect}
 use Rattle.csvw_records.specs.Grammar.{terminator_len, IsPlain, IsField, AreFields, RowText}
 use Rattle.csvw_records.specs.Files.{Row, IsRow, AreRows, HasNoTerminator, is_note}
 use Rattle.csvw_records.proofs.Complete.{nothing_ends}

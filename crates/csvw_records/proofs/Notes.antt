@@ -1,13 +1,13 @@
--- Whether a row is a comment shows in the row itself.
+-- The row itself shows whether it is a comment.
 use Rattle.std.proofs.Common.{◌≡◌, ℕ, ◌<◌, Bool, true, false, ◌&&◌, ◌||◌, ◌==◌, if◌then◌else◌, List, [], ◌∷◌, ◌++◌, Option, Some, None, refl, sym, ap}
 use Rattle.std.proofs.Common.{◌∙◌, arith, inl, inr, nat_lt, nat_eq}
 use Rattle.std.specs.List.{starts_with}
 use Rattle.std.proofs.lemmas.Bool.Decides.{nat_tests}
-use Rattle.csvw_dialect.specs.declared.dialect.Dialect.{Dialect}
+use Rattle.csvw_records.specs.declared.dialect.Dialect.{Dialect}
 use Rattle.csvw_records.specs.Grammar.{terminator_len}
 use Rattle.csvw_records.specs.Files.{EndsRow, begins_with, is_note}
-use Rattle.csvw_dialect.specs.Lawful.{prefix_of}
-use Rattle.csvw_dialect.specs.Lawful.{IsLawful, has_break, prefix_breaks}
+use Rattle.csvw_records.specs.Lawful.{prefix_of}
+use Rattle.csvw_records.specs.Lawful.{IsLawful, has_break, prefix_breaks}
 use Rattle.csvw_records.specs.NextRow.{begins_prefix, may_be_note}
 use Rattle.csvw_records.specs.TerminatorLaws.{is_break, BeginsBreak}
 

@@ -1,10 +1,10 @@
 -- A text begins with at most one row, and with at most one list of rows of a length.
 use Rattle.std.proofs.Common.{◌≡◌, ℕ, ◌+◌, ◌≤◌, Bool, true, false, if◌then◌else◌, List, [], ◌∷◌, ◌++◌, map, length, Option, Some, None, option_map}
 use Rattle.std.proofs.Common.{refl, sym, ap, ◌∙◌, subst, arith, inl, inr, MatchBool, drop, add-zero, unwrap_or}
-use Rattle.csvw_dialect.specs.declared.dialect.Dialect.{Dialect}
+use Rattle.csvw_records.specs.declared.dialect.Dialect.{Dialect}
 use Rattle.csvw_records.specs.declared.scan.State.TheVariants.{Start}
 use Rattle.csvw_records.specs.Grammar.{terminator_len, trimmed, AreFields, RowText}
-use Rattle.csvw_dialect.specs.Lawful.{IsLawful}
+use Rattle.csvw_records.specs.Lawful.{IsLawful}
 use Rattle.csvw_records.specs.Scan.{Outcome, Found, Broken, Unfinished, pass}
 use Rattle.csvw_records.specs.Files.{Row, IsRow, AreRows, EndsRow, HasNoTerminator, is_note}
 use Rattle.csvw_records.specs.NextRow.{line_of, found_row, next_row}

@@ -1,12 +1,12 @@
--- Each part of a text goes on to a row, or breaks a rule, or has a row in it.
+-- Each part of a text begins a row, or breaks a rule, or has a row in it.
 use Rattle.std.proofs.Common.{◌≡◌, ℕ, ◌<◌, ◌≤◌, Bool, true, false, ◌&&◌, ◌==◌, not, if◌then◌else◌, List, [], ◌∷◌, ◌++◌, map, length, Option, Some}
 use Rattle.std.proofs.Common.{None, option_map, refl, sym, ap, ◌∙◌, subst, arith, append_assoc, append-nil, inl, inr, unwrap_or}
-use Rattle.csvw_dialect.specs.declared.dialect.Dialect.{Dialect}
+use Rattle.csvw_records.specs.declared.dialect.Dialect.{Dialect}
 use Rattle.csvw_records.specs.declared.scan.State.{State}
 use Rattle.csvw_records.specs.declared.scan.State.TheVariants.{Start, Plain, Inside, Escaped, Closed}
 use Rattle.csvw_records.specs.declared.scan.Step.TheVariants.{Keep, Skip}
 use Rattle.csvw_records.specs.Grammar.{terminator_len, trimmed}
-use Rattle.csvw_dialect.specs.Lawful.{IsLawful}
+use Rattle.csvw_records.specs.Lawful.{IsLawful}
 use Rattle.csvw_records.specs.Files.{Row, IsRow, EndsRow, is_note}
 use Rattle.csvw_records.specs.Scan.{Outcome, Found, Broken, Unfinished, quote_is, is_quoted, step_of, run, finish}
 use Rattle.csvw_records.specs.NextRow.{settled, unsettled, line_of, found_row, next_row, terminator_of, may_be_note}

@@ -1,17 +1,17 @@
--- How many characters show that a rule is broken.
+-- The number of characters that show that a rule is broken.
 use Rattle.std.proofs.Common.{◌≡◌, ℕ, zero, suc, ◌+◌, ◌-◌, ◌<◌, ◌≤◌, Bool, true, false, ◌&&◌, List, [], ◌∷◌, ◌++◌, length, take, drop, get_or, Option}
 use Rattle.std.proofs.Common.{Some, None, refl, sym, ap, ◌∙◌, subst, arith, append-nil, length-append, length-drop, ◌⊎◌, inl, inr, nat_eq}
 use Rattle.std.specs.List.{starts_with}
 use Rattle.std.proofs.lemmas.Bool.{cases_lt}
 use Rattle.std.proofs.lemmas.Grind.{common_steps}
 use Rattle.std.proofs.lemmas.List.{take-append-drop}
-use Rattle.csvw_dialect.specs.declared.dialect.Dialect.{Dialect}
+use Rattle.csvw_records.specs.declared.dialect.Dialect.{Dialect}
 use Rattle.csvw_records.specs.declared.stop.RowStop.{RowStop}
 use Rattle.csvw_records.specs.declared.stop.RowStop.TheVariants.{BadQuote, TextAfterQuote, UnclosedQuote}
 use Rattle.csvw_records.specs.declared.scan.State.{State}
 use Rattle.csvw_records.specs.declared.scan.State.TheVariants.{Start, Plain, Inside, Escaped, Closed}
 use Rattle.csvw_records.specs.Files.{is_note}
-use Rattle.csvw_dialect.specs.Lawful.{prefix_of}
+use Rattle.csvw_records.specs.Lawful.{prefix_of}
 use Rattle.csvw_records.specs.Scan.{Outcome, Found, Broken, Unfinished, is_quoted, run, finish}
 use Rattle.csvw_records.specs.NextRow.{settled, unsettled, found_row, next_row, may_be_note, begins_prefix}
 use Rattle.csvw_records.specs.PartOfRow.{Breaks}

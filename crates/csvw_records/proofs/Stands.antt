@@ -6,9 +6,9 @@ use Rattle.std.proofs.lemmas.Bool.{cases_lt}
 use Rattle.std.proofs.lemmas.List.{take-append-le, take-append-drop}
 use Rattle.std.proofs.lemmas.List.Elements.{All-head, All-tail, All-nil, All-cons}
 use Rattle.std.specs.List.{All}
-use Rattle.csvw_dialect.specs.declared.dialect.Dialect.{Dialect}
+use Rattle.csvw_records.specs.declared.dialect.Dialect.{Dialect}
 use Rattle.csvw_records.specs.Grammar.{terminator_len}
-use Rattle.csvw_dialect.specs.Lawful.{IsLawful}
+use Rattle.csvw_records.specs.Lawful.{IsLawful}
 use Rattle.csvw_records.specs.Lengths.{byte_len, row_limit}
 use Rattle.csvw_records.specs.Files.{Row, IsRow, AreRows, AreAllRows, KeepsLimits, BeginsWithRows, IsLongest}
 use Rattle.csvw_records.specs.NextRow.{terminator_of}

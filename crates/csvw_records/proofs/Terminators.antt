@@ -4,7 +4,7 @@ use Rattle.std.proofs.Common.{arith, chars, nat_eq, encode_utf8_all, ◌≤◌, 
 use Rattle.std.specs.Prelude.{IsUtf8}
 use Rattle.std.proofs.lemmas.Str.{IsUtf8-drop, IsUtf8-from_ascii, IsCharBoundary-after_ascii, chars-append, chars-IsAscii, encode_ascii, encodes-chars}
 use Rattle.std.proofs.lemmas.Bool.{cases_lt}
-use Rattle.csvw_dialect.specs.declared.dialect.Dialect.{Dialect}
+use Rattle.csvw_records.specs.declared.dialect.Dialect.{Dialect}
 use Rattle.csvw_records.specs.Grammar.{terminator_len}
 use Rattle.csvw_records.proofs.Complete.{nothing_ends}
 use Rattle.csvw_records.proofs.Lookahead.{and_three, is_char, one_end, lf_again, crlf_again}

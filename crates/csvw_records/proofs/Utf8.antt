@@ -1,4 +1,4 @@
--- The text of bytes that go on.
+-- The text of bytes with more bytes after them.
 use Rattle.std.proofs.Common.{◌≡◌, ℕ, zero, suc, ◌+◌, ◌-◌, ◌<◌, ◌≤◌, Bool, true, false, not, ◌==◌, if◌then◌else◌, List, [], ◌∷◌, ◌++◌, length, take}
 use Rattle.std.proofs.Common.{drop, refl, sym, ap, ◌∙◌, subst, arith, append_assoc, length-append, inl, inr, chars}
 use Rattle.std.specs.Prelude.{IsUtf8}

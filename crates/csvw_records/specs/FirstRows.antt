@@ -1,6 +1,6 @@
--- The rows that come first in bytes, perhaps not all of their front (RFC 4180, section 2).
+-- The rows that come first in bytes, perhaps not all of them: `AreFirst` (RFC 4180, section 2).
 use Rattle.std.specs.Prelude.{◌≡◌, ◌⊎◌, ℕ, Bool, IsTrue, List}
-use Rattle.csvw_dialect.specs.declared.dialect.Dialect.{Dialect}
+use Rattle.csvw_records.specs.declared.dialect.Dialect.{Dialect}
 use Rattle.csvw_records.specs.Files.{Row, File, BeginsWithRows, Body, content}
 use Rattle.csvw_records.specs.RowValue.{Given}
 

@@ -1,10 +1,10 @@
--- How long a row is.
+-- The length of a row.
 use Rattle.std.specs.Prelude.{ℕ, List, length, encode_utf8_all}
 
--- how many bytes the characters take in UTF-8
+-- the number of bytes of the characters in UTF-8
 abbrev pub byte_len : List ℕ → ℕ
 byte_len text = length (encode_utf8_all text)
 
--- the most bytes of a row without its terminator
+-- the greatest number of bytes of a row without its terminator
 abbrev pub row_limit : ℕ
 row_limit = 1048576

@@ -2,7 +2,8 @@ pub mod Files
 pub mod FirstRows
 pub mod FrontLaws
 pub mod Grammar
-pub mod Laws
+pub mod Lawful
+pub mod ListLaws
 pub mod Lengths
 pub mod AtFront
 pub mod NextRow
@@ -14,6 +15,7 @@ pub mod RowLaws
 pub mod RowValue
 pub mod Scan
 pub mod StopLaws
+pub mod StopNames
 pub mod Stops
 pub mod TerminatorLaws
 pub mod TextLaws

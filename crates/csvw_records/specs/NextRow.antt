@@ -1,12 +1,12 @@
--- The row at the front of a text by a pass over it: what the code computes. The laws in proofs/ tie it to IsRow.
+-- The row at the start of a text, by a pass over it. This is what the code computes. The laws in proofs/ connect it to IsRow.
 use Rattle.std.specs.Prelude.{ℕ, Bool, false, ◌&&◌, ◌==◌, nat_eq, if◌then◌else◌, List, [], ◌∷◌, map, nat_lt, Option, Some, None, option_map}
 use Rattle.std.specs.List.{starts_with}
-use Rattle.csvw_dialect.specs.declared.dialect.Dialect.{Dialect}
+use Rattle.csvw_records.specs.declared.dialect.Dialect.{Dialect}
 use Rattle.csvw_records.specs.declared.scan.State.TheVariants.{Start}
 use Rattle.csvw_records.specs.Grammar.{terminator_len, trimmed}
 use Rattle.csvw_records.specs.Scan.{Outcome, Found, Broken, Unfinished, pass}
 use Rattle.csvw_records.specs.Files.{is_note}
-use Rattle.csvw_dialect.specs.Lawful.{prefix_of}
+use Rattle.csvw_records.specs.Lawful.{prefix_of}
 
 -- the text without a CR at its end that may begin a terminator
 abbrev pub settled : Dialect → List ℕ → List ℕ
@@ -25,7 +25,7 @@ abbrev pub begins_prefix : List ℕ → Option (List ℕ) → Bool
 begins_prefix text None = false
 begins_prefix text (Some prefix) = starts_with nat_eq prefix text
 
--- a row that begins so may still become a comment
+-- a row with this start may still become a comment
 abbrev pub may_be_note : Dialect → List ℕ → Bool
 may_be_note d text = begins_prefix text (prefix_of d)
 
@@ -39,7 +39,7 @@ found_row d (Found values after) = Some (Some (map (trimmed d.trim) values), aft
 found_row d (Broken stop rest) = None
 found_row d (Unfinished st vs cur) = None
 
--- the fields of the row at the front, and what comes after it
+-- the fields of the row at the start, and the text after it
 abbrev pub next_row : Bool → Dialect → ℕ → List ℕ → Option (Option (List (List ℕ)) × List ℕ)
 next_row ended d i text = if is_note d i text then option_map (λ after. (None, after)) (line_of ended d text) else found_row d (pass ended d Start [] [] text)
 

@@ -1,6 +1,6 @@
--- What a part of a text is that begins at a row: a row with more behind it, or none whatever follows.
+-- A part of a text that begins at a row. It is a row once more text follows, or it is no row whatever follows.
 use Rattle.std.specs.Prelude.{◌≡◌, ◌≢◌, ◌⊎◌, ℕ, ◌<◌, ◌≤◌, false, List, [], ◌++◌, length, take, None}
-use Rattle.csvw_dialect.specs.declared.dialect.Dialect.{Dialect}
+use Rattle.csvw_records.specs.declared.dialect.Dialect.{Dialect}
 use Rattle.csvw_records.specs.declared.stop.RowStop.{RowStop}
 use Rattle.csvw_records.specs.declared.scan.State.TheVariants.{Start}
 use Rattle.csvw_records.specs.Grammar.{terminator_len}
@@ -9,7 +9,7 @@ use Rattle.csvw_records.specs.Lengths.{byte_len, row_limit}
 use Rattle.csvw_records.specs.Scan.{Broken, run}
 use Rattle.csvw_records.specs.NextRow.{settled, may_be_note, next_row, terminator_of}
 
--- no row is complete in the part, and with more behind it, it is a row and its terminator. So many of its characters are sure to be the row's.
+-- No row is complete in the part. With more text after it, it is a row and its terminator. So many of its characters belong to the row for sure.
 pub record Continues (d : Dialect) (i : ℕ) (part : List ℕ) (len : ℕ) : Type 0 where
   pub within : len ≤ length part
   pub row : Row
@@ -28,7 +28,7 @@ pub record Breaks (d : Dialect) (i : ℕ) (part : List ℕ) (stop : RowStop) : T
   pub may_not : may_be_note d part ≡ false
   pub broken : run d Start [] [] (settled d part) ≡ Broken stop rest
 
--- a row and its terminator stand at the front of the part
+-- the part begins with a row and its terminator
 pub record HasRow (d : Dialect) (i : ℕ) (part : List ℕ) : Type 0 where
   pub row : Row
   pub after : List ℕ
@@ -36,7 +36,7 @@ pub record HasRow (d : Dialect) (i : ℕ) (part : List ℕ) : Type 0 where
   pub is_row : IsRow d i row after
   pub ends : 0 < terminator_len d after
 
--- nothing is left, or the beginning of one row more that isn't too long
+-- nothing is left, or the start of one more row that isn't too long
 pub record Fits (d : Dialect) (i : ℕ) (part : List ℕ) : Type 0 where
   pub row : Row
   pub more : List ℕ
@@ -47,7 +47,7 @@ pub record Fits (d : Dialect) (i : ℕ) (part : List ℕ) : Type 0 where
 abbrev pub Goes : Dialect → ℕ → ℕ → List ℕ → Type 0
 Goes d max i part = (part ≡ []) ⊎ ((i < max) × Fits d i part)
 
--- the part begins no row, whatever follows, or none that isn't too long
+-- whatever follows, the part does not begin a row, or only a row that is too long
 pub record Ends (d : Dialect) (max : ℕ) (i : ℕ) (part : List ℕ) : Type 0 where
   pub some : part ≢ []
   pub none : i < max → (row : Row) (more after : List ℕ) → part ++ more ≡ row.text ++ after → IsRow d i row after → 0 < terminator_len d after
@@ -58,11 +58,11 @@ abbrev pub NoRow : Dialect → ℕ → ℕ → List ℕ → Type 0
 NoRow d max i text = i < max → (row : Row) (after : List ℕ) → text ≡ row.text ++ after → IsRow d i row after → 0 < terminator_len d after
     → byte_len row.text ≤ row_limit → ⊥
 
--- the text isn't the last row, which lacks its terminator
+-- the text is not a last row without its terminator
 abbrev pub NoLast : Dialect → ℕ → ℕ → List ℕ → Type 0
 NoLast d max i text = i < max → (row : Row) → text ≡ row.text → IsRow d i row [] → byte_len row.text ≤ row_limit → ⊥
 
--- the first front of a text at which no row begins
+-- the shortest front of the text that does not begin a row
 pub record FirstEnd (d : Dialect) (max i : ℕ) (text : List ℕ) (n : ℕ) : Type 0 where
   pub at : ℕ
   pub within : at ≤ n

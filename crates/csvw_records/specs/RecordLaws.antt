@@ -1,4 +1,4 @@
--- The laws of records by which a reader of rows is proved, in one record.
+-- The laws of records, by which a reader of rows is proved, as the fields of one Antt record.
 use Rattle.csvw_records.specs.TextLaws.{TextLaws}
 use Rattle.csvw_records.specs.TerminatorLaws.{TerminatorLaws}
 use Rattle.csvw_records.specs.PassLaws.{PassLaws}
@@ -16,7 +16,7 @@ pub record RecordLaws : Type 0 where
   pub stops : StopLaws
   pub fronts : FrontLaws
 
--- that they hold, as one fact which a search for proofs doesn't look into
+-- all these laws hold: one fact, which a search for proofs doesn't look into
 unfoldable pub RecordsAreLawful : Type 0
 RecordsAreLawful = RecordLaws
 

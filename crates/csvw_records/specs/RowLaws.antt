@@ -1,7 +1,7 @@
--- Laws that tie the row that a pass finds to the rows of a text (RFC 4180, section 2).
+-- Laws that connect the row that a pass finds with the rows of a text (RFC 4180, section 2).
 use Rattle.std.specs.Prelude.{◌≡◌, ◌⊎◌, ℕ, ◌<◌, Bool, false, List, [], ◌∷◌, ◌++◌, take, Option, Some, None}
-use Rattle.csvw_dialect.specs.declared.dialect.Dialect.{Dialect}
-use Rattle.csvw_dialect.specs.Lawful.{IsLawful}
+use Rattle.csvw_records.specs.declared.dialect.Dialect.{Dialect}
+use Rattle.csvw_records.specs.Lawful.{IsLawful}
 use Rattle.csvw_records.specs.declared.scan.State.{State}
 use Rattle.csvw_records.specs.declared.scan.State.TheVariants.{Start, Plain, Inside, Escaped, Closed}
 use Rattle.csvw_records.specs.declared.stop.RowStop.{RowStop}
@@ -13,7 +13,7 @@ use Rattle.csvw_records.specs.PartOfRow.{HasRow, Continues, Breaks}
 use Rattle.csvw_records.specs.Scan.{Outcome, Found, Broken, Unfinished, run}
 use Rattle.csvw_records.specs.Stops.{AfterFields, HasBadQuote, HasTextAfter}
 
--- what is found is a row that is there
+-- the row that is found is a row of the text
 pub record ReadsRow (f : Bool) (d : Dialect) (i : ℕ) (text : List ℕ) (fields : Option (List (List ℕ))) (after : List ℕ) : Type 0 where
   pub row : List ℕ
   pub spelled : text ≡ row ++ after
@@ -25,7 +25,7 @@ pub record SameRow (a b : Row) (after later : List ℕ) : Type 0 where
   pub row : a ≡ b
   pub rest : after ≡ later
 
--- rows stand before other text too
+-- the rows also come before other text
 pub record Again (d : Dialect) (i : ℕ) (text : List ℕ) (rows : List Row) (rest : List ℕ) : Type 0 where
   pub front : List ℕ
   pub spelled : text ≡ front ++ rest
@@ -45,7 +45,7 @@ IsRule d text BadQuote = HasBadQuote d text
 IsRule d text TextAfterQuote = HasTextAfter d text
 IsRule d text other = ⊥
 
--- what a pass that didn't find a row says of the text
+-- the text, if a pass found no row in it
 abbrev pub Tells : Dialect → List ℕ → Outcome → Type 0
 Tells d text (Found vs after) = Unit {0}
 Tells d text (Broken stop rest) = IsRule d text stop
@@ -56,12 +56,12 @@ abbrev pub Sees : Dialect → ℕ → List ℕ → Type 0
 Sees d i part = HasRow d i part ⊎ (((len : ℕ) × Continues d i part len) ⊎ ((stop : RowStop) × Breaks d i part stop))
 
 pub record RowLaws : Type 0 where
-  -- a line that stands at the front is found, and so is a row
+  -- a line at the front is found, and so is a row
   pub line_complete : (f : Bool) (d : Dialect) (text after : List ℕ) → HasNoTerminator d text after → EndsRow f d after
       → line_of f d (text ++ after) ≡ Some after
   pub row_complete : (f : Bool) (d : Dialect) (i : ℕ) (row : Row) (after : List ℕ) → IsLawful d → IsRow d i row after → EndsRow f d after
       → next_row f d i (row.text ++ after) ≡ Some (row.fields, after)
-  -- a row that is found stands there
+  -- a row that is found is at the front
   pub row_sound : (f : Bool) (d : Dialect) (i : ℕ) (text : List ℕ) (fields : Option (List (List ℕ))) (after : List ℕ) → IsLawful d
       → next_row f d i text ≡ Some (fields, after) → ReadsRow f d i text fields after
   -- there is one
@@ -70,12 +70,12 @@ pub record RowLaws : Type 0 where
   -- it stays whatever follows its terminator
   pub row_stays : (d : Dialect) (i : ℕ) (row : Row) (after more : List ℕ) → IsRow d i row after → 0 < terminator_len d after → IsRow d i row (after ++ more)
   pub rows_again : (d : Dialect) (i : ℕ) (text : List ℕ) (rows : List Row) (rest : List ℕ) → AreRows d i text rows rest → Again d i text rows rest
-  -- no row with its terminator stands in no text
+  -- the empty text has no row with its terminator
   pub no_more : (d : Dialect) (i : ℕ) (b : Row) (bs : List Row) (rest : List ℕ) → AreRows d i [] (b ∷ bs) rest → ⊥
   -- a rule that is broken in a part leaves no row, whatever follows
   pub breaks_none : (d : Dialect) (i : ℕ) (part : List ℕ) (stop : RowStop) → IsLawful d → Breaks d i part stop
       → (row : Row) (more after : List ℕ) → part ++ more ≡ row.text ++ after → IsRow d i row after → 0 < terminator_len d after → ⊥
   pub breaks_next : (f : Bool) (d : Dialect) (i : ℕ) (text : List ℕ) (k : ℕ) (stop : RowStop) → Breaks d i (take k text) stop → next_row f d i text ≡ None
-  -- what a pass says of a text, and what each part is
+  -- the result of a pass over a text, and what each part is
   pub run_tells : (d : Dialect) (text : List ℕ) → Tells d text (run d Start [] [] text)
   pub sees : (d : Dialect) (i : ℕ) (part : List ℕ) → IsLawful d → Sees d i part

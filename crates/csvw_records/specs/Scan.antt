@@ -1,6 +1,6 @@
--- The fields of a row by one pass over the text: what the code computes. The laws in proofs/ tie it to RowText.
+-- The fields of a row, by one pass over the text. This is what the code computes. The laws in proofs/ connect it to RowText.
 use Rattle.std.specs.Prelude.{ℕ, Bool, true, false, ◌&&◌, ◌==◌, not, if◌then◌else◌, List, [], ◌∷◌, ◌++◌, nat_lt, Option, Some, None}
-use Rattle.csvw_dialect.specs.declared.dialect.Dialect.{Dialect}
+use Rattle.csvw_records.specs.declared.dialect.Dialect.{Dialect}
 use Rattle.csvw_records.specs.declared.stop.RowStop.{RowStop}
 use Rattle.csvw_records.specs.declared.stop.RowStop.TheVariants.{BadQuote, TextAfterQuote, UnclosedQuote}
 use Rattle.csvw_records.specs.declared.scan.State.{State}
@@ -22,8 +22,8 @@ step_of d Escaped c ends = Keep Inside
 step_of d Closed c ends = if ends then End else (if
     c == d.delimiter then Next else (if d.double_quote && quote_is d.quote_char c then Keep Inside else Stop TextAfterQuote))
 
--- what a pass gives: the values of the fields and what comes after the row, a broken rule and the text from the character on that breaks it,
--- or where in a field the text ended
+-- The result of a pass: the values of the fields and the text after the row; or a broken rule and the text from the character on that breaks it; or the place
+-- in a field at which the text ended.
 pub data Outcome : Type 0 where
   Found : List (List ℕ) → List ℕ → Outcome
   Broken : RowStop → List ℕ → Outcome
@@ -48,7 +48,7 @@ is_quoted Inside = true
 is_quoted Escaped = true
 is_quoted Closed = false
 
--- where the text has ended for good, what is there is the last row, unless a quote is open
+-- if the text has ended for good, the rest is the last row, unless a quote is open
 abbrev pub finish : Outcome → Bool → Outcome
 finish (Found values after) ended = Found values after
 finish (Broken stop rest) ended = Broken stop rest

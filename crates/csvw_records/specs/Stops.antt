@@ -1,41 +1,41 @@
--- StopOf: where the bytes so far can't begin a file any more, and by which rule (RFC 4180, section 2; RFC 3629, section 3).
+-- Where the bytes so far can no longer begin a file, and the rule that is broken: `StopOf` (RFC 4180, section 2; RFC 3629,
+-- section 3).
 use Rattle.std.specs.Prelude.{◌≡◌, ◌≢◌, ◌⊎◌, ℕ, ◌+◌, ◌-◌, ◌<◌, ◌≤◌, Bool, true, false, IsTrue, List, [], ◌∷◌, ◌++◌, length, take, drop, Some, IsSome}
 use Rattle.std.specs.Str.Lossy.{utf8_valid_len, utf8_error_len}
-use Rattle.csvw_dialect.specs.declared.dialect.Dialect.{Dialect}
+use Rattle.csvw_records.specs.declared.dialect.Dialect.{Dialect}
 use Rattle.csvw_records.specs.declared.stop.RowStop.{RowStop}
 use Rattle.csvw_records.specs.declared.stop.RowStop.TheVariants.{NotUtf8, RowTooLong, BadQuote, TextAfterQuote, UnclosedQuote, TooManyRows}
 use Rattle.csvw_records.specs.Grammar.{terminator_len, IsPlain, AreSkipped, IsOpened, IsQuoted, IsField}
 use Rattle.csvw_records.specs.Files.{Row, IsRow, AreRows, File, Front, is_note, is_text, content}
 use Rattle.csvw_records.specs.Lengths.{byte_len, row_limit}
 
--- text is these rows, each with its terminator. The first of them is at place i, and none is too long, where only the first n
--- characters of the text count.
+-- Text is these rows, each with its terminator. The first of them is at place i. No row is too long if only the first n characters of the text count.
 abbrev pub AreRowsWithin : Dialect → ℕ → ℕ → List ℕ → List Row → Type 0
 AreRowsWithin d i n text [] = text ≡ []
 AreRowsWithin d i n text (row ∷ rows) = (after : List ℕ) × (text ≡ row.text ++ after) × IsRow d i row after × (0 < terminator_len d after)
     × (byte_len (take n row.text) ≤ row_limit)
     × AreRowsWithin d (i + 1) (n - (length row.text + terminator_len d after)) (drop (terminator_len d after) after) rows
 
--- the text begins a file: with more behind it, it is rows. What is behind it doesn't count towards the length of a row.
+-- The text begins a file: with more text after it, it is rows. The text after it doesn't count for the length of a row.
 pub record Begins (d : Dialect) (max : ℕ) (text : List ℕ) : Type 0 where
   pub more : List ℕ
   pub rows : List Row
   pub are_rows : AreRowsWithin d 0 (length text) (text ++ more) rows
   pub few : length rows ≤ max
 
--- the first n characters are the shortest front of the text that begins no file
+-- the first n characters are the shortest front of the text that does not begin a file
 pub record StopsAt (d : Dialect) (max : ℕ) (text : List ℕ) (n : ℕ) : Type 0 where
   pub within : n ≤ length text
   pub none : Begins d max (take n text) → ⊥
   pub shorter : (k : ℕ) → k < n → Begins d max (take k text)
 
--- text is fields of these values, each with a delimiter behind it, and then rest
+-- text is fields of these values, each with a delimiter after it, and then rest
 abbrev pub AfterFields : Dialect → List ℕ → List (List ℕ) → List ℕ → Type 0
 AfterFields d text [] rest = text ≡ rest
 AfterFields d text (v ∷ vs) rest = (source more : List ℕ) × (text ≡ source ++ d.delimiter ∷ more) × IsField d source v (d.delimiter ∷ more)
     × AfterFields d more vs rest
 
--- a quote stands in a field that isn't quoted
+-- a field that isn't quoted contains a quote
 pub record HasBadQuote (d : Dialect) (part : List ℕ) : Type 0 where
   pub values : List (List ℕ)
   pub plain : List ℕ
@@ -46,7 +46,7 @@ pub record HasBadQuote (d : Dialect) (part : List ℕ) : Type 0 where
   pub is_plain : IsPlain d plain (quote ∷ rest)
   pub begun : AreSkipped d quote plain → ⊥
 
--- behind a closing quote stands neither a delimiter nor a terminator, nor a second quote that makes an escape
+-- after a closing quote comes neither a delimiter, nor a terminator, nor a second quote that makes an escape
 pub record HasTextAfter (d : Dialect) (part : List ℕ) : Type 0 where
   pub values : List (List ℕ)
   pub source : List ℕ
@@ -69,14 +69,14 @@ pub record IsLeftOpen (d : Dialect) (part : List ℕ) : Type 0 where
   pub opened : IsOpened d source value
   pub last : (escape ≡ []) ⊎ ((escape ≡ 92 ∷ []) × (d.double_quote ≡ false))
 
--- the rule that is broken in a part of the row behind so many others
+-- the rule that is broken in a part of the row that has so many rows before it
 abbrev pub IsBroken : Dialect → ℕ → List ℕ → Bool → RowStop → Type 0
 IsBroken d count part ended BadQuote = (is_note d count part ≡ false) × HasBadQuote d part
 IsBroken d count part ended TextAfterQuote = (is_note d count part ≡ false) × HasTextAfter d part
 IsBroken d count part ended UnclosedQuote = (is_note d count part ≡ false) × IsTrue ended × IsLeftOpen d part
 IsBroken d count part ended other = ⊥
 
--- the name of the stop behind so many rows, of which there may be max, where this part of the next is read
+-- the name of the stop after so many rows, if there may be max rows and this part of the next one is read
 abbrev pub IsNamed : Dialect → ℕ → ℕ → List ℕ → Bool → RowStop → Type 0
 IsNamed d max count part ended RowTooLong = row_limit < byte_len part
 IsNamed d max count part ended BadQuote = (byte_len part ≤ row_limit) × IsBroken d count part ended BadQuote
@@ -85,7 +85,7 @@ IsNamed d max count part ended UnclosedQuote = (byte_len part ≤ row_limit) × 
 IsNamed d max count part ended TooManyRows = (length part ≡ 1) × (count ≡ max)
 IsNamed d max count part ended other = ⊥
 
--- at a character
+-- the stop is at a character
 pub record StopsInText (d : Dialect) (max : ℕ) (bytes : List ℕ) (front : List Row) (stop : RowStop) : Type 0 where
   pub n : ℕ
   pub part : List ℕ
@@ -93,14 +93,14 @@ pub record StopsInText (d : Dialect) (max : ℕ) (bytes : List ℕ) (front : Lis
   pub behind : AreRows d 0 (take n (content bytes)) front part
   pub is_named : IsNamed d max (length front) part false stop
 
--- at a byte that can't go on in UTF-8, or at the end, inside a character
+-- the stop is at a byte that can't continue UTF-8 text, or at the end, inside a character
 pub record StopsInBytes (d : Dialect) (max : ℕ) (bytes : List ℕ) (ended : Bool) (stop : RowStop) : Type 0 where
   pub begins : Begins d max (content bytes)
   pub no_text : is_text bytes ≡ false
   pub is_bad : IsTrue ended ⊎ IsSome (utf8_error_len (drop (utf8_valid_len bytes) bytes))
   pub is_name : stop ≡ NotUtf8
 
--- at the end of bytes that are no file, though all their fronts begin one
+-- the stop is at the end of bytes that are not a file, although all their fronts begin one
 pub record StopsAtEnd (d : Dialect) (max : ℕ) (bytes : List ℕ) (ended : Bool) (front : List Row) (stop : RowStop) : Type 0 where
   pub part : List ℕ
   pub is_ended : IsTrue ended
@@ -110,7 +110,7 @@ pub record StopsAtEnd (d : Dialect) (max : ℕ) (bytes : List ℕ) (ended : Bool
   pub behind : AreRows d 0 (content bytes) front part
   pub is_named : IsNamed d max (length front) part true stop
 
--- StopOf: the stop, and the source number of its row, which is one more than there are rows in front
+-- StopOf: the stop, and the source number of its row, which is the number of rows before it, plus one
 pub record StopOf (d : Dialect) (max : ℕ) (bytes : List ℕ) (ended : Bool) (stop : RowStop) (row : ℕ) : Type 0 where
   pub front : List Row
   pub is_front : Front d max bytes ended front

@@ -6,14 +6,14 @@ use Rattle.csvw_records.specs.Files.{text_of, without_mark, is_empty}
 use Rattle.csvw_records.specs.Lengths.{byte_len}
 
 pub record TextLaws : Type 0 where
-  -- the text of bytes begins the text of all that they go on to
+  -- the text of bytes begins the text of all bytes that begin with them
   pub text_more : (bytes piece : List ℕ) → text_of (bytes ++ piece) ≡ text_of bytes ++ text_of (drop (utf8_valid_len bytes) bytes ++ piece)
-  -- what is no text yet of bytes that go on
+  -- the bytes that are not text yet, if more bytes follow
   pub pending_on : (bytes piece : List ℕ) → drop (utf8_valid_len (bytes ++ piece)) (bytes ++ piece)
       ≡ drop (utf8_valid_len (drop (utf8_valid_len bytes) bytes ++ piece)) (drop (utf8_valid_len bytes) bytes ++ piece)
   -- the mark U+FEFF is dropped at the start of a text alone
   pub by_begun : (t c : List ℕ) → without_mark (t ++ c) ≡ without_mark t ++ (if not (is_empty t) then c else without_mark c)
-  -- a text begins with the bytes of a prefix where it begins with its characters
+  -- a text begins with the bytes of a prefix if it begins with its characters
   pub same_start : (rest prefix : List ℕ) → IsUtf8 rest → IsUtf8 prefix → starts_with nat_eq rest prefix ≡ starts_with nat_eq (chars rest) (chars prefix)
   -- a front of a text has no more bytes than a longer one
   pub byte_len_less : (m n : ℕ) (l : List ℕ) → m ≤ n → byte_len (take m l) ≤ byte_len (take n l)

@@ -1,4 +1,4 @@
-//! How long a row is.
+//! The greatest length of a row.
 
-/// The most bytes of a row without its terminator.
+/// The greatest number of bytes of a row without its terminator.
 pub const ROW_LIMIT: usize = 1_048_576;

@@ -2,25 +2,25 @@
 ghost use Rattle.std.specs.Prelude.{◌≡◌};
 ghost use Rattle.csvw_records.specs.Scan.{quote_is, is_quoted, step_of};
 
+use crate::dialect::Dialect;
 use crate::stop::RowStop;
-use csvw_dialect::Dialect;
 
-/// Where in a field a character stands.
+/// The place of a character in a field.
 #[derive(Clone, Copy, Debug, PartialEq, Eq)]
 pub enum State {
-    /// At its start, or behind spaces that may be skipped.
+    /// At the start of the field, or after spaces that may be skipped.
     Start,
     /// In a field without quotes.
     Plain,
     /// Between its quotes.
     Inside,
-    /// Behind a backslash between its quotes.
+    /// After a backslash between its quotes.
     Escaped,
-    /// Behind a quote that closes it, or begins an escape.
+    /// After a quote that closes the field or begins an escape.
     Closed,
 }
 
-/// Whether a state is inside quotes.
+/// Returns whether a state is inside quotes.
 pub fn is_quoted(state: State) -> bool
     ensures { result ≡ is_quoted state }
 {
@@ -33,17 +33,17 @@ pub fn is_quoted(state: State) -> bool
 /// What a character does.
 #[derive(Clone, Copy, Debug, PartialEq, Eq)]
 pub enum Step {
-    /// It is the field's.
+    /// The character is part of the field.
     Keep(State),
-    /// It is no part of the field's value.
+    /// The character is not part of the field's value.
     Skip(State),
-    /// It opens the quotes; the spaces before it are no part of the field's value.
+    /// The character opens the quotes. The spaces before it are not part of the field's value.
     Open,
-    /// It ends the field, and another comes.
+    /// The character ends the field, and another field follows.
     Next,
-    /// It begins the row's terminator.
+    /// The character begins the row's terminator.
     End,
-    /// It breaks a rule.
+    /// The character breaks a rule.
     Stop(RowStop),
 }
 
@@ -56,7 +56,7 @@ fn is_quote(d: &Dialect, c: char) -> bool
     }
 }
 
-/// What a character does in a state, where a terminator begins with it or not.
+/// Returns what a character does in a state. `ends` says whether a terminator begins with it.
 pub fn next_step(d: &Dialect, state: State, c: char, ends: bool) -> Step
     ensures { result ≡ step_of d.now state c ends }
 {

@@ -1,30 +1,48 @@
-//! Why no more rows come.
+//! `RowStop`: why no more rows come.
+ghost use Rattle.std.specs.Prelude.{◌≡◌};
+ghost use Rattle.csvw_records.specs.StopNames.{name_of};
+
 use std::alloc::{AllocError, AllocFailed};
 use std::error::Error;
 use std::fmt;
 
-/// Why no more rows come. A stop stands at a character of the text, or at its end; at one place
-/// the order is `NotUtf8`, `RowTooLong`, the three on quotes, `TooManyRows`.
+/// Why no more rows come. A stop is at a character of the text, or at its end. At one place the order is `NotUtf8`,
+/// `RowTooLong`, the three on quotes, `TooManyRows`.
 #[derive(Clone, Copy, Debug, PartialEq, Eq)]
 pub enum RowStop {
-    /// There is no memory. It may come before any other.
+    /// Memory ran out. It may come before any other stop.
     Memory,
-    /// A byte doesn't go on in UTF-8, or the bytes end inside a character (RFC 3629).
+    /// A byte can't continue the text in UTF-8, or the bytes end inside a character (RFC 3629).
     NotUtf8,
     /// A row has more than 1,048,576 bytes without its terminator.
     RowTooLong,
-    /// A quote stands in a field that isn't quoted (RFC 4180, section 2, rule 5).
+    /// A field that isn't quoted contains a quote (RFC 4180, section 2, rule 5).
     BadQuote,
-    /// Neither a delimiter nor a terminator stands behind a closing quote (RFC 4180, section 2, rule 5).
+    /// Neither a delimiter nor a terminator follows a closing quote (RFC 4180, section 2, rule 5).
     TextAfterQuote,
     /// A quoted field has no closing quote (RFC 4180, section 2, rule 5).
     UnclosedQuote,
-    /// There are more rows, of all kinds, than the reader was told to take.
+    /// There are more rows, of all kinds, than the reader's limit.
     TooManyRows,
 }
 
 impl RowStop {
-    /// What is wrong and what to do, as a sentence without its full stop.
+    /// Returns the name of the variant, as the program's lines spell it.
+    pub fn name(&self) -> &'static str
+        ensures { result.now ≡ name_of self.now }
+    {
+        match self {
+            RowStop::Memory => "Memory",
+            RowStop::NotUtf8 => "NotUtf8",
+            RowStop::RowTooLong => "RowTooLong",
+            RowStop::BadQuote => "BadQuote",
+            RowStop::TextAfterQuote => "TextAfterQuote",
+            RowStop::UnclosedQuote => "UnclosedQuote",
+            RowStop::TooManyRows => "TooManyRows",
+        }
+    }
+
+    /// Returns what is wrong and what to do, as a sentence without its full stop.
     fn sentence(&self) -> &'static str {
         match self {
             RowStop::Memory => "there is no memory: free some, and try again",

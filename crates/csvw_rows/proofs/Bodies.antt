@@ -1,4 +1,4 @@
--- Body, with one row more.
+-- Body, with one more row.
 use Rattle.std.proofs.Common.{◌≡◌, ℕ, zero, suc, ◌+◌, ◌<◌, ◌==◌, Bool, true, false, ◌&&◌, if◌then◌else◌, List, [], ◌∷◌, ◌++◌, map, length, drop}
 use Rattle.std.proofs.Common.{Option, Some, None, refl, ap, ◌∙◌, arith, append-nil, length-append, encode_utf8_all}
 use Rattle.std.specs.Prelude.{filter_map}
@@ -6,8 +6,8 @@ use Rattle.std.specs.List.{enumerate_from, cons_option, list_all}
 use Rattle.std.specs.Char.{encode_utf8}
 use Rattle.std.proofs.lemmas.Str.{length-encode, len_utf8_bounds}
 use Rattle.std.proofs.lemmas.Bool.Decides.{nat_tests}
-use Rattle.csvw_dialect.specs.declared.dialect.Dialect.{Dialect}
-use Rattle.csvw_dialect.specs.declared.dialect.Trim.{Trim}
+use Rattle.csvw_records.specs.declared.dialect.Dialect.{Dialect}
+use Rattle.csvw_records.specs.declared.dialect.Trim.{Trim}
 use Rattle.csvw_records.specs.Grammar.{trimmed}
 use Rattle.csvw_records.specs.Files.{Row, Body, given, remaining, remaining_fields, is_empty}
 

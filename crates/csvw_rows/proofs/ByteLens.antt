@@ -1,4 +1,4 @@
--- How many bytes characters take.
+-- The number of bytes of characters.
 use Rattle.std.proofs.Common.{◌≡◌, ℕ, ◌+◌, ◌<◌, ◌≤◌, List, [], ◌∷◌, ◌++◌, length, take, get_or, ap, ◌∙◌, arith, append-nil, length-append, encode_utf8_all}
 use Rattle.std.proofs.Common.{drop}
 use Rattle.std.proofs.lemmas.Grind.{common_steps}

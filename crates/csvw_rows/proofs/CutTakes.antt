@@ -6,15 +6,15 @@ use Rattle.std.specs.Str.{is_utf8}
 use Rattle.std.proofs.lemmas.Bool.Decides.{nat_tests}
 use Rattle.std.proofs.lemmas.List.{drop-drop}
 use Rattle.std.proofs.lemmas.Str.{IsUtf8-from_is_utf8, is_utf8-from_IsUtf8, encodes-chars, encodes-append}
-use Rattle.csvw_dialect.specs.declared.dialect.Dialect.{Dialect}
+use Rattle.csvw_records.specs.declared.dialect.Dialect.{Dialect}
 use Rattle.csvw_fields.specs.declared.bound.Bound.{Bound}
-use Rattle.csvw_dialect.specs.declared.dialect.Trim.TheVariants.{No}
+use Rattle.csvw_records.specs.declared.dialect.Trim.TheVariants.{No}
 use Rattle.csvw_rows.specs.declared.rows.Rows.{Rows}
 use Rattle.csvw_fields.specs.Cuts.{IsCutRow, IsRowLen}
 use Rattle.csvw_records.specs.Files.{is_note, begins_with}
-use Rattle.csvw_dialect.specs.Lawful.{prefix_of}
+use Rattle.csvw_records.specs.Lawful.{prefix_of}
 use Rattle.csvw_records.specs.Grammar.{terminator_len, trimmed}
-use Rattle.csvw_dialect.specs.Lawful.{IsLawful}
+use Rattle.csvw_records.specs.Lawful.{IsLawful}
 use Rattle.csvw_records.specs.Lengths.{byte_len, row_limit}
 use Rattle.csvw_rows.specs.NextRows.{TakesRow, is_last}
 use Rattle.csvw_rows.specs.RowsState.{HasFields, after_of}

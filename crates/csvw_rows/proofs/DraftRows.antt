@@ -7,7 +7,7 @@ use Rattle.std.proofs.lemmas.Bool.{cases_lt}
 use Rattle.std.proofs.lemmas.Grind.{common_steps}
 use Rattle.std.proofs.lemmas.List.{drop-drop}
 use Rattle.std.proofs.lemmas.Str.{IsUtf8-from_is_utf8, is_utf8-from_IsUtf8, encodes-chars}
-use Rattle.csvw_dialect.specs.declared.dialect.Dialect.{Dialect}
+use Rattle.csvw_records.specs.declared.dialect.Dialect.{Dialect}
 use Rattle.csvw_rows.specs.declared.rows.Rows.{Rows}
 use Rattle.csvw_records.specs.declared.scan.State.TheVariants.{Start}
 use Rattle.csvw_records.specs.declared.stop.RowStop.TheVariants.{RowTooLong}
@@ -17,7 +17,7 @@ use Rattle.csvw_records.specs.Lengths.{byte_len, row_limit}
 use Rattle.csvw_records.specs.AtFront.{IsFound}
 use Rattle.csvw_records.specs.NextRow.{line_of, next_row, found_row}
 use Rattle.csvw_rows.specs.NextRows.{StopsHere, is_last}
-use Rattle.csvw_rows.specs.Notes.{NoneBegins}
+use Rattle.csvw_rows.specs.IgnoredRows.{NoneBegins}
 use Rattle.csvw_rows.specs.RowsState.{HasRow, HasFields, IsReadable, IsReadRow, IsNoteNext, IsNoteRead, HasNoEnd, after_of}
 use Rattle.csvw_records.specs.Scan.{pass}
 use Rattle.csvw_rows.specs.SourceState.{rest_bytes, rest_of}

@@ -1,14 +1,14 @@
--- What a reader gave, and the rows that come first.
+-- The rows that a reader gave, and the rows that come first.
 use Rattle.std.proofs.Common.{◌≡◌, ℕ, ◌+◌, true, false, List, [], ◌∷◌, ◌++◌, length, map, refl, sym, ap, ◌∙◌, subst, ◌⊎◌, inl, inr}
 use Rattle.std.specs.List.{enumerate_from}
-use Rattle.csvw_dialect.specs.declared.dialect.Dialect.{Dialect}
-use Rattle.csvw_dialect.specs.Lawful.{IsLawful}
+use Rattle.csvw_records.specs.declared.dialect.Dialect.{Dialect}
+use Rattle.csvw_records.specs.Lawful.{IsLawful}
 use Rattle.csvw_records.specs.Files.{Row, AreRows, EndsOpen, Front, Body, given, remaining, content, is_text, without_mark}
 use Rattle.csvw_rows.specs.SourceState.{rest_of}
 use Rattle.csvw_records.specs.RowValue.{Given}
 use Rattle.csvw_records.specs.Stops.{Begins}
 use Rattle.csvw_records.specs.FirstRows.{ComeFirst}
-use Rattle.csvw_rows.specs.Laws.{GivenBegin, GivenBeginLater, GivenFirst, GivenFirstLater, NothingGiven}
+use Rattle.csvw_rows.specs.GivenLaws.{GivenBegin, GivenBeginLater, GivenFirst, GivenFirstLater, NothingGiven}
 use Rattle.csvw_records.specs.FrontLaws.{Begun}
 use Rattle.csvw_rows.proofs.Bodies.{Body_append}
 use Rattle.csvw_rows.proofs.TextLemmas.{text_none}

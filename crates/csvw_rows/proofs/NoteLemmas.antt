@@ -9,11 +9,11 @@ use Rattle.std.proofs.lemmas.Bool.Decides.{nat_tests}
 use Rattle.std.proofs.lemmas.Grind.{common_steps}
 use Rattle.std.proofs.lemmas.List.{take-append-drop}
 use Rattle.std.proofs.lemmas.Str.{is_utf8-from_IsUtf8, IsUtf8-drop, IsCharBoundary-before_ascii, chars-nil, encodes-chars, encodes-append}
-use Rattle.csvw_dialect.specs.declared.dialect.Dialect.{Dialect}
+use Rattle.csvw_records.specs.declared.dialect.Dialect.{Dialect}
 use Rattle.csvw_records.specs.Grammar.{terminator_len}
 use Rattle.csvw_records.specs.Lengths.{byte_len}
 use Rattle.csvw_records.specs.NextRow.{settled, unsettled, line_of}
-use Rattle.csvw_rows.specs.Notes.{NoneBegins, IsNoted}
+use Rattle.csvw_rows.specs.IgnoredRows.{NoneBegins, IsNoted}
 use Rattle.csvw_rows.proofs.TextLemmas.{split_chars, front_text, text_gone, drop_more}
 use Rattle.csvw_rows.proofs.ByteLens.{byte_len_past}
 use Rattle.csvw_records.specs.TerminatorLaws.{is_break, BeginsBreak}

@@ -1,10 +1,10 @@
--- What stands at the front where no row is taken: the front of a row that goes on, one that is too long, or a broken rule.
+-- The front if no row is taken: the front of an unfinished row, a row that is too long, or a broken rule.
 use Rattle.std.proofs.Common.{◌≡◌, ◌≢◌, ◌∙◌, ℕ, ◌<◌, ◌≤◌, Bool, true, false, not, ◌&&◌, if◌then◌else◌, List, [], ◌++◌, length, take, drop, refl, sym}
 use Rattle.std.proofs.Common.{ap, subst, arith, length-append, length-take, ◌⊎◌, inl, inr, chars}
 use Rattle.std.specs.Str.{is_utf8}
 use Rattle.std.proofs.lemmas.Grind.{common_steps}
 use Rattle.std.proofs.lemmas.Str.{IsUtf8-from_is_utf8, encodes-chars}
-use Rattle.csvw_dialect.specs.declared.dialect.Dialect.{Dialect}
+use Rattle.csvw_records.specs.declared.dialect.Dialect.{Dialect}
 use Rattle.csvw_fields.specs.declared.draft.Draft.{Draft}
 use Rattle.csvw_rows.specs.declared.rows.Rows.{Rows}
 use Rattle.csvw_records.specs.declared.scan.State.TheVariants.{Start}

@@ -1,4 +1,4 @@
--- How many bytes show that a rule is broken.
+-- The number of bytes that show that a rule is broken.
 use Rattle.std.proofs.Common.{◌≡◌, ◌∙◌, ℕ, ◌+◌, ◌<◌, ◌≤◌, Bool, true, false, ◌&&◌, ◌==◌, List, [], ◌∷◌, ◌++◌, length, take, drop, get_or, refl, sym}
 use Rattle.std.proofs.Common.{ap, arith, length-take, ◌⊎◌, inl, inr, chars}
 use Rattle.std.specs.Prelude.{IsUtf8, max}
@@ -8,8 +8,8 @@ use Rattle.std.proofs.lemmas.Bool.Decides.{nat_tests}
 use Rattle.std.proofs.lemmas.Grind.{common_steps}
 use Rattle.std.proofs.lemmas.List.{take-append-drop, append_cancel_right}
 use Rattle.std.proofs.lemmas.Str.{encodes-chars, length-le-encodes}
-use Rattle.csvw_dialect.specs.declared.dialect.Dialect.{Dialect}
-use Rattle.csvw_dialect.specs.Lawful.{prefix_of}
+use Rattle.csvw_records.specs.declared.dialect.Dialect.{Dialect}
+use Rattle.csvw_records.specs.Lawful.{prefix_of}
 use Rattle.csvw_records.specs.Lengths.{byte_len}
 use Rattle.csvw_records.specs.AtFront.{IsPrefixLen, IsCr, IsShownAt, IsShown, IsShownLen}
 use Rattle.csvw_rows.proofs.TextLemmas.{split_chars}

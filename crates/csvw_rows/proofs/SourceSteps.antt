@@ -1,4 +1,4 @@
--- Text that is added behind what is there.
+-- Text that is added after the text that is there.
 use Rattle.std.proofs.Common.{◌≡◌, ◌∙◌, ℕ, true, List, ◌++◌, if◌then◌else◌, ap, chars, Ok, Err}
 use Rattle.std.specs.Prelude.{IsUtf8, Result, is_ok, OnOk}
 use Rattle.std.specs.Str.{is_utf8}

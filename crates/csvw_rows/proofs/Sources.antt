@@ -1,4 +1,4 @@
--- What a source has decoded.
+-- The bytes that a source has decoded.
 use Rattle.std.proofs.Common.{◌≡◌, ℕ, zero, suc, Bool, true, false, not, ◌==◌, if◌then◌else◌, List, [], ◌∷◌, ◌++◌, length, take, drop, refl, sym, ap, ◌∙◌}
 use Rattle.std.proofs.Common.{arith, chars}
 use Rattle.std.specs.Prelude.{is_some}

@@ -1,4 +1,4 @@
--- Bytes and the text that they are.
+-- Bytes and their text.
 use Rattle.std.proofs.Common.{◌≡◌, ℕ, zero, suc, ◌+◌, ◌≤◌, Bool, true, false, ◌==◌, List, [], ◌∷◌, ◌++◌, length, take, drop, refl, sym, ap, ◌∙◌, arith}
 use Rattle.std.proofs.Common.{length-drop, chars, subst, length-append}
 use Rattle.std.specs.Prelude.{IsUtf8, encode_utf8_all}

@@ -1,6 +1,6 @@
-pub mod Laws
+pub mod GivenLaws
 pub mod NextRows
-pub mod Notes
+pub mod IgnoredRows
 pub mod RowValue
 pub mod RowsLending
 pub mod RowsState

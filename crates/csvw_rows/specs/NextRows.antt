@@ -1,6 +1,6 @@
--- What stands at the front, behind so many rows.
+-- The row or the stop at the start of the text that is left, after a number of rows.
 use Rattle.std.specs.Prelude.{◌≡◌, ◌≢◌, ◌⊎◌, ℕ, ◌<◌, ◌≤◌, Bool, true, false, List, [], ◌++◌, length, take, drop, Option}
-use Rattle.csvw_dialect.specs.declared.dialect.Dialect.{Dialect}
+use Rattle.csvw_records.specs.declared.dialect.Dialect.{Dialect}
 use Rattle.csvw_records.specs.declared.stop.RowStop.{RowStop}
 use Rattle.csvw_records.specs.declared.stop.RowStop.TheVariants.{Memory, NotUtf8}
 use Rattle.csvw_rows.specs.declared.next.After.{After}
@@ -11,13 +11,13 @@ use Rattle.csvw_records.specs.Lengths.{byte_len, row_limit}
 use Rattle.csvw_records.specs.PartOfRow.{Goes, NoRow, NoLast, FirstEnd}
 use Rattle.csvw_records.specs.Stops.{IsNamed}
 
--- whether the text has ended, all of it being characters
+-- whether the text has ended and all of it is characters
 abbrev pub is_last : After → Bool
 is_last More = false
 is_last Nothing = true
 is_last NoText = false
 
--- a row with its terminator, or the last one, which may lack it
+-- a row with its terminator, or the last row, which may have none
 abbrev pub StandsThere : Bool → Dialect → ℕ → ℕ → List ℕ → ℕ → Row → Type 0
 StandsThere whole d max i text len row = ((rest : List ℕ) × (text ≡ row.text ++ rest) × IsRow d i row rest × (0 < terminator_len d rest)
     × (drop len text ≡ drop (terminator_len d rest) rest))
@@ -32,7 +32,7 @@ pub record TakesRow (whole : Bool) (d : Dialect) (max i : ℕ) (text : List ℕ)
   pub short : byte_len row.text ≤ row_limit
   pub stands : StandsThere whole d max i text len row
 
--- the stop stands at a character, or at the end
+-- the stop is at a character, or at the end
 pub record StopsHere (whole : Bool) (d : Dialect) (max i : ℕ) (text : List ℕ) (stop : RowStop) : Type 0 where
   pub some : text ≢ []
   pub no_row : NoRow d max i text

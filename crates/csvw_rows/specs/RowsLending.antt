@@ -1,4 +1,4 @@
--- What a reader is once the row that it lent is let go, and what the row shows.
+-- The state of a reader after the loan of a row, and the row that it lends.
 use Rattle.std.specs.Prelude.{◌≡◌, ◌<◌, ⊤, Option, Result, Ok, Err, Some, None}
 use Rattle.std.specs.Borrow.{follows_so, MutBor, Fml}
 use Rattle.csvw_rows.specs.declared.rows.Rows.{Rows}
@@ -9,8 +9,8 @@ use Rattle.csvw_rows.specs.RowValue.{row_of}
 use Rattle.csvw_rows.specs.RowsState.{is_ended_of, unread, reading_of, Stays, Gives, IsDone, IsReading, IsStopped, stop_of}
 use mathlib.Core.Option.{none}
 
--- The row is given. Or all were, no stop stands, an ended text is a file, and the row that is being read is known. Or the stop stands
--- behind all rows; a stop that was returned before is returned again, and the row that is being read stays the same.
+-- The row is given. Or all rows were given, there is no stop, an ended text is a file, and the row that is being read is known. Or there is a stop, which
+-- is after all rows unless it is `Memory`. A stop that was returned before is returned again, and the row that is being read stays the same.
 abbrev pub Reads : Rows → Rows → Result (Option RawRow) RowStop → Type 0
 Reads old new (Ok (Some row)) = (is_ended_of new ≡ is_ended_of old) × (unread new < unread old) × Gives old new (row_of row) × (stop_of old ≡ None)
     × (stop_of new ≡ None)

@@ -1,7 +1,7 @@
--- What a reader of rows stands for: all bytes so far, whether they ended, and the rows given.
+-- The state of a reader of rows: all bytes so far, whether they ended, and the rows that it returned.
 use Rattle.std.specs.Prelude.{◌≡◌, ◌≢◌, ◌⊎◌, ℕ, ◌+◌, ◌-◌, ◌<◌, ◌≤◌, Bool, true, false, not, ◌&&◌, ◌||◌, ◌==◌, if◌then◌else◌, List, [], ◌∷◌, ◌++◌}
 use Rattle.std.specs.Prelude.{take, drop, length, map, chars, encode_utf8_all, Option, Some, None, Result, Ok, Err}
-use Rattle.csvw_dialect.specs.declared.dialect.Dialect.{Dialect}
+use Rattle.csvw_records.specs.declared.dialect.Dialect.{Dialect}
 use Rattle.csvw_rows.specs.declared.rows.Rows.{Rows}
 use Rattle.csvw_records.specs.declared.stop.RowStop.{RowStop}
 use Rattle.csvw_records.specs.declared.stop.RowStop.TheVariants.{Memory}
@@ -15,7 +15,7 @@ use Rattle.csvw_records.specs.RowValue.{Given}
 use Rattle.csvw_rows.specs.SourceState.{text_items, rest_bytes, rest_of, is_bad_of, pending_of, begun_of, Decodes}
 use Rattle.csvw_records.specs.Grammar.{trimmed}
 use Rattle.csvw_records.specs.NextRow.{settled, line_of, may_be_note}
-use Rattle.csvw_rows.specs.Notes.{NoneBegins}
+use Rattle.csvw_rows.specs.IgnoredRows.{NoneBegins}
 use Rattle.csvw_rows.specs.NextRows.{Waits, StopGives, TakesRow, is_last}
 use Rattle.csvw_records.specs.Lengths.{byte_len}
 use Rattle.csvw_records.specs.AtFront.{IsWrong}
@@ -32,7 +32,7 @@ use Rattle.std.specs.Str.{is_utf8}
 abbrev pub is_ended_of : Rows → Bool
 is_ended_of s = s.ended
 
--- the stop that was answered, if one was
+-- the stop that was returned, if there was one
 abbrev pub stop_of : Rows → Option RowStop
 stop_of s = s.stop
 
@@ -40,11 +40,11 @@ stop_of s = s.stop
 abbrev pub reading_of : Rows → ℕ
 reading_of s = s.row + 1
 
--- how many characters aren't read: each row that is given makes it less
+-- the number of characters that aren't read; each row that is given makes it smaller
 abbrev pub unread : Rows → ℕ
 unread s = length (rest_of s.source)
 
--- what comes behind the characters that there are
+-- what comes after the characters that there are
 abbrev pub after_of : Rows → After
 after_of s = if is_bad_of s.source || (s.ended && not (length (pending_of s.source) == 0)) then NoText else (if s.ended then Nothing else More)
 
@@ -54,7 +54,7 @@ pub record HasRead (d : Dialect) (max : ℕ) (bytes : List ℕ) (ended : Bool) (
   pub reached : AreRows d 0 (content bytes) rows rest
       ⊎ ((ended ≡ true) × (is_text bytes ≡ true) × EndsOpen d (content bytes) rows × (rest ≡ []) × Begins d max (content bytes))
 
--- no stop was answered, and these rows were given
+-- no stop was returned, and these rows were given
 pub record Holds (s : Rows) (d : Dialect) (max : ℕ) (bytes : List ℕ) (ended : Bool) (given : List Given) : Type 0 where
   pub dialect : s.rules.dialect ≡ d
   pub max_is : s.max_rows ≡ max
@@ -84,7 +84,7 @@ pub record HasGiven (d : Dialect) (max : ℕ) (bytes : List ℕ) (ended : Bool) 
 abbrev pub NoStop : Dialect → ℕ → List ℕ → Bool → Type 0
 NoStop d max bytes ended = (stop : RowStop) (row : ℕ) → StopOf d max bytes ended stop row → ⊥
 
--- what it stands for where nothing changes
+-- the state if nothing changes
 abbrev pub Stays : Rows → Rows → Type 0
 Stays old new = (d : Dialect) (max : ℕ) (bytes : List ℕ) (ended : Bool) (given : List Given) → Holds old d max bytes ended given
     → Holds new d max bytes ended given
@@ -94,17 +94,17 @@ abbrev pub Gives : Rows → Rows → Given → Type 0
 Gives old new row = (d : Dialect) (max : ℕ) (bytes : List ℕ) (ended : Bool) (given : List Given) → Holds old d max bytes ended given
     → Holds new d max bytes ended (given ++ row ∷ [])
 
--- all rows were given, no stop stands, and at the end the bytes are a file
+-- all rows were given, there is no stop, and at the end the bytes are a file
 abbrev pub IsDone : Rows → Type 0
 IsDone old = (d : Dialect) (max : ℕ) (bytes : List ℕ) (ended : Bool) (given : List Given) → Holds old d max bytes ended given
     → HasGiven d max bytes ended given × NoStop d max bytes ended × (ended ≡ true → IsWhole d max bytes)
 
--- the source number of the row that is being read is one more than there are complete rows
+-- the source number of the row that is being read is the number of complete rows plus one
 abbrev pub IsReading : Rows → ℕ → Type 0
 IsReading old row = (d : Dialect) (max : ℕ) (bytes : List ℕ) (ended : Bool) (given : List Given) → Holds old d max bytes ended given
     → (front : List Row) × Front d max bytes ended front × (row ≡ length front + 1)
 
--- all rows were given, and the stop stands behind them
+-- all rows were given, and the stop is after them; of `Memory` nothing is said
 abbrev pub IsStopped : Rows → RowStop → ℕ → Type 0
 IsStopped old stop row = stop ≢ Memory → (d : Dialect) (max : ℕ) (bytes : List ℕ) (ended : Bool) (given : List Given) → Holds old d max bytes ended given
     → HasGiven d max bytes ended given × StopOf d max bytes ended stop row
@@ -125,20 +125,20 @@ abbrev pub Closes : Rows → Rows → Result Unit RowStop → Type 0
 Closes old new (Ok x) = (d : Dialect) (max : ℕ) (bytes : List ℕ) (given : List Given) → Holds old d max bytes false given → Holds new d max bytes true given
 Closes old new (Err e) = stop_of old ≡ Some e
 
--- after a call that reads on to a row that is given
+-- after a call that reads up to a row that is given
 abbrev pub Advances : Rows → Rows → Result Bool RowStop → Type 0
 Advances old new (Ok true) = (is_ended_of new ≡ is_ended_of old) × (unread new < unread old) × Gives old new (last_of new)
 Advances old new (Ok false) = (is_ended_of new ≡ is_ended_of old) × Stays old new × IsDone old × IsReading old (reading_of new)
 Advances old new (Err e) = (is_ended_of new ≡ is_ended_of old) × IsStopped old e (reading_of new)
 
--- after a call that reads one row on
+-- after a call that reads one more row
 abbrev pub Turns : Rows → Rows → Result Turn RowStop → Type 0
 Turns old new (Ok turn.Given) = (is_ended_of new ≡ is_ended_of old) × (unread new < unread old) × Gives old new (last_of new)
 Turns old new (Ok turn.Passed) = (is_ended_of new ≡ is_ended_of old) × (unread new < unread old) × Stays old new
 Turns old new (Ok turn.Waits) = (is_ended_of new ≡ is_ended_of old) × Stays old new × IsDone old × IsReading old (reading_of new)
 Turns old new (Err e) = (is_ended_of new ≡ is_ended_of old) × IsStopped old e (reading_of new)
 
--- all but the text that isn't taken, the fields and how many rows remained stays, and one more row is read
+-- all but the text that isn't taken, the fields and the number of rows that remained stays, and one more row is read
 pub record Passes (old new : Rows) (len : ℕ) : Type 0 where
   pub rules : new.rules ≡ old.rules
   pub max_rows : new.max_rows ≡ old.max_rows
@@ -156,7 +156,7 @@ pub record AreFront (s : Rows) (bytes len : ℕ) : Type 0 where
   pub is_text : is_utf8 (drop bytes (rest_bytes s.source)) ≡ true
   pub same : chars (drop bytes (rest_bytes s.source)) ≡ drop len (rest_of s.source)
 
--- a row of so many bytes stands at the front, with these fields
+-- a row of so many bytes is at the front, with these fields
 pub record HasRow (s : Rows) (bytes : ℕ) (fields : Option (List (List ℕ))) : Type 0 where
   pub len : ℕ
   pub front : AreFront s bytes len
@@ -185,7 +185,7 @@ pub record IsReadable (s : Rows) : Type 0 where
   pub note : is_note s.rules.dialect s.row (rest_of s.source) ≡ false
   pub may_not : is_last (after_of s) ≡ false → may_be_note s.rules.dialect (rest_of s.source) ≡ false
 
--- the row at the front ends behind so many bytes, and its fields were found
+-- the row at the front ends after so many bytes, and its fields were found
 pub record IsReadRow (s : Rows) (len : ℕ) : Type 0 where
   pub values : List (List ℕ)
   pub within : len ≤ length (rest_bytes s.source)
@@ -199,12 +199,12 @@ pub record IsWrongRow (s : Rows) (len : ℕ) (stop : RowStop) : Type 0 where
   pub wrong : IsWrong (is_last (after_of s)) s.rules.dialect s.row (rest_of s.source) count stop
   pub bytes : byte_len (take count (rest_of s.source)) ≡ len
 
--- no row is complete at the front, and what is there may go on to one
+-- no row is complete at the front, and the text there may become one
 abbrev pub WaitsThere : Rows → Type 0
 WaitsThere s = Goes s.rules.dialect s.max_rows s.row (rest_of s.source) × NoRow s.rules.dialect s.max_rows s.row (rest_of s.source)
     × (after_of s ≡ Nothing → rest_of s.source ≡ [])
 
--- no row is complete at the front, and so many bytes are sure to be the next one's
+-- no row is complete at the front, and so many bytes belong to the next one for sure
 pub record IsOpenFront (s : Rows) (len : ℕ) : Type 0 where
   pub some : rest_of s.source ≢ []
   pub few : s.row < s.max_rows
@@ -223,13 +223,13 @@ pub record IsNoteNext (s : Rows) : Type 0 where
   pub few : s.row < s.max_rows
   pub note : is_note s.rules.dialect s.row (rest_of s.source) ≡ true
 
--- it ends behind so many bytes
+-- it ends after so many bytes
 pub record IsNoteRead (s : Rows) (len : ℕ) : Type 0 where
   pub within : len ≤ length (rest_bytes s.source)
   pub back : is_utf8 (drop len (rest_bytes s.source)) ≡ true
   pub line : line_of (is_last (after_of s)) s.rules.dialect (rest_of s.source) ≡ Some (chars (drop len (rest_bytes s.source)))
 
--- no terminator stands there
+-- no terminator is there
 abbrev pub HasNoEnd : Rows → Type 0
 HasNoEnd s = NoneBegins s.rules.dialect (rest_bytes s.source) 0 (length (rest_bytes s.source))
 
@@ -243,7 +243,7 @@ pub record IsSettledLen (s : Rows) (len : ℕ) : Type 0 where
   pub chars : chars (take len (rest_bytes s.source)) ≡ settled s.rules.dialect (rest_of s.source)
   pub text : is_utf8 (take len (rest_bytes s.source)) ≡ true
 
--- how many bytes are sure to be the row's where it is unfinished
+-- how many bytes of an unfinished row belong to it for sure
 abbrev pub sure_of : Rows → ℕ
 sure_of s = if is_quoted (state_of s.draft) then length (rest_bytes s.source) else read_of s.draft
 

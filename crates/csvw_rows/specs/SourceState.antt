@@ -1,4 +1,4 @@
--- What a source of text holds.
+-- The state of a source of text.
 use Rattle.std.specs.Prelude.{◌≡◌, ℕ, Bool, not, List, ◌++◌, drop, is_some, chars}
 use Rattle.std.specs.Str.Lossy.{utf8_valid_len, utf8_error_len}
 use Rattle.csvw_rows.specs.declared.source.Source.{Source}
@@ -20,11 +20,11 @@ rest_bytes s = drop s.taken s.text.items
 abbrev pub rest_of : Source → List ℕ
 rest_of s = chars (rest_bytes s)
 
--- whether the bytes are no UTF-8, whatever follows
+-- whether the bytes are not UTF-8, whatever follows
 abbrev pub is_bad_of : Source → Bool
 is_bad_of s = s.is_bad
 
--- the bytes at the end that are no whole character
+-- the bytes at the end that are not a whole character
 abbrev pub pending_of : Source → List ℕ
 pending_of s = s.pending.items
 
@@ -37,11 +37,11 @@ pub record Decodes (s : Source) (bytes : List ℕ) : Type 0 where
   pub pending : pending_of s ≡ drop (utf8_valid_len bytes) bytes
   pub bad : is_bad_of s ≡ is_some (utf8_error_len (drop (utf8_valid_len bytes) bytes))
 
--- it decodes some more: there are more characters behind those that aren't taken, which the text has too
+-- it decodes some more bytes: more characters follow those that aren't taken, and the text has them too
 abbrev pub Pushes : Source → Source → List ℕ → Type 0
 Pushes old new piece = (bytes : List ℕ) → Decodes old bytes → Decodes new (bytes ++ piece)
     × ((more : List ℕ) × (rest_of new ≡ rest_of old ++ more) × (content (bytes ++ piece) ≡ content bytes ++ more))
 
--- there are more characters behind those that aren't taken
+-- more characters follow those that aren't taken
 abbrev pub Grows : Source → Source → Type 0
 Grows old new = (more : List ℕ) × (rest_of new ≡ rest_of old ++ more)

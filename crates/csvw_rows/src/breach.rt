@@ -1,12 +1,12 @@
-//! How much of a row shows that a rule is broken in it.
+//! How many bytes of a row show that a rule is broken in it.
 ghost use Rattle.std.specs.Prelude.{◌≡◌, ◌≤◌, ◌==◌, ◌&&◌, true, drop, take, length, chars};
 ghost use Rattle.std.specs.Str.{is_utf8};
 ghost use Rattle.csvw_records.specs.AtFront.{IsShownAt, IsShownLen};
 
-use csvw_dialect::Dialect;
 use csvw_fields::{Rules, char_count, front_len};
+use csvw_records::Dialect;
 
-/// Whether this is a CR in a dialect where LF may follow to make it a terminator, and any other character
+/// Returns whether this is a CR in a dialect in which a following LF makes it a terminator, and any other character
 /// makes it text.
 fn is_cr(d: &Dialect, c: char) -> bool
     ensures { result ≡ (d.now.line_terminators.crlf && (c == 13)) }
@@ -14,8 +14,8 @@ fn is_cr(d: &Dialect, c: char) -> bool
     d.line_terminators.crlf && c == '\r'
 }
 
-/// Which character, from 0, is the last that it takes to see that a rule is broken at a byte: a CR that
-/// may begin a terminator is judged with the next one.
+/// Returns the last character, from 0, that must be known to see that a rule is broken at a byte. A CR that may begin
+/// a terminator is judged with the next character.
 fn shown_at(d: &Dialect, rest: &str, at: usize) -> usize
     requires within { at ≤ length rest.now }
     requires text { is_utf8 (drop at rest.now) ≡ true }
@@ -29,8 +29,8 @@ fn shown_at(d: &Dialect, rest: &str, at: usize) -> usize
     if is_cr(d, next) { count + 1 } else { count }
 }
 
-/// How many bytes of the text show that a rule is broken at a byte of it, or at its end. A row that may
-/// be a comment is judged with the character that shows that it is none.
+/// Returns how many bytes of the text show that a rule is broken at a byte of it, or at its end. A row that may be a
+/// comment is judged with the character that shows that it is not a comment.
 pub(crate) fn shown_len(rules: &Rules, rest: &str, at: usize) -> usize
     requires within { at ≤ length rest.now }
     requires text { is_utf8 (drop at rest.now) ≡ true }

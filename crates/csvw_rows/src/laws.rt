@@ -1,36 +1,36 @@
-//! Laws of what a reader gave. The calls do nothing.
-ghost use Rattle.csvw_rows.specs.Laws.{GivenBegin, GivenBeginLater, GivenFirst, GivenFirstLater, NothingGiven};
+//! Laws of the rows that a reader gave. The calls do nothing.
+ghost use Rattle.csvw_rows.specs.GivenLaws.{GivenBegin, GivenBeginLater, GivenFirst, GivenFirstLater, NothingGiven};
 
 use csvw_records::laws::record_laws;
 
-/// The rows that a reader gave begin the rows of its front.
+/// A law: the rows that a reader gave begin the rows of its front.
 pub fn given_begin()
     ensures { GivenBegin }
 {
     record_laws();
 }
 
-/// The rows that a reader gave of bytes that haven't ended begin the rows of the front of all that they
-/// go on to.
+/// A law: the rows that a reader gave of bytes that haven't ended begin the rows of the front of all bytes that begin
+/// with those.
 pub fn given_begin_later()
     ensures { GivenBeginLater }
 {
     record_laws();
 }
 
-/// What a reader gave are the header rows and data rows of rows that come first in its text.
+/// A law: the rows that a reader gave are the header rows and data rows of rows that come first in its text.
 pub fn given_first()
     ensures { GivenFirst }
 {}
 
-/// What a reader gave of bytes that haven't ended comes first in all that they go on to.
+/// A law: the rows that a reader gave of bytes that haven't ended come first in all bytes that begin with those.
 pub fn given_first_later()
     ensures { GivenFirstLater }
 {
     record_laws();
 }
 
-/// Of nothing read nothing was given.
+/// A law: if nothing was read, nothing was given.
 pub fn nothing_given()
     ensures { NothingGiven }
 {

@@ -1,26 +1,26 @@
-//! What stands at the front of the text that no row has yet.
+//! What is known of the front of the text that is in no row yet.
 ghost use Rattle.std.specs.Prelude.{◌≡◌};
 ghost use Rattle.csvw_rows.specs.NextRows.{is_last};
 
 use csvw_records::RowStop;
 
-/// What comes behind the characters that there are.
+/// What comes after the characters that there are.
 #[derive(Clone, Copy, Debug, PartialEq, Eq)]
 pub enum After {
     /// More characters may come.
     More,
     /// Nothing: the text has ended.
     Nothing,
-    /// Bytes that are no UTF-8, or that end inside a character.
+    /// Bytes that are not UTF-8, or that end inside a character.
     NoText,
 }
 
-/// What reading one row on came to.
+/// The result of reading one more row.
 #[derive(Clone, Copy, Debug, PartialEq, Eq)]
 pub enum Turn {
     /// A row with fields is there.
     Given,
-    /// A row was read that gives nothing.
+    /// A row was read that is not given.
     Passed,
     /// No row is complete.
     Waits,
@@ -29,9 +29,9 @@ pub enum Turn {
 /// What the bytes at the front are known to be.
 #[derive(Clone, Copy, Debug, PartialEq, Eq)]
 pub enum Known {
-    /// A row of so many bytes, its terminator among them, whose fields were found.
+    /// A row of so many bytes with its terminator, whose fields were found.
     Row(usize),
-    /// A row of so many bytes, its terminator among them, that is skipped or a comment.
+    /// A row of so many bytes with its terminator, which is skipped or a comment.
     Note(usize),
     /// No row is complete.
     Waits,
@@ -39,7 +39,7 @@ pub enum Known {
     Stop(RowStop),
 }
 
-/// Whether the text has ended.
+/// Returns whether the text has ended and all of it is characters.
 pub fn is_last(after: After) -> bool
     ensures { result ≡ is_last after }
 {

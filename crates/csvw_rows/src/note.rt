@@ -1,10 +1,10 @@
-//! Rows without fields: those that are skipped, and comments.
-ghost use Rattle.csvw_rows.specs.Notes.{IsLineEnd};
+//! Rows without fields: skipped rows and comments.
+ghost use Rattle.csvw_rows.specs.IgnoredRows.{IsLineEnd};
 
-use csvw_dialect::Dialect;
 use csvw_fields::terminator_at;
+use csvw_records::Dialect;
 
-/// Where the first terminator stands that begins at this place or behind it.
+/// Returns the place of the first terminator that begins at `from` or after it.
 pub fn line_end(d: &Dialect, text: &[u8], from: usize) -> Option<usize>
     ensures { IsLineEnd d.now text.now from result }
 {

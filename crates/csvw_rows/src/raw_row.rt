@@ -1,4 +1,4 @@
-//! A row that a reader lends.
+//! `RawRow`: a row that a reader lends.
 ghost use Rattle.std.specs.Prelude.{◌≡◌, ◌<◌, true, length, Some, slice_get};
 ghost use Rattle.csvw_fields.specs.Bounds.{are_bounds, fields_at};
 
@@ -11,11 +11,11 @@ pub struct RawRow<'a> {
     text: &'a [u8],
     /// The second buffer.
     spare: &'a [u8],
-    /// Where the texts of the fields lie in both.
+    /// The bounds of the texts of the fields.
     bounds: &'a [Bound],
-    /// Its number in its source, from 1.
+    /// The number of the row in its source, from 1.
     source: u64,
-    /// Its number among the data rows, from 1; 0 for a header row.
+    /// The number of the row among the data rows, from 1. It is 0 for a header row.
     number: u64,
     ghost bounded: { are_bounds text.now spare.now bounds.now ≡ true },
 }
@@ -23,7 +23,7 @@ pub struct RawRow<'a> {
 impl<'a> RawRow<'a> {
     ghost use Rattle.csvw_rows.specs.RowValue.{row_of};
 
-    /// A row of the fields that lie there, with its two numbers.
+    /// Returns a row of the fields with these bounds, and its two numbers.
     pub(crate) fn new(
         text: &'a [u8],
         spare: &'a [u8],
@@ -45,14 +45,14 @@ impl<'a> RawRow<'a> {
         }
     }
 
-    /// How many fields it has, without the dialect's skipped columns.
+    /// Returns the number of fields, without the dialect's skipped columns.
     pub fn len(&self) -> usize
         ensures { result ≡ length (row_of self.now).fields }
     {
         self.bounds.len()
     }
 
-    /// The text of a field, from 0: what its escapes stand for, trimmed by the dialect.
+    /// Returns the text of field `i`, from 0: its escapes are replaced, and it is trimmed by the dialect.
     pub fn field(&self, i: usize) -> &'a str
         requires { i < length (row_of self.now).fields }
         ensures { slice_get (row_of self.now).fields i ≡ Some result.now }
@@ -60,14 +60,14 @@ impl<'a> RawRow<'a> {
         text_at(self.text, self.spare, self.bounds[i])
     }
 
-    /// Its source number, from 1: skipped, comment, blank and header rows count.
+    /// Returns the source number, from 1. Skipped rows, comments, blank rows and header rows count.
     pub fn source(&self) -> u64
         ensures { result ≡ (row_of self.now).source }
     {
         self.source
     }
 
-    /// Its row number among the data rows, from 1; 0 for a header row.
+    /// Returns the row number among the data rows, from 1. It is 0 for a header row.
     pub fn number(&self) -> u64
         ensures { result ≡ (row_of self.now).number }
     {

@@ -1,12 +1,12 @@
-//! A reader of rows.
+//! `Rows`: a reader of rows.
 ghost use Rattle.std.specs.Prelude.{◌≡◌, ◌≤◌, ◌<◌, ◌-◌, ◌+◌, ◌^◌, ℕ, true, false, [], length, drop, map, encode_utf8_all, IfOk, OnOk, IfSome, Some, Ok};
 ghost use Rattle.std.specs.Str.{is_utf8};
 ghost use Rattle.std.specs.Borrow.{sem};
 ghost use Rattle.csvw_fields.specs.Bounds.{are_bounds};
-ghost use Rattle.csvw_dialect.specs.Lawful.{IsLawful};
+ghost use Rattle.csvw_records.specs.Lawful.{IsLawful};
 ghost use Rattle.csvw_fields.specs.Drafts.{IsDraft};
 ghost use Rattle.csvw_fields.specs.Marked.{Marked};
-ghost use Rattle.csvw_rows.specs.Notes.{IsNoted};
+ghost use Rattle.csvw_rows.specs.IgnoredRows.{IsNoted};
 ghost use Rattle.csvw_rows.specs.SourceState.{rest_bytes};
 
 use crate::breach::shown_len;
@@ -14,11 +14,10 @@ use crate::next::{After, Known, Turn, is_last};
 use crate::note::line_end;
 use crate::raw_row::RawRow;
 use crate::source::Source;
-use csvw_dialect::Dialect;
 use csvw_fields::laws::field_laws;
 use csvw_fields::{Bound, Cutter, Draft, Marks, Reading, Rules, all_empty, settled, terminator_at};
 use csvw_records::laws::record_laws;
-use csvw_records::{ROW_LIMIT, RowStop, is_quoted};
+use csvw_records::{Dialect, ROW_LIMIT, RowStop, is_quoted};
 use std::alloc::{AllocError, Global};
 
 /// A reader of the rows of a text that comes in pieces of bytes.
@@ -26,27 +25,27 @@ use std::alloc::{AllocError, Global};
 pub struct Rows {
     /// The rules of the dialect.
     rules: Rules,
-    /// The most rows of all kinds.
+    /// The greatest number of rows of all kinds.
     max_rows: u64,
     /// The text that wasn't read yet.
     source: Source,
     /// Whether the text has ended.
     ended: bool,
-    /// How many rows of all kinds were read.
+    /// The number of rows of all kinds that were read.
     row: u64,
-    /// How many of them were header rows or data rows.
+    /// The number of header rows and data rows among them.
     remained: u64,
-    /// Which bytes behind a place are symbols.
+    /// The bytes after a place that are symbols.
     marks: Marks,
-    /// Where the fields lie that were read last.
+    /// The bounds of the fields that were read last.
     fields: Vec<Bound>,
-    /// The texts of those whose quotes were doubled.
+    /// The texts of the fields whose quotes were doubled.
     spare: Vec<u8>,
     /// The front of a row that wasn't complete.
     draft: Draft,
-    /// How many bytes at the front are known to be a comment's or a skipped row's.
+    /// The number of bytes at the start that belong to a comment or a skipped row for sure.
     note: usize,
-    /// The stop that was answered, if one was.
+    /// The stop that was returned, if there was one.
     stop: Option<RowStop>,
     ghost few: { max_rows < 2 ^ 64 - 1 },
     ghost counted: { row ≤ max_rows },
@@ -68,8 +67,9 @@ impl Rows {
     ghost use Rattle.csvw_rows.specs.RowValue.{row_of};
     ghost use Rattle.csvw_rows.specs.NextRows.{is_last};
 
-    /// A reader of no bytes yet, which takes at most so many rows of all kinds; `AllocError` where there is
-    /// no memory. The dialect has to pass `check`.
+    /// Returns a reader of no bytes yet, or `AllocError` if memory runs out.
+    ///
+    /// The reader reads at most `max_rows` rows of all kinds. The dialect must have passed `check`.
     pub fn new(alloc: Global, dialect: Dialect, max_rows: u64) -> Result<Rows, AllocError>
         requires lawful { IsLawful dialect }
         requires few { max_rows < 2 ^ 64 - 1 }
@@ -93,21 +93,23 @@ impl Rows {
         })
     }
 
-    /// Whether the text has ended: `end` was called.
+    /// Returns whether the text has ended: `end` was called.
     pub fn is_ended(&self) -> bool
         ensures { result ≡ is_ended_of self.now }
     {
         self.ended
     }
 
-    /// The source number, from 1, of the row that is being read: one more than there are complete rows. After a stop it stays the same.
+    /// Returns the source number of the row that is being read, from 1. It is the number of complete rows plus one.
+    /// After a stop it stays the same.
     pub fn row(&self) -> u64
         ensures { result ≡ reading_of self.now }
     {
         self.row + 1
     }
 
-    /// Takes some more bytes of the text. It answers the stop that was answered before, or `Memory`.
+    /// Adds some more bytes of the text. Returns the stop that was returned before, or `Memory` if memory runs out.
+    /// The text must not have ended.
     pub fn feed(&mut self, piece: &[u8]) -> Result<(), RowStop>
         requires { is_ended_of self.old ≡ false }
         ensures ended { is_ended_of self.new ≡ false }
@@ -132,7 +134,7 @@ impl Rows {
         }
     }
 
-    /// Ends the text. It answers the stop that was answered before.
+    /// Ends the text. Returns the stop that was returned before. The text must not have ended.
     pub fn end(&mut self) -> Result<(), RowStop>
         requires { is_ended_of self.old ≡ false }
         ensures ended { is_ended_of self.new ≡ true }
@@ -146,8 +148,10 @@ impl Rows {
         }
     }
 
-    /// The next header or data row that is complete; `None` where there is none yet or, after `end`, no
-    /// more. A stop is answered at its place, after all rows before it, and by every later call.
+    /// Returns the next header row or data row that is complete.
+    ///
+    /// Returns `None` if there is none yet or, after `end`, if there are no more. A stop is returned at its place,
+    /// after all rows before it, and by every later call. Returns `Memory` if memory runs out.
     pub fn next(&mut self) -> Result<Option<RawRow<'_>>, RowStop>
         ensures* after { sem 𝓛 (RestsAdvanced self.entry result) }
     {
@@ -173,7 +177,7 @@ impl Rows {
         RawRow::new(text, self.spare.as_slice(), bounds, source, number)
     }
 
-    /// Reads on to the next row that is given.
+    /// Reads up to the next row that is given.
     fn advance(&mut self) -> Result<bool, RowStop>
         ensures advances { Advances self.old self.new result }
         ensures keeps { KeepsStop self.old self.new result }
@@ -204,7 +208,7 @@ impl Rows {
         }
     }
 
-    /// What comes behind the characters that there are.
+    /// Returns what comes after the characters that there are.
     fn after(&self) -> After
         ensures { result ≡ after_of self.now }
     {
@@ -217,8 +221,8 @@ impl Rows {
         }
     }
 
-    /// Finds the fields of the row at the front among its bytes, where that is possible, and how many
-    /// bytes it has with its terminator.
+    /// Finds the fields of the row at the front among its bytes, if that is possible. Returns the number of its bytes
+    /// with its terminator.
     fn cut(&mut self) -> Result<Option<usize>, AllocError>
         ensures refills { Refills self.old self.new }
         ensures row { IfOk result (λ o. IfSome o (HasFields self.new)) }
@@ -242,7 +246,7 @@ impl Rows {
         Ok(cutter.row_len(start, at))
     }
 
-    /// Reads one row on.
+    /// Reads one more row.
     fn turn(&mut self) -> Result<Turn, RowStop>
         ensures turns { Turns self.old self.new result }
         ensures stop { stop_of self.new ≡ stop_of self.old }
@@ -262,7 +266,7 @@ impl Rows {
         }
     }
 
-    /// Reads what stands at the front on from where it was left.
+    /// Reads the row at the front on from the place where reading stopped.
     fn read_front(&mut self) -> Result<Known, AllocError>
         ensures refills { Refills self.old self.new }
         ensures known { IfOk result (IsKnown self.new) }
@@ -283,7 +287,7 @@ impl Rows {
         self.read_draft()
     }
 
-    /// What stands at the front where no row is complete, nor one too long or against a rule.
+    /// Returns what is known of the front if no row is complete, none is too long and no rule is broken.
     fn waits(&self) -> Known
         requires { WaitsThere self.now }
         ensures { IsKnown self.now result }
@@ -294,21 +298,21 @@ impl Rows {
         }
     }
 
-    /// Whether the text has ended, all of it being characters.
+    /// Returns whether the text has ended and all of it is characters.
     fn is_last(&self) -> bool
         ensures { result ≡ is_last (after_of self.now) }
     {
         is_last(self.after())
     }
 
-    /// Whether the row at the front isn't known to be a comment, but may become one.
+    /// Returns whether the row at the front isn't known to be a comment, but may become one.
     fn may_become_comment(&self) -> bool
         ensures { result ≡ may_go_on_to_note self.now }
     {
         !self.is_last() && self.rules.may_be_note(self.source.rest())
     }
 
-    /// Reads the skipped row or comment at the front on from where it was left.
+    /// Reads the skipped row or comment at the front on from the place where reading stopped.
     fn read_note(&mut self) -> Known
         requires { IsNoteNext self.old }
         ensures refills { Refills self.old self.new }
@@ -324,7 +328,7 @@ impl Rows {
         }
     }
 
-    /// Behind how many bytes the skipped row or comment at the front ends.
+    /// Returns the number of bytes after which the skipped row or comment at the front ends.
     fn note_end(&self) -> Option<usize>
         ensures { EndsNote self.now result }
     {
@@ -337,14 +341,14 @@ impl Rows {
         }
     }
 
-    /// How many bytes there are without a CR at the end that may begin a terminator.
+    /// Returns the number of bytes that there are, without a CR at the end that may begin a terminator.
     fn settled_len(&self) -> usize
         ensures { IsSettledLen self.now result }
     {
         settled(&self.rules.dialect, self.source.rest()).len()
     }
 
-    /// The skipped row or comment at the front, which ends behind so many bytes.
+    /// Returns what is known of the skipped row or comment at the front, which ends after so many bytes.
     fn ended_note(&self, len: usize) -> Known
         requires next { IsNoteNext self.now }
         requires read { IsNoteRead self.now len }
@@ -358,8 +362,7 @@ impl Rows {
         Known::Note(len + terminator_at(&self.rules.dialect, behind))
     }
 
-    /// What stands at the front where no row is complete, of which so many bytes are sure to be the next
-    /// one's.
+    /// Returns what is known of the front if no row is complete. So many bytes belong to the next row for sure.
     fn open_front(&self, len: usize) -> Known
         requires { IsOpenFront self.now len }
         ensures { IsKnown self.now result }
@@ -371,7 +374,7 @@ impl Rows {
         self.waits()
     }
 
-    /// Reads the row with fields at the front on from where it was left.
+    /// Reads the row with fields at the front on from the place where reading stopped.
     fn read_draft(&mut self) -> Result<Known, AllocError>
         requires { IsReadable self.old }
         ensures refills { Refills self.old self.new }
@@ -402,7 +405,7 @@ impl Rows {
         }
     }
 
-    /// The row at the front, in which a rule is broken, as so many bytes show.
+    /// Returns what is known of the row at the front if a rule is broken in it, as so many bytes show.
     fn broken_row(&self, len: usize, stop: RowStop) -> Known
         requires readable { IsReadable self.now }
         requires wrong { IsWrongRow self.now len stop }
@@ -415,8 +418,8 @@ impl Rows {
         Known::Stop(stop)
     }
 
-    /// How many bytes are sure to be the row's where it is unfinished: a CR may begin its terminator, but
-    /// not within quotes.
+    /// Returns how many bytes of an unfinished row belong to it for sure. A CR may begin its terminator, but not
+    /// within quotes.
     fn sure_len(&self) -> usize
         ensures { result ≡ sure_of self.now }
     {
@@ -427,7 +430,7 @@ impl Rows {
         }
     }
 
-    /// The row at the front, which ends behind so many bytes and whose fields were found.
+    /// Returns what is known of the row at the front, which ends after so many bytes and whose fields were found.
     fn ended_row(&self, len: usize) -> Known
         requires readable { IsReadable self.now }
         requires read { IsReadRow self.now len }
@@ -441,7 +444,7 @@ impl Rows {
         Known::Row(len + terminator_at(&self.rules.dialect, behind))
     }
 
-    /// Goes behind a row and its terminator.
+    /// Moves to the place after a row and its terminator.
     fn pass(&mut self, len: usize)
         requires within { len ≤ length (rest_bytes self.old.source) }
         requires text { is_utf8 (drop len (rest_bytes self.old.source)) ≡ true }
@@ -458,7 +461,7 @@ impl Rows {
         self.row += 1;
     }
 
-    /// Goes behind a row whose fields were found, which is given unless it is blank.
+    /// Moves to the place after a row whose fields were found. The row is given unless it is blank.
     fn pass_fields(&mut self, len: usize) -> Turn
         requires { HasFields self.old len }
         ensures turns { Turns self.old self.new (Ok result) }

@@ -1,4 +1,4 @@
-//! The text of bytes that come in pieces, up to where they are no UTF-8.
+//! The text of bytes that come in pieces, up to the first byte that is not UTF-8.
 ghost use Rattle.std.specs.Prelude.{◌≡◌, ◌≤◌, ◌+◌, ℕ, List, ◌==◌, ◌++◌, not, true, false, [], if◌then◌else◌};
 ghost use Rattle.std.specs.Prelude.{length, drop, vec_len, IfOk, OnOk, OnErr, IsUtf8, chars};
 ghost use Rattle.std.specs.Str.{is_utf8};
@@ -10,20 +10,20 @@ use std::alloc::{AllocError, Global};
 
 const BYTE_ORDER_MARK: char = '\u{FEFF}';
 
-/// The text that was not yet taken. A byte order mark at the start isn't in it.
+/// The text that was not taken yet. A byte order mark at the start isn't part of it.
 #[derive(Drop)]
 pub struct Source {
-    /// Where its memory comes from.
+    /// The allocator of its memory.
     alloc: Global,
     /// The text, whose front was taken.
     text: Vec<u8>,
-    /// How many bytes of it were taken.
+    /// The number of bytes of it that were taken.
     taken: usize,
-    /// The bytes at the end that are no whole character.
+    /// The bytes at the end that are not a whole character.
     pending: Vec<u8>,
-    /// Whether a character came, so that no byte order mark may follow.
+    /// Whether a character came. If one did, no byte order mark may follow.
     begun: bool,
-    /// Whether the bytes are no UTF-8, whatever follows.
+    /// Whether the bytes are not UTF-8, whatever follows.
     is_bad: bool,
     ghost within: { taken ≤ vec_len text },
     ghost is_text: { is_utf8 (drop taken text.items) ≡ true },
@@ -32,7 +32,7 @@ pub struct Source {
 impl Source {
     ghost use Rattle.csvw_rows.specs.SourceState.{text_items, taken_of, rest_bytes, rest_of, is_bad_of, pending_of, begun_of, Pushes, Grows};
 
-    /// No text yet.
+    /// Returns a source without text.
     pub fn new(alloc: Global) -> Source
         ensures rest { rest_of result ≡ [] }
         ensures begun { begun_of result ≡ false }
@@ -49,7 +49,7 @@ impl Source {
         }
     }
 
-    /// Adds some more bytes; `AllocError` where there is no memory.
+    /// Adds some more bytes. Returns `AllocError` if memory runs out.
     pub fn push(&mut self, piece: &[u8]) -> Result<(), AllocError>
         ensures pushes { OnOk result (Pushes self.old self.new piece.now) }
         ensures grows { OnOk result (Grows self.old self.new) }
@@ -61,7 +61,7 @@ impl Source {
         self.decode(bytes.as_slice())
     }
 
-    /// Adds the text of these bytes, the pending ones first.
+    /// Adds the text of these bytes, after the pending ones.
     fn decode(&mut self, bytes: &[u8]) -> Result<(), AllocError>
         ensures pushes { (piece : List ℕ) → bytes.now ≡ pending_of self.old ++ piece → OnOk result (Pushes self.old self.new piece) }
         ensures grows { OnOk result (Grows self.old self.new) }
@@ -89,7 +89,7 @@ impl Source {
             .extend_from_slice(unmarked(self.begun, text).as_bytes())
     }
 
-    /// The text that isn't taken.
+    /// Returns the text that isn't taken.
     pub fn rest(&self) -> &str
         ensures value { result.now ≡ rest_bytes self.now }
         ensures chars { chars result.now ≡ rest_of self.now }
@@ -98,14 +98,14 @@ impl Source {
         unsafe { str::from_utf8_unchecked(rest) }
     }
 
-    /// The bytes that are kept, those that were taken among them.
+    /// Returns the bytes that are kept, with those that were taken.
     pub fn items(&self) -> &[u8]
         ensures { result.now ≡ text_items self.now }
     {
         self.text.as_slice()
     }
 
-    /// How many of the bytes that are kept were taken.
+    /// Returns how many of the bytes that are kept were taken.
     pub fn taken(&self) -> usize
         ensures { result ≡ taken_of self.now }
     {
@@ -125,14 +125,14 @@ impl Source {
         self.taken += len;
     }
 
-    /// Whether the bytes are no UTF-8, whatever follows.
+    /// Returns whether the bytes are not UTF-8, whatever follows.
     pub fn is_bad(&self) -> bool
         ensures { result ≡ is_bad_of self.now }
     {
         self.is_bad
     }
 
-    /// Whether the bytes end inside a character.
+    /// Returns whether the bytes end inside a character.
     pub fn is_cut(&self) -> bool
         ensures { result ≡ not (length (pending_of self.now) == 0) }
     {
@@ -140,7 +140,7 @@ impl Source {
     }
 }
 
-/// The text without a byte order mark at its start.
+/// Returns the text without a byte order mark at its start.
 fn unmarked(begun: bool, text: &str) -> &str
     ensures { chars result.now ≡ (if begun then chars text.now else without_mark (chars text.now)) }
 {
@@ -154,7 +154,7 @@ fn unmarked(begun: bool, text: &str) -> &str
     }
 }
 
-/// Whether there was a character, these among them.
+/// Returns whether there was a character, in this text or before it.
 fn has_begun(begun: bool, text: &str) -> bool
     ensures { result ≡ (if begun then true else not (length (chars text.now) == 0)) }
 {
@@ -169,7 +169,7 @@ fn joined(alloc: Global, a: &[u8], b: &[u8]) -> Result<Vec<u8>, AllocError>
     Ok(all)
 }
 
-/// The bytes behind the first of them.
+/// Returns the bytes after the first `count`.
 fn tail(alloc: Global, bytes: &[u8], count: usize) -> Result<Vec<u8>, AllocError>
     requires { count ≤ length bytes.now }
     ensures { IfOk result (λ v. v.items ≡ drop count bytes.now) }
@@ -178,7 +178,7 @@ fn tail(alloc: Global, bytes: &[u8], count: usize) -> Result<Vec<u8>, AllocError
     Vec::from_slice(alloc, rest)
 }
 
-/// Moves the bytes behind the first of them to the front.
+/// Moves the bytes after the first `count` to the start.
 fn drop_front(bytes: &mut Vec<u8>, count: usize)
     requires { count ≤ vec_len bytes.old }
     ensures { bytes.new.items ≡ drop count bytes.old.items }

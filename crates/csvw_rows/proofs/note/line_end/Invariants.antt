@@ -1,4 +1,4 @@
-use Rattle.csvw_rows.specs.Notes.{NoneBegins}
+use Rattle.csvw_rows.specs.IgnoredRows.{NoneBegins}
 use Rattle.csvw_rows.proofs.note.line_end.Given as goal
 
 abbrev pub invariant-loop-i : goal.invariant-loop-i

@@ -1,7 +1,7 @@
 use Rattle.std.proofs.Common.{◌≡◌, ◌∙◌, ◌<◌, ℕ, List, chars, false, sym, ap, subst, arith}
 use Rattle.csvw_records.specs.RecordLaws.{laws_of}
 use Rattle.std.specs.Prelude.{Option, Some, None, IfSome}
-use Rattle.csvw_dialect.specs.declared.dialect.Dialect.{Dialect}
+use Rattle.csvw_records.specs.declared.dialect.Dialect.{Dialect}
 use Rattle.csvw_fields.specs.Cuts.{IsCutRow, IsRowLen}
 use Rattle.csvw_records.specs.Files.{is_note}
 use Rattle.csvw_fields.specs.Marked.{is_symbol, AreMarks}

@@ -6,7 +6,7 @@ use Rattle.csvw_fields.specs.Drafts.{IsDraft}
 use Rattle.csvw_rows.specs.SourceState.{rest_bytes}
 use Rattle.csvw_rows.proofs.TextLemmas.{bytes_more}
 use Rattle.csvw_rows.proofs.States.{feed_holds}
-use Rattle.csvw_rows.specs.Notes.{IsNoted}
+use Rattle.csvw_rows.specs.IgnoredRows.{IsNoted}
 use Rattle.csvw_rows.proofs.NoteLemmas.{noted_grows}
 use Rattle.csvw_rows.proofs.rows.Rows.feed.Goals as goal
 

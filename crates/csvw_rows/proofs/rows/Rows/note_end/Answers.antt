@@ -1,6 +1,6 @@
 use Rattle.std.proofs.Common.{◌∙◌, List, ℕ, None, Some, length, sym, ap, subst}
 use Rattle.csvw_records.specs.RecordLaws.{laws_of}
-use Rattle.csvw_rows.specs.Notes.{IsLineEnd}
+use Rattle.csvw_rows.specs.IgnoredRows.{IsLineEnd}
 use Rattle.csvw_rows.specs.SourceState.{rest_bytes}
 use Rattle.csvw_rows.proofs.DraftRows.{line_ends, none_ends, last_ends}
 use Rattle.csvw_rows.proofs.rows.Rows.note_end.Goals as goal

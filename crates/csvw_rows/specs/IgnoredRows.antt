@@ -1,6 +1,6 @@
--- The front of a skipped row or a comment that was read.
+-- The start of a skipped row or a comment that was read.
 use Rattle.std.specs.Prelude.{◌≡◌, ℕ, ◌<◌, ◌≤◌, List, ◌++◌, length, drop, Option, Some, None}
-use Rattle.csvw_dialect.specs.declared.dialect.Dialect.{Dialect}
+use Rattle.csvw_records.specs.declared.dialect.Dialect.{Dialect}
 use Rattle.csvw_records.specs.Grammar.{terminator_len}
 
 -- no terminator begins at these places

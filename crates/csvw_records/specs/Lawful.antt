@@ -1,14 +1,15 @@
--- The dialects by which texts can be read, and the defaults (Metadata Vocabulary for Tabular Data, section 5.9).
+-- The dialects by which texts can be read, and the defaults: `IsLawful`, `default_dialect` (Metadata Vocabulary for Tabular Data,
+-- section 5.9).
 use Rattle.std.specs.Prelude.{◌≡◌, ◌≢◌, ℕ, ◌==◌, ◌||◌, ◌&&◌, not, Bool, true, false, List, [], ◌∷◌, Option, Some, None, option_map, chars}
 use Rattle.std.specs.List.{list_any}
-use Rattle.csvw_dialect.specs.declared.dialect.Dialect.{Dialect}
-use Rattle.csvw_dialect.specs.declared.dialect.Trim.TheVariants.{No}
+use Rattle.csvw_records.specs.declared.dialect.Dialect.{Dialect}
+use Rattle.csvw_records.specs.declared.dialect.Trim.TheVariants.{No}
 
 -- the characters of the comment prefix
 abbrev pub prefix_of : Dialect → Option (List ℕ)
 prefix_of d = option_map chars d.comment_prefix
 
--- CR or LF stands in the text
+-- the text contains CR or LF
 abbrev pub has_break : List ℕ → Bool
 has_break text = list_any (λ c. (c == 13) || (c == 10)) text
 
@@ -16,8 +17,8 @@ abbrev pub prefix_breaks : Option (List ℕ) → Bool
 prefix_breaks None = false
 prefix_breaks (Some prefix) = has_break prefix
 
--- a text can be read by the dialect: no CR or LF in the delimiter, the quote and the comment prefix, a delimiter that isn't
--- the quote, neither of them a backslash where quotes aren't doubled, and some line terminator
+-- Texts can be read by the dialect. The delimiter, the quote and the comment prefix contain no CR or LF. The delimiter isn't the quote. Neither is a
+-- backslash if quotes aren't doubled. There is some line terminator.
 pub record IsLawful (d : Dialect) : Type 0 where
   pub delimiter_cr : d.delimiter ≢ 13
   pub delimiter_lf : d.delimiter ≢ 10

@@ -1,24 +1,24 @@
-//! How a text is cut into rows and fields.
+//! `Dialect`: how a text is divided into rows and fields.
 ghost use Rattle.std.specs.Prelude.{◌≡◌, ◌||◌, ◌==◌, IfOk, OnOk, OnErr, chars};
-ghost use Rattle.csvw_dialect.specs.Lawful.{IsLawful, default_dialect, has_break, prefix_of, prefix_breaks, delimiter_breaks, quote_breaks};
+ghost use Rattle.csvw_records.specs.Lawful.{IsLawful, default_dialect, has_break, prefix_of, prefix_breaks, delimiter_breaks, quote_breaks};
 
 use csvw_text::{Copied, Text, copied_option};
 use std::alloc::{AllocError, Global};
 
-/// Which white space (tab, line feed, carriage return, space) is stripped from each field.
+/// The white space (tab, line feed, carriage return, space) that is stripped from each field.
 #[derive(Clone, Copy, Debug, PartialEq, Eq)]
 pub enum Trim {
-    /// None of it.
+    /// No white space.
     No,
-    /// What stands at the start.
+    /// The white space at the start.
     Start,
-    /// What stands at the end.
+    /// The white space at the end.
     End,
-    /// What stands at the start and at the end.
+    /// The white space at the start and at the end.
     Both,
 }
 
-/// What ends a row. Where both do, CR LF is taken before LF.
+/// The line terminators: what ends a row. If both end one, CR LF is tried before LF.
 #[derive(Clone, Copy, Debug, PartialEq, Eq)]
 pub struct LineTerminators {
     /// CR LF ends a row.
@@ -30,38 +30,41 @@ pub struct LineTerminators {
 /// A dialect (Metadata Vocabulary for Tabular Data, section 5.9, "Dialect Descriptions").
 #[derive(Debug, Drop)]
 pub struct Dialect {
-    /// What stands between two fields.
+    /// The character between two fields.
     pub delimiter: char,
-    /// What begins and ends a quoted field; none: no field is quoted.
+    /// The character that begins and ends a quoted field. `None`: no field is quoted.
     pub quote_char: Option<char>,
-    /// Whether a quote in a quoted field is doubled. Else a backslash stands before it, or before
-    /// any character.
+    /// Whether a quote in a quoted field is doubled. If not, a backslash precedes it. A backslash may precede any
+    /// character.
     pub double_quote: bool,
-    /// What a comment row begins with; none: no row is a comment.
+    /// The text with which a comment begins. `None`: no row is a comment.
     pub comment_prefix: Option<Text>,
-    /// How many header rows there are among the rows that remain.
+    /// The number of header rows among the rows that remain.
     pub header_row_count: u8,
-    /// How many rows at the front are skipped.
+    /// The number of rows that are skipped at the start.
     pub skip_rows: u64,
-    /// How many fields at the front of each row are dropped.
+    /// The number of fields that are dropped at the start of each row.
     pub skip_columns: u32,
-    /// Whether rows give nothing whose fields are all empty.
+    /// Whether blank rows are skipped: rows whose fields are all empty.
     pub skip_blank_rows: bool,
-    /// Whether spaces in front of an opening quote are skipped.
+    /// Whether spaces before an opening quote are skipped.
     pub skip_initial_space: bool,
-    /// What is stripped from each field, quoted or not.
+    /// The white space that is stripped from each field, quoted or not.
     pub trim: Trim,
-    /// What ends a row.
+    /// The line terminators.
     pub line_terminators: LineTerminators,
 }
 
-/// A dialect by which no text can be read: a delimiter, quote or comment prefix that holds CR or LF, a
-/// delimiter that is the quote, a backslash as delimiter or quote where quotes aren't doubled, or no
-/// line terminator.
+/// The error of a dialect by which no text can be read. It has one of these:
+///
+/// - a delimiter, quote or comment prefix that contains CR or LF,
+/// - a delimiter that is the quote,
+/// - a backslash as delimiter or quote if quotes aren't doubled,
+/// - no line terminator.
 #[derive(Clone, Copy, Debug, PartialEq, Eq)]
 pub struct BadDialect;
 
-/// Whether the character is CR or LF.
+/// Returns whether the character is CR or LF.
 fn is_break(c: char) -> bool
     ensures { result ≡ ((c == 13) || (c == 10)) }
 {
@@ -75,9 +78,10 @@ fn has_break(text: &str) -> bool
 }
 
 impl Dialect {
-    /// The defaults: `,` between fields, `"` round them and doubled in them, comments after `#`, one
-    /// header row, nothing skipped or stripped, rows that end with CR LF or LF. `AllocError` where there
-    /// is no memory.
+    /// Returns the default dialect, or `AllocError` if memory runs out.
+    ///
+    /// Fields are separated by `,` and quoted by `"`, which is doubled within a field. Comments begin with `#`. There
+    /// is one header row. Nothing is skipped or stripped. Rows end with CR LF or LF.
     pub fn new(alloc: Global) -> Result<Dialect, AllocError>
         ensures { IfOk result (λ d. d ≡ default_dialect) }
     {
@@ -99,7 +103,7 @@ impl Dialect {
         })
     }
 
-    /// Whether texts can be read by the dialect; `BadDialect` where they can't.
+    /// Checks that texts can be read by the dialect. Returns `BadDialect` if they can't.
     pub fn check(&self) -> Result<(), BadDialect>
         ensures ok { OnOk result (IsLawful self.now) }
         ensures bad { OnErr result (IsLawful self.now → ⊥) }
@@ -139,7 +143,7 @@ impl Dialect {
         }
     }
 
-    /// An equal dialect; `AllocError` where there is no memory.
+    /// Returns an equal dialect, or `AllocError` if memory runs out.
     pub fn clone(&self, alloc: Global) -> Result<Dialect, AllocError>
         ensures { IfOk result (λ d. d ≡ self.now) }
     {
