@@ -4,14 +4,14 @@ use Rattle.std.proofs.lemmas.List.{length-map}
 use Rattle.csvw_template.specs.declared.vars.Var.{Var}
 use Rattle.csvw_columns_core.specs.declared.column.Column.{Column}
 use Rattle.csvw_columns_core.specs.declared.columns.Columns.{Columns}
-use Rattle.csvw_links.specs.Bindings.{row_values}
-use Rattle.csvw_links.specs.BoundLinks.{BoundLinksAreLinks, link_in, link_of_column, template_of}
-use Rattle.csvw_links.specs.Links.{link_by}
-use Rattle.csvw_links.specs.MadeAt.{IsMadeAt, IsMadeBefore}
-use Rattle.csvw_links.specs.declared.bound_link.Which.{Which}
-use Rattle.csvw_links.specs.declared.bound_link.Which.TheVariants.{About}
-use Rattle.csvw_links.specs.declared.linking.Made.{Made}
-use Rattle.csvw_links.specs.declared.numbers.RowNumbers.{RowNumbers}
+use Rattle.csvw_annotate.specs.Bindings.{row_values}
+use Rattle.csvw_annotate.specs.BoundLinks.{BoundLinksAreLinks, link_in, link_of_column, template_of}
+use Rattle.csvw_annotate.specs.Links.{link_by}
+use Rattle.csvw_annotate.specs.MadeAt.{IsMadeAt, IsMadeBefore}
+use Rattle.csvw_annotate.specs.declared.bound_link.Which.{Which}
+use Rattle.csvw_annotate.specs.declared.bound_link.Which.TheVariants.{About}
+use Rattle.csvw_annotate.specs.declared.links.Made.{Made}
+use Rattle.csvw_annotate.specs.declared.numbers.RowNumbers.{RowNumbers}
 use Rattle.csvw_annotate.specs.declared.row.AnnCell.{AnnCell}
 use Rattle.csvw_annotate.specs.Linked.{values_of}
 use Rattle.csvw_annotate.specs.LinksAt.{IsAboutAt, IsAboutBefore, variables_of}

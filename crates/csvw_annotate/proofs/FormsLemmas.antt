@@ -1,7 +1,7 @@
 -- The values of cells have lexical forms.
 use Rattle.std.proofs.Common.{◌≡◌, ℕ, Bool, true, false, List, [], ◌∷◌, Option, Some, None, length, refl, sym, subst}
 use Rattle.std.specs.Prelude.{MatchBool, ◌==◌}
-use Rattle.csvw_text.specs.declared.fault.Code.{Code}
+use Rattle.csvw_fault.specs.declared.fault.Code.{Code}
 use Rattle.csvw_datatype.specs.declared.datatype.Datatype.{Datatype}
 use Rattle.csvw_datatype.specs.declared.format.Format.{Format}
 use Rattle.csvw_datatype.specs.declared.simple.Simple.{Simple}

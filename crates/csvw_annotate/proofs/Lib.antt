@@ -1,6 +1,11 @@
+mod AboutLemmas
+mod BindingLemmas
 mod BoundLemmas
 mod CellsLemmas
 mod FormsLemmas
 mod LinkLemmas
-mod ValuesLemmas
+mod ReservedLemmas
+mod SharingLemmas
+mod SimpleLemmas
 mod Unlinked
+mod ValuesLemmas

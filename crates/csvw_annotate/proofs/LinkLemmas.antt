@@ -1,22 +1,22 @@
--- Cells that get their links one after the other.
+-- Cells whose links are set one after the other.
 use Rattle.std.proofs.Common.{◌≡◌, ◌∙◌, ℕ, zero, suc, ◌+◌, ◌<◌, ◌≤◌, List, [], ◌∷◌, length, get_or, set, refl, sym, ap, subst, arith, add-one, Option}
 use Rattle.std.proofs.Common.{Some, None, Bool, true, false, append-nil}
 use Rattle.std.specs.Prelude.{◌||◌, is_some, if◌then◌else◌}
 use Rattle.std.specs.List.{AllByRecursion}
 use Rattle.std.proofs.lemmas.Bool.{false≢true}
 use Rattle.url.specs.Parts.{Parts}
-use Rattle.csvw_text.specs.declared.fault.Code.{Code}
+use Rattle.csvw_fault.specs.declared.fault.Code.{Code}
 use Rattle.csvw_template.specs.declared.part.Part.{Part}
 use Rattle.csvw_template.specs.Variables.{Variables}
 use Rattle.csvw_columns_core.specs.declared.column.Column.{Column}
 use Rattle.csvw_cell.specs.declared.cell.CellValue.{CellValue}
-use Rattle.csvw_links.specs.Links.{no_link, joined, link_by, links_of, has_value, has_own_template, has_template}
+use Rattle.csvw_annotate.specs.Links.{no_link, joined, link_by, links_of, has_value, has_own_template, has_template}
 use Rattle.csvw_columns_core.specs.declared.columns.Columns.{Columns}
-use Rattle.csvw_links.specs.CellVariables.{variables}
+use Rattle.csvw_annotate.specs.CellVariables.{variables}
 use Rattle.csvw_cell.specs.HasForm.{HasForm}
-use Rattle.csvw_links.specs.declared.linking.Links.{Links}
-use Rattle.csvw_links.specs.declared.linking.Made.{Made}
-use Rattle.csvw_links.specs.declared.numbers.RowNumbers.{RowNumbers}
+use Rattle.csvw_annotate.specs.declared.links.Links.{Links}
+use Rattle.csvw_annotate.specs.declared.links.Made.{Made}
+use Rattle.csvw_annotate.specs.declared.numbers.RowNumbers.{RowNumbers}
 use Rattle.csvw_annotate.specs.declared.row.AnnCell.{AnnCell}
 use Rattle.csvw_annotate.specs.LinksAt.{AreLinksAt, IsAboutAt, IsAboutBefore, variables_of}
 use Rattle.csvw_annotate.specs.HasForms.{CellsHaveForms}

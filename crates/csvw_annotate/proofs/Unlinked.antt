@@ -1,4 +1,4 @@
--- Where no column has a template, the cells of a row have no links.
+-- If no column has a template, the cells of a row have no links.
 use Rattle.std.proofs.Common.{◌≡◌, ◌∙◌, List, [], ◌∷◌, length, refl, sym, ap, arith, Bool, true, false}
 use Rattle.std.specs.Prelude.{◌||◌}
 use Rattle.std.specs.List.{list_any}
@@ -6,9 +6,9 @@ use Rattle.std.proofs.lemmas.Bool.{false≢true}
 use Rattle.csvw_columns_core.specs.declared.column.Column.{Column}
 use Rattle.csvw_columns_core.specs.declared.columns.Columns.{Columns}
 use Rattle.csvw_cell.specs.declared.cell.CellValue.{CellValue}
-use Rattle.csvw_links.specs.CellVariables.{variables}
-use Rattle.csvw_links.specs.Links.{has_template}
-use Rattle.csvw_links.specs.declared.numbers.RowNumbers.{RowNumbers}
+use Rattle.csvw_annotate.specs.CellVariables.{variables}
+use Rattle.csvw_annotate.specs.Links.{has_template}
+use Rattle.csvw_annotate.specs.declared.numbers.RowNumbers.{RowNumbers}
 use Rattle.csvw_annotate.specs.declared.row.AnnCell.{AnnCell}
 use Rattle.csvw_annotate.specs.Linked.{ArePlain, each_linked, linked_in}
 use Rattle.csvw_annotate.proofs.LinkLemmas.{no_links}

@@ -2,7 +2,7 @@
 use Rattle.std.proofs.Common.{◌≡◌, ℕ, zero, suc, ◌<◌, ◌≤◌, List, [], ◌∷◌, refl, sym, ap, subst, length, map, get_or, arith}
 use Rattle.csvw_template.specs.declared.vars.Var.TheVariants.{Undefined}
 use Rattle.csvw_template.specs.Bound.{var_at}
-use Rattle.csvw_links.specs.CellVariables.{variable}
+use Rattle.csvw_annotate.specs.CellVariables.{variable}
 use Rattle.csvw_cell.specs.HasForm.{HasForm}
 use Rattle.csvw_annotate.specs.declared.row.AnnCell.{AnnCell}
 use Rattle.csvw_annotate.specs.HasForms.{CellsHaveForms}

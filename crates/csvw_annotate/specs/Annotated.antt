@@ -1,4 +1,4 @@
--- Annotated rows (Model for Tabular Data, sections 4.4, 4.5 and 6.4.2).
+-- Annotated rows, with values, lists and codes: `IsRow` (Model for Tabular Data, sections 4.4, 4.5 and 6.4).
 use Rattle.std.specs.Prelude.{◌≡◌, ℕ, List, [], ◌∷◌, length, None, Result, Ok, Err}
 use Rattle.csvw_records.specs.RowValue.{Given}
 use Rattle.csvw_columns_core.specs.Columns.{field_count}
@@ -11,7 +11,7 @@ use Rattle.csvw_cell.specs.declared.cell.CellValue.TheVariants.{Null}
 use Rattle.csvw_annotate.specs.declared.row.AnnCell.{AnnCell}
 use Rattle.csvw_annotate.specs.declared.row.Row.{Row}
 use Rattle.csvw_annotate.specs.Linked.{linked_cells}
-use Rattle.csvw_links.specs.declared.numbers.RowNumbers.{RowNumbers}
+use Rattle.csvw_annotate.specs.declared.numbers.RowNumbers.{RowNumbers}
 
 abbrev pub null_cell : AnnCell
 null_cell = record { value = Null; about = None; property = None; link = None; faults = [] }
@@ -23,7 +23,7 @@ pub record IsCell (column : Column) (text : List ℕ) (cell : AnnCell) : Type 0 
   pub property : cell.property ≡ None
   pub link : cell.link ≡ None
 
--- the cells of the columns, each of the next field, or where no field is left of the empty text, as in virtual columns
+-- the cells of the columns, each of the next field; if no field is left, as for virtual columns, of the empty text
 abbrev pub AreCells : List Column → List (List ℕ) → List AnnCell → Type 0
 AreCells [] fields cells = cells ≡ []
 AreCells (column ∷ columns) fields [] = ⊥
@@ -37,7 +37,7 @@ Fits columns raw = length raw.fields ≡ field_count columns.columns
 abbrev pub numbers_of : Given → RowNumbers
 numbers_of raw = record { number = raw.number; source = raw.source }
 
--- the annotated row of a row of the source: its cells say what its fields are, and have their links
+-- the annotated row of a row of the source: the cells of its fields, with their links
 pub record IsRow (columns : Columns) (raw : Given) (row : Row) : Type 0 where
   pub fits : Fits columns raw
   pub number : row.number ≡ raw.number
@@ -46,7 +46,7 @@ pub record IsRow (columns : Columns) (raw : Given) (row : Row) : Type 0 where
   pub says : AreCells columns.columns raw.fields unlinked
   pub cells : row.cells ≡ linked_cells columns (numbers_of raw) unlinked
 
--- the answer is the annotated row, or a refusal where the row doesn't fit; of want of memory nothing is said
+-- the answer is the annotated row, or a refusal if the row doesn't fit; of `Memory` nothing is said
 abbrev pub Annotates : Columns → Given → Result Row TableStop → Type 0
 Annotates columns raw (Ok row) = IsRow columns raw row
 Annotates columns raw (Err RaggedRow) = Fits columns raw → ⊥

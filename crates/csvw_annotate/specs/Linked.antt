@@ -1,4 +1,4 @@
--- The cells of a row with their links (Model for Tabular Data, section 4.5).
+-- The cells of a row with their links: `linked_cells` (Model for Tabular Data, sections 4.4 and 4.5).
 use Rattle.std.specs.Prelude.{◌≡◌, List, [], ◌∷◌, ◌++◌, map, None}
 use Rattle.std.specs.List.{AllByRecursion}
 use Rattle.url.specs.Parts.{Parts}
@@ -6,10 +6,10 @@ use Rattle.csvw_template.specs.Variables.{Variables}
 use Rattle.csvw_columns_core.specs.declared.column.Column.{Column}
 use Rattle.csvw_columns_core.specs.declared.columns.Columns.{Columns}
 use Rattle.csvw_cell.specs.declared.cell.CellValue.{CellValue}
-use Rattle.csvw_links.specs.declared.linking.Links.{Links}
-use Rattle.csvw_links.specs.declared.numbers.RowNumbers.{RowNumbers}
-use Rattle.csvw_links.specs.CellVariables.{variables}
-use Rattle.csvw_links.specs.Links.{links_of, codes_of}
+use Rattle.csvw_annotate.specs.declared.links.Links.{Links}
+use Rattle.csvw_annotate.specs.declared.numbers.RowNumbers.{RowNumbers}
+use Rattle.csvw_annotate.specs.CellVariables.{variables}
+use Rattle.csvw_annotate.specs.Links.{links_of, codes_of}
 use Rattle.csvw_annotate.specs.declared.row.AnnCell.{AnnCell}
 
 -- a cell without links
@@ -22,7 +22,7 @@ ArePlain cells = AllByRecursion IsPlain cells
 abbrev pub values_of : List AnnCell → List CellValue
 values_of cells = map (λ cell. cell.value) cells
 
--- a cell with these links: the codes of what is wrong with them come behind its own, which are earlier in their order
+-- A cell with these links. The codes of what is wrong with them come after its own codes, which are earlier in the order.
 abbrev pub with_links : AnnCell → Links → AnnCell
 with_links cell links = record {
   value = cell.value;
@@ -36,7 +36,7 @@ with_links cell links = record {
 abbrev pub linked : Parts → Variables → Column → AnnCell → AnnCell
 linked base vars column cell = with_links cell (links_of base vars column cell.value)
 
--- each cell so, with its column
+-- each cell with its column, changed so
 abbrev pub each_linked : (Column → AnnCell → AnnCell) → List Column → List AnnCell → List AnnCell
 each_linked link [] cells = []
 each_linked link (column ∷ columns) [] = []

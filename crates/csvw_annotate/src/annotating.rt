@@ -1,4 +1,4 @@
-//! What a row says.
+//! `annotate` and `annotate_into`: the annotated row of a data row.
 ghost use Rattle.std.specs.Prelude.{◌≡◌, ◌<◌, ◌≤◌, [], None, IfOk, OnOk, length};
 ghost use Rattle.csvw_rows.specs.RowValue.{row_of};
 ghost use Rattle.csvw_datatype.specs.Sound.{IsSound};
@@ -6,18 +6,20 @@ ghost use Rattle.csvw_annotate.specs.Annotated.{IsCell, AreCells, Annotates};
 ghost use Rattle.csvw_columns_core.specs.Sound.{AreSound};
 ghost use Rattle.csvw_annotate.specs.FieldAt.{field_at};
 
+use crate::link_room::LinkRoom;
+use crate::linked_columns::LinkedColumns;
 use crate::linking::link_row;
+use crate::numbers::RowNumbers;
 use crate::row::{AnnCell, Row};
 use csvw_cell::parse_over;
 use csvw_columns_core::{Column, Columns, TableStop};
 use csvw_datatype::values_of_texts;
 use csvw_iri::Iri;
-use csvw_links::{LinkRoom, LinkedColumns, RowNumbers};
 use csvw_rows::RawRow;
 use csvw_text::Seq;
 use std::alloc::{AllocError, Global};
 
-/// Becomes no link. Most cells have none.
+/// Removes a link. Most cells have none.
 #[inline(always)]
 fn clear(link: &mut Option<Iri>)
     ensures { link.new ≡ None }
@@ -27,7 +29,7 @@ fn clear(link: &mut Option<Iri>)
     }
 }
 
-/// Makes it the cell of a text, in its memory.
+/// Writes the cell of a text over a cell, in its memory.
 fn fill_cell(
     alloc: Global,
     column: &Column,
@@ -43,14 +45,14 @@ fn fill_cell(
     parse_over(alloc, column, text, &mut cell.value, &mut cell.faults)
 }
 
-/// The text of a field, from 0; the empty one where there is no such field.
+/// Returns the text of field `i`, from 0, or the empty text if there is no such field.
 fn field_at<'a>(row: &RawRow<'a>, i: usize) -> &'a str
     ensures { result.now ≡ field_at (row_of row.now).fields i }
 {
     if i < row.len() { row.field(i) } else { "" }
 }
 
-/// So many cells: the first of these, and null cells behind them.
+/// Returns so many cells: the first of these, and null cells after them.
 fn resized(mut cells: Vec<AnnCell>, alloc: Global, count: usize) -> Result<Vec<AnnCell>, AllocError>
     ensures { IfOk result (λ v. length v.items ≡ count) }
 {
@@ -61,7 +63,7 @@ fn resized(mut cells: Vec<AnnCell>, alloc: Global, count: usize) -> Result<Vec<A
     Ok(cells)
 }
 
-/// Makes them the cells of the columns.
+/// Writes the cells of the columns over these.
 fn fill_cells(
     alloc: Global,
     columns: &[Column],
@@ -78,7 +80,7 @@ fn fill_cells(
     Ok(())
 }
 
-/// The cells of a row, in the memory of others.
+/// Returns the cells of a row, in the memory of others.
 fn refilled(
     alloc: Global,
     columns: &[Column],
@@ -94,7 +96,11 @@ fn refilled(
     Ok(cells)
 }
 
-/// As `annotate`, in the memory of a row that is no longer needed, and its links in memory that is kept for them.
+/// Returns the same row as `annotate`, in the memory of a row that is no longer needed, and its links in memory that
+/// is kept for them.
+///
+/// The datatypes of the columns must have passed `Datatype::check`. Returns `RaggedRow` exactly if the row does not
+/// have one field for each column that isn't virtual. Returns `Memory` if memory runs out.
 pub fn annotate_into(
     alloc: Global,
     columns: &LinkedColumns,
@@ -123,10 +129,12 @@ pub fn annotate_into(
     })
 }
 
-/// The annotated row of a data row of a table with these columns, whose datatypes have passed `Datatype::check` (Model for
-/// Tabular Data, sections 4.4, 4.5 and 6.4.2): what its cells say, and their links. `RaggedRow` exactly where it hasn't one field
-/// for each column that isn't virtual; `Memory` where there is none. It binds the templates of the columns anew: for many rows,
-/// make `LinkedColumns` once, and call `annotate_into`.
+/// Returns the annotated row of a data row of a table with these columns, with the links of its cells (Model for
+/// Tabular Data, sections 4.4, 4.5 and 6.4).
+///
+/// The datatypes of the columns must have passed `Datatype::check`. Returns `RaggedRow` exactly if the row does not
+/// have one field for each column that isn't virtual. Returns `Memory` if memory runs out. It binds the templates of
+/// the columns anew. For many rows, make `LinkedColumns` once, and call `annotate_into`.
 pub fn annotate(alloc: Global, columns: &Columns, row: &RawRow) -> Result<Row, TableStop>
     requires { AreSound columns.now.columns }
     ensures { Annotates columns.now (row_of row.now) result }

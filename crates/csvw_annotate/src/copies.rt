@@ -7,7 +7,7 @@ use csvw_text::{Copied, both, copied_option};
 use std::alloc::{AllocError, Global};
 
 impl AnnCell {
-    /// An equal cell, which shares its links; `AllocError` where there is no memory.
+    /// Returns an equal cell, which shares its links, or `AllocError` if memory runs out.
     pub fn clone(&self, alloc: Global) -> Result<AnnCell, AllocError>
         ensures { IfOk result (λ c. c ≡ self.now) }
     {
@@ -35,7 +35,7 @@ impl Copied for AnnCell {
 }
 
 impl Row {
-    /// An equal row, which shares its links; `AllocError` where there is no memory.
+    /// Returns an equal row, which shares its links, or `AllocError` if memory runs out.
     pub fn clone(&self, alloc: Global) -> Result<Row, AllocError>
         ensures { IfOk result (λ r. r ≡ self.now) }
     {

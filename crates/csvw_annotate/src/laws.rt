@@ -7,7 +7,7 @@ ghost use Rattle.csvw_annotate.specs.declared.row.Row.{Row as TheRow};
 
 use csvw_datatype::values_of_texts;
 
-/// The values of an annotated row have lexical forms.
+/// A law: the values of an annotated row have lexical forms.
 pub fn annotated_rows_have_forms()
     ensures { (columns : TheColumns) (raw : Given) (row : TheRow) → IsRow columns raw row → HasForms row }
 {

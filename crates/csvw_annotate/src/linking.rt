@@ -1,20 +1,20 @@
 //! The links of a row's cells.
 ghost use Rattle.std.specs.Prelude.{◌≡◌, ◌<◌, IfOk, OnOk, length};
-ghost use Rattle.csvw_links.specs.Links.{joined, no_link};
+ghost use Rattle.csvw_annotate.specs.Links.{joined, no_link};
 ghost use Rattle.csvw_annotate.specs.LinksAt.{AreLinksAt, IsAboutAt, IsAboutBefore};
 ghost use Rattle.csvw_annotate.specs.HasForms.{CellsHaveForms};
 ghost use Rattle.csvw_annotate.specs.Linked.{ArePlain, linked_cells, with_links};
 
+use crate::link_room::LinkRoom;
+use crate::linked_columns::{LinkedColumns, bound_links_are_links};
+use crate::links::{Links, Made, about_alone, has_own_template, has_template, joined, no_link};
+use crate::numbers::RowNumbers;
 use crate::row::AnnCell;
 use crate::scope::RowScope;
-use csvw_links::{
-    LinkRoom, LinkedColumns, Links, Made, RowNumbers, about_alone, bound_links_are_links,
-    has_own_template, has_template, joined, no_link,
-};
 use csvw_text::copied_option;
 use std::alloc::{AllocError, Global};
 
-/// Gives a cell its links, and the codes of what is wrong with them.
+/// Sets the links of a cell, and adds the codes of what is wrong with them.
 fn put_links(cell: &mut AnnCell, links: Links) -> Result<(), AllocError>
     ensures { OnOk result (cell.new ≡ with_links cell.old links) }
 {
@@ -32,7 +32,7 @@ fn put_links(cell: &mut AnnCell, links: Links) -> Result<(), AllocError>
     Ok(())
 }
 
-/// Gives a cell its about link where it has no others, and the codes of what is wrong with it.
+/// Sets the about link of a cell that has no other link, and adds the code of what is wrong with it.
 #[inline(always)]
 fn put_about(alloc: Global, cell: &mut AnnCell, about: &Made) -> Result<(), AllocError>
     ensures { OnOk result (cell.new ≡ with_links cell.old (joined about.now no_link no_link)) }
@@ -46,7 +46,8 @@ fn put_about(alloc: Global, cell: &mut AnnCell, about: &Made) -> Result<(), Allo
     Ok(())
 }
 
-/// The about link of the column at this place, given that of the column before it, which is often the same.
+/// Returns the about link of the column at this place. `before` is that of the column before it, which is often the
+/// same.
 fn about_at(
     columns: &LinkedColumns,
     room: &mut LinkRoom,
@@ -65,7 +66,7 @@ fn about_at(
     Ok(made)
 }
 
-/// The links of a cell of this value in the column at this place, whose about link is made.
+/// Returns the links of a cell of this value in the column at this place, whose about link is made.
 fn links_at(
     columns: &LinkedColumns,
     room: &mut LinkRoom,
@@ -86,7 +87,7 @@ fn links_at(
     Ok(joined(about, property, value))
 }
 
-/// Gives the cells of a row of columns with templates their links.
+/// Sets the links of the cells of a row, whose columns have templates.
 fn link_cells(
     alloc: Global,
     columns: &LinkedColumns,
@@ -120,7 +121,7 @@ fn link_cells(
     Ok(())
 }
 
-/// Gives the cells of a row their links. A template may name any column of the row.
+/// Sets the links of the cells of a row. A template may name any column of the row.
 pub(crate) fn link_row(
     alloc: Global,
     columns: &LinkedColumns,

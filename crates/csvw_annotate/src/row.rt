@@ -1,4 +1,4 @@
-//! Annotated rows.
+//! `Row` and `AnnCell`: annotated rows.
 ghost use Rattle.std.specs.Prelude.{◌≡◌, []};
 ghost use Rattle.csvw_annotate.specs.Annotated.{null_cell};
 
@@ -10,31 +10,31 @@ use std::alloc::Global;
 /// A cell of a row (Model for Tabular Data, section 4.5).
 #[derive(Debug, Drop)]
 pub struct AnnCell {
-    /// Its value.
+    /// The value.
     pub value: CellValue,
-    /// Its about link, the subject of its triples.
+    /// The about link: the subject of the cell's triples.
     pub about: Option<Iri>,
-    /// Its property link, their predicate.
+    /// The property link: the predicate of the cell's triples.
     pub property: Option<Iri>,
-    /// Its value link, their object.
+    /// The value link: the object of the cell's triples.
     pub link: Option<Iri>,
-    /// What is wrong with it, each code once, in the order of the codes.
+    /// What is wrong with the cell, each code once, in the order of the codes.
     pub faults: Seq<Code>,
 }
 
 /// A row (Model for Tabular Data, section 4.4).
 #[derive(Debug, Drop)]
 pub struct Row {
-    /// Its number among the data rows, from 1.
+    /// The number of the row among the data rows, from 1.
     pub number: u64,
-    /// Its number in its source, from 1: skipped, comment, blank and header rows count.
+    /// The number of the row in its source, from 1. Skipped rows, comments, blank rows and header rows count.
     pub source: u64,
-    /// Its cells, one for each column.
+    /// The cells, one for each column.
     pub cells: Seq<AnnCell>,
 }
 
 impl AnnCell {
-    /// A null cell without links and faults. It takes no memory.
+    /// Returns a null cell without links and faults. It takes no memory.
     pub fn new(alloc: Global) -> AnnCell
         ensures { result ≡ null_cell }
     {
@@ -49,7 +49,7 @@ impl AnnCell {
 }
 
 impl Row {
-    /// A row without cells. It takes no memory.
+    /// Returns a row without cells. It takes no memory.
     pub fn new(alloc: Global) -> Row
         ensures { (result.number ≡ 0) × (result.source ≡ 0) × (result.cells ≡ []) }
     {

@@ -1,30 +1,31 @@
-//! The cells of a row as values of their templates.
+//! The cells of a row, as the values of its templates.
 ghost use Rattle.std.specs.Prelude.{◌≡◌, IfOk, IfSome, decimal, map};
 ghost use Rattle.csvw_template.specs.Bound.{var_at};
 ghost use Rattle.csvw_template.specs.declared.vars.Var.TheVariants.{One};
-ghost use Rattle.csvw_links.specs.CellVariables.{variable};
+ghost use Rattle.csvw_annotate.specs.CellVariables.{variable};
 ghost use Rattle.csvw_annotate.specs.HasForms.{CellsHaveForms};
 ghost use Rattle.csvw_annotate.specs.Linked.{values_of};
 
+use crate::numbers::RowNumbers;
 use crate::row::AnnCell;
-use csvw_links::{RowNumbers, text_of, variable};
+use crate::values::{text_of, variable};
 use csvw_template::{Values, Var};
 use csvw_text::Text;
 use std::alloc::{AllocError, Global};
 
-/// What knows the values of a row.
+/// The values of a row.
 #[derive(Clone, Copy)]
 pub(crate) struct RowScope<'b> {
-    /// Where memory comes from.
+    /// The allocator.
     pub alloc: Global,
     /// The numbers of the row.
     pub row: RowNumbers,
-    /// Its cells, one for each column.
+    /// The cells, one for each column.
     pub cells: &'b [AnnCell],
 }
 
 impl<'b> Values for RowScope<'b> {
-    ghost use Rattle.csvw_links.specs.Bindings.{row_values};
+    ghost use Rattle.csvw_annotate.specs.Bindings.{row_values};
     ghost use Rattle.csvw_annotate.specs.HasForms.{CellsHaveForms};
     ghost use Rattle.csvw_annotate.specs.Linked.{values_of};
 
@@ -54,7 +55,7 @@ fn number(alloc: Global, number: u64) -> Result<Var, AllocError>
     Ok(Var::One(Text::of(format!(in alloc; "{number}")?)))
 }
 
-/// What the cell of a column stands for, by the column's place.
+/// Returns what the cell of column `i` stands for, from 0. A column that is not there stands for nothing.
 #[tactic(auto, using(crate::proofs::ValuesLemmas::value_at, crate::proofs::ValuesLemmas::no_value_at, crate::proofs::ValuesLemmas::form_at))]
 fn var_of(alloc: Global, cells: &[AnnCell], i: usize) -> Result<Var, AllocError>
     requires { CellsHaveForms cells.now }
@@ -66,7 +67,7 @@ fn var_of(alloc: Global, cells: &[AnnCell], i: usize) -> Result<Var, AllocError>
     Ok(Var::Undefined)
 }
 
-/// The text that the cell of a column stands for, where it can be lent.
+/// Returns the text that the cell of a column stands for, if it can be lent.
 #[tactic(auto, using(crate::proofs::ValuesLemmas::value_at))]
 fn text_at<'a>(cells: &'a [AnnCell], i: usize) -> Option<&'a str>
     ensures { IfSome result (λ text. var_at (map variable (values_of cells.now)) i ≡ One text.now) }

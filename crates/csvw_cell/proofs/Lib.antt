@@ -1,4 +1,3 @@
 mod ListLemmas
 mod NormalLemmas
-mod TypedLemmas
-mod JudgedLemmas
+mod OverLemmas

@@ -5,7 +5,7 @@ use Rattle.std.proofs.lemmas.List.{map-append}
 use Rattle.std.proofs.Math.Seq.{take-suc}
 use Rattle.std.specs.Prelude.{not, Some, if◌then◌else◌}
 use Rattle.std.specs.Str.Pattern.{FindsText}
-use Rattle.csvw_text.specs.declared.fault.Code.{Code}
+use Rattle.csvw_fault.specs.declared.fault.Code.{Code}
 use Rattle.csvw_datatype.specs.declared.datatype.Datatype.{Datatype}
 use Rattle.csvw_columns_core.specs.declared.properties.Properties.{Properties}
 use Rattle.csvw_cell.specs.declared.cell.Item.{Item}

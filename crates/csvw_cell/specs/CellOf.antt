@@ -1,25 +1,26 @@
--- What the text of a cell is (Model for Tabular Data, section 6.4.2, "Parsing Cells"), in nine steps.
+-- The cell that a text is (Model for Tabular Data, section 6.4, "Parsing Cells"), in nine steps.
 use Rattle.std.specs.Prelude.{◌≡◌, ℕ, ◌==◌, Bool, MatchBool, if◌then◌else◌, List, [], ◌∷◌, ◌++◌, length, map, take, drop, filter, bytes_eq, not}
 use Rattle.std.specs.Prelude.{Option, Some, None, chars, encode_utf8_all}
 use Rattle.std.specs.List.{list_any}
 use Rattle.std.specs.Str.Pattern.{FindsText}
 use Rattle.csvw_text.specs.Collapse.{collapse}
 use Rattle.csvw_text.specs.Strip.{strip_start, strip_end}
-use Rattle.csvw_text.specs.declared.fault.Code.{Code}
-use Rattle.csvw_text.specs.declared.fault.Code.TheVariants.{Required}
+use Rattle.csvw_fault.specs.declared.fault.Code.{Code}
+use Rattle.csvw_fault.specs.declared.fault.Code.TheVariants.{Required}
 use Rattle.csvw_datatype.specs.declared.datatype.Datatype.{Datatype}
 use Rattle.csvw_datatype.specs.declared.value.Value.TheVariants.{Text}
 use Rattle.csvw_datatype.specs.Reads.{Reads, Misread}
 use Rattle.csvw_datatype.specs.Breaks.{breaks}
+use Rattle.csvw_datatype.specs.Strings.{is_string}
 use Rattle.csvw_columns_core.specs.declared.properties.Properties.{Properties}
 use Rattle.csvw_columns_core.specs.declared.column.Column.{Column}
 use Rattle.csvw_cell.specs.declared.cell.Item.{Item}
 use Rattle.csvw_cell.specs.declared.cell.Cell.{Cell}
 use Rattle.csvw_cell.specs.declared.cell.CellValue.{CellValue}
 use Rattle.csvw_cell.specs.declared.cell.CellValue.TheVariants.{Null, One, Many}
-use Rattle.csvw_cell.specs.Codes.{in_order, broken_codes, is_string}
+use Rattle.csvw_cell.specs.Codes.{in_order, broken_codes}
 
--- steps 1 and 2: CR, LF and tab are spaces, the ends are stripped and runs of spaces are one, unless the base is string
+-- steps 1 and 2, unless the base is string: CR, LF and tab become spaces, the ends are stripped and each run of spaces becomes one
 abbrev pub normalized : Datatype → List ℕ → List ℕ
 normalized d text = if is_string d then text else encode_utf8_all (collapse (chars text))
 
@@ -31,7 +32,7 @@ or_default default text = if length text == 0 then default else text
 abbrev pub is_null : List (List ℕ) → List ℕ → Bool
 is_null nulls text = list_any (λ n. bytes_eq n text) nulls
 
--- step 5: the parts between the separators, each taken from the left; an empty separator parts nothing
+-- step 5: the parts between the separators, found from the left; an empty separator separates nothing
 abbrev pub ArePartsBy : List ℕ → List ℕ → List (List ℕ) → Type 0
 ArePartsBy separator text [] = ⊥
 ArePartsBy separator text (part ∷ []) = FindsText separator text None × (part ≡ text)
@@ -53,7 +54,7 @@ item_text p part = or_default p.default (stripped p.datatype part)
 abbrev pub texts_of : Properties → List (List ℕ) → List (List ℕ)
 texts_of p parts = filter (λ text. not (is_null p.null text)) (map (item_text p) parts)
 
--- step 8: the text is a value of the datatype, or else a text, with the code; step 9: the facets of a value that was read
+-- step 8: the text is a value of the datatype, or else a text with the code; step 9: the facets of a value that was read
 abbrev pub IsItem : Datatype → List ℕ → Item → List Code → Type 0
 IsItem d text item codes =
     MatchBool item.was_read

@@ -1,35 +1,18 @@
--- What may be wrong with a cell (Model for Tabular Data, section 6.4.2).
-use Rattle.std.specs.Prelude.{Bool, true, false, List, [], ◌∷◌, ◌++◌, filter, bytes_eq, if◌then◌else◌}
+-- The codes of a cell, and their order (Model for Tabular Data, section 6.4).
+use Rattle.std.specs.Prelude.{Bool, List, [], ◌∷◌, ◌++◌, filter, bytes_eq, if◌then◌else◌}
 use Rattle.std.specs.List.{list_any}
-use Rattle.csvw_text.specs.declared.fault.Code.{Code}
-use Rattle.csvw_text.specs.declared.fault.Code.TheVariants.{Required, BadBoolean, BadInteger, BadDecimal, NumberTooLong, OutOfRange, BadDate}
-use Rattle.csvw_text.specs.declared.fault.Code.TheVariants.{BadDateTime, WrongLength, TooShort, TooLong, BelowMinimum, AboveMaximum}
-use Rattle.csvw_text.specs.Code.{name_of}
+use Rattle.csvw_fault.specs.declared.fault.Code.{Code}
+use Rattle.csvw_fault.specs.declared.fault.Code.TheVariants.{Required, BadBoolean, BadInteger, BadDecimal, NumberTooLong, OutOfRange, BadDate}
+use Rattle.csvw_fault.specs.declared.fault.Code.TheVariants.{BadDateTime, WrongLength, TooShort, TooLong, BelowMinimum, AboveMaximum}
+use Rattle.csvw_fault.specs.Code.{name_of}
 use Rattle.csvw_datatype.specs.declared.facets.Broken.{Broken}
-use Rattle.csvw_datatype.specs.declared.datatype.Datatype.{Datatype}
-use Rattle.csvw_datatype.specs.declared.simple.Simple.{Simple}
-use Rattle.csvw_datatype.specs.declared.simple.Simple.TheVariants.{Text, Truth, Whole, Decimal, Day, Uri, Derived, Moment}
-
--- the base is string
-abbrev pub is_string_base : Simple → Bool
-is_string_base Text = true
-is_string_base Truth = false
-is_string_base Whole = false
-is_string_base Decimal = false
-is_string_base Day = false
-is_string_base Uri = false
-is_string_base (Derived w) = false
-is_string_base Moment = false
-
-abbrev pub is_string : Datatype → Bool
-is_string d = is_string_base d.simple
 
 -- the codes that a cell may have, in their order
 abbrev pub cell_codes : List Code
 cell_codes = Required ∷ BadBoolean ∷ BadInteger ∷ BadDecimal ∷ NumberTooLong ∷ OutOfRange ∷ BadDate ∷ BadDateTime ∷ WrongLength ∷ TooShort ∷ TooLong
     ∷ BelowMinimum ∷ AboveMaximum ∷ []
 
--- the code is one of the list; codes are told apart by their names
+-- the code is one of the list; two codes are the same if their names are
 abbrev pub is_among : List Code → Code → Bool
 is_among causes code = list_any (λ cause. bytes_eq (name_of cause) (name_of code)) causes
 

@@ -7,11 +7,11 @@ use Rattle.csvw_cell.specs.declared.cell.Item.{Item}
 use Rattle.csvw_cell.specs.declared.cell.CellValue.{CellValue}
 use Rattle.csvw_cell.specs.declared.cell.CellValue.TheVariants.{Null, One, Many}
 
--- the values of all items have
+-- the values of all items have lexical forms
 abbrev pub HaveForms : List Item → Type 0
 HaveForms items = AllByRecursion (λ item. IsWritable item.value) items
 
--- the value of a cell has, or those of its items have
+-- the value of a cell has a lexical form, or the values of its items have
 abbrev pub HasForm : CellValue → Type 0
 HasForm Null = Unit {0}
 HasForm (One item) = IsWritable item.value

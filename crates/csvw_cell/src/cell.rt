@@ -1,17 +1,30 @@
-//! The values of cells.
+//! `Cell`: the value of a cell, and what is wrong with it.
 ghost use Rattle.std.specs.Prelude.{◌≡◌, []};
+ghost use Rattle.csvw_cell.specs.Plain.{text_item};
 
 use csvw_datatype::Value;
-use csvw_text::{Code, Seq};
+use csvw_text::{Code, Seq, Text};
 use std::alloc::Global;
 
-/// A value of a cell, or an item of its list.
+/// The single value of a cell, or an item of its list.
 #[derive(Debug, Drop, PartialEq, Eq)]
 pub struct Item {
     /// The value.
     pub value: Value,
-    /// Whether the text was read as a value of the column's datatype; else the value is the text.
+    /// Whether the text was read as a value of the column's datatype. If not, the value is the text.
     pub was_read: bool,
+}
+
+impl Item {
+    /// Returns the item that is the empty text. It takes no memory.
+    pub(crate) fn new(alloc: Global) -> Item
+        ensures { result ≡ text_item [] }
+    {
+        Item {
+            value: Value::Text(Text::new(alloc)),
+            was_read: true,
+        }
+    }
 }
 
 /// The value of a cell (Model for Tabular Data, section 4.5).
@@ -25,7 +38,7 @@ pub enum CellValue {
     Many(Seq<Item>),
 }
 
-/// What the text of a cell is, and what is wrong with it (Model for Tabular Data, section 6.4.2).
+/// The cell that a text is (Model for Tabular Data, section 6.4).
 #[derive(Debug, Drop)]
 pub struct Cell {
     /// Its value.
@@ -35,7 +48,7 @@ pub struct Cell {
 }
 
 impl Cell {
-    /// A null cell without faults. It takes no memory.
+    /// Returns a null cell without faults. It takes no memory.
     pub fn new(alloc: Global) -> Cell
         ensures value { result.value ≡ CellValue.Null }
         ensures faults { result.faults ≡ [] }

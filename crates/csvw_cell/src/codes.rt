@@ -1,8 +1,10 @@
 //! What is wrong with a cell: each code once, in their order.
 ghost use Rattle.std.specs.Prelude.{◌≡◌, ◌++◌, IfOk, OnOk, bytes_eq, filter};
-ghost use Rattle.csvw_text.specs.Code as code;
+ghost use Rattle.csvw_fault.specs.Code as code;
 ghost use Rattle.csvw_cell.specs.Codes.{is_among, in_order, told, broken_codes};
+ghost use Rattle.csvw_cell.specs.CellOf.{missing};
 
+use csvw_columns_core::Properties;
 use csvw_datatype::Broken;
 use csvw_text::{Code, Seq};
 use std::alloc::{AllocError, Global};
@@ -42,7 +44,8 @@ fn chosen(alloc: Global, codes: &[Code], causes: &[Code]) -> Result<Seq<Code>, A
     Ok(found)
 }
 
-/// Each code of a list once, in their order. It takes no memory where there is none.
+/// Returns each code of a list once, in their order. It takes no memory if the list is empty. Returns `AllocError` if
+/// memory runs out.
 pub fn in_order(alloc: Global, causes: &[Code]) -> Result<Seq<Code>, AllocError>
     ensures { IfOk result (λ s. s ≡ in_order causes.now) }
 {
@@ -61,7 +64,7 @@ fn tell(codes: &mut Seq<Code>, broken: bool, code: Code) -> Result<(), AllocErro
     Ok(())
 }
 
-/// The codes of the facets that a value breaks.
+/// Returns the codes of the facets that a value breaks, or `AllocError` if memory runs out.
 pub fn broken_codes(alloc: Global, broken: Broken) -> Result<Seq<Code>, AllocError>
     ensures { IfOk result (λ s. s ≡ broken_codes broken) }
 {
@@ -71,5 +74,16 @@ pub fn broken_codes(alloc: Global, broken: Broken) -> Result<Seq<Code>, AllocErr
     tell(&mut codes, broken.too_long, Code::TooLong)?;
     tell(&mut codes, broken.below_minimum, Code::BelowMinimum)?;
     tell(&mut codes, broken.above_maximum, Code::AboveMaximum)?;
+    Ok(codes)
+}
+
+/// Returns what is wrong with a cell without a value: `Required` if the column asks for a value.
+pub(crate) fn missing(alloc: Global, properties: &Properties) -> Result<Seq<Code>, AllocError>
+    ensures { IfOk result (λ s. s ≡ missing properties.now) }
+{
+    let mut codes = Seq::new(alloc);
+    if properties.required {
+        codes.push(Code::Required)?;
+    }
     Ok(codes)
 }

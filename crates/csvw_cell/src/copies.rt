@@ -6,7 +6,7 @@ use csvw_text::{Code, Copied, Seq, both};
 use std::alloc::{AllocError, Global};
 
 impl Item {
-    /// An equal item; `AllocError` where there is no memory.
+    /// Returns an equal item, or `AllocError` if memory runs out.
     pub fn clone(&self, alloc: Global) -> Result<Item, AllocError>
         ensures { IfOk result (λ i. i ≡ self.now) }
     {
@@ -24,7 +24,7 @@ impl Copied for Item {
 }
 
 impl CellValue {
-    /// An equal value; `AllocError` where there is no memory.
+    /// Returns an equal value, or `AllocError` if memory runs out.
     pub fn clone(&self, alloc: Global) -> Result<CellValue, AllocError>
         ensures { IfOk result (λ v. v ≡ self.now) }
     {
@@ -36,7 +36,7 @@ impl CellValue {
     }
 }
 
-/// Equal codes; `AllocError` where there is no memory.
+/// Returns equal codes, or `AllocError` if memory runs out.
 pub fn copied_codes(alloc: Global, codes: &Seq<Code>) -> Result<Seq<Code>, AllocError>
     ensures { IfOk result (λ s. s ≡ codes.now) }
 {
@@ -44,7 +44,7 @@ pub fn copied_codes(alloc: Global, codes: &Seq<Code>) -> Result<Seq<Code>, Alloc
 }
 
 impl Cell {
-    /// An equal cell; `AllocError` where there is no memory.
+    /// Returns an equal cell, or `AllocError` if memory runs out.
     pub fn clone(&self, alloc: Global) -> Result<Cell, AllocError>
         ensures { IfOk result (λ c. c ≡ self.now) }
     {

@@ -1,44 +1,18 @@
-//! One text as a value of a datatype, steps 8 and 9 of a cell.
-ghost use Rattle.std.specs.Prelude.{◌≡◌, ◌∷◌, [], IfOk, MatchResult};
-ghost use Rattle.csvw_datatype.specs.Reads.{Reads, Misread};
+//! One text as a value of a datatype: steps 8 and 9 of a cell.
+ghost use Rattle.std.specs.Prelude.{◌≡◌, ◌∷◌, [], IfOk, OnOk};
 ghost use Rattle.csvw_datatype.specs.Sound.{IsSound};
 ghost use Rattle.csvw_datatype.specs.Breaks.{breaks};
-ghost use Rattle.csvw_cell.specs.Codes.{is_string, broken_codes};
+ghost use Rattle.csvw_cell.specs.Codes.{broken_codes};
 ghost use Rattle.csvw_cell.specs.CellOf.{IsItem};
+ghost use Rattle.csvw_cell.specs.Plain.{text_item};
 
 use crate::cell::Item;
 use crate::codes::broken_codes;
-use csvw_datatype::{Datatype, Simple, Value};
+use csvw_datatype::{Datatype, Value};
 use csvw_text::{Code, Seq, Text};
 use std::alloc::{AllocError, Global};
 
-/// An item, and what is wrong with it.
-#[derive(Drop)]
-pub struct Judged {
-    /// The value, or the text as a string where it isn't read.
-    pub item: Item,
-    /// The code where it isn't read, else those of the facets that it breaks.
-    pub causes: Seq<Code>,
-}
-
-/// Whether the base of a datatype is string.
-#[inline(always)]
-pub fn is_string(datatype: &Datatype) -> bool
-    ensures { result ≡ is_string datatype.now }
-{
-    match datatype.simple {
-        Simple::Text => true,
-        Simple::Truth
-        | Simple::Whole
-        | Simple::Decimal
-        | Simple::Day
-        | Simple::Uri
-        | Simple::Derived(_)
-        | Simple::Moment => false,
-    }
-}
-
-/// The codes of the facets that a value breaks.
+/// Returns the codes of the facets that a value breaks.
 #[inline(always)]
 fn causes_of(alloc: Global, datatype: &Datatype, value: &Value) -> Result<Seq<Code>, AllocError>
     ensures { IfOk result (λ s. s ≡ broken_codes (breaks value.now datatype.now.facets)) }
@@ -50,25 +24,6 @@ fn causes_of(alloc: Global, datatype: &Datatype, value: &Value) -> Result<Seq<Co
     broken_codes(alloc, datatype.facets(value))
 }
 
-/// The text as a value, in the memory of another text where it is one itself.
-#[inline(always)]
-fn read_value(
-    alloc: Global,
-    datatype: &Datatype,
-    text: &str,
-    spare: Text,
-) -> Result<Result<Value, Code>, AllocError>
-    requires { IsSound datatype.now }
-    ensures { IfOk result (λ answer. MatchResult answer (Reads datatype.now text.now) (Misread datatype.now text.now)) }
-{
-    if is_string(datatype) {
-        let mut copy = spare;
-        copy.refill(text)?;
-        return Ok(Ok(Value::Text(copy)));
-    }
-    datatype.read(alloc, text)
-}
-
 fn one_code(alloc: Global, code: Code) -> Result<Seq<Code>, AllocError>
     ensures { IfOk result (λ s. s ≡ code ∷ []) }
 {
@@ -77,34 +32,51 @@ fn one_code(alloc: Global, code: Code) -> Result<Seq<Code>, AllocError>
     Ok(codes)
 }
 
-/// The item that a text is: a value of the datatype, with the facets that it breaks, or else the text, with the code of
-/// why it is none.
+/// Writes the item of a text over an item, in its memory.
+pub(crate) fn refill_item(alloc: Global, item: &mut Item, text: &str) -> Result<(), AllocError>
+    ensures { OnOk result (item.new ≡ text_item text.now) }
+{
+    item.was_read = true;
+    match &mut item.value {
+        Value::Text(old) => old.refill(text),
+        Value::Truth(_) | Value::Number(_) | Value::Day(_) | Value::Moment(_) => {
+            item.value = Value::Text(Text::copied(alloc, text)?);
+            Ok(())
+        }
+    }
+}
+
+/// Writes the item that a text is over an item, and returns what is wrong with it.
+///
+/// The item is a value of the datatype, and its codes are those of the facets that it breaks. If the text is not a
+/// value, the item is the text, with the code of why it is not. Returns `AllocError` if memory runs out.
 #[inline(always)]
 pub(crate) fn judge(
     alloc: Global,
     datatype: &Datatype,
     text: &str,
-    spare: Text,
-) -> Result<Judged, AllocError>
+    item: &mut Item,
+) -> Result<Seq<Code>, AllocError>
     requires { IsSound datatype.now }
-    ensures { IfOk result (λ j. IsItem datatype.now text.now j.item j.causes) }
+    ensures { IfOk result (λ causes. IsItem datatype.now text.now item.new causes) }
 {
-    match read_value(alloc, datatype, text, spare)? {
+    if datatype.is_string() {
+        refill_item(alloc, item, text)?;
+        return causes_of(alloc, datatype, &item.value);
+    }
+    match datatype.read(alloc, text)? {
         Ok(value) => {
             let causes = causes_of(alloc, datatype, &value)?;
-            let item = Item {
+            *item = Item {
                 value,
                 was_read: true,
             };
-            Ok(Judged { item, causes })
+            Ok(causes)
         }
         Err(code) => {
-            let causes = one_code(alloc, code)?;
-            let item = Item {
-                value: Value::Text(Text::copied(alloc, text)?),
-                was_read: false,
-            };
-            Ok(Judged { item, causes })
+            refill_item(alloc, item, text)?;
+            item.was_read = false;
+            one_code(alloc, code)
         }
     }
 }

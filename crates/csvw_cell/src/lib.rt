@@ -1,4 +1,10 @@
-//! What a cell says: its value, by the datatype and the other properties of its column, and what is wrong with it.
+//! Cells: the value of a cell, by the datatype and the other properties of its column, and what is wrong with it.
+//!
+//! # Promises
+//!
+//! - `parse` and `parse_into` return the value of a cell's text, and each code of what is wrong with it once and in
+//!   order. They follow the nine steps of parsing cells (Model for Tabular Data, section 6.4), for every datatype
+//!   (`CellOf`).
 #![tactic(auto)]
 
 mod cell;
@@ -6,11 +12,11 @@ mod codes;
 mod copies;
 mod item;
 mod list;
+mod normal;
+mod over;
 mod parsing;
-mod plain;
 
 pub use cell::{Cell, CellValue, Item};
 pub use copies::copied_codes;
-pub use item::is_string;
+pub use over::parse_over;
 pub use parsing::{parse, parse_into};
-pub use plain::parse_over;

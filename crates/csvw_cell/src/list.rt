@@ -1,10 +1,12 @@
-//! The items of a list, steps 5 to 9 of a cell with a separator.
+//! Lists: steps 4 to 9 of a cell with a separator.
 ghost use Rattle.std.specs.Prelude.{◌≡◌, ◌<◌, length, IfOk, map, bytes_eq};
 ghost use Rattle.csvw_datatype.specs.Sound.{IsSound};
-ghost use Rattle.csvw_cell.specs.CellOf.{is_null, or_default, stripped, item_text, texts_of, AreParts, ArePartsBy, AreItems};
+ghost use Rattle.csvw_datatype.specs.Strings.{is_string};
+ghost use Rattle.csvw_cell.specs.CellOf.{is_null, or_default, stripped, item_text, texts_of, AreParts, ArePartsBy, AreItems, IsList, IsListOf};
 
-use crate::cell::Item;
-use crate::item::{is_string, judge};
+use crate::cell::{Cell, CellValue, Item};
+use crate::codes::{in_order, missing};
+use crate::item::judge;
 use csvw_columns_core::Properties;
 use csvw_datatype::Datatype;
 use csvw_text::{Code, Seq, Text, strip_end, strip_start};
@@ -12,14 +14,14 @@ use std::alloc::{AllocError, Global};
 
 /// The items of a list, and what is wrong with them.
 #[derive(Drop)]
-pub struct JudgedItems {
-    /// One for each text, in their order.
-    pub items: Seq<Item>,
-    /// The codes of all, in their order; one stands as often as it has causes.
-    pub causes: Seq<Code>,
+struct JudgedItems {
+    /// One item for each text, in order.
+    items: Seq<Item>,
+    /// The codes of all items, in order. A code occurs as often as it has causes.
+    causes: Seq<Code>,
 }
 
-/// Whether the texts are one. Most are of two lengths.
+/// Returns whether the texts are the same. Most are of two lengths.
 #[inline(always)]
 fn is_same(null: &Text, text: &str) -> bool
     ensures { result ≡ bytes_eq null.now text.now }
@@ -47,7 +49,7 @@ pub fn or_default<'a>(default: &'a str, text: &'a str) -> &'a str
 fn stripped<'a>(datatype: &Datatype, text: &'a str) -> &'a str
     ensures { result.now ≡ stripped datatype.now text.now }
 {
-    if is_string(datatype) {
+    if datatype.is_string() {
         text
     } else {
         strip_end(strip_start(text))
@@ -63,7 +65,7 @@ fn item_text<'a>(properties: &'a Properties, part: &'a str) -> &'a str
     )
 }
 
-/// The parts of a text between the separators, which aren't empty.
+/// Returns the parts of a text between the separators, which aren't empty. Returns `AllocError` if memory runs out.
 fn parts_by<'a>(alloc: Global, separator: &str, text: &'a str) -> Result<Vec<&'a str>, AllocError>
     requires { 0 < length separator.now }
     ensures { IfOk result (λ v. ArePartsBy separator.now text.now (map (λ x. x.now) v.items)) }
@@ -80,8 +82,9 @@ fn parts_by<'a>(alloc: Global, separator: &str, text: &'a str) -> Result<Vec<&'a
     }
 }
 
-/// The parts of a text between the separators; an empty separator parts nothing.
-pub fn parts<'a>(alloc: Global, separator: &str, text: &'a str) -> Result<Vec<&'a str>, AllocError>
+/// Returns the parts of a text between the separators. An empty separator separates nothing. Returns `AllocError` if
+/// memory runs out.
+fn parts<'a>(alloc: Global, separator: &str, text: &'a str) -> Result<Vec<&'a str>, AllocError>
     ensures { IfOk result (λ v. AreParts separator.now text.now (map (λ x. x.now) v.items)) }
 {
     if separator.is_empty() {
@@ -92,8 +95,8 @@ pub fn parts<'a>(alloc: Global, separator: &str, text: &'a str) -> Result<Vec<&'
     parts_by(alloc, separator, text)
 }
 
-/// The items of the parts of a list, without those that are null.
-pub(crate) fn judge_items(
+/// Returns the items of the parts of a list, without those that are null. Returns `AllocError` if memory runs out.
+fn judge_items(
     alloc: Global,
     properties: &Properties,
     parts: &[&str],
@@ -108,12 +111,54 @@ pub(crate) fn judge_items(
         if is_null(properties.null.get().as_slice(), text) {
             continue;
         }
-        let judged = judge(alloc, properties.datatype.get(), text, Text::new(alloc))?;
-        items.push(judged.item)?;
-        causes.extend_from_slice(judged.causes.as_slice())?;
+        let mut item = Item::new(alloc);
+        let its = judge(alloc, properties.datatype.get(), text, &mut item)?;
+        items.push(item)?;
+        causes.extend_from_slice(its.as_slice())?;
     }
     Ok(JudgedItems {
         items: Seq::of(items),
         causes: Seq::of(causes),
     })
+}
+
+/// Returns the list of a text that is not null.
+fn list_of(
+    alloc: Global,
+    properties: &Properties,
+    separator: &str,
+    text: &str,
+) -> Result<Cell, AllocError>
+    requires { IsSound properties.now.datatype }
+    ensures { IfOk result (IsListOf properties.now separator.now text.now) }
+{
+    let parts = parts(alloc, separator, text)?;
+    let judged = judge_items(alloc, properties, parts.as_slice())?;
+    let faults = in_order(alloc, judged.causes.as_slice())?;
+    Ok(Cell {
+        value: CellValue::Many(judged.items),
+        faults,
+    })
+}
+
+/// Returns the cell of a text in a column with a separator, or `AllocError` if memory runs out.
+pub(crate) fn list(
+    alloc: Global,
+    properties: &Properties,
+    separator: &str,
+    text: &str,
+) -> Result<Cell, AllocError>
+    requires { IsSound properties.now.datatype }
+    ensures { IfOk result (IsList properties.now separator.now text.now) }
+{
+    if text.is_empty() {
+        return Ok(Cell {
+            value: CellValue::Many(Seq::new(alloc)),
+            faults: missing(alloc, properties)?,
+        });
+    }
+    if is_null(properties.null.get().as_slice(), text) {
+        return Ok(Cell::new(alloc));
+    }
+    list_of(alloc, properties, separator, text)
 }

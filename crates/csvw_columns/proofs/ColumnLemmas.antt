@@ -1,4 +1,4 @@
--- How many columns a table has, and which.
+-- The number of columns of a table, and the columns themselves.
 use Rattle.std.proofs.Common.{◌≡◌, ◌∙◌, ℕ, ◌+◌, zero, suc, List, [], ◌∷◌, length, refl, sym, ap, arith, add-one, length-append, true, false}
 use Rattle.std.specs.Prelude.{Option, ◌==◌}
 use Rattle.csvw_iri.specs.Link.{iri_of}
@@ -38,7 +38,7 @@ pub or_declared : (cs others : List Column) → (length cs == 0) ≡ false → d
 or_declared [] others h = absurd (grind (arith, h))
 or_declared (c ∷ cs) others h = refl
 
--- where nothing is declared, those of the header count
+-- if nothing is declared, those of the header count
 pub count_of : (plan : TablePlan) (rows : List HeaderRow) (width : Option ℕ) → (length plan.declared == 0) ≡ true
     → column_count rows width ≡ length (columns_of plan rows width)
 count_of plan rows width h =

@@ -1,4 +1,4 @@
--- What a document describes is fit, and what its keys name is there.
+-- What a document describes is fit, and what its keys name exists.
 use Rattle.std.proofs.Common.{◌≡◌, ◌≢◌, ◌∙◌, ℕ, ◌+◌, ◌<◌, zero, suc, List, [], ◌∷◌, length, map, get_or, refl, sym, ap, subst, arith, Bool, true}
 use Rattle.std.proofs.Common.{false, cond, ◌||◌}
 use Rattle.std.specs.Prelude.{Option, Some, None, IfSome, All, Contains, bytes_eq}

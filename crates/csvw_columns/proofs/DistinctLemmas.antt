@@ -1,4 +1,4 @@
--- A set of names has as many as its list where no two are equal.
+-- A set of names is as large as its list exactly if no two names are equal.
 use Rattle.std.proofs.Common.{◌≡◌, ◌∙◌, ℕ, List, length, sym, subst, arith, Bool}
 use Rattle.std.specs.Prelude.{IsTrue, ◌↔◌, nat_eq}
 use Rattle.std.specs.Bool.{Decides}

@@ -1,7 +1,7 @@
--- What is fit is free of all that a fault tells.
+-- What is fit has none of the defects that a fault reports.
 use Rattle.std.specs.Prelude.{Option, Some, None, IfSome}
 use Rattle.std.proofs.lemmas.List.Elements.{All-weaker}
-use Rattle.csvw_dialect.specs.declared.dialect.Dialect.{Dialect}
+use Rattle.csvw_records.specs.declared.dialect.Dialect.{Dialect}
 use Rattle.csvw_description.specs.Plannable.{IsFitDialect, HasSound, IsFitSchema, IsFitTable}
 use Rattle.csvw_description.specs.declared.description.Description.{Description}
 use Rattle.csvw_description.specs.declared.inherited.Inherited.{Inherited}

@@ -9,7 +9,7 @@ pub map_longer : {A B : Type 0} (f : A → B) (xs : List A) (i : ℕ) (x : A) {y
 map_longer f xs i x {ys} {more} {y} lt is so_far e one =
     e ∙ ap (λ l. l ++ y ∷ []) so_far ∙ ap (λ z. map f (take i xs) ++ z ∷ []) (one ∙ ap f is) ∙ sym (map_more f xs i x lt)
 
--- the lists of one element more, behind others
+-- the lists of one more element, after others
 pub flat_longer : {A B : Type 0} (f : A → List B) (xs : List A) (i : ℕ) (x : A) (start : List B) {out more : List B} → i < length xs → x ≡ get_or xs i x
     → out ≡ start ++ flat_map f (take i xs) → more ≡ out ++ f x → more ≡ start ++ flat_map f (take (i + 1) xs)
 flat_longer f xs i x start {out} {more} lt is so_far e =

@@ -1,4 +1,4 @@
--- The columns of a table that is ready are sound, those from its header too.
+-- The columns of a table that is ready are sound, including those from its header.
 use Rattle.std.proofs.Common.{◌≡◌, ℕ, ◌+◌, zero, suc, List, [], ◌∷◌, ◌++◌, refl, sym, subst}
 use Rattle.std.specs.Prelude.{Option, None}
 use Rattle.csvw_datatype.specs.Sound.{IsSound}

@@ -6,6 +6,6 @@ use Rattle.csvw_columns_core.specs.declared.column.Column.{Column}
 abbrev pub AllDistinct : List (List ℕ) → Type 0
 AllDistinct names = AllPairs (λ x y. x ≢ y) names
 
--- no two columns have one name
+-- no two columns have the same name
 abbrev pub AreNamedApart : List Column → Type 0
 AreNamedApart columns = AllDistinct (map (λ c. c.name) columns)

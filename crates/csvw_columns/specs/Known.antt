@@ -1,4 +1,4 @@
--- What is known of a group while its tables are planned.
+-- The part of a group that is known while its tables are planned.
 use Rattle.std.specs.Prelude.{◌≤◌, length, All}
 use Rattle.csvw_description.specs.Plannable.{table_limit, column_limit}
 use Rattle.csvw_columns.specs.declared.planning.Known.{Known}

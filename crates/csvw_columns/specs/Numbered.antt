@@ -1,4 +1,4 @@
--- Tables have numbers from 1, in their order (Model for Tabular Data, section 4.2).
+-- Tables have numbers from 1, in their order: `are_numbered` (Model for Tabular Data, section 4.2).
 use Rattle.std.specs.Prelude.{◌+◌, ◌==◌, ◌&&◌, ℕ, Bool, true, List, [], ◌∷◌}
 use Rattle.csvw_columns.specs.declared.plan.TablePlan.{TablePlan}
 

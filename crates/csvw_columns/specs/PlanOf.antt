@@ -1,10 +1,10 @@
--- The plan of a group of tables (Metadata Vocabulary for Tabular Data, sections 5.3 to 5.7; Model for Tabular Data,
+-- The plan of a group of tables: `plan_of` (Metadata Vocabulary for Tabular Data, sections 5.3 to 5.7; Model for Tabular Data,
 -- sections 4.1 and 4.2).
 use Rattle.std.specs.Prelude.{◌≡◌, ℕ, ◌+◌, ◌&&◌, List, [], ◌∷◌, map, Option, true, unwrap_or}
 use Rattle.std.proofs.Common.{refl, ap, ◌∙◌}
 use Rattle.std.proofs.lemmas.Bool.{eq-eqb}
-use Rattle.csvw_dialect.specs.declared.dialect.Dialect.{Dialect}
-use Rattle.csvw_dialect.specs.Lawful.{default_dialect}
+use Rattle.csvw_records.specs.declared.dialect.Dialect.{Dialect}
+use Rattle.csvw_records.specs.Lawful.{default_dialect}
 use Rattle.csvw_iri.specs.Link.{iri_of}
 use Rattle.csvw_description.specs.Unknown.{unknown}
 use Rattle.csvw_description.specs.declared.description.Description.{Description}
@@ -26,7 +26,7 @@ use Rattle.csvw_columns.specs.declared.plan.TablePlan.{TablePlan}
 abbrev pub dialect_of : Option Dialect → Option Dialect → Dialect
 dialect_of table group = unwrap_or (first_of table group) default_dialect
 
--- nothing is declared
+-- a schema that declares nothing
 abbrev pub no_schema : Schema
 no_schema = record { columns = []; primary_key = []; foreign_keys = []; inherited = no_inherited; warnings = [] }
 
@@ -34,7 +34,7 @@ no_schema = record { columns = []; primary_key = []; foreign_keys = []; inherite
 abbrev pub schema_of : Option Schema → Option Schema → Schema
 schema_of table group = unwrap_or (first_of table group) no_schema
 
--- what the foreign keys of a group refer to: the URLs of its tables, and the names of the columns that each declares
+-- what the foreign keys of a group refer to: the URLs of its tables, and the names of the columns that each table declares
 abbrev pub targets_of : Description → Targets
 targets_of d = record {
   urls = map (λ t. iri_of t.url) d.tables;
@@ -48,7 +48,7 @@ keys_of targets schema = record {
   foreign = map (foreign_key targets.urls targets.names (numbered_names 0 schema.columns)) schema.foreign_keys;
 }
 
--- table n, with its dialect and its schema
+-- the plan of table n, with its dialect and its schema
 abbrev pub planned : Targets → Inherited → ℕ → TableDescription → Dialect → Schema → TablePlan
 planned targets group n table dialect schema = record {
   number = n;
@@ -68,12 +68,12 @@ planned targets group n table dialect schema = record {
 abbrev pub table_plan : Targets → Description → ℕ → TableDescription → TablePlan
 table_plan targets group n table = planned targets group.inherited n table (dialect_of table.dialect group.dialect) (schema_of table.schema group.schema)
 
--- the tables from number n on
+-- the plans of the tables from number n on
 abbrev pub table_plans : Targets → Description → ℕ → List TableDescription → List TablePlan
 table_plans targets group n [] = []
 table_plans targets group n (table ∷ tables) = table_plan targets group n table ∷ table_plans targets group (n + 1) tables
 
--- they have these numbers
+-- the plans have these numbers
 pub plans_numbered : (targets : Targets) (group : Description) (n : ℕ) (tables : List TableDescription)
     → are_numbered n (table_plans targets group n tables) ≡ true
 plans_numbered targets group n [] = refl

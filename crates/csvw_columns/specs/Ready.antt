@@ -1,6 +1,6 @@
--- What a table's text may be read by, and its cells.
+-- The tables whose text and cells can be read: `IsReady`, `AreReady`.
 use Rattle.std.specs.Prelude.{◌≤◌, List, [], ◌∷◌, length, None}
-use Rattle.csvw_dialect.specs.Lawful.{IsLawful}
+use Rattle.csvw_records.specs.Lawful.{IsLawful}
 use Rattle.csvw_datatype.specs.Sound.{IsSound}
 use Rattle.csvw_columns_core.specs.Sound.{AreSound}
 use Rattle.csvw_columns_core.specs.Inherited.{inherited, string_type}
@@ -8,7 +8,7 @@ use Rattle.csvw_description.specs.Plannable.{column_limit}
 use Rattle.csvw_columns.specs.Distinct.{AreNamedApart}
 use Rattle.csvw_columns.specs.declared.plan.TablePlan.{TablePlan}
 
--- the dialect and the datatypes have passed their checks, those of columns from a header too, and the limits are kept
+-- the dialect and the datatypes passed their checks, also those of columns from a header, and the limits are kept
 pub record IsReady (plan : TablePlan) : Type 0 where
   pub dialect : IsLawful plan.dialect
   pub skipped : plan.dialect.skip_columns ≤ column_limit

@@ -1,4 +1,4 @@
-//! From a description to its plan.
+//! The call that makes the plan of a description.
 ghost use Rattle.std.specs.Prelude.{◌≡◌, ◌≢◌, [], IfOk, MatchOption};
 ghost use Rattle.csvw_columns.specs.Fit.{IsFitGroup};
 ghost use Rattle.csvw_columns.specs.FreeOf.{GroupIsFreeOf};
@@ -15,7 +15,7 @@ use csvw_meta_core::{MetaCode, MetaFault};
 use csvw_text::Text;
 use std::alloc::Global;
 
-/// A fault of the whole description.
+/// Returns the fault of the whole description with that code.
 fn fault(alloc: Global, code: MetaCode) -> MetaFault
     ensures { result ≡ record { code = code; pointer = [] } }
 {
@@ -25,7 +25,7 @@ fn fault(alloc: Global, code: MetaCode) -> MetaFault
     }
 }
 
-/// Why a description's tables can't be read; `Memory` where there is none.
+/// Returns the code of why a description's tables cannot be read, `Memory` if memory runs out, or `None` if they can.
 fn refused(alloc: Global, description: &Description) -> Option<MetaCode>
     ensures { MatchOption result (IsFitGroup description.now) (λ code. code ≢ Memory → GroupIsFreeOf code description.now → ⊥) }
 {
@@ -36,12 +36,16 @@ fn refused(alloc: Global, description: &Description) -> Option<MetaCode>
 }
 
 impl Plan {
-    /// The plan of a description: each table with its own dialect and schema or those of its group, its columns with what
-    /// they inherit, and its keys by numbers (Metadata Vocabulary for Tabular Data, sections 5.3 to 5.7). Where there is none,
-    /// a fault of the whole description: `TooMany` where it has over 64 tables, or one of its schemas over 1,024 columns, or
-    /// one of its dialects skips over 1,024; `BadDialect` where texts can't be read by one of its dialects; `BadDatatype`
-    /// where a datatype doesn't fit together; `DuplicateName` where two columns of a schema have one name; `BadReference`
-    /// where a key names what isn't there. `Memory` where memory is wanting.
+    /// Makes the plan of a description (Metadata Vocabulary for Tabular Data, sections 5.3 to 5.7). Each table has its
+    /// own dialect and schema, or those of its group. Its columns have what they inherit, and its keys have numbers.
+    /// If there is no plan, it returns a fault of the whole description:
+    ///
+    /// - `TooMany`: there are over 64 tables, a schema has over 1,024 columns, or a dialect skips over 1,024 columns;
+    /// - `BadDialect`: a dialect cannot be used to read any text;
+    /// - `BadDatatype`: the parts of a datatype do not fit together;
+    /// - `DuplicateName`: two columns of a schema have the same name;
+    /// - `BadReference`: a key names what does not exist;
+    /// - `Memory`: memory runs out.
     #[tactic(auto, using(crate::proofs::ReadyLemmas::ready))]
     pub fn build(alloc: Global, description: Description) -> Result<Plan, MetaFault>
         ensures plan { Builds description result }

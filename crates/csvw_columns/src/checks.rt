@@ -1,4 +1,4 @@
-//! Whether the tables of a description can be read, keys aside.
+//! The checks that the tables of a description can be read. Keys are checked elsewhere.
 ghost use Rattle.std.specs.Prelude.{◌≡◌, ◌↔◌, IfOk, IfSome, IsTrue, MatchOption, All};
 ghost use Rattle.csvw_description.specs.Plannable.{table_limit, IsFitDialect, HasSound, IsFitSchema, IsFitTable};
 ghost use Rattle.csvw_description.specs.Name.{numbered_names};
@@ -8,11 +8,11 @@ ghost use Rattle.csvw_columns.specs.FreeOf.{DialectIsFreeOf, SchemaIsFreeOf, Tab
 use crate::names::are_distinct;
 use csvw_columns_core::{COLUMN_LIMIT, SKIP_LIMIT};
 use csvw_description::{ColumnDescription, Description, Inherited, Name, Schema, TableDescription};
-use csvw_dialect::Dialect;
 use csvw_meta_core::MetaCode;
+use csvw_records::Dialect;
 use std::alloc::{AllocError, Global};
 
-/// How many tables a group has at most.
+/// The greatest number of tables of a group.
 const TABLE_LIMIT: usize = 64;
 
 fn dialect_fault(dialect: &Dialect) -> Option<MetaCode>
@@ -51,7 +51,7 @@ fn are_sound(columns: &[ColumnDescription]) -> bool
     columns.iter().all(|c| has_sound(&c.inherited))
 }
 
-/// The names of columns, numbered from 1. `AllocError` where there is no memory.
+/// Returns the names of columns, numbered from 1, or `AllocError` if there is no memory.
 pub(crate) fn numbered_names(
     alloc: Global,
     columns: &[ColumnDescription],
@@ -117,7 +117,8 @@ fn first_fault(alloc: Global, tables: &[TableDescription]) -> Result<Option<Meta
     Ok(None)
 }
 
-/// Why the tables of a description can't be read; `None` where they can. `AllocError` where there is no memory.
+/// Returns the code of why the tables of a description cannot be read, or `None` if they can. It returns `AllocError`
+/// if there is no memory.
 pub(crate) fn fault_of(
     alloc: Global,
     description: &Description,

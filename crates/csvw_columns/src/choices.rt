@@ -1,13 +1,14 @@
-//! What a table takes from its group where it has none of its own.
+//! What a table takes from its group if it has none of its own.
 ghost use Rattle.std.specs.Prelude.{◌≡◌, IfOk};
 ghost use Rattle.csvw_columns_core.specs.Inherited.{first_of};
 ghost use Rattle.csvw_columns.specs.PlanOf.{dialect_of};
 
 use csvw_description::Schema;
-use csvw_dialect::Dialect;
+use csvw_records::Dialect;
 use std::alloc::{AllocError, Global};
 
-/// The table's own dialect, else that of its group, else the default. `AllocError` where there is no memory.
+/// Returns the table's own dialect, else that of its group, else the default. It returns `AllocError` if there is no
+/// memory.
 pub(crate) fn dialect_of(
     alloc: Global,
     table: &Option<Dialect>,
@@ -24,7 +25,7 @@ pub(crate) fn dialect_of(
     }
 }
 
-/// The table's own schema, else that of its group.
+/// Returns the table's own schema, else that of its group.
 pub(crate) fn schema_of<'a>(
     table: &'a Option<Schema>,
     group: &'a Option<Schema>,

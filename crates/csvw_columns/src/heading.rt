@@ -17,7 +17,7 @@ use csvw_columns_core::{
 use csvw_text::{Fault, Seq, both, copied_option};
 use std::alloc::{AllocError, Global};
 
-/// What its columns have of the table.
+/// Returns what the columns have in common from their table.
 fn frame_of(alloc: Global, plan: &TablePlan) -> Result<Frame, AllocError>
     ensures { IfOk result (λ f. f ≡ frame_of plan.now) }
 {
@@ -33,7 +33,7 @@ fn frame_of(alloc: Global, plan: &TablePlan) -> Result<Frame, AllocError>
     })
 }
 
-/// The columns that come from the header.
+/// Returns the columns that come from the header.
 #[tactic(auto, using(crate::proofs::ColumnLemmas::length_from_header))]
 fn header_columns(
     alloc: Global,
@@ -52,7 +52,7 @@ fn header_columns(
     columns
 }
 
-/// How many columns there are.
+/// Returns the number of columns.
 #[tactic(auto, using(crate::proofs::ColumnLemmas::count_of))]
 fn count(plan: &TablePlan, rows: &[HeaderRow], width: Option<usize>) -> usize
     ensures { result ≡ length (columns_of plan.now rows.now width) }
@@ -64,14 +64,14 @@ fn count(plan: &TablePlan, rows: &[HeaderRow], width: Option<usize>) -> usize
     }
 }
 
-/// Whether the limit is kept.
+/// Whether the number of columns is within the limit.
 fn is_within(plan: &TablePlan, rows: &[HeaderRow], width: Option<usize>) -> bool
     ensures { IsTrue result ↔ IsWithin plan.now rows.now width }
 {
     count(plan, rows, width) <= COLUMN_LIMIT
 }
 
-/// The columns; `TooManyColumns` where there are over 1,024.
+/// Returns the columns, or `TooManyColumns` if there are over 1,024.
 fn columns_of(
     alloc: Global,
     plan: &TablePlan,
@@ -89,7 +89,7 @@ fn columns_of(
     Ok(plan.declared.clone(alloc)?)
 }
 
-/// The columns, with what they have of their table.
+/// Returns the columns, with what they have in common from their table.
 fn in_table(alloc: Global, plan: &TablePlan, columns: Seq<Column>) -> Result<Columns, AllocError>
     ensures { IfOk result (λ found. found ≡ record { columns = columns; url = plan.now.url; id = plan.now.id; suppressed = plan.now.suppressed }) }
 {
@@ -105,11 +105,15 @@ fn in_table(alloc: Global, plan: &TablePlan, columns: Seq<Column>) -> Result<Col
     })
 }
 
-/// The columns of a table, once its header is known, and what is wrong with the header (Metadata Vocabulary for Tabular
-/// Data, sections 5.6 and 6.4; Model for Tabular Data, section 8): the columns that are declared, or where there are none,
-/// those that come from the header rows, or without header rows one for each field of the first data row, of which there
-/// are so many. `TooManyColumns` where there are over 1,024 of them; else `DuplicateName` where two have one name. `Memory`
-/// where there is none. It never answers `RaggedRow`.
+/// Returns the columns of a table, once its header is known, and what is wrong with the header (Metadata Vocabulary for
+/// Tabular Data, sections 5.6 and 6.4; Model for Tabular Data, section 8). The columns are, in this order:
+///
+/// - the declared columns, if there are any;
+/// - else the columns of the header rows, if there are header rows;
+/// - else one for each field of the first data row, whose number of fields is `width`.
+///
+/// It returns `TooManyColumns` if there are over 1,024 columns. Else it returns `DuplicateName` if two columns have
+/// the same name. It returns `Memory` if memory runs out. It never returns `RaggedRow`.
 pub fn match_header(
     alloc: Global,
     plan: &TablePlan,

@@ -10,7 +10,7 @@ use csvw_description::Name;
 use std::alloc::{AllocError, Global};
 use std::collections::BTreeSet;
 
-/// Copies of the names of columns.
+/// Returns copies of the names of columns.
 fn names_of(alloc: Global, columns: &[Column]) -> Result<Vec<Name>, AllocError>
     ensures { IfOk result (λ v. v.items ≡ map (λ c. c.name) columns.now) }
 {
@@ -22,7 +22,7 @@ fn names_of(alloc: Global, columns: &[Column]) -> Result<Vec<Name>, AllocError>
     Ok(names)
 }
 
-/// The set of names.
+/// Returns the set of names.
 fn set_of(alloc: Global, names: Vec<Name>) -> Result<BTreeSet<Name>, AllocError>
     ensures { IfOk result (IsFromIterResult (slice_cmp nat_cmp) names.items) }
 {
@@ -39,7 +39,7 @@ pub(crate) fn are_distinct(alloc: Global, names: Vec<Name>) -> Result<bool, Allo
     Ok(set.len() == count)
 }
 
-/// Whether no two columns have one name.
+/// Whether no two columns have the same name.
 pub(crate) fn are_named_apart(alloc: Global, columns: &[Column]) -> Result<bool, AllocError>
     ensures { IfOk result (λ b. IsTrue b ↔ AreNamedApart columns.now) }
 {

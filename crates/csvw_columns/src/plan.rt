@@ -1,22 +1,22 @@
-//! What is known of tables before their texts are read.
+//! What is known of tables before their texts are read: the plan.
 ghost use Rattle.std.specs.Prelude.{◌≡◌, true, IfOk};
 ghost use Rattle.csvw_columns.specs.Numbered.{are_numbered};
 
 use csvw_columns_core::Column;
 use csvw_description::{Inherited, Note};
-use csvw_dialect::Dialect;
 use csvw_iri::{Base, Iri};
+use csvw_records::Dialect;
 use csvw_text::{Copied, Fault, Seq, both, copied_items, copied_option};
 use std::alloc::{AllocError, Global};
 
-/// A foreign key (Model for Tabular Data, section 4.2), by numbers.
+/// A foreign key (Model for Tabular Data, section 4.2), as numbers.
 #[derive(Debug, Drop)]
 pub struct ForeignKeyPlan {
     /// The numbers of the referring columns, from 1.
     pub columns: Seq<u32>,
-    /// The number of the table that is referenced, from 1.
+    /// The number of the referenced table, from 1.
     pub table: u32,
-    /// The numbers of its columns, as many as the referring ones.
+    /// The numbers of its referenced columns, from 1. There are as many as referring columns.
     pub referenced: Seq<u32>,
 }
 
@@ -29,19 +29,19 @@ pub struct TablePlan {
     pub url: Base,
     /// Its `@id`.
     pub id: Option<Iri>,
-    /// Whether it gives no triples.
+    /// Whether the table makes no triples.
     pub suppressed: bool,
-    /// How its text is cut into rows and fields.
+    /// The dialect by which its text is cut into rows and fields.
     pub dialect: Dialect,
-    /// The columns that its schema declares; none: its columns come from its header.
+    /// The columns that its schema declares. If there are none, the columns come from the header.
     pub declared: Seq<Column>,
     /// The inherited properties of its schema, for columns from its header.
     pub schema: Inherited,
-    /// Those that stand in the table itself.
+    /// The inherited properties of the table itself.
     pub table: Inherited,
-    /// Those of its group.
+    /// The inherited properties of its group.
     pub group: Inherited,
-    /// The numbers of the columns of its primary key, from 1; none: it has no primary key.
+    /// The numbers of the columns of its primary key, from 1. If there are none, it has no primary key.
     pub primary_key: Seq<u32>,
     /// Its foreign keys, in order.
     pub foreign_keys: Seq<ForeignKeyPlan>,
@@ -65,7 +65,7 @@ pub struct Plan {
 }
 
 impl ForeignKeyPlan {
-    /// An equal key; `AllocError` where there is no memory.
+    /// Returns an equal key, or `AllocError` if there is no memory.
     pub fn clone(&self, alloc: Global) -> Result<ForeignKeyPlan, AllocError>
         ensures { IfOk result (λ k. k ≡ self.now) }
     {
@@ -87,7 +87,8 @@ impl Copied for ForeignKeyPlan {
 }
 
 impl TablePlan {
-    /// An equal plan, whose properties share their templates, texts and datatypes; `AllocError` where there is no memory.
+    /// Returns an equal plan, whose properties share their templates, texts and datatypes. It returns `AllocError` if
+    /// there is no memory.
     pub fn clone(&self, alloc: Global) -> Result<TablePlan, AllocError>
         ensures { IfOk result (λ p. p ≡ self.now) }
     {
@@ -125,7 +126,8 @@ impl Copied for TablePlan {
 }
 
 impl Plan {
-    /// An equal plan, whose properties share their templates, texts and datatypes; `AllocError` where there is no memory.
+    /// Returns an equal plan, whose properties share their templates, texts and datatypes. It returns `AllocError` if
+    /// there is no memory.
     pub fn clone(&self, alloc: Global) -> Result<Plan, AllocError>
         ensures { IfOk result (λ p. p ≡ self.now) }
     {
@@ -141,14 +143,14 @@ impl Plan {
         })
     }
 
-    /// Its tables, in order.
+    /// Returns its tables, in order.
     pub fn tables(&self) -> &[TablePlan]
         ensures { result.now ≡ self.now.tables }
     {
         self.tables.as_slice()
     }
 
-    /// A warning for each property of its metadata that is ignored.
+    /// Returns a warning for each property of its metadata that is ignored.
     pub fn warnings(&self) -> &[Fault]
         ensures { result.now ≡ self.now.warnings }
     {

@@ -1,4 +1,4 @@
-//! The plan of a group of tables.
+//! The construction of the plan of a group of tables.
 ghost use Rattle.std.specs.Prelude.{◌≡◌, ◌≤◌, [], IfOk, IfSome, All, length, unwrap_or};
 ghost use Rattle.csvw_iri.specs.Link.{iri_of};
 ghost use Rattle.csvw_columns_core.specs.declared.declared.Frame.{Frame as TheFrame};
@@ -18,14 +18,14 @@ use csvw_text::{Seq, both, copied_option};
 use std::alloc::{AllocError, Global};
 use std::mem;
 
-/// What the plan of each table needs.
+/// The values that the plan of each table needs.
 #[derive(Drop)]
 struct Known {
     defaults: Defaults,
     targets: Targets,
 }
 
-/// What the columns inherit from their schema.
+/// Returns what the columns inherit from their schema.
 fn schema_inherited(alloc: Global, schema: &Option<Schema>) -> Result<Inherited, AllocError>
     ensures { IfOk result (λ i. i ≡ (unwrap_or schema.now no_schema).inherited) }
 {
@@ -35,7 +35,7 @@ fn schema_inherited(alloc: Global, schema: &Option<Schema>) -> Result<Inherited,
     }
 }
 
-/// The columns that a schema declares.
+/// Returns the columns that a schema declares.
 fn declared(
     alloc: Global,
     defaults: &Defaults,
@@ -53,7 +53,7 @@ fn declared(
     }
 }
 
-/// What the columns have of their table.
+/// Returns what the columns have in common from their table.
 fn frame_of(
     alloc: Global,
     table: &TableDescription,
@@ -75,7 +75,7 @@ fn frame_of(
     })
 }
 
-/// What the columns have of their table, and the columns that a schema declares.
+/// Returns what the columns have in common from their table, and the columns that a schema declares.
 fn framed(
     alloc: Global,
     group: &Description,
@@ -95,7 +95,7 @@ fn framed(
     both(Ok(frame), declared)
 }
 
-/// The plan of a table, without its keys and notes.
+/// Returns the plan of a table without its keys and notes.
 fn bare_plan(
     alloc: Global,
     group: &Description,
@@ -127,7 +127,7 @@ fn bare_plan(
     })
 }
 
-/// The plan of a table, with its keys and notes.
+/// Adds keys and notes to the plan of a table.
 fn completed(plan: TablePlan, keys: Keys, notes: Seq<Note>) -> TablePlan
     ensures { result ≡ record plan { primary_key = keys.primary; foreign_keys = keys.foreign; notes = notes } }
 {
@@ -138,7 +138,7 @@ fn completed(plan: TablePlan, keys: Keys, notes: Seq<Note>) -> TablePlan
     plan
 }
 
-/// The plan of a table.
+/// Returns the plan of a table.
 fn table_plan(
     alloc: Global,
     group: &Description,
@@ -159,7 +159,7 @@ fn table_plan(
     Ok(completed(plan, keys, notes))
 }
 
-/// The plans of tables, numbered from 1.
+/// Returns the plans of tables, numbered from 1.
 fn table_plans(
     alloc: Global,
     group: &Description,
@@ -192,8 +192,8 @@ fn known_of(alloc: Global, group: &Description) -> Result<Known, AllocError>
     })
 }
 
-/// The plan of a description whose tables can be read, and whose tables, `@id` and notes it takes. `AllocError` where there
-/// is no memory.
+/// Makes the plan of a description whose tables can be read. It takes the tables, the `@id` and the notes from the
+/// description. It returns `AllocError` if there is no memory.
 pub(crate) fn planned(alloc: Global, description: &mut Description) -> Result<Plan, AllocError>
     requires { IsFitGroup description.old }
     ensures { IfOk result (λ plan. plan ≡ plan_of description.old) }

@@ -1,4 +1,4 @@
-//! Keys by the numbers of their columns and tables.
+//! Keys as numbers of columns and tables.
 ghost use Rattle.std.specs.Prelude.{◌≡◌, ◌≤◌, ◌<◌, ◌↔◌, IfOk, IsTrue, All, length, map, unwrap_or};
 ghost use Rattle.csvw_iri.specs.Link.{iri_of};
 ghost use Rattle.csvw_columns.specs.Keys.{place_of, number_at, numbers_of, names_at, foreign_key, IsResolved, AreResolved};
@@ -19,7 +19,7 @@ use std::alloc::{AllocError, Global};
 pub(crate) struct Targets {
     /// The URLs of the tables, made safe.
     pub(crate) urls: Seq<Iri>,
-    /// The names of the columns that each of them declares.
+    /// The names of the columns that each table declares.
     pub(crate) names: Seq<Seq<Name>>,
 }
 
@@ -67,7 +67,7 @@ fn all_names(
     Ok(Seq::of(all))
 }
 
-/// What the foreign keys of a group refer to. `AllocError` where there is no memory.
+/// Returns what the foreign keys of a group refer to, or `AllocError` if there is no memory.
 pub(crate) fn targets_of(alloc: Global, group: &Description) -> Result<Targets, AllocError>
     ensures { IfOk result (λ t. t ≡ targets_of group.now) }
 {
@@ -193,7 +193,7 @@ fn foreign_keys(
     }
 }
 
-/// The keys of a schema, in a table that declares its columns. `AllocError` where there is no memory.
+/// Returns the keys of a schema, in a table that declares its columns, or `AllocError` if there is no memory.
 #[tactic(auto, using(crate::proofs::KeyLemmas::length_numbered))]
 pub(crate) fn keys_of(
     alloc: Global,
@@ -238,7 +238,7 @@ fn has_resolved_keys(plan: &TablePlan) -> bool
             .all(|key| is_resolved(key))
 }
 
-/// Whether what the keys of tables name is there.
+/// Whether what the keys of tables name exists.
 pub(crate) fn are_resolved(plans: &[TablePlan]) -> bool
     ensures { IsTrue result ↔ All AreResolved plans.now }
 {

@@ -43,8 +43,8 @@ fn push_tables(out: &mut Vec<Fault>, tables: &[TableDescription]) -> Result<(), 
     Ok(())
 }
 
-/// Those of the group, then those of each table (Metadata Vocabulary for Tabular Data, section 4.1). `AllocError` where
-/// there is no memory.
+/// Returns the warnings of the group, then those of each table (Metadata Vocabulary for Tabular Data, section 4.1). It
+/// returns `AllocError` if there is no memory.
 #[tactic(auto, using(std::proofs::Common::append_assoc))]
 pub(crate) fn unknown(alloc: Global, d: &Description) -> Result<Seq<Fault>, AllocError>
     ensures { IfOk result (λ s. s ≡ unknown d.now) }

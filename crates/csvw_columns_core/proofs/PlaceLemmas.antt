@@ -1,4 +1,4 @@
--- The map of names and the list of columns go by the same places.
+-- The map of names and the list of columns have the same places.
 use Rattle.std.proofs.Common.{◌≡◌, ◌∙◌, ℕ, ◌+◌, ◌<◌, zero, suc, Bool, true, false, cond, List, [], ◌∷◌, length, take, get_or, slice_get, find, Option, Some}
 use Rattle.std.proofs.Common.{None}
 use Rattle.std.proofs.Common.{refl, sym, ap, subst, arith, add-one, add-zero, is_some, ⊎_elim, true≢false, Bor}

@@ -1,4 +1,4 @@
--- The IRIs of the built-in datatypes stand raw.
+-- The characters of the IRIs of the built-in datatypes may be raw in an IRIREF.
 use Rattle.std.proofs.Common.{◌≡◌, ◌∙◌, ℕ, List, ◌++◌, refl, ap}
 use Rattle.std.specs.Prelude.{codes}
 use Rattle.csvw_iri.specs.Safe.{safe}

@@ -1,4 +1,4 @@
--- The columns of a table by their names.
+-- The places of the columns of a table, by their names.
 use Rattle.std.specs.Prelude.{◌≡◌, ℕ, List, String, Option, Some, None, bytes_eq, if◌then◌else◌}
 use Rattle.std.specs.List.{position_from}
 use Rattle.std.specs.Option.{option_or}

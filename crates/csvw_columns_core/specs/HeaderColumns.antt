@@ -13,12 +13,12 @@ titled_column titles = record { name = None; titles = titles; is_virtual = false
 abbrev pub titles_at : List HeaderRow → ℕ → List (List ℕ)
 titles_at rows i = filter (λ title. not (length title == 0)) (map (λ row. cell_at row i) rows)
 
--- the first columns, so many, each titled by its header cells
+-- the first so many columns, each with its header cells as titles
 abbrev pub titled_columns : List HeaderRow → ℕ → List ColumnDescription
 titled_columns rows zero = []
 titled_columns rows (suc n) = titled_columns rows n ++ titled_column (titles_at rows n) ∷ []
 
--- as many as the first header row has cells, or without header rows as the first data row has fields
+-- as many as the first header row has cells; without header rows, as many as the first data row has fields
 abbrev pub column_count : List HeaderRow → Option ℕ → ℕ
 column_count [] width = unwrap_or width 0
 column_count (row ∷ rows) width = length row.cells

@@ -2,10 +2,10 @@
 -- Data, section 8).
 use Rattle.std.specs.Prelude.{ℕ, ◌+◌, ◌==◌, ◌||◌, Bool, true, nat_lt, if◌then◌else◌, List, [], ◌∷◌, ◌++◌, length, map, bytes_eq, flat_map}
 use Rattle.std.specs.List.{list_any, slice_index_or}
-use Rattle.csvw_text.specs.declared.fault.Fault.{Fault}
-use Rattle.csvw_text.specs.declared.fault.Code.{Code}
-use Rattle.csvw_text.specs.declared.fault.Code.TheVariants.{HeaderMissing, HeaderCount, HeaderMismatch}
-use Rattle.csvw_text.specs.declared.fault.Kind.TheVariants.{Error}
+use Rattle.csvw_fault.specs.declared.fault.Fault.{Fault}
+use Rattle.csvw_fault.specs.declared.fault.Code.{Code}
+use Rattle.csvw_fault.specs.declared.fault.Code.TheVariants.{HeaderMissing, HeaderCount, HeaderMismatch}
+use Rattle.csvw_fault.specs.declared.fault.Kind.TheVariants.{Error}
 use Rattle.csvw_iri.specs.Encoded.{percent_encoded}
 use Rattle.csvw_columns_core.specs.Columns.{field_count}
 use Rattle.csvw_columns_core.specs.declared.column.Column.{Column}
@@ -31,7 +31,7 @@ encoded_cells rows i = map (λ row. percent_encoded (cell_at row i)) rows
 abbrev pub has_name : List ℕ → List HeaderRow → ℕ → Bool
 has_name name rows i = list_any (λ cell. bytes_eq cell name) (encoded_cells rows i)
 
--- a column without titles fits where it is virtual or has no name of its own, or by its name; one with titles by one of them
+-- A column without titles fits if it is virtual or has no name of its own, or by its name. A column with titles fits if it is virtual, or by one of them.
 abbrev pub fits_alone : Column → List HeaderRow → ℕ → Bool
 fits_alone c rows i = if c.is_named then has_name c.name rows i else true
 
@@ -44,7 +44,7 @@ mismatches_from table source rows i [] = []
 mismatches_from table source rows i (c ∷ cs) =
     (if fits c rows i then [] else error_at table source c.number HeaderMismatch ∷ []) ++ mismatches_from table source rows (i + 1) cs
 
--- each header row that hasn't one cell for each column that isn't virtual
+-- each header row that does not have one cell for each column that isn't virtual
 abbrev pub count_faults : ℕ → ℕ → List HeaderRow → List Fault
 count_faults table count rows = flat_map (λ row. if length row.cells == count then [] else error_at table row.source 0 HeaderCount ∷ []) rows
 
@@ -54,7 +54,7 @@ last_source [] = 0
 last_source (row ∷ []) = row.source
 last_source (row ∷ next ∷ rows) = last_source (next ∷ rows)
 
--- the mismatches are told only where each row has the right number of cells
+-- mismatches are reported only if each row has the right number of cells
 abbrev pub mismatches : ℕ → List HeaderRow → List Column → List Fault → List Fault
 mismatches table rows columns [] = mismatches_from table (last_source rows) rows 0 columns
 mismatches table rows columns (fault ∷ faults) = fault ∷ faults

@@ -7,7 +7,7 @@ use Rattle.csvw_datatype.specs.declared.simple.Simple.TheVariants as simple
 use Rattle.csvw_description.specs.declared.inherited.Inherited.{Inherited}
 use Rattle.csvw_columns_core.specs.declared.properties.Properties.{Properties}
 
--- the inner value where it is present, else the outer
+-- the inner value if it is present, else the outer
 abbrev pub first_of : {A : Type 0} → Option A → Option A → Option A
 first_of (Some x) outer = Some x
 first_of None outer = outer
@@ -35,7 +35,7 @@ pub record AreDefaults (datatype : Datatype) (default lang : List ℕ) (nulls : 
 abbrev pub inherited_or_none : {A : Type 0} → Option A → Option A → Option A → Option A → Option A
 inherited_or_none column schema table group = first_present (column ∷ schema ∷ table ∷ group ∷ [])
 
--- the properties of a column, from what stands in it, in its schema, in its table and in the group
+-- the properties of a column, from those of the column, its schema, its table and the group
 abbrev pub properties_of : Inherited → Inherited → Inherited → Inherited → Properties
 properties_of column schema table group = record {
   about_url = inherited_or_none column.about_url schema.about_url table.about_url group.about_url;

@@ -6,3 +6,4 @@ pub mod SchemaColumns
 pub mod HeaderFits
 pub mod HeaderColumns
 pub mod Sound
+pub mod TableStops

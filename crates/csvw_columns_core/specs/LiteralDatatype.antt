@@ -8,6 +8,6 @@ use Rattle.csvw_datatype.specs.declared.simple.Simple.{Simple}
 abbrev pub xsd_type : Simple → List ℕ
 xsd_type s = codes "http://www.w3.org/2001/XMLSchema#" ++ name_of s
 
--- a value that was read: the datatype's `@id`, else its base
+-- the datatype of a value that was read: the datatype's `@id`, else its base
 abbrev pub literal_datatype : Datatype → List ℕ
 literal_datatype d = unwrap_or d.id (xsd_type d.simple)

@@ -7,11 +7,11 @@ use Rattle.csvw_columns_core.specs.declared.column.Column.{Column}
 use Rattle.csvw_columns_core.specs.Inherited.{properties_of}
 use Rattle.csvw_columns_core.specs.LiteralDatatype.{literal_datatype}
 
--- the number in the source, where skipped columns count; a virtual column has none
+-- the number in the source, with the skipped columns counted; a virtual column has none
 abbrev pub source_number_of : Bool → ℕ → ℕ → Option ℕ
 source_number_of is_virtual skipped number = if is_virtual then None else Some (skipped + number)
 
--- column n of the table of this URL, with what its schema, its table and the group have
+-- column n of the table of this URL, with the properties of its schema, its table and the group
 abbrev pub declared : List ℕ → ℕ → Inherited → Inherited → Inherited → ℕ → ColumnDescription → Column
 declared url skipped schema table group n c = record {
   name = name_of n c;

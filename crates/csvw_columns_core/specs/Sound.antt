@@ -1,4 +1,5 @@
--- Columns whose cells can be read, since their datatypes fit together (Metadata Vocabulary for Tabular Data, section 5.11.2).
+-- Columns whose cells can be read, because their datatypes are sound; there is at most one proof of that (Metadata Vocabulary for
+-- Tabular Data, section 5.11.2).
 use Rattle.std.specs.Prelude.{List, [], ◌∷◌}
 use mathlib.Core.HLevel.{×_prop, Unit-prop}
 use Rattle.csvw_datatype.specs.Sound.{IsSound}
@@ -10,7 +11,7 @@ abbrev pub AreSound : List Column → Type 0
 AreSound [] = Unit {0}
 AreSound (column ∷ columns) = IsSound column.properties.datatype × AreSound columns
 
--- that they have has one proof at most, so that it can stand in an invariant
+-- that they are sound has one proof at most, so an invariant can contain it
 pub AreSound-prop : (columns : List Column) → IsProp (AreSound columns)
 AreSound-prop [] = Unit-prop
 AreSound-prop (column ∷ columns) = ×_prop (IsSound-prop column.properties.datatype) (AreSound-prop columns)

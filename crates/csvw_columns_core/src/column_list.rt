@@ -1,4 +1,4 @@
-//! A list of columns, which are also found by their names.
+//! `ColumnList`: a list of columns, with the place of each name.
 ghost use Rattle.std.specs.Prelude.{◌≡◌, IfOk, OnOk, bytes_eq, find, length};
 ghost use Rattle.std.specs.Option.{option_copied};
 ghost use Rattle.csvw_columns_core.specs.ByName.{AddsPlace, ArePlaces};
@@ -9,12 +9,12 @@ use indexmap::IndexMap;
 use std::alloc::{AllocError, Global};
 use std::marker::Model;
 
-/// A list of columns, as which contracts see it, with the place of each name.
+/// A list of columns, with the place of each name. Contracts see it as the list.
 #[derive(Debug, Drop)]
 pub struct ColumnList {
     /// The columns.
     columns: Seq<Column>,
-    /// The places of their names: where two have one name, that of the first.
+    /// The places of the names. If two columns have one name, its place is that of the first.
     places: IndexMap<String, usize>,
 }
 
@@ -31,7 +31,7 @@ impl Model for ColumnList {
 }
 
 impl ColumnList {
-    /// The list of these columns; `AllocError` where there is no memory.
+    /// Returns the list of these columns, or `AllocError` if memory runs out.
     pub fn of(alloc: Global, columns: Seq<Column>) -> Result<ColumnList, AllocError>
         ensures { IfOk result (λ l. l ≡ columns) }
     {
@@ -39,21 +39,21 @@ impl ColumnList {
         Ok(ColumnList { columns, places })
     }
 
-    /// The columns, as a slice.
+    /// Returns the columns as a slice.
     pub fn as_slice(&self) -> &[Column]
         ensures { result.now ≡ self.now }
     {
         self.columns.as_slice()
     }
 
-    /// How many columns there are.
+    /// Returns the number of columns.
     pub fn len(&self) -> usize
         ensures { result ≡ length self.now }
     {
         self.columns.len()
     }
 
-    /// The column of this name, the first one; `None` where there is none. It takes no memory.
+    /// Returns the first column of this name, or `None` if there is none. It takes no memory.
     pub fn by_name(&self, name: &str) -> Option<&Column>
         ensures { option_copied result ≡ find (λ c. bytes_eq c.name name.now) self.now }
     {
@@ -61,7 +61,7 @@ impl ColumnList {
         self.columns.as_slice().get(*place)
     }
 
-    /// An equal list; `AllocError` where there is no memory.
+    /// Returns an equal list, or `AllocError` if memory runs out.
     pub fn clone(&self, alloc: Global) -> Result<ColumnList, AllocError>
         ensures { IfOk result (λ l. l ≡ self.now) }
     {
@@ -85,7 +85,8 @@ fn add_place(
     Ok(())
 }
 
-/// The place of each name: where two columns have one name, that of the first.
+/// Returns the place of each name. If two columns have one name, its place is that of the first. Returns `AllocError`
+/// if memory runs out.
 fn places_of(alloc: Global, columns: &[Column]) -> Result<IndexMap<String, usize>, AllocError>
     ensures { IfOk result (λ places. ArePlaces columns.now places) }
 {

@@ -1,4 +1,4 @@
-//! The columns of a table.
+//! `Columns`: the columns of a table.
 ghost use Rattle.std.specs.Prelude.{◌≡◌, ◌<◌, length, slice_get, Some, not, find, bytes_eq};
 ghost use Rattle.std.specs.Option.{option_copied};
 ghost use Rattle.csvw_columns_core.specs.Columns.{field_count};
@@ -7,7 +7,7 @@ use crate::column::Column;
 use crate::column_list::ColumnList;
 use csvw_iri::{Base, Iri};
 
-/// The columns of a table, in their order, and what the graph tells of the table (Model for Tabular Data, section 4.2).
+/// The columns of a table, in order, and what the graph says of the table (Model for Tabular Data, section 4.2).
 #[derive(Debug, Drop)]
 pub struct Columns {
     /// The columns. Virtual ones come last.
@@ -16,19 +16,19 @@ pub struct Columns {
     pub url: Base,
     /// The table's `@id`.
     pub id: Option<Iri>,
-    /// Whether the table gives no triples.
+    /// Whether the table is left out of the graph.
     pub suppressed: bool,
 }
 
 impl Columns {
-    /// How many there are.
+    /// Returns the number of columns.
     pub fn len(&self) -> usize
         ensures { result ≡ length self.now.columns }
     {
         self.columns.len()
     }
 
-    /// A column, from 0.
+    /// Returns column `i`, from 0.
     pub fn column(&self, i: usize) -> &Column
         requires { i < length self.now.columns }
         ensures { slice_get self.now.columns i ≡ Some result.now }
@@ -37,14 +37,14 @@ impl Columns {
         &columns[i]
     }
 
-    /// The column of this name, the first one; `None` where there is none. It takes no memory.
+    /// Returns the first column of this name, or `None` if there is none. It takes no memory.
     pub fn by_name(&self, name: &str) -> Option<&Column>
         ensures { option_copied result ≡ find (λ c. bytes_eq c.name name.now) self.now.columns }
     {
         self.columns.by_name(name)
     }
 
-    /// How many fields a row of the table has: one for each column that isn't virtual.
+    /// Returns how many fields a row of the table has: one for each column that isn't virtual.
     pub fn field_count(&self) -> usize
         ensures { result ≡ field_count self.now.columns }
     {

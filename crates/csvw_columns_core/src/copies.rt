@@ -9,7 +9,7 @@ use csvw_text::{Copied, both, both_copied, copied_option};
 use std::alloc::{AllocError, Global};
 
 impl Properties {
-    /// Equal properties, which share their templates, texts and datatype; `AllocError` where there is no memory.
+    /// Returns equal properties, which share their templates, texts and datatype, or `AllocError` if memory runs out.
     pub fn clone(&self, alloc: Global) -> Result<Properties, AllocError>
         ensures { IfOk result (λ p. p ≡ self.now) }
     {
@@ -36,7 +36,7 @@ impl Properties {
 }
 
 impl Column {
-    /// An equal column; `AllocError` where there is no memory.
+    /// Returns an equal column, or `AllocError` if memory runs out.
     pub fn clone(&self, alloc: Global) -> Result<Column, AllocError>
         ensures { IfOk result (λ c. c ≡ self.now) }
     {
@@ -67,7 +67,7 @@ impl Copied for Column {
 }
 
 impl Columns {
-    /// Equal columns; `AllocError` where there is no memory.
+    /// Returns equal columns, or `AllocError` if memory runs out.
     pub fn clone(&self, alloc: Global) -> Result<Columns, AllocError>
         ensures { IfOk result (λ c. c ≡ self.now) }
     {
@@ -84,7 +84,7 @@ impl Columns {
 }
 
 impl HeaderRow {
-    /// An equal header row; `AllocError` where there is no memory.
+    /// Returns an equal header row, or `AllocError` if memory runs out.
     pub fn clone(&self, alloc: Global) -> Result<HeaderRow, AllocError>
         ensures { IfOk result (λ r. r ≡ self.now) }
     {

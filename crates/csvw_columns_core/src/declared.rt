@@ -14,26 +14,26 @@ use csvw_iri::{Base, Iri, with_fragment};
 use csvw_text::{Seq, both};
 use std::alloc::{AllocError, Global};
 
-/// How many columns a table has at most.
+/// The greatest number of columns of a table.
 pub const COLUMN_LIMIT: usize = 1024;
 
-/// How many columns of a source are skipped at most.
+/// The greatest number of skipped columns of a source.
 pub const SKIP_LIMIT: u32 = 1024;
 
-/// What the columns of a table have of it, beside what stands in them.
+/// The properties that the columns of a table have from the table and its schema.
 #[derive(Debug, Drop)]
 pub struct Frame {
     /// The table's URL.
     pub url: Base,
-    /// How many columns of the source are skipped in front of them.
+    /// The number of columns of the source that are skipped before them.
     pub skip_columns: u32,
     /// The inherited properties of their schema.
     pub schema: Inherited,
-    /// Those of their table.
+    /// The inherited properties of their table.
     pub table: Inherited,
 }
 
-/// The source number of a column: none of a virtual one.
+/// Returns the source number of a column, from 1. A virtual column has none.
 fn source_number_of(is_virtual: bool, skip_columns: u32, number: u32) -> Option<u64>
     ensures { result ≡ source_number_of is_virtual skip_columns number }
 {
@@ -45,7 +45,8 @@ fn source_number_of(is_virtual: bool, skip_columns: u32, number: u32) -> Option<
 }
 
 impl Frame {
-    /// The properties of a column that has these of its own, and the datatype of its literals; `AllocError` where there is no memory.
+    /// Returns the properties of a column with these own ones, and the datatype of its literals. Returns `AllocError`
+    /// if memory runs out.
     fn inherited(
         &self,
         alloc: Global,
@@ -61,8 +62,8 @@ impl Frame {
         both(Ok(properties), literal_datatype)
     }
 
-    /// The column of a description, with its number from 1 (Metadata Vocabulary for Tabular Data, sections 5.6 and 5.7;
-    /// csv2rdf, section 4.6.5). `AllocError` where there is no memory.
+    /// Returns the column of a description, with its number from 1 (Metadata Vocabulary for Tabular Data, sections
+    /// 5.6 and 5.7; csv2rdf, section 4.6.5). Returns `AllocError` if memory runs out.
     pub fn declared(
         &self,
         alloc: Global,
@@ -94,7 +95,8 @@ impl Frame {
         })
     }
 
-    /// The columns that a schema declares, in their order, numbered from 1. `AllocError` where there is no memory.
+    /// Returns the columns that a schema declares, in order, numbered from 1. Returns `AllocError` if memory runs
+    /// out.
     pub fn declared_columns(
         &self,
         alloc: Global,

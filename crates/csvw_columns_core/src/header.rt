@@ -1,4 +1,4 @@
-//! How a header fits the columns of its table.
+//! `header_faults`: how a header fits the columns of its table.
 ghost use Rattle.std.specs.Prelude.{◌≡◌, ◌++◌, IfOk, OnOk, bytes_eq, [], ◌∷◌, if◌then◌else◌};
 ghost use Rattle.std.specs.List.{list_any};
 ghost use Rattle.csvw_columns_core.specs.HeaderFits.{cell_at, has_title, encoded_cells, has_name, fits, fits_alone};
@@ -13,13 +13,13 @@ use std::alloc::{AllocError, Global};
 /// A header row.
 #[derive(Debug, Drop)]
 pub struct HeaderRow {
-    /// Its source number, from 1: skipped, comment and blank rows count.
+    /// The source number, from 1. Skipped rows, comments and blank rows count.
     pub source: u64,
-    /// Its cells, without those of skipped columns.
+    /// The cells, without those of skipped columns.
     pub cells: Seq<Text>,
 }
 
-/// The cell at this place, from 0; the empty text where there is none.
+/// Returns the cell at this place, from 0, or the empty text if there is none.
 pub(crate) fn cell_at(row: &HeaderRow, i: usize) -> &str
     ensures { result.now ≡ cell_at row.now i }
 {
@@ -41,7 +41,7 @@ fn has_title(titles: &[Text], rows: &[HeaderRow], i: usize) -> bool
     rows.iter().any(|row| is_one_of(titles, cell_at(row, i)))
 }
 
-/// The header cells of the column at this place, each encoded as a name.
+/// Returns the header cells of the column at this place, each percent-encoded as a name is.
 fn encoded_cells(alloc: Global, rows: &[HeaderRow], i: usize) -> Result<Vec<Name>, AllocError>
     ensures { IfOk result (λ v. v.items ≡ encoded_cells rows.now i) }
 {
@@ -65,8 +65,11 @@ fn has_name(alloc: Global, name: &str, rows: &[HeaderRow], i: usize) -> Result<b
     Ok(is_among(cells.as_slice(), name))
 }
 
-/// Whether a column fits its header cells (Metadata Vocabulary for Tabular Data, section 6.4): it is virtual, one of them is
-/// one of its titles or, where it has no title, is its name as encoded; or it has neither.
+/// Returns whether a column fits its header cells (Metadata Vocabulary for Tabular Data, section 6.4).
+///
+/// A column fits if it is virtual, or if it has neither a title nor a name of its own. A column with titles fits if
+/// one of its header cells is one of them. A column with a name alone fits if one of its header cells,
+/// percent-encoded, is that name.
 fn fits(alloc: Global, column: &Column, rows: &[HeaderRow], i: usize) -> Result<bool, AllocError>
     ensures { IfOk result (λ b. b ≡ fits column.now rows.now i) }
 {
@@ -145,9 +148,13 @@ fn count_faults(
     Ok(faults)
 }
 
-/// What is wrong with the header of a table, which has so many header rows by its dialect: `HeaderMissing` where there are
-/// fewer; else `HeaderCount` for each header row that hasn't one cell for each column that isn't virtual; else
-/// `HeaderMismatch` for each column that doesn't fit, at the last header row. `AllocError` where there is no memory.
+/// Returns what is wrong with the header of a table, which has `count` header rows by its dialect:
+///
+/// - `HeaderMissing` if there are fewer header rows,
+/// - else `HeaderCount` for each header row that does not have one cell for each column that isn't virtual,
+/// - else `HeaderMismatch` for each column that doesn't fit, at the last header row.
+///
+/// Returns `AllocError` if memory runs out.
 pub fn header_faults(
     alloc: Global,
     table: u32,

@@ -48,8 +48,8 @@ fn titled_columns(
     Ok(columns)
 }
 
-/// How many columns come from a header: as many as its first row has cells, or without header rows as the first data row has
-/// fields, where there is one.
+/// Returns how many columns come from a header: as many as its first row has cells. Without header rows it is as many
+/// as the first data row has fields, if there is one.
 pub fn column_count(rows: &[HeaderRow], width: Option<usize>) -> usize
     ensures { result ≡ column_count rows.now width }
 {
@@ -59,9 +59,11 @@ pub fn column_count(rows: &[HeaderRow], width: Option<usize>) -> usize
     }
 }
 
-/// The columns that come from a header, each titled by its header cells that aren't empty (Model for Tabular Data, section 8;
-/// Metadata Vocabulary for Tabular Data, section 5.6). Without header rows there is one for each field of the first data row,
-/// of which there are so many. `AllocError` where there is no memory.
+/// Returns the columns that come from a header (Model for Tabular Data, section 8; Metadata Vocabulary for Tabular
+/// Data, section 5.6).
+///
+/// The titles of each column are its header cells that aren't empty. Without header rows there is a column for each
+/// field of the first data row, which has `width` fields. Returns `AllocError` if memory runs out.
 pub fn from_header(
     alloc: Global,
     rows: &[HeaderRow],

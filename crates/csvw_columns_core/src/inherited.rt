@@ -17,7 +17,7 @@ fn first_of<'a, T>(inner: &'a Option<T>, outer: &'a Option<T>) -> &'a Option<T>
     }
 }
 
-/// The value that is found first, if there is one.
+/// Returns the first value that is present, if there is one.
 #[tactic(auto, using(crate::proofs::InheritedLemmas::first_of_four))]
 fn found<T: Copied + Drop>(
     alloc: Global,
@@ -34,7 +34,7 @@ fn found<T: Copied + Drop>(
     )
 }
 
-/// The truth that is found first, else false.
+/// Returns the first boolean that is present, else false.
 fn is_set(
     column: Option<bool>,
     schema: Option<bool>,
@@ -46,7 +46,7 @@ fn is_set(
     column.or(schema).or(table).or(group).unwrap_or(false)
 }
 
-/// The value that was found, or where there is none a copy of the default.
+/// Returns the value that was found, or a copy of the default if there is none.
 fn found_or<T: Copied + Drop>(
     alloc: Global,
     found: Result<Option<T>, AllocError>,
@@ -68,7 +68,7 @@ struct Links {
     value_url: Option<Shared<Template>>,
 }
 
-/// The templates that are found first in the column, its schema, its table and the group.
+/// Returns the templates that are found first in the column, its schema, its table and the group.
 fn found_links(
     alloc: Global,
     column: &Inherited,
@@ -120,7 +120,8 @@ struct Texts {
 }
 
 impl Defaults {
-    /// The texts that are found first in the column, its schema, its table and the group, else their defaults.
+    /// Returns the texts that are found first in the column, its schema, its table and the group, else their
+    /// defaults.
     fn found_texts(
         &self,
         alloc: Global,
@@ -166,9 +167,10 @@ impl Defaults {
         })
     }
 
-    /// The inherited properties of a column, each the first that is present in the column, its schema, its table and the
-    /// group, in this order, else its default (Metadata Vocabulary for Tabular Data, section 5.7). `AllocError` where
-    /// there is no memory.
+    /// Returns the inherited properties of a column (Metadata Vocabulary for Tabular Data, section 5.7).
+    ///
+    /// Each is the first that is present in the column, its schema, its table and the group, in this order, else its
+    /// default. Returns `AllocError` if memory runs out.
     pub fn inherited(
         &self,
         alloc: Global,

@@ -7,34 +7,34 @@ use csvw_template::Template;
 use csvw_text::{LanguageTag, Seq, Shared, Text, both};
 use std::alloc::{AllocError, Global};
 
-/// The inherited properties of a column, each with its value, or with its default where no object has it (Metadata
-/// Vocabulary for Tabular Data, section 5.7).
+/// The inherited properties of a column (Metadata Vocabulary for Tabular Data, section 5.7). A property that no
+/// object has is its default.
 #[derive(Debug, Drop)]
 pub struct Properties {
     /// `aboutUrl`: the subject of the cells' triples.
     pub about_url: Option<Shared<Template>>,
-    /// `propertyUrl`: their predicate.
+    /// `propertyUrl`: the predicate of the cells' triples.
     pub property_url: Option<Shared<Template>>,
-    /// `valueUrl`: their object.
+    /// `valueUrl`: the object of the cells' triples.
     pub value_url: Option<Shared<Template>>,
-    /// `datatype`: the values of cells; string by default.
+    /// `datatype`: the datatype of the values of cells. The default is string.
     pub datatype: Shared<Datatype>,
-    /// `default`: what stands for an empty text; the empty text by default.
+    /// `default`: the text that replaces an empty text. The default is the empty text.
     pub default: Shared<Text>,
-    /// `lang`: the language of texts; `und` by default.
+    /// `lang`: the language of texts. The default is `und`.
     pub lang: Shared<LanguageTag>,
-    /// `null`: the texts that are null; the empty text alone by default.
+    /// `null`: the texts that are null. The default is the empty text alone.
     pub null: Shared<Seq<Text>>,
-    /// `ordered`: whether the items of a list keep their order in the graph; false by default.
+    /// `ordered`: whether the items of a list keep their order in the graph. The default is false.
     pub ordered: bool,
-    /// `required`: whether a null cell is a fault; false by default.
+    /// `required`: whether a null cell is a fault. The default is false.
     pub required: bool,
-    /// `separator`: what parts the items of a list; none by default: a cell is no list.
+    /// `separator`: the text between the items of a list. By default there is none, and a cell is not a list.
     pub separator: Option<Shared<Text>>,
 }
 
-/// The defaults of the inherited properties that have a text or a datatype (Metadata Vocabulary for Tabular Data, section
-/// 5.7), which columns share.
+/// The defaults of the inherited properties that have a text or a datatype (Metadata Vocabulary for Tabular Data,
+/// section 5.7). Columns share them.
 #[derive(Debug, Drop)]
 pub struct Defaults {
     /// String, without a format or facets.
@@ -45,12 +45,12 @@ pub struct Defaults {
     pub(crate) lang: Shared<LanguageTag>,
     /// The empty text alone.
     pub(crate) null: Shared<Seq<Text>>,
-    /// They are so, and no others.
+    /// The fields are the defaults of section 5.7.
     ghost are_defaults: { AreDefaults datatype default lang null },
 }
 
 impl Defaults {
-    /// The defaults; `AllocError` where there is no memory.
+    /// Returns the defaults, or `AllocError` if memory runs out.
     pub fn new(alloc: Global) -> Result<Defaults, AllocError>
         ensures { IfOk result (λ d. AreDefaults d.datatype d.default d.lang d.null) }
     {

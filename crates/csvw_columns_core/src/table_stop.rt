@@ -1,25 +1,38 @@
-//! Why a table can't be read on.
+//! `TableStop`: why a table can't be read further.
 ghost use Rattle.std.specs.Prelude.{◌≡◌};
+ghost use Rattle.csvw_columns_core.specs.TableStops.{name_of};
 
 use std::alloc::{AllocError, AllocFailed};
 use std::error::Error;
 use std::fmt;
 
-/// Why a table can't be read on.
+/// Why a table can't be read further.
 #[derive(Clone, Copy, Debug, PartialEq, Eq)]
 pub enum TableStop {
-    /// There is no memory.
+    /// Memory ran out.
     Memory,
-    /// Two of its columns have one name.
+    /// Two columns of the table have one name.
     DuplicateName,
-    /// It has more columns than the limit.
+    /// The table has more columns than the limit.
     TooManyColumns,
-    /// A row hasn't one field for each column that isn't virtual.
+    /// A row does not have one field for each column that isn't virtual.
     RaggedRow,
 }
 
 impl TableStop {
-    /// What is wrong and what to do, as a sentence without its full stop.
+    /// Returns the name of the variant, as the program's lines spell it.
+    pub fn name(&self) -> &'static str
+        ensures { result.now ≡ name_of self.now }
+    {
+        match self {
+            TableStop::Memory => "Memory",
+            TableStop::DuplicateName => "DuplicateName",
+            TableStop::TooManyColumns => "TooManyColumns",
+            TableStop::RaggedRow => "RaggedRow",
+        }
+    }
+
+    /// Returns what is wrong and what to do, as a sentence without its full stop.
     fn sentence(&self) -> &'static str {
         match self {
             TableStop::Memory => "there is no memory: free some, and try again",

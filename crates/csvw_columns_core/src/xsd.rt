@@ -6,7 +6,7 @@ use csvw_datatype::{Datatype, Simple};
 use csvw_iri::{Iri, made_safe};
 use std::alloc::{AllocError, Global};
 
-/// The IRI of a built-in datatype.
+/// Returns the IRI of a built-in datatype.
 fn xsd_type(alloc: Global, simple: Simple) -> Result<Iri, AllocError>
     ensures { IfOk result (λ iri. iri ≡ xsd_type simple) }
 {
@@ -15,8 +15,8 @@ fn xsd_type(alloc: Global, simple: Simple) -> Result<Iri, AllocError>
     made_safe(alloc, text.as_str())
 }
 
-/// The datatype of the literals of values that were read: the `@id` of a datatype, else its base (csv2rdf, section 4.6).
-/// `AllocError` where there is no memory.
+/// Returns the datatype of the literals of values that were read: the `@id` of a datatype, else its base (csv2rdf,
+/// section 4.6). Returns `AllocError` if memory runs out.
 pub(crate) fn literal_datatype(alloc: Global, datatype: &Datatype) -> Result<Iri, AllocError>
     ensures { IfOk result (λ iri. iri ≡ literal_datatype datatype.now) }
 {

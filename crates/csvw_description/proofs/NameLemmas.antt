@@ -1,4 +1,4 @@
--- Names have only characters that stand raw in an IRIREF.
+-- Names have only characters that may be raw in an IRIREF.
 use Rattle.std.proofs.Common.{◌≡◌, ℕ, ◌<◌, ◌%◌, ◌/◌, zero, suc, List, [], ◌∷◌, ◌++◌, Bool, true, false, cond, refl, ap, ◌∙◌, arith, flat_map, ⊎_elim}
 use Rattle.std.proofs.Common.{not, All, ◌&&◌, ◌==◌}
 use Rattle.std.proofs.lemmas.Bool.{cases_Bool, cond-true, cond-false}

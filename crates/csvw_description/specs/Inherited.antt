@@ -1,4 +1,5 @@
--- What says nothing of inherited properties (Metadata Vocabulary for Tabular Data, section 5.7).
+-- The inherited properties of an object that has none of them: `no_inherited` (Metadata Vocabulary for Tabular Data, section
+-- 5.7).
 use Rattle.std.specs.Prelude.{None}
 use Rattle.csvw_description.specs.declared.inherited.Inherited.{Inherited}
 

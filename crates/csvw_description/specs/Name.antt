@@ -4,7 +4,7 @@ use Rattle.std.specs.Fmt.{decimal}
 use Rattle.csvw_iri.specs.Encoded.{percent_encoded}
 use Rattle.csvw_description.specs.declared.column.ColumnDescription.{ColumnDescription}
 
--- the name of column n, from 1, where it has neither a name nor a title
+-- the name of column n, from 1, if it has neither a name nor a title
 abbrev pub numbered : ℕ → List ℕ
 numbered n = codes "_col." ++ decimal n
 

@@ -1,8 +1,8 @@
--- The descriptions by which tables can be planned: what documents without faults describe (Metadata Vocabulary for Tabular Data,
--- sections 5.3 to 5.9).
+-- The descriptions that documents without faults have, by which tables can be planned: `IsPlannable` (Metadata Vocabulary for
+-- Tabular Data, sections 5.3 to 5.9). Limits, dialects, datatypes, names and keys are kept.
 use Rattle.std.specs.Prelude.{◌≢◌, ◌≤◌, ℕ, length, map, All, AllPairs, IfSome}
-use Rattle.csvw_dialect.specs.declared.dialect.Dialect.{Dialect}
-use Rattle.csvw_dialect.specs.Lawful.{IsLawful}
+use Rattle.csvw_records.specs.declared.dialect.Dialect.{Dialect}
+use Rattle.csvw_records.specs.Lawful.{IsLawful}
 use Rattle.csvw_datatype.specs.Sound.{IsSound}
 use Rattle.csvw_iri.specs.Link.{iri_of}
 use Rattle.csvw_description.specs.declared.description.Description.{Description}
@@ -16,7 +16,7 @@ use Rattle.csvw_description.specs.Name.{numbered_names}
 abbrev pub table_limit : ℕ
 table_limit = 64
 
--- at most so many columns of a table that are declared, and that are skipped
+-- at most so many columns of a table are declared, and at most so many are skipped
 abbrev pub column_limit : ℕ
 column_limit = 1024
 
@@ -25,11 +25,11 @@ pub record IsFitDialect (dialect : Dialect) : Type 0 where
   pub lawful : IsLawful dialect
   pub skipped : dialect.skip_columns ≤ column_limit
 
--- the datatype that stands there, if one does, fits together
+-- the datatype, if there is one, is sound
 abbrev pub HasSound : Inherited → Type 0
 HasSound inherited = IfSome inherited.datatype IsSound
 
--- no more columns than the limit, each with a name of its own, and datatypes that fit together
+-- no more columns than the limit, each with a name of its own, and sound datatypes
 pub record IsFitSchema (schema : Schema) : Type 0 where
   pub limit : length schema.columns ≤ column_limit
   pub inherited : HasSound schema.inherited
@@ -41,8 +41,8 @@ pub record IsFitTable (table : TableDescription) : Type 0 where
   pub inherited : HasSound table.inherited
   pub schema : IfSome table.schema IsFitSchema
 
--- what stands in the group and in each of its tables is fit, there are no more tables than the limit, each has a URL of its own, and
--- what the keys of each schema name is there
+-- The parts of the group and of each of its tables are fit. There are no more tables than the limit. Each has a URL of its own. The columns and tables that
+-- the keys of each schema name are there.
 pub record IsPlannable (description : Description) : Type 0 where
   pub dialect : IfSome description.dialect IsFitDialect
   pub inherited : HasSound description.inherited

@@ -1,6 +1,7 @@
--- The warnings of a document, one for each property that is ignored (Metadata Vocabulary for Tabular Data, section 4.1).
+-- The warnings of a document, one for each property that is ignored: `unknown` (Metadata Vocabulary for Tabular Data, section
+-- 4.1).
 use Rattle.std.specs.Prelude.{List, [], ◌++◌, flat_map, Option, Some, None}
-use Rattle.csvw_text.specs.declared.fault.Fault.{Fault}
+use Rattle.csvw_fault.specs.declared.fault.Fault.{Fault}
 use Rattle.csvw_description.specs.declared.schema.Schema.{Schema}
 use Rattle.csvw_description.specs.declared.table.TableDescription.{TableDescription}
 use Rattle.csvw_description.specs.declared.description.Description.{Description}

@@ -10,24 +10,26 @@ use std::alloc::{AllocError, Global};
 /// A column description (Metadata Vocabulary for Tabular Data, section 5.6).
 #[derive(Debug, Drop)]
 pub struct ColumnDescription {
-    /// Its `name`.
+    /// The `name`.
     pub name: Option<Name>,
-    /// Its `titles` of all languages that aren't empty. Those of the context's language come first, then those of each
-    /// other language in the byte order of their tags, so that the first title names a column without a name.
+    /// The `titles` of all languages that aren't empty. Those of the context's language come first, then those of
+    /// each other language in the byte order of the tags. So the first title names a column without a name.
     pub titles: Seq<Text>,
-    /// Whether it has no field in the source (`virtual`).
+    /// Whether the column has no field in the source (`virtual`).
     pub is_virtual: bool,
-    /// Whether its cells give no triples (`suppressOutput`).
+    /// Whether the cells of the column are left out of the graph (`suppressOutput`).
     pub suppressed: bool,
-    /// Its inherited properties.
+    /// The inherited properties of the column.
     pub inherited: Inherited,
-    /// A warning for each property that is ignored, in it or in its datatype.
+    /// A warning for each property that is ignored, in the column or in its datatype.
     pub warnings: Seq<Fault>,
 }
 
 impl ColumnDescription {
-    /// The name of the column of this number, from 1: its own, else its first title percent-encoded, else `_col.` and
-    /// the number (section 5.6). `AllocError` where there is no memory.
+    /// Returns the name of the column (section 5.6). `number` is its number, from 1.
+    ///
+    /// The name is its own, else its first title percent-encoded, else `_col.` and the number. Returns `AllocError`
+    /// if memory runs out.
     pub fn resolved_name(&self, alloc: Global, number: usize) -> Result<Name, AllocError>
         ensures { IfOk result (λ name. name ≡ name_of number self.now) }
     {

@@ -12,7 +12,7 @@ use csvw_text::{Copied, Seq, both, both_copied, copied_items, copied_option};
 use std::alloc::{AllocError, Global};
 
 impl Inherited {
-    /// Equal properties, which share their templates, texts and datatype; `AllocError` where there is no memory.
+    /// Returns equal properties, which share their templates, texts and datatype, or `AllocError` if memory runs out.
     pub fn clone(&self, alloc: Global) -> Result<Inherited, AllocError>
         ensures { IfOk result (λ i. i ≡ self.now) }
     {
@@ -39,7 +39,7 @@ impl Inherited {
 }
 
 impl ColumnDescription {
-    /// An equal column; `AllocError` where there is no memory.
+    /// Returns an equal column, or `AllocError` if memory runs out.
     pub fn clone(&self, alloc: Global) -> Result<ColumnDescription, AllocError>
         ensures { IfOk result (λ c. c ≡ self.now) }
     {
@@ -65,7 +65,7 @@ impl Copied for ColumnDescription {
 }
 
 impl ForeignKey {
-    /// An equal key; `AllocError` where there is no memory.
+    /// Returns an equal key, or `AllocError` if memory runs out.
     pub fn clone(&self, alloc: Global) -> Result<ForeignKey, AllocError>
         ensures { IfOk result (λ k. k ≡ self.now) }
     {
@@ -86,7 +86,7 @@ impl Copied for ForeignKey {
 }
 
 impl NoteLiteral {
-    /// An equal literal; `AllocError` where there is no memory.
+    /// Returns an equal literal, or `AllocError` if memory runs out.
     pub fn clone(&self, alloc: Global) -> Result<NoteLiteral, AllocError>
         ensures { IfOk result (λ l. l ≡ self.now) }
     {
@@ -102,7 +102,7 @@ impl NoteLiteral {
 }
 
 impl NoteValue {
-    /// An equal value; `AllocError` where there is no memory.
+    /// Returns an equal value, or `AllocError` if memory runs out.
     #[cycle(copies)]
     pub fn clone(&self, alloc: Global) -> Result<NoteValue, AllocError>
         ensures { IfOk result (λ v. v ≡ self.now) }
@@ -115,7 +115,7 @@ impl NoteValue {
 }
 
 impl Note {
-    /// An equal annotation; `AllocError` where there is no memory.
+    /// Returns an equal annotation, or `AllocError` if memory runs out.
     #[cycle(copies)]
     pub fn clone(&self, alloc: Global) -> Result<Note, AllocError>
         ensures { IfOk result (λ n. n ≡ self.now) }
@@ -126,7 +126,7 @@ impl Note {
 }
 
 impl NoteObject {
-    /// An equal object; `AllocError` where there is no memory.
+    /// Returns an equal object, or `AllocError` if memory runs out.
     #[cycle(copies)]
     pub fn clone(&self, alloc: Global) -> Result<NoteObject, AllocError>
         ensures { IfOk result (λ o. o ≡ self.now) }
@@ -155,7 +155,7 @@ impl Copied for Note {
 }
 
 impl Schema {
-    /// An equal schema; `AllocError` where there is no memory.
+    /// Returns an equal schema, or `AllocError` if memory runs out.
     pub fn clone(&self, alloc: Global) -> Result<Schema, AllocError>
         ensures { IfOk result (λ s. s ≡ self.now) }
     {
@@ -182,7 +182,7 @@ impl Copied for Schema {
 }
 
 impl TableDescription {
-    /// An equal table; `AllocError` where there is no memory.
+    /// Returns an equal table, or `AllocError` if memory runs out.
     pub fn clone(&self, alloc: Global) -> Result<TableDescription, AllocError>
         ensures { IfOk result (λ t. t ≡ self.now) }
     {
@@ -214,7 +214,7 @@ impl Copied for TableDescription {
 }
 
 impl Description {
-    /// An equal description; `AllocError` where there is no memory.
+    /// Returns an equal description, or `AllocError` if memory runs out.
     pub fn clone(&self, alloc: Global) -> Result<Description, AllocError>
         ensures { IfOk result (λ d. d ≡ self.now) }
     {

@@ -6,33 +6,34 @@ use csvw_datatype::Datatype;
 use csvw_template::Template;
 use csvw_text::{LanguageTag, Seq, Shared, Text};
 
-/// The inherited properties that stand in an object; `None`: the object doesn't have it (Metadata Vocabulary for
-/// Tabular Data, section 5.7).
+/// The inherited properties of an object (Metadata Vocabulary for Tabular Data, section 5.7). `None`: the object
+/// doesn't have the property.
 #[derive(Debug, Drop)]
 pub struct Inherited {
     /// `aboutUrl`: the subject of the cells' triples.
     pub about_url: Option<Shared<Template>>,
-    /// `propertyUrl`: their predicate.
+    /// `propertyUrl`: the predicate of the cells' triples.
     pub property_url: Option<Shared<Template>>,
-    /// `valueUrl`: their object.
+    /// `valueUrl`: the object of the cells' triples.
     pub value_url: Option<Shared<Template>>,
-    /// `datatype`: the values of cells.
+    /// `datatype`: the datatype of the values of cells.
     pub datatype: Option<Shared<Datatype>>,
-    /// `default`: what stands for an empty text.
+    /// `default`: the text that replaces an empty text.
     pub default: Option<Shared<Text>>,
     /// `lang`: the language of texts.
     pub lang: Option<Shared<LanguageTag>>,
-    /// `null`: the texts that are null; none: no text is.
+    /// `null`: the texts that are null. If the list is empty, no text is null.
     pub null: Option<Shared<Seq<Text>>>,
     /// `ordered`: whether the items of a list keep their order in the graph.
     pub ordered: Option<bool>,
     /// `required`: whether a null cell is a fault.
     pub required: Option<bool>,
-    /// `separator`: what parts the items of a list; `Some(None)`: it is null, so that a cell is no list.
+    /// `separator`: the text between the items of a list. `Some(None)`: the property is null, so a cell is not a
+    /// list.
     pub separator: Option<Option<Shared<Text>>>,
 }
 
-/// The inherited properties of what says nothing of them.
+/// Returns the inherited properties of an object that has none of them.
 pub fn no_inherited() -> Inherited
     ensures { result ≡ no_inherited }
 {

@@ -1,4 +1,13 @@
-//! What a metadata document describes: a group of tables, with their dialects, schemas, columns, keys and notes.
+//! Descriptions: what a metadata document says of a group of tables, before defaults are filled in.
+//!
+//! A description has the dialects, schemas, columns, keys and notes of the group. Its types are plain and contracts
+//! see them as records.
+//!
+//! # Promises
+//!
+//! - A `Name` has only characters that may be raw in N-Triples: the invariant of `Name`.
+//! - `ColumnDescription::resolved_name` returns the name of a column: its own, else its first title percent-encoded,
+//!   else `_col.` and its number (`name_of`).
 #![tactic(auto)]
 
 mod column;

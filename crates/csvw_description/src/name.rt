@@ -1,4 +1,4 @@
-//! The names of columns.
+//! `Name`: the name of a column.
 ghost use Rattle.std.specs.Prelude.{◌≡◌, true, false, IfOk, MatchOption};
 ghost use Rattle.csvw_iri.specs.Encoded.{percent_encoded};
 ghost use Rattle.csvw_iri.specs.Safe.{is_iri};
@@ -9,8 +9,8 @@ use csvw_text::{Copied, Text};
 use std::alloc::{AllocError, Global};
 use std::marker::Model;
 
-/// The name of a column. Its characters may all stand raw in an IRIREF (N-Triples 1.1, section 7), so that it may
-/// be the fragment of an IRI. Contracts see its bytes.
+/// The name of a column. Its characters may all be raw in an IRIREF (N-Triples 1.1, section 7), so the name may be
+/// the fragment of an IRI. Contracts see its bytes.
 #[derive(Debug, Drop, PartialEq, Eq, PartialOrd, Ord)]
 pub struct Name {
     text: Text,
@@ -30,7 +30,8 @@ impl Model for Name {
 }
 
 impl Name {
-    /// The name that a text is; `None` where a character of it can't stand raw in an IRIREF. It takes no memory.
+    /// Returns the name that a text is, or `None` if a character of it may not be raw in an IRIREF. It takes no
+    /// memory.
     pub fn of(text: Text) -> Option<Name>
         ensures { MatchOption result (is_iri text ≡ false) (λ n. (n ≡ text) × (is_iri text ≡ true)) }
     {
@@ -41,8 +42,8 @@ impl Name {
         }
     }
 
-    /// A title as a name: all but unreserved characters are percent-encoded (Metadata Vocabulary for Tabular Data,
-    /// section 5.6, `name`). `AllocError` where there is no memory.
+    /// Returns a title as a name (Metadata Vocabulary for Tabular Data, section 5.6, `name`). All but unreserved
+    /// characters are percent-encoded. Returns `AllocError` if memory runs out.
     pub fn of_title(alloc: Global, title: &str) -> Result<Name, AllocError>
         ensures { IfOk result (λ name. name ≡ percent_encoded title.now) }
     {
@@ -53,8 +54,8 @@ impl Name {
         })
     }
 
-    /// The name of a column that has neither a name nor a title: `_col.` and its number, from 1 (Metadata
-    /// Vocabulary for Tabular Data, section 5.6, `name`). `AllocError` where there is no memory.
+    /// Returns the name of a column that has neither a name nor a title: `_col.` and its number, from 1 (Metadata
+    /// Vocabulary for Tabular Data, section 5.6, `name`). Returns `AllocError` if memory runs out.
     pub fn numbered(alloc: Global, number: usize) -> Result<Name, AllocError>
         ensures { IfOk result (λ name. name ≡ numbered number) }
     {
@@ -63,7 +64,7 @@ impl Name {
         })
     }
 
-    /// The name as a slice.
+    /// Returns the name as a slice.
     pub fn as_str(&self) -> &str
         ensures value { result.now ≡ self.now }
         ensures raw { is_iri self.now ≡ true }
@@ -71,7 +72,7 @@ impl Name {
         self.text.as_str()
     }
 
-    /// An equal name; `AllocError` where there is no memory.
+    /// Returns an equal name, or `AllocError` if memory runs out.
     pub fn clone(&self, alloc: Global) -> Result<Name, AllocError>
         ensures { IfOk result (λ n. n ≡ self.now) }
     {

@@ -2,35 +2,35 @@
 use csvw_iri::Iri;
 use csvw_text::{LanguageTag, Seq, Text};
 
-/// One item of an annotation (Metadata Vocabulary for Tabular Data, sections 5.8 and 6.2): an array gives one of each of
-/// its items.
+/// One item of an annotation (Metadata Vocabulary for Tabular Data, sections 5.8 and 6.2). An array has one note for
+/// each of its items.
 #[cycle(note)]
 #[derive(Debug, Drop)]
 pub struct Note {
-    /// Its predicate.
+    /// The predicate.
     pub key: Iri,
-    /// What it says.
+    /// The value.
     pub value: NoteValue,
 }
 
-/// What an annotation says.
+/// The value of a note.
 #[cycle(note)]
 #[derive(Debug, Drop)]
 pub enum NoteValue {
-    /// A text, a number or a truth.
+    /// A text, a number or a boolean.
     Literal(NoteLiteral),
-    /// A node, and what is told of it.
+    /// A node, with its properties.
     Object(NoteObject),
 }
 
 /// A literal of an annotation.
 #[derive(Debug, Drop)]
 pub struct NoteLiteral {
-    /// Its text.
+    /// The text.
     pub text: Text,
-    /// Its datatype; rdf:langString where it has a language.
+    /// The datatype. It is rdf:langString if the literal has a language.
     pub datatype: Iri,
-    /// Its language.
+    /// The language.
     pub language: Option<LanguageTag>,
 }
 
@@ -38,10 +38,10 @@ pub struct NoteLiteral {
 #[cycle(note)]
 #[derive(Debug, Drop)]
 pub struct NoteObject {
-    /// Its `@id`; `None`: it is a blank node.
+    /// The `@id`. `None`: the object is a blank node.
     pub id: Option<Iri>,
-    /// Its `@type`s, in order.
+    /// The `@type`s, in order.
     pub types: Seq<Iri>,
-    /// Its other properties, in the byte order of their keys.
+    /// The other properties, in the byte order of their keys.
     pub notes: Seq<Note>,
 }

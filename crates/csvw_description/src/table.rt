@@ -2,27 +2,28 @@
 use crate::inherited::Inherited;
 use crate::note::Note;
 use crate::schema::Schema;
-use csvw_dialect::Dialect;
 use csvw_iri::{Base, Iri};
+use csvw_records::Dialect;
 use csvw_text::{Fault, Seq};
 
 /// A table description (Metadata Vocabulary for Tabular Data, section 5.4).
 #[derive(Debug, Drop)]
 pub struct TableDescription {
-    /// Its `url`, resolved, without its fragment.
+    /// The `url`, resolved, without its fragment.
     pub url: Base,
-    /// Its `@id`, resolved and made safe.
+    /// The `@id`, resolved and made safe.
     pub id: Option<Iri>,
-    /// Its `dialect`; `None`: the group's.
+    /// The `dialect`. `None`: the group's dialect applies.
     pub dialect: Option<Dialect>,
-    /// Its `tableSchema`; `None`: the group's.
+    /// The `tableSchema`. `None`: the group's schema applies.
     pub schema: Option<Schema>,
-    /// Whether it gives no triples (`suppressOutput`).
+    /// Whether the table is left out of the graph (`suppressOutput`).
     pub suppressed: bool,
-    /// Its inherited properties.
+    /// The inherited properties of the table.
     pub inherited: Inherited,
-    /// Its annotations: common properties in the byte order of their keys, then `notes`.
+    /// The annotations: common properties in the byte order of their keys, then `notes`.
     pub notes: Seq<Note>,
-    /// A warning for each property that is ignored in it, in its dialect and in its notes, its schema aside.
+    /// A warning for each property that is ignored in the table, in its dialect and in its notes. Those of its schema
+    /// are not among them.
     pub warnings: Seq<Fault>,
 }

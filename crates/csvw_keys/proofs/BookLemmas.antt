@@ -1,4 +1,4 @@
--- What books tell is what is wrong with the rows that they keep.
+-- The faults that books report are those of the rows that they keep.
 use Rattle.std.proofs.Common.{◌≡◌, ℕ, List, [], ◌∷◌, ◌++◌, ◌||◌, Bool, true, false, Some, refl, sym, ap, ◌∙◌, All, flat_map, nat_eq, if◌then◌else◌}
 use Rattle.std.specs.Cmp.Lexicographic.{bytes_decides}
 use Rattle.std.specs.List.{list_any}
@@ -21,7 +21,7 @@ use Rattle.csvw_keys.specs.ReferenceBooks.{KeepsReference}
 use Rattle.csvw_keys.specs.References.{reference_faults}
 use Rattle.csvw_keys.specs.Tallies.{count_of}
 use Rattle.csvw_keys.specs.Times.{times}
-use Rattle.csvw_text.specs.declared.fault.Fault.{Fault}
+use Rattle.csvw_fault.specs.declared.fault.Fault.{Fault}
 use Rattle.csvw_keys.proofs.ReferenceLemmas.{all_faults}
 
 module _ {X : Type 0} (P : X → Type 0) where

@@ -1,4 +1,4 @@
--- Keys that are kept compare as equal exactly where their cells are equal.
+-- Stored keys compare as equal exactly if their cells are equal.
 use Rattle.std.proofs.Common.{◌≡◌, ℕ, zero, suc, ◌/◌, ◌%◌, ◌^◌, ◌*◌, ◌+◌, ◌++◌, List, length, map, [], ◌∷◌, ℤ, pos, negsuc, Bool, true, false, ◌&&◌}
 use Rattle.std.proofs.Common.{refl, sym, ap, ◌∙◌, nat_eq, unsigned_abs}
 use Rattle.std.specs.Cmp.{both_tied, unsigned_ties, signed_Decides}

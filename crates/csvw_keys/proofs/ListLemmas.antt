@@ -1,4 +1,4 @@
--- A list in which one element after the other is replaced or added.
+-- A list whose elements are replaced or added one after another.
 use Rattle.std.proofs.Common.{◌≡◌, ◌≤◌, ◌<◌, ◌+◌, ℕ, List, [], ◌∷◌, ◌++◌, All, get_or, length, map, set, take}
 use Rattle.std.proofs.Common.{sym, ap, ◌∙◌, subst, arith, Result, Ok, Err, OnOk}
 use Rattle.std.proofs.Math.Seq.{map-set_same}

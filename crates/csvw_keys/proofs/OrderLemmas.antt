@@ -5,8 +5,8 @@ use Rattle.csvw_annotate.specs.declared.row.Row.{Row}
 use Rattle.csvw_keys.specs.KeyRules.{KeyRule, Unique, Refers, AreKeyFaults, key_faults, rule_faults}
 use Rattle.csvw_keys.specs.Duplicates.{duplicate_faults}
 use Rattle.csvw_keys.specs.References.{reference_faults}
-use Rattle.csvw_report.specs.Laws.{SortsToOne}
-use Rattle.csvw_text.specs.declared.fault.Fault.{Fault}
+use Rattle.csvw_report.specs.ReportLaws.{SortsToOne}
+use Rattle.csvw_fault.specs.declared.fault.Fault.{Fault}
 
 module _ (tables others : ℕ → List Row) (equal : (n : ℕ) → tables n ≡ others n) where
   equal_rule : (rule : KeyRule) → rule_faults tables rule ≡ rule_faults others rule

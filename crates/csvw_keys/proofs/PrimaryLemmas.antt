@@ -1,12 +1,12 @@
--- One row more has a fault where its key is among those so far.
+-- One more row has a fault if its key is among the keys so far.
 use Rattle.std.proofs.Common.{◌≡◌, ℕ, ◌+◌, suc, List, [], ◌∷◌, ◌++◌, ◌||◌, Bool, true, false, refl, sym, ap, ◌∙◌, append_assoc, cond, map, arith}
 use Rattle.std.proofs.Common.{Some, if◌then◌else◌}
 use Rattle.std.specs.Ordering.{is_eq}
 use Rattle.std.proofs.lemmas.List.{append-nil}
 use Rattle.std.proofs.lemmas.List.Sums.{sum_by-cons}
 use Rattle.csvw_annotate.specs.declared.row.Row.{Row}
-use Rattle.csvw_text.specs.declared.fault.Code.TheVariants.{DuplicateKey}
-use Rattle.csvw_text.specs.declared.fault.Fault.{Fault}
+use Rattle.csvw_fault.specs.declared.fault.Code.TheVariants.{DuplicateKey}
+use Rattle.csvw_fault.specs.declared.fault.Fault.{Fault}
 use Rattle.csvw_keys.specs.contracts.held.HeldKeyOrd.TheImpl as derived
 use Rattle.csvw_keys.specs.declared.held.HeldKey.{HeldKey}
 use Rattle.csvw_keys.specs.declared.key.KeyCell.{KeyCell}

@@ -1,4 +1,4 @@
--- Books count what keys refer to, and one book more takes nothing away.
+-- Books count what keys refer to, and one more book removes nothing.
 use Rattle.std.proofs.Common.{◌≡◌, ℕ, List, [], ◌∷◌, ◌++◌, Bool, true, false, Option, Some, refl, ap, ◌∙◌, All, flat_map, is_some, nat_eq, bytes_eq}
 use Rattle.std.proofs.Common.{◌||◌, ◌==◌, None, if◌then◌else◌, length, MatchOption}
 use Rattle.std.specs.Cmp.Lexicographic.{bytes_decides}

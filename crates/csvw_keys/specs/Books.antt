@@ -1,4 +1,4 @@
--- What the books of keys stand for.
+-- What the books of keys keep.
 use Rattle.std.specs.Prelude.{◌≡◌, ℕ, nat_eq, List, [], ◌∷◌, Bool, true, false, ◌&&◌, bytes_eq, Option, Some, None, All, flat_map, map, if◌then◌else◌}
 use Rattle.std.specs.List.{list_any}
 use Rattle.csvw_annotate.specs.declared.row.Row.{Row}
@@ -16,9 +16,9 @@ use Rattle.csvw_keys.specs.PrimaryBooks as primary
 use Rattle.csvw_keys.specs.ReferenceBooks.{IsReferencedStaged, KeepsReference, KeepsReferenced, row_fault}
 use Rattle.csvw_keys.specs.ReferenceBooks as reference
 use Rattle.csvw_keys.specs.Tallies.{tally_times}
-use Rattle.csvw_text.specs.declared.fault.Fault.{Fault}
+use Rattle.csvw_fault.specs.declared.fault.Fault.{Fault}
 
--- what a book is for: a key, or to count the keys of the table of a number in the columns of these numbers
+-- the purpose of a book: a key, or counting the keys of the table of a number in the columns of these numbers
 pub data Purpose : Type 0 where
   Keeps : KeyRule → Purpose
   Counts : ℕ → List ℕ → Purpose
@@ -28,12 +28,12 @@ purpose_of (Primary book) = Keeps (Unique book.table book.columns)
 purpose_of (Referenced book) = Counts book.table book.columns
 purpose_of (Reference book) = Keeps (Refers book.referring.table book.referring.columns book.table book.columns)
 
--- the key that a book is for
+-- the key of a book
 abbrev pub rules_for : Purpose → List KeyRule
 rules_for (Keeps rule) = rule ∷ []
 rules_for (Counts table columns) = []
 
--- a book for this counts the keys of a table in these columns, as that of a primary key does
+-- a book with this purpose counts the keys of a table in these columns, as that of a primary key does
 abbrev pub counts_in : ℕ → List ℕ → Purpose → Bool
 counts_in table columns (Keeps (Unique t cs)) = nat_eq t table && bytes_eq cs columns
 counts_in table columns (Keeps (Refers t cs referenced_table referenced)) = false
@@ -44,25 +44,25 @@ abbrev pub is_served : List Purpose → KeyRule → Bool
 is_served purposes (Unique table columns) = true
 is_served purposes (Refers table columns referenced_table referenced) = list_any (counts_in referenced_table referenced) purposes
 
--- it keeps what its key needs of the rows of these tables
+-- the book keeps what its key needs of the rows of these tables
 abbrev pub KeepsBook : Book → (ℕ → List Row) → Type 0
 KeepsBook (Primary book) tables = KeepsPrimary book (tables book.table)
 KeepsBook (Referenced book) tables = KeepsReferenced book (tables book.table)
 KeepsBook (Reference book) tables = KeepsReference book tables
 
--- there is room in it for a row of a table
+-- the book has room for a row of a table
 abbrev pub IsRoomy : Book → ℕ → Row → Type 0
 IsRoomy (Primary book) table row = table ≡ book.table → primary.IsStaged book row
 IsRoomy (Referenced book) table row = table ≡ book.table → IsReferencedStaged book row
 IsRoomy (Reference book) table row = reference.IsStaged book table row
 
--- how often each key is there by its counts
+-- how often each key occurs by its counts
 abbrev pub book_times : Book → HeldKey → Times
 book_times (Primary book) = tally_times derived.ghosts.cmp book.tally.ahead book.tally.counts
 book_times (Referenced book) = tally_times derived.ghosts.cmp book.tally.ahead book.tally.counts
 book_times (Reference book) = λ key. Never
 
--- how often each key of a table in these columns is there, by the first of the books that counts them
+-- how often each key of a table in these columns occurs, by the first of the books that counts them
 abbrev pub times_in : ℕ → List ℕ → List Book → Option (HeldKey → Times)
 times_in table columns [] = None
 times_in table columns (book ∷ books) = if counts_in table columns (purpose_of book) then Some (book_times book) else times_in table columns books
@@ -71,29 +71,29 @@ abbrev pub told_by : Option (HeldKey → Times) → ReferenceBook → List Fault
 told_by None book = []
 told_by (Some times) book = flat_map (row_fault times book) book.referring.rows.items
 
--- what the book of a foreign key tells, beside all books
+-- the faults of the book of a foreign key, by all books
 abbrev pub told_reference : List Book → ReferenceBook → List Fault
 told_reference books book = told_by (times_in book.table book.columns books) book
 
--- what it tells of a primary key
+-- the faults of a primary key
 abbrev pub duplicates_in : Book → List Fault
 duplicates_in (Primary book) = book.found.items
 duplicates_in (Referenced book) = []
 duplicates_in (Reference book) = []
 
--- what it tells, beside all books
+-- the faults of the book, by all books
 abbrev pub told : List Book → Book → List Fault
 told books (Primary book) = book.found.items
 told books (Referenced book) = []
 told books (Reference book) = told_reference books book
 
--- it is of the primary key of a table
+-- the book is that of the primary key of a table
 abbrev pub is_primary_of : ℕ → Book → Bool
 is_primary_of n (Primary book) = nat_eq book.table n
 is_primary_of n (Referenced book) = false
 is_primary_of n (Reference book) = false
 
--- what the first of the books of the primary key of a table tells
+-- the faults of the first of the books of the primary key of a table
 abbrev pub first_told : ℕ → List Book → List Fault
 first_told n [] = []
 first_told n (book ∷ books) = if is_primary_of n book then duplicates_in book else first_told n books
@@ -105,11 +105,11 @@ no_rows n = []
 abbrev pub purposes_of : List Book → List Purpose
 purposes_of books = map purpose_of books
 
--- the keys that books are for
+-- the keys of books
 abbrev pub rules_in : List Book → List KeyRule
 rules_in books = flat_map rules_for (purposes_of books)
 
--- It has a book for each of these keys, which keeps what that needs of the rows of these tables, and counts what they refer to.
+-- The book has a book for each of these keys. Each keeps what its key needs of the rows of these tables. What the keys refer to is counted.
 pub record KeepsKeys (book : KeyBook) (keys : List KeyRule) (tables : ℕ → List Row) : Type 0 where
   pub rules : rules_in book.books.items ≡ keys
   pub served : All (λ rule. is_served (purposes_of book.books.items) rule ≡ true) keys

@@ -1,25 +1,25 @@
--- The rows whose primary key an earlier row has (Model for Tabular Data, section 6.6; Metadata Vocabulary for Tabular Data,
--- section 5.5).
+-- The rows that have the primary key of an earlier row: `duplicate_faults` (Model for Tabular Data, section 6.6; Metadata
+-- Vocabulary for Tabular Data, section 5.5).
 use Rattle.std.specs.Prelude.{ℕ, List, [], ◌∷◌, ◌++◌, Bool, if◌then◌else◌}
 use Rattle.std.specs.List.{list_any}
 use Rattle.csvw_annotate.specs.declared.row.Row.{Row}
-use Rattle.csvw_text.specs.declared.fault.Code.TheVariants.{DuplicateKey}
-use Rattle.csvw_text.specs.declared.fault.Fault.{Fault}
+use Rattle.csvw_fault.specs.declared.fault.Code.TheVariants.{DuplicateKey}
+use Rattle.csvw_fault.specs.declared.fault.Fault.{Fault}
 use Rattle.csvw_keys.specs.declared.key.KeyCell.{KeyCell}
 use Rattle.csvw_keys.specs.EqualKeys.{equal_keys}
 use Rattle.csvw_keys.specs.Key.{key_of}
 use Rattle.csvw_keys.specs.Places.{fault_of}
 
--- whether a key is among keys
+-- whether a key is in a list of keys
 abbrev pub is_among : List KeyCell → List (List KeyCell) → Bool
 is_among key keys = list_any (equal_keys key) keys
 
--- what is wrong with a row behind rows of these keys
+-- the faults of a row after rows with these keys
 abbrev pub duplicate : ℕ → List ℕ → List (List KeyCell) → Row → List Fault
 duplicate table columns before row =
     if is_among (key_of columns row) before then fault_of DuplicateKey table columns row.source ∷ [] else []
 
--- what is wrong with rows behind rows of these keys
+-- the faults of rows after rows with these keys
 abbrev pub duplicates_behind : ℕ → List ℕ → List (List KeyCell) → List Row → List Fault
 duplicates_behind table columns before [] = []
 duplicates_behind table columns before (row ∷ rows) =

@@ -1,6 +1,6 @@
--- Which keys are equal (Metadata Vocabulary for Tabular Data, section 5.5): those whose cells are, in order. Two cells are equal
--- where both are null, both single with equal values, or both lists with equal items in order; values are equal as texts, truths,
--- numbers, days or moments.
+-- Which keys are equal: `equal_keys` (Metadata Vocabulary for Tabular Data, section 5.5). Their cells are equal, in order. Two
+-- cells are equal if both are null, both are single with equal values, or both are lists with equal items in order. Values are
+-- equal as texts, booleans, numbers, days or moments.
 use Rattle.std.specs.Prelude.{List, Bool, true, false, not, bytes_eq}
 use Rattle.std.specs.Ordering.{int_eq}
 use Rattle.std.specs.Cmp.Lexicographic.{pointwise}

@@ -1,4 +1,4 @@
--- Keys as they are kept.
+-- Keys as they are stored.
 use Rattle.std.specs.Prelude.{ℕ, suc, ◌/◌, ◌%◌, ◌^◌, List, [], ◌∷◌, ℤ, pos, negsuc, Bool, true, false, map}
 use Rattle.csvw_annotate.specs.declared.row.Row.{Row}
 use Rattle.csvw_datatype.specs.declared.value.Value.{Value}
@@ -27,25 +27,25 @@ held_cell cell.Null = Null
 held_cell (cell.One value) = held_value value
 held_cell (cell.Many values) = Cells (record { value = cell.Many values ∷ [] })
 
--- what is kept of these cells: of one that is no list its value
+-- what is stored of these cells; a cell that is not a list is its value
 abbrev pub held_cells : List KeyCell → HeldValue
 held_cells [] = Cells (record { value = [] })
 held_cells (c ∷ []) = held_cell c
 held_cells (c ∷ d ∷ cells) = Cells (record { value = c ∷ d ∷ cells })
 
--- the key of these cells as it is kept
+-- the key of these cells as it is stored
 abbrev pub held : List KeyCell → HeldKey
 held key = record { value = held_cells key }
 
--- the key of a row in these columns as it is kept
+-- the key of a row in these columns as it is stored
 abbrev pub held_of : List ℕ → Row → HeldKey
 held_of columns row = held (key_of columns row)
 
--- the keys of rows in these columns as they are kept
+-- the keys of rows in these columns as they are stored
 abbrev pub held_keys : List ℕ → List Row → List HeldKey
 held_keys columns rows = map held (map (key_of columns) rows)
 
--- nothing but null cells is kept
+-- only null cells are stored
 abbrev pub is_null_value : HeldValue → Bool
 is_null_value Null = true
 is_null_value (Cells cells) = is_null_key cells.value

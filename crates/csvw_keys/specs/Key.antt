@@ -23,7 +23,7 @@ abbrev pub key_cell_or_null : Option AnnCell → KeyCell
 key_cell_or_null None = Null
 key_cell_or_null (Some c) = key_cell c.value
 
--- what is compared of the cell of a column, from 1; a null one where there is no such column
+-- what is compared of the cell of a column, from 1; it is null if there is no such column
 abbrev pub key_cell_at : Row → ℕ → KeyCell
 key_cell_at row column = if nat_eq column 0 then Null else key_cell_or_null (slice_get row.cells (column - 1))
 

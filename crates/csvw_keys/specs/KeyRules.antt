@@ -1,5 +1,5 @@
--- The keys of a plan (Metadata Vocabulary for Tabular Data, sections 5.5.1 and 5.5.2), and what is wrong with the rows of its tables
--- by them (Model for Tabular Data, section 6.6).
+-- The keys of a plan, and the faults of the rows of its tables by them: `rules_of`, `key_faults`, `AreKeyFaults` (Metadata
+-- Vocabulary for Tabular Data, sections 5.5.1 and 5.5.2; Model for Tabular Data, section 6.6).
 use Rattle.std.specs.Prelude.{ℕ, nat_eq, List, [], ◌∷◌, ◌++◌, flat_map, map, if◌then◌else◌}
 use Rattle.std.specs.List.Sorted.{IsPermutation, IsSorted}
 use Rattle.csvw_annotate.specs.declared.row.Row.{Row}
@@ -9,14 +9,14 @@ use Rattle.csvw_columns.specs.declared.plan.TablePlan.{TablePlan}
 use Rattle.csvw_keys.specs.Duplicates.{duplicate_faults}
 use Rattle.csvw_keys.specs.References.{reference_faults}
 use Rattle.csvw_report.specs.Order.{fault_cmp}
-use Rattle.csvw_text.specs.declared.fault.Fault.{Fault}
+use Rattle.csvw_fault.specs.declared.fault.Fault.{Fault}
 
--- a key of the table of a number: its primary key in the columns of these numbers, or a reference from these to those of a table
+-- a key of the table of a number: its primary key in the columns of these numbers, or a reference from these to the columns of a table
 pub data KeyRule : Type 0 where
   Unique : ℕ → List ℕ → KeyRule
   Refers : ℕ → List ℕ → ℕ → List ℕ → KeyRule
 
--- A table without columns in its primary key has none.
+-- A table with no columns in its primary key has no primary key.
 abbrev pub primary_rules : ℕ → List ℕ → List KeyRule
 primary_rules table [] = []
 primary_rules table (c ∷ cs) = Unique table (c ∷ cs) ∷ []
@@ -32,22 +32,22 @@ table_rules plan = primary_rules plan.number plan.primary_key ++ map (reference_
 abbrev pub rules_of : Plan → List KeyRule
 rules_of plan = flat_map table_rules plan.tables
 
--- what is wrong with the rows of whole tables by a key
+-- the faults of the rows of whole tables by a key
 abbrev pub rule_faults : (ℕ → List Row) → KeyRule → List Fault
 rule_faults tables (Unique table columns) = duplicate_faults table columns (tables table)
 rule_faults tables (Refers table columns referenced_table referenced) =
     reference_faults table columns (tables table) referenced (tables referenced_table)
 
--- what is wrong with them by all keys
+-- the faults of them by all keys
 abbrev pub key_faults : List KeyRule → (ℕ → List Row) → List Fault
 key_faults rules tables = flat_map (rule_faults tables) rules
 
--- The list of them in the order of reports: each as often as it has causes. There is one such list.
+-- The list of the faults in the order of reports. Each fault occurs as often as it has causes. There is one such list.
 pub record AreKeyFaults (rules : List KeyRule) (tables : ℕ → List Row) (faults : List Fault) : Type 0 where
   pub same : IsPermutation (key_faults rules tables) faults
   pub sorted : IsSorted fault_cmp faults
 
--- what is wrong with the rows of a table by its primary key
+-- the faults of the rows of a table by its primary key
 abbrev pub duplicates_of : ℕ → (ℕ → List Row) → List KeyRule → List Fault
 duplicates_of n tables [] = []
 duplicates_of n tables (Unique table columns ∷ rules) =

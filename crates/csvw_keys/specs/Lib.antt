@@ -4,7 +4,7 @@ pub mod EqualKeys
 pub mod Held
 pub mod Key
 pub mod KeyRules
-pub mod Laws
+pub mod KeyLaws
 pub mod Places
 pub mod PrimaryBooks
 pub mod ReferenceBooks

@@ -1,10 +1,10 @@
--- Where broken keys are told (Model for Tabular Data, section 6.6).
+-- The places at which broken keys are reported (Model for Tabular Data, section 6.6).
 use Rattle.std.specs.Prelude.{ℕ, List, [], ◌∷◌}
-use Rattle.csvw_text.specs.declared.fault.Code.{Code}
-use Rattle.csvw_text.specs.declared.fault.Fault.{Fault}
-use Rattle.csvw_text.specs.declared.fault.Kind.TheVariants.{Error}
+use Rattle.csvw_fault.specs.declared.fault.Code.{Code}
+use Rattle.csvw_fault.specs.declared.fault.Fault.{Fault}
+use Rattle.csvw_fault.specs.declared.fault.Kind.TheVariants.{Error}
 
--- the first number; 0 where there is none
+-- the first number, or 0 if there is none
 abbrev pub first_of : List ℕ → ℕ
 first_of [] = 0
 first_of (n ∷ ns) = n

@@ -1,9 +1,9 @@
--- How often something is there, as far as it matters to a key.
+-- How often something occurs, as far as it matters for a key.
 use Rattle.std.specs.Prelude.{ℕ, zero, suc}
 use Rattle.csvw_keys.specs.declared.times.Times.{Times}
 use Rattle.csvw_keys.specs.declared.times.Times.TheVariants.{Never, Once, Often}
 
--- one time more
+-- one more time
 abbrev pub more : Times → Times
 more Never = Once
 more Once = Often

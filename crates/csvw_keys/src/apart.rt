@@ -1,4 +1,4 @@
-//! What lies apart from a key that is kept.
+//! Values that are kept behind a pointer in a key.
 ghost use Rattle.std.specs.Prelude.{◌≡◌, IfOk, refl};
 ghost use Rattle.std.specs.Cmp.{on_equiv, on_per, on_po, on_total};
 
@@ -6,7 +6,7 @@ use csvw_text::{Copied, Shared};
 use std::alloc::{AllocError, Global};
 use std::cmp::Ordering;
 
-/// A value that lies apart, so that it takes the place of a pointer, and that its copies share. It is compared as the value.
+/// A value behind a pointer, so it takes the space of a pointer. Its copies share it. It is compared as the value.
 #[derive(Drop)]
 pub struct Apart<T> {
     /// The value.
@@ -14,7 +14,7 @@ pub struct Apart<T> {
 }
 
 impl<T: Drop> Apart<T> {
-    /// A value that lies apart; `AllocError` where there is no memory.
+    /// Makes such a value, or returns `AllocError` if there is no memory.
     pub(crate) fn new(alloc: Global, value: T) -> Result<Apart<T>, AllocError>
         ensures { IfOk result (λ a. a.value ≡ value) }
     {

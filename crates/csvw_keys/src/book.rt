@@ -27,7 +27,7 @@ use std::alloc::{AllocError, Global};
 pub(crate) enum Book {
     /// For a primary key.
     Primary(PrimaryBook),
-    /// For foreign keys to columns that are no primary key.
+    /// For foreign keys to columns that are not a primary key.
     Referenced(ReferencedBook),
     /// For a foreign key.
     Reference(ReferenceBook),
@@ -39,7 +39,8 @@ fn copied(alloc: Global, numbers: &[u32]) -> Result<Seq<u32>, AllocError>
     Ok(Seq::of(Vec::from_slice(alloc, numbers)?))
 }
 
-/// The book of a primary key and no row, in the columns of these numbers, from 1.
+/// Returns the book of a primary key without rows, in the columns of these numbers, from 1, or `AllocError` if there
+/// is no memory.
 pub(crate) fn primary_book(alloc: Global, table: u32, columns: &[u32]) -> Result<Book, AllocError>
     ensures purpose { IfOk result (λ b. purpose_of b ≡ Keeps (Unique table columns.now)) }
     ensures keeps { IfOk result (λ b. KeepsBook b no_rows) }
@@ -48,7 +49,8 @@ pub(crate) fn primary_book(alloc: Global, table: u32, columns: &[u32]) -> Result
     Ok(Book::Primary(PrimaryBook::new(alloc, table, columns)))
 }
 
-/// The book of the keys of a table and no row, in the columns of these numbers, from 1.
+/// Returns the book that counts the keys of a table, without rows, in the columns of these numbers, from 1, or
+/// `AllocError` if there is no memory.
 pub(crate) fn referenced_book(
     alloc: Global,
     table: u32,
@@ -61,7 +63,7 @@ pub(crate) fn referenced_book(
     Ok(Book::Referenced(ReferencedBook::new(alloc, table, columns)))
 }
 
-/// The book of a foreign key of a table and no row.
+/// Returns the book of a foreign key of a table, without rows, or `AllocError` if there is no memory.
 pub(crate) fn reference_book(
     alloc: Global,
     table: u32,
@@ -76,7 +78,7 @@ pub(crate) fn reference_book(
     Ok(Book::Reference(ReferenceBook::new(referring, key.table, referenced)))
 }
 
-/// How often each key of a table in these columns is there, where a book knows.
+/// Returns how often each key of a table in these columns occurs, by the first book that counts it.
 pub(crate) fn tally_in<'a>(
     books: &'a [Book],
     table: u32,
@@ -94,7 +96,8 @@ pub(crate) fn tally_in<'a>(
 }
 
 impl Book {
-    /// Makes room for a row of a table. It changes nothing that is told.
+    /// Makes room for a row of a table, or returns `AllocError` if there is no memory. It changes nothing that is
+    /// reported.
     pub(crate) fn make_room(
         &mut self,
         alloc: Global,
@@ -112,7 +115,7 @@ impl Book {
         }
     }
 
-    /// Adds the row that there is room for.
+    /// Adds the row that the book has room for.
     pub(crate) fn add(&mut self, table: u32, row: &Row)
         ensures purpose { purpose_of self.new ≡ purpose_of self.old }
         ensures keeps { IsRoomy self.old table row.now → (tables : ℕ → List Row) → KeepsBook self.old tables
@@ -125,7 +128,7 @@ impl Book {
         }
     }
 
-    /// How often each key of a table in these columns is there, where it knows.
+    /// Returns how often each key of a table in these columns occurs, if this book counts it.
     fn tally(&self, table: u32, columns: &[u32]) -> Option<&Tally<HeldKey>>
         ensures { MatchOption result (counts_in table columns.now (purpose_of self.now) ≡ false)
             (λ tally. (counts_in table columns.now (purpose_of self.now) ≡ true)
@@ -150,7 +153,7 @@ impl Book {
         }
     }
 
-    /// Adds what it tells to these faults, beside all books.
+    /// Adds the faults of this book to these faults. It uses the counts of all books.
     pub(crate) fn tell(
         &self,
         alloc: Global,
@@ -166,7 +169,7 @@ impl Book {
         }
     }
 
-    /// What it tells where it is of the primary key of this table.
+    /// Returns the faults of this book if it is that of the primary key of this table.
     pub(crate) fn duplicates(&self, table: u32) -> Option<&[Fault]>
         ensures { MatchOption result (is_primary_of table self.now ≡ false)
             (λ faults. (is_primary_of table self.now ≡ true) × (faults.now ≡ duplicates_in self.now)) }
@@ -184,7 +187,7 @@ impl Book {
     }
 }
 
-/// Adds what is wrong with the rows that refer by a foreign key to these faults.
+/// Adds the faults of the rows that refer by a foreign key to these faults.
 fn tell_reference(
     alloc: Global,
     books: &[Book],

@@ -1,4 +1,4 @@
-//! Keys as they are kept.
+//! Keys as they are stored.
 ghost use Rattle.std.specs.Prelude.{◌≡◌, IfOk};
 ghost use Rattle.std.specs.Cmp.{on_total};
 ghost use Rattle.std.specs.Ordering.{nat_cmp, ordering_then};
@@ -15,7 +15,7 @@ use csvw_text::Copied;
 use std::alloc::{AllocError, Global};
 use std::cmp::Ordering;
 
-/// A key as it is kept. It is compared as its value.
+/// A key as it is stored. It is compared as its value.
 #[derive(Drop, PartialEq, Eq, PartialOrd)]
 pub struct HeldKey {
     /// Its value.
@@ -30,7 +30,7 @@ impl Copied for HeldKey {
     }
 }
 
-/// How two numbers compare by their high and their low halves.
+/// Compares two numbers by their high and their low halves.
 #[inline(always)]
 fn by_halves(high: u64, low: u64, other_high: u64, other_low: u64) -> Ordering
     ensures { result ≡ ordering_then (nat_cmp high other_high) (nat_cmp low other_low) }
@@ -44,7 +44,7 @@ fn by_halves(high: u64, low: u64, other_high: u64, other_low: u64) -> Ordering
     }
 }
 
-/// How two values compare, whatever they are.
+/// Compares two values of any kind.
 #[inline(never)]
 fn of_any_kind(value: &HeldValue, other: &HeldValue) -> Ordering
     ensures { result ≡ of_value.ghosts.cmp value.now other.now }
@@ -61,7 +61,7 @@ impl Ord for HeldKey {
 
     ghost matches_eq = { λ x y. law.matches_eq-law x.value y.value };
 
-    // Most keys are numbers from 0, so these are compared in place, with no call.
+    // Most keys are numbers from 0. They are compared here without a call.
     #[inline(always)]
     fn cmp(&self, other: &HeldKey) -> Ordering {
         if let HeldValue::Natural(high, low) = &self.value {
@@ -73,7 +73,7 @@ impl Ord for HeldKey {
     }
 }
 
-/// What is kept of a row in the columns of these numbers, from 1.
+/// Returns what is stored of a row in the columns of these numbers, from 1.
 fn held_cells(alloc: Global, columns: &[u32], row: &Row) -> Result<HeldValue, AllocError>
     ensures { IfOk result (λ held. held ≡ held_cells (key_of columns.now row.now)) }
 {
@@ -84,7 +84,7 @@ fn held_cells(alloc: Global, columns: &[u32], row: &Row) -> Result<HeldValue, Al
     Ok(HeldValue::Cells(Apart::new(alloc, cells)?))
 }
 
-/// The key of a row in the columns of these numbers, from 1.
+/// Returns the key of a row in the columns of these numbers, from 1.
 pub(crate) fn held_of(alloc: Global, columns: &[u32], row: &Row) -> Result<HeldKey, AllocError>
     ensures { IfOk result (λ key. key ≡ held_of columns.now row.now) }
 {

@@ -1,4 +1,4 @@
-//! The values of keys as they are kept.
+//! The values of keys as they are stored.
 ghost use Rattle.std.specs.Prelude.{◌≡◌, IfOk};
 ghost use Rattle.csvw_keys.specs.Held.{held_cell, held_number, held_value};
 ghost use Rattle.csvw_keys.specs.Key.{key_cell, key_cell_at};
@@ -11,8 +11,8 @@ use csvw_datatype::Value;
 use csvw_text::{Copied, Seq, Text};
 use std::alloc::{AllocError, Global};
 
-/// What is kept of a key: of one column that is no list its value. It takes 24 bytes, since a number is in halves and what is
-/// long lies apart.
+/// What is stored of a key. A key of one column that is not a list is its value. It takes 24 bytes: a number is in
+/// halves, and what is long is behind a pointer.
 #[derive(Drop, PartialEq, Eq, PartialOrd, Ord)]
 pub enum HeldValue {
     /// A null cell.
@@ -90,7 +90,7 @@ fn held_cell(alloc: Global, value: &CellValue) -> Result<HeldValue, AllocError>
     }
 }
 
-/// What is kept of the column of this number, from 1.
+/// Returns what is stored of the column of this number, from 1.
 pub(crate) fn held_cell_at(alloc: Global, row: &Row, column: u32) -> Result<HeldValue, AllocError>
     ensures { IfOk result (λ held. held ≡ held_cell (key_cell_at row.now column)) }
 {

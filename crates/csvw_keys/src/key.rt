@@ -9,7 +9,7 @@ use csvw_datatype::Value;
 use csvw_text::Seq;
 use std::alloc::{AllocError, Global};
 
-/// What is compared of a cell of a key: its value, whether it was read as one of its datatype or not.
+/// What is compared of a cell of a key: its value, even if the value was not read as one of its datatype.
 #[derive(Debug, Drop, PartialEq, Eq, PartialOrd, Ord)]
 pub enum KeyCell {
     /// A null cell.
@@ -55,7 +55,7 @@ pub(crate) fn key_cell(alloc: Global, value: &CellValue) -> Result<KeyCell, Allo
     }
 }
 
-/// The key cell of a column, from 1; a null one where there is no such column.
+/// Returns the key cell of a column, from 1. If there is no such column, it is null.
 fn key_cell_at(alloc: Global, row: &Row, column: u32) -> Result<KeyCell, AllocError>
     ensures { IfOk result (λ k. k ≡ key_cell_at row.now column) }
 {
@@ -68,7 +68,7 @@ fn key_cell_at(alloc: Global, row: &Row, column: u32) -> Result<KeyCell, AllocEr
     }
 }
 
-/// The key cells of a row in the columns of these numbers, from 1.
+/// Returns the key cells of a row in the columns of these numbers, from 1.
 pub(crate) fn key_of(alloc: Global, columns: &[u32], row: &Row) -> Result<Key, AllocError>
     ensures { IfOk result (λ key. key ≡ key_of columns.now row.now) }
 {

@@ -14,14 +14,15 @@ use csvw_report::sorted;
 use csvw_text::{Fault, Seq};
 use std::alloc::{AllocError, Global};
 
-/// What is kept of the rows so far of the tables of a group, for its primary and foreign keys (Metadata Vocabulary for Tabular
-/// Data, sections 5.5.1 and 5.5.2). Of a row it keeps the cells of its keys and its place, nothing else.
+/// The keys of a group: what is kept of the rows so far of its tables, for its primary and foreign keys (Metadata
+/// Vocabulary for Tabular Data, sections 5.5.1 and 5.5.2). It keeps the cells of a row's keys and its place and
+/// nothing else.
 #[derive(Drop)]
 pub struct KeyBook {
-    /// Gives the memory for what is kept.
+    /// The allocator for what is kept.
     alloc: Global,
-    /// A book of each key, in the order of the tables: of each the primary key, then its foreign keys. Behind them one for each
-    /// table and columns that are referenced and are no primary key.
+    /// A book of each key, in the order of the tables. For each table these are the primary key, then its foreign
+    /// keys. After these is one book for each table and columns that are referenced and are not a primary key.
     books: Vec<Book>,
 }
 
@@ -77,7 +78,7 @@ fn books_of(alloc: Global, plans: &[TablePlan]) -> Result<Vec<Book>, AllocError>
     Ok(books)
 }
 
-/// Sees that a book counts the keys of a table in these columns.
+/// Ensures that a book counts the keys of a table in these columns.
 fn serve(
     alloc: Global,
     table: u32,
@@ -98,7 +99,7 @@ fn serve(
     Ok(())
 }
 
-/// Sees that a book counts what each of the foreign keys of a table refers to.
+/// Ensures that a book counts what each of the foreign keys of a table refers to.
 fn serve_keys(
     alloc: Global,
     table: u32,
@@ -117,7 +118,7 @@ fn serve_keys(
     Ok(())
 }
 
-/// Sees that a book counts what each of the foreign keys refers to.
+/// Ensures that a book counts what each of the foreign keys refers to.
 fn serve_tables(alloc: Global, plans: &[TablePlan], books: &mut Vec<Book>) -> Result<(), AllocError>
     ensures rules { OnOk result (rules_in books.new.items ≡ rules_in books.old.items) }
     ensures keeps { OnOk result (All (λ b. KeepsBook b no_rows) books.old.items → All (λ b. KeepsBook b no_rows) books.new.items) }
@@ -129,7 +130,7 @@ fn serve_tables(alloc: Global, plans: &[TablePlan], books: &mut Vec<Book>) -> Re
     Ok(())
 }
 
-/// Makes room for a row of a table in each book.
+/// Makes room for a row of a table in each book, or returns `AllocError` if there is no memory.
 fn make_room(alloc: Global, books: &mut [Book], table: u32, row: &Row) -> Result<(), AllocError>
     ensures purposes { purposes_of books.new ≡ purposes_of books.old }
     ensures keeps { (tables : ℕ → List Row) → All (λ b. KeepsBook b tables) books.old → All (λ b. KeepsBook b tables) books.new }
@@ -152,7 +153,7 @@ fn add_to_each(books: &mut [Book], table: u32, row: &Row)
     }
 }
 
-/// What the books tell, one after the other.
+/// Returns the faults of the books, one book after the other.
 fn all_told(alloc: Global, books: &[Book]) -> Result<Vec<Fault>, AllocError>
     ensures { IfOk result (λ faults. faults.items ≡ flat_map (told books.now) books.now) }
 {
@@ -163,7 +164,7 @@ fn all_told(alloc: Global, books: &[Book]) -> Result<Vec<Fault>, AllocError>
     Ok(faults)
 }
 
-/// What the first of the books of the primary key of a table tells; nothing where there is none.
+/// Returns the faults of the first book of the primary key of a table, or nothing if there is none.
 fn first_told(books: &[Book], table: u32) -> &[Fault]
     ensures { result.now ≡ first_told table books.now }
 {
@@ -176,7 +177,7 @@ fn first_told(books: &[Book], table: u32) -> &[Fault]
 }
 
 impl KeyBook {
-    /// The book of the keys of a plan and no row; `AllocError` where there is no memory.
+    /// Makes the book of the keys of a plan, without rows, or returns `AllocError` if there is no memory.
     pub fn new(alloc: Global, plan: &Plan) -> Result<KeyBook, AllocError>
         ensures { IfOk result (λ book. KeepsKeys book (rules_of plan.now) no_rows) }
     {
@@ -185,8 +186,8 @@ impl KeyBook {
         Ok(KeyBook { alloc, books })
     }
 
-    /// Adds a row at the end of the table of this number, from 1. `AllocError` where there is no memory; it then keeps the rows
-    /// that it kept before.
+    /// Adds a row at the end of the table of this number, from 1. It returns `AllocError` if there is no memory. Then
+    /// the book keeps the rows that it kept before.
     pub fn add(&mut self, table: u32, row: &Row) -> Result<(), AllocError>
         ensures { (rules : List KeyRule) (tables : ℕ → List Row) → KeepsKeys self.old rules tables
             → MatchResult result (λ _. KeepsKeys self.new rules (with_row tables table row.now)) (λ _. KeepsKeys self.new rules tables) }
@@ -196,7 +197,8 @@ impl KeyBook {
         Ok(())
     }
 
-    /// What is wrong with the rows so far of the table of this number, from 1, by its primary key. It takes no memory.
+    /// Returns the faults of the rows so far of the table of this number, from 1, by its primary key. It takes no
+    /// memory.
     pub fn duplicates(&self, table: u32) -> &[Fault]
         ensures { (rules : List KeyRule) (tables : ℕ → List Row) → KeepsKeys self.now rules tables
             → result.now ≡ duplicates_of table tables rules }
@@ -204,7 +206,8 @@ impl KeyBook {
         first_told(self.books.as_slice(), table)
     }
 
-    /// What is wrong with the rows of all tables by their keys, in the order of reports; `AllocError` where there is no memory.
+    /// Returns the faults of the rows of all tables by their keys, in the order of reports, or `AllocError` if there
+    /// is no memory.
     pub fn finish(&self) -> Result<Vec<Fault>, AllocError>
         ensures { IfOk result (λ faults. (rules : List KeyRule) (tables : ℕ → List Row) → KeepsKeys self.now rules tables
             → AreKeyFaults rules tables faults.items) }

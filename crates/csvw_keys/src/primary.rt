@@ -1,4 +1,4 @@
-//! The rows of a table whose primary key an earlier row has.
+//! The rows of a table that have the primary key of an earlier row.
 ghost use Rattle.std.specs.Prelude.{◌≡◌, ◌<◌, ◌++◌, [], List};
 ghost use Rattle.std.specs.Vec.{vec_len, vec_capacity};
 ghost use Rattle.csvw_annotate.specs.declared.row.Row.{Row};
@@ -15,7 +15,7 @@ use csvw_annotate::Row;
 use csvw_text::{Code, Fault, Seq};
 use std::alloc::{AllocError, Global};
 
-/// A primary key, its keys so far and what is wrong with them.
+/// A primary key, its keys so far and their faults.
 #[derive(Drop)]
 pub struct PrimaryBook {
     /// The number of its table, from 1.
@@ -27,7 +27,7 @@ pub struct PrimaryBook {
 }
 
 impl PrimaryBook {
-    /// The book of no row. It takes no memory.
+    /// Makes the book without rows. It takes no memory.
     pub fn new(alloc: Global, table: u32, columns: Seq<u32>) -> PrimaryBook
         ensures table { result.table ≡ table }
         ensures columns { result.columns ≡ columns }
@@ -41,7 +41,7 @@ impl PrimaryBook {
         }
     }
 
-    /// The faults of the rows, in order.
+    /// Returns the faults of the rows, in order.
     pub fn faults(&self) -> &[Fault]
         ensures found { result.now ≡ self.now.found.items }
         ensures keeps { (rows : List Row) → KeepsPrimary self.now rows
@@ -77,7 +77,7 @@ impl TableBook for PrimaryBook {
     }
 }
 
-/// Adds the fault of a row to those that there is room behind, where its key was there before.
+/// Adds the fault of a row if its key was there before. There must be room for it.
 fn note(found: &mut Vec<Fault>, times: Times, fault: Fault)
     ensures { vec_len found.old < vec_capacity found.old → found.new.items ≡ found.old.items ++ noted times fault }
 {

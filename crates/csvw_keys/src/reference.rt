@@ -1,4 +1,4 @@
-//! The rows of a table that refer to no row of another, or to several.
+//! The rows of a table that refer to no row of another table, or to several.
 ghost use Rattle.std.specs.Prelude.{◌≡◌, ◌++◌, ℕ, List, IfOk, OnOk, flat_map};
 ghost use Rattle.csvw_annotate.specs.declared.row.Row.{Row};
 ghost use Rattle.csvw_keys.specs.contracts.held.HeldKeyOrd.TheImpl as derived;
@@ -16,19 +16,19 @@ use csvw_annotate::Row;
 use csvw_text::{Code, Fault, Seq};
 use std::alloc::{AllocError, Global};
 
-/// A foreign key with the rows so far of its table. How often each key of the table that it refers to is there, another book
-/// knows.
+/// A foreign key with the rows so far of its table. Another book counts how often each key of the referenced table
+/// occurs.
 #[derive(Drop)]
 pub struct ReferenceBook {
     /// The rows that refer.
     pub(crate) referring: ReferringBook,
-    /// The number of the table that is referenced, from 1.
+    /// The number of the referenced table, from 1.
     pub(crate) table: u32,
-    /// The numbers of its columns that are referenced, from 1.
+    /// The numbers of its referenced columns, from 1.
     pub(crate) columns: Seq<u32>,
 }
 
-/// Adds what is wrong with a row that refers to rows of a key that is there so often.
+/// Adds the fault of a row that refers to rows of a key. The key occurs so often.
 fn push_fault(
     faults: &mut Vec<Fault>,
     times: Times,
@@ -47,7 +47,7 @@ fn push_fault(
 }
 
 impl ReferenceBook {
-    /// The book of no row. It takes no memory.
+    /// Makes the book of a foreign key from these parts. It takes no memory.
     pub fn new(referring: ReferringBook, table: u32, columns: Seq<u32>) -> ReferenceBook
         ensures { (result.referring ≡ referring) × (result.table ≡ table) × (result.columns ≡ columns) }
     {
@@ -58,7 +58,7 @@ impl ReferenceBook {
         }
     }
 
-    /// Makes room for a row of a table.
+    /// Makes room for a row of a table, or returns `AllocError` if there is no memory.
     pub fn make_room(&mut self, alloc: Global, table: u32, row: &Row) -> Result<(), AllocError>
         ensures rule { IsSameReference self.old self.new }
         ensures keeps { (tables : ℕ → List Row) → KeepsReference self.old tables → KeepsReference self.new tables }
@@ -67,7 +67,7 @@ impl ReferenceBook {
         make_room(&mut self.referring, alloc, table, row)
     }
 
-    /// Adds the row that there is room for.
+    /// Adds the row that the book has room for.
     pub fn add(&mut self, table: u32, row: &Row)
         ensures rule { IsSameReference self.old self.new }
         ensures keeps { IsStaged self.old table row.now → (tables : ℕ → List Row) → KeepsReference self.old tables
@@ -76,8 +76,8 @@ impl ReferenceBook {
         add(&mut self.referring, table, row);
     }
 
-    /// The faults of the rows that refer, in order, where each key of the table that is referenced is there as often as this
-    /// says.
+    /// Returns the faults of the rows that refer, in order, or `AllocError` if there is no memory. The tally says how
+    /// often each key of the referenced table occurs.
     pub fn faults(&self, alloc: Global, tally: &Tally<HeldKey>) -> Result<Vec<Fault>, AllocError>
         ensures { IfOk result (λ v. v.items
             ≡ flat_map (row_fault (tally_times derived.ghosts.cmp tally.now.ahead tally.now.counts) self.now) self.now.referring.rows.items) }

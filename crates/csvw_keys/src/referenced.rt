@@ -9,18 +9,18 @@ use csvw_annotate::Row;
 use csvw_text::Seq;
 use std::alloc::{AllocError, Global};
 
-/// How often each key is there among the rows so far.
+/// How often each key occurs among the rows so far.
 #[derive(Drop)]
 pub struct ReferencedBook {
     /// The number of its table, from 1.
     pub(crate) table: u32,
-    /// The numbers of the columns that are referenced, from 1.
+    /// The numbers of the referenced columns, from 1.
     pub(crate) columns: Seq<u32>,
     pub(crate) tally: Tally<HeldKey>,
 }
 
 impl ReferencedBook {
-    /// The book of no row. It takes no memory.
+    /// Makes the book without rows. It takes no memory.
     pub fn new(alloc: Global, table: u32, columns: Seq<u32>) -> ReferencedBook
         ensures table { result.table ≡ table }
         ensures columns { result.columns ≡ columns }

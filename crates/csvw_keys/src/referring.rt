@@ -31,7 +31,7 @@ pub struct ReferringBook {
 }
 
 impl ReferringBook {
-    /// The book of no row. It takes no memory.
+    /// Makes the book without rows. It takes no memory.
     pub fn new(alloc: Global, table: u32, columns: Seq<u32>) -> ReferringBook
         ensures table { result.table ≡ table }
         ensures columns { result.columns ≡ columns }
@@ -74,7 +74,7 @@ impl TableBook for ReferringBook {
     }
 }
 
-/// Adds a row to those that there is room behind, where its key refers to others.
+/// Adds a row if its key refers to others. There must be room for it.
 fn refer(rows: &mut Vec<Referring>, key: HeldKey, source: u64)
     ensures { vec_len rows.old < vec_capacity rows.old → rows.new.items ≡ rows.old.items ++ kept key source }
 {

@@ -6,7 +6,7 @@ ghost use Rattle.csvw_keys.specs.Tables.{with_row};
 use csvw_annotate::Row;
 use std::alloc::{AllocError, Global};
 
-/// What keeps something of the rows of one table. A row is added in two steps, the first of which alone needs memory.
+/// A book of the rows of one table. A row is added in two steps. Only the first step needs memory.
 pub(crate) trait TableBook {
     /// The number of its table.
     ghost table_of: { Self → ℕ };
@@ -14,31 +14,32 @@ pub(crate) trait TableBook {
     /// The numbers of its key's columns.
     ghost columns_of: { Self → List ℕ };
 
-    /// It keeps what it needs of these rows.
+    /// The book keeps what it needs of these rows.
     ghost keeps: { Self → List TheRow → Type 0 };
 
-    /// There is room in it for a row.
+    /// There is room in the book for a row.
     ghost is_staged: { Self → TheRow → Type 0 };
 
     /// The number of its table, from 1.
     fn table(&self) -> u32
         ensures { result ≡ table_of self.now };
 
-    /// Makes room for a row of its table.
+    /// Makes room for a row of its table, or returns `AllocError` if there is no memory.
     fn make_own_room(&mut self, alloc: Global, row: &Row) -> Result<(), AllocError>
         ensures table { table_of self.new ≡ table_of self.old }
         ensures columns { columns_of self.new ≡ columns_of self.old }
         ensures keeps { (rows : List TheRow) → keeps self.old rows → keeps self.new rows }
         ensures staged { OnOk result (is_staged self.new row.now) };
 
-    /// Adds the row of its table that there is room for.
+    /// Adds the row of its table that the book has room for.
     fn add_own(&mut self, row: &Row)
         ensures table { table_of self.new ≡ table_of self.old }
         ensures columns { columns_of self.new ≡ columns_of self.old }
         ensures keeps { is_staged self.old row.now → (rows : List TheRow) → keeps self.old rows → keeps self.new (rows ++ row.now ∷ []) };
 }
 
-/// Makes room for a row of a table; nothing where that isn't the book's own.
+/// Makes room for a row of a table. It does nothing if the table is not the book's own. It returns `AllocError` if
+/// there is no memory.
 pub(crate) fn make_room<B: TableBook>(
     book: &mut B,
     alloc: Global,
@@ -57,7 +58,7 @@ pub(crate) fn make_room<B: TableBook>(
     }
 }
 
-/// Adds the row of a table that there is room for; nothing where that isn't the book's own.
+/// Adds the row of a table that the book has room for. It does nothing if the table is not the book's own.
 pub(crate) fn add<B: TableBook>(book: &mut B, table: u32, row: &Row)
     ensures table { B.table_of book.new ≡ B.table_of book.old }
     ensures columns { B.columns_of book.new ≡ B.columns_of book.old }

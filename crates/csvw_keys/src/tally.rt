@@ -1,4 +1,8 @@
-//! How often each key is there.
+//! How often each key occurs.
+//!
+//! Making room for a key looks it up and counts it at once. The count from before is kept beside it. The counts are
+//! then *ahead* by that key. Adding the row drops the count from before. If another book had no memory, the next call
+//! falls back to that count. So a key is looked up once.
 ghost use Rattle.std.specs.Prelude.{◌≡◌, ◌++◌, ◌∷◌, [], List, None, Some, IfOk, OnErr, OnOk};
 ghost use Rattle.std.specs.BTreeMap.{BTreeMap, get};
 ghost use Rattle.csvw_keys.specs.Tallies.{IsAheadAt, IsCounted, IsRaised, Tallies, tally_times, times_at};
@@ -9,16 +13,16 @@ use std::alloc::{AllocError, Global};
 use std::cmp::Ordering;
 use std::collections::BTreeMap;
 
-/// How often each key is there. A key is counted in two steps, the first of which alone needs memory and looks it up.
+/// How often each key occurs. A key is counted in two steps. Only the first step needs memory and looks the key up.
 #[derive(Drop)]
 pub(crate) struct Tally<K: Ord> {
-    /// How often each key is there; a missing one is never there.
+    /// How often each key occurs. A missing key never occurs.
     counts: BTreeMap<K, Times>,
-    /// A key that the counts have already, though it isn't counted yet, and how often it is there so far.
+    /// A key that the counts already include though it is not counted yet, and how often it occurred before it.
     ahead: Option<(K, Times)>,
 }
 
-/// Counts a key once more, and answers how often it was there before.
+/// Counts a key once more, and returns how often it occurred before. It returns `AllocError` if there is no memory.
 fn raise<K: Ord + Drop>(counts: &mut BTreeMap<K, Times>, key: K) -> Result<Times, AllocError>
     ensures before { IfOk result (λ before. before ≡ times_at K.cmp counts.old key) }
     ensures raised { IfOk result (λ before. IsRaised K.cmp counts.old counts.new key before) }
@@ -31,7 +35,7 @@ fn raise<K: Ord + Drop>(counts: &mut BTreeMap<K, Times>, key: K) -> Result<Times
 }
 
 impl<K: Ord + Copied + Drop> Tally<K> {
-    /// No key. It takes no memory.
+    /// Makes a tally without keys. It takes no memory.
     pub(crate) fn new(alloc: Global) -> Tally<K>
         ensures { Tallies K.cmp result.ahead result.counts [] }
     {
@@ -41,7 +45,7 @@ impl<K: Ord + Copied + Drop> Tally<K> {
         }
     }
 
-    /// How often a key is there.
+    /// Returns how often a key occurs.
     pub(crate) fn times(&self, key: &K) -> Times
         ensures { result ≡ tally_times K.cmp self.now.ahead self.now.counts key.now }
     {
@@ -56,7 +60,7 @@ impl<K: Ord + Copied + Drop> Tally<K> {
         }
     }
 
-    /// Makes room for a key. It changes no count.
+    /// Makes room for a key, or returns `AllocError` if there is no memory. It changes no count that is reported.
     pub(crate) fn make_room(&mut self, alloc: Global, key: K) -> Result<(), AllocError>
         ensures ahead { OnOk result (IsAheadAt self.new.ahead key) }
         ensures keeps { (keys : List K) → Tallies K.cmp self.old.ahead self.old.counts keys → Tallies K.cmp self.new.ahead self.new.counts keys }
@@ -68,7 +72,7 @@ impl<K: Ord + Copied + Drop> Tally<K> {
         Ok(())
     }
 
-    /// Takes the key that it is ahead by out of its counts.
+    /// Takes the key that the counts are ahead by out of the counts.
     fn fall_back(&mut self)
         ensures ahead { self.new.ahead ≡ None }
         ensures keeps { (keys : List K) → Tallies K.cmp self.old.ahead self.old.counts keys → Tallies K.cmp self.new.ahead self.new.counts keys }
@@ -81,7 +85,7 @@ impl<K: Ord + Copied + Drop> Tally<K> {
         }
     }
 
-    /// Counts the key that there is room for, and tells how often it was there before.
+    /// Counts the key that there is room for, and returns how often it occurred before.
     pub(crate) fn count(&mut self) -> Times
         ensures { (key : K) → IsAheadAt self.old.ahead key → (keys : List K) → Tallies K.cmp self.old.ahead self.old.counts keys
             → IsCounted K.cmp result self.new.ahead self.new.counts keys key }

@@ -1,8 +1,8 @@
-//! How often something is there, as far as it matters to a key.
+//! How often something occurs, as far as it matters for a key.
 ghost use Rattle.std.specs.Prelude.{◌≡◌};
 ghost use Rattle.csvw_keys.specs.Times.{more};
 
-/// How often something is there.
+/// How often something occurs.
 #[derive(Clone, Copy)]
 pub enum Times {
     /// Not at all.
@@ -14,7 +14,7 @@ pub enum Times {
 }
 
 impl Times {
-    /// One time more.
+    /// Returns the count after one more time.
     pub(crate) fn more(self) -> Times
         ensures { result ≡ more self }
     {

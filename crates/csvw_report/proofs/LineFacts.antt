@@ -1,4 +1,4 @@
--- The record of a fault is its line: none of its fields calls for quotes.
+-- The record of a fault is its line: none of its fields needs quotes.
 use Rattle.std.proofs.Common.{◌≡◌, ℕ, ◌+◌, ◌%◌, ◌<◌, ◌^◌, List, [], ◌∷◌, ◌++◌, false, refl, arith, append_assoc}
 use Rattle.std.proofs.lemmas.Bool.{ne_eqb}
 use Rattle.std.proofs.lemmas.Fmt.{decimal_by_steps}
@@ -6,15 +6,15 @@ use Rattle.std.proofs.lemmas.List.Folds.{list_any-append}
 use Rattle.std.specs.Prelude.{codes, decimal, ◌==◌}
 use Rattle.csv.specs.Writing.{default_writer, field_text, fields_text, is_blank, needs_byte, needs_quotes, row_text}
 use Rattle.csv.specs.declared.writer.WriterBuilder.{WriterBuilder}
-use Rattle.csvw_text.specs.declared.fault.Code.{Code}
-use Rattle.csvw_text.specs.declared.fault.Code.TheVariants.{UnknownProperty, HeaderMissing, HeaderCount, HeaderMismatch, Required, BadBoolean}
-use Rattle.csvw_text.specs.declared.fault.Code.TheVariants.{BadInteger, BadDecimal, NumberTooLong, OutOfRange, BadDate, BadDateTime, WrongLength}
-use Rattle.csvw_text.specs.declared.fault.Code.TheVariants.{TooShort, TooLong, BelowMinimum, AboveMaximum, BadUrl, UrlTooLong, DuplicateKey}
-use Rattle.csvw_text.specs.declared.fault.Code.TheVariants.{NoReferencedRow, ManyReferencedRows}
-use Rattle.csvw_text.specs.declared.fault.Fault.{Fault}
-use Rattle.csvw_text.specs.declared.fault.Kind.{Kind}
-use Rattle.csvw_text.specs.declared.fault.Kind.TheVariants.{Error, Warning}
-use Rattle.csvw_text.specs.Code.{name_of}
+use Rattle.csvw_fault.specs.declared.fault.Code.{Code}
+use Rattle.csvw_fault.specs.declared.fault.Code.TheVariants.{UnknownProperty, HeaderMissing, HeaderCount, HeaderMismatch, Required, BadBoolean}
+use Rattle.csvw_fault.specs.declared.fault.Code.TheVariants.{BadInteger, BadDecimal, NumberTooLong, OutOfRange, BadDate, BadDateTime, WrongLength}
+use Rattle.csvw_fault.specs.declared.fault.Code.TheVariants.{TooShort, TooLong, BelowMinimum, AboveMaximum, BadUrl, UrlTooLong, DuplicateKey}
+use Rattle.csvw_fault.specs.declared.fault.Code.TheVariants.{NoReferencedRow, ManyReferencedRows}
+use Rattle.csvw_fault.specs.declared.fault.Fault.{Fault}
+use Rattle.csvw_fault.specs.declared.fault.Kind.{Kind}
+use Rattle.csvw_fault.specs.declared.fault.Kind.TheVariants.{Error, Warning}
+use Rattle.csvw_fault.specs.Code.{name_of}
 use Rattle.csvw_report.specs.Report.{kind_name, line}
 
 -- no byte of the text calls for quotes

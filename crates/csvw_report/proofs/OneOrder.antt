@@ -1,4 +1,4 @@
--- Sorted lists of the same elements are equal, where elements that tie are.
+-- Sorted lists of the same elements are equal, if elements that tie are equal.
 use Rattle.std.proofs.Common.{◌≡◌, ◌+◌, ℕ, List, [], ◌∷◌, false, cond, refl, sym, ap, ◌∙◌, subst, arith, add-one, get_or, Ordering, Less, Equal}
 use Rattle.std.proofs.Common.{Greater, nat_cmp, is_eq, is_lt}
 use Rattle.std.specs.Cmp.{IsTotalOrder}
@@ -8,16 +8,16 @@ use Rattle.std.specs.Ordering.{ordering_reverse, ordering_then}
 use Rattle.std.proofs.lemmas.Cmp.{nat_cmp_total, on_total, then_total, tied_itself, ranked}
 use Rattle.std.proofs.lemmas.List.Sorted.{IsPermutation-sym, IsPermutation-trans, sum_by-IsPermutation}
 use Rattle.std.proofs.lemmas.List.Sums.{sum_by-cons}
-use Rattle.csvw_text.specs.declared.fault.Code.{Code}
-use Rattle.csvw_text.specs.declared.fault.Code.TheVariants.{UnknownProperty, HeaderMissing, HeaderCount, HeaderMismatch, Required, BadBoolean}
-use Rattle.csvw_text.specs.declared.fault.Code.TheVariants.{BadInteger, BadDecimal, NumberTooLong, OutOfRange, BadDate, BadDateTime, WrongLength}
-use Rattle.csvw_text.specs.declared.fault.Code.TheVariants.{TooShort, TooLong, BelowMinimum, AboveMaximum, BadUrl, UrlTooLong, DuplicateKey}
-use Rattle.csvw_text.specs.declared.fault.Code.TheVariants.{NoReferencedRow, ManyReferencedRows}
-use Rattle.csvw_text.specs.declared.fault.Fault.{Fault}
-use Rattle.csvw_text.specs.declared.fault.Place.{Place}
-use Rattle.csvw_text.specs.declared.fault.Kind.{Kind}
-use Rattle.csvw_text.specs.declared.fault.Kind.TheVariants.{Error, Warning}
-use Rattle.csvw_report.specs.Laws.{SortsToOne}
+use Rattle.csvw_fault.specs.declared.fault.Code.{Code}
+use Rattle.csvw_fault.specs.declared.fault.Code.TheVariants.{UnknownProperty, HeaderMissing, HeaderCount, HeaderMismatch, Required, BadBoolean}
+use Rattle.csvw_fault.specs.declared.fault.Code.TheVariants.{BadInteger, BadDecimal, NumberTooLong, OutOfRange, BadDate, BadDateTime, WrongLength}
+use Rattle.csvw_fault.specs.declared.fault.Code.TheVariants.{TooShort, TooLong, BelowMinimum, AboveMaximum, BadUrl, UrlTooLong, DuplicateKey}
+use Rattle.csvw_fault.specs.declared.fault.Code.TheVariants.{NoReferencedRow, ManyReferencedRows}
+use Rattle.csvw_fault.specs.declared.fault.Fault.{Fault}
+use Rattle.csvw_fault.specs.declared.fault.Place.{Place}
+use Rattle.csvw_fault.specs.declared.fault.Kind.{Kind}
+use Rattle.csvw_fault.specs.declared.fault.Kind.TheVariants.{Error, Warning}
+use Rattle.csvw_report.specs.ReportLaws.{SortsToOne}
 use Rattle.csvw_report.specs.Order.{code_number, fault_cmp, kind_number, place_cmp}
 
 by_ordering : (o : Ordering) (G : Type 0) → (o ≡ Less → G) → (o ≡ Equal → G) → (o ≡ Greater → G) → G

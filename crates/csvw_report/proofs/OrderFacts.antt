@@ -2,17 +2,17 @@
 use Rattle.std.proofs.Common.{◌≡◌, ◌+◌, List, refl, sym, ap, ◌∙◌, get_or}
 use Rattle.std.specs.List.Sorted.{IsSorted}
 use Rattle.std.specs.Ordering.{is_lt, nat_cmp, ordering_then}
-use Rattle.csvw_text.specs.contracts.fault.FaultOrd.TheImpl as derived
-use Rattle.csvw_text.specs.contracts.fault.CodeOrd.TheImpl as derived_code
-use Rattle.csvw_text.specs.contracts.fault.KindOrd.TheImpl as derived_kind
-use Rattle.csvw_text.specs.declared.fault.Code.{Code}
-use Rattle.csvw_text.specs.declared.fault.Code.TheVariants.{UnknownProperty, HeaderMissing, HeaderCount, HeaderMismatch, Required, BadBoolean}
-use Rattle.csvw_text.specs.declared.fault.Code.TheVariants.{BadInteger, BadDecimal, NumberTooLong, OutOfRange, BadDate, BadDateTime, WrongLength}
-use Rattle.csvw_text.specs.declared.fault.Code.TheVariants.{TooShort, TooLong, BelowMinimum, AboveMaximum, BadUrl, UrlTooLong, DuplicateKey}
-use Rattle.csvw_text.specs.declared.fault.Code.TheVariants.{NoReferencedRow, ManyReferencedRows}
-use Rattle.csvw_text.specs.declared.fault.Fault.{Fault}
-use Rattle.csvw_text.specs.declared.fault.Kind.{Kind}
-use Rattle.csvw_text.specs.declared.fault.Kind.TheVariants.{Error, Warning}
+use Rattle.csvw_fault.specs.contracts.fault.FaultOrd.TheImpl as derived
+use Rattle.csvw_fault.specs.contracts.fault.CodeOrd.TheImpl as derived_code
+use Rattle.csvw_fault.specs.contracts.fault.KindOrd.TheImpl as derived_kind
+use Rattle.csvw_fault.specs.declared.fault.Code.{Code}
+use Rattle.csvw_fault.specs.declared.fault.Code.TheVariants.{UnknownProperty, HeaderMissing, HeaderCount, HeaderMismatch, Required, BadBoolean}
+use Rattle.csvw_fault.specs.declared.fault.Code.TheVariants.{BadInteger, BadDecimal, NumberTooLong, OutOfRange, BadDate, BadDateTime, WrongLength}
+use Rattle.csvw_fault.specs.declared.fault.Code.TheVariants.{TooShort, TooLong, BelowMinimum, AboveMaximum, BadUrl, UrlTooLong, DuplicateKey}
+use Rattle.csvw_fault.specs.declared.fault.Code.TheVariants.{NoReferencedRow, ManyReferencedRows}
+use Rattle.csvw_fault.specs.declared.fault.Fault.{Fault}
+use Rattle.csvw_fault.specs.declared.fault.Kind.{Kind}
+use Rattle.csvw_fault.specs.declared.fault.Kind.TheVariants.{Error, Warning}
 use Rattle.csvw_report.specs.Order.{code_number, fault_cmp, kind_number, place_cmp}
 
 code-is : (a b : Code) → derived_code.ghosts.cmp a b ≡ nat_cmp (code_number a) (code_number b)

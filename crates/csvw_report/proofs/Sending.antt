@@ -1,14 +1,14 @@
--- What several sendings to one stream leave.
+-- The result of sending several texts to one stream.
 use Rattle.std.proofs.Common.{◌≡◌, ◌≤◌, ◌+◌, ◌-◌, ℕ, List, [], ◌++◌, Option, refl, sym, ap, ◌∙◌, subst, append_assoc, arith, flat_map, length, take}
 use Rattle.std.proofs.Common.{drop, take-append-drop}
 use Rattle.std.proofs.Math.Seq.{take-add}
 use Rattle.std.proofs.lemmas.Grind.{flat_map-append}
 use Rattle.std.proofs.lemmas.List.{take_all}
 use Rattle.std.proofs.KnownBytes.{Appends-nil, Appends-trans}
-use Rattle.csvw_text.specs.declared.counted.Counted.{Counted}
-use Rattle.csvw_text.specs.Count.{one_more}
-use Rattle.csvw_text.specs.Streams.{Stream, stream_of, Sends, IsCut}
-use Rattle.csvw_text.specs.declared.fault.Fault.{Fault}
+use Rattle.csvw_streams.specs.declared.counted.Counted.{Counted}
+use Rattle.csvw_streams.specs.Count.{one_more}
+use Rattle.csvw_streams.specs.Streams.{Stream, stream_of, Sends, IsCut}
+use Rattle.csvw_fault.specs.declared.fault.Fault.{Fault}
 use Rattle.csvw_report.specs.Report.{heading, line, report}
 use Rattle.csvw_report.specs.declared.stop.ReportStop.{ReportStop}
 use Rattle.csvw_report.specs.declared.stop.ReportStop.TheVariants.{Memory, Write}

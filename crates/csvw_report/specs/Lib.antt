@@ -1,4 +1,4 @@
-pub mod Laws
+pub mod ReportLaws
 pub mod Order
 pub mod Records
 pub mod Report

@@ -1,7 +1,7 @@
-//! Laws that bind the definitions by which the contracts speak. The calls do nothing.
-ghost use Rattle.csvw_report.specs.Laws.{SortsToOne};
+//! Laws of the definitions that contracts use. The calls do nothing.
+ghost use Rattle.csvw_report.specs.ReportLaws.{SortsToOne};
 
-/// The faults of a run have one order: sorted lists of the same faults are equal.
+/// A law: the faults of a run have one order. Sorted lists of the same faults are equal.
 pub fn sorts_to_one()
     ensures { SortsToOne }
 {}

@@ -41,7 +41,7 @@ fn write_fault<W: Write + Drop>(rows: &mut Writer<W>, fault: &Fault) -> Result<(
     Ok(())
 }
 
-/// The lines of these faults, in memory.
+/// Returns the lines of these faults, in memory.
 pub(crate) fn lines_of(alloc: Global, faults: &[Fault]) -> Result<Vec<u8>, ReportStop>
     ensures text { IfOk result (λ text. text.items ≡ flat_map line faults.now) }
     ensures memory { IfErr result (λ reason. reason ≡ stop.Memory) }

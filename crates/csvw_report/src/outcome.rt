@@ -1,4 +1,4 @@
-//! What a run that was not stopped found.
+//! `Outcome`: what a run found that did not stop.
 ghost use Rattle.std.specs.Prelude.{◌≡◌, IfOk};
 ghost use Rattle.std.specs.List.{list_all};
 ghost use Rattle.std.specs.List.Sorted.{IsPermutation, IsSorted};
@@ -7,7 +7,7 @@ ghost use Rattle.csvw_report.specs.Order.{fault_cmp, is_no_error};
 use csvw_text::{Fault, Kind, Seq};
 use std::alloc::{AllocError, Global};
 
-/// What a run that was not stopped found.
+/// What a run found that did not stop.
 #[derive(Debug, Drop, PartialEq, Eq)]
 pub struct Outcome {
     /// The violated constraints, sorted.
@@ -24,7 +24,7 @@ fn is_no_error(fault: &Fault) -> bool
 }
 
 impl Outcome {
-    /// Whether no fault is an error; there may be warnings.
+    /// Returns whether no fault is an error. There may be warnings.
     pub fn valid(&self) -> bool
         ensures { result ≡ list_all is_no_error self.now.faults }
     {
@@ -34,7 +34,7 @@ impl Outcome {
             .all(|fault| is_no_error(fault))
     }
 
-    /// An equal outcome; `AllocError` where there is no memory.
+    /// Returns an equal outcome, or `AllocError` if memory runs out.
     pub fn clone(&self, alloc: Global) -> Result<Outcome, AllocError>
         ensures { IfOk result (λ o. o ≡ self.now) }
     {
@@ -44,8 +44,8 @@ impl Outcome {
     }
 }
 
-/// The faults in the order of reports: by table, row, column, code and kind. Equal faults stand as often
-/// as they came.
+/// Returns the faults in the order of reports: by table, row, column, code and kind. Equal faults occur as often as
+/// they came.
 pub fn sorted(faults: Seq<Fault>) -> Seq<Fault>
     ensures same { IsPermutation faults result }
     ensures order { IsSorted fault_cmp result }

@@ -1,6 +1,6 @@
 //! The text of a report, sent to a writer.
 ghost use Rattle.std.specs.Prelude.{◌≡◌, OnOk, IfErr, flat_map};
-ghost use Rattle.csvw_text.specs.Streams.{stream_of, Sends};
+ghost use Rattle.csvw_streams.specs.Streams.{stream_of, Sends};
 ghost use Rattle.csvw_report.specs.Report.{line, report};
 ghost use Rattle.csvw_report.specs.Stops.{StopsAt};
 
@@ -10,7 +10,7 @@ use csvw_text::{Counted, Fault, write_out};
 use std::alloc::Global;
 use std::io::Write;
 
-/// How many faults are sent at once: some 64 KiB of lines.
+/// The number of faults that are sent at once: some 64 KiB of lines.
 const FAULTS_AT_ONCE: usize = 1024;
 
 fn send<V: Write>(w: &mut Counted<V>, text: &[u8]) -> Result<(), ReportStop>
@@ -35,8 +35,11 @@ fn send_lines<V: Write>(
     send(w, text.as_slice())
 }
 
-/// Writes the heading and a line for each fault, in the order given. It holds the lines of some of the
-/// faults at a time. What was written before a stop is a front of the report.
+/// Writes the heading and a line for each fault, in the order given. It keeps the lines of some faults in memory at a
+/// time.
+///
+/// Returns `Write` if the writer fails, and `Memory` if memory runs out. What was written before a stop is a front of
+/// the report.
 pub fn write_report<V: Write>(
     alloc: Global,
     faults: &[Fault],

@@ -6,14 +6,14 @@ use std::fmt;
 /// Why the writing of a report stops.
 #[derive(Clone, Copy, Debug, PartialEq, Eq)]
 pub enum ReportStop {
-    /// There is no memory.
+    /// Memory ran out.
     Memory,
     /// The writer failed in this call.
     Write,
 }
 
 impl ReportStop {
-    /// What is wrong and what to do, as a sentence without its full stop.
+    /// Returns what is wrong and what to do, as a sentence without its full stop.
     fn sentence(&self) -> &'static str {
         match self {
             ReportStop::Memory => "there is no memory: free some, and try again",

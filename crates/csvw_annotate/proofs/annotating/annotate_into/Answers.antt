@@ -1,4 +1,4 @@
--- Cells that say what texts are have no links yet, and values with lexical forms.
+-- Cells of texts have no links yet, and have values with lexical forms.
 use Rattle.std.proofs.Common.{sym, subst}
 use Rattle.csvw_rows.specs.RowValue.{row_of}
 use Rattle.csvw_annotate.specs.HasForms.{CellsHaveForms}

@@ -1,4 +1,4 @@
--- One cell more.
+-- One more cell.
 use Rattle.std.proofs.Common.{take, arith, rules}
 use Rattle.std.proofs.lemmas.List.{take_more_set}
 use Rattle.csvw_rows.specs.RowValue.{row_of}

@@ -1,4 +1,4 @@
--- The cells passed so far, and the others behind them.
+-- The cells passed so far, and the others after them.
 use Rattle.std.proofs.Common.{◌≡◌, take, length}
 use Rattle.csvw_rows.specs.RowValue.{row_of}
 use Rattle.csvw_annotate.specs.Annotated.{AreCells}

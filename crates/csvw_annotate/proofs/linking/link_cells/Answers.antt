@@ -1,10 +1,10 @@
--- One cell more gets its links, or stays without.
+-- One more cell has its links, or stays without.
 use Rattle.std.proofs.Common.{◌≡◌, ◌∙◌, ◌<◌, ◌≤◌, sym, ap, arith, length, get_or, refl}
 use Rattle.csvw_columns_core.specs.declared.columns.Columns.{Columns}
 use Rattle.csvw_annotate.specs.declared.row.AnnCell.{AnnCell}
 use Rattle.csvw_annotate.specs.Linked.{linked_in, values_of, with_links}
-use Rattle.csvw_links.specs.CellVariables.{variables}
-use Rattle.csvw_links.specs.Links.{joined, no_link}
+use Rattle.csvw_annotate.specs.CellVariables.{variables}
+use Rattle.csvw_annotate.specs.Links.{joined, no_link}
 use Rattle.csvw_annotate.proofs.LinkLemmas.{about_before, about_next, goes_on, same_values, same_places, same_forms, stays, whole}
 use Rattle.csvw_annotate.proofs.LinkLemmas.{about_alone, linked_is, no_links, plain_at}
 use Rattle.csvw_annotate.proofs.linking.link_cells.Goals as goal

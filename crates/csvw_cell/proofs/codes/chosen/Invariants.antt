@@ -1,4 +1,4 @@
--- Those of the front were found.
+-- The first codes were found.
 use Rattle.std.proofs.Common.{◌≡◌, take}
 use Rattle.std.specs.Prelude.{filter}
 use Rattle.csvw_cell.specs.Codes.{is_among}

@@ -1,4 +1,4 @@
--- The items of the front were judged.
+-- The first items were judged.
 use Rattle.std.proofs.Common.{map, take}
 use Rattle.csvw_cell.specs.CellOf.{AreItems, texts_of}
 use Rattle.csvw_cell.proofs.list.judge_items.Given as goal

@@ -1,4 +1,4 @@
--- The parts that were cut off, before those of the rest, are those of the text.
+-- The parts that were cut off and then those of the rest are the parts of the text.
 use Rattle.std.proofs.Common.{List, ℕ, map, ◌++◌, length}
 use denote.Text.{Utf8}
 use denote.Shadow.{shadow}

@@ -1,4 +1,4 @@
--- What is stripped at both ends.
+-- The text stripped at both ends.
 use Rattle.std.proofs.Common.{◌∙◌, sym, ap, List, ℕ}
 use Rattle.std.specs.Prelude.{encode_utf8_all}
 use Rattle.std.proofs.lemmas.Bool.{cond-false}

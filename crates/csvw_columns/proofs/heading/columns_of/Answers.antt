@@ -1,4 +1,4 @@
--- The limit on the columns is that of the header where nothing is declared.
+-- If no column is declared, the limit on the columns is that of the header.
 use Rattle.std.proofs.Common.{◌≡◌, length, arith, ◌∙◌, sym}
 use Rattle.csvw_columns_core.specs.HeaderColumns.{column_count}
 use Rattle.csvw_columns.specs.HeaderMatch.{IsWithin, columns_of}

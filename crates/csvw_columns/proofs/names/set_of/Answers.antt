@@ -1,4 +1,4 @@
--- What the vector holds is what the set is made of.
+-- The set is made from the items of the vector.
 use Rattle.std.proofs.Common.{◌∙◌}
 use Rattle.std.specs.BTreeSet.{IsFromIterResult}
 use Rattle.std.specs.Cmp.Lexicographic.{slice_cmp}

@@ -1,6 +1,6 @@
 -- Each part is that of the plan.
 use Rattle.std.proofs.Common.{◌∙◌, ap}
-use Rattle.csvw_dialect.specs.declared.dialect.Dialect.{Dialect}
+use Rattle.csvw_records.specs.declared.dialect.Dialect.{Dialect}
 use Rattle.csvw_iri.specs.Link.{iri_of}
 use Rattle.csvw_columns_core.specs.SchemaColumns.{declared_columns}
 use Rattle.csvw_columns.specs.PlanOf.{schema_of}

@@ -2,7 +2,7 @@
 use Rattle.std.proofs.Common.{◌≡◌, ◌∙◌, ℕ, List, true, ap, subst}
 use Rattle.std.proofs.Props.{props}
 use Rattle.std.specs.Prelude.{Option}
-use Rattle.csvw_text.specs.declared.fault.Fault.{Fault}
+use Rattle.csvw_fault.specs.declared.fault.Fault.{Fault}
 use Rattle.csvw_description.specs.declared.description.Description.{Description}
 use Rattle.csvw_description.specs.declared.note.Note.{Note}
 use Rattle.csvw_description.specs.declared.table.TableDescription.{TableDescription}

@@ -1,4 +1,4 @@
--- Those passed so far.
+-- The items so far.
 use Rattle.std.proofs.Common.{◌≡◌, map, take}
 use Rattle.csvw_description.specs.Name.{numbered_names}
 use Rattle.csvw_columns.specs.PlanOf.{schema_of}

@@ -1,4 +1,4 @@
--- Those passed so far.
+-- The items so far.
 use Rattle.std.proofs.Common.{◌≡◌, map, take}
 use Rattle.csvw_columns.specs.Keys.{foreign_key}
 use Rattle.csvw_columns.proofs.references.each_foreign_key.Given as goal

@@ -1,4 +1,4 @@
--- Those passed so far.
+-- The items so far.
 use Rattle.std.proofs.Common.{◌≡◌, take}
 use Rattle.csvw_columns.specs.Keys.{numbers_of}
 use Rattle.csvw_columns.proofs.references.numbers_of.Given as goal

@@ -1,4 +1,4 @@
--- Those passed so far.
+-- The items so far.
 use Rattle.std.proofs.Common.{◌≡◌, map, take}
 use Rattle.csvw_iri.specs.Link.{iri_of}
 use Rattle.csvw_columns.proofs.references.urls_of.Given as goal

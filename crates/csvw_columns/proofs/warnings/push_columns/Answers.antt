@@ -1,4 +1,4 @@
--- Those of one column more.
+-- The warnings of one more column.
 use Rattle.std.proofs.Common.{◌∙◌, ◌++◌, ap}
 use Rattle.csvw_description.specs.declared.column.ColumnDescription.{ColumnDescription}
 use Rattle.csvw_columns.proofs.MapLemmas.{flat_longer}

@@ -1,4 +1,4 @@
--- Those of the columns passed so far.
+-- The warnings of the columns so far.
 use Rattle.std.proofs.Common.{◌≡◌, ◌++◌, take, flat_map}
 use Rattle.csvw_columns.proofs.warnings.push_columns.Given as goal
 

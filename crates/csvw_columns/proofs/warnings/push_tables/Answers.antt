@@ -1,4 +1,4 @@
--- Those of one table more.
+-- The warnings of one more table.
 use Rattle.csvw_description.specs.Unknown.{in_table}
 use Rattle.csvw_columns.proofs.MapLemmas.{flat_longer}
 use Rattle.csvw_columns.proofs.warnings.push_tables.Goals as goal

@@ -1,4 +1,4 @@
--- Those of the tables passed so far.
+-- The items of the tables so far.
 use Rattle.std.proofs.Common.{◌≡◌, ◌++◌, take, flat_map}
 use Rattle.csvw_description.specs.Unknown.{in_table}
 use Rattle.csvw_columns.proofs.warnings.push_tables.Given as goal

@@ -1,4 +1,4 @@
--- One column more.
+-- One more column.
 use Rattle.csvw_columns_core.proofs.PlaceLemmas.{one_place_more}
 use Rattle.csvw_columns_core.proofs.column_list.places_of.Goals as goal
 

@@ -1,4 +1,4 @@
--- Those of the front were counted.
+-- The fields of the first columns were counted.
 use Rattle.std.proofs.Common.{◌≡◌, ◌≤◌, take}
 use Rattle.csvw_columns_core.specs.Columns.{field_count}
 use Rattle.csvw_columns_core.proofs.columns.count_fields.Given as goal

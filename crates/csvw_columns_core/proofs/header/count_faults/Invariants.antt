@@ -1,4 +1,4 @@
--- Those of the rows passed so far.
+-- The faults of the rows passed so far.
 use Rattle.std.proofs.Common.{◌≡◌, take}
 use Rattle.csvw_columns_core.specs.HeaderFits.{count_faults}
 use Rattle.csvw_columns_core.proofs.header.count_faults.Given as goal

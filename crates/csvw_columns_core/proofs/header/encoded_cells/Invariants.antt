@@ -1,4 +1,4 @@
--- Those of the rows passed so far.
+-- The encoded cells of the rows passed so far.
 use Rattle.std.proofs.Common.{◌≡◌, take}
 use Rattle.csvw_columns_core.specs.HeaderFits.{encoded_cells}
 use Rattle.csvw_columns_core.proofs.header.encoded_cells.Given as goal

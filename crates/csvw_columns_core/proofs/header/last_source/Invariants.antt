@@ -1,4 +1,4 @@
--- That of the last row passed.
+-- The source number of the last row passed.
 use Rattle.std.proofs.Common.{◌≡◌, take}
 use Rattle.csvw_columns_core.specs.HeaderFits.{last_source}
 use Rattle.csvw_columns_core.proofs.header.last_source.Given as goal

@@ -1,8 +1,8 @@
--- One column more.
+-- One more column.
 use Rattle.std.proofs.Common.{◌∙◌, ◌++◌, ◌∷◌, [], ap, Bool, ℕ}
 use Rattle.std.specs.Prelude.{if◌then◌else◌}
-use Rattle.csvw_text.specs.declared.fault.Fault.{Fault}
-use Rattle.csvw_text.specs.declared.fault.Code.TheVariants.{HeaderMismatch}
+use Rattle.csvw_fault.specs.declared.fault.Fault.{Fault}
+use Rattle.csvw_fault.specs.declared.fault.Code.TheVariants.{HeaderMismatch}
 use Rattle.csvw_columns_core.specs.HeaderFits.{last_source, error_at}
 use Rattle.csvw_columns_core.proofs.HeaderLemmas.{one_more}
 use Rattle.csvw_columns_core.proofs.header.mismatches_at.Goals as goal

@@ -1,4 +1,4 @@
--- Those of the columns passed so far.
+-- The mismatches of the columns passed so far.
 use Rattle.std.proofs.Common.{◌≡◌, take}
 use Rattle.csvw_columns_core.specs.HeaderFits.{mismatches_from, last_source}
 use Rattle.csvw_columns_core.proofs.header.mismatches_at.Given as goal

@@ -1,4 +1,4 @@
--- One column more.
+-- One more column.
 use Rattle.std.proofs.Common.{◌∙◌, ◌++◌, ◌∷◌, [], sym, ap, add-one}
 use Rattle.csvw_columns_core.specs.HeaderColumns.{titled_column, titled_columns}
 use Rattle.csvw_description.specs.declared.column.ColumnDescription.{ColumnDescription}

@@ -1,4 +1,4 @@
--- Those of the rows passed so far.
+-- The titles of the rows passed so far.
 use Rattle.std.proofs.Common.{◌≡◌, take}
 use Rattle.csvw_columns_core.specs.HeaderColumns.{titles_at}
 use Rattle.csvw_columns_core.proofs.header_columns.titles_at.Given as goal

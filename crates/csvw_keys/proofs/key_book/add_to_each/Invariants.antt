@@ -1,4 +1,4 @@
--- Each book has its key still; those passed so far have the row, and the others are as they were.
+-- Each book still has its key. The books so far have the row, and the others are unchanged.
 use Rattle.std.proofs.Common.{◌≡◌, ◌≤◌, ℕ, List, All, get_or, length, map}
 use Rattle.std.specs.List.{AllWithin}
 use Rattle.csvw_annotate.specs.declared.row.Row.{Row}

@@ -1,4 +1,4 @@
--- What one book more tells.
+-- The faults that one more book reports.
 use Rattle.std.proofs.Common.{◌∙◌, ◌++◌, sym, ap}
 use Rattle.csvw_keys.specs.Books.{told}
 use Rattle.csvw_keys.proofs.ReferenceLemmas.{one_row_more}

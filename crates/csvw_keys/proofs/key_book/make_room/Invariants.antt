@@ -1,4 +1,4 @@
--- Each book has its key still, keeps what it kept, and those passed so far have room for the row.
+-- Each book still has its key and keeps what it kept. The books so far have room for the row.
 use Rattle.std.proofs.Common.{◌≡◌, ℕ, List, All, map}
 use Rattle.std.specs.List.{AllWithin}
 use Rattle.csvw_annotate.specs.declared.row.Row.{Row}

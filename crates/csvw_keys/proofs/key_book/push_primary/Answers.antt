@@ -1,4 +1,4 @@
--- The book of the primary key, where there is one.
+-- The book of the primary key, if there is one.
 use Rattle.std.proofs.Common.{◌∙◌, ◌++◌, sym, ap, subst, All}
 use Rattle.std.proofs.lemmas.List.Elements.{All-push}
 use Rattle.csvw_keys.specs.declared.book.Book.{Book}

@@ -1,4 +1,4 @@
--- The books are for the same keys still, keep what they kept, count what they counted, and what each key so far refers to.
+-- The books are for the same keys, keep what they kept and count what they counted. They count what each key so far refers to.
 use Rattle.std.proofs.Common.{◌≡◌, true, All, map, take}
 use Rattle.csvw_keys.specs.Books.{KeepsBook, is_served, no_rows, purposes_of, rules_in}
 use Rattle.csvw_keys.specs.KeyRules.{KeyRule, reference_rule}

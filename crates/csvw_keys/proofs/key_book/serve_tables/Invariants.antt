@@ -1,4 +1,4 @@
--- The books are for the same keys still, keep what they kept, and count what each key of the tables so far refers to.
+-- The books are for the same keys and keep what they kept. They count what each key of the tables so far refers to.
 use Rattle.std.proofs.Common.{◌≡◌, true, All, flat_map, take}
 use Rattle.csvw_keys.specs.Books.{KeepsBook, is_served, no_rows, purposes_of, rules_in}
 use Rattle.csvw_keys.specs.KeyRules.{table_rules}

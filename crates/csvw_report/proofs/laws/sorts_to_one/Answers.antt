@@ -1,4 +1,4 @@
--- A sorted list is told by how often each fault stands in it.
+-- The number of times that each fault occurs determines a sorted list.
 use Rattle.csvw_report.proofs.OneOrder.{sorts_to_one}
 use Rattle.csvw_report.proofs.laws.sorts_to_one.Goals as goal
 

@@ -1,4 +1,4 @@
--- So far the lines of the faults in front were written.
+-- So far the lines of the first faults were written.
 use Rattle.std.proofs.Common.{◌≡◌, flat_map, take, Some}
 use Rattle.csv.specs.Writing.{text_written}
 use Rattle.csvw_report.specs.Report.{line}

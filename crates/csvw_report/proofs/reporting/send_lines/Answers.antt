@@ -1,4 +1,4 @@
--- Without memory nothing was sent.
+-- If memory runs out, nothing was sent.
 use Rattle.std.proofs.Common.{◌∙◌}
 use Rattle.std.proofs.lemmas.Result.{err_from_is_err_and}
 use Rattle.csvw_report.proofs.Sending.{none_sent}

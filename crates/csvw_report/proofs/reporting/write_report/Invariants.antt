@@ -1,6 +1,6 @@
--- So far the heading and the lines of the faults in front were sent.
+-- So far the heading and the lines of the first faults were sent.
 use Rattle.std.proofs.Common.{length, ◌-◌, ◌≤◌}
-use Rattle.csvw_text.specs.Streams.{stream_of, Sends}
+use Rattle.csvw_streams.specs.Streams.{stream_of, Sends}
 use Rattle.csvw_report.proofs.Sending.{so_far}
 use Rattle.csvw_report.proofs.reporting.write_report.Given as goal
 

@@ -1,4 +1,4 @@
--- One column more.
+-- One more column.
 use Rattle.csvw_iri.specs.Link.{iri_of}
 use Rattle.csvw_columns_core.proofs.DeclaredLemmas.{one_more}
 use Rattle.csvw_columns_core.proofs.declared.Frame.declared_columns.Goals as goal

@@ -1,4 +1,4 @@
--- Each property is that which is found, or its default.
+-- Each property is the one that is found, or its default.
 use Rattle.csvw_columns_core.proofs.InheritedLemmas.{found_or_default}
 use Rattle.csvw_columns_core.proofs.SameLemmas.{same_properties}
 use Rattle.csvw_columns_core.proofs.properties.Defaults.inherited.Goals as goal

@@ -1,4 +1,4 @@
--- A number stands raw.
+-- The digits of a number may be raw in an IRIREF.
 use Rattle.std.proofs.Common.{◌∙◌, ap}
 use Rattle.csvw_iri.specs.Safe.{is_iri}
 use Rattle.csvw_description.proofs.NameLemmas.{is_iri-numbered}

@@ -1,4 +1,4 @@
--- An encoded title stands raw.
+-- The characters of an encoded title may be raw in an IRIREF.
 use Rattle.std.proofs.Common.{◌∙◌, ◌++◌, ap}
 use Rattle.csvw_iri.specs.Encoded.{percent_encoded}
 use Rattle.csvw_iri.specs.Safe.{is_iri}

@@ -1,0 +1,17 @@
+-- The cell of a text that isn't null, in a column without a separator. The search doesn't take the two results of a call apart.
+use Rattle.std.proofs.Common.{◌≡◌, ℕ, false, List, subst, sym, MatchBool}
+use Rattle.std.specs.Prelude.{Result, Ok, Err, OnOk}
+use Rattle.csvw_fault.specs.declared.fault.Code.{Code}
+use Rattle.csvw_datatype.specs.declared.datatype.Datatype.{Datatype}
+use Rattle.csvw_columns_core.specs.declared.properties.Properties.{Properties}
+use Rattle.csvw_cell.specs.declared.cell.CellValue.{CellValue}
+use Rattle.csvw_cell.specs.declared.cell.CellValue.TheVariants.{Null}
+use Rattle.csvw_cell.specs.CellOf.{IsJudged, IsSingle, is_null, missing}
+
+pub single_judged : {E : Type 0} (r : Result (Unit {0}) E) (p : Properties) (d : Datatype) (text : List ℕ) (value : CellValue) (faults : List Code)
+    → is_null p.null text ≡ false → d ≡ p.datatype → OnOk r (IsJudged d text value faults)
+    → OnOk r (IsSingle p text (record { value = value; faults = faults }))
+single_judged (Ok u) p d text value faults apart same judged =
+    let IsNull : Type 0 = (value ≡ Null) × (faults ≡ missing p) in
+    subst (λ b. MatchBool b IsNull (IsJudged p.datatype text value faults)) (sym apart) (subst (λ d. IsJudged d text value faults) same judged)
+single_judged (Err x) p d text value faults apart same judged = tt

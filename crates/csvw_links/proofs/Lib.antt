@@ -1,5 +1,0 @@
-mod AboutLemmas
-mod BindingLemmas
-mod ReservedLemmas
-mod SharingLemmas
-mod SimpleLemmas

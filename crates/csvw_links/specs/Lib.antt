@@ -1,9 +1,0 @@
-pub mod Bindings
-pub mod BoundLinks
-pub mod CellVariables
-pub mod Links
-pub mod LowLine
-pub mod MadeAt
-pub mod Reserved
-pub mod Sharing
-pub mod Simple
