@@ -1,4 +1,4 @@
--- A document describes a group exactly where no fault stands in it.
+-- A document describes a group exactly if there is no fault in it.
 use Rattle.std.proofs.Common.{ℕ, List, [], Option, Some, None, refl, codes}
 use Rattle.std.specs.Prelude.{⊤}
 use Rattle.serde_json.specs.Data.{Data, null, boolean, number, string, array, object}
@@ -6,8 +6,8 @@ use Rattle.url.specs.Parts.{Parts}
 use Rattle.csvw_meta_core.specs.declared.fault.MetaCode.TheVariants.{NotJson}
 use Rattle.csvw_meta_core.specs.Pointer.{below}
 use Rattle.csvw_meta_core.specs.Read.{Read, fine, faulty}
-use Rattle.csvw_meta_inherited.specs.declared.context.Context.{Context}
-use Rattle.csvw_meta_inherited.specs.Context.{context}
+use Rattle.csvw_meta_core.specs.declared.context.Context.{Context}
+use Rattle.csvw_meta_core.specs.Context.{context}
 use Rattle.csvw_meta.specs.Described.{MayBeContext, described, hanging_on, judged_within, within}
 use Rattle.csvw_meta.specs.Document.{Document, MayBeUrl, document, judged, length_of, of_bytes, of_json, own_url, plain_description}
 use Rattle.csvw_meta.specs.Group.{no_group}

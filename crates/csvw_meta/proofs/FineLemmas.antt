@@ -1,4 +1,4 @@
--- What holds of an object, a property or an array in which no fault stands.
+-- What holds of an object, a property or an array without faults.
 use Rattle.std.proofs.Common.{◌≡◌, ◌≤◌, ◌+◌, ℕ, List, [], ◌∷◌, Bool, true, false, Option, Some, None, refl, arith, length, nat_lt}
 use Rattle.std.proofs.Common.{if◌then◌else◌, IfSome, All}
 use Rattle.std.proofs.lemmas.Bool.{ltb-false}
@@ -8,7 +8,7 @@ use Rattle.csvw_meta_core.specs.declared.fault.MetaCode.TheVariants.{BadProperty
 use Rattle.csvw_meta_core.specs.declared.fault.MetaFault.{MetaFault}
 use Rattle.csvw_meta_core.specs.Pointer.{below}
 use Rattle.csvw_meta_core.specs.Read.{Read, on_object, optional, found, needed, each_numbered, under}
-use Rattle.csvw_meta_inherited.specs.Fine.{Ensures, also_fine, property_fine, each_fine}
+use Rattle.csvw_meta_core.specs.Fine.{Ensures, also_fine, property_fine, each_fine}
 use Rattle.csvw_meta_core.specs.Several.{count_faults, items_len, some_items, several}
 
 pub on_object_fine : {A : Type 0} (P : A → Type 0) (at : List ℕ) (d : Data) (dummy : A) (r : Read A) → Ensures r P → Ensures (on_object at d dummy r) P

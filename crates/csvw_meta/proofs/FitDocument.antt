@@ -1,4 +1,4 @@
--- What a document without faults describes can be planned by.
+-- The description of a document without faults can be planned.
 use Rattle.std.proofs.Common.{◌≡◌, ◌≢◌, ◌≤◌, ℕ, List, [], ◌∷◌, ◌++◌, Bool, true, false, Option, Some, None, refl, ap, subst, arith, length, map, All}
 use Rattle.std.proofs.Common.{AllPairs, codes, IfSome, is_some}
 use Rattle.std.specs.Prelude.{⊤}
@@ -8,7 +8,7 @@ use Rattle.serde_json.specs.Data.{Data}
 use Rattle.serde_json.specs.Data as json
 use Rattle.serde_json.specs.Find.{get}
 use Rattle.url.specs.Parts.{Parts}
-use Rattle.csvw_text.specs.declared.fault.Fault.{Fault}
+use Rattle.csvw_fault.specs.declared.fault.Fault.{Fault}
 use Rattle.csvw_iri.specs.Link.{iri_of}
 use Rattle.csvw_description.specs.declared.description.Description.{Description}
 use Rattle.csvw_description.specs.Plannable.{HasSound, IsFitDialect, IsFitSchema, IsFitTable, IsPlannable}
@@ -21,22 +21,24 @@ use Rattle.csvw_meta_keys.specs.Naming.{all_known}
 use Rattle.csvw_meta_notes.specs.Unlisted.{all_notes, all_warnings}
 use Rattle.csvw_meta.specs.declared.body.Body.{Body}
 use Rattle.csvw_meta.specs.declared.body.DialectGiven.{DialectGiven}
-use Rattle.csvw_meta_inherited.specs.declared.context.Context.{Context}
-use Rattle.csvw_meta_inherited.specs.declared.dialect.DialectFound.{DialectFound}
+use Rattle.csvw_meta_core.specs.declared.context.Context.{Context}
+use Rattle.csvw_meta_dialect.specs.declared.dialect.DialectFound.{DialectFound}
 use Rattle.csvw_meta.specs.declared.group.GroupFound.{GroupFound}
 use Rattle.csvw_meta_inherited.specs.declared.inherited.InheritedFound.{InheritedFound}
 use Rattle.csvw_meta.specs.declared.schema.SchemaFound.{SchemaFound}
 use Rattle.csvw_meta.specs.declared.table.TableFound.{TableFound}
 use Rattle.csvw_meta.specs.Body.{body, body_of, given_dialect, split}
-use Rattle.csvw_meta_inherited.specs.Context.{context}
-use Rattle.csvw_meta_inherited.specs.Dialect.{dialect}
+use Rattle.csvw_meta_core.specs.Context.{context}
+use Rattle.csvw_meta_dialect.specs.Dialect.{dialect}
 use Rattle.csvw_meta.specs.Described.{MayBeContext, described, hanging_on, judged_within, parts, sole_table, within}
 use Rattle.csvw_meta.specs.Document.{Document, MayBeUrl, document, judged, length_of, of_bytes, of_json, own_url, plain_description}
 use Rattle.csvw_meta.specs.Group.{description_of, group, no_group, tables, url_faults, url_of}
-use Rattle.csvw_meta_inherited.specs.Fine.{Ensures, none_in_both, if_fine, also_fine}
+use Rattle.csvw_meta_core.specs.Fine.{Ensures, none_in_both, if_fine, also_fine}
 use Rattle.csvw_meta_inherited.specs.Inherited.{inherited}
 use Rattle.csvw_meta.specs.Json.{json_of, without_bom}
-use Rattle.csvw_meta_inherited.specs.Names.{group_names, inherited_names, place_of}
+use Rattle.csvw_meta_inherited.specs.Names.{inherited_names}
+use Rattle.csvw_meta_notes.specs.Places.{place_of}
+use Rattle.csvw_meta.specs.Group.{group_names}
 use Rattle.csvw_meta.specs.References.{reference_faults, schema_faults, table_at, table_faults, targets}
 use Rattle.csvw_meta.specs.Schema.{schema}
 use Rattle.csvw_meta_core.specs.Several.{several}
@@ -52,7 +54,7 @@ use Rattle.csvw_meta.proofs.FitSchema.{DatatypesFit, IsFitFound, inherited_sound
 abbrev HasFitDialect : DialectFound → Type 0
 HasFitDialect found = IsFitDialect found.dialect
 
--- the law of csvw_meta_inherited: a dialect in which no fault stands is lawful
+-- the law of csvw_meta_inherited: a dialect without a fault is lawful
 abbrev DialectsFit : Type 0
 DialectsFit = (context : Context) (table : ℕ) (at : List ℕ) (d : Data) → Ensures (dialect context table at d) HasFitDialect
 

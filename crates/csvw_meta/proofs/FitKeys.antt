@@ -1,4 +1,4 @@
--- What the keys of a group without faults name is there.
+-- The columns and tables that the keys of a group without faults name exist.
 use Rattle.std.proofs.Common.{◌≡◌, ◌∙◌, ◌+◌, ℕ, List, [], ◌∷◌, ◌++◌, suc, Bool, true, false, Option, Some, None, refl, sym, subst, arith, length, map}
 use Rattle.std.proofs.Common.{flat_map, nat_eq, if◌then◌else◌, IfSome, All, Contains, bytes_eq, ◌||◌}
 use Rattle.std.proofs.lemmas.List.{length-map}
@@ -15,7 +15,7 @@ use Rattle.csvw_meta_keys.specs.declared.keys.KeysFound.{KeysFound}
 use Rattle.csvw_meta_keys.specs.Described.{names_of, described}
 use Rattle.csvw_meta_keys.specs.Naming.{all_known, bad_reference, faults_to, foreign_faults, has_name, key_faults, name_fault, name_faults}
 use Rattle.csvw_meta_keys.specs.Naming.{side_faults, target_of}
-use Rattle.csvw_meta_inherited.specs.Fine.{none_in_both}
+use Rattle.csvw_meta_core.specs.Fine.{none_in_both}
 use Rattle.csvw_meta.specs.declared.table.TableFound.{TableFound}
 use Rattle.csvw_meta.specs.declared.group.GroupFound.{GroupFound}
 use Rattle.csvw_meta.specs.Group.{description_of}
@@ -44,7 +44,7 @@ none_told : (b : Bool) (fault : MetaFault) → (if b then [] else fault ∷ []) 
 none_told true fault h = refl
 none_told false fault h = cc
 
--- a fault stands in no empty list
+-- an empty list has no fault
 not_empty : {A : Type 0} (fault : MetaFault) (faults : List MetaFault) → fault ∷ faults ≡ [] → A
 not_empty fault faults h = cc
 
@@ -87,7 +87,7 @@ module _ (own : List (List ℕ)) (group : Option Schema) (key : ForeignKeyFound)
 
 -- ---- groups
 
--- where there is a schema, it describes the keys that are found in it
+-- if there is a schema, it describes the keys that are found in it
 abbrev pub DescribesAny : Option Schema → Option KeysFound → Type 0
 DescribesAny None keys = Unit {0}
 DescribesAny (Some schema) None = ⊥

@@ -1,4 +1,4 @@
--- A schema that stands in a document without faults has no more columns than the limit, and no two of one name.
+-- A schema in a document without faults has no more columns than the limit, and no two columns of the same name.
 use Rattle.std.proofs.Common.{◌≡◌, ◌≢◌, ◌≤◌, ◌+◌, ℕ, List, [], ◌∷◌, ◌++◌, ◌||◌, Bool, true, false, refl, sym, ◌∙◌, subst, arith, length, append_assoc}
 use Rattle.std.proofs.Common.{All, AllPairs, map, IfSome, Option, Some, None, bytes_eq, codes, if◌then◌else◌}
 use Rattle.std.specs.List.{list_any}
@@ -9,7 +9,7 @@ use Rattle.std.proofs.lemmas.Slice.Eq.{bytes_eq-Decides}
 use Rattle.serde_json.specs.Data.{Data}
 use Rattle.serde_json.specs.Find.{get}
 use Rattle.url.specs.Parts.{Parts}
-use Rattle.csvw_text.specs.declared.fault.Place.{Place}
+use Rattle.csvw_fault.specs.declared.fault.Place.{Place}
 use Rattle.csvw_datatype.specs.Sound.{IsSound}
 use Rattle.csvw_description.specs.declared.column.ColumnDescription.{ColumnDescription}
 use Rattle.csvw_description.specs.declared.schema.Schema.{Schema}
@@ -26,13 +26,15 @@ use Rattle.csvw_meta_datatype.specs.declared.form.DatatypeFound.{DatatypeFound}
 use Rattle.csvw_meta_datatype.specs.Datatypes.{datatype}
 use Rattle.csvw_meta_keys.specs.declared.keys.KeysFound.{KeysFound}
 use Rattle.csvw_meta_keys.specs.Described.{names_of, described}
-use Rattle.csvw_meta_inherited.specs.declared.context.Context.{Context}
+use Rattle.csvw_meta_core.specs.declared.context.Context.{Context}
 use Rattle.csvw_meta.specs.declared.schema.SchemaFound.{SchemaFound}
 use Rattle.csvw_meta.specs.Column.{column, column_of, no_column}
 use Rattle.csvw_meta_inherited.specs.Datatype.{given_datatype, split}
-use Rattle.csvw_meta_inherited.specs.Fine.{Ensures, none_in_both, also_fine, on_linked_fine, property_fine}
+use Rattle.csvw_meta_core.specs.Fine.{Ensures, none_in_both, also_fine, on_linked_fine, property_fine}
 use Rattle.csvw_meta_inherited.specs.Inherited.{inherited}
-use Rattle.csvw_meta_inherited.specs.Names.{schema_names, inherited_names, place_of}
+use Rattle.csvw_meta_inherited.specs.Names.{inherited_names}
+use Rattle.csvw_meta_notes.specs.Places.{place_of}
+use Rattle.csvw_meta.specs.Schema.{schema_names}
 use Rattle.csvw_meta.specs.Repeated.{repeated}
 use Rattle.csvw_meta.specs.Schema.{columns, column_faults, order_faults, name_faults, no_schema, schema, schema_of}
 use Rattle.csvw_meta_core.specs.Several.{several}

@@ -1,4 +1,4 @@
--- What hangs on a value: what a call that reads it gives, and that there is a group exactly where no fault stands.
+-- What depends on a value: what a call that reads it returns, and that there is a group exactly if there is no fault.
 use Rattle.std.proofs.Common.{◌≡◌, List, [], ◌∷◌, ◌++◌, Contains, Some, None, Result, Ok, Err, inl, inr, refl, ap, subst, sym, ◌∙◌, arith}
 use Rattle.std.specs.Result.{IsErrAnd}
 use Rattle.std.proofs.lemmas.List.Elements.{Contains-append_left, Contains-append_right}
@@ -8,7 +8,7 @@ use Rattle.csvw_meta_core.specs.declared.fault.Refusal.{Refusal}
 use Rattle.csvw_meta_core.specs.declared.fault.Refusal.TheVariants as refusal
 use Rattle.csvw_meta_core.specs.Read.{Read, fine}
 use Rattle.csvw_meta_core.specs.Reads.{Fails, Reads}
-use Rattle.csvw_meta_inherited.specs.Fine.{Ensures}
+use Rattle.csvw_meta_core.specs.Fine.{Ensures}
 use Rattle.csvw_meta.specs.Described.{Describes, Judged, hanging_on, judged_by}
 
 pub none_in : {X : Type 0} (x : X) → Contains [] x → ⊥
@@ -20,9 +20,9 @@ no_group d e = cc
 no_fault : (d : Description) → Some d ≡ None → ⊥
 no_fault d e = cc
 
--- ---- what a call gives
+-- ---- what a call returns
 
--- which values there may be: the value itself alone where it has no faults, and at least one
+-- which values there may be: only the value itself if it has no faults, and at least one
 pub record HasPossible {A : Type 0} (r : Read A) (MayBe : A → Type 0) : Type 0 where
   pub own : r.faults ≡ [] → MayBe r.value
   pub sole : r.faults ≡ [] → (b : A) → MayBe b → b ≡ r.value
@@ -55,7 +55,7 @@ module _ {A : Type 0} (r : Read A) (MayBe : A → Type 0) (judge : A → Judged)
       let same = ap (λ (s : Read A). s.value) is in
       inr (λ b may. subst (λ x. (judge x).IsFault f) (sym (possible.sole none b may ∙ same)) h)
 
--- ---- exactly where no fault stands
+-- ---- exactly if there is no fault
 
 pub record IsExact (judged : Judged) : Type 0 where
   pub none : (d : Description) (f : MetaFault) → judged.group ≡ Some d → judged.IsFault f → ⊥
@@ -112,7 +112,7 @@ module _ {A : Type 0} (MayBe : A → Type 0) (judge : A → Judged) (each : (b :
 
 -- ---- what holds of the group
 
--- where there is a group, it is so
+-- if there is a group, it is so
 abbrev pub Gives : Judged → (Description → Type 0) → Type 0
 Gives judged P = (d : Description) → judged.group ≡ Some d → P d
 

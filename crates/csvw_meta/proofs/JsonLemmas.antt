@@ -1,4 +1,4 @@
--- Bytes that are UTF-8, or are not.
+-- Bytes that are UTF-8, and bytes that are not.
 use Rattle.std.proofs.Common.{◌≡◌, ℕ, List, true, None, IsUtf8, ⊎_elim}
 use Rattle.std.specs.Str.{is_utf8}
 use Rattle.std.proofs.lemmas.Bool.{cond-true, cond-false, cases_Bool}

@@ -1,4 +1,4 @@
--- Which URLs and contexts a document may have: its own alone where those could be read, and at least one.
+-- The URLs and contexts that a document may have. They are only its own if those could be read, and there is at least one.
 use Rattle.std.proofs.Common.{◌≡◌, ◌∙◌, ℕ, zero, suc, List, [], ◌∷◌, ◌++◌, ◌&&◌, ◌||◌, not, Bool, true, false, if◌then◌else◌, Contains, Option, Some, None}
 use Rattle.std.proofs.Common.{Result, Ok, Err, refl, ap, ap₂, subst, sym, arith, codes, bytes_eq}
 use Rattle.std.specs.List.{list_any}
@@ -20,9 +20,9 @@ use Rattle.csvw_meta_core.specs.Links.{told, no_url}
 use Rattle.csvw_meta_core.specs.Pointer.{below, item_at}
 use Rattle.csvw_meta_core.specs.Read.{Read, fine, faulty, code_for, given, on_kind_as, under}
 use Rattle.csvw_meta_core.specs.Rules.{hides_property, is_at, is_of_several, is_within}
-use Rattle.csvw_meta_inherited.specs.declared.context.Context.{Context}
-use Rattle.csvw_meta_inherited.specs.Context.{context, context_base, context_found, context_items, context_value, further_context, is_vocabulary, no_context}
-use Rattle.csvw_meta_inherited.specs.Context.{other_items, plain_context, second_item, strangers}
+use Rattle.csvw_meta_core.specs.declared.context.Context.{Context}
+use Rattle.csvw_meta_core.specs.Context.{context, context_base, context_found, context_items, context_value, further_context, is_vocabulary, no_context}
+use Rattle.csvw_meta_core.specs.Context.{other_items, plain_context, second_item, strangers}
 use Rattle.csvw_meta.specs.Described.{MayBeContext, is_known}
 use Rattle.csvw_meta.specs.Document.{MayBeUrl}
 use Rattle.csvw_meta.proofs.HangingLemmas.{HasPossible}
@@ -145,7 +145,7 @@ told_alone at (Ok url) f c = absurd (none_in f c)
 told_alone at (Err too_long) f c = lone_fault at UrlTooLong too_long_alone f c
 told_alone at (Err bad) f c = lone_fault at BadUrl bad_url_alone f c
 
--- ---- what a context says behind its vocabulary
+-- ---- what a context says after its vocabulary
 
 kind_alone : {A : Type 0} (at : List ℕ) (d : Data) (dummy : A) (o : Option (List ℕ)) (reads : List ℕ → Read A)
     → ((s : List ℕ) (f : MetaFault) → Contains (reads s).faults f → Lone f at)

@@ -16,17 +16,17 @@ pub fails_last : (e : Refusal) (xs ys : List MetaFault) → Fails e ys → Fails
 fails_last refusal.Memory xs ys h = tt
 fails_last (refusal.Fault f) xs ys h = Contains-append_right xs ys f h
 
--- The one fault that is told is one of all.
+-- The one fault that is reported is one of all faults.
 pub told_at : (e : Refusal) (f : MetaFault) (faults : List MetaFault) → Contains faults f → Fails e (f ∷ []) → Fails e faults
 told_at refusal.Memory f faults is h = tt
 told_at (refusal.Fault g) f faults is h =
     All-contains (Contains faults) (f ∷ []) g (All-cons (Contains faults) f [] is (All-nil (Contains faults))) h
 
--- What a `?` returns is told in what is read.
+-- What a `?` returns is a fault of what is read.
 pub refused : {A : Type 0} (result : Result A Refusal) (e : Refusal) (r : Read A) → IsErrAnd result (λ y. y ≡ e) → Fails e r.faults → Reads result r
 refused (Ok a) e r h f = absurd h
 refused (Err y) e r h f = subst (λ z. Fails z r.faults) (sym h) f
 
--- A fault behind a part that has none is told.
+-- A fault after a part that has none is reported.
 pub later : {A : Type 0} (e : Refusal) (r : Read A) (a : A) (ys : List MetaFault) → r ≡ fine a → Fails e ys → Fails e (r.faults ++ ys)
 later {A = A} e r a ys is h = subst (λ (s : Read A). Fails e (s.faults ++ ys)) (sym is) h

@@ -1,4 +1,4 @@
--- What the keys of a group break of which everything could be read.
+-- The faults of the keys of a group that could be read completely.
 use Rattle.std.proofs.Common.{◌≡◌, ℕ, ◌+◌, List, [], ◌∷◌, ◌++◌, refl, ap, flat_map}
 use Rattle.csvw_meta_core.specs.declared.fault.MetaFault.{MetaFault}
 use Rattle.csvw_meta_keys.specs.declared.naming.Target.{Target}

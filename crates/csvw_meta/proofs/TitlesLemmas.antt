@@ -1,4 +1,4 @@
--- The titles that were read before, and those that are still read.
+-- The titles that are read already, and those that are read next.
 use Rattle.std.proofs.Common.{◌≡◌, ℕ, List, ◌++◌, Option, subst}
 use Rattle.serde_json.specs.Data.{Data, Members, member}
 use Rattle.csvw_meta_core.specs.declared.fault.Refusal.{Refusal}

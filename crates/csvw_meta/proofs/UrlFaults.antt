@@ -12,7 +12,7 @@ use Rattle.csvw_meta_core.specs.Pointer.{below}
 use Rattle.csvw_meta_notes.specs.Unlisted.{all_notes, all_warnings}
 use Rattle.csvw_meta_inherited.specs.Datatype.{given_datatype}
 use Rattle.csvw_meta_inherited.specs.Inherited.{uri_templates, cell_texts, inherited}
-use Rattle.csvw_meta_inherited.specs.declared.context.Context.{Context}
+use Rattle.csvw_meta_core.specs.declared.context.Context.{Context}
 use Rattle.csvw_meta.specs.Body.{given_dialect, body}
 use Rattle.csvw_meta.specs.Described.{Describes, described, within}
 use Rattle.csvw_meta.specs.Document.{IsFault, judged, plain_description}
@@ -39,7 +39,7 @@ of_told (Err too_long) f (suc k, lt, is) = absurd (omega (arith, lt))
 of_told (Err bad) f (zero, lt, is) = bad_url f is
 of_told (Err bad) f (suc k, lt, is) = absurd (omega (arith, lt))
 
--- the same with nothing behind it
+-- the same with nothing after it
 of_told_alone : (r : Result Parts iri.Refusal) (f : MetaFault) → Contains (((told at_url no_url r).faults ++ []) ++ []) f → IsOfUrl f
 of_told_alone (Ok url) f c = of_told (Ok url) f c
 of_told_alone (Err too_long) f c = of_told (Err too_long) f c

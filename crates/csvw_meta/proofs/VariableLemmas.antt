@@ -1,4 +1,4 @@
--- That the test for variables is the grammar's: one pass over the text decides both.
+-- The test for variables agrees with the grammar, because one pass over the text decides both.
 use Rattle.std.proofs.Common.{◌≡◌, ℕ, ◌-◌, List, [], ◌∷◌, ◌++◌, Bool, true, false, cond, not, ◌&&◌, ◌||◌, ◌==◌, length, refl, ap, sym, ◌∙◌}
 use Rattle.std.proofs.Common.{arith, All, flat_map, ⊎_elim, if◌then◌else◌, true≢false}
 use Rattle.std.specs.List.{slice_split, list_all, onto_first}
@@ -50,7 +50,7 @@ and_assoc : (x y z : Bool) → ((x && y) && z) ≡ (x && (y && z))
 and_assoc true y z = refl
 and_assoc false y z = refl
 
--- a test behind each side of a choice
+-- a test after each side of a choice
 choice_and : (c x y z : Bool) → (cond c x y && z) ≡ cond c (x && z) (y && z)
 choice_and true x y z = refl
 choice_and false x y z = refl
@@ -149,7 +149,7 @@ variable_of text n =
 
 -- ---- what passes is a name
 
--- varchars, with dots in front or without
+-- varchars, with or without dots before them
 record IsRest (text : List ℕ) : Type 0 where
   pub others : List (Bool × List ℕ)
   pub are_varchars : All IsFurther others
@@ -171,7 +171,7 @@ record IsHigh (text : List ℕ) : Type 0 where
   pub rest : IsLow more
   pub spelled : text ≡ high ∷ more
 
--- what a text is, by the place where the pass over it begins
+-- what a text is, by the place at which the pass over it begins
 record IsRead (text : List ℕ) : Type 0 where
   pub name : walk false 0 text ≡ true → IsName text
   pub rest : walk true 0 text ≡ true → IsRest text

@@ -1,17 +1,24 @@
--- Columns (Metadata Vocabulary for Tabular Data, section 5.6).
-use Rattle.std.specs.Prelude.{ℕ, List, [], ◌++◌, false, None, codes}
+-- The column that an object of a document describes, and its faults: `column` (Metadata Vocabulary for Tabular Data, section
+-- 5.6).
+use Rattle.std.specs.Prelude.{ℕ, List, [], ◌++◌, false, None, codes, ◌∷◌}
 use Rattle.serde_json.specs.Data.{Data}
 use Rattle.csvw_description.specs.declared.column.ColumnDescription.{ColumnDescription}
 use Rattle.csvw_meta_core.specs.Read.{Read, fine, ◌>>=◌, on_object, property, optional}
 use Rattle.csvw_meta_core.specs.Kinds.{fixed, truth}
 use Rattle.csvw_meta_core.specs.Links.{id}
 use Rattle.csvw_meta_notes.specs.Unlisted.{unlisted}
-use Rattle.csvw_meta_inherited.specs.declared.context.Context.{Context}
+use Rattle.csvw_meta_core.specs.declared.context.Context.{Context}
 use Rattle.csvw_meta.specs.DeclaredName.{name}
 use Rattle.csvw_description.specs.Inherited.{no_inherited}
 use Rattle.csvw_meta_inherited.specs.Inherited.{inherited}
-use Rattle.csvw_meta_inherited.specs.Names.{column_names, inherited_names, place_of}
+use Rattle.csvw_meta_inherited.specs.Names.{inherited_names}
+use Rattle.csvw_meta_notes.specs.Places.{place_of}
 use Rattle.csvw_meta.specs.Titles.{titles}
+
+-- the properties of a column
+abbrev pub column_names : List (List ℕ)
+column_names =
+    codes "@id" ∷ codes "@type" ∷ codes "name" ∷ codes "titles" ∷ codes "suppressOutput" ∷ codes "virtual" ∷ []
 
 abbrev pub no_column : ColumnDescription
 no_column = record { name = None; titles = []; is_virtual = false; suppressed = false; inherited = no_inherited; warnings = [] }
@@ -35,6 +42,6 @@ column_of context table number at d = do
     warnings = found.warnings ++ warnings;
   })
 
--- the column of this number, of the table of that number or of the group where it is 0
+-- the column of this number, of the table of that number or of the group if it is 0
 abbrev pub column : Context → ℕ → ℕ → List ℕ → Data → Read ColumnDescription
 column context table number at d = on_object at d no_column (column_of context table number at d)

@@ -12,7 +12,7 @@ use Rattle.csvw_meta_core.specs.Read.{Read, fine, faulty, on_kind}
 abbrev pub is_dot : ℕ → Bool
 is_dot b = b == 46
 
--- letters, digits, `_` and triplets, behind a triplet of which so many digits are still to come
+-- letters, digits, `_` and triplets, after the start of a triplet of which so many digits remain
 abbrev pub are_varchars : ℕ → List ℕ → Bool
 are_varchars digits [] = digits == 0
 are_varchars digits (b ∷ bs) =
@@ -22,11 +22,11 @@ are_varchars digits (b ∷ bs) =
 abbrev pub is_piece : List ℕ → Bool
 is_piece piece = not (length piece == 0) && are_varchars 0 piece
 
--- pieces of one or more of these, parted by single dots
+-- pieces of one or more of these, separated by single dots
 unfoldable pub is_variable : List ℕ → Bool
 is_variable text = list_all is_piece (slice_split is_dot text)
 
--- Its characters may stand raw in an IRIREF, as those of all variables may.
+-- Its characters may be raw in an IRIREF, as those of every variable may.
 abbrev pub is_declared : List ℕ → Bool
 is_declared text = not (starts_with nat_eq text (codes "_") || not (is_variable text)) && is_iri text
 

@@ -1,4 +1,5 @@
--- What a value describes at the URL of its document, and the faults that stand in it (Metadata Vocabulary for Tabular Data, section 5).
+-- What a value describes at the URL of its document, and its faults: `hanging_on`, `MayBeContext` (Metadata Vocabulary for
+-- Tabular Data, section 5).
 use Rattle.std.specs.Prelude.{◌≡◌, ◌⊎◌, ℕ, List, [], ◌∷◌, ◌||◌, not, Bool, true, codes, is_some, if◌then◌else◌, Contains, Option, Some, None}
 use Rattle.std.specs.Prelude.{Result, Ok, Err}
 use Rattle.std.specs.List.{list_any}
@@ -12,10 +13,10 @@ use Rattle.csvw_meta_core.specs.declared.fault.Refusal.TheVariants as refusal
 use Rattle.csvw_meta_core.specs.Read.{Read, fine, under}
 use Rattle.csvw_meta_core.specs.Pointer.{below, item_at}
 use Rattle.csvw_meta_core.specs.Rules.{also, hides_property, is_at}
-use Rattle.csvw_meta_inherited.specs.declared.context.Context.{Context}
+use Rattle.csvw_meta_core.specs.declared.context.Context.{Context}
 use Rattle.csvw_meta.specs.declared.group.GroupFound.{GroupFound}
 use Rattle.csvw_meta.specs.declared.table.TableFound.{TableFound}
-use Rattle.csvw_meta_inherited.specs.Context.{context, context_value}
+use Rattle.csvw_meta_core.specs.Context.{context, context_value}
 use Rattle.csvw_meta.specs.Group.{group, description_of, no_group}
 use Rattle.csvw_description.specs.Inherited.{no_inherited}
 use Rattle.csvw_meta.specs.References.{table_at, reference_faults}
@@ -23,7 +24,7 @@ use Rattle.csvw_meta.specs.Table.{table_of}
 
 -- ---- within a context
 
--- the group of one table, which has nothing else
+-- the group of one table, with nothing else
 abbrev pub group_of : TableFound → GroupFound
 group_of table = record {
   id = None;
@@ -40,18 +41,18 @@ sole_table context at d = under group_of (table_of context true 1 at d)
 abbrev pub parts : Context → List ℕ → Data → Read GroupFound
 parts context at d = if is_some (get (codes "tables") d) then group context at d else sole_table context at d
 
--- What the keys of its schemas name is there.
+-- What the keys of its schemas name exists.
 abbrev pub within : Context → List ℕ → Data → Read Description
 within context at d = under description_of (also (parts context at d) (reference_faults (table_at (is_some (get (codes "tables") d)) at) at))
 
--- ---- what stands beside a fault
+-- ---- what holds beside a fault
 
--- the faults that stand, and the group that is described, which is None where one stands
+-- the faults, and the group that is described, which is None if there is a fault
 pub record Judged : Type 1 where
   pub IsFault : MetaFault → Type 0
   pub group : Option Description
 
--- none where there are faults
+-- none if there are faults
 abbrev pub unless : {A : Type 0} → List MetaFault → Option A → Option A
 unless [] o = o
 unless (f ∷ fs) o = None
@@ -59,14 +60,14 @@ unless (f ∷ fs) o = None
 abbrev pub judged_by : Read Description → Judged
 judged_by r = record { IsFault = Contains r.faults; group = unless r.faults (Some r.value) }
 
--- What hangs on a value has the faults of that value, and each that stands whichever value it may be.
+-- What depends on a value has the faults of the value, and each fault that it has for every value that it may be.
 abbrev pub hanging_on : {A : Type 0} → Read A → (A → Type 0) → (A → Judged) → Judged
 hanging_on r MayBe judge = record {
   IsFault = λ f. Contains r.faults f ⊎ ((a : _) → MayBe a → (judge a).IsFault f);
   group = unless r.faults (judge r.value).group;
 }
 
--- the parts of a document within its context; a value that is no object has none
+-- the parts of a document within its context; a value that is not an object has none
 abbrev pub judged_within : List ℕ → Data → Context → Judged
 judged_within at (object ms) c = judged_by (within c at (object ms))
 judged_within at null c = judged_by (fine no_group)
@@ -75,7 +76,7 @@ judged_within at (number n) c = judged_by (fine no_group)
 judged_within at (string s) c = judged_by (fine no_group)
 judged_within at (array ds) c = judged_by (fine no_group)
 
--- what a call gives that reads such a part: the group, or a fault that stands, unless memory ran out
+-- what a call returns that reads such a part: the group, or one of its faults, unless memory runs out
 abbrev pub Describes : Result Description Refusal → Judged → Type 0
 Describes (Ok d) judged = judged.group ≡ Some d
 Describes (Err refusal.Memory) judged = Unit {0}
@@ -83,18 +84,18 @@ Describes (Err (refusal.Fault f)) judged = judged.IsFault f
 
 -- ---- at the document's own URL
 
--- A member of the context is known: it could be read, or there is no context, in whose place the vocabulary alone stands.
+-- A member of the context is known: it could be read, or there is no context and that of the vocabulary takes its place.
 unfoldable pub is_known : List ℕ → List ℕ → List MetaFault → Bool
 is_known at name faults =
     not (list_any (λ f. is_at (below at (codes "@context")) f || hides_property (item_at (below at (codes "@context")) 1) name f) faults)
 
--- A context that the document may have: some value in place of `@context` says it, and it agrees with each member of the document's own
--- context that could be read.
+-- A context that the document may have. Some value in place of `@context` has this context, and the context agrees with each member of the
+-- document's own context that could be read.
 pub record MayBeContext (url : Parts) (at : List ℕ) (own : Read Context) (c : Context) : Type 0 where
-  -- the value, and that it says this context
+  -- the value, and that it has this context
   pub instead : Data
   pub says : context_value url (below at (codes "@context")) instead ≡ fine c
-  -- where the own members could be read, they are its own
+  -- each member that could be read is that of the document
   pub base : is_known at (codes "@base") own.faults ≡ true → c.base ≡ own.value.base
   pub language : is_known at (codes "@language") own.faults ≡ true → c.language ≡ own.value.language
 

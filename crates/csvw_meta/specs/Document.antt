@@ -1,5 +1,5 @@
--- The group of tables that a document describes, and the faults that stand in the document (Metadata Vocabulary for Tabular Data,
--- section 5). There is a group exactly where there is no fault.
+-- The group of tables that a document describes, and the faults of the document: `group_in`, `IsFault`, `MayBeUrl` (Metadata
+-- Vocabulary for Tabular Data, section 5). There is a group exactly if there is no fault.
 use Rattle.std.specs.Prelude.{◌≡◌, ℕ, List, [], nat_lt, length, if◌then◌else◌, Option, Some, None, Ok, ⊤}
 use Rattle.serde_json.specs.Data.{Data}
 use Rattle.url.specs.Parts.{Parts}
@@ -14,18 +14,18 @@ use Rattle.csvw_meta.specs.Group.{no_group}
 use Rattle.csvw_meta.specs.Json.{json_of, without_bom}
 use Rattle.csvw_meta.specs.UrlAlone.{own_base, plain_document}
 
--- what is read
+-- the input of a read
 pub data Document : Type 0 where
   -- a metadata document: the text of its URL, and its bytes
   document : (url bytes : List ℕ) → Document
   -- the text of a table's URL alone
   plain_description : (url : List ℕ) → Document
 
--- the URL of a document, where a fault of it is told at the document
+-- the URL of a document; a fault of it is at the document
 abbrev pub own_url : List ℕ → Read Parts
 own_url url = told [] no_url (base_of None url)
 
--- A URL that the document may have: one that some text resolves to, and its own where that could be read.
+-- A URL that the document may have: one that some text resolves to, and its own if that could be read.
 pub record MayBeUrl (own : Read Parts) (url : Parts) : Type 0 where
   pub text : List ℕ
   pub resolves : base_of None text ≡ Ok url
@@ -38,7 +38,7 @@ of_json base (Some d) = described base [] d
 abbrev pub of_bytes : Parts → List ℕ → Judged
 of_bytes base bytes = of_json base (json_of (without_bom bytes))
 
--- A document has 1,048,576 bytes at most; else it has that fault beside all others.
+-- A document has at most 1,048,576 bytes. Else it has that fault beside all others.
 abbrev pub length_of : List ℕ → Read ⊤
 length_of bytes = if nat_lt 1048576 (length bytes) then faulty TooLong [] tt else fine tt
 
@@ -47,10 +47,10 @@ judged (document url bytes) =
     hanging_on (length_of bytes) (λ _. ⊤) (λ _. hanging_on (own_url url) (MayBeUrl (own_url url)) (λ base. of_bytes base bytes))
 judged (plain_description url) = hanging_on (own_base [] url) (MayBeUrl (own_base [] url)) (λ base. described base [] (plain_document url))
 
--- This fault stands in the document.
+-- The document has this fault.
 abbrev pub IsFault : Document → MetaFault → Type 0
 IsFault d = (judged d).IsFault
 
--- the group that it describes, where no fault stands
+-- the group that it describes, if it has no fault
 abbrev pub group_in : Document → Option Description
 group_in d = (judged d).group

@@ -1,5 +1,5 @@
--- Groups of tables (Metadata Vocabulary for Tabular Data, section 5.3).
-use Rattle.std.specs.Prelude.{ℕ, List, [], ◌++◌, None, codes, map}
+-- The tables of a group of a document, and its faults (Metadata Vocabulary for Tabular Data, section 5.3).
+use Rattle.std.specs.Prelude.{ℕ, List, [], ◌++◌, None, codes, map, ◌∷◌}
 use Rattle.serde_json.specs.Data.{Data}
 use Rattle.csvw_iri.specs.Link.{iri_of}
 use Rattle.csvw_description.specs.declared.description.Description.{Description}
@@ -11,21 +11,28 @@ use Rattle.csvw_meta_core.specs.Rules.{also, could_read_property}
 use Rattle.csvw_meta_core.specs.Kinds.{fixed}
 use Rattle.csvw_meta_core.specs.Links.{id}
 use Rattle.csvw_meta_notes.specs.Unlisted.{all_notes, all_warnings}
-use Rattle.csvw_meta_inherited.specs.declared.context.Context.{Context}
+use Rattle.csvw_meta_core.specs.declared.context.Context.{Context}
 use Rattle.csvw_meta.specs.declared.group.GroupFound.{GroupFound}
 use Rattle.csvw_meta.specs.declared.table.TableFound.{TableFound}
 use Rattle.csvw_meta.specs.Body.{given_dialect, body}
 use Rattle.csvw_description.specs.Inherited.{no_inherited}
-use Rattle.csvw_meta_inherited.specs.Names.{group_names, inherited_names, place_of}
+use Rattle.csvw_meta_inherited.specs.Names.{inherited_names}
+use Rattle.csvw_meta_notes.specs.Places.{place_of}
 use Rattle.csvw_meta.specs.Repeated.{repeated}
 use Rattle.csvw_meta_core.specs.Several.{several}
 use Rattle.csvw_meta.specs.Table.{table}
+
+-- the properties of a group
+abbrev pub group_names : List (List ℕ)
+group_names =
+    codes "@context" ∷ codes "@id" ∷ codes "@type" ∷ codes "tables" ∷ codes "dialect" ∷ codes "tableSchema" ∷ codes "notes"
+    ∷ codes "tableDirection" ∷ codes "transformations" ∷ []
 
 -- a table's URL, made safe
 abbrev pub url_of : TableFound → List ℕ
 url_of t = iri_of t.table.url
 
--- No two tables have one URL, of those tables whose URL could be read, by the tables' own faults.
+-- No two tables have the same URL. Only tables whose URL could be read count, which the tables' own faults show.
 abbrev pub url_faults : List ℕ → List MetaFault → List TableFound → List MetaFault
 url_faults at faults ts =
     repeated (λ i. could_read_property faults (item_at at i) (codes "url"))
@@ -45,7 +52,7 @@ group context at d = do
   body ← body context 0 at d
   fine (record { id = iri; tables = tables; given = given; body = body; notes = notes })
 
--- what is described by the parts of a group
+-- the description of the parts of a group
 abbrev pub description_of : GroupFound → Description
 description_of group = record {
   id = group.id;

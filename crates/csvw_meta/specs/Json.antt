@@ -1,4 +1,4 @@
--- The JSON value that the bytes of a document are (RFC 8259), by the crate `serde_json`.
+-- The JSON value of the bytes of a document (RFC 8259), by the crate `serde_json`.
 use Rattle.std.specs.Prelude.{ℕ, List, [], ◌∷◌, drop, nat_eq, if◌then◌else◌, Option, None}
 use Rattle.std.specs.List.{starts_with}
 use Rattle.std.specs.Str.{is_utf8}

@@ -1,4 +1,5 @@
--- What the keys of a group's schemas name (Metadata Vocabulary for Tabular Data, sections 5.5.1 and 5.5.2).
+-- The tables and columns that the keys of a group's schemas name: `reference_faults` (Metadata Vocabulary for Tabular Data,
+-- sections 5.5.1 and 5.5.2).
 use Rattle.std.specs.Prelude.{ℕ, ◌+◌, ◌||◌, not, List, [], ◌∷◌, ◌++◌, Bool, true, false, Option, Some, None, bytes_eq, codes, map}
 use Rattle.std.specs.Prelude.{flat_map, if◌then◌else◌}
 use Rattle.std.specs.List.{list_any}
@@ -24,31 +25,31 @@ targets group = map (target group.body.schema) group.tables
 
 -- ---- what could be read
 
--- where the table of an index stands, in a group at this pointer, or that is the document itself
+-- the place of the table of an index, in the group at this pointer, or as the document itself
 abbrev pub table_at : Bool → List ℕ → ℕ → List ℕ
 table_at true at i = item_at (below at (codes "tables")) i
 table_at false at i = at
 
--- where an object's schema stands
+-- the place of an object's schema
 abbrev pub schema_at : List ℕ → List ℕ
 schema_at at = below at (codes "tableSchema")
 
--- a fault by which some name can't be read that the schema of the object at this pointer declares
+-- a fault that hides some name which the schema of the object at this pointer declares
 abbrev pub hides_names : List ℕ → Option Schema → MetaFault → Bool
 hides_names at None f = false
 hides_names at (Some schema) f = hides_declared (schema_at at) schema.columns f
 
--- the same of a table's own schema, else of that of the group at another pointer
+-- the same for a table's own schema or, without one, that of the group at another pointer
 abbrev pub hides_own_or : List ℕ → Option Schema → List ℕ → Option Schema → MetaFault → Bool
 hides_own_or at (Some schema) group_at group f = hides_names at (Some schema) f
 hides_own_or at None group_at group f = hides_names group_at group f
 
--- a fault by which the URL of one of these tables can't be read, the first of which has the index i
+-- a fault that hides the URL of one of these tables, the first of which has the index i
 abbrev pub hides_url : (ℕ → List ℕ) → ℕ → List TableFound → MetaFault → Bool
 hides_url place i [] f = false
 hides_url place i (t ∷ ts) f = hides_property (place i) (codes "url") f || hides_url place (i + 1) ts f
 
--- A fault by which it can't be told which names the first table of the URL has: by the URL of a table in front of it, by its own, or by
+-- A fault that hides the names of the first table of the URL. It hides the URL of an earlier table, the URL of the table itself, or one of
 -- those names.
 abbrev pub hides_target : (ℕ → List ℕ) → List ℕ → Option Schema → List ℕ → ℕ → List TableFound → MetaFault → Bool
 hides_target place at group url i [] f = false
@@ -57,12 +58,12 @@ hides_target place at group url i (t ∷ ts) f =
     || (if bytes_eq (iri_of t.table.url) url then hides_own_or (place i) t.table.schema at group f
     else hides_target place at group url (i + 1) ts f)
 
--- a fault by which a side of the foreign key at this pointer can't be read
+-- a fault that hides a side of the foreign key at this pointer
 abbrev pub hides_side : List ℕ → MetaFault → Bool
 hides_side at f = hides_property at (codes "columnReference") f || hides_property (below at (codes "reference")) (codes "columnReference") f
 
--- What could be read of that which the keys name of the schema of the object at the first pointer, in the group at the second one, by
--- the faults that stand in the group.
+-- What could be read of the names in the keys of the schema of the object at the first pointer, in the group at the second one. The faults
+-- of the group show it.
 abbrev pub known : (ℕ → List ℕ) → List ℕ → List MetaFault → GroupFound → List ℕ → Option Schema → Known
 known place at faults group own schema = record {
   own = not (list_any (hides_names own schema) faults);
@@ -79,20 +80,20 @@ abbrev pub schema_faults : Known → List Target → Option Schema → Option Ke
 schema_faults known targets schema None = []
 schema_faults known targets schema (Some keys) = key_faults known (declared_names schema) targets keys
 
--- what is wrong with those of each table's own schema, where the first of the tables has the index i
+-- what is wrong with the keys of each table's own schema, if the first of the tables has the index i
 abbrev pub table_faults : (ℕ → Option Schema → Known) → List Target → ℕ → List TableFound → List MetaFault
 table_faults known targets i [] = []
 table_faults known targets i (t ∷ ts) =
     schema_faults (known i t.table.schema) targets t.table.schema t.keys ++ table_faults known targets (i + 1) ts
 
--- The keys of the group's schema are looked at once, whether tables take it or not. The group stands at the pointer, and its tables
--- where `place` says; the faults are those of its parts.
+-- The keys of the group's schema are checked once, whether tables use it or not. The group is at the pointer, and its tables are where
+-- `place` says. The faults are those of its parts.
 abbrev pub reference_faults : (ℕ → List ℕ) → List ℕ → List MetaFault → GroupFound → List MetaFault
 reference_faults place at faults group =
     schema_faults (known place at faults group at group.body.schema) (targets group) group.body.schema group.body.keys
     ++ table_faults (λ i schema. known place at faults group (place i) schema) (targets group) 0 group.tables
 
--- the same of tables and of a group of which everything could be read
+-- the same for tables and a group that could be read completely
 abbrev pub known_table_faults : List Target → List TableFound → List MetaFault
 known_table_faults targets tables = flat_map (λ t. schema_faults all_known targets t.table.schema t.keys) tables
 

@@ -1,10 +1,10 @@
--- Texts that an earlier one repeats.
+-- Texts that equal an earlier text.
 use Rattle.std.specs.Prelude.{ℕ, ◌+◌, ◌&&◌, Bool, List, [], ◌∷◌, ◌++◌, bytes_eq, if◌then◌else◌}
 use Rattle.std.specs.List.{list_any}
 use Rattle.csvw_meta_core.specs.declared.fault.MetaFault.{MetaFault}
 
--- The faults of the texts that an earlier one is equal to, both of which could be read: `known` tells it by the index. The first text
--- here has the index i.
+-- The faults of the texts that equal an earlier one. Both texts must have been readable, which `known` says by the index. The first text here
+-- has the index i.
 abbrev pub repeated : (ℕ → Bool) → (ℕ → MetaFault) → List (List ℕ) → ℕ → List (List ℕ) → List MetaFault
 repeated known fault before i [] = []
 repeated known fault before i (t ∷ ts) =

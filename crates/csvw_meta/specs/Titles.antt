@@ -1,4 +1,5 @@
--- The titles of a column (Metadata Vocabulary for Tabular Data, section 5.6, `titles`; natural language properties, section 5.1.6).
+-- The titles of a column, and their faults: `titles` (Metadata Vocabulary for Tabular Data, section 5.6, `titles`, and section
+-- 5.1.6, natural language properties).
 use Rattle.std.specs.Prelude.{ℕ, ◌==◌, not, List, [], ◌++◌, Bool, true, false, Option, Some, None, bytes_eq, length, filter, if◌then◌else◌, ⊤}
 use Rattle.serde_json.specs.Data.{Data, null, boolean, number, string, array, object, Members, no_members, member}
 use Rattle.csvw_text.specs.Language.{is_language_tag}
@@ -6,7 +7,7 @@ use Rattle.csvw_meta_core.specs.Pointer.{below}
 use Rattle.csvw_meta_core.specs.Read.{Read, fine, ◌>>=◌, under, both, wrong}
 use Rattle.csvw_meta_core.specs.Kinds.{texts}
 
--- An empty title is none.
+-- An empty title is dropped.
 abbrev pub not_empty : List (List ℕ) → List (List ℕ)
 not_empty ts = filter (λ t. not (length t == 0)) ts
 
@@ -22,11 +23,11 @@ title_texts at d = under not_empty (texts at d)
 abbrev pub tag : List ℕ → List ℕ → Data → Read ⊤
 tag at key d = if is_language_tag key then fine tt else wrong (below at key) d tt
 
--- the titles of the language that a key is; they are judged also where it is none
+-- the titles of the language of a key; they are checked even if the key is not a language tag
 abbrev pub of_key : List ℕ → List ℕ → Data → Read (List (List ℕ))
 of_key at key d = tag at key d >>= (λ is_tag. title_texts (below at key) d)
 
--- titles of a language that is the context's, or isn't, in front of those of the context's and those of the others
+-- titles, split by whether their language is that of the context; `in_front` puts titles before those of the same part
 pub record Sorted : Type 0 where
   pub first : List (List ℕ)
   pub others : List (List ℕ)
@@ -39,7 +40,7 @@ abbrev pub sorted : Option (List ℕ) → List ℕ → Members → Read Sorted
 sorted language at no_members = fine (record { first = []; others = [] })
 sorted language at (member k d ms) = both (in_front (is_language language k)) (of_key at k d) (sorted language at ms)
 
--- those of the context's language come first
+-- the titles of the context's language come first
 abbrev pub all_titles : Option (List ℕ) → List ℕ → Members → Read (List (List ℕ))
 all_titles language at ms = under (λ s. s.first ++ s.others) (sorted language at ms)
 

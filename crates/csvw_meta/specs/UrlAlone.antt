@@ -1,4 +1,5 @@
--- The description of one table by its URL alone: that of a document with the context and that `url`, at that URL.
+-- The description of one table by its URL alone: `plain_document` (Metadata Vocabulary for Tabular Data, sections 5.3 and 5.4).
+-- It is that of a document with the context and that `url`, at that URL.
 use Rattle.std.specs.Prelude.{◌≡◌, ◌⊎◌, ℕ, List, None, codes}
 use Rattle.serde_json.specs.Data.{Data, string, object, no_members, member}
 use Rattle.url.specs.Parts.{Parts}
@@ -18,6 +19,6 @@ pub record IsOfUrl (fault : MetaFault) : Type 0 where
   pub pointer : fault.pointer ≡ codes "/url"
   pub code : (fault.code ≡ BadUrl) ⊎ (fault.code ≡ UrlTooLong)
 
--- Its faults as the base are those of its `url`.
+-- The faults of the base are those of its `url`.
 abbrev pub own_base : List ℕ → List ℕ → Read Parts
 own_base at url = told (below at (codes "url")) no_url (base_of None url)

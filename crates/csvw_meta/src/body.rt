@@ -1,5 +1,5 @@
-//! What groups and tables have in common: a dialect, a schema and inherited properties (Metadata Vocabulary
-//! for Tabular Data, sections 5.3 and 5.4).
+//! What groups and tables have in common: a dialect, a schema and inherited properties (Metadata Vocabulary for Tabular
+//! Data, sections 5.3 and 5.4).
 ghost use Rattle.std.specs.Prelude.{◌≡◌, IfOk};
 ghost use Rattle.serde_json.specs.View.{view};
 ghost use Rattle.csvw_meta_core.specs.Pointer.{text_of};
@@ -8,10 +8,11 @@ ghost use Rattle.csvw_meta.specs.Body.{split, given_dialect, body_of, body};
 
 use crate::schema::{SchemaFound, SchemaReader};
 use csvw_description::{Inherited, Schema};
-use csvw_dialect::Dialect;
-use csvw_meta_core::{Part, Refusal};
-use csvw_meta_inherited::{Context, DialectFound, DialectReader, InheritedFound, read_inherited};
+use csvw_meta_core::{Context, Part, Refusal};
+use csvw_meta_dialect::{DialectFound, DialectReader};
+use csvw_meta_inherited::{InheritedFound, read_inherited};
 use csvw_meta_keys::KeysFound;
+use csvw_records::Dialect;
 use csvw_text::{Fault, Seq};
 use std::alloc::AllocError;
 
@@ -48,7 +49,7 @@ fn split(found: Option<DialectFound>, warnings: Seq<Fault>) -> Result<DialectGiv
     })
 }
 
-/// The dialect of the table of this number, 0 for the group, with these warnings on the object.
+/// Reads the dialect of the table of this number, or of the group if it is 0, with these warnings on the object.
 #[tactic(auto, unfolding(crate::specs::Body::given_dialect))]
 pub(crate) fn read_dialect(
     context: &Context,
@@ -81,7 +82,7 @@ fn body_of(schema: Option<SchemaFound>, found: InheritedFound) -> Body
     }
 }
 
-/// The schema and the inherited properties of the table of this number, 0 for the group.
+/// Reads the schema and the inherited properties of the table of this number, or of the group if it is 0.
 pub(crate) fn read_body(context: &Context, table: u32, part: &Part) -> Result<Body, Refusal>
     ensures { Reads result (body context.now table (text_of part.now.at) (view part.now.value.now)) }
 {

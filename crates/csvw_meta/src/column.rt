@@ -1,24 +1,37 @@
 //! Columns (Metadata Vocabulary for Tabular Data, section 5.6).
-ghost use Rattle.std.specs.Prelude.{◌≡◌};
+ghost use Rattle.std.specs.Prelude.{◌≡◌, ◌++◌};
 ghost use Rattle.serde_json.specs.View.{view};
 ghost use Rattle.csvw_meta_core.specs.Pointer.{text_of};
 ghost use Rattle.csvw_meta_core.specs.Reads.{Reads};
-ghost use Rattle.csvw_meta.specs.Column.{column_of};
+ghost use Rattle.csvw_meta_notes.specs.Places.{place_of};
+ghost use Rattle.csvw_meta_notes.specs.Unlisted.{unlisted};
+ghost use Rattle.csvw_meta_inherited.specs.Names.{inherited_names};
+ghost use Rattle.csvw_meta.specs.Column.{column_names, column_of};
 
 use crate::name::NameReader;
 use crate::titles::Titles;
 use csvw_description::ColumnDescription;
-use csvw_meta_core::{Fixed, IdReader, NumberedReader, Part, Refusal, Truth, joined};
-use csvw_meta_inherited::{Context, column_warnings, read_inherited};
-use csvw_text::Seq;
+use csvw_meta_core::{Context, Fixed, IdReader, NumberedReader, Part, Refusal, Truth, joined};
+use csvw_meta_inherited::{inheriting_warnings, read_inherited};
+use csvw_text::{Fault, Place, Seq};
 use serde_json::Value;
 
-/// A column, by its number.
+/// The properties of a column.
+const COLUMN: [&str; 6] = [
+    "@id",
+    "@type",
+    "name",
+    "titles",
+    "suppressOutput",
+    "virtual",
+];
+
+/// Reads a column, by its number.
 #[derive(Drop)]
 pub(crate) struct ColumnReader<'a> {
     /// The document's context.
     pub(crate) context: &'a Context,
-    /// The number of its table, 0 in the group's schema.
+    /// The number of its table, or 0 in the schema of the group.
     pub(crate) table: u32,
 }
 
@@ -35,6 +48,24 @@ impl<'a> NumberedReader for ColumnReader<'a> {
             _ => Err(part.wrong()),
         }
     }
+}
+
+/// The warnings on a column: its number, and that of its table or 0 in the group's schema. Its annotations say nothing.
+fn column_warnings(
+    context: &Context,
+    table: u32,
+    column: u32,
+    part: &Part,
+) -> Result<Seq<Fault>, Refusal>
+    ensures { Reads result (unlisted context.now.base context.now.language (column_names ++ inherited_names) (place_of table column)
+        (text_of part.now.at) (view part.now.value.now)) }
+{
+    let place = Place {
+        table,
+        row: 0,
+        column,
+    };
+    inheriting_warnings(context, &COLUMN, place, part)
 }
 
 fn column_of(reader: &ColumnReader, number: u32, part: &Part) -> Result<ColumnDescription, Refusal>

@@ -14,16 +14,16 @@ use crate::references::check_references;
 use crate::table::table_of;
 use csvw_description::{Description, no_inherited};
 use csvw_iri::{Base, IriFault};
-use csvw_meta_core::{MetaCode, MetaFault, Part, Pointer, Refusal};
+use csvw_meta_core::{Context, MetaCode, MetaFault, Part, Pointer, Refusal, read_context};
 use csvw_meta_datatype::datatypes_fit;
-use csvw_meta_inherited::{Context, dialects_fit, read_context};
+use csvw_meta_dialect::dialects_fit;
 use csvw_text::{Seq, Text};
 use std::alloc::Global;
 
-/// How many bytes a document has at most.
+/// The greatest number of bytes of a document.
 const MAX_DOCUMENT: usize = 1048576;
 
-/// The group of the one table that the document is.
+/// Reads the group of the one table that the document is.
 fn of_table(context: &Context, part: &Part) -> Result<GroupFound, Refusal>
     ensures { Reads result (sole_table context.now (text_of part.now.at) (view part.now.value.now)) }
 {
@@ -47,7 +47,7 @@ fn of_table(context: &Context, part: &Part) -> Result<GroupFound, Refusal>
     })
 }
 
-/// A group, or the group of one table.
+/// Reads a group, or the group of one table.
 fn parts(context: &Context, part: &Part) -> Result<GroupFound, Refusal>
     ensures { Reads result (parts context.now (text_of part.now.at) (view part.now.value.now)) }
 {
@@ -57,7 +57,7 @@ fn parts(context: &Context, part: &Part) -> Result<GroupFound, Refusal>
     }
 }
 
-/// What the document describes within its context; what its keys name is there.
+/// Reads what the document describes within its context, and checks that what its keys name exists.
 #[tactic(auto, using(crate::proofs::ReadLemmas::fails_first))]
 fn within(context: &Context, part: &Part) -> Result<Description, Refusal>
     ensures { Reads result (within context.now (text_of part.now.at) (view part.now.value.now)) }
@@ -67,7 +67,7 @@ fn within(context: &Context, part: &Part) -> Result<Description, Refusal>
     Ok(description_of(part.alloc, group)?)
 }
 
-/// What a value describes at the document's own URL.
+/// Reads what a value describes at the document's own URL.
 #[tactic(auto, using(crate::proofs::HangingLemmas::fails_on))]
 pub(crate) fn described(part: &Part, base: &Base) -> Result<Description, Refusal>
     ensures { Describes result (described base.now (text_of part.now.at) (view part.now.value.now)) }
@@ -110,15 +110,19 @@ fn document(alloc: Global, bytes: &[u8], base: &str) -> Result<Description, Refu
     of_bytes(alloc, &base, bytes)
 }
 
-/// The group that a document describes, at its own URL. The fault is one of those that stand in it, or
-/// has the code `Memory` where there is none for the group: `TooLong` past 1,048,576 bytes, `BadUrl` or
-/// `UrlTooLong` where its URL is none, `NotJson` where it is no JSON text, `BadContext` where it has no
-/// context, and what its parts say.
+/// Reads the group that a document describes, at its own URL. If it cannot, it returns a fault:
+///
+/// - `TooLong` if the document has over 1,048,576 bytes;
+/// - `BadUrl` or `UrlTooLong` if its URL is not a URL;
+/// - `NotJson` if it is not a JSON text;
+/// - `BadContext` if it has no context;
+/// - the fault of one of its parts otherwise;
+/// - `Memory` if there is no memory for the group.
 pub fn read(alloc: Global, bytes: &[u8], base: &str) -> Result<Description, MetaFault>
-    // What is read stands in a document without faults, and so keeps the limits and rules of descriptions.
+    // The result comes from a document without faults, so it keeps the limits and rules of descriptions.
     ensures found { IfOk result (λ d. group_in (document base.now bytes.now) ≡ Some d) }
     ensures plannable { IfOk result IsPlannable }
-    // What is refused has that fault.
+    // A document that is refused has that fault.
     ensures fault { IfErr result (λ e. e.code ≢ MetaCode.Memory → IsFault (document base.now bytes.now) e) }
 {
     datatypes_fit();

@@ -1,24 +1,41 @@
 //! Groups of tables (Metadata Vocabulary for Tabular Data, section 5.3).
-ghost use Rattle.std.specs.Prelude.{◌≡◌, [], IfOk, MatchResult, map};
+ghost use Rattle.std.specs.Prelude.{◌≡◌, ◌++◌, [], IfOk, MatchResult, map};
 ghost use Rattle.serde_json.specs.View.{view};
 ghost use Rattle.csvw_meta_core.specs.Pointer.{text_of};
 ghost use Rattle.csvw_meta_core.specs.Reads.{Fails, Reads};
-ghost use Rattle.csvw_meta.specs.Group.{url_of, url_faults, group, description_of};
+ghost use Rattle.csvw_meta_notes.specs.Places.{place_of};
+ghost use Rattle.csvw_meta_notes.specs.Unlisted.{all_warnings};
+ghost use Rattle.csvw_meta_inherited.specs.Names.{inherited_names};
+ghost use Rattle.csvw_meta.specs.Group.{group_names, url_of, url_faults, group, description_of};
 
 use crate::body::{Body, DialectGiven, read_body, read_dialect};
 use crate::repeated::repeated_at;
 use crate::table::{TableFound, TableReader};
 use csvw_description::{Description, Note, TableDescription};
 use csvw_iri::Iri;
-use csvw_meta_core::{Fixed, IdReader, MetaCode, Part, Reader, Refusal, Several, joined};
-use csvw_meta_inherited::{Context, group_warnings, read_notes};
-use csvw_text::{Seq, Text, both};
+use csvw_meta_core::{Context, Fixed, IdReader, MetaCode, Part, Reader, Refusal, Several, joined};
+use csvw_meta_inherited::annotated_warnings;
+use csvw_meta_notes::read_notes;
+use csvw_text::{Fault, Place, Seq, Text, both};
 use std::alloc::{AllocError, Global};
 
-/// How many tables a group has at most.
+/// The properties of a group.
+const GROUP: [&str; 9] = [
+    "@context",
+    "@id",
+    "@type",
+    "tables",
+    "dialect",
+    "tableSchema",
+    "notes",
+    "tableDirection",
+    "transformations",
+];
+
+/// The greatest number of tables of a group.
 const MAX_TABLES: u32 = 64;
 
-/// The parts of a group, whose keys may name what isn't there.
+/// The parts of a group. Its keys may name what does not exist.
 #[derive(Drop)]
 pub(crate) struct GroupFound {
     /// Its `@id`.
@@ -31,6 +48,18 @@ pub(crate) struct GroupFound {
     pub(crate) body: Body,
     /// Its annotations.
     pub(crate) notes: Seq<Note>,
+}
+
+/// The warnings on the group, and on its annotations.
+fn group_warnings(part: &Part) -> Result<Seq<Fault>, Refusal>
+    ensures { Reads result (all_warnings (group_names ++ inherited_names) (place_of 0 0) (text_of part.now.at) (view part.now.value.now)) }
+{
+    let place = Place {
+        table: 0,
+        row: 0,
+        column: 0,
+    };
+    annotated_warnings(&GROUP, place, part)
 }
 
 fn url_of(alloc: Global, found: &TableFound) -> Result<Text, AllocError>
@@ -50,7 +79,7 @@ fn urls(alloc: Global, tables: &[TableFound]) -> Result<Seq<Text>, AllocError>
     Ok(Seq::of(urls))
 }
 
-/// No table has the URL of an earlier one; else `DuplicateTable` at the later one's.
+/// Checks that no table has the URL of an earlier one. Else the fault is `DuplicateTable` at the later one's URL.
 fn check_urls(part: &Part, tables: &[TableFound]) -> Result<(), Refusal>
     ensures { MatchResult result (λ _. url_faults (text_of part.now.at) [] tables.now ≡ []) (λ e. Fails e (url_faults (text_of part.now.at) [] tables.now)) }
 {
@@ -68,7 +97,7 @@ fn check_urls(part: &Part, tables: &[TableFound]) -> Result<(), Refusal>
     }
 }
 
-/// The tables of a group.
+/// Reads the tables of a group.
 #[derive(Drop)]
 struct Tables<'a> {
     /// The document's context.
@@ -97,7 +126,7 @@ impl<'a> Reader for Tables<'a> {
     }
 }
 
-/// The parts of the group that the document describes.
+/// Reads the parts of the group that the document describes.
 #[tactic(auto, using(crate::proofs::ReadLemmas::fails_first), unfolding(crate::specs::Group::group))]
 pub(crate) fn read_group(context: &Context, part: &Part) -> Result<GroupFound, Refusal>
     ensures { Reads result (group context.now (text_of part.now.at) (view part.now.value.now)) }
@@ -136,7 +165,7 @@ fn described_tables(
     Ok(Seq::of(tables))
 }
 
-/// What the parts of a group describe; `AllocError` where there is no memory.
+/// Returns the description of the parts of a group, or `AllocError` if there is no memory.
 pub(crate) fn description_of(alloc: Global, group: GroupFound) -> Result<Description, AllocError>
     ensures { IfOk result (λ d. d ≡ description_of group) }
 {

@@ -1,4 +1,4 @@
-//! The JSON value that the bytes of a document are (RFC 8259).
+//! The JSON value of the bytes of a document (RFC 8259).
 ghost use Rattle.std.specs.Prelude.{◌≡◌, ◌≢◌, ◌∷◌, [], MatchResult, Some, None};
 ghost use Rattle.serde_json.specs.View.{view};
 ghost use Rattle.serde_json.specs.Read.{read as read_text};
@@ -10,7 +10,7 @@ use csvw_text::Text;
 use serde_json::Value;
 use std::alloc::Global;
 
-/// The fault of the whole document, or what stands for it where there is no memory.
+/// Returns the fault of the whole document.
 pub(crate) fn document_fault(alloc: Global, code: MetaCode) -> Refusal
     ensures { result ≡ Refusal.Fault (record { code = code; pointer = [] }) }
 {
@@ -20,7 +20,7 @@ pub(crate) fn document_fault(alloc: Global, code: MetaCode) -> Refusal
     })
 }
 
-/// The value of the bytes; `NotJson` where they are no JSON text.
+/// Returns the value of the bytes. If they are not a JSON text, the fault is `NotJson`.
 pub(crate) fn json_of(alloc: Global, bytes: &[u8]) -> Result<Value, Refusal>
     ensures { MatchResult result (λ v. json_of bytes.now ≡ Some (view v))
         (λ e. Fails e (record { code = MetaCode.NotJson; pointer = [] } ∷ []) × (e ≢ Refusal.Memory → json_of bytes.now ≡ None)) }
@@ -42,7 +42,7 @@ fn json_of_text(alloc: Global, text: &str) -> Result<Value, Refusal>
     }
 }
 
-/// The bytes without U+FEFF at their start.
+/// Returns the bytes without U+FEFF at their start.
 pub(crate) fn without_bom(bytes: &[u8]) -> &[u8]
     ensures { result.now ≡ without_bom bytes.now }
 {

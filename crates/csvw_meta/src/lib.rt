@@ -1,5 +1,27 @@
-//! The group of tables that a metadata document describes, or what is wrong with the document (Metadata
+//! Reads a metadata document: returns the description of its group of tables, or a fault of the document (Metadata
 //! Vocabulary for Tabular Data).
+//!
+//! # Promises
+//!
+//! - A group is returned exactly if there is no fault in the document, and it is the group that the document describes:
+//!   `read` (`document`), and the law `groups_have_no_faults` (`group_in`, `IsFault`).
+//! - A document that is refused has the fault that is returned: `read`.
+//! - A group that is read keeps the limits on tables and columns (`IsPlannable`):
+//!   - its dialects are lawful, and each datatype passes `Datatype::check`;
+//!   - no two declared columns of a table have one name, and no two tables have one URL;
+//!   - the columns and tables that its keys name exist.
+//! - The annotations of the group and of its tables are those of their common properties and notes. The annotations of
+//!   other objects are checked: `read`.
+//! - A rule over several values checks those that could be read: `read`.
+//! - If the context or the document's own URL cannot be read, a fault is reported that the document has whatever they
+//!   are: `read`.
+//! - A fault of a URL alone is `BadUrl` or `UrlTooLong` at `/url`: `plain` (`plain_description`, `IsOfUrl`).
+//! - The trait `ReadDescription` has both calls as `Description::read` and `Description::plain`.
+//! - The check of column names accepts a text as a variable exactly if the grammar of csvw_template does: the law
+//!   `variables_are_names` (`IsName`).
+//!
+//! The values that depend on the document's URL or its context have, if those cannot be read, only the faults that
+//! they have for every URL and context (`hanging_on` in specs/). So the faults of a document are a predicate.
 #![tactic(auto)]
 
 mod body;

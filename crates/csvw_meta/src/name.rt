@@ -71,8 +71,8 @@ fn is_variable(alloc: Global, text: &str) -> Result<bool, AllocError>
     Ok(are_pieces(pieces.as_slice()))
 }
 
-/// A declared name: the name of a variable (RFC 6570, section 2.3) that doesn't begin with `_`; another
-/// text is `BadName`.
+/// Reads a declared name: the name of a variable (RFC 6570, section 2.3) that doesn't begin with `_`. Another text is
+/// `BadName`.
 #[derive(Drop)]
 pub(crate) struct NameReader;
 

@@ -1,4 +1,4 @@
-//! The calls that read descriptions, under the name of their type.
+//! The calls that read descriptions, as functions of `Description`.
 ghost use Rattle.std.specs.Prelude.{◌≡◌, ◌≢◌, Some, IfOk, IfErr};
 ghost use Rattle.csvw_description.specs.Plannable.{IsPlannable};
 ghost use Rattle.csvw_meta.specs.Document.{IsFault, document, group_in, plain_description};
@@ -8,7 +8,7 @@ use csvw_description::Description;
 use csvw_meta_core::{MetaCode, MetaFault};
 use std::alloc::Global;
 
-/// `Description::read` and `Description::plain`, once this trait is in scope.
+/// Adds `Description::read` and `Description::plain`, if this trait is in scope.
 ///
 /// ```text
 /// use csvw_meta::{Description, ReadDescription};
@@ -16,10 +16,11 @@ use std::alloc::Global;
 /// let described = Description::read(alloc, bytes, "http://example.org/m.json")?;
 /// ```
 pub trait ReadDescription: Sized {
-    /// The group that a document describes, at its own URL, as the function [`read`](crate::read) returns it.
+    /// Reads the group that a document describes, at its own URL. It has the result of the function
+    /// [`read`](crate::read).
     fn read(alloc: Global, bytes: &[u8], base: &str) -> Result<Self, MetaFault>;
 
-    /// The group of the one table of a URL, as the function [`plain`](crate::plain) returns it.
+    /// Returns the group of the one table of a URL. It has the result of the function [`plain`](crate::plain).
     fn plain(alloc: Global, url: &str) -> Result<Self, MetaFault>;
 }
 

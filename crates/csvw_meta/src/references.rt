@@ -1,4 +1,5 @@
-//! What the keys of a group's schemas name (Metadata Vocabulary for Tabular Data, sections 5.5.1 and 5.5.2).
+//! The check that what the keys of a group's schemas name exists (Metadata Vocabulary for Tabular Data, sections 5.5.1
+//! and 5.5.2).
 ghost use Rattle.std.specs.Prelude.{◌≡◌, [], IfOk, MatchResult};
 ghost use Rattle.csvw_description.specs.Keys.{declared_names, own_or};
 ghost use Rattle.csvw_meta_core.specs.Reads.{Fails};
@@ -23,7 +24,7 @@ fn declared_names(alloc: Global, schema: &Option<Schema>) -> Result<Seq<Text>, A
     }
 }
 
-/// A table's own schema, else that of its group.
+/// Returns a table's own schema or, if it has none, that of its group.
 fn own_or<'a>(table: &'a Option<Schema>, group: &'a Option<Schema>) -> &'a Option<Schema>
     ensures { result.now ≡ own_or table.now group.now }
 {
@@ -57,7 +58,7 @@ fn targets_of(alloc: Global, group: &GroupFound) -> Result<Seq<Target>, AllocErr
     Ok(Seq::of(targets))
 }
 
-/// What the keys of a schema name is there; else `BadReference`.
+/// Checks that what the keys of a schema name exists. Else the fault is `BadReference`.
 fn check_schema(
     alloc: Global,
     targets: &[Target],
@@ -84,8 +85,9 @@ fn check_tables(alloc: Global, targets: &[Target], tables: &[TableFound]) -> Res
     Ok(())
 }
 
-/// What the keys of each schema of a group name is there: each column of a key, the table that is referenced by its URL, and as
-/// many columns on both sides; else `BadReference` at the name, at the URL or at the foreign key.
+/// Checks that what the keys of each schema of a group name exists: each column of a key, the table of a foreign key's
+/// URL, and as many columns on both sides. Else the fault is `BadReference` at the name, at the URL or at the foreign
+/// key.
 #[tactic(auto, using(crate::proofs::ReadLemmas::fails_first))]
 pub(crate) fn check_references(alloc: Global, group: &GroupFound) -> Result<(), Refusal>
     ensures { MatchResult result (λ _. known_faults group.now ≡ []) (λ e. Fails e (known_faults group.now)) }

@@ -1,4 +1,4 @@
-//! Texts that an earlier one repeats.
+//! Texts that equal an earlier text.
 ghost use Rattle.std.specs.Prelude.{◌≡◌, ℕ, [], true, bytes_eq, MatchOption, Contains};
 ghost use Rattle.std.specs.List.{list_any};
 ghost use Rattle.csvw_meta_core.specs.declared.fault.MetaFault.{MetaFault};
@@ -17,7 +17,7 @@ fn has_text(texts: &[Text], text: &Text) -> bool
     false
 }
 
-/// The index of a text that an earlier one is equal to, where there is one.
+/// Returns the index of a text that equals an earlier one, or `None` if there is none.
 pub(crate) fn repeated_at(texts: &[Text]) -> Option<usize>
     ensures { (fault : ℕ → MetaFault) → MatchOption result (repeated (λ i. true) fault [] 0 texts.now ≡ [])
         (λ i. Contains (repeated (λ i. true) fault [] 0 texts.now) (fault i)) }

@@ -5,29 +5,57 @@ ghost use Rattle.serde_json.specs.View.{view};
 ghost use Rattle.csvw_meta_core.specs.Pointer.{text_of};
 ghost use Rattle.csvw_meta_core.specs.Reads.{Fails, Reads};
 ghost use Rattle.csvw_meta_keys.specs.Described.{all_warnings, described, names_of};
-ghost use Rattle.csvw_meta.specs.Schema.{name_faults, order_faults, column_faults, with_keys, schema_of};
+ghost use Rattle.csvw_meta_notes.specs.Places.{place_of};
+ghost use Rattle.csvw_meta_notes.specs.Unlisted.{unlisted};
+ghost use Rattle.csvw_meta_inherited.specs.Names.{inherited_names};
+ghost use Rattle.csvw_meta.specs.Schema.{schema_names, name_faults, order_faults, column_faults, with_keys, schema_of};
 
 use crate::column::ColumnReader;
 use crate::repeated::repeated_at;
 use crate::virtual_order::misplaced_at;
 use csvw_description::{ColumnDescription, ForeignKey, Schema};
-use csvw_meta_core::{Fixed, IdReader, MetaCode, NotYet, Part, Reader, Refusal, Several, joined};
-use csvw_meta_inherited::{Context, InheritedFound, read_inherited, schema_warnings};
+use csvw_meta_core::{
+    Context, Fixed, IdReader, MetaCode, NotYet, Part, Reader, Refusal, Several, joined,
+};
+use csvw_meta_inherited::{InheritedFound, inheriting_warnings, read_inherited};
 use csvw_meta_keys::{KeysFound, read_keys};
 use csvw_text::{Fault, Place, Seq, Text};
 use serde_json::Value;
 use std::alloc::{AllocError, Global};
 
-/// How many columns a table has at most.
+/// The properties of a schema.
+const SCHEMA: [&str; 6] = [
+    "@id",
+    "@type",
+    "columns",
+    "primaryKey",
+    "foreignKeys",
+    "rowTitles",
+];
+
+/// The greatest number of columns of a table.
 const MAX_COLUMNS: u32 = 1024;
 
-/// A schema, and its keys with the places where they stand.
+/// A schema, and its keys with their places.
 #[derive(Drop)]
 pub(crate) struct SchemaFound {
     /// The schema.
     pub(crate) schema: Schema,
     /// Its keys.
     pub(crate) keys: KeysFound,
+}
+
+/// The warnings on the schema of the table of this number, 0 for the group's. Its annotations say nothing.
+fn schema_warnings(context: &Context, table: u32, part: &Part) -> Result<Seq<Fault>, Refusal>
+    ensures { Reads result (unlisted context.now.base context.now.language (schema_names ++ inherited_names) (place_of table 0)
+        (text_of part.now.at) (view part.now.value.now)) }
+{
+    let place = Place {
+        table,
+        row: 0,
+        column: 0,
+    };
+    inheriting_warnings(context, &SCHEMA, place, part)
 }
 
 fn column_name(alloc: Global, column: &ColumnDescription, index: usize) -> Result<Text, AllocError>
@@ -38,7 +66,7 @@ fn column_name(alloc: Global, column: &ColumnDescription, index: usize) -> Resul
     Text::copied(alloc, name.as_str())
 }
 
-/// The names of columns, numbered from 1; `AllocError` where there is no memory.
+/// Returns the names of columns, numbered from 1, or `AllocError` if there is no memory.
 pub(crate) fn column_names(
     alloc: Global,
     columns: &[ColumnDescription],
@@ -53,7 +81,7 @@ pub(crate) fn column_names(
     Ok(Seq::of(names))
 }
 
-/// No column has the name of an earlier one; else `DuplicateName` at the later one.
+/// Checks that no column has the name of an earlier one. Else the fault is `DuplicateName` at the later one.
 fn check_names(part: &Part, columns: &[ColumnDescription]) -> Result<(), Refusal>
     ensures { MatchResult result (λ _. name_faults (text_of part.now.at) [] columns.now ≡ [])
         (λ e. Fails e (name_faults (text_of part.now.at) [] columns.now)) }
@@ -65,7 +93,7 @@ fn check_names(part: &Part, columns: &[ColumnDescription]) -> Result<(), Refusal
     }
 }
 
-/// No column that isn't virtual stands behind one that is; else `VirtualOrder` at it.
+/// Checks that no column that is not virtual comes after a virtual one. Else the fault is `VirtualOrder` at the column.
 fn check_order(part: &Part, columns: &[ColumnDescription]) -> Result<(), Refusal>
     ensures { MatchResult result (λ _. order_faults (text_of part.now.at) [] columns.now ≡ [])
         (λ e. Fails e (order_faults (text_of part.now.at) [] columns.now)) }
@@ -76,7 +104,7 @@ fn check_order(part: &Part, columns: &[ColumnDescription]) -> Result<(), Refusal
     }
 }
 
-/// Each column has a name of its own, and the virtual ones come last.
+/// Checks that each column has a name of its own, and that the virtual ones come last.
 fn check_columns(part: &Part, columns: &[ColumnDescription]) -> Result<(), Refusal>
     ensures { MatchResult result (λ _. column_faults (text_of part.now.at) [] columns.now ≡ [])
         (λ e. Fails e (column_faults (text_of part.now.at) [] columns.now)) }
@@ -85,12 +113,12 @@ fn check_columns(part: &Part, columns: &[ColumnDescription]) -> Result<(), Refus
     check_order(part, columns)
 }
 
-/// The columns of a schema.
+/// Reads the columns of a schema.
 #[derive(Drop)]
 struct Columns<'a> {
     /// The document's context.
     context: &'a Context,
-    /// The number of their table, 0 in the group's schema.
+    /// The number of their table, or 0 in the schema of the group.
     table: u32,
 }
 
@@ -118,12 +146,12 @@ impl<'a> Reader for Columns<'a> {
     }
 }
 
-/// A schema; the URL of one is `NotSupported`.
+/// Reads a schema. The URL of a schema is `NotSupported`.
 #[derive(Drop)]
 pub(crate) struct SchemaReader<'a> {
     /// The document's context.
     pub(crate) context: &'a Context,
-    /// The number of its table, 0 for its group's.
+    /// The number of its table, or 0 for the schema of the group.
     pub(crate) table: u32,
 }
 
@@ -143,7 +171,7 @@ impl<'a> Reader for SchemaReader<'a> {
     }
 }
 
-/// What a schema has of its keys, and all its warnings.
+/// The keys of a schema, and all its warnings.
 #[derive(Drop)]
 struct KeysDescribed {
     primary_key: Seq<Text>,
@@ -151,7 +179,7 @@ struct KeysDescribed {
     warnings: Seq<Fault>,
 }
 
-/// What a schema has of these keys, with the warnings on what it hands down, those on itself, and then those on the keys.
+/// Returns the keys of a schema, with the warnings on what columns inherit, those on the schema, and those on the keys.
 fn described_keys(
     alloc: Global,
     handed_down: Seq<Fault>,
@@ -171,7 +199,7 @@ fn described_keys(
     })
 }
 
-/// The schema of these columns and keys, with its warnings and then those on the keys.
+/// Returns the schema of these columns and keys, with its warnings and then those on the keys.
 fn with_keys(
     alloc: Global,
     columns: Seq<ColumnDescription>,

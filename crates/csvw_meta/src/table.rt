@@ -1,30 +1,61 @@
 //! Tables (Metadata Vocabulary for Tabular Data, section 5.4).
-ghost use Rattle.std.specs.Prelude.{◌≡◌};
+ghost use Rattle.std.specs.Prelude.{◌≡◌, ◌++◌};
 ghost use Rattle.serde_json.specs.View.{view};
 ghost use Rattle.csvw_meta_core.specs.Pointer.{text_of};
 ghost use Rattle.csvw_meta_core.specs.Reads.{Reads};
-ghost use Rattle.csvw_meta.specs.Table.{table_of, table_others};
+ghost use Rattle.csvw_meta_notes.specs.Places.{place_of};
+ghost use Rattle.csvw_meta_notes.specs.Unlisted.{all_warnings};
+ghost use Rattle.csvw_meta_inherited.specs.Names.{inherited_names};
+ghost use Rattle.csvw_meta.specs.Table.{sole_table_names, table_names, table_of, table_others};
 
 use crate::body::{read_body, read_dialect};
 use csvw_description::TableDescription;
 use csvw_meta_core::{
-    Fixed, IdReader, NumberedReader, Part, Reader, Refusal, Truth, UrlReader, joined,
+    Context, Fixed, IdReader, NumberedReader, Part, Reader, Refusal, Truth, UrlReader, joined,
 };
-use csvw_meta_inherited::{Context, read_notes, sole_table_warnings, table_warnings};
+use csvw_meta_inherited::annotated_warnings;
 use csvw_meta_keys::KeysFound;
-use csvw_text::{Fault, Seq};
+use csvw_meta_notes::read_notes;
+use csvw_text::{Fault, Place, Seq};
 use serde_json::Value;
 
-/// A table, and the keys of its own schema with the places where they stand.
+/// The properties of a table of a group.
+const TABLE: [&str; 9] = [
+    "url",
+    "@id",
+    "@type",
+    "dialect",
+    "tableSchema",
+    "notes",
+    "suppressOutput",
+    "tableDirection",
+    "transformations",
+];
+
+/// The properties of a table that is the document.
+const SOLE_TABLE: [&str; 10] = [
+    "@context",
+    "url",
+    "@id",
+    "@type",
+    "dialect",
+    "tableSchema",
+    "notes",
+    "suppressOutput",
+    "tableDirection",
+    "transformations",
+];
+
+/// A table, and the keys of its own schema with their places.
 #[derive(Drop)]
 pub(crate) struct TableFound {
     /// The table.
     pub(crate) table: TableDescription,
-    /// The keys; none: it has no schema of its own.
+    /// The keys, or `None` if the table has no schema of its own.
     pub(crate) keys: Option<KeysFound>,
 }
 
-/// A table of a group, by its number.
+/// Reads a table of a group, by its number.
 #[derive(Drop)]
 pub(crate) struct TableReader<'a> {
     /// The document's context.
@@ -46,6 +77,30 @@ impl<'a> NumberedReader for TableReader<'a> {
     }
 }
 
+/// The warnings on the table of this number in its group, and on its annotations.
+fn table_warnings(table: u32, part: &Part) -> Result<Seq<Fault>, Refusal>
+    ensures { Reads result (all_warnings (table_names ++ inherited_names) (place_of table 0) (text_of part.now.at) (view part.now.value.now)) }
+{
+    let place = Place {
+        table,
+        row: 0,
+        column: 0,
+    };
+    annotated_warnings(&TABLE, place, part)
+}
+
+/// The warnings on the table that is the document, and on its annotations.
+fn sole_table_warnings(part: &Part) -> Result<Seq<Fault>, Refusal>
+    ensures { Reads result (all_warnings (sole_table_names ++ inherited_names) (place_of 1 0) (text_of part.now.at) (view part.now.value.now)) }
+{
+    let place = Place {
+        table: 1,
+        row: 0,
+        column: 0,
+    };
+    annotated_warnings(&SOLE_TABLE, place, part)
+}
+
 fn warnings_of(sole: bool, number: u32, part: &Part) -> Result<Seq<Fault>, Refusal>
     ensures { Reads result (table_others sole number (text_of part.now.at) (view part.now.value.now)) }
 {
@@ -56,7 +111,7 @@ fn warnings_of(sole: bool, number: u32, part: &Part) -> Result<Seq<Fault>, Refus
     }
 }
 
-/// The table of this number that an object describes, which may be the document.
+/// Reads the table of this number from an object, which may be the document.
 #[tactic(auto, using(crate::proofs::ReadLemmas::fails_first), unfolding(crate::specs::Table::table_of))]
 pub(crate) fn table_of(
     context: &Context,

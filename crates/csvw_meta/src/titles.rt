@@ -11,7 +11,7 @@ use csvw_text::{LanguageTag, Seq, Text};
 use serde_json::{Map, Value};
 use std::alloc::{AllocError, Global};
 
-/// The texts that aren't empty.
+/// Returns the texts that are not empty.
 fn not_empty(alloc: Global, texts: &[Text]) -> Result<Seq<Text>, AllocError>
     ensures { IfOk result (λ s. s ≡ not_empty texts.now) }
 {
@@ -33,7 +33,7 @@ fn is_language(language: &Option<LanguageTag>, key: &str) -> bool
     }
 }
 
-/// The titles of one language.
+/// Reads the titles of one language.
 fn title_texts(part: &Part) -> Result<Seq<Text>, Refusal>
     ensures { Reads result (title_texts (text_of part.now.at) (view part.now.value.now)) }
 {
@@ -59,7 +59,7 @@ fn of_key(part: &Part, key: &str, value: &Value) -> Result<Seq<Text>, Refusal>
     title_texts(&titles)
 }
 
-/// The titles of all languages, those of the context's language first.
+/// Reads the titles of all languages, those of the context's language first.
 fn all_titles(
     part: &Part,
     language: &Option<LanguageTag>,
@@ -81,8 +81,8 @@ fn all_titles(
     Ok(Seq::of(first))
 }
 
-/// The titles of a column that aren't empty: a text, an array of texts, or an object from languages to
-/// either, of which those of the context's language come first.
+/// Reads the titles of a column that are not empty: a text, an array of texts, or an object from languages to either.
+/// Those of the context's language come first.
 #[derive(Drop)]
 pub(crate) struct Titles<'a> {
     /// The context's language.

@@ -13,12 +13,12 @@ use csvw_description::Description;
 use csvw_iri::{Base, IriFault};
 use csvw_meta_core::{MetaCode, MetaFault, Part, Pointer, Refusal};
 use csvw_meta_datatype::datatypes_fit;
-use csvw_meta_inherited::dialects_fit;
+use csvw_meta_dialect::dialects_fit;
 use csvw_text::Text;
 use serde_json::{Value, json};
 use std::alloc::{AllocError, Global};
 
-/// The document that has the context and that URL alone.
+/// Returns the document with the context and that URL and nothing else.
 fn plain_document(alloc: Global, url: &str) -> Result<Value, AllocError>
     ensures { IfOk result (λ v. view v ≡ plain_document url.now) }
 {
@@ -52,14 +52,14 @@ fn plain_description(alloc: Global, url: &str) -> Result<Description, Refusal>
     described(&part, &base)
 }
 
-/// The group of the one table of that URL, with no schema and the default dialect: the description of
-/// a document that has the context and that `url` alone, at that URL. `BadUrl` or `UrlTooLong` at
-/// `/url` where it is none; the code `Memory` where there is none for the group.
+/// Returns the group of the one table of that URL, with no schema and the default dialect. It is the description of a
+/// document with the context and that `url` and nothing else, at that URL. If the text is not a URL, the fault is
+/// `BadUrl` or `UrlTooLong` at `/url`. If there is no memory for the group, it has the code `Memory`.
 pub fn plain(alloc: Global, url: &str) -> Result<Description, MetaFault>
-    // What is read stands in a document without faults, and so keeps the limits and rules of descriptions.
+    // The result comes from a document without faults, so it keeps the limits and rules of descriptions.
     ensures found { IfOk result (λ d. group_in (plain_description url.now) ≡ Some d) }
     ensures plannable { IfOk result IsPlannable }
-    // What is refused has that fault.
+    // A document that is refused has that fault.
     ensures fault { IfErr result (λ e. e.code ≢ MetaCode.Memory → IsFault (plain_description url.now) e) }
     ensures url { IfErr result (λ e. e.code ≢ MetaCode.Memory → IsOfUrl e) }
 {

@@ -1,4 +1,4 @@
--- How many items an array has, and that a wrong count is told beside what is wrong with the items.
+-- The number of items of an array. A wrong number is reported beside the faults of the items.
 use Rattle.std.proofs.Common.{◌≡◌, List, [], ◌∷◌, Bool, true, false, if◌then◌else◌, Result, Ok, Err, length, refl, arith}
 use Rattle.serde_json.specs.View.{items_view}
 use Rattle.serde_json.specs.declared.value.Value.{Value}

@@ -1,3 +1,4 @@
+mod ContextLemmas
 mod EachLemmas
 mod ItemsLemmas
 mod NamesLemmas

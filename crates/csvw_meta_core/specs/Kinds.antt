@@ -1,4 +1,4 @@
--- The kinds of value that a property may have (Metadata Vocabulary for Tabular Data, section 5.1).
+-- The kinds of value that a property has (Metadata Vocabulary for Tabular Data, section 5.1).
 use Rattle.std.specs.Prelude.{ℕ, List, [], ◌∷◌, nat_le, ◌==◌, bytes_eq, length, if◌then◌else◌, option_and_then, Bool, false, ⊤}
 use Rattle.std.specs.Str.{chars}
 use Rattle.serde_json.specs.Data.{Data, null, boolean, number, string, array, object}
@@ -20,7 +20,7 @@ text at d = on_kind at d [] (as_str d) fine
 abbrev pub some_text : List ℕ → Data → Read (List ℕ)
 some_text at d = on_kind at d [] (as_str d) (λ s. if length s == 0 then faulty BadProperty at [] else fine s)
 
--- one text alone
+-- one given text and no other
 abbrev pub fixed : List ℕ → List ℕ → Data → Read ⊤
 fixed word at d = on_kind at d tt (as_str d) (λ s. if bytes_eq s word then fine tt else faulty BadProperty at tt)
 
@@ -33,7 +33,7 @@ whole most at d =
 abbrev pub any_whole : List ℕ → Data → Read ℕ
 any_whole at d = on_kind at d 0 (option_and_then as_u64 (as_number d)) fine
 
--- how many characters there are
+-- how many characters there are: none, one or several
 abbrev pub sole_of : List ℕ → Sole
 sole_of [] = Empty
 sole_of (c ∷ []) = One c
@@ -44,7 +44,7 @@ one_of several at Empty = faulty BadProperty at 0
 one_of several at (One c) = fine c
 one_of several at Several = faulty several at 0
 
--- one character; several have a code of their own
+-- one character; the code for several characters is given
 abbrev pub character : MetaCode → List ℕ → Data → Read ℕ
 character several at d = on_kind at d 0 (as_str d) (λ s. one_of several at (sole_of (chars s)))
 
@@ -57,6 +57,6 @@ texts at (boolean b) = wrong at (boolean b) []
 texts at (number n) = wrong at (number n) []
 texts at (object ms) = wrong at (object ms) []
 
--- a language tag; another value has a code of its own
+-- a language tag; the code for another value is given
 abbrev pub language : MetaCode → List ℕ → Data → Read (List ℕ)
 language code at d = on_kind_as code at d [] (as_str d) (λ s. if is_language_tag s then fine s else faulty code at [])

@@ -1,6 +1,9 @@
+pub mod Context
+pub mod Fine
 pub mod Kinds
 pub mod Links
 pub mod Listed
+pub mod MetaCodes
 pub mod Others
 pub mod Pointer
 pub mod Read

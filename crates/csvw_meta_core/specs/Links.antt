@@ -12,7 +12,7 @@ use Rattle.csvw_meta_core.specs.Read.{Read, fine, faulty, on_kind}
 abbrev pub no_url : Parts
 no_url = record { scheme = []; username = []; password = []; host = None; port = None; path = []; query = None; fragment = None }
 
--- what a text resolves to, or why it resolves to nothing
+-- the result of resolving a text: the value, or the fault
 abbrev pub told : {A : Type 0} → List ℕ → A → Result A iri.Refusal → Read A
 told at dummy (Ok a) = fine a
 told at dummy (Err too_long) = faulty UrlTooLong at dummy
@@ -22,7 +22,7 @@ told at dummy (Err bad) = faulty BadUrl at dummy
 abbrev pub url : Parts → List ℕ → Data → Read Parts
 url base at d = on_kind at d no_url (as_str d) (λ s. told at no_url (base_of (Some base) s))
 
--- an `@id`, which may not name a blank node
+-- an `@id`, which must not name a blank node
 abbrev pub id : Parts → List ℕ → Data → Read (List ℕ)
 id base at d =
     on_kind at d [] (as_str d) (λ s. if starts_with nat_eq s (codes "_:") then faulty BadId at [] else told at [] (resolved base s))

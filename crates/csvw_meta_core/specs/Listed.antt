@@ -1,4 +1,4 @@
--- The names that are listed for an object.
+-- All names that are listed for an object.
 use Rattle.std.specs.Prelude.{ℕ, List, ◌++◌}
 use Rattle.csvw_meta_core.specs.declared.others.Listed.{Listed}
 use Rattle.csvw_meta_core.specs.Others.{names_of}

@@ -1,19 +1,19 @@
--- The properties of an object that the vocabulary doesn't list for it (Metadata Vocabulary for Tabular Data, section 4.1): one with a
--- colon in its name is a common property (section 5.8), any other is ignored with a warning.
+-- The properties of an object that the vocabulary doesn't list for it: `others` (Metadata Vocabulary for Tabular Data, section
+-- 4.1). One with a colon in its name is a common property (section 5.8). Any other is ignored with a warning.
 use Rattle.std.specs.Prelude.{ℕ, ◌==◌, List, [], ◌∷◌, ◌++◌, Bool, true, false, bytes_eq, map, if◌then◌else◌}
 use Rattle.std.specs.Borrow.{Bor}
 use Rattle.std.specs.List.{list_any}
 use Rattle.serde_json.specs.Data.{Data, null, boolean, number, string, array, object, Members, no_members, member}
-use Rattle.csvw_text.specs.declared.fault.Place.{Place}
-use Rattle.csvw_text.specs.declared.fault.Fault.{Fault}
-use Rattle.csvw_text.specs.declared.fault.Code.TheVariants.{UnknownProperty}
-use Rattle.csvw_text.specs.declared.fault.Kind.TheVariants.{Warning}
+use Rattle.csvw_fault.specs.declared.fault.Place.{Place}
+use Rattle.csvw_fault.specs.declared.fault.Fault.{Fault}
+use Rattle.csvw_fault.specs.declared.fault.Code.TheVariants.{UnknownProperty}
+use Rattle.csvw_fault.specs.declared.fault.Kind.TheVariants.{Warning}
 use Rattle.csvw_meta_core.specs.declared.others.CommonProperty.{CommonProperty}
 use Rattle.csvw_meta_core.specs.declared.others.CommonProperty.TheVariants.{Allowed, Refused}
 use Rattle.csvw_meta_core.specs.Pointer.{below}
 use Rattle.csvw_meta_core.specs.Read.{Read, fine, wrong, both}
 
--- texts that are lent
+-- the texts that are borrowed
 abbrev pub names_of : List (Bor (List ℕ)) → List (List ℕ)
 names_of names = map (λ n. n.now) names
 
@@ -26,7 +26,7 @@ is_among names name = list_any (λ n. bytes_eq n name) names
 abbrev pub warning_at : Place → Fault
 warning_at place = record { place = place; code = UnknownProperty; kind = Warning }
 
--- A common property is never ignored. Where none may stand, it is of a wrong kind.
+-- A common property is never ignored. If it is not allowed, it is a value of a wrong kind.
 abbrev pub judged : CommonProperty → List ℕ → Data → Read Bool
 judged Allowed at d = fine false
 judged Refused at d = wrong at d false

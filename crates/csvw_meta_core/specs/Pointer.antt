@@ -1,9 +1,9 @@
--- Where a value stands in a document: JSON Pointers (RFC 6901).
+-- The place of a value in a document: JSON Pointers (RFC 6901).
 use Rattle.std.specs.Prelude.{ℕ, ◌==◌, List, [], ◌∷◌, ◌++◌, codes, decimal, if◌then◌else◌}
 use Rattle.std.specs.List.{flat_map}
 use Rattle.csvw_meta_core.specs.declared.pointer.Pointer.{Pointer, Root, Member', Item'}
 
--- what `~` and `/` become, else the bytes (RFC 6901, section 3)
+-- `~` and `/` are escaped, other bytes stay (RFC 6901, section 3)
 abbrev pub escape : ℕ → List ℕ → List ℕ
 escape c bytes = if c == 126 then codes "~0" else (if c == 47 then codes "~1" else bytes)
 

@@ -1,5 +1,5 @@
--- Arrays (Metadata Vocabulary for Tabular Data, section 5.1.1) of a limited number of items. Where there are too many, each is
--- judged all the same.
+-- Arrays (Metadata Vocabulary for Tabular Data, section 5.1.1) with a limited number of items. If there are too many, each is still
+-- checked.
 use Rattle.std.specs.Prelude.{ℕ, ◌+◌, List, [], ◌∷◌, nat_lt, if◌then◌else◌}
 use Rattle.serde_json.specs.Data.{Data, null, boolean, number, string, array, object, Items, no_items, item}
 use Rattle.csvw_meta_core.specs.declared.fault.MetaCode.TheVariants.{BadProperty, TooMany}
@@ -11,7 +11,7 @@ abbrev pub items_len : Items → ℕ
 items_len no_items = 0
 items_len (item d ds) = 1 + items_len ds
 
--- so many items at least, and so many at most
+-- at least this many items, and at most that many
 abbrev pub count_faults : ℕ → ℕ → List ℕ → Items → List MetaFault
 count_faults least most at ds =
     if nat_lt (items_len ds) least then record { code = BadProperty; pointer = at } ∷ []
@@ -20,7 +20,7 @@ count_faults least most at ds =
 abbrev pub some_items : {A : Type 0} → ℕ → ℕ → (ℕ → List ℕ → Data → Read A) → List ℕ → Items → Read (List A)
 some_items least most reads at ds = also (each_numbered reads at 0 ds) (λ faults xs. count_faults least most at ds)
 
--- an array of so many items
+-- an array with this many items
 abbrev pub several : {A : Type 0} → ℕ → ℕ → (ℕ → List ℕ → Data → Read A) → List ℕ → Data → Read (List A)
 several least most reads at (array ds) = some_items least most reads at ds
 several least most reads at null = wrong at null []

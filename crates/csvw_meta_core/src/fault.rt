@@ -1,5 +1,6 @@
-//! What is wrong with a metadata document.
+//! The faults of a metadata document.
 ghost use Rattle.std.specs.Prelude.{◌≡◌, IfOk};
+ghost use Rattle.csvw_meta_core.specs.MetaCodes.{name_of};
 
 use csvw_text::Text;
 use std::alloc::{AllocError, AllocFailed, Global};
@@ -11,45 +12,72 @@ use std::fmt;
 pub enum MetaCode {
     /// There is no memory for what the document says.
     Memory,
-    /// The document, or a template in it, is past its limit.
+    /// The document, or a template in it, is longer than its limit.
     TooLong,
-    /// The bytes are no JSON text (RFC 8259), or nest too deep.
+    /// The bytes are not a JSON text (RFC 8259), or the text is nested too deep.
     NotJson,
-    /// The property `@context` is missing, or isn't that of the vocabulary.
+    /// The property `@context` is missing, or is not the context of the vocabulary.
     BadContext,
-    /// A property's value is of a wrong kind, or a needed property is missing.
+    /// The value of a property is of a wrong kind, or a required property is missing.
     BadProperty,
     /// An `@id` names a blank node.
     BadId,
-    /// A text is no URL.
+    /// A text is not a URL.
     BadUrl,
-    /// A text that is to be a URL is past its limit.
+    /// A text that must be a URL is longer than its limit.
     UrlTooLong,
-    /// A part of the vocabulary that isn't supported.
+    /// A part of the vocabulary is not supported.
     NotSupported,
-    /// No text can be read by a dialect.
+    /// A dialect cannot be used to read any text.
     BadDialect,
-    /// A datatype has a format or facets that it can't have.
+    /// A datatype has a format or facets that it cannot have.
     BadDatatype,
-    /// A text is no URI template (RFC 6570).
+    /// A text is not a URI template (RFC 6570).
     BadTemplate,
-    /// A template is of a level that isn't supported (RFC 6570, section 1.2).
+    /// A template is of a level that is not supported (RFC 6570, section 1.2).
     TemplateLevel,
-    /// A column's name is no name of a variable.
+    /// The name of a column is not the name of a variable.
     BadName,
-    /// Two columns of a table have one name.
+    /// Two columns of a table have the same name.
     DuplicateName,
-    /// A virtual column stands in front of one that isn't.
+    /// A virtual column comes before a column that is not virtual.
     VirtualOrder,
-    /// Two tables of a group have one URL.
+    /// Two tables of a group have the same URL.
     DuplicateTable,
-    /// A key names a column or a table that there isn't.
+    /// A key names a column or a table that does not exist.
     BadReference,
-    /// There are more items than the limit, or a number is above its own.
+    /// There are more items than the limit, or a number is above its limit.
     TooMany,
 }
 
 impl MetaCode {
+    /// Returns the name of the variant, as the program's lines spell it.
+    pub fn name(&self) -> &'static str
+        ensures { result.now ≡ name_of self.now }
+    {
+        match self {
+            MetaCode::Memory => "Memory",
+            MetaCode::TooLong => "TooLong",
+            MetaCode::NotJson => "NotJson",
+            MetaCode::BadContext => "BadContext",
+            MetaCode::BadProperty => "BadProperty",
+            MetaCode::BadId => "BadId",
+            MetaCode::BadUrl => "BadUrl",
+            MetaCode::UrlTooLong => "UrlTooLong",
+            MetaCode::NotSupported => "NotSupported",
+            MetaCode::BadDialect => "BadDialect",
+            MetaCode::BadDatatype => "BadDatatype",
+            MetaCode::BadTemplate => "BadTemplate",
+            MetaCode::TemplateLevel => "TemplateLevel",
+            MetaCode::BadName => "BadName",
+            MetaCode::DuplicateName => "DuplicateName",
+            MetaCode::VirtualOrder => "VirtualOrder",
+            MetaCode::DuplicateTable => "DuplicateTable",
+            MetaCode::BadReference => "BadReference",
+            MetaCode::TooMany => "TooMany",
+        }
+    }
+
     /// What is wrong and what to do, as a sentence without its full stop.
     fn sentence(&self) -> &'static str {
         match self {
@@ -90,12 +118,12 @@ impl Error for MetaCode {}
 pub struct MetaFault {
     /// What is wrong.
     pub code: MetaCode,
-    /// The JSON Pointer (RFC 6901) of the value, or of the object where a property is missing.
+    /// The JSON Pointer (RFC 6901) of the value, or of the object in which a property is missing.
     pub pointer: Text,
 }
 
 impl MetaFault {
-    /// An equal fault; `AllocError` where there is no memory.
+    /// Returns an equal fault, or `AllocError` if there is no memory.
     pub fn clone(&self, alloc: Global) -> Result<MetaFault, AllocError>
         ensures { IfOk result (λ f. f ≡ self.now) }
     {
@@ -106,12 +134,12 @@ impl MetaFault {
     }
 }
 
-/// Why a part of a document isn't read.
+/// Why a part of a document is not read.
 #[derive(Debug, Drop)]
 pub enum Refusal {
     /// There is no memory for it.
     Memory,
-    /// A fault that stands in the part.
+    /// A fault of the part.
     Fault(MetaFault),
 }
 

@@ -1,10 +1,10 @@
-//! What several parts of a document give, in one list.
+//! One list from two lists.
 ghost use Rattle.std.specs.Prelude.{◌≡◌, ◌++◌, IfOk};
 
 use csvw_text::Seq;
 use std::alloc::AllocError;
 
-/// A list, and then another; `AllocError` where there is no memory for both in one.
+/// Returns the first list followed by the second, or `AllocError` if there is no memory for one list of both.
 pub fn joined<T: Drop>(first: Seq<T>, then: Seq<T>) -> Result<Seq<T>, AllocError>
     ensures { IfOk result (λ all. all ≡ first ++ then) }
 {

@@ -1,4 +1,6 @@
-//! The kinds of value that a property may have (Metadata Vocabulary for Tabular Data, section 5.1).
+//! The kinds of value that a property has (Metadata Vocabulary for Tabular Data, section 5.1).
+//!
+//! A value of a wrong kind is `BadProperty`, or `NotSupported` if it is a number that is not whole.
 ghost use Rattle.std.specs.Prelude.{◌≡◌, ◌≤◌, IfOk};
 ghost use Rattle.std.specs.Str.{chars};
 ghost use Rattle.serde_json.specs.View.{view};
@@ -12,7 +14,8 @@ use crate::reader::{Reader, each};
 use csvw_text::{LanguageTag, Seq, Text};
 use serde_json::Value;
 
-/// A truth.
+/// Reads a boolean: `true` or `false`. Another value is `BadProperty`, or `NotSupported` if it is a number that is not
+/// whole.
 #[derive(Drop)]
 pub struct Truth;
 
@@ -29,7 +32,7 @@ impl Reader for Truth {
     }
 }
 
-/// A text.
+/// Reads a text. Another value is `BadProperty`, or `NotSupported` if it is a number that is not whole.
 #[derive(Drop)]
 pub struct AnyText;
 
@@ -46,7 +49,8 @@ impl Reader for AnyText {
     }
 }
 
-/// A text that isn't empty; an empty one is `BadProperty`.
+/// Reads a text that is not empty. An empty text is `BadProperty`. So is another value, but a number that is not whole
+/// is `NotSupported`.
 #[derive(Drop)]
 pub struct SomeText;
 
@@ -66,7 +70,8 @@ impl Reader for SomeText {
     }
 }
 
-/// One text alone, such as the name of a type; another is `BadProperty`.
+/// Reads one given text, such as the name of a type. Another value is `BadProperty`, or `NotSupported` if it is a
+/// number that is not whole.
 #[derive(Drop)]
 pub struct Fixed<'a> {
     /// The text.
@@ -87,7 +92,8 @@ impl<'a> Reader for Fixed<'a> {
     }
 }
 
-/// A whole number from 0 up to a limit; one above it is `TooMany`.
+/// Reads a whole number from 0 to a limit. One above the limit is `TooMany`. A number that is not whole is
+/// `NotSupported`, and another value is `BadProperty`.
 #[derive(Drop)]
 pub struct WholeU8 {
     /// The limit.
@@ -104,7 +110,8 @@ impl Reader for WholeU8 {
     }
 }
 
-/// A whole number from 0 up to a limit; one above it is `TooMany`.
+/// Reads a whole number from 0 to a limit. One above the limit is `TooMany`. A number that is not whole is
+/// `NotSupported`, and another value is `BadProperty`.
 #[derive(Drop)]
 pub struct WholeU32 {
     /// The limit.
@@ -121,7 +128,7 @@ impl Reader for WholeU32 {
     }
 }
 
-/// A whole number from 0 on. What a u64 doesn't hold isn't whole.
+/// Reads a whole number from 0 up. A number that a u64 cannot hold does not count as whole.
 #[derive(Drop)]
 pub struct AnyWhole;
 
@@ -149,10 +156,10 @@ fn whole(part: &Part, most: u64) -> Result<u64, Refusal>
     }
 }
 
-/// One character.
+/// Reads a text of one character. An empty text is `BadProperty`.
 #[derive(Drop)]
 pub struct Character {
-    /// What several characters are.
+    /// The code for a text of several characters.
     pub several: MetaCode,
 }
 
@@ -194,7 +201,7 @@ fn count_chars(text: &str) -> Sole
     }
 }
 
-/// A text, or an array of texts.
+/// Reads a text as a list of one, or an array of texts.
 #[derive(Drop)]
 pub struct Texts;
 
@@ -216,10 +223,10 @@ impl Reader for Texts {
     }
 }
 
-/// A language tag.
+/// Reads a language tag. Another value has the given code, or `NotSupported` if it is a number that is not whole.
 #[derive(Drop)]
 pub struct Language {
-    /// What another value is.
+    /// The code for another value.
     pub wrong: MetaCode,
 }
 

@@ -7,11 +7,11 @@ use crate::part::Part;
 use crate::reader::Reader;
 use csvw_iri::{Base, Iri, IriFault, resolve};
 
-/// A URL, resolved against a base and without its fragment; `UrlTooLong` or `BadUrl` where it
-/// resolves to none.
+/// Reads a URL. It is resolved against a base, and its fragment is dropped. A text that resolves to no URL is
+/// `UrlTooLong` or `BadUrl`.
 #[derive(Drop)]
 pub struct UrlReader<'a> {
-    /// What it is resolved against.
+    /// The base.
     pub base: &'a Base,
 }
 
@@ -33,11 +33,11 @@ impl<'a> Reader for UrlReader<'a> {
     }
 }
 
-/// An `@id`: a text that names no blank node, else it is `BadId`, resolved against a base; `UrlTooLong`
-/// or `BadUrl` where it resolves to none.
+/// Reads an `@id`, which is resolved against a base. A text that names a blank node is `BadId`. A text that resolves to
+/// nothing is `UrlTooLong` or `BadUrl`.
 #[derive(Drop)]
 pub struct IdReader<'a> {
-    /// What it is resolved against.
+    /// The base.
     pub base: &'a Base,
 }
 

@@ -1,4 +1,4 @@
-//! The items of an array whose reading depends on their number.
+//! The items of an array that are read by their numbers.
 ghost use Rattle.std.specs.Prelude.{◌≡◌, ◌<◌, ◌^◌, ◌+◌, List, ℕ, length};
 ghost use Rattle.serde_json.specs.Data.{Data};
 ghost use Rattle.serde_json.specs.View.{view, items_view};
@@ -11,20 +11,20 @@ use crate::part::Part;
 use csvw_text::Seq;
 use serde_json::Value;
 
-/// A kind of value that the items of an array have, by their number. The member `reads` says what an
-/// item is read as, by its number and at the pointer of its place.
+/// A kind of value for the items of an array, by their number. The ghost member `reads` defines what an item is read
+/// as, by its number and the pointer of its place.
 pub trait NumberedReader {
-    /// What an item is read as.
+    /// The type that an item is read as.
     type Output: Drop;
 
     ghost reads: { Self → ℕ → List ℕ → Data → Read Self.Output };
 
-    /// What the item of that number, from 1, says; a fault that stands in it, or `Memory`.
+    /// Reads the item of that number, from 1. It returns the value, a fault of the item, or `Memory`.
     fn read(&self, number: u32, part: &Part) -> Result<Self::Output, Refusal>
         ensures { Reads result (reads self.now number (text_of part.now.at) (view part.now.value.now)) };
 }
 
-/// Each item of the array that the part is.
+/// Reads each item of the array that the part is. It returns the values in order, a fault of an item, or `Memory`.
 pub fn each_numbered<R: NumberedReader>(
     part: &Part,
     reader: &R,

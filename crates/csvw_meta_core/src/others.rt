@@ -1,5 +1,5 @@
-//! The properties of an object that the vocabulary doesn't list for it (Metadata Vocabulary for Tabular
-//! Data, section 5.8 and section 4.1).
+//! The properties of an object that the vocabulary doesn't list for it (Metadata Vocabulary for Tabular Data, sections
+//! 4.1 and 5.8).
 ghost use Rattle.std.specs.Prelude.{◌≡◌};
 ghost use Rattle.serde_json.specs.View.{view, members_view};
 ghost use Rattle.csvw_meta_core.specs.Pointer.{text_of};
@@ -13,25 +13,25 @@ use crate::reader::Reader;
 use csvw_text::{Code, Fault, Kind, Place, Seq};
 use serde_json::{Map, Value};
 
-/// What becomes of a common property of an object, one that has a colon in its name and isn't listed.
+/// How a common property of an object is treated. A common property has a colon in its name and is not listed.
 #[derive(Debug, Clone, Copy, Drop)]
 pub enum CommonProperty {
-    /// It is an annotation of the object, and no warning.
+    /// It is an annotation of the object and makes no warning.
     Allowed,
-    /// It is `BadProperty`, or `NotSupported` where its value is a number that isn't whole.
+    /// It is `BadProperty`, or `NotSupported` if its value is a number that is not whole.
     Refused,
 }
 
-/// The warnings on the properties of an object that aren't listed for it.
+/// Makes a warning for each property of an object that is not listed for it and is not a common property.
 #[derive(Drop)]
 pub struct Listed<'a> {
-    /// The names of the properties that are listed for the kind of object.
+    /// The names of the properties that are listed for this kind of object.
     pub names: &'a [&'a str],
-    /// Those of the properties that it shares with other kinds.
+    /// The names of the properties that are listed for it and for other kinds.
     pub shared: &'a [&'a str],
-    /// What becomes of its common properties.
+    /// How its common properties are treated.
     pub common: CommonProperty,
-    /// Where the warnings are told.
+    /// The place of the warnings.
     pub place: Place,
 }
 

@@ -1,4 +1,4 @@
-//! A part of a document, and the faults that are told of it.
+//! A part of a document, and the faults that are reported of it.
 ghost use Rattle.std.specs.Prelude.{◌≡◌, ◌∷◌, []};
 ghost use Rattle.serde_json.specs.View.{view};
 ghost use Rattle.csvw_meta_core.specs.Pointer.{text_of, below, item_at};
@@ -11,19 +11,19 @@ use crate::reader::Reader;
 use serde_json::Value;
 use std::alloc::Global;
 
-/// A value of a document, and where it stands.
+/// A value of a document, and its place.
 #[derive(Clone, Copy)]
 pub struct Part<'a> {
-    /// Gives the memory for what is read.
+    /// The allocator for what is read.
     pub alloc: Global,
-    /// Where the value stands.
+    /// The place of the value.
     pub at: Pointer<'a>,
     /// The value.
     pub value: &'a Value,
 }
 
 impl<'a> Part<'a> {
-    /// The fault of that code at this place, or `Memory` where there is none for it.
+    /// Returns the fault of that code at this place, or `Memory` if there is no memory for the fault.
     pub fn refused(&self, code: MetaCode) -> Refusal
         ensures { Fails result (record { code = code; pointer = text_of self.now.at } ∷ []) }
     {
@@ -33,16 +33,16 @@ impl<'a> Part<'a> {
         }
     }
 
-    /// The fault of a value of a wrong kind: `BadProperty`, or `NotSupported` for a number that isn't
-    /// whole; `Memory` where there is none for it.
+    /// Returns the fault of a value of a wrong kind: `NotSupported` for a number that is not whole, else
+    /// `BadProperty`. It returns `Memory` if there is no memory for the fault.
     pub fn wrong(&self) -> Refusal
         ensures { Fails result (record { code = code_for MetaCode.BadProperty (view self.now.value.now); pointer = text_of self.now.at } ∷ []) }
     {
         self.wrong_as(MetaCode::BadProperty)
     }
 
-    /// The fault of a value of a wrong kind that has this code, or `NotSupported` for a number that
-    /// isn't whole; `Memory` where there is none for it.
+    /// Returns the fault of a value of a wrong kind: `NotSupported` for a number that is not whole, else this code. It
+    /// returns `Memory` if there is no memory for the fault.
     pub fn wrong_as(&self, code: MetaCode) -> Refusal
         ensures { Fails result (record { code = code_for code (view self.now.value.now); pointer = text_of self.now.at } ∷ []) }
     {
@@ -52,7 +52,7 @@ impl<'a> Part<'a> {
         }
     }
 
-    /// A property of this object, or the default where it is missing. A fault is the reader's.
+    /// Reads a property of this object, or returns the default if the property is missing. Each fault is the reader's.
     pub fn property<R: Reader>(
         &self,
         reader: &R,
@@ -67,7 +67,7 @@ impl<'a> Part<'a> {
         }
     }
 
-    /// A property of this object, or none where it is missing. A fault is the reader's.
+    /// Reads a property of this object, or returns `None` if the property is missing. Each fault is the reader's.
     pub fn optional<R: Reader>(&self, reader: &R, name: &str) -> Result<Option<R::Output>, Refusal>
         ensures { Reads result (optional (R.reads reader.now) (text_of self.now.at) (view self.now.value.now) name.now) }
     {
@@ -77,8 +77,8 @@ impl<'a> Part<'a> {
         }
     }
 
-    /// A property of this object; `BadProperty` at the object where it is missing. Another fault is
-    /// the reader's.
+    /// Reads a property of this object. If the property is missing, the fault is `BadProperty` at the object. Any other
+    /// fault is the reader's.
     pub fn needed<R: Reader>(&self, reader: &R, name: &str) -> Result<R::Output, Refusal>
         ensures { (dummy : R.Output) → Reads result (needed (R.reads reader.now) dummy (text_of self.now.at) (view self.now.value.now) name.now) }
     {
@@ -88,7 +88,7 @@ impl<'a> Part<'a> {
         }
     }
 
-    /// The member of that name of this object.
+    /// Returns the part for the member of that name of this object.
     pub fn member<'b>(&'b self, name: &'b str, value: &'b Value) -> Part<'b>
         ensures at { text_of result.at ≡ below (text_of self.now.at) name.now }
         ensures value { result.value.now ≡ value.now }
@@ -100,7 +100,7 @@ impl<'a> Part<'a> {
         }
     }
 
-    /// The item of that index, from 0, of this array.
+    /// Returns the part for the item of that index, from 0, of this array.
     pub fn item<'b>(&'b self, index: usize, value: &'b Value) -> Part<'b>
         ensures at { text_of result.at ≡ item_at (text_of self.now.at) index }
         ensures value { result.value.now ≡ value.now }

@@ -1,24 +1,24 @@
-//! Where a value stands in a document.
+//! The place of a value in a document.
 ghost use Rattle.std.specs.Prelude.{◌≡◌, ◌++◌, IfOk, OnOk, string_bytes, encode_utf8};
 ghost use Rattle.csvw_meta_core.specs.Pointer.{text_of, escape, escaped};
 
 use csvw_text::Text;
 use std::alloc::{AllocError, Global};
 
-/// Where a value stands in a document: a JSON Pointer (RFC 6901) as its steps, so that going down
-/// takes no memory. Contracts see its text, by `text_of`.
+/// The place of a value in a document: a JSON Pointer (RFC 6901). It is kept as its steps, so one step further takes no
+/// memory. Contracts see its text, by `text_of`.
 #[derive(Clone, Copy)]
 pub enum Pointer<'a> {
     /// The whole document.
     Root,
-    /// The member of that name of the object at a pointer.
+    /// The member of that name, in the object at the pointer.
     Member(&'a Pointer<'a>, &'a str),
-    /// The item of that index, from 0, of the array at a pointer.
+    /// The item of that index, from 0, in the array at the pointer.
     Item(&'a Pointer<'a>, usize),
 }
 
 impl<'a> Pointer<'a> {
-    /// The pointer's text, in which `~` and `/` of a name stand as `~0` and `~1`; `AllocError` where
+    /// Returns the text of the pointer. In a name, `~` becomes `~0` and `/` becomes `~1`. It returns `AllocError` if
     /// there is no memory.
     pub fn text(&self, alloc: Global) -> Result<Text, AllocError>
         ensures { IfOk result (λ t. t ≡ text_of self.now) }

@@ -11,23 +11,23 @@ use crate::part::Part;
 use csvw_text::Seq;
 use serde_json::Value;
 
-/// A kind of value that a document may hold at a place. The member `reads` says what a value is read
-/// as, at the pointer of its place.
+/// A kind of value in a document. The ghost member `reads` defines what a value is read as, by the pointer of its
+/// place.
 pub trait Reader {
-    /// What a value of the kind is read as.
+    /// The type that a value of this kind is read as.
     type Output: Drop;
 
     ghost reads: { Self → List ℕ → Data → Read Self.Output };
 
-    /// What the part says; a fault that stands in it, or `Memory`.
+    /// Reads the part. It returns the value, a fault of the part, or `Memory`.
     fn read(&self, part: &Part) -> Result<Self::Output, Refusal>
         ensures { Reads result (reads self.now (text_of part.now.at) (view part.now.value.now)) };
 }
 
-/// A value of a kind, or null.
+/// Reads a value of a kind, or null as `None`.
 #[derive(Drop)]
 pub struct OrNull<R> {
-    /// The kind.
+    /// The reader of the kind.
     pub reader: R,
 }
 
@@ -44,7 +44,7 @@ impl<R: Reader> Reader for OrNull<R> {
     }
 }
 
-/// What isn't supported, whatever its value.
+/// Refuses every value as `NotSupported`.
 #[derive(Drop)]
 pub struct NotYet;
 
@@ -58,7 +58,7 @@ impl Reader for NotYet {
     }
 }
 
-/// Each item of the array that the part is.
+/// Reads each item of the array that the part is. It returns the values in order, a fault of an item, or `Memory`.
 pub fn each<R: Reader>(part: &Part, reader: &R, items: &[Value]) -> Result<Seq<R::Output>, Refusal>
     ensures { Reads result (each (R.reads reader.now) (text_of part.now.at) 0 (items_view items.now)) }
 {

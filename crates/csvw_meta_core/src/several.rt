@@ -1,4 +1,4 @@
-//! Arrays of a limited number of items.
+//! Arrays with a limited number of items.
 ghost use Rattle.std.specs.Prelude.{◌≡◌};
 ghost use Rattle.serde_json.specs.View.{items_view};
 ghost use Rattle.csvw_meta_core.specs.Pointer.{text_of};
@@ -12,14 +12,15 @@ use crate::reader::Reader;
 use csvw_text::Seq;
 use serde_json::Value;
 
-/// An array; fewer items than the least are `BadProperty`, more than the most `TooMany`.
+/// Reads an array. Fewer items than the least number are `BadProperty`. More items than the greatest number are
+/// `TooMany`.
 #[derive(Drop)]
 pub struct Several<R> {
-    /// How an item is read.
+    /// The reader of an item.
     pub reader: R,
-    /// How many items there are at least.
+    /// The least number of items.
     pub least: u32,
-    /// How many there are at most.
+    /// The greatest number of items.
     pub most: u32,
 }
 

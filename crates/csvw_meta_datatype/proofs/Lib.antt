@@ -1,3 +1,7 @@
+mod FacetFitLemmas
+mod FormatSoundLemmas
 mod NameLemmas
+mod PatternLemmas
 mod ReadLemmas
 mod SoundLemmas
+mod TruthLemmas

@@ -1,10 +1,10 @@
--- Each datatype that is described fits together, also where a fault stands in it.
+-- The parts of each datatype that is read fit together, even if there is a fault in it.
 use Rattle.std.specs.Prelude.{◌≡◌, ℕ, List, [], ◌∷◌, true, Option, Some, None, codes}
 use Rattle.std.proofs.Common.{refl}
 use Rattle.serde_json.specs.Data.{Data, null, boolean, number, string, array, object}
 use Rattle.serde_json.specs.Find.{get}
 use Rattle.url.specs.Parts.{Parts}
-use Rattle.csvw_text.specs.declared.fault.Place.{Place}
+use Rattle.csvw_fault.specs.declared.fault.Place.{Place}
 use Rattle.csvw_datatype.specs.declared.simple.Simple.{Simple}
 use Rattle.csvw_datatype.specs.declared.simple.Simple.TheVariants.{Text, Truth, Whole, Decimal, Day, Uri, Derived, Moment}
 use Rattle.csvw_datatype.specs.Formats.{IsFormatOf}
@@ -14,9 +14,9 @@ use Rattle.csvw_meta_core.specs.declared.fault.MetaFault.{MetaFault}
 use Rattle.csvw_meta_core.specs.Pointer.{below}
 use Rattle.csvw_meta_core.specs.Read.{Read, given, optional, property}
 use Rattle.csvw_meta_core.specs.Links.{id}
-use Rattle.csvw_meta_format.specs.Formats.{format, no_format}
-use Rattle.csvw_meta_facets.specs.Facets.{facets}
-use Rattle.csvw_meta_facets.specs.Fit.{FacetsFit}
+use Rattle.csvw_meta_datatype.specs.Formats.{format, no_format}
+use Rattle.csvw_meta_datatype.specs.Facets.{facets}
+use Rattle.csvw_meta_datatype.specs.Fit.{FacetsFit}
 use Rattle.csvw_meta_datatype.specs.declared.form.DatatypeFound.{DatatypeFound}
 use Rattle.csvw_meta_datatype.specs.Base.{base}
 use Rattle.csvw_meta_datatype.specs.Datatypes.{plain, named, of_type, based, form, datatype}
@@ -39,7 +39,7 @@ no_bounds s = record { minimum = tt; min_inclusive = tt; min_exclusive = tt; max
 plain_sound : (s : Simple) (id : Option (List ℕ)) → IsSound (plain s id)
 plain_sound s id = record { format = tt; bounds = no_bounds s; lengths_apply = no_lengths s; lengths_agree = refl; bounds_agree = refl }
 
--- the laws of csvw_meta_format and csvw_meta_facets
+-- the laws of formats and facets
 
 abbrev FormatsFit : Type 0
 FormatsFit = (s : Simple) (place : Place) (at : List ℕ) (d : Data) → IsFormatOf s (format s place at d).value.format

@@ -1,4 +1,4 @@
--- What a text names among the built-in datatypes (Metadata Vocabulary for Tabular Data, section 5.11.1).
+-- The built-in datatype that a text names (Metadata Vocabulary for Tabular Data, section 5.11.1).
 use Rattle.std.specs.Prelude.{ℕ, List, Option, Some, None}
 use Rattle.serde_json.specs.Data.{Data}
 use Rattle.serde_json.specs.Find.{as_str}
@@ -12,6 +12,6 @@ abbrev pub simple_found : List ℕ → Option Simple → Read Simple
 simple_found at None = faulty NotSupported at Text
 simple_found at (Some s) = fine s
 
--- the name of a built-in datatype; another is not supported
+-- the name of a built-in datatype; another name is not supported
 abbrev pub base : List ℕ → Data → Read Simple
 base at d = on_kind at d Text (as_str d) (λ s. simple_found at (named_of s))

@@ -1,8 +1,8 @@
--- Datatypes (Metadata Vocabulary for Tabular Data, section 5.11).
+-- The datatype that a value of a document describes, and its faults (Metadata Vocabulary for Tabular Data, section 5.11).
 use Rattle.std.specs.Prelude.{ℕ, List, [], ◌++◌, Option, None, codes}
 use Rattle.serde_json.specs.Data.{Data, null, boolean, number, string, array, object}
 use Rattle.url.specs.Parts.{Parts}
-use Rattle.csvw_text.specs.declared.fault.Place.{Place}
+use Rattle.csvw_fault.specs.declared.fault.Place.{Place}
 use Rattle.csvw_datatype.specs.declared.simple.Simple.{Simple}
 use Rattle.csvw_datatype.specs.declared.simple.Simple.TheVariants.{Text}
 use Rattle.csvw_datatype.specs.declared.datatype.Datatype.{Datatype}
@@ -10,15 +10,15 @@ use Rattle.csvw_datatype.specs.Breaks.{no_facets}
 use Rattle.csvw_meta_core.specs.Read.{Read, fine, ◌>>=◌, under, property, optional}
 use Rattle.csvw_meta_core.specs.Kinds.{fixed}
 use Rattle.csvw_meta_core.specs.Links.{id}
-use Rattle.csvw_meta_facets.specs.Facets.{facets}
-use Rattle.csvw_meta_format.specs.Formats.{no_format, format}
+use Rattle.csvw_meta_datatype.specs.Facets.{facets}
+use Rattle.csvw_meta_datatype.specs.Formats.{no_format, format}
 use Rattle.csvw_meta_notes.specs.Unlisted.{unlisted}
 use Rattle.csvw_meta_datatype.specs.declared.form.DatatypeFound.{DatatypeFound}
 use Rattle.csvw_meta_datatype.specs.Base.{base}
 use Rattle.csvw_meta_datatype.specs.Names.{all_simples, datatype_names}
 use Rattle.csvw_meta_datatype.specs.Whichever.{whichever}
 
--- the datatype of a type, with an `@id` or without one
+-- the datatype of a type, with or without an `@id`
 abbrev pub plain : Simple → Option (List ℕ) → Datatype
 plain simple id = record { simple = simple; id = id; format = None; facets = no_facets }
 
@@ -26,7 +26,7 @@ plain simple id = record { simple = simple; id = id; format = None; facets = no_
 abbrev pub named : Simple → DatatypeFound
 named simple = record { datatype = plain simple None; warnings = [] }
 
--- The datatype of a type, with the format and the facets that stand in an object.
+-- The datatype of a type, with the format and the facets of an object.
 unfoldable pub of_type : Option (List ℕ) → Place → List ℕ → Data → Simple → Read DatatypeFound
 of_type id place at d simple = do
   found ← property (format simple place) no_format at d (codes "format")
@@ -36,7 +36,7 @@ of_type id place at d simple = do
     warnings = found.warnings;
   })
 
--- Where an object's type can't be read, its format and its facets have the faults that stand whichever datatype it were.
+-- If the type of an object can't be read, its format and facets have the faults that they have for every datatype.
 abbrev pub based : Option (List ℕ) → Place → List ℕ → Data → Read DatatypeFound
 based id place at d = whichever all_simples (named Text) (property base Text at d (codes "base")) (of_type id place at d)
 
@@ -49,7 +49,7 @@ form against place at d = do
   found ← based iri place at d
   fine (record { datatype = found.datatype; warnings = found.warnings ++ warnings })
 
--- the datatype of a name, or that of an object
+-- the datatype of a name or of an object
 unfoldable pub datatype : Parts → Place → List ℕ → Data → Read DatatypeFound
 datatype against place at (object ms) = form against place at (object ms)
 datatype against place at null = under named (base at null)

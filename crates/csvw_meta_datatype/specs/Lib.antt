@@ -1,4 +1,12 @@
 pub mod Base
+pub mod Bounds
 pub mod Datatypes
+pub mod Facets
+pub mod Fit
+pub mod Formats
+pub mod Lengths
 pub mod Names
+pub mod Numbers
+pub mod Patterns
+pub mod Truths
 pub mod Whichever

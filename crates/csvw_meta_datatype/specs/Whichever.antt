@@ -1,6 +1,6 @@
--- What hangs on a value that can't be read has the faults that stand whichever value it were. So beside a `base` that is none those faults
--- of a datatype's format and facets are told that each of the supported datatypes would have (Metadata Vocabulary for Tabular Data,
--- section 5.11.2), but for `BadDatatype`: datatypes that aren't supported have formats and bounds of their own.
+-- The faults that depend on a value that can't be read: those that it has whichever value it is (Metadata Vocabulary for Tabular
+-- Data, section 5.11.2). So if a `base` can't be read, the faults of the format and the facets are those that every supported
+-- datatype has. `BadDatatype` is left out, because datatypes that aren't supported have formats and bounds of their own.
 use Rattle.std.specs.Prelude.{◌&&◌, not, List, [], ◌∷◌, ◌++◌, Bool, true, false, bytes_eq, filter, map}
 use Rattle.std.specs.List.{list_all, list_any}
 use Rattle.csvw_meta_core.specs.declared.fault.MetaCode.{MetaCode}
@@ -36,16 +36,16 @@ is_same_code _ _ = false
 abbrev pub is_among : List MetaFault → MetaFault → Bool
 is_among faults f = list_any (λ g. is_same_code g.code f.code && bytes_eq g.pointer f.pointer) faults
 
--- the faults that stand in each of several lists
+-- the faults that are in all of several lists
 abbrev pub common : List (List MetaFault) → List MetaFault
 common [] = []
 common (faults ∷ others) = filter (λ f. list_all (λ other. is_among other f) others) faults
 
--- those of them that stand whichever datatype it were
+-- those of them that every datatype has
 abbrev pub of_any : List (List MetaFault) → List MetaFault
 of_any lists = filter (λ f. not (is_same_code f.code BadDatatype)) (common lists)
 
--- the second value by the first one, or by each that this may be
+-- the second value by the first one, or by each value that the first one may be
 abbrev pub by_faults : {A B : Type 0} → List A → B → List MetaFault → A → (A → Read B) → Read B
 by_faults values dummy [] a next = next a
 by_faults values dummy (f ∷ fs) a next = record { faults = (f ∷ fs) ++ of_any (map (λ x. (next x).faults) values); value = dummy }

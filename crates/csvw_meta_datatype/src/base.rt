@@ -12,7 +12,7 @@ fn simple_named(name: &str) -> Option<Simple>
     Simple::of(name)
 }
 
-/// The name of a built-in datatype; another is `NotSupported`.
+/// Reads the name of a built-in datatype. Another name is `NotSupported`.
 #[derive(Drop)]
 pub(crate) struct BaseReader;
 

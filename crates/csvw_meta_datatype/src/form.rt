@@ -1,4 +1,4 @@
-//! Datatypes that are described by objects (Metadata Vocabulary for Tabular Data, section 5.11.2).
+//! Datatypes that objects describe (Metadata Vocabulary for Tabular Data, section 5.11.2).
 ghost use Rattle.std.specs.Prelude.{◌≡◌, ◌++◌, [], None};
 ghost use Rattle.serde_json.specs.View.{view};
 ghost use Rattle.csvw_meta_core.specs.Pointer.{text_of};
@@ -8,11 +8,11 @@ ghost use Rattle.csvw_meta_datatype.specs.Names.{datatype_names};
 ghost use Rattle.csvw_meta_datatype.specs.Datatypes.{based, form, of_type, plain};
 
 use crate::base::BaseReader;
+use crate::facets::FacetsReader;
+use crate::format::{FormatFound, FormatReader};
 use csvw_datatype::{Datatype, Facets, Simple};
 use csvw_iri::{Base, Iri};
 use csvw_meta_core::{Fixed, IdReader, Part, Reader, Refusal, joined};
-use csvw_meta_facets::FacetsReader;
-use csvw_meta_format::{FormatFound, FormatReader};
 use csvw_meta_notes::{NoteContext, read_unlisted};
 use csvw_text::{Fault, Place, Seq};
 
@@ -38,11 +38,11 @@ const DATATYPE: [&str; 13] = [
 pub struct DatatypeFound {
     /// The datatype. Its format and its facets fit its type and each other.
     pub datatype: Datatype,
-    /// One for each property of it, or of its format, that is ignored.
+    /// A warning for each property of the datatype, or of its format, that is ignored.
     pub warnings: Seq<Fault>,
 }
 
-/// The datatype of a type, with an `@id` or without one.
+/// Returns the datatype of a type without a format and facets, with or without an `@id`.
 pub(crate) fn plain(simple: Simple, id: Option<Iri>) -> Datatype
     ensures { result ≡ plain simple id }
 {
@@ -54,7 +54,7 @@ pub(crate) fn plain(simple: Simple, id: Option<Iri>) -> Datatype
     }
 }
 
-/// The warnings on a datatype. Its annotations give nothing, so that no language is theirs.
+/// Returns the warnings on a datatype. Its annotations are checked but not kept, so no language is needed.
 fn warnings_of(base: &Base, place: Place, part: &Part) -> Result<Seq<Fault>, Refusal>
     ensures { Reads result (unlisted base.now None (datatype_names ++ []) place (text_of part.now.at) (view part.now.value.now)) }
 {
@@ -65,7 +65,7 @@ fn warnings_of(base: &Base, place: Place, part: &Part) -> Result<Seq<Fault>, Ref
     read_unlisted(&context, &DATATYPE, &[], place, part)
 }
 
-/// The datatype of a type, with the format and the facets that stand in the object.
+/// Reads the format and the facets of the object, for the datatype of a type.
 #[tactic(auto, using(crate::proofs::ReadLemmas::fails_first), unfolding(crate::specs::Datatypes::of_type))]
 fn read_of_type(
     simple: Simple,
@@ -92,7 +92,7 @@ fn read_of_type(
     })
 }
 
-// A format and facets are judged by the type, so that they are read behind `base`.
+// The type decides which format and facets are allowed, so `base` is read first.
 #[tactic(auto, using(crate::proofs::ReadLemmas::fails_by))]
 fn read_based(id: Option<Iri>, place: Place, part: &Part) -> Result<DatatypeFound, Refusal>
     ensures { Reads result (based id place (text_of part.now.at) (view part.now.value.now)) }
@@ -101,7 +101,7 @@ fn read_based(id: Option<Iri>, place: Place, part: &Part) -> Result<DatatypeFoun
     read_of_type(simple, id, place, part)
 }
 
-/// The datatype that an object describes; its `@id` is resolved against the base.
+/// Reads the datatype that an object describes. Its `@id` is resolved against the base.
 #[tactic(auto, using(crate::proofs::ReadLemmas::fails_first), unfolding(crate::specs::Datatypes::form))]
 pub(crate) fn read_form(base: &Base, place: Place, part: &Part) -> Result<DatatypeFound, Refusal>
     ensures { Reads result (form base.now place (text_of part.now.at) (view part.now.value.now)) }

@@ -2,15 +2,15 @@
 ghost use Rattle.std.specs.Prelude.{List, ℕ};
 ghost use Rattle.serde_json.specs.Data.{Data};
 ghost use Rattle.url.specs.Parts.{Parts};
-ghost use Rattle.csvw_text.specs.declared.fault.Place.{Place};
+ghost use Rattle.csvw_fault.specs.declared.fault.Place.{Place};
 ghost use Rattle.csvw_datatype.specs.Sound.{IsSound};
 ghost use Rattle.csvw_meta_datatype.specs.Datatypes.{datatype};
 
-use csvw_meta_facets::facets_fit;
-use csvw_meta_format::formats_fit;
+use crate::facet_laws::facets_fit;
+use crate::format_laws::formats_fit;
 
-/// A law: the format and the facets of the datatype that is read fit its type and each other, also where a fault
-/// stands in it. So it passes `Datatype::check`.
+/// A law: the format and the facets of the datatype that is read fit its type and each other, even if there is a fault
+/// in it. So the datatype passes `Datatype::check`.
 pub fn datatypes_fit()
     ensures { (against : Parts) (place : Place) (at : List ℕ) (d : Data) → IsSound (datatype against place at d).value.datatype }
 {

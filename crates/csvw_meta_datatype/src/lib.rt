@@ -1,11 +1,28 @@
-//! What datatype a value of a metadata document describes, or what is wrong with it (Metadata Vocabulary for
+//! The datatype that a metadata document names or describes: a lower part of csvw_meta (Metadata Vocabulary for
 //! Tabular Data, section 5.11).
+//!
+//! # Promises
+//!
+//! - A name or an object is read as a datatype with its format and facets, or reported as a fault in it:
+//!   `DatatypeReader` (`Reads`).
+//! - The datatype that is read passes `Datatype::check`: the law `datatypes_fit` (`IsSound`).
+//! - A format that is read is one of its type, and facets that are read fit the type and each other: the private laws
+//!   `formats_fit` and `facets_fit`.
 #![tactic(auto)]
 
 mod base;
+mod bounds;
+mod facet_laws;
+mod facets;
 mod form;
+mod format;
+mod format_laws;
 mod laws;
+mod lengths;
+mod number;
+mod pattern;
 mod reader;
+mod truth;
 
 pub use form::DatatypeFound;
 pub use laws::datatypes_fit;

@@ -6,12 +6,12 @@ use csvw_meta_core::{Part, Reader, Refusal};
 use csvw_text::{Place, Seq};
 use serde_json::Value;
 
-/// A datatype: the name of a built-in one, or an object. A name that isn't known is `NotSupported`.
+/// Reads a datatype: the name of a built-in one, or an object. An unknown name is `NotSupported`.
 #[derive(Drop)]
 pub struct DatatypeReader<'a> {
-    /// What its `@id` is resolved against.
+    /// The base against which its `@id` is resolved.
     pub base: &'a Base,
-    /// Where the warnings on it are told.
+    /// The place of the warnings.
     pub place: Place,
 }
 

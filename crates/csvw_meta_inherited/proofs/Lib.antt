@@ -1,4 +1,1 @@
-mod ContextLemmas
-mod FineLemmas
-mod FitDialect
 mod ReadLemmas

@@ -1,17 +1,17 @@
--- The inherited properties of an object (Metadata Vocabulary for Tabular Data, section 5.7).
+-- The inherited properties of an object of a document, and their faults (Metadata Vocabulary for Tabular Data, section 5.7).
 use Rattle.std.specs.Prelude.{ℕ, List, codes}
 use Rattle.serde_json.specs.Data.{Data}
 use Rattle.csvw_meta_core.specs.declared.fault.MetaCode.TheVariants.{BadProperty}
 use Rattle.csvw_meta_core.specs.Read.{Read, fine, ◌>>=◌, optional, or_null}
 use Rattle.csvw_meta_core.specs.Kinds.{truth, text, some_text, texts, language}
-use Rattle.csvw_meta_inherited.specs.declared.context.Context.{Context}
+use Rattle.csvw_meta_core.specs.declared.context.Context.{Context}
 use Rattle.csvw_meta_inherited.specs.declared.inherited.CellTexts.{CellTexts}
 use Rattle.csvw_meta_inherited.specs.declared.inherited.InheritedFound.{InheritedFound}
 use Rattle.csvw_meta_inherited.specs.declared.inherited.UriTemplates.{UriTemplates}
 use Rattle.csvw_meta_inherited.specs.Datatype.{given_datatype}
 use Rattle.csvw_meta_inherited.specs.TemplateText.{template_text}
 
--- the URI template properties: what the subjects, predicates and objects of cells are
+-- the URI template properties: the subjects, predicates and objects of cells
 unfoldable pub uri_templates : List ℕ → Data → Read UriTemplates
 uri_templates at d = do
   about_url ← optional template_text at d (codes "aboutUrl")
@@ -19,7 +19,7 @@ uri_templates at d = do
   value_url ← optional template_text at d (codes "valueUrl")
   fine (record { about_url = about_url; property_url = property_url; value_url = value_url })
 
--- what is said of the string values of cells: what stands for an empty one, their language, and which are null
+-- what is said of the texts of cells: the replacement of an empty text, the language, and which texts are null
 unfoldable pub cell_texts : List ℕ → Data → Read CellTexts
 cell_texts at d = do
   default ← optional text at d (codes "default")
@@ -27,7 +27,7 @@ cell_texts at d = do
   null_texts ← optional texts at d (codes "null")
   fine (record { default = default; lang = lang; null = null_texts })
 
--- The inherited properties of the column of this number, of the table of that number, 0 for none and for the group.
+-- The inherited properties of the column of this number (0: not a column), in the table of that number (0: in the group).
 unfoldable pub inherited : Context → ℕ → ℕ → List ℕ → Data → Read InheritedFound
 inherited context table column at d = do
   templates ← uri_templates at d

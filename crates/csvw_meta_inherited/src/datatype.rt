@@ -5,9 +5,8 @@ ghost use Rattle.csvw_meta_core.specs.Pointer.{text_of};
 ghost use Rattle.csvw_meta_core.specs.Reads.{Reads};
 ghost use Rattle.csvw_meta_inherited.specs.Datatype.{split, given_datatype};
 
-use crate::context::Context;
 use csvw_datatype::Datatype;
-use csvw_meta_core::{Part, Refusal};
+use csvw_meta_core::{Context, Part, Refusal};
 use csvw_meta_datatype::{DatatypeFound, DatatypeReader};
 use csvw_text::{Fault, Place, Seq, Shared};
 use std::alloc::{AllocError, Global};
@@ -34,8 +33,8 @@ fn split(alloc: Global, found: Option<DatatypeFound>) -> Result<DatatypeGiven, A
     }
 }
 
-/// The datatype that stands in the object of the column of this number, of the table of that number, 0 for
-/// none and for the group.
+/// Reads the datatype in the object of a column. The column and its table have these numbers. The column number is 0
+/// if the object is not a column. The table number is 0 for the group.
 #[tactic(auto, unfolding(crate::specs::Datatype::given_datatype))]
 pub(crate) fn read_datatype(
     context: &Context,

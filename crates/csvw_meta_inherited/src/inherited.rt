@@ -5,17 +5,16 @@ ghost use Rattle.csvw_meta_core.specs.Pointer.{text_of};
 ghost use Rattle.csvw_meta_core.specs.Reads.{Reads};
 ghost use Rattle.csvw_meta_inherited.specs.Inherited.{uri_templates, cell_texts, inherited};
 
-use crate::context::Context;
 use crate::datatype::read_datatype;
 use crate::template::TemplateReader;
 use csvw_description::Inherited;
 use csvw_meta_core::{
-    AnyText, Language, MetaCode, OrNull, Part, Reader, Refusal, SomeText, Texts, Truth,
+    AnyText, Context, Language, MetaCode, OrNull, Part, Reader, Refusal, SomeText, Texts, Truth,
 };
 use csvw_template::Template;
 use csvw_text::{Fault, LanguageTag, Seq, Shared, Text};
 
-/// A value of a kind, to be shared by the columns that inherit it.
+/// Reads a value of a kind, which the columns that inherit it share.
 #[derive(Drop)]
 struct SharedOf<R> {
     reader: R,
@@ -35,13 +34,13 @@ impl<R: Reader> Reader for SharedOf<R> {
 /// The inherited properties of an object, and the warnings on its datatype.
 #[derive(Drop)]
 pub struct InheritedFound {
-    /// Those that stand in the object itself.
+    /// The properties that the object itself has.
     pub inherited: Inherited,
-    /// One for each property of the datatype that is ignored.
+    /// A warning for each property of the datatype that is ignored.
     pub warnings: Seq<Fault>,
 }
 
-/// The URI template properties of an object; `None`: the object doesn't have it.
+/// The URI template properties of an object. `None`: the object does not have the property.
 #[derive(Drop)]
 struct UriTemplates {
     /// `aboutUrl`: the subject of the cells' triples.
@@ -81,10 +80,10 @@ fn uri_templates(part: &Part) -> Result<UriTemplates, Refusal>
     })
 }
 
-/// What an object says of the texts of cells; `None`: the object doesn't have it.
+/// What an object says of the texts of cells. `None`: the object does not have the property.
 #[derive(Drop)]
 struct CellTexts {
-    /// `default`: what stands for an empty text.
+    /// `default`: the text that replaces an empty text.
     default: Option<Shared<Text>>,
     /// `lang`: the language of texts.
     lang: Option<Shared<LanguageTag>>,
@@ -109,8 +108,9 @@ fn cell_texts(part: &Part) -> Result<CellTexts, Refusal>
     })
 }
 
-/// The inherited properties that stand in the object that the part is: that of the column of this number, of
-/// the table of that number, 0 for none and for the group. A fault that stands in them, or `Memory`.
+/// Reads the inherited properties of the object that the part is. `table` and `column` are the numbers of the table
+/// and the column of the object. `column` is 0 if the object is not a column, and `table` is 0 for the group. It
+/// returns the properties, a fault in them, or `Memory`.
 #[tactic(auto, using(crate::proofs::ReadLemmas::fails_first), unfolding(crate::specs::Inherited::inherited))]
 pub fn read_inherited(
     context: &Context,

@@ -1,21 +1,21 @@
-//! What objects of a metadata document hand down to those inside them, or what is wrong with it: the context, dialects and
-//! inherited properties; and the properties that aren't listed for their kinds (Metadata Vocabulary for Tabular Data, sections 5.2,
-//! 5.7 and 5.9).
+//! The inherited properties of an object of a metadata document: a lower part of csvw_meta (Metadata Vocabulary for
+//! Tabular Data, section 5.7).
+//!
+//! # Promises
+//!
+//! - The inherited properties of an object are read with its datatype, or a fault in them is reported: `read_inherited`
+//!   (`inherited`).
+//! - A property of an object that is neither of its kind nor inherited is a warning: `inheriting_warnings`
+//!   (`unlisted`), and of a table or a group `annotated_warnings` (`all_warnings`).
+//! - A text is read as a URI template by the grammar of csvw_template: the law `templates_are_read` (`IsTheReading`).
 #![tactic(auto)]
 
-mod context;
 mod datatype;
-mod dialect;
 mod inherited;
+mod inherited_names;
 mod laws;
 mod template;
-mod unlisted;
 
-pub use context::{Context, read_context};
-pub use dialect::{DialectFound, DialectReader};
 pub use inherited::{InheritedFound, read_inherited};
-pub use laws::{dialects_fit, templates_are_read};
-pub use unlisted::{
-    column_warnings, dialect_warnings, group_warnings, read_notes, schema_warnings,
-    sole_table_warnings, table_warnings,
-};
+pub use inherited_names::{annotated_warnings, inheriting_warnings};
+pub use laws::templates_are_read;

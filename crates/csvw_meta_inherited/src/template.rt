@@ -1,10 +1,11 @@
-//! URI templates of documents (Metadata Vocabulary for Tabular Data, section 5.1.3).
+//! The URI templates of documents (Metadata Vocabulary for Tabular Data, section 5.1.3).
 ghost use Rattle.std.specs.Prelude.{◌≡◌};
 
 use csvw_meta_core::{MetaCode, Part, Reader, Refusal};
 use csvw_template::{Template, TemplateFault};
 
-/// A text that is a URI template; else `TooLong`, `BadTemplate` or `TemplateLevel`, whichever the template is first.
+/// Reads a text that is a URI template. The fault is the first one of the template: `TooLong`, `BadTemplate` or
+/// `TemplateLevel`.
 #[derive(Drop)]
 pub(crate) struct TemplateReader;
 

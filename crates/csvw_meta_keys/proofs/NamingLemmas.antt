@@ -41,12 +41,12 @@ pub told : {A : Type 0} (result : Result A Refusal) (e : Refusal) (none : Type 0
 told (Ok a) e none faults h f = absurd h
 told (Err y) e none faults h f = subst (λ z. Fails z faults) (sym h) f
 
--- What comes behind a part that has no faults decides alone.
+-- What comes after a part without faults decides alone.
 pub behind : {A : Type 0} (result : Result A Refusal) (xs ys : List MetaFault) → xs ≡ [] → MatchResult result (λ _. ys ≡ []) (λ e. Fails e ys)
     → MatchResult result (λ _. xs ++ ys ≡ []) (λ e. Fails e (xs ++ ys))
 behind result xs ys none h = subst (λ zs. MatchResult result (λ _. zs ++ ys ≡ []) (λ e. Fails e (zs ++ ys))) (sym none) h
 
--- A table that isn't there is told.
+-- A missing table is reported.
 pub missing : (e : Refusal) (own : List (List ℕ)) (targets : List Target) (key : ForeignKeyFound) → target_of targets key.resource.url ≡ None
     → Fails e (bad_reference key.resource.at ∷ []) → Fails e (foreign_faults all_known own targets key)
 missing e own targets key none h = subst (λ (found : Option Target). Fails e (faults_to all_known own key found)) (sym none) h

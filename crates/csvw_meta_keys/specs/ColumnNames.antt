@@ -1,4 +1,4 @@
--- Names of columns in keys (Metadata Vocabulary for Tabular Data, section 5.1.4).
+-- The names of columns in the keys of a document, and their faults (Metadata Vocabulary for Tabular Data, section 5.1.4).
 use Rattle.std.specs.Prelude.{ℕ, List, [], ◌∷◌}
 use Rattle.serde_json.specs.Data.{Data, null, boolean, number, string, array, object}
 use Rattle.serde_json.specs.Find.{as_str}
@@ -6,7 +6,7 @@ use Rattle.csvw_meta_core.specs.Several.{some_items}
 use Rattle.csvw_meta_core.specs.Read.{Read, fine, wrong, on_kind}
 use Rattle.csvw_meta_keys.specs.declared.column_names.KeyName.{KeyName}
 
--- a name that stands at this pointer
+-- a name at this pointer
 abbrev pub named_at : List ℕ → List ℕ → KeyName
 named_at at name = record { name = name; at = at }
 

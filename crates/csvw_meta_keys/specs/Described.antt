@@ -1,8 +1,8 @@
--- The keys of a schema (Metadata Vocabulary for Tabular Data, section 5.5) as its description has them: names and URLs without the
--- pointers at which they stand.
+-- The keys of a schema as a description has them: names and URLs without their pointers (Metadata Vocabulary for Tabular Data,
+-- section 5.5).
 use Rattle.std.specs.Prelude.{ℕ, List, map, flat_map}
 use Rattle.csvw_description.specs.declared.foreign_key.ForeignKey.{ForeignKey}
-use Rattle.csvw_text.specs.declared.fault.Fault.{Fault}
+use Rattle.csvw_fault.specs.declared.fault.Fault.{Fault}
 use Rattle.csvw_meta_keys.specs.declared.column_names.KeyName.{KeyName}
 use Rattle.csvw_meta_keys.specs.declared.foreign_key.ForeignKeyFound.{ForeignKeyFound}
 

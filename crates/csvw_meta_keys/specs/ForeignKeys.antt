@@ -1,9 +1,10 @@
--- Foreign keys (Metadata Vocabulary for Tabular Data, section 5.5.2.1).
+-- The foreign keys of a schema of a document, and their faults: `foreign_keys` (Metadata Vocabulary for Tabular Data, section
+-- 5.5.2.1).
 use Rattle.std.specs.Prelude.{ℕ, List, [], ◌∷◌, ◌++◌, codes}
 use Rattle.serde_json.specs.Data.{Data}
 use Rattle.url.specs.Parts.{Parts}
-use Rattle.csvw_text.specs.declared.fault.Fault.{Fault}
-use Rattle.csvw_text.specs.declared.fault.Place.{Place}
+use Rattle.csvw_fault.specs.declared.fault.Fault.{Fault}
+use Rattle.csvw_fault.specs.declared.fault.Place.{Place}
 use Rattle.csvw_meta_core.specs.Read.{Read, fine, ◌>>=◌, needed, on_object}
 use Rattle.csvw_meta_core.specs.Several.{several}
 use Rattle.csvw_meta_core.specs.declared.others.CommonProperty.TheVariants.{Refused}
@@ -17,7 +18,7 @@ use Rattle.csvw_meta_keys.specs.References.{reference, no_reference, no_resource
 abbrev pub foreign_key_names : List (List ℕ)
 foreign_key_names = codes "columnReference" ∷ codes "reference" ∷ []
 
--- the foreign key at this pointer, with the warnings on it and then those on what it refers to
+-- the foreign key at this pointer, with the warnings on it and then those on its reference
 abbrev pub joined : List ℕ → List Fault → List KeyName → ReferenceFound → ForeignKeyFound
 joined at warnings columns reference = record {
   at = at;

@@ -1,8 +1,8 @@
--- The keys of a schema (Metadata Vocabulary for Tabular Data, section 5.5).
+-- The keys of a schema of a document, and their faults: `keys` (Metadata Vocabulary for Tabular Data, section 5.5).
 use Rattle.std.specs.Prelude.{ℕ, List, [], codes}
 use Rattle.serde_json.specs.Data.{Data}
 use Rattle.url.specs.Parts.{Parts}
-use Rattle.csvw_text.specs.declared.fault.Place.{Place}
+use Rattle.csvw_fault.specs.declared.fault.Place.{Place}
 use Rattle.csvw_meta_core.specs.Read.{Read, fine, ◌>>=◌, property}
 use Rattle.csvw_meta_keys.specs.declared.keys.KeysFound.{KeysFound}
 use Rattle.csvw_meta_keys.specs.ColumnNames.{column_names}

@@ -1,4 +1,4 @@
--- What keys name (Metadata Vocabulary for Tabular Data, sections 5.5.1 and 5.5.2).
+-- The check that what keys name exists: `key_faults` (Metadata Vocabulary for Tabular Data, sections 5.5.1 and 5.5.2).
 use Rattle.std.specs.Prelude.{ℕ, nat_eq, List, [], ◌∷◌, ◌++◌, Bool, true, false, bytes_eq, length, flat_map, Option, Some, None, if◌then◌else◌}
 use Rattle.std.specs.List.{list_any}
 use Rattle.csvw_meta_core.specs.declared.fault.MetaCode.TheVariants.{BadReference}
@@ -8,7 +8,7 @@ use Rattle.csvw_meta_keys.specs.declared.foreign_key.ForeignKeyFound.{ForeignKey
 use Rattle.csvw_meta_keys.specs.declared.keys.KeysFound.{KeysFound}
 use Rattle.csvw_meta_keys.specs.declared.naming.Target.{Target}
 
--- What could be read of that which the keys of a schema name.
+-- Which of the names in a schema's keys, and of the things that they name, could be read.
 pub record Known : Type 0 where
   -- the names of all columns of the schema
   pub own : Bool
@@ -16,16 +16,16 @@ pub record Known : Type 0 where
   pub urls : Bool
   -- which table is the first of a URL, and the names of all its columns
   pub names : List ℕ → Bool
-  -- what stands at a pointer
+  -- the value at a pointer
   pub at : List ℕ → Bool
   -- both sides of the foreign key at a pointer
   pub sides : List ℕ → Bool
 
--- all of it
+-- all of them
 abbrev pub all_known : Known
 all_known = record { own = true; urls = true; names = λ url. true; at = λ at. true; sides = λ at. true }
 
--- faults that are told where what is judged could be read
+-- faults that are reported only if what is checked could be read
 abbrev pub told_if : Bool → List MetaFault → List MetaFault
 told_if true faults = faults
 told_if false faults = []
@@ -36,7 +36,7 @@ bad_reference at = record { code = BadReference; pointer = at }
 abbrev pub has_name : List (List ℕ) → List ℕ → Bool
 has_name names name = list_any (λ n. bytes_eq n name) names
 
--- A name of a key that isn't one of these is told where it stands.
+-- If a name of a key isn't one of these, the fault is at the name.
 abbrev pub name_fault : Known → List (List ℕ) → KeyName → List MetaFault
 name_fault known names k = told_if (known.at k.at) (if has_name names k.name then [] else bad_reference k.at ∷ [])
 
@@ -48,23 +48,23 @@ abbrev pub target_of : List Target → List ℕ → Option Target
 target_of [] url = None
 target_of (t ∷ ts) url = if bytes_eq t.url url then Some t else target_of ts url
 
--- Sides of unequal length are told at the key.
+-- If the sides are not equally long, the fault is at the key.
 abbrev pub side_faults : Known → ForeignKeyFound → List MetaFault
 side_faults known key =
     told_if (known.sides key.at) (if nat_eq (length key.columns) (length key.referenced) then [] else bad_reference key.at ∷ [])
 
--- Names that are no columns of the table that is found, which is the first of its URL.
+-- The names that are not columns of the table that is found, which is the first of its URL.
 abbrev pub referred_faults : Known → ForeignKeyFound → Target → List MetaFault
 referred_faults known key target = told_if (known.names target.url) (name_faults known target.names key.referenced)
 
--- What is wrong with a foreign key from columns of these names to the table that is found by its URL. A table that isn't there is told
--- alone, at the URL.
+-- What is wrong with a foreign key from columns of these names to the table that is found by its URL. If there is no such table, that is
+-- the only fault, and it is at the URL.
 abbrev pub faults_to : Known → List (List ℕ) → ForeignKeyFound → Option Target → List MetaFault
 faults_to known own key None = told_if known.urls (bad_reference key.resource.at ∷ [])
 faults_to known own key (Some target) =
     told_if known.own (name_faults known own key.columns) ++ (referred_faults known key target ++ side_faults known key)
 
--- A foreign key is judged where the URL that it refers to could be read.
+-- A foreign key is checked if its URL could be read.
 abbrev pub foreign_faults : Known → List (List ℕ) → List Target → ForeignKeyFound → List MetaFault
 foreign_faults known own targets key = told_if (known.at key.resource.at) (faults_to known own key (target_of targets key.resource.url))
 

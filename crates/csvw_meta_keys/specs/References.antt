@@ -1,9 +1,10 @@
--- What a foreign key refers to (Metadata Vocabulary for Tabular Data, section 5.5.2.1).
+-- The `reference` of a foreign key of a document, and its faults: `reference` (Metadata Vocabulary for Tabular Data, section
+-- 5.5.2.1).
 use Rattle.std.specs.Prelude.{ℕ, List, [], ◌∷◌, ◌++◌, codes}
 use Rattle.serde_json.specs.Data.{Data}
 use Rattle.url.specs.Parts.{Parts}
 use Rattle.csvw_iri.specs.Link.{iri_of}
-use Rattle.csvw_text.specs.declared.fault.Place.{Place}
+use Rattle.csvw_fault.specs.declared.fault.Place.{Place}
 use Rattle.csvw_meta_core.specs.Read.{Read, fine, ◌>>=◌, under, needed, optional, on_object, not_yet}
 use Rattle.csvw_meta_core.specs.Links.{url}
 use Rattle.csvw_meta_core.specs.declared.others.CommonProperty.TheVariants.{Refused}
@@ -15,19 +16,19 @@ use Rattle.csvw_meta_keys.specs.ColumnNames.{column_names}
 abbrev pub reference_names : List (List ℕ)
 reference_names = codes "resource" ∷ codes "schemaReference" ∷ codes "columnReference" ∷ []
 
--- the table of a URL that stands at this pointer
+-- the table of a URL at this pointer
 abbrev pub resource_at : List ℕ → Parts → Resource
 resource_at at table = record { url = iri_of table; at = at }
 
--- a URL, as that of a table is read
+-- the URL of a table
 abbrev pub resource : Parts → List ℕ → Data → Read Resource
 resource base at d = under (resource_at at) (url base at d)
 
--- The value in place of one that can't be read stands where the fault stands.
+-- The value in place of one that can't be read. Its place is that of the fault.
 abbrev pub no_resource : List ℕ → Resource
 no_resource at = record { url = []; at = at }
 
--- A schema that is referenced is not supported.
+-- A reference to a schema is not supported.
 unfoldable pub reference_of : Parts → Place → List ℕ → Data → Read ReferenceFound
 reference_of base place at d = do
   schema ← optional not_yet at d (codes "schemaReference")

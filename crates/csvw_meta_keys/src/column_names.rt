@@ -11,7 +11,7 @@ use std::alloc::AllocError;
 /// How many columns a key has at most.
 const MAX_COLUMNS: u32 = 16;
 
-/// The name of a column in a key, and where it stands.
+/// The name of a column in a key, and its place.
 #[derive(Debug, Drop)]
 pub struct KeyName {
     /// The name.
@@ -29,7 +29,7 @@ fn name_here(part: &Part, name: &str) -> Result<KeyName, AllocError>
     })
 }
 
-/// A name of a column.
+/// Reads the name of a column.
 #[derive(Drop)]
 struct KeyNameReader;
 
@@ -46,7 +46,8 @@ impl NumberedReader for KeyNameReader {
     }
 }
 
-/// A name of a column, or an array of one at least and of 16 at most.
+/// Reads the name of a column, or an array of 1 to 16 names. An empty array is `BadProperty`, and a longer one is
+/// `TooMany`.
 #[derive(Drop)]
 pub(crate) struct ColumnNames;
 

@@ -1,4 +1,4 @@
-//! The keys of a schema as its description has them.
+//! The keys of a schema, as a description has them.
 ghost use Rattle.std.specs.Prelude.{◌≡◌, IfOk, map};
 ghost use Rattle.csvw_meta_keys.specs.Described.{all_warnings, described, names_of};
 
@@ -52,21 +52,21 @@ fn all_warnings(alloc: Global, keys: &[ForeignKeyFound]) -> Result<Seq<Fault>, A
 }
 
 impl KeysFound {
-    /// The names of the columns of the primary key; `AllocError` where there is no memory.
+    /// Returns the names of the columns of the primary key, or `AllocError` if there is no memory.
     pub fn primary_key(&self, alloc: Global) -> Result<Seq<Text>, AllocError>
         ensures { IfOk result (λ s. s ≡ names_of self.now.primary) }
     {
         names_of(alloc, self.primary.as_slice())
     }
 
-    /// The foreign keys, in order; `AllocError` where there is no memory.
+    /// Returns the foreign keys in order, or `AllocError` if there is no memory.
     pub fn foreign_keys(&self, alloc: Global) -> Result<Seq<ForeignKey>, AllocError>
         ensures { IfOk result (λ s. s ≡ map described self.now.foreign) }
     {
         each_described(alloc, self.foreign.as_slice())
     }
 
-    /// The warnings on the foreign keys, in order; `AllocError` where there is no memory.
+    /// Returns the warnings on the foreign keys in order, or `AllocError` if there is no memory.
     pub fn warnings(&self, alloc: Global) -> Result<Seq<Fault>, AllocError>
         ensures { IfOk result (λ s. s ≡ all_warnings self.now.foreign) }
     {

@@ -23,13 +23,13 @@ const FOREIGN_KEY: [&str; 2] = ["columnReference", "reference"];
 pub struct ForeignKeyFound {
     /// The JSON Pointer (RFC 6901) of its object.
     pub at: Text,
-    /// The names of the referring columns, from 1 to 16 of them.
+    /// The names of the referring columns, 1 to 16 of them.
     pub columns: Seq<KeyName>,
     /// The table that is referenced.
     pub resource: Resource,
-    /// The names of its columns, from 1 to 16 of them.
+    /// The names of the referenced columns, 1 to 16 of them.
     pub referenced: Seq<KeyName>,
-    /// A warning for each property that is ignored in it.
+    /// A warning for each property of the foreign key that is ignored.
     pub warnings: Seq<Fault>,
 }
 
@@ -45,7 +45,7 @@ fn warnings_of(place: Place, part: &Part) -> Result<Seq<Fault>, Refusal>
     listed.read(part)
 }
 
-/// The foreign key of these columns that the part is, with the warnings on it and on what it refers to.
+/// Returns the foreign key of these columns, with the warnings on it and on its reference.
 fn with_reference(
     part: &Part,
     warnings: Seq<Fault>,
@@ -74,12 +74,12 @@ fn foreign_key_of(base: &Base, place: Place, part: &Part) -> Result<ForeignKeyFo
     Ok(with_reference(part, warnings, columns, reference)?)
 }
 
-/// A foreign key.
+/// Reads a foreign key.
 #[derive(Drop)]
 pub(crate) struct ForeignKeyReader<'a> {
-    /// What URLs are resolved against.
+    /// The base against which URLs are resolved.
     pub(crate) base: &'a Base,
-    /// Where the warnings are told.
+    /// The place of the warnings.
     pub(crate) place: Place,
 }
 

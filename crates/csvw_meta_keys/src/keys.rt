@@ -11,20 +11,26 @@ use csvw_iri::Base;
 use csvw_meta_core::{Part, Refusal, Several};
 use csvw_text::{Place, Seq};
 
-/// How many foreign keys a schema has at most.
+/// The greatest number of foreign keys of a schema.
 const MAX_FOREIGN_KEYS: u32 = 64;
 
 /// The keys of a schema, as a document describes them.
 #[derive(Debug, Drop)]
 pub struct KeysFound {
-    /// The names of the columns of its primary key, at most 16; none: it has no primary key.
+    /// The names of the columns of its primary key, at most 16. If there are none, the schema has no primary key.
     pub primary: Seq<KeyName>,
-    /// Its foreign keys, in order, at most 64.
+    /// Its foreign keys in order, at most 64.
     pub foreign: Seq<ForeignKeyFound>,
 }
 
-/// The keys of the schema that the part is; URLs in them are resolved against the base, and warnings on them are told at the
-/// place.
+/// Reads the keys of the schema that the part is. URLs are resolved against the base, and warnings have the given
+/// place. It returns the keys, a fault of a key, or `Memory`. The faults are:
+///
+/// - `BadProperty`: a value is of a wrong kind, a property is missing, a key has an empty array of columns, or a
+///   foreign key has a common property.
+/// - `TooMany`: a key has over 16 columns, or the schema has over 64 foreign keys.
+/// - `BadUrl` or `UrlTooLong`: the `resource` of a foreign key resolves to no URL.
+/// - `NotSupported`: a foreign key refers to a schema, or a value is a number that is not whole.
 pub fn read_keys(base: &Base, place: Place, part: &Part) -> Result<KeysFound, Refusal>
     ensures { Reads result (keys base.now place (text_of part.now.at) (view part.now.value.now)) }
 {

@@ -1,5 +1,5 @@
-//! What keys name: columns of their own table, and tables of the group with columns of theirs (Metadata Vocabulary for Tabular
-//! Data, sections 5.5.1 and 5.5.2).
+//! The check that what keys name exists: columns of their own table, and other tables of the group with their columns
+//! (Metadata Vocabulary for Tabular Data, sections 5.5.1 and 5.5.2).
 ghost use Rattle.std.specs.Prelude.{◌≡◌, ◌∷◌, [], MatchOption, MatchResult, None, Some, flat_map};
 ghost use Rattle.csvw_meta_core.specs.Reads.{Fails};
 ghost use Rattle.csvw_meta_keys.specs.Naming.{all_known, bad_reference, foreign_faults, has_name, key_faults, name_faults, side_faults, faults_to, target_of};
@@ -17,11 +17,11 @@ use std::alloc::Global;
 pub struct Target {
     /// Its URL, made safe.
     pub url: Iri,
-    /// The names of the columns that it declares.
+    /// The names of its declared columns.
     pub names: Seq<Text>,
 }
 
-/// The fault at this pointer, or `Memory` where there is none for it.
+/// Returns `BadReference` at this pointer, or `Memory` if there is no memory for the fault.
 fn refused(alloc: Global, at: &Text) -> Refusal
     ensures { Fails result (bad_reference at.now ∷ []) }
 {
@@ -40,7 +40,7 @@ fn has_name(names: &[Text], name: &str) -> bool
     names.iter().any(|n| n.as_str() == name)
 }
 
-/// Each name of a key is one of these; else `BadReference` at it.
+/// Checks that each name of a key is one of these names. Else the fault is `BadReference` at the name.
 fn check_names(alloc: Global, names: &[Text], key: &[KeyName]) -> Result<(), Refusal>
     ensures { MatchResult result (λ _. name_faults all_known names.now key.now ≡ []) (λ e. Fails e (name_faults all_known names.now key.now)) }
 {
@@ -52,7 +52,7 @@ fn check_names(alloc: Global, names: &[Text], key: &[KeyName]) -> Result<(), Ref
     Ok(())
 }
 
-/// The first of the tables that has a URL.
+/// Returns the first of the tables that has a URL.
 fn target_of<'a>(targets: &'a [Target], url: &str) -> Option<&'a Target>
     ensures { MatchOption result (target_of targets.now url.now ≡ None) (λ t. target_of targets.now url.now ≡ Some t.now) }
 {
@@ -64,7 +64,7 @@ fn target_of<'a>(targets: &'a [Target], url: &str) -> Option<&'a Target>
     None
 }
 
-/// Both sides of a foreign key have equally many columns; else `BadReference` at the key.
+/// Checks that both sides of a foreign key have equally many columns. Else the fault is `BadReference` at the key.
 fn check_sides(alloc: Global, key: &ForeignKeyFound) -> Result<(), Refusal>
     ensures { MatchResult result (λ _. side_faults all_known key.now ≡ []) (λ e. Fails e (side_faults all_known key.now)) }
 {
@@ -120,9 +120,10 @@ fn check_each(
     Ok(())
 }
 
-/// What the keys of a schema with columns of these names name is there, among the tables of its group: each column of a key, the
-/// table that is referenced by its URL, and as many columns on both sides; else `BadReference` at the name, at the URL or at the
-/// foreign key.
+/// Checks that what the keys of a schema name exists among the tables of its group. `own` has the names of the
+/// schema's columns. A missing name is `BadReference` at the name, and a missing table is `BadReference` at the URL.
+/// If the two sides of a foreign key have different numbers of columns, the fault is `BadReference` at the key. It
+/// returns `Memory` if there is no memory for the fault.
 #[tactic(auto, using(crate::proofs::ReadLemmas::fails_first))]
 pub fn check_keys(
     alloc: Global,

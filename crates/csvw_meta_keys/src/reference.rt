@@ -1,4 +1,4 @@
-//! What a foreign key refers to (Metadata Vocabulary for Tabular Data, section 5.5.2.1, `reference`).
+//! The reference of a foreign key (Metadata Vocabulary for Tabular Data, section 5.5.2.1, `reference`).
 ghost use Rattle.std.specs.Prelude.{◌≡◌, ◌++◌, []};
 ghost use Rattle.serde_json.specs.View.{view};
 ghost use Rattle.csvw_meta_core.specs.Pointer.{text_of};
@@ -14,10 +14,10 @@ use csvw_meta_core::{CommonProperty, Listed, NotYet, Part, Reader, Refusal, UrlR
 use csvw_text::{Fault, Place, Seq, Text, both};
 use serde_json::Value;
 
-/// The properties that are listed for what a foreign key refers to.
+/// The properties that are listed for the reference of a foreign key.
 const REFERENCE: [&str; 3] = ["resource", "schemaReference", "columnReference"];
 
-/// The URL of a table that is referenced, and where it stands.
+/// The URL of a referenced table, and its place.
 #[derive(Debug, Drop)]
 pub struct Resource {
     /// The URL, made safe.
@@ -26,18 +26,18 @@ pub struct Resource {
     pub at: Text,
 }
 
-/// What a foreign key refers to.
+/// The reference of a foreign key.
 #[derive(Debug, Drop)]
 pub(crate) struct ReferenceFound {
     /// The table.
     pub(crate) resource: Resource,
-    /// The names of its columns.
+    /// The names of the referenced columns.
     pub(crate) columns: Seq<KeyName>,
     /// A warning for each property that is ignored.
     pub(crate) warnings: Seq<Fault>,
 }
 
-/// The table of this URL, which stands there.
+/// Returns the table of this URL, with the place of the part.
 fn resource_of(part: &Part, url: &Iri) -> Result<Resource, Refusal>
     ensures { Reads result (fine (record { url = url.now; at = text_of part.now.at })) }
 {
@@ -45,10 +45,11 @@ fn resource_of(part: &Part, url: &Iri) -> Result<Resource, Refusal>
     Ok(Resource { url, at })
 }
 
-/// A URL of a table, resolved against a base and without its fragment; `UrlTooLong` or `BadUrl` where it resolves to none.
+/// Reads the URL of a table. It is resolved against a base, and its fragment is dropped. A text that resolves to no
+/// URL is `UrlTooLong` or `BadUrl`.
 #[derive(Drop)]
 struct ResourceReader<'a> {
-    /// What it is resolved against.
+    /// The base.
     base: &'a Base,
 }
 
@@ -89,12 +90,13 @@ fn reference_of(base: &Base, place: Place, part: &Part) -> Result<ReferenceFound
     })
 }
 
-/// What a foreign key refers to: a table by its URL, and columns of it. That of a schema is `NotSupported`.
+/// Reads the reference of a foreign key: the URL of a table, and columns of it. A reference to a schema is
+/// `NotSupported`.
 #[derive(Drop)]
 pub(crate) struct ReferenceReader<'a> {
-    /// What URLs are resolved against.
+    /// The base against which URLs are resolved.
     pub(crate) base: &'a Base,
-    /// Where the warnings are told.
+    /// The place of the warnings.
     pub(crate) place: Place,
 }
 

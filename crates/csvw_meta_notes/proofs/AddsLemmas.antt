@@ -10,7 +10,7 @@ use Rattle.csvw_meta_core.specs.Read.{Read, both}
 use Rattle.csvw_meta_core.specs.Reads.{Fails}
 use Rattle.csvw_meta_notes.specs.Adds.{with_front}
 use Rattle.csvw_description.specs.declared.note.Note.{Note}
-use Rattle.csvw_meta_notes.specs.Notes.{noted, all_noted}
+use Rattle.csvw_meta_notes.specs.Annotations.{noted, all_noted}
 use Rattle.csvw_meta_notes.proofs.ReadLemmas.{fails_first}
 
 pub stops : {A : Type 0} (front : List A) (r rest total : Read (List A)) → with_front front (both (λ x y. x ++ y) r rest) ≡ total

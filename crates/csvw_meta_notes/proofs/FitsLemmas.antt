@@ -1,4 +1,4 @@
--- What is read of annotations fits.
+-- The annotations that are read fit (each literal with a language has the datatype rdf:langString).
 use Rattle.std.proofs.Common.{ℕ, ◌+◌, List, [], ◌∷◌, ◌++◌, Option, Some, None, Bool, true, false, if◌then◌else◌, codes, refl}
 use Rattle.serde_json.specs.Data.{unsigned, negative, float, Data, null, boolean, number, string, array, object}
 use Rattle.serde_json.specs.Data.{Items, no_items, item, Members, no_members, member}
@@ -16,7 +16,7 @@ use Rattle.csvw_meta_notes.specs.Fits.{IsFitLiteral, AreFitNotes, literal_fits, 
 use Rattle.csvw_meta_notes.specs.Literals.{literal, with_own}
 use Rattle.csvw_meta_notes.specs.Names.{name_of, type_name, type_names}
 use Rattle.csvw_meta_notes.specs.Nodes.{node, node_id}
-use Rattle.csvw_meta_notes.specs.Notes.{note, described, if_common, noted, all_noted, common, annotations, note_items, notes}
+use Rattle.csvw_meta_notes.specs.Annotations.{note, described, if_common, noted, all_noted, common, annotations, note_items, notes}
 use Rattle.csvw_meta_notes.specs.Scalars.{typed, tagged, in_language, scalar}
 use Rattle.csvw_meta_notes.specs.Vocabulary.{csvw_note}
 

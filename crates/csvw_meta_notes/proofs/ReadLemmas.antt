@@ -13,12 +13,12 @@ pub fails_first : (e : Refusal) (xs ys : List MetaFault) → Fails e xs → Fail
 fails_first refusal.Memory xs ys h = tt
 fails_first (refusal.Fault f) xs ys h = Contains-append_left xs ys f h
 
--- What a `?` returns is told in what is read.
+-- What a `?` returns is a fault of what is read.
 pub refused : {A : Type 0} (result : Result A Refusal) (e : Refusal) (r : Read A) → IsErrAnd result (λ y. y ≡ e) → Fails e r.faults → Reads result r
 refused (Ok a) e r h f = absurd h
 refused (Err y) e r h f = subst (λ z. Fails z r.faults) (sym h) f
 
--- A fault behind a part that has none is told.
+-- A fault after a part that has none is reported.
 pub later : {A : Type 0} (e : Refusal) (r : Read A) (a : A) (ys : List MetaFault) → r ≡ fine a → Fails e ys → Fails e (r.faults ++ ys)
 later {A = A} e r a ys is h = subst (λ (s : Read A). Fails e (s.faults ++ ys)) (sym is) h
 

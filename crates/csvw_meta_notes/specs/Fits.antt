@@ -1,4 +1,4 @@
--- Notes whose literals have the datatype rdf:langString where they have a language (RDF 1.1 Concepts, section 3.3).
+-- Notes in which each literal with a language has the datatype rdf:langString (RDF 1.1 Concepts, section 3.3).
 use Rattle.std.specs.Prelude.{◌≡◌, ℕ, List, [], ◌∷◌, Some, Option}
 use Rattle.csvw_description.specs.declared.note.Note.{Note}
 use Rattle.csvw_description.specs.declared.note.NoteLiteral.{NoteLiteral}
@@ -9,7 +9,7 @@ use Rattle.csvw_iri.specs.Vocabulary.{lang_string}
 abbrev pub IsFitLiteral : NoteLiteral → Type 0
 IsFitLiteral l = (language : List ℕ) → l.language ≡ Some language → l.datatype ≡ lang_string
 
--- a literal that fits, or a node whose notes do
+-- a literal that fits, or a node whose notes fit
 mutual
   pub data IsFitNote : Note → Type 0 where
     literal_fits : (key : List ℕ) (l : NoteLiteral) → IsFitLiteral l → IsFitNote (record { key = key; value = Literal l })

@@ -4,7 +4,8 @@ pub mod Literals
 pub mod Members
 pub mod Names
 pub mod Nodes
-pub mod Notes
+pub mod Annotations
+pub mod Places
 pub mod Scalars
 pub mod Unlisted
 pub mod Vocabulary

@@ -1,4 +1,4 @@
--- Literals that are described by objects with `@value` (Metadata Vocabulary for Tabular Data, section 6.2).
+-- Literals that are objects with `@value` (Metadata Vocabulary for Tabular Data, section 6.2).
 use Rattle.std.specs.Prelude.{ℕ, List, Bool, true, false, codes, Option, Some, None, ⊤, not, if◌then◌else◌}
 use Rattle.serde_json.specs.Data.{Data, Members, null, boolean, number, string, array, object}
 use Rattle.serde_json.specs.Find.{get, is_float}
@@ -11,14 +11,14 @@ use Rattle.csvw_meta_notes.specs.Members.{literal_member, each_member}
 use Rattle.csvw_meta_notes.specs.Names.{type_name}
 use Rattle.csvw_meta_notes.specs.Scalars.{typed, tagged, scalar}
 
--- A literal has a language or a type, not both.
+-- A literal has a language or a type, but not both.
 abbrev pub one_of : List ℕ → Option Data → Option Data → Read ⊤
 one_of at (Some l) (Some t) = faulty BadProperty at tt
 one_of at (Some l) None = fine tt
 one_of at None (Some t) = fine tt
 one_of at None None = fine tt
 
--- a whole number or a truth
+-- a whole number or a boolean
 abbrev pub is_no_text : Data → Bool
 is_no_text null = false
 is_no_text (boolean b) = true
@@ -27,7 +27,7 @@ is_no_text (string s) = false
 is_no_text (array ds) = false
 is_no_text (object ms) = false
 
--- A language is that of a text.
+-- Only a text has a language.
 abbrev pub for_text : List ℕ → Data → Option Data → Read ⊤
 for_text at value None = fine tt
 for_text at value (Some l) = if is_no_text value then wrong (below at (codes "@language")) l tt else fine tt

@@ -1,4 +1,4 @@
--- What the members of an object in an annotation are named (JSON-LD's keywords among them, Metadata Vocabulary for Tabular Data,
+-- The names of the members of an object in an annotation, with the keywords of JSON-LD among them (Metadata Vocabulary for Tabular Data,
 -- section 6.2).
 use Rattle.std.specs.Prelude.{ℕ, ◌&&◌, ◌||◌, bytes_eq, not, List, [], ◌∷◌, Bool, codes, nat_eq, if◌then◌else◌, ⊤}
 use Rattle.std.specs.List.{starts_with}

@@ -1,4 +1,4 @@
--- Names of properties and of types (Metadata Vocabulary for Tabular Data, section 5.8): names with a prefix, or absolute URLs.
+-- Names of properties and of types: names with a prefix, or absolute URLs (Metadata Vocabulary for Tabular Data, section 5.8).
 use Rattle.std.specs.Prelude.{ℕ, ◌==◌, ◌&&◌, ◌||◌, List, [], ◌∷◌, Bool, false, nat_lt, length, if◌then◌else◌}
 use Rattle.std.specs.List.{position_or_len, before_first, list_all}
 use Rattle.serde_json.specs.Data.{Data, null, boolean, number, string, array, object}
@@ -17,12 +17,12 @@ abbrev pub is_scheme : List ℕ → Bool
 is_scheme [] = false
 is_scheme (b ∷ bs) = is_letter_char b && list_all is_scheme_char bs
 
--- what stands before the first colon is a scheme
+-- the text before the first colon is a scheme
 unfoldable pub has_scheme : List ℕ → Bool
 has_scheme text = if nat_lt (position_or_len is_colon text) (length text) then is_scheme (before_first is_colon text) else false
 
--- The IRI of a name: its prefix is replaced, and what has none begins with a scheme. A name that is no IRI is told at its place, with
--- the value that stands there.
+-- The IRI of a name. Its prefix is replaced. A name without a known prefix must begin with a scheme. A name that is not an IRI is a fault
+-- at the place of the value, as for a value of a wrong kind.
 abbrev pub name_of : List ℕ → Data → List ℕ → Read (List ℕ)
 name_of at d name = if has_scheme (expanded name) then fine (safe (expanded name)) else wrong at d []
 

@@ -13,7 +13,7 @@ use Rattle.csvw_description.specs.declared.note.NoteObject.{NoteObject, roll-Not
 use Rattle.csvw_meta_notes.specs.Members.{node_member, each_member}
 use Rattle.csvw_meta_notes.specs.Names.{type_names}
 
--- an `@id`, whose prefix is replaced, and which may not name a blank node
+-- an `@id`, whose prefix is replaced, and which must not name a blank node
 abbrev pub node_id : Parts → List ℕ → Data → Read (List ℕ)
 node_id base at d =
     on_kind at d [] (as_str d) (λ s. if starts_with nat_eq s (codes "_:") then faulty BadId at [] else told at [] (link_of base s))

@@ -1,4 +1,4 @@
--- Literals that a text, a number or a truth is (Metadata Vocabulary for Tabular Data, section 6.2).
+-- Literals that are a text, a number or a boolean (Metadata Vocabulary for Tabular Data, section 6.2).
 use Rattle.std.specs.Prelude.{ℕ, List, [], Bool, true, false, codes, decimal, Option, Some, None}
 use Rattle.std.specs.Fmt.{signed_decimal}
 use Rattle.serde_json.specs.Data.{Num, unsigned, negative, float, Data, null, boolean, number, string, array, object}
@@ -15,7 +15,7 @@ typed datatype text = record { text = text; datatype = datatype; language = None
 abbrev pub tagged : List ℕ → List ℕ → NoteLiteral
 tagged language text = record { text = text; datatype = lang_string; language = Some language }
 
--- a text, in a language where there is one
+-- a text, in a language if there is one
 abbrev pub in_language : Option (List ℕ) → List ℕ → NoteLiteral
 in_language None text = typed xsd_string text
 in_language (Some language) text = tagged language text
@@ -27,13 +27,13 @@ truth_text false = codes "false"
 abbrev pub no_literal : NoteLiteral
 no_literal = typed [] []
 
--- a number, which has to be whole
+-- a number, which must be whole
 abbrev pub whole_literal : List ℕ → Num → Read NoteLiteral
 whole_literal at (unsigned n) = fine (typed xsd_integer (decimal n))
 whole_literal at (negative z) = fine (typed xsd_integer (signed_decimal z))
 whole_literal at (float x) = faulty NotSupported at no_literal
 
--- a text, a whole number or a truth, with the language of a text
+-- a text, a whole number or a boolean, with the language of a text
 abbrev pub scalar : Option (List ℕ) → List ℕ → Data → Read NoteLiteral
 scalar language at (boolean b) = fine (typed xsd_boolean (truth_text b))
 scalar language at (number n) = whole_literal at n

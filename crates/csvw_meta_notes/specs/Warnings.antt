@@ -1,14 +1,14 @@
--- The warnings on annotations: one for each property of an object in them that is ignored (Metadata Vocabulary for Tabular Data,
--- section 4.1), by recursion on the JSON tree.
+-- The warnings on annotations, by recursion on the JSON tree: one for each property in them that is ignored (Metadata Vocabulary
+-- for Tabular Data, section 4.1).
 use Rattle.std.specs.Prelude.{List, [], ◌∷◌, ◌++◌, ℕ, codes, Option, Some, None, if◌then◌else◌}
 use Rattle.serde_json.specs.Data.{Data, null, boolean, number, string, array, object, Items, no_items, item, Members, no_members, member}
 use Rattle.serde_json.specs.Find.{get}
-use Rattle.csvw_text.specs.declared.fault.Place.{Place}
-use Rattle.csvw_text.specs.declared.fault.Fault.{Fault}
+use Rattle.csvw_fault.specs.declared.fault.Place.{Place}
+use Rattle.csvw_fault.specs.declared.fault.Fault.{Fault}
 use Rattle.csvw_meta_core.specs.Others.{has_colon, warning_at}
 use Rattle.csvw_meta_notes.specs.Members.{has_at}
 
--- a property that is neither a keyword nor common is ignored; what a common one says is looked into
+-- a property that is neither a keyword nor common is ignored; the value of a common one is searched
 abbrev pub unless_ignored : Place → List ℕ → List Fault → List Fault
 unless_ignored place name inside =
     if has_colon name then inside else (if has_at name then [] else warning_at place ∷ [])

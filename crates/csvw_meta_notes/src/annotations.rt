@@ -1,10 +1,10 @@
-//! The annotations of an object of a metadata document: its common properties and its `notes` (Metadata Vocabulary for Tabular Data,
-//! section 5.8).
+//! The annotations of an object of a metadata document: its common properties and its `notes` (Metadata Vocabulary for
+//! Tabular Data, section 5.8).
 ghost use Rattle.std.specs.Prelude.{◌≡◌};
 ghost use Rattle.serde_json.specs.View.{view};
 ghost use Rattle.csvw_meta_core.specs.Pointer.{text_of};
 ghost use Rattle.csvw_meta_core.specs.Reads.{Reads};
-ghost use Rattle.csvw_meta_notes.specs.Notes.{annotations, note_items, notes};
+ghost use Rattle.csvw_meta_notes.specs.Annotations.{annotations, note_items, notes};
 
 use crate::value::{Scope, add_items, add_members};
 use crate::vocabulary::Vocabulary;
@@ -14,17 +14,17 @@ use csvw_meta_core::{Part, Reader, Refusal};
 use csvw_text::{LanguageTag, Seq};
 use serde_json::Value;
 
-/// What the context of a document says of its annotations.
+/// What the context of a document says about its annotations.
 #[derive(Clone, Copy)]
 pub struct NoteContext<'a> {
-    /// What their `@id`s are resolved against.
+    /// The base against which their `@id`s are resolved.
     pub base: &'a Base,
     /// The language of their texts.
     pub language: &'a Option<LanguageTag>,
 }
 
-/// What the common properties of the object that the part is say, in the byte order of their keys; a fault that stands in
-/// them, or `Memory`.
+/// Reads the common properties of the object that the part is, in the byte order of their keys. It returns the notes, a
+/// fault of a property, or `Memory`.
 pub(crate) fn read_annotations(context: &NoteContext, part: &Part) -> Result<Seq<Note>, Refusal>
     ensures { Reads result (annotations context.now.base.now context.now.language.now (text_of part.now.at) (view part.now.value.now)) }
 {
@@ -42,7 +42,7 @@ pub(crate) fn read_annotations(context: &NoteContext, part: &Part) -> Result<Seq
     Ok(Seq::of(found))
 }
 
-/// An array of notes.
+/// Reads an array of notes.
 #[derive(Drop)]
 struct NoteItems<'a> {
     context: NoteContext<'a>,
@@ -76,8 +76,9 @@ impl<'a> Reader for NoteItems<'a> {
     }
 }
 
-/// What the items of the property `notes` of the object that the part is say, in order; a fault that stands in them, or
-/// `Memory`. `BadProperty` where the property is no array.
+/// Reads the items of the property `notes` of the object that the part is, in order. It returns the notes, a fault of
+/// an item, or `Memory`. If the property is not an array, the fault is `BadProperty`, or `NotSupported` for a number
+/// that is not whole.
 pub(crate) fn read_notes(context: &NoteContext, part: &Part) -> Result<Seq<Note>, Refusal>
     ensures { Reads result (notes context.now.base.now context.now.language.now (text_of part.now.at) (view part.now.value.now)) }
 {

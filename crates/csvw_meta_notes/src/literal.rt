@@ -1,4 +1,4 @@
-//! Literals that are described by objects with `@value` (Metadata Vocabulary for Tabular Data, section 6.2).
+//! Literals that are objects with `@value` (Metadata Vocabulary for Tabular Data, section 6.2).
 ghost use Rattle.std.specs.Prelude.{◌≡◌, IfOk};
 ghost use Rattle.serde_json.specs.View.{view, members_view};
 ghost use Rattle.serde_json.specs.Find.{get};
@@ -67,7 +67,7 @@ fn with_own(
     }
 }
 
-/// The literal of the object that the part is, which has these members, with that `@value`.
+/// Reads the literal of the object that the part is. The object has these members and that `@value`.
 pub(crate) fn read_literal(
     part: &Part,
     vocabulary: &Vocabulary,

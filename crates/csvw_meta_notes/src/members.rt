@@ -1,4 +1,4 @@
-//! What the members of an object in an annotation are named (Metadata Vocabulary for Tabular Data, section 6.2).
+//! The names of the members of an object in an annotation (Metadata Vocabulary for Tabular Data, section 6.2).
 ghost use Rattle.std.specs.Prelude.{◌≡◌};
 ghost use Rattle.serde_json.specs.View.{view, members_view};
 ghost use Rattle.csvw_meta_core.specs.Others.{has_colon};
@@ -10,7 +10,7 @@ ghost use Rattle.csvw_meta_notes.specs.Members.{no_keyword, no_list, node_member
 use csvw_meta_core::{MetaCode, Part, Refusal};
 use serde_json::{Map, Value};
 
-/// Whether a name is that of a common property.
+/// Whether a name is the name of a common property.
 pub(crate) fn has_colon(name: &str) -> bool
     ensures { result ≡ has_colon name.now }
 {
@@ -55,7 +55,7 @@ fn check_literal_member(part: &Part, name: &str, value: &Value) -> Result<(), Re
     check_plain(part, name, value)
 }
 
-/// Whether an object may be a literal: `BadProperty` at a member that is another keyword or a common property.
+/// Checks the members of a literal. Any other keyword, and any common property, is `BadProperty`.
 pub(crate) fn check_literal_members(
     part: &Part,
     members: &Map<String, Value>,
@@ -95,7 +95,7 @@ fn check_node_member(part: &Part, name: &str, value: &Value) -> Result<(), Refus
     check_no_list(part, name, value)
 }
 
-/// Whether an object may be a node: `NotSupported` at a list or a set, `BadProperty` at a member that is another keyword.
+/// Checks the members of a node. A list or a set is `NotSupported`, and any other keyword is `BadProperty`.
 pub(crate) fn check_node_members(part: &Part, members: &Map<String, Value>) -> Result<(), Refusal>
     ensures { Reads result (each_member node_member (text_of part.now.at) (members_view members.now.entries)) }
 {

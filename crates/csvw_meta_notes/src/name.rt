@@ -58,7 +58,8 @@ fn has_scheme(text: &str) -> bool
     }
 }
 
-/// The IRI that a name of this part is; `BadProperty` where it is none.
+/// Returns the IRI of a name of this part. If it is not an IRI, the fault is that of a value of a wrong kind:
+/// `BadProperty`, or `NotSupported` if the value of the part is a number that is not whole.
 pub(crate) fn read_name(part: &Part, name: &str) -> Result<Iri, Refusal>
     ensures { Reads result (name_of (text_of part.now.at) (view part.now.value.now) name.now) }
 {
@@ -69,7 +70,7 @@ pub(crate) fn read_name(part: &Part, name: &str) -> Result<Iri, Refusal>
     Ok(made_safe(part.alloc, expanded.as_str())?)
 }
 
-/// One type, expanded as a name.
+/// Reads one type, which is expanded as a name.
 #[derive(Drop)]
 pub(crate) struct TypeName;
 
@@ -86,7 +87,7 @@ impl Reader for TypeName {
     }
 }
 
-/// One type or several.
+/// Reads one type, or an array of types.
 #[derive(Drop)]
 pub(crate) struct TypeNames;
 

@@ -1,15 +1,15 @@
-//! What the keywords of an object say of the node that it describes (Metadata Vocabulary for Tabular Data, section 6.2).
+//! The `@id` of a node that an object describes (Metadata Vocabulary for Tabular Data, section 6.2).
 ghost use Rattle.std.specs.Prelude.{◌≡◌};
 ghost use Rattle.csvw_meta_notes.specs.Nodes.{node_id};
 
 use csvw_iri::{Base, Iri, IriFault, link};
 use csvw_meta_core::{MetaCode, Part, Reader, Refusal};
 
-/// The `@id` of a node: a text that names no blank node, else it is `BadId`, whose prefix is replaced and which is
-/// resolved against a base; `UrlTooLong` or `BadUrl` where it resolves to none.
+/// Reads the `@id` of a node. Its prefix is replaced, and the result is resolved against a base. A text that names a
+/// blank node is `BadId`. A text that resolves to nothing is `UrlTooLong` or `BadUrl`.
 #[derive(Drop)]
 pub(crate) struct NodeId<'a> {
-    /// What it is resolved against.
+    /// The base.
     pub(crate) base: &'a Base,
 }
 

@@ -1,4 +1,4 @@
-//! Literals that a text, a number or a truth is (Metadata Vocabulary for Tabular Data, section 6.2).
+//! Literals that are a text, a number or a boolean (Metadata Vocabulary for Tabular Data, section 6.2).
 ghost use Rattle.std.specs.Prelude.{◌≡◌, IfOk};
 ghost use Rattle.serde_json.specs.View.{view, number_view};
 ghost use Rattle.csvw_meta_core.specs.Pointer.{text_of};
@@ -13,7 +13,7 @@ use csvw_text::{LanguageTag, Text};
 use serde_json::{Number, Value};
 use std::alloc::{AllocError, Global};
 
-/// The literal of a datatype.
+/// Returns the literal of a datatype, without a language.
 pub(crate) fn typed(datatype: Iri, text: Text) -> NoteLiteral
     ensures { result ≡ typed datatype text }
 {
@@ -24,7 +24,7 @@ pub(crate) fn typed(datatype: Iri, text: Text) -> NoteLiteral
     }
 }
 
-/// A text in a language where there is one; `AllocError` where there is no memory.
+/// Returns a text as a literal, with the language if there is one. It returns `AllocError` if there is no memory.
 pub(crate) fn in_language(
     alloc: Global,
     vocabulary: &Vocabulary,
@@ -72,8 +72,8 @@ fn whole_literal(
     }
 }
 
-/// What a text, a whole number or a truth is, with the language of a text; `BadProperty` for another
-/// value, `NotSupported` for a number that isn't whole.
+/// Reads a text, a whole number or a boolean. A text has the given language. A number that is not whole is
+/// `NotSupported`, and another value is `BadProperty`.
 pub(crate) fn read_scalar(
     part: &Part,
     vocabulary: &Vocabulary,

@@ -1,4 +1,5 @@
-//! The properties of an object that aren't listed for its kind (Metadata Vocabulary for Tabular Data, sections 4.1 and 5.8).
+//! The properties of an object that are not listed for its kind (Metadata Vocabulary for Tabular Data, sections 4.1,
+//! 5.8).
 ghost use Rattle.std.specs.Prelude.{◌≡◌, ◌++◌};
 ghost use Rattle.serde_json.specs.View.{view};
 ghost use Rattle.csvw_meta_core.specs.Others.{names_of};
@@ -12,8 +13,9 @@ use csvw_description::Note;
 use csvw_meta_core::{CommonProperty, Listed, Part, Reader, Refusal, joined};
 use csvw_text::{Fault, Place, Seq};
 
-/// The warnings, at this place, on an object of a kind for which these names are listed and those that it shares with other
-/// kinds. Its common properties are judged, and give nothing; a fault that stands in them, or `Memory`.
+/// Returns the warnings on an object whose annotations are not kept. `names` are listed for its kind only, and
+/// `shared` for other kinds too. The warnings have the given place. The common properties are checked but not kept. It
+/// returns a fault of a common property if there is one, or `Memory`.
 pub fn read_unlisted(
     context: &NoteContext,
     names: &[&str],
@@ -36,8 +38,8 @@ pub fn read_unlisted(
     Ok(joined(warnings, inside)?)
 }
 
-/// What a group or a table is annotated with: what its common properties say, in the byte order of their keys, and then its
-/// `notes`; a fault that stands in them, or `Memory`.
+/// Returns the annotations of a group or a table: its common properties in the byte order of their keys, then its
+/// `notes`. It returns a fault of an annotation if there is one, or `Memory`.
 pub fn read_all_notes(context: &NoteContext, part: &Part) -> Result<Seq<Note>, Refusal>
     ensures { Reads result (all_notes context.now.base.now context.now.language.now (text_of part.now.at) (view part.now.value.now)) }
 {
@@ -46,8 +48,8 @@ pub fn read_all_notes(context: &NoteContext, part: &Part) -> Result<Seq<Note>, R
     Ok(joined(common, notes)?)
 }
 
-/// The warnings, at this place, on a group or a table, for which these names are listed and those that it shares with other
-/// kinds, and on its annotations.
+/// Returns the warnings on a group or a table and on its annotations. `names` are listed for its kind only, and
+/// `shared` for other kinds too. The warnings have the given place. It returns `Memory` if memory runs out.
 pub fn read_all_warnings(
     names: &[&str],
     shared: &[&str],

@@ -1,4 +1,4 @@
-//! What values say as annotations, down the JSON tree (Metadata Vocabulary for Tabular Data, sections 5.8 and 6.2).
+//! The notes of values, down the JSON tree (Metadata Vocabulary for Tabular Data, sections 5.8 and 6.2).
 ghost use Rattle.std.specs.Prelude.{◌≡◌, ◌++◌, codes, OnOk};
 ghost use Rattle.serde_json.specs.View.{view, items_view, members_view};
 ghost use Rattle.serde_json.specs.Find.{get};
@@ -7,7 +7,7 @@ ghost use Rattle.csvw_meta_core.specs.Read.{under};
 ghost use Rattle.csvw_meta_core.specs.Reads.{Reads};
 ghost use Rattle.csvw_meta_notes.specs.Adds.{Adds};
 ghost use Rattle.csvw_meta_notes.specs.Nodes.{node};
-ghost use Rattle.csvw_meta_notes.specs.Notes.{note, described, if_common, noted, all_noted, common};
+ghost use Rattle.csvw_meta_notes.specs.Annotations.{note, described, if_common, noted, all_noted, common};
 ghost use Rattle.csvw_meta_notes.specs.Scalars.{scalar};
 ghost use Rattle.csvw_description.specs.declared.note.NoteValue.TheVariants as value;
 
@@ -24,16 +24,16 @@ use csvw_text::{LanguageTag, Seq};
 use serde_json::{Map, Value};
 use std::alloc::{AllocError, Global};
 
-/// What annotations are read against.
+/// The context in which annotations are read.
 #[derive(Clone, Copy)]
 pub(crate) struct Scope<'a> {
-    /// Gives the memory for what is read.
+    /// The allocator for what is read.
     pub(crate) alloc: Global,
-    /// What `@id`s are resolved against.
+    /// The base against which `@id`s are resolved.
     pub(crate) base: &'a Base,
     /// The language of texts.
     pub(crate) language: &'a Option<LanguageTag>,
-    /// The IRIs that every annotation may name.
+    /// The IRIs that any annotation may use.
     pub(crate) vocabulary: &'a Vocabulary,
 }
 
@@ -54,7 +54,7 @@ fn add_scalar(scope: &Scope, key: &Iri, part: &Part, found: &mut Vec<Note>) -> R
     Ok(())
 }
 
-/// Adds the notes of the value that stands there, with this predicate.
+/// Adds the notes of the value at that place, with this predicate.
 #[cycle(value)]
 fn add_value<'p>(
     scope: &Scope,
@@ -85,7 +85,7 @@ fn add_value<'p>(
     }
 }
 
-/// Adds the notes of the items of the array that stands there, with this predicate.
+/// Adds the notes of the items of the array at that place, with this predicate.
 #[cycle(value)]
 pub(crate) fn add_items<'p>(
     scope: &Scope,
@@ -103,7 +103,7 @@ pub(crate) fn add_items<'p>(
     Ok(())
 }
 
-/// What the object that the part is, which has these members, says.
+/// Reads the object that the part is. The object has these members.
 #[cycle(value)]
 fn read_object<'p>(
     scope: &Scope,
@@ -144,7 +144,7 @@ fn read_node<'p>(
     })
 }
 
-/// Adds what the common properties among the members of the object that stands there say.
+/// Adds the notes of the common properties among the members of the object at that place.
 #[cycle(value)]
 pub(crate) fn add_members<'p>(
     scope: &Scope,
@@ -162,7 +162,7 @@ pub(crate) fn add_members<'p>(
     Ok(())
 }
 
-/// Adds what the property of that name says, whose value stands there.
+/// Adds the notes of the property of that name, if it is a common property. Its value is at that place.
 #[cycle(value)]
 #[tactic(auto, using(crate::proofs::ReadLemmas::fails_first))]
 fn add_member<'p>(

@@ -1,4 +1,4 @@
-//! The IRIs that every annotation may name.
+//! The IRIs that any annotation may use.
 ghost use Rattle.std.specs.Prelude.{◌≡◌};
 ghost use Rattle.csvw_iri.specs.Vocabulary.{xsd_string, xsd_integer, xsd_boolean, lang_string};
 ghost use Rattle.csvw_meta_notes.specs.Vocabulary.{csvw_note};
@@ -6,7 +6,7 @@ ghost use Rattle.csvw_meta_notes.specs.Vocabulary.{csvw_note};
 use csvw_iri::{Iri, named};
 use std::alloc::{AllocError, Global};
 
-/// IRIs that every annotation may name.
+/// The IRIs that any annotation may use.
 #[derive(Drop)]
 pub(crate) struct Vocabulary {
     /// xsd:string.
@@ -27,7 +27,7 @@ pub(crate) struct Vocabulary {
 }
 
 impl Vocabulary {
-    /// The IRIs; `AllocError` where there is no memory.
+    /// Returns the IRIs, or `AllocError` if there is no memory.
     pub(crate) fn new(alloc: Global) -> Result<Vocabulary, AllocError> {
         let string = named(alloc, "http://www.w3.org/2001/XMLSchema#string")?;
         let integer = named(alloc, "http://www.w3.org/2001/XMLSchema#integer")?;

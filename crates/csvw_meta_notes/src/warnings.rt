@@ -97,8 +97,8 @@ fn common_warnings(
     Ok(Seq::of(warnings))
 }
 
-/// A warning at this place for each property that is ignored inside the common properties of an object; `AllocError` where
-/// there is no memory.
+/// Returns a warning at this place for each property that is ignored inside the common properties of an object. It
+/// returns `AllocError` if there is no memory.
 pub(crate) fn annotation_warnings(
     alloc: Global,
     place: Place,
@@ -112,8 +112,8 @@ pub(crate) fn annotation_warnings(
     }
 }
 
-/// A warning at this place for each property that is ignored inside the property `notes` of an object; `AllocError` where
-/// there is no memory.
+/// Returns a warning at this place for each property that is ignored inside the property `notes` of an object. It
+/// returns `AllocError` if there is no memory.
 pub(crate) fn note_warnings(
     alloc: Global,
     place: Place,

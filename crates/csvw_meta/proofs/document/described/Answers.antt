@@ -9,8 +9,8 @@ use Rattle.csvw_meta_core.specs.declared.fault.MetaFault.{MetaFault}
 use Rattle.csvw_meta_core.specs.declared.fault.Refusal.{Refusal}
 use Rattle.csvw_meta_core.specs.Pointer.{text_of}
 use Rattle.csvw_meta_core.specs.Read.{Read, fine, wrong_as}
-use Rattle.csvw_meta_inherited.specs.declared.context.Context.{Context}
-use Rattle.csvw_meta_inherited.specs.Context.{context, plain_context}
+use Rattle.csvw_meta_core.specs.declared.context.Context.{Context}
+use Rattle.csvw_meta_core.specs.Context.{context, plain_context}
 use Rattle.csvw_meta.specs.Described.{Describes, MayBeContext, judged_by, judged_within, within}
 use Rattle.csvw_meta.proofs.HangingLemmas.{describes_read, goes_on}
 use Rattle.csvw_meta.proofs.MayBeLemmas.{has_context}

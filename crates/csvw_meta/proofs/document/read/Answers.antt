@@ -1,4 +1,4 @@
--- No fault stands in the document.
+-- There is no fault in the document.
 use Rattle.csvw_meta.specs.Document.{document}
 use Rattle.csvw_meta.proofs.FitDocument.{group_plannable}
 use Rattle.csvw_meta.proofs.document.read.Goals as goal

@@ -1,4 +1,4 @@
--- What is wrong with the keys is told with the faults of the parts, which are none.
+-- The faults of the keys are reported with the faults of the parts, and there are none of those.
 use Rattle.std.proofs.Common.{◌≡◌, ◌∙◌, ℕ, List, [], ap, sym, subst}
 use Rattle.serde_json.specs.View.{view}
 use Rattle.csvw_meta_core.specs.Pointer.{text_of}

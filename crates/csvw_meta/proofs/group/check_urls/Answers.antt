@@ -1,4 +1,4 @@
--- What is told of the texts is told by the rule over those that could be read, where each could.
+-- If each text could be read, the rule over the texts that could be read reports the same faults.
 use Rattle.std.proofs.Common.{◌≡◌, ℕ, [], true, Contains, rules, subst, map, codes}
 use Rattle.csvw_meta_core.specs.declared.fault.MetaCode.TheVariants.{DuplicateTable}
 use Rattle.csvw_meta_core.specs.declared.fault.MetaFault.{MetaFault}

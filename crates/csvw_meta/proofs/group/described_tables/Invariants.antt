@@ -1,4 +1,4 @@
--- Those taken so far, and then those of the tables left.
+-- The descriptions taken so far, followed by those of the remaining tables.
 use Rattle.std.proofs.Common.{◌≡◌, ◌++◌, map}
 use Rattle.std.specs.Vec.Iter.{into_iter_items}
 use Rattle.csvw_meta.proofs.group.described_tables.Given as goal

@@ -1,4 +1,4 @@
--- By what hangs on what.
+-- This follows from how the parts depend on each other.
 use Rattle.csvw_meta.proofs.ExactLemmas.{exact}
 use Rattle.csvw_meta.proofs.laws.groups_have_no_faults.Goals as goal
 

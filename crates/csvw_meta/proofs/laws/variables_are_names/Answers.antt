@@ -1,4 +1,4 @@
--- One pass over the text goes by both.
+-- One pass over the text decides both.
 use Rattle.csvw_meta.proofs.VariableLemmas as law
 use Rattle.csvw_meta.proofs.laws.variables_are_names.Goals as goal
 

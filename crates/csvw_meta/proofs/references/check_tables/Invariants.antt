@@ -1,4 +1,4 @@
--- No fault stands in the tables passed so far.
+-- There is no fault in the tables so far.
 use Rattle.std.proofs.Common.{◌≡◌, [], take, flat_map}
 use Rattle.csvw_meta_keys.specs.Naming.{all_known}
 use Rattle.csvw_meta.specs.References.{schema_faults}

@@ -1,4 +1,4 @@
--- Those of the tables passed so far.
+-- The items of the tables so far.
 use Rattle.std.proofs.Common.{◌≡◌, map, take}
 use Rattle.csvw_meta.specs.References.{target}
 use Rattle.csvw_meta.proofs.references.targets_of.Given as goal

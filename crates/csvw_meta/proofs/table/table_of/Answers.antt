@@ -1,4 +1,4 @@
--- A fault of each part is told, behind those that have none.
+-- A fault of a part is reported after the parts that have none.
 use Rattle.std.proofs.Common.{refl}
 use Rattle.serde_json.specs.View.{view}
 use Rattle.csvw_meta_core.specs.declared.fault.Refusal.TheVariants as refusal

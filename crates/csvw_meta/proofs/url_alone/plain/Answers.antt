@@ -1,4 +1,4 @@
--- No fault stands in the document that has that URL alone, or one of the URL.
+-- The document with only that URL has no fault, or a fault of the URL.
 use Rattle.csvw_meta.specs.Document.{plain_description}
 use Rattle.csvw_meta.proofs.FitDocument.{group_plannable}
 use Rattle.csvw_meta.proofs.UrlFaults.{refused_by_url}

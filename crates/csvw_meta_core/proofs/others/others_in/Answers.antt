@@ -1,9 +1,9 @@
--- A fault of one property is told.
+-- A fault of one property is reported.
 use Rattle.std.proofs.Common.{◌≡◌, ◌∙◌, List, sym, ap, subst, string_bytes}
 use Rattle.std.proofs.lemmas.Result.{err_from_is_err_and}
 use Rattle.serde_json.specs.Data.{member}
 use Rattle.serde_json.specs.View.{view, members_view}
-use Rattle.csvw_text.specs.declared.fault.Fault.{Fault}
+use Rattle.csvw_fault.specs.declared.fault.Fault.{Fault}
 use Rattle.csvw_meta_core.specs.Listed.{all_names}
 use Rattle.csvw_meta_core.specs.Others.{other, others_in}
 use Rattle.csvw_meta_core.specs.Pointer.{text_of}

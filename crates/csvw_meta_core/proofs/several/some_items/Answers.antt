@@ -1,4 +1,4 @@
--- There are as many items as there may be.
+-- The number of items is within the limits.
 use Rattle.std.proofs.Common.{◌≡◌, false, nat_lt, arith}
 use Rattle.std.proofs.lemmas.Bool.Decides.{nat_tests}
 use Rattle.serde_json.specs.View.{items_view}

@@ -1,4 +1,4 @@
--- A fault of each part is told.
+-- A fault of each part is reported.
 use Rattle.std.proofs.Common.{refl}
 use Rattle.serde_json.specs.View.{view}
 use Rattle.csvw_meta_core.specs.Pointer.{text_of}

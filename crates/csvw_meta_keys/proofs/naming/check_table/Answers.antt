@@ -1,4 +1,4 @@
--- A fault of each part is told.
+-- A fault of each part is reported.
 use Rattle.csvw_meta_keys.proofs.ReadLemmas.{fails_first, fails_last}
 use Rattle.csvw_meta_keys.proofs.NamingLemmas.{behind, told}
 use Rattle.csvw_meta_keys.proofs.naming.check_table.Goals as goal

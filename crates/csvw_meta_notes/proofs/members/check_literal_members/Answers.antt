@@ -1,4 +1,4 @@
--- The members that are left decide where this one has no fault, and its fault is told.
+-- If this member has a fault, it is reported. Else the remaining members decide.
 use Rattle.std.proofs.Common.{◌≡◌, ◌∙◌, ap, sym, string_bytes}
 use Rattle.serde_json.specs.Data.{member}
 use Rattle.serde_json.specs.View.{view, members_view}

@@ -1,4 +1,4 @@
--- A fault of an item, of a member and of each part of a node is told.
+-- A fault of an item, of a member and of each part of a node is reported.
 use Rattle.std.proofs.Common.{◌≡◌, sym, ap, ◌∙◌, string_bytes, refl}
 use Rattle.std.proofs.lemmas.Result.{err_from_is_err_and}
 use Rattle.serde_json.specs.Data.{member}
@@ -6,7 +6,7 @@ use Rattle.serde_json.specs.View.{view, members_view}
 use Rattle.csvw_meta_core.specs.Pointer.{text_of, below}
 use Rattle.csvw_meta_notes.specs.Adds.{with_front}
 use Rattle.csvw_meta_notes.specs.Nodes.{node}
-use Rattle.csvw_meta_notes.specs.Notes.{if_common, noted, common}
+use Rattle.csvw_meta_notes.specs.Annotations.{if_common, noted, common}
 use Rattle.csvw_meta_notes.proofs.AddsLemmas.{items_stop, stops}
 use Rattle.csvw_meta_notes.proofs.ReadLemmas.{fails_first, later, refused}
 use Rattle.csvw_meta_notes.proofs.value.+value.Goals as goal

@@ -2,7 +2,7 @@ use Rattle.std.proofs.Common.{◌≡◌, drop}
 use Rattle.serde_json.specs.View.{items_view, members_view}
 use Rattle.csvw_meta_core.specs.Pointer.{text_of}
 use Rattle.csvw_meta_notes.specs.Adds.{with_front}
-use Rattle.csvw_meta_notes.specs.Notes.{all_noted, common}
+use Rattle.csvw_meta_notes.specs.Annotations.{all_noted, common}
 use Rattle.csvw_meta_notes.proofs.value.+value.Given as goal
 
 abbrev pub invariant-add_items-loop-i : goal.invariant-add_items-loop-i

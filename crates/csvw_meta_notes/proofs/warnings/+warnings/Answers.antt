@@ -1,4 +1,4 @@
--- The warnings of an item and of a member come before those of what is left.
+-- The warnings of an item and of a member come before those of the remaining ones.
 use Rattle.std.proofs.Common.{◌≡◌, ◌++◌, ◌∙◌, ◌+◌, ap, drop, sym, string_bytes}
 use Rattle.serde_json.specs.Data.{member}
 use Rattle.serde_json.specs.View.{view, items_view, members_view}

@@ -1,0 +1,75 @@
+//! Formats (Metadata Vocabulary for Tabular Data, section 5.11.2).
+ghost use Rattle.std.specs.Prelude.{◌≡◌};
+ghost use Rattle.serde_json.specs.View.{view};
+ghost use Rattle.csvw_meta_core.specs.Pointer.{text_of};
+ghost use Rattle.csvw_meta_core.specs.Reads.{Reads};
+ghost use Rattle.csvw_meta_datatype.specs.Formats.{number_format};
+
+use crate::number::read_number_form;
+use crate::pattern::{DatePattern, MomentPattern};
+use crate::truth::TruthPattern;
+use csvw_datatype::{Format, Simple};
+use csvw_meta_core::{MetaCode, Part, Reader, Refusal};
+use csvw_text::{Fault, Place, Seq};
+use serde_json::Value;
+
+/// A format, and the warnings on it.
+#[derive(Drop)]
+pub struct FormatFound {
+    /// The format, or `None` if there is none.
+    pub format: Option<Format>,
+    /// A warning for each property of the format that is ignored.
+    pub warnings: Seq<Fault>,
+}
+
+/// Reads the format of a datatype. For a string or a URI it is `NotSupported`. For a number, a text is `NotSupported`.
+/// A pattern of a date or a moment that is not supported is `NotSupported`. A wrong character of a number or a wrong
+/// pattern of a boolean is `BadDatatype`.
+#[derive(Drop)]
+pub struct FormatReader {
+    /// The datatype's `base`.
+    pub simple: Simple,
+    /// The place of the warnings.
+    pub place: Place,
+}
+
+fn read_number_format(place: Place, part: &Part) -> Result<FormatFound, Refusal>
+    ensures { Reads result (number_format place (text_of part.now.at) (view part.now.value.now)) }
+{
+    match part.value {
+        Value::Object(_) => {
+            let found = read_number_form(place, part)?;
+            Ok(FormatFound {
+                format: Some(Format::Number(found.format)),
+                warnings: found.warnings,
+            })
+        }
+        Value::String(_) => Err(part.refused(MetaCode::NotSupported)),
+        _ => Err(part.wrong()),
+    }
+}
+
+impl Reader for FormatReader {
+    ghost use Rattle.csvw_meta_datatype.specs.Formats.{format};
+
+    type Output = FormatFound;
+
+    ghost reads = { λ r. format r.simple r.place };
+
+    #[tactic(auto, unfolding(crate::specs::Formats::format))]
+    fn read(&self, part: &Part) -> Result<FormatFound, Refusal> {
+        let format = match self.simple {
+            Simple::Text | Simple::Uri => return Err(part.refused(MetaCode::NotSupported)),
+            Simple::Whole | Simple::Derived(_) | Simple::Decimal => {
+                return read_number_format(self.place, part);
+            }
+            Simple::Truth => Format::Truth(TruthPattern.read(part)?),
+            Simple::Day => Format::Day(DatePattern.read(part)?),
+            Simple::Moment => Format::Moment(MomentPattern.read(part)?),
+        };
+        Ok(FormatFound {
+            format: Some(format),
+            warnings: Seq::new(part.alloc),
+        })
+    }
+}

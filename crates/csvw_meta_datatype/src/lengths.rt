@@ -1,0 +1,55 @@
+//! The lengths of a datatype (Metadata Vocabulary for Tabular Data, section 5.11.2).
+ghost use Rattle.std.specs.Prelude.{◌≡◌};
+ghost use Rattle.serde_json.specs.View.{view};
+ghost use Rattle.csvw_meta_core.specs.Pointer.{text_of};
+ghost use Rattle.csvw_meta_core.specs.Reads.{Reads};
+ghost use Rattle.csvw_meta_datatype.specs.Lengths.{length, lengths};
+
+use csvw_datatype::Simple;
+use csvw_meta_core::{MetaCode, Part, Reader, Refusal};
+
+/// Reads a length in characters. It is `BadDatatype` on any type except string.
+#[derive(Drop)]
+struct LengthReader {
+    /// The datatype's `base`.
+    simple: Simple,
+}
+
+impl Reader for LengthReader {
+    type Output = Option<u64>;
+
+    ghost reads = { λ r. length r.simple };
+
+    fn read(&self, part: &Part) -> Result<Option<u64>, Refusal> {
+        let Some(length) = part.value.as_u64() else {
+            return Err(part.wrong());
+        };
+        match self.simple {
+            Simple::Text => Ok(Some(length)),
+            _ => Err(part.refused(MetaCode::BadDatatype)),
+        }
+    }
+}
+
+/// The lengths of a datatype, in characters.
+#[derive(Drop)]
+pub(crate) struct Lengths {
+    pub(crate) length: Option<u64>,
+    pub(crate) min_length: Option<u64>,
+    pub(crate) max_length: Option<u64>,
+}
+
+#[tactic(auto, using(crate::proofs::ReadLemmas::fails_first), unfolding(crate::specs::Lengths::lengths))]
+pub(crate) fn read_lengths(simple: Simple, part: &Part) -> Result<Lengths, Refusal>
+    ensures { Reads result (lengths simple (text_of part.now.at) (view part.now.value.now)) }
+{
+    let reader = LengthReader { simple };
+    let length = part.property(&reader, None, "length")?;
+    let min_length = part.property(&reader, None, "minLength")?;
+    let max_length = part.property(&reader, None, "maxLength")?;
+    Ok(Lengths {
+        length,
+        min_length,
+        max_length,
+    })
+}

@@ -1,0 +1,58 @@
+//! The patterns of dates and moments (Model for Tabular Data and Metadata on the Web, section 6.4.4).
+ghost use Rattle.std.specs.Prelude.{◌≡◌};
+ghost use Rattle.csvw_meta_datatype.specs.Patterns.{date_format_of, moment_format_of, date_format, moment_format};
+
+use csvw_datatype::{DateFormat, MomentFormat};
+use csvw_meta_core::{MetaCode, Part, Reader, Refusal};
+
+fn date_format_of(pattern: &str) -> Option<DateFormat>
+    ensures { result ≡ date_format_of pattern.now }
+{
+    DateFormat::of(pattern)
+}
+
+fn moment_format_of(pattern: &str) -> Option<MomentFormat>
+    ensures { result ≡ moment_format_of pattern.now }
+{
+    MomentFormat::of(pattern)
+}
+
+/// Reads the pattern of a date. A pattern that is not one of the fourteen is `NotSupported`.
+#[derive(Drop)]
+pub(crate) struct DatePattern;
+
+impl Reader for DatePattern {
+    type Output = DateFormat;
+
+    ghost reads = { λ _. date_format };
+
+    fn read(&self, part: &Part) -> Result<DateFormat, Refusal> {
+        let Some(pattern) = part.value.as_str() else {
+            return Err(part.wrong());
+        };
+        match date_format_of(pattern) {
+            Some(format) => Ok(format),
+            None => Err(part.refused(MetaCode::NotSupported)),
+        }
+    }
+}
+
+/// Reads the pattern of a date with a time of day. A pattern that is not one of the two is `NotSupported`.
+#[derive(Drop)]
+pub(crate) struct MomentPattern;
+
+impl Reader for MomentPattern {
+    type Output = MomentFormat;
+
+    ghost reads = { λ _. moment_format };
+
+    fn read(&self, part: &Part) -> Result<MomentFormat, Refusal> {
+        let Some(pattern) = part.value.as_str() else {
+            return Err(part.wrong());
+        };
+        match moment_format_of(pattern) {
+            Some(format) => Ok(format),
+            None => Err(part.refused(MetaCode::NotSupported)),
+        }
+    }
+}

@@ -1,0 +1,3 @@
+mod FineLemmas
+mod FitDialect
+mod ReadLemmas

@@ -1,5 +1,0 @@
-use Rattle.csvw_meta_inherited.proofs.FitDialect.{dialect_fine}
-use Rattle.csvw_meta_inherited.proofs.laws.dialects_fit.Goals as goal
-
-pub returns : goal.returns
-returns c = dialect_fine
