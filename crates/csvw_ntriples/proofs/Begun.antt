@@ -1,4 +1,4 @@
--- What stands at the front of a text, past spaces and tabs.
+-- The front of a text after spaces and tabs.
 use Rattle.std.proofs.Common.{◌≡◌, ℕ, List, [], ◌∷◌, ◌++◌, refl, sym, ap, ◌∙◌, subst, arith, true, false, length, append_assoc, inl, inr, Option}
 use Rattle.std.proofs.Common.{Some, None, Bor, MatchOption, Result, Ok, Err}
 use Rattle.std.proofs.lemmas.Bool.{and_parts}
@@ -74,7 +74,7 @@ string_taken text gap rest v end r (space, piece, spelled, blank, (value, (body,
       (value, (body, refl, pieces), bytes),
     )
 
--- an answer about the text after the opening mark is one about the text
+-- a result about the text after the opening mark is one about the text
 tails : (x y : ℕ) (xs ys rest : List ℕ) → rest ≡ x ∷ xs → rest ≡ y ∷ ys → xs ≡ ys
 tails x y xs ys rest e f = let k : x ∷ xs ≡ y ∷ ys = sym e ∙ f in cc
 

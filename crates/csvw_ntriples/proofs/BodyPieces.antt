@@ -159,7 +159,7 @@ module _ (P : List ℕ → ℕ → Type 0) (mark : ℕ) (once : Once P) (begins 
       let one = once f.0 g.0 (f.1 ++ rest) (g.1 ++ mark ∷ x) c d f.3 g.3 whole in
       body_rest m n f.1 g.1 rest x f.4 g.4 one.2
 
--- nothing is read where the rest begins neither with the mark nor with a piece
+-- nothing is read if the rest begins neither with the mark nor with a piece
 no_body : (kind : Enclosed) (rest k x body : List ℕ) → ((c : ℕ) (after : List ℕ) → Begins kind rest c after → ⊥)
     → ((after : List ℕ) → rest ≡ mark_of kind ∷ after → ⊥)
     → rest ≡ body ++ mark_of kind ∷ x → Spells (PieceOf kind) body k → ⊥

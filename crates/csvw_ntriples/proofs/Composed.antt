@@ -22,7 +22,7 @@ use Rattle.csvw_ntriples.proofs.Once.{dot_dark, apart, differ}
 use Rattle.csvw_ntriples.proofs.Runs.{first_of, dark_run}
 use Rattle.csvw_ntriples.proofs.Spelled.{mark_longest}
 
--- an error that goes on from a part to the whole
+-- an error of a part is an error of the whole
 pub err_on : {V W : Type 0} (R : V → List ℕ → Type 0) (S : W → List ℕ → Type 0) (r : Result (W × Bor (List ℕ)) NtFault) (e f : NtFault) → r ≡ Err e → e ≡ f
     → Finds R (Err f) → (((v : V) (rest : List ℕ) → R v rest → ⊥) → (w : W) (rest : List ℕ) → S w rest → ⊥) → Finds S r
 err_on R S r e Memory p q g h = subst (Finds S) (sym (p ∙ ap Err q)) tt

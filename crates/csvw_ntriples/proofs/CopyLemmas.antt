@@ -4,7 +4,7 @@ use Rattle.std.proofs.Math.Seq.{take-add, take-append-add, take-append_seam}
 use Rattle.std.proofs.lemmas.List.{length-take-le, take-append-drop, take-append-le}
 use Rattle.csvw_ntriples.specs.PlainCopy.{IsCopied}
 
--- a room whose parts behind `front` are bytes that were found, and what stood behind those
+-- a room that has, after `front`, the bytes that were found and then what was there before
 module _ (bytes room front behind found new : List ℕ) (at n : ℕ) (within : at + n ≤ length bytes) (copied : IsCopied bytes room at)
     (front_is : front ≡ take at room) (behind_is : behind ≡ drop at room) (found_is : found ≡ take n (drop at bytes))
     (new_is : new ≡ found ++ drop n behind) where
@@ -33,7 +33,7 @@ module _ (bytes room front behind found new : List ℕ) (at n : ℕ) (within : a
       ∙ ap (λ z. z ++ take n (drop at bytes)) (front_is ∙ copied.1)
       ∙ sym (take-add at n bytes)
 
-  -- More bytes are copied behind those that were.
+  -- More bytes are copied after those before.
   pub copied_on : IsCopied bytes (front ++ new) (at + n)
   copied_on = (long, same)
 

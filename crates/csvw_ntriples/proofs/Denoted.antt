@@ -161,7 +161,7 @@ good_marks = record {
 good_between : (m n cs : List ℕ) → list_all good m ≡ true → list_all good n ≡ true → list_all good cs ≡ true → list_all good (m ++ (cs ++ n)) ≡ true
 good_between m n cs h k l = good-append m (cs ++ n) h (good-append cs n l k)
 
--- what stands in a line, with what comes behind it
+-- the parts of a line, with the text after them
 abbrev IriStands : List ℕ → List ℕ → Type 0
 IriStands iri x = (gap after : List ℕ) → IsTrue (list_all is_blank gap) → TakesIri iri (gap ++ (x ++ after)) after
 

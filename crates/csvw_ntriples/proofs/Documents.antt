@@ -97,7 +97,7 @@ to_document (next ∷ more) line text ts b (inr f) =
     triple_before f.0 f.1 ts text line (b.0 ∷ b.1) b.3 f.2 b.2 b.4 f.3
     (λ gap g. document_follows gap b.0 b.1 f.1 g b.4 (to_document more next b.1 f.1 b.5 f.4))
 
--- from the production to the lines: whatever line goes on into the text ends there, and these lines follow
+-- from the production to the lines: a line that continues into the text ends there, and these lines follow
 abbrev GoesOn : List ℕ → List NtTriple → Type 0
 GoesOn tail ts =
     Ends tail × (lines : List (List ℕ)) × AreLines lines ts × ((line : List ℕ) → IsInLine line → slice_split is_break (line ++ tail) ≡ line ∷ lines)
@@ -109,7 +109,7 @@ eol_goes_on (gap ∷ gaps) eol rest ts (k, left, whole, b, g, e) h =
     let parts : eol ++ rest ≡ k ∷ (gap ++ (left ++ rest)) = ap (λ z. z ++ rest) whole ∙ ap (λ z. k ∷ z) (append_assoc gap left rest) in
     rw parts (b, gap ∷ lines, inl (g.1, are), λ line l. line_before line k (gap ++ (left ++ rest)) l b ∙ ap (λ z. line ∷ z) (cuts gap g.0))
 
--- a gap on the line, and what goes on behind the line
+-- a gap on the line, and the text after the line
 abbrev Left : List ℕ → List NtTriple → Type 0
 Left text ts = (gap tail : List ℕ) × (text ≡ gap ++ tail) × IsGap gap × GoesOn tail ts
 

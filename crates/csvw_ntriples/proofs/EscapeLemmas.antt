@@ -1,4 +1,4 @@
--- A text without bytes that are escaped stands as it is, and what a vector's mask tells of its bytes.
+-- A text without bytes that are escaped is written as it is. The mask of a vector says which of its bytes are escaped.
 use Rattle.std.proofs.Common.{◌≡◌, ℕ, suc, ◌+◌, ◌%◌, ◌^◌, ◌≤◌, List, [], ◌∷◌, length, map, replicate, Bool, true, false, cond, ◌||◌, ◌==◌, eqb}
 use Rattle.std.proofs.Common.{bit_or, refl, sym, ap, ◌∙◌, arith}
 use Rattle.std.proofs.lemmas.Bool.{eqb-true}

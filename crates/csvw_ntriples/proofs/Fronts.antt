@@ -1,4 +1,4 @@
--- What a line begins with stays, where more is added to it.
+-- The front of a line stays when more is added to it.
 use Rattle.std.proofs.Common.{◌≡◌, ◌∙◌, ◌++◌, ℕ, List, length, take, drop, sym, ap}
 use Rattle.std.proofs.Math.Seq.{take-append_seam}
 use Rattle.std.proofs.lemmas.List.{take-append-drop, append_assoc}

@@ -1,4 +1,4 @@
--- a label gives its origin back
+-- A label has one origin.
 use Rattle.std.proofs.Common.{◌≡◌, ◌<◌, ◌%◌, ◌/◌, ◌^◌, ℕ, zero, suc, List, [], ◌∷◌, ◌++◌, refl, sym, ap, ◌∙◌, arith, true, false, Bool, cond}
 use Rattle.std.proofs.Common.{append_assoc, append-nil, subst, length, Option, Some, None}
 use Rattle.std.proofs.lemmas.Bool.Decides.{nat_tests}

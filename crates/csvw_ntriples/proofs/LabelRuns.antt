@@ -296,7 +296,7 @@ tag_missing text front end bytes (text_is, inside, stops) e h v rest (tag, tag_b
     let once = run_once (is_in class.Tag) front tag end rest inside (tag_in tag is_tag) stops (dot_stops rest d) (sym text_is ∙ tag_before) in
     let same : is_language_tag bytes ≡ true = subst (λ (z : List ℕ). is_language_tag z ≡ true) (sym (plain ∙ once.0)) is_tag in cc
 
--- the text cut behind the label
+-- the text cut after the label
 pub label_split : (text name dots end a b : List ℕ) (n : ℕ) → Parts text name dots end → length name ≡ n → a ≡ take n text → b ≡ drop n text
     → (a ≡ name) × (b ≡ dots ++ end)
 label_split text name dots end a b n p size e f =

@@ -1,4 +1,4 @@
--- the lines of a text, one after another
+-- The lines of a text, one after another.
 use Rattle.std.proofs.Common.{◌≡◌, ◌<◌, ℕ, zero, suc, List, [], ◌∷◌, ◌++◌, refl, sym, ap, ◌∙◌, subst, arith, append_assoc, inl, inr, length, Bor, ◌+◌}
 use Rattle.std.proofs.Common.{◌-◌, true, false, take, drop, get_or, add-one, length-drop}
 use Rattle.std.proofs.lemmas.List.{take_rest}
@@ -79,7 +79,7 @@ more_no_break xs i c l h e b = rw add-one (go xs i l h (subst (λ z. is_break z 
     go (y ∷ ys) zero l h b = (b, tt)
     go (y ∷ ys) (suc k) l h b = (h.0, go ys k (omega arith) h.1 b)
 
--- the loop goes on
+-- the loop continues
 pub whole_on : (text front : List ℕ) (rest next : Option (Bor (List ℕ))) (o : Option NtTriple) (before after : List NtTriple)
     → rest_lines rest ≡ front ∷ rest_lines next → LineGives front o → after ≡ before ++ found o
     → ((ts : List NtTriple) → AreLines (rest_lines rest) ts → DenotesText text (before ++ ts)) → (ts : List NtTriple) → AreLines (rest_lines next) ts

@@ -1,4 +1,4 @@
--- What a line takes, the text takes that goes on behind the line, and the other way round.
+-- A line takes what the text that continues after it takes, and the other way round.
 use Rattle.std.proofs.Common.{◌≡◌, ℕ, List, [], ◌∷◌, ◌++◌, refl, sym, ap, ◌∙◌, subst, true, false, Bool, not, append_assoc, inl, inr, Option, Some}
 use Rattle.std.proofs.Common.{None, IsTrue}
 use Rattle.std.proofs.lemmas.Bool.{and_parts}

@@ -1,4 +1,4 @@
--- a text is read as pieces in one way
+-- A text is read as pieces in one way.
 use Rattle.std.proofs.Common.{◌≡◌, ℕ, List, [], ◌∷◌, ◌++◌, refl, sym, ap, ◌∙◌, subst, arith, true, length, append_assoc, inl, inr, ◌⊎◌, Some, None}
 use Rattle.std.specs.Str.Parse.{digits_value}
 use Rattle.csvw_ntriples.specs.Character.{is_raw_in_iri, is_raw_in_string, escape_of}

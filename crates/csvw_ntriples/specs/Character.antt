@@ -1,8 +1,8 @@
--- Classes of characters of N-Triples (RDF 1.1 N-Triples, section 7), each as a test.
+-- The character classes of N-Triples (RDF 1.1 N-Triples, section 7), each as a test.
 use Rattle.std.specs.Prelude.{ℕ, ◌==◌, ◌||◌, Bool, not, nat_lt, if◌then◌else◌, Option, Some, None}
 use Rattle.csvw_text.specs.Class.{is_within, is_letter_char, is_digit_char}
 
--- a line ends at CR and at LF
+-- CR or LF, at which a line ends
 abbrev pub is_break : ℕ → Bool
 is_break c = c == 13 || c == 10
 
@@ -10,15 +10,15 @@ is_break c = c == 13 || c == 10
 abbrev pub is_blank : ℕ → Bool
 is_blank c = c == 32 || c == 9
 
--- stands raw in a STRING: not `"`, `\`, LF or CR
+-- a character that a STRING may have as it is: not `"`, `\`, LF or CR
 abbrev pub is_raw_in_string : ℕ → Bool
 is_raw_in_string c = not (c == 34 || (c == 92 || is_break c))
 
--- stands raw in an IRIREF: not U+0000 to U+0020, `<`, `>`, `"`, `{`, `}`, `|`, `^`, `` ` `` or `\`
+-- a character that an IRIREF may have as it is: not U+0000 to U+0020, `<`, `>`, `"`, `{`, `}`, `|`, `^`, `` ` `` or `\`
 abbrev pub is_raw_in_iri : ℕ → Bool
 is_raw_in_iri c = not (nat_lt c 33 || (c == 34 || (c == 60 || (c == 62 || (c == 92 || (c == 94 || (c == 96 || is_within 123 125 c)))))))
 
--- ECHAR: what the letter after a backslash stands for
+-- ECHAR: the character that the letter after a backslash means
 abbrev pub escape_of : ℕ → Option ℕ
 escape_of c =
     if c == 116 then Some 9 else (if c == 98 then Some 8 else (if c == 110 then Some 10 else (if c == 114 then Some 13

@@ -1,12 +1,13 @@
--- A document by its production (RDF 1.1 N-Triples, section 7). Terminals are the longest in the whole text. White space and
--- comments stand between them, a comment to the end of its line, and breaks with no more than these between them are one EOL.
+-- A document by the production `ntriplesDoc`: `IsDocument` (RDF 1.1 N-Triples, section 7). Terminals are the longest in the whole
+-- text. White space and comments may be between them, and a comment goes to the end of its line. Breaks with only these between
+-- them are one EOL.
 use Rattle.std.specs.Prelude.{ℕ, ◌≡◌, List, [], ◌∷◌, ◌++◌, ◌⊎◌, IsTrue, not, Option, Some, None, option_to_list, codes}
 use Rattle.std.specs.List.{list_all}
 use Rattle.csvw_ntriples.specs.Character.{is_break}
 use Rattle.csvw_ntriples.specs.Grammar.{Takes, IsMark, TakesIri, TakesNode, TakesTerm, IsIdle}
 use Rattle.csvw_ntriples.specs.declared.term.NtTriple.{NtTriple}
 
--- no CR or LF is in it
+-- the text has no CR or LF
 abbrev pub IsInLine : List ℕ → Type 0
 IsInLine part = IsTrue (list_all (λ c. not (is_break c)) part)
 
@@ -14,7 +15,7 @@ IsInLine part = IsTrue (list_all (λ c. not (is_break c)) part)
 abbrev pub IsGap : List ℕ → Type 0
 IsGap part = IsInLine part × IsIdle part
 
--- one CR or LF more than there are gaps, with the gaps between them
+-- the gaps with a CR or LF before, between and after them
 abbrev pub IsEolOver : List (List ℕ) → List ℕ → Type 0
 IsEolOver [] text = (c : ℕ) × (text ≡ c ∷ []) × IsTrue (is_break c)
 IsEolOver (gap ∷ gaps) text =

@@ -1,4 +1,4 @@
--- What a line begins with that was made over another one.
+-- The start of a line that is kept while the rest is made anew for the next triple.
 use Rattle.std.specs.Prelude.{◌≡◌, ◌++◌, ℕ, List, codes, decimal, length, take}
 use Rattle.csvw_triples_core.specs.declared.origin.Origin.{Origin}
 use Rattle.csvw_triples_core.specs.declared.term.Term.{Term}
@@ -9,18 +9,18 @@ use Rattle.csvw_ntriples.specs.Written.{blank_text, term_text}
 abbrev pub front_text : Origin → List ℕ
 front_text o = blank_text o ++ codes " <"
 
--- what the blank nodes of a table's rows begin with
+-- the part that the blank nodes of all rows of a table begin with
 abbrev pub rows_front : ℕ → List ℕ
 rows_front t = codes "_:" ++ codes "t" ++ decimal t ++ codes "r"
 
--- it is the first n bytes
+-- the text of the blank node is the first n bytes
 abbrev pub IsFront : Origin → ℕ → List ℕ → Type 0
 IsFront subject n bytes = (take n bytes ≡ front_text subject) × (n ≡ length (front_text subject))
 
--- what stands behind the text of a predicate
+-- the part of a line after the text of its predicate
 abbrev pub object_text : Term → List ℕ
 object_text o = codes "> " ++ term_text o ++ codes " .\n"
 
--- what stands behind it
+-- the part of a line from the text of its predicate on
 abbrev pub rest_text : Triple → List ℕ
 rest_text t = t.p ++ object_text t.o

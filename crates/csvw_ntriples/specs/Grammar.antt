@@ -1,4 +1,4 @@
--- N-Triples (RDF 1.1 N-Triples, sections 2 and 7): which lists of triples a text denotes.
+-- Which lists of triples a text denotes: `Denotes` (RDF 1.1 N-Triples, sections 2 and 7).
 use Rattle.std.specs.Prelude.{ℕ, ◌≡◌, List, [], ◌∷◌, ◌++◌, IsTrue, ◌⊎◌, Option, Some, None, codes, chars, IsUtf8}
 use Rattle.std.specs.List.{slice_split, list_all}
 use Rattle.csvw_iri.specs.Vocabulary.{lang_string, xsd_string}
@@ -11,11 +11,11 @@ use Rattle.csvw_ntriples.specs.declared.term.NtTerm.{NtTerm}
 use Rattle.csvw_ntriples.specs.declared.term.NtTerm.TheVariants as term
 use Rattle.csvw_ntriples.specs.declared.term.NtTriple.{NtTriple}
 
--- no terminal that begins as piece does goes on into what comes after it
+-- no terminal that begins with piece goes further into the text after it
 abbrev pub IsLongest : {V : Type 0} → (List ℕ → V → Type 0) → List ℕ → List ℕ → Type 0
 IsLongest {V} P piece after = (more rest : List ℕ) (v : V) → after ≡ more ++ rest → P (piece ++ more) v → more ≡ []
 
--- the text is spaces and tabs, the longest terminal P, which stands for v, and what comes after it
+-- the text is spaces and tabs, then the longest terminal P, which means v, and then a rest
 abbrev pub Takes : {V : Type 0} → (List ℕ → V → Type 0) → V → List ℕ → List ℕ → Type 0
 Takes P v text after =
     (gap piece : List ℕ) × (text ≡ gap ++ (piece ++ after)) × IsTrue (list_all is_blank gap) × P piece v × IsLongest P piece after
@@ -69,7 +69,7 @@ AreLines (line ∷ lines) ts =
     (IsIdle line × AreLines lines ts)
     ⊎ ((t : NtTriple) × (rest : List NtTriple) × (ts ≡ t ∷ rest) × IsTripleLine line t × AreLines lines rest)
 
--- No terminal holds a CR or LF, so a document is its lines, and the empty ones make no difference. Document has the production.
+-- No terminal has a CR or LF, so a document is its lines, and empty lines make no difference. Document.antt has the production.
 abbrev pub DenotesText : List ℕ → List NtTriple → Type 0
 DenotesText text ts = AreLines (slice_split is_break text) ts
 

@@ -1,4 +1,4 @@
--- The law of labels.
+-- The law that blank nodes have the same label only if they are the same.
 use Rattle.std.specs.Prelude.{◌≡◌}
 use Rattle.csvw_triples_core.specs.declared.origin.Origin.{Origin}
 use Rattle.csvw_ntriples.specs.Writable.{IsOrigin}

@@ -1,7 +1,7 @@
--- What contracts see of an `NtSink`.
+-- The parts of an `NtSink` that contracts cite.
 use Rattle.std.specs.Prelude.{Bool}
 use Rattle.std.specs.Borrow.{MutBor}
-use Rattle.csvw_text.specs.declared.counted.Counted.{Counted}
+use Rattle.csvw_streams.specs.declared.counted.Counted.{Counted}
 use Rattle.csvw_ntriples.specs.declared.nt_sink.NtSink.{NtSink}
 
 -- the writer that it borrows

@@ -1,4 +1,4 @@
--- What the parts of the reader find at the front of a text of characters.
+-- What each part of the reader finds at the start of a text of characters.
 use Rattle.std.specs.Prelude.{ℕ, ◌≡◌, ◌||◌, ◌==◌, List, [], ◌∷◌, ◌++◌, Bool, false, true, if◌then◌else◌, Option, Some, None, Result, Ok, Err, ◌⊎◌}
 use Rattle.std.specs.Prelude.{IsTrue, length, encode_utf8_all, codes}
 use Rattle.std.specs.Borrow.{Bor}
@@ -34,7 +34,7 @@ Stops p (c ∷ cs) = p c ≡ false
 abbrev pub IsRun : (ℕ → Bool) → List ℕ → List ℕ → List ℕ → Type 0
 IsRun p text front rest = (text ≡ front ++ rest) × (list_all p front ≡ true) × Stops p rest
 
--- what stands between marks
+-- the delimiter that closes a text
 abbrev pub mark_of : Enclosed → ℕ
 mark_of enclosed.Iri = 62
 mark_of enclosed.Literal = 34
@@ -52,35 +52,35 @@ PieceOf kind piece c =
     ((piece ≡ c ∷ []) × IsTrue (is_raw_in kind c))
     ⊎ (((letter : ℕ) × (piece ≡ 92 ∷ letter ∷ []) × (escape_in kind letter ≡ Some c)) ⊎ IsNumbered piece c)
 
--- the text is a piece, which stands for c, and a rest
+-- the text is a piece, which means c, and a rest
 abbrev pub Begins : Enclosed → List ℕ → ℕ → List ℕ → Type 0
 Begins kind text c rest = (piece : List ℕ) × (text ≡ piece ++ rest) × PieceOf kind piece c
 
--- the text is so many hexadecimal digits, of the number of the character c, and a rest
+-- the text is so many hexadecimal digits, the number of the character c, and a rest
 abbrev pub BeginsDigits : ℕ → List ℕ → ℕ → List ℕ → Type 0
 BeginsDigits count text c rest =
     (digits : List ℕ) × (text ≡ digits ++ rest) × (length digits ≡ count) × AllDigits 16 digits × (digits_value 16 digits ≡ c) × IsScalar c
 
--- the text is pieces up to the mark, which stand for the characters of value, and a rest after the mark
+-- the text is pieces up to the delimiter, which mean the characters of value, and a rest after the delimiter
 abbrev pub ReadsBody : Enclosed → List ℕ → List ℕ → List ℕ → Type 0
 ReadsBody kind text value rest = (body : List ℕ) × (text ≡ body ++ mark_of kind ∷ rest) × Spells (PieceOf kind) body value
 
--- the same of the value's bytes
+-- the same with the bytes of the value
 abbrev pub ReadsBytes : Enclosed → List ℕ → List ℕ → List ℕ → Type 0
 ReadsBytes kind text bytes rest = (value : List ℕ) × ReadsBody kind text value rest × (bytes ≡ encode_utf8_all value)
 
--- A relation holds of a value and a rest that were found, and of none where the answer is Syntax. Want of memory says nothing.
+-- The relation holds of a value and a rest that were found. It holds of none if the result is Syntax. After Memory nothing is said.
 abbrev pub Finds : {V : Type 0} → (V → List ℕ → Type 0) → Result (V × Bor (List ℕ)) NtFault → Type 0
 Finds R (Ok r) = R r.0 r.1.now
 Finds R (Err Memory) = Unit {0}
 Finds {V} R (Err Syntax) = (v : V) (rest : List ℕ) → R v rest → ⊥
 
--- the first character that is no space or tab
+-- the first character that is not a space or tab
 abbrev pub dark : List ℕ → Option ℕ
 dark [] = None
 dark (c ∷ cs) = if is_blank c then dark cs else Some c
 
--- The same where only a rest counts that goes on with a dot: then it is the rest that was found.
+-- The same if only a rest counts that goes on with a dot: then it is the rest that was found.
 abbrev pub FindsBeforeDot : {V : Type 0} → (V → List ℕ → Type 0) → Result (V × Bor (List ℕ)) NtFault → Type 0
 FindsBeforeDot {V} R (Ok r) = R r.0 r.1.now × ((v : V) (rest : List ℕ) → R v rest → dark rest ≡ Some 46 → rest ≡ r.1.now)
 FindsBeforeDot R (Err Memory) = Unit {0}
@@ -90,25 +90,25 @@ FindsBeforeDot {V} R (Err Syntax) = (v : V) (rest : List ℕ) → R v rest → d
 abbrev pub EndsLine : List ℕ → NtTerm → Type 0
 EndsLine text o = (after end : List ℕ) × TakesTerm o text after × Takes (IsMark (codes ".")) tt after end × IsIdle end
 
--- what a line gives
+-- the triple of a line, if it has one
 abbrev pub LineGives : List ℕ → Option NtTriple → Type 0
 LineGives line None = IsIdle line
 LineGives line (Some t) = IsTripleLine line t
 
--- a value that the relation has, or Syntax where it has none; want of memory says nothing
+-- a value that the relation has, or Syntax if it has none; after Memory nothing is said
 abbrev pub Answers : {V : Type 0} → (V → Type 0) → Result V NtFault → Type 0
 Answers R (Ok v) = R v
 Answers R (Err Memory) = Unit {0}
 Answers {V} R (Err Syntax) = (v : V) → R v → ⊥
 
--- what a text begins with, after spaces and tabs
+-- the first characters of a text, after spaces and tabs
 abbrev pub StartsSo : List ℕ → Start → Type 0
 StartsSo text start.Iri = dark text ≡ Some 60
 StartsSo text start.Blank = dark text ≡ Some 95
 StartsSo text start.Literal = dark text ≡ Some 34
 StartsSo text start.Other = (dark text ≡ Some 60 → ⊥) × (dark text ≡ Some 95 → ⊥) × (dark text ≡ Some 34 → ⊥)
 
--- the front of so many characters doesn't end with a dot, and what is left has no more than dots
+-- the front of so many characters does not end with a dot, and the rest has only dots
 abbrev pub EndsWithoutDot : List ℕ → ℕ → Type 0
 EndsWithoutDot text n =
     (front dots : List ℕ) × (text ≡ front ++ dots) × (length front ≡ n) × (list_all (λ c. c == 46) dots ≡ true)

@@ -1,4 +1,4 @@
--- The terminals of N-Triples (RDF 1.1 N-Triples, section 7): which characters are a terminal, and which text it stands for.
+-- The terminals of N-Triples: their characters, and the text that each means (RDF 1.1 N-Triples, section 7).
 use Rattle.std.specs.Prelude.{ℕ, ◌≡◌, List, [], ◌∷◌, ◌++◌, IsTrue, ◌||◌, ◌==◌, ◌⊎◌, Some, length, codes, encode_utf8_all, true}
 use Rattle.std.specs.Str.Parse.{AllDigits, digits_value}
 use Rattle.std.specs.Char.{IsScalar}
@@ -16,11 +16,11 @@ IsNumbered piece c =
     × (((mark ≡ 117) × (length digits ≡ 4)) ⊎ ((mark ≡ 85) × (length digits ≡ 8)))
     × AllDigits 16 digits × (digits_value 16 digits ≡ c) × IsScalar c
 
--- a piece of a STRING, and the character that it stands for
+-- a piece of a STRING, and the character that it means
 abbrev pub StringPiece : List ℕ → ℕ → Type 0
 StringPiece piece c = ((piece ≡ c ∷ []) × IsTrue (is_raw_in_string c)) ⊎ (IsEscape piece c ⊎ IsNumbered piece c)
 
--- a piece of an IRIREF, and the character that it stands for
+-- a piece of an IRIREF, and the character that it means
 abbrev pub IriPiece : List ℕ → ℕ → Type 0
 IriPiece piece c = ((piece ≡ c ∷ []) × IsTrue (is_raw_in_iri c)) ⊎ IsNumbered piece c
 
@@ -56,6 +56,6 @@ IsLabel (c ∷ cs) = IsTrue (is_label_start c) × IsLabelTail cs
 abbrev pub IsBlankNode : List ℕ → List ℕ → Type 0
 IsBlankNode text label = (text ≡ codes "_:" ++ label) × IsLabel label
 
--- the terminal stands for the text of these bytes
+-- the terminal means the text of these bytes
 abbrev pub InBytes : (List ℕ → List ℕ → Type 0) → List ℕ → List ℕ → Type 0
 InBytes P piece bytes = (text : List ℕ) × P piece text × (bytes ≡ encode_utf8_all text)

@@ -1,4 +1,4 @@
--- What the types of a triple keep, so that it can be written.
+-- The properties of a triple by which it can be written.
 use Rattle.std.specs.Prelude.{ℕ, ◌≡◌, ◌<◌, ◌^◌, List, Option, Some, None, true, IsUtf8}
 use Rattle.csvw_text.specs.Language.{is_language_tag}
 use Rattle.csvw_iri.specs.Safe.{is_iri}
@@ -20,7 +20,7 @@ IsOrigin (Subject t r) = (t < 2 ^ 64) × (r < 2 ^ 64)
 IsOrigin (Entry t r c k) = (t < 2 ^ 64) × (r < 2 ^ 64) × (c < 2 ^ 64) × (k < 2 ^ 64)
 IsOrigin (Note n) = n < 2 ^ 64
 
--- a text whose characters may all stand raw in an IRIREF
+-- a text whose characters may all be in an IRIREF as they are
 abbrev pub IriFits : List ℕ → Type 0
 IriFits iri = IsUtf8 iri × (is_iri iri ≡ true)
 
@@ -28,7 +28,7 @@ abbrev pub NodeFits : Node → Type 0
 NodeFits (node.Named iri) = IriFits iri
 NodeFits (node.Blank o) = IsOrigin o
 
--- a language, or the datatype where there is none
+-- the language or, if there is none, the datatype
 abbrev pub SuffixFits : Option (List ℕ) → List ℕ → Type 0
 SuffixFits None datatype = IriFits datatype
 SuffixFits (Some tag) datatype = is_language_tag tag ≡ true

@@ -1,4 +1,4 @@
--- The one spelling of triples that is written (RDF 1.1 N-Triples), byte by byte.
+-- The one spelling in which triples are written, byte by byte: `escaped` for literals (RDF 1.1 N-Triples, section 2).
 use Rattle.std.specs.Prelude.{ℕ, Bool, List, [], ◌∷◌, ◌++◌, ◌==◌, Option, Some, None, bytes_eq, codes, flat_map, if◌then◌else◌}
 use Rattle.std.specs.Fmt.{decimal}
 use Rattle.csvw_triples_core.specs.declared.origin.Origin.{Origin}
@@ -48,11 +48,11 @@ node_text (node.Blank o) = blank_text o
 abbrev pub is_string_type : List ℕ → Bool
 is_string_type iri = bytes_eq iri xsd_string
 
--- a datatype, but xsd:string
+-- the datatype of a literal, which is left out if it is xsd:string
 abbrev pub datatype_text : List ℕ → List ℕ
 datatype_text iri = if is_string_type iri then [] else codes "^^" ++ iri_text iri
 
--- a language where there is one, else the datatype
+-- the language if there is one, else the datatype
 abbrev pub suffix_text : Option (List ℕ) → List ℕ → List ℕ
 suffix_text None datatype = datatype_text datatype
 suffix_text (Some tag) datatype = 64 ∷ tag

@@ -1,10 +1,10 @@
-//! Copies of bytes that take no call. Two parts that overlap cover what is left over.
+//! Copies bytes without a call of a function. Two blocks that overlap cover a length between the sizes of blocks.
 ghost use Rattle.std.specs.Prelude.{◌≡◌, ◌+◌, ◌≤◌, length};
 ghost use Rattle.csvw_ntriples.specs.PlainCopy.{IsCopied};
 
 use crate::scratch::overwrite;
 
-/// Copies `N` bytes from this place on.
+/// Copies `N` bytes, from the place `at` on. Places count from 0.
 #[inline(always)]
 pub(crate) fn copy_at<const N: usize>(room: &mut [u8], bytes: &[u8], at: usize)
     requires within { at + N ≤ length bytes.now }
@@ -18,7 +18,7 @@ pub(crate) fn copy_at<const N: usize>(room: &mut [u8], bytes: &[u8], at: usize)
     }
 }
 
-/// Copies bytes over as many others: most names have 16 to 64 bytes.
+/// Copies bytes over as many others. Most names have 16 to 64 bytes.
 #[inline(always)]
 pub(crate) fn copy_name(room: &mut [u8], bytes: &[u8])
     requires { length room.old ≡ length bytes.now }

@@ -1,4 +1,4 @@
-//! Laws about what is written and read.
+//! Laws about the documents that are written and read.
 ghost use Rattle.std.specs.Prelude.{◌≡◌, ◌↔◌, List, ℕ, map, Contains};
 ghost use Rattle.std.specs.List.{AllByRecursion};
 ghost use Rattle.csvw_triples_core.specs.declared.term.Triple.{Triple};
@@ -10,29 +10,29 @@ ghost use Rattle.csvw_ntriples.specs.SameUpTo.{SameUpTo};
 ghost use Rattle.csvw_ntriples.specs.Written.{written, said};
 ghost use Rattle.csvw_ntriples.specs.Writable.{TripleFits};
 
-/// Different origins have different labels.
+/// Different origins of blank nodes have different labels.
 pub fn labels_differ()
     ensures { LabelsDiffer }
 {}
 
-/// A text denotes triples, line by line, exactly where it is a document of them by the production
-/// `ntriplesDoc` (RDF 1.1 N-Triples, section 7).
+/// A text denotes triples, line by line, exactly if it is a document of them by the production `ntriplesDoc` (RDF
+/// 1.1 N-Triples, section 7).
 pub fn document_is_the_grammars()
     ensures { (text : List ℕ) (ts : List NtTriple) → DenotesText text ts ↔ IsDocument text ts }
 {}
 
-/// A text denotes one list of triples at most (RDF 1.1 N-Triples, section 7).
+/// Bytes denote at most one list of triples (RDF 1.1 N-Triples, section 7).
 pub fn denotes_one_list()
     ensures { (bytes : List ℕ) (xs ys : List NtTriple) → Denotes bytes xs → Denotes bytes ys → xs ≡ ys }
 {}
 
-/// What is written denotes the triples, each origin as its label.
+/// The bytes that are written denote the triples, each blank node by its label.
 pub fn written_denotes()
     ensures { (ts : List Triple) → AllByRecursion TripleFits ts → Denotes (written ts) (map said ts) }
 {}
 
-/// The triples that are written, each origin as its label, are the same graph as the triples, up to
-/// the names of blank nodes (RDF 1.1 Concepts, section 3.6).
+/// The triples that are written are the same graph as the triples that were put, up to the names of blank nodes
+/// (RDF 1.1 Concepts, section 3.6).
 pub fn labels_name_one_to_one()
     ensures { (ts : List Triple) → AllByRecursion TripleFits ts → SameUpTo (Contains ts) (map said ts) }
 {}

@@ -1,4 +1,7 @@
-//! The line of a triple, made over the one before it.
+//! The line of a triple.
+//!
+//! Each line is made over the line before it. If the subject is the same blank node as before, the front of the
+//! line stays.
 ghost use Rattle.std.specs.Prelude.{◌≡◌, ◌++◌, true, codes, OnOk};
 ghost use Rattle.csvw_ntriples.specs.Front.{IsFront, front_text};
 ghost use Rattle.csvw_ntriples.specs.Written.{iri_text, node_text, line_text};
@@ -11,24 +14,24 @@ use csvw_iri::Iri;
 use csvw_triples_core::{Node, Origin, Triple};
 use std::alloc::{AllocError, Global};
 
-/// Makes the lines of triples, one over the other. Most triples have the subject of the one before: where that is a blank node, what
-/// the line begins with stays.
+/// Makes the lines of triples, one over the other. Most triples have the subject of the triple before. If that is a
+/// blank node, the front of the line stays.
 #[derive(Drop)]
 pub(crate) struct Line {
     /// The line that was made last.
     pub(crate) bytes: Scratch,
-    /// Whether it begins with a blank node.
+    /// Whether the line begins with a blank node.
     is_kept: bool,
-    /// The blank node.
+    /// That blank node.
     subject: Origin,
-    /// How many bytes stand in front of the text of the predicate.
+    /// How many bytes come before the text of the predicate.
     front: usize,
-    /// The row that was named last.
+    /// The label of the row that was named last.
     row: RowLabel,
     ghost begins: { is_kept ≡ true → IsFront subject front bytes },
 }
 
-/// Whether nothing is too great for a label: no number is.
+/// Proves that the numbers of an origin fit a label: no number is too great.
 fn fits(origin: Origin)
     ensures { IsOrigin origin }
 {
@@ -39,7 +42,7 @@ fn fits(origin: Origin)
 }
 
 impl Line {
-    /// No line. It takes no memory.
+    /// Makes an empty line. It takes no memory.
     pub(crate) fn new(alloc: Global) -> Line {
         Line {
             bytes: Scratch::new(alloc),
@@ -50,7 +53,8 @@ impl Line {
         }
     }
 
-    /// Cuts the line off in front of the text of the predicate, where its subject is this blank node.
+    /// If the line begins with this blank node, cuts the line off before the text of the predicate and returns
+    /// true.
     #[inline(always)]
     fn keeps(&mut self, origin: &Origin) -> bool
         ensures { result ≡ true → self.new.bytes ≡ front_text origin.now }
@@ -110,7 +114,8 @@ impl Line {
         }
     }
 
-    /// Becomes the line of a triple; after an error it may be a part of it.
+    /// Becomes the line of a triple. Fails with `AllocError` if memory runs out; it is then perhaps a part of the
+    /// line.
     #[inline(always)]
     pub(crate) fn refill(&mut self, triple: &Triple) -> Result<(), AllocError>
         ensures text { OnOk result (self.new.bytes ≡ line_text triple.now) }

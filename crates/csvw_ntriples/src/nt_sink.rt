@@ -8,8 +8,8 @@ use csvw_triples_core::{SinkFault, Triple, TripleSink};
 use std::alloc::Global;
 use std::io::Write;
 
-/// Writes each triple as a line of N-Triples. A line is made whole in memory and then sent by
-/// `write_out`; after a line that was cut off nothing more is sent.
+/// Writes each triple as a line of N-Triples. It makes the whole line in memory, and sends it with `write_out`.
+/// After a line that was cut off it sends nothing more: each later `put` fails with `Closed`.
 #[derive(Drop)]
 pub struct NtSink<'a, W> {
     out: &'a mut Counted<W>,
@@ -18,7 +18,7 @@ pub struct NtSink<'a, W> {
 }
 
 impl<'a, W: Write> NtSink<'a, W> {
-    /// A sink that adds to what the writer holds. It takes no memory.
+    /// Makes a sink that writes after the bytes that the writer has. It takes no memory.
     pub fn new(alloc: Global, out: &'a mut Counted<W>) -> NtSink<'a, W>
         ensures same_reference { (sink_out result).ghost_name ≡ out.entry.ghost_name }
         ensures out { (sink_out result).now ≡ out.entry.now }
@@ -31,7 +31,7 @@ impl<'a, W: Write> NtSink<'a, W> {
         }
     }
 
-    /// The writer. It takes no memory.
+    /// Returns the writer. It takes no memory.
     pub fn into_inner(self) -> &'a mut Counted<W>
         ensures same_reference { result.ghost_name ≡ (sink_out self.entry).ghost_name }
         ensures value { result.now ≡ (sink_out self.entry).now }
@@ -51,7 +51,7 @@ impl<'a, W: Write> TripleSink for NtSink<'a, W> {
     ghost use Rattle.std.specs.List.{AllByRecursion};
     ghost use Rattle.csvw_ntriples.specs.SendingLaws.{all_fit, sends_nothing, sends_on};
     ghost use Rattle.csvw_ntriples.specs.Writable.{TripleFits};
-    ghost use Rattle.csvw_text.specs.Counted.{inner_of, failures_of};
+    ghost use Rattle.csvw_streams.specs.Counted.{inner_of, failures_of};
     ghost use Rattle.csvw_ntriples.specs.NtSink.{sink_out, sink_is_open};
 
     ghost gains = { λ a ts b.

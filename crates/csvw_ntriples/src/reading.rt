@@ -1,4 +1,4 @@
-//! N-Triples, read.
+//! The reader of N-Triples documents.
 
 mod character;
 mod document;

@@ -1,4 +1,6 @@
-//! The blank node of the row that was named last.
+//! The label of a row's blank node.
+//!
+//! The part of the label that all rows of a table have in common stays from row to row.
 ghost use Rattle.std.specs.Prelude.{◌≡◌, ◌++◌, true, false, length, OnOk};
 ghost use Rattle.csvw_ntriples.specs.Front.{rows_front};
 ghost use Rattle.csvw_ntriples.specs.Written.{blank_text};
@@ -8,7 +10,7 @@ use crate::scratch::Scratch;
 use crate::write::{push_number, push_part};
 use std::alloc::{AllocError, Global};
 
-/// Keeps the blank node of the row that was named last: most blank nodes are of the row of the one before.
+/// Keeps the blank node of the row that was named last. Most blank nodes belong to the row of the one before.
 #[derive(Drop)]
 pub(crate) struct RowLabel {
     /// Whether a row was named.
@@ -19,14 +21,14 @@ pub(crate) struct RowLabel {
     row: u64,
     /// Its blank node.
     text: Scratch,
-    /// How many bytes of that stand in front of the number.
+    /// How many bytes of it come before the number of the row.
     front: usize,
     ghost is_label: { is_known ≡ true → text ≡ blank_text (origin.Row table row) },
     ghost begins: { is_known ≡ true → front ≡ length (rows_front table) },
 }
 
 impl RowLabel {
-    /// No row was named. It takes no memory.
+    /// Makes a label of no row. It takes no memory.
     pub(crate) fn new(alloc: Global) -> RowLabel {
         RowLabel {
             is_known: false,
@@ -37,7 +39,8 @@ impl RowLabel {
         }
     }
 
-    /// Becomes what the blank nodes of a table's rows begin with. Most rows are of the table of the one before.
+    /// Becomes the part that the blank nodes of all rows of a table begin with. Most rows are of the table of the
+    /// row before.
     fn begin(&mut self, table: u32) -> Result<(), AllocError>
         ensures known { self.new.is_known ≡ false }
         ensures text { OnOk result (self.new.text ≡ rows_front table) }

@@ -1,17 +1,17 @@
-//! Bytes that are made anew again and again.
+//! Bytes that are made again and again in the same memory.
 ghost use Rattle.std.specs.Prelude.{◌≡◌, ◌+◌, ◌≤◌, ◌∷◌, [], ◌++◌, length, take, drop, flat_map, IfOk, OnOk, MatchBool};
 ghost use Rattle.csvw_ntriples.specs.Written.{escaped};
 
 use crate::copy::copy_name;
-use crate::plain::copy_plain;
+use crate::unescaped::copy_plain;
 use std::alloc::{AllocError, Global};
 use std::marker::Model;
 
-/// Bytes that are made anew again and again, in memory that stays. It has room to spare, so that what is added is mostly
-/// one comparison and one copy.
+/// Bytes that are made again and again in the same memory. It has spare room, so that most additions are one
+/// comparison and one copy.
 #[derive(Drop)]
 pub(crate) struct Scratch {
-    /// The room, which begins with the bytes.
+    /// The room. It begins with the bytes.
     room: Vec<u8>,
     /// How many bytes there are.
     len: usize,
@@ -27,7 +27,7 @@ impl Model for Scratch {
     ghost invariant = { λ s. s.len ≤ length s.room.items };
 }
 
-/// Makes room for so many bytes behind the first ones.
+/// Makes room for `more` bytes after the first `len` ones.
 #[cold]
 #[inline(never)]
 fn widen(room: &mut Vec<u8>, len: usize, more: usize) -> Result<(), AllocError>
@@ -42,7 +42,7 @@ fn widen(room: &mut Vec<u8>, len: usize, more: usize) -> Result<(), AllocError>
     room.resize(least.saturating_mul(2), 0)
 }
 
-/// Writes bytes over the first ones.
+/// Writes bytes over the first bytes of the room.
 #[inline(always)]
 pub(crate) fn overwrite<const N: usize>(room: &mut [u8], bytes: &[u8; N])
     requires { N ≤ length room.old }
@@ -54,7 +54,7 @@ pub(crate) fn overwrite<const N: usize>(room: &mut [u8], bytes: &[u8; N])
 }
 
 impl Scratch {
-    /// No bytes. It takes no memory.
+    /// Makes it without bytes. It takes no memory.
     pub(crate) fn new(alloc: Global) -> Scratch
         ensures { result ≡ [] }
     {
@@ -64,21 +64,21 @@ impl Scratch {
         }
     }
 
-    /// The bytes.
+    /// Returns the bytes.
     pub(crate) fn as_slice(&self) -> &[u8]
         ensures value { result.now ≡ self.now }
     {
         &self.room.as_slice()[..self.len]
     }
 
-    /// How many bytes there are.
+    /// Returns how many bytes there are.
     pub(crate) fn len(&self) -> usize
         ensures { result ≡ length self.now }
     {
         self.len
     }
 
-    /// Keeps so many of the first bytes.
+    /// Keeps the first `n` bytes.
     pub(crate) fn truncate(&mut self, n: usize)
         ensures { self.new ≡ take n self.old }
     {
@@ -117,7 +117,7 @@ impl Scratch {
         Ok(())
     }
 
-    /// Adds bytes at the end where it is plain that none of them is escaped, and tells whether it did.
+    /// Adds bytes at the end if it sees that none of them is escaped. Returns whether it did.
     #[inline(always)]
     pub(crate) fn push_plain(&mut self, bytes: &[u8]) -> Result<bool, AllocError>
         ensures { IfOk result (λ is_done. MatchBool is_done (self.new ≡ self.old ++ flat_map escaped bytes.now) (self.new ≡ self.old)) }
@@ -134,7 +134,7 @@ impl Scratch {
         Ok(true)
     }
 
-    /// Adds bytes whose number is known where it is called, so that no call is needed to copy them.
+    /// Adds bytes at the end whose number the compiler knows, so that the copy needs no call.
     #[inline(always)]
     pub(crate) fn push_fixed<const N: usize>(&mut self, bytes: &[u8; N]) -> Result<(), AllocError>
         ensures { OnOk result (self.new ≡ self.old ++ bytes.now) }

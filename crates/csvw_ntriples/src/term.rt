@@ -1,4 +1,4 @@
-//! What a text in N-Triples says.
+//! Triples as an N-Triples document names them, with labels for blank nodes.
 ghost use Rattle.std.specs.Prelude.{◌≡◌, IfOk};
 
 use csvw_text::{LanguageTag, Text, both, copied_option};
@@ -6,7 +6,7 @@ use std::alloc::{AllocError, Global};
 use std::error::Error;
 use std::fmt;
 
-/// A node: an IRI, or a blank node by its label.
+/// A subject: an IRI, or a blank node by its label.
 #[derive(Debug, Drop)]
 pub enum NtNode {
     /// An IRI, with its escapes resolved.
@@ -15,18 +15,18 @@ pub enum NtNode {
     Blank(Text),
 }
 
-/// A literal: its text, its datatype and perhaps its language, which comes with rdf:langString.
+/// A literal: its text, its datatype and perhaps its language.
 #[derive(Debug, Drop)]
 pub struct NtLit {
     /// Its text, with its escapes resolved.
     pub text: Text,
-    /// The IRI of its datatype; xsd:string where none is written, rdf:langString with a language.
+    /// The IRI of its datatype. It is xsd:string if none is written, and rdf:langString if there is a language.
     pub datatype: Text,
-    /// Its language, where it has one.
+    /// Its language, if it has one.
     pub lang: Option<LanguageTag>,
 }
 
-/// What a triple ends with: an IRI, a blank node by its label, or a literal.
+/// An object: an IRI, a blank node by its label, or a literal.
 #[derive(Debug, Drop)]
 pub enum NtTerm {
     /// An IRI, with its escapes resolved.
@@ -37,7 +37,7 @@ pub enum NtTerm {
     Literal(NtLit),
 }
 
-/// A triple: its subject, predicate and object, IRIs as texts with their escapes resolved.
+/// A triple: its subject, predicate and object. IRIs are texts with their escapes resolved.
 #[derive(Debug, Drop)]
 pub struct NtTriple {
     /// Its subject.
@@ -49,7 +49,7 @@ pub struct NtTriple {
 }
 
 impl NtNode {
-    /// An equal node; `AllocError` where there is no memory.
+    /// Returns an equal node. Fails with `AllocError` if memory runs out.
     pub fn clone(&self, alloc: Global) -> Result<NtNode, AllocError>
         ensures { IfOk result (λ n. n ≡ self.now) }
     {
@@ -61,7 +61,7 @@ impl NtNode {
 }
 
 impl NtLit {
-    /// An equal literal; `AllocError` where there is no memory.
+    /// Returns an equal literal. Fails with `AllocError` if memory runs out.
     pub fn clone(&self, alloc: Global) -> Result<NtLit, AllocError>
         ensures { IfOk result (λ l. l ≡ self.now) }
     {
@@ -77,7 +77,7 @@ impl NtLit {
 }
 
 impl NtTerm {
-    /// An equal term; `AllocError` where there is no memory.
+    /// Returns an equal term. Fails with `AllocError` if memory runs out.
     pub fn clone(&self, alloc: Global) -> Result<NtTerm, AllocError>
         ensures { IfOk result (λ t. t ≡ self.now) }
     {
@@ -90,7 +90,7 @@ impl NtTerm {
 }
 
 impl NtTriple {
-    /// An equal triple; `AllocError` where there is no memory.
+    /// Returns an equal triple. Fails with `AllocError` if memory runs out.
     pub fn clone(&self, alloc: Global) -> Result<NtTriple, AllocError>
         ensures { IfOk result (λ t. t ≡ self.now) }
     {
@@ -100,17 +100,17 @@ impl NtTriple {
     }
 }
 
-/// Why no document was read.
+/// Why a document was not read.
 #[derive(Clone, Copy, Debug, PartialEq, Eq)]
 pub enum NtFault {
-    /// There is no memory.
+    /// Memory ran out.
     Memory,
-    /// The bytes aren't UTF-8, or no document of N-Triples.
+    /// The bytes are not UTF-8, or not an N-Triples document.
     Syntax,
 }
 
 impl NtFault {
-    /// What is wrong and what to do, as a sentence without its full stop.
+    /// Returns what is wrong and what to do, as a sentence without its full stop.
     fn sentence(&self) -> &'static str {
         match self {
             NtFault::Memory => "there is no memory: free some, and try again",

@@ -1,4 +1,5 @@
-//! The line of a triple. What most lines take is inlined where a triple is put, and what few take is not.
+//! Writes the line of a triple. The parts that most lines have are inlined into `put`. The parts that few lines
+//! have are not.
 ghost use Rattle.std.specs.Prelude.{◌≡◌, ◌∷◌, [], ◌++◌, true, OnOk, flat_map, codes, decimal, Bool};
 ghost use Rattle.csvw_ntriples.specs.Written.{label, escaped, iri_text, blank_text, string_text};
 ghost use Rattle.csvw_ntriples.specs.Written.{datatype_text, suffix_text, is_string_type, lit_text, term_text};
@@ -57,7 +58,7 @@ fn push_escaped(out: &mut Scratch, bytes: &[u8]) -> Result<(), AllocError>
     push_each_escaped(out, bytes)
 }
 
-/// A letter of a label and the number after it.
+/// Adds a letter of a label and the number after it.
 pub(crate) fn push_part<I: Integer>(
     out: &mut Scratch,
     letter: u8,
@@ -69,7 +70,7 @@ pub(crate) fn push_part<I: Integer>(
     push_number(out, number)
 }
 
-/// A number in digits.
+/// Adds a number in decimal digits.
 pub(crate) fn push_number<I: Integer>(out: &mut Scratch, number: I) -> Result<(), AllocError>
     ensures { OnOk result (out.new ≡ out.old ++ I.text number) }
 {
@@ -77,7 +78,7 @@ pub(crate) fn push_number<I: Integer>(out: &mut Scratch, number: I) -> Result<()
     out.push(buffer.format(number).as_bytes())
 }
 
-/// Adds a blank node, where another row was named last.
+/// Adds a blank node. `last` has the row that was named last.
 pub(crate) fn push_blank(
     out: &mut Scratch,
     last: &mut RowLabel,
@@ -118,7 +119,7 @@ fn is_xsd_string(iri: &Iri) -> bool
     text.len() == XSD_STRING.len() && text == XSD_STRING
 }
 
-/// Ends a literal that has a datatype, and its line.
+/// Adds the end of a literal that has a datatype, and of its line.
 #[inline(never)]
 fn end_typed(out: &mut Scratch, iri: &Iri) -> Result<(), AllocError>
     ensures text { OnOk result (out.new ≡ out.old ++ 34 ∷ datatype_text iri.now ++ codes " .\n") }
@@ -132,7 +133,7 @@ fn end_typed(out: &mut Scratch, iri: &Iri) -> Result<(), AllocError>
     out.push_fixed(b"> .\n")
 }
 
-/// Ends a literal that has a language, and its line.
+/// Adds the end of a literal that has a language, and of its line.
 fn end_tagged(out: &mut Scratch, tag: &LanguageTag) -> Result<(), AllocError>
     ensures text { OnOk result (out.new ≡ out.old ++ 34 ∷ 64 ∷ tag.now ++ codes " .\n") }
     ensures fits { OnOk result (is_language_tag tag.now ≡ true) }
@@ -142,7 +143,7 @@ fn end_tagged(out: &mut Scratch, tag: &LanguageTag) -> Result<(), AllocError>
     out.push_fixed(b" .\n")
 }
 
-/// Ends a literal and its line.
+/// Adds the end of a literal and of its line.
 fn end_literal(
     out: &mut Scratch,
     lang: &Option<LanguageTag>,
@@ -157,7 +158,7 @@ fn end_literal(
     }
 }
 
-/// Adds what stands behind the text of a predicate, where the object is an IRI.
+/// Adds the part of a line after the text of its predicate, if the object is an IRI.
 fn push_named(out: &mut Scratch, iri: &Iri) -> Result<(), AllocError>
     ensures text { OnOk result (out.new ≡ out.old ++ object_text (term.Named iri.now)) }
     ensures fits { OnOk result (IriFits iri.now) }
@@ -167,7 +168,7 @@ fn push_named(out: &mut Scratch, iri: &Iri) -> Result<(), AllocError>
     out.push_fixed(b"> .\n")
 }
 
-/// Adds what stands behind the text of a predicate, where the object is a blank node.
+/// Adds the part of a line after the text of its predicate, if the object is a blank node.
 fn push_labelled(out: &mut Scratch, last: &mut RowLabel, origin: Origin) -> Result<(), AllocError>
     ensures text { OnOk result (out.new ≡ out.old ++ object_text (term.Blank origin)) }
     ensures fits { OnOk result (IsOrigin origin) }
@@ -177,7 +178,7 @@ fn push_labelled(out: &mut Scratch, last: &mut RowLabel, origin: Origin) -> Resu
     out.push_fixed(b" .\n")
 }
 
-/// Adds what stands behind the text of a predicate, where the object is a literal.
+/// Adds the part of a line after the text of its predicate, if the object is a literal.
 #[inline(always)]
 fn push_literal(out: &mut Scratch, lit: &Lit) -> Result<(), AllocError>
     ensures text { OnOk result (out.new ≡ out.old ++ object_text (term.Literal lit.now)) }
@@ -188,7 +189,7 @@ fn push_literal(out: &mut Scratch, lit: &Lit) -> Result<(), AllocError>
     end_literal(out, &lit.lang, &lit.datatype)
 }
 
-/// Adds what stands behind the text of a predicate.
+/// Adds the part of a line after the text of its predicate.
 #[inline(always)]
 fn push_object(out: &mut Scratch, last: &mut RowLabel, term: &Term) -> Result<(), AllocError>
     ensures text { OnOk result (out.new ≡ out.old ++ object_text term.now) }
@@ -201,7 +202,7 @@ fn push_object(out: &mut Scratch, last: &mut RowLabel, term: &Term) -> Result<()
     }
 }
 
-/// Adds what stands in the line of a triple from the text of its predicate on.
+/// Adds the part of a triple's line from the text of its predicate on.
 #[inline(always)]
 pub(crate) fn push_rest(
     out: &mut Scratch,

@@ -1,10 +1,10 @@
--- The triples of annotations are what they say.
+-- The triples of annotations are their graph.
 use Rattle.std.proofs.Common.{◌≡◌, ℕ, ◌+◌, List, ◌++◌, map, refl, sym, ap, subst, inl, inr, Contains, arith}
 use Rattle.std.proofs.lemmas.List.Elements.{Contains-append_left, Contains-append_right, Contains-append_cases}
 use Rattle.csvw_triples_core.specs.declared.term.Node.{Node}
 use Rattle.csvw_triples_core.specs.declared.term.Triple.{Triple}
 use Rattle.csvw_triples.specs.Annotations.{Said, literal, object, Annotations, nothing, says}
-use Rattle.csvw_triples.specs.Notes.{followed_by, Stands, Notes, linked, of_kind, within}
+use Rattle.csvw_triples.specs.NoteGraph.{followed_by, Stands, Notes, linked, of_kind, within}
 use Rattle.csvw_triples.specs.Blanks.{is_blank, blanks_of, blanks, object_node}
 use Rattle.csvw_triples.specs.NotesTriples.{link_triple, kind_triple, object_triples, notes_triples, note_triples}
 use Rattle.csvw_triples.proofs.InLists.{none_in, first_in, later_in, in_cons, from_map, to_map}

@@ -1,4 +1,4 @@
--- The triples of a group and its tables are what is told of them.
+-- The triples of the opening are the graph of a group and its tables.
 use Rattle.std.proofs.Common.{◌≡◌, ℕ, ◌+◌, Bool, true, false, cond, List, [], ◌∷◌, ◌++◌, refl, sym, ap, subst, inl, inr, ◌↔◌, Contains, arith}
 use Rattle.std.proofs.lemmas.List.Elements.{Contains-append_left, Contains-append_right, Contains-append_cases}
 use Rattle.csvw_columns.specs.declared.plan.Plan.{Plan}

@@ -1,4 +1,5 @@
--- Annotations as they are written: keys with literals and objects (Metadata Vocabulary for Tabular Data, sections 5.8 and 6.2).
+-- Annotations as keys with literals and objects: `annotations` (Metadata Vocabulary for Tabular Data, sections 5.8 and 6.2;
+-- csv2rdf, section 4.2).
 use Rattle.std.specs.Prelude.{ℕ, List, [], ◌∷◌, map, Option, Some, None}
 use Rattle.csvw_description.specs.declared.note.Note.{Note}
 use Rattle.csvw_description.specs.declared.note.NoteLiteral.{NoteLiteral}
@@ -9,17 +10,17 @@ use Rattle.csvw_triples_core.specs.declared.term.Lit.{Lit}
 use Rattle.csvw_triples_core.specs.Literal.{typed_lit, tagged_lit}
 
 mutual
-  -- a literal, or an object: its `@id`, its types and what is said of it
+  -- the value of an annotation: a literal, or an object with its `@id`, its types and its own annotations
   pub data Said : Type 0 where
     literal : Lit → Said
     object : Option (List ℕ) → List (List ℕ) → Annotations → Said
 
-  -- what is said under which keys, in order
+  -- annotations: keys with values, in order
   pub data Annotations : Type 0 where
     nothing : Annotations
     says : List ℕ → Said → Annotations → Annotations
 
--- a literal with a language has rdf:langString
+-- a literal; with a language its datatype is rdf:langString
 abbrev pub lit_by : List ℕ → List ℕ → Option (List ℕ) → Lit
 lit_by text datatype None = typed_lit text datatype
 lit_by text datatype (Some tag) = tagged_lit text tag
@@ -34,7 +35,7 @@ abbrev pub annotations_of : List Keyed → Annotations
 annotations_of [] = nothing
 annotations_of (p ∷ ps) = says p.0 p.1 (annotations_of ps)
 
--- one level of each type, with what is inside already seen as what it says
+-- one level of a note's value, whose inner values were converted before
 abbrev pub value_step : NoteValue-F Said Keyed Said → Said
 value_step (NoteValue-F.Literal l) = literal (lit_of l)
 value_step (NoteValue-F.Object o) = o
@@ -45,13 +46,13 @@ note_step n = (n.key, n.value)
 abbrev pub object_step : NoteObject-F Said Keyed Said → Said
 object_step o = object o.id o.types (annotations_of o.notes)
 
--- what an annotation says, under its key, and what its value says
+-- an annotation: its key and its value
 abbrev pub keyed : Note → Keyed
 keyed = fold-Note Said Keyed Said value_step note_step object_step
 
 abbrev pub said : NoteValue → Said
 said = fold-NoteValue Said Keyed Said value_step note_step object_step
 
--- what a list of annotations says
+-- the annotations of a list of notes
 abbrev pub annotations : List Note → Annotations
 annotations notes = annotations_of (map keyed notes)

@@ -1,7 +1,7 @@
 pub mod Annotations
 pub mod Blanks
 pub mod NotesTriples
-pub mod Notes
+pub mod NoteGraph
 pub mod OpeningTriples
 pub mod Opening
 pub mod Growing

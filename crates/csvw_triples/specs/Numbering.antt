@@ -1,4 +1,4 @@
--- The numbers of the blank nodes of annotations, as triples lead to them.
+-- The numbers of the blank nodes of annotations, in the order of the triples that lead to them: `note_numbers`.
 use Rattle.std.specs.Prelude.{ℕ, zero, suc, ◌+◌, List, [], ◌∷◌, flat_map}
 use Rattle.csvw_triples_core.specs.declared.origin.Origin.{Origin}
 use Rattle.csvw_triples_core.specs.declared.origin.Origin.TheVariants as origin
@@ -19,11 +19,11 @@ number_in (term.Named iri) = []
 number_in (term.Blank o) = number_of o
 number_in (term.Literal lit) = []
 
--- the numbers of the objects of annotations that triples end with, in their order
+-- the numbers of the annotation objects that these triples end with, in their order
 abbrev pub note_numbers : List Triple → List ℕ
 note_numbers xs = flat_map (λ x. number_in x.o) xs
 
--- so many numbers after n
+-- the next numbers after n, so many of them
 abbrev pub counted : ℕ → ℕ → List ℕ
 counted n zero = []
 counted n (suc count) = (n + 1) ∷ counted (n + 1) count

@@ -1,4 +1,4 @@
--- The triples of a group and its tables, in their order (csv2rdf, section 4.2).
+-- The triples of a group and its tables, in their order, by the mode: `opening` (csv2rdf, section 4.2).
 use Rattle.std.specs.Prelude.{ℕ, ◌+◌, List, [], ◌∷◌, ◌++◌, Option, Some, None, if◌then◌else◌}
 use Rattle.csvw_iri.specs.Link.{iri_of}
 use Rattle.csvw_columns.specs.declared.plan.Plan.{Plan}
@@ -37,22 +37,22 @@ member_triple group table = triple group table_of_group (object_of (node_of tabl
 abbrev pub class_triple : TablePlan → Triple
 class_triple table = triple (node_of table) rdf_type (term.Named table_class)
 
--- where the table is found
+-- the URL of the table
 abbrev pub url_triple : TablePlan → Triple
 url_triple table = triple (node_of table) csvw_url (term.Named (iri_of table.url))
 
 abbrev pub about_table : Node → TablePlan → List Triple
 about_table group table = member_triple group table ∷ class_triple table ∷ url_triple table ∷ []
 
--- what the annotations of the table say, with n blank nodes in front of them
+-- the triples of the table's annotations, with n blank nodes before them
 abbrev pub notes_of : ℕ → TablePlan → List Triple
 notes_of n table = notes_triples (node_of table) n (annotations table.notes)
 
--- a suppressed table gives nothing
+-- the triples of a table; a suppressed table has none
 abbrev pub table_triples : Node → ℕ → TablePlan → List Triple
 table_triples group n table = if table.suppressed then [] else about_table group table ++ notes_of n table
 
--- how many objects in the annotations of a table become blank nodes
+-- how many blank nodes the annotations of a table have
 abbrev pub table_blanks : TablePlan → ℕ
 table_blanks table = if table.suppressed then 0 else blanks (annotations table.notes)
 
@@ -60,7 +60,7 @@ abbrev pub tables_blanks : List TablePlan → ℕ
 tables_blanks [] = 0
 tables_blanks (table ∷ tables) = table_blanks table + tables_blanks tables
 
--- numbers go on from table to table
+-- the triples of tables, whose blank nodes are numbered from table to table
 abbrev pub tables_triples : Node → ℕ → List TablePlan → List Triple
 tables_triples group n [] = []
 tables_triples group n (table ∷ tables) = table_triples group n table ++ tables_triples group (n + table_blanks table) tables
@@ -68,7 +68,7 @@ tables_triples group n (table ∷ tables) = table_triples group n table ++ table
 abbrev pub group_blanks : Plan → ℕ
 group_blanks plan = blanks (annotations plan.notes)
 
--- the class of the group, and what its annotations say, with n blank nodes in front of them
+-- the class of the group and the triples of its annotations, with n blank nodes before them
 abbrev pub about_group : Node → ℕ → Plan → List Triple
 about_group group n plan = group_triple group ∷ notes_triples group n (annotations plan.notes)
 
@@ -76,7 +76,7 @@ about_group group n plan = group_triple group ∷ notes_triples group n (annotat
 abbrev pub standard_opening : Plan → List Triple
 standard_opening plan = about_group (group_node plan.id) 0 plan ++ tables_triples (group_node plan.id) (group_blanks plan) plan.tables
 
--- by the mode: validation and minimal mode tell nothing of them
+-- by the mode: Validate and Minimal have no opening
 abbrev pub opening : Mode → Plan → List Triple
 opening mode.Validate plan = []
 opening mode.Minimal plan = []

@@ -6,18 +6,18 @@ use csvw_iri::Iri;
 use csvw_triples_rows::{Node, Origin, Triple};
 use std::alloc::{AllocError, Global};
 
-/// The triples so far.
+/// The triples of an opening so far.
 #[derive(Debug, Drop)]
 pub struct Draft {
-    /// How many objects of annotations are blank nodes in them.
+    /// How many blank nodes of annotations they have.
     pub blanks: u64,
     /// The triples, in their order.
     pub triples: Vec<Triple>,
-    /// Each of those objects is that of a triple of its own.
+    /// Each of those blank nodes is the object of a triple of its own.
     pub ghost are_counted: { blanks ≤ length triples.items },
 }
 
-/// How many blank nodes an object is itself.
+/// Returns 1 if an object of an annotation is a blank node, and 0 if it has an `@id`.
 pub(crate) fn is_blank(id: &Option<Iri>) -> u64
     ensures { result ≡ is_blank id.now }
 {
@@ -30,7 +30,7 @@ pub(crate) fn is_blank(id: &Option<Iri>) -> u64
 impl Draft {
     ghost use Rattle.csvw_triples.specs.Growing.{Grows};
 
-    /// No triples. It takes no memory.
+    /// Makes a draft without triples. It takes no memory.
     pub fn new(alloc: Global) -> Draft
         ensures triples { result.triples.items ≡ [] }
         ensures blanks { result.blanks ≡ 0 }
@@ -41,7 +41,8 @@ impl Draft {
         }
     }
 
-    /// Adds a triple that leads to no object of an annotation, or to one with an `@id`.
+    /// Adds a triple whose object is not a new blank node of an annotation. Fails with `AllocError` if memory runs
+    /// out.
     pub fn push(&mut self, triple: Triple) -> Result<(), AllocError>
         ensures { OnOk result (Grows self.old (triple ∷ []) 0 self.new) }
     {
@@ -49,7 +50,8 @@ impl Draft {
         Ok(())
     }
 
-    /// The node of the next object: its `@id`, else the next blank node.
+    /// Returns the node of the next object: its `@id` if it has one, else the next blank node. Fails with
+    /// `AllocError` if memory runs out.
     pub fn object_node(&self, alloc: Global, id: &Option<Iri>) -> Result<Node, AllocError>
         ensures { IfOk result (λ s. s ≡ object_node self.now.blanks id.now) }
     {

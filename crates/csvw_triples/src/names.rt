@@ -1,4 +1,4 @@
-//! The IRIs that the triples of groups and tables name.
+//! The IRIs that the triples of groups and tables use.
 ghost use Rattle.std.specs.Prelude.{◌≡◌};
 ghost use Rattle.csvw_triples_rows.specs.CsvwVocabulary as vocabulary;
 ghost use Rattle.csvw_iri.specs.Vocabulary as datatypes;
@@ -7,7 +7,7 @@ use csvw_iri::{Iri, named};
 use csvw_text::both;
 use std::alloc::{AllocError, Global};
 
-/// IRIs that triples name, whatever their group and its tables are (CSVW Namespace Vocabulary Terms).
+/// The IRIs that are the same for all groups and tables (CSVW Namespace Vocabulary Terms).
 #[derive(Debug, Drop)]
 pub struct OpeningNames {
     /// rdf:type.
@@ -31,7 +31,7 @@ pub struct OpeningNames {
 }
 
 impl OpeningNames {
-    /// The names; `AllocError` where there is no memory.
+    /// Makes the names. Fails with `AllocError` if memory runs out.
     pub(crate) fn new(alloc: Global) -> Result<OpeningNames, AllocError> {
         let rdf_type = named(alloc, "http://www.w3.org/1999/02/22-rdf-syntax-ns#type");
         let group_class = named(alloc, "http://www.w3.org/ns/csvw#TableGroup");

@@ -15,7 +15,7 @@ use csvw_iri::Iri;
 use csvw_triples_rows::{Lit, Node, Term, Triple};
 use std::alloc::{AllocError, Global};
 
-/// A node as an object.
+/// Makes a node an object.
 pub(crate) fn object_of(node: Node) -> Term
     ensures { result ≡ object_of node }
 {
@@ -43,7 +43,7 @@ fn lit_of(alloc: Global, names: &OpeningNames, literal: &NoteLiteral) -> Result<
     }
 }
 
-/// Adds what leads to an object of an annotation, and answers its node.
+/// Adds the triple that leads to an object of an annotation, and returns the node of the object.
 fn push_object(
     alloc: Global,
     draft: &mut Draft,
@@ -130,7 +130,7 @@ fn push_note(
     }
 }
 
-/// Adds the triples of annotations of a subject, in their order.
+/// Adds the triples of a subject's annotations, in their order.
 #[cycle(push)]
 pub(crate) fn push_notes(
     alloc: Global,

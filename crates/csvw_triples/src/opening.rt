@@ -1,4 +1,4 @@
-//! The triples of a group and its tables, put into a sink.
+//! Writes the triples of a group and its tables into a sink.
 ghost use Rattle.std.specs.Prelude.{◌≡◌, ◌++◌, IfErr, IfOk, OnOk};
 ghost use Rattle.csvw_triples_core.specs.Taking.{FrontOf, Ends};
 ghost use Rattle.csvw_triples.specs.Annotations.{annotations};
@@ -18,7 +18,7 @@ use csvw_triples_rows::{
 };
 use std::alloc::{AllocError, Global};
 
-/// The node of a group: its `@id`, else its blank node.
+/// Returns the node of a group: its `@id` if it has one, else its blank node.
 fn group_node(alloc: Global, id: &Option<Iri>) -> Result<Node, AllocError>
     ensures { IfOk result (λ s. s ≡ group_node id.now) }
 {
@@ -79,7 +79,7 @@ fn url_triple(alloc: Global, names: &OpeningNames, table: &TablePlan) -> Result<
     Ok(Triple { s, p, o })
 }
 
-/// Adds that the group has the table, the table's class and where it is found.
+/// Adds that the group has the table, the class of the table and its URL.
 fn push_about(
     alloc: Global,
     names: &OpeningNames,
@@ -94,7 +94,7 @@ fn push_about(
     draft.push(url_triple(alloc, names, table)?)
 }
 
-/// Adds what the annotations of the table say.
+/// Adds the triples of the table's annotations.
 fn push_notes_of(
     alloc: Global,
     names: &OpeningNames,
@@ -138,7 +138,7 @@ fn push_tables(
     Ok(())
 }
 
-/// Adds the class of the group and what its annotations say.
+/// Adds the class of the group and the triples of its annotations.
 fn push_group(
     alloc: Global,
     names: &OpeningNames,
@@ -173,9 +173,11 @@ fn opening(alloc: Global, plan: &Plan, mode: Mode) -> Result<Vec<Triple>, AllocE
     }
 }
 
-/// Puts the triples that tell of a group and its tables, and what their annotations say, in mode `Standard`, in their order
-/// (csv2rdf, section 4.2); in the other modes none. After an error the sink took a front of them, each triple whole, and after
-/// `Device` the device failed within the next one. The fault is one that the sink returned in this call, or `Memory`.
+/// Writes the opening into a sink (csv2rdf, section 4.2). In mode `Standard` these are the triples of the group,
+/// its tables and their annotations, in their order. In the other modes there are none.
+///
+/// The fault is one that the sink returned in this call, or `Memory`. After an error the sink took a front of the
+/// triples, each of them whole. After `Device` the device failed within the next triple.
 pub fn emit_opening<S: TripleSink>(
     alloc: Global,
     plan: &Plan,

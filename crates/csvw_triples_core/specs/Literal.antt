@@ -1,4 +1,4 @@
--- Literals (RDF 1.1 Concepts, section 3.3).
+-- Literals with a datatype, and literals with a language (RDF 1.1 Concepts, section 3.3).
 use Rattle.std.specs.Prelude.{◌≡◌, ℕ, List, Bool, true, false, Some, None, refl}
 use Rattle.std.proofs.Common.{subst}
 use Rattle.csvw_triples_core.specs.declared.term.Lit.{Lit}
@@ -11,10 +11,10 @@ IfFalse false = Unit {0}
 pub no_lang : {P : Type 0} → false ≡ true → P
 no_lang h = absurd (subst IfFalse h tt)
 
--- a text of a datatype
+-- a literal of this text and datatype
 abbrev pub typed_lit : List ℕ → List ℕ → Lit
 typed_lit text datatype = record { text = text; datatype = datatype; lang = None; tagged = λ h. no_lang h }
 
--- a text in a language
+-- a literal of this text in this language
 abbrev pub tagged_lit : List ℕ → List ℕ → Lit
 tagged_lit text tag = record { text = text; datatype = lang_string; lang = Some tag; tagged = λ _. refl }

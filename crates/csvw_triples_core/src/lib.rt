@@ -1,4 +1,13 @@
-//! Triples, where their blank nodes come from, and what takes triples.
+//! Triples and what takes them: the lower part of csvw_triples.
+//!
+//! A `Triple` is a triple of RDF. Its blank nodes are named by their origins (`Origin`), not by labels. A
+//! `TripleSink` takes triples one after the other. `VecSink` is a sink that keeps them in a list.
+//!
+//! # Promises
+//!
+//! - A sink that returns Ok took the triple at its end (`TripleSink::put`).
+//! - On every error the sink gains nothing (`TripleSink::put`).
+//! - After `Device` at most a proper part of the triple went out (`cuts`).
 #![tactic(auto)]
 
 mod mode;

@@ -1,12 +1,12 @@
-//! What a run writes.
+//! The mode of a run: which triples it writes.
 
-/// What a run does with a group of tables (csv2rdf, section 4).
+/// Which triples a run makes of a group of tables (csv2rdf, section 4).
 #[derive(Clone, Copy, Debug, PartialEq, Eq)]
 pub enum Mode {
-    /// Nothing is converted.
+    /// No triples. The run only validates.
     Validate,
-    /// The cells' triples alone.
+    /// The triples of the cells only.
     Minimal,
-    /// The cells' triples, and what is told of the group, its tables and their rows.
+    /// The triples of the cells, the group, its tables and their rows.
     Standard,
 }

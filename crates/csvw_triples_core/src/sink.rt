@@ -1,4 +1,11 @@
-//! What takes triples.
+//! The trait of sinks for triples.
+//!
+//! `TripleSink` has the relation `gains old triples new` on two states of a sink. Two laws hold of it. A sink that
+//! nothing happened to gains nothing (`stays`), and gains compose (`goes_on`). So generic code can say exactly
+//! which triples a sink took. On every error a sink gains nothing.
+//!
+//! A second relation, `cuts old triple new`, says within which triple a device failed. That triple comes next after
+//! the whole triples that were taken (`FrontOf`).
 ghost use Rattle.std.specs.Prelude.{◌≡◌, ◌≢◌, ◌+◌, ◌<◌, ◌^◌, ◌-◌, List, [], ◌∷◌, ◌++◌, ℕ, Bool, true, false, OnOk, OnErr, IsTrue, Err, ◌↔◌};
 ghost use Rattle.csvw_triples_core.specs.declared.term.Triple.{Triple as TheTriple};
 
@@ -7,19 +14,20 @@ use std::alloc::AllocError;
 use std::error::Error;
 use std::fmt;
 
-/// Why a sink didn't take a triple. After `Device` at most a proper part of the triple went out, else nothing.
+/// Why a sink did not take a triple. After `Device` at most a proper part of the triple went out. After the other
+/// faults nothing went out.
 #[derive(Clone, Copy, Debug, PartialEq, Eq)]
 pub enum SinkFault {
-    /// There is no memory. The sink may be asked again.
+    /// Memory ran out. A later call may succeed.
     Memory,
-    /// The device failed in this call. The sink takes no more.
+    /// The device failed in this call. The sink takes no more triples.
     Device,
-    /// The device failed before.
+    /// The device failed in an earlier call.
     Closed,
 }
 
 impl SinkFault {
-    /// What is wrong and what to do, as a sentence without its full stop.
+    /// Returns what is wrong and what to do, as a sentence without its full stop.
     fn sentence(&self) -> &'static str {
         match self {
             SinkFault::Memory => "there is no memory: free some, and try again",
@@ -49,26 +57,30 @@ impl From<AllocError> for SinkFault {
     }
 }
 
-/// What takes triples, one after the other.
+/// A sink: it takes triples one after the other.
 pub trait TripleSink {
-    /// The sink went from one state to another, and took these triples whole, in their order.
+    /// The sink went from the first state to the second and took exactly these triples, each whole, in this order.
     ghost gains: { Self → List TheTriple → Self → Type 0 };
 
-    /// The device failed within this triple: from one state to another at most a proper part of it went out.
+    /// The device failed within this triple. Between the two states at most a proper part of it went out.
     ghost cuts: { Self → TheTriple → Self → Type 0 };
 
-    /// No device failed so far.
+    /// No device has failed so far.
     ghost is_open: { Self → Bool };
 
-    /// How often a device failed.
+    /// How often a device has failed.
     ghost failed: { Self → ℕ };
 
-    /// How often a device failed.
+    /// Returns how often a device has failed.
     fn failures(&self) -> u64
         ensures { result ≡ failed self.now };
 
-    /// Takes a triple at the end, or returns why it didn't. On an error the sink gains nothing, and after
-    /// `Device` the device failed within this triple.
+    /// Takes a triple at the end. On every error the sink gains nothing.
+    ///
+    /// - `Memory` if memory runs out. The sink is open or closed as before.
+    /// - `Device` if the device failed in this call, within this triple. The sink is closed from then on, and the
+    ///   count of failures is one higher, unless it was 2^64 - 1.
+    /// - `Closed` exactly if the sink was closed before.
     fn put(&mut self, triple: &Triple) -> Result<(), SinkFault>
         ensures ok { OnOk result (gains self.old (triple.now ∷ []) self.new) }
         ensures err { OnErr result (gains self.old [] self.new) }
@@ -80,9 +92,9 @@ pub trait TripleSink {
         ensures device { result ≡ Err SinkFault.Device → is_open self.new ≡ false }
         ensures failure { result ≡ Err SinkFault.Device → failed self.old < 2 ^ 64 - 1 → failed self.new ≡ failed self.old + 1 };
 
-    /// Nothing happened.
+    /// A sink to which nothing happens gains nothing.
     ghost stays: { (s : Self) → gains s [] s };
 
-    /// One thing happened after another.
+    /// The triples of two steps are the triples of the first step and then those of the second.
     ghost goes_on: { (a b c : Self) (xs ys : List TheTriple) → gains a xs b → gains b ys c → gains a (xs ++ ys) c };
 }

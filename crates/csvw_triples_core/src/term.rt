@@ -7,34 +7,34 @@ use csvw_iri::Iri;
 use csvw_text::{LanguageTag, Text, copied_option};
 use std::alloc::{AllocError, Global};
 
-/// What a triple begins with: an IRI or a blank node.
+/// The subject of a triple: an IRI or a blank node.
 #[derive(Debug, Drop)]
 pub enum Node {
     /// An IRI.
     Named(Iri),
-    /// A blank node, by where it comes from.
+    /// A blank node, by its origin.
     Blank(Origin),
 }
 
-/// A literal: its text, its datatype and perhaps its language, which comes with rdf:langString.
+/// A literal: its lexical form, its datatype and perhaps its language.
 #[derive(Debug, Drop)]
 pub struct Lit {
     /// Its lexical form.
     pub text: Text,
     /// Its datatype.
     pub datatype: Iri,
-    /// Its language, where it has one.
+    /// Its language, if it has one.
     pub lang: Option<LanguageTag>,
-    /// With a language its datatype is rdf:langString.
+    /// If it has a language, its datatype is rdf:langString.
     pub ghost tagged: { is_some lang ≡ true → datatype ≡ lang_string },
 }
 
-/// What a triple ends with: an IRI, a blank node or a literal.
+/// The object of a triple: an IRI, a blank node or a literal.
 #[derive(Debug, Drop)]
 pub enum Term {
     /// An IRI.
     Named(Iri),
-    /// A blank node, by where it comes from.
+    /// A blank node, by its origin.
     Blank(Origin),
     /// A literal.
     Literal(Lit),
@@ -52,7 +52,7 @@ pub struct Triple {
 }
 
 impl Node {
-    /// An equal node; `AllocError` where there is no memory.
+    /// Returns an equal node. Fails with `AllocError` if memory runs out.
     pub fn clone(&self, alloc: Global) -> Result<Node, AllocError>
         ensures { IfOk result (λ n. n ≡ self.now) }
     {
@@ -66,7 +66,7 @@ impl Node {
 impl Lit {
     ghost use Rattle.csvw_triples_core.specs.Literal.{typed_lit};
 
-    /// A literal of a datatype, without a language.
+    /// Makes a literal with a datatype and without a language.
     pub fn typed(text: Text, datatype: Iri) -> Lit
         ensures { result ≡ typed_lit text datatype }
     {
@@ -77,7 +77,7 @@ impl Lit {
         }
     }
 
-    /// Its text. It takes no memory.
+    /// Returns its lexical form. It takes no memory.
     pub fn into_text(self) -> Text
         ensures { result ≡ self.text }
     {
@@ -89,7 +89,7 @@ impl Lit {
         text
     }
 
-    /// An equal literal; `AllocError` where there is no memory.
+    /// Returns an equal literal. Fails with `AllocError` if memory runs out.
     pub fn clone(&self, alloc: Global) -> Result<Lit, AllocError>
         ensures { IfOk result (λ l. l ≡ self.now) }
     {
@@ -105,7 +105,7 @@ impl Lit {
 }
 
 impl Term {
-    /// An equal term; `AllocError` where there is no memory.
+    /// Returns an equal term. Fails with `AllocError` if memory runs out.
     pub fn clone(&self, alloc: Global) -> Result<Term, AllocError>
         ensures { IfOk result (λ t. t ≡ self.now) }
     {
@@ -118,7 +118,7 @@ impl Term {
 }
 
 impl Triple {
-    /// An equal triple; `AllocError` where there is no memory.
+    /// Returns an equal triple. Fails with `AllocError` if memory runs out.
     pub fn clone(&self, alloc: Global) -> Result<Triple, AllocError>
         ensures { IfOk result (λ t. t ≡ self.now) }
     {

@@ -1,4 +1,4 @@
-//! A sink over a vector.
+//! A sink that keeps its triples in memory.
 ghost use Rattle.std.specs.Prelude.{◌≡◌, [], true, ◌++◌};
 ghost use Rattle.std.proofs.Common.{rules, append_assoc, append-nil};
 ghost use Rattle.csvw_triples_core.specs.VecSink.{triples_of};
@@ -6,7 +6,7 @@ ghost use Rattle.csvw_triples_core.specs.VecSink.{triples_of};
 use crate::{SinkFault, Triple, TripleSink};
 use std::alloc::Global;
 
-/// A sink that keeps its triples.
+/// A sink that keeps its triples in a list.
 #[derive(Debug, Drop)]
 pub struct VecSink {
     items: Vec<Triple>,
@@ -14,7 +14,7 @@ pub struct VecSink {
 }
 
 impl VecSink {
-    /// A sink without triples. It takes no memory.
+    /// Makes a sink without triples. It takes no memory.
     pub fn new(alloc: Global) -> VecSink
         ensures { triples_of result ≡ [] }
     {
@@ -24,7 +24,7 @@ impl VecSink {
         }
     }
 
-    /// The triples so far.
+    /// Returns the triples so far.
     pub fn triples(&self) -> &[Triple]
         ensures { result.now ≡ triples_of self.now }
     {

@@ -1,4 +1,4 @@
--- Triples put one after the other.
+-- Triples that are put one after the other.
 use Rattle.std.proofs.Common.{◌≡◌, ℕ, ◌+◌, List, [], ◌++◌, Bool, refl, sym, ap, ◌∙◌, subst, append_assoc}
 use Rattle.std.specs.Prelude.{Result, Ok, Err, IfErr}
 use Rattle.csvw_triples_core.specs.declared.sink.SinkFault.{SinkFault}
@@ -8,7 +8,7 @@ use Rattle.csvw_triples_core.specs.Taking.{FrontOf, IsAsReady, IsCutAfter, Ends}
 use Rattle.csvw_triples_rows.specs.Puts.{IsDevice, Puts, Takes}
 
 module _ {S : Type 0} (gains : S → List Triple → S → Type 0) (cuts : S → Triple → S → Type 0) (is_open : S → Bool) (failed : S → ℕ) where
-  -- how the sink stands after a later call
+  -- the state of the sink after a later call
   ends_later : (old mid new : S) (r : Result Unit SinkFault) → IsAsReady is_open failed old mid
       → Ends is_open failed mid new r → Ends is_open failed old new r
   ends_later old mid new (Ok u) s h = (h.0 ∙ s.0, h.1 ∙ s.1)
@@ -58,7 +58,7 @@ module _ {S : Type 0} (gains : S → List Triple → S → Type 0) (cuts : S →
     pub puts_nothing : (s : S) (all : List Triple) → all ≡ [] → Puts gains cuts is_open failed s all s (Ok tt)
     puts_nothing s all e = record { takes = subst (λ ts. gains s ts s) (sym e) (stays s); ends = (refl, refl) }
 
-    -- nothing was put for want of memory
+    -- nothing was put because memory ran out
     pub no_memory : (s : S) (all : List Triple) → Puts gains cuts is_open failed s all s (Err Memory)
     no_memory s all = record {
       takes = record { front = []; rest = all; parts = refl; gained = stays s; cut = λ fails. absurd fails };

@@ -1,4 +1,4 @@
--- Where a row stands in its source may stand raw in an IRI.
+-- The fragment of a row, its place in its source, may be in an IRI as it is.
 use Rattle.std.proofs.Common.{◌≡◌, ℕ, zero, suc, ◌/◌, ◌%◌, ◌<◌, Bool, true, false, cond, List, [], ◌∷◌, refl, arith}
 use Rattle.std.specs.Prelude.{◌==◌, not}
 use Rattle.std.specs.Fmt.{decimal, digits, digits_onto, digit_glyph}

@@ -1,4 +1,4 @@
--- The triples that rows give are their graph.
+-- The triples of rows are their graph.
 use Rattle.std.proofs.Common.{◌≡◌, ℕ, zero, suc, ◌+◌, Bool, true, false, cond, List, [], ◌∷◌, map, drop, refl, sym, ap, ◌∙◌, subst, arith, add-one}
 use Rattle.std.proofs.Common.{inl, inr, ◌⊎◌, ◌↔◌, Option, Some, None, Contains}
 use Rattle.std.proofs.lemmas.List.Elements.{Contains-append_left, Contains-append_right, Contains-append_cases, Contains-push, Contains-push_cases}
@@ -49,7 +49,7 @@ in_cons y ys x h =
 pub is_first : {X : Type 0} (y : X) (ys : List X) (x : X) → x ≡ y → Contains (y ∷ ys) x
 is_first y ys x e = subst (λ z. Contains (y ∷ ys) z) (sym e) (first_in y ys)
 
--- what stands in the joined lists stands in the list of some item
+-- an item of the joined lists is in the list of some item
 pub from_flat : {X Y : Type 0} (f : X → List Y) (xs : List X) (y : Y) → Contains (flat_map f xs) y → (x : X) × Contains xs x × Contains (f x) y
 from_flat f [] y h = absurd (none_in y h)
 from_flat f (x ∷ xs) y h =
@@ -119,7 +119,7 @@ module _ (entry : ℕ → Origin) (column : Column) where
   first_number : (k : ℕ) → k ≡ 0 + k
   first_number k = omega arith
 
-  -- the triples behind the first entry's
+  -- the triples after those of the first entry
   abbrev behind : ℕ → List Item → List Triple
   behind k items = rest_triple entry k items ∷ list_triples entry column (k + 1) items
 
@@ -232,7 +232,7 @@ module _ (entry : ℕ → Origin) (column : Column) where
   to_value s p (One item) None x h = elim h [ inl e ↦ is_first _ [] x (same_triple x s p _ e.0 e.1 e.2) | inr l ↦ absurd l ]
   to_value s p (Many items) None x h = to_items s p items column.properties.ordered x h
 
--- nothing is given where it is suppressed
+-- a suppressed column or table has no triples
 pub unless : {X : Type 0} (b : Bool) (xs : List X) (x : X) → Contains (cond b [] xs) x → (b ≡ false) × Contains xs x
 unless true xs x h = absurd (none_in x h)
 unless false xs x h = (refl, h)

@@ -1,4 +1,4 @@
--- The triples that rows give are their graph, in each mode.
+-- The triples of rows are their graph in each mode.
 use Rattle.std.proofs.Common.{List, [], ◌∷◌, ◌↔◌, ℕ, Some, Contains}
 use Rattle.std.specs.Prelude.{flat_map}
 use Rattle.csvw_columns_core.specs.declared.columns.Columns.{Columns}

@@ -1,4 +1,4 @@
--- The triples of the items, entries and cells that were passed.
+-- The triples of the items, entries and cells passed so far.
 use Rattle.std.proofs.Common.{◌≡◌, ℕ, ◌+◌, ◌-◌, ◌<◌, ◌≤◌, zero, suc, Bool, true, false, cond, List, [], ◌∷◌, ◌++◌, refl, sym, ap, ◌∙◌, subst, arith}
 use Rattle.std.proofs.Common.{take, drop, length, map, append-nil, append_assoc, add-one, add-zero, get_or, take_all, flat_map}
 use Rattle.std.proofs.lemmas.List.{take-append-drop, map-append, length-drop}

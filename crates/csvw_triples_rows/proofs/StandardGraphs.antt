@@ -1,4 +1,4 @@
--- The triples that rows give in standard mode are their graph.
+-- The triples of rows in standard mode are their graph.
 use Rattle.std.proofs.Common.{◌≡◌, ℕ, false, List, [], ◌∷◌, ◌++◌, inl, inr, ◌↔◌, Some, None, Contains}
 use Rattle.std.proofs.lemmas.List.Elements.{Contains-append_left, Contains-append_right, Contains-append_cases}
 use Rattle.std.specs.Prelude.{flat_map}
@@ -19,7 +19,7 @@ module _ (t : ℕ) (columns : Columns) (row : Row) where
   abbrev minimal : List Triple
   minimal = cells_triples t row.number columns.columns row.cells
 
-  -- the triples of the front behind the first, behind the second, and the last
+  -- the triples of the front: those after the first, those after the second, and the last
   abbrev behind_one : List Triple
   behind_one = class_triple t row.number ∷ number_triple t row.number ∷ url_triple t columns row ∷ []
 

@@ -1,4 +1,4 @@
--- What the cells of a row give in standard mode: their own triples, and each subject once at its first cell.
+-- The triples of the cells of a row in standard mode: their own, and one for each subject at its first cell.
 use Rattle.std.proofs.Common.{◌≡◌, ℕ, Bool, true, false, cond, List, [], ◌∷◌, ◌++◌, refl, sym, ap, subst, inl, inr, ◌⊎◌, Option, Some, None, Contains}
 use Rattle.std.proofs.lemmas.List.Elements.{Contains-append_left, Contains-append_right, Contains-append_cases}
 use Rattle.std.proofs.lemmas.Slice.Eq.{bytes_eq-Decides}
@@ -32,7 +32,7 @@ module _ (t number : ℕ) where
   later_described : (p : Column × AnnCell) (pairs : List (Column × AnnCell)) (x : Triple) → Described pairs x → Described (p ∷ pairs) x
   later_described p pairs x d = (d.0, d.1, later_in p pairs (d.0, d.1) d.2, d.3, d.4)
 
-  -- what stands there is of a cell, or tells its subject
+  -- each triple there is one of a cell, or describes its subject
 
   from_describes : (column : Column) (last : Option AnnCell) (cell : AnnCell) (x : Triple) → Contains (describes_triples t number last cell) x
       → x ≡ describes_triple t number (subject_of t number cell)
@@ -60,7 +60,7 @@ module _ (t number : ℕ) where
         ]
       ]
 
-  -- each triple of a cell stands there
+  -- each triple of a cell is there
 
   to_first : (column : Column) (last : Option AnnCell) (cell : AnnCell) (x : Triple) → Contains (cell_triples t number column cell) x
       → Contains (described_triples t number column last cell) x
@@ -79,7 +79,7 @@ module _ (t number : ℕ) where
         | inr k ↦ Contains-append_right first others x (to_cells (last_after p.0 last p.1) pairs x k)
       ]
 
-  -- each subject was told by the last cell, or is told at its first cell
+  -- each subject was described at the last cell, or is described at its first cell
 
   abbrev Told : Option AnnCell → Node → Type 0
   Told None s = ⊥
@@ -108,7 +108,7 @@ module _ (t number : ℕ) where
             (given column.suppressed _ x e (Contains-append_left (describes_triples t number last cell) (cell_triples t number column cell) x k)))
       ]
 
-  -- one that the cell before it told
+  -- one that was described at the cell before it
   passed : (b : Bool) (column : Column) (last : Option AnnCell) (cell : AnnCell) (pairs : List (Column × AnnCell)) (s : Node) → column.suppressed ≡ b
       → Told (cond b last (Some cell)) s → Tells last ((column, cell) ∷ pairs) s
   passed true column last cell pairs s e k = inl k

@@ -1,4 +1,4 @@
--- Triples put cell after cell, where what a cell gives depends on the cells before it.
+-- Triples put cell after cell. The triples of a cell depend on the cells before it.
 use Rattle.std.proofs.Common.{◌≡◌, ℕ, ◌+◌, ◌<◌, ◌≤◌, zero, suc, Bool, true, false, cond, List, [], ◌∷◌, ◌++◌, refl, sym, ap, ◌∙◌, arith, drop, length}
 use Rattle.std.proofs.Common.{append-nil, append_assoc, add-one, get_or}
 use Rattle.std.proofs.Math.Seq.{drop-cons, drop-nil}

@@ -1,4 +1,4 @@
--- IRIs that the triples of standard mode name (CSVW Namespace Vocabulary Terms; RDF Schema 1.1).
+-- The IRIs that the triples of standard mode use (CSVW Namespace Vocabulary Terms; RDF Schema 1.1).
 use Rattle.std.specs.Prelude.{ℕ, List, codes}
 
 -- csvw:table, from a group to its tables
@@ -29,7 +29,7 @@ row_class = codes "http://www.w3.org/ns/csvw#Row"
 abbrev pub csvw_rownum : List ℕ
 csvw_rownum = codes "http://www.w3.org/ns/csvw#rownum"
 
--- csvw:describes, from a row to what it is about
+-- csvw:describes, from a row to the subjects of its cells
 abbrev pub csvw_describes : List ℕ
 csvw_describes = codes "http://www.w3.org/ns/csvw#describes"
 

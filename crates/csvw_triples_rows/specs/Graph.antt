@@ -1,4 +1,4 @@
--- The graph of a table (Generating RDF from Tabular Data on the Web, section 4.2, minimal mode).
+-- The graph of a row and of a table, with lists and links, in minimal mode (csv2rdf, section 4.2).
 use Rattle.std.specs.Prelude.{ℕ, ◌+◌, ◌≡◌, ◌⊎◌, false, MatchBool, List, drop, Contains, Option, Some, None, slice_get}
 use Rattle.std.specs.List.{zip}
 use Rattle.csvw_columns_core.specs.declared.column.Column.{Column}
@@ -33,24 +33,24 @@ abbrev pub IsObjectBy : (ℕ → Origin) → Column → CellValue → Option (Li
 IsObjectBy entry column value None o = IsObjectOf entry column value o
 IsObjectBy entry column value (Some link) o = o ≡ term.Named link
 
--- item i of an ordered list, from 0: its entry has the literal, and the entry of the next item or rdf:nil as its rest
+-- item i of an ordered list, from 0: its entry has the literal as its first, and the entry of the next item, or rdf:nil, as its rest
 abbrev pub IsListTriple : (ℕ → Origin) → Column → List Item → Triple → Type 0
 IsListTriple entry column items x =
     (i : ℕ) × (item : Item) × (slice_get items i ≡ Some item)
     × ((x ≡ first_triple entry column (i + 1) item) ⊎ (x ≡ rest_triple entry (i + 1) (drop (i + 1) items)))
 
--- the triples of the list that a cell is, where it is one
+-- the triples of the ordered list that a cell is, if it is one
 abbrev pub IsOfList : (ℕ → Origin) → Column → CellValue → Option (List ℕ) → Triple → Type 0
 IsOfList entry column (Many items) None x = MatchBool column.properties.ordered (IsListTriple entry column items x) ⊥
 IsOfList entry column value link x = ⊥
 
--- the subject, predicate and some object of a cell, or a triple of its list
+-- a triple of a cell: its subject, its predicate and one of its objects, or a triple of its list
 abbrev pub IsOfCell : ℕ → ℕ → Column → AnnCell → Triple → Type 0
 IsOfCell t number column cell x =
     ((x.s ≡ subject_of t number cell) × (x.p ≡ predicate_of column cell) × IsObjectBy (entries_of t number column) column cell.value cell.link x.o)
     ⊎ IsOfList (entries_of t number column) column cell.value cell.link x
 
--- the triples of a row of table t: those of its cells in columns that aren't suppressed, where the table isn't
+-- the triples of a row of table t: those of its cells in columns that are not suppressed, unless the table is suppressed
 abbrev pub MinimalRow : ℕ → Columns → Row → Triple → Type 0
 MinimalRow t columns row x =
     (columns.suppressed ≡ false) × (column : Column) × (cell : AnnCell) × IsCell columns row column cell

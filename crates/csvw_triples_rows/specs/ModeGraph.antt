@@ -1,4 +1,4 @@
--- The graph of a row and of all rows of a table, by the mode (Generating RDF from Tabular Data on the Web, section 4.2).
+-- The graph of a row and of all rows of a table, by the mode: `RowGraph`, `TableGraph` (csv2rdf, section 4.2).
 use Rattle.std.specs.Prelude.{ℕ, List, Option}
 use Rattle.csvw_columns_core.specs.declared.columns.Columns.{Columns}
 use Rattle.csvw_annotate.specs.declared.row.Row.{Row}
@@ -8,7 +8,7 @@ use Rattle.csvw_triples_core.specs.declared.term.Triple.{Triple}
 use Rattle.csvw_triples_rows.specs.Graph.{MinimalRow, Minimal}
 use Rattle.csvw_triples_rows.specs.Standard.{StandardRow, StandardRows}
 
--- the triples of a row of table t; validation gives none
+-- the triples of a row of table t; mode Validate has none
 abbrev pub RowGraph : Mode → ℕ → Columns → Row → Triple → Type 0
 RowGraph mode.Validate t columns row x = ⊥
 RowGraph mode.Minimal t columns row x = MinimalRow t columns row x

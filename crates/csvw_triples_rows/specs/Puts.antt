@@ -1,4 +1,4 @@
--- What a call that puts triples did to its sink.
+-- The change that a call which puts triples makes to its sink.
 use Rattle.std.specs.Prelude.{ℕ, Bool, List, Result, Ok, Err}
 use Rattle.csvw_triples_core.specs.declared.term.Triple.{Triple}
 use Rattle.csvw_triples_core.specs.declared.sink.SinkFault.{SinkFault}
@@ -11,7 +11,7 @@ IsDevice Memory = ⊥
 IsDevice Device = Unit {0}
 IsDevice Closed = ⊥
 
--- all of these triples were taken, or after an error a front of them
+-- the sink took all of these triples or, after an error, a front of them
 abbrev pub Takes : {S : Type 0} → (S → List Triple → S → Type 0) → (S → Triple → S → Type 0) → S → List Triple → S → Result Unit SinkFault → Type 0
 Takes gains cuts old all new (Ok u) = gains old all new
 Takes gains cuts old all new (Err e) = FrontOf gains cuts old all new (IsDevice e)

@@ -1,4 +1,4 @@
--- The graph of a table in standard mode (Generating RDF from Tabular Data on the Web, section 4.2).
+-- The graph of a row and of all rows of a table, in standard mode: `StandardRow`, `StandardRows` (csv2rdf, section 4.2).
 use Rattle.std.specs.Prelude.{ℕ, ◌≡◌, ◌⊎◌, false, List, Contains, Option, Some, None}
 use Rattle.csvw_columns_core.specs.declared.column.Column.{Column}
 use Rattle.csvw_columns_core.specs.declared.columns.Columns.{Columns}
@@ -9,19 +9,19 @@ use Rattle.csvw_triples_rows.specs.Graph.{IsCell, MinimalRow}
 use Rattle.csvw_triples_rows.specs.RowTriples.{subject_of}
 use Rattle.csvw_triples_rows.specs.StandardTriples.{member_triple, class_triple, number_triple, url_triple, describes_triple}
 
--- the row describes the subject of a cell, null or not, in a column that isn't suppressed
+-- the row describes the subject of a cell, null or not, whose column is not suppressed
 abbrev pub IsDescribes : ℕ → Columns → Row → Triple → Type 0
 IsDescribes t columns row x =
     (column : Column) × (cell : AnnCell) × IsCell columns row column cell × (column.suppressed ≡ false)
     × (x ≡ describes_triple t row.number (subject_of t row.number cell))
 
--- what is told of a row itself: that its table has it, its class, its number, its place in its source, and what it describes
+-- the triples about a row itself: that its table has it, its class, its number, its place in its source, and the subjects that it describes
 abbrev pub IsOfRow : ℕ → Columns → Row → Triple → Type 0
 IsOfRow t columns row x =
     (x ≡ member_triple t columns row.number) ⊎ ((x ≡ class_triple t row.number) ⊎ ((x ≡ number_triple t row.number)
     ⊎ ((x ≡ url_triple t columns row) ⊎ IsDescribes t columns row x)))
 
--- the triples of a row of table t: those of minimal mode, and where the table isn't suppressed what is told of the row
+-- the triples of a row of table t: those of minimal mode and, unless the table is suppressed, those about the row
 abbrev pub StandardRow : ℕ → Columns → Row → Triple → Type 0
 StandardRow t columns row x = MinimalRow t columns row x ⊎ ((columns.suppressed ≡ false) × IsOfRow t columns row x)
 

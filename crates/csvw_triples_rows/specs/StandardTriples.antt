@@ -31,7 +31,7 @@ abbrev pub object_of : Node → Term
 object_of (node.Named iri) = term.Named iri
 object_of (node.Blank o) = term.Blank o
 
--- a row in its source, by its source number (RFC 7111, section 2.1)
+-- the fragment of a row, by its source number (RFC 7111, section 2.1)
 abbrev pub row_fragment : ℕ → List ℕ
 row_fragment source = codes "row=" ++ decimal source
 
@@ -42,19 +42,19 @@ row_url columns row = iri_of columns.url ++ codes "#" ++ row_fragment row.source
 abbrev pub member_triple : ℕ → Columns → ℕ → Triple
 member_triple t columns number = triple (table_node t columns.id) row_of_table (term.Blank (origin.Row t number))
 
--- what is said of the row itself: its class
+-- the class of the row
 abbrev pub class_triple : ℕ → ℕ → Triple
 class_triple t number = triple (row_node t number) rdf_type (term.Named row_class)
 
--- its number
+-- the number of the row
 abbrev pub number_triple : ℕ → ℕ → Triple
 number_triple t number = triple (row_node t number) csvw_rownum (term.Literal (typed_lit (decimal number) xsd_integer))
 
--- where it stands in its source
+-- the place of the row in its source
 abbrev pub url_triple : ℕ → Columns → Row → Triple
 url_triple t columns row = triple (row_node t row.number) csvw_url (term.Named (row_url columns row))
 
--- a node that the row is about
+-- the row describes this node
 abbrev pub describes_triple : ℕ → ℕ → Node → Triple
 describes_triple t number s = triple (row_node t number) csvw_describes (object_of s)
 
@@ -62,29 +62,29 @@ abbrev pub row_front : ℕ → Columns → Row → List Triple
 row_front t columns row =
     member_triple t columns row.number ∷ class_triple t row.number ∷ number_triple t row.number ∷ url_triple t columns row ∷ []
 
--- two cells of a row have one subject
+-- two cells of a row have the same subject
 abbrev pub same_about : Option (List ℕ) → Option (List ℕ) → Bool
 same_about None None = true
 same_about None (Some b) = false
 same_about (Some a) None = false
 same_about (Some a) (Some b) = bytes_eq a b
 
--- the cell has the subject of the last one before it, where there is one
+-- the cell has the same subject as the last cell before it, if there is one
 abbrev pub is_described : Option AnnCell → AnnCell → Bool
 is_described None cell = false
 is_described (Some last) cell = same_about last.about cell.about
 
--- what a cell adds to what the row is about
+-- the triples that say that the row describes a cell's subject
 abbrev pub describes_triples : ℕ → ℕ → Option AnnCell → AnnCell → List Triple
 describes_triples t number last cell =
     if is_described last cell then [] else describes_triple t number (subject_of t number cell) ∷ []
 
--- the triples of a cell, by the last cell before it whose column isn't suppressed; a suppressed column gives nothing
+-- the triples of a cell, by the last cell before it whose column is not suppressed; a suppressed column has none
 abbrev pub described_triples : ℕ → ℕ → Column → Option AnnCell → AnnCell → List Triple
 described_triples t number column last cell =
     if column.suppressed then [] else describes_triples t number last cell ++ cell_triples t number column cell
 
--- the last cell whose column isn't suppressed, after one more
+-- the last cell whose column is not suppressed, after one more cell
 abbrev pub last_after : Column → Option AnnCell → AnnCell → Option AnnCell
 last_after column last cell = if column.suppressed then last else Some cell
 
@@ -93,7 +93,7 @@ described_cells t number last [] = []
 described_cells t number last (p ∷ pairs) =
     described_triples t number p.0 last p.1 ++ described_cells t number (last_after p.0 last p.1) pairs
 
--- the triples of a row of table t in standard mode; a suppressed table gives nothing
+-- the triples of a row of table t in standard mode; a suppressed table has none
 abbrev pub standard_triples : ℕ → Columns → Row → List Triple
 standard_triples t columns row =
     if columns.suppressed then []

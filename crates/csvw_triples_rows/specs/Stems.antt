@@ -1,4 +1,4 @@
--- The triples of one cell (csv2rdf, section 4.6), by what they begin with and where its list stands.
+-- The triples of one cell, by their subject and predicate and by the place of its list (csv2rdf, section 4.6).
 use Rattle.std.specs.Prelude.{ℕ, List, [], ◌∷◌}
 use Rattle.csvw_columns_core.specs.declared.column.Column.{Column}
 use Rattle.csvw_cell.specs.declared.cell.Item.{Item}
@@ -26,7 +26,7 @@ literal_triple stem column item = object_triple stem (term.Literal (literal_of c
 abbrev pub entries_in : ListPlace → ℕ → Origin
 entries_in place k = Entry place.table place.row place.column k
 
--- the triples of an entry, by what follows it
+-- the triples of an entry, by the node of the rest
 abbrev pub entry_triples : Origin → Column → Item → Term → List Triple
 entry_triples entry column item rest =
     triple (node.Blank entry) rdf_first (term.Literal (literal_of column item)) ∷ triple (node.Blank entry) rdf_rest rest ∷ []

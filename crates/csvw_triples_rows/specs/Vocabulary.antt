@@ -1,4 +1,4 @@
--- IRIs of RDF that the triples of ordered lists name (RDF Schema 1.1, section 5.2).
+-- The IRIs of RDF that the triples of ordered lists use (RDF Schema 1.1, section 5.2).
 use Rattle.std.specs.Prelude.{ℕ, List, codes}
 
 abbrev pub rdf_first : List ℕ

@@ -1,4 +1,4 @@
-//! The IRIs that the triples of standard mode name.
+//! The IRIs that the triples of standard mode use.
 ghost use Rattle.std.specs.Prelude.{◌≡◌};
 ghost use Rattle.csvw_iri.specs.Vocabulary.{xsd_integer};
 ghost use Rattle.csvw_triples_rows.specs.CsvwVocabulary as vocabulary;
@@ -7,7 +7,7 @@ use csvw_iri::{Iri, named};
 use csvw_text::both;
 use std::alloc::{AllocError, Global};
 
-/// IRIs that triples name in standard mode, whatever their rows are (CSVW Namespace Vocabulary Terms).
+/// The IRIs of standard mode that are the same for all rows (CSVW Namespace Vocabulary Terms).
 #[derive(Debug, Drop)]
 pub struct CsvwNames {
     /// rdf:type.
@@ -34,7 +34,7 @@ pub struct CsvwNames {
 }
 
 impl CsvwNames {
-    /// The names; `AllocError` where there is no memory.
+    /// Makes the names. Fails with `AllocError` if memory runs out.
     pub(crate) fn new(alloc: Global) -> Result<CsvwNames, AllocError> {
         let rdf_type = named(alloc, "http://www.w3.org/1999/02/22-rdf-syntax-ns#type");
         let row = named(alloc, "http://www.w3.org/ns/csvw#row");

@@ -1,4 +1,6 @@
-//! The triples of rows, put into a sink.
+//! Writes the triples of rows into a sink.
+//!
+//! An `Emitter` makes each triple in the memory of the one before it.
 ghost use Rattle.std.specs.Prelude.{◌≡◌, [], ◌∷◌, length, map, IfOk, IfErr, OnOk, if◌then◌else◌};
 ghost use Rattle.csvw_datatype.specs.Lexical.{IsWritable};
 ghost use Rattle.csvw_triples_core.specs.Taking.{FrontOf, Ends};
@@ -28,7 +30,7 @@ use csvw_triples_core::{Mode, Node, Origin, SinkFault, Term, Triple, TripleSink}
 use std::alloc::{AllocError, Global};
 use std::mem;
 
-/// Puts the triples of rows into sinks, and keeps the memory of one triple and of one place from row to row.
+/// Writes the triples of rows into sinks. It keeps the memory of one triple and of one row's IRI from row to row.
 #[derive(Debug, Drop)]
 pub struct Emitter {
     /// Where its memory comes from.
@@ -37,17 +39,17 @@ pub struct Emitter {
     names: RdfNames,
     /// The names of CSVW.
     pub(crate) csvw: CsvwNames,
-    /// The triple that was put last, in whose memory the next is made.
+    /// The triple that was written last. The next one is made in its memory.
     draft: Triple,
-    /// The text of an earlier literal, where the draft has none.
+    /// The text of an earlier literal, if the draft has no literal.
     spare: Text,
-    /// Where a row stands in its source.
+    /// The fragment of a row's IRI: its place in its source.
     pub(crate) fragment: Text,
-    /// The IRI of the row that was told last, in whose memory the next is made.
+    /// The IRI of the row that was written last. The next one is made in its memory.
     pub(crate) address: Iri,
 }
 
-/// A triple and the IRI of a row, in whose memory the first ones are made.
+/// Makes the first triple and the first IRI of a row, in whose memory the later ones are made.
 fn first_draft(alloc: Global) -> Result<(Triple, Iri), AllocError> {
     let p = named(alloc, "http://www.w3.org/ns/csvw#row")?;
     let address = p.clone(alloc)?;
@@ -57,7 +59,7 @@ fn first_draft(alloc: Global) -> Result<(Triple, Iri), AllocError> {
 }
 
 impl Emitter {
-    /// An emitter; `AllocError` where there is no memory.
+    /// Makes an emitter. Fails with `AllocError` if memory runs out.
     pub fn new(alloc: Global) -> Result<Emitter, AllocError> {
         let names = both(RdfNames::new(alloc), CsvwNames::new(alloc));
         let ((names, csvw), (draft, address)) = both(names, first_draft(alloc))?;
@@ -72,12 +74,13 @@ impl Emitter {
         })
     }
 
-    /// An emitter on the heap, which its owner lets go of by one call; `AllocError` where there is no memory.
+    /// Makes an emitter on the heap, so that its owner drops it with one call. Fails with `AllocError` if memory
+    /// runs out.
     pub fn boxed(alloc: Global) -> Result<Box<Emitter>, AllocError> {
         Ok(Box::new(alloc, Emitter::new(alloc)?)?)
     }
 
-    /// Makes it the subject and the predicate of the draft.
+    /// Sets the subject and the predicate of the draft.
     #[inline(always)]
     fn aim(&mut self, stem: Stem)
         ensures s { self.new.draft.s ≡ stem.s }
@@ -88,7 +91,7 @@ impl Emitter {
         self.draft.p = p;
     }
 
-    /// Makes what a cell is about and its predicate the subject and the predicate of the draft.
+    /// Sets the subject and the predicate of the draft to those of a cell.
     #[inline(always)]
     fn aim_at(&mut self, place: RowPlace, column: &Column, cell: &AnnCell) -> Result<(), AllocError>
         ensures s { OnOk result (self.new.draft.s ≡ subject_of place.table place.row cell.now) }
@@ -99,7 +102,7 @@ impl Emitter {
         Ok(())
     }
 
-    /// The memory of an earlier literal's text.
+    /// Returns the memory of an earlier literal's text.
     #[inline(always)]
     pub(crate) fn take_spare(&mut self) -> Text
         ensures s { self.new.draft.s ≡ self.old.draft.s }
@@ -111,7 +114,7 @@ impl Emitter {
         }
     }
 
-    /// Makes it the object of the draft.
+    /// Sets the object of the draft.
     #[inline(always)]
     fn set_object(&mut self, o: Term)
         ensures s { self.new.draft.s ≡ self.old.draft.s }
@@ -124,7 +127,8 @@ impl Emitter {
         self.draft.o = o;
     }
 
-    /// Makes the literal of a value the object of the draft, in memory of its own. Most are made over the one before.
+    /// Sets the object of the draft to the literal of a value, in memory of its own. Most literals are made over
+    /// the one before instead.
     #[inline(never)]
     fn make_literal(&mut self, column: &Column, item: &Item) -> Result<(), AllocError>
         requires { IsWritable item.now.value }
@@ -138,7 +142,7 @@ impl Emitter {
         Ok(())
     }
 
-    /// Makes the literal of a value the object of the draft.
+    /// Sets the object of the draft to the literal of a value.
     #[inline(always)]
     fn set_literal(&mut self, column: &Column, item: &Item) -> Result<(), AllocError>
         requires { IsWritable item.now.value }
@@ -180,7 +184,7 @@ impl Emitter {
         put_one(&self.draft, sink)
     }
 
-    /// Puts the triple of one of several items.
+    /// Writes the triple of one of several items.
     fn emit_one<S: TripleSink>(
         &mut self,
         stem: &Stem,
@@ -211,7 +215,7 @@ impl Emitter {
         Ok(())
     }
 
-    /// What a list is from entry `k` on.
+    /// Returns the node of a list from entry `k` on.
     fn list_node(&self, place: ListPlace, k: u64, is_end: bool) -> Result<Term, AllocError>
         ensures { IfOk result (λ o. o ≡ (if is_end then term.Named rdf_nil else term.Blank (entries_in place k))) }
     {
@@ -242,7 +246,7 @@ impl Emitter {
         })
     }
 
-    /// Puts that an entry's first is the item.
+    /// Writes the triple that says that an item is the first of an entry.
     fn emit_first<S: TripleSink>(
         &mut self,
         entry: Origin,
@@ -258,7 +262,7 @@ impl Emitter {
         self.emit_item(stem, column, item, sink)
     }
 
-    /// Puts what an entry's rest is.
+    /// Writes the triple that says what the rest of an entry is.
     fn emit_rest<S: TripleSink>(
         &mut self,
         entry: Origin,
@@ -271,7 +275,7 @@ impl Emitter {
         self.put_object(stem, rest, sink)
     }
 
-    /// Puts the triples of an entry.
+    /// Writes the triples of an entry.
     fn emit_entry<S: TripleSink>(
         &mut self,
         entry: Origin,
@@ -391,7 +395,7 @@ impl Emitter {
         }
     }
 
-    /// Puts the triples of a cell whose column isn't suppressed.
+    /// Writes the triples of a cell whose column is not suppressed.
     #[inline(never)]
     fn emit_any<S: TripleSink>(
         &mut self,
@@ -414,7 +418,7 @@ impl Emitter {
         self.emit_objects(stem, list, column, cell, sink)
     }
 
-    /// Puts the triple of a cell that has one value.
+    /// Writes the triple of a cell that has one value.
     #[inline(always)]
     fn emit_single<S: TripleSink>(
         &mut self,
@@ -448,7 +452,7 @@ impl Emitter {
         if column.suppressed {
             return Ok(());
         }
-        // Most cells have one value, and no value link.
+        // Most cells have one value and no value link.
         match (&cell.link, &cell.value) {
             (None, CellValue::One(item)) => self.emit_single(place, column, cell, item, sink),
             _ => self.emit_any(place, column, cell, sink),
@@ -517,10 +521,16 @@ impl Emitter {
         }
     }
 
-    /// Puts the triples of a row of table `t`, whose values have lexical forms, by the mode (csv2rdf, section 4.2): those of
-    /// its cells, in their order; in mode `Standard` what is told of the row in front, and before a cell what it adds to
-    /// what the row describes; in mode `Validate` none. After an error the sink took a front of them, each triple whole, and after
-    /// `Device` the device failed within the next one. The fault is one that the sink returned in this call, or `Memory`.
+    /// Writes the triples of a row of table `t` by the mode, in their order (csv2rdf, section 4.2). The values of
+    /// the row have lexical forms.
+    ///
+    /// - Mode `Validate` has no triples.
+    /// - Mode `Minimal` has the triples of the cells, in the order of the cells.
+    /// - Mode `Standard` has the triples about the row first. Before the triples of a cell it has what the cell
+    ///   adds to what the row describes.
+    ///
+    /// The fault is one that the sink returned in this call, or `Memory`. After an error the sink took a front of
+    /// the triples, each of them whole. After `Device` the device failed within the next triple.
     pub fn emit_row<S: TripleSink>(
         &mut self,
         columns: &Columns,
@@ -540,7 +550,7 @@ impl Emitter {
     }
 }
 
-/// Puts the triples of one row, as `Emitter::emit_row` does.
+/// Writes the triples of one row, as `Emitter::emit_row` does. It fails as that does.
 pub fn emit_row<S: TripleSink>(
     alloc: Global,
     columns: &Columns,

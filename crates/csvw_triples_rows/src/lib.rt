@@ -1,4 +1,18 @@
-//! The triples that rows give.
+//! The triples of rows: the part of csvw_triples that converts the rows of a table (csv2rdf, section 4.2).
+//!
+//! # Promises
+//!
+//! - A row with values, lists, ordered lists and links makes exactly its triples by the mode, for every sink
+//!   (`emit_row`, `Emitter::emit_row`).
+//! - After an error the sink took a front of these triples, each of them whole. After `Device` the device failed
+//!   within the next triple (`emit_row`).
+//! - As a set, the triples of a row are its graph (`row_triples_are_row_graph`). In minimal mode that is the graph
+//!   of csv2rdf's minimal mode. Standard mode adds the triples about the row.
+//! - Standard mode has a `csvw:describes` for the subject of each cell, null or not, whose column is not suppressed
+//!   (`RowGraph`).
+//! - As a set, the triples of all rows of a table are its graph (`rows_triples_are_table_graph`).
+//! - After `Memory` the sink is open as before, and its count of failures is the same. After `Device` it is closed,
+//!   and the count is higher if it has room. `Closed` comes only from a sink that was closed (`Ends`).
 #![tactic(auto)]
 
 mod csvw_names;

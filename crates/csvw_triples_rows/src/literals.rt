@@ -2,12 +2,12 @@
 ghost use Rattle.std.specs.Prelude.{◌≡◌, true, false, None, IfOk, OnOk, bytes_eq, codes};
 ghost use Rattle.csvw_triples_core.specs.declared.term.Term.TheVariants as term;
 ghost use Rattle.csvw_datatype.specs.Lexical.{IsWritable, lexical_of};
-ghost use Rattle.csvw_cell.specs.Codes.{is_string};
+ghost use Rattle.csvw_datatype.specs.Strings.{is_string};
 ghost use Rattle.csvw_triples_core.specs.Literal.{tagged_lit, typed_lit};
 ghost use Rattle.csvw_triples_rows.specs.Literals.{has_language, literal_of, read_literal};
 
 use crate::rdf::RdfNames;
-use csvw_cell::{Item, is_string};
+use csvw_cell::Item;
 use csvw_columns_core::{Column, Properties};
 use csvw_datatype::Value;
 use csvw_iri::Iri;
@@ -15,7 +15,7 @@ use csvw_text::{LanguageTag, Text};
 use csvw_triples_core::{Lit, Term};
 use std::alloc::{AllocError, Global};
 
-/// Whether the tag is that of an undetermined language.
+/// Returns whether the tag is that of an undetermined language.
 fn is_undetermined(tag: &LanguageTag) -> bool
     ensures { result ≡ bytes_eq tag.now (codes "und") }
 {
@@ -26,7 +26,7 @@ fn has_language(properties: &Properties) -> bool
     ensures { result ≡ has_language properties.now }
 {
     let datatype = properties.datatype.get();
-    is_string(datatype) && datatype.id.is_none() && !is_undetermined(properties.lang.get())
+    datatype.is_string() && datatype.id.is_none() && !is_undetermined(properties.lang.get())
 }
 
 fn tagged(alloc: Global, names: &RdfNames, text: Text, tag: &LanguageTag) -> Result<Lit, AllocError>
@@ -55,7 +55,8 @@ fn read_literal(
     Ok(Lit::typed(text, column.literal_datatype.clone(alloc)?))
 }
 
-/// The literal of a value, its text in the memory of another; `AllocError` where there is no memory.
+/// Makes the literal of a value, with its text in the memory of another. Fails with `AllocError` if memory runs
+/// out.
 pub(crate) fn literal_of(
     alloc: Global,
     names: &RdfNames,
@@ -74,7 +75,7 @@ pub(crate) fn literal_of(
     Ok(Lit::typed(text, names.string.clone(alloc)?))
 }
 
-/// Makes it the literal of a value and a datatype, in its memory.
+/// Makes a literal the one of a value and a datatype, in its own memory.
 #[inline(always)]
 fn rewrite(
     alloc: Global,
@@ -91,15 +92,15 @@ fn rewrite(
     Ok(())
 }
 
-/// Whether the literal of a value is its form with the datatype of its column.
+/// Returns whether the literal of a value is its lexical form with the datatype of its column.
 fn is_typed_text(column: &Column, item: &Item) -> bool
     ensures { result ≡ true → (item.now.was_read ≡ true) × (has_language column.now.properties ≡ false) }
 {
     item.was_read && !has_language(&column.properties)
 }
 
-/// Makes an object that is a literal that of a value, in its memory, where neither has a language; tells whether it did.
-/// `AllocError` where there is no memory.
+/// Makes the object the literal of a value, in the memory of the literal that it is, if neither has a language.
+/// Returns whether it did. Fails with `AllocError` if memory runs out.
 #[inline(always)]
 pub(crate) fn refill(
     alloc: Global,

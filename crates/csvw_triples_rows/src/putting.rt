@@ -1,11 +1,11 @@
-//! Lists of triples, put into a sink.
+//! Writes lists of triples into a sink.
 ghost use Rattle.std.specs.Prelude.{◌≡◌, [], ◌∷◌, OnOk, IfErr};
 ghost use Rattle.csvw_triples_core.specs.Taking.{FrontOf, Ends};
 ghost use Rattle.csvw_triples_rows.specs.Puts.{Puts};
 
 use csvw_triples_core::{SinkFault, Triple, TripleSink};
 
-/// Puts a triple.
+/// Writes one triple into a sink.
 #[inline(always)]
 pub(crate) fn put_one<S: TripleSink>(triple: &Triple, sink: &mut S) -> Result<(), SinkFault>
     ensures { Puts S.gains S.cuts S.is_open S.failed sink.old (triple.now ∷ []) sink.new result }
@@ -22,8 +22,9 @@ fn put_each<S: TripleSink>(triples: &[Triple], sink: &mut S) -> Result<(), SinkF
     Ok(())
 }
 
-/// Puts triples, in their order. After an error the sink took a front of them, each triple whole, and after `Device` the device
-/// failed within the next one. The fault is one that the sink returned in this call.
+/// Writes triples into a sink, in their order. The fault is one that the sink returned in this call. After an error
+/// the sink took a front of the triples, each of them whole. After `Device` the device failed within the next
+/// triple.
 pub fn put_all<S: TripleSink>(triples: &[Triple], sink: &mut S) -> Result<(), SinkFault>
     ensures ok { OnOk result (S.gains sink.old triples.now sink.new) }
     ensures err { IfErr result (λ fault. FrontOf S.gains S.cuts sink.old triples.now sink.new (fault ≡ SinkFault.Device)) }

@@ -1,4 +1,4 @@
-//! The IRIs of RDF that triples name.
+//! The IRIs of RDF and XML Schema that triples use.
 ghost use Rattle.std.specs.Prelude.{◌≡◌};
 ghost use Rattle.csvw_iri.specs.Vocabulary as vocabulary;
 ghost use Rattle.csvw_triples_rows.specs.Vocabulary.{rdf_first, rdf_rest, rdf_nil};
@@ -7,7 +7,7 @@ use csvw_iri::{Iri, named};
 use csvw_text::both;
 use std::alloc::{AllocError, Global};
 
-/// IRIs that triples name whatever their columns are.
+/// The IRIs that are the same for all columns.
 #[derive(Debug, Drop)]
 pub struct RdfNames {
     /// rdf:first.
@@ -28,7 +28,7 @@ pub struct RdfNames {
 }
 
 impl RdfNames {
-    /// The names; `AllocError` where there is no memory.
+    /// Makes the names. Fails with `AllocError` if memory runs out.
     pub(crate) fn new(alloc: Global) -> Result<RdfNames, AllocError> {
         let first = named(alloc, "http://www.w3.org/1999/02/22-rdf-syntax-ns#first");
         let rest = named(alloc, "http://www.w3.org/1999/02/22-rdf-syntax-ns#rest");

@@ -1,4 +1,4 @@
-//! The triples of rows in standard mode, put into a sink.
+//! Writes the triples of rows in standard mode into a sink.
 ghost use Rattle.std.specs.Prelude.{◌≡◌, [], ◌∷◌, ◌++◌, IfOk, OnOk, OnErr, None, length, decimal, option_copied};
 ghost use Rattle.std.specs.List.{zip};
 ghost use Rattle.csvw_triples_core.specs.Literal.{typed_lit};
@@ -24,7 +24,8 @@ use csvw_triples_core::{Lit, Node, Origin, SinkFault, Term, TripleSink};
 use itoa::Buffer;
 use std::alloc::{AllocError, Global};
 
-/// The node of table `t`: its `@id`, else its blank node; `AllocError` where there is no memory.
+/// Returns the node of table `t`: its `@id` if it has one, else its blank node. Fails with `AllocError` if memory
+/// runs out.
 pub fn table_node(alloc: Global, t: u32, id: &Option<Iri>) -> Result<Node, AllocError>
     ensures { IfOk result (λ s. s ≡ table_node t id.now) }
 {
@@ -34,7 +35,7 @@ pub fn table_node(alloc: Global, t: u32, id: &Option<Iri>) -> Result<Node, Alloc
     }
 }
 
-/// What a cell is about, as an object.
+/// Returns the subject of a cell as an object.
 fn subject_as_object(alloc: Global, place: RowPlace, cell: &AnnCell) -> Result<Term, AllocError>
     ensures { IfOk result (λ o. o ≡ object_of (subject_of place.table place.row cell.now)) }
 {
@@ -44,7 +45,7 @@ fn subject_as_object(alloc: Global, place: RowPlace, cell: &AnnCell) -> Result<T
     }
 }
 
-/// The row and a predicate.
+/// Returns a subject and a predicate: the row and the one that is given.
 fn row_stem(alloc: Global, place: RowPlace, predicate: &Iri) -> Result<Stem, AllocError>
     ensures s { IfOk result (λ stem. stem.s ≡ row_node place.table place.row) }
     ensures p { IfOk result (λ stem. stem.p ≡ predicate.now) }
@@ -55,7 +56,7 @@ fn row_stem(alloc: Global, place: RowPlace, predicate: &Iri) -> Result<Stem, All
     })
 }
 
-/// Writes where a row stands in its source over a text.
+/// Writes the fragment of a row, its place in its source, over a text.
 fn refill_fragment(text: &mut Text, source: u64) -> Result<(), AllocError>
     ensures { OnOk result (text.new ≡ row_fragment source) }
 {
@@ -83,7 +84,7 @@ fn is_described(last: Option<&AnnCell>, cell: &AnnCell) -> bool
     }
 }
 
-/// The last cell whose column isn't suppressed, after one more.
+/// Returns the last cell whose column is not suppressed, after one more cell.
 fn last_after<'a>(
     column: &Column,
     last: Option<&'a AnnCell>,
@@ -95,7 +96,7 @@ fn last_after<'a>(
 }
 
 impl Emitter {
-    /// A number as a literal, in the memory of the last one.
+    /// Makes a number a literal, in the memory of the last one.
     fn number_literal(&mut self, number: u64) -> Result<Lit, AllocError>
         ensures { IfOk result (λ lit. lit ≡ typed_lit (decimal number) xsd_integer) }
     {
@@ -105,7 +106,7 @@ impl Emitter {
         Ok(Lit::typed(text, self.csvw.integer.clone(self.alloc)?))
     }
 
-    /// The IRI of a row: its table's URL and where it stands in its source.
+    /// Makes the IRI of a row: the URL of its table and its place in its source.
     fn row_url(&mut self, columns: &Columns, row: &Row) -> Result<Iri, AllocError>
         ensures { IfOk result (λ iri. iri ≡ row_url columns.now row.now) }
     {
@@ -165,7 +166,7 @@ impl Emitter {
         self.put_object(stem, Term::Named(iri), sink)
     }
 
-    /// Puts that the table has the row, and the row's class.
+    /// Writes that the table has the row, and the class of the row.
     fn emit_kind<S: TripleSink>(
         &mut self,
         columns: &Columns,
@@ -179,7 +180,7 @@ impl Emitter {
         self.emit_class(place, sink)
     }
 
-    /// Puts the row's number, and where it stands in its source.
+    /// Writes the number of the row and its place in its source.
     fn emit_source<S: TripleSink>(
         &mut self,
         columns: &Columns,
@@ -233,7 +234,7 @@ impl Emitter {
         self.put_object(stem, o, sink)
     }
 
-    /// Puts what a cell adds to what the row is about, and the cell's triples.
+    /// Writes what a cell adds to what the row describes, and then the triples of the cell.
     fn emit_described<S: TripleSink>(
         &mut self,
         place: RowPlace,
@@ -275,8 +276,8 @@ impl Emitter {
         Ok(())
     }
 
-    /// Puts the triples of a row of table `t` in standard mode, whose values have lexical forms, in their order (csv2rdf,
-    /// section 4.2).
+    /// Writes the triples of a row of table `t` in standard mode, in their order (csv2rdf, section 4.2). The values
+    /// of the row have lexical forms.
     pub(crate) fn emit_standard<S: TripleSink>(
         &mut self,
         columns: &Columns,

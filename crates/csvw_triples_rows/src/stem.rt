@@ -1,4 +1,4 @@
-//! What the triples of a cell begin with, and where its list stands.
+//! The subject and the predicate of a cell's triples, and the place of its list.
 ghost use Rattle.std.specs.Prelude.{◌≡◌, IfOk};
 ghost use Rattle.csvw_triples_rows.specs.RowTriples.{subject_of, predicate_of};
 ghost use Rattle.csvw_triples_rows.specs.Stems.{entries_in};
@@ -9,12 +9,12 @@ use csvw_iri::Iri;
 use csvw_triples_core::{Node, Origin};
 use std::alloc::{AllocError, Global};
 
-/// A row of a table.
+/// The place of a row: its table and its number.
 #[derive(Clone, Copy, Debug)]
 pub struct RowPlace {
-    /// The table.
+    /// The number of the table, from 1.
     pub table: u32,
-    /// The row, by its number among the data rows.
+    /// The number of the row among the data rows, from 1.
     pub row: u64,
 }
 
@@ -27,14 +27,14 @@ pub struct Stem {
     pub p: Iri,
 }
 
-/// A cell that is an ordered list.
+/// The place of a cell whose value is an ordered list.
 #[derive(Clone, Copy, Debug)]
 pub struct ListPlace {
-    /// The table.
+    /// The number of the table, from 1.
     pub table: u32,
-    /// The row.
+    /// The number of the row among the data rows, from 1.
     pub row: u64,
-    /// The column, by its number.
+    /// The number of the column, from 1.
     pub column: u32,
 }
 
@@ -63,7 +63,7 @@ pub(crate) fn predicate_of(
 }
 
 impl Stem {
-    /// The subject and the predicate of a cell; `AllocError` where there is no memory.
+    /// Returns the subject and the predicate of a cell. Fails with `AllocError` if memory runs out.
     #[inline(always)]
     pub fn of(
         alloc: Global,
@@ -80,7 +80,7 @@ impl Stem {
         })
     }
 
-    /// An equal stem; `AllocError` where there is no memory.
+    /// Returns an equal stem. Fails with `AllocError` if memory runs out.
     pub fn clone(&self, alloc: Global) -> Result<Stem, AllocError>
         ensures { IfOk result (λ stem. stem ≡ self.now) }
     {
@@ -92,7 +92,7 @@ impl Stem {
 }
 
 impl ListPlace {
-    /// Entry `k` of the list, from 1.
+    /// Returns entry `k` of the list, from 1.
     pub fn entry(self, k: u64) -> Origin
         ensures { result ≡ entries_in self k }
     {

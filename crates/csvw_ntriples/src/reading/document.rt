@@ -1,4 +1,4 @@
-//! Documents of N-Triples.
+//! Reads N-Triples documents.
 ghost use Rattle.std.specs.Prelude.{◌≡◌, ◌<◌, ◌∷◌, [], List, IfOk, Err, MatchOption, length};
 ghost use Rattle.std.specs.List.{slice_split};
 ghost use Rattle.csvw_ntriples.specs.Character.{is_break};
@@ -11,7 +11,7 @@ use crate::{NtFault, NtTriple};
 use csvw_text::Seq;
 use std::alloc::Global;
 
-/// The characters in front of the first line break, and those after it where there is one.
+/// Returns the characters before the first line break, and those after it if there is one.
 fn first_line(text: &[char]) -> (&[char], Option<&[char]>)
     ensures { MatchOption result.1
         (slice_split is_break text.now ≡ result.0.now ∷ [])
@@ -25,7 +25,8 @@ fn first_line(text: &[char]) -> (&[char], Option<&[char]>)
     (text, None)
 }
 
-/// The triples of a text.
+/// Returns the triples of a text. Fails with `Syntax` if the text denotes none, and with `Memory` if memory runs
+/// out.
 fn triples(alloc: Global, text: &[char]) -> Result<Vec<NtTriple>, NtFault>
     ensures found { IfOk result (λ v. DenotesText text.now v.items) }
     ensures none { result ≡ Err NtFault.Syntax → (ts : List TheTriple) → DenotesText text.now ts → ⊥ }
@@ -44,8 +45,10 @@ fn triples(alloc: Global, text: &[char]) -> Result<Vec<NtTriple>, NtFault>
     Ok(triples.into_vec())
 }
 
-/// Reads a document of N-Triples (RDF 1.1 N-Triples, section 7): the triples that it denotes, in their
-/// order. `Syntax` exactly where the bytes aren't UTF-8 or denote none; `Memory` where there is none.
+/// Reads an N-Triples document (RDF 1.1 N-Triples, section 7). Returns the triples that it denotes, in their order.
+///
+/// Fails with `Syntax` exactly if the bytes are not UTF-8 or denote no list of triples, and with `Memory` if memory
+/// runs out.
 pub fn read(alloc: Global, bytes: &[u8]) -> Result<Vec<NtTriple>, NtFault>
     ensures found { IfOk result (λ v. Denotes bytes.now v.items) }
     ensures none { result ≡ Err NtFault.Syntax → (ts : List TheTriple) → Denotes bytes.now ts → ⊥ }

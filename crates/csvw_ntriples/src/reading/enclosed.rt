@@ -1,4 +1,4 @@
-//! Texts between marks: IRIs and the strings of literals, with their escapes.
+//! Reads texts between delimiters: IRIs and the strings of literals, with their escapes.
 ghost use Rattle.std.specs.Prelude.{◌≡◌, ◌<◌, ◌≤◌, ℕ, List, MatchOption, length};
 ghost use Rattle.std.specs.Option.{SomeIff};
 ghost use Rattle.std.specs.Str.Parse.{AllDigits, digits_value};
@@ -9,7 +9,7 @@ use crate::NtFault;
 use csvw_text::Text;
 use std::alloc::Global;
 
-/// What stands between marks.
+/// The kinds of texts between delimiters.
 #[derive(Clone, Copy)]
 pub(crate) enum Enclosed {
     /// An IRI, up to `>`.
@@ -64,7 +64,7 @@ fn hex_value(digits: &[char]) -> Option<u32>
     Some(value)
 }
 
-/// The character whose number is in the digits in front, and what comes after them.
+/// Reads the hexadecimal digits at the front. Returns the character of that number and the text after the digits.
 fn numbered(text: &[char], count: usize) -> Option<(char, &[char])>
     requires { count ≤ 8 }
     ensures { MatchOption result
@@ -80,7 +80,7 @@ fn numbered(text: &[char], count: usize) -> Option<(char, &[char])>
     Some((c, rest))
 }
 
-/// The character that the piece in front stands for, and what comes after it.
+/// Reads the piece at the front. Returns the character that it means and the text after it.
 fn piece(kind: Enclosed, text: &[char]) -> Option<(char, &[char])>
     ensures { MatchOption result
         ((c : ℕ) (rest : List ℕ) → Begins kind text.now c rest → ⊥)
@@ -101,7 +101,7 @@ fn piece(kind: Enclosed, text: &[char]) -> Option<(char, &[char])>
     }
 }
 
-/// The text up to the closing mark, and what comes after that.
+/// Reads the text up to the closing delimiter. Returns it and the text after the delimiter.
 pub(crate) fn body(alloc: Global, kind: Enclosed, text: &[char]) -> Result<(Text, &[char]), NtFault>
     ensures { Finds (ReadsBytes kind text.now) result }
 {

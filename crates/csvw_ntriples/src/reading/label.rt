@@ -1,4 +1,4 @@
-//! Labels of blank nodes.
+//! Reads the labels of blank nodes.
 ghost use Rattle.std.specs.Prelude.{◌≡◌, ◌++◌, ℕ, List, IfOk, encode_utf8_all, IsTrue, ◌↔◌};
 ghost use Rattle.csvw_ntriples.specs.Grammar.{TakesBlank};
 ghost use Rattle.csvw_ntriples.specs.Reading.{Finds, BeginsLabel, EndsWithoutDot, TakesLabel};
@@ -9,7 +9,7 @@ use crate::NtFault;
 use csvw_text::Text;
 use std::alloc::{AllocError, Global};
 
-/// How long the text is without the dots at its end.
+/// Returns the length of the text without the dots at its end.
 fn length_without_dots(text: &[char]) -> usize
     ensures { EndsWithoutDot text.now result }
 {
@@ -20,7 +20,7 @@ fn length_without_dots(text: &[char]) -> usize
     end
 }
 
-/// The text of some characters.
+/// Makes a text of some characters.
 pub(crate) fn text_of(alloc: Global, characters: &[char]) -> Result<Text, AllocError>
     ensures { IfOk result (λ t. t ≡ encode_utf8_all characters.now) }
 {
@@ -37,7 +37,7 @@ fn begins_label(text: &[char]) -> bool
     }
 }
 
-/// The label in front, and what comes after it.
+/// Reads the label at the front. Returns it and the text after it.
 fn label(alloc: Global, text: &[char]) -> Result<(Text, &[char]), NtFault>
     ensures { Finds (λ v rest. TakesLabel v text.now rest) result }
 {
@@ -52,7 +52,7 @@ fn label(alloc: Global, text: &[char]) -> Result<(Text, &[char]), NtFault>
     }
 }
 
-/// The blank node in front, by its label, and what comes after it.
+/// Reads the blank node at the front. Returns its label and the text after it.
 pub(crate) fn blank(alloc: Global, text: &[char]) -> Result<(Text, &[char]), NtFault>
     ensures { Finds (λ v rest. TakesBlank v text.now rest) result }
 {

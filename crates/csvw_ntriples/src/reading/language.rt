@@ -1,4 +1,4 @@
-//! Languages of literals.
+//! Reads the languages of literals.
 ghost use Rattle.csvw_ntriples.specs.Reading.{FindsBeforeDot, TagBefore};
 
 use super::label::text_of;
@@ -7,7 +7,7 @@ use crate::NtFault;
 use csvw_text::LanguageTag;
 use std::alloc::Global;
 
-/// The language tag in front, and what comes after it.
+/// Reads the language tag at the front. Returns it and the text after it.
 pub(crate) fn language(alloc: Global, text: &[char]) -> Result<(LanguageTag, &[char]), NtFault>
     ensures { FindsBeforeDot (λ v rest. TagBefore v text.now rest) result }
 {

@@ -1,4 +1,4 @@
-//! Literals at the front of a text.
+//! Reads literals at the front of a text.
 ghost use Rattle.std.specs.Prelude.{◌≡◌, IfOk, Some, None};
 ghost use Rattle.csvw_iri.specs.Vocabulary.{lang_string, xsd_string};
 ghost use Rattle.csvw_ntriples.specs.Grammar.{TakesLit, TakesSuffix};
@@ -15,7 +15,7 @@ const LANG_STRING: &str = "http://www.w3.org/1999/02/22-rdf-syntax-ns#langString
 
 const XSD_STRING: &str = "http://www.w3.org/2001/XMLSchema#string";
 
-/// What stands behind the string of a literal: its language or its datatype.
+/// The part of a literal after its string: its language or its datatype.
 #[derive(Drop)]
 pub(crate) struct Suffix {
     lang: Option<LanguageTag>,
@@ -40,7 +40,7 @@ fn tagged_suffix(alloc: Global, tag: LanguageTag) -> Result<Suffix, AllocError>
     })
 }
 
-/// The suffix in front, and what comes after it.
+/// Reads the suffix at the front. Returns it and the text after it.
 fn read_suffix(alloc: Global, text: &[char]) -> Result<(Suffix, &[char]), NtFault>
     ensures { FindsBeforeDot (λ s rest. TakesSuffix s.lang s.datatype text.now rest) result }
 {
@@ -67,7 +67,7 @@ fn read_suffix(alloc: Global, text: &[char]) -> Result<(Suffix, &[char]), NtFaul
     }
 }
 
-/// The literal in front, and what comes after it.
+/// Reads the literal at the front. Returns it and the text after it.
 pub(crate) fn literal(alloc: Global, text: &[char]) -> Result<(NtLit, &[char]), NtFault>
     ensures { FindsBeforeDot (λ l rest. TakesLit l text.now rest) result }
 {

@@ -1,21 +1,21 @@
-//! Runs of characters of a class, and what a text begins with.
+//! Runs of characters of one class, and the first characters of a text.
 ghost use Rattle.std.specs.Prelude.{◌≡◌, ℕ, List, ◌∷◌, MatchOption};
 ghost use Rattle.csvw_ntriples.specs.Reading.{is_in, IsRun, dark, StartsSo};
 
 use super::character::{is_blank, is_label_char, is_letter_or_digit};
 
-/// Which characters a run has.
+/// The classes of characters that a run may have.
 #[derive(Clone, Copy)]
 pub(crate) enum Class {
     /// Spaces and tabs.
     Blank,
-    /// Characters of labels, and dots.
+    /// The characters of labels, and dots.
     Label,
     /// Letters, digits and dashes.
     Tag,
 }
 
-/// What a text begins with, after spaces and tabs.
+/// The first characters of a text, after spaces and tabs.
 #[derive(Clone, Copy)]
 pub(crate) enum Start {
     Iri,
@@ -34,7 +34,7 @@ fn is_in(class: Class, c: char) -> bool
     }
 }
 
-/// The longest front of characters of the class, and what comes after it.
+/// Returns the longest front of characters of the class, and the text after it.
 pub(crate) fn run(class: Class, text: &[char]) -> (&[char], &[char])
     ensures { IsRun (is_in class) text.now result.0.now result.1.now }
 {
@@ -46,14 +46,14 @@ pub(crate) fn run(class: Class, text: &[char]) -> (&[char], &[char])
     text.split_at(text.len())
 }
 
-/// What comes after spaces and tabs.
+/// Returns the text after the spaces and tabs at its front.
 pub(crate) fn after_blanks(text: &[char]) -> &[char]
     ensures { (gap : List ℕ) × IsRun (is_in Class.Blank) text.now gap result.now }
 {
     run(Class::Blank, text).1
 }
 
-/// What comes after a character at the front.
+/// Returns the text after this character at its front, or `None` if it does not begin with it.
 pub(crate) fn after_char(text: &[char], c: char) -> Option<&[char]>
     ensures { MatchOption result ((rest : List ℕ) → text.now ≡ c ∷ rest → ⊥) (λ r. text.now ≡ c ∷ r.now) }
 {
@@ -63,14 +63,14 @@ pub(crate) fn after_char(text: &[char], c: char) -> Option<&[char]>
     }
 }
 
-/// What comes after two characters at the front.
+/// Returns the text after these two characters at its front, or `None` if it does not begin with them.
 pub(crate) fn after_two(text: &[char], first: char, second: char) -> Option<&[char]>
     ensures { MatchOption result ((rest : List ℕ) → text.now ≡ first ∷ second ∷ rest → ⊥) (λ r. text.now ≡ first ∷ second ∷ r.now) }
 {
     after_char(after_char(text, first)?, second)
 }
 
-/// What the text begins with, after spaces and tabs.
+/// Returns which characters the text begins with, after spaces and tabs.
 pub(crate) fn start_of(text: &[char]) -> Start
     ensures { StartsSo text.now result }
 {

@@ -1,4 +1,4 @@
-//! IRIs, strings and dots at the front of a text.
+//! Reads IRIs, strings and dots at the front of a text.
 ghost use Rattle.std.specs.Prelude.{◌≡◌, ℕ, List, codes, MatchOption, ◌↔◌, IsTrue};
 ghost use Rattle.csvw_ntriples.specs.Grammar.{Takes, IsMark, TakesIri, IsIdle};
 ghost use Rattle.csvw_ntriples.specs.Terminal.{InBytes, IsString};
@@ -10,7 +10,7 @@ use crate::NtFault;
 use csvw_text::Text;
 use std::alloc::Global;
 
-/// The IRI in front, and what comes after it.
+/// Reads the IRI at the front. Returns it and the text after it.
 pub(crate) fn iri(alloc: Global, text: &[char]) -> Result<(Text, &[char]), NtFault>
     ensures { Finds (λ v rest. TakesIri v text.now rest) result }
 {
@@ -20,7 +20,7 @@ pub(crate) fn iri(alloc: Global, text: &[char]) -> Result<(Text, &[char]), NtFau
     }
 }
 
-/// The string in front, and what comes after it.
+/// Reads the string at the front. Returns it and the text after it.
 pub(crate) fn string(alloc: Global, text: &[char]) -> Result<(Text, &[char]), NtFault>
     ensures { Finds (λ v rest. Takes (InBytes IsString) v text.now rest) result }
 {
@@ -30,7 +30,7 @@ pub(crate) fn string(alloc: Global, text: &[char]) -> Result<(Text, &[char]), Nt
     }
 }
 
-/// What comes after the dot in front.
+/// Returns the text after the dot at its front, or `None` if there is no dot.
 pub(crate) fn after_dot(text: &[char]) -> Option<&[char]>
     ensures { MatchOption result
         ((rest : List ℕ) → Takes (IsMark (codes ".")) tt text.now rest → ⊥)
@@ -39,7 +39,7 @@ pub(crate) fn after_dot(text: &[char]) -> Option<&[char]>
     after_char(after_blanks(text), '.')
 }
 
-/// The line has no more than spaces, tabs and a comment.
+/// Returns whether the line has only spaces, tabs and perhaps a comment.
 pub(crate) fn is_idle(text: &[char]) -> bool
     ensures { IsTrue result ↔ IsIdle text.now }
 {

@@ -1,4 +1,4 @@
-//! The triple of a line.
+//! Reads the triple of a line.
 ghost use Rattle.csvw_ntriples.specs.Grammar.{TakesNode, TakesTerm, IsTripleLine};
 ghost use Rattle.csvw_ntriples.specs.Reading.{Finds, FindsBeforeDot, Answers, EndsLine, LineGives};
 
@@ -9,7 +9,7 @@ use super::terminal::{after_dot, iri, is_idle};
 use crate::{NtFault, NtNode, NtTerm, NtTriple};
 use std::alloc::Global;
 
-/// The node in front, and what comes after it.
+/// Reads the node at the front. Returns it and the text after it.
 fn node(alloc: Global, text: &[char]) -> Result<(NtNode, &[char]), NtFault>
     ensures { Finds (λ n rest. TakesNode n text.now rest) result }
 {
@@ -26,7 +26,7 @@ fn node(alloc: Global, text: &[char]) -> Result<(NtNode, &[char]), NtFault>
     }
 }
 
-/// The term in front, and what comes after it.
+/// Reads the term at the front. Returns it and the text after it.
 fn term(alloc: Global, text: &[char]) -> Result<(NtTerm, &[char]), NtFault>
     ensures { FindsBeforeDot (λ t rest. TakesTerm t text.now rest) result }
 {
@@ -47,7 +47,7 @@ fn term(alloc: Global, text: &[char]) -> Result<(NtTerm, &[char]), NtFault>
     }
 }
 
-/// The object that a line ends with, before its dot and perhaps a comment.
+/// Reads the object that a line ends with, before its dot and perhaps a comment.
 fn object(alloc: Global, text: &[char]) -> Result<NtTerm, NtFault>
     ensures { Answers (EndsLine text.now) result }
 {
@@ -58,7 +58,7 @@ fn object(alloc: Global, text: &[char]) -> Result<NtTerm, NtFault>
     }
 }
 
-/// The triple of a line that has one.
+/// Reads the triple of a line that has one.
 fn triple(alloc: Global, text: &[char]) -> Result<NtTriple, NtFault>
     ensures { Answers (IsTripleLine text.now) result }
 {
@@ -68,7 +68,7 @@ fn triple(alloc: Global, text: &[char]) -> Result<NtTriple, NtFault>
     Ok(NtTriple { s, p, o })
 }
 
-/// The triple of a line, or `None` where the line is empty but for spaces, tabs and a comment.
+/// Reads the triple of a line. Returns `None` if the line has only spaces, tabs and perhaps a comment.
 pub(crate) fn line(alloc: Global, text: &[char]) -> Result<Option<NtTriple>, NtFault>
     ensures { Answers (LineGives text.now) result }
 {

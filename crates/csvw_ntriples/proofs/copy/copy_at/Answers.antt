@@ -1,4 +1,4 @@
--- The bytes that were put behind the front are those of the text.
+-- The bytes that were put after the front are those of the text.
 use Rattle.std.proofs.Common.{take, ap, ◌∙◌}
 use Rattle.csvw_ntriples.proofs.CopyLemmas.{copied_on}
 use Rattle.csvw_ntriples.proofs.copy.copy_at.Goals as goal

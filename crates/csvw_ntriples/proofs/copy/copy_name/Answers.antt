@@ -1,4 +1,4 @@
--- The bytes in front of the last ones are copied by then.
+-- The bytes before the last block are copied already.
 use Rattle.std.proofs.Common.{arith}
 use Rattle.csvw_ntriples.proofs.CopyLemmas.{copied_less}
 use Rattle.csvw_ntriples.proofs.copy.copy_name.Goals as goal

@@ -1,4 +1,4 @@
--- What ends a literal with a datatype is its end and the line's.
+-- The bytes after a literal with a datatype are its end and the end of the line.
 use Rattle.std.proofs.Common.{◌≡◌, ℕ, true, false, List, [], ◌∷◌, ◌++◌, sym, ap, ◌∙◌, append_assoc}
 use Rattle.std.specs.Prelude.{codes}
 use Rattle.std.proofs.lemmas.Bool.{cond-true, cond-false}

@@ -1,4 +1,4 @@
--- What is done, with what the annotations that are left say, is what all of them say.
+-- The triples so far, with those of the annotations that are left, are the triples of all annotations.
 use Rattle.std.proofs.Common.{◌≡◌, ◌+◌, ◌++◌, drop}
 use Rattle.csvw_triples.specs.Annotations.{annotations}
 use Rattle.csvw_triples.specs.Blanks.{blanks}

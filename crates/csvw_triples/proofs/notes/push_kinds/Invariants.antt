@@ -1,4 +1,4 @@
--- The triples of the types passed so far stand there.
+-- The draft has the triples of the types passed so far.
 use Rattle.std.proofs.Common.{◌≡◌, ◌++◌, map, take}
 use Rattle.csvw_triples.specs.NotesTriples.{kind_triple}
 use Rattle.csvw_triples.proofs.notes.push_kinds.Given as goal

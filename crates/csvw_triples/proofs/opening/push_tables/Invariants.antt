@@ -1,4 +1,4 @@
--- What is done, with the triples of the tables that are left, is the triples of all tables.
+-- The triples so far, with those of the tables that are left, are the triples of all tables.
 use Rattle.std.proofs.Common.{◌≡◌, ◌++◌, drop}
 use Rattle.csvw_triples.specs.OpeningTriples.{tables_triples}
 use Rattle.csvw_triples.proofs.opening.push_tables.Given as goal

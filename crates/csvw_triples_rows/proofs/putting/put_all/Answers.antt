@@ -1,4 +1,4 @@
--- What was taken by the fault.
+-- What the sink took, by the fault.
 use Rattle.csvw_triples_rows.proofs.Emitting.{front_of}
 use Rattle.csvw_triples_rows.proofs.putting.put_all.Goals as goal
 

@@ -1,4 +1,4 @@
--- What the line begins with stays, as more is added to it.
+-- The front of the line stays when more is added to it.
 use Rattle.std.proofs.Common.{◌∙◌, ap, take}
 use Rattle.csvw_ntriples.proofs.Fronts.{front_stays}
 use Rattle.csvw_ntriples.proofs.line.Line.refill.Goals as goal

@@ -1,4 +1,4 @@
--- Where the line is cut off, a front of it was sent.
+-- If the line is cut off, a front of it was sent.
 use Rattle.std.proofs.Common.{◌∙◌, refl, rules}
 use Rattle.csvw_ntriples.proofs.Cutting.{cut_in, cut_sends}
 use Rattle.csvw_ntriples.proofs.nt_sink.NtSinkTripleSink.put.Goals as goal

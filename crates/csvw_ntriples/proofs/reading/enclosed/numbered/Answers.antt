@@ -1,4 +1,4 @@
--- The digits in front are the only ones that can be read.
+-- The digits at the front are the only ones that can be read.
 use Rattle.std.proofs.Common.{◌≡◌, ℕ, List, ◌++◌, length, take, sym, ap, subst, ◌∙◌}
 use Rattle.std.specs.Char.{IsScalar}
 use Rattle.std.specs.Str.Parse.{AllDigits, digits_value}

@@ -1,4 +1,4 @@
--- Only dots stand from the end on.
+-- From the end on there are only dots.
 use Rattle.std.proofs.Common.{◌≤◌, length}
 use Rattle.csvw_ntriples.proofs.LabelRuns.{DotsFrom}
 use Rattle.csvw_ntriples.proofs.reading.label.length_without_dots.Given as goal

@@ -1,4 +1,4 @@
--- The run of letters, digits and dashes is a tag, or no tag goes on with a dot.
+-- The run of letters, digits and dashes is a tag, or no tag is followed by a dot.
 use Rattle.csvw_ntriples.proofs.LabelRuns.{tag_found, tag_once, tag_missing}
 use Rattle.csvw_ntriples.proofs.reading.language.language.Goals as goal
 

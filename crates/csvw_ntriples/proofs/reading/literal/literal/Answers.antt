@@ -1,4 +1,4 @@
--- A string and what stands behind it.
+-- A string and the suffix after it.
 use Rattle.std.proofs.lemmas.Result.{err_from_is_err_and}
 use Rattle.csvw_ntriples.proofs.Composed.{err_on_dot, dot_on_dot, no_lit, lit_once_before}
 use Rattle.csvw_ntriples.proofs.reading.literal.literal.Goals as goal

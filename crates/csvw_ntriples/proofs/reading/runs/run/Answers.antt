@@ -1,4 +1,4 @@
--- One character more, and where the run ends.
+-- One more character, and the end of the run.
 use Rattle.std.proofs.Common.{sym, ◌∙◌}
 use Rattle.csvw_ntriples.specs.Reading.{is_in}
 use Rattle.csvw_ntriples.proofs.Runs.{run_at, run_on, run_all}

@@ -1,4 +1,4 @@
--- What the row is about, and then the cell.
+-- The triples that describe the cell's subject, and then those of the cell.
 use Rattle.std.proofs.lemmas.Result.{err_from_is_err_and}
 use Rattle.std.specs.Prelude.{◌++◌, option_copied}
 use Rattle.csvw_triples_rows.specs.RowTriples.{cell_triples}

@@ -1,4 +1,4 @@
--- What the row is, and then which.
+-- What the row is, and then its number and place.
 use Rattle.std.proofs.Common.{refl}
 use Rattle.std.proofs.lemmas.Result.{err_from_is_err_and}
 use Rattle.csvw_triples_rows.proofs.Emitting.{puts_then, puts_front}

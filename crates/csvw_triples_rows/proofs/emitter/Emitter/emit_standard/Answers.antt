@@ -1,4 +1,4 @@
--- What is told of the row, and then its cells.
+-- The triples about the row, and then those of its cells.
 use Rattle.std.proofs.lemmas.Result.{err_from_is_err_and}
 use Rattle.std.specs.Prelude.{◌++◌, None}
 use Rattle.std.specs.List.{zip}

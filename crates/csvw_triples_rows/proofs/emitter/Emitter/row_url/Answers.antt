@@ -1,4 +1,4 @@
--- A row's place in its source stands raw.
+-- The fragment of a row needs no escape in an IRI.
 use Rattle.std.proofs.Common.{◌≡◌, ◌∙◌, ℕ, List, true, sym, subst}
 use Rattle.csvw_iri.specs.Safe.{is_iri}
 use Rattle.csvw_triples_rows.proofs.Fragments.{fragment_raw}

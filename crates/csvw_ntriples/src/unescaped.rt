@@ -1,5 +1,5 @@
-//! Copies the bytes of a literal that stand as they are: many of them are looked at and copied together. Two looks that overlap
-//! cover what is left over.
+//! Copies the bytes of a literal that need no escape, many bytes at once. Two blocks that overlap cover the bytes
+//! that are left over.
 ghost use Rattle.std.specs.Prelude.{◌≡◌, ◌+◌, ◌≤◌, false, length, flat_map};
 ghost use Rattle.std.specs.Bool.{OnTrue};
 ghost use Rattle.csvw_ntriples.specs.Escape.{needs_escape, PlainBetween};
@@ -15,7 +15,7 @@ pub(crate) fn needs_escape(b: u8) -> bool
     matches!(b, b'"' | b'\\' | b'\n' | b'\r')
 }
 
-/// Whether none of 4 bytes from this place on is escaped.
+/// Returns whether none of 4 bytes from the place `at` on is escaped.
 #[inline(always)]
 fn is_plain_4(bytes: &[u8], at: usize) -> bool
     requires { at + 4 ≤ length bytes.now }
@@ -27,7 +27,7 @@ fn is_plain_4(bytes: &[u8], at: usize) -> bool
     (quoting | breaking).to_bitmask() == 0
 }
 
-/// Whether none of 8 bytes from this place on is escaped.
+/// Returns whether none of 8 bytes from the place `at` on is escaped.
 #[inline(always)]
 fn is_plain_8(bytes: &[u8], at: usize) -> bool
     requires { at + 8 ≤ length bytes.now }
@@ -39,7 +39,7 @@ fn is_plain_8(bytes: &[u8], at: usize) -> bool
     (quoting | breaking).to_bitmask() == 0
 }
 
-/// Whether none of 16 bytes from this place on is escaped.
+/// Returns whether none of 16 bytes from the place `at` on is escaped.
 #[inline(always)]
 fn is_plain_16(bytes: &[u8], at: usize) -> bool
     requires { at + 16 ≤ length bytes.now }
@@ -51,7 +51,7 @@ fn is_plain_16(bytes: &[u8], at: usize) -> bool
     (quoting | breaking).to_bitmask() == 0
 }
 
-/// Copies 4 bytes from this place on, where none of them is escaped, and tells whether it did.
+/// Copies 4 bytes from the place `at` on if none of them is escaped. Returns whether it did.
 #[inline(always)]
 fn copy_plain_4(room: &mut [u8], bytes: &[u8], at: usize) -> bool
     requires within { at + 4 ≤ length bytes.now }
@@ -66,7 +66,7 @@ fn copy_plain_4(room: &mut [u8], bytes: &[u8], at: usize) -> bool
     true
 }
 
-/// Copies 8 bytes from this place on, where none of them is escaped, and tells whether it did.
+/// Copies 8 bytes from the place `at` on if none of them is escaped. Returns whether it did.
 #[inline(always)]
 fn copy_plain_8(room: &mut [u8], bytes: &[u8], at: usize) -> bool
     requires within { at + 8 ≤ length bytes.now }
@@ -81,7 +81,7 @@ fn copy_plain_8(room: &mut [u8], bytes: &[u8], at: usize) -> bool
     true
 }
 
-/// Copies 16 bytes from this place on, where none of them is escaped, and tells whether it did.
+/// Copies 16 bytes from the place `at` on if none of them is escaped. Returns whether it did.
 #[inline(always)]
 fn copy_plain_16(room: &mut [u8], bytes: &[u8], at: usize) -> bool
     requires within { at + 16 ≤ length bytes.now }
@@ -141,7 +141,7 @@ fn copy_plain_short(room: &mut [u8], bytes: &[u8]) -> bool
     }
 }
 
-/// Copies bytes over as many others, where it is plain that none of them is escaped, and tells whether it did.
+/// Copies bytes over as many others if it sees that none of them is escaped. Returns whether it did.
 #[inline(always)]
 pub(crate) fn copy_plain(room: &mut [u8], bytes: &[u8]) -> bool
     requires { length room.old ≡ length bytes.now }

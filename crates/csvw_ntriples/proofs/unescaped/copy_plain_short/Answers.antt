@@ -1,10 +1,10 @@
--- Two looks that overlap see all bytes.
+-- Two blocks that overlap cover all bytes.
 use Rattle.std.proofs.Common.{ℕ, ◌+◌, ◌-◌, ◌<◌, ◌≤◌, Bool, true, false, List, length, take_all, sym, ◌∙◌, ⊎_elim, arith}
 use Rattle.std.specs.Bool.{OnTrue}
 use Rattle.std.proofs.lemmas.Bool.{cases_lt}
 use Rattle.csvw_ntriples.specs.Escape.{PlainBetween}
 use Rattle.csvw_ntriples.specs.PlainCopy.{IsCopied, IsPlainCopy}
-use Rattle.csvw_ntriples.proofs.plain.copy_plain_short.Goals as goal
+use Rattle.csvw_ntriples.proofs.unescaped.copy_plain_short.Goals as goal
 
 both_looks : (r : Bool) (n : ℕ) (bytes room : List ℕ) → n ≤ length bytes → length bytes ≤ n + n → PlainBetween bytes 0 n
     → OnTrue r (IsCopied bytes room (length bytes - n + n)) → OnTrue r (PlainBetween bytes (length bytes - n) (length bytes - n + n))
