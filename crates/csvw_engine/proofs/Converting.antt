@@ -3,7 +3,7 @@ use Rattle.std.proofs.Common.{◌≡◌, ℕ, List, [], ◌↔◌, true, false, 
 use Rattle.std.proofs.KnownBytes.{Appends-nil}
 use Rattle.std.specs.List.{AllByRecursion}
 use Rattle.std.specs.Io.KnownBytes.{Appends}
-use Rattle.csvw_text.specs.Counted.{inner_of, failures_of}
+use Rattle.csvw_streams.specs.Counted.{inner_of, failures_of}
 use Rattle.csvw_triples_core.specs.declared.term.Triple.{Triple}
 use Rattle.csvw_ntriples.specs.declared.nt_sink.NtSink.{NtSink}
 use Rattle.csvw_ntriples.specs.declared.term.NtTriple.{NtTriple}

@@ -3,9 +3,9 @@ use Rattle.std.proofs.Common.{◌≡◌, ◌≢◌, ℕ, List, [], ◌++◌, len
 use Rattle.std.proofs.Common.{append-nil}
 use Rattle.std.specs.Io.KnownBytes.{Keeps}
 use Rattle.std.proofs.KnownBytes.{Keeps-refl, Keeps-trans}
-use Rattle.csvw_text.specs.declared.counted.Counted.{Counted}
-use Rattle.csvw_text.specs.Count.{one_more}
-use Rattle.csvw_text.specs.Streams.{Stream, Sends, IsIdle}
+use Rattle.csvw_streams.specs.declared.counted.Counted.{Counted}
+use Rattle.csvw_streams.specs.Count.{one_more}
+use Rattle.csvw_streams.specs.Streams.{Stream, Sends, IsIdle}
 use Rattle.csvw_columns.specs.declared.plan.Plan.{Plan}
 use Rattle.csvw_triples_core.specs.declared.mode.Mode.{Mode}
 use Rattle.csvw_triples_core.specs.declared.mode.Mode.TheVariants as mode
@@ -16,8 +16,8 @@ use Rattle.csvw_report.specs.declared.outcome.Outcome.{Outcome}
 use Rattle.csvw_session.specs.Events.{Event}
 use Rattle.csvw_engine_core.specs.declared.stop.Stop.{Stop}
 use Rattle.csvw_engine_core.specs.declared.stop.Stop.TheVariants as stop
-use Rattle.csvw_group.specs.Annotated.{Table}
-use Rattle.csvw_group.specs.Graph.{GraphOf}
+use Rattle.csvw_group_laws.specs.Annotated.{Table}
+use Rattle.csvw_group_laws.specs.Graph.{GraphOf}
 use Rattle.csvw_engine.specs.Flushes.{IsFlushed}
 use Rattle.csvw_engine.specs.Groups.{Converts, EndsBy, HaveTables, TablesStop, TextsSoFar}
 use Rattle.csvw_engine.specs.Planning.{IsMetaStop}
@@ -59,14 +59,14 @@ wrote_soundly mode.Validate s plan tables h = h.1
 wrote_soundly mode.Minimal s plan tables h = h.sent.1
 wrote_soundly mode.Standard s plan tables h = h.sent.1
 
--- an answer is one
+-- an Ok result has one outcome
 ok_same : (a b : Outcome) (x : Result Outcome Stop) → x ≡ Ok a → x ≡ Ok b → a ≡ b
 ok_same a b x p q = let e : Ok a ≡ Ok b = sym p ∙ q in cc
 
 never : (a : Outcome) (reason : Stop) (x : Result Outcome Stop) → x ≡ Err reason → x ≡ Ok a → ⊥
 never a reason x p q = let e : Err reason ≡ Ok a = sym p ∙ q in cc
 
--- the outcome was told, and both streams are sound
+-- the outcome was reported, and both streams are sound
 record ToldOk (outcome first : Outcome) (s : Stream) (old new : ℕ) : Type 0 where
   pub same : first ≡ outcome
   pub sent : Sends s (report first.faults)
@@ -211,7 +211,7 @@ module _ {R : Type 0} (remaining : R → Option (List ℕ)) (order : ℕ → Lis
   stop_sound stop.Write ne h = absurd (ne refl)
   stop_sound other ne h = h
 
-  -- an answer that is a stop
+  -- a result that is a stop
   abbrev StopsWith : Result Outcome Stop → Type 0
   StopsWith (Ok outcome) = Unit {0}
   StopsWith (Err reason) = StopsSo remaining order described m olds news after report_out reason

@@ -5,10 +5,10 @@ use Rattle.std.proofs.Common.{Option, Some, None, Result, Ok, Err}
 use Rattle.std.specs.Prelude.{slice_get}
 use Rattle.std.specs.Io.KnownBytes.{Consumes, IsAtEnd}
 use Rattle.std.proofs.lemmas.Option.{slice_get_cases, slice_get_within}
-use Rattle.csvw_dialect.specs.Lawful.{IsLawful}
-use Rattle.csvw_text.specs.Counted.{inner_of}
-use Rattle.csvw_text.specs.Streams.{Stream}
-use Rattle.csvw_text.specs.declared.counted.Counted.{Counted}
+use Rattle.csvw_records.specs.Lawful.{IsLawful}
+use Rattle.csvw_streams.specs.Counted.{inner_of}
+use Rattle.csvw_streams.specs.Streams.{Stream}
+use Rattle.csvw_streams.specs.declared.counted.Counted.{Counted}
 use Rattle.csvw_description.specs.declared.description.Description.{Description}
 use Rattle.csvw_meta_core.specs.declared.fault.MetaFault.{MetaFault}
 use Rattle.csvw_meta.specs.Document.{Document, IsFault, group_in}
@@ -21,10 +21,10 @@ use Rattle.csvw_session.specs.Events.{Event, text_of, ended_in}
 use Rattle.csvw_columns.specs.Ready.{AreReady}
 use Rattle.csvw_engine_core.specs.declared.stop.Stop.{Stop}
 use Rattle.csvw_engine_core.specs.declared.stop.Stop.TheVariants as stop
-use Rattle.csvw_group.specs.Annotated.{IsAnnotated, AreAnnotated}
-use Rattle.csvw_group.specs.GoodTexts.{GoesOnToTable, GoodTextsAreAccepted}
-use Rattle.csvw_reading.specs.Reading.{Gave}
-use Rattle.csvw_reading.specs.ReadOrder.{AreReads, total_len}
+use Rattle.csvw_group_laws.specs.Annotated.{IsAnnotated, AreAnnotated}
+use Rattle.csvw_group_laws.specs.GoodTexts.{GoesOnToTable, GoodTextsAreAccepted}
+use Rattle.csvw_engine.specs.Reading.{Gave}
+use Rattle.csvw_engine.specs.ReadOrder.{AreReads, total_len}
 use Rattle.csvw_engine.specs.GoodRuns.{IsOkOrLacks, ReadGoodTables, text_len}
 use Rattle.csvw_engine.specs.Runs.{IsPlanned, ReadsGroup, Runs}
 use Rattle.csvw_engine.specs.Texts.{RefusedInText, StopsInText, piece_limit}
@@ -66,7 +66,7 @@ same_group d e o p q = let same : Some d ≡ Some e = sym p ∙ q in cc
 abbrev pub ReadsAreBytes : Type 0
 ReadsAreBytes = (many limit : ℕ) (events : List Event) → AreReads many limit events → length events ≤ total_len many events + many
 
--- no fault stands in what describes a group
+-- what describes a group has no fault
 abbrev pub GroupsHaveNoFaults : Type 0
 GroupsHaveNoFaults = (x : Document) (d : Description) (fault : MetaFault) → group_in x ≡ Some d → IsFault x fault → ⊥
 

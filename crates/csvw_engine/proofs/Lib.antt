@@ -1,9 +1,15 @@
+mod Bytes
 mod Converting
 mod Ending
 mod Flushing
 mod GoodRuns
+mod Growing
 mod Lone
+mod NextTable
 mod Ordering
 mod Planning
+mod Readers
+mod Tables
 mod Taking
+mod Turning
 mod Writing

@@ -1,7 +1,7 @@
 -- Before any read the events are in each order.
 use Rattle.std.proofs.Common.{◌≡◌, ℕ, List, [], ◌∷◌, ◌++◌, Contains, arith, refl, sym, subst}
 use Rattle.csvw_session.specs.Events.{Event}
-use Rattle.csvw_reading.specs.ReadOrder.{AreEndedBefore, AreReadEqually, AreReadIn}
+use Rattle.csvw_engine.specs.ReadOrder.{AreEndedBefore, AreReadEqually, AreReadIn}
 use Rattle.csvw_engine.specs.Rooms.{IsOrder}
 use Rattle.csvw_engine.specs.Texts.{piece_limit}
 use Rattle.csvw_engine.specs.declared.room.Order.{Order}

@@ -20,7 +20,7 @@ pub told : (described : Document) (fault : MetaFault) (reason : Stop) → TellsF
 told described fault reason (inl (c, e)) h = rw e tt
 told described fault reason (inr (apart, e)) h = rw e (h apart)
 
--- what can be planned lacks nothing but memory
+-- for what can be planned only memory can be missing
 pub lacks_memory : (d : Description) (fault : MetaFault) (reason : Stop) → ((code : MetaCode) → IsFreeOf code d) → Builds d (Err fault)
     → TellsFault fault reason → reason ≡ stop.Memory
 lacks_memory d fault reason free h (inl (c, e)) = e

@@ -8,9 +8,9 @@ use Rattle.std.specs.List.Sorted.{IsPermutation}
 use Rattle.std.proofs.lemmas.List.Sorted.{IsPermutation-trans, IsPermutation-append_right}
 use Rattle.std.proofs.KnownBytes.{Consumes-nil}
 use Rattle.std.proofs.lemmas.List.Elements.{Contains-append_left, Contains-append_right}
-use Rattle.csvw_text.specs.Counted.{inner_of, failures_of}
-use Rattle.csvw_text.specs.declared.counted.Counted.{Counted}
-use Rattle.csvw_text.specs.declared.fault.Fault.{Fault}
+use Rattle.csvw_streams.specs.Counted.{inner_of, failures_of}
+use Rattle.csvw_streams.specs.declared.counted.Counted.{Counted}
+use Rattle.csvw_fault.specs.declared.fault.Fault.{Fault}
 use Rattle.csvw_columns.specs.declared.plan.Plan.{Plan}
 use Rattle.csvw_columns.specs.declared.plan.TablePlan.{TablePlan}
 use Rattle.csvw_records.specs.declared.stop.RowStop.{RowStop}
@@ -32,15 +32,15 @@ use Rattle.csvw_session.specs.Sessions.{Stands, Starts, TableStands, Takes, Took
 use Rattle.csvw_session.specs.declared.session.Session.{Session}
 use Rattle.csvw_engine_core.specs.declared.stop.Stop.{Stop}
 use Rattle.csvw_engine_core.specs.declared.stop.Stop.TheVariants as stop
-use Rattle.csvw_group.specs.Annotated.{AreAnnotated}
-use Rattle.csvw_group.specs.Graph.{GraphOf}
-use Rattle.csvw_group.specs.AtEnd.{Annotates, texts_of}
-use Rattle.csvw_group.specs.Part.{IsCutInOpening}
-use Rattle.csvw_group.specs.Stopped.{TookAll, TookBy, TookSome}
-use Rattle.csvw_group.specs.Violations.{rows_of, tables_violations, AreViolations}
-use Rattle.csvw_group.specs.Taken.{AreTaken, AreTakenBefore}
-use Rattle.csvw_reading.specs.ReadOrder.{AreReadIn}
-use Rattle.csvw_reading.specs.Reading.{AreSteady, Gave, GaveTexts, IsSame, Reads, ReadsAll, StopsAt}
+use Rattle.csvw_group_laws.specs.Annotated.{AreAnnotated}
+use Rattle.csvw_group_laws.specs.Graph.{GraphOf}
+use Rattle.csvw_group_laws.specs.AtEnd.{Annotates, texts_of}
+use Rattle.csvw_group_laws.specs.Part.{IsCutInOpening}
+use Rattle.csvw_group_laws.specs.Stopped.{TookAll, TookBy, TookSome}
+use Rattle.csvw_group_laws.specs.Violations.{rows_of, tables_violations, AreViolations}
+use Rattle.csvw_group_laws.specs.Taken.{AreTaken, AreTakenBefore}
+use Rattle.csvw_engine.specs.ReadOrder.{AreReadIn}
+use Rattle.csvw_engine.specs.Reading.{AreSteady, Gave, GaveTexts, IsSame, Reads, ReadsAll, StopsAt}
 use Rattle.csvw_engine.specs.Groups.{EndsBy, GainsSome, HaveTables, SinkLeaves, TablesStop, TakesTables, TookTables}
 use Rattle.csvw_engine.specs.Texts.{AreTakenButLast, GaveEvents, IsReason, ReadToEnds, RefusedInText, StopsInText, piece_limit}
 
@@ -61,7 +61,7 @@ ended_stands : (plan : TablePlan) (mode : Mode) (table : Table) (bytes : List �
 ended_stands plan mode table bytes true rows e h = h.ended
 ended_stands plan mode table bytes false rows e h = cc
 
--- faults that are listed, with those of keys in another order behind them
+-- faults that are listed, and then those of keys in another order
 with_keys : (given violated keys told listed : List Fault) → given ≡ violated → IsPermutation keys told → IsPermutation (given ++ told) listed
     → IsPermutation (violated ++ keys) listed
 with_keys given violated keys told listed same order all =
@@ -178,7 +178,7 @@ module _ {R S : Type 0} (gains : S → List Triple → S → Type 0) (cuts : S �
         (subst (λ es. TookBy gains cuts is_open failed s.session.mode s.session.plan es sink new.sink reason) (sym s.all)
         (part_law s.before s.event s.session new s.t reason (opened_at s.session s.same) as_ready s.stands s.of_table s.takes))
 
-    -- what its sink took by then
+    -- what its sink took before that
     some_gained : (reason : Stop) → Reads gains cuts is_open failed remaining order piece_limit start olds news old new (Err reason)
         → GainsSome gains start new.sink
     some_gained stop.Memory h =
@@ -311,7 +311,7 @@ module _ {R S : Type 0} (gains : S → List Triple → S → Type 0) (cuts : S �
         → TakesTables gains cuts is_open failed remaining order old.mode old.plan olds news sink new.sink (Err reason)
     stops reason h = (gained_behind (some_gained reason h), stopped reason h, ends_by reason h)
 
--- what is told of the group
+-- the triples of the group and its tables
 abbrev pub OpeningIsGraph : Type 0
 OpeningIsGraph = (m : Mode) (plan : Plan) (x : Triple) → Contains (opening m plan) x ↔ Opening m plan x
 
@@ -341,7 +341,7 @@ pub none_read : {R : Type 0} (remaining : R → Option (List ℕ)) (order : ℕ 
     → AreReadIn order (length olds) piece_limit [] → GaveEvents remaining order (length olds) olds olds []
 none_read remaining order olds by = record { gave = none_given remaining olds; read = by }
 
--- a front of what is told of the group was taken
+-- a front of the triples of the group and its tables was taken
 abbrev pub took_opening : {S : Type 0} (gains : S → List Triple → S → Type 0) (cuts : S → Triple → S → Type 0) (is_open : S → Bool) (failed : S → ℕ)
     (law : OpeningIsGraph) (m : Mode) (plan : Plan) (sink now : S) (stays : gains sink [] sink) (Fails : Type 0)
     → FrontOf gains cuts sink (opening m plan) now Fails → TookSome gains cuts is_open failed m plan [] sink now Fails

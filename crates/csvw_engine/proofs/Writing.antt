@@ -4,9 +4,9 @@ use Rattle.std.proofs.Common.{append-nil, append_assoc, map, take, Contains, Opt
 use Rattle.std.proofs.KnownBytes.{Appends-nil, Appends-trans}
 use Rattle.std.specs.List.{AllByRecursion}
 use Rattle.std.specs.Io.KnownBytes.{Appends}
-use Rattle.csvw_text.specs.declared.counted.Counted.{Counted}
-use Rattle.csvw_text.specs.Counted.{inner_of, failures_of}
-use Rattle.csvw_text.specs.Streams.{Stream, stream_of}
+use Rattle.csvw_streams.specs.declared.counted.Counted.{Counted}
+use Rattle.csvw_streams.specs.Counted.{inner_of, failures_of}
+use Rattle.csvw_streams.specs.Streams.{Stream, stream_of}
 use Rattle.csvw_columns_core.specs.declared.columns.Columns.{Columns}
 use Rattle.csvw_columns.specs.declared.plan.Plan.{Plan}
 use Rattle.csvw_annotate.specs.declared.row.Row.{Row}
@@ -26,16 +26,16 @@ use Rattle.csvw_session.specs.Events.{Event}
 use Rattle.csvw_session.specs.Sessions.{TookGraph}
 use Rattle.csvw_engine_core.specs.declared.stop.Stop.{Stop}
 use Rattle.csvw_engine_core.specs.declared.stop.Stop.TheVariants as stop
-use Rattle.csvw_group.specs.Annotated.{Table}
-use Rattle.csvw_group.specs.Graph.{GraphOf}
-use Rattle.csvw_group.specs.Part.{TablePart, FirstRowGraph, PartGraph, IsCutShort}
-use Rattle.csvw_group.specs.Stopped.{TookAll, TookSome}
+use Rattle.csvw_group_laws.specs.Annotated.{Table}
+use Rattle.csvw_group_laws.specs.Graph.{GraphOf}
+use Rattle.csvw_group_laws.specs.Part.{TablePart, FirstRowGraph, PartGraph, IsCutShort}
+use Rattle.csvw_group_laws.specs.Stopped.{TookAll, TookSome}
 use Rattle.csvw_engine.specs.Groups.{Converts, EndsBy, SinkLeaves, TakesTables}
 use Rattle.csvw_engine.specs.Runs.{Wrote, WroteGraph}
 use Rattle.csvw_engine.specs.Rooms.{IsOrder}
 use Rattle.csvw_engine.specs.Texts.{IsReason, piece_limit}
 use Rattle.csvw_engine.specs.declared.room.Order.{Order}
-use Rattle.csvw_reading.specs.ReadOrder.{AreReadIn}
+use Rattle.csvw_engine.specs.ReadOrder.{AreReadIn}
 use Rattle.csvw_engine.specs.Lines.{cuts_lines}
 use Rattle.csvw_engine.specs.Stopped.{Added, IsFrontOfLine, Leaves, WroteAll, WroteLines, WroteSome}
 use Rattle.csvw_engine.proofs.Converting.{takes, failed_of, none_in, same_by, sends_whole}
@@ -51,13 +51,13 @@ nothing_in : (ts : List Triple) → ((x : Triple) → Contains ts x → ⊥) →
 nothing_in [] none = refl
 nothing_in (t ∷ ts) none = absurd (none t (0, omega arith, refl))
 
--- as ready as before or a failed write, by other words
+-- as ready as before or a failed write, in other words
 pub ends_as : (Ready Fails Ready' Fails' : Type 0) → (Ready → Ready') → (Fails → Fails') → (reason : Stop) → EndsBy Ready Fails reason
     → EndsBy Ready' Fails' reason
 ends_as a b c d f g stop.Write h = g h
 ends_as a b c d f g other h = f h
 
--- validation gives no triples
+-- mode Validate has no triples
 no_row : (t : ℕ) (columns : Option Columns) (rows : List Row) (x : Triple) → FirstRowGraph mode.Validate t columns rows x → ⊥
 no_row t None rows x h = h
 no_row t (Some columns) [] x h = h
@@ -254,7 +254,7 @@ module _ {W : Type 0} (contents : W → Option (List ℕ)) (laws : LineLaws) (ou
   leaves m plan (stop.Table t row reason) events olds news because k r = all_written m plan events k r
   leaves m plan other events olds news because k r = absurd because
 
-  -- validation gives no triples
+  -- mode Validate has no triples
   no_graph : (plan : Plan) (tables : List Table) (x : Triple) → GraphOf mode.Validate plan tables x → ⊥
   no_graph plan tables x h = elim h [ inl k ↦ k | inr k ↦ k.5 ]
 
@@ -318,7 +318,7 @@ module _ {W : Type 0} (contents : W → Option (List ℕ)) (laws : LineLaws) (ou
 abbrev pub untouched : Option (List ℕ) → ℕ → Stream
 untouched known n = record { held = known; holds = known; failures = n; failed = n }
 
--- nothing was written, for want of memory before the tables
+-- nothing was written, because memory ran out before the tables
 pub nothing_written : {R : Type 0} (laws : LineLaws) (remaining : R → Option (List ℕ)) (order : ℕ → List Event → Type 0) (m : Mode) (plan : Plan)
     (olds : List (Counted R)) (by : AreReadIn order (length olds) piece_limit []) (known : Option (List ℕ)) (n : ℕ)
     → Converts remaining order m plan olds olds (untouched known n) (Err stop.Memory)

@@ -1,7 +1,7 @@
--- What the tables of a group give to a sink, and to N-Triples.
+-- The triples that the tables of a group put into a sink, and write as N-Triples.
 use Rattle.std.specs.Prelude.{◌≡◌, ◌⊎◌, ◌<◌, ◌+◌, ◌-◌, ◌^◌, ℕ, Bool, true, List, [], Option, Result, Ok, Err, length}
-use Rattle.csvw_text.specs.declared.counted.Counted.{Counted}
-use Rattle.csvw_text.specs.Streams.{Stream}
+use Rattle.csvw_streams.specs.declared.counted.Counted.{Counted}
+use Rattle.csvw_streams.specs.Streams.{Stream}
 use Rattle.csvw_columns.specs.declared.plan.Plan.{Plan}
 use Rattle.csvw_triples_core.specs.Taking.{IsAsReady}
 use Rattle.csvw_triples_core.specs.declared.mode.Mode.{Mode}
@@ -11,11 +11,11 @@ use Rattle.csvw_session.specs.Events.{Event}
 use Rattle.csvw_session.specs.Sessions.{TookGraph}
 use Rattle.csvw_engine_core.specs.declared.stop.Stop.{Stop}
 use Rattle.csvw_engine_core.specs.declared.stop.Stop.TheVariants as stop
-use Rattle.csvw_group.specs.Annotated.{Table, AreAnnotated}
-use Rattle.csvw_group.specs.AtEnd.{texts_of}
-use Rattle.csvw_group.specs.Graph.{GraphOf}
-use Rattle.csvw_group.specs.Stopped.{TookBy}
-use Rattle.csvw_group.specs.Violations.{AreViolations}
+use Rattle.csvw_group_laws.specs.Annotated.{Table, AreAnnotated}
+use Rattle.csvw_group_laws.specs.AtEnd.{texts_of}
+use Rattle.csvw_group_laws.specs.Graph.{GraphOf}
+use Rattle.csvw_group_laws.specs.Stopped.{TookBy}
+use Rattle.csvw_group_laws.specs.Violations.{AreViolations}
 use Rattle.csvw_engine.specs.Runs.{Rises, Wrote, IsSound}
 use Rattle.csvw_engine.specs.Stopped.{Added, Leaves}
 use Rattle.csvw_engine.specs.Texts.{GaveEvents, IsReason, ReadToEnds}
@@ -30,12 +30,12 @@ pub record AnnotatesTexts {R : Type 0} (remaining : R → Option (List ℕ)) (or
   pub violations : AreViolations plan tables outcome.faults
   pub gives : Gives tables
 
--- the texts so far, of which this holds
+-- the texts so far, and this holds of them
 abbrev pub TextsSoFar : {R : Type 0} → (R → Option (List ℕ)) → (ℕ → List Event → Type 0) → List (Counted R) → List (Counted R)
     → (List Event → Type 0) → Type 0
 TextsSoFar remaining order olds news P = (events : List Event) × GaveEvents remaining order (length olds) olds news events × P events
 
--- the texts of the readers are annotated tables, of which this holds
+-- the texts of the readers are annotated tables, and this holds of them
 pub record HaveTables {R : Type 0} (remaining : R → Option (List ℕ)) (order : ℕ → List Event → Type 0) (plan : Plan) (olds news : List (Counted R))
     (Gives : List Table → Type 0) : Type 0 where
   pub events : List Event
@@ -44,12 +44,12 @@ pub record HaveTables {R : Type 0} (remaining : R → Option (List ℕ)) (order 
   pub annotated : AreAnnotated plan.tables (texts_of events) tables
   pub gives : Gives tables
 
--- as ready as before, but after a failed write
+-- as ready as before, unless a write failed
 abbrev pub EndsBy : Type 0 → Type 0 → Stop → Type 0
 EndsBy Ready Fails stop.Write = Fails
 EndsBy Ready Fails reason = Ready
 
--- Why the tables stop, and what is left after the events by then; or memory is wanting after whole tables.
+-- The reason why the tables stop, and what is left after the events before it; or memory ran out after whole tables.
 abbrev pub TablesStop : {R : Type 0} → (R → Option (List ℕ)) → (ℕ → List Event → Type 0) → Plan → List (Counted R) → List (Counted R)
     → (Stop → List Event → Type 0) → (List Table → Type 0) → Stop → Type 0
 TablesStop remaining order plan olds news Left Whole reason =
@@ -66,7 +66,7 @@ pub record TookTables {S : Type 0} (gains : S → List Triple → S → Type 0) 
 abbrev pub GainsSome : {S : Type 0} → (S → List Triple → S → Type 0) → S → S → Type 0
 GainsSome gains start now = (taken : List Triple) × gains start taken now
 
--- what a sink took by a stop of the tables behind these events
+-- what a sink took before a stop of the tables after these events
 abbrev pub SinkLeaves : {S : Type 0} → (S → List Triple → S → Type 0) → (S → Triple → S → Type 0) → (S → Bool) → (S → ℕ) → Mode → Plan → S → S → Stop
     → List Event → Type 0
 SinkLeaves gains cuts is_open failed mode plan start now reason events = TookBy gains cuts is_open failed mode plan events start now reason

@@ -3,8 +3,13 @@ pub mod GoodRuns
 pub mod Groups
 pub mod Lines
 pub mod Planning
+pub mod ReadOrder
+pub mod Reading
 pub mod Reporting
 pub mod Rooms
 pub mod Runs
 pub mod Stopped
+pub mod TableReading
+pub mod TablesReading
 pub mod Texts
+pub mod TurnsReading

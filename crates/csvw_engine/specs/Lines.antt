@@ -1,20 +1,20 @@
--- The writer of an N-Triples sink, from one state of the sink to another.
+-- The bytes of the writer of an N-Triples sink, between two states of the sink.
 use Rattle.std.specs.Prelude.{◌≡◌, ℕ, List, [], Option, true, false}
 use Rattle.std.specs.List.{AllByRecursion}
-use Rattle.csvw_text.specs.Counted.{inner_of, failures_of}
-use Rattle.csvw_text.specs.Streams.{Stream, stream_of}
+use Rattle.csvw_streams.specs.Counted.{inner_of, failures_of}
+use Rattle.csvw_streams.specs.Streams.{Stream, stream_of}
 use Rattle.csvw_triples_core.specs.declared.term.Triple.{Triple}
 use Rattle.csvw_ntriples.specs.NtSink.{sink_out, sink_is_open}
 use Rattle.csvw_ntriples.specs.Sending.{IsCutIn, Sends}
 use Rattle.csvw_ntriples.specs.Writable.{TripleFits}
 use Rattle.csvw_ntriples.specs.declared.nt_sink.NtSink.{NtSink}
 
--- the triples that the sink took, as its trait says it
+-- the triples that the sink took, by the relation of its trait
 abbrev pub gains_lines : {W : Type 0} → (W → Option (List ℕ)) → NtSink W → List Triple → NtSink W → Type 0
 gains_lines contents a ts b = ((sink_out b).ghost_name ≡ (sink_out a).ghost_name) × AllByRecursion TripleFits ts
     × Sends (contents (inner_of (sink_out a).now)) (sink_is_open a) ts (contents (inner_of (sink_out b).now)) (sink_is_open b)
 
--- the triple within which its writer failed, as its trait says it
+-- the triple within which its writer failed, by the relation of its trait
 abbrev pub cuts_lines : {W : Type 0} → (W → Option (List ℕ)) → NtSink W → Triple → NtSink W → Type 0
 cuts_lines contents a t b = ((sink_out b).ghost_name ≡ (sink_out a).ghost_name) × (sink_is_open a ≡ true) × (sink_is_open b ≡ false)
     × IsCutIn t (contents (inner_of (sink_out a).now)) (contents (inner_of (sink_out b).now)) []

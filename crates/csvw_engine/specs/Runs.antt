@@ -1,10 +1,10 @@
--- What a run over a group of tables leaves (Generating RDF from Tabular Data on the Web, section 4.2; Model for Tabular Data, sections
--- 6 and 8).
+-- A run over a group of tables: what it writes, and why it stops: `Succeeds`, `StopsSo` (csv2rdf, section 4.2; Model for Tabular
+-- Data, sections 6 and 8).
 use Rattle.std.specs.Prelude.{◌≡◌, ◌≢◌, ◌⊎◌, ◌<◌, ◌+◌, ◌-◌, ◌^◌, ℕ, List, [], ◌++◌, length, Option, Some, Result, Ok, Err}
 use Rattle.std.specs.Io.KnownBytes.{Appends, Keeps}
-use Rattle.csvw_text.specs.declared.counted.Counted.{Counted}
-use Rattle.csvw_text.specs.declared.fault.Fault.{Fault}
-use Rattle.csvw_text.specs.Streams.{Stream, Sends, IsIdle}
+use Rattle.csvw_streams.specs.declared.counted.Counted.{Counted}
+use Rattle.csvw_fault.specs.declared.fault.Fault.{Fault}
+use Rattle.csvw_streams.specs.Streams.{Stream, Sends, IsIdle}
 use Rattle.csvw_description.specs.declared.description.Description.{Description}
 use Rattle.csvw_columns.specs.PlanOf.{plan_of}
 use Rattle.csvw_columns.specs.Ready.{AreReady}
@@ -21,14 +21,14 @@ use Rattle.csvw_report.specs.declared.outcome.Outcome.{Outcome}
 use Rattle.csvw_session.specs.Events.{Event}
 use Rattle.csvw_engine_core.specs.declared.stop.Stop.{Stop}
 use Rattle.csvw_engine_core.specs.declared.stop.Stop.TheVariants as stop
-use Rattle.csvw_group.specs.Annotated.{Table, AreAnnotated}
-use Rattle.csvw_group.specs.AtEnd.{texts_of}
-use Rattle.csvw_group.specs.Graph.{GraphOf}
-use Rattle.csvw_group.specs.Violations.{AreViolations}
+use Rattle.csvw_group_laws.specs.Annotated.{Table, AreAnnotated}
+use Rattle.csvw_group_laws.specs.AtEnd.{texts_of}
+use Rattle.csvw_group_laws.specs.Graph.{GraphOf}
+use Rattle.csvw_group_laws.specs.Violations.{AreViolations}
 use Rattle.csvw_engine.specs.Stopped.{Added, Leaves}
 use Rattle.csvw_engine.specs.Texts.{GaveEvents, IsReason, ReadToEnds}
 
--- a count of failures rose by one, where it had room
+-- a count of failures rose by one, if it had room
 abbrev pub Rises : Stream → Type 0
 Rises s = s.failures < 2 ^ 64 - 1 → s.failed ≡ s.failures + 1
 
@@ -57,8 +57,8 @@ Wrote mode.Validate out plan tables = Sends out []
 Wrote mode.Minimal out plan tables = WroteGraph out (GraphOf mode.Minimal plan tables)
 Wrote mode.Standard out plan tables = WroteGraph out (GraphOf mode.Standard plan tables)
 
--- The texts of the readers are the annotated tables of the group that is described. Their graph was written, their violations are the
--- faults of the outcome and were reported, and nothing failed.
+-- The texts of the readers are the annotated tables of the group that is described. Their graph was written. Their violations are the faults
+-- of the outcome and were reported. Nothing failed.
 pub record Succeeds {R : Type 0} (remaining : R → Option (List ℕ)) (order : ℕ → List Event → Type 0) (described : Document) (mode : Mode)
     (olds news : List (Counted R)) (out report_out : Stream) (outcome : Outcome) : Type 0 where
   pub plan : Plan
@@ -79,33 +79,33 @@ pub record ReadsGroup {R : Type 0} (remaining : R → Option (List ℕ)) (order 
   pub many : length olds ≡ length plan.tables
   pub gave : GaveEvents remaining order (length olds) olds news events
 
--- the texts so far, of which this holds
+-- the texts so far, and this holds of them
 abbrev pub SoFar : {R : Type 0} → (R → Option (List ℕ)) → (ℕ → List Event → Type 0) → Document → List (Counted R) → List (Counted R)
     → (Plan → List Event → Type 0) → Type 0
 SoFar remaining order described olds news P =
     (plan : Plan) × (events : List Event) × ReadsGroup remaining order described olds news plan events × P plan events
 
--- after the texts so far there is this reason to stop, and what was written of their graph is what the stop leaves
+-- after the texts so far there is this reason to stop, and the stop leaves this much of their graph written
 abbrev pub StopsAfter : {R : Type 0} → (R → Option (List ℕ)) → (ℕ → List Event → Type 0) → Document → Mode → List (Counted R) → List (Counted R)
     → Stream → Stop → Type 0
 StopsAfter remaining order described mode olds news out reason =
     SoFar remaining order described olds news (λ plan events. IsReason plan olds news reason events × Leaves mode plan out reason events)
 
--- a front of a text was sent, which may be nothing and may be the whole
+-- a front of a text was sent: nothing, some of it or all of it
 pub record SentFront (s : Stream) (text : List ℕ) : Type 0 where
   pub front : List ℕ
   pub rest : List ℕ
   pub parts : text ≡ front ++ rest
   pub appended : Appends s.held s.holds front
 
--- of the report of what these tables violate a front was sent
+-- a front of the report of these tables' violations was sent
 pub record ReportedFront (plan : Plan) (tables : List Table) (report_out : Stream) : Type 0 where
   pub faults : List Fault
   pub violations : AreViolations plan tables faults
   pub sent : SentFront report_out (report faults)
 
--- The texts of the readers are the annotated tables of the group that is described, and their whole graph was written. Of the report
--- nothing was written, or a front.
+-- The texts of the readers are the annotated tables of the group that is described, and their whole graph was written. Nothing of the report
+-- was written, or a front of it.
 pub record WroteGroup {R : Type 0} (remaining : R → Option (List ℕ)) (order : ℕ → List Event → Type 0) (described : Document) (mode : Mode)
     (olds news : List (Counted R)) (out report_out : Stream) : Type 0 where
   pub plan : Plan
@@ -122,13 +122,13 @@ pub record WroteGroup {R : Type 0} (remaining : R → Option (List ℕ)) (order 
 abbrev pub IsUntouched : {R : Type 0} → List (Counted R) → List (Counted R) → Stream → Stream → Type 0
 IsUntouched olds news out report_out = (news ≡ olds) × IsIdle out × IsIdle report_out
 
--- readers and tables differ in number
+-- the number of readers is not the number of tables
 pub record Differ {R : Type 0} (described : Document) (olds : List (Counted R)) : Type 0 where
   pub plan : Plan
   pub planned : IsPlanned described plan
   pub apart : length olds ≢ length plan.tables
 
--- There was no memory: before the tables, in one of them, or after the whole graph. No write failed.
+-- Memory ran out before the tables, in one of them, or after the whole graph. No write failed.
 abbrev pub LacksMemory : {R : Type 0} → (R → Option (List ℕ)) → (ℕ → List Event → Type 0) → Document → Mode → List (Counted R) → List (Counted R)
     → Stream → Stream → Type 0
 LacksMemory remaining order described mode olds news out report_out =
@@ -140,7 +140,7 @@ LacksMemory remaining order described mode olds news out report_out =
 abbrev pub OneRises : Stream → Stream → Type 0
 OneRises out report_out = (Rises out × (IsSound report_out ⊎ Rises report_out)) ⊎ (IsSound out × Rises report_out)
 
--- A write failed. `out` failed in the tables, or in the flush before this stop was returned; or a flush or the report failed after the
+-- A write failed. Either `out` failed in the tables, or in the flush before this stop was returned. Or a flush or the report failed after the
 -- whole graph.
 abbrev pub WriteFails : {R : Type 0} → (R → Option (List ℕ)) → (ℕ → List Event → Type 0) → Document → Mode → List (Counted R) → List (Counted R)
     → Stream → Stream → Type 0
@@ -154,7 +154,7 @@ abbrev pub StopsFlushed : {R : Type 0} → (R → Option (List ℕ)) → (ℕ �
 StopsFlushed remaining order described mode olds news out report_out reason =
     StopsAfter remaining order described mode olds news out reason × IsSound out × IsIdle report_out
 
--- why a run stops, and what it has written by then
+-- the reason for which a run stops, and what it wrote before it
 abbrev pub StopsSo : {R : Type 0} → (R → Option (List ℕ)) → (ℕ → List Event → Type 0) → Document → Mode → List (Counted R) → List (Counted R)
     → Stream → Stream → Stop → Type 0
 StopsSo remaining order described mode olds news out report_out stop.Memory = LacksMemory remaining order described mode olds news out report_out

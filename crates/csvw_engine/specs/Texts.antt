@@ -1,7 +1,8 @@
--- What the readers of a group gave, and why they give no more.
+-- The texts that the readers of a group returned, and the text in which a run stops: `GaveEvents`, `StopsInText`, `RefusedInText`
+-- (Model for Tabular Data, sections 4.1 to 4.5 and 8).
 use Rattle.std.specs.Prelude.{◌≡◌, ◌⊎◌, ◌<◌, ◌+◌, ◌-◌, ◌^◌, ℕ, true, List, [], length, slice_get, Option, Some}
-use Rattle.csvw_text.specs.declared.counted.Counted.{Counted}
-use Rattle.csvw_text.specs.declared.fault.Fault.{Fault}
+use Rattle.csvw_streams.specs.declared.counted.Counted.{Counted}
+use Rattle.csvw_fault.specs.declared.fault.Fault.{Fault}
 use Rattle.csvw_records.specs.RowValue.{Given}
 use Rattle.csvw_records.specs.declared.stop.RowStop.{RowStop}
 use Rattle.csvw_columns_core.specs.declared.columns.Columns.{Columns}
@@ -15,15 +16,16 @@ use Rattle.csvw_engine_core.specs.declared.stop.Stop.{Stop}
 use Rattle.csvw_engine_core.specs.declared.stop.Stop.TheVariants as stop
 use Rattle.csvw_session.specs.Events.{Event, text_of, ended_in}
 use Rattle.csvw_session.specs.Sessions.{IsRefusedHere}
-use Rattle.csvw_group.specs.Taken.{AreTaken, AreTakenBefore}
-use Rattle.csvw_reading.specs.Reading.{GaveTexts, AreSteady, OneFailed, AreMany}
-use Rattle.csvw_reading.specs.ReadOrder.{AreReadIn}
+use Rattle.csvw_group_laws.specs.Taken.{AreTaken, AreTakenBefore}
+use Rattle.csvw_engine.specs.Reading.{GaveTexts, AreSteady, OneFailed, AreMany}
+use Rattle.csvw_engine.specs.ReadOrder.{AreReadIn}
 
 -- how many bytes are read at once
 abbrev pub piece_limit : ℕ
 piece_limit = 65_536
 
--- The readers of so many tables gave the texts of these events, read in this order, in pieces that have a byte and not too many.
+-- The readers of this number of tables returned the texts of these events, read in this order, in pieces that have at least one byte and at
+-- most this many.
 pub record GaveEvents {R : Type 0} (remaining : R → Option (List ℕ)) (order : ℕ → List Event → Type 0) (many : ℕ) (olds news : List (Counted R))
     (events : List Event) : Type 0 where
   pub gave : GaveTexts remaining olds news events
@@ -68,7 +70,7 @@ pub record RefusedInText (plan : Plan) (events : List Event) (t row : ℕ) (reas
 abbrev pub AreTakenButLast : Plan → List Event → Type 0
 AreTakenButLast plan events = (events ≡ []) ⊎ ((t : ℕ) × AreTakenBefore plan.tables events t)
 
--- Why the tables stop after these events. Of want of memory and of a failed write no reason is said here.
+-- The reason why the tables stop after these events. After Memory and a failed write no reason is given here.
 abbrev pub IsReason : {R : Type 0} → Plan → List (Counted R) → List (Counted R) → Stop → List Event → Type 0
 IsReason plan olds news stop.Memory events = AreSteady olds news × AreTakenButLast plan events
 IsReason plan olds news stop.Write events = AreSteady olds news × AreTakenButLast plan events

@@ -1,8 +1,8 @@
-//! The flushes at the end of a run.
+//! Flushes the writers at the end of a run.
 ghost use Rattle.std.specs.Prelude.{◌≡◌, ◌↔◌, Err, IfErr, IsTrue};
 ghost use Rattle.std.specs.Io.KnownBytes.{Keeps};
-ghost use Rattle.csvw_text.specs.Count.{after_call};
-ghost use Rattle.csvw_text.specs.Counted.{inner_of, failures_of};
+ghost use Rattle.csvw_streams.specs.Count.{after_call};
+ghost use Rattle.csvw_streams.specs.Counted.{inner_of, failures_of};
 ghost use Rattle.csvw_engine_core.specs.declared.stop.Stop.TheVariants as stop;
 ghost use Rattle.csvw_engine.specs.Flushes.{IsFlushed};
 
@@ -10,14 +10,14 @@ use csvw_session::Stop;
 use csvw_text::Counted;
 use std::io::Write;
 
-/// Whether a run stopped because its writer failed. Nothing more is sent to that writer.
+/// Returns whether a run stopped because its writer failed. Nothing more is sent to that writer.
 pub(crate) fn is_failed_write<T>(ran: &Result<T, Stop>) -> bool
     ensures { IsTrue result ↔ (ran.now ≡ Err stop.Write) }
 {
     matches!(ran, Err(Stop::Write))
 }
 
-/// Flushes a writer. `Write` where that fails.
+/// Flushes a writer. Fails with `Write` if that fails.
 pub(crate) fn flush<W: Write>(w: &mut Counted<W>) -> Result<(), Stop>
     ensures keeps { Keeps (W.contents (inner_of w.old)) (W.contents (inner_of w.new)) }
     ensures count { failures_of w.new ≡ after_call result (failures_of w.old) }
@@ -29,7 +29,7 @@ pub(crate) fn flush<W: Write>(w: &mut Counted<W>) -> Result<(), Stop>
     }
 }
 
-/// Flushes what a run wrote before its result is returned. `Write` where that fails.
+/// Flushes what a run wrote before its result is returned. Returns `Write` if that fails.
 pub(crate) fn flush_after<T: Drop, W: Write>(
     w: &mut Counted<W>,
     ran: Result<T, Stop>,

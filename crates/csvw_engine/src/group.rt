@@ -1,6 +1,6 @@
-//! The tables of a group, from readers to N-Triples.
+//! Reads the tables of a group and writes their graph as N-Triples.
 ghost use Rattle.std.specs.Prelude.{◌≡◌, ◌<◌, ◌-◌, ◌^◌, length};
-ghost use Rattle.csvw_text.specs.Streams.{stream_of};
+ghost use Rattle.csvw_streams.specs.Streams.{stream_of};
 ghost use Rattle.csvw_columns.specs.Ready.{AreReady};
 ghost use Rattle.csvw_session.specs.Sessions.{Starts};
 ghost use Rattle.csvw_engine.specs.Groups.{Converts, TakesTables};
@@ -8,7 +8,7 @@ ghost use Rattle.csvw_engine.specs.Rooms.{IsOrder, IsRoomFor, order_in};
 
 use crate::room::{Order, Room, read_all};
 use csvw_columns::Plan;
-use csvw_group::laws::{
+use csvw_group_laws::laws::{
     sessions_annotate, sessions_give_all, stopped_sessions_give_parts, taken_events_are_tables,
 };
 use csvw_ntriples::{NtSink, labels_name_one_to_one, written_denotes};
@@ -20,7 +20,7 @@ use csvw_triples_core::{Mode, TripleSink};
 use std::alloc::Global;
 use std::io::{Read, Write};
 
-/// What is written of tables, and how they are read.
+/// What is written of tables, and the order in which they are read.
 #[derive(Clone, Copy)]
 pub(crate) struct Way {
     /// Which triples are written.
@@ -29,7 +29,7 @@ pub(crate) struct Way {
     pub(crate) order: Order,
 }
 
-/// Reads the tables of a session at its start to their ends, and finishes it.
+/// Reads the tables of a session that has just started to their ends, and finishes it.
 fn take_tables<R: Read, S: TripleSink>(
     session: &mut Session<S>,
     readers: &mut [Counted<R>],

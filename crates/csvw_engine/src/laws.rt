@@ -1,7 +1,7 @@
-//! Laws about sessions and runs, and what they write. The calls do nothing.
+//! Laws about what sessions and runs write. A call of a law does nothing.
 ghost use Rattle.std.specs.Prelude.{◌≡◌, ◌++◌, ℕ, true, List, [], Result};
-ghost use Rattle.csvw_text.specs.Streams.{Stream};
-ghost use Rattle.csvw_text.specs.declared.counted.Counted.{Counted as TheCounted};
+ghost use Rattle.csvw_streams.specs.Streams.{Stream};
+ghost use Rattle.csvw_streams.specs.declared.counted.Counted.{Counted as TheCounted};
 ghost use Rattle.csvw_meta.specs.Document.{Document};
 ghost use Rattle.csvw_columns.specs.declared.plan.Plan.{Plan as ThePlan};
 ghost use Rattle.csvw_triples_core.specs.Taking.{IsAsReady};
@@ -18,7 +18,7 @@ ghost use Rattle.csvw_session.specs.declared.state.State.TheVariants as state;
 ghost use Rattle.csvw_engine_core.specs.declared.stop.Stop.{Stop as TheStop};
 ghost use Rattle.csvw_engine_core.specs.declared.stop.Stop.TheVariants as stop;
 ghost use Rattle.csvw_triples.specs.OpeningTriples.{opening};
-ghost use Rattle.csvw_group.specs.Stopped.{TookAll, TookSome};
+ghost use Rattle.csvw_group_laws.specs.Stopped.{TookAll, TookSome};
 ghost use Rattle.csvw_engine.specs.GoodRuns.{IsOkOrLacks, ReadGoodTables};
 ghost use Rattle.csvw_engine.specs.Lines.{cuts_lines, gains_lines, line_failures, writer_of};
 ghost use Rattle.csvw_engine.specs.Rooms.{IsOrder};
@@ -26,16 +26,17 @@ ghost use Rattle.csvw_engine.specs.Runs.{Runs};
 ghost use Rattle.csvw_engine.specs.Stopped.{WroteAll, WroteSome};
 ghost use Rattle.csvw_engine.specs.declared.room.Order.{Order as TheOrder};
 
-use csvw_group::laws::good_texts_are_accepted;
+use crate::read_laws::reads_are_bytes;
+use csvw_group_laws::laws::good_texts_are_accepted;
 use csvw_meta::laws::groups_have_no_faults;
 use csvw_ntriples::{labels_name_one_to_one, written_denotes};
-use csvw_reading::laws::reads_are_bytes;
 use csvw_triples::opening_is_the_graphs;
 use csvw_triples_core::TripleSink;
 use std::io::{Read, Write};
 
-/// What a session has written over an N-Triples sink that was open, by what `csvw_group::laws` say that its sink took: whole lines
-/// that denote these triples, and after a failed write perhaps a front of the line of one more.
+/// What a session has written over an N-Triples sink that was open. `csvw_group_laws::laws` say which triples its sink
+/// took. The bytes are whole lines that denote these triples. After a failed write a front of the line of one more
+/// triple may follow.
 pub fn sessions_write_lines<W: Write>()
     ensures all { (m : TheMode) (plan : ThePlan) (events : List Event) (sink now : TheSink W) → sink_is_open sink ≡ true
         → TookAll (gains_lines W.contents) m plan events sink now → IsAsReady sink_is_open line_failures sink now
@@ -52,9 +53,9 @@ pub fn sessions_write_lines<W: Write>()
     labels_name_one_to_one();
 }
 
-/// What a session that did not start has written over an N-Triples sink that was open: whole lines that denote a front of the opening,
-/// the triples on the group and its tables. After a failed write a proper front of the line of the next of these triples may come
-/// after them.
+/// What a session that did not start has written over an N-Triples sink that was open. The bytes are whole lines
+/// that denote a front of the opening, the triples of the group and its tables. After a failed write a proper front
+/// of the line of the next triple may follow.
 pub fn refused_starts_write_lines<W: Write>()
     ensures memory { (m : TheMode) (plan : ThePlan) (sink now : TheSink W) → sink_is_open sink ≡ true
         → Refuses (gains_lines W.contents) (cuts_lines W.contents) sink_is_open line_failures plan m sink now stop.Memory
@@ -69,8 +70,8 @@ pub fn refused_starts_write_lines<W: Write>()
     opening_is_the_graphs();
 }
 
-/// A later call of a session that stopped changes nothing: its sink takes no triple, and so the writer of an N-Triples sink gains no
-/// byte.
+/// A later call of a session that stopped changes nothing. Its sink takes no triple, so the writer of an N-Triples
+/// sink gains no byte.
 pub fn stopped_sessions_stay<S: TripleSink>()
     ensures event { (old new : TheSession S) (t : ℕ) (event : Event) (result : Result Unit TheStop) → old.state ≡ state.Failed
         → Takes S.gains S.cuts S.is_open S.failed old new t event result → IsRefusedInOrder old t result → new ≡ old }
@@ -78,9 +79,11 @@ pub fn stopped_sessions_stay<S: TripleSink>()
         → Finishes old new result → IsUnfinishedInOrder old result → new ≡ old }
 {}
 
-/// A run over good tables is Ok: there are as many readers as tables of the group that is described, and their bytes are known and are the
-/// texts of annotated tables. Else memory was wanting, or the count of failures of a reader or a writer rose, or the texts have at least
-/// 2^40 bytes, less one for each table.
+/// A run over good tables is Ok. There are as many readers as tables in the group that is described. Their bytes
+/// are known and are the texts of annotated tables.
+///
+/// Else memory ran out, or the count of failures of a reader or a writer rose, or the texts have at least 2^40
+/// bytes, less one for each table.
 pub fn good_runs_succeed<R: Read>()
     ensures { (order : TheOrder) (described : Document) (m : TheMode) (olds news : List (TheCounted R)) (out report_out : Stream)
         (result : Result TheOutcome TheStop) (good : ReadGoodTables R.remaining described olds)

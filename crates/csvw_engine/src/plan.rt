@@ -25,7 +25,7 @@ fn meta_stop(fault: MetaFault) -> Stop
     }
 }
 
-/// The plan of a description that was read, which lacks nothing but memory.
+/// Builds the plan of a description that was read. Only memory can be missing.
 fn built(alloc: Global, description: Description) -> Result<Plan, Stop>
     requires { IsPlannable description }
     ensures plan { IfOk result (λ plan. plan ≡ plan_of description) }
@@ -41,7 +41,7 @@ fn built(alloc: Global, description: Description) -> Result<Plan, Stop>
     }
 }
 
-/// The plan of the group that a document at this URL describes.
+/// Returns the plan of the group that a document at this URL describes.
 pub(crate) fn planned(alloc: Global, meta: &[u8], base: &str) -> Result<Plan, Stop>
     ensures plan { IfOk result (λ plan. IsPlanned (document base.now meta.now) plan) }
     ensures ready { IfOk result (λ plan. AreReady plan.tables) }
@@ -54,7 +54,7 @@ pub(crate) fn planned(alloc: Global, meta: &[u8], base: &str) -> Result<Plan, St
     }
 }
 
-/// The plan of the table of this URL, without a document.
+/// Returns the plan of the table at this URL, without a document.
 pub(crate) fn planned_alone(alloc: Global, url: &str) -> Result<Plan, Stop>
     ensures plan { IfOk result (λ plan. IsPlanned (plain_description url.now) plan) }
     ensures ready { IfOk result (λ plan. AreReady plan.tables) }

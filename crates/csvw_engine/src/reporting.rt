@@ -1,7 +1,7 @@
 //! The report of a run.
 ghost use Rattle.std.specs.Prelude.{◌≡◌, IfErr, OnOk};
 ghost use Rattle.csvw_report.specs.Report.{report};
-ghost use Rattle.csvw_text.specs.Streams.{stream_of, Sends};
+ghost use Rattle.csvw_streams.specs.Streams.{stream_of, Sends};
 ghost use Rattle.csvw_engine.specs.Reporting.{Reports, StopsReport};
 
 use csvw_report::{Outcome, ReportStop};
@@ -10,8 +10,8 @@ use csvw_text::{Counted, Fault};
 use std::alloc::Global;
 use std::io::Write;
 
-/// Writes the report: its heading and a line for each fault, in the order given. `Memory` where there is none, `Write` where the
-/// writer failed; what was written before is a front of the report.
+/// Writes the report: its heading, and a line for each fault in the order given. Fails with `Memory` if memory runs
+/// out, and with `Write` if the writer failed. What was written before is a front of the report.
 pub fn write_report<V: Write>(
     alloc: Global,
     faults: &[Fault],
@@ -27,7 +27,7 @@ pub fn write_report<V: Write>(
     }
 }
 
-/// Writes the report of what the tables gave, if they were read to their ends.
+/// Writes the report of what the tables returned, if they were read to their ends.
 pub(crate) fn tell<V: Write>(
     alloc: Global,
     ran: Result<Outcome, Stop>,

@@ -1,12 +1,13 @@
-//! The order in which the tables of a session are read, and the room for it.
+//! The order in which the tables of a session are read, and the buffers for it.
 ghost use Rattle.std.specs.Prelude.{◌≡◌, ◌<◌, ◌-◌, ◌^◌, ℕ, [], IfOk, length};
 ghost use Rattle.csvw_session.specs.Sessions.{Stands};
-ghost use Rattle.csvw_reading.specs.Reading.{IsSame, Reads};
-ghost use Rattle.csvw_reading.specs.TurnsReading.{AreOpen};
+ghost use Rattle.csvw_engine.specs.Reading.{IsSame, Reads};
+ghost use Rattle.csvw_engine.specs.TurnsReading.{AreOpen};
 ghost use Rattle.csvw_engine.specs.Rooms.{IsOrder, IsRoomFor, order_in};
 ghost use Rattle.csvw_engine.specs.Texts.{piece_limit};
 
-use csvw_reading::{read_tables, read_turns};
+use crate::reading::read_tables;
+use crate::turns::read_turns;
 use csvw_session::{Session, Stop};
 use csvw_text::Counted;
 use csvw_triples_core::TripleSink;
@@ -22,12 +23,12 @@ pub(crate) enum Order {
     InTurns,
 }
 
-/// Room to read tables in.
+/// The buffers that reading needs.
 #[derive(Drop)]
 pub(crate) struct Room {
-    /// For a piece of a table.
+    /// The buffer for a piece of a table.
     piece: Vec<u8>,
-    /// Which tables are open, where they are read in turn.
+    /// Which tables are open, if they are read in turn.
     going: Option<Vec<bool>>,
 }
 
@@ -40,7 +41,7 @@ fn buffer_of(alloc: Global, len: usize) -> Result<Vec<u8>, AllocError>
     vec![in alloc; 0u8; len]
 }
 
-/// So many times `true`.
+/// Makes a list of `many` times `true`.
 fn all_open(alloc: Global, many: usize) -> Result<Vec<bool>, AllocError>
     ensures many { IfOk result (λ v. length v.items ≡ many) }
     ensures all_open { IfOk result (λ v. AreOpen v.items) }
@@ -49,7 +50,7 @@ fn all_open(alloc: Global, many: usize) -> Result<Vec<bool>, AllocError>
 }
 
 impl Room {
-    /// Room for so many tables; `AllocError` where there is no memory.
+    /// Makes the buffers for this number of tables. Fails with `AllocError` if memory runs out.
     pub(crate) fn new(alloc: Global, order: Order, many: usize) -> Result<Room, AllocError>
         ensures room { IfOk result (λ room. IsRoomFor many room) }
         ensures order { IfOk result (λ room. order_in room.going ≡ order) }

@@ -2,8 +2,8 @@
 ghost use Rattle.std.specs.Prelude.{◌≡◌, ◌≤◌, ◌∷◌, [], length};
 ghost use Rattle.csvw_columns.specs.Ready.{AreReady};
 ghost use Rattle.csvw_triples_core.specs.declared.mode.Mode.TheVariants as mode;
-ghost use Rattle.csvw_text.specs.Streams.{stream_of};
-ghost use Rattle.csvw_reading.specs.ReadOrder.{AreInTurn, AreTableByTable};
+ghost use Rattle.csvw_streams.specs.Streams.{stream_of};
+ghost use Rattle.csvw_engine.specs.ReadOrder.{AreInTurn, AreTableByTable};
 ghost use Rattle.csvw_engine.specs.Rooms.{IsOrder};
 ghost use Rattle.csvw_engine.specs.Runs.{IsPlanned, Runs};
 ghost use Rattle.csvw_meta.specs.Document.{Document, document, plain_description};
@@ -23,14 +23,14 @@ use std::io::{Read, Write};
 use std::slice;
 use std_alloc::room::may_hold;
 
-/// What is asked of a run over a group of tables.
+/// A request to run over a group of tables.
 #[derive(Clone, Copy)]
 struct Asked<'a> {
     /// The metadata document that describes the group.
     meta: &'a [u8],
     /// The URL of the document.
     base: &'a str,
-    /// What is written, and how the tables are read.
+    /// What is written, and the order in which the tables are read.
     way: Way,
 }
 
@@ -39,7 +39,7 @@ struct Asked<'a> {
 struct PlannedRun {
     /// The plan of the group.
     plan: Plan,
-    /// What is written, and how the tables are read.
+    /// What is written, and the order in which the tables are read.
     way: Way,
 }
 
@@ -88,15 +88,25 @@ fn run_in<R: Read, W: Write, V: Write>(
     run_planned(alloc, PlannedRun { plan, way }, readers, out, report)
 }
 
-/// Reads a group of tables, as the metadata document `meta` at the URL `base` describes them: the nth reader has the text of the nth
-/// table. In mode `Minimal` it writes the graph of their cells to `out` (csv2rdf, section 4.2), in mode `Standard` also what is told
-/// of the group, its tables and their rows, in mode `Validate` nothing; then the faults to `report`, in order. Tables are read one
-/// after the other, in pieces of at most 65,536 bytes. At the end each writer is flushed once. Before a stop in the tables is returned
-/// the rows before it are written, and `out` is flushed. After a failed write nothing more is sent to that writer.
+/// Reads a group of tables as the metadata document `meta` at the URL `base` describes them. The nth reader has the
+/// text of the nth table. It writes the graph to `out`, and then the faults to `report`, in order.
 ///
-/// `Meta` with a fault of the document; `TableCount` where readers and tables differ in number; `Rows` and `Table` with the first row
-/// of a table that can't be read or annotated; `Read` and `Write` where a reader or writer failed in this call, `Read` also after
-/// 2^40 reads; `Memory` where there is none.
+/// - Mode `Minimal` writes the graph of the cells (csv2rdf, section 4.2).
+/// - Mode `Standard` writes that, and the triples of the group, its tables and their rows.
+/// - Mode `Validate` writes no graph.
+///
+/// Tables are read one after the other, in pieces of at most 65,536 bytes. At the end each writer is flushed once.
+/// Before a stop in the tables is returned, the rows before it are written, and `out` is flushed. After a failed
+/// write nothing more is sent to that writer.
+///
+/// Errors:
+///
+/// - `Meta` with a fault of the document.
+/// - `TableCount` if the number of readers is not the number of tables.
+/// - `Rows` and `Table` with the first row of a table that can't be read or annotated.
+/// - `Read` if a reader failed in this call, or after 2^40 reads.
+/// - `Write` if a writer failed in this call.
+/// - `Memory` if memory runs out.
 pub fn run<R: Read, W: Write, V: Write>(
     alloc: Global,
     meta: &[u8],
@@ -116,8 +126,9 @@ pub fn run<R: Read, W: Write, V: Write>(
     run_in(alloc, Asked { meta, base, way }, readers, out, report)
 }
 
-/// Reads a group of tables as `run` does, but takes a read of each table in turn that isn't at its end, so that the rows of all tables
-/// are written as they come. What it answers means what it means in `run`; of several stops it tells the one that it meets first.
+/// Reads a group of tables as `run` does, but reads a piece of each open table in turn. So the rows of all tables
+/// are written as they come. Its results and errors mean what they mean in `run`. If there are several stops, it
+/// returns the one that it meets first.
 pub fn run_turns<R: Read, W: Write, V: Write>(
     alloc: Global,
     meta: &[u8],
@@ -137,11 +148,15 @@ pub fn run_turns<R: Read, W: Write, V: Write>(
     run_in(alloc, Asked { meta, base, way }, readers, out, report)
 }
 
-/// Reads one table without a document: its URL is `url`, its dialect the default one, and its header names its columns, whose cells are
-/// strings. It runs as `run` does over a document that has that `url` alone, in mode `Minimal`: the graph of the cells goes to `out`, then
-/// the faults to `report`, `HeaderMissing` where the file has no row but comments.
+/// Reads one table without a document. Its URL is `url`, its dialect is the default one, its header names its
+/// columns, and its cells are strings.
 ///
-/// `Meta` with `BadUrl` or `UrlTooLong` at `/url` where the URL is refused; each other stop comes as in `run`.
+/// It runs as `run` does over a document that has only that `url`, in mode `Minimal`. It writes the graph of the
+/// cells to `out` and then the faults to `report`. The fault is `HeaderMissing` if the file has no
+/// row except comments.
+///
+/// Fails with `Meta` if the URL is refused: with `BadUrl` or `UrlTooLong` at `/url`. Each other stop comes as in
+/// `run`.
 pub fn plain<R: Read, W: Write, V: Write>(
     alloc: Global,
     url: &str,
@@ -152,7 +167,7 @@ pub fn plain<R: Read, W: Write, V: Write>(
     ensures { Runs R.remaining AreTableByTable (plain_description url.now) mode.Minimal (input.old ∷ []) (input.new ∷ [])
         (stream_of W.contents out.old out.new) (stream_of V.contents report.old report.new) result }
 {
-    // a slice is below 2^63 bytes, as a reader is that is one
+    // A slice has fewer than 2^63 bytes, so a reader that becomes a slice of one must have too.
     if !may_hold::<Counted<R>>(1) {
         return Err(Stop::Memory);
     }

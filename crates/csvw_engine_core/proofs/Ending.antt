@@ -2,7 +2,7 @@
 use Rattle.std.proofs.Common.{◌≡◌, ◌<◌, ℕ, zero, suc, Bool, true, List, [], ◌∷◌, ◌++◌, refl, sym, ap, ◌∙◌, subst, arith, map, length, Some, None}
 use Rattle.std.proofs.Common.{Result, Ok, Err, inl, inr}
 use Rattle.std.proofs.lemmas.List.{take_all, drop_all}
-use Rattle.csvw_rows.specs.Laws.{GivenFirst}
+use Rattle.csvw_rows.specs.GivenLaws.{GivenFirst}
 use Rattle.csvw_records.specs.RowValue.{Given}
 use Rattle.csvw_columns_core.specs.declared.columns.Columns.{Columns}
 use Rattle.csvw_columns.specs.HeaderMatch.{IsMatch}
@@ -40,7 +40,7 @@ short_data plan given h = drop_all (header_count plan) given (below_needed (head
 module _ {S : Type 0} (gains : S → List Triple → S → Type 0) (cuts : S → Triple → S → Type 0) (is_open : S → Bool) (failed : S → ℕ)
     (stays : (s : S) → gains s [] s) (goes_on : (a b c : S) (xs ys : List Triple) → gains a xs b → gains b ys c → gains a (xs ++ ys) c)
     (plan : TablePlan) (mode : Mode) (bytes : List ℕ) (given : List Given) (rows : List Row) (old : Table) (before now : Outlets S) where
-  -- a stop in front of the end
+  -- a stop before the end
   pub ends_wrong : (new : Table) (reason : Stop) → TableOutcome gains cuts is_open failed plan mode bytes true given rows old new before now (Err reason)
       → EndOutcome gains cuts is_open failed plan mode bytes given rows old new before now (Err reason)
   ends_wrong new stop.Memory h = h
@@ -95,7 +95,7 @@ module _ {S : Type 0} (gains : S → List Triple → S → Type 0) (cuts : S →
       heads_all : header_rows plan (given ++ g.raws) ≡ mid.head.rows
       heads_all = short_rows plan (given ++ g.raws) short ∙ sym (g.holds.head.waits none)
 
-      -- the header had fewer rows, and gives columns
+      -- the header had fewer rows, and makes columns
       settled_end : (new : Table) → new ≡ record mid { head = new.head } → Settled plan None mid.head new.head
           → GivesWhole gains plan mode bytes rows old new before now
       settled_end new same s =

@@ -1,7 +1,7 @@
--- The faults of cells, where none is left.
+-- The faults of cells when no cell is left.
 use Rattle.std.proofs.Common.{◌≡◌, ◌⊎◌, List, [], ◌∷◌, ◌++◌, ◌∙◌, sym, ap, refl, append-nil, flat_map, inl, inr, length, arith}
 use Rattle.std.specs.List.{zip}
-use Rattle.csvw_text.specs.declared.fault.Fault.{Fault}
+use Rattle.csvw_fault.specs.declared.fault.Fault.{Fault}
 
 none_left : {A B : Type 0} (xs : List A) (ys : List B) → (xs ≡ []) ⊎ (ys ≡ []) → zip xs ys ≡ []
 none_left [] ys e = refl

@@ -3,8 +3,8 @@ use Rattle.std.proofs.Common.{◌≡◌, ◌+◌, ℕ, Bool, true, false, List, 
 use Rattle.std.proofs.Common.{None, Result, Err}
 use Rattle.std.specs.Prelude.{nat_eq, if◌then◌else◌}
 use Rattle.std.proofs.lemmas.List.Concat.{flat_map-append}
-use Rattle.csvw_text.specs.declared.fault.Fault.{Fault}
-use Rattle.csvw_rows.specs.Laws.{GivenFirst}
+use Rattle.csvw_fault.specs.declared.fault.Fault.{Fault}
+use Rattle.csvw_rows.specs.GivenLaws.{GivenFirst}
 use Rattle.csvw_records.specs.RowValue.{Given}
 use Rattle.csvw_columns_core.specs.declared.columns.Columns.{Columns}
 use Rattle.csvw_columns.specs.declared.plan.TablePlan.{TablePlan}
@@ -47,7 +47,7 @@ gave_part gains cuts is_open failed ts old new fault.Closed f ends =
       λ begun room. absurd (never begun),
     )
 
--- and where the row is one of a table whose columns are known
+-- and the same if the row is one of a table whose columns are known
 pub gave_row : {S : Type 0} (gains : S → List Triple → S → Type 0) (cuts : S → Triple → S → Type 0) (is_open : S → Bool) (failed : S → ℕ)
     (mode : Mode) (t : ℕ) (known : Option Columns) (columns : Columns) (row : Row) (old new : S) (e : SinkFault) (r : Result Unit Stop) (f : Stop)
     → known ≡ Some columns → r ≡ Err f → f ≡ of_fault e
@@ -112,7 +112,7 @@ row_behind false rows more row = refl
 pub adds_none : (t : ℕ) (book : KeyBook) → AddsRows t [] book book
 adds_none t book rules tables k = subst (KeepsKeys book rules) (λ i n. no_rows_at (nat_eq t n) (tables n) i) k
 
--- a row behind others
+-- a row after others
 pub adds_row : (t : ℕ) (more : List Row) (row : Row) (first old new : KeyBook) → AddsRows t more first old
     → ((rules : List KeyRule) (tables : ℕ → List Row) → KeepsKeys old rules tables → KeepsKeys new rules (with_row tables t row))
     → AddsRows t (more ++ row ∷ []) first new
@@ -140,7 +140,7 @@ module _ {S : Type 0} (gains : S → List Triple → S → Type 0) (cuts : S →
   }
 
   module _ (first : Table) (start : Outlets S) where
-    -- what was given goes on where the table does
+    -- the rows that were given grow with the table
     took_on : (old new : Table) (now : Outlets S) → KeepsColumns old new → (g : Gone gains plan mode bytes ended given rows first old start now)
         → gains start.sink (table_triples mode plan.number new.head.columns g.more) now.sink
     took_on old new now stay g =
@@ -350,7 +350,7 @@ module _ {S : Type 0} (gains : S → List Triple → S → Type 0) (cuts : S →
     )
     sink_stops law old mid new now after row other keeps goes same gave ready g = absurd gave
 
-    -- an answer that tells a stop
+    -- a result that is a stop
     pub outcome_err : (new : Table) (now : Outlets S) (r : Result Unit Stop) (e f : Stop) → r ≡ Err e → e ≡ f
         → TableOutcome gains cuts is_open failed plan mode bytes ended given rows first new start now (Err f)
         → TableOutcome gains cuts is_open failed plan mode bytes ended given rows first new start now r

@@ -1,8 +1,8 @@
--- How what is known of a header goes on with a row of the source.
+-- How the state of a header changes with a row of the source.
 use Rattle.std.proofs.Common.{◌≡◌, ◌≢◌, ◌<◌, ◌≤◌, ◌+◌, ℕ, zero, suc, List, [], ◌∷◌, ◌++◌, refl, sym, ap, ◌∙◌, subst, arith, map, length, Some, None}
 use Rattle.std.proofs.Common.{Result, Ok, Err}
 use Rattle.std.proofs.lemmas.List.{take_all, take-append-le, length-append, map-append, length-map}
-use Rattle.csvw_text.specs.declared.fault.Fault.{Fault}
+use Rattle.csvw_fault.specs.declared.fault.Fault.{Fault}
 use Rattle.csvw_records.specs.RowValue.{Given}
 use Rattle.csvw_columns_core.specs.declared.columns.Columns.{Columns}
 use Rattle.csvw_columns.specs.HeaderMatch.{IsMatch}
@@ -41,7 +41,7 @@ width_on zero [] raw h = absurd (omega arith)
 width_on zero (g ∷ given) raw h = refl
 width_on (suc n) given raw h = refl
 
--- rows behind the header leave it as it is
+-- rows after the header leave it as it is
 pub heads_on : (plan : TablePlan) (given : List Given) (raw : Given) (columns : Columns) (faults : List Fault) → needed (header_count plan) ≤ length given
     → Heads plan given columns faults → Heads plan (given ++ raw ∷ []) columns faults
 heads_on plan given raw columns faults enough h =

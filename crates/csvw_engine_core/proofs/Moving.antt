@@ -1,7 +1,7 @@
 -- How a table takes more of its text, or its end.
 use Rattle.std.proofs.Common.{◌≡◌, ◌⊎◌, ℕ, Bool, false, List, [], ◌++◌, refl, sym, ◌∙◌, subst, append-nil, Some, None, Result, Ok, Err, inl, inr}
 use Rattle.csvw_records.specs.FirstRows.{AreFirst}
-use Rattle.csvw_rows.specs.Laws.{GivenFirstLater}
+use Rattle.csvw_rows.specs.GivenLaws.{GivenFirstLater}
 use Rattle.csvw_records.specs.RowValue.{Given}
 use Rattle.csvw_rows.specs.RowsState.{Holds, stop_of}
 use Rattle.csvw_rows.specs.declared.rows.Rows.{Rows}

@@ -1,4 +1,4 @@
--- Stops of a table's calls are its own.
+-- The stops of a table's calls have its number.
 use Rattle.std.proofs.Common.{◌≡◌, ◌∙◌, ℕ, refl, sym, ap, subst, inl, inr, Result, Ok, Err, Bool, List}
 use Rattle.std.specs.Prelude.{IfErr}
 use Rattle.csvw_records.specs.declared.stop.RowStop.{RowStop}
@@ -11,7 +11,7 @@ use Rattle.csvw_engine_core.specs.declared.stop.Stop.{Stop}
 use Rattle.csvw_engine_core.specs.declared.stop.Stop.TheVariants as stop
 use Rattle.csvw_engine_core.specs.declared.table.Table.{Table}
 
--- an answer that tells a stop of the table
+-- a result that is a stop of the table
 pub own_err : (t : ℕ) (r : Result Unit Stop) (e f : Stop) → r ≡ Err e → e ≡ f → IsOf t f → IfErr r (λ reason. IsOf t reason)
 own_err t r e f p q own = subst (λ z. IfErr z (λ reason. IsOf t reason)) (sym (p ∙ ap Err q)) own
 

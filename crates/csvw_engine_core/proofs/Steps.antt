@@ -1,9 +1,9 @@
--- How a table goes on with a row of the source.
+-- How a table changes with a row of the source.
 use Rattle.std.proofs.Common.{◌≡◌, ◌≢◌, ◌<◌, ◌≤◌, ◌+◌, ℕ, suc, Bool, List, [], ◌∷◌, ◌++◌, refl, sym, ap, ◌∙◌, subst, arith, map, length, take, drop}
 use Rattle.std.proofs.Common.{Option, Some, None, inl, inr, Result, Ok, Err}
 use Rattle.std.proofs.lemmas.List.{drop_all, drop-append-le}
-use Rattle.csvw_text.specs.declared.fault.Fault.{Fault}
-use Rattle.csvw_rows.specs.Laws.{GivenFirst}
+use Rattle.csvw_fault.specs.declared.fault.Fault.{Fault}
+use Rattle.csvw_rows.specs.GivenLaws.{GivenFirst}
 use Rattle.csvw_records.specs.RowValue.{Given}
 use Rattle.csvw_rows.specs.RowsState.{Gives as GivesRow, Stays, IsDone, IsStopped as RowsStopped, unread}
 use Rattle.csvw_rows.specs.declared.rows.Rows.{Rows}
@@ -41,7 +41,7 @@ annotated_more columns (r ∷ raws) rows raw row h is =
     (h.0, h.1 ++ row ∷ [], ap (λ z. z ++ row ∷ []) h.2, h.3, annotated_more columns raws h.1 raw row h.4 is)
 
 module _ (plan : TablePlan) (given : List Given) (raw : Given) where
-  -- a data row behind the header
+  -- a data row after the header
   pub rows_on : (columns : Columns) (rows : List Row) (row : Row) → needed (header_count plan) ≤ length given → IsRow columns raw row
       → AreAnnotated columns (data_rows plan given) rows → AreAnnotated columns (data_rows plan (given ++ raw ∷ [])) (rows ++ row ∷ [])
   rows_on columns rows row enough is h =
@@ -49,7 +49,7 @@ module _ (plan : TablePlan) (given : List Given) (raw : Given) where
       subst (λ z. AreAnnotated columns z (rows ++ row ∷ [])) (sym (drop-append-le (header_count plan) given (raw ∷ []) above))
       (annotated_more columns (data_rows plan given) rows raw row h is)
 
-  -- a header row gives no row
+  -- a header row makes no row of the table
   pub rows_wait : (columns : Option Columns) (rows : List Row) → length given < needed (header_count plan) → 0 < header_count plan → rows ≡ []
       → HasRows plan columns (given ++ raw ∷ []) rows
   rows_wait None rows short some none = none
@@ -176,7 +176,7 @@ module _ (plan : TablePlan) (old new : Table) (raw : Given) (gives : GivesRow ol
             (first_row plan given raw old.head columns rows row without h.head none empty is)) h,
       )
 
--- all rows were given, and no stop stands
+-- all rows were given, and there is no stop
 pub nothing_taken : (plan : TablePlan) (old new : Table) → Stays old.rows new.rows → IsDone old.rows → new.head ≡ old.head → new.number ≡ old.number
     → new.mode ≡ old.mode
     → (mode : Mode) (bytes : List ℕ) (ended : Bool) (given : List Given) (rows : List Row) → TableHolds plan mode old bytes ended given rows
@@ -283,7 +283,7 @@ module _ (plan : TablePlan) (old : Table) (new : Rows) (raw : Given) (gives : Gi
   )
   first_row_refused columns other head none without s known refusal = absurd refusal
 
--- the table where a row came before the columns were known
+-- the table after a row that came before the columns were known
 module _ (plan : TablePlan) (old new : Table) (raw : Given) (gives : GivesRow old.rows new.rows raw) (law : GivenFirst) (forms : FormsLaw)
     (none : old.head.columns ≡ None)
     (ended : is_ended new ≡ is_ended old) (less : unread new.rows < unread old.rows) (faults : new.faults ≡ old.faults)

@@ -1,6 +1,7 @@
--- Annotated tables, and which rows a table refuses (Model for Tabular Data, sections 4.1 to 4.5 and 8).
+-- Annotated tables, and which rows a table refuses: `IsTable`, `IsWholeTable`, `Refuses` (Model for Tabular Data, sections 4.1 to
+-- 4.5 and 8).
 use Rattle.std.specs.Prelude.{◌≡◌, ◌⊎◌, ◌<◌, ◌≤◌, ◌+◌, ℕ, zero, suc, List, [], ◌∷◌, ◌++◌, length, map, take, drop, Option, Some, None}
-use Rattle.csvw_text.specs.declared.fault.Fault.{Fault}
+use Rattle.csvw_fault.specs.declared.fault.Fault.{Fault}
 use Rattle.csvw_records.specs.RowValue.{Given}
 use Rattle.csvw_columns_core.specs.declared.header.HeaderRow.{HeaderRow}
 use Rattle.csvw_columns_core.specs.declared.columns.Columns.{Columns}
@@ -18,14 +19,14 @@ header_count plan = plan.dialect.header_row_count
 abbrev pub header_row : Given → HeaderRow
 header_row raw = record { source = raw.source; cells = raw.fields }
 
--- the first rows of the source are header rows, the rest are data rows
+-- the first rows of the source are header rows, and the rest are data rows
 abbrev pub header_rows : TablePlan → List Given → List HeaderRow
 header_rows plan given = map header_row (take (header_count plan) given)
 
 abbrev pub data_rows : TablePlan → List Given → List Given
 data_rows plan given = drop (header_count plan) given
 
--- the number of fields of the first data row, where it is the first row of all
+-- the number of fields of the first data row, if it is the first row of all
 abbrev pub first_width : ℕ → List Given → Option ℕ
 first_width zero [] = None
 first_width zero (raw ∷ raws) = Some (length raw.fields)
@@ -36,16 +37,16 @@ abbrev pub first_source : List Given → ℕ
 first_source [] = 0
 first_source (raw ∷ raws) = raw.source
 
--- the source number of the first header row; this one where there is none
+-- the source number of the first header row, or this one if there is none
 abbrev pub source_of : List HeaderRow → ℕ → ℕ
 source_of [] source = source
 source_of (row ∷ rows) source = row.source
 
--- the columns that the header of these rows gives, and what is wrong with it
+-- the columns that the header of these rows makes, and the faults of the header
 abbrev pub Heads : TablePlan → List Given → Columns → List Fault → Type 0
 Heads plan given columns faults = IsMatch plan (header_rows plan given) (first_width (header_count plan) given) columns faults
 
--- these header rows give no columns, and this is why
+-- these header rows make no columns, for this reason
 abbrev pub GivesNone : TablePlan → List HeaderRow → Option ℕ → TableStop → Type 0
 GivesNone plan rows width table_stop.TooManyColumns = IsWithin plan rows width → ⊥
 GivesNone plan rows width table_stop.DuplicateName = IsRepeated plan rows width
@@ -61,17 +62,17 @@ AreAnnotated columns [] rows = rows ≡ []
 AreAnnotated columns (raw ∷ raws) rows =
     (row : Row) × (rest : List Row) × (rows ≡ row ∷ rest) × IsRow columns raw row × AreAnnotated columns raws rest
 
--- so many rows tell the columns: the header rows, or where there are none the first data row
+-- how many rows make the columns known: the header rows or, without them, the first data row
 abbrev pub needed : ℕ → ℕ
 needed zero = 1
 needed (suc n) = suc n
 
--- what is known of the header: nothing before enough rows are there, then the columns and the header faults
+-- the header so far: nothing until enough rows were read, and then the columns and the faults of the header
 abbrev pub IsHead : TablePlan → List Given → Option Columns → List Fault → Type 0
 IsHead plan given None faults = (length given < needed (header_count plan)) × (faults ≡ [])
 IsHead plan given (Some columns) faults = (needed (header_count plan) ≤ length given) × Heads plan given columns faults
 
--- the rows of the table, of which there are none before the columns are known
+-- the rows of the table; there are none before the columns are known
 abbrev pub HasRows : TablePlan → Option Columns → List Given → List Row → Type 0
 HasRows plan None given rows = rows ≡ []
 HasRows plan (Some columns) given rows = AreAnnotated columns (data_rows plan given) rows
@@ -86,14 +87,14 @@ pub record IsWholeTable (plan : TablePlan) (given : List Given) (columns : Colum
   pub head : Heads plan given columns faults
   pub has : AreAnnotated columns (data_rows plan given) rows
 
--- the next row hasn't one field for each column that isn't virtual
+-- the next row does not have one field for each column that is not virtual
 pub record IsRagged (columns : Columns) (raw : Given) (row : ℕ) (stop : TableStop) : Type 0 where
   pub ragged : Fits columns raw → ⊥
   pub stop_is : stop ≡ table_stop.RaggedRow
   pub row_is : row ≡ raw.source
 
--- with the next row the header is there, and is refused in its first row; or without header rows it gives columns that this row, the first,
--- doesn't fit
+-- the next row completes the header, which is refused in its first row; or there are no header rows, and this first row does not fit the
+-- columns that it makes
 abbrev pub RefusesFirst : TablePlan → List Given → Given → ℕ → TableStop → Type 0
 RefusesFirst plan given raw row stop =
     (RefusesHeader plan (given ++ raw ∷ []) stop × (row ≡ first_source (given ++ raw ∷ [])))

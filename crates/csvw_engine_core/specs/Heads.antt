@@ -1,4 +1,4 @@
--- What is known of a header, and how it goes on.
+-- The state of a header, and how each row changes it.
 use Rattle.std.specs.Prelude.{◌≡◌, ◌<◌, ◌+◌, ℕ, List, [], ◌∷◌, ◌++◌, length, map, Option, Some, None, Result, Ok, Err}
 use Rattle.csvw_records.specs.RowValue.{Given}
 use Rattle.csvw_columns_core.specs.declared.columns.Columns.{Columns}
@@ -14,18 +14,18 @@ pub record IsNewHead (head : Head) : Type 0 where
   pub columns : head.columns ≡ None
   pub faults : head.faults ≡ []
 
--- the header of these rows of the source
+-- the state is that of the header of these rows of the source
 pub record HeadHolds (plan : TablePlan) (head : Head) (given : List Given) : Type 0 where
   pub known : IsHead plan given head.columns head.faults
   pub waits : head.columns ≡ None → head.rows ≡ map header_row given
 
--- the columns are there
+-- the columns are known
 pub record Settled (plan : TablePlan) (width : Option ℕ) (old new : Head) : Type 0 where
   pub columns : Columns
   pub is : new.columns ≡ Some columns
   pub gives : IsMatch plan old.rows width columns new.faults
 
--- after the columns were made; of want of memory nothing is said
+-- after the columns were made; after Memory nothing is said
 abbrev pub Settles : TablePlan → Option ℕ → ℕ → Head → Head → Result Unit Stop → Type 0
 Settles plan width source old new (Ok u) = Settled plan width old new
 Settles plan width source old new (Err stop.Memory) = Unit {0}

@@ -5,7 +5,7 @@ use Rattle.csvw_columns_core.specs.Sound.{AreSound}
 use Rattle.csvw_columns_core.specs.Sound.{AreSound-prop}
 use mathlib.Core.HLevel.{Unit-prop}
 
--- the datatype of each column has passed its check, where the columns are known
+-- if the columns are known, the datatype of each has passed its check
 abbrev pub AreSoundIf : Option Columns → Type 0
 AreSoundIf None = Unit {0}
 AreSoundIf (Some columns) = AreSound columns.columns

@@ -1,4 +1,4 @@
--- What a row of the source is to a table.
+-- How a row of its source changes a table.
 use Rattle.std.specs.Prelude.{◌≡◌, ◌⊎◌, ◌<◌, length, Some, Result, Ok, Err}
 use Rattle.csvw_records.specs.RowValue.{Given}
 use Rattle.csvw_columns_core.specs.declared.columns.Columns.{Columns}
@@ -13,14 +13,14 @@ use Rattle.csvw_engine_core.specs.declared.head.Head.{Head}
 use Rattle.csvw_engine_core.specs.declared.step.Step.{Step}
 use Rattle.csvw_engine_core.specs.declared.step.Step.TheVariants as step
 
--- a row is annotated, or refused; of want of memory nothing is said
+-- a row is annotated or refused; after Memory nothing is said
 abbrev pub AnnotatesRow : TablePlan → Columns → Given → Result Row Stop → Type 0
 AnnotatesRow plan columns raw (Ok row) = IsRow columns raw row
 AnnotatesRow plan columns raw (Err stop.Memory) = Unit {0}
 AnnotatesRow plan columns raw (Err (stop.Table table row reason)) = (table ≡ plan.number) × IsRagged columns raw row reason
 AnnotatesRow plan columns raw (Err other) = ⊥
 
--- a row is annotated by the columns that the header gave just now
+-- a row is annotated by the columns that the header has just made
 pub record AnnotatesFirst (plan : TablePlan) (raw : Given) (old new : Head) (result : Result Row Stop) : Type 0 where
   pub without : header_count plan ≡ 0
   pub settled : Settled plan (Some (length raw.fields)) old new
@@ -28,14 +28,14 @@ pub record AnnotatesFirst (plan : TablePlan) (raw : Given) (old new : Head) (res
   pub known : new.columns ≡ Some columns
   pub annotates : AnnotatesRow plan columns raw result
 
--- why the first rows are refused: the header, or the first row
+-- the first rows are refused for this reason: the header, or the first row
 abbrev pub BeginsWrong : TablePlan → Given → Head → Head → Stop → Type 0
 BeginsWrong plan raw old new reason =
     ((0 < header_count plan) × TakesHeader plan raw old new (Err reason))
     ⊎ (((header_count plan ≡ 0) × Settles plan (Some (length raw.fields)) raw.source old new (Err reason))
     ⊎ AnnotatesFirst plan raw old new (Err reason))
 
--- after a row, where the columns weren't known
+-- after a row that came before the columns were known
 abbrev pub Begins : TablePlan → Given → Head → Head → Result Step Stop → Type 0
 Begins plan raw old new (Ok (step.Row row)) = AnnotatesFirst plan raw old new (Ok row)
 Begins plan raw old new (Ok step.Header) = (0 < header_count plan) × TakesHeader plan raw old new (Ok tt)

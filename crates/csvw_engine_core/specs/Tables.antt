@@ -1,6 +1,6 @@
--- What the state of a table stands for, and how it goes on.
+-- The state of a table, and how each piece of its text changes it.
 use Rattle.std.specs.Prelude.{◌≡◌, ◌⊎◌, ◌<◌, ◌^◌, ◌-◌, ℕ, ◌+◌, Bool, true, false, List, [], ◌∷◌, ◌++◌, flat_map, length, Option, Some, None, Result, Ok, Err}
-use Rattle.csvw_text.specs.declared.fault.Fault.{Fault}
+use Rattle.csvw_fault.specs.declared.fault.Fault.{Fault}
 use Rattle.csvw_records.specs.Files.{IsWhole}
 use Rattle.csvw_records.specs.FirstRows.{AreFirst}
 use Rattle.csvw_records.specs.RowValue.{Given}
@@ -37,11 +37,11 @@ max_rows = 4_000_000_000
 abbrev pub is_ended : Table → Bool
 is_ended t = is_ended_of t.rows
 
--- the columns, once they are known, and what is wrong with the header and the cells
+-- the columns, once they are known, and the faults of the header and the cells
 abbrev pub columns_of : Table → Option Columns
 columns_of t = t.head.columns
 
--- The text so far gave these rows of the source, which are these rows of the table.
+-- The text so far made these rows of the source, and they are these rows of the table.
 pub record TableHolds (plan : TablePlan) (mode : Mode) (t : Table) (bytes : List ℕ) (ended : Bool) (given : List Given) (rows : List Row) : Type 0 where
   pub number_is : t.number ≡ plan.number
   pub mode_is : t.mode ≡ mode
@@ -49,13 +49,13 @@ pub record TableHolds (plan : TablePlan) (mode : Mode) (t : Table) (bytes : List
   pub head : HeadHolds plan t.head given
   pub has : HasRows plan t.head.columns given rows
 
--- nothing was read
+-- nothing was read yet
 pub record IsNewTable (plan : TablePlan) (mode : Mode) (t : Table) : Type 0 where
   pub not_ended : is_ended t ≡ false
   pub holds : TableHolds plan mode t [] false [] []
   pub no_faults : t.faults ≡ []
 
--- the columns stay, once they are known
+-- columns that are known stay the same
 abbrev pub KeepsColumns : Table → Table → Type 0
 KeepsColumns old new = (columns : Columns) → old.head.columns ≡ Some columns → new.head.columns ≡ Some columns
 
@@ -64,30 +64,30 @@ abbrev pub RowFits : Option Columns → Row → Type 0
 RowFits None row = ⊥
 RowFits (Some columns) row = (length row.cells ≡ length columns.columns) × HasForms row
 
--- what the table is goes on with one row of the source more
+-- one more row of the source changes the rows of the table in this way
 abbrev pub Goes : TablePlan → Table → Table → (List Row → List Row) → Type 0
 Goes plan old new on = (mode : Mode) (bytes : List ℕ) (ended : Bool) (given : List Given) (rows : List Row) → TableHolds plan mode old bytes ended given rows
     → (raw : Given) × TableHolds plan mode new bytes ended (given ++ raw ∷ []) (on rows)
 
--- all rows of the text so far were given, and no stop stands
+-- all rows of the text so far were given, and there is no stop
 pub record IsAtRest (plan : TablePlan) (bytes : List ℕ) (ended : Bool) (given : List Given) : Type 0 where
   pub all : HasGiven plan.dialect max_rows bytes ended given
   pub no_stop : NoStop plan.dialect max_rows bytes ended
   pub whole : ended ≡ true → IsWhole plan.dialect max_rows bytes
 
--- all rows of the text so far were given, and behind them it stops
+-- all rows of the text so far were given, and the text stops after them
 pub record IsStopped (plan : TablePlan) (bytes : List ℕ) (ended : Bool) (given : List Given) (row : ℕ) (stop : RowStop) : Type 0 where
   pub all : HasGiven plan.dialect max_rows bytes ended given
   pub stops : StopOf plan.dialect max_rows bytes ended stop row
 
--- behind the rows that were given comes one that the table refuses
+-- after the rows that were given comes one that the table refuses
 pub record IsRefused (plan : TablePlan) (columns : Option Columns) (bytes : List ℕ) (ended : Bool) (given : List Given) (row : ℕ)
     (stop : TableStop) : Type 0 where
   pub raw : Given
   pub first : AreFirst plan.dialect max_rows bytes ended (given ++ raw ∷ [])
   pub refuses : Refuses plan given columns raw row stop
 
--- why a table stops in its text
+-- the reason for which a table stops in its text
 abbrev pub StopsTable : TablePlan → Table → Stop → Type 0
 StopsTable plan t stop.Memory = Unit {0}
 StopsTable plan t (stop.Rows table row reason) = (table ≡ plan.number)
@@ -106,7 +106,7 @@ pub record Keeps (old new : Table) : Type 0 where
   pub number : new.number ≡ old.number
   pub mode : new.mode ≡ old.mode
 
--- A step gives one row more, takes a header row, finds nothing, or stops. It makes what is unread less, or ends the search.
+-- A step gives one more row, takes a header row, finds nothing, or stops. After it less is unread, or the search ends.
 abbrev pub Steps : TablePlan → Table → Table → Result Step Stop → Type 0
 Steps plan old new (Ok (step.Row row)) = Keeps old new × (unread new.rows < unread old.rows) × RowFits new.head.columns row
     × Goes plan old new (λ rows. rows ++ row ∷ [])
@@ -116,12 +116,12 @@ Steps plan old new (Ok step.Nothing) = Keeps old new
     → TableHolds plan mode new bytes ended given rows × IsAtRest plan bytes ended given)
 Steps plan old new (Err reason) = (is_ended new ≡ is_ended old) × StopsTable plan old reason
 
--- the triples of rows of a table, of which there are none without columns
+-- the triples of rows of a table; without columns there are none
 abbrev pub table_triples : Mode → ℕ → Option Columns → List Row → List Triple
 table_triples mode t None rows = []
 table_triples mode t (Some columns) rows = flat_map (row_triples mode t columns) rows
 
--- after a row was given to the sink, and its faults were told
+-- after a row was given to the sink, and its faults were listed
 abbrev pub Gives : {S : Type 0} → (S → List Triple → S → Type 0) → (S → Triple → S → Type 0) → (S → Bool) → (S → ℕ) → List Triple → S → S
     → Result Unit Stop → Type 0
 Gives gains cuts is_open failed triples old new (Ok u) = gains old triples new × IsAsReady is_open failed old new
@@ -130,7 +130,7 @@ Gives gains cuts is_open failed triples old new (Err stop.Write) = FrontOf gains
     × (is_open new ≡ false) × (is_open old ≡ true → failed old < 2 ^ 64 - 1 → failed new ≡ failed old + 1)
 Gives gains cuts is_open failed triples old new (Err other) = ⊥
 
--- what rows go to: the sink for their triples, and the book for their keys
+-- the sink for the triples of rows, and the book for their keys
 pub record Outlets (S : Type 0) : Type 0 where
   pub sink : S
   pub keys : KeyBook
@@ -138,11 +138,11 @@ pub record Outlets (S : Type 0) : Type 0 where
 abbrev pub outlets : {S : Type 0} → S → KeyBook → Outlets S
 outlets sink keys = record { sink = sink; keys = keys }
 
--- the book took rows more of a table
+-- the book took these further rows of a table
 abbrev pub AddsRows : ℕ → List Row → KeyBook → KeyBook → Type 0
 AddsRows table more old new = (rules : List KeyRule) (tables : ℕ → List Row) → KeepsKeys old rules tables → KeepsKeys new rules (with_rows tables table more)
 
--- Rows more were given: the sink took their triples, the book their keys, and their faults were told.
+-- Further rows were given: the sink took their triples, the book took their keys, and their faults were listed.
 pub record Gone {S : Type 0} (gains : S → List Triple → S → Type 0) (plan : TablePlan) (mode : Mode) (bytes : List ℕ) (ended : Bool)
     (given : List Given) (rows : List Row) (old new : Table) (before now : Outlets S) : Type 0 where
   pub raws : List Given
@@ -159,8 +159,8 @@ pub record GivesAll {S : Type 0} (gains : S → List Triple → S → Type 0) (p
   pub gone : Gone gains plan mode bytes ended given rows old new before now
   pub at_rest : IsAtRest plan bytes ended (given ++ gone.raws)
 
--- Some of the rows were given, of the last of them perhaps a front of its triples. Where the device failed, it failed within the
--- triple after these.
+-- Some of the rows were given, perhaps with a front of the triples of the last one. If the device failed, it failed within the triple after
+-- these.
 pub record GivesSome {S : Type 0} (gains : S → List Triple → S → Type 0) (cuts : S → Triple → S → Type 0) (plan : TablePlan) (mode : Mode)
     (bytes : List ℕ) (ended : Bool) (given : List Given) (rows : List Row) (before now : S) (Fails : Type 0) : Type 0 where
   pub raws : List Given
@@ -171,7 +171,7 @@ pub record GivesSome {S : Type 0} (gains : S → List Triple → S → Type 0) (
   pub table : IsTable plan (given ++ raws) columns faults (rows ++ more)
   pub took : FrontOf gains cuts before (table_triples mode plan.number columns more) now Fails
 
--- All rows in front of a stop were given.
+-- All rows before a stop were given.
 pub record GivesFront {S : Type 0} (gains : S → List Triple → S → Type 0) (plan : TablePlan) (mode : Mode) (bytes : List ℕ) (ended : Bool)
     (given : List Given) (rows : List Row) (before now : S) (Why : Option Columns → List Given → Type 0) : Type 0 where
   pub raws : List Given
@@ -182,7 +182,7 @@ pub record GivesFront {S : Type 0} (gains : S → List Triple → S → Type 0) 
   pub why : Why columns (given ++ raws)
   pub took : gains before (table_triples mode plan.number columns more) now
 
--- what a call leaves, by its answer
+-- the state after a call, by its result
 abbrev pub TableOutcome : {S : Type 0} → (S → List Triple → S → Type 0) → (S → Triple → S → Type 0) → (S → Bool) → (S → ℕ) → TablePlan → Mode
     → List ℕ → Bool → List Given → List Row → Table → Table → Outlets S → Outlets S → Result Unit Stop → Type 0
 TableOutcome gains cuts is_open failed plan mode bytes ended given rows old new before now (Ok u) =
@@ -211,7 +211,7 @@ pub record HoldsWhole (plan : TablePlan) (mode : Mode) (t : Table) (bytes : List
   pub columns_are : t.head.columns ≡ Some columns
   pub table : IsWholeTable plan given columns t.head.faults rows
 
--- Rows more were given, and these are all.
+-- Further rows were given, and they are all that are left.
 pub record GivesWhole {S : Type 0} (gains : S → List Triple → S → Type 0) (plan : TablePlan) (mode : Mode) (bytes : List ℕ) (rows : List Row)
     (old new : Table) (before now : Outlets S) : Type 0 where
   pub more : List Row
@@ -221,12 +221,12 @@ pub record GivesWhole {S : Type 0} (gains : S → List Triple → S → Type 0) 
   pub told : new.faults ≡ old.faults ++ table_faults plan.number new.head.columns more
   pub keeps : KeepsColumns old new
 
--- behind the rows that were given comes one that the table refuses, or the text ended before all header rows, and they are refused
+-- after the rows that were given comes one that the table refuses; or the text ended before all header rows, and these are refused
 abbrev pub IsRefusedAtEnd : TablePlan → Option Columns → List ℕ → List Given → ℕ → TableStop → Type 0
 IsRefusedAtEnd plan columns bytes given row stop =
     IsRefused plan columns bytes true given row stop ⊎ (IsAtRest plan bytes true given × (columns ≡ None) × RefusesEnd plan given row stop)
 
--- what the end of a text leaves, by its answer
+-- the state after the end of a text, by the result
 abbrev pub EndOutcome : {S : Type 0} → (S → List Triple → S → Type 0) → (S → Triple → S → Type 0) → (S → Bool) → (S → ℕ) → TablePlan → Mode → List ℕ
     → List Given → List Row → Table → Table → Outlets S → Outlets S → Result Unit Stop → Type 0
 EndOutcome gains cuts is_open failed plan mode bytes given rows old new before now (Ok u) =
@@ -244,7 +244,7 @@ EndOutcome gains cuts is_open failed plan mode bytes given rows old new before n
     × IsAsReady is_open failed before.sink now.sink
 EndOutcome gains cuts is_open failed plan mode bytes given rows old new before now (Err other) = ⊥
 
--- after the end of the text, where the columns weren't known; of want of memory nothing is said
+-- after the end of a text whose columns were not known; after Memory nothing is said
 abbrev pub SettlesHead : TablePlan → Table → Table → Result Unit Stop → Type 0
 SettlesHead plan old new result = (new ≡ record old { head = new.head }) × Settles plan None 0 old.head new.head result
 
@@ -252,7 +252,7 @@ abbrev pub SettlesTable : TablePlan → Table → Table → Result Unit Stop →
 SettlesTable plan old new result = ((columns : Columns) × (old.head.columns ≡ Some columns) × (new ≡ old) × (result ≡ Ok tt)) ⊎
     ((old.head.columns ≡ None) × SettlesHead plan old new result)
 
--- what is wrong with the header of the table, and with its cells so far
+-- the faults of the header of the table, and those of its cells so far
 abbrev pub header_faults_of : Table → List Fault
 header_faults_of t = t.head.faults
 

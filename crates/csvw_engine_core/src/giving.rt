@@ -1,4 +1,7 @@
-//! How the rows of a table go on to the sink, and their keys to the book of keys.
+//! Gives the rows of a table to the sink, and their keys to the book of keys.
+//!
+//! `next_row` ends the loan of the row that the reader lends, and returns an owned step. The loop in this file
+//! calls it.
 ghost use Rattle.std.specs.Prelude.{◌≡◌, ◌++◌, ◌∷◌, [], ℕ, List, Bool, true, false, IfOk, IfErr, OnOk, Some, None};
 ghost use Rattle.csvw_records.specs.RowValue.{Given};
 ghost use Rattle.csvw_columns.specs.Ready.{IsReady};
@@ -10,14 +13,13 @@ ghost use Rattle.csvw_engine_core.specs.Tables.{RowFits, is_ended, Gives, TableH
 use crate::step::Step;
 use crate::stop::Stop;
 use crate::table::{Table, next_row};
-use csvw_annotate::Row;
+use csvw_annotate::{LinkRoom, Row};
 use csvw_columns::TablePlan;
 use csvw_keys::KeyBook;
-use csvw_links::LinkRoom;
 use csvw_rows::laws::{given_first, given_first_later};
 use csvw_triples_rows::{Emitter, TripleSink};
 
-/// Puts the triples of a row.
+/// Puts the triples of a row into the sink.
 fn give<S: TripleSink>(
     emitter: &mut Emitter,
     table: &Table,
@@ -37,7 +39,8 @@ fn give<S: TripleSink>(
     }
 }
 
-/// Gives each row that is complete, adds its keys, and tells its faults. The rows share the memory of one row, of one literal and of a few links.
+/// Gives each complete row to the sink, adds its keys, and lists its faults. The rows share the memory of one row,
+/// of one literal and of a few links.
 fn drain<S: TripleSink>(
     plan: &TablePlan,
     table: &mut Table,
@@ -71,7 +74,11 @@ fn drain<S: TripleSink>(
     }
 }
 
-/// Takes a piece of the table's text, and gives each row that is complete.
+/// Takes a piece of the table's text, and gives each complete row to the sink.
+///
+/// It fails with `Rows` or `Table` if a row can't be read or annotated, after all rows before it. These have the number
+/// of this table. It fails with `Write` if the sink's device failed or the sink was closed before, and with `Memory` if
+/// memory runs out.
 pub fn feed_table<S: TripleSink>(
     plan: &TablePlan,
     table: &mut Table,
@@ -95,7 +102,7 @@ pub fn feed_table<S: TripleSink>(
     }
 }
 
-/// Takes the end of the table's text, and gives each row that is left.
+/// Takes the end of the table's text, and gives each row that is left to the sink. It fails as `feed_table` does.
 pub fn end_table<S: TripleSink>(
     plan: &TablePlan,
     table: &mut Table,

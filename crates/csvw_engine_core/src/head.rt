@@ -1,4 +1,4 @@
-//! What is known of a table's header, row by row.
+//! The header of a table, as far as its rows were read.
 ghost use Rattle.std.specs.Prelude.{◌≡◌, IfOk};
 ghost use Rattle.csvw_rows.specs.RowValue.{row_of};
 ghost use Rattle.csvw_engine_core.specs.Annotated.{header_row, source_of};
@@ -6,25 +6,25 @@ ghost use Rattle.csvw_columns.specs.Ready.{IsReady};
 ghost use Rattle.csvw_engine_core.specs.Soundness.{AreSoundIf, AreSoundIf-prop};
 
 use crate::stop::Stop;
+use csvw_annotate::LinkedColumns;
 use csvw_columns::{HeaderRow, TablePlan, match_header};
-use csvw_links::LinkedColumns;
 use csvw_rows::RawRow;
 use csvw_text::{Fault, Seq, Text};
 use std::alloc::{AllocError, Global};
 
-/// What is known of a table's header.
+/// The header of a table, as far as its rows were read.
 #[derive(Drop)]
 pub(crate) struct Head {
     /// The header rows so far.
     pub(crate) rows: Seq<HeaderRow>,
-    /// The columns, once all header rows are there, or without header rows the first data row.
+    /// The columns. They are known after the last header row or, without header rows, from the first data row on.
     pub(crate) columns: Option<LinkedColumns>,
-    /// What is wrong with the header, once the columns are known.
+    /// The faults of the header, once the columns are known.
     pub(crate) faults: Seq<Fault>,
     ghost sound: { AreSoundIf columns } by { AreSoundIf-prop columns },
 }
 
-/// The header row that a row of the source is.
+/// Makes a row of the source a header row.
 fn header_row(alloc: Global, raw: &RawRow) -> Result<HeaderRow, AllocError>
     ensures { IfOk result (λ h. h ≡ header_row (row_of raw.now)) }
 {
@@ -38,7 +38,7 @@ fn header_row(alloc: Global, raw: &RawRow) -> Result<HeaderRow, AllocError>
     })
 }
 
-/// The source number of the first of these rows; this one where there is none.
+/// Returns the source number of the first of these rows, or `source` if there are none.
 fn source_of(rows: &[HeaderRow], source: u64) -> u64
     ensures { result ≡ source_of rows.now source }
 {
@@ -51,7 +51,7 @@ fn source_of(rows: &[HeaderRow], source: u64) -> u64
 impl Head {
     ghost use Rattle.csvw_engine_core.specs.Heads.{IsNewHead, Settles, TakesHeader};
 
-    /// Nothing is known.
+    /// Makes a header of which nothing is known.
     pub(crate) fn new(alloc: Global) -> Head
         ensures { IsNewHead result }
     {
@@ -62,8 +62,8 @@ impl Head {
         }
     }
 
-    /// Makes the columns from the header rows so far, or without any from the number of fields of the first data row, which has
-    /// this source number.
+    /// Makes the columns from the header rows so far. Without header rows it makes them from the number of fields
+    /// of the first data row, which has this source number.
     pub(crate) fn settle(
         &mut self,
         alloc: Global,
@@ -87,7 +87,7 @@ impl Head {
         }
     }
 
-    /// Takes a header row; with the last one the columns are known.
+    /// Takes a header row. After the last one the columns are known.
     pub(crate) fn take(&mut self, alloc: Global, plan: &TablePlan, raw: &RawRow) -> Result<(), Stop>
         requires { IsReady plan.now }
         ensures { TakesHeader plan.now (row_of raw.now) self.old self.new result }

@@ -1,4 +1,4 @@
-//! One row of the source more: what it is to the table.
+//! One more row of the source: a header row or a data row of the table.
 ghost use Rattle.csvw_columns_core.specs.declared.columns.Columns.{Columns};
 ghost use Rattle.csvw_annotate.specs.Annotated.{Annotates};
 ghost use Rattle.csvw_rows.specs.RowValue.{row_of};
@@ -7,23 +7,22 @@ ghost use Rattle.csvw_engine_core.specs.Stepping.{AnnotatesRow, Begins};
 
 use crate::head::Head;
 use crate::stop::Stop;
-use csvw_annotate::{Row, annotate_into};
+use csvw_annotate::{LinkRoom, Row, annotate_into};
 use csvw_columns::{TablePlan, TableStop};
-use csvw_links::LinkRoom;
 use csvw_rows::RawRow;
 use std::alloc::Global;
 
-/// What came of one call of the reader.
+/// The result of one call of the reader.
 pub(crate) enum Step {
     /// The next row.
     Row(Row),
     /// A header row.
     Header,
-    /// No row is complete.
+    /// No further row is complete.
     Nothing,
 }
 
-/// The annotated row, or the stop of the table that a row is which can't be annotated.
+/// Returns the annotated row, or the stop of the table if the row can't be annotated.
 pub(crate) fn annotated(
     plan: &TablePlan,
     raw: &RawRow,
@@ -38,7 +37,7 @@ pub(crate) fn annotated(
 }
 
 impl Head {
-    /// Takes a row where the columns aren't known yet: a header row, or where there are none the first data row.
+    /// Takes a row while the columns are not known: a header row or, without header rows, the first data row.
     pub(crate) fn begin(
         &mut self,
         alloc: Global,

@@ -1,4 +1,4 @@
-//! Why a run or a session stops.
+//! The reasons for which a run or a session stops.
 
 ghost use Rattle.std.specs.Prelude.{◌≡◌, IfOk};
 ghost use Rattle.csvw_engine_core.specs.Stops.{of_fault, of_row_stop, of_table_stop};
@@ -14,46 +14,46 @@ use std::fmt;
 /// Why a run or a session stops.
 #[derive(Debug, Drop, PartialEq, Eq)]
 pub enum Stop {
-    /// There is no memory.
+    /// Memory ran out.
     Memory,
     /// A reader failed in this call, or 2^40 reads were made.
     Read,
-    /// A writer failed in this call.
+    /// A writer failed in this call, or the sink of a session was closed before.
     Write,
     /// The metadata document has this fault.
     Meta(MetaFault),
-    /// Readers and tables differ in number.
+    /// The number of readers is not the number of tables.
     TableCount,
-    /// The text of a table stops being one in this row, by its source number from 1.
+    /// The text of a table can't be read from this row on.
     Rows {
         /// The table's number in its group, from 1.
         table: u32,
         /// The row's number in its source, from 1.
         row: u64,
-        /// Why.
+        /// What is wrong with the text.
         stop: RowStop,
     },
-    /// A table can't be annotated from this row on, by its source number from 1.
+    /// A table can't be annotated from this row on.
     Table {
         /// The table's number in its group, from 1.
         table: u32,
         /// The row's number in its source, from 1.
         row: u64,
-        /// Why.
+        /// What is wrong with the row or the header.
         stop: TableStop,
     },
     /// There is no table of this number.
     UnknownTable,
-    /// The table was ended, or the session finished.
+    /// The table was ended before, or the session was finished.
     AfterEnd,
-    /// Not all tables were ended.
+    /// A table was not ended yet.
     NotEnded,
-    /// The session stopped before.
+    /// The session stopped in an earlier call.
     Failed,
 }
 
 impl Stop {
-    /// An equal stop; `AllocError` where there is no memory.
+    /// Returns an equal stop. Fails with `AllocError` if memory runs out.
     pub fn clone(&self, alloc: Global) -> Result<Stop, AllocError>
         ensures { IfOk result (λ s. s ≡ self.now) }
     {
@@ -84,7 +84,7 @@ impl Stop {
         }
     }
 
-    /// A stop of the records of a table in this row; `Memory` is told as such.
+    /// Makes a stop of the records of a table in this row. `Memory` becomes `Stop::Memory`.
     pub(crate) fn of_row_stop(table: u32, row: u64, stop: RowStop) -> Stop
         ensures { result ≡ of_row_stop table row stop }
     {
@@ -94,7 +94,7 @@ impl Stop {
         }
     }
 
-    /// A stop of a table from this row on; `Memory` is told as such.
+    /// Makes a stop of a table from this row on. `Memory` becomes `Stop::Memory`.
     pub(crate) fn of_table_stop(table: u32, row: u64, stop: TableStop) -> Stop
         ensures { result ≡ of_table_stop table row stop }
     {
@@ -104,7 +104,7 @@ impl Stop {
         }
     }
 
-    /// The stop that a fault of the sink is.
+    /// Makes a fault of the sink a stop: `Memory` stays `Memory`, and `Device` and `Closed` become `Write`.
     pub fn of_fault(fault: SinkFault) -> Stop
         ensures { result ≡ of_fault fault }
     {

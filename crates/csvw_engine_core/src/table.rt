@@ -1,6 +1,10 @@
-//! The state of one table, and how a piece of its text goes on to the sink.
+//! The state of one table.
+//!
+//! `TableHolds` says of the state, for every text so far, which rows of the source it gave and which annotated rows
+//! they are. Header rows come first, as many as the dialect says, and then data rows. `feed_table` and `end_table`
+//! say by their results how that goes on (`TableOutcome`, `EndOutcome`). Nothing depends on where a piece ends.
 ghost use Rattle.std.specs.Prelude.{◌≡◌, ◌++◌, ◌∷◌, [], length, IfOk, OnOk};
-ghost use Rattle.csvw_dialect.specs.Lawful.{IsLawful};
+ghost use Rattle.csvw_records.specs.Lawful.{IsLawful};
 ghost use Rattle.csvw_engine_core.specs.Faults.{cell_faults, row_faults, table_faults};
 ghost use Rattle.csvw_columns.specs.Ready.{IsReady};
 ghost use Rattle.csvw_engine_core.specs.Tables.{IsNewTable, Steps, RowFits, SettlesTable, faults_of, header_faults_of, is_ended};
@@ -8,16 +12,15 @@ ghost use Rattle.csvw_engine_core.specs.Tables.{IsNewTable, Steps, RowFits, Sett
 use crate::head::Head;
 use crate::step::{Step, annotated};
 use crate::stop::Stop;
-use csvw_annotate::{Row, annotate_into, annotated_rows_have_forms};
+use csvw_annotate::{LinkRoom, Row, annotate_into, annotated_rows_have_forms};
 use csvw_columns::{Column, TablePlan};
-use csvw_links::LinkRoom;
 use csvw_rows::Rows;
 use csvw_rows::laws::given_first;
 use csvw_text::{Code, Fault, Kind, Place, Seq};
 use csvw_triples_rows::Mode;
 use std::alloc::{AllocError, Global};
 
-/// How many rows of all kinds a table has at most.
+/// How many rows of all kinds a table may have.
 const MAX_ROWS: u64 = 4_000_000_000;
 
 /// The state of one table.
@@ -27,18 +30,18 @@ pub struct Table {
     pub(crate) alloc: Global,
     /// Its number in its group, from 1.
     pub(crate) number: u32,
-    /// Which triples its rows give.
+    /// Which triples its rows make.
     pub(crate) mode: Mode,
-    /// Its text so far.
+    /// The reader of its text.
     pub(crate) rows: Rows,
-    /// What is known of its header.
+    /// Its header so far.
     pub(crate) head: Head,
-    /// What is wrong with its cells so far.
+    /// The faults of its cells so far.
     pub(crate) faults: Seq<Fault>,
 }
 
 impl Table {
-    /// A table of whose text nothing was read; `AllocError` where there is no memory.
+    /// Makes a table whose text was not read yet. Fails with `AllocError` if memory runs out.
     pub fn new(alloc: Global, plan: &TablePlan, mode: Mode) -> Result<Table, AllocError>
         requires { IsLawful plan.now.dialect }
         ensures { IfOk result (λ t. IsNewTable plan.now mode t) }
@@ -53,7 +56,7 @@ impl Table {
         })
     }
 
-    /// Whether its text has ended.
+    /// Returns whether its text has ended.
     pub fn is_ended(&self) -> bool
         ensures { result ≡ is_ended self.now }
     {
@@ -61,8 +64,8 @@ impl Table {
     }
 }
 
-/// Reads the next row of a table and annotates it in the memory of a row that is no longer needed and of earlier links. The loan of the reader ends
-/// here.
+/// Reads the next row of a table and annotates it. It uses the memory of a row that is no longer needed and of
+/// earlier links. The loan of the reader ends here.
 pub(crate) fn next_row(
     plan: &TablePlan,
     table: &mut Table,
@@ -91,16 +94,7 @@ pub(crate) fn next_row(
     }
 }
 
-fn add_all(faults: &mut Seq<Fault>, more: &[Fault]) -> Result<(), AllocError>
-    ensures { OnOk result (faults.new ≡ faults.old ++ more.now) }
-{
-    for fault in more {
-        faults.push(*fault)?;
-    }
-    Ok(())
-}
-
-/// Tells what is wrong with a cell.
+/// Lists the faults of a cell.
 fn tell_cell(faults: &mut Seq<Fault>, place: Place, codes: &[Code]) -> Result<(), AllocError>
     ensures { OnOk result (faults.new ≡ faults.old ++ cell_faults place codes.now) }
 {
@@ -114,7 +108,7 @@ fn tell_cell(faults: &mut Seq<Fault>, place: Place, codes: &[Code]) -> Result<()
     Ok(())
 }
 
-/// Tells what is wrong with the cells of a row.
+/// Lists the faults of the cells of a row.
 fn tell_row(
     faults: &mut Seq<Fault>,
     table: u32,
@@ -136,15 +130,16 @@ fn tell_row(
 }
 
 impl Table {
-    /// Adds what is wrong with its header, and then with its cells so far.
+    /// Adds the faults of its header, and then those of its cells so far. Fails with `AllocError` if memory runs
+    /// out.
     pub fn list_faults(&self, faults: &mut Seq<Fault>) -> Result<(), AllocError>
         ensures { OnOk result (faults.new ≡ faults.old ++ header_faults_of self.now ++ faults_of self.now) }
     {
-        add_all(faults, self.head.faults.as_slice())?;
-        add_all(faults, self.faults.as_slice())
+        faults.extend_from_slice(self.head.faults.as_slice())?;
+        faults.extend_from_slice(self.faults.as_slice())
     }
 
-    /// Tells what is wrong with the cells of a row.
+    /// Lists the faults of the cells of a row.
     pub(crate) fn tell(&mut self, row: &Row) -> Result<(), AllocError>
         requires { RowFits self.old.head.columns row.now }
         ensures same { self.new ≡ record self.old { faults = self.new.faults } }
@@ -162,7 +157,7 @@ impl Table {
         }
     }
 
-    /// Makes the columns, where the text ended before they were known.
+    /// Makes the columns if the text ended before they were known.
     pub(crate) fn settle(&mut self, plan: &TablePlan) -> Result<(), Stop>
         requires { IsReady plan.now }
         ensures { SettlesTable plan.now self.old self.new result }

@@ -1,4 +1,4 @@
--- What a call on a table means for the session.
+-- What a call for a table means for the session.
 use Rattle.std.proofs.Common.{◌≡◌, ◌<◌, ◌+◌, ℕ, Bool, true, false, List, [], ◌∷◌, ◌++◌, refl, sym, ap, ◌∙◌, subst, length, inl, inr, Option, None, Ok, Err}
 use Rattle.std.specs.Prelude.{slice_set}
 use Rattle.csvw_records.specs.RowValue.{Given}
@@ -22,7 +22,7 @@ use Rattle.csvw_session.specs.declared.state.State.TheVariants as state
 use Rattle.csvw_session.proofs.Standing.{stands_on, same_faults, faults_more}
 use Rattle.csvw_session.proofs.Texts.{fed_same, fed_other, fed_ended, end_text, end_same, end_other}
 
--- a table whose text hasn't ended
+-- a table whose text has not ended
 pub is_going : (plan : TablePlan) (mode : Mode) (t : Table) (bytes : List ℕ) (ended : Bool) (rows : List Row) → Told plan mode t bytes ended rows
     → is_ended t ≡ false
     → (ended ≡ false) × IsOpenTable plan mode t bytes rows
@@ -127,7 +127,7 @@ module _ {S : Type 0} (gains : S → List Triple → S → Type 0) (cuts : S →
         (λ j p given. GivesSome gains cuts p old.mode (text_of fed_events (i + 1)) (ended_in fed_events (i + 1)) given (h.rows j) old.sink new.sink Fails)
         (rw (fed_same events (i + 1) piece, fed_ended events (i + 1) (i + 1) piece, going_on) some)
 
-    -- those in front of a stop in it
+    -- those before a stop in it
     front_fed : (Why : List ℕ → Bool → TablePlan → Option Columns → List Given → Type 0)
         → GivesFront gains plan old.mode fed_text false (here start events h).1.given (h.rows i) old.sink new.sink (Why fed_text false plan)
         → GainsFront gains old new (i + 1) fed_events h.rows (Why (text_of fed_events (i + 1)) (ended_in fed_events (i + 1)))
@@ -154,7 +154,7 @@ module _ {S : Type 0} (gains : S → List Triple → S → Type 0) (cuts : S →
         Fails)
         (rw (end_text events (i + 1) (i + 1), end_same events (i + 1)) some)
 
-    -- those in front of a stop at it
+    -- those before a stop at it
     front_ended : (Why : List ℕ → Bool → TablePlan → Option Columns → List Given → Type 0)
         → GivesFront gains plan old.mode ended_text true (here start events h).1.given (h.rows i) old.sink new.sink (Why ended_text true plan)
         → GainsFront gains old new (i + 1) ended_events h.rows (Why (text_of ended_events (i + 1)) (ended_in ended_events (i + 1)))

@@ -5,12 +5,12 @@ use Rattle.std.proofs.lemmas.Option.{slice_get-get_or, slice_get_within, get_or_
 use Rattle.std.proofs.lemmas.List.{get_or-set_same, get_or-set_other}
 use Rattle.std.proofs.Math.ListN.{length-set}
 
--- what stands at the place that was replaced
+-- the element at the place that was replaced
 pub set_same : {X : Type 0} (xs : List X) (i : ℕ) (x y : X) → i < length xs → slice_get (slice_set xs i x) i ≡ Some y → y ≡ x
 set_same xs i x y below e =
     sym (get_or_from_slice_get (slice_set xs i x) i y x e) ∙ get_or-set_same xs i x x below
 
--- and elsewhere
+-- and at other places
 pub set_other : {X : Type 0} (xs : List X) (i j : ℕ) (x y : X) → j ≢ i → slice_get (slice_set xs i x) j ≡ Some y → slice_get xs j ≡ Some y
 set_other xs i j x y apart e =
     let within : j < length (slice_set xs i x) = slice_get_within (slice_set xs i x) j y e in

@@ -1,4 +1,4 @@
--- What is asked first of an event.
+-- The first reason for which an event is refused.
 use Rattle.std.proofs.Common.{◌≡◌, ◌≢◌, ◌<◌, ◌+◌, ℕ, true, false, refl, sym, ◌∙◌, subst, arith, length, inl, inr, Some, Result, Ok, Err}
 use Rattle.std.specs.Prelude.{slice_get}
 use Rattle.csvw_engine_core.specs.Stops.{IsOf}
@@ -13,7 +13,7 @@ pub has_table : {S : Type 0} (s : Session S) (t i : ℕ) → i + 1 ≡ t → i <
 has_table s t i number below (inl none) = omega (arith, number, none)
 has_table s t i number below (inr past) = omega (arith, number, below, past)
 
--- and one that takes events goes on
+-- and one that takes events is open
 not_over : {S : Type 0} (s : Session S) (t i : ℕ) → Checks s t (Ok i) → IsOver s t → ⊥
 not_over s t i k (inl finished) = let wrong : state.Finished ≡ state.Open = sym finished ∙ k.0 in cc
 not_over s t i k (inr w) =

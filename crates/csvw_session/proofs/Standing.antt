@@ -1,4 +1,4 @@
--- How a session goes on by an event of one of its tables.
+-- How a session changes with an event of one of its tables.
 use Rattle.std.proofs.Common.{◌≡◌, ◌≢◌, ◌⊎◌, ◌<◌, ◌≤◌, ◌+◌, ℕ, zero, suc, Bool, true, false, List, [], ◌++◌, refl, sym, ap, ◌∙◌, subst, arith}
 use Rattle.std.proofs.Common.{add-one, length, inl, inr, Option, Some, None}
 use Rattle.std.specs.Prelude.{slice_get, slice_set, Contains, if◌then◌else◌, nat_eq, flat_map, ◌==◌}
@@ -232,7 +232,7 @@ module _ {S : Type 0} (gains : S → List Triple → S → Type 0) (is_open : S 
       (subst (KeepsKeys new.keys (rules_of old.plan)) (λ k n. numbered_at stands.rows i more n k)
       (subst (λ n. KeepsKeys new.keys (rules_of old.plan) (with_rows (by_number stands.rows) n more)) number keeps_more))
 
-  -- the session stands for one event more
+  -- the session took one more event
   pub stands_on : new.state ≡ state.Open → gains old.sink more_triples new.sink → IsAsReady is_open failed old.sink new.sink
       → Stands gains is_open failed start events new
   stands_on state_is gained ready = record {

@@ -1,12 +1,12 @@
--- Events, and the texts that they make.
+-- Events of a session, and the texts of tables that they make: `table_of`, `text_of`, `ended_in`.
 use Rattle.std.specs.Prelude.{ℕ, ◌==◌, ◌||◌, Bool, false, if◌then◌else◌, List, [], ◌∷◌, ◌++◌}
 
--- what comes to a session: a piece of a table, or its end; tables have numbers from 1
+-- an event of a session: a piece of a table, or its end; tables have numbers from 1
 pub data Event : Type 0 where
   Feed : ℕ → List ℕ → Event
   End : ℕ → Event
 
--- the table that an event is of
+-- the table of an event
 abbrev pub table_of : Event → ℕ
 table_of (Feed t piece) = t
 table_of (End t) = t

@@ -1,4 +1,4 @@
--- How a session is finished.
+-- The result of finishing a session: `Finishes`, `IsUnfinishedInOrder`.
 use Rattle.std.specs.Prelude.{◌≡◌, ◌↔◌, ℕ, List, true, false, ◌++◌, Result, Ok, Err}
 use Rattle.std.specs.List.{list_all}
 use Rattle.std.specs.List.Sorted.{IsPermutation, IsSorted}
@@ -9,7 +9,7 @@ use Rattle.csvw_keys.specs.KeyRules.{AreKeyFaults, KeyRule}
 use Rattle.csvw_keys.specs.declared.key_book.KeyBook.{KeyBook}
 use Rattle.csvw_report.specs.Order.{fault_cmp}
 use Rattle.csvw_report.specs.declared.outcome.Outcome.{Outcome}
-use Rattle.csvw_text.specs.declared.fault.Fault.{Fault}
+use Rattle.csvw_fault.specs.declared.fault.Fault.{Fault}
 use Rattle.csvw_session.specs.Faults.{all_faults}
 use Rattle.csvw_session.specs.declared.session.Session.{Session}
 use Rattle.csvw_session.specs.declared.state.State.{State}
@@ -26,12 +26,12 @@ pub record IsIn {S : Type 0} (old new : Session S) (now : State) : Type 0 where
   pub keys : new.keys ≡ old.keys
   pub state_is : new.state ≡ now
 
--- what is wrong with the rows that the book keeps, by their keys
+-- the faults of the rows that the book keeps, by their keys
 abbrev pub TellsKeys : KeyBook → List Fault → Type 0
 TellsKeys book faults = (rules : List KeyRule) (tables : ℕ → List Row) → KeepsKeys book rules tables → AreKeyFaults rules tables faults
 
--- Each table was ended, and the outcome lists the warnings of the metadata, what is wrong with the tables, and what is wrong with
--- their rows by their keys, in order.
+-- Each table was ended. The outcome lists the warnings of the metadata, the faults of the tables, and the faults of their rows by their keys,
+-- in order.
 pub record HasOutcome {S : Type 0} (s : Session S) (outcome : Outcome) : Type 0 where
   pub ended : list_all is_ended s.tables.items ≡ true
   pub key_faults : List Fault
@@ -39,13 +39,13 @@ pub record HasOutcome {S : Type 0} (s : Session S) (outcome : Outcome) : Type 0 
   pub faults : IsPermutation ((s.plan.warnings ++ all_faults s.tables.items) ++ key_faults) outcome.faults
   pub sorted : IsSorted fault_cmp outcome.faults
 
--- the list of them, in this order
+-- the list of these faults, in this order
 pub record ListsFaults {S : Type 0} (s : Session S) (faults : List Fault) : Type 0 where
   pub key_faults : List Fault
   pub told : TellsKeys s.keys key_faults
   pub all : faults ≡ (s.plan.warnings ++ all_faults s.tables.items) ++ key_faults
 
--- exactly when a session isn't finished and goes on as it was, by what is asked first
+-- why a session is not finished and stays as it was, by the first reason that is true
 pub record IsUnfinishedInOrder {S : Type 0} (s : Session S) (result : Result Outcome Stop) : Type 0 where
   pub failed : (result ≡ Err stop.Failed) ↔ (s.state ≡ state.Failed)
   pub after_end : (result ≡ Err stop.AfterEnd) ↔ (s.state ≡ state.Finished)

@@ -1,7 +1,7 @@
 pub mod Events
 pub mod Faults
 pub mod Finishing
-pub mod Laws
+pub mod SessionLaws
 pub mod NewTables
 pub mod Order
 pub mod Ready

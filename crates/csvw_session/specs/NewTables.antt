@@ -1,4 +1,4 @@
--- Tables of whose texts nothing was read.
+-- Tables whose texts were not read yet.
 use Rattle.std.specs.Prelude.{List, [], ◌∷◌}
 use Rattle.csvw_columns.specs.declared.plan.TablePlan.{TablePlan}
 use Rattle.csvw_triples_core.specs.declared.mode.Mode.{Mode}

@@ -1,9 +1,9 @@
--- That tables can be read has one proof at most, so that it can stand in an invariant.
+-- That tables can be read has at most one proof, so an invariant can contain it.
 use Rattle.std.specs.Prelude.{List, [], ◌∷◌}
 use Rattle.std.proofs.Props.{props}
 use mathlib.Core.HLevel.{×_prop, Unit-prop}
-use Rattle.csvw_dialect.specs.declared.dialect.Dialect.{Dialect}
-use Rattle.csvw_dialect.specs.Lawful.{IsLawful}
+use Rattle.csvw_records.specs.declared.dialect.Dialect.{Dialect}
+use Rattle.csvw_records.specs.Lawful.{IsLawful}
 use Rattle.csvw_datatype.specs.SoundProp.{IsSound-prop}
 use Rattle.csvw_columns.specs.Distinct.{AreNamedApart}
 use Rattle.csvw_columns.specs.Ready.{AreReady, IsReady}

@@ -8,8 +8,8 @@ use Rattle.csvw_triples.specs.OpeningTriples.{opening}
 use Rattle.csvw_engine_core.specs.declared.stop.Stop.{Stop}
 use Rattle.csvw_engine_core.specs.declared.stop.Stop.TheVariants as stop
 
--- Why a session does not start, and what its sink took by then: a front of the triples on the group. Each of them was taken
--- whole, and where the device failed, it failed within the next one.
+-- The reason, and what the sink took before it: a front of the triples of the group and its tables, each of them whole. If the device failed,
+-- it failed within the next triple.
 abbrev pub Refuses : {S : Type 0} → (S → List Triple → S → Type 0) → (S → Triple → S → Type 0) → (S → Bool) → (S → ℕ) → Plan → Mode → S → S → Stop → Type 0
 Refuses gains cuts is_open failed plan mode sink now stop.Memory = FrontOf gains cuts sink (opening mode plan) now ⊥ × IsAsReady is_open failed sink now
 Refuses gains cuts is_open failed plan mode sink now stop.Write = FrontOf gains cuts sink (opening mode plan) now (is_open sink ≡ true) × (is_open now ≡ false)

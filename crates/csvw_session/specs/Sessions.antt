@@ -1,4 +1,4 @@
--- What a session stands for, and how each call goes on.
+-- The state of a session, and how each call changes it: `Stands`, `Takes`, `IsRefusedInOrder`.
 use Rattle.std.specs.Prelude.{◌≡◌, ◌≢◌, ◌↔◌, ◌⊎◌, ◌<◌, ◌+◌, ◌-◌, ◌^◌, ◌≤◌, ℕ, zero, suc, Bool, true, false, List, [], ◌∷◌, ◌++◌, length, slice_get}
 use Rattle.std.specs.Prelude.{Contains, Option, Some, Result, Ok, Err}
 use Rattle.csvw_records.specs.RowValue.{Given}
@@ -24,7 +24,7 @@ use Rattle.csvw_session.specs.declared.state.State.TheVariants as state
 use Rattle.csvw_engine_core.specs.declared.stop.Stop.{Stop}
 use Rattle.csvw_engine_core.specs.declared.stop.Stop.TheVariants as stop
 
--- the text of a table so far gave these rows, which are all that are complete
+-- the text of a table so far made these rows, which are all its complete rows
 pub record IsOpenTable (plan : TablePlan) (mode : Mode) (t : Table) (bytes : List ℕ) (rows : List Row) : Type 0 where
   pub given : List Given
   pub holds : TableHolds plan mode t bytes false given rows
@@ -35,7 +35,7 @@ abbrev pub TableStands : TablePlan → Mode → Table → List ℕ → Bool → 
 TableStands plan mode t bytes false rows = IsOpenTable plan mode t bytes rows
 TableStands plan mode t bytes true rows = HoldsWhole plan mode t bytes rows
 
--- and its faults were told
+-- the same, and its faults were listed
 pub record Told (plan : TablePlan) (mode : Mode) (t : Table) (bytes : List ℕ) (ended : Bool) (rows : List Row) : Type 0 where
   pub stands : TableStands plan mode t bytes ended rows
   pub faults : faults_of t ≡ table_faults plan.number (columns_of t) rows
@@ -60,7 +60,7 @@ pub record TookGraph {S : Type 0} (gains : S → List Triple → S → Type 0) (
   pub within : (x : Triple) → Contains taken x → Graph x
   pub whole : (x : Triple) → Graph x → Contains taken x
 
--- The session took these events since the start, and no others.
+-- The session took exactly these events since the start.
 pub record Stands {S : Type 0} (gains : S → List Triple → S → Type 0) (is_open : S → Bool) (failed : S → ℕ) (start : S) (events : List Event)
     (s : Session S) : Type 0 where
   pub rows : ℕ → List Row
@@ -71,7 +71,7 @@ pub record Stands {S : Type 0} (gains : S → List Triple → S → Type 0) (is_
   pub ready : IsAsReady is_open failed start s.sink
   pub state_is : s.state ≡ state.Open
 
--- a session at its start, over this plan: its sink, since it was handed in, took what is told of the group before any row
+-- a session that has just started over this plan: its sink took the triples of the group and its tables, which come before any row
 pub record Starts {S : Type 0} (gains : S → List Triple → S → Type 0) (is_open : S → Bool) (failed : S → ℕ) (plan : Plan) (mode : Mode) (sink : S)
     (s : Session S) : Type 0 where
   pub plan_is : s.plan ≡ plan
@@ -88,7 +88,7 @@ HasNoTable s t = (t ≡ 0) ⊎ (length s.tables.items < t)
 abbrev pub IsOver : {S : Type 0} → Session S → ℕ → Type 0
 IsOver s t = (s.state ≡ state.Finished) ⊎ ((i : ℕ) × (table : Table) × (i + 1 ≡ t) × (slice_get s.tables.items i ≡ Some table) × (is_ended table ≡ true))
 
--- exactly when an event of table t is refused without a look at it, by what is asked first
+-- which error comes before an event of table t is looked at, by the first reason that is true
 pub record IsRefusedInOrder {S : Type 0} (s : Session S) (t : ℕ) (result : Result Unit Stop) : Type 0 where
   pub failed : (result ≡ Err stop.Failed) ↔ (s.state ≡ state.Failed)
   pub unknown : (result ≡ Err stop.UnknownTable) ↔ ((s.state ≢ state.Failed) × HasNoTable s t)
@@ -103,7 +103,7 @@ Checks s t (Err stop.UnknownTable) = (s.state ≢ state.Failed) × HasNoTable s 
 Checks s t (Err stop.AfterEnd) = (s.state ≢ state.Failed) × (HasNoTable s t → ⊥) × IsOver s t
 Checks s t (Err other) = ⊥
 
--- a table of the session, and the rows of the source that it was given before the call, which were these rows of it
+-- a table of the session, with the rows of the source that it made before the call, which are these rows of it
 pub record AtTable {S : Type 0} (s : Session S) (t : ℕ) (rows : ℕ → List Row) (Leaves : ℕ → TablePlan → List Given → Type 0) : Type 0 where
   pub i : ℕ
   pub number : i + 1 ≡ t
@@ -114,27 +114,27 @@ pub record AtTable {S : Type 0} (s : Session S) (t : ℕ) (rows : ℕ → List R
   pub was : IsTable plan given (columns_of table) (header_faults_of table) (rows i)
   pub leaves : Leaves i plan given
 
--- the table refuses the next row, or at the end of its text the header that it has
+-- the table refuses the next row or, at the end of its text, the header that it has
 abbrev pub IsRefusedHere : TablePlan → Option Columns → List ℕ → Bool → List Given → ℕ → TableStop → Type 0
 IsRefusedHere plan columns bytes ended given row stop =
     IsRefused plan columns bytes ended given row stop ⊎ ((ended ≡ true) × IsRefusedAtEnd plan columns bytes given row stop)
 
--- what the sink gained in a call that was cut short: a front of the triples of some of the rows more of the table, each of them
--- whole, and where its device failed, the triple after these that was cut
+-- what the sink gained in a call that was cut short: a front of the triples of some further rows of the table, each of them whole; if its
+-- device failed, it failed within the triple after these
 abbrev pub GainsSome : {S : Type 0} → (S → List Triple → S → Type 0) → (S → Triple → S → Type 0) → Session S → Session S → ℕ → List Event
     → (ℕ → List Row) → Type 0 → Type 0
 GainsSome gains cuts old new t events rows Fails =
     AtTable old t rows (λ i plan given. GivesSome gains cuts plan old.mode (text_of events t) (ended_in events t) given (rows i) old.sink new.sink Fails)
 
--- what it gained in a call that stopped in the text: the triples of all rows in front of the stop
+-- what the sink gained in a call that stopped in the text: the triples of all rows before the stop
 abbrev pub GainsFront : {S : Type 0} → (S → List Triple → S → Type 0) → Session S → Session S → ℕ → List Event → (ℕ → List Row)
     → (TablePlan → Option Columns → List Given → Type 0) → Type 0
 GainsFront gains old new t events rows Why =
     AtTable old t rows (λ i plan given. GivesFront gains plan old.mode (text_of events t) (ended_in events t) given (rows i) old.sink new.sink
     (λ columns all. Why plan columns all))
 
--- An event of table t was taken, or why not. A stop in the text and want of memory leave the session failed, and a failed write
--- leaves its sink closed.
+-- An event of table t was taken, or there is a reason why not. After a stop in the text, and after Memory, the session has failed. After a
+-- failed write its sink is closed too.
 abbrev pub Takes : {S : Type 0} → (S → List Triple → S → Type 0) → (S → Triple → S → Type 0) → (S → Bool) → (S → ℕ) → Session S → Session S → ℕ → Event
     → Result Unit Stop → Type 0
 Takes {S} gains cuts is_open failed old new t event (Ok u) =

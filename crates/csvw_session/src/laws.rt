@@ -1,7 +1,7 @@
-//! Laws that bind the definitions by which the contracts speak. The calls do nothing.
-ghost use Rattle.csvw_session.specs.Laws.{TextsGrow};
+//! Laws about the definitions that the contracts use. A call of a law does nothing.
+ghost use Rattle.csvw_session.specs.SessionLaws.{TextsGrow};
 
-/// How the texts of tables go on with one event more.
+/// The texts of tables after one more event.
 pub fn texts_grow()
     ensures { TextsGrow }
 {}

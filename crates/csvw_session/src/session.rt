@@ -20,7 +20,7 @@ use csvw_triples::emit_opening;
 use csvw_triples_rows::{Mode, TripleSink};
 use std::alloc::{AllocError, Global};
 
-/// Tables that come in pieces, and a sink for their triples.
+/// A session: tables that come in pieces, and a sink for their triples.
 #[derive(Drop)]
 pub struct Session<S> {
     alloc: Global,
@@ -37,13 +37,13 @@ pub struct Session<S> {
 /// A session that did not start, and its sink.
 #[derive(Drop)]
 pub struct Refused<S> {
-    /// Why.
+    /// The reason: `Memory` or `Write`.
     pub stop: Stop,
-    /// The sink that was handed in, which may have taken a front of the opening.
+    /// The sink that was passed to `start`. It may have taken a front of the opening.
     pub sink: S,
 }
 
-/// The states of tables of whose texts nothing was read.
+/// Makes the states of tables whose texts were not read yet.
 fn new_tables(alloc: Global, plans: &[TablePlan], mode: Mode) -> Result<Vec<Table>, AllocError>
     requires { AreReady plans.now }
     ensures { IfOk result (λ v. AreNew mode plans.now v.items) }
@@ -55,7 +55,7 @@ fn new_tables(alloc: Global, plans: &[TablePlan], mode: Mode) -> Result<Vec<Tabl
     Ok(tables)
 }
 
-/// The states of the tables of a plan, of whose texts nothing was read, where the sink took what is told of their group.
+/// Puts the opening of a plan into the sink, and makes the states of its tables, whose texts were not read yet.
 fn open_tables<S: TripleSink>(
     alloc: Global,
     plan: &Plan,
@@ -83,15 +83,6 @@ fn all_ended(tables: &[Table]) -> bool
     tables.iter().all(|table| table.is_ended())
 }
 
-fn list_each(more: &[Fault], faults: &mut Seq<Fault>) -> Result<(), AllocError>
-    ensures { OnOk result (faults.new ≡ faults.old ++ more.now) }
-{
-    for fault in more {
-        faults.push(*fault)?;
-    }
-    Ok(())
-}
-
 fn list_faults(tables: &[Table], faults: &mut Seq<Fault>) -> Result<(), AllocError>
     ensures { OnOk result (faults.new ≡ faults.old ++ all_faults tables.now) }
 {
@@ -101,7 +92,7 @@ fn list_faults(tables: &[Table], faults: &mut Seq<Fault>) -> Result<(), AllocErr
     Ok(())
 }
 
-/// The place from 0 of table t, from 1; `None` where there is none.
+/// Returns the place of table `t`, or `None` if there is none. Tables are numbered from 1, and places from 0.
 fn place_of(t: u32, count: usize) -> Option<usize>
     ensures { MatchOption result ((t ≡ 0) ⊎ (count < t)) (λ i. (i + 1 ≡ t) × (i < count)) }
 {
@@ -119,10 +110,12 @@ impl<S: TripleSink> Session<S> {
     ghost use Rattle.csvw_session.specs.Sessions.{Checks, IsRefusedInOrder, Starts, Takes};
     ghost use Rattle.csvw_session.specs.Finishing.{Finishes, IsUnfinishedInOrder, ListsFaults};
 
-    /// A session over the tables of a plan as `Plan::build` gives it, of whose texts nothing was read. In mode `Standard` its sink
-    /// takes what is told of the group and its tables (csv2rdf, section 4.2). `Refused` with `Memory` where there is none and with
-    /// `Write` where the sink's device failed. It holds the sink, which took a front of these triples, each of them whole. After
-    /// `Write` the sink is closed, and its device may have failed within the next triple.
+    /// Starts a session over the tables of a plan that `Plan::build` made. In mode `Standard` its sink takes the
+    /// triples of the group and its tables (csv2rdf, section 4.2).
+    ///
+    /// Returns `Refused` with `Memory` if memory runs out, and with `Write` if the sink's device failed or the sink was
+    /// closed before. `Refused` has the sink, which took a front of these triples, each of them whole. After `Write`
+    /// the sink is closed. If it was open before, its device failed within the next triple.
     pub fn start(alloc: Global, plan: Plan, mode: Mode, sink: S) -> Result<Session<S>, Refused<S>>
         requires { AreReady plan.tables }
         ensures stands { IfOk result (λ s. Starts S.gains S.is_open S.failed plan mode sink s) }
@@ -161,7 +154,7 @@ impl<S: TripleSink> Session<S> {
         self.state == State::Finished
     }
 
-    /// Whether table t takes an event now; its place from 0.
+    /// Returns the place of table `t`, from 0, if the table can take an event now.
     fn check(&self, t: u32) -> Result<usize, Stop>
         ensures { Checks self.now t result }
     {
@@ -180,10 +173,19 @@ impl<S: TripleSink> Session<S> {
         Ok(i)
     }
 
-    /// Takes a piece of table `t`, numbered from 1, and gives each row that is complete. `Failed` where the session stopped before,
-    /// else `UnknownTable` where it has no such table, else `AfterEnd` where it was finished or the table ended: these change
-    /// nothing. `Rows` or `Table` behind all rows in front of one that can't be read or annotated, `Write` where the sink's device
-    /// failed, and `Memory`: these stop the session.
+    /// Takes a piece of table `t`, numbered from 1, and gives each complete row to the sink.
+    ///
+    /// These errors change nothing, and the first one that is true is returned:
+    ///
+    /// - `Failed` if the session stopped before.
+    /// - `UnknownTable` if it has no such table.
+    /// - `AfterEnd` if it was finished or the table was ended.
+    ///
+    /// These errors stop the session:
+    ///
+    /// - `Rows` or `Table` if a row can't be read or annotated. All rows before it were given to the sink.
+    /// - `Write` if the sink's device failed, or the sink was closed before.
+    /// - `Memory` if memory runs out.
     pub fn feed(&mut self, t: u32, piece: &[u8]) -> Result<(), Stop>
         ensures takes { Takes S.gains S.cuts S.is_open S.failed self.old self.new t (Feed t piece.now) result }
         ensures order { IsRefusedInOrder self.old t result }
@@ -203,7 +205,8 @@ impl<S: TripleSink> Session<S> {
         Ok(())
     }
 
-    /// Takes the end of table `t`, numbered from 1, and gives each row that is left. It answers as `feed` does.
+    /// Takes the end of table `t`, numbered from 1, and gives each row that is left to the sink. It fails as `feed`
+    /// does.
     pub fn end(&mut self, t: u32) -> Result<(), Stop>
         ensures takes { Takes S.gains S.cuts S.is_open S.failed self.old self.new t (End t) result }
         ensures order { IsRefusedInOrder self.old t result }
@@ -222,20 +225,27 @@ impl<S: TripleSink> Session<S> {
         Ok(())
     }
 
-    /// The warnings of the plan, what is wrong with the tables, and what is wrong with their rows by their keys.
+    /// Lists the warnings of the plan, then the faults of the tables, then the faults of their rows by their keys.
     fn faults(&self) -> Result<Seq<Fault>, AllocError>
         ensures { IfOk result (λ faults. ListsFaults self.now faults) }
     {
         let broken = self.keys.finish()?;
         let mut faults = Seq::new(self.alloc);
-        list_each(self.plan.warnings(), &mut faults)?;
+        faults.extend_from_slice(self.plan.warnings())?;
         list_faults(self.tables.as_slice(), &mut faults)?;
-        list_each(broken.as_slice(), &mut faults)?;
+        faults.extend_from_slice(broken.as_slice())?;
         Ok(faults)
     }
 
-    /// Finishes the session, where each table was ended: its faults, in order. `Failed` where the session stopped before, else
-    /// `AfterEnd` where it was finished, else `NotEnded` where a table wasn't ended: these change nothing. `Memory` stops the session.
+    /// Finishes the session, and returns its faults in order.
+    ///
+    /// These errors change nothing, and the first one that is true is returned:
+    ///
+    /// - `Failed` if the session stopped before.
+    /// - `AfterEnd` if it was finished before.
+    /// - `NotEnded` if a table was not ended.
+    ///
+    /// `Memory` comes if memory runs out, and stops the session.
     pub fn finish(&mut self) -> Result<Outcome, Stop>
         ensures finishes { Finishes self.old self.new result }
         ensures order { IsUnfinishedInOrder self.old result }
@@ -259,14 +269,14 @@ impl<S: TripleSink> Session<S> {
         })
     }
 
-    /// The sink.
+    /// Returns the sink.
     pub fn sink(&self) -> &S
         ensures { result.now ≡ self.now.sink }
     {
         &self.sink
     }
 
-    /// The sink, where no more events come.
+    /// Returns the sink. The session takes no more events.
     pub fn into_sink(self) -> S
         ensures { result ≡ self.sink }
     {

@@ -1,7 +1,7 @@
--- What the tables gave to the sink stands in its writer.
+-- The writer of the sink has what the tables gave to the sink.
 use Rattle.std.proofs.Common.{refl, sym, ap, ◌∙◌, length, Err}
 use Rattle.csvw_columns.specs.declared.plan.Plan.{Plan}
-use Rattle.csvw_text.specs.Counted.{inner_of, failures_of}
+use Rattle.csvw_streams.specs.Counted.{inner_of, failures_of}
 use Rattle.csvw_ntriples.specs.NtSink.{sink_out, sink_is_open}
 use Rattle.csvw_engine.specs.Rooms.{IsOrder, order_in}
 use Rattle.csvw_engine.proofs.Ordering.{none_in_order}

@@ -1,4 +1,4 @@
--- By the texts that the readers have left; no fault stands in what describes a group.
+-- By the texts that the readers have left. What describes a group has no fault.
 use Rattle.csvw_engine.specs.Rooms.{IsOrder}
 use Rattle.csvw_engine.proofs.GoodRuns.{ok_or_lacks}
 use Rattle.csvw_engine.proofs.laws.good_runs_succeed.Goals as goal

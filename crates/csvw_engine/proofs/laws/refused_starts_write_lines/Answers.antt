@@ -1,6 +1,6 @@
 -- By the front of the opening that was taken.
 use Rattle.std.proofs.Common.{◌≡◌, ◌++◌, ◌∙◌, true, refl, sym, ap, List, []}
-use Rattle.csvw_text.specs.Counted.{inner_of}
+use Rattle.csvw_streams.specs.Counted.{inner_of}
 use Rattle.csvw_triples_core.specs.declared.term.Triple.{Triple}
 use Rattle.csvw_ntriples.specs.NtSink.{sink_is_open, sink_out}
 use Rattle.csvw_engine.specs.Lines.{cuts_lines, gains_lines, line_failures, writer_of}

@@ -1,4 +1,4 @@
--- Such a call answers Failed.
+-- Such a call returns Failed.
 use Rattle.std.proofs.Common.{subst, Result}
 use Rattle.csvw_report.specs.declared.outcome.Outcome.{Outcome}
 use Rattle.csvw_session.specs.Finishing.{Finishes}

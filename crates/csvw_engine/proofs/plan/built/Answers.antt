@@ -1,4 +1,4 @@
--- The tables of a plan are few; nothing but memory lacks.
+-- The tables of a plan are few. Only memory can be missing.
 use Rattle.csvw_engine.proofs.Planning.{few_of, lacks_memory}
 use Rattle.csvw_engine.proofs.plan.built.Goals as goal
 

@@ -1,9 +1,9 @@
--- The piece is as long as a room says, and the order is the one that the room is for.
+-- The piece has the length of the room, and the order is the one that the room is for.
 use Rattle.std.proofs.Common.{◌∙◌, sym, ap, subst, length, Bool, List, ℕ, Option}
 use Rattle.std.specs.declared.vec.Vec.{Vec}
 use Rattle.std.specs.declared.alloc.Global.{Global}
-use Rattle.csvw_reading.specs.ReadOrder.{AreInTurn, AreTableByTable}
-use Rattle.csvw_reading.specs.Reading.{Reads}
+use Rattle.csvw_engine.specs.ReadOrder.{AreInTurn, AreTableByTable}
+use Rattle.csvw_engine.specs.Reading.{Reads}
 use Rattle.csvw_engine.specs.Rooms.{IsOrder, order_in}
 use Rattle.csvw_engine.specs.Texts.{piece_limit}
 use Rattle.csvw_engine.proofs.room.read_all.Goals as goal

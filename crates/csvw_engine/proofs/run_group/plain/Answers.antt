@@ -1,11 +1,11 @@
 -- The one reader as a slice.
 use Rattle.std.proofs.Common.{◌∙◌, [], ◌∷◌, refl}
 use Rattle.std.proofs.lemmas.Result.{err_from_is_err_and}
-use Rattle.csvw_text.specs.Streams.{stream_of}
+use Rattle.csvw_streams.specs.Streams.{stream_of}
 use Rattle.csvw_meta.specs.Document.{plain_description}
 use Rattle.csvw_triples_core.specs.declared.mode.Mode.TheVariants as mode
 use Rattle.csvw_engine_core.specs.declared.stop.Stop.TheVariants as stop
-use Rattle.csvw_reading.specs.ReadOrder.{AreTableByTable}
+use Rattle.csvw_engine.specs.ReadOrder.{AreTableByTable}
 use Rattle.csvw_engine.proofs.Ending.{stops_before}
 use Rattle.csvw_engine.proofs.Lone.{runs_lone}
 use Rattle.csvw_engine.proofs.run_group.plain.Goals as goal

@@ -1,7 +1,7 @@
 -- The document is refused.
 use Rattle.std.proofs.Common.{refl}
 use Rattle.std.proofs.lemmas.Result.{err_from_is_err_and}
-use Rattle.csvw_text.specs.Streams.{stream_of}
+use Rattle.csvw_streams.specs.Streams.{stream_of}
 use Rattle.csvw_meta.specs.Document.{document}
 use Rattle.csvw_engine.specs.Rooms.{IsOrder}
 use Rattle.csvw_engine.proofs.Ending.{stops_before}

@@ -1,8 +1,8 @@
--- A run behind its report and its flushes.
+-- A run after its report and its flushes.
 use Rattle.std.proofs.Common.{◌≡◌, ◌≢◌, length, refl, rules, Err}
 use Rattle.std.proofs.lemmas.Result.{err_from_is_err_and}
-use Rattle.csvw_text.specs.Counted.{inner_of, failures_of}
-use Rattle.csvw_text.specs.Streams.{stream_of}
+use Rattle.csvw_streams.specs.Counted.{inner_of, failures_of}
+use Rattle.csvw_streams.specs.Streams.{stream_of}
 use Rattle.csvw_engine_core.specs.declared.stop.Stop.TheVariants as stop
 use Rattle.csvw_engine.specs.Rooms.{IsOrder}
 use Rattle.csvw_engine.proofs.Ending.{ends_whole, report_kept, report_unsent, stops_with, succeeds, write_stops}

@@ -1,4 +1,4 @@
--- One step more, and where the steps end.
+-- One more step, and the end of the steps.
 use Rattle.std.proofs.Common.{◌∙◌, refl, ap}
 use Rattle.std.proofs.lemmas.Result.{err_from_is_err_and}
 use Rattle.csvw_engine_core.specs.declared.stop.Stop.TheVariants as stop

@@ -1,4 +1,4 @@
--- The end, the rows that it completes, and the header where the columns weren't known.
+-- The end, the rows that it completes, and the header if the columns were not known.
 use Rattle.std.proofs.Common.{true, false}
 use Rattle.std.proofs.lemmas.Result.{err_from_is_err_and}
 use Rattle.csvw_engine_core.specs.Tables.{max_rows, outlets}

@@ -1,4 +1,4 @@
--- What was told, with what the cells that are left give, is what all cells give.
+-- The faults so far, with those of the cells that are left, are the faults of all cells.
 use Rattle.std.proofs.Common.{◌≡◌, ◌++◌, flat_map}
 use Rattle.std.specs.List.{zip}
 use Rattle.csvw_columns_core.specs.declared.column.Column.{Column}

@@ -1,6 +1,6 @@
 -- Nothing was read.
 use Rattle.std.proofs.Common.{refl, subst, [], false}
-use Rattle.csvw_dialect.specs.declared.dialect.Dialect.{Dialect}
+use Rattle.csvw_records.specs.declared.dialect.Dialect.{Dialect}
 use Rattle.csvw_rows.specs.RowsState.{Holds}
 use Rattle.csvw_engine_core.specs.Tables.{max_rows}
 use Rattle.csvw_engine_core.proofs.Steps.{head_at_start, rows_at_start}

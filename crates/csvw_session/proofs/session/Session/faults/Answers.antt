@@ -1,4 +1,4 @@
--- The warnings, the faults of the tables, and those of keys behind them.
+-- The warnings, then the faults of the tables, and then those of keys.
 use Rattle.std.proofs.Common.{rules}
 use Rattle.csvw_session.proofs.session.Session.faults.Goals as goal
 

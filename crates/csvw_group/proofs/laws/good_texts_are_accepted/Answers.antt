@@ -1,6 +1,0 @@
--- By the file that the text goes on to.
-use Rattle.csvw_group.proofs.Accepting.{are_accepted}
-use Rattle.csvw_group.proofs.laws.good_texts_are_accepted.Goals as goal
-
-pub returns : goal.returns
-returns c = are_accepted c.have_one_list.ensures c.first_begin.ensures c.first_stay.ensures c.files_have_no_stop.ensures

@@ -1,6 +1,0 @@
-mod Bytes
-mod Growing
-mod NextTable
-mod Readers
-mod Tables
-mod Turning

@@ -1,5 +1,0 @@
-pub mod ReadOrder
-pub mod Reading
-pub mod TableReading
-pub mod TablesReading
-pub mod TurnsReading

@@ -1,8 +1,0 @@
-use Rattle.csvw_validity.proofs.Validating.{no_errors_where_valid, valid_without_errors}
-use Rattle.csvw_validity.proofs.laws.valid_groups_have_no_errors.Goals as goal
-
-pub returns : goal.returns
-returns c = λ plan texts tables faults ready warned annotated are. (
-  valid_without_errors c.have_one_list.ensures plan texts tables faults ready warned annotated are,
-  no_errors_where_valid c.have_one_list.ensures plan texts tables faults ready warned annotated are,
-)

@@ -1,0 +1,2 @@
+pub mod ValidityLaws
+pub mod Validity
