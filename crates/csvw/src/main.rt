@@ -1,10 +1,13 @@
 //! `csvw`: CSV on the Web, validated and converted to RDF.
+//!
+//! # Promises
+//!
+//! - It is safe and ends. Only tests check that `main` hands the words, files and streams of its process to `command`.
 #![tactic(auto)]
 
-use csvw_command::{FileOpener, command, tell_mistake, tell_stop};
+use csvw_command::{FileOpener, Request, command, requested, tell_mistake, tell_stop};
 use csvw_engine::Stop;
 use csvw_text::Counted;
-use csvw_words::{Request, requested};
 use std::alloc::Global;
 use std::io::{self, BufWriter, IsTerminal, Stderr, Stdout};
 use std::process::ExitCode;
@@ -59,7 +62,7 @@ fn main(rt: HostRuntime) -> ExitCode {
         Err(fault) if fault.kind() == io::ErrorKind::InvalidData => {
             tell_mistake("csvw: a word of the command line is no UTF-8\n", &mut err)
         }
-        Err(_) => tell_stop(rt.alloc(), &Stop::Memory, &mut err),
+        Err(_) => tell_stop(&Stop::Memory, &mut err),
     };
     ExitCode::from(status)
 }

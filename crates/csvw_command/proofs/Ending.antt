@@ -2,8 +2,8 @@
 use Rattle.std.proofs.Common.{◌⊎◌, ℕ, Bool, true, false, List, sym, subst, ap₂, inl, inr, Option, Result, Ok, Err}
 use Rattle.csvw_report.specs.declared.outcome.Outcome.{Outcome}
 use Rattle.csvw_engine_core.specs.declared.stop.Stop.{Stop}
-use Rattle.csvw_text.specs.declared.counted.Counted.{Counted}
-use Rattle.csvw_text.specs.Streams.{Stream}
+use Rattle.csvw_streams.specs.declared.counted.Counted.{Counted}
+use Rattle.csvw_streams.specs.Streams.{Stream}
 use Rattle.csvw_engine.specs.Runs.{Runs}
 use Rattle.csvw_command.specs.Groups.{ComesToEnd, EndsSo, StopsEarly, Leaves, conversion, order_of}
 use Rattle.csvw_command.proofs.Sending.{stream}
@@ -23,11 +23,3 @@ ends L a b c n m k (Err reason) status leaves end = inr (record {
   leaves = leaves;
   told = end;
 })
-
--- what a conversion leaves, its graph on `out` in both modes
-pub converts : {R : Type 0} (remaining : R → Option (List ℕ)) (minimal turns : Bool) (meta base : List ℕ) (readers left : List (Counted R))
-    (out err : Stream) (result : Result Outcome Stop)
-    → Runs remaining (order_of turns) (document base meta) (conversion minimal) readers left out err result
-    → Leaves remaining (conversion minimal) turns meta base readers left out err result
-converts remaining true turns meta base readers left out err result h = h
-converts remaining false turns meta base readers left out err result h = h

@@ -1,3 +1,4 @@
+mod Asking
 mod Counting
 mod Documents
 mod Ending

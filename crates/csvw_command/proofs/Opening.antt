@@ -1,16 +1,16 @@
 -- The files of a group, opened one after the other.
-use Rattle.std.proofs.Common.{◌≡◌, ◌∙◌, ◌<◌, ◌+◌, ℕ, suc, List, [], ◌∷◌, ◌++◌, refl, sym, subst, ap, inl, inr, append_assoc, drop, get_or, length}
+use Rattle.std.proofs.Common.{◌≡◌, ◌∙◌, ◌<◌, ◌+◌, ℕ, suc, List, [], ◌∷◌, ◌++◌, refl, sym, subst, ap, inl, inr, append_assoc, arith, drop, get_or, length}
 use Rattle.std.proofs.Common.{map, add-one, take, take-append-drop, Option, None, Some}
-use Rattle.std.proofs.lemmas.List.{map-append}
-use Rattle.std.proofs.Math.Seq.{drop-cons, take-suc}
+use Rattle.std.proofs.lemmas.List.{map-append, take-append-le}
+use Rattle.std.proofs.Math.Seq.{drop-cons, take-length, take-suc}
 use Rattle.clap.specs.Words.{Text}
-use Rattle.csvw_text.specs.declared.counted.Counted.{Counted}
-use Rattle.csvw_text.specs.Counted.{inner_of, failures_of}
-use Rattle.csvw_words.specs.declared.Group.{Group}
+use Rattle.csvw_streams.specs.declared.counted.Counted.{Counted}
+use Rattle.csvw_streams.specs.Counted.{inner_of, failures_of}
+use Rattle.csvw_command.specs.declared.request.Group.{Group}
 use Rattle.csvw_engine_core.specs.declared.stop.Stop.TheVariants as stop
 use Rattle.csvw_engine_core.specs.declared.stop.Stop.{Stop}
-use Rattle.csvw_command.specs.Documents.{IsReadStop}
-use Rattle.csvw_command.specs.Groups.{OpensAll, OpensGroup, OpensNot, StopsOpening}
+use Rattle.csvw_command.specs.Documents.{IsDocument, IsReadStop}
+use Rattle.csvw_command.specs.Groups.{ClosesAll, OpensAll, OpensGroup, OpensNot, ReadsMeta, StopsOpening}
 
 -- one path more
 pub opens_next : {O R : Type 0} (opens : O → Text → Option R → O → Type 0) (old : O) (paths : List Text) (readers : List (Counted R)) (between : O)
@@ -87,22 +87,61 @@ lacks_room opens path files i d old readers between reader r new below all one i
 }
 
 -- the same group, by equal lists
-pub opened_as : {O R : Type 0} (opens : O → Text → Option R → O → Type 0) (remaining : R → Option (List ℕ)) (group : Group) (old new : O)
-    (bytes same_bytes : List ℕ) (readers same_readers : List (Counted R))
-    → same_bytes ≡ bytes → same_readers ≡ readers → OpensGroup opens remaining group old new bytes readers
-    → OpensGroup opens remaining group old new same_bytes same_readers
-opened_as opens remaining group old new bytes same_bytes readers same_readers p q opened =
-    subst (λ b. OpensGroup opens remaining group old new b same_readers) (sym p) (subst (λ r. OpensGroup opens remaining group old new bytes r) (sym q) opened)
+pub opened_as : {O R : Type 0} (opens : O → Text → Option R → O → Type 0) (closes : O → Counted R → O → Type 0) (remaining : R → Option (List ℕ))
+    (group : Group) (old new : O) (bytes same_bytes : List ℕ) (readers same_readers : List (Counted R))
+    → same_bytes ≡ bytes → same_readers ≡ readers → OpensGroup opens closes remaining group old new bytes readers
+    → OpensGroup opens closes remaining group old new same_bytes same_readers
+opened_as opens closes remaining group old new bytes same_bytes readers same_readers p q opened =
+    subst (λ b. OpensGroup opens closes remaining group old new b same_readers) (sym p)
+    (subst (λ r. OpensGroup opens closes remaining group old new bytes r) (sym q) opened)
 
--- the metadata is opened and can't be read
-pub unread : {O R : Type 0} (opens : O → Text → Option R → O → Type 0) (group : Group) (old : O) (gave : Option R) (new : O) (reader : R)
-    (fresh after : Counted R) (reason : Stop)
-    → opens old group.meta.now gave new → gave ≡ Some reader → inner_of fresh ≡ reader → failures_of fresh ≡ 0 → IsReadStop fresh after reason
-    → OpensNot opens group old new reason
-unread opens group old gave new reader fresh after reason opened some inner steady stops = inr (inl (record {
-  reader = fresh;
-  meta_opened = subst (λ x. opens old group.meta.now x new) (some ∙ ap Some (sym inner)) opened;
-  steady = steady;
-  after = after;
-  reason_is = stops;
-}))
+module _ {O R : Type 0} (opens : O → Text → Option R → O → Type 0) (closes : O → Counted R → O → Type 0) (remaining : R → Option (List ℕ))
+    (group : Group) (old : O) (gave : Option R) (between : O) (reader : R) (fresh left : Counted R) (new : O)
+    (opened : opens old group.meta.now gave between) (some : gave ≡ Some reader) (inner : inner_of fresh ≡ reader) (steady : failures_of fresh ≡ 0)
+    (closed : closes between left new) where
+  meta_opened : opens old group.meta.now (Some (inner_of fresh)) between
+  meta_opened = subst (λ x. opens old group.meta.now x between) (some ∙ ap Some (sym inner)) opened
+
+  -- the metadata is opened and can't be read
+  pub unread : (reason : Stop) → IsReadStop fresh left reason → OpensNot opens closes remaining group old new reason
+  unread reason stops = inr (inl (record {
+    reader = fresh;
+    between = between;
+    opened = meta_opened;
+    fresh = steady;
+    left = left;
+    reason_is = stops;
+    closed = closed;
+  }))
+
+  -- it is opened and read
+  pub reads_meta : (bytes : List ℕ) → IsDocument (remaining (inner_of fresh)) bytes → failures_of left ≡ failures_of fresh
+      → ReadsMeta opens closes remaining group old new bytes
+  reads_meta bytes has same = record {
+    reader = fresh;
+    between = between;
+    opened = meta_opened;
+    fresh = steady;
+    has = has;
+    left = left;
+    steady = same ∙ steady;
+    closed = closed;
+  }
+
+-- one reader more is handed back
+pub closes_next : {O R : Type 0} (closes : O → Counted R → O → Type 0) (old : O) (readers : List (Counted R)) (between : O) (r : Counted R) (new : O)
+    → ClosesAll closes old readers between → closes between r new → ClosesAll closes old (readers ++ (r ∷ [])) new
+closes_next closes old [] between r new all one = record {
+  between = new;
+  closed = subst (λ o. closes o r new) all one;
+  rest = refl;
+}
+closes_next closes old (x ∷ readers) between r new all one = record {
+  between = all.between;
+  closed = all.closed;
+  rest = closes_next closes all.between readers between r new all.rest one;
+}
+
+-- a slice that was lent keeps its length, so the vector has what was left of the slice
+pub whole_front : {A : Type 0} (n : ℕ) (xs ys : List A) → length xs ≡ n → take n (xs ++ ys) ≡ xs
+whole_front n xs ys same = ap (λ k. take k (xs ++ ys)) (sym same) ∙ (take-append-le (length xs) xs ys (omega arith) ∙ take-length xs)

@@ -1,4 +1,4 @@
--- What the program answers where it converts nothing, or not to the end.
+-- What the program writes, and its exit status, if the words ask for no run or if the run stops.
 use Rattle.std.specs.Prelude.{◌≡◌, ◌⊎◌, ℕ, List, [], ◌∷◌, ◌++◌}
 use Rattle.clap.specs.declared.error.kind.ErrorKind.{ErrorKind}
 use Rattle.clap.specs.declared.error.kind.ErrorKind.TheVariants as kind
@@ -6,19 +6,15 @@ use Rattle.csvw_engine_core.specs.declared.stop.Stop.{Stop}
 use Rattle.csvw_engine_core.specs.declared.stop.Stop.TheVariants as stop
 use Rattle.csvw_command.specs.Lines.{line_of}
 use Rattle.csvw_command.specs.Status.{stop_status}
-use Rattle.csvw_text.specs.Streams.{Stream, IsCut, IsIdle, Sends, Tells}
+use Rattle.csvw_streams.specs.Streams.{Stream, IsCut, IsIdle, Sends, Tells}
 
 -- the line of a stop, with its end
 abbrev pub ended_line : Stop → List ℕ
 ended_line reason = line_of reason ++ (10 ∷ [])
 
--- the stop's line, or that there is no memory for it
-abbrev pub TellsLine : Stop → Stream → Type 0
-TellsLine reason err = Tells err (ended_line reason) ⊎ Tells err (ended_line stop.Memory)
-
--- a stop is told by its line and its status
+-- a stop is reported by its line and its status
 abbrev pub TellsStop : Stop → Stream → ℕ → Type 0
-TellsStop reason err status = TellsLine reason err × (status ≡ stop_status reason)
+TellsStop reason err status = Tells err (ended_line reason) × (status ≡ stop_status reason)
 
 -- memory ran out
 abbrev pub LacksMemory : Stream → Stream → ℕ → Type 0

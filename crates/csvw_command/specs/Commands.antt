@@ -1,57 +1,63 @@
--- What one run of the program does.
+-- One run of the program: its words, its files, its two streams and its exit status: `Commands`.
 use Rattle.std.specs.Prelude.{◌≡◌, ◌⊎◌, ◌<◌, ◌≤◌, ℕ, List, [], ◌∷◌, Option, None, Some}
 use Rattle.clap.specs.Words.{HasKind, Text, fault_of, kind_of}
 use Rattle.clap.specs.declared.error.Error.{Error}
 use Rattle.csvw_engine_core.specs.declared.stop.Stop.TheVariants as stop
 use Rattle.csvw_triples_core.specs.declared.mode.Mode.TheVariants as mode
-use Rattle.csvw_words.specs.Asked.{Asks, program_app}
-use Rattle.csvw_words.specs.declared.Request.{Request}
-use Rattle.csvw_words.specs.declared.Request.TheVariants.{Convert, Plain, Validate}
+use Rattle.csvw_command.specs.Asked.{Asks, program_app}
+use Rattle.csvw_command.specs.declared.request.Request.{Request}
+use Rattle.csvw_command.specs.declared.request.Request.TheVariants.{Convert, Plain, Validate}
 use Rattle.csvw_meta.specs.Document.{plain_description}
-use Rattle.csvw_reading.specs.ReadOrder.{AreTableByTable}
+use Rattle.csvw_engine.specs.ReadOrder.{AreTableByTable}
 use Rattle.csvw_engine.specs.Runs.{Runs}
 use Rattle.csvw_command.specs.Answers.{Answers, TellsMistake, TellsStop}
 use Rattle.csvw_command.specs.StandardInput.{inputs_of}
 use Rattle.csvw_command.specs.Groups.{ComesToEnd, RunsGroup, StopsEarly, conversion}
-use Rattle.csvw_text.specs.declared.counted.Counted.{Counted}
-use Rattle.csvw_text.specs.Counted.{inner_of, failures_of}
-use Rattle.csvw_text.specs.Streams.{Stream, IsIdle}
+use Rattle.csvw_streams.specs.declared.counted.Counted.{Counted}
+use Rattle.csvw_streams.specs.Counted.{inner_of, failures_of}
+use Rattle.csvw_streams.specs.Streams.{Stream, IsIdle}
 
--- the table at this URL is read from a reader that hasn't failed, and converted; the report goes to `err`
-pub record RunsOver {R : Type 0} (remaining : R → Option (List ℕ)) (url : Text) (reader : R) (out err : Stream) (status : ℕ) : Type 0 where
+-- The table at this URL is read from a reader that hasn't failed, and converted; the report goes to `err`. The reader is handed back as the run
+-- left it.
+pub record RunsOver {O R : Type 0} (closes : O → Counted R → O → Type 0) (remaining : R → Option (List ℕ)) (url : Text) (reader : R) (between new : O)
+    (out err : Stream) (status : ℕ) : Type 0 where
   pub input : Counted R
   pub is_reader : inner_of input ≡ reader
   pub steady : failures_of input ≡ 0
   pub left : Counted R
+  pub closed : closes between left new
   pub runs : ComesToEnd (Runs remaining AreTableByTable (plain_description url) mode.Minimal (input ∷ []) (left ∷ []) out) err status
       ⊎ StopsEarly (Runs remaining AreTableByTable (plain_description url) mode.Minimal (input ∷ []) (left ∷ []) out) err status
 
 -- what follows from the reader that a file's path gave
-abbrev pub RunsOn : {R : Type 0} → (R → Option (List ℕ)) → Text → Stream → Stream → ℕ → Option R → Type 0
-RunsOn remaining url out err status None = IsIdle out × TellsStop stop.Read err status
-RunsOn remaining url out err status (Some reader) = RunsOver remaining url reader out err status
+abbrev pub RunsOn : {O R : Type 0} → (O → Counted R → O → Type 0) → (R → Option (List ℕ)) → Text → O → O → Stream → Stream → ℕ → Option R → Type 0
+RunsOn closes remaining url between new out err status None = (new ≡ between) × IsIdle out × TellsStop stop.Read err status
+RunsOn closes remaining url between new out err status (Some reader) = RunsOver closes remaining url reader between new out err status
 
 -- the file is opened, once, and its reader read as the table at this URL
-pub record RunsPlain {O R : Type 0} (opens : O → Text → Option R → O → Type 0) (remaining : R → Option (List ℕ)) (url file : Text) (old new : O)
-    (out err : Stream) (status : ℕ) : Type 0 where
+pub record RunsPlain {O R : Type 0} (opens : O → Text → Option R → O → Type 0) (closes : O → Counted R → O → Type 0) (remaining : R → Option (List ℕ))
+    (url file : Text) (old new : O) (out err : Stream) (status : ℕ) : Type 0 where
   pub opened : Option R
-  pub is_opened : opens old file opened new
-  pub runs : RunsOn remaining url out err status opened
+  pub between : O
+  pub is_opened : opens old file opened between
+  pub runs : RunsOn closes remaining url between new out err status opened
 
 -- what is asked for is done
-abbrev pub RunsRequest : {O R : Type 0} → (O → Text → Option R → O → Type 0) → (R → Option (List ℕ)) → Request → O → O → Stream → Stream → ℕ → Type 0
-RunsRequest opens remaining (Plain url file line_buffered) old new out err status = RunsPlain opens remaining url.now file.now old new out err status
-RunsRequest opens remaining (Validate group) old new out err status = RunsGroup opens remaining mode.Validate group old new out err status
-RunsRequest opens remaining (Convert group minimal line_buffered) old new out err status =
-    RunsGroup opens remaining (conversion minimal) group old new out err status
+abbrev pub RunsRequest : {O R : Type 0} → (O → Text → Option R → O → Type 0) → (O → Counted R → O → Type 0) → (R → Option (List ℕ)) → Request → O → O
+    → Stream → Stream → ℕ → Type 0
+RunsRequest opens closes remaining (Plain url file line_buffered) old new out err status =
+    RunsPlain opens closes remaining url.now file.now old new out err status
+RunsRequest opens closes remaining (Validate group) old new out err status = RunsGroup opens closes remaining mode.Validate group old new out err status
+RunsRequest opens closes remaining (Convert group minimal line_buffered) old new out err status =
+    RunsGroup opens closes remaining (conversion minimal) group old new out err status
 
 -- the words ask for something, and it is done
-pub record RunsAsked {O R : Type 0} (opens : O → Text → Option R → O → Type 0) (remaining : R → Option (List ℕ)) (words : List Text) (old new : O)
-    (out err : Stream) (status : ℕ) : Type 0 where
+pub record RunsAsked {O R : Type 0} (opens : O → Text → Option R → O → Type 0) (closes : O → Counted R → O → Type 0) (remaining : R → Option (List ℕ))
+    (words : List Text) (old new : O) (out err : Stream) (status : ℕ) : Type 0 where
   pub request : Request
   pub asks : Asks words request
   pub once : inputs_of request ≤ 1
-  pub runs : RunsRequest opens remaining request old new out err status
+  pub runs : RunsRequest opens closes remaining request old new out err status
 
 -- the words ask for a run that reads standard input for two files, which is told; no file is opened
 pub record AsksTwice {O : Type 0} (words : List Text) (old new : O) (out err : Stream) (status : ℕ) : Type 0 where
@@ -69,6 +75,7 @@ pub record AnswersWords {O : Type 0} (words : List Text) (old new : O) (out err 
   pub answers : Answers (kind_of answer) out err status
 
 -- What one run does with its words, its files and its two streams, and the status that it ends with.
-abbrev pub Commands : {O R : Type 0} → (O → Text → Option R → O → Type 0) → (R → Option (List ℕ)) → List Text → O → O → Stream → Stream → ℕ → Type 0
-Commands opens remaining words old new out err status =
-    RunsAsked opens remaining words old new out err status ⊎ (AsksTwice words old new out err status ⊎ AnswersWords words old new out err status)
+abbrev pub Commands : {O R : Type 0} → (O → Text → Option R → O → Type 0) → (O → Counted R → O → Type 0) → (R → Option (List ℕ)) → List Text → O → O
+    → Stream → Stream → ℕ → Type 0
+Commands opens closes remaining words old new out err status =
+    RunsAsked opens closes remaining words old new out err status ⊎ (AsksTwice words old new out err status ⊎ AnswersWords words old new out err status)

@@ -1,9 +1,9 @@
--- How the bytes of a metadata document are read.
+-- The bytes of a metadata document: `IsDocument`; and the stop if its reader fails: `IsReadStop`.
 use Rattle.std.specs.Prelude.{◌≡◌, ◌⊎◌, ◌<◌, ◌≤◌, ℕ, Bool, true, false, List, [], ◌++◌, length, take, Option, IfSome, Result, Ok, Err}
 use Rattle.std.specs.Io.KnownBytes.{Consumes, IsAtEnd}
-use Rattle.csvw_text.specs.declared.counted.Counted.{Counted}
-use Rattle.csvw_text.specs.Count.{one_more}
-use Rattle.csvw_text.specs.Counted.{inner_of, failures_of}
+use Rattle.csvw_streams.specs.declared.counted.Counted.{Counted}
+use Rattle.csvw_streams.specs.Count.{one_more}
+use Rattle.csvw_streams.specs.Counted.{inner_of, failures_of}
 use Rattle.csvw_engine_core.specs.declared.stop.Stop.{Stop}
 use Rattle.csvw_engine_core.specs.declared.stop.Stop.TheVariants as stop
 

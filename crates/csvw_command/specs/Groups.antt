@@ -1,18 +1,18 @@
--- What a run over the files of a group of tables does.
+-- A run over the files of a group of tables, from their opening to their closing: `RunsGroup`.
 use Rattle.std.specs.Prelude.{◌≡◌, ◌⊎◌, ℕ, Bool, true, false, List, [], ◌∷◌, ◌++◌, map, Option, None, Some, IfSome, Result, Ok, Err}
 use Rattle.clap.specs.Words.{Text}
-use Rattle.csvw_text.specs.declared.counted.Counted.{Counted}
-use Rattle.csvw_text.specs.Counted.{inner_of, failures_of}
-use Rattle.csvw_text.specs.Streams.{Stream, IsIdle}
+use Rattle.csvw_streams.specs.declared.counted.Counted.{Counted}
+use Rattle.csvw_streams.specs.Counted.{inner_of, failures_of}
+use Rattle.csvw_streams.specs.Streams.{Stream, IsIdle}
 use Rattle.csvw_triples_core.specs.declared.mode.Mode.{Mode}
 use Rattle.csvw_triples_core.specs.declared.mode.Mode.TheVariants as mode
 use Rattle.csvw_report.specs.declared.outcome.Outcome.{Outcome}
 use Rattle.csvw_engine_core.specs.declared.stop.Stop.{Stop}
 use Rattle.csvw_engine_core.specs.declared.stop.Stop.TheVariants as stop
 use Rattle.csvw_session.specs.Events.{Event}
-use Rattle.csvw_reading.specs.ReadOrder.{AreInTurn, AreTableByTable}
+use Rattle.csvw_engine.specs.ReadOrder.{AreInTurn, AreTableByTable}
 use Rattle.csvw_engine.specs.Runs.{Runs}
-use Rattle.csvw_words.specs.declared.Group.{Group}
+use Rattle.csvw_command.specs.declared.request.Group.{Group}
 use Rattle.csvw_command.specs.Answers.{TellsStop}
 use Rattle.csvw_command.specs.Documents.{IsDocument, IsReadStop}
 use Rattle.csvw_command.specs.Status.{outcome_status}
@@ -30,6 +30,17 @@ abbrev pub OpensAll : {O R : Type 0} → (O → Text → Option R → O → Type
 OpensAll opens old [] readers new = (readers ≡ []) × (new ≡ old)
 OpensAll opens old (path ∷ paths) [] new = ⊥
 OpensAll opens old (path ∷ paths) (r ∷ readers) new = OpensFirst opens old path r (λ between. OpensAll opens between paths readers new)
+
+-- a reader is handed back, and the rest follows
+pub record ClosesFirst {O R : Type 0} (closes : O → Counted R → O → Type 0) (old : O) (r : Counted R) (Rest : O → Type 0) : Type 0 where
+  pub between : O
+  pub closed : closes old r between
+  pub rest : Rest between
+
+-- these readers are handed back, from the first on
+abbrev pub ClosesAll : {O R : Type 0} → (O → Counted R → O → Type 0) → O → List (Counted R) → O → Type 0
+ClosesAll closes old [] new = new ≡ old
+ClosesAll closes old (r ∷ readers) new = ClosesFirst closes old r (λ between. ClosesAll closes between readers new)
 
 -- the first of the paths gives no reader
 abbrev pub MissesFirst : {O R : Type 0} → (O → Text → Option R → O → Type 0) → O → List Text → O → Type 0
@@ -50,39 +61,57 @@ pub record StopsOpening {O R : Type 0} (opens : O → Text → Option R → O �
 abbrev pub paths_of : Group → List Text
 paths_of group = map (λ file. file.now) group.files.items
 
--- the metadata is opened and read, and the files are opened behind it
-pub record OpensGroup {O R : Type 0} (opens : O → Text → Option R → O → Type 0) (remaining : R → Option (List ℕ)) (group : Group) (old new : O)
-    (bytes : List ℕ) (readers : List (Counted R)) : Type 0 where
-  pub reader : R
+-- The metadata is opened and read: its reader, which had not failed, was read without a failure, and was handed back as it was left.
+pub record ReadsMeta {O R : Type 0} (opens : O → Text → Option R → O → Type 0) (closes : O → Counted R → O → Type 0) (remaining : R → Option (List ℕ))
+    (group : Group) (old new : O) (bytes : List ℕ) : Type 0 where
+  pub reader : Counted R
   pub between : O
-  pub meta_opened : opens old group.meta.now (Some reader) between
-  pub meta_read : IsDocument (remaining reader) bytes
+  pub opened : opens old group.meta.now (Some (inner_of reader)) between
+  pub fresh : failures_of reader ≡ 0
+  pub has : IsDocument (remaining (inner_of reader)) bytes
+  pub left : Counted R
+  pub steady : failures_of left ≡ 0
+  pub closed : closes between left new
+
+-- The metadata is opened, and its reader, which had not failed, fails, or memory runs out. The reader is handed back as it was left. No file of
+-- a table is opened.
+pub record ReadsNoMeta {O R : Type 0} (opens : O → Text → Option R → O → Type 0) (closes : O → Counted R → O → Type 0) (group : Group) (old new : O)
+    (reason : Stop) : Type 0 where
+  pub reader : Counted R
+  pub between : O
+  pub opened : opens old group.meta.now (Some (inner_of reader)) between
+  pub fresh : failures_of reader ≡ 0
+  pub left : Counted R
+  pub reason_is : IsReadStop reader left reason
+  pub closed : closes between left new
+
+-- the metadata is opened and read, and then the files of the tables are opened
+pub record OpensGroup {O R : Type 0} (opens : O → Text → Option R → O → Type 0) (closes : O → Counted R → O → Type 0) (remaining : R → Option (List ℕ))
+    (group : Group) (old new : O) (bytes : List ℕ) (readers : List (Counted R)) : Type 0 where
+  pub between : O
+  pub meta_read : ReadsMeta opens closes remaining group old between bytes
   pub files_opened : OpensAll opens between (paths_of group) readers new
 
--- the metadata is opened, and its reader, which hadn't failed before, fails, or memory runs out; no file of a table is opened
-pub record ReadsNoMeta {O R : Type 0} (opens : O → Text → Option R → O → Type 0) (group : Group) (old new : O) (reason : Stop) : Type 0 where
-  pub reader : Counted R
-  pub meta_opened : opens old group.meta.now (Some (inner_of reader)) new
-  pub steady : failures_of reader ≡ 0
-  pub after : Counted R
-  pub reason_is : IsReadStop reader after reason
-
--- the metadata is opened and read, and a file behind it isn't opened
-pub record LacksFile {O R : Type 0} (opens : O → Text → Option R → O → Type 0) (group : Group) (old new : O) (reason : Stop) : Type 0 where
-  pub reader : R
+-- the metadata is opened and read, and then a file of a table isn't opened
+pub record LacksFile {O R : Type 0} (opens : O → Text → Option R → O → Type 0) (closes : O → Counted R → O → Type 0) (remaining : R → Option (List ℕ))
+    (group : Group) (old new : O) (reason : Stop) : Type 0 where
   pub between : O
-  pub meta_opened : opens old group.meta.now (Some reader) between
+  pub bytes : List ℕ
+  pub meta_read : ReadsMeta opens closes remaining group old between bytes
   pub stops : StopsOpening opens between (paths_of group) new reason
 
 -- why a group isn't opened
-abbrev pub OpensNot : {O R : Type 0} → (O → Text → Option R → O → Type 0) → Group → O → O → Stop → Type 0
-OpensNot opens group old new reason =
-    ((reason ≡ stop.Read) × opens old group.meta.now None new) ⊎ (ReadsNoMeta opens group old new reason ⊎ LacksFile opens group old new reason)
+abbrev pub OpensNot : {O R : Type 0} → (O → Text → Option R → O → Type 0) → (O → Counted R → O → Type 0) → (R → Option (List ℕ)) → Group → O → O → Stop
+    → Type 0
+OpensNot opens closes remaining group old new reason =
+    ((reason ≡ stop.Read) × opens old group.meta.now None new)
+    ⊎ (ReadsNoMeta opens closes group old new reason ⊎ LacksFile opens closes remaining group old new reason)
 
--- the group isn't opened, which is told
-pub record TellsUnopened {O R : Type 0} (opens : O → Text → Option R → O → Type 0) (group : Group) (old new : O) (out err : Stream) (status : ℕ) : Type 0 where
+-- the group isn't opened, which is reported
+pub record TellsUnopened {O R : Type 0} (opens : O → Text → Option R → O → Type 0) (closes : O → Counted R → O → Type 0) (remaining : R → Option (List ℕ))
+    (group : Group) (old new : O) (out err : Stream) (status : ℕ) : Type 0 where
   pub reason : Stop
-  pub not_opened : OpensNot opens group old new reason
+  pub not_opened : OpensNot opens closes remaining group old new reason
   pub idle : IsIdle out
   pub told : TellsStop reason err status
 
@@ -125,17 +154,20 @@ abbrev pub conversion : Bool → Mode
 conversion true = mode.Minimal
 conversion false = mode.Standard
 
--- the group is opened, and a run made over its readers
-pub record RunsOpened {O R : Type 0} (opens : O → Text → Option R → O → Type 0) (remaining : R → Option (List ℕ)) (mode : Mode) (group : Group)
-    (old new : O) (out err : Stream) (status : ℕ) : Type 0 where
+-- The group is opened, and a run made over its readers. They are handed back, in order, as the run left them.
+pub record RunsOpened {O R : Type 0} (opens : O → Text → Option R → O → Type 0) (closes : O → Counted R → O → Type 0) (remaining : R → Option (List ℕ))
+    (mode : Mode) (group : Group) (old new : O) (out err : Stream) (status : ℕ) : Type 0 where
   pub bytes : List ℕ
   pub readers : List (Counted R)
-  pub opened : OpensGroup opens remaining group old new bytes readers
+  pub between : O
+  pub opened : OpensGroup opens closes remaining group old between bytes readers
   pub left : List (Counted R)
+  pub closed : ClosesAll closes between left new
   pub runs : ComesToEnd (Leaves remaining mode group.turns bytes group.base.now readers left out) err status
       ⊎ StopsEarly (Leaves remaining mode group.turns bytes group.base.now readers left out) err status
 
 -- What a run over the files of a group does, and the status that it ends with.
-abbrev pub RunsGroup : {O R : Type 0} → (O → Text → Option R → O → Type 0) → (R → Option (List ℕ)) → Mode → Group → O → O → Stream → Stream → ℕ → Type 0
-RunsGroup opens remaining mode group old new out err status =
-    RunsOpened opens remaining mode group old new out err status ⊎ TellsUnopened opens group old new out err status
+abbrev pub RunsGroup : {O R : Type 0} → (O → Text → Option R → O → Type 0) → (O → Counted R → O → Type 0) → (R → Option (List ℕ)) → Mode → Group → O → O
+    → Stream → Stream → ℕ → Type 0
+RunsGroup opens closes remaining mode group old new out err status =
+    RunsOpened opens closes remaining mode group old new out err status ⊎ TellsUnopened opens closes remaining group old new out err status

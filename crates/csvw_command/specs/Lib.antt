@@ -1,9 +1,8 @@
 pub mod Answers
+pub mod Asked
 pub mod Commands
 pub mod Documents
 pub mod Groups
 pub mod Lines
-pub mod MetaNames
-pub mod Names
 pub mod StandardInput
 pub mod Status

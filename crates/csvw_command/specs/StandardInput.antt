@@ -1,9 +1,9 @@
--- Files that are standard input.
+-- How often a request names standard input: `inputs_of`.
 use Rattle.std.specs.Prelude.{ℕ, Bool, List, [], ◌∷◌, codes, bytes_eq, filter, length}
 use Rattle.clap.specs.Words.{Text}
-use Rattle.csvw_words.specs.declared.Group.{Group}
-use Rattle.csvw_words.specs.declared.Request.{Request}
-use Rattle.csvw_words.specs.declared.Request.TheVariants.{Convert, Plain, Validate}
+use Rattle.csvw_command.specs.declared.request.Group.{Group}
+use Rattle.csvw_command.specs.declared.request.Request.{Request}
+use Rattle.csvw_command.specs.declared.request.Request.TheVariants.{Convert, Plain, Validate}
 use Rattle.csvw_command.specs.Groups.{paths_of}
 
 -- this name stands for standard input

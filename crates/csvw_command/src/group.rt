@@ -1,18 +1,17 @@
 //! Runs over the files of a group of tables.
 ghost use Rattle.std.specs.Prelude.{◌≡◌, ◌≤◌, IfErr, IfOk, map};
-ghost use Rattle.csvw_command.specs.Groups.{EndsSo, OpensAll, OpensGroup, OpensNot, RunsGroup, StopsOpening, conversion, order_of};
+ghost use Rattle.csvw_command.specs.Groups.{ClosesAll, EndsSo, Leaves, OpensAll, OpensGroup, OpensNot, RunsGroup, StopsOpening, order_of};
 ghost use Rattle.csvw_engine.specs.Runs.{Runs};
-ghost use Rattle.csvw_text.specs.Streams.{stream_of};
-ghost use Rattle.csvw_triples_core.specs.declared.mode.Mode.TheVariants as mode;
+ghost use Rattle.csvw_streams.specs.Streams.{stream_of};
 ghost use Rattle.csvw_meta.specs.Document.{document};
 
 use crate::metadata::read_document;
 use crate::opener::Opener;
+use crate::request::Group;
 use crate::tell::{outcome_status, tell_stop};
 use csvw_engine::{Outcome, Stop, run, run_turns};
 use csvw_text::Counted;
 use csvw_triples_core::Mode;
-use csvw_words::Group;
 use std::alloc::Global;
 use std::io::{Read, Write};
 
@@ -46,32 +45,44 @@ fn open_all<O: Opener>(
     Ok(readers)
 }
 
-/// Opens and reads the metadata, and then opens the files of the tables.
+/// Opens and reads the metadata, and then opens the files of the tables. The reader of the metadata is handed back as soon
+/// as it was read, also if it failed.
 fn open_group<O: Opener>(
     alloc: Global,
     group: &Group<'_>,
     opener: &mut O,
 ) -> Result<Opened<O::Reader>, Stop>
-    ensures opened { IfOk result (λ opened. OpensGroup O.opens O.Reader.remaining group.now opener.old opener.new opened.meta.items opened.readers.items) }
-    ensures stop { IfErr result (λ reason. OpensNot O.opens group.now opener.old opener.new reason) }
+    ensures opened { IfOk result (λ opened. OpensGroup O.opens O.closes O.Reader.remaining group.now opener.old opener.new opened.meta.items opened.readers.items) }
+    ensures stop { IfErr result (λ reason. OpensNot O.opens O.closes O.Reader.remaining group.now opener.old opener.new reason) }
 {
     let Some(reader) = opener.open(group.meta) else {
         return Err(Stop::Read);
     };
     let mut reader = Counted::new(reader);
-    let meta = read_document(alloc, &mut reader)?;
+    let read = read_document(alloc, &mut reader);
+    opener.close(reader);
+    let meta = read?;
     let readers = open_all(alloc, group.files.as_slice(), opener)?;
     Ok(Opened { meta, readers })
 }
 
-/// The status of a run, whose stop is told.
-pub fn tell_end<V: Write>(alloc: Global, ran: &Result<Outcome, Stop>, err: &mut Counted<V>) -> u8
+/// Hands back the readers of all tables, in order.
+fn close_all<O: Opener>(readers: Vec<Counted<O::Reader>>, opener: &mut O)
+    ensures { ClosesAll O.closes opener.old readers.items opener.new }
+{
+    for reader in readers {
+        opener.close(reader);
+    }
+}
+
+/// Returns the status of a run, and reports its stop.
+pub fn tell_end<V: Write>(ran: &Result<Outcome, Stop>, err: &mut Counted<V>) -> u8
     ensures end { EndsSo ran.now (stream_of V.contents err.old err.new) result }
     ensures bound { result ≤ 4 }
 {
     match ran {
         Ok(outcome) => outcome_status(outcome),
-        Err(stop) => tell_stop(alloc, stop, err),
+        Err(stop) => tell_stop(stop, err),
     }
 }
 
@@ -112,79 +123,60 @@ fn run_over<R: Read, W: Write, V: Write>(
     }
 }
 
-/// Reports the faults of a group on `out`.
-pub fn validate<O: Opener, W: Write, V: Write>(
+/// Runs over the tables of a group. The graph goes to `out` and the report to `err`. If no graph is asked for, the report
+/// goes to `out`.
+fn run_to<R: Read, W: Write, V: Write>(
     alloc: Global,
-    group: &Group<'_>,
-    opener: &mut O,
+    asked: Asked<'_>,
+    readers: &mut [Counted<R>],
     out: &mut Counted<W>,
     err: &mut Counted<V>,
-) -> u8
-    ensures runs { RunsGroup O.opens O.Reader.remaining mode.Validate group.now opener.old opener.new
+) -> Result<Outcome, Stop>
+    ensures { Leaves R.remaining asked.entry.mode asked.entry.turns asked.entry.meta.now asked.entry.base.now readers.old readers.new
         (stream_of W.contents out.old out.new) (stream_of V.contents err.old err.new) result }
-    ensures bound { result ≤ 4 }
 {
-    match open_group(alloc, group, opener) {
-        Ok(Opened { meta, mut readers }) => {
-            let input = meta.as_slice();
-            let asked = Asked {
-                meta: input,
-                base: group.base,
-                mode: Mode::Validate,
-                turns: group.turns,
-            };
-            let ran = run_over(alloc, asked, readers.as_mut_slice(), err, out);
-            tell_end(alloc, &ran, err)
-        }
-        Err(stop) => tell_stop(alloc, &stop, err),
+    match asked.mode {
+        Mode::Validate => run_over(alloc, asked, readers, err, out),
+        Mode::Minimal => run_over(alloc, asked, readers, out, err),
+        Mode::Standard => run_over(alloc, asked, readers, out, err),
     }
 }
 
-/// The mode of a conversion, minimal or not.
-fn conversion(minimal: bool) -> Mode
-    ensures { result ≡ conversion minimal }
-{
-    if minimal {
-        Mode::Minimal
-    } else {
-        Mode::Standard
-    }
-}
-
-/// A group whose graph is written.
+/// A group, and what is written of it.
 #[derive(Clone, Copy)]
-pub struct ConvertedGroup<'a> {
+pub struct GroupRun<'a> {
     /// The group.
     pub group: &'a Group<'a>,
-    /// Whether its graph is that of minimal mode; else it is that of standard mode.
-    pub minimal: bool,
+    /// Which triples are written; in mode `Validate` only the report.
+    pub mode: Mode,
 }
 
-/// Writes the graph of a group to `out`, and reports its faults on `err`.
-pub fn convert<O: Opener, W: Write, V: Write>(
+/// Runs over the files of a group. The graph goes to `out` and the report to `err`. In mode `Validate` the report goes to
+/// `out`. Returns the exit status; a stop is reported on `err`.
+pub fn run_group<O: Opener, W: Write, V: Write>(
     alloc: Global,
-    asked: ConvertedGroup<'_>,
+    asked: GroupRun<'_>,
     opener: &mut O,
     out: &mut Counted<W>,
     err: &mut Counted<V>,
 ) -> u8
-    ensures runs { RunsGroup O.opens O.Reader.remaining (conversion asked.entry.minimal) asked.entry.group.now opener.old opener.new
+    ensures runs { RunsGroup O.opens O.closes O.Reader.remaining asked.entry.mode asked.entry.group.now opener.old opener.new
         (stream_of W.contents out.old out.new) (stream_of V.contents err.old err.new) result }
     ensures bound { result ≤ 4 }
 {
-    let ConvertedGroup { group, minimal } = asked;
+    let GroupRun { group, mode } = asked;
     match open_group(alloc, group, opener) {
         Ok(Opened { meta, mut readers }) => {
-            let input = meta.as_slice();
             let asked = Asked {
-                meta: input,
+                meta: meta.as_slice(),
                 base: group.base,
-                mode: conversion(minimal),
+                mode,
                 turns: group.turns,
             };
-            let ran = run_over(alloc, asked, readers.as_mut_slice(), out, err);
-            tell_end(alloc, &ran, err)
+            let ran = run_to(alloc, asked, readers.as_mut_slice(), out, err);
+            close_all(readers, opener);
+            tell_end(&ran, err)
         }
-        Err(stop) => tell_stop(alloc, &stop, err),
+        Err(stop) => tell_stop(&stop, err),
     }
 }

@@ -1,6 +1,6 @@
 //! The bytes of a metadata document.
-ghost use Rattle.std.specs.Prelude.{◌≡◌, ◌<◌, IfErr, IfOk, length};
-ghost use Rattle.csvw_text.specs.Counted.{inner_of};
+ghost use Rattle.std.specs.Prelude.{◌≡◌, ◌<◌, IfErr, IfOk, OnOk, length};
+ghost use Rattle.csvw_streams.specs.Counted.{inner_of, failures_of};
 ghost use Rattle.csvw_command.specs.Documents.{IsDocument, IsReadStop, ReadsOn};
 
 use csvw_engine::Stop;
@@ -47,6 +47,7 @@ pub(crate) fn read_document<R: Read>(
     reader: &mut Counted<R>,
 ) -> Result<Vec<u8>, Stop>
     ensures document { IfOk result (λ bytes. IsDocument (R.remaining (inner_of reader.old)) bytes.items) }
+    ensures steady { OnOk result (failures_of reader.new ≡ failures_of reader.old) }
     ensures stop { IfErr result (IsReadStop reader.old reader.new) }
 {
     let Ok(mut buffer) = buffer_of(alloc, PIECE) else {

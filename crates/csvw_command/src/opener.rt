@@ -1,12 +1,14 @@
 //! Where the program's files come from.
 ghost use Rattle.std.specs.Prelude.{◌≡◌, ℕ, List, Option, None};
+ghost use Rattle.csvw_streams.specs.declared.counted.Counted.{Counted as TheCounted};
 
 use crate::standard_input::STANDARD_INPUT;
+use csvw_streams::Counted;
 use std::fs;
 use std::io::{self, Read, Stdin};
 use std::rt::Files;
 
-/// Opens files to read.
+/// Opens files to read, and takes their readers back.
 pub trait Opener {
     /// What reads a file that was opened.
     type Reader: Read + Drop;
@@ -14,9 +16,17 @@ pub trait Opener {
     // What a path gives, and what it leaves.
     ghost opens: { Self → List ℕ → Option Self.Reader → Self → Type 0 };
 
-    /// The file of this path, or `None` where it can't be opened.
+    // What a reader that is handed back leaves.
+    ghost closes: { Self → TheCounted Self.Reader → Self → Type 0 };
+
+    /// Opens the file at this path. Returns `None` if it can't be opened.
     fn open(&mut self, path: &str) -> Option<Self::Reader>
         ensures { opens self.old path.now result self.new };
+
+    /// Takes back the reader of a file, in the state in which it was left and with its count of failures. Nothing more is
+    /// read of it.
+    fn close(&mut self, reader: Counted<Self::Reader>)
+        ensures { closes self.old reader self.new };
 }
 
 /// A file, or standard input.
@@ -67,6 +77,8 @@ impl<'a, R: Files> Opener for FileOpener<'a, R> {
     // `fs::open` says nothing of the file that a path gives.
     ghost opens = { λ old _ _ new. new.rt ≡ old.rt };
 
+    ghost closes = { λ old _ new. new ≡ old };
+
     fn open(&mut self, path: &str) -> Option<Input<R::File>> {
         if path == STANDARD_INPUT {
             let stdin = self.stdin.take()?;
@@ -75,4 +87,8 @@ impl<'a, R: Files> Opener for FileOpener<'a, R> {
         let file = fs::open(self.rt, path).ok()?;
         Some(Input::File(file))
     }
+
+    fn close(&mut self, _reader: Counted<Input<R::File>>)
+        ensures { self.new ≡ self.old }
+    {}
 }

@@ -3,36 +3,32 @@ ghost use Rattle.std.specs.Prelude.{◌≡◌, ◌≤◌, map, string_bytes};
 ghost use Rattle.clap.specs.Words.{kind_of};
 ghost use Rattle.csvw_command.specs.Answers.{Answers, GivesText};
 ghost use Rattle.csvw_command.specs.Commands.{Commands, RunsPlain, RunsRequest};
-ghost use Rattle.csvw_text.specs.Streams.{stream_of};
+ghost use Rattle.csvw_streams.specs.Streams.{stream_of};
 
-use crate::group::{ConvertedGroup, convert, tell_end, validate};
+use crate::group::{GroupRun, run_group, tell_end};
 use crate::opener::Opener;
+use crate::request::{Request, requested};
 use crate::standard_input::reads_twice;
 use crate::tell::{SUCCESS, send, tell_mistake, tell_stop};
 use clap::Error;
 use clap::error::ErrorKind;
 use csvw_engine::{Stop, plain};
 use csvw_text::Counted;
-use csvw_words::{Request, requested};
+use csvw_triples_core::Mode;
 use std::alloc::Global;
 use std::io::Write;
 
 /// What is told of a command line that names standard input twice.
 const TWICE: &str = "csvw: standard input is named for two files, and can be read for one\n";
 
-fn give_help<W: Write, V: Write>(
-    alloc: Global,
-    text: &str,
-    out: &mut Counted<W>,
-    err: &mut Counted<V>,
-) -> u8
+fn give_help<W: Write, V: Write>(text: &str, out: &mut Counted<W>, err: &mut Counted<V>) -> u8
     ensures given { GivesText text.now (stream_of W.contents out.old out.new) (stream_of V.contents err.old err.new) result }
     ensures bound { result ≤ 4 }
 {
-    if send(out, text) {
+    if send(out, text.as_bytes()) {
         SUCCESS
     } else {
-        tell_stop(alloc, &Stop::Write, err)
+        tell_stop(&Stop::Write, err)
     }
 }
 
@@ -47,16 +43,11 @@ fn tell_words<W: Write, V: Write>(
     ensures bound { result ≤ 4 }
 {
     let Ok(text) = answer.to_string(alloc) else {
-        return tell_stop(alloc, &Stop::Memory, err);
+        return tell_stop(&Stop::Memory, err);
     };
     match answer.kind() {
-        ErrorKind::OutOfMemory => tell_stop(alloc, &Stop::Memory, err),
-        ErrorKind::DisplayHelp | ErrorKind::DisplayVersion => give_help(
-            alloc,
-            text.as_str(),
-            out,
-            err,
-        ),
+        ErrorKind::OutOfMemory => tell_stop(&Stop::Memory, err),
+        ErrorKind::DisplayHelp | ErrorKind::DisplayVersion => give_help(text.as_str(), out, err),
         _ => tell_mistake(text.as_str(), err),
     }
 }
@@ -77,16 +68,17 @@ fn run_plain<O: Opener, W: Write, V: Write>(
     out: &mut Counted<W>,
     err: &mut Counted<V>,
 ) -> u8
-    ensures runs { RunsPlain O.opens O.Reader.remaining table.entry.url.now table.entry.file.now opener.old opener.new
+    ensures runs { RunsPlain O.opens O.closes O.Reader.remaining table.entry.url.now table.entry.file.now opener.old opener.new
         (stream_of W.contents out.old out.new) (stream_of V.contents err.old err.new) result }
     ensures bound { result ≤ 4 }
 {
     let Some(reader) = opener.open(table.file) else {
-        return tell_stop(alloc, &Stop::Read, err);
+        return tell_stop(&Stop::Read, err);
     };
     let mut input = Counted::new(reader);
     let ran = plain(alloc, table.url, &mut input, out, err);
-    tell_end(alloc, &ran, err)
+    opener.close(input);
+    tell_end(&ran, err)
 }
 
 /// Does what the words ask for.
@@ -97,7 +89,7 @@ fn run_request<O: Opener, W: Write, V: Write>(
     out: &mut Counted<W>,
     err: &mut Counted<V>,
 ) -> u8
-    ensures runs { RunsRequest O.opens O.Reader.remaining request.now opener.old opener.new
+    ensures runs { RunsRequest O.opens O.closes O.Reader.remaining request.now opener.old opener.new
         (stream_of W.contents out.old out.new) (stream_of V.contents err.old err.new) result }
     ensures bound { result ≤ 4 }
 {
@@ -105,10 +97,16 @@ fn run_request<O: Opener, W: Write, V: Write>(
         Request::Plain { url, file, .. } => {
             run_plain(alloc, PlainTable { url, file }, opener, out, err)
         }
-        Request::Validate(group) => validate(alloc, group, opener, out, err),
+        Request::Validate(group) => {
+            let mode = Mode::Validate;
+            run_group(alloc, GroupRun { group, mode }, opener, out, err)
+        }
         Request::Convert { group, minimal, .. } => {
-            let minimal = *minimal;
-            convert(alloc, ConvertedGroup { group, minimal }, opener, out, err)
+            let mode = match minimal {
+                true => Mode::Minimal,
+                false => Mode::Standard,
+            };
+            run_group(alloc, GroupRun { group, mode }, opener, out, err)
         }
     }
 }
@@ -125,7 +123,7 @@ pub fn command<O: Opener, W: Write, V: Write>(
     out: &mut Counted<W>,
     err: &mut Counted<V>,
 ) -> u8
-    ensures commands { Commands O.opens O.Reader.remaining (map string_bytes words.now) opener.old opener.new
+    ensures commands { Commands O.opens O.closes O.Reader.remaining (map string_bytes words.now) opener.old opener.new
         (stream_of W.contents out.old out.new) (stream_of V.contents err.old err.new) result }
     ensures bound { result ≤ 4 }
 {

@@ -2,7 +2,7 @@
 ghost use Rattle.std.specs.Prelude.{◌≡◌, ◌<◌, ◌≤◌, ◌+◌, true, false, filter, length, map};
 ghost use Rattle.csvw_command.specs.StandardInput.{inputs_of, is_standard, standard_inputs};
 
-use csvw_words::{Group, Request};
+use crate::request::{Group, Request};
 
 /// The name of standard input in place of a file's path.
 pub const STANDARD_INPUT: &str = "-";

@@ -1,13 +1,12 @@
 //! What the program tells of its end, and the status that it ends with.
-ghost use Rattle.std.specs.Prelude.{◌≡◌, ◌++◌, ◌∷◌, [], true, false};
+ghost use Rattle.std.specs.Prelude.{◌≡◌, true, false};
 ghost use Rattle.csvw_command.specs.Answers.{TellsStop};
 ghost use Rattle.csvw_command.specs.Status.{stop_status, outcome_status};
-ghost use Rattle.csvw_text.specs.Streams.{IsCut, Sends, Tells, stream_of};
+ghost use Rattle.csvw_streams.specs.Streams.{IsCut, Sends, Tells, stream_of};
 
-use crate::names::stop_line;
+use crate::line::send_stop;
 use csvw_engine::{Outcome, Stop};
 use csvw_text::{Counted, write_out};
-use std::alloc::Global;
 use std::io::Write;
 
 /// The tables were read to their ends, and no fault is an error; or help was asked for.
@@ -21,22 +20,15 @@ const REFUSED: u8 = 3;
 /// A file or a stream failed, or there was no memory.
 const DEVICE: u8 = 4;
 
-/// Sends a text, and answers whether all of it went out.
-pub fn send<W: Write>(w: &mut Counted<W>, text: &str) -> bool
-    ensures sent { result ≡ true → Sends (stream_of W.contents w.old w.new) text.now }
-    ensures cut { result ≡ false → IsCut (stream_of W.contents w.old w.new) text.now }
+/// Sends some bytes and flushes. Returns whether all of them went out.
+pub fn send<W: Write>(w: &mut Counted<W>, bytes: &[u8]) -> bool
+    ensures sent { result ≡ true → Sends (stream_of W.contents w.old w.new) bytes.now }
+    ensures cut { result ≡ false → IsCut (stream_of W.contents w.old w.new) bytes.now }
 {
-    let Ok(()) = write_out(w, text.as_bytes()) else {
+    let Ok(()) = write_out(w, bytes) else {
         return false;
     };
     w.flush().is_ok()
-}
-
-/// Sends a line and its end, as far as the stream takes them.
-fn send_line<W: Write>(w: &mut Counted<W>, line: &str)
-    ensures { Tells (stream_of W.contents w.old w.new) (line.now ++ (10 ∷ [])) }
-{
-    let _ = send(w, line) && send(w, "\n");
 }
 
 fn stop_status(stop: &Stop) -> u8
@@ -48,24 +40,21 @@ fn stop_status(stop: &Stop) -> u8
     }
 }
 
-/// Tells a stop in one line, and answers its status: 4 where memory, a file or a stream failed, else 3. Where the
-/// line can't be sent, the status is all that is told.
-pub fn tell_stop<V: Write>(alloc: Global, stop: &Stop, err: &mut Counted<V>) -> u8
+/// Reports a stop in one line. Returns its status: 4 if memory, a file or a stream failed, else 3. If the line can't be
+/// sent, the status is all that is reported.
+pub fn tell_stop<V: Write>(stop: &Stop, err: &mut Counted<V>) -> u8
     ensures { TellsStop stop.now (stream_of V.contents err.old err.new) result }
 {
-    match stop_line(alloc, stop) {
-        Ok(line) => send_line(err, line.as_str()),
-        Err(_) => send_line(err, "csvw: Memory"),
-    }
+    send_stop(err, stop);
     stop_status(stop)
 }
 
-/// Tells a mistake of the command line, and answers its status, 2, even where the text can't be sent.
+/// Reports a mistake of the command line. Returns its status, 2, even if the text can't be sent.
 pub fn tell_mistake<V: Write>(text: &str, err: &mut Counted<V>) -> u8
     ensures told { Tells (stream_of V.contents err.old err.new) text.now }
     ensures status { result ≡ 2 }
 {
-    let _ = send(err, text);
+    let _ = send(err, text.as_bytes());
     USAGE
 }
 

@@ -1,23 +1,23 @@
-//! A sink that counts.
+//! A sink that counts triples.
 ghost use Rattle.std.specs.Prelude.{◌≡◌, ◌+◌, length};
 
-use csvw_triples_core::{SinkFault, Triple, TripleSink};
+use csvw_api::{SinkFault, Triple, TripleSink};
 
-/// Counts the triples that it is given.
+/// Counts the triples that it takes.
 #[derive(Drop)]
 pub(crate) struct Counter {
     count: u64,
 }
 
 impl Counter {
-    /// A sink that was given no triple.
+    /// Makes a sink that took no triple.
     pub(crate) fn new() -> Counter
         ensures { result.count ≡ 0 }
     {
         Counter { count: 0 }
     }
 
-    /// How many triples it was given.
+    /// Returns how many triples it took.
     pub(crate) fn count(&self) -> u64
         ensures { result ≡ self.now.count }
     {

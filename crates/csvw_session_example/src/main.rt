@@ -1,17 +1,16 @@
-//! Two tables that come in pieces, as over two connections, and a sink that counts their triples as they come.
+//! A program that feeds a session: pieces of two tables come as over two connections, and a sink counts their
+//! triples as they come.
 #![tactic(auto)]
 
 mod counter;
 mod session;
 
 use counter::Counter;
-use csvw_report::{Outcome, write_report};
-use csvw_session::{Session, Stop};
-use csvw_text::Counted;
+use csvw_api::{Counted, Outcome, Session, Stop, write_report};
 use session::session_over;
 use std::io;
 
-/// What comes over a connection.
+/// An event of a connection.
 enum Arrived {
     /// A piece of its text.
     Piece(&'static str),
@@ -19,7 +18,7 @@ enum Arrived {
     End,
 }
 
-/// What comes, in this order: the number of its table from 1, and a piece or the end.
+/// The events in their order: the number of the table, from 1, and a piece or the end.
 const ARRIVED: [(u32, Arrived); 9] = [
     (1, Arrived::Piece("Station,River,To")),
     (
@@ -35,7 +34,7 @@ const ARRIVED: [(u32, Arrived); 9] = [
     (1, Arrived::End),
 ];
 
-/// Hands on what came, and tells how many triples there are now.
+/// Passes the events to the session, and prints how many triples there are after each.
 fn take(rt: &HostRuntime, session: &mut Session<Counter>) -> io::Result<Result<Outcome, Stop>> {
     for (table, arrived) in &ARRIVED {
         let taken = match arrived {
@@ -50,7 +49,7 @@ fn take(rt: &HostRuntime, session: &mut Session<Counter>) -> io::Result<Result<O
     Ok(session.finish())
 }
 
-/// Tells how many triples there are in all, and reports the faults of the tables.
+/// Prints how many triples there are in all, and reports the faults of the tables.
 fn report(rt: &HostRuntime, counter: &Counter, outcome: &Outcome) -> io::Result<()> {
     println!(rt; "{} triples in all", counter.count())?;
     let mut out = Counted::new(rt.stdout());

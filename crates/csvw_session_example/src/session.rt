@@ -3,10 +3,7 @@ ghost use Rattle.std.specs.Prelude.{IfSome};
 ghost use Rattle.csvw_columns.specs.Ready.{AreReady};
 
 use crate::counter::Counter;
-use csvw_columns::Plan;
-use csvw_meta::read;
-use csvw_session::Session;
-use csvw_triples_core::Mode;
+use csvw_api::{Description, Mode, Plan, ReadDescription, Session};
 use std::alloc::Global;
 
 /// The document, and its URL.
@@ -20,11 +17,11 @@ const DOCUMENT: &str = r#"{"@context":"http://www.w3.org/ns/csvw","tables":[
 
 const URL: &str = "http://example.org/rivers/metadata.json";
 
-/// The plan of the group that the document describes.
+/// Returns the plan of the group that the document describes.
 fn plan(alloc: Global) -> Option<Plan>
     ensures { IfSome result (λ plan. AreReady plan.tables) }
 {
-    let Ok(description) = read(alloc, DOCUMENT.as_bytes(), URL) else {
+    let Ok(description) = Description::read(alloc, DOCUMENT.as_bytes(), URL) else {
         return None;
     };
     match Plan::build(alloc, description) {
@@ -33,7 +30,7 @@ fn plan(alloc: Global) -> Option<Plan>
     }
 }
 
-/// A session over its tables, whose sink counts the triples in minimal mode.
+/// Starts a session over its tables, in minimal mode. Its sink counts the triples.
 pub(crate) fn session_over(alloc: Global) -> Option<Session<Counter>> {
     let plan = plan(alloc)?;
     Session::start(alloc, plan, Mode::Minimal, Counter::new()).ok()

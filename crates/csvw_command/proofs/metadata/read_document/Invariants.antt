@@ -1,7 +1,7 @@
 -- The bytes so far were read, none too many, and no read failed.
 use Rattle.std.proofs.Common.{◌≡◌, ◌≤◌, ◌-◌, length}
 use Rattle.std.specs.Io.KnownBytes.{Consumes}
-use Rattle.csvw_text.specs.Counted.{inner_of, failures_of}
+use Rattle.csvw_streams.specs.Counted.{inner_of, failures_of}
 use Rattle.csvw_command.proofs.metadata.read_document.Given as goal
 
 abbrev pub invariant-loop-room : goal.invariant-loop-room

@@ -1,0 +1,100 @@
+-- The request that the words of a command line make, as the crate `clap` reads them: `Asks`, `program_app`.
+use Rattle.std.specs.Prelude.{◌≡◌, Bool, List, [], Option, Some, codes, false, find, map, option_and_then, true}
+use Rattle.std.specs.Str.{bytes_eq}
+use Rattle.clap.specs.Words.{App, Row, Rule, Text, all_of, fault_of, first_of, new_app, new_rule, subcommand_of, with_rule, with_subcommand}
+use Rattle.clap.specs.Simple.{new_shape}
+use Rattle.clap.specs.Lexer.{usize_max}
+use Rattle.clap.specs.declared.builder.action.ArgAction.TheVariants.{SetTrue}
+use Rattle.clap.specs.declared.parser.matches.ValueSource.{ValueSource}
+use Rattle.clap.specs.declared.parser.matches.ValueSource.TheVariants.{CommandLine}
+use Rattle.csvw_command.specs.declared.request.Group.{Group}
+use Rattle.csvw_command.specs.declared.request.Request.{Request}
+use Rattle.csvw_command.specs.declared.request.Request.TheVariants.{Convert, Plain, Validate}
+
+-- a positional argument that must be there
+abbrev pub required_rule : Text → Rule
+required_rule id = record (new_rule id) { required = true }
+
+-- a flag with a long name, its id
+abbrev pub flag_rule : Text → Rule
+flag_rule id = record (new_rule id) { long = Some id; action = Some SetTrue }
+
+-- the option `--base URL`, which must be there
+abbrev pub base_rule : Rule
+base_rule = record (required_rule (codes "base")) { long = Some (codes "base"); value_names = 1 }
+
+-- the positional argument of one or more files
+abbrev pub files_rule : Rule
+files_rule = record (required_rule (codes "FILE")) { range = Some (record { start_inclusive = 1; end_inclusive = usize_max }) }
+
+-- a subcommand `name [--turns] --base URL META FILE..`
+abbrev pub group_app : Text → App
+group_app name = with_rule (with_rule (with_rule (with_rule (new_app name) base_rule) (required_rule (codes "META"))) files_rule) (flag_rule (codes "turns"))
+
+-- the subcommand `validate [--turns] --base URL META FILE..`
+abbrev pub validate_app : App
+validate_app = group_app (codes "validate")
+
+-- the subcommand `convert [--turns] [--minimal] [--line-buffered] --base URL META FILE..`
+abbrev pub convert_app : App
+convert_app = with_rule (with_rule (group_app (codes "convert")) (flag_rule (codes "minimal"))) (flag_rule (codes "line-buffered"))
+
+-- the subcommand `plain [--line-buffered] URL FILE`
+abbrev pub plain_app : App
+plain_app = with_rule (with_rule (with_rule (new_app (codes "plain")) (required_rule (codes "URL"))) (required_rule (codes "FILE")))
+    (flag_rule (codes "line-buffered"))
+
+-- the program without its subcommands
+abbrev pub bare_app : App
+bare_app = record (new_app (codes "csvw")) {
+  top = record (new_shape (codes "csvw")) { has_version = true; subcommand_required = true; arg_required_else_help = true };
+}
+
+-- the program's command line
+unfoldable pub program_app : App
+program_app = with_subcommand (with_subcommand (with_subcommand bare_app validate_app.top) convert_app.top) plain_app.top
+
+abbrev pub is_from_words : Option ValueSource → Bool
+is_from_words (Some CommandLine) = true
+is_from_words _ = false
+
+-- the words have this flag
+abbrev pub flag_of : Text → List Row → Bool
+flag_of id rows = is_from_words (option_and_then (λ r. r.source) (find (λ r. bytes_eq r.id id) rows))
+
+-- the URL, the metadata and all the files that the words of a subcommand name, and whether the files are read in turn
+pub record IsGroup (rows : List Row) (group : Group) : Type 0 where
+  pub base_is : first_of (codes "base") rows ≡ Some group.base.now
+  pub meta_is : first_of (codes "META") rows ≡ Some group.meta.now
+  pub files_are : all_of (codes "FILE") rows ≡ Some (map (λ file. file.now) group.files.items)
+  pub turns_is : group.turns ≡ flag_of (codes "turns") rows
+
+pub record ReadsPlain (name : Text) (rows : List Row) (url file : Text) (line_buffered : Bool) : Type 0 where
+  pub name_is : name ≡ codes "plain"
+  pub url_is : first_of (codes "URL") rows ≡ Some url
+  pub file_is : first_of (codes "FILE") rows ≡ Some file
+  pub line_buffered_is : line_buffered ≡ flag_of (codes "line-buffered") rows
+
+pub record ReadsValidate (name : Text) (rows : List Row) (group : Group) : Type 0 where
+  pub name_is : name ≡ codes "validate"
+  pub group_is : IsGroup rows group
+
+pub record ReadsConvert (name : Text) (rows : List Row) (group : Group) (minimal line_buffered : Bool) : Type 0 where
+  pub name_is : name ≡ codes "convert"
+  pub group_is : IsGroup rows group
+  pub minimal_is : minimal ≡ flag_of (codes "minimal") rows
+  pub line_buffered_is : line_buffered ≡ flag_of (codes "line-buffered") rows
+
+-- a subcommand of this name with these rows makes this request
+abbrev pub Reads : Text → List Row → Request → Type 0
+Reads name rows (Plain url file line_buffered) = ReadsPlain name rows url.now file.now line_buffered
+Reads name rows (Validate group) = ReadsValidate name rows group
+Reads name rows (Convert group minimal line_buffered) = ReadsConvert name rows group minimal line_buffered
+
+-- the words are correct, and name a subcommand that makes this request
+pub record Asks (words : List Text) (request : Request) : Type 0 where
+  pub no_fault : fault_of program_app words ≡ []
+  pub name : Text
+  pub rows : List Row
+  pub subcommand : subcommand_of program_app words ≡ Some (name, rows)
+  pub reads : Reads name rows request
