@@ -1,0 +1,24 @@
+//! Tests of the program's command by its public calls, over files in memory: the bytes of its streams and its
+//! status.
+#![tactic(auto)]
+
+#[cfg(test)]
+mod documents;
+#[cfg(test)]
+mod examples;
+#[cfg(test)]
+mod failures;
+#[cfg(test)]
+mod groups;
+#[cfg(test)]
+mod limits;
+#[cfg(test)]
+mod plain_runs;
+#[cfg(test)]
+mod runs;
+#[cfg(test)]
+mod turns;
+#[cfg(test)]
+mod words;
+#[cfg(test)]
+mod writers;

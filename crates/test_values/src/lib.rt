@@ -1,0 +1,35 @@
+//! Tests of texts, IRIs, templates and datatypes: worked values, links, expansions, and writers that fail.
+#![tactic(auto)]
+
+#[cfg(test)]
+mod bases;
+#[cfg(test)]
+mod claims;
+#[cfg(test)]
+mod copies;
+#[cfg(test)]
+mod datatypes;
+#[cfg(test)]
+mod encoded;
+#[cfg(test)]
+mod iri_limits;
+#[cfg(test)]
+mod iris;
+#[cfg(test)]
+mod limits;
+#[cfg(test)]
+mod links;
+#[cfg(test)]
+mod own;
+#[cfg(test)]
+mod readings;
+#[cfg(test)]
+mod tables;
+#[cfg(test)]
+mod telling;
+#[cfg(test)]
+mod templates;
+#[cfg(test)]
+mod texts;
+#[cfg(test)]
+mod writing;
