@@ -1,21 +1,39 @@
 #!/usr/bin/env python3
-"""Prints the version of the program, the commit that it was built from, and what proved it.
+"""Prints the version of the program csvw, the commit that it was built from, and what proved it.
 
-usage: build/version.py PROGRAM
+usage: build/version.py
+
+Three lines on standard output: the version, the commit, and the kit that proved the program. `with changes` follows the
+commit if the working tree differed from it. A fourth line says what has changed since. Of a program that
+build/build.py didn't build, they say that nothing is known. The status is 0, or 4 if there is no program.
 """
-import subprocess
+import os
 import sys
-from pathlib import Path
 
-TOP = Path(__file__).resolve().parent.parent
+sys.dont_write_bytecode = True
 
-
-def said(*command):
-    """What a command prints, without its last line break."""
-    return subprocess.run(command, cwd=TOP, capture_output=True, text=True, check=True).stdout.strip()
+from build import PROGRAM, as_it_is, recorded, said, say
 
 
-changed = " with changes" if said("git", "status", "--porcelain", "--untracked-files=no") else ""
-print(said(sys.argv[1], "--version"))
-print(f"commit {said('git', 'rev-parse', '--short', 'HEAD')}{changed}")
-print(f"proved and built by {said('rt', 'version')}")
+def lines():
+    record, now = recorded(), as_it_is()
+    if record is None:
+        yield "commit unknown"
+        yield "not known to be proved: `./csvw --build` proves it"
+        return
+    yield f"commit {record['commit'] or 'unknown'}{' with changes' * record['changed']}"
+    yield f"proved and built by {record['kit']}"
+    changed = [it for it in ("sources", "kit") if record[it] != now[it]]
+    if changed:
+        yield f"changed since then: the {' and the '.join(changed)}; `./csvw --build` builds it again"
+
+
+def main():
+    if not os.access(PROGRAM, os.X_OK):
+        say("no program is built: `./csvw --build` builds it")
+        return 4
+    print(said(str(PROGRAM), "--version"), *lines(), sep="\n")
+    return 0
+
+
+sys.exit(main())
