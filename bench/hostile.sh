@@ -1,22 +1,16 @@
 #!/usr/bin/env bash
-# Measures the reader of rows on hostile rows of 1 MB beside rows of letters, as a table in Markdown. It fails where one takes
-# more than 5 times as long as letters. Usage: bench/hostile.sh [RUNS]: the least of so many runs, of 3 where none is given.
-set -euo pipefail
-runs=${1:-3}
-bench=$(cd "$(dirname "${BASH_SOURCE[0]}")" && pwd)
-work=$bench/out/hostile
-crate=$bench/../crates/csvw_rows_bench
-program=$crate/out/csvw_rows_bench
+# Measures the reader of rows on hostile rows of 1 MB beside rows of letters, as a table in Markdown. It fails if one takes
+# more than 5 times as long as letters. Usage: bench/hostile.sh [RUNS]: the least of so many runs, of 3 if none is given.
+source "$(dirname "${BASH_SOURCE[0]}")/lib.sh"
+begin "${1:-3}" hostile
 names="letters crs marks umlauts endings quoted_letters quoted_crs quoted_quotes quoted_marks quoted_umlauts quoted_endings"
-mkdir -p "$work"
 
-(cd "$crate" && rt run -- csv </dev/null >/dev/null)
+build_crate bench_rows csv
 python3 "$bench/hostile_files.py" "$work"
 
-# The least processor seconds of the runs over a file, in pieces of so many bytes.
+# least FILE SIZE: the least processor seconds of the runs over a file, in pieces of so many bytes.
 least() {
-  local file=$1 size=$2
-  python3 "$bench/least.py" "$runs" "$file" "$program" rows "$size" ,
+  python3 "$bench/least.py" "$runs" "$1" "$program" rows "$2" ,
 }
 
 slow=0
@@ -31,7 +25,4 @@ for name in $names; do
     BEGIN { printf "| %s | %.3f | %.1f | %.2f | %.1f |", n, a, a / b, c, c / d; exit (a > 5 * b || c > 5 * d) }') || slow=1
   echo "$line"
 done
-if [ "$slow" = 1 ]; then
-  echo 'hostile.sh: some rows take more than 5 times as long as letters' >&2
-  exit 1
-fi
+[ "$slow" = 0 ] || fail 'some rows take more than 5 times as long as letters'

@@ -1,4 +1,4 @@
-"""Prints the least processor seconds of so many runs of a program over a file: `time` tells them in hundredths alone.
+"""Prints the least processor seconds of so many runs of a program over a file: `time` measures hundredths of a second.
 Usage: least.py RUNS FILE PROGRAM WORD.."""
 
 import resource

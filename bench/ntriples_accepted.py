@@ -6,7 +6,7 @@ The documents are small and the same at each run: each spelling of a triple, and
 doubled, replaced or put in. The grammar is that of RDF 1.1 N-Triples, section 7, written here once more, as regular
 expressions. Printed are the differences of serdi and rapper from it by their kinds, each with how many documents have it
 and the shortest of them. A kind is a change of the grammar that accounts for the difference. Where both take a document, our
-triples are compared with serdi's. Exit status 1 where our reader differs from the grammar, or reads other triples than
+triples are compared with serdi's. Exit status 1 if our reader differs from the grammar, or reads other triples than
 serdi, or a difference is of no kind.
 """
 
@@ -18,8 +18,8 @@ from concurrent.futures import ThreadPoolExecutor
 from dataclasses import dataclass
 
 HERE = os.path.dirname(os.path.abspath(__file__))
-CRATE = os.path.join(HERE, "..", "crates", "csvw_ntriples_bench")
-PROGRAM = os.path.join(CRATE, "out", "csvw_ntriples_bench")
+CRATE = os.path.join(HERE, "..", "crates", "bench_ntriples")
+PROGRAM = os.path.join(CRATE, "out", "bench_ntriples")
 
 READERS = {
     "ours": [PROGRAM, "count"],
@@ -90,7 +90,7 @@ def are_characters(text):
     return all(is_character(number) for number in numbers)
 
 
-# The kinds: where another reader takes what the grammar refuses, and where it refuses what the grammar has.
+# The kinds: what another reader takes although the grammar refuses it, and what it refuses although the grammar has it.
 ANY_LABEL = r"_[^\s<>\"]*[^\s<>\".]"
 TAKEN = {
     "serdi": {
@@ -273,7 +273,7 @@ def kind_of(reader, document, taken):
 
 
 def show(reader, taken, found):
-    """Prints the kinds of a reader's differences, and answers whether each has a kind."""
+    """Prints the kinds of a reader's differences, and returns whether each has a kind."""
     kinds = {}
     for document in found:
         kinds.setdefault(kind_of(reader, document, taken), []).append(document)
@@ -286,13 +286,13 @@ def show(reader, taken, found):
 
 
 def output(command, document):
-    """What the command writes, or None where it refuses the document."""
+    """What the command writes, or None if it refuses the document."""
     run = subprocess.run(command, input=document, stdout=subprocess.PIPE, stderr=subprocess.DEVNULL)
     return run.stdout if run.returncode == 0 else None
 
 
 def compared(document):
-    """Whether serdi's triples are ours, both in our spelling; None where one of us doesn't write them."""
+    """Whether serdi's triples are ours, both in our spelling; None if one of us doesn't write them."""
     ours = output([PROGRAM, "write", "1"], document)
     theirs = output(READERS["serdi"], document)
     if ours is None or theirs is None:

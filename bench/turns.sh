@@ -1,16 +1,12 @@
 #!/usr/bin/env bash
 # Measures `csvw convert --minimal` of 8 tables of 10 MB one after the other and in turn, and the memory of 64 tables open at once.
-# Usage: bench/turns.sh [RUNS]: the least of so many runs of each counts, of 3 where no number is given.
-set -euo pipefail
-runs=${1:-3}
-bench=$(cd "$(dirname "${BASH_SOURCE[0]}")" && pwd)
-work=$bench/out/turns
-proved=${CSVW:-$bench/../crates/csvw/out/csvw}
-mkdir -p "$work"
+# Usage: bench/turns.sh [RUNS]: the least of so many runs of each counts, of 3 if no number is given.
+source "$(dirname "${BASH_SOURCE[0]}")/lib.sh"
+begin "${1:-3}" turns
 
-[ -n "${CSVW:-}" ] || "$bench/../csvw" --help >/dev/null
+build_csvw
 
-# A document of so many tables, and a table of some so many bytes.
+# document COUNT: writes a document of so many tables. table BYTES FILE: writes a table of about so many bytes.
 document() {
   python3 -c 'import sys
 tables = ",".join("{\"url\":\"%d.csv\"}" % n for n in range(int(sys.argv[1])))
@@ -26,13 +22,11 @@ document 64
 table 10000000 "$work/large.csv"
 table 200000 "$work/small.csv"
 
-# The least processor seconds and the greatest peak in MB of the runs with such words.
-measure() {
-  rm -f "$work/times"
+# convert NAME WORD..: measures the runs with such words.
+convert() {
   for _ in $(seq "$runs"); do
-    /usr/bin/time -a -o "$work/times" -f '%U %S %M' "$proved" convert --minimal --base http://example.org/ "$@" >/dev/null 2>&1
+    measure "$1" "$csvw" convert --minimal --base http://example.org/ "${@:2}"
   done
-  awk '{ t = $1 + $2; if (n++ == 0 || t < s) s = t; if ($3 > m) m = $3 } END { printf "%.2f %.0f", s, m * 1.024 / 1000 }' "$work/times"
 }
 many() {
   for _ in $(seq "$1"); do printf '%s\n' "$2"; done
@@ -40,11 +34,14 @@ many() {
 
 mapfile -t large < <(many 8 "$work/large.csv")
 mapfile -t small < <(many 64 "$work/small.csv")
-read -r seconds peak <<<"$(measure "$work/8.json" "${large[@]}")"
-read -r turns turns_peak <<<"$(measure --turns "$work/8.json" "${large[@]}")"
-read -r _ open_peak <<<"$(measure --turns "$work/64.json" "${small[@]}")"
-echo "least of $runs runs; $(uptime | sed 's/.*load/load/')"
+convert one_by_one "$work/8.json" "${large[@]}"
+convert in_turn --turns "$work/8.json" "${large[@]}"
+convert open --turns "$work/64.json" "${small[@]}"
+read -r _ seconds peak <<<"$(summary one_by_one)"
+read -r _ turns turns_peak <<<"$(summary in_turn)"
+read -r _ _ open_peak <<<"$(summary open)"
+runs_line
 echo "8 tables, one after the other: $seconds processor seconds, $peak MB"
 echo "8 tables, in turn:             $turns processor seconds, $turns_peak MB"
-awk -v a="$turns" -v b="$seconds" 'BEGIN { printf "ratio %.2f (bar 1.10)\n", a / b }'
+echo "ratio $(ratio "$turns" "$seconds") (bar 1.10)"
 echo "64 tables open at once:        $open_peak MB (bar 16)"

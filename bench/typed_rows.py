@@ -1,5 +1,5 @@
 """Writes the table of the benchmark of datatypes: a header and 1,000,000 rows of an integer, a decimal, a date, a truth and
-a string. The rows are the same at each run; some numbers have a sign, zeros in front, or zeros behind the point."""
+a string. The rows are the same at each run; some numbers have a sign, leading zeros, or zeros after the point at their end."""
 
 import sys
 

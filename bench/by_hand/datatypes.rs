@@ -1,5 +1,5 @@
 //! Minimal mode with datatypes: the columns are an integer, a decimal, a date, a truth and a string. What is no value of
-//! its datatype stays a string, and is told on standard error.
+//! its datatype stays a string, and is reported on standard error.
 
 use crate::records::{Job, Row};
 use crate::terms::{XSD, predicates, write_escaped};
@@ -14,7 +14,7 @@ pub struct Datatypes<W: Write> {
     pub value: Vec<u8>,
 }
 
-/// The digits without zeros in front; one zero where there is nothing else.
+/// The digits without leading zeros; one zero if nothing is left.
 fn whole(digits: &[u8]) -> &[u8] {
     let zeros = digits.iter().take_while(|b| **b == b'0').count();
     if zeros == digits.len() { b"0" } else { &digits[zeros..] }
@@ -32,7 +32,7 @@ fn are_digits(text: &[u8]) -> bool {
     text.iter().all(u8::is_ascii_digit)
 }
 
-/// Puts the lexical form of an integer; false where the text is none.
+/// Puts the lexical form of an integer; false if the text is none.
 fn integer(text: &[u8], value: &mut Vec<u8>) -> bool {
     let (minus, digits) = split_sign(text);
     if digits.is_empty() || !are_digits(digits) {
@@ -49,7 +49,7 @@ fn integer(text: &[u8], value: &mut Vec<u8>) -> bool {
     true
 }
 
-/// Puts the lexical form of a decimal; false where the text is none.
+/// Puts the lexical form of a decimal; false if the text is none.
 fn decimal(text: &[u8], value: &mut Vec<u8>) -> bool {
     let (minus, rest) = split_sign(text);
     let point = rest.iter().position(|b| *b == b'.').unwrap_or(rest.len());
@@ -79,7 +79,7 @@ fn number(digits: &[u8]) -> u32 {
     digits.iter().fold(0, |n, b| n * 10 + u32::from(b - b'0'))
 }
 
-/// Puts a date; false where the text is none.
+/// Puts a date; false if the text is none.
 fn date(text: &[u8], value: &mut Vec<u8>) -> bool {
     let [y @ .., b'-', m1, m2, b'-', d1, d2] = text else {
         return false;
@@ -103,7 +103,7 @@ fn date(text: &[u8], value: &mut Vec<u8>) -> bool {
     true
 }
 
-/// Puts a truth; false where the text is none.
+/// Puts a truth; false if the text is none.
 fn truth(text: &[u8], value: &mut Vec<u8>) -> bool {
     let form: &[u8] = match text {
         b"true" | b"1" => b"true",

@@ -7,7 +7,7 @@ use std::io::{self, Write};
 
 /// How often each number came.
 pub trait Counts {
-    /// Counts a number, and tells how often it came before.
+    /// Counts a number, and returns how often it came before.
     fn count(&mut self, number: i128) -> u32;
 
     /// How often a number came.

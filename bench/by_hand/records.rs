@@ -106,7 +106,7 @@ impl<J: Job> Records<J> {
         Ok(())
     }
 
-    /// Takes a byte that ends no row; a CR in front of a line feed is not given here.
+    /// Takes a byte that ends no row; a CR before a line feed doesn't come here.
     fn take_text(&mut self, b: u8) -> io::Result<()> {
         self.row.length += 1;
         if self.row.length > ROW_LIMIT {

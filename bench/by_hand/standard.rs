@@ -1,4 +1,4 @@
-//! Standard mode: what is told of the group, its table and each row, and the triples of minimal mode.
+//! Standard mode: the triples about the group, its table and each row, and the triples of minimal mode.
 
 use crate::records::{Job, Row};
 use crate::terms::{CSVW, RDF_TYPE, XSD, predicates, write_escaped};

@@ -1,9 +1,9 @@
-//! Counts the rows, the fields and the bytes of the fields of a CSV file, written by hand: a state machine
-//! over bytes, one buffer for a row. Usage: rows_by_hand [DELIMITER] <FILE.
+//! Counts the rows, the fields and the bytes of the fields of a CSV file: a state machine over bytes, with one buffer
+//! for a row and any delimiter.
 
-use std::env;
-use std::io::{self, Read};
-use std::process::ExitCode;
+use crate::records::bad;
+use std::fs::File;
+use std::io::{self, Read, Write};
 
 const PIECE: usize = 65_536;
 
@@ -22,7 +22,7 @@ struct Counts {
     bytes: u64,
 }
 
-/// A reader, whose delimiter has one byte where `ONE` says so.
+/// A reader. `ONE` is true if its delimiter has one byte.
 struct Reader<'a, const ONE: bool> {
     state: State,
     after_cr: bool,
@@ -32,10 +32,6 @@ struct Reader<'a, const ONE: bool> {
     text: Vec<u8>,
     ends: Vec<usize>,
     counts: Counts,
-}
-
-fn bad(what: &str) -> io::Error {
-    io::Error::new(io::ErrorKind::InvalidData, what)
 }
 
 impl<const ONE: bool> Reader<'_, ONE> {
@@ -67,14 +63,14 @@ impl<const ONE: bool> Reader<'_, ONE> {
         }
     }
 
-    /// Takes the front of the delimiter that was read as text.
+    /// Takes the part of the delimiter that was read as text.
     fn keep_matched(&mut self) -> io::Result<()> {
         let matched = self.matched;
         self.matched = 0;
         (0..matched).try_for_each(|i| self.keep(self.delimiter[i]))
     }
 
-    /// Takes a byte behind a front of the delimiter.
+    /// Takes a byte after a part of the delimiter.
     fn go_on(&mut self, b: u8) -> io::Result<()> {
         if b != self.delimiter[self.matched] {
             self.keep_matched()?;
@@ -160,25 +156,13 @@ fn read<const ONE: bool>(mut input: impl Read, delimiter: &[u8]) -> io::Result<C
     }
 }
 
-fn read_by(delimiter: &str) -> io::Result<Counts> {
-    let input = io::stdin().lock();
-    match delimiter.as_bytes() {
-        [] => Err(bad("no delimiter")),
-        one @ [_] => read::<true>(input, one),
-        more => read::<false>(input, more),
-    }
-}
-
-fn main() -> ExitCode {
-    let delimiter = env::args().nth(1).unwrap_or_else(|| String::from(","));
-    match read_by(&delimiter) {
-        Ok(Counts { rows, fields, bytes }) => {
-            println!("{rows} rows, {fields} fields, {bytes} bytes");
-            ExitCode::SUCCESS
-        }
-        Err(e) => {
-            eprintln!("{e}");
-            ExitCode::FAILURE
-        }
-    }
+/// Writes the counts of a file with this delimiter.
+pub fn count(delimiter: &str, file: &str, mut out: impl Write) -> io::Result<()> {
+    let input = File::open(file)?;
+    let Counts { rows, fields, bytes } = match delimiter.as_bytes() {
+        [] => return Err(bad("no delimiter")),
+        one @ [_] => read::<true>(input, one)?,
+        more => read::<false>(input, more)?,
+    };
+    writeln!(out, "{rows} rows, {fields} fields, {bytes} bytes")
 }

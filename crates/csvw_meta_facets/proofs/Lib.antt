@@ -1,2 +1,0 @@
-mod FitLemmas
-mod ReadLemmas

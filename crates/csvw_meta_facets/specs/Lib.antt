@@ -1,4 +1,0 @@
-pub mod Bounds
-pub mod Facets
-pub mod Fit
-pub mod Lengths

@@ -1,4 +1,0 @@
-mod PatternLemmas
-mod ReadLemmas
-mod TruthLemmas
-mod SoundLemmas

@@ -1,4 +1,0 @@
-pub mod Formats
-pub mod Numbers
-pub mod Patterns
-pub mod Truths
