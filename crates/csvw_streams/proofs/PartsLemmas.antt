@@ -1,17 +1,15 @@
 -- What follows from the parts of a line that were sent.
 use Rattle.std.proofs.Common.{◌≡◌, ◌∙◌, ◌<◌, ◌+◌, ℕ, suc, List, [], ◌∷◌, ◌++◌, take, drop, get_or, length, map, refl, sym, ap, append_assoc, append-nil}
-use Rattle.std.proofs.Common.{take-append-drop, add-one, Option, Result, Ok, Err, IfErr, OnErr, OnOk, flat_map, is_ok, true, false}
+use Rattle.std.proofs.Common.{take-append-drop, add-one, Option, Result, Ok, Err, OnErr, OnOk, flat_map, is_ok, true, false}
 use Rattle.std.proofs.KnownBytes.{Appends-nil, Appends-trans}
 use Rattle.std.proofs.Math.Seq.{drop-cons, take-suc}
 use Rattle.std.proofs.lemmas.List.{map-append}
 use Rattle.std.proofs.lemmas.List.Concat.{flat_map-append}
 use Rattle.std.proofs.lemmas.List.Folds.{concat-append}
-use Rattle.std.specs.Io.KnownBytes.{Appends}
 use Rattle.std.specs.List.{concat}
 use Rattle.csvw_streams.specs.Count.{one_more}
 use Rattle.csvw_streams.specs.Lines.{SendsOn, shown}
 use Rattle.csvw_streams.specs.Streams.{Stream, IsCut, Sends}
-use Rattle.csvw_streams.specs.declared.writing.Cut.{Cut}
 
 -- the same stream, up to and from a moment between
 abbrev pub stream : Option (List ℕ) → Option (List ℕ) → ℕ → ℕ → Stream
@@ -26,22 +24,12 @@ kept a n before bytes after same = record {
 }
 
 -- what was kept was sent, and then the bytes
-pub sent_both : (a b c : Option (List ℕ)) (n m k : ℕ) (before bytes after : List ℕ) → Appends a b before → m ≡ n → Appends b c bytes → k ≡ m → after ≡ []
-    → SendsOn (stream a c n k) before bytes after
-sent_both a b c n m k before bytes after p same q still none = record {
+pub sent_both : (a b c : Option (List ℕ)) (n m k : ℕ) (before bytes after : List ℕ) → Sends (stream a b n m) before → Sends (stream b c m k) bytes
+    → after ≡ [] → SendsOn (stream a c n k) before bytes after
+sent_both a b c n m k before bytes after p q none = record {
   sent = before ++ bytes;
-  sends = (Appends-trans a b c before bytes p q, still ∙ same);
+  sends = (Appends-trans a b c before bytes p.0 q.0, q.1 ∙ p.1);
   parts = sym (ap (λ xs. (before ++ bytes) ++ xs) none ∙ append-nil (before ++ bytes));
-}
-
--- a write was cut
-pub cut_write : (a b : Option (List ℕ)) (n m : ℕ) (text : List ℕ) (k : ℕ) → Appends a b (take k text) → m ≡ one_more n → IsCut (stream a b n m) text
-cut_write a b n m text k p failed = record {
-  front = take k text;
-  rest = drop k text;
-  parts = sym (take-append-drop k text);
-  appended = p;
-  failed = failed;
 }
 
 -- what more was to be sent changes nothing
@@ -93,23 +81,22 @@ module _ {A : Type 0} (f : A → List ℕ) (xs : List A) (i : ℕ) (d : A) (belo
   concat_parts = ap (λ ys. concat (map f ys)) (sym (take-append-drop i xs)) ∙ (ap concat (map-append f (take i xs) (drop i xs))
       ∙ (concat-append (map f (take i xs)) (map f (drop i xs)) ∙ ap (λ ys. concat (map f (take i xs)) ++ concat (map f ys)) (drop-cons xs i d below)))
 
-module _ {U : Type 0} (r : Result U Cut) (a b c : Option (List ℕ)) (n m k : ℕ) (before bytes : List ℕ) (p : Appends a b before) (same : m ≡ n) where
+module _ {U E : Type 0} (r : Result U E) (a b c : Option (List ℕ)) (n m k : ℕ) (before bytes : List ℕ) (first : Sends (stream a b n m) before) where
   -- what was kept was sent; then the bytes are sent
-  pub push_ok : (after : List ℕ) → OnOk r (Appends b c bytes) → OnOk r (k ≡ m) → after ≡ [] → OnOk r (SendsOn (stream a c n k) before bytes after)
-  push_ok after q still none = both r q still
+  pub push_ok : (after : List ℕ) → OnOk r (Sends (stream b c m k) bytes) → after ≡ [] → OnOk r (SendsOn (stream a c n k) before bytes after)
+  push_ok after last none = both r last
     where
-      both : (x : Result U Cut) → OnOk x (Appends b c bytes) → OnOk x (k ≡ m) → OnOk x (SendsOn (stream a c n k) before bytes after)
-      both (Ok u) q still = sent_both a b c n m k before bytes after p same q still none
-      both (Err e) q still = tt
+      both : (x : Result U E) → OnOk x (Sends (stream b c m k) bytes) → OnOk x (SendsOn (stream a c n k) before bytes after)
+      both (Ok u) last = sent_both a b c n m k before bytes after first last none
+      both (Err e) last = tt
 
   -- or a write of them is cut
-  pub push_cut : IfErr r (λ e. Appends b c (take e.sent bytes)) → IfErr r (λ _. k ≡ one_more m) → OnErr r (IsCut (stream a c n k) (before ++ bytes))
-  push_cut q failed = both r q failed
+  pub push_cut : OnErr r (IsCut (stream b c m k) bytes) → OnErr r (IsCut (stream a c n k) (before ++ bytes))
+  push_cut last = both r last
     where
-      both : (x : Result U Cut) → IfErr x (λ e. Appends b c (take e.sent bytes)) → IfErr x (λ _. k ≡ one_more m)
-          → OnErr x (IsCut (stream a c n k) (before ++ bytes))
-      both (Ok u) q failed = tt
-      both (Err e) q failed = cut_second a b c n m k before bytes (p, same) (cut_write b c m k bytes e.sent q failed)
+      both : (x : Result U E) → OnErr x (IsCut (stream b c m k) bytes) → OnErr x (IsCut (stream a c n k) (before ++ bytes))
+      both (Ok u) last = tt
+      both (Err e) last = cut_second a b c n m k before bytes first last
 
 module _ {A : Type 0} (f : A → List ℕ) (xs : List A) (i : ℕ) (d : A) (below : i < length xs) (bytes : List ℕ) (is : bytes ≡ f (get_or xs i d))
     (a b c : Option (List ℕ)) (n m k : ℕ) (before room : List ℕ) (done : SendsOn (stream a b n m) before (concat (map f (take i xs))) room) where
@@ -126,34 +113,35 @@ module _ {A : Type 0} (f : A → List ℕ) (xs : List A) (i : ℕ) (d : A) (belo
       let rest = concat (map f (drop (suc i) xs)) in
       let whole : concat (map f xs) ≡ concat (map f (take i xs)) ++ (bytes ++ rest) =
       concat_parts f xs i d below ∙ ap (λ ys. concat (map f (take i xs)) ++ (ys ++ rest)) (sym is) in
-      let more : IsCut (stream b c m k) (room ++ (bytes ++ rest)) = rw (sym (append_assoc room bytes rest)) (cut_first (stream b c m k) (room ++ bytes) rest one) in
+      let more : IsCut (stream b c m k) (room ++ (bytes ++ rest)) =
+      rw (sym (append_assoc room bytes rest)) (cut_first (stream b c m k) (room ++ bytes) rest one) in
       rw whole (cut_then a b c n m k before (concat (map f (take i xs))) room (bytes ++ rest) done more)
 
 -- one character more
 shown_next : (ys : List ℕ) (c : ℕ) → flat_map shown (ys ++ (c ∷ [])) ≡ flat_map shown ys ++ shown c
 shown_next ys c = flat_map-append shown ys (c ∷ []) ∙ ap (λ xs. flat_map shown ys ++ xs) (append-nil (shown c))
 
-module _ {U : Type 0} (a b c : Option (List ℕ)) (n m k : ℕ) (before room after ys : List ℕ) (x : ℕ) where
+module _ {U E : Type 0} (a b c : Option (List ℕ)) (n m k : ℕ) (before room after ys : List ℕ) (x : ℕ) where
   -- a character is added where those before it were
-  pub char_ok : (r s : Result U Cut) → is_ok r ≡ true → OnOk r (SendsOn (stream a b n m) before (flat_map shown ys) room)
+  pub char_ok : (r s : Result U E) → is_ok r ≡ true → OnOk r (SendsOn (stream a b n m) before (flat_map shown ys) room)
       → OnOk s (SendsOn (stream b c m k) room (shown x) after) → OnOk s (SendsOn (stream a c n k) before (flat_map shown (ys ++ (x ∷ []))) after)
   char_ok (Err e) s ok done one = cc
   char_ok (Ok u) (Err e) ok done one = tt
   char_ok (Ok u) (Ok v) ok done one = rw (shown_next ys x) (sends_then a b c n m k before (flat_map shown ys) room (shown x) after done one)
 
   -- a write of it is cut
-  pub char_cut : (r s : Result U Cut) → is_ok r ≡ true → OnOk r (SendsOn (stream a b n m) before (flat_map shown ys) room)
+  pub char_cut : (r s : Result U E) → is_ok r ≡ true → OnOk r (SendsOn (stream a b n m) before (flat_map shown ys) room)
       → OnErr s (IsCut (stream b c m k) (room ++ shown x)) → OnErr s (IsCut (stream a c n k) (before ++ flat_map shown (ys ++ (x ∷ []))))
   char_cut (Err e) s ok done one = cc
   char_cut (Ok u) (Ok v) ok done one = tt
   char_cut (Ok u) (Err e) ok done one = rw (shown_next ys x) (cut_then a b c n m k before (flat_map shown ys) room (shown x) done one)
 
 -- after a write that was cut no character is added
-pub none_ok : {U : Type 0} (r : Result U Cut) (P Q : Type 0) → is_ok r ≡ false → OnOk r P → OnOk r Q
+pub none_ok : {U E : Type 0} (r : Result U E) (P Q : Type 0) → is_ok r ≡ false → OnOk r P → OnOk r Q
 none_ok (Ok u) P Q failed p = cc
 none_ok (Err e) P Q failed p = tt
 
-pub stays_cut : {U : Type 0} (r : Result U Cut) (s : Stream) (before ys : List ℕ) (x : ℕ) → OnErr r (IsCut s (before ++ flat_map shown ys))
+pub stays_cut : {U E : Type 0} (r : Result U E) (s : Stream) (before ys : List ℕ) (x : ℕ) → OnErr r (IsCut s (before ++ flat_map shown ys))
     → OnErr r (IsCut s (before ++ flat_map shown (ys ++ (x ∷ []))))
 stays_cut (Ok u) s before ys x p = tt
 stays_cut (Err e) s before ys x p =

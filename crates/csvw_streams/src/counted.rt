@@ -1,5 +1,5 @@
 //! Readers and writers that count their failures.
-ghost use Rattle.std.specs.Prelude.{◌≡◌};
+ghost use Rattle.std.specs.Prelude.{◌≡◌, ℕ, List, Option};
 ghost use Rattle.std.specs.Io.KnownBytes.{Keeps, ReadConsumes, WriteAppends};
 ghost use Rattle.std.specs.Io.{ReadsAtMost, WritesAtMost};
 
@@ -73,10 +73,7 @@ fn read_again<R: Read>(reader: &mut R, buf: &mut [u8]) -> io::Result<usize>
     reader.read(buf)
 }
 
-/// Writes after a call that was interrupted; a call that is interrupted is made again. It is seldom called, so
-/// it stays out of the callers of `write`.
-#[cold]
-#[inline(never)]
+/// Writes after a call that was interrupted; a call that is interrupted is made again.
 fn write_again<W: Write>(writer: &mut W, buf: &[u8]) -> io::Result<usize>
     ensures bound { WritesAtMost result buf.now }
     ensures bytes { WriteAppends (W.contents writer.old) (W.contents writer.new) result buf.now }
@@ -129,6 +126,39 @@ impl<R: Read> Read for Counted<R> {
     }
 }
 
+impl<W: Write> Counted<W> {
+    ghost use Rattle.csvw_streams.specs.Counted.{inner_of, failures_of, ends_of};
+    ghost use Rattle.csvw_streams.specs.Count.{after_write};
+
+    /// Returns the result of a write that returned an error or took nothing of some bytes: it writes again if the
+    /// call was interrupted, and counts a failure. It is seldom called, so it stays out of the callers of `write`.
+    #[cold]
+    #[inline(never)]
+    fn settle(&mut self, first: io::Result<usize>, buf: &[u8]) -> io::Result<usize>
+        ensures bound { WritesAtMost first buf.now → WritesAtMost result buf.now }
+        ensures bytes { (held : Option (List ℕ)) → WriteAppends held (W.contents (inner_of self.old)) first buf.now
+            → WriteAppends held (W.contents (inner_of self.new)) result buf.now }
+        ensures count { failures_of self.new ≡ after_write result buf.now (failures_of self.old) }
+        ensures ends { ends_of self.new ≡ ends_of self.old }
+    {
+        let result = match first {
+            Err(fault) if fault.kind() == ErrorKind::Interrupted => write_again(
+                &mut self.inner,
+                buf,
+            ),
+            other => other,
+        };
+        let failed = match &result {
+            Ok(n) => *n == 0 && !buf.is_empty(),
+            Err(_) => true,
+        };
+        if failed {
+            self.failures = self.failures.saturating_add(1);
+        }
+        result
+    }
+}
+
 impl<W: Write> Write for Counted<W> {
     ghost use Rattle.csvw_streams.specs.Counted.{inner_of, failures_of, ends_of};
     ghost use Rattle.csvw_streams.specs.Count.{after_call, after_write};
@@ -141,19 +171,13 @@ impl<W: Write> Write for Counted<W> {
         ensures count { failures_of self.new ≡ after_write result buf.now (failures_of self.old) }
         ensures ends { ends_of self.new ≡ ends_of self.old }
     {
-        let result = match self.inner.write(buf) {
-            Err(fault) if fault.kind() == ErrorKind::Interrupted => write_again(
-                &mut self.inner,
-                buf,
-            ),
-            result => result,
-        };
+        let result = self.inner.write(buf);
         let failed = match &result {
             Ok(n) => *n == 0 && !buf.is_empty(),
             Err(_) => true,
         };
         if failed {
-            self.failures = self.failures.saturating_add(1);
+            return self.settle(result, buf);
         }
         result
     }

@@ -15,5 +15,5 @@ mod line;
 mod writing;
 
 pub use counted::Counted;
-pub use line::{LineRoom, push_parts, push_shown};
+pub use line::{LineCut, LineRoom, push_parts, push_shown};
 pub use writing::{Cut, write_out};

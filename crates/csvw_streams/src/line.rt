@@ -2,9 +2,9 @@
 ghost use Rattle.std.specs.Prelude.{◌≡◌, ◌<◌, ◌++◌, OnErr, OnOk, map};
 ghost use Rattle.std.specs.List.{concat};
 ghost use Rattle.csvw_streams.specs.Lines.{SendsOn, hex_digit, shown, shown_text};
-ghost use Rattle.csvw_streams.specs.Streams.{IsCut, stream_of};
+ghost use Rattle.csvw_streams.specs.Streams.{IsCut, Sends, stream_of};
 
-use crate::{Counted, Cut, write_out};
+use crate::{Counted, write_out};
 use arrayvec::ArrayVec;
 use std::io::Write;
 
@@ -14,18 +14,33 @@ const ROOM: usize = 512;
 /// The bytes of a line that are not sent yet.
 pub type LineRoom = ArrayVec<u8, ROOM>;
 
+/// A line was cut off: a write failed or took nothing.
+#[derive(Clone, Copy, Debug, PartialEq, Eq)]
+pub struct LineCut;
+
+/// Sends bytes. Fails if a write fails or takes nothing.
+fn send<W: Write>(w: &mut Counted<W>, bytes: &[u8]) -> Result<(), LineCut>
+    ensures ok { OnOk result (Sends (stream_of W.contents w.old w.new) bytes.now) }
+    ensures cut { OnErr result (IsCut (stream_of W.contents w.old w.new) bytes.now) }
+{
+    match write_out(w, bytes) {
+        Ok(()) => Ok(()),
+        Err(_) => Err(LineCut),
+    }
+}
+
 /// Adds bytes to the room. If they don't fit, sends what is there and then the bytes. Fails if a write fails or takes
 /// nothing.
-fn push<W: Write>(w: &mut Counted<W>, room: &mut LineRoom, bytes: &[u8]) -> Result<(), Cut>
+fn push<W: Write>(w: &mut Counted<W>, room: &mut LineRoom, bytes: &[u8]) -> Result<(), LineCut>
     ensures ok { OnOk result (SendsOn (stream_of W.contents w.old w.new) room.old.items bytes.now room.new.items) }
     ensures cut { OnErr result (IsCut (stream_of W.contents w.old w.new) (room.old.items ++ bytes.now)) }
 {
     match room.try_extend_from_slice(bytes) {
         Ok(()) => Ok(()),
         Err(_) => {
-            write_out(w, room.as_slice())?;
+            send(w, room.as_slice())?;
             room.clear();
-            write_out(w, bytes)
+            send(w, bytes)
         }
     }
 }
@@ -35,7 +50,7 @@ pub fn push_parts<W: Write>(
     w: &mut Counted<W>,
     room: &mut LineRoom,
     parts: &[&str],
-) -> Result<(), Cut>
+) -> Result<(), LineCut>
     ensures ok { OnOk result (SendsOn (stream_of W.contents w.old w.new) room.old.items (concat (map (λ part. part.now) parts.now)) room.new.items) }
     ensures cut { OnErr result (IsCut (stream_of W.contents w.old w.new) (room.old.items ++ concat (map (λ part. part.now) parts.now))) }
 {
@@ -47,7 +62,7 @@ pub fn push_parts<W: Write>(
 
 /// Adds a character to the room, a control character as `\u` and four hexadecimal digits. Fails if a write fails or
 /// takes nothing.
-fn push_char<W: Write>(w: &mut Counted<W>, room: &mut LineRoom, c: char) -> Result<(), Cut>
+fn push_char<W: Write>(w: &mut Counted<W>, room: &mut LineRoom, c: char) -> Result<(), LineCut>
     ensures ok { OnOk result (SendsOn (stream_of W.contents w.old w.new) room.old.items (shown c) room.new.items) }
     ensures cut { OnErr result (IsCut (stream_of W.contents w.old w.new) (room.old.items ++ shown c)) }
 {
@@ -84,7 +99,11 @@ fn hex_digit(n: u32) -> u8
 
 /// Adds a text to the room, each control character as `\u` and four hexadecimal digits, so that it stays on its line.
 /// Fails if a write fails or takes nothing.
-pub fn push_shown<W: Write>(w: &mut Counted<W>, room: &mut LineRoom, text: &str) -> Result<(), Cut>
+pub fn push_shown<W: Write>(
+    w: &mut Counted<W>,
+    room: &mut LineRoom,
+    text: &str,
+) -> Result<(), LineCut>
     ensures ok { OnOk result (SendsOn (stream_of W.contents w.old w.new) room.old.items (shown_text text.now) room.new.items) }
     ensures cut { OnErr result (IsCut (stream_of W.contents w.old w.new) (room.old.items ++ shown_text text.now)) }
 {
