@@ -14,7 +14,7 @@
 //! - `Draft::go_on` reads what the pass over the characters reads (`GoesOn`). It ends where the row ends, or reports
 //!   the rule that is broken there.
 //! - `take_fields` and `text_at`: each field is text, in the place that its bound says.
-//! - `Rules::is_note` returns whether a row is skipped or a comment.
+//! - `Rules::is_ignored` returns whether a row is skipped or a comment.
 //! - `Symbols::of` returns the symbols by which the rows of a dialect are cut, exactly if it has such symbols
 //!   (`IsSymbols`).
 //! - `field_laws`: the laws of drafts and bounds by which csvw_rows is proved.

@@ -4,10 +4,10 @@ ghost use Rattle.std.specs.List.{starts_with};
 ghost use Rattle.csvw_fields.specs.FieldText.{IsLeads};
 ghost use Rattle.csvw_fields.specs.Cuts.{IsSymbols};
 ghost use Rattle.csvw_fields.specs.declared.cut.Symbols.{Symbols};
-ghost use Rattle.csvw_records.specs.Files.{begins_with, is_note};
+ghost use Rattle.csvw_records.specs.Files.{begins_with, is_ignored};
 ghost use Rattle.csvw_records.specs.Lawful.{prefix_of};
 ghost use Rattle.csvw_records.specs.Lawful.{IsLawful};
-ghost use Rattle.csvw_records.specs.NextRow.{may_be_note};
+ghost use Rattle.csvw_records.specs.NextRow.{may_be_comment};
 ghost use Rattle.csvw_records.specs.AtFront.{IsCommon, IsPrefixLen};
 
 use crate::cut::Symbols;
@@ -57,8 +57,8 @@ impl Rules {
 
     /// Returns whether a row that begins with these bytes is skipped or a comment. `place` is its place among all
     /// rows, from 0.
-    pub fn is_note(&self, place: u64, rest: &str) -> bool
-        ensures { result ≡ is_note self.now.dialect place (chars rest.now) }
+    pub fn is_ignored(&self, place: u64, rest: &str) -> bool
+        ensures { result ≡ is_ignored self.now.dialect place (chars rest.now) }
     {
         place < self.dialect.skip_rows || self.begins_comment(rest)
     }
@@ -74,8 +74,8 @@ impl Rules {
     }
 
     /// Returns whether a row that begins with these bytes may still become a comment.
-    pub fn may_be_note(&self, rest: &str) -> bool
-        ensures { result ≡ may_be_note self.now.dialect (chars rest.now) }
+    pub fn may_be_comment(&self, rest: &str) -> bool
+        ensures { result ≡ may_be_comment self.now.dialect (chars rest.now) }
     {
         record_laws();
         match &self.dialect.comment_prefix {

@@ -11,15 +11,15 @@ use Rattle.csvw_records.specs.declared.scan.State.{State}
 use Rattle.csvw_records.specs.declared.scan.State.TheVariants.{Start}
 use Rattle.csvw_records.specs.Grammar.{terminator_len}
 use Rattle.csvw_records.specs.Lawful.{IsLawful, has_break, prefix_breaks}
-use Rattle.csvw_records.specs.Files.{Row, IsRow, EndsRow, is_note, begins_with}
+use Rattle.csvw_records.specs.Files.{Row, IsRow, EndsRow, is_ignored, begins_with}
 use Rattle.csvw_records.specs.Lawful.{prefix_of}
 use Rattle.csvw_records.specs.Scan.{Outcome, Found, Broken, Unfinished, run, pass, finish}
-use Rattle.csvw_records.specs.NextRow.{settled, unsettled, line_of, found_row, next_row, terminator_of, may_be_note, begins_prefix}
+use Rattle.csvw_records.specs.NextRow.{settled, unsettled, line_of, found_row, next_row, terminator_of, may_be_comment, begins_prefix}
 use Rattle.csvw_records.specs.PartOfRow.{Continues}
 use Rattle.csvw_records.proofs.RunSteps.{no_end}
 use Rattle.csvw_records.proofs.Joins.{line_join, settled_all, settled_clear}
 use Rattle.csvw_records.specs.PassLaws.{Clear}
-use Rattle.csvw_records.proofs.Notes.{note_same, note_stays, terminator_breaks}
+use Rattle.csvw_records.proofs.IgnoredRows.{ignored_same, ignored_stays, terminator_breaks}
 use Rattle.csvw_records.specs.TerminatorLaws.{is_break, BeginsBreak}
 use Rattle.csvw_records.proofs.RowLaws.{row_sound, row_complete, line_sound, line_complete, line_some}
 use Rattle.csvw_records.proofs.Complete.{nothing_ends}
@@ -149,15 +149,15 @@ pub other_found : (d : Dialect) (i : ℕ) (part rest after : List ℕ) (other : 
     → next_row false d i (part ++ rest) ≡ Some (other.fields, after)
 other_found d i part rest after other w e r h = ap (next_row false d i) e ∙ row_complete false d i other after w r (inl h)
 
-pub note_next : (d : Dialect) (i : ℕ) (text : List ℕ) → is_note d i text ≡ true
+pub ignored_next : (d : Dialect) (i : ℕ) (text : List ℕ) → is_ignored d i text ≡ true
     → next_row false d i text ≡ option_map (λ after. (None, after)) (line_of false d text)
-note_next d i text e = ap (λ (b : Bool). if b then option_map (λ after. (None, after)) (line_of false d text) else found_row d
+ignored_next d i text e = ap (λ (b : Bool). if b then option_map (λ after. (None, after)) (line_of false d text) else found_row d
     (pass false d Start [] [] text)) e
 
-pub fields_next : (f : Bool) (d : Dialect) (i : ℕ) (text : List ℕ) → is_note d i text ≡ false → next_row f d i text ≡ found_row d (pass f d Start [] [] text)
+pub fields_next : (f : Bool) (d : Dialect) (i : ℕ) (text : List ℕ) → is_ignored d i text ≡ false → next_row f d i text ≡ found_row d (pass f d Start [] [] text)
 fields_next f d i text e = ap (λ (b : Bool). if b then option_map (λ after. (None, after)) (line_of f d text) else found_row d (pass f d Start [] [] text)) e
 
--- a note that goes on
+-- a ignored row that goes on
 line_none : (d : Dialect) (text : List ℕ) → line_of false d (unsettled d text) ≡ None
 line_none d text = by_line (line_of false d (unsettled d text)) refl
   where
@@ -172,9 +172,9 @@ line_term d w = line_complete false d [] (terminator_of d) tt (inl (term_some d 
 pub clear_all : (d : Dialect) (part : List ℕ) → Clear d (settled d part) (unsettled d part)
 clear_all d part = subst (Clear d (settled d part)) (append-nil (unsettled d part)) (settled_clear d part [])
 
-pub continues_note : (d : Dialect) (i : ℕ) (part : List ℕ) → IsLawful d → is_note d i part ≡ true → line_of false d (settled d part) ≡ None
+pub continues_ignored : (d : Dialect) (i : ℕ) (part : List ℕ) → IsLawful d → is_ignored d i part ≡ true → line_of false d (settled d part) ≡ None
     → Continues d i part (length (settled d part))
-continues_note d i part w n e = record {
+continues_ignored d i part w n e = record {
   within = omega (arith, settled_len d part);
   row = record { text = s; fields = None };
   more = more;
@@ -182,7 +182,7 @@ continues_note d i part w n e = record {
   is_row = found_is_row d i s (terminator_of d) None w found;
   fits = settled_fits d part;
   sure = sure;
-  incomplete = note_next d i part n ∙ ap (option_map (λ l. (None, l)))
+  incomplete = ignored_next d i part n ∙ ap (option_map (λ l. (None, l)))
       (ap (line_of false d) (sym (settled_all d part)) ∙ line_join d false s (unsettled d part) (clear_all d part) e ∙ line_none d part);
 }
   where
@@ -195,17 +195,17 @@ continues_note d i part w n e = record {
     closed : unsettled d part ++ more ≡ terminator_of d
     closed = (closing d part).1
 
-    note_s : is_note d i s ≡ true
-    note_s = sym (note_same d i s (unsettled d part) w (unsettled_breaks d part)) ∙ ap (is_note d i) (settled_all d part) ∙ n
+    ignored_s : is_ignored d i s ≡ true
+    ignored_s = sym (ignored_same d i s (unsettled d part) w (unsettled_breaks d part)) ∙ ap (is_ignored d i) (settled_all d part) ∙ n
 
     found : next_row false d i (s ++ terminator_of d) ≡ Some (None, terminator_of d)
-    found = note_next d i (s ++ terminator_of d) (note_stays d i s (terminator_of d) note_s)
+    found = ignored_next d i (s ++ terminator_of d) (ignored_stays d i s (terminator_of d) ignored_s)
         ∙ ap (option_map (λ l. (None, l))) (line_join d false s (terminator_of d) (subst (Clear d s) closed (settled_clear d part more)) e ∙ line_term d w)
 
     sure : (other : Row) (rest after : List ℕ) → part ++ rest ≡ other.text ++ after → IsRow d i other after → 0 < terminator_len d after
         → length s ≤ length other.text
     sure other rest after e' r h =
-        let found = sym (note_next d i (part ++ rest) (note_stays d i part rest n)) ∙ other_found d i part rest after other w e' r h in
+        let found = sym (ignored_next d i (part ++ rest) (ignored_stays d i part rest n)) ∙ other_found d i part rest after other w e' r h in
         let line = (line_some (line_of false d (part ++ rest)) other.fields after found).0 in
         let joined : line_of false d (unsettled d part ++ rest) ≡ Some after =
         sym (ap (line_of false d) (regroup d part rest) ∙ line_join d false s (unsettled d part ++ rest) (settled_clear d part rest) e) ∙ line in
@@ -292,7 +292,7 @@ or_right : (a b : Bool) → b ≡ true → (a || b) ≡ true
 or_right true b h = refl
 or_right false b h = h
 
-pub continues_prefix : (d : Dialect) (i : ℕ) (part prefix : List ℕ) → IsLawful d → prefix_of d ≡ Some prefix → is_note d i part ≡ false
+pub continues_prefix : (d : Dialect) (i : ℕ) (part prefix : List ℕ) → IsLawful d → prefix_of d ≡ Some prefix → is_ignored d i part ≡ false
     → starts_with nat_eq prefix part ≡ true → Continues d i part (length part)
 continues_prefix d i part prefix w o n m = record {
   within = omega arith;
@@ -317,14 +317,14 @@ continues_prefix d i part prefix w o n m = record {
     plain : has_break part ≡ false
     plain = break_front part tail (ap has_break (sym spelled) ∙ whole)
 
-    note : is_note d i prefix ≡ true
-    note = or_right (nat_lt i d.skip_rows) (begins_with prefix (prefix_of d)) (ap (begins_with prefix) o ∙ starts_itself prefix)
+    ignored : is_ignored d i prefix ≡ true
+    ignored = or_right (nat_lt i d.skip_rows) (begins_with prefix (prefix_of d)) (ap (begins_with prefix) o ∙ starts_itself prefix)
 
     found : next_row false d i (prefix ++ terminator_of d) ≡ Some (None, terminator_of d)
-    found = note_next d i (prefix ++ terminator_of d) (note_stays d i prefix (terminator_of d) note)
+    found = ignored_next d i (prefix ++ terminator_of d) (ignored_stays d i prefix (terminator_of d) ignored)
         ∙ ap (option_map (λ l. (None, l))) (no_terminators d prefix (terminator_of d) whole ∙ line_term d w)
 
-pub continues_maybe : (d : Dialect) (i : ℕ) (part : List ℕ) → IsLawful d → is_note d i part ≡ false → may_be_note d part ≡ true
+pub continues_maybe : (d : Dialect) (i : ℕ) (part : List ℕ) → IsLawful d → is_ignored d i part ≡ false → may_be_comment d part ≡ true
     → Continues d i part (length part)
 continues_maybe d i part w n m = by_prefix (prefix_of d) refl m
   where

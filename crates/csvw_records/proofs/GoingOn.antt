@@ -11,7 +11,7 @@ use Rattle.csvw_records.specs.declared.stop.RowStop.{RowStop}
 use Rattle.csvw_records.specs.declared.scan.State.TheVariants.{Start}
 use Rattle.csvw_records.specs.Grammar.{terminator_len}
 use Rattle.csvw_records.specs.Lengths.{byte_len, row_limit}
-use Rattle.csvw_records.specs.Files.{Row, IsRow, AreRows, KeepsLimits, IsWhole, content, is_text, is_note}
+use Rattle.csvw_records.specs.Files.{Row, IsRow, AreRows, KeepsLimits, IsWhole, content, is_text, is_ignored}
 use Rattle.csvw_records.specs.Scan.{run, finish}
 use Rattle.csvw_records.specs.NextRow.{unsettled, next_row, found_row}
 use Rattle.csvw_records.specs.PartOfRow.{Breaks, Goes}
@@ -20,7 +20,7 @@ use Rattle.csvw_records.proofs.Complete.{nothing_ends}
 use Rattle.csvw_records.proofs.Continue.{fields_next}
 use Rattle.csvw_records.specs.PassLaws.{goes_on}
 use Rattle.csvw_records.proofs.Lookahead.{rows_again}
-use Rattle.csvw_records.proofs.Notes.{note_never}
+use Rattle.csvw_records.proofs.IgnoredRows.{never_ignored}
 use Rattle.csvw_records.proofs.RowLaws.{row_complete, row_unique}
 use Rattle.csvw_records.proofs.Sees.{sees, run_on}
 use Rattle.csvw_records.specs.RowLaws.{Sees}
@@ -58,10 +58,10 @@ take_all n l h = grind (arith, common_steps)
 -- a rule that is broken in a front leaves no row in the text
 pub breaks_next : (f : Bool) (d : Dialect) (i : ℕ) (text : List ℕ) (k : ℕ) (stop : RowStop) → Breaks d i (take k text) stop → next_row f d i text ≡ None
 breaks_next f d i text k stop b =
-    let note = ap (is_note d i) (sym (take-append-drop k text)) ∙ note_never d i (take k text) (drop k text) b.no_note b.may_not in
+    let not_ignored = ap (is_ignored d i) (sym (take-append-drop k text)) ∙ never_ignored d i (take k text) (drop k text) b.not_ignored b.may_not in
     let passed = ap (run d Start [] []) (sym (take-append-drop k text)) ∙ run_on d (take k text) (drop k text)
     ∙ ap (λ o. goes_on d o (unsettled d (take k text) ++ drop k text)) b.broken in
-    fields_next f d i text note ∙ ap (λ o. found_row d (finish o f)) passed
+    fields_next f d i text not_ignored ∙ ap (λ o. found_row d (finish o f)) passed
 
 -- a last row that isn't too long goes on to one with its terminator
 pub last_goes : (d : Dialect) (max i : ℕ) (row : Row) → IsLawful d → i < max → IsRow d i row [] → byte_len row.text ≤ row_limit → Goes d max i row.text

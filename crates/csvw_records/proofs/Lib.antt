@@ -6,7 +6,7 @@ mod GoingOn
 mod GoodTexts
 mod Joins
 mod Lookahead
-mod Notes
+mod IgnoredRows
 mod Prefixes
 mod RowLaws
 mod RunSteps

@@ -5,7 +5,7 @@ use Rattle.std.proofs.lemmas.Bool.Decides.{nat_tests}
 use Rattle.std.proofs.Math.Seq.{drop-append_seam}
 use Rattle.csvw_records.specs.declared.dialect.Dialect.{Dialect}
 use Rattle.csvw_records.specs.Grammar.{terminator_len, IsPlain, IsField, AreFields, RowText}
-use Rattle.csvw_records.specs.Files.{Row, IsRow, AreRows, HasNoTerminator, is_note}
+use Rattle.csvw_records.specs.Files.{Row, IsRow, AreRows, HasNoTerminator, is_ignored}
 use Rattle.csvw_records.proofs.Complete.{nothing_ends}
 use Rattle.csvw_records.specs.RowLaws.{Again}
 
@@ -30,7 +30,7 @@ fields_again d row (v ∷ u ∷ us) x r q (source, more, e, f, a) =
     (source, more, e, field_again d source v d.delimiter (more ++ x ∷ r) (more ++ x ∷ q) f, fields_again d more (u ∷ us) x r q a)
 
 pub row_again : (d : Dialect) (i : ℕ) (row : Row) (x : ℕ) (r q : List ℕ) → IsRow d i row (x ∷ r) → IsRow d i row (x ∷ q)
-row_again d i row x r q h = by_kind (is_note d i row.text) h
+row_again d i row x r q h = by_kind (is_ignored d i row.text) h
   where
     by_kind : (b : Bool) → MatchBool b ((row.fields ≡ None) × HasNoTerminator d row.text (x ∷ r))
         ((fields : List (List ℕ)) × (row.fields ≡ Some fields) × RowText d row.text fields (x ∷ r))

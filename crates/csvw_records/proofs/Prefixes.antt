@@ -4,7 +4,7 @@ use Rattle.std.specs.Prelude.{IsUtf8, encode_utf8_all}
 use Rattle.std.specs.List.{starts_with}
 use Rattle.std.proofs.lemmas.Str.{chars-append, encodes-chars, encodes-append}
 use Rattle.csvw_records.proofs.Continue.{starts_split, starts_itself}
-use Rattle.csvw_records.proofs.Notes.{starts_stays}
+use Rattle.csvw_records.proofs.IgnoredRows.{starts_stays}
 
 -- a text that doesn't begin with the bytes of the prefix doesn't begin with its characters
 no_prefix : (rest prefix : List ℕ) → IsUtf8 rest → IsUtf8 prefix → starts_with nat_eq rest prefix ≡ false

@@ -6,10 +6,10 @@ use Rattle.csvw_records.specs.declared.scan.State.TheVariants.{Start}
 use Rattle.csvw_records.specs.Grammar.{terminator_len, trimmed, AreFields, RowText}
 use Rattle.csvw_records.specs.Lawful.{IsLawful}
 use Rattle.csvw_records.specs.Scan.{Outcome, Found, Broken, Unfinished, pass}
-use Rattle.csvw_records.specs.Files.{Row, IsRow, AreRows, EndsRow, HasNoTerminator, is_note}
+use Rattle.csvw_records.specs.Files.{Row, IsRow, AreRows, EndsRow, HasNoTerminator, is_ignored}
 use Rattle.csvw_records.specs.NextRow.{line_of, found_row, next_row}
 use Rattle.std.proofs.lemmas.List.{append_cancel_right}
-use Rattle.csvw_records.proofs.Notes.{note_same, ends_break}
+use Rattle.csvw_records.proofs.IgnoredRows.{ignored_same, ends_break}
 use Rattle.csvw_records.proofs.RunSteps.{no_end}
 use Rattle.csvw_records.specs.PassLaws.{ends_at}
 use Rattle.csvw_records.proofs.Complete.{run_fields, has_end, nothing_ends}
@@ -51,7 +51,7 @@ line_sound false d [] after h = absurd cc
 line_sound f d (c ∷ cs) after h = line_step f d c cs after (ends_at d (c ∷ cs)) refl h (line_sound f d cs after)
 
 -- a row that is there is found
-by_kind : (f : Bool) (d : Dialect) (i : ℕ) (row : Row) (after : List ℕ) (b : Bool) → is_note d i (row.text ++ after) ≡ b → IsLawful d
+by_kind : (f : Bool) (d : Dialect) (i : ℕ) (row : Row) (after : List ℕ) (b : Bool) → is_ignored d i (row.text ++ after) ≡ b → IsLawful d
     → MatchBool b ((row.fields ≡ None) × HasNoTerminator d row.text after)
     ((fields : List (List ℕ)) × (row.fields ≡ Some fields) × RowText d row.text fields after)
     → EndsRow f d after → (if b then option_map (λ after. (None, after)) (line_of f d (row.text ++ after)) else found_row d
@@ -63,9 +63,9 @@ by_kind f d i row after false e w (fields, some, (values, are, all)) h =
 pub row_complete : (f : Bool) (d : Dialect) (i : ℕ) (row : Row) (after : List ℕ) → IsLawful d → IsRow d i row after → EndsRow f d after
     → next_row f d i (row.text ++ after) ≡ Some (row.fields, after)
 row_complete f d i row after w r h =
-    let same = note_same d i row.text after w (ends_break f d after h) in
+    let same = ignored_same d i row.text after w (ends_break f d after h) in
     ap (λ (b : Bool). if b then option_map (λ l. (None, l)) (line_of f d (row.text ++ after)) else found_row d (pass f d Start [] [] (row.text ++ after))) same
-    ∙ by_kind f d i row after (is_note d i row.text) same w r h
+    ∙ by_kind f d i row after (is_ignored d i row.text) same w r h
 
 pub row_unique : (f : Bool) (d : Dialect) (i : ℕ) (a b : Row) (after later : List ℕ) → IsLawful d → a.text ++ after ≡ b.text ++ later
     → IsRow d i a after → EndsRow f d after → IsRow d i b later → EndsRow f d later → SameRow a b after later
@@ -110,23 +110,25 @@ line_some (Some l) fields after h =
     (ap Some r, sym s)
 
 row_sound_by : (f : Bool) (d : Dialect) (i : ℕ) (text : List ℕ) (fields : Option (List (List ℕ))) (after : List ℕ) (b : Bool) → IsLawful d
-    → is_note d i text ≡ b
+    → is_ignored d i text ≡ b
     → ◌≡◌ {A = Option (Option (List (List ℕ)) × List ℕ)}
     (if b then option_map (λ l. (None, l)) (line_of f d text) else found_row d (pass f d Start [] [] text)) (Some (fields, after))
     → ReadsRow f d i text fields after
 row_sound_by f d i text fields after true w e h =
     let found = line_some (line_of f d text) fields after h in
     let r = line_sound f d text after found.0 in
-    let note : is_note d i r.line ≡ true = sym (note_same d i r.line after w (ends_break f d after r.ends)) ∙ ap (is_note d i) (sym r.spelled) ∙ e in
-    record { row = r.line; spelled = r.spelled; is_row = rw note (found.1, r.none); ends = r.ends }
+    let ignored : is_ignored d i r.line ≡ true = sym (ignored_same d i r.line after w (ends_break f d after r.ends))
+    ∙ ap (is_ignored d i) (sym r.spelled) ∙ e in
+    record { row = r.line; spelled = r.spelled; is_row = rw ignored (found.1, r.none); ends = r.ends }
 row_sound_by f d i text fields after false w e h =
     let found = found_sound f d text (pass f d Start [] [] text) fields after refl h in
     let r = sound f d Start [] [] text found.0 after found.1 in
-    let note : is_note d i r.row ≡ false = sym (note_same d i r.row after w (ends_break f d after r.ends)) ∙ ap (is_note d i) (sym r.spelled) ∙ e in
+    let not_ignored : is_ignored d i r.row ≡ false = sym (ignored_same d i r.row after w (ends_break f d after r.ends))
+    ∙ ap (is_ignored d i) (sym r.spelled) ∙ e in
     let are : AreFields d r.row found.0 after =
     subst (λ (l : List (List ℕ)). AreFields d r.row l after) (sym r.all) (start_is_fields d r.row r.new after r.fields) in
-    record { row = r.row; spelled = r.spelled; is_row = rw note (map (trimmed d.trim) found.0, found.2, (found.0, are, refl)); ends = r.ends }
+    record { row = r.row; spelled = r.spelled; is_row = rw not_ignored (map (trimmed d.trim) found.0, found.2, (found.0, are, refl)); ends = r.ends }
 
 pub row_sound : (f : Bool) (d : Dialect) (i : ℕ) (text : List ℕ) (fields : Option (List (List ℕ))) (after : List ℕ) → IsLawful d
     → next_row f d i text ≡ Some (fields, after) → ReadsRow f d i text fields after
-row_sound f d i text fields after w h = row_sound_by f d i text fields after (is_note d i text) w refl h
+row_sound f d i text fields after w h = row_sound_by f d i text fields after (is_ignored d i text) w refl h

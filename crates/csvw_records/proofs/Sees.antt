@@ -7,20 +7,21 @@ use Rattle.csvw_records.specs.declared.scan.State.TheVariants.{Start, Plain, Ins
 use Rattle.csvw_records.specs.declared.scan.Step.TheVariants.{Keep, Skip}
 use Rattle.csvw_records.specs.Grammar.{terminator_len, trimmed}
 use Rattle.csvw_records.specs.Lawful.{IsLawful}
-use Rattle.csvw_records.specs.Files.{Row, IsRow, EndsRow, is_note}
+use Rattle.csvw_records.specs.Files.{Row, IsRow, EndsRow, is_ignored}
 use Rattle.csvw_records.specs.Scan.{Outcome, Found, Broken, Unfinished, quote_is, is_quoted, step_of, run, finish}
-use Rattle.csvw_records.specs.NextRow.{settled, unsettled, line_of, found_row, next_row, terminator_of, may_be_note}
+use Rattle.csvw_records.specs.NextRow.{settled, unsettled, line_of, found_row, next_row, terminator_of, may_be_comment}
 use Rattle.csvw_records.specs.PartOfRow.{Continues, HasRow}
 use Rattle.csvw_records.proofs.RunSteps.{differs}
 use Rattle.csvw_records.specs.PassLaws.{ends_at, act_run, goes_on}
 use Rattle.csvw_records.proofs.Joins.{run_join, line_joins, settled_all, settled_clear}
-use Rattle.csvw_records.proofs.Notes.{note_never}
+use Rattle.csvw_records.proofs.IgnoredRows.{never_ignored}
 use Rattle.csvw_records.proofs.RowLaws.{row_sound}
 use Rattle.csvw_records.proofs.Complete.{start_after, closed_after, plain_found, same_test}
 use Rattle.csvw_records.proofs.Broken.{run_tells}
 use Rattle.csvw_records.specs.RowLaws.{Tells, Sees}
 use Rattle.csvw_records.proofs.Continue.{term_some, unsettled_is, closing, found_within, not_in_unsettled, row_reaches, regroup, settled_len, settled_fits}
-use Rattle.csvw_records.proofs.Continue.{found_is_row, other_found, fields_next, note_next, take_front, take_long, clear_all, continues_note, continues_maybe}
+use Rattle.csvw_records.proofs.Continue.{found_is_row, other_found, fields_next, ignored_next, take_front, take_long, clear_all}
+use Rattle.csvw_records.proofs.Continue.{continues_ignored, continues_maybe}
 
 -- outside quotes the terminator ends the row
 ends_unquoted : (d : Dialect) (st : State) (vs : List (List ℕ)) (cur : List ℕ) → IsLawful d → is_quoted st ≡ false
@@ -55,7 +56,7 @@ reaches : (d : Dialect) (st : State) (vs : List (List ℕ)) (cur rest after : Li
 reaches d st vs cur rest after fields h = let f = found_is d (finish (run d st vs cur rest) false) fields after h in found_within d st vs cur rest f.0 after f.1
 
 pub continues_unquoted : (d : Dialect) (i : ℕ) (part : List ℕ) (st : State) (vs : List (List ℕ)) (cur : List ℕ) → IsLawful d
-    → is_note d i part ≡ false → may_be_note d part ≡ false
+    → is_ignored d i part ≡ false → may_be_comment d part ≡ false
     → run d Start [] [] (settled d part) ≡ Unfinished st vs cur → is_quoted st ≡ false → Continues d i part (length (settled d part))
 continues_unquoted d i part st vs cur w n m e q = record {
   within = omega (arith, settled_len d part);
@@ -83,7 +84,7 @@ continues_unquoted d i part st vs cur w n m e q = record {
     spelled = regroup d part more ∙ ap (λ l. s ++ l) closed
 
     found : next_row false d i (s ++ terminator_of d) ≡ Some (Some (map (trimmed d.trim) (vs ++ cur ∷ [])), terminator_of d)
-    found = ap (next_row false d i) (sym spelled) ∙ fields_next false d i (part ++ more) (note_never d i part more n m)
+    found = ap (next_row false d i) (sym spelled) ∙ fields_next false d i (part ++ more) (never_ignored d i part more n m)
         ∙ ap (λ o. found_row d (finish o false)) (unfinished_on d part more st vs cur e ∙ ap (run d st vs cur) closed)
         ∙ ap (found_row d) (ends_unquoted d st vs cur w q)
 
@@ -91,7 +92,7 @@ continues_unquoted d i part st vs cur w n m e q = record {
         → length s ≤ length other.text
     sure other rest after e' r h =
         let f = sym (ap (λ o. found_row d (finish o false)) (unfinished_on d part rest st vs cur e))
-        ∙ sym (fields_next false d i (part ++ rest) (note_never d i part rest n m)) ∙ other_found d i part rest after other w e' r h in
+        ∙ sym (fields_next false d i (part ++ rest) (never_ignored d i part rest n m)) ∙ other_found d i part rest after other w e' r h in
         row_reaches s (unsettled d part ++ rest) other.text after (sym (regroup d part rest) ∙ e')
         (reaches d st vs cur (unsettled d part ++ rest) after other.fields f)
 
@@ -170,8 +171,8 @@ has_quote d text st vs cur e t = by_state st t (subst (Tells d text) e (run_tell
     by_state Plain t x = absurd cc
     by_state Closed t x = absurd cc
 
-pub continues_quoted : (d : Dialect) (i : ℕ) (part : List ℕ) (st : State) (vs : List (List ℕ)) (cur : List ℕ) → IsLawful d → is_note d i part ≡ false
-    → may_be_note d part ≡ false
+pub continues_quoted : (d : Dialect) (i : ℕ) (part : List ℕ) (st : State) (vs : List (List ℕ)) (cur : List ℕ) → IsLawful d → is_ignored d i part ≡ false
+    → may_be_comment d part ≡ false
     → run d Start [] [] (settled d part) ≡ Unfinished st vs cur → is_quoted st ≡ true → Continues d i part (length part)
 continues_quoted d i part st vs cur w n m e t = record {
   within = omega arith;
@@ -200,13 +201,13 @@ continues_quoted d i part st vs cur w n m e t = record {
 
     found : next_row false d i ((part ++ last.close) ++ terminator_of d) ≡ Some (Some (map (trimmed d.trim) last.values), terminator_of d)
     found = ap (next_row false d i) (append_assoc part last.close (terminator_of d))
-        ∙ fields_next false d i (part ++ (last.close ++ terminator_of d)) (note_never d i part (last.close ++ terminator_of d) n m)
+        ∙ fields_next false d i (part ++ (last.close ++ terminator_of d)) (never_ignored d i part (last.close ++ terminator_of d) n m)
         ∙ ap (λ o. found_row d (finish o false)) (passes (last.close ++ terminator_of d)) ∙ ap (found_row d) last.found
 
     sure : (other : Row) (rest after : List ℕ) → part ++ rest ≡ other.text ++ after → IsRow d i other after → 0 < terminator_len d after
         → length part ≤ length other.text
     sure other rest after e' r h =
-        let f = sym (ap (λ o. found_row d (finish o false)) (passes rest)) ∙ sym (fields_next false d i (part ++ rest) (note_never d i part rest n m))
+        let f = sym (ap (λ o. found_row d (finish o false)) (passes rest)) ∙ sym (fields_next false d i (part ++ rest) (never_ignored d i part rest n m))
         ∙ other_found d i part rest after other w e' r h in
         row_reaches part rest other.text after e' (reaches d on.to vs on.kept rest after other.fields f)
 
@@ -220,20 +221,20 @@ row_seen d i part after fields w h =
     let r = row_sound false d i part fields after w h in
     record { row = record { text = r.row; fields = fields }; after = after; spelled = r.spelled; is_row = r.is_row; ends = has_end d after r.ends }
 
-sees_note : (d : Dialect) (i : ℕ) (part : List ℕ) (o : Option (List ℕ)) → IsLawful d → is_note d i part ≡ true → line_of false d (settled d part) ≡ o
+sees_ignored : (d : Dialect) (i : ℕ) (part : List ℕ) (o : Option (List ℕ)) → IsLawful d → is_ignored d i part ≡ true → line_of false d (settled d part) ≡ o
     → Sees d i part
-sees_note d i part None w n e = inr (inl (length (settled d part), continues_note d i part w n e))
-sees_note d i part (Some after) w n e =
+sees_ignored d i part None w n e = inr (inl (length (settled d part), continues_ignored d i part w n e))
+sees_ignored d i part (Some after) w n e =
     let found = ap (line_of false d) (sym (settled_all d part)) ∙ line_joins d false (settled d part) (unsettled d part) after (clear_all d part) e in
-    inl (row_seen d i part (after ++ unsettled d part) None w (note_next d i part n ∙ ap (option_map (λ l. (None, l))) found))
+    inl (row_seen d i part (after ++ unsettled d part) None w (ignored_next d i part n ∙ ap (option_map (λ l. (None, l))) found))
 
-sees_fields : (d : Dialect) (i : ℕ) (part : List ℕ) (o : Outcome) → IsLawful d → is_note d i part ≡ false → may_be_note d part ≡ false
+sees_fields : (d : Dialect) (i : ℕ) (part : List ℕ) (o : Outcome) → IsLawful d → is_ignored d i part ≡ false → may_be_comment d part ≡ false
     → run d Start [] [] (settled d part) ≡ o → Sees d i part
 sees_fields d i part (Found values after) w n m e =
     let found = ap (run d Start [] []) (sym (append-nil part)) ∙ run_on d part [] ∙ ap (λ o. goes_on d o (unsettled d part ++ [])) e in
     inl (row_seen d i part (after ++ (unsettled d part ++ [])) (Some (map (trimmed d.trim) values)) w
     (fields_next false d i part n ∙ ap (λ o. found_row d (finish o false)) found))
-sees_fields d i part (Broken stop rest) w n m e = inr (inr (stop, record { rest = rest; no_note = n; may_not = m; broken = e }))
+sees_fields d i part (Broken stop rest) w n m e = inr (inr (stop, record { rest = rest; not_ignored = n; may_not = m; broken = e }))
 sees_fields d i part (Unfinished st vs cur) w n m e = by_quotes (is_quoted st) refl
   where
     by_quotes : (b : Bool) → is_quoted st ≡ b → Sees d i part
@@ -241,12 +242,12 @@ sees_fields d i part (Unfinished st vs cur) w n m e = by_quotes (is_quoted st) r
     by_quotes false t = inr (inl (length (settled d part), continues_unquoted d i part st vs cur w n m e t))
 
 pub sees : (d : Dialect) (i : ℕ) (part : List ℕ) → IsLawful d → Sees d i part
-sees d i part w = by_note (is_note d i part) refl
+sees d i part w = by_ignored (is_ignored d i part) refl
   where
-    by_maybe : (b : Bool) → may_be_note d part ≡ b → is_note d i part ≡ false → Sees d i part
+    by_maybe : (b : Bool) → may_be_comment d part ≡ b → is_ignored d i part ≡ false → Sees d i part
     by_maybe true m n = inr (inl (length part, continues_maybe d i part w n m))
     by_maybe false m n = sees_fields d i part (run d Start [] [] (settled d part)) w n m refl
 
-    by_note : (b : Bool) → is_note d i part ≡ b → Sees d i part
-    by_note true n = sees_note d i part (line_of false d (settled d part)) w n refl
-    by_note false n = by_maybe (may_be_note d part) refl n
+    by_ignored : (b : Bool) → is_ignored d i part ≡ b → Sees d i part
+    by_ignored true n = sees_ignored d i part (line_of false d (settled d part)) w n refl
+    by_ignored false n = by_maybe (may_be_comment d part) refl n

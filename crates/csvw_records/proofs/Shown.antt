@@ -10,16 +10,16 @@ use Rattle.csvw_records.specs.declared.stop.RowStop.{RowStop}
 use Rattle.csvw_records.specs.declared.stop.RowStop.TheVariants.{BadQuote, TextAfterQuote, UnclosedQuote}
 use Rattle.csvw_records.specs.declared.scan.State.{State}
 use Rattle.csvw_records.specs.declared.scan.State.TheVariants.{Start, Plain, Inside, Escaped, Closed}
-use Rattle.csvw_records.specs.Files.{is_note}
+use Rattle.csvw_records.specs.Files.{is_ignored}
 use Rattle.csvw_records.specs.Lawful.{prefix_of}
 use Rattle.csvw_records.specs.Scan.{Outcome, Found, Broken, Unfinished, is_quoted, run, finish}
-use Rattle.csvw_records.specs.NextRow.{settled, unsettled, found_row, next_row, may_be_note, begins_prefix}
+use Rattle.csvw_records.specs.NextRow.{settled, unsettled, found_row, next_row, may_be_comment, begins_prefix}
 use Rattle.csvw_records.specs.PartOfRow.{Breaks}
 use Rattle.csvw_records.specs.Stops.{AfterFields, IsBroken, IsLeftOpen}
 use Rattle.csvw_records.specs.AtFront.{IsCommon, IsPrefixLen, IsCr, IsShown, IsWrong}
 use Rattle.csvw_records.proofs.Joins.{settled_all}
 use Rattle.csvw_records.specs.PassLaws.{goes_on}
-use Rattle.csvw_records.proofs.Notes.{note_stays}
+use Rattle.csvw_records.proofs.IgnoredRows.{ignored_stays}
 use Rattle.csvw_records.proofs.Broken.{run_tells}
 use Rattle.csvw_records.specs.RowLaws.{Tells, IsRule}
 use Rattle.csvw_records.proofs.Continue.{unsettled_is, settled_len, fields_next, starts_split}
@@ -69,7 +69,7 @@ unsettled_cr d text h = elim (unsettled_is d text) [
 
 -- the text in front of a character by which the row is no comment
 may_not_be : (d : Dialect) (text : List ℕ) (common len : ℕ) → IsPrefixLen (prefix_of d) text common → common < len → len ≤ length text
-    → may_be_note d (take len text) ≡ false
+    → may_be_comment d (take len text) ≡ false
 may_not_be d text common len p h w = by_prefix (prefix_of d) p
   where
     by_start : (prefix : List ℕ) → IsCommon prefix text common → (b : Bool) → starts_with nat_eq prefix (take len text) ≡ b → b ≡ false
@@ -100,7 +100,7 @@ take_less m n a b h e = sym (inner m n a h) ∙ ap (take m) e ∙ inner m n b h
     inner (suc m) (suc n) (x ∷ xs) h = ap (λ l. x ∷ l) (inner m n xs (omega arith))
 
 -- a text that the prefix begins with may become a comment
-may_be : (d : Dialect) (text : List ℕ) (common k : ℕ) → IsPrefixLen (prefix_of d) text common → 0 < k → k ≤ common → may_be_note d (take k text) ≡ true
+may_be : (d : Dialect) (text : List ℕ) (common k : ℕ) → IsPrefixLen (prefix_of d) text common → 0 < k → k ≤ common → may_be_comment d (take k text) ≡ true
 may_be d text common k p some h = by_prefix (prefix_of d) p
   where
     by_prefix : (o : Option (List ℕ)) → IsPrefixLen o text common → begins_prefix (take k text) o ≡ true
@@ -116,7 +116,7 @@ breaks_on d i text k other stop at e b =
     sym (split d text k ∙ ap (λ o. goes_on d o (unsettled d (take k text) ++ drop k text)) b.broken) ∙ e in
     (cc, cc)
 
-module _ (d : Dialect) (i : ℕ) (text : List ℕ) (stop : RowStop) (at : ℕ) (n : is_note d i text ≡ false)
+module _ (d : Dialect) (i : ℕ) (text : List ℕ) (stop : RowStop) (at : ℕ) (n : is_ignored d i text ≡ false)
     (e : run d Start [] [] text ≡ Broken stop (drop at text)) (within : at < length text) where
   -- the part that shows it
   shown_breaks : (here common len : ℕ) → ((here ≡ at + 1) × IsCr d text at) ⊎ ((here ≡ at) × (IsCr d text at → ⊥))
@@ -127,13 +127,13 @@ module _ (d : Dialect) (i : ℕ) (text : List ℕ) (stop : RowStop) (at : ℕ) (
       part : List ℕ
       part = take len text
 
-      no_note : is_note d i part ≡ false
-      no_note = by_note (is_note d i part) refl
+      not_ignored : is_ignored d i part ≡ false
+      not_ignored = by_ignored (is_ignored d i part) refl
         where
-          by_note : (b : Bool) → is_note d i part ≡ b → b ≡ false
-          by_note false f = refl
-          by_note true f = let stays = note_stays d i part (drop len text) f in let z : true ≡ false = sym stays
-              ∙ ap (is_note d i) (take-append-drop len text) ∙ n in absurd cc
+          by_ignored : (b : Bool) → is_ignored d i part ≡ b → b ≡ false
+          by_ignored false f = refl
+          by_ignored true f = let stays = ignored_stays d i part (drop len text) f in let z : true ≡ false = sym stays
+              ∙ ap (is_ignored d i) (take-append-drop len text) ∙ n in absurd cc
 
       not_short : (st : State) (vs : List (List ℕ)) (cur : List ℕ) → run d Start [] [] (settled d part) ≡ Unfinished st vs cur → ⊥
       not_short st vs cur o =
@@ -164,7 +164,7 @@ module _ (d : Dialect) (i : ℕ) (text : List ℕ) (stop : RowStop) (at : ℕ) (
           let z : Broken s (rest ++ (unsettled d part ++ drop len text)) ≡ Broken stop (drop at text) =
           sym (split d text len ∙ ap (λ o. goes_on d o (unsettled d part ++ drop len text)) o) ∙ e in
           let same : s ≡ stop = cc in
-          record { rest = rest; no_note = no_note; may_not = may_not_be d text common len p over w; broken = o ∙ ap (λ x. Broken x rest) same }
+          record { rest = rest; not_ignored = not_ignored; may_not = may_not_be d text common len p over w; broken = o ∙ ap (λ x. Broken x rest) same }
       by_outcome (Unfinished st vs cur) o = absurd (not_short st vs cur o)
 
   -- no smaller part shows it
@@ -240,7 +240,7 @@ module _ (d : Dialect) (i : ℕ) (text : List ℕ) (stop : RowStop) (at : ℕ) (
       by_places (inr a) b = inr (refl, a)
       by_places (inl a) (inr b) = inr (refl, b)
 
-  pub wrong_part : (len : ℕ) → IsShown d text at len → may_be_note d text ≡ false → at < length (settled d text) → IsWrong false d i text len stop
+  pub wrong_part : (len : ℕ) → IsShown d text at len → may_be_comment d text ≡ false → at < length (settled d text) → IsWrong false d i text len stop
   wrong_part len s m front = record {
     within = s.within;
     stands = inl (shown_breaks s.here s.common len s.is_here s.is_common s.within (past_here s.past_here) (past_common s.past_common));
@@ -257,7 +257,7 @@ module _ (d : Dialect) (i : ℕ) (text : List ℕ) (stop : RowStop) (at : ℕ) (
       past_common (inr a) = elim (cases_lt s.common len) [
         | inl b ↦ b
         | inr b ↦ let z : true ≡ false = sym (may_be d text s.common (length text) s.is_common (omega (arith, within)) (omega (arith, a, b)))
-            ∙ ap (may_be_note d) whole ∙ m in absurd cc
+            ∙ ap (may_be_comment d) whole ∙ m in absurd cc
       ]
 
       past_here : (s.here < len) ⊎ (len ≡ length text) → s.here < len
@@ -274,7 +274,7 @@ module _ (d : Dialect) (i : ℕ) (text : List ℕ) (stop : RowStop) (at : ℕ) (
           ]
 
 -- a quote that isn't closed where the text has ended
-pub left_open : (d : Dialect) (i : ℕ) (text : List ℕ) (st : State) (vs : List (List ℕ)) (cur : List ℕ) → is_note d i text ≡ false
+pub left_open : (d : Dialect) (i : ℕ) (text : List ℕ) (st : State) (vs : List (List ℕ)) (cur : List ℕ) → is_ignored d i text ≡ false
     → run d Start [] [] text ≡ Unfinished st vs cur → is_quoted st ≡ true
     → IsWrong true d i text (length text) UnclosedQuote
 left_open d i text st vs cur n e q = record {

@@ -18,7 +18,7 @@ use Rattle.csvw_records.specs.NextRow.{unsettled, terminator_of, found_row}
 use Rattle.csvw_records.specs.PartOfRow.{Continues, Breaks, HasRow, Goes, Ends, NoRow, FirstEnd}
 use Rattle.csvw_records.specs.Stops.{AreRowsWithin}
 use Rattle.csvw_records.specs.PassLaws.{goes_on}
-use Rattle.csvw_records.proofs.Notes.{note_never}
+use Rattle.csvw_records.proofs.IgnoredRows.{never_ignored}
 use Rattle.csvw_records.proofs.RowLaws.{row_unique}
 use Rattle.csvw_records.proofs.Continue.{term_some, other_found, fields_next}
 use Rattle.csvw_records.proofs.Sees.{sees, run_on}
@@ -51,7 +51,7 @@ pub breaks_none : (d : Dialect) (i : ℕ) (part : List ℕ) (stop : RowStop) →
     → (row : Row) (more after : List ℕ) → part ++ more ≡ row.text ++ after → IsRow d i row after → 0 < terminator_len d after → ⊥
 breaks_none d i part stop w b row more after e r h =
     let passed = run_on d part more ∙ ap (λ o. goes_on d o (unsettled d part ++ more)) b.broken in
-    let found = sym (fields_next false d i (part ++ more) (note_never d i part more b.no_note b.may_not)
+    let found = sym (fields_next false d i (part ++ more) (never_ignored d i part more b.not_ignored b.may_not)
     ∙ ap (λ o. found_row d (finish o false)) passed) ∙ other_found d i part more after row w e r h in
     absurd cc
 

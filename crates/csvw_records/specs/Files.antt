@@ -1,4 +1,4 @@
--- The rows of a text, those that are skipped or comments, and those that a reader returns: `is_note` (RFC 4180, section 2; Model
+-- The rows of a text, those that are skipped or comments, and those that a reader returns: `is_ignored` (RFC 4180, section 2; Model
 -- for Tabular Data, section 8).
 use Rattle.std.specs.Prelude.{◌≡◌, ◌≢◌, ◌⊎◌, ℕ, ◌+◌, ◌-◌, ◌<◌, ◌≤◌, Bool, true, false, ◌&&◌, ◌||◌, ◌==◌, nat_eq, nat_lt, if◌then◌else◌, IsTrue, List}
 use Rattle.std.specs.Prelude.{[], ◌∷◌, ◌++◌, map, length, take, drop, filter_map, Option, Some, None, MatchBool, encode_utf8_all, chars}
@@ -21,8 +21,8 @@ begins_with text None = false
 begins_with text (Some prefix) = starts_with nat_eq text prefix
 
 -- the row at place i, from 0, is one of the first that are skipped, or a comment
-abbrev pub is_note : Dialect → ℕ → List ℕ → Bool
-is_note d i row = nat_lt i d.skip_rows || begins_with row (prefix_of d)
+abbrev pub is_ignored : Dialect → ℕ → List ℕ → Bool
+is_ignored d i row = nat_lt i d.skip_rows || begins_with row (prefix_of d)
 
 -- no terminator is in the text, before what comes after it
 abbrev pub HasNoTerminator : Dialect → List ℕ → List ℕ → Type 0
@@ -31,7 +31,7 @@ HasNoTerminator d (c ∷ cs) after = (terminator_len d (c ∷ cs ++ after) ≡ 0
 
 -- the row at place i, before what comes after it
 abbrev pub IsRow : Dialect → ℕ → Row → List ℕ → Type 0
-IsRow d i row after = MatchBool (is_note d i row.text)
+IsRow d i row after = MatchBool (is_ignored d i row.text)
     ((row.fields ≡ None) × HasNoTerminator d row.text after)
     ((fields : List (List ℕ)) × (row.fields ≡ Some fields) × RowText d row.text fields after)
 

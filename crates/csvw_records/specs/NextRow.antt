@@ -5,7 +5,7 @@ use Rattle.csvw_records.specs.declared.dialect.Dialect.{Dialect}
 use Rattle.csvw_records.specs.declared.scan.State.TheVariants.{Start}
 use Rattle.csvw_records.specs.Grammar.{terminator_len, trimmed}
 use Rattle.csvw_records.specs.Scan.{Outcome, Found, Broken, Unfinished, pass}
-use Rattle.csvw_records.specs.Files.{is_note}
+use Rattle.csvw_records.specs.Files.{is_ignored}
 use Rattle.csvw_records.specs.Lawful.{prefix_of}
 
 -- the text without a CR at its end that may begin a terminator
@@ -26,8 +26,8 @@ begins_prefix text None = false
 begins_prefix text (Some prefix) = starts_with nat_eq prefix text
 
 -- a row with this start may still become a comment
-abbrev pub may_be_note : Dialect → List ℕ → Bool
-may_be_note d text = begins_prefix text (prefix_of d)
+abbrev pub may_be_comment : Dialect → List ℕ → Bool
+may_be_comment d text = begins_prefix text (prefix_of d)
 
 -- the text from the first terminator on
 abbrev pub line_of : Bool → Dialect → List ℕ → Option (List ℕ)
@@ -41,7 +41,8 @@ found_row d (Unfinished st vs cur) = None
 
 -- the fields of the row at the start, and the text after it
 abbrev pub next_row : Bool → Dialect → ℕ → List ℕ → Option (Option (List (List ℕ)) × List ℕ)
-next_row ended d i text = if is_note d i text then option_map (λ after. (None, after)) (line_of ended d text) else found_row d (pass ended d Start [] [] text)
+next_row ended d i text =
+    if is_ignored d i text then option_map (λ after. (None, after)) (line_of ended d text) else found_row d (pass ended d Start [] [] text)
 
 -- a line terminator of the dialect
 abbrev pub terminator_of : Dialect → List ℕ

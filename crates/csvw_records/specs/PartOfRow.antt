@@ -4,10 +4,10 @@ use Rattle.csvw_records.specs.declared.dialect.Dialect.{Dialect}
 use Rattle.csvw_records.specs.declared.stop.RowStop.{RowStop}
 use Rattle.csvw_records.specs.declared.scan.State.TheVariants.{Start}
 use Rattle.csvw_records.specs.Grammar.{terminator_len}
-use Rattle.csvw_records.specs.Files.{Row, IsRow, is_note}
+use Rattle.csvw_records.specs.Files.{Row, IsRow, is_ignored}
 use Rattle.csvw_records.specs.Lengths.{byte_len, row_limit}
 use Rattle.csvw_records.specs.Scan.{Broken, run}
-use Rattle.csvw_records.specs.NextRow.{settled, may_be_note, next_row, terminator_of}
+use Rattle.csvw_records.specs.NextRow.{settled, may_be_comment, next_row, terminator_of}
 
 -- No row is complete in the part. With more text after it, it is a row and its terminator. So many of its characters belong to the row for sure.
 pub record Continues (d : Dialect) (i : ℕ) (part : List ℕ) (len : ℕ) : Type 0 where
@@ -24,8 +24,8 @@ pub record Continues (d : Dialect) (i : ℕ) (part : List ℕ) (len : ℕ) : Typ
 -- a rule on quotes is broken in the part, whatever follows
 pub record Breaks (d : Dialect) (i : ℕ) (part : List ℕ) (stop : RowStop) : Type 0 where
   pub rest : List ℕ
-  pub no_note : is_note d i part ≡ false
-  pub may_not : may_be_note d part ≡ false
+  pub not_ignored : is_ignored d i part ≡ false
+  pub may_not : may_be_comment d part ≡ false
   pub broken : run d Start [] [] (settled d part) ≡ Broken stop rest
 
 -- the part begins with a row and its terminator

@@ -6,7 +6,7 @@ use Rattle.csvw_records.specs.declared.scan.State.TheVariants.{Start, Plain, Ins
 use Rattle.csvw_records.specs.declared.scan.Step.{Step}
 use Rattle.csvw_records.specs.declared.scan.Step.TheVariants.{Keep, Skip, Open, Next, End, Stop}
 use Rattle.csvw_records.specs.declared.stop.RowStop.{RowStop}
-use Rattle.csvw_records.specs.Files.{is_note}
+use Rattle.csvw_records.specs.Files.{is_ignored}
 use Rattle.csvw_records.specs.Grammar.{terminator_len, IsPlain}
 use Rattle.csvw_records.specs.NextRow.{settled, unsettled, line_of, found_row, next_row}
 use Rattle.csvw_records.specs.Scan.{Outcome, Found, Broken, Unfinished, run, pass}
@@ -59,5 +59,5 @@ pub record PassLaws : Type 0 where
   -- a line that ends in the first of two texts ends there in both
   pub line_joins : (d : Dialect) (f : Bool) (p q after : List ℕ) → Clear d p q → line_of false d p ≡ Some after → line_of f d (p ++ q) ≡ Some (after ++ q)
   -- a row that is not a comment is what a pass finds
-  pub fields_next : (f : Bool) (d : Dialect) (i : ℕ) (text : List ℕ) → is_note d i text ≡ false
+  pub fields_next : (f : Bool) (d : Dialect) (i : ℕ) (text : List ℕ) → is_ignored d i text ≡ false
       → next_row f d i text ≡ found_row d (pass f d Start [] [] text)

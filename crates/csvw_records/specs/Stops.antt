@@ -6,7 +6,7 @@ use Rattle.csvw_records.specs.declared.dialect.Dialect.{Dialect}
 use Rattle.csvw_records.specs.declared.stop.RowStop.{RowStop}
 use Rattle.csvw_records.specs.declared.stop.RowStop.TheVariants.{NotUtf8, RowTooLong, BadQuote, TextAfterQuote, UnclosedQuote, TooManyRows}
 use Rattle.csvw_records.specs.Grammar.{terminator_len, IsPlain, AreSkipped, IsOpened, IsQuoted, IsField}
-use Rattle.csvw_records.specs.Files.{Row, IsRow, AreRows, File, Front, is_note, is_text, content}
+use Rattle.csvw_records.specs.Files.{Row, IsRow, AreRows, File, Front, is_ignored, is_text, content}
 use Rattle.csvw_records.specs.Lengths.{byte_len, row_limit}
 
 -- Text is these rows, each with its terminator. The first of them is at place i. No row is too long if only the first n characters of the text count.
@@ -71,9 +71,9 @@ pub record IsLeftOpen (d : Dialect) (part : List ℕ) : Type 0 where
 
 -- the rule that is broken in a part of the row that has so many rows before it
 abbrev pub IsBroken : Dialect → ℕ → List ℕ → Bool → RowStop → Type 0
-IsBroken d count part ended BadQuote = (is_note d count part ≡ false) × HasBadQuote d part
-IsBroken d count part ended TextAfterQuote = (is_note d count part ≡ false) × HasTextAfter d part
-IsBroken d count part ended UnclosedQuote = (is_note d count part ≡ false) × IsTrue ended × IsLeftOpen d part
+IsBroken d count part ended BadQuote = (is_ignored d count part ≡ false) × HasBadQuote d part
+IsBroken d count part ended TextAfterQuote = (is_ignored d count part ≡ false) × HasTextAfter d part
+IsBroken d count part ended UnclosedQuote = (is_ignored d count part ≡ false) × IsTrue ended × IsLeftOpen d part
 IsBroken d count part ended other = ⊥
 
 -- the name of the stop after so many rows, if there may be max rows and this part of the next one is read

@@ -2,7 +2,7 @@
 use Rattle.std.specs.Prelude.{◌≡◌, ℕ, ◌<◌, ◌≤◌, Bool, true, ◌||◌, ◌==◌, List, [], ◌∷◌, ◌++◌, length, drop, chars, encode_utf8_all, IsUtf8}
 use Rattle.csvw_records.specs.declared.dialect.Dialect.{Dialect}
 use Rattle.csvw_records.specs.Lawful.{IsLawful}
-use Rattle.csvw_records.specs.Files.{EndsRow, is_note}
+use Rattle.csvw_records.specs.Files.{EndsRow, is_ignored}
 use Rattle.csvw_records.specs.Grammar.{terminator_len}
 use Rattle.csvw_records.specs.NextRow.{terminator_of}
 
@@ -40,4 +40,4 @@ pub record TerminatorLaws : Type 0 where
   -- the text after a row begins with a line break, or is empty
   pub ends_break : (f : Bool) (d : Dialect) (after : List ℕ) → EndsRow f d after → BeginsBreak after
   -- whether a row is a comment doesn't depend on the text after it
-  pub note_same : (d : Dialect) (i : ℕ) (row after : List ℕ) → IsLawful d → BeginsBreak after → is_note d i (row ++ after) ≡ is_note d i row
+  pub ignored_same : (d : Dialect) (i : ℕ) (row after : List ℕ) → IsLawful d → BeginsBreak after → is_ignored d i (row ++ after) ≡ is_ignored d i row

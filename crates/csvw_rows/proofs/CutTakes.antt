@@ -11,7 +11,7 @@ use Rattle.csvw_fields.specs.declared.bound.Bound.{Bound}
 use Rattle.csvw_records.specs.declared.dialect.Trim.TheVariants.{No}
 use Rattle.csvw_rows.specs.declared.rows.Rows.{Rows}
 use Rattle.csvw_fields.specs.Cuts.{IsCutRow, IsRowLen}
-use Rattle.csvw_records.specs.Files.{is_note, begins_with}
+use Rattle.csvw_records.specs.Files.{is_ignored, begins_with}
 use Rattle.csvw_records.specs.Lawful.{prefix_of}
 use Rattle.csvw_records.specs.Grammar.{terminator_len, trimmed}
 use Rattle.csvw_records.specs.Lawful.{IsLawful}
@@ -34,9 +34,9 @@ module _ (laws : RecordLaws) (d : Dialect) (text : List ℕ) (start at : ℕ) (s
       let w = k.within in
       omega (arith, f, w, ap length whole, length-append (encode_utf8_all k.row) rest, length-drop start text, length-drop at text)
 
-  pub cut_takes : (whole : Bool) (max i : ℕ) → IsLawful d → i < max → is_note d i (chars (drop start text)) ≡ false → at - start ≤ row_limit
+  pub cut_takes : (whole : Bool) (max i : ℕ) → IsLawful d → i < max → is_ignored d i (chars (drop start text)) ≡ false → at - start ≤ row_limit
       → TakesRow whole d max i (chars (drop start text)) (length k.row + terminator_len d (drop at text)) (Some (map (trimmed d.trim) k.values))
-  cut_takes whole max i w few note short =
+  cut_takes whole max i w few not_ignored short =
       let after = chars (drop at text) in
       let t = laws.terminators.term_chars d (drop at text) k.ends in
       let e = k.ends in
@@ -44,8 +44,8 @@ module _ (laws : RecordLaws) (d : Dialect) (text : List ℕ) (start at : ℕ) (s
       let ends : 0 < terminator_len d after = omega (arith, e, same) in
       let long = laws.terminators.term_within d after ends in
       let s = k.spelled in
-      let mine : is_note d i k.row ≡ false = sym (laws.terminators.note_same d i k.row after w (laws.terminators.ends_break false d after (inl ends)))
-      ∙ ap (is_note d i) (sym s) ∙ note in
+      let mine : is_ignored d i k.row ≡ false = sym (laws.terminators.ignored_same d i k.row after w (laws.terminators.ends_break false d after (inl ends)))
+      ∙ ap (is_ignored d i) (sym s) ∙ not_ignored in
       record {
         some = omega (arith, e);
         within = omega (arith, long, same, ap length s, length-append k.row after);
@@ -88,8 +88,8 @@ module _ (laws : RecordLaws) (d : Dialect) (text : List ℕ) (start at : ℕ) (s
   pub cut_within : terminator_len d (drop at text) ≤ length (drop at text) → (at - start) + terminator_len d (drop at text) ≤ length (drop start text)
   cut_within h = let f = k.from_start in let w = k.within in omega (arith, h, f, w, length-drop at text, length-drop start text)
 
-pub no_note : (d : Dialect) (i : ℕ) (rest : List ℕ) → d.skip_rows ≤ i → begins_with (chars rest) (prefix_of d) ≡ false → is_note d i (chars rest) ≡ false
-no_note d i rest h e = neither (nat_lt i d.skip_rows) (begins_with (chars rest) (prefix_of d)) low e
+pub not_ignored : (d : Dialect) (i : ℕ) (rest : List ℕ) → d.skip_rows ≤ i → begins_with (chars rest) (prefix_of d) ≡ false → is_ignored d i (chars rest) ≡ false
+not_ignored d i rest h e = neither (nat_lt i d.skip_rows) (begins_with (chars rest) (prefix_of d)) low e
   where
     low : nat_lt i d.skip_rows ≡ false
     low = grind (arith, nat_tests)
@@ -99,10 +99,10 @@ no_note d i rest h e = neither (nat_lt i d.skip_rows) (begins_with (chars rest) 
 
 module _ (laws : RecordLaws) where
   -- the fields of the row at the front of a reader's text were cut
-  pub cut_has : (t : Rows) (at n : ℕ) → t.rules.dialect.trim ≡ No → t.row < t.max_rows → is_note t.rules.dialect t.row (rest_of t.source) ≡ false
+  pub cut_has : (t : Rows) (at n : ℕ) → t.rules.dialect.trim ≡ No → t.row < t.max_rows → is_ignored t.rules.dialect t.row (rest_of t.source) ≡ false
       → IsCutRow t.rules.dialect (text_items t.source) (taken_of t.source) at t.spare.items t.fields.items
       → IsRowLen t.rules.dialect (text_items t.source) (taken_of t.source) at n → HasFields t n
-  cut_has t at n trim few note k l =
+  cut_has t at n trim few not_ignored k l =
       let d = t.rules.dialect in
       let text = text_items t.source in
       let start = taken_of t.source in
@@ -116,7 +116,8 @@ module _ (laws : RecordLaws) where
             is_text = ap (λ m. is_utf8 (drop m (drop start text))) l.value ∙ cut_text laws d text start at t.spare.items t.fields.items ut k;
             same = ap (λ m. chars (drop m (drop start text))) l.value ∙ cut_same laws d text start at t.spare.items t.fields.items ut k;
           };
-          takes = cut_takes laws d text start at t.spare.items t.fields.items ut k (is_last (after_of t)) t.max_rows t.row t.rules.lawful few note l.short;
+          takes = cut_takes laws d text start at t.spare.items t.fields.items ut k (is_last (after_of t)) t.max_rows t.row t.rules.lawful few
+              not_ignored l.short;
         };
         texts = k.texts ∙ sym (ap (λ x. map (λ v. encode_utf8_all (trimmed x v)) k.values) trim);
       }

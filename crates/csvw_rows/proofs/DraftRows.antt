@@ -11,21 +11,21 @@ use Rattle.csvw_records.specs.declared.dialect.Dialect.{Dialect}
 use Rattle.csvw_rows.specs.declared.rows.Rows.{Rows}
 use Rattle.csvw_records.specs.declared.scan.State.TheVariants.{Start}
 use Rattle.csvw_records.specs.declared.stop.RowStop.TheVariants.{RowTooLong}
-use Rattle.csvw_records.specs.Files.{is_note}
+use Rattle.csvw_records.specs.Files.{is_ignored}
 use Rattle.csvw_records.specs.Grammar.{terminator_len, trimmed}
 use Rattle.csvw_records.specs.Lengths.{byte_len, row_limit}
 use Rattle.csvw_records.specs.AtFront.{IsFound}
 use Rattle.csvw_records.specs.NextRow.{line_of, next_row, found_row}
 use Rattle.csvw_rows.specs.NextRows.{StopsHere, is_last}
 use Rattle.csvw_rows.specs.IgnoredRows.{NoneBegins}
-use Rattle.csvw_rows.specs.RowsState.{HasRow, HasFields, IsReadable, IsReadRow, IsNoteNext, IsNoteRead, HasNoEnd, after_of}
+use Rattle.csvw_rows.specs.RowsState.{HasRow, HasFields, IsReadable, IsReadRow, IsIgnoredNext, IsIgnoredRead, HasNoEnd, after_of}
 use Rattle.csvw_records.specs.Scan.{pass}
 use Rattle.csvw_rows.specs.SourceState.{rest_bytes, rest_of}
 use Rattle.csvw_rows.proofs.TextLemmas.{split_chars}
 use Rattle.csvw_rows.proofs.TextLemmas.{take_front}
 use Rattle.csvw_rows.proofs.TextLemmas.{front_text, text_gone}
 use Rattle.csvw_rows.proofs.NextLemmas.{found_takes, found_stops, seen_of}
-use Rattle.csvw_rows.proofs.NoteLemmas.{ends_text, line_here, line_last, none_before}
+use Rattle.csvw_rows.proofs.IgnoredLemmas.{ends_text, line_here, line_last, none_before}
 use Rattle.csvw_records.specs.RecordLaws.{RecordLaws}
 
 module _ (laws : RecordLaws) where
@@ -126,7 +126,8 @@ module _ (laws : RecordLaws) where
   read_next : (t : Rows) (len : ℕ) → IsReadable t → (r : IsReadRow t len)
       → next_row (is_last (after_of t)) t.rules.dialect t.row (rest_of t.source)
       ≡ Some (Some (map (trimmed t.rules.dialect.trim) r.values), chars (drop len (rest_bytes t.source)))
-  read_next t len k r = laws.passes.fields_next (is_last (after_of t)) t.rules.dialect t.row (rest_of t.source) k.note ∙ ap (found_row t.rules.dialect) r.found
+  read_next t len k r = laws.passes.fields_next (is_last (after_of t)) t.rules.dialect t.row (rest_of t.source) k.not_ignored
+      ∙ ap (found_row t.rules.dialect) r.found
 
   pub read_has : (t : Rows) (len n : ℕ) → IsReadable t → IsReadRow t len → len ≤ row_limit
       → n ≡ len + terminator_len t.rules.dialect (drop len (rest_bytes t.source))
@@ -143,27 +144,28 @@ module _ (laws : RecordLaws) where
   read_stops t len k r long = row_stops laws t len (Some (map (trimmed t.rules.dialect.trim) r.values)) k.few k.some r.within r.back (read_next t len k r) long
 
 -- and so is one without fields
-note_finds : (f : Bool) (d : Dialect) (i : ℕ) (text : List ℕ) → is_note d i text ≡ true
+ignored_finds : (f : Bool) (d : Dialect) (i : ℕ) (text : List ℕ) → is_ignored d i text ≡ true
     → next_row f d i text ≡ option_map (λ after. (None, after)) (line_of f d text)
-note_finds f d i text e = ap (λ (b : Bool). if b then option_map (λ after. (None, after)) (line_of f d text) else found_row d (pass f d Start [] [] text)) e
+ignored_finds f d i text e = ap (λ (b : Bool). if b then option_map (λ after. (None, after)) (line_of f d text) else found_row d (pass f d Start [] [] text)) e
 
-note_next_is : (t : Rows) (len : ℕ) → IsNoteNext t → IsNoteRead t len
+ignored_next_is : (t : Rows) (len : ℕ) → IsIgnoredNext t → IsIgnoredRead t len
     → next_row (is_last (after_of t)) t.rules.dialect t.row (rest_of t.source) ≡ Some (None, chars (drop len (rest_bytes t.source)))
-note_next_is t len k r = note_finds (is_last (after_of t)) t.rules.dialect t.row (rest_of t.source) k.note ∙ ap (option_map (λ l. (None, l))) r.line
+ignored_next_is t len k r = ignored_finds (is_last (after_of t)) t.rules.dialect t.row (rest_of t.source) k.ignored ∙ ap (option_map (λ l. (None, l))) r.line
 
 module _ (laws : RecordLaws) where
-  pub note_has : (t : Rows) (len n : ℕ) → IsNoteNext t → IsNoteRead t len → len ≤ row_limit
+  pub ignored_has : (t : Rows) (len n : ℕ) → IsIgnoredNext t → IsIgnoredRead t len → len ≤ row_limit
       → n ≡ len + terminator_len t.rules.dialect (drop len (rest_bytes t.source))
       → terminator_len t.rules.dialect (drop len (rest_bytes t.source)) ≤ length (drop len (rest_bytes t.source)) → HasRow t n None
-  note_has t len n k r short value inside = row_has laws t len None k.few k.some r.within r.back (note_next_is t len k r) n short value inside
+  ignored_has t len n k r short value inside = row_has laws t len None k.few k.some r.within r.back (ignored_next_is t len k r) n short value inside
 
-  pub note_stops : (t : Rows) (len : ℕ) → IsNoteNext t → IsNoteRead t len → row_limit < len
+  pub ignored_stops : (t : Rows) (len : ℕ) → IsIgnoredNext t → IsIgnoredRead t len → row_limit < len
       → StopsHere (is_last (after_of t)) t.rules.dialect t.max_rows t.row (rest_of t.source) RowTooLong
-  note_stops t len k r long = row_stops laws t len None k.few k.some r.within r.back (note_next_is t len k r) long
+  ignored_stops t len k r long = row_stops laws t len None k.few k.some r.within r.back (ignored_next_is t len k r) long
 
   -- the line at the front ends there
-  pub line_ends : (t : Rows) (at : ℕ) → (t.note ≤ at) × (at < length (rest_bytes t.source))
-      × (0 < terminator_len t.rules.dialect (drop at (rest_bytes t.source))) × NoneBegins t.rules.dialect (rest_bytes t.source) t.note at → IsNoteRead t at
+  pub line_ends : (t : Rows) (at : ℕ) → (t.searched ≤ at) × (at < length (rest_bytes t.source))
+      × (0 < terminator_len t.rules.dialect (drop at (rest_bytes t.source))) × NoneBegins t.rules.dialect (rest_bytes t.source) t.searched at
+      → IsIgnoredRead t at
   line_ends t at (_, within, ends, none) =
       let d = t.rules.dialect in
       let rest = rest_bytes t.source in
@@ -172,16 +174,16 @@ module _ (laws : RecordLaws) where
       record {
         within = omega (arith, within);
         back = back;
-        line = line_here laws (is_last (after_of t)) d rest at u (omega (arith, within)) back (none_before d rest t.note at t.noted none)
+        line = line_here laws (is_last (after_of t)) d rest at u (omega (arith, within)) back (none_before d rest t.searched at t.none_ends none)
             (omega (arith, ends, laws.terminators.term_same d (drop at rest) (IsUtf8-from_is_utf8 (drop at rest) back)));
       }
 
-pub none_ends : (t : Rows) → NoneBegins t.rules.dialect (rest_bytes t.source) t.note (length (rest_bytes t.source)) → HasNoEnd t
-none_ends t none = none_before t.rules.dialect (rest_bytes t.source) t.note (length (rest_bytes t.source)) t.noted none
+pub none_ends : (t : Rows) → NoneBegins t.rules.dialect (rest_bytes t.source) t.searched (length (rest_bytes t.source)) → HasNoEnd t
+none_ends t none = none_before t.rules.dialect (rest_bytes t.source) t.searched (length (rest_bytes t.source)) t.none_ends none
 
 module _ (laws : RecordLaws) where
   -- or with the last text
-  pub last_ends : (t : Rows) (len : ℕ) → len ≡ length (rest_bytes t.source) → is_last (after_of t) ≡ true → HasNoEnd t → IsNoteRead t len
+  pub last_ends : (t : Rows) (len : ℕ) → len ≡ length (rest_bytes t.source) → is_last (after_of t) ≡ true → HasNoEnd t → IsIgnoredRead t len
   last_ends t len e last none =
       let d = t.rules.dialect in
       let rest = rest_bytes t.source in

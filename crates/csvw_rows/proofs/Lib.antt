@@ -4,7 +4,7 @@ mod CutTakes
 mod DraftRows
 mod GivenLaws
 mod NextLemmas
-mod NoteLemmas
+mod IgnoredLemmas
 mod OpenFronts
 mod Readings
 mod RowSteps

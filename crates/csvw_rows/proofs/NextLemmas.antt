@@ -42,8 +42,8 @@ module _ (laws : RecordLaws) where
       (laws.rows.run_tells d part))
     where
       by_stop : (s : RowStop) → IsRule d part s → IsBroken d i part false s
-      by_stop BadQuote r = (b.no_note, r)
-      by_stop TextAfterQuote r = (b.no_note, r)
+      by_stop BadQuote r = (b.not_ignored, r)
+      by_stop TextAfterQuote r = (b.not_ignored, r)
       by_stop other r = absurd r
 
 named_of : (d : Dialect) (max i : ℕ) (part : List ℕ) (ended : Bool) (stop : RowStop) → byte_len part ≤ row_limit → IsBroken d i part ended stop

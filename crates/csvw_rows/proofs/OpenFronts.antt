@@ -11,19 +11,19 @@ use Rattle.csvw_records.specs.declared.scan.State.TheVariants.{Start}
 use Rattle.csvw_records.specs.declared.stop.RowStop.{RowStop}
 use Rattle.csvw_records.specs.declared.stop.RowStop.TheVariants.{RowTooLong}
 use Rattle.csvw_fields.specs.Drafts.{read_of, state_of, values_of, current_of, IsOpen, IsBrokenThere, IsLeftInQuotes}
-use Rattle.csvw_records.specs.Files.{is_note}
+use Rattle.csvw_records.specs.Files.{is_ignored}
 use Rattle.csvw_records.specs.Lengths.{byte_len, row_limit}
 use Rattle.csvw_records.specs.AtFront.{IsWrong, IsShownLen}
-use Rattle.csvw_records.specs.NextRow.{settled, unsettled, may_be_note}
+use Rattle.csvw_records.specs.NextRow.{settled, unsettled, may_be_comment}
 use Rattle.csvw_rows.specs.NextRows.{StopsHere, StopGives, is_last}
-use Rattle.csvw_rows.specs.RowsState.{IsReadable, IsWrongRow, WaitsThere, IsOpenFront, IsNoteNext, HasNoEnd, IsSettledLen, sure_of, after_of}
+use Rattle.csvw_rows.specs.RowsState.{IsReadable, IsWrongRow, WaitsThere, IsOpenFront, IsIgnoredNext, HasNoEnd, IsSettledLen, sure_of, after_of}
 use Rattle.csvw_records.specs.Scan.{Broken, Unfinished, run, is_quoted}
 use Rattle.csvw_rows.specs.SourceState.{rest_bytes, rest_of}
 use Rattle.csvw_rows.proofs.TextLemmas.{split_chars}
 use Rattle.csvw_rows.proofs.TextLemmas.{take_front}
 use Rattle.csvw_rows.proofs.TextLemmas.{front_text, text_gone}
 use Rattle.csvw_rows.proofs.NextLemmas.{open_waits, open_stops, nothing_complete, not_nothing, wrong_gives, wrong_long}
-use Rattle.csvw_rows.proofs.NoteLemmas.{line_open}
+use Rattle.csvw_rows.proofs.IgnoredLemmas.{line_open}
 use Rattle.csvw_rows.proofs.ShownBytes.{shown_whole}
 use Rattle.csvw_records.specs.RecordLaws.{RecordLaws}
 
@@ -49,13 +49,13 @@ text_bytes t = ap byte_len (take_all (length (rest_of t.source)) (rest_of t.sour
 
 module _ (laws : RecordLaws) where
   -- of a skipped row or a comment
-  pub note_front : (t : Rows) (len : ℕ) → IsNoteNext t → HasNoEnd t → is_last (after_of t) ≡ false → IsSettledLen t len → IsOpenFront t len
-  note_front t len k none going e = record {
+  pub ignored_front : (t : Rows) (len : ℕ) → IsIgnoredNext t → HasNoEnd t → is_last (after_of t) ≡ false → IsSettledLen t len → IsOpenFront t len
+  ignored_front t len k none going e = record {
     some = k.some;
     few = k.few;
     goes_on = going;
     count = length (settled t.rules.dialect (rest_of t.source));
-    continues = laws.parts.continues_note t.rules.dialect t.row (rest_of t.source) t.rules.lawful k.note
+    continues = laws.parts.continues_ignored t.rules.dialect t.row (rest_of t.source) t.rules.lawful k.ignored
         (line_open laws t.rules.dialect (rest_bytes t.source) (IsUtf8-from_is_utf8 (rest_bytes t.source) t.source.is_text) none);
     bytes = ap byte_len (settled_front laws t.rules.dialect (rest_of t.source) ∙ sym e.chars)
         ∙ ap length (encodes-chars (take len (rest_bytes t.source)) (IsUtf8-from_is_utf8 (take len (rest_bytes t.source)) e.text))
@@ -70,15 +70,15 @@ module _ (laws : RecordLaws) where
   }
 
   -- of a row that may become a comment
-  pub maybe_front : (t : Rows) → rest_of t.source ≢ [] → t.row < t.max_rows → is_note t.rules.dialect t.row (rest_of t.source) ≡ false
-      → is_last (after_of t) ≡ false → may_be_note t.rules.dialect (rest_of t.source) ≡ true
+  pub maybe_front : (t : Rows) → rest_of t.source ≢ [] → t.row < t.max_rows → is_ignored t.rules.dialect t.row (rest_of t.source) ≡ false
+      → is_last (after_of t) ≡ false → may_be_comment t.rules.dialect (rest_of t.source) ≡ true
       → IsOpenFront t (length (rest_bytes t.source))
-  maybe_front t some few note going may = record {
+  maybe_front t some few not_ignored going may = record {
     some = some;
     few = few;
     goes_on = going;
     count = length (rest_of t.source);
-    continues = laws.parts.continues_maybe t.rules.dialect t.row (rest_of t.source) t.rules.lawful note may;
+    continues = laws.parts.continues_maybe t.rules.dialect t.row (rest_of t.source) t.rules.lawful not_ignored may;
     bytes = text_bytes t;
   }
 
@@ -107,7 +107,7 @@ module _ (laws : RecordLaws) where
         few = k.few;
         goes_on = going;
         count = length text;
-        continues = laws.parts.continues_quoted d t.row text (state_of s) (values_of s) (current_of s) t.rules.lawful k.note (k.may_not going) runs q;
+        continues = laws.parts.continues_quoted d t.row text (state_of s) (values_of s) (current_of s) t.rules.lawful k.not_ignored (k.may_not going) runs q;
         bytes = text_bytes t ∙ sym (sure_is true q);
       }
       by_quoted false q = record {
@@ -115,7 +115,7 @@ module _ (laws : RecordLaws) where
         few = k.few;
         goes_on = going;
         count = length (settled d text);
-        continues = laws.parts.continues_unquoted d t.row text (state_of s) (values_of s) (current_of s) t.rules.lawful k.note (k.may_not going) runs q;
+        continues = laws.parts.continues_unquoted d t.row text (state_of s) (values_of s) (current_of s) t.rules.lawful k.not_ignored (k.may_not going) runs q;
         bytes = ap byte_len (settled_front laws d text ∙ sym o.all)
             ∙ ap length (encodes-chars (take (read_of s) (rest_bytes t.source))
             (front_text (rest_bytes t.source) (read_of s) (IsUtf8-from_is_utf8 (rest_bytes t.source) t.source.is_text) o.draft.within o.draft.back))
@@ -177,9 +177,9 @@ module _ (laws : RecordLaws) where
 
       by_last : (whole : Bool) → is_last (after_of t) ≡ whole → IsWrong (is_last (after_of t)) d t.row text n.count stop
       by_last true e = subst (λ (w : Bool). IsWrong w d t.row text n.count stop) (sym e)
-          (laws.parts.wrong_whole d t.row text stop at k.note broken inside n.count n.shown)
+          (laws.parts.wrong_whole d t.row text stop at k.not_ignored broken inside n.count n.shown)
       by_last false e = subst (λ (w : Bool). IsWrong w d t.row text n.count stop) (sym e)
-          (laws.parts.wrong_part d t.row text stop at k.note broken inside n.count n.shown (k.may_not e) (b.settled e))
+          (laws.parts.wrong_part d t.row text stop at k.not_ignored broken inside n.count n.shown (k.may_not e) (b.settled e))
 
   -- or a quote is open at the end
   left_wrong : (t : Rows) (s : Draft) (len : ℕ) (stop : RowStop) → IsReadable t
@@ -188,7 +188,7 @@ module _ (laws : RecordLaws) where
     count = length (rest_of t.source);
     wrong = subst (λ (w : Bool). IsWrong w t.rules.dialect t.row (rest_of t.source) (length (rest_of t.source)) stop) (sym o.ended)
         (subst (IsWrong true t.rules.dialect t.row (rest_of t.source) (length (rest_of t.source))) (sym o.name)
-        (laws.parts.left_open t.rules.dialect t.row (rest_of t.source) (state_of s) (values_of s) (current_of s) k.note o.runs o.quoted));
+        (laws.parts.left_open t.rules.dialect t.row (rest_of t.source) (state_of s) (values_of s) (current_of s) k.not_ignored o.runs o.quoted));
     bytes = text_bytes t ∙ sym e;
   }
 

@@ -229,10 +229,10 @@ module _ (laws : RecordLaws) where
           by_reached (inr (e, x, y, z, u)) = absurd cc
 
   -- a row that gives nothing
-  pub note_stays : (s t : Rows) (len : ℕ) (fields : Option (List (List ℕ))) → Passes s t len → t.remained ≡ s.remained
+  pub ignored_stays : (s t : Rows) (len : ℕ) (fields : Option (List (List ℕ))) → Passes s t len → t.remained ≡ s.remained
       → TakesRow (is_last (after_of s)) s.rules.dialect s.max_rows s.row (rest_of s.source) len fields
       → ((n : ℕ) → remaining_fields s.rules.dialect n fields ≡ None) → Stays s t
-  note_stays s t len fields p kept r none d max bytes ended given h =
+  ignored_stays s t len fields p kept r none d max bytes ended given h =
       let gone : remaining_fields d (1 + length h.rows) r.row.fields ≡ None = ap (remaining_fields d (1 + length h.rows)) r.fields_are
       ∙ subst (λ (x : Dialect). remaining_fields x (1 + length h.rows) fields ≡ None) h.dialect (none (1 + length h.rows)) in
       let body = none_given d h.rows r.row gone in

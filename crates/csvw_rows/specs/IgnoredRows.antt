@@ -13,5 +13,5 @@ IsLineEnd d text from (Some at) = (from ≤ at) × (at < length text) × (0 < te
 IsLineEnd d text from None = NoneBegins d text from (length text)
 
 -- no terminator begins within so many bytes at the front, whatever follows
-abbrev pub IsNoted : Dialect → ℕ → List ℕ → Type 0
-IsNoted d read rest = (more : List ℕ) → NoneBegins d (rest ++ more) 0 read
+abbrev pub IsSearched : Dialect → ℕ → List ℕ → Type 0
+IsSearched d read rest = (more : List ℕ) → NoneBegins d (rest ++ more) 0 read

@@ -10,11 +10,11 @@ use Rattle.csvw_rows.specs.declared.next.After.TheVariants.{More, Nothing, NoTex
 use Rattle.csvw_rows.specs.declared.next.Turn.{Turn}
 use Rattle.csvw_rows.specs.declared.next.Turn.TheVariants as turn
 use Rattle.csvw_fields.specs.Bounds.{fields_at}
-use Rattle.csvw_records.specs.Files.{is_note, Row, AreRows, EndsOpen, KeepsLimits, IsWhole, Front, Body, content, is_text, remaining}
+use Rattle.csvw_records.specs.Files.{is_ignored, Row, AreRows, EndsOpen, KeepsLimits, IsWhole, Front, Body, content, is_text, remaining}
 use Rattle.csvw_records.specs.RowValue.{Given}
 use Rattle.csvw_rows.specs.SourceState.{text_items, rest_bytes, rest_of, is_bad_of, pending_of, begun_of, Decodes}
 use Rattle.csvw_records.specs.Grammar.{trimmed}
-use Rattle.csvw_records.specs.NextRow.{settled, line_of, may_be_note}
+use Rattle.csvw_records.specs.NextRow.{settled, line_of, may_be_comment}
 use Rattle.csvw_rows.specs.IgnoredRows.{NoneBegins}
 use Rattle.csvw_rows.specs.NextRows.{Waits, StopGives, TakesRow, is_last}
 use Rattle.csvw_records.specs.Lengths.{byte_len}
@@ -182,8 +182,8 @@ pub record Refills (old new : Rows) : Type 0 where
 pub record IsReadable (s : Rows) : Type 0 where
   pub some : rest_of s.source ≢ []
   pub few : s.row < s.max_rows
-  pub note : is_note s.rules.dialect s.row (rest_of s.source) ≡ false
-  pub may_not : is_last (after_of s) ≡ false → may_be_note s.rules.dialect (rest_of s.source) ≡ false
+  pub not_ignored : is_ignored s.rules.dialect s.row (rest_of s.source) ≡ false
+  pub may_not : is_last (after_of s) ≡ false → may_be_comment s.rules.dialect (rest_of s.source) ≡ false
 
 -- the row at the front ends after so many bytes, and its fields were found
 pub record IsReadRow (s : Rows) (len : ℕ) : Type 0 where
@@ -214,17 +214,17 @@ pub record IsOpenFront (s : Rows) (len : ℕ) : Type 0 where
   pub bytes : byte_len (take count (rest_of s.source)) ≡ len
 
 -- the row at the front, which isn't known to be a comment, may become one
-abbrev pub may_go_on_to_note : Rows → Bool
-may_go_on_to_note s = not (is_last (after_of s)) && may_be_note s.rules.dialect (rest_of s.source)
+abbrev pub may_become_comment : Rows → Bool
+may_become_comment s = not (is_last (after_of s)) && may_be_comment s.rules.dialect (rest_of s.source)
 
 -- a skipped row or a comment is at the front, which isn't one too many
-pub record IsNoteNext (s : Rows) : Type 0 where
+pub record IsIgnoredNext (s : Rows) : Type 0 where
   pub some : rest_of s.source ≢ []
   pub few : s.row < s.max_rows
-  pub note : is_note s.rules.dialect s.row (rest_of s.source) ≡ true
+  pub ignored : is_ignored s.rules.dialect s.row (rest_of s.source) ≡ true
 
 -- it ends after so many bytes
-pub record IsNoteRead (s : Rows) (len : ℕ) : Type 0 where
+pub record IsIgnoredRead (s : Rows) (len : ℕ) : Type 0 where
   pub within : len ≤ length (rest_bytes s.source)
   pub back : is_utf8 (drop len (rest_bytes s.source)) ≡ true
   pub line : line_of (is_last (after_of s)) s.rules.dialect (rest_of s.source) ≡ Some (chars (drop len (rest_bytes s.source)))
@@ -233,9 +233,9 @@ pub record IsNoteRead (s : Rows) (len : ℕ) : Type 0 where
 abbrev pub HasNoEnd : Rows → Type 0
 HasNoEnd s = NoneBegins s.rules.dialect (rest_bytes s.source) 0 (length (rest_bytes s.source))
 
-abbrev pub EndsNote : Rows → Option ℕ → Type 0
-EndsNote s (Some len) = IsNoteRead s len
-EndsNote s None = HasNoEnd s × (is_last (after_of s) ≡ false)
+abbrev pub EndsIgnored : Rows → Option ℕ → Type 0
+EndsIgnored s (Some len) = IsIgnoredRead s len
+EndsIgnored s None = HasNoEnd s × (is_last (after_of s) ≡ false)
 
 -- so many bytes are all but a CR at the end that may begin a terminator
 pub record IsSettledLen (s : Rows) (len : ℕ) : Type 0 where
@@ -250,6 +250,6 @@ sure_of s = if is_quoted (state_of s.draft) then length (rest_bytes s.source) el
 -- what the bytes at the front are known to be
 abbrev pub IsKnown : Rows → Known → Type 0
 IsKnown s (known.Row len) = HasFields s len
-IsKnown s (known.Note len) = HasRow s len None
+IsKnown s (known.Ignored len) = HasRow s len None
 IsKnown s known.Waits = Waits (after_of s) s.rules.dialect s.max_rows s.row (rest_of s.source)
 IsKnown s (known.Stop stop) = StopGives (after_of s) s.rules.dialect s.max_rows s.row (rest_of s.source) stop

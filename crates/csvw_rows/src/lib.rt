@@ -22,9 +22,9 @@
 #![tactic(auto)]
 
 mod breach;
+mod ignored_row;
 pub mod laws;
 mod next;
-mod note;
 mod raw_row;
 mod rows;
 mod source;

@@ -32,7 +32,7 @@ pub enum Known {
     /// A row of so many bytes with its terminator, whose fields were found.
     Row(usize),
     /// A row of so many bytes with its terminator, which is skipped or a comment.
-    Note(usize),
+    Ignored(usize),
     /// No row is complete.
     Waits,
     /// A stop.

@@ -6,12 +6,12 @@ ghost use Rattle.csvw_fields.specs.Bounds.{are_bounds};
 ghost use Rattle.csvw_records.specs.Lawful.{IsLawful};
 ghost use Rattle.csvw_fields.specs.Drafts.{IsDraft};
 ghost use Rattle.csvw_fields.specs.Marked.{Marked};
-ghost use Rattle.csvw_rows.specs.IgnoredRows.{IsNoted};
+ghost use Rattle.csvw_rows.specs.IgnoredRows.{IsSearched};
 ghost use Rattle.csvw_rows.specs.SourceState.{rest_bytes};
 
 use crate::breach::shown_len;
+use crate::ignored_row::line_end;
 use crate::next::{After, Known, Turn, is_last};
-use crate::note::line_end;
 use crate::raw_row::RawRow;
 use crate::source::Source;
 use csvw_fields::laws::field_laws;
@@ -44,7 +44,7 @@ pub struct Rows {
     /// The front of a row that wasn't complete.
     draft: Draft,
     /// The number of bytes at the start that belong to a comment or a skipped row for sure.
-    note: usize,
+    searched: usize,
     /// The stop that was returned, if there was one.
     stop: Option<RowStop>,
     ghost few: { max_rows < 2 ^ 64 - 1 },
@@ -53,15 +53,15 @@ pub struct Rows {
     ghost marked: { Marked rules.symbols source.text.items marks },
     ghost bounded: { are_bounds source.text.items spare.items fields.items ≡ true },
     ghost drafted: { IsDraft rules.dialect draft (rest_bytes source) },
-    ghost noted: { IsNoted rules.dialect note (rest_bytes source) },
+    ghost none_ends: { IsSearched rules.dialect searched (rest_bytes source) },
 }
 
 impl Rows {
     ghost use Rattle.csvw_rows.specs.RowsState.{is_ended_of, fields_of, unread, reading_of, stop_of, after_of, last_of};
     ghost use Rattle.csvw_rows.specs.RowsState.{Holds, Passes, AreFront, HasFields, Refills, Feeds, Closes, Advances};
     ghost use Rattle.csvw_rows.specs.RowsState.{Turns, KeepsStop, WaitsThere, IsReadable, IsReadRow, IsWrongRow};
-    ghost use Rattle.csvw_rows.specs.RowsState.{IsNoteNext, IsNoteRead, IsOpenFront, IsSettledLen, EndsNote};
-    ghost use Rattle.csvw_rows.specs.RowsState.{may_go_on_to_note, sure_of, IsKnown};
+    ghost use Rattle.csvw_rows.specs.RowsState.{IsIgnoredNext, IsIgnoredRead, IsOpenFront, IsSettledLen, EndsIgnored};
+    ghost use Rattle.csvw_rows.specs.RowsState.{may_become_comment, sure_of, IsKnown};
     ghost use Rattle.csvw_rows.specs.RowsLending.{RestsAdvanced};
     ghost use Rattle.csvw_rows.specs.SourceState.{rest_of};
     ghost use Rattle.csvw_rows.specs.RowValue.{row_of};
@@ -88,7 +88,7 @@ impl Rows {
             fields: Vec::new(alloc),
             spare: Vec::new(alloc),
             draft: Draft::new(alloc),
-            note: 0,
+            searched: 0,
             stop: None,
         })
     }
@@ -127,7 +127,7 @@ impl Rows {
             Ok(()) => Ok(()),
             Err(_) => {
                 self.draft.clear();
-                self.note = 0;
+                self.searched = 0;
                 self.stop = Some(RowStop::Memory);
                 Err(RowStop::Memory)
             }
@@ -234,7 +234,7 @@ impl Rows {
         let rest = self.source.rest();
         if 0 < self.draft.read_len()
             || self.row >= self.max_rows
-            || self.rules.is_note(self.row, rest)
+            || self.rules.is_ignored(self.row, rest)
         {
             return Ok(None);
         }
@@ -257,7 +257,7 @@ impl Rows {
         }
         match self.read_front()? {
             Known::Row(len) => Ok(self.pass_fields(len)),
-            Known::Note(len) => {
+            Known::Ignored(len) => {
                 self.pass(len);
                 Ok(Turn::Passed)
             }
@@ -278,8 +278,8 @@ impl Rows {
         if self.row >= self.max_rows {
             return Ok(Known::Stop(RowStop::TooManyRows));
         }
-        if self.rules.is_note(self.row, self.source.rest()) {
-            return Ok(self.read_note());
+        if self.rules.is_ignored(self.row, self.source.rest()) {
+            return Ok(self.read_ignored());
         }
         if self.may_become_comment() {
             return Ok(self.open_front(self.source.rest().len()));
@@ -307,34 +307,34 @@ impl Rows {
 
     /// Returns whether the row at the front isn't known to be a comment, but may become one.
     fn may_become_comment(&self) -> bool
-        ensures { result ≡ may_go_on_to_note self.now }
+        ensures { result ≡ may_become_comment self.now }
     {
-        !self.is_last() && self.rules.may_be_note(self.source.rest())
+        !self.is_last() && self.rules.may_be_comment(self.source.rest())
     }
 
     /// Reads the skipped row or comment at the front on from the place where reading stopped.
-    fn read_note(&mut self) -> Known
-        requires { IsNoteNext self.old }
+    fn read_ignored(&mut self) -> Known
+        requires { IsIgnoredNext self.old }
         ensures refills { Refills self.old self.new }
         ensures known { IsKnown self.new result }
     {
         record_laws();
-        match self.note_end() {
-            Some(len) => self.ended_note(len),
+        match self.ignored_end() {
+            Some(len) => self.ended_ignored(len),
             None => {
-                self.note = self.settled_len();
-                self.open_front(self.note)
+                self.searched = self.settled_len();
+                self.open_front(self.searched)
             }
         }
     }
 
     /// Returns the number of bytes after which the skipped row or comment at the front ends.
-    fn note_end(&self) -> Option<usize>
-        ensures { EndsNote self.now result }
+    fn ignored_end(&self) -> Option<usize>
+        ensures { EndsIgnored self.now result }
     {
         record_laws();
         let rest = self.source.rest();
-        match line_end(&self.rules.dialect, rest.as_bytes(), self.note) {
+        match line_end(&self.rules.dialect, rest.as_bytes(), self.searched) {
             Some(len) => Some(len),
             None if self.is_last() => Some(rest.len()),
             None => None,
@@ -349,9 +349,9 @@ impl Rows {
     }
 
     /// Returns what is known of the skipped row or comment at the front, which ends after so many bytes.
-    fn ended_note(&self, len: usize) -> Known
-        requires next { IsNoteNext self.now }
-        requires read { IsNoteRead self.now len }
+    fn ended_ignored(&self, len: usize) -> Known
+        requires next { IsIgnoredNext self.now }
+        requires read { IsIgnoredRead self.now len }
         ensures { IsKnown self.now result }
     {
         record_laws();
@@ -359,7 +359,7 @@ impl Rows {
             return Known::Stop(RowStop::RowTooLong);
         }
         let (_, behind) = self.source.rest().as_bytes().split_at(len);
-        Known::Note(len + terminator_at(&self.rules.dialect, behind))
+        Known::Ignored(len + terminator_at(&self.rules.dialect, behind))
     }
 
     /// Returns what is known of the front if no row is complete. So many bytes belong to the next row for sure.
@@ -457,7 +457,7 @@ impl Rows {
         field_laws();
         self.source.take(len);
         self.draft.clear();
-        self.note = 0;
+        self.searched = 0;
         self.row += 1;
     }
 

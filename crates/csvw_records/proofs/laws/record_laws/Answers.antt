@@ -1,11 +1,11 @@
 use Rattle.csvw_records.proofs.Broken.{run_tells}
 use Rattle.csvw_records.proofs.Complete.{nothing_ends}
-use Rattle.csvw_records.proofs.Continue.{term_some, unsettled_is, clear_all, fields_next, continues_maybe, continues_note}
+use Rattle.csvw_records.proofs.Continue.{term_some, unsettled_is, clear_all, fields_next, continues_maybe, continues_ignored}
 use Rattle.csvw_records.proofs.FrontLaws.{by_file, begins_front_of, rows_later, begins_later_front}
 use Rattle.csvw_records.proofs.GoingOn.{breaks_next, last_goes, goes_on_begins, no_stop}
 use Rattle.csvw_records.proofs.Joins.{settled_all, settled_clear, run_join, line_joins}
 use Rattle.csvw_records.proofs.Lookahead.{term_within, term_stays, row_stays, rows_again}
-use Rattle.csvw_records.proofs.Notes.{terminator_breaks, ends_break, note_same}
+use Rattle.csvw_records.proofs.IgnoredRows.{terminator_breaks, ends_break, ignored_same}
 use Rattle.csvw_records.proofs.Prefixes.{same_start}
 use Rattle.csvw_records.proofs.RowLaws.{line_complete, row_complete, row_sound, row_unique}
 use Rattle.csvw_records.proofs.RunSteps.{run_plain, broken_within}
@@ -40,7 +40,7 @@ returns c = record {
     term_text = term_text;
     terminator_breaks = terminator_breaks;
     ends_break = ends_break;
-    note_same = note_same;
+    ignored_same = ignored_same;
   };
   passes = record {
     settled_all = settled_all;
@@ -70,7 +70,7 @@ returns c = record {
   };
   parts = record {
     continues_maybe = continues_maybe;
-    continues_note = continues_note;
+    continues_ignored = continues_ignored;
     continues_quoted = continues_quoted;
     continues_unquoted = continues_unquoted;
     wrong_whole = wrong_whole;

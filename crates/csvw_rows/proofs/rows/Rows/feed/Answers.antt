@@ -6,8 +6,8 @@ use Rattle.csvw_fields.specs.Drafts.{IsDraft}
 use Rattle.csvw_rows.specs.SourceState.{rest_bytes}
 use Rattle.csvw_rows.proofs.TextLemmas.{bytes_more}
 use Rattle.csvw_rows.proofs.States.{feed_holds}
-use Rattle.csvw_rows.specs.IgnoredRows.{IsNoted}
-use Rattle.csvw_rows.proofs.NoteLemmas.{noted_grows}
+use Rattle.csvw_rows.specs.IgnoredRows.{IsSearched}
+use Rattle.csvw_rows.proofs.IgnoredLemmas.{searched_grows}
 use Rattle.csvw_rows.proofs.rows.Rows.feed.Goals as goal
 
 pub invariant_of-self-clause-drafted : goal.invariant_of-self-clause-drafted
@@ -18,12 +18,12 @@ invariant_of-self-clause-drafted c =
     subst (IsDraft s.rules.dialect s.draft) (sym b.0) ((field_laws_of c.field_laws.ensures).draft_grows s.rules.dialect s.draft (rest_bytes s.source)
     (encode_utf8_all g.0) s.drafted b.1)
 
-pub invariant_of-self-clause-noted : goal.invariant_of-self-clause-noted
-invariant_of-self-clause-noted c =
+pub invariant_of-self-clause-none_ends : goal.invariant_of-self-clause-none_ends
+invariant_of-self-clause-none_ends c =
     let s = c.args.self.now in
     let g = c.in-Ok.ensures.grows in
     let b = bytes_more (rest_bytes s.source) (rest_bytes c.push.new.self) g.0 s.source.is_text c.push.new.self.is_text g.1 in
-    subst (IsNoted s.rules.dialect s.note) (sym b.0) (noted_grows s.rules.dialect s.note (rest_bytes s.source) (encode_utf8_all g.0) s.noted)
+    subst (IsSearched s.rules.dialect s.searched) (sym b.0) (searched_grows s.rules.dialect s.searched (rest_bytes s.source) (encode_utf8_all g.0) s.none_ends)
 
 pub invariant_of-self-in-Err-clause-drafted : goal.invariant_of-self-in-Err-clause-drafted
 invariant_of-self-in-Err-clause-drafted c =

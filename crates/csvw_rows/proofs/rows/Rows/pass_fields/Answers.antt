@@ -7,7 +7,7 @@ use Rattle.csvw_records.specs.Grammar.{trimmed}
 use Rattle.csvw_rows.specs.SourceState.{text_items}
 use Rattle.csvw_rows.proofs.Bodies.{blank_none, blank_texts}
 use Rattle.csvw_rows.proofs.RowSteps.{less_unread}
-use Rattle.csvw_rows.proofs.States.{note_stays, row_gives, passes_to, and_true, and_left, and_right}
+use Rattle.csvw_rows.proofs.States.{ignored_stays, row_gives, passes_to, and_true, and_left, and_right}
 use Rattle.csvw_rows.proofs.rows.Rows.pass_fields.Goals as goal
 use Rattle.csvw_rows.proofs.rows.Rows.pass_fields.Goals.{else-self-via-then-self+else-all_empty, else-self-via-else-self}
 
@@ -26,7 +26,7 @@ returns-then-all_empty-clause-turns c =
     let skips = ap (λ r. r.dialect.skip_blank_rows) (sym p.rules) ∙ c.if-self.true in (
       p.ended,
       less_unread s t q.row.len p k.some k.within,
-      note_stays (laws_of c.record_laws.ensures) s t q.row.len (Some (map (trimmed d.trim) q.values)) p c.pass.ensures.remained k
+      ignored_stays (laws_of c.record_laws.ensures) s t q.row.len (Some (map (trimmed d.trim) q.values)) p c.pass.ensures.remained k
           (λ n. blank_none d n (map (trimmed d.trim) q.values) (and_true _ _ skips blank)),
     )
 

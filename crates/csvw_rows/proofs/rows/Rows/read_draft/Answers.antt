@@ -63,7 +63,7 @@ open_front-requires c =
     subst (λ (b : Bool). GoesOn d b t (rest_bytes s.source) reading.Unfinished) c.is_last-is_last.ensures
     (subst (λ (l : List ℕ). GoesOn d c.is_last-is_last.result t l reading.Unfinished) c.rest.ensures.value h) in
     subst (IsOpenFront _) (sym c.sure_len.ensures) (draft_front (laws_of c.record_laws.ensures) _
-    (record { some = k.some; few = k.few; note = k.note; may_not = k.may_not }) g.0 g.1)
+    (record { some = k.some; few = k.few; not_ignored = k.not_ignored; may_not = k.may_not }) g.0 g.1)
 
 pub shown_len-len-requires-clause-within : goal.shown_len-len-requires-clause-within
 shown_len-len-requires-clause-within c =
@@ -108,4 +108,4 @@ broken_row-requires-clause-wrong c =
     let n : IsShownLen d (rest_bytes s.source) (read_of t) len =
     subst (λ (l : List ℕ). IsShownLen d l (read_of t) len) c.rest-in-Ok-Broken.ensures.value
     (subst (λ (m : ℕ). IsShownLen d c.rest-in-Ok-Broken.result.now m len) c.read_len-at.ensures c.shown_len-len.ensures) in
-    stopped_wrong (laws_of c.record_laws.ensures) _ t len stop (record { some = k.some; few = k.few; note = k.note; may_not = k.may_not }) g n
+    stopped_wrong (laws_of c.record_laws.ensures) _ t len stop (record { some = k.some; few = k.few; not_ignored = k.not_ignored; may_not = k.may_not }) g n

@@ -1,7 +1,7 @@
 use Rattle.std.proofs.Common.{None, Ok, refl}
 use Rattle.csvw_records.specs.RecordLaws.{laws_of}
 use Rattle.csvw_rows.proofs.RowSteps.{turns_from, refills_again, waits_turns, stop_turns, less_unread}
-use Rattle.csvw_rows.proofs.States.{note_stays}
+use Rattle.csvw_rows.proofs.States.{ignored_stays}
 use Rattle.csvw_rows.specs.declared.next.Turn.TheVariants as turn
 use Rattle.csvw_rows.specs.RowsState.{HasRow}
 use Rattle.csvw_rows.proofs.rows.Rows.turn.Goals as goal
@@ -27,16 +27,16 @@ returns-in-Stop-clause-turns c =
     (refills_again c.args.self.now c.cut.new.self c.read_front.new.self c.cut.ensures.refills c.read_front.ensures.refills)
     (rw c.in-Stop.is at c.in_ok-len-2.ensures.known)
 
-pub returns-in-Note-clause-turns : goal.returns-in-Note-clause-turns
-returns-in-Note-clause-turns c =
+pub returns-in-Ignored-clause-turns : goal.returns-in-Ignored-clause-turns
+returns-in-Ignored-clause-turns c =
     let s = c.args.self.now in
     let u = c.read_front.new.self in
     let t = c.pass.new.self in
-    let k : HasRow u c.in-Note.len None = rw c.in-Note.is at c.in_ok-len-2.ensures.known in
+    let k : HasRow u c.in-Ignored.len None = rw c.in-Ignored.is at c.in_ok-len-2.ensures.known in
     let p = c.pass.ensures.passes k.len k.front in
     turns_from s u t (Ok turn.Passed) (refills_again s c.cut.new.self u c.cut.ensures.refills c.read_front.ensures.refills) (
       p.ended,
       less_unread u t k.len p k.takes.some k.takes.within,
-      note_stays (laws_of c.record_laws.ensures) u t k.len None p c.pass.ensures.remained k.takes
+      ignored_stays (laws_of c.record_laws.ensures) u t k.len None p c.pass.ensures.remained k.takes
           (λ n. refl),
     )

@@ -2,7 +2,7 @@ use Rattle.std.proofs.Common.{◌∙◌, ℕ, List, Option, option_map, chars, n
 use Rattle.csvw_records.specs.RecordLaws.{laws_of}
 use Rattle.std.specs.List.{starts_with}
 use Rattle.csvw_records.specs.NextRow.{begins_prefix}
-use Rattle.csvw_fields.proofs.rules.Rules.may_be_note.Goals as goal
+use Rattle.csvw_fields.proofs.rules.Rules.may_be_comment.Goals as goal
 
 pub returns-in-Some : goal.returns-in-Some
 returns-in-Some c =

@@ -13,7 +13,7 @@ use Rattle.csvw_records.specs.declared.dialect.Dialect.{Dialect}
 use Rattle.csvw_records.specs.Grammar.{terminator_len}
 use Rattle.csvw_records.specs.Lengths.{byte_len}
 use Rattle.csvw_records.specs.NextRow.{settled, unsettled, line_of}
-use Rattle.csvw_rows.specs.IgnoredRows.{NoneBegins, IsNoted}
+use Rattle.csvw_rows.specs.IgnoredRows.{NoneBegins, IsSearched}
 use Rattle.csvw_rows.proofs.TextLemmas.{split_chars, front_text, text_gone, drop_more}
 use Rattle.csvw_rows.proofs.ByteLens.{byte_len_past}
 use Rattle.csvw_records.specs.TerminatorLaws.{is_break, BeginsBreak}
@@ -135,8 +135,8 @@ module _ (laws : RecordLaws) where
           absurd cc
 
   -- nothing that follows makes a terminator of what is settled
-  pub settled_noted : (d : Dialect) (rest : List ℕ) (n : ℕ) → n ≡ length (settled d rest) → NoneBegins d rest 0 (length rest) → IsNoted d n rest
-  settled_noted d rest n e none more k h l =
+  pub settled_searched : (d : Dialect) (rest : List ℕ) (n : ℕ) → n ≡ length (settled d rest) → NoneBegins d rest 0 (length rest) → IsSearched d n rest
+  settled_searched d rest n e none more k h l =
       let s = settled d rest in
       let t = unsettled d rest in
       let low : k < length s = omega (arith, l, e) in
@@ -150,7 +150,7 @@ module _ (laws : RecordLaws) where
       ∙ ap (terminator_len d) (sym here) ∙ none k (omega arith) (omega (arith, low, ap length all, length-append s t))
 
 -- nor does one in what was read on
-pub none_before : (d : Dialect) (rest : List ℕ) (n to : ℕ) → IsNoted d n rest → NoneBegins d rest n to → NoneBegins d rest 0 to
+pub none_before : (d : Dialect) (rest : List ℕ) (n to : ℕ) → IsSearched d n rest → NoneBegins d rest n to → NoneBegins d rest 0 to
 none_before d rest n to i none k h l = by_place (cases_lt k n)
   where
     by_place : (k < n) ⊎ (n ≤ k) → terminator_len d (drop k rest) ≡ 0
@@ -158,5 +158,5 @@ none_before d rest n to i none k h l = by_place (cases_lt k n)
     by_place (inr e) = none k e l
 
 -- more bytes come
-pub noted_grows : (d : Dialect) (n : ℕ) (rest more : List ℕ) → IsNoted d n rest → IsNoted d n (rest ++ more)
-noted_grows d n rest more i after = λ k h l. ap (λ x. terminator_len d (drop k x)) (append_assoc rest more after) ∙ i (more ++ after) k h l
+pub searched_grows : (d : Dialect) (n : ℕ) (rest more : List ℕ) → IsSearched d n rest → IsSearched d n (rest ++ more)
+searched_grows d n rest more i after = λ k h l. ap (λ x. terminator_len d (drop k x)) (append_assoc rest more after) ∙ i (more ++ after) k h l

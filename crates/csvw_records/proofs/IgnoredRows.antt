@@ -5,10 +5,10 @@ use Rattle.std.specs.List.{starts_with}
 use Rattle.std.proofs.lemmas.Bool.Decides.{nat_tests}
 use Rattle.csvw_records.specs.declared.dialect.Dialect.{Dialect}
 use Rattle.csvw_records.specs.Grammar.{terminator_len}
-use Rattle.csvw_records.specs.Files.{EndsRow, begins_with, is_note}
+use Rattle.csvw_records.specs.Files.{EndsRow, begins_with, is_ignored}
 use Rattle.csvw_records.specs.Lawful.{prefix_of}
 use Rattle.csvw_records.specs.Lawful.{IsLawful, has_break, prefix_breaks}
-use Rattle.csvw_records.specs.NextRow.{begins_prefix, may_be_note}
+use Rattle.csvw_records.specs.NextRow.{begins_prefix, may_be_comment}
 use Rattle.csvw_records.specs.TerminatorLaws.{is_break, BeginsBreak}
 
 heads : (crlf lf a x y b z w : Bool) → a ≡ z → b ≡ w → 0 < (if crlf && (a && x) then 2 else (if lf && (b && y) then 1 else 0)) → (z || w) ≡ true
@@ -45,8 +45,8 @@ begins_same : (o : Option (List ℕ)) (row after : List ℕ) → prefix_breaks o
 begins_same None row after h b = refl
 begins_same (Some prefix) row after h b = starts_same prefix row after h b
 
-pub note_same : (d : Dialect) (i : ℕ) (row after : List ℕ) → IsLawful d → BeginsBreak after → is_note d i (row ++ after) ≡ is_note d i row
-note_same d i row after w b = ap (λ x. nat_lt i d.skip_rows || x) (begins_same (prefix_of d) row after w.prefix b)
+pub ignored_same : (d : Dialect) (i : ℕ) (row after : List ℕ) → IsLawful d → BeginsBreak after → is_ignored d i (row ++ after) ≡ is_ignored d i row
+ignored_same d i row after w b = ap (λ x. nat_lt i d.skip_rows || x) (begins_same (prefix_of d) row after w.prefix b)
 
 -- a comment stays one
 pub starts_stays : (prefix text more : List ℕ) → starts_with nat_eq text prefix ≡ true → starts_with nat_eq (text ++ more) prefix ≡ true
@@ -66,8 +66,8 @@ begins_stays : (o : Option (List ℕ)) (text more : List ℕ) → begins_with te
 begins_stays None text more h = absurd cc
 begins_stays (Some prefix) text more h = starts_stays prefix text more h
 
-pub note_stays : (d : Dialect) (i : ℕ) (text more : List ℕ) → is_note d i text ≡ true → is_note d i (text ++ more) ≡ true
-note_stays d i text more h = or_stays (nat_lt i d.skip_rows) (begins_with text (prefix_of d)) (begins_with (text ++ more) (prefix_of d)) h
+pub ignored_stays : (d : Dialect) (i : ℕ) (text more : List ℕ) → is_ignored d i text ≡ true → is_ignored d i (text ++ more) ≡ true
+ignored_stays d i text more h = or_stays (nat_lt i d.skip_rows) (begins_with text (prefix_of d)) (begins_with (text ++ more) (prefix_of d)) h
     (begins_stays (prefix_of d) text more)
 
 -- where the text is no comment and can't become one, nothing behind it makes it one
@@ -96,7 +96,8 @@ begins_never : (o : Option (List ℕ)) (text more : List ℕ) → begins_with te
 begins_never None text more h k = refl
 begins_never (Some prefix) text more h k = starts_never prefix text more h k
 
-pub note_never : (d : Dialect) (i : ℕ) (text more : List ℕ) → is_note d i text ≡ false → may_be_note d text ≡ false → is_note d i (text ++ more) ≡ false
-note_never d i text more h k =
+pub never_ignored : (d : Dialect) (i : ℕ) (text more : List ℕ) → is_ignored d i text ≡ false → may_be_comment d text ≡ false
+    → is_ignored d i (text ++ more) ≡ false
+never_ignored d i text more h k =
     let p = or_parts (nat_lt i d.skip_rows) (begins_with text (prefix_of d)) h in
     or_none (nat_lt i d.skip_rows) (begins_with (text ++ more) (prefix_of d)) p.0 (begins_never (prefix_of d) text more p.1 k)
