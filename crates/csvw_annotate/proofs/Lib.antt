@@ -4,6 +4,7 @@ mod BoundLemmas
 mod CellsLemmas
 mod FormsLemmas
 mod LinkLemmas
+mod ListedLemmas
 mod ReservedLemmas
 mod SharingLemmas
 mod SimpleLemmas

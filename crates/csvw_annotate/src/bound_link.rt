@@ -8,11 +8,11 @@ ghost use Rattle.csvw_annotate.specs.declared.bound_link.Which.TheVariants.{Abou
 
 use crate::bound_parts::BoundParts;
 use crate::cell_names::CellNames;
-use crate::links::{Made, linked, no_link};
+use crate::links::{Made, linked, no_link, too_long};
 use crate::sharing::share_about;
 use csvw_columns_core::{Column, Columns};
-use csvw_iri::Base;
-use csvw_template::{BoundPart, Template, Values, Var, push_bound, varies};
+use csvw_iri::{Base, MAX_TEXT};
+use csvw_template::{BoundPart, Fit, Template, Values, Var, push_bound_within, varies};
 use csvw_text::{Seq, Shared};
 use std::alloc::{AllocError, Global};
 
@@ -63,6 +63,10 @@ impl Values for NoValues {
     fn text(&self, _place: usize) -> Option<&str> {
         None
     }
+
+    fn is_longer(&self, _place: usize, _most: usize) -> bool {
+        false
+    }
 }
 
 fn template_of(column: &Column, which: Which) -> &Option<Shared<Template>>
@@ -83,8 +87,10 @@ fn by_parts(alloc: Global, base: &Base, parts: Seq<BoundPart>) -> Result<BoundLi
         return Ok(BoundLink::Varying(BoundParts::new(alloc, parts)?));
     }
     let mut text = String::new(alloc);
-    push_bound(&mut text, parts.as_slice(), &NoValues {})?;
-    Ok(BoundLink::Same(linked(alloc, base, text.as_str())?))
+    match push_bound_within(&mut text, parts.as_slice(), &NoValues {}, MAX_TEXT)? {
+        Fit::Whole => Ok(BoundLink::Same(linked(alloc, base, text.as_str())?)),
+        Fit::TooLong => Ok(BoundLink::Same(too_long())),
+    }
 }
 
 /// Returns a link of a column.

@@ -19,6 +19,8 @@
 //! When the columns of a table are known, `LinkedColumns` binds each name in their templates to a text, to a place
 //! among the values of a row, or to nothing. So a row looks up no name. If no name of a template is bound to a place,
 //! its link is made then, once for all rows. Contracts see a `LinkedColumns` as its `Columns`.
+//!
+//! The expansion of a template stops at the limit of a link. So no link takes longer than one of that length.
 #![tactic(auto)]
 
 mod annotating;

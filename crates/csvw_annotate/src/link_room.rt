@@ -11,10 +11,10 @@ ghost use Rattle.csvw_annotate.specs.Simple.{front_text};
 
 use crate::bound_link::BoundLink;
 use crate::bound_parts::BoundParts;
-use crate::links::{Made, outcome};
+use crate::links::{Made, outcome, too_long};
 use crate::simple::SimpleFront;
-use csvw_iri::{Base, Iri, OwnFront, link_over};
-use csvw_template::{Values, push_bound};
+use csvw_iri::{Base, Iri, MAX_TEXT, OwnFront, link_over};
+use csvw_template::{Fit, Values, push_bound_within};
 use std::alloc::{AllocError, Global};
 
 /// The number of links that are kept. In most tables they are those of a row and of the row before it, which the last
@@ -60,12 +60,25 @@ impl LinkRoom {
             BoundLink::Same(made) => made.clone(self.alloc),
             BoundLink::Varying(parts) => match self.simple_in(base, parts, values)? {
                 Some(made) => Ok(made),
-                None => {
-                    self.text.clear();
-                    push_bound(&mut self.text, parts.as_slice(), values)?;
-                    self.link(base, parts.front())
-                }
+                None => self.expanded_in(base, parts, values),
             },
+        }
+    }
+
+    /// Returns the link of the expansion of the parts in a row of these values. The expansion stops at the limit.
+    fn expanded_in<V: Values>(
+        &mut self,
+        base: &Base,
+        parts: &BoundParts,
+        values: &V,
+    ) -> Result<Made, AllocError>
+        requires { V.can_look_up values.now }
+        ensures { IfOk result (λ l. l ≡ outcome (link_of base.now (expand_bound (V.values values.now) parts.now))) }
+    {
+        self.text.clear();
+        match push_bound_within(&mut self.text, parts.as_slice(), values, MAX_TEXT)? {
+            Fit::Whole => self.link(base, parts.front()),
+            Fit::TooLong => Ok(too_long()),
         }
     }
 

@@ -1,6 +1,7 @@
 //! `Links`: the links of a cell.
-ghost use Rattle.std.specs.Prelude.{◌≡◌, ◌++◌, ℕ, List, Result, IfOk, OnOk};
-ghost use Rattle.csvw_iri.specs.Link.{Refusal, link_of};
+ghost use Rattle.std.specs.Prelude.{◌≡◌, ◌<◌, ◌++◌, ℕ, List, Result, IfOk, OnOk, length};
+ghost use Rattle.url.specs.Parts.{Parts};
+ghost use Rattle.csvw_iri.specs.Link.{Refusal, link_of, max_text};
 ghost use Rattle.csvw_text.specs.Gives.{Gives};
 ghost use Rattle.csvw_iri.specs.Fault.{refusal};
 ghost use Rattle.csvw_cell.specs.Codes.{told};
@@ -8,7 +9,7 @@ ghost use Rattle.csvw_annotate.specs.Links.{no_link, outcome, has_value, joined,
 
 use csvw_cell::CellValue;
 use csvw_columns_core::Column;
-use csvw_iri::{Base, Iri, IriFault, link};
+use csvw_iri::{Base, Iri, IriFault, link, long_texts_have_no_link};
 use csvw_text::{Code, Seq, copied_option};
 use std::alloc::{AllocError, Global};
 
@@ -46,6 +47,18 @@ pub fn no_link() -> Made
         iri: None,
         is_bad: false,
         is_too_long: false,
+    }
+}
+
+/// Returns the link of a text that is longer than the limit.
+pub(crate) fn too_long() -> Made
+    ensures { (base : Parts) (text : List ℕ) → max_text < length text → result ≡ outcome (link_of base text) }
+{
+    long_texts_have_no_link();
+    Made {
+        iri: None,
+        is_bad: false,
+        is_too_long: true,
     }
 }
 

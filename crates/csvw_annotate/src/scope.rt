@@ -1,6 +1,7 @@
 //! The cells of a row, as the values of its templates.
-ghost use Rattle.std.specs.Prelude.{◌≡◌, IfOk, IfSome, decimal, map};
+ghost use Rattle.std.specs.Prelude.{◌≡◌, ◌<◌, IfOk, IfSome, decimal, map, true};
 ghost use Rattle.csvw_template.specs.Bound.{var_at};
+ghost use Rattle.csvw_template.specs.Within.{plain_len};
 ghost use Rattle.csvw_template.specs.declared.vars.Var.TheVariants.{One};
 ghost use Rattle.csvw_annotate.specs.CellVariables.{variable};
 ghost use Rattle.csvw_annotate.specs.HasForms.{CellsHaveForms};
@@ -8,7 +9,7 @@ ghost use Rattle.csvw_annotate.specs.Linked.{values_of};
 
 use crate::numbers::RowNumbers;
 use crate::row::AnnCell;
-use crate::values::{text_of, variable};
+use crate::values::{is_longer, text_of, variable};
 use csvw_template::{Values, Var};
 use csvw_text::Text;
 use std::alloc::{AllocError, Global};
@@ -47,6 +48,13 @@ impl<'b> Values for RowScope<'b> {
         }
         text_at(self.cells, place - 2)
     }
+
+    fn is_longer(&self, place: usize, most: usize) -> bool {
+        if place < 2 {
+            return false;
+        }
+        is_longer_at(self.cells, place - 2, most)
+    }
 }
 
 fn number(alloc: Global, number: u64) -> Result<Var, AllocError>
@@ -76,4 +84,15 @@ fn text_at<'a>(cells: &'a [AnnCell], i: usize) -> Option<&'a str>
         return text_of(&cells[i].value);
     }
     None
+}
+
+/// Returns true only if what the cell of a column stands for has more than `most` bytes.
+#[tactic(auto, using(crate::proofs::ValuesLemmas::value_at))]
+fn is_longer_at(cells: &[AnnCell], i: usize, most: usize) -> bool
+    ensures { result ≡ true → most < plain_len (var_at (map variable (values_of cells.now)) i) }
+{
+    if i < cells.len() {
+        return is_longer(&cells[i].value, most);
+    }
+    false
 }

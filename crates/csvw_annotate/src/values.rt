@@ -1,6 +1,8 @@
 //! What the values of cells stand for in templates.
-ghost use Rattle.std.specs.Prelude.{◌≡◌, IfOk, IfSome, map};
+ghost use Rattle.std.specs.Prelude.{◌≡◌, ◌<◌, ◌≤◌, IfOk, IfSome, length, map, true};
 ghost use Rattle.csvw_template.specs.declared.vars.Var.TheVariants.{One};
+ghost use Rattle.csvw_template.specs.Name.{listed};
+ghost use Rattle.csvw_template.specs.Within.{plain_len};
 ghost use Rattle.csvw_cell.specs.HasForm.{HasForm, HaveForms};
 ghost use Rattle.csvw_annotate.specs.CellVariables.{item_text, variable};
 
@@ -39,6 +41,44 @@ fn text_of_item(item: &Item) -> Option<&str>
         Value::Text(text) => Some(text.as_str()),
         _ => None,
     }
+}
+
+/// Returns true only if what the name of a column stands for has more than `most` bytes: a text, or items with commas
+/// between them. Only texts that can be lent are counted.
+pub(crate) fn is_longer(value: &CellValue, most: usize) -> bool
+    ensures { result ≡ true → most < plain_len (variable value.now) }
+{
+    match value {
+        CellValue::Null => false,
+        CellValue::One(item) => least_len(item) > most,
+        CellValue::Many(items) => are_longer(items.as_slice(), most),
+    }
+}
+
+/// Returns a number of bytes that the text of an item has at least.
+fn least_len(item: &Item) -> usize
+    ensures { result ≤ length (item_text item.now) }
+{
+    match text_of_item(item) {
+        Some(text) => text.len(),
+        None => 0,
+    }
+}
+
+/// Returns true only if items with commas between them have more than `most` bytes.
+fn are_longer(items: &[Item], most: usize) -> bool
+    ensures { result ≡ true → most < length (listed (map item_text items.now)) }
+{
+    let mut len = 0usize;
+    for item in items {
+        len = len.saturating_add(least_len(item));
+        if len > most {
+            return true;
+        }
+        // A comma.
+        len = len.saturating_add(1);
+    }
+    false
 }
 
 /// Returns what the name of a column stands for (Metadata Vocabulary for Tabular Data, section 5.1.3).

@@ -7,3 +7,4 @@ mod StayingLemmas
 mod FrontLemmas
 mod EncodedLemmas
 mod EncodedLinks
+mod LongLemmas

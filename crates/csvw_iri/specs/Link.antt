@@ -1,16 +1,17 @@
 -- The URL of a text, a base and a link, as the crate `url` defines them (URL Standard, section 4.4).
-use Rattle.std.specs.Prelude.{◌≡◌, ℕ, List, Option, Some, None, Result, Ok, Err, false, nat_lt, length, if◌then◌else◌}
+use Rattle.std.specs.Prelude.{◌≡◌, ◌<◌, ℕ, List, Option, Some, None, Result, Ok, Err, false, nat_lt, length, if◌then◌else◌}
 use Rattle.url.specs.Parts.{Parts, serialize, IsValid}
 use Rattle.url.specs.Parser.{parse_url, Parsed}
 use Rattle.csvw_iri.specs.Prefix.{expanded}
 use Rattle.csvw_iri.specs.Safe.{safe, has_hash}
+use Rattle.csvw_iri.specs.declared.base.TheConstants.{MAX_TEXT}
 
 pub data Refusal : Type 0 where
   too_long : Refusal
   bad : Refusal
 
 abbrev pub max_text : ℕ
-max_text = 65536
+max_text = MAX_TEXT
 
 abbrev pub of_parse : Parsed Parts → Result Parts Refusal
 of_parse (Ok url) = Ok url
@@ -47,3 +48,7 @@ resolved base text = under iri_of (url_of (Some base) text)
 -- the link of a text
 abbrev pub link_of : Parts → List ℕ → Result (List ℕ) Refusal
 link_of base text = resolved base (expanded text)
+
+-- A text that is longer than the limit is refused as too long, whatever its prefix and the base.
+abbrev pub LongTextsHaveNoLink : Type 0
+LongTextsHaveNoLink = (base : Parts) (text : List ℕ) → max_text < length text → link_of base text ≡ Err too_long

@@ -17,7 +17,7 @@ use std::marker::Model;
 use url::{ParseError, Url};
 
 /// The greatest number of bytes of a text to resolve.
-pub(crate) const MAX_TEXT: usize = 65536;
+pub const MAX_TEXT: usize = 65536;
 
 /// A URL without a fragment.
 #[derive(Debug, Drop)]
@@ -112,6 +112,10 @@ impl Base {
     ) -> Result<Option<Iri>, AllocError>
         ensures { IfOk result (λ found. IfSome found (λ iri. link_of self.now (codes "#" ++ percent_encoded text.now) ≡ Ok iri)) }
     {
+        // Percent-encoding never shortens a text.
+        if text.len() > MAX_TEXT {
+            return Ok(None);
+        }
         room.clear();
         room.push('#')?;
         push_percent_encoded(room, text)?;

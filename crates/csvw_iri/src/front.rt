@@ -71,6 +71,10 @@ impl OwnFront {
     ) -> Result<Option<Iri>, AllocError>
         ensures { IfOk result (λ found. IfSome found (λ iri. (base : Parts) → link_of base (self.now ++ percent_encoded text.now) ≡ Ok iri)) }
     {
+        // Percent-encoding never shortens a text.
+        if text.len() > MAX_TEXT {
+            return Ok(None);
+        }
         if !takes(self.place, text) {
             return Ok(None);
         }

@@ -10,6 +10,7 @@
 //! - `resolve` joins a text by the URL Standard and makes it safe. `link` first replaces its prefix. Each returns
 //!   that IRI or the refusal of the text.
 //! - `link_over` returns the same as `link`, also if a front is given with which texts begin (`OwnFront::of`).
+//! - A text that is longer than `MAX_TEXT` has no link: the law `long_texts_have_no_link`.
 //! - `OwnFront::encoded_link` and `Base::encoded_fragment` return the link of a front, or of `#`, and a percent-encoded
 //!   text.
 //! - `push_percent_encoded` percent-encodes a text. `made_safe` percent-encodes what N-Triples doesn't allow in an
@@ -31,11 +32,11 @@ mod own;
 mod prefix;
 mod safe;
 
-pub use base::Base;
+pub use base::{Base, MAX_TEXT};
 pub use encoded::push_percent_encoded;
 pub use fault::IriFault;
 pub use front::OwnFront;
 pub use iri::{Iri, with_fragment};
-pub use links::{link, link_over, resolve};
+pub use links::{link, link_over, long_texts_have_no_link, resolve};
 pub use prefix::expand_prefix;
 pub use safe::{is_raw, is_raw_text, made_safe, named};

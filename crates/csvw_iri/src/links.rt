@@ -1,6 +1,6 @@
 //! Links: the IRI that a text means against a base.
 ghost use Rattle.std.specs.Prelude.{◌≡◌};
-ghost use Rattle.csvw_iri.specs.Link.{resolved, link_of};
+ghost use Rattle.csvw_iri.specs.Link.{LongTextsHaveNoLink, resolved, link_of};
 ghost use Rattle.csvw_text.specs.Gives.{Gives};
 ghost use Rattle.csvw_iri.specs.Fault.{refusal};
 
@@ -55,6 +55,11 @@ pub fn link_over(
     }
     link_by_base(alloc, base, text)
 }
+
+/// A law: a text that is longer than the limit has no link, since no prefix is replaced by a shorter text.
+pub fn long_texts_have_no_link()
+    ensures { LongTextsHaveNoLink }
+{}
 
 fn link_by_base(alloc: Global, base: &Base, text: &str) -> Result<Iri, IriFault>
     ensures { Gives (λ i. i) refusal result (link_of base.now text.now) }

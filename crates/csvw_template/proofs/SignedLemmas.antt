@@ -15,7 +15,7 @@ abbrev pub is_none : List (List ℕ) → Bool
 is_none [] = true
 is_none (text ∷ texts) = false
 
-more : (operator : Operator) (vs : List (List ℕ)) (text : List ℕ)
+pub more : (operator : Operator) (vs : List (List ℕ)) (text : List ℕ)
     → signed operator (vs ++ text ∷ []) ≡ signed operator vs ++ (lead operator (is_none vs) ++ text)
 more operator [] text = ap (λ x. sign operator ++ x) (append-nil text)
 more operator (v ∷ vs) text =
@@ -54,7 +54,7 @@ none operator start vs b (Some text) old new w a = absurd (false≢true a.0)
 -- what each of these gives, where it gives something
 module _ {A : Type 0} (operator : Operator) (gives : A → Option (List ℕ)) (xs : List A) (i : ℕ) (x : A) (lt : i < length xs) (is : x ≡ get_or xs i x)
     (start : List ℕ) (b : Bool) (old new : List ℕ) (w : Wrote operator start (filter_map gives (take i xs)) b old) where
-  next : filter_map gives (take i xs) ++ cons_option (gives x) [] ≡ filter_map gives (take (i + 1) xs)
+  pub next : filter_map gives (take i xs) ++ cons_option (gives x) [] ≡ filter_map gives (take (i + 1) xs)
   next =
       sym (filter_map-append gives (take i xs) (x ∷ []))
       ∙ ap (λ y. filter_map gives (take i xs ++ y ∷ [])) is ∙ sym (ap (filter_map gives) (take_more xs i x lt))

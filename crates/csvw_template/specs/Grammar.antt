@@ -9,6 +9,7 @@ use Rattle.csvw_template.specs.declared.part.Operator.TheVariants.{Simple, Reser
 use Rattle.csvw_template.specs.declared.part.Part.{Part}
 use Rattle.csvw_template.specs.declared.part.Part.TheVariants.{Literal, Expression}
 use Rattle.csvw_template.specs.Name.{AreNames, listed}
+use Rattle.csvw_template.specs.declared.template.TheConstants.{MAX_LEN, MAX_OPEN}
 
 -- `{`
 abbrev pub is_open : ℕ → Bool
@@ -104,10 +105,10 @@ pub record IsFirst (Begins : List ℕ → Type 0) (text : List ℕ) : Type 0 whe
 
 -- at most 4,096 bytes, and at most 32 `{`
 abbrev pub IsWithin : List ℕ → Type 0
-IsWithin text = (length text ≤ 4096) × (count_by is_open text ≤ 32)
+IsWithin text = (length text ≤ MAX_LEN) × (count_by is_open text ≤ MAX_OPEN)
 
 abbrev pub IsPast : List ℕ → Type 0
-IsPast text = (4096 < length text) ⊎ (32 < count_by is_open text)
+IsPast text = (MAX_LEN < length text) ⊎ (MAX_OPEN < count_by is_open text)
 
 -- The answer is the text's parts, or why it has none. A text that is longer than its limits is reported first, then the first fault from the left.
 pub record IsTheReading (text : List ℕ) (answer : Result (List Part) TemplateFault) : Type 0 where

@@ -6,3 +6,4 @@ pub mod Name
 pub mod Plain
 pub mod Reading
 pub mod Variables
+pub mod Within

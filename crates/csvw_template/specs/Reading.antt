@@ -16,6 +16,7 @@ use Rattle.csvw_template.specs.declared.names.Kind.TheVariants.{Names, Higher, B
 use Rattle.csvw_template.specs.Fault.{◌>>=◌}
 use Rattle.csvw_template.specs.Grammar.{is_open, is_close, is_level_operator, is_modifier}
 use Rattle.csvw_template.specs.Name.{is_hex, is_name_byte}
+use Rattle.csvw_template.specs.declared.template.TheConstants.{MAX_LEN, MAX_OPEN}
 
 -- the place after the first character of a varchar
 abbrev pub varchar_step : ℕ → Option Place
@@ -92,7 +93,7 @@ of_pieces [] = Ok []
 of_pieces (piece ∷ pieces) = outside piece >>= λ e. all_opened pieces >>= λ es. Ok (e ++ es)
 
 abbrev pub is_past : List ℕ → Bool
-is_past text = nat_lt 4096 (length text) || nat_lt 32 (count_by is_open text)
+is_past text = nat_lt MAX_LEN (length text) || nat_lt MAX_OPEN (count_by is_open text)
 
 unfoldable pub template : List ℕ → Parts
 template text = if is_past text then Err TooLong else of_pieces (slice_split is_open text)

@@ -1,8 +1,9 @@
 //! Templates whose names are bound: what each name stands for is looked up once, and not at each expansion.
-ghost use Rattle.std.specs.Prelude.{◌≡◌, ◌++◌, ℕ, List, IfOk, IfSome, OnOk, map, string_bytes};
+ghost use Rattle.std.specs.Prelude.{◌≡◌, ◌<◌, ◌+◌, ◌++◌, ℕ, List, IfOk, IfSome, map, string_bytes, true};
 ghost use Rattle.std.specs.List.{list_any};
 ghost use Rattle.csvw_template.specs.Bound.{bound, bound_part, bound_values, expand_bound, expand_bound_part, is_at, stands_for, var_at, varies, varies_in};
 ghost use Rattle.csvw_template.specs.Bound.{BoundGivesTheSame, ConstantGivesTheSame};
+ghost use Rattle.csvw_template.specs.Within.{Fits, Writes, plain_len};
 ghost use Rattle.csvw_template.specs.Expand.{Adds, kept, signed, value};
 ghost use Rattle.csvw_template.specs.declared.bound.Binding.{Binding as TheBinding};
 ghost use Rattle.csvw_template.specs.declared.vars.Var.{Var as TheVar};
@@ -36,6 +37,15 @@ pub enum BoundPart {
     Values(Operator, Seq<Binding>),
 }
 
+/// Whether an expansion was added whole.
+#[derive(Clone, Copy, Debug, PartialEq, Eq)]
+pub enum Fit {
+    /// It was.
+    Whole,
+    /// The text with the whole expansion is longer than the limit. A part of the expansion may have been added.
+    TooLong,
+}
+
 /// A type that knows what names are bound to.
 pub trait Names {
     /// What each name is bound to.
@@ -63,6 +73,12 @@ pub trait Values {
     fn text(&self, place: usize) -> Option<&str>
         requires { can_look_up self.now }
         ensures { IfSome result (λ text. var_at (values self.now) place ≡ One text.now) };
+
+    /// Returns true only if the value at a place has more than `most` bytes, with nothing encoded. `false` says
+    /// nothing of the place.
+    fn is_longer(&self, place: usize, most: usize) -> bool
+        requires { can_look_up self.now }
+        ensures { result ≡ true → most < plain_len (var_at (values self.now) place) };
 }
 
 impl Template {
@@ -130,34 +146,52 @@ fn bind_names<N: Names>(
     Ok(bindings)
 }
 
-/// Adds the expansion of bound parts under these values. Returns `AllocError` if memory runs out.
+/// Adds the expansion of bound parts under these values, if the text then has at most `most` bytes.
+///
+/// It stops as soon as the text is longer, and encodes no value that is longer than what is left: encoding never
+/// shortens a text. Returns `AllocError` if memory runs out.
 #[tactic(auto, unfolding(crate::specs::Bound::expand_bound))]
-pub fn push_bound<V: Values>(
+pub fn push_bound_within<V: Values>(
     out: &mut String,
     parts: &[BoundPart],
     values: &V,
-) -> Result<(), AllocError>
+    most: usize,
+) -> Result<Fit, AllocError>
     requires { V.can_look_up values.now }
-    ensures { OnOk result (string_bytes out.new ≡ string_bytes out.old ++ expand_bound (V.values values.now) parts.now) }
+    ensures { IfOk result (λ fit. Fits fit most (string_bytes out.old) (expand_bound (V.values values.now) parts.now)
+        (string_bytes out.new)) }
 {
     for part in parts {
-        push_bound_part(out, part, values)?;
+        match push_bound_part(out, part, values, most)? {
+            Fit::Whole => {}
+            Fit::TooLong => return Ok(Fit::TooLong),
+        }
     }
-    Ok(())
+    if out.len() > most {
+        Ok(Fit::TooLong)
+    } else {
+        Ok(Fit::Whole)
+    }
 }
 
+/// Adds what a part expands to. It stops before a value that is too long, and doesn't look at the length after the last.
 fn push_bound_part<V: Values>(
     out: &mut String,
     part: &BoundPart,
     values: &V,
-) -> Result<(), AllocError>
+    most: usize,
+) -> Result<Fit, AllocError>
     requires { V.can_look_up values.now }
-    ensures { OnOk result (string_bytes out.new ≡ string_bytes out.old ++ expand_bound_part (V.values values.now) part.now) }
+    ensures { IfOk result (λ fit. Writes fit most (string_bytes out.old) (expand_bound_part (V.values values.now) part.now)
+        (string_bytes out.new)) }
 {
     match part {
-        BoundPart::Written(text) => out.push_str(text.as_str()),
+        BoundPart::Written(text) => {
+            out.push_str(text.as_str())?;
+            Ok(Fit::Whole)
+        }
         BoundPart::Values(operator, bindings) => {
-            push_bindings(out, *operator, bindings.as_slice(), values)
+            push_bindings(out, *operator, bindings.as_slice(), values, most)
         }
     }
 }
@@ -167,18 +201,38 @@ fn push_bindings<V: Values>(
     operator: Operator,
     bindings: &[Binding],
     values: &V,
-) -> Result<(), AllocError>
+    most: usize,
+) -> Result<Fit, AllocError>
     requires { V.can_look_up values.now }
-    ensures { OnOk result (string_bytes out.new
-        ≡ string_bytes out.old ++ signed operator (bound_values operator (V.values values.now) bindings.now)) }
+    ensures { IfOk result (λ fit. Writes fit most (string_bytes out.old)
+        (signed operator (bound_values operator (V.values values.now) bindings.now)) (string_bytes out.new)) }
 {
     let mut is_first = true;
     for binding in bindings {
+        if is_past(out.len(), binding, values, most) {
+            return Ok(Fit::TooLong);
+        }
         if push_binding(out, operator, is_first, binding, values)? {
             is_first = false;
         }
     }
-    Ok(())
+    Ok(Fit::Whole)
+}
+
+/// Returns true only if a text of this length, with what a binding stands for, is longer than the limit.
+fn is_past<V: Values>(len: usize, binding: &Binding, values: &V, most: usize) -> bool
+    requires { V.can_look_up values.now }
+    ensures { result ≡ true → most < len + plain_len (stands_for (V.values values.now) binding.now) }
+{
+    if len > most {
+        return true;
+    }
+    let left = most - len;
+    match binding {
+        Binding::Nothing => false,
+        Binding::Constant(text) => text.len() > left,
+        Binding::At(place) => values.is_longer(*place, left),
+    }
 }
 
 /// Adds what a binding stands for, after the sign or a comma. Returns whether it stands for something.

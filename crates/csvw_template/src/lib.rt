@@ -12,8 +12,8 @@
 //! - Each text has one such reading: the law `texts_have_one_reading`.
 //! - `expand` and `expand_into` expand a template as RFC 6570 says, by a map or by any other scope of variables
 //!   (`Scope`, `Vars::get` and `set`).
-//! - `bind` binds names to what they stand for. `push_bound` then writes the same text as the expansion: the law
-//!   `bound_gives_the_same`.
+//! - `bind` binds names to what they stand for. `push_bound_within` then writes the same text as the expansion: the law
+//!   `bound_gives_the_same`. It returns `TooLong` exactly if the text is longer than a limit, and then stops early.
 //! - `Template::is_same` returns true exactly if two templates have the same parts.
 #![tactic(auto)]
 
@@ -28,7 +28,9 @@ mod scope;
 mod template;
 mod vars;
 
-pub use bound::{Binding, BoundPart, Names, Values, bound_gives_the_same, push_bound, varies};
+pub use bound::{
+    Binding, BoundPart, Fit, Names, Values, bound_gives_the_same, push_bound_within, varies,
+};
 pub use fault::TemplateFault;
 pub use part::{Operator, Part};
 pub use scope::Scope;

@@ -1,6 +1,6 @@
 use Rattle.std.proofs.Common.{◌≡◌, ◌++◌, take, string_bytes, flat_map}
 use Rattle.csvw_template.specs.Bound.{expand_bound_part}
-use Rattle.csvw_template.proofs.bound.push_bound.Given as goal
+use Rattle.csvw_template.proofs.bound.push_bound_within.Given as goal
 
 abbrev pub invariant-loop-part : goal.invariant-loop-part
 invariant-loop-part g l =
