@@ -1,5 +1,5 @@
 //! Lists: steps 4 to 9 of a cell with a separator.
-ghost use Rattle.std.specs.Prelude.{◌≡◌, ◌<◌, length, IfOk, map, bytes_eq};
+ghost use Rattle.std.specs.Prelude.{◌≡◌, ◌<◌, length, IfOk, map};
 ghost use Rattle.csvw_datatype.specs.Sound.{IsSound};
 ghost use Rattle.csvw_datatype.specs.Strings.{is_string};
 ghost use Rattle.csvw_cell.specs.CellOf.{is_null, or_default, stripped, item_text, texts_of, AreParts, ArePartsBy, AreItems, IsList, IsListOf};
@@ -9,7 +9,7 @@ use crate::codes::{in_order, missing};
 use crate::item::judge;
 use csvw_columns_core::Properties;
 use csvw_datatype::Datatype;
-use csvw_text::{Code, Seq, Text, strip_end, strip_start};
+use csvw_text::{Code, Seq, strip_end, strip_start};
 use std::alloc::{AllocError, Global};
 
 /// The items of a list, and what is wrong with them.
@@ -21,23 +21,12 @@ struct JudgedItems {
     causes: Seq<Code>,
 }
 
-/// Returns whether the texts are the same. Most are of two lengths.
+/// Returns whether a text is one of `null`.
 #[inline(always)]
-fn is_same(null: &Text, text: &str) -> bool
-    ensures { result ≡ bytes_eq null.now text.now }
+pub fn is_null(properties: &Properties, text: &str) -> bool
+    ensures { result ≡ is_null properties.now.null text.now }
 {
-    null.len() == text.len() && null.as_str() == text
-}
-
-#[inline(always)]
-pub fn is_null(nulls: &[Text], text: &str) -> bool
-    ensures { result ≡ is_null nulls.now text.now }
-{
-    // Most columns have one text for null.
-    match nulls {
-        [null] => is_same(null, text),
-        _ => nulls.iter().any(|null| is_same(null, text)),
-    }
+    properties.null.get().contains(text)
 }
 
 pub fn or_default<'a>(default: &'a str, text: &'a str) -> &'a str
@@ -108,7 +97,7 @@ fn judge_items(
     let mut causes = Vec::new(alloc);
     for part in parts {
         let text = item_text(properties, part);
-        if is_null(properties.null.get().as_slice(), text) {
+        if is_null(properties, text) {
             continue;
         }
         let mut item = Item::new(alloc);
@@ -157,7 +146,7 @@ pub(crate) fn list(
             faults: missing(alloc, properties)?,
         });
     }
-    if is_null(properties.null.get().as_slice(), text) {
+    if is_null(properties, text) {
         return Ok(Cell::new(alloc));
     }
     list_of(alloc, properties, separator, text)

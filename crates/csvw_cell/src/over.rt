@@ -119,7 +119,7 @@ fn single_over(
     requires { IsSound properties.now.datatype }
     ensures { OnOk result (IsSingle properties.now text.now (record { value = value.new; faults = faults.new })) }
 {
-    if is_null(properties.null.get().as_slice(), text) {
+    if is_null(properties, text) {
         *value = CellValue::Null;
         *faults = missing(alloc, properties)?;
         return Ok(());
@@ -165,7 +165,7 @@ pub fn parse_over(
 {
     let properties = &column.properties;
     let shown = or_default(properties.default.get().as_str(), text);
-    if is_plain(properties) && !is_null(properties.null.get().as_slice(), shown) {
+    if is_plain(properties) && !is_null(properties, shown) {
         clear(alloc, faults);
         return refill_value(alloc, value, shown);
     }

@@ -6,14 +6,13 @@ ghost use Rattle.csvw_columns.specs.Fit.{IsFitGroup, Finds};
 ghost use Rattle.csvw_columns.specs.FreeOf.{DialectIsFreeOf, SchemaIsFreeOf, TableIsFreeOf, GroupIsFreeOf};
 
 use crate::names::are_distinct;
-use csvw_columns_core::{COLUMN_LIMIT, SKIP_LIMIT};
-use csvw_description::{ColumnDescription, Description, Inherited, Name, Schema, TableDescription};
+use csvw_description::{
+    COLUMN_LIMIT, ColumnDescription, Description, Inherited, Name, SKIP_LIMIT, Schema, TABLE_LIMIT,
+    TableDescription,
+};
 use csvw_meta_core::MetaCode;
 use csvw_records::Dialect;
 use std::alloc::{AllocError, Global};
-
-/// The greatest number of tables of a group.
-const TABLE_LIMIT: usize = 64;
 
 fn dialect_fault(dialect: &Dialect) -> Option<MetaCode>
     ensures { MatchOption result (IsFitDialect dialect.now) (λ code. DialectIsFreeOf code dialect.now → ⊥) }

@@ -11,9 +11,10 @@ ghost use Rattle.csvw_columns_core.specs.Sound.{AreSound};
 use crate::names::are_named_apart;
 use crate::plan::TablePlan;
 use csvw_columns_core::{
-    COLUMN_LIMIT, Column, ColumnList, Columns, Defaults, Frame, HeaderRow, TableStop, column_count,
-    from_header, header_faults,
+    Column, ColumnList, Columns, Defaults, Frame, HeaderRow, TableStop, column_count, from_header,
+    header_faults,
 };
+use csvw_description::COLUMN_LIMIT;
 use csvw_text::{Fault, Seq, both, copied_option};
 use std::alloc::{AllocError, Global};
 

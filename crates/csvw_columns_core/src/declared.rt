@@ -14,12 +14,6 @@ use csvw_iri::{Base, Iri, with_fragment};
 use csvw_text::{Seq, both};
 use std::alloc::{AllocError, Global};
 
-/// The greatest number of columns of a table.
-pub const COLUMN_LIMIT: usize = 1024;
-
-/// The greatest number of skipped columns of a source.
-pub const SKIP_LIMIT: u32 = 1024;
-
 /// The properties that the columns of a table have from the table and its schema.
 #[derive(Debug, Drop)]
 pub struct Frame {

@@ -3,9 +3,9 @@ ghost use Rattle.std.specs.Prelude.{◌≡◌, Option, Ok, None, IfOk, [], ◌�
 ghost use Rattle.csvw_columns_core.specs.Inherited.{first_of, inherited, inherited_or_none, properties_of};
 
 use crate::properties::{Defaults, Properties};
-use csvw_description::Inherited;
+use csvw_description::{Inherited, Nulls};
 use csvw_template::Template;
-use csvw_text::{Copied, LanguageTag, Seq, Shared, Text, both, copied_option};
+use csvw_text::{Copied, LanguageTag, Shared, Text, both, copied_option};
 use std::alloc::{AllocError, Global};
 
 fn first_of<'a, T>(inner: &'a Option<T>, outer: &'a Option<T>) -> &'a Option<T>
@@ -115,7 +115,7 @@ fn found_links(
 struct Texts {
     default: Shared<Text>,
     lang: Shared<LanguageTag>,
-    null: Shared<Seq<Text>>,
+    null: Shared<Nulls>,
     separator: Option<Shared<Text>>,
 }
 

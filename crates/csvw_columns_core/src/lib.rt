@@ -28,7 +28,7 @@ mod xsd;
 pub use column::Column;
 pub use column_list::ColumnList;
 pub use columns::Columns;
-pub use declared::{COLUMN_LIMIT, Frame, SKIP_LIMIT};
+pub use declared::Frame;
 pub use header::{HeaderRow, header_faults};
 pub use header_columns::{column_count, from_header};
 pub use properties::{Defaults, Properties};

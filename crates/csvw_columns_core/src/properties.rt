@@ -3,6 +3,7 @@ ghost use Rattle.std.specs.Prelude.{◌≡◌, [], ◌∷◌, IfOk, codes};
 ghost use Rattle.csvw_columns_core.specs.Inherited.{AreDefaults, string_type};
 
 use csvw_datatype::{Datatype, Facets, Simple};
+use csvw_description::Nulls;
 use csvw_template::Template;
 use csvw_text::{LanguageTag, Seq, Shared, Text, both};
 use std::alloc::{AllocError, Global};
@@ -24,7 +25,7 @@ pub struct Properties {
     /// `lang`: the language of texts. The default is `und`.
     pub lang: Shared<LanguageTag>,
     /// `null`: the texts that are null. The default is the empty text alone.
-    pub null: Shared<Seq<Text>>,
+    pub null: Shared<Nulls>,
     /// `ordered`: whether the items of a list keep their order in the graph. The default is false.
     pub ordered: bool,
     /// `required`: whether a null cell is a fault. The default is false.
@@ -44,7 +45,7 @@ pub struct Defaults {
     /// `und`.
     pub(crate) lang: Shared<LanguageTag>,
     /// The empty text alone.
-    pub(crate) null: Shared<Seq<Text>>,
+    pub(crate) null: Shared<Nulls>,
     /// The fields are the defaults of section 5.7.
     ghost are_defaults: { AreDefaults datatype default lang null },
 }
@@ -92,10 +93,10 @@ fn undetermined(alloc: Global) -> Result<Shared<LanguageTag>, AllocError>
 }
 
 /// The list of the empty text alone.
-fn empty_text_alone(alloc: Global) -> Result<Shared<Seq<Text>>, AllocError>
+fn empty_text_alone(alloc: Global) -> Result<Shared<Nulls>, AllocError>
     ensures { IfOk result (λ texts. texts ≡ [] ∷ []) }
 {
     let mut texts = Seq::new(alloc);
     texts.push(Text::new(alloc))?;
-    Shared::new(alloc, texts)
+    Shared::new(alloc, Nulls::of(alloc, texts)?)
 }

@@ -1,5 +1,6 @@
 pub mod Inherited
 pub mod Keys
 pub mod Name
+pub mod Nulls
 pub mod Plannable
 pub mod Unknown

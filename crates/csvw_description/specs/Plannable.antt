@@ -11,14 +11,15 @@ use Rattle.csvw_description.specs.declared.schema.Schema.{Schema}
 use Rattle.csvw_description.specs.declared.table.TableDescription.{TableDescription}
 use Rattle.csvw_description.specs.Keys.{KeysResolve}
 use Rattle.csvw_description.specs.Name.{numbered_names}
+use Rattle.csvw_description.specs.declared.limits.TheConstants.{COLUMN_LIMIT, TABLE_LIMIT}
 
 -- at most so many tables
 abbrev pub table_limit : ℕ
-table_limit = 64
+table_limit = TABLE_LIMIT
 
 -- at most so many columns of a table are declared, and at most so many are skipped
 abbrev pub column_limit : ℕ
-column_limit = 1024
+column_limit = COLUMN_LIMIT
 
 -- texts can be read by the dialect, and it skips no more columns than the limit
 pub record IsFitDialect (dialect : Dialect) : Type 0 where

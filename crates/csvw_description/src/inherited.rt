@@ -2,9 +2,10 @@
 ghost use Rattle.std.specs.Prelude.{◌≡◌};
 ghost use Rattle.csvw_description.specs.Inherited.{no_inherited};
 
+use crate::nulls::Nulls;
 use csvw_datatype::Datatype;
 use csvw_template::Template;
-use csvw_text::{LanguageTag, Seq, Shared, Text};
+use csvw_text::{LanguageTag, Shared, Text};
 
 /// The inherited properties of an object (Metadata Vocabulary for Tabular Data, section 5.7). `None`: the object
 /// doesn't have the property.
@@ -23,7 +24,7 @@ pub struct Inherited {
     /// `lang`: the language of texts.
     pub lang: Option<Shared<LanguageTag>>,
     /// `null`: the texts that are null. If the list is empty, no text is null.
-    pub null: Option<Shared<Seq<Text>>>,
+    pub null: Option<Shared<Nulls>>,
     /// `ordered`: whether the items of a list keep their order in the graph.
     pub ordered: Option<bool>,
     /// `required`: whether a null cell is a fault.

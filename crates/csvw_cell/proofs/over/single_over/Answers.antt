@@ -1,5 +1,5 @@
 -- A text that isn't null is judged.
-use Rattle.std.proofs.Common.{◌≡◌, ◌∙◌, ap, false, sym}
+use Rattle.std.proofs.Common.{◌≡◌, ◌∙◌, false, sym}
 use Rattle.csvw_cell.specs.CellOf.{is_null}
 use Rattle.csvw_cell.proofs.OverLemmas.{single_judged}
 use Rattle.csvw_cell.proofs.over.single_over.Goals as goal
@@ -8,6 +8,5 @@ pub returns : goal.returns
 returns c =
     let p = c.args.properties.now in
     let text = c.args.text.now in
-    let nulls : c.as_slice.result.now ≡ p.null = c.as_slice.ensures ∙ c.get.ensures in
-    let apart : is_null p.null text ≡ false = sym (ap (λ ns. is_null ns text) nulls) ∙ sym c.is_null.ensures ∙ c.if-is_null.false in
-    single_judged c.judge_over.result p c.get-2.result.now text c.judge_over.new.value c.judge_over.new.faults apart c.get-2.ensures c.judge_over.ensures
+    let apart : is_null p.null text ≡ false = sym c.is_null.ensures ∙ c.if-is_null.false in
+    single_judged c.judge_over.result p c.get.result.now text c.judge_over.new.value c.judge_over.new.faults apart c.get.ensures c.judge_over.ensures
