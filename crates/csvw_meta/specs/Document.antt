@@ -13,6 +13,7 @@ use Rattle.csvw_meta.specs.Described.{Judged, described, hanging_on, judged_by}
 use Rattle.csvw_meta.specs.Group.{no_group}
 use Rattle.csvw_meta.specs.Json.{json_of, without_bom}
 use Rattle.csvw_meta.specs.UrlAlone.{own_base, plain_document}
+use Rattle.csvw_meta.specs.declared.document.TheConstants.{MAX_DOCUMENT}
 
 -- the input of a read
 pub data Document : Type 0 where
@@ -40,7 +41,7 @@ of_bytes base bytes = of_json base (json_of (without_bom bytes))
 
 -- A document has at most 1,048,576 bytes. Else it has that fault beside all others.
 abbrev pub length_of : List ℕ → Read ⊤
-length_of bytes = if nat_lt 1048576 (length bytes) then faulty TooLong [] tt else fine tt
+length_of bytes = if nat_lt MAX_DOCUMENT (length bytes) then faulty TooLong [] tt else fine tt
 
 unfoldable pub judged : Document → Judged
 judged (document url bytes) =

@@ -21,6 +21,7 @@ use Rattle.csvw_meta_notes.specs.Places.{place_of}
 use Rattle.csvw_meta.specs.Repeated.{repeated}
 use Rattle.csvw_meta_core.specs.Several.{several}
 use Rattle.csvw_meta.specs.Table.{table}
+use Rattle.csvw_meta.specs.declared.group.TheConstants.{MAX_TABLES}
 
 -- the properties of a group
 abbrev pub group_names : List (List ℕ)
@@ -39,7 +40,7 @@ url_faults at faults ts =
     (λ i. record { code = DuplicateTable; pointer = below (item_at at i) (codes "url") }) [] 0 (map url_of ts)
 
 abbrev pub tables : Context → List ℕ → Data → Read (List TableFound)
-tables context at d = also (several 1 64 (table context) at d) (url_faults at)
+tables context at d = also (several 1 MAX_TABLES (table context) at d) (url_faults at)
 
 unfoldable pub group : Context → List ℕ → Data → Read GroupFound
 group context at d = do

@@ -28,6 +28,7 @@ use Rattle.csvw_meta.specs.NamesRead.{name_known}
 use Rattle.csvw_meta.specs.Repeated.{repeated}
 use Rattle.csvw_meta_core.specs.Several.{several}
 use Rattle.csvw_meta.specs.VirtualOrder.{misplaced}
+use Rattle.csvw_meta.specs.declared.schema.TheConstants.{MAX_COLUMNS}
 
 -- the properties of a schema
 abbrev pub schema_names : List (List ℕ)
@@ -49,7 +50,7 @@ abbrev pub column_faults : List ℕ → List MetaFault → List ColumnDescriptio
 column_faults at faults cs = name_faults at faults cs ++ order_faults at faults cs
 
 abbrev pub columns : Context → ℕ → List ℕ → Data → Read (List ColumnDescription)
-columns context table at d = also (several 0 1024 (column context table) at d) (column_faults at)
+columns context table at d = also (several 0 MAX_COLUMNS (column context table) at d) (column_faults at)
 
 -- a schema with its keys; the warnings on the keys come after its own
 abbrev pub with_keys : List ColumnDescription → InheritedFound → List Fault → KeysFound → SchemaFound

@@ -25,6 +25,7 @@ use Rattle.csvw_meta_dialect.specs.declared.dialect.CellSymbols.{CellSymbols}
 use Rattle.csvw_meta_dialect.specs.declared.dialect.DialectFound.{DialectFound}
 use Rattle.csvw_meta_dialect.specs.declared.dialect.HeaderAndSkips.{HeaderAndSkips}
 use Rattle.csvw_meta_notes.specs.Places.{place_of}
+use Rattle.csvw_meta_dialect.specs.declared.dialect.TheConstants.{MAX_HEADER_ROWS, MAX_PREFIX, MAX_SKIPPED_COLUMNS}
 
 -- the properties of a dialect
 abbrev pub dialect_names : List (List ℕ)
@@ -44,7 +45,7 @@ mark several at d = over 0 (character several at d) (λ c. if is_break_char c th
 abbrev pub comment_prefix : List ℕ → Data → Read (List ℕ)
 comment_prefix at d =
     on_kind at d [] (as_str d) (λ s.
-    if (length s == 0) || nat_lt 16 (length s) then faulty BadProperty at []
+    if (length s == 0) || nat_lt MAX_PREFIX (length s) then faulty BadProperty at []
     else (if has_break (chars s) then faulty BadDialect at [] else fine s))
 
 abbrev pub trim_named : List ℕ → Option Trim
@@ -149,9 +150,9 @@ cell_symbols at d = do
 unfoldable pub header_and_skips : List ℕ → Data → Read HeaderAndSkips
 header_and_skips at d = do
   header ← property truth true at d (codes "header")
-  count ← optional (whole 8) at d (codes "headerRowCount")
+  count ← optional (whole MAX_HEADER_ROWS) at d (codes "headerRowCount")
   skip_rows ← property any_whole 0 at d (codes "skipRows")
-  skip_columns ← property (whole 1024) 0 at d (codes "skipColumns")
+  skip_columns ← property (whole MAX_SKIPPED_COLUMNS) 0 at d (codes "skipColumns")
   skip_blank_rows ← property truth false at d (codes "skipBlankRows")
   fine (record {
     header_row_count = header_rows header count;

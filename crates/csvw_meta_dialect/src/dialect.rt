@@ -20,6 +20,15 @@ use csvw_records::{Dialect, LineTerminators, Trim};
 use csvw_text::{Fault, Place, Seq, Text};
 use serde_json::Value;
 
+/// The greatest number of bytes of a prefix of comment rows.
+const MAX_PREFIX: usize = 16;
+
+/// The greatest number of header rows.
+const MAX_HEADER_ROWS: u8 = 8;
+
+/// The greatest number of columns that are skipped.
+const MAX_SKIPPED_COLUMNS: u32 = 1024;
+
 /// The properties of a dialect.
 const DIALECT: [&str; 15] = [
     "@id",
@@ -100,7 +109,7 @@ impl Reader for CommentPrefix {
         let Some(text) = part.value.as_str() else {
             return Err(part.wrong());
         };
-        if text.is_empty() || text.len() > 16 {
+        if text.is_empty() || text.len() > MAX_PREFIX {
             return Err(part.refused(MetaCode::BadProperty));
         }
         if has_break(text) {
@@ -333,9 +342,20 @@ fn header_and_skips(part: &Part) -> Result<HeaderAndSkips, Refusal>
     ensures { Reads result (header_and_skips (text_of part.now.at) (view part.now.value.now)) }
 {
     let header = part.property(&Truth, true, "header")?;
-    let count = part.optional(&WholeU8 { most: 8 }, "headerRowCount")?;
+    let count = part.optional(
+        &WholeU8 {
+            most: MAX_HEADER_ROWS,
+        },
+        "headerRowCount",
+    )?;
     let skip_rows = part.property(&AnyWhole, 0, "skipRows")?;
-    let skip_columns = part.property(&WholeU32 { most: 1024 }, 0, "skipColumns")?;
+    let skip_columns = part.property(
+        &WholeU32 {
+            most: MAX_SKIPPED_COLUMNS,
+        },
+        0,
+        "skipColumns",
+    )?;
     let skip_blank_rows = part.property(&Truth, false, "skipBlankRows")?;
     Ok(HeaderAndSkips {
         header_row_count: header_rows(header, count),

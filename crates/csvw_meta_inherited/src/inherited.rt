@@ -7,7 +7,7 @@ ghost use Rattle.csvw_meta_inherited.specs.Inherited.{uri_templates, cell_texts,
 
 use crate::datatype::read_datatype;
 use crate::template::TemplateReader;
-use csvw_description::Inherited;
+use csvw_description::{Inherited, Nulls};
 use csvw_meta_core::{
     AnyText, Context, Language, MetaCode, OrNull, Part, Reader, Refusal, SomeText, Texts, Truth,
 };
@@ -28,6 +28,23 @@ impl<R: Reader> Reader for SharedOf<R> {
     fn read(&self, part: &Part) -> Result<Shared<R::Output>, Refusal> {
         let value = self.reader.read(part)?;
         Ok(Shared::new(part.alloc, value)?)
+    }
+}
+
+/// Reads the texts that are null: a text, or an array of texts.
+#[derive(Drop)]
+struct NullTexts;
+
+impl Reader for NullTexts {
+    ghost use Rattle.csvw_meta_core.specs.Kinds.{texts};
+
+    type Output = Nulls;
+
+    ghost reads = { λ _. texts };
+
+    fn read(&self, part: &Part) -> Result<Nulls, Refusal> {
+        let texts = Texts.read(part)?;
+        Ok(Nulls::of(part.alloc, texts)?)
     }
 }
 
@@ -88,7 +105,7 @@ struct CellTexts {
     /// `lang`: the language of texts.
     lang: Option<Shared<LanguageTag>>,
     /// `null`: the texts that are null.
-    null: Option<Shared<Seq<Text>>>,
+    null: Option<Shared<Nulls>>,
 }
 
 #[tactic(auto, using(crate::proofs::ReadLemmas::fails_first), unfolding(crate::specs::Inherited::cell_texts))]
@@ -100,7 +117,7 @@ fn cell_texts(part: &Part) -> Result<CellTexts, Refusal>
         wrong: MetaCode::BadProperty,
     };
     let lang = part.optional(&SharedOf { reader: language }, "lang")?;
-    let null = part.optional(&SharedOf { reader: Texts }, "null")?;
+    let null = part.optional(&SharedOf { reader: NullTexts }, "null")?;
     Ok(CellTexts {
         default,
         lang,

@@ -5,6 +5,7 @@ use Rattle.serde_json.specs.Find.{as_str}
 use Rattle.csvw_meta_core.specs.Several.{some_items}
 use Rattle.csvw_meta_core.specs.Read.{Read, fine, wrong, on_kind}
 use Rattle.csvw_meta_keys.specs.declared.column_names.KeyName.{KeyName}
+use Rattle.csvw_meta_keys.specs.declared.column_names.TheConstants.{MAX_COLUMNS}
 
 -- a name at this pointer
 abbrev pub named_at : List ℕ → List ℕ → KeyName
@@ -16,7 +17,7 @@ key_name at d = on_kind at d (named_at at []) (as_str d) (λ name. fine (named_a
 -- a name, or an array of 1 to 16 names
 abbrev pub column_names : List ℕ → Data → Read (List KeyName)
 column_names at (string name) = fine (named_at at name ∷ [])
-column_names at (array ds) = some_items 1 16 (λ n. key_name) at ds
+column_names at (array ds) = some_items 1 MAX_COLUMNS (λ n. key_name) at ds
 column_names at null = wrong at null []
 column_names at (boolean b) = wrong at (boolean b) []
 column_names at (number n) = wrong at (number n) []

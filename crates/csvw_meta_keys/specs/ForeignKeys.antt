@@ -14,6 +14,7 @@ use Rattle.csvw_meta_keys.specs.declared.foreign_key.ForeignKeyFound.{ForeignKey
 use Rattle.csvw_meta_keys.specs.declared.reference.ReferenceFound.{ReferenceFound}
 use Rattle.csvw_meta_keys.specs.ColumnNames.{column_names}
 use Rattle.csvw_meta_keys.specs.References.{reference, no_reference, no_resource}
+use Rattle.csvw_meta_keys.specs.declared.keys.TheConstants.{MAX_FOREIGN_KEYS}
 
 abbrev pub foreign_key_names : List (List ℕ)
 foreign_key_names = codes "columnReference" ∷ codes "reference" ∷ []
@@ -43,4 +44,4 @@ foreign_key base place at d = on_object at d (no_foreign_key at) (foreign_key_of
 
 -- an array of at most 64 foreign keys
 abbrev pub foreign_keys : Parts → Place → List ℕ → Data → Read (List ForeignKeyFound)
-foreign_keys base place at d = several 0 64 (λ n. foreign_key base place) at d
+foreign_keys base place at d = several 0 MAX_FOREIGN_KEYS (λ n. foreign_key base place) at d
