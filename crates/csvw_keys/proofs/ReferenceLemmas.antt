@@ -6,15 +6,15 @@ use Rattle.std.proofs.lemmas.List.{append-nil, take_more}
 use Rattle.std.proofs.lemmas.List.Sums.{sum_by-cons}
 use Rattle.csvw_annotate.specs.declared.row.Row.{Row}
 use Rattle.csvw_keys.specs.contracts.held.HeldKeyOrd.TheImpl as derived
+use Rattle.csvw_keys.specs.declared.foreign_key.ForeignKey.{ForeignKey}
 use Rattle.csvw_keys.specs.declared.held.HeldKey.{HeldKey}
 use Rattle.csvw_keys.specs.declared.key.KeyCell.{KeyCell}
-use Rattle.csvw_keys.specs.declared.reference.ReferenceBook.{ReferenceBook}
 use Rattle.csvw_keys.specs.declared.times.Times.{Times}
 use Rattle.csvw_keys.specs.declared.times.Times.TheVariants.{Never, Once, Often}
 use Rattle.csvw_keys.specs.EqualKeys.{equal_keys}
 use Rattle.csvw_keys.specs.Held.{held, held_keys}
 use Rattle.csvw_keys.specs.Key.{key_of}
-use Rattle.csvw_keys.specs.ReferenceBooks.{KeepsReference, fault_by_times, held_row, row_fault}
+use Rattle.csvw_keys.specs.ReferenceBooks.{fault_by_times, held_row, row_fault}
 use Rattle.csvw_keys.specs.References.{ReferringRow, fault_by_count, reference_fault, reference_faults, referring_of}
 use Rattle.csvw_keys.specs.Tallies.{count_of}
 use Rattle.csvw_keys.specs.Times.{more, times}
@@ -52,25 +52,24 @@ same_counts key (k ∷ ks) =
 
 -- ---- all rows
 
-module _ (book : ReferenceBook) (tables : ℕ → List Row) (keeps : KeepsReference book tables) (so_often : HeldKey → Times)
-    (counts : (key : HeldKey) → so_often key ≡ times (count_of derived.ghosts.cmp key (held_keys book.columns (tables book.table)))) where
+module _ (foreign : ForeignKey) (tables : ℕ → List Row) (so_often : HeldKey → Times)
+    (counts : (key : HeldKey) → so_often key ≡ times (count_of derived.ghosts.cmp key (held_keys foreign.referenced (tables foreign.referenced_table)))) where
   abbrev keys : List (List KeyCell)
-  keys = map (key_of book.columns) (tables book.table)
+  keys = map (key_of foreign.referenced) (tables foreign.referenced_table)
 
-  one_fault : (row : ReferringRow) → row_fault so_often book (held_row row) ≡ reference_fault book.referring.table book.referring.columns keys row
+  one_fault : (row : ReferringRow) → row_fault so_often foreign (held_row row) ≡ reference_fault foreign.table foreign.columns keys row
   one_fault row =
-      ap (λ t. fault_by_times t book.referring.table book.referring.columns row.source) (counts (held row.key))
-      ∙ by_times (count_of derived.ghosts.cmp (held row.key) (map held keys)) book.referring.table book.referring.columns row.source
-      ∙ ap (fault_by_count book.referring.table book.referring.columns row.source) (same_counts row.key keys)
+      ap (λ t. fault_by_times t foreign.table foreign.columns row.source) (counts (held row.key))
+      ∙ by_times (count_of derived.ghosts.cmp (held row.key) (map held keys)) foreign.table foreign.columns row.source
+      ∙ ap (fault_by_count foreign.table foreign.columns row.source) (same_counts row.key keys)
 
   each_fault : (rows : List ReferringRow)
-      → flat_map (row_fault so_often book) (map held_row rows) ≡ flat_map (reference_fault book.referring.table book.referring.columns keys) rows
+      → flat_map (row_fault so_often foreign) (map held_row rows) ≡ flat_map (reference_fault foreign.table foreign.columns keys) rows
   each_fault [] = refl
   each_fault (row ∷ rows) =
-      ap (λ fs. fs ++ flat_map (row_fault so_often book) (map held_row rows)) (one_fault row)
-      ∙ ap (λ fs. reference_fault book.referring.table book.referring.columns keys row ++ fs) (each_fault rows)
+      ap (λ fs. fs ++ flat_map (row_fault so_often foreign) (map held_row rows)) (one_fault row)
+      ∙ ap (λ fs. reference_fault foreign.table foreign.columns keys row ++ fs) (each_fault rows)
 
-  pub all_faults : flat_map (row_fault so_often book) book.referring.rows.items
-      ≡ reference_faults book.referring.table book.referring.columns (tables book.referring.table) book.columns (tables book.table)
-  all_faults =
-      ap (flat_map (row_fault so_often book)) keeps ∙ each_fault (referring_of book.referring.columns (tables book.referring.table))
+  pub all_faults : flat_map (row_fault so_often foreign) (map held_row (referring_of foreign.columns (tables foreign.table)))
+      ≡ reference_faults foreign.table foreign.columns (tables foreign.table) foreign.referenced (tables foreign.referenced_table)
+  all_faults = each_fault (referring_of foreign.columns (tables foreign.table))

@@ -1,17 +1,16 @@
--- Books count what keys refer to, and one more book removes nothing.
+-- Books keep the rows that refer by keys and count what they refer to, and one more book removes nothing.
 use Rattle.std.proofs.Common.{◌≡◌, ℕ, List, [], ◌∷◌, ◌++◌, Bool, true, false, Option, Some, refl, ap, ◌∙◌, All, flat_map, is_some, nat_eq, bytes_eq}
-use Rattle.std.proofs.Common.{◌||◌, ◌==◌, None, if◌then◌else◌, length, MatchOption}
+use Rattle.std.proofs.Common.{◌||◌, ◌&&◌, ◌==◌, None, if◌then◌else◌, length, MatchOption}
 use Rattle.std.specs.Cmp.Lexicographic.{bytes_decides}
 use Rattle.std.specs.List.{list_any}
-use Rattle.std.proofs.lemmas.Bool.{and_from, eq-eqb, or_left, or_right, false≢true}
+use Rattle.std.proofs.lemmas.Bool.{and_from, and_parts, eq-eqb, or_left, or_right, false≢true}
 use Rattle.std.proofs.lemmas.Grind.{flat_map-append}
 use Rattle.std.proofs.lemmas.List.{append-nil, map-append}
-use Rattle.std.proofs.lemmas.List.Elements.{All-cons, All-nil}
+use Rattle.std.proofs.lemmas.List.Elements.{All-cons, All-nil, All-push}
 use Rattle.std.proofs.lemmas.List.Folds.{list_any-append}
 use Rattle.csvw_keys.specs.declared.book.Book.{Book}
-use Rattle.csvw_keys.specs.declared.held.HeldKey.{HeldKey}
-use Rattle.csvw_keys.specs.declared.times.Times.{Times}
-use Rattle.csvw_keys.specs.Books.{Purpose, Keeps, Counts, book_times, counts_in, is_served, purpose_of, purposes_of, rules_for, rules_in, times_in}
+use Rattle.csvw_keys.specs.Books.{IsMore, KeepsBook, Purpose, Keeps, counts_in, first_in, is_served, lists_in, no_rows, purpose_of, purposes_of}
+use Rattle.csvw_keys.specs.Books.{rules_for, rules_in}
 use Rattle.csvw_keys.specs.KeyRules.{KeyRule, Unique, Refers, primary_rules}
 
 module _ (books : List Book) (b : Book) where
@@ -27,40 +26,50 @@ module _ (books : List Book) (b : Book) where
   pub rule_more : (rule : KeyRule) → purpose_of b ≡ Keeps rule → rules_in (books ++ b ∷ []) ≡ rules_in books ++ rule ∷ []
   rule_more rule is = rules_with ∙ ap (λ purpose. rules_in books ++ rules_for purpose) is
 
-  module _ (table : ℕ) (columns : List ℕ) (is : purpose_of b ≡ Counts table columns) where
-    pub no_rule_more : rules_in (books ++ b ∷ []) ≡ rules_in books
-    no_rule_more = rules_with ∙ ap (λ purpose. rules_in books ++ rules_for purpose) is ∙ append-nil (rules_in books)
+  pub more_by_one : rules_for (purpose_of b) ≡ [] → KeepsBook b no_rows → IsMore books (books ++ b ∷ [])
+  more_by_one no_rule keeps = record {
+    rules = rules_with ∙ ap (λ rules. rules_in books ++ rules) no_rule ∙ append-nil (rules_in books);
+    keeps = λ all. All-push (λ b. KeepsBook b no_rows) books b all keeps;
+    purposes = λ is_wanted had. ap (list_any is_wanted) with_book ∙ list_any-append is_wanted (purposes_of books) (purpose_of b ∷ []) ∙ or_left _ _ had;
+  }
 
-    counts_itself : counts_in table columns (purpose_of b) ≡ true
-    counts_itself =
-        ap (counts_in table columns) is
-        ∙ and_from (nat_eq table table) (bytes_eq columns columns) (eq-eqb table table refl) ((bytes_decides columns columns).1 refl)
+  pub wanted_now : (is_wanted : Purpose → Bool) → is_wanted (purpose_of b) ≡ true → list_any is_wanted (purposes_of (books ++ b ∷ [])) ≡ true
+  wanted_now is_wanted is =
+      ap (list_any is_wanted) with_book
+      ∙ list_any-append is_wanted (purposes_of books) (purpose_of b ∷ [])
+      ∙ or_right _ _ (or_left _ _ is)
 
-    pub counted_now : list_any (counts_in table columns) (purposes_of (books ++ b ∷ [])) ≡ true
-    counted_now =
-        ap (list_any (counts_in table columns)) with_book
-        ∙ list_any-append (counts_in table columns) (purposes_of books) (purpose_of b ∷ [])
-        ∙ or_right _ _ (or_left _ _ counts_itself)
+pub same_place : (table : ℕ) (columns : List ℕ) → (nat_eq table table && bytes_eq columns columns) ≡ true
+same_place table columns = and_from (nat_eq table table) (bytes_eq columns columns) (eq-eqb table table refl) ((bytes_decides columns columns).1 refl)
 
-  pub served_still : (rule : KeyRule) → is_served (purposes_of books) rule ≡ true → is_served (purposes_of (books ++ b ∷ [])) rule ≡ true
-  served_still (Unique table columns) served = refl
-  served_still (Refers table columns referenced_table referenced) served =
-      ap (list_any (counts_in referenced_table referenced)) with_book
-      ∙ list_any-append (counts_in referenced_table referenced) (purposes_of books) (purpose_of b ∷ [])
-      ∙ or_left _ _ served
+pub no_more : (books : List Book) → IsMore books books
+no_more books = record { rules = refl; keeps = λ all. all; purposes = λ is_wanted had. had }
 
-module _ (table : ℕ) (columns : List ℕ) where
-  by_test : (b : Book) (bs : List Book) (times : HeldKey → Times) (test : Bool)
-      → (times_in table columns bs ≡ Some times → list_any (counts_in table columns) (purposes_of bs) ≡ true)
-      → (if test then Some (book_times b) else times_in table columns bs) ≡ Some times
-      → (test || list_any (counts_in table columns) (purposes_of bs)) ≡ true
-  by_test b bs times true rest is = refl
-  by_test b bs times false rest is = rest is
+pub still_more : (first second third : List Book) → IsMore first second → IsMore second third → IsMore first third
+still_more first second third a b = record {
+  rules = b.rules ∙ a.rules;
+  keeps = λ all. b.keeps (a.keeps all);
+  purposes = λ is_wanted had. b.purposes is_wanted (a.purposes is_wanted had);
+}
 
-  pub counted_by : (bs : List Book) (times : HeldKey → Times) → times_in table columns bs ≡ Some times
-      → list_any (counts_in table columns) (purposes_of bs) ≡ true
-  counted_by [] times is = cc
-  counted_by (b ∷ bs) times is = by_test b bs times (counts_in table columns (purpose_of b)) (counted_by bs times) is
+pub served_still : (old new : List Book) → IsMore old new → (rule : KeyRule) → is_served (purposes_of old) rule ≡ true
+    → is_served (purposes_of new) rule ≡ true
+served_still old new more (Unique table columns) served = refl
+served_still old new more (Refers table columns referenced_table referenced) served =
+    let parts = and_parts _ _ served in
+    and_from _ _ (more.purposes (lists_in table columns) parts.0) (more.purposes (counts_in referenced_table referenced) parts.1)
+
+module _ {X : Type 0} (is_wanted : Purpose → Bool) (known_by : Book → X) where
+  by_test : (b : Book) (bs : List Book) (known : X) (test : Bool)
+      → (first_in is_wanted known_by bs ≡ Some known → list_any is_wanted (purposes_of bs) ≡ true)
+      → (if test then Some (known_by b) else first_in is_wanted known_by bs) ≡ Some known
+      → (test || list_any is_wanted (purposes_of bs)) ≡ true
+  by_test b bs known true rest is = refl
+  by_test b bs known false rest is = rest is
+
+  pub found_in : (bs : List Book) (known : X) → first_in is_wanted known_by bs ≡ Some known → list_any is_wanted (purposes_of bs) ≡ true
+  found_in [] known is = cc
+  found_in (b ∷ bs) known is = by_test b bs known (is_wanted (purpose_of b)) (found_in bs known) is
 
 pub from_some : {A G : Type 0} (o : Option A) (P : Type 0) (Q : A → Type 0) → MatchOption o P Q → is_some o ≡ true → ((a : A) → Q a → G) → G
 from_some (Some a) P Q holds some goes = goes a holds

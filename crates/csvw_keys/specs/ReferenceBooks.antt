@@ -1,10 +1,10 @@
--- What the books of a foreign key keep.
+-- What the books for foreign keys keep, and the faults of a row by a foreign key.
 use Rattle.std.specs.Prelude.{◌≡◌, ◌<◌, ℕ, List, [], ◌∷◌, Some, map, if◌then◌else◌}
 use Rattle.std.specs.Vec.{vec_len, vec_capacity}
 use Rattle.csvw_annotate.specs.declared.row.Row.{Row}
 use Rattle.csvw_keys.specs.contracts.held.HeldKeyOrd.TheImpl as derived
+use Rattle.csvw_keys.specs.declared.foreign_key.ForeignKey.{ForeignKey}
 use Rattle.csvw_keys.specs.declared.held.HeldKey.{HeldKey}
-use Rattle.csvw_keys.specs.declared.reference.ReferenceBook.{ReferenceBook}
 use Rattle.csvw_keys.specs.declared.referring.Referring.{Referring}
 use Rattle.csvw_keys.specs.declared.referring.ReferringBook.{ReferringBook}
 use Rattle.csvw_keys.specs.declared.referenced.ReferencedBook.{ReferencedBook}
@@ -42,27 +42,12 @@ KeepsReferenced book rows = Tallies derived.ghosts.cmp book.tally.ahead book.tal
 abbrev pub IsReferencedStaged : ReferencedBook → Row → Type 0
 IsReferencedStaged book row = IsAheadAt book.tally.ahead (held_of book.columns row)
 
--- the book has the rows of its table that refer to others
-abbrev pub KeepsReference : ReferenceBook → (ℕ → List Row) → Type 0
-KeepsReference book tables = KeepsReferring book.referring (tables book.referring.table)
-
--- the book has room for a row of a table
-abbrev pub IsStaged : ReferenceBook → ℕ → Row → Type 0
-IsStaged book table row = table ≡ book.referring.table → IsReferringStaged book.referring row
-
 -- the faults of a row that refers to rows of a key, which occurs so often
 abbrev pub fault_by_times : Times → ℕ → List ℕ → ℕ → List Fault
 fault_by_times Never table columns source = fault_of NoReferencedRow table columns source ∷ []
 fault_by_times Once table columns source = []
 fault_by_times Often table columns source = fault_of ManyReferencedRows table columns source ∷ []
 
--- the faults of a row that refers to others, if each key occurs so often
-abbrev pub row_fault : (HeldKey → Times) → ReferenceBook → Referring → List Fault
-row_fault times book row = fault_by_times (times row.key) book.referring.table book.referring.columns row.source
-
--- the same tables and columns
-pub record IsSameReference (old new : ReferenceBook) : Type 0 where
-  pub table : new.referring.table ≡ old.referring.table
-  pub columns : new.referring.columns ≡ old.referring.columns
-  pub referenced_table : new.table ≡ old.table
-  pub referenced_columns : new.columns ≡ old.columns
+-- the faults of a row that refers to others by a foreign key, if each key occurs so often
+abbrev pub row_fault : (HeldKey → Times) → ForeignKey → Referring → List Fault
+row_fault times key row = fault_by_times (times row.key) key.table key.columns row.source

@@ -1,20 +1,20 @@
-//! What is kept of rows for one key.
+//! What is kept of rows for keys.
 ghost use Rattle.std.specs.Prelude.{◌≡◌, ◌++◌, ℕ, true, false, List, Some, None, IfOk, MatchOption, OnOk};
 ghost use Rattle.csvw_annotate.specs.declared.row.Row.{Row};
-ghost use Rattle.csvw_keys.specs.Books.{KeepsBook, IsRoomy, book_times, counts_in, duplicates_in, is_primary_of};
-ghost use Rattle.csvw_keys.specs.Books.{no_rows, purpose_of, times_in, told, told_reference};
-ghost use Rattle.csvw_keys.specs.Books.{Counts, Keeps};
+ghost use Rattle.csvw_keys.specs.Books.{KeepsBook, IsRoomy, book_rows, book_times, counts_in, duplicates_in, is_primary_of, lists_in};
+ghost use Rattle.csvw_keys.specs.Books.{no_rows, purpose_of, rows_in, times_in, told, told_reference};
+ghost use Rattle.csvw_keys.specs.Books.{Counts, Keeps, Lists};
 ghost use Rattle.csvw_keys.specs.contracts.held.HeldKeyOrd.TheImpl as derived;
 ghost use Rattle.csvw_keys.specs.KeyRules.{KeyRule, reference_rule};
 ghost use Rattle.csvw_keys.specs.KeyRules.KeyRule.{Unique};
 ghost use Rattle.csvw_keys.specs.Tables.{with_row};
 ghost use Rattle.csvw_keys.specs.Tallies.{tally_times};
 
+use crate::foreign_key::ForeignKey;
 use crate::held::HeldKey;
 use crate::primary::PrimaryBook;
-use crate::reference::ReferenceBook;
 use crate::referenced::ReferencedBook;
-use crate::referring::ReferringBook;
+use crate::referring::{Referring, ReferringBook};
 use crate::table_book::{add, make_room};
 use crate::tally::Tally;
 use csvw_annotate::Row;
@@ -22,15 +22,17 @@ use csvw_columns::ForeignKeyPlan;
 use csvw_text::{Fault, Seq};
 use std::alloc::{AllocError, Global};
 
-/// What is kept of the rows so far for one key.
+/// A key, or what is kept of the rows so far for keys.
 #[derive(Drop)]
 pub(crate) enum Book {
     /// For a primary key.
     Primary(PrimaryBook),
     /// For foreign keys to columns that are not a primary key.
     Referenced(ReferencedBook),
-    /// For a foreign key.
-    Reference(ReferenceBook),
+    /// For foreign keys in the same columns of a table.
+    Referring(ReferringBook),
+    /// A foreign key. It keeps no rows.
+    Foreign(ForeignKey),
 }
 
 fn copied(alloc: Global, numbers: &[u32]) -> Result<Seq<u32>, AllocError>
@@ -63,7 +65,17 @@ pub(crate) fn referenced_book(
     Ok(Book::Referenced(ReferencedBook::new(alloc, table, columns)))
 }
 
-/// Returns the book of a foreign key of a table, without rows, or `AllocError` if there is no memory.
+/// Returns the book of the rows of a table that refer by the columns of these numbers, from 1. It has no rows. It is an
+/// `AllocError` if there is no memory.
+pub(crate) fn referring_book(alloc: Global, table: u32, columns: &[u32]) -> Result<Book, AllocError>
+    ensures purpose { IfOk result (λ b. purpose_of b ≡ Lists table columns.now) }
+    ensures keeps { IfOk result (λ b. KeepsBook b no_rows) }
+{
+    let columns = copied(alloc, columns)?;
+    Ok(Book::Referring(ReferringBook::new(alloc, table, columns)))
+}
+
+/// Returns the book of a foreign key of a table, or `AllocError` if there is no memory.
 pub(crate) fn reference_book(
     alloc: Global,
     table: u32,
@@ -74,8 +86,12 @@ pub(crate) fn reference_book(
 {
     let columns = copied(alloc, key.columns.as_slice())?;
     let referenced = copied(alloc, key.referenced.as_slice())?;
-    let referring = ReferringBook::new(alloc, table, columns);
-    Ok(Book::Reference(ReferenceBook::new(referring, key.table, referenced)))
+    Ok(Book::Foreign(ForeignKey {
+        table,
+        columns,
+        referenced_table: key.table,
+        referenced,
+    }))
 }
 
 /// Returns how often each key of a table in these columns occurs, by the first book that counts it.
@@ -90,6 +106,22 @@ pub(crate) fn tally_in<'a>(
     for book in books {
         if let Some(tally) = book.tally(table, columns) {
             return Some(tally);
+        }
+    }
+    None
+}
+
+/// Returns the rows of a table that refer by these columns, by the first book that keeps them.
+pub(crate) fn referring_in<'a>(
+    books: &'a [Book],
+    table: u32,
+    columns: &[u32],
+) -> Option<&'a [Referring]>
+    ensures { MatchOption result (rows_in table columns.now books.now ≡ None) (λ rows. rows_in table columns.now books.now ≡ Some rows.now) }
+{
+    for book in books {
+        if let Some(rows) = book.referring(table, columns) {
+            return Some(rows);
         }
     }
     None
@@ -111,7 +143,8 @@ impl Book {
         match self {
             Book::Primary(book) => make_room(book, alloc, table, row),
             Book::Referenced(book) => make_room(book, alloc, table, row),
-            Book::Reference(book) => book.make_room(alloc, table, row),
+            Book::Referring(book) => make_room(book, alloc, table, row),
+            Book::Foreign(_) => Ok(()),
         }
     }
 
@@ -124,7 +157,8 @@ impl Book {
         match self {
             Book::Primary(book) => add(book, table, row),
             Book::Referenced(book) => add(book, table, row),
-            Book::Reference(book) => book.add(table, row),
+            Book::Referring(book) => add(book, table, row),
+            Book::Foreign(_) => {}
         }
     }
 
@@ -149,11 +183,22 @@ impl Book {
                     None
                 }
             }
-            Book::Reference(_) => None,
+            Book::Referring(_) | Book::Foreign(_) => None,
         }
     }
 
-    /// Adds the faults of this book to these faults. It uses the counts of all books.
+    /// Returns the rows of a table that refer by these columns, if this book keeps them.
+    fn referring(&self, table: u32, columns: &[u32]) -> Option<&[Referring]>
+        ensures { MatchOption result (lists_in table columns.now (purpose_of self.now) ≡ false)
+            (λ rows. (lists_in table columns.now (purpose_of self.now) ≡ true) × (rows.now ≡ book_rows self.now)) }
+    {
+        match self {
+            Book::Referring(book) => book.rows_in(table, columns),
+            Book::Primary(_) | Book::Referenced(_) | Book::Foreign(_) => None,
+        }
+    }
+
+    /// Adds the faults of this book to these faults. It uses the rows and the counts of all books.
     pub(crate) fn tell(
         &self,
         alloc: Global,
@@ -164,8 +209,8 @@ impl Book {
     {
         match self {
             Book::Primary(book) => faults.extend_from_slice(book.faults()),
-            Book::Referenced(_) => Ok(()),
-            Book::Reference(book) => tell_reference(alloc, books, book, faults),
+            Book::Referenced(_) | Book::Referring(_) => Ok(()),
+            Book::Foreign(key) => tell_reference(alloc, books, key, faults),
         }
     }
 
@@ -182,7 +227,7 @@ impl Book {
                     None
                 }
             }
-            Book::Referenced(_) | Book::Reference(_) => None,
+            Book::Referenced(_) | Book::Referring(_) | Book::Foreign(_) => None,
         }
     }
 }
@@ -191,13 +236,16 @@ impl Book {
 fn tell_reference(
     alloc: Global,
     books: &[Book],
-    book: &ReferenceBook,
+    key: &ForeignKey,
     faults: &mut Vec<Fault>,
 ) -> Result<(), AllocError>
-    ensures { OnOk result (faults.new.items ≡ faults.old.items ++ told_reference books.now book.now) }
+    ensures { OnOk result (faults.new.items ≡ faults.old.items ++ told_reference books.now key.now) }
 {
-    match tally_in(books, book.table, book.columns.as_slice()) {
-        Some(tally) => faults.append(&mut book.faults(alloc, tally)?),
+    let Some(rows) = referring_in(books, key.table, key.columns.as_slice()) else {
+        return Ok(());
+    };
+    match tally_in(books, key.referenced_table, key.referenced.as_slice()) {
+        Some(tally) => faults.append(&mut key.faults(alloc, rows, tally)?),
         None => Ok(()),
     }
 }

@@ -83,7 +83,7 @@ fn held_cell(alloc: Global, value: &CellValue) -> Result<HeldValue, AllocError>
         CellValue::Null => Ok(HeldValue::Null),
         CellValue::One(item) => held_value(alloc, &item.value),
         CellValue::Many(_) => {
-            let mut cells = Vec::new(alloc);
+            let mut cells = Vec::with_capacity(alloc, 1)?;
             cells.push(key_cell(alloc, value)?)?;
             Ok(HeldValue::Cells(Apart::new(alloc, Seq::of(cells))?))
         }

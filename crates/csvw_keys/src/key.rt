@@ -37,7 +37,7 @@ impl KeyCell {
 fn values_of(alloc: Global, items: &[Item]) -> Result<Seq<Value>, AllocError>
     ensures { IfOk result (λ s. s ≡ values_of items.now) }
 {
-    let mut values = Vec::new(alloc);
+    let mut values = Vec::with_capacity(alloc, items.len())?;
     for item in items {
         let value = item.value.clone(alloc)?;
         values.push(value)?;
@@ -72,7 +72,7 @@ fn key_cell_at(alloc: Global, row: &Row, column: u32) -> Result<KeyCell, AllocEr
 pub(crate) fn key_of(alloc: Global, columns: &[u32], row: &Row) -> Result<Key, AllocError>
     ensures { IfOk result (λ key. key ≡ key_of columns.now row.now) }
 {
-    let mut cells = Vec::new(alloc);
+    let mut cells = Vec::with_capacity(alloc, columns.len())?;
     for column in columns {
         let cell = key_cell_at(alloc, row, *column)?;
         cells.push(cell)?;

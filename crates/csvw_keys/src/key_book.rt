@@ -2,12 +2,14 @@
 ghost use Rattle.std.specs.Prelude.{◌≡◌, ◌++◌, ℕ, true, List, All, IfOk, MatchResult, OnOk, flat_map, map};
 ghost use Rattle.std.specs.List.{list_any};
 ghost use Rattle.csvw_annotate.specs.declared.row.Row.{Row};
-ghost use Rattle.csvw_keys.specs.Books.{KeepsBook, KeepsKeys, IsRoomy, counts_in, first_told, is_served, no_rows, purpose_of};
-ghost use Rattle.csvw_keys.specs.Books.{purposes_of, rules_in, told};
+ghost use Rattle.csvw_keys.specs.Books.{KeepsBook, KeepsKeys, IsMore, IsRoomy, counts_in, first_told, is_served, lists_in, no_rows};
+ghost use Rattle.csvw_keys.specs.Books.{purpose_of, purposes_of, rules_in, told};
 ghost use Rattle.csvw_keys.specs.KeyRules.{KeyRule, AreKeyFaults, duplicates_of, primary_rules, reference_rule, rules_of, table_rules};
 ghost use Rattle.csvw_keys.specs.Tables.{with_row};
 
-use crate::book::{Book, primary_book, reference_book, referenced_book, tally_in};
+use crate::book::{
+    Book, primary_book, reference_book, referenced_book, referring_book, referring_in, tally_in,
+};
 use csvw_annotate::Row;
 use csvw_columns::{ForeignKeyPlan, Plan, TablePlan};
 use csvw_report::sorted;
@@ -22,7 +24,8 @@ pub struct KeyBook {
     /// The allocator for what is kept.
     alloc: Global,
     /// A book of each key, in the order of the tables. For each table these are the primary key, then its foreign
-    /// keys. After these is one book for each table and columns that are referenced and are not a primary key.
+    /// keys. After these is one book for each table and columns that refer, and one for each table and columns that
+    /// are referenced and are not a primary key.
     books: Vec<Book>,
 }
 
@@ -78,18 +81,33 @@ fn books_of(alloc: Global, plans: &[TablePlan]) -> Result<Vec<Book>, AllocError>
     Ok(books)
 }
 
-/// Ensures that a book counts the keys of a table in these columns.
-fn serve(
+/// Ensures that a book keeps the rows of a table that refer by these columns.
+fn list_rows(
     alloc: Global,
     table: u32,
     columns: &[u32],
     books: &mut Vec<Book>,
 ) -> Result<(), AllocError>
-    ensures rules { OnOk result (rules_in books.new.items ≡ rules_in books.old.items) }
-    ensures keeps { OnOk result (All (λ b. KeepsBook b no_rows) books.old.items → All (λ b. KeepsBook b no_rows) books.new.items) }
-    ensures more { OnOk result ((rule : KeyRule)
-        → is_served (purposes_of books.old.items) rule ≡ true → is_served (purposes_of books.new.items) rule ≡ true) }
-    ensures served { OnOk result (list_any (counts_in table columns.now) (purposes_of books.new.items) ≡ true) }
+    ensures more { OnOk result (IsMore books.old.items books.new.items) }
+    ensures listed { OnOk result (list_any (lists_in table columns.now) (purposes_of books.new.items) ≡ true) }
+{
+    if referring_in(books.as_slice(), table, columns).is_some() {
+        return Ok(());
+    }
+    let book = referring_book(alloc, table, columns)?;
+    books.push(book)?;
+    Ok(())
+}
+
+/// Ensures that a book counts the keys of a table in these columns.
+fn count_keys(
+    alloc: Global,
+    table: u32,
+    columns: &[u32],
+    books: &mut Vec<Book>,
+) -> Result<(), AllocError>
+    ensures more { OnOk result (IsMore books.old.items books.new.items) }
+    ensures counted { OnOk result (list_any (counts_in table columns.now) (purposes_of books.new.items) ≡ true) }
 {
     if tally_in(books.as_slice(), table, columns).is_some() {
         return Ok(());
@@ -99,29 +117,40 @@ fn serve(
     Ok(())
 }
 
-/// Ensures that a book counts what each of the foreign keys of a table refers to.
+/// Ensures that books keep the rows that refer by a foreign key of a table, and count what it refers to.
+fn serve(
+    alloc: Global,
+    table: u32,
+    key: &ForeignKeyPlan,
+    books: &mut Vec<Book>,
+) -> Result<(), AllocError>
+    ensures more { OnOk result (IsMore books.old.items books.new.items) }
+    ensures served { OnOk result (is_served (purposes_of books.new.items) (reference_rule table key.now) ≡ true) }
+{
+    list_rows(alloc, table, key.columns.as_slice(), books)?;
+    count_keys(alloc, key.table, key.referenced.as_slice(), books)?;
+    Ok(())
+}
+
+/// Ensures the same for each of the foreign keys of a table.
 fn serve_keys(
     alloc: Global,
     table: u32,
     keys: &[ForeignKeyPlan],
     books: &mut Vec<Book>,
 ) -> Result<(), AllocError>
-    ensures rules { OnOk result (rules_in books.new.items ≡ rules_in books.old.items) }
-    ensures keeps { OnOk result (All (λ b. KeepsBook b no_rows) books.old.items → All (λ b. KeepsBook b no_rows) books.new.items) }
-    ensures more { OnOk result ((rule : KeyRule)
-        → is_served (purposes_of books.old.items) rule ≡ true → is_served (purposes_of books.new.items) rule ≡ true) }
+    ensures more { OnOk result (IsMore books.old.items books.new.items) }
     ensures served { OnOk result (All (λ rule. is_served (purposes_of books.new.items) rule ≡ true) (map (reference_rule table) keys.now)) }
 {
     for key in keys {
-        serve(alloc, key.table, key.referenced.as_slice(), books)?;
+        serve(alloc, table, key, books)?;
     }
     Ok(())
 }
 
-/// Ensures that a book counts what each of the foreign keys refers to.
+/// Ensures the same for each of the foreign keys of these tables.
 fn serve_tables(alloc: Global, plans: &[TablePlan], books: &mut Vec<Book>) -> Result<(), AllocError>
-    ensures rules { OnOk result (rules_in books.new.items ≡ rules_in books.old.items) }
-    ensures keeps { OnOk result (All (λ b. KeepsBook b no_rows) books.old.items → All (λ b. KeepsBook b no_rows) books.new.items) }
+    ensures more { OnOk result (IsMore books.old.items books.new.items) }
     ensures served { OnOk result (All (λ rule. is_served (purposes_of books.new.items) rule ≡ true) (flat_map table_rules plans.now)) }
 {
     for plan in plans {

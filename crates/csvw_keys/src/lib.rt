@@ -18,10 +18,12 @@
 //!
 //! # What is kept
 //!
-//! - A `KeyBook` has a book of each key. The book of a primary key counts each key so far (once, or more often) in an
-//!   ordered map, and has the faults of the rows that repeat one.
-//! - The book of a foreign key has the key and the source number of each referring row. What it refers to is counted
-//!   by the book of a primary key in the same columns or, if there is none, by a book that only counts.
+//! - The book of a primary key counts each key so far (once, or more often) in an ordered map, and has the faults of the
+//!   rows that repeat one.
+//! - The referring rows of foreign keys are kept by one book for each table and columns. It has the key and the source
+//!   number of each row. Foreign keys in the same columns of a table share it.
+//! - What foreign keys refer to is counted by the book of a primary key in the same columns. If there is none, one book
+//!   for each table and columns only counts.
 //! - A key of one column is kept as its value (`HeldKey`). Nothing else of a row is kept.
 //! - A reference is open until the end, even if its row was found. A second equal row may still come.
 //!
@@ -33,6 +35,7 @@
 
 mod apart;
 mod book;
+mod foreign_key;
 mod held;
 mod held_value;
 mod key;
@@ -40,7 +43,6 @@ mod key_book;
 pub mod laws;
 mod places;
 mod primary;
-mod reference;
 mod referenced;
 mod referring;
 mod table_book;

@@ -1,5 +1,5 @@
-//! The rows of a table that refer to others by a foreign key.
-ghost use Rattle.std.specs.Prelude.{◌≡◌, ◌<◌, ◌++◌, []};
+//! The rows of a table that refer to others by foreign keys in the same columns.
+ghost use Rattle.std.specs.Prelude.{◌≡◌, ◌<◌, ◌++◌, ◌&&◌, [], true, false, MatchOption, bytes_eq, nat_eq};
 ghost use Rattle.std.specs.Vec.{vec_len, vec_capacity};
 ghost use Rattle.csvw_keys.specs.ReferenceBooks.{IsReferringStaged, KeepsReferring, kept};
 
@@ -25,6 +25,7 @@ pub struct ReferringBook {
     pub(crate) table: u32,
     /// The numbers of the key's columns, from 1.
     pub(crate) columns: Seq<u32>,
+    /// The rows, in order.
     pub(crate) rows: Vec<Referring>,
     /// The key of the row that is added next.
     next: Option<HeldKey>,
@@ -42,6 +43,18 @@ impl ReferringBook {
             columns,
             rows: Vec::new(alloc),
             next: None,
+        }
+    }
+
+    /// Returns the rows, in order, if they are those of this table that refer by these columns.
+    pub fn rows_in(&self, table: u32, columns: &[u32]) -> Option<&[Referring]>
+        ensures { MatchOption result ((nat_eq self.now.table table && bytes_eq self.now.columns columns.now) ≡ false)
+            (λ rows. ((nat_eq self.now.table table && bytes_eq self.now.columns columns.now) ≡ true) × (rows.now ≡ self.now.rows.items)) }
+    {
+        if self.table == table && self.columns.as_slice() == columns {
+            Some(self.rows.as_slice())
+        } else {
+            None
         }
     }
 }
