@@ -19,10 +19,11 @@ use Rattle.csvw_session.specs.Sessions.{IsRefusedHere}
 use Rattle.csvw_group_laws.specs.Taken.{AreTaken, AreTakenBefore}
 use Rattle.csvw_engine.specs.Reading.{GaveTexts, AreSteady, OneFailed, AreMany}
 use Rattle.csvw_engine.specs.ReadOrder.{AreReadIn}
+use Rattle.csvw_engine.specs.declared.room.TheConstants.{PIECE}
 
 -- how many bytes are read at once
 abbrev pub piece_limit : ℕ
-piece_limit = 65_536
+piece_limit = PIECE
 
 -- The readers of this number of tables returned the texts of these events, read in this order, in pieces that have at least one byte and at
 -- most this many.

@@ -28,10 +28,11 @@ use Rattle.csvw_engine_core.specs.declared.stop.Stop.TheVariants as stop
 use Rattle.csvw_engine_core.specs.declared.step.Step.{Step}
 use Rattle.csvw_engine_core.specs.declared.step.Step.TheVariants as step
 use Rattle.csvw_engine_core.specs.declared.table.Table.{Table}
+use Rattle.csvw_engine_core.specs.declared.table.TheConstants.{MAX_ROWS}
 
 -- how many rows of all kinds a table has at most
 abbrev pub max_rows : ℕ
-max_rows = 4_000_000_000
+max_rows = MAX_ROWS
 
 -- whether the text of the table has ended
 abbrev pub is_ended : Table → Bool

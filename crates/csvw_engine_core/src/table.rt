@@ -3,10 +3,11 @@
 //! `TableHolds` says of the state, for every text so far, which rows of the source it gave and which annotated rows
 //! they are. Header rows come first, as many as the dialect says, and then data rows. `feed_table` and `end_table`
 //! say by their results how that goes on (`TableOutcome`, `EndOutcome`). Nothing depends on where a piece ends.
-ghost use Rattle.std.specs.Prelude.{◌≡◌, ◌++◌, ◌∷◌, [], length, IfOk, OnOk};
+ghost use Rattle.std.specs.Prelude.{◌≡◌, ◌+◌, ◌++◌, ◌∷◌, [], length, IfOk, OnOk};
 ghost use Rattle.csvw_records.specs.Lawful.{IsLawful};
 ghost use Rattle.csvw_engine_core.specs.Faults.{cell_faults, row_faults, table_faults};
 ghost use Rattle.csvw_columns.specs.Ready.{IsReady};
+ghost use Rattle.csvw_rows.specs.RowsState.{reading_of};
 ghost use Rattle.csvw_engine_core.specs.Tables.{IsNewTable, Steps, RowFits, SettlesTable, faults_of, header_faults_of, is_ended};
 
 use crate::head::Head;
@@ -54,6 +55,13 @@ impl Table {
             head: Head::new(alloc),
             faults: Seq::new(alloc),
         })
+    }
+
+    /// Returns the number of complete rows of its text that were read. Rows of all kinds count.
+    pub fn rows_read(&self) -> u64
+        ensures { result + 1 ≡ reading_of self.now.rows }
+    {
+        self.rows.row() - 1
     }
 
     /// Returns whether its text has ended.

@@ -1,9 +1,11 @@
 -- The result of finishing a session: `Finishes`, `IsUnfinishedInOrder`.
-use Rattle.std.specs.Prelude.{◌≡◌, ◌↔◌, ℕ, List, true, false, ◌++◌, Result, Ok, Err}
+use Rattle.std.specs.Prelude.{◌≡◌, ◌↔◌, ◌+◌, ℕ, List, true, false, ◌++◌, slice_get, Some, Result, Ok, Err}
 use Rattle.std.specs.List.{list_all}
 use Rattle.std.specs.List.Sorted.{IsPermutation, IsSorted}
 use Rattle.csvw_annotate.specs.declared.row.Row.{Row}
 use Rattle.csvw_engine_core.specs.Tables.{is_ended}
+use Rattle.csvw_engine_core.specs.declared.table.Table.{Table}
+use Rattle.csvw_rows.specs.RowsState.{reading_of}
 use Rattle.csvw_keys.specs.Books.{KeepsKeys}
 use Rattle.csvw_keys.specs.KeyRules.{AreKeyFaults, KeyRule}
 use Rattle.csvw_keys.specs.declared.key_book.KeyBook.{KeyBook}
@@ -38,6 +40,19 @@ pub record HasOutcome {S : Type 0} (s : Session S) (outcome : Outcome) : Type 0 
   pub told : TellsKeys s.keys key_faults
   pub faults : IsPermutation ((s.plan.warnings ++ all_faults s.tables.items) ++ key_faults) outcome.faults
   pub sorted : IsSorted fault_cmp outcome.faults
+
+-- the warnings of the metadata and the faults of the tables so far, in order
+pub record AreFaultsSoFar {S : Type 0} (s : Session S) (faults : List Fault) : Type 0 where
+  pub all : IsPermutation (s.plan.warnings ++ all_faults s.tables.items) faults
+  pub sorted : IsSorted fault_cmp faults
+
+-- so many complete rows were read of the table of this number
+pub record HasRead {S : Type 0} (s : Session S) (t rows : ℕ) : Type 0 where
+  pub place : ℕ
+  pub numbered : place + 1 ≡ t
+  pub table : Table
+  pub found : slice_get s.tables.items place ≡ Some table
+  pub read : rows + 1 ≡ reading_of table.rows
 
 -- the list of these faults, in this order
 pub record ListsFaults {S : Type 0} (s : Session S) (faults : List Fault) : Type 0 where

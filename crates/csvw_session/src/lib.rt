@@ -22,6 +22,9 @@
 //!   (`IsUnfinishedInOrder`).
 //! - `finish` returns Ok only if each table was ended. The outcome has the warnings and all faults in order, those of
 //!   keys over whole tables among them (`Finishes`).
+//! - `faults_so_far` returns the warnings and the faults of headers and cells so far, in order, also after a stop
+//!   (`AreFaultsSoFar`).
+//! - `rows_read` returns how many complete rows were read of a table (`HasRead`).
 //! - `texts_grow` says how the texts of tables go on with one more event.
 #![tactic(auto)]
 

@@ -108,7 +108,7 @@ fn place_of(t: u32, count: usize) -> Option<usize>
 impl<S: TripleSink> Session<S> {
     ghost use Rattle.csvw_session.specs.Events.{Feed, End};
     ghost use Rattle.csvw_session.specs.Sessions.{Checks, IsRefusedInOrder, Starts, Takes};
-    ghost use Rattle.csvw_session.specs.Finishing.{Finishes, IsUnfinishedInOrder, ListsFaults};
+    ghost use Rattle.csvw_session.specs.Finishing.{AreFaultsSoFar, Finishes, HasRead, IsUnfinishedInOrder, ListsFaults};
 
     /// Starts a session over the tables of a plan that `Plan::build` made. In mode `Standard` its sink takes the
     /// triples of the group and its tables (csv2rdf, section 4.2).
@@ -235,6 +235,28 @@ impl<S: TripleSink> Session<S> {
         list_faults(self.tables.as_slice(), &mut faults)?;
         faults.extend_from_slice(broken.as_slice())?;
         Ok(faults)
+    }
+
+    /// Returns the warnings of the plan and the faults of the headers and cells so far, in the order of reports. It can be
+    /// called after a stop, too. The faults of keys aren't among them, since keys are judged over whole tables.
+    ///
+    /// Returns `AllocError` if memory runs out.
+    pub fn faults_so_far(&self) -> Result<Seq<Fault>, AllocError>
+        ensures { IfOk result (λ faults. AreFaultsSoFar self.now faults) }
+    {
+        let mut faults = Seq::new(self.alloc);
+        faults.extend_from_slice(self.plan.warnings())?;
+        list_faults(self.tables.as_slice(), &mut faults)?;
+        Ok(sorted(faults))
+    }
+
+    /// Returns the number of complete rows that were read of table `t`, numbered from 1, or `None` if there is no such
+    /// table. Rows of all kinds count.
+    pub fn rows_read(&self, t: u32) -> Option<u64>
+        ensures { MatchOption result ((t ≡ 0) ⊎ (length self.now.tables.items < t)) (HasRead self.now t) }
+    {
+        let i = place_of(t, self.tables.len())?;
+        Some(self.tables[i].rows_read())
     }
 
     /// Finishes the session, and returns its faults in order.
