@@ -22,7 +22,7 @@ fn asks_for_lines(alloc: Global, words: &[String]) -> bool {
     match requested(alloc, words) {
         Ok(Request::Plain { line_buffered, .. } | Request::Convert { line_buffered, .. }) =>
             line_buffered,
-        Ok(Request::Validate(_)) | Err(_) => false,
+        Ok(Request::Validate(_) | Request::Check(_) | Request::Explain(_)) | Err(_) => false,
     }
 }
 

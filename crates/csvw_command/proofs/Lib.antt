@@ -1,6 +1,5 @@
 mod Asking
 mod Counting
-mod Documents
 mod Ending
 mod Opening
 mod Running

@@ -9,7 +9,7 @@ use Rattle.csvw_streams.specs.Counted.{inner_of, failures_of}
 use Rattle.csvw_command.specs.declared.request.Group.{Group}
 use Rattle.csvw_engine_core.specs.declared.stop.Stop.TheVariants as stop
 use Rattle.csvw_engine_core.specs.declared.stop.Stop.{Stop}
-use Rattle.csvw_command.specs.Documents.{IsDocument, IsReadStop}
+use Rattle.csvw_files.specs.Documents.{IsDocument, IsReadStop}
 use Rattle.csvw_command.specs.Groups.{ClosesAll, OpensAll, OpensGroup, OpensNot, ReadsMeta, StopsOpening}
 
 -- one path more

@@ -6,7 +6,6 @@ use Rattle.std.specs.Io.KnownBytes.{Appends, Keeps}
 use Rattle.csvw_streams.specs.Count.{after_call, one_more}
 use Rattle.csvw_streams.specs.Lines.{SendsOn}
 use Rattle.csvw_streams.specs.Streams.{Stream, IsCut, Sends, Tells}
-use Rattle.csvw_streams.specs.declared.writing.Cut.{Cut}
 
 -- the same stream, up to and from a moment between
 abbrev pub stream : Option (List ℕ) → Option (List ℕ) → ℕ → ℕ → Stream
@@ -105,19 +104,19 @@ cut_then a b c n m k x p y q one two =
 pub cut_more : (s : Stream) (x p q : List ℕ) → IsCut s (x ++ p) → IsCut s (x ++ (p ++ q))
 cut_more s x p q cut = rw (sym (append_assoc x p q)) (cut_first s (x ++ p) q cut)
 
-module _ {U : Type 0} (r : Result U Cut) (a b c : Option (List ℕ)) (n m k : ℕ) (x p y q z : List ℕ) (one : SendsOn (stream a b n m) x p y) where
+module _ {U E : Type 0} (r : Result U E) (a b c : Option (List ℕ)) (n m k : ℕ) (x p y q z : List ℕ) (one : SendsOn (stream a b n m) x p y) where
   -- the last part was added, or cut
   pub last_ok : OnOk r (SendsOn (stream b c m k) y q z) → OnOk r (SendsOn (stream a c n k) x (p ++ q) z)
   last_ok two = on r two
     where
-      on : (r : Result U Cut) → OnOk r (SendsOn (stream b c m k) y q z) → OnOk r (SendsOn (stream a c n k) x (p ++ q) z)
+      on : (r : Result U E) → OnOk r (SendsOn (stream b c m k) y q z) → OnOk r (SendsOn (stream a c n k) x (p ++ q) z)
       on (Ok u) two = sends_then a b c n m k x p y q z one two
       on (Err e) two = tt
 
   pub last_cut : OnErr r (IsCut (stream b c m k) (y ++ q)) → OnErr r (IsCut (stream a c n k) (x ++ (p ++ q)))
   last_cut two = on r two
     where
-      on : (r : Result U Cut) → OnErr r (IsCut (stream b c m k) (y ++ q)) → OnErr r (IsCut (stream a c n k) (x ++ (p ++ q)))
+      on : (r : Result U E) → OnErr r (IsCut (stream b c m k) (y ++ q)) → OnErr r (IsCut (stream a c n k) (x ++ (p ++ q)))
       on (Ok u) two = tt
       on (Err e) two = cut_then a b c n m k x p y q one two
 

@@ -1,5 +1,5 @@
 -- The request that the words of a command line make, as the crate `clap` reads them: `Asks`, `program_app`.
-use Rattle.std.specs.Prelude.{◌≡◌, Bool, List, [], Option, Some, codes, false, find, map, option_and_then, true}
+use Rattle.std.specs.Prelude.{◌≡◌, Bool, List, [], Option, None, Some, codes, false, find, map, option_and_then, option_map, true}
 use Rattle.std.specs.Str.{bytes_eq}
 use Rattle.clap.specs.Words.{App, Row, Rule, Text, all_of, fault_of, first_of, new_app, new_rule, subcommand_of, with_rule, with_subcommand}
 use Rattle.clap.specs.Simple.{new_shape}
@@ -7,9 +7,10 @@ use Rattle.clap.specs.Lexer.{usize_max}
 use Rattle.clap.specs.declared.builder.action.ArgAction.TheVariants.{SetTrue}
 use Rattle.clap.specs.declared.parser.matches.ValueSource.{ValueSource}
 use Rattle.clap.specs.declared.parser.matches.ValueSource.TheVariants.{CommandLine}
+use Rattle.csvw_command.specs.declared.request.CheckedGroup.{CheckedGroup}
 use Rattle.csvw_command.specs.declared.request.Group.{Group}
 use Rattle.csvw_command.specs.declared.request.Request.{Request}
-use Rattle.csvw_command.specs.declared.request.Request.TheVariants.{Convert, Plain, Validate}
+use Rattle.csvw_command.specs.declared.request.Request.TheVariants.{Check, Convert, Explain, Plain, Validate}
 
 -- a positional argument that must be there
 abbrev pub required_rule : Text → Rule
@@ -26,6 +27,14 @@ base_rule = record (required_rule (codes "base")) { long = Some (codes "base"); 
 -- the positional argument of one or more files
 abbrev pub files_rule : Rule
 files_rule = record (required_rule (codes "FILE")) { range = Some (record { start_inclusive = 1; end_inclusive = usize_max }) }
+
+-- the option `--base URL`, which may be there
+abbrev pub own_base_rule : Rule
+own_base_rule = record (new_rule (codes "base")) { long = Some (codes "base"); value_names = 1 }
+
+-- the positional argument of files, of which there may be none
+abbrev pub some_files_rule : Rule
+some_files_rule = record (new_rule (codes "FILE")) { range = Some (record { start_inclusive = 1; end_inclusive = usize_max }) }
 
 -- a subcommand `name [--turns] --base URL META FILE..`
 abbrev pub group_app : Text → App
@@ -44,6 +53,16 @@ abbrev pub plain_app : App
 plain_app = with_rule (with_rule (with_rule (new_app (codes "plain")) (required_rule (codes "URL"))) (required_rule (codes "FILE")))
     (flag_rule (codes "line-buffered"))
 
+-- the subcommand `check [--base URL] [--all] META [FILE..]`
+abbrev pub check_app : App
+check_app =
+    with_rule (with_rule (with_rule (with_rule (new_app (codes "check")) own_base_rule) (required_rule (codes "META"))) some_files_rule)
+    (flag_rule (codes "all"))
+
+-- the subcommand `explain [CODE]`
+abbrev pub explain_app : App
+explain_app = with_rule (new_app (codes "explain")) (new_rule (codes "CODE"))
+
 -- the program without its subcommands
 abbrev pub bare_app : App
 bare_app = record (new_app (codes "csvw")) {
@@ -52,7 +71,9 @@ bare_app = record (new_app (codes "csvw")) {
 
 -- the program's command line
 unfoldable pub program_app : App
-program_app = with_subcommand (with_subcommand (with_subcommand bare_app validate_app.top) convert_app.top) plain_app.top
+program_app =
+    with_subcommand (with_subcommand (with_subcommand (with_subcommand (with_subcommand bare_app validate_app.top) convert_app.top) plain_app.top)
+    check_app.top) explain_app.top
 
 abbrev pub is_from_words : Option ValueSource → Bool
 is_from_words (Some CommandLine) = true
@@ -85,11 +106,29 @@ pub record ReadsConvert (name : Text) (rows : List Row) (group : Group) (minimal
   pub minimal_is : minimal ≡ flag_of (codes "minimal") rows
   pub line_buffered_is : line_buffered ≡ flag_of (codes "line-buffered") rows
 
+-- the texts of an argument that may be missing
+abbrev pub texts_of : Option (List Text) → List Text
+texts_of None = []
+texts_of (Some texts) = texts
+
+pub record ReadsCheck (name : Text) (rows : List Row) (asked : CheckedGroup) : Type 0 where
+  pub name_is : name ≡ codes "check"
+  pub base_is : first_of (codes "base") rows ≡ option_map (λ base. base.now) asked.base
+  pub meta_is : first_of (codes "META") rows ≡ Some asked.meta.now
+  pub files_are : texts_of (all_of (codes "FILE") rows) ≡ map (λ file. file.now) asked.files.items
+  pub all_is : asked.all ≡ flag_of (codes "all") rows
+
+pub record ReadsExplain (name : Text) (rows : List Row) (code : Option Text) : Type 0 where
+  pub name_is : name ≡ codes "explain"
+  pub code_is : first_of (codes "CODE") rows ≡ code
+
 -- a subcommand of this name with these rows makes this request
 abbrev pub Reads : Text → List Row → Request → Type 0
 Reads name rows (Plain url file line_buffered) = ReadsPlain name rows url.now file.now line_buffered
 Reads name rows (Validate group) = ReadsValidate name rows group
 Reads name rows (Convert group minimal line_buffered) = ReadsConvert name rows group minimal line_buffered
+Reads name rows (Check asked) = ReadsCheck name rows asked
+Reads name rows (Explain code) = ReadsExplain name rows (option_map (λ text. text.now) code)
 
 -- the words are correct, and name a subcommand that makes this request
 pub record Asks (words : List Text) (request : Request) : Type 0 where

@@ -6,11 +6,11 @@ use Rattle.csvw_engine_core.specs.declared.stop.Stop.TheVariants as stop
 use Rattle.csvw_triples_core.specs.declared.mode.Mode.TheVariants as mode
 use Rattle.csvw_command.specs.Asked.{Asks, program_app}
 use Rattle.csvw_command.specs.declared.request.Request.{Request}
-use Rattle.csvw_command.specs.declared.request.Request.TheVariants.{Convert, Plain, Validate}
+use Rattle.csvw_command.specs.declared.request.Request.TheVariants.{Check, Convert, Explain, Plain, Validate}
 use Rattle.csvw_meta.specs.Document.{plain_description}
 use Rattle.csvw_engine.specs.ReadOrder.{AreTableByTable}
 use Rattle.csvw_engine.specs.Runs.{Runs}
-use Rattle.csvw_command.specs.Answers.{Answers, TellsMistake, TellsStop}
+use Rattle.csvw_command.specs.Answers.{Answers, GivesHelp, LacksMemory, TellsMistake, TellsStop}
 use Rattle.csvw_command.specs.StandardInput.{inputs_of}
 use Rattle.csvw_command.specs.Groups.{ComesToEnd, RunsGroup, StopsEarly, conversion}
 use Rattle.csvw_streams.specs.declared.counted.Counted.{Counted}
@@ -42,7 +42,11 @@ pub record RunsPlain {O R : Type 0} (opens : O → Text → Option R → O → T
   pub is_opened : opens old file opened between
   pub runs : RunsOn closes remaining url between new out err status opened
 
--- what is asked for is done
+-- a text on codes is given, or there is no such code, or memory ran out
+abbrev pub Gives : Stream → Stream → ℕ → Type 0
+Gives out err status = GivesHelp out err status ⊎ (TellsMistake out err status ⊎ LacksMemory out err status)
+
+-- what is asked for is done; of a check nothing is said
 abbrev pub RunsRequest : {O R : Type 0} → (O → Text → Option R → O → Type 0) → (O → Counted R → O → Type 0) → (R → Option (List ℕ)) → Request → O → O
     → Stream → Stream → ℕ → Type 0
 RunsRequest opens closes remaining (Plain url file line_buffered) old new out err status =
@@ -50,6 +54,8 @@ RunsRequest opens closes remaining (Plain url file line_buffered) old new out er
 RunsRequest opens closes remaining (Validate group) old new out err status = RunsGroup opens closes remaining mode.Validate group old new out err status
 RunsRequest opens closes remaining (Convert group minimal line_buffered) old new out err status =
     RunsGroup opens closes remaining (conversion minimal) group old new out err status
+RunsRequest opens closes remaining (Check asked) old new out err status = status ≤ 4
+RunsRequest opens closes remaining (Explain code) old new out err status = (new ≡ old) × Gives out err status
 
 -- the words ask for something, and it is done
 pub record RunsAsked {O R : Type 0} (opens : O → Text → Option R → O → Type 0) (closes : O → Counted R → O → Type 0) (remaining : R → Option (List ℕ))

@@ -14,7 +14,7 @@ use Rattle.csvw_engine.specs.ReadOrder.{AreInTurn, AreTableByTable}
 use Rattle.csvw_engine.specs.Runs.{Runs}
 use Rattle.csvw_command.specs.declared.request.Group.{Group}
 use Rattle.csvw_command.specs.Answers.{TellsStop}
-use Rattle.csvw_command.specs.Documents.{IsDocument, IsReadStop}
+use Rattle.csvw_files.specs.Documents.{IsDocument, IsReadStop}
 use Rattle.csvw_command.specs.Status.{outcome_status}
 use Rattle.csvw_meta.specs.Document.{document}
 

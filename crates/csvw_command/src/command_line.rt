@@ -1,8 +1,8 @@
 //! The command line, in clap's terms.
 ghost use Rattle.clap.specs.Words.{app_of, rule_of};
 ghost use Rattle.clap.specs.declared.builder.command.Command.TheViews.{out-Command};
-ghost use Rattle.csvw_command.specs.Asked.{base_rule, convert_app, files_rule, flag_rule, group_app, plain_app};
-ghost use Rattle.csvw_command.specs.Asked.{program_app, required_rule, validate_app};
+ghost use Rattle.csvw_command.specs.Asked.{base_rule, check_app, convert_app, explain_app, files_rule, flag_rule, group_app};
+ghost use Rattle.csvw_command.specs.Asked.{own_base_rule, plain_app, program_app, required_rule, some_files_rule, validate_app};
 ghost use Rattle.std.specs.Prelude.{◌≡◌, IfOk, codes, false};
 
 use clap::{Arg, ArgAction, Command};
@@ -13,6 +13,14 @@ pub(crate) const PLAIN: &str = "plain";
 pub(crate) const VALIDATE: &str = "validate";
 
 pub(crate) const CONVERT: &str = "convert";
+
+pub(crate) const CHECK: &str = "check";
+
+pub(crate) const EXPLAIN: &str = "explain";
+
+pub(crate) const CODE: &str = "CODE";
+
+pub(crate) const ALL: &str = "all";
 
 pub(crate) const URL: &str = "URL";
 
@@ -28,7 +36,7 @@ pub(crate) const LINE_BUFFERED: &str = "line-buffered";
 
 pub(crate) const TURNS: &str = "turns";
 
-const VERSION: &str = "0.1.0 (rattle 0.0.0)";
+const VERSION: &str = "0.2.0 (rattle 0.0.0)";
 
 fn required_word<'a>(alloc: Global, id: &'a str, help: &'a str) -> Arg<'a>
     ensures rule { rule_of result ≡ required_rule id.entry.now }
@@ -179,6 +187,59 @@ fn plain_command<'a>(alloc: Global) -> Result<Command<'a>, AllocError>
         .args(args)
 }
 
+fn own_base<'a>(alloc: Global) -> Arg<'a>
+    ensures rule { rule_of result ≡ own_base_rule }
+    ensures local { result.global ≡ false }
+{
+    Arg::new(alloc, BASE).long(BASE).value_name(URL).help(
+        "The absolute URL of the metadata document; else it is the `file:` URL of its path",
+    )
+}
+
+fn some_files<'a>(alloc: Global) -> Arg<'a>
+    ensures rule { rule_of result ≡ some_files_rule }
+    ensures local { result.global ≡ false }
+{
+    Arg::new(alloc, FILE).num_args(1..).help(
+        "The CSV file of each table, by its name or in the order of the metadata; else they are found beside the document",
+    )
+}
+
+fn all<'a>(alloc: Global) -> Arg<'a>
+    ensures rule { rule_of result ≡ flag_rule (codes "all") }
+    ensures local { result.global ≡ false }
+{
+    flag(
+        alloc,
+        ALL,
+        "Shows all faults; else the first 20 of each code in each column, and counts the others",
+    )
+}
+
+fn check_command<'a>(alloc: Global) -> Result<Command<'a>, AllocError>
+    ensures app { IfOk result (λ command. app_of command ≡ check_app) }
+    ensures local { IfOk result (λ command. (out-Command command).has_globals ≡ false) }
+{
+    let args = vec![in alloc; own_base(alloc), meta(alloc), some_files(alloc), all(alloc)]?;
+    Command::new(alloc, CHECK)
+        .about(
+            "Shows what is wrong with the tables of a metadata document, with files, lines and cells",
+        )
+        .args(args)
+}
+
+fn explain_command<'a>(alloc: Global) -> Result<Command<'a>, AllocError>
+    ensures app { IfOk result (λ command. app_of command ≡ explain_app) }
+    ensures local { IfOk result (λ command. (out-Command command).has_globals ≡ false) }
+{
+    let code = Arg::new(alloc, CODE).help(
+        "The code, as in `csvw explain BadInteger`; else all codes are listed",
+    );
+    Command::new(alloc, EXPLAIN)
+        .about("Explains a code of a report, of a document or of a stop")
+        .arg(code)
+}
+
 /// Makes the whole command line. Fails with `AllocError` if memory runs out.
 pub(crate) fn program<'a>(alloc: Global) -> Result<Command<'a>, AllocError>
     ensures { IfOk result (λ command. app_of command ≡ program_app) }
@@ -190,5 +251,7 @@ pub(crate) fn program<'a>(alloc: Global) -> Result<Command<'a>, AllocError>
         .arg_required_else_help(true)
         .subcommand(validate_command(alloc)?)?
         .subcommand(convert_command(alloc)?)?
-        .subcommand(plain_command(alloc)?)
+        .subcommand(plain_command(alloc)?)?
+        .subcommand(check_command(alloc)?)?
+        .subcommand(explain_command(alloc)?)
 }

@@ -5,11 +5,10 @@ ghost use Rattle.csvw_engine.specs.Runs.{Runs};
 ghost use Rattle.csvw_streams.specs.Streams.{stream_of};
 ghost use Rattle.csvw_meta.specs.Document.{document};
 
-use crate::metadata::read_document;
-use crate::opener::Opener;
 use crate::request::Group;
 use crate::tell::{outcome_status, tell_stop};
 use csvw_engine::{Outcome, Stop, run, run_turns};
+use csvw_files::{Opener, read_document};
 use csvw_text::Counted;
 use csvw_triples_core::Mode;
 use std::alloc::Global;
@@ -52,7 +51,8 @@ fn open_group<O: Opener>(
     group: &Group<'_>,
     opener: &mut O,
 ) -> Result<Opened<O::Reader>, Stop>
-    ensures opened { IfOk result (λ opened. OpensGroup O.opens O.closes O.Reader.remaining group.now opener.old opener.new opened.meta.items opened.readers.items) }
+    ensures opened { IfOk result (λ opened. OpensGroup O.opens O.closes O.Reader.remaining group.now opener.old opener.new
+        opened.meta.items opened.readers.items) }
     ensures stop { IfErr result (λ reason. OpensNot O.opens O.closes O.Reader.remaining group.now opener.old opener.new reason) }
 {
     let Some(reader) = opener.open(group.meta) else {

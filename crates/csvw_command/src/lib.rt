@@ -4,29 +4,23 @@
 //!
 //! - `command` does what the words ask for: it opens files, writes to its two streams and returns the status
 //!   (`Commands`). docs/PROMISES.md says what that is.
-//! - `Opener::open` opens a file (`opens`). `Opener::close` takes its reader back, in the state in which it was left
-//!   (`closes`).
 //! - `requested` returns the request that the words make, by clap's account of them: the subcommand, the URL, all
 //!   files in order and the flags (`Asks`). Else it returns the kind of clap's error or text (`FailsBy`).
 //! - `tell_stop` writes the line of a stop (`line_of`) and returns its status. The status is 4 if memory, a file or a
 //!   stream failed, else 3.
 //! - The status of an outcome is 0 if no fault is an error, else 1. No status is above 4 (`command`).
-//! - The bytes of a document are those of its reader, as far as its limit shows (`read_document`, `IsDocument`).
-//!   `Read` comes only if that reader failed (`IsReadStop`).
 #![tactic(auto)]
 
 mod command_line;
 mod group;
 mod line;
 mod matches;
-mod metadata;
-mod opener;
 mod program;
 mod request;
 mod standard_input;
 mod tell;
 
-pub use opener::{FileOpener, Input, Opener};
+pub use csvw_files::{FileOpener, Input, Opener};
 pub use program::command;
-pub use request::{Group, Request, requested};
+pub use request::{CheckedGroup, Group, Request, requested};
 pub use tell::{tell_mistake, tell_stop};

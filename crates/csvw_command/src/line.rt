@@ -7,12 +7,12 @@ ghost use Rattle.csvw_streams.specs.Streams.{IsCut, Tells, stream_of};
 
 use crate::tell::send;
 use csvw_engine::{MetaFault, Stop};
-use csvw_streams::{Counted, Cut, LineRoom, push_parts, push_shown};
+use csvw_streams::{Counted, LineCut, LineRoom, push_parts, push_shown};
 use itoa::Buffer;
 use std::io::Write;
 
 /// Adds the name of a stop that has no place.
-fn push_name<W: Write>(w: &mut Counted<W>, room: &mut LineRoom, name: &str) -> Result<(), Cut>
+fn push_name<W: Write>(w: &mut Counted<W>, room: &mut LineRoom, name: &str) -> Result<(), LineCut>
     ensures ok { OnOk result (SendsOn (stream_of W.contents w.old w.new) room.old.items (codes "csvw: " ++ name.now) room.new.items) }
     ensures cut { OnErr result (IsCut (stream_of W.contents w.old w.new) (room.old.items ++ (codes "csvw: " ++ name.now))) }
 {
@@ -26,7 +26,7 @@ fn push_place<W: Write>(
     name: &str,
     table: u32,
     row: u64,
-) -> Result<(), Cut>
+) -> Result<(), LineCut>
     ensures ok { OnOk result (SendsOn (stream_of W.contents w.old w.new) room.old.items (line_at name.now table row) room.new.items) }
     ensures cut { OnErr result (IsCut (stream_of W.contents w.old w.new) (room.old.items ++ line_at name.now table row)) }
 {
@@ -42,7 +42,7 @@ fn push_meta<W: Write>(
     w: &mut Counted<W>,
     room: &mut LineRoom,
     fault: &MetaFault,
-) -> Result<(), Cut>
+) -> Result<(), LineCut>
     ensures ok { OnOk result (SendsOn (stream_of W.contents w.old w.new) room.old.items (meta_line fault.now) room.new.items) }
     ensures cut { OnErr result (IsCut (stream_of W.contents w.old w.new) (room.old.items ++ meta_line fault.now)) }
 {
@@ -51,7 +51,7 @@ fn push_meta<W: Write>(
 }
 
 /// Adds the line of a stop, without its end.
-fn push_stop<W: Write>(w: &mut Counted<W>, room: &mut LineRoom, stop: &Stop) -> Result<(), Cut>
+fn push_stop<W: Write>(w: &mut Counted<W>, room: &mut LineRoom, stop: &Stop) -> Result<(), LineCut>
     ensures ok { OnOk result (SendsOn (stream_of W.contents w.old w.new) room.old.items (line_of stop.now) room.new.items) }
     ensures cut { OnErr result (IsCut (stream_of W.contents w.old w.new) (room.old.items ++ line_of stop.now)) }
 {
@@ -71,7 +71,7 @@ fn push_stop<W: Write>(w: &mut Counted<W>, room: &mut LineRoom, stop: &Stop) -> 
 }
 
 /// Adds the line of a stop, with its end.
-fn push_line<W: Write>(w: &mut Counted<W>, room: &mut LineRoom, stop: &Stop) -> Result<(), Cut>
+fn push_line<W: Write>(w: &mut Counted<W>, room: &mut LineRoom, stop: &Stop) -> Result<(), LineCut>
     ensures ok { OnOk result (SendsOn (stream_of W.contents w.old w.new) room.old.items (ended_line stop.now) room.new.items) }
     ensures cut { OnErr result (IsCut (stream_of W.contents w.old w.new) (room.old.items ++ ended_line stop.now)) }
 {

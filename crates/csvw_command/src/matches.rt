@@ -1,12 +1,13 @@
 //! Reads the matches of a subcommand into a request.
-ghost use Rattle.clap.specs.Words.{found_of, rows_of};
-ghost use Rattle.csvw_command.specs.Asked.{IsGroup, Reads, flag_of};
-ghost use Rattle.std.specs.Prelude.{◌≡◌, IfOk, IfSome, codes};
+ghost use Rattle.clap.specs.Words.{all_of, found_of, rows_of};
+ghost use Rattle.csvw_command.specs.Asked.{IsGroup, Reads, flag_of, texts_of};
+ghost use Rattle.std.specs.Prelude.{◌≡◌, IfOk, IfSome, codes, map};
 
 use crate::command_line::{
-    BASE, CONVERT, FILE, LINE_BUFFERED, META, MINIMAL, PLAIN, TURNS, URL, VALIDATE,
+    ALL, BASE, CHECK, CODE, CONVERT, EXPLAIN, FILE, LINE_BUFFERED, META, MINIMAL, PLAIN, TURNS,
+    URL, VALIDATE,
 };
-use crate::request::{Group, Request};
+use crate::request::{CheckedGroup, Group, Request};
 use clap::ArgMatches;
 use clap::parser::ValueSource;
 use std::alloc::{AllocError, Global};
@@ -54,6 +55,35 @@ fn plain_in<'a>(matches: &ArgMatches<'a>) -> Option<Request<'a>>
     })
 }
 
+fn files_in<'a>(alloc: Global, matches: &ArgMatches<'a>) -> Result<Vec<&'a str>, AllocError>
+    ensures { IfOk result (λ files. texts_of (all_of (codes "FILE") (rows_of (found_of matches.now))) ≡ map (λ file. file.now) files.items) }
+{
+    match matches.get_strs(FILE) {
+        Some(given) => Vec::from_slice(alloc, given),
+        None => Ok(Vec::new(alloc)),
+    }
+}
+
+fn check_in<'a>(alloc: Global, matches: &ArgMatches<'a>) -> Result<Option<Request<'a>>, AllocError>
+    ensures { IfOk result (λ found. IfSome found (λ request. Reads (codes "check") (rows_of (found_of matches.now)) request)) }
+{
+    let Some(meta) = matches.get_str(META) else {
+        return Ok(None);
+    };
+    Ok(Some(Request::Check(CheckedGroup {
+        base: matches.get_str(BASE),
+        meta,
+        files: files_in(alloc, matches)?,
+        all: has_flag(matches, ALL),
+    })))
+}
+
+fn explain_in<'a>(matches: &ArgMatches<'a>) -> Request<'a>
+    ensures { Reads (codes "explain") (rows_of (found_of matches.now)) result }
+{
+    Request::Explain(matches.get_str(CODE))
+}
+
 /// Returns the request that the subcommand of this name makes by its matches, or `None` if they make none. Fails
 /// with `AllocError` if memory runs out.
 pub(crate) fn request_of<'a>(
@@ -65,6 +95,12 @@ pub(crate) fn request_of<'a>(
 {
     if name == PLAIN {
         return Ok(plain_in(matches));
+    }
+    if name == EXPLAIN {
+        return Ok(Some(explain_in(matches)));
+    }
+    if name == CHECK {
+        return check_in(alloc, matches);
     }
     if name == VALIDATE {
         return match group_in(alloc, matches)? {

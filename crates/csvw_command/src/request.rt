@@ -27,6 +27,19 @@ pub struct Group<'a> {
     pub turns: bool,
 }
 
+/// A group of tables to check, by its metadata document.
+#[derive(Debug, Drop)]
+pub struct CheckedGroup<'a> {
+    /// The URL of the metadata document, if it is given.
+    pub base: Option<&'a str>,
+    /// The file that has the document.
+    pub meta: &'a str,
+    /// The files of the tables, in the order of the words. There may be none.
+    pub files: Vec<&'a str>,
+    /// Whether all faults are shown. Else only the first ones of each code in each column are.
+    pub all: bool,
+}
+
 /// A request: what the command line asks the program to do.
 #[derive(Debug, Drop)]
 pub enum Request<'a> {
@@ -51,6 +64,10 @@ pub enum Request<'a> {
         /// Whether each line of the graph is sent when it is made, as in `Plain`.
         line_buffered: bool,
     },
+    /// Shows what is wrong with the group.
+    Check(CheckedGroup<'a>),
+    /// Explains this code, or lists all codes.
+    Explain(Option<&'a str>),
 }
 
 /// Returns the request that the words make. The first word is the program's name.

@@ -2,10 +2,8 @@
 ghost use Rattle.std.specs.Prelude.{◌≡◌, ◌<◌, ◌≤◌, ◌+◌, true, false, filter, length, map};
 ghost use Rattle.csvw_command.specs.StandardInput.{inputs_of, is_standard, standard_inputs};
 
-use crate::request::{Group, Request};
-
-/// The name of standard input in place of a file's path.
-pub const STANDARD_INPUT: &str = "-";
+use crate::request::Request;
+use csvw_files::STANDARD_INPUT;
 
 fn is_standard(file: &str) -> bool
     ensures { result ≡ is_standard file.now }
@@ -13,13 +11,13 @@ fn is_standard(file: &str) -> bool
     file == STANDARD_INPUT
 }
 
-/// Whether a group names standard input for two of its files.
-fn names_twice(group: &Group<'_>) -> bool
-    ensures twice { result ≡ true → 1 < standard_inputs group.now }
-    ensures once { result ≡ false → standard_inputs group.now ≤ 1 }
+/// Whether a document and the files of its tables name standard input for two of them.
+fn names_twice(meta: &str, files: &[&str]) -> bool
+    ensures twice { result ≡ true → 1 < standard_inputs meta.now (map (λ file. file.now) files.now) }
+    ensures once { result ≡ false → standard_inputs meta.now (map (λ file. file.now) files.now) ≤ 1 }
 {
-    let mut seen = is_standard(group.meta);
-    for file in group.files.as_slice() {
+    let mut seen = is_standard(meta);
+    for file in files {
         if is_standard(file) {
             if seen {
                 return true;
@@ -36,8 +34,9 @@ pub fn reads_twice(request: &Request<'_>) -> bool
     ensures once { result ≡ false → inputs_of request.now ≤ 1 }
 {
     match request {
-        Request::Plain { .. } => false,
-        Request::Validate(group) => names_twice(group),
-        Request::Convert { group, .. } => names_twice(group),
+        Request::Plain { .. } | Request::Explain(_) => false,
+        Request::Validate(group) => names_twice(group.meta, group.files.as_slice()),
+        Request::Convert { group, .. } => names_twice(group.meta, group.files.as_slice()),
+        Request::Check(asked) => names_twice(asked.meta, asked.files.as_slice()),
     }
 }

@@ -18,5 +18,9 @@ returns c =
     ∙ ap₂ with_subcommand bare (ap (λ (a : App). a.top) c.in_ok-validate_command.ensures.app) in
     let two = c.in_ok-subcommand-2.ensures.shape c.in_ok-convert_command.ensures.local
     ∙ ap₂ with_subcommand one (ap (λ (a : App). a.top) c.in_ok-convert_command.ensures.app) in
-    IfOk-weaker c.subcommand-3.result _ _ (λ r h. h.shape c.in_ok-plain_command.ensures.local
-    ∙ ap₂ with_subcommand two (ap (λ (a : App). a.top) c.in_ok-plain_command.ensures.app)) c.subcommand-3.ensures
+    let three = c.in_ok-subcommand-3.ensures.shape c.in_ok-plain_command.ensures.local
+    ∙ ap₂ with_subcommand two (ap (λ (a : App). a.top) c.in_ok-plain_command.ensures.app) in
+    let four = c.in_ok-subcommand-4.ensures.shape c.in_ok-check_command.ensures.local
+    ∙ ap₂ with_subcommand three (ap (λ (a : App). a.top) c.in_ok-check_command.ensures.app) in
+    IfOk-weaker c.subcommand-5.result _ _ (λ r h. h.shape c.in_ok-explain_command.ensures.local
+    ∙ ap₂ with_subcommand four (ap (λ (a : App). a.top) c.in_ok-explain_command.ensures.app)) c.subcommand-5.ensures

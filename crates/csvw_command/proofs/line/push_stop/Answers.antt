@@ -24,3 +24,9 @@ returns-in-Failed-clause-ok g c = rw c.in-Failed.is c.push_name-in-Failed.ensure
 
 pub returns-in-Failed-clause-cut : goal.returns-in-Failed-clause-cut
 returns-in-Failed-clause-cut g c = rw c.in-Failed.is c.push_name-in-Failed.ensures.cut
+
+pub returns-in-TableCount-clause-ok : goal.returns-in-TableCount-clause-ok
+returns-in-TableCount-clause-ok g c = rw c.in-TableCount.is c.push_name-in-TableCount.ensures.ok
+
+pub returns-in-TableCount-clause-cut : goal.returns-in-TableCount-clause-cut
+returns-in-TableCount-clause-cut g c = rw c.in-TableCount.is c.push_name-in-TableCount.ensures.cut

@@ -6,4 +6,4 @@ use Rattle.csvw_command.proofs.standard_input.names_twice.Given as goal
 
 abbrev pub invariant-loop-file : goal.invariant-loop-file
 invariant-loop-file l =
-    length (filter is_standard (l.group.meta.now ∷ map (λ file. file.now) (take l.file-index l.group.files.items))) ≡ (if l.seen then 1 else 0)
+    length (filter is_standard (l.meta ∷ map (λ file. file.now) (take l.file-index l.files))) ≡ (if l.seen then 1 else 0)

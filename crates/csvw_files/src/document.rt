@@ -1,10 +1,10 @@
 //! The bytes of a metadata document.
 ghost use Rattle.std.specs.Prelude.{◌≡◌, ◌<◌, IfErr, IfOk, OnOk, length};
 ghost use Rattle.csvw_streams.specs.Counted.{inner_of, failures_of};
-ghost use Rattle.csvw_command.specs.Documents.{IsDocument, IsReadStop, ReadsOn};
+ghost use Rattle.csvw_files.specs.Documents.{IsDocument, IsReadStop, ReadsOn};
 
-use csvw_engine::Stop;
-use csvw_text::Counted;
+use csvw_engine_core::Stop;
+use csvw_streams::Counted;
 use std::alloc::{AllocError, Global};
 use std::io::Read;
 
@@ -42,10 +42,7 @@ fn read_piece<R: Read>(
 }
 
 /// Reads a metadata document to its end, or one byte past its limit. `Read` where the reader failed, `Memory` where there is none.
-pub(crate) fn read_document<R: Read>(
-    alloc: Global,
-    reader: &mut Counted<R>,
-) -> Result<Vec<u8>, Stop>
+pub fn read_document<R: Read>(alloc: Global, reader: &mut Counted<R>) -> Result<Vec<u8>, Stop>
     ensures document { IfOk result (λ bytes. IsDocument (R.remaining (inner_of reader.old)) bytes.items) }
     ensures steady { OnOk result (failures_of reader.new ≡ failures_of reader.old) }
     ensures stop { IfErr result (IsReadStop reader.old reader.new) }

@@ -1,12 +1,41 @@
-//! Where the program's files come from.
+//! Where files come from.
 ghost use Rattle.std.specs.Prelude.{◌≡◌, ℕ, List, Option, None};
 ghost use Rattle.csvw_streams.specs.declared.counted.Counted.{Counted as TheCounted};
 
-use crate::standard_input::STANDARD_INPUT;
 use csvw_streams::Counted;
-use std::fs;
+use percent_encoding::{AsciiSet, CONTROLS, ascii_set, utf8_percent_encode};
+use std::alloc::{AllocError, Global};
 use std::io::{self, Read, Stdin};
-use std::rt::Files;
+use std::rt::{Env, Files};
+use std::{fs, path};
+
+/// The name of standard input in place of a file's path.
+pub const STANDARD_INPUT: &str = "-";
+
+/// The ASCII characters that the path of a URL can't have as they are (URL Standard, section 1.3), and `%`.
+const BUT_PATH: AsciiSet = ascii_set!(
+    CONTROLS
+        .add(b' ')
+        .add(b'"')
+        .add(b'#')
+        .add(b'<')
+        .add(b'>')
+        .add(b'?')
+        .add(b'^')
+        .add(b'`')
+        .add(b'{')
+        .add(b'}')
+        .add(b'%')
+);
+
+/// Returns the `file:` URL of an absolute path, or `AllocError` if memory runs out.
+fn file_url(alloc: Global, path: &str) -> Result<String, AllocError> {
+    let mut url = String::from_str(alloc, "file://")?;
+    for part in utf8_percent_encode(path, BUT_PATH) {
+        url.push_str(part)?;
+    }
+    Ok(url)
+}
 
 /// Opens files to read, and takes their readers back.
 pub trait Opener {
@@ -22,6 +51,11 @@ pub trait Opener {
     /// Opens the file at this path. Returns `None` if it can't be opened.
     fn open(&mut self, path: &str) -> Option<Self::Reader>
         ensures { opens self.old path.now result self.new };
+
+    /// Returns the `file:` URL of the file at a path, or `None` if it isn't known.
+    fn url(&self, _path: &str) -> Option<String> {
+        None
+    }
 
     /// Takes back the reader of a file, in the state in which it was left and with its count of failures. Nothing more is
     /// read of it.
@@ -71,7 +105,7 @@ impl<'a, R: Files> FileOpener<'a, R> {
     }
 }
 
-impl<'a, R: Files> Opener for FileOpener<'a, R> {
+impl<'a, R: Files + Env + AllocGlobal> Opener for FileOpener<'a, R> {
     type Reader = Input<R::File>;
 
     // `fs::open` says nothing of the file that a path gives.
@@ -86,6 +120,11 @@ impl<'a, R: Files> Opener for FileOpener<'a, R> {
         }
         let file = fs::open(self.rt, path).ok()?;
         Some(Input::File(file))
+    }
+
+    fn url(&self, path: &str) -> Option<String> {
+        let path = path::absolute(self.rt, path).ok()?;
+        file_url(self.rt.alloc(), path.as_path().as_str()).ok()
     }
 
     fn close(&mut self, _reader: Counted<Input<R::File>>)

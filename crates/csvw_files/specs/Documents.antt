@@ -6,10 +6,11 @@ use Rattle.csvw_streams.specs.Count.{one_more}
 use Rattle.csvw_streams.specs.Counted.{inner_of, failures_of}
 use Rattle.csvw_engine_core.specs.declared.stop.Stop.{Stop}
 use Rattle.csvw_engine_core.specs.declared.stop.Stop.TheVariants as stop
+use Rattle.csvw_files.specs.declared.document.TheConstants.{DOCUMENT_BYTES}
 
 -- the bytes that a reader has, as far as they show whether a document is too long, which is at most 2^20 bytes
 abbrev pub IsDocument : Option (List ℕ) → List ℕ → Type 0
-IsDocument known bytes = IfSome known (λ xs. bytes ≡ take 1_048_577 xs)
+IsDocument known bytes = IfSome known (λ xs. bytes ≡ take DOCUMENT_BYTES xs)
 
 -- this reader failed, or there was no memory for what it gave
 abbrev pub IsReadStop : {R : Type 0} → Counted R → Counted R → Stop → Type 0

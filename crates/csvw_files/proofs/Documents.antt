@@ -5,7 +5,7 @@ use Rattle.std.proofs.lemmas.List.{take-append-le, take_all}
 use Rattle.std.specs.Io.KnownBytes.{Consumes, IsAtEnd}
 use Rattle.csvw_streams.specs.declared.counted.Counted.{Counted}
 use Rattle.csvw_streams.specs.Counted.{inner_of}
-use Rattle.csvw_command.specs.Documents.{IsDocument, GaveEnd}
+use Rattle.csvw_files.specs.Documents.{IsDocument, GaveEnd}
 
 -- a read that gives nothing adds nothing
 and_nothing : (known then now : Option (List ℕ)) (bytes : List ℕ) → Consumes known then bytes → Consumes then now [] → Consumes known now bytes

@@ -2,7 +2,7 @@
 use Rattle.std.proofs.Common.{◌≡◌, ◌≤◌, ◌-◌, length}
 use Rattle.std.specs.Io.KnownBytes.{Consumes}
 use Rattle.csvw_streams.specs.Counted.{inner_of, failures_of}
-use Rattle.csvw_command.proofs.metadata.read_document.Given as goal
+use Rattle.csvw_files.proofs.document.read_document.Given as goal
 
 abbrev pub invariant-loop-room : goal.invariant-loop-room
 invariant-loop-room g l = record {

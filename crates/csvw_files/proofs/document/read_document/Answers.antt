@@ -1,8 +1,8 @@
 -- The bytes of a document, once it ended or is too long.
 use Rattle.std.proofs.Common.{◌≡◌, length, arith}
 use Rattle.csvw_streams.specs.Counted.{inner_of}
-use Rattle.csvw_command.proofs.Documents.{read_to_end, read_enough}
-use Rattle.csvw_command.proofs.metadata.read_document.Goals as goal
+use Rattle.csvw_files.proofs.Documents.{read_to_end, read_enough}
+use Rattle.csvw_files.proofs.document.read_document.Goals as goal
 
 pub returns-then-not-branch-clause-document : goal.returns-then-not-branch-clause-document
 returns-then-not-branch-clause-document g c =

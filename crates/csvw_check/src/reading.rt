@@ -1,0 +1,147 @@
+//! The tables, read through a session.
+ghost use Rattle.std.specs.Prelude.{IfOk};
+ghost use Rattle.csvw_columns.specs.Ready.{AreReady};
+
+use crate::halt::Halt;
+use crate::sink::NoGraph;
+use csvw_columns::Plan;
+use csvw_engine_core::Stop;
+use csvw_files::Opener;
+use csvw_session::Session;
+use csvw_streams::Counted;
+use csvw_text::{Fault, Seq};
+use csvw_triples_core::Mode;
+use std::alloc::{AllocError, Global};
+use std::io::Read;
+
+/// How many bytes one read takes at most.
+const PIECE: usize = 65_536;
+
+/// What the tables were found to be.
+#[derive(Drop)]
+pub(crate) struct Found {
+    /// The faults, in the order of reports. After a stop those that were found before it.
+    pub(crate) faults: Seq<Fault>,
+    /// The reason if the tables weren't read to their ends.
+    pub(crate) stop: Option<Stop>,
+    /// The place of the table whose file was read at the stop, from 0.
+    pub(crate) place: usize,
+    /// The number of complete rows that were read of each table. Rows of all kinds count.
+    pub(crate) rows: Seq<u64>,
+}
+
+/// A stop, with the place of the table whose file was read, from 0.
+#[derive(Drop)]
+struct StopAt {
+    place: usize,
+    stop: Stop,
+}
+
+/// Reads a file to its end into the session.
+fn read_to_end<R: Read>(
+    session: &mut Session<NoGraph>,
+    t: u32,
+    reader: &mut Counted<R>,
+    room: &mut [u8],
+) -> Result<(), Stop> {
+    for _ in 0..u64::MAX {
+        match reader.read(room) {
+            Ok(0) => return session.end(t),
+            Ok(n) => session.feed(t, &room[..n])?,
+            Err(_) => return Err(Stop::Read),
+        }
+    }
+    Err(Stop::Read)
+}
+
+/// Opens the file at a path and reads it into the session.
+fn read_file<O: Opener>(
+    session: &mut Session<NoGraph>,
+    t: u32,
+    path: &str,
+    opener: &mut O,
+    room: &mut [u8],
+) -> Result<(), Stop> {
+    let Some(reader) = opener.open(path) else {
+        return Err(Stop::Read);
+    };
+    let mut reader = Counted::new(reader);
+    let read = read_to_end(session, t, &mut reader, room);
+    opener.close(reader);
+    read
+}
+
+/// Reads the file of each table into the session, one after the other.
+fn read_files<O: Opener>(
+    session: &mut Session<NoGraph>,
+    paths: &[String],
+    opener: &mut O,
+    room: &mut [u8],
+) -> Result<(), StopAt> {
+    let mut t = 0;
+    for (place, path) in paths.iter().enumerate() {
+        t = u32::saturating_add(t, 1);
+        if let Err(stop) = read_file(session, t, path.as_str(), opener, room) {
+            return Err(StopAt { place, stop });
+        }
+    }
+    Ok(())
+}
+
+/// Returns how many rows were read of each of so many tables.
+fn rows_of(
+    alloc: Global,
+    session: &Session<NoGraph>,
+    tables: usize,
+) -> Result<Seq<u64>, AllocError> {
+    let mut rows = Seq::new(alloc);
+    let mut t = 0;
+    for _ in 0..tables {
+        t = u32::saturating_add(t, 1);
+        rows.push(session.rows_read(t).unwrap_or(0))?;
+    }
+    Ok(rows)
+}
+
+/// Reads the tables of a plan from the files at these paths, one path for each table. Halts only if memory runs out.
+pub(crate) fn read<O: Opener>(
+    alloc: Global,
+    plan: Plan,
+    paths: &[String],
+    opener: &mut O,
+) -> Result<Found, Halt>
+    requires { AreReady plan.tables }
+{
+    let mut room = vec![in alloc; 0u8; PIECE]?;
+    let Ok(mut session) = Session::start(alloc, plan, Mode::Validate, NoGraph {}) else {
+        return Err(Halt::Memory);
+    };
+    let ended = read_files(&mut session, paths, opener, room.as_mut_slice());
+    let rows = rows_of(alloc, &session, paths.len())?;
+    match ended {
+        Ok(()) => finish(&mut session, rows),
+        Err(StopAt { place, stop }) => {
+            Ok(Found {
+                faults: session.faults_so_far()?,
+                stop: Some(stop),
+                place,
+                rows,
+            })
+        }
+    }
+}
+
+/// Finishes the session.
+fn finish(session: &mut Session<NoGraph>, rows: Seq<u64>) -> Result<Found, Halt> {
+    match session.finish() {
+        Ok(outcome) => {
+            Ok(Found {
+                faults: outcome.faults,
+                stop: None,
+                place: 0,
+                rows,
+            })
+        }
+        Err(_) => Err(Halt::Memory),
+    }
+}
