@@ -8,6 +8,8 @@ mod documents;
 #[cfg(test)]
 mod facets;
 #[cfg(test)]
+mod nulls;
+#[cfg(test)]
 mod ranges;
 #[cfg(test)]
 mod refusals;

@@ -1,233 +1,59 @@
 //! Tests of the properties of a column.
-use crate::reading::{Accepted, Refused, first_unread, first_unrefused};
-use csvw_meta_core::MetaCode;
+use crate::reading::{first_unread, first_unrefused};
 use std::test::Fail;
 
 /// The parts that are read, each with its number of warnings.
-static ACCEPTED: [Accepted; 17] = [
-    Accepted {
-        text: r#""#,
-        warnings: 0,
-    },
-    Accepted {
-        text: r#""name":"a""#,
-        warnings: 0,
-    },
-    Accepted {
-        text: r#""name":"a.b_1""#,
-        warnings: 0,
-    },
-    Accepted {
-        text: r#""name":"a%20b""#,
-        warnings: 0,
-    },
-    Accepted {
-        text: r#""name":"0""#,
-        warnings: 0,
-    },
-    Accepted {
-        text: r#""titles":"x""#,
-        warnings: 0,
-    },
-    Accepted {
-        text: r#""titles":"""#,
-        warnings: 0,
-    },
-    Accepted {
-        text: r#""titles":[]"#,
-        warnings: 0,
-    },
-    Accepted {
-        text: r#""titles":["x","y"]"#,
-        warnings: 0,
-    },
-    Accepted {
-        text: r#""titles":{"en":"x","de":["y","z"]}"#,
-        warnings: 0,
-    },
-    Accepted {
-        text: r#""titles":{}"#,
-        warnings: 0,
-    },
-    Accepted {
-        text: r#""suppressOutput":true"#,
-        warnings: 0,
-    },
-    Accepted {
-        text: r#""virtual":true"#,
-        warnings: 0,
-    },
-    Accepted {
-        text: r#""@id":"c","@type":"Column""#,
-        warnings: 0,
-    },
-    Accepted {
-        text: r#""url":1"#,
-        warnings: 1,
-    },
-    Accepted {
-        text: r#""notes":1"#,
-        warnings: 1,
-    },
-    Accepted {
-        text: r#""dc:x":{"@id":"a","dc:y":[1,{"z":1}]}"#,
-        warnings: 1,
-    },
-];
+const ACCEPTED: &str = r#" => 0
+"name":"a" => 0
+"name":"a.b_1" => 0
+"name":"a%20b" => 0
+"name":"0" => 0
+"titles":"x" => 0
+"titles":"" => 0
+"titles":[] => 0
+"titles":["x","y"] => 0
+"titles":{"en":"x","de":["y","z"]} => 0
+"titles":{} => 0
+"suppressOutput":true => 0
+"virtual":true => 0
+"@id":"c","@type":"Column" => 0
+"url":1 => 1
+"notes":1 => 1
+"dc:x":{"@id":"a","dc:y":[1,{"z":1}]} => 1
+"#;
 
-/// The parts that are refused, each with its fault.
-static REFUSED: [Refused; 30] = [
-    Refused {
-        text: r#""name":"_a""#,
-        code: MetaCode::BadName,
-        pointer: "/name",
-    },
-    Refused {
-        text: r#""name":"""#,
-        code: MetaCode::BadName,
-        pointer: "/name",
-    },
-    Refused {
-        text: r#""name":"a b""#,
-        code: MetaCode::BadName,
-        pointer: "/name",
-    },
-    Refused {
-        text: r#""name":"a..b""#,
-        code: MetaCode::BadName,
-        pointer: "/name",
-    },
-    Refused {
-        text: r#""name":"a.""#,
-        code: MetaCode::BadName,
-        pointer: "/name",
-    },
-    Refused {
-        text: r#""name":".a""#,
-        code: MetaCode::BadName,
-        pointer: "/name",
-    },
-    Refused {
-        text: r#""name":"a%2""#,
-        code: MetaCode::BadName,
-        pointer: "/name",
-    },
-    Refused {
-        text: r#""name":"a-b""#,
-        code: MetaCode::BadName,
-        pointer: "/name",
-    },
-    Refused {
-        text: r#""name":"é""#,
-        code: MetaCode::BadName,
-        pointer: "/name",
-    },
-    Refused {
-        text: r#""name":1"#,
-        code: MetaCode::BadProperty,
-        pointer: "/name",
-    },
-    Refused {
-        text: r#""name":["a"]"#,
-        code: MetaCode::BadProperty,
-        pointer: "/name",
-    },
-    Refused {
-        text: r#""name":1.5"#,
-        code: MetaCode::NotSupported,
-        pointer: "/name",
-    },
-    Refused {
-        text: r#""titles":1"#,
-        code: MetaCode::BadProperty,
-        pointer: "/titles",
-    },
-    Refused {
-        text: r#""titles":null"#,
-        code: MetaCode::BadProperty,
-        pointer: "/titles",
-    },
-    Refused {
-        text: r#""titles":[1]"#,
-        code: MetaCode::BadProperty,
-        pointer: "/titles/0",
-    },
-    Refused {
-        text: r#""titles":["a",1.5]"#,
-        code: MetaCode::NotSupported,
-        pointer: "/titles/1",
-    },
-    Refused {
-        text: r#""titles":{"e n":"x"}"#,
-        code: MetaCode::BadProperty,
-        pointer: "/titles/e n",
-    },
-    Refused {
-        text: r#""titles":{"en":1}"#,
-        code: MetaCode::BadProperty,
-        pointer: "/titles/en",
-    },
-    Refused {
-        text: r#""titles":{"en":["x",1]}"#,
-        code: MetaCode::BadProperty,
-        pointer: "/titles/en/1",
-    },
-    Refused {
-        text: r#""titles":{"en":{}}"#,
-        code: MetaCode::BadProperty,
-        pointer: "/titles/en",
-    },
-    Refused {
-        text: r#""suppressOutput":"x""#,
-        code: MetaCode::BadProperty,
-        pointer: "/suppressOutput",
-    },
-    Refused {
-        text: r#""virtual":1"#,
-        code: MetaCode::BadProperty,
-        pointer: "/virtual",
-    },
-    Refused {
-        text: r#""virtual":"true""#,
-        code: MetaCode::BadProperty,
-        pointer: "/virtual",
-    },
-    Refused {
-        text: r#""@id":"_:c""#,
-        code: MetaCode::BadId,
-        pointer: "/@id",
-    },
-    Refused {
-        text: r#""@id":1"#,
-        code: MetaCode::BadProperty,
-        pointer: "/@id",
-    },
-    Refused {
-        text: r#""@type":"Columns""#,
-        code: MetaCode::BadProperty,
-        pointer: "/@type",
-    },
-    Refused {
-        text: r#""dc:x":1.5"#,
-        code: MetaCode::NotSupported,
-        pointer: "/dc:x",
-    },
-    Refused {
-        text: r#""dc:x":{"@id":"_:b"}"#,
-        code: MetaCode::BadId,
-        pointer: "/dc:x/@id",
-    },
-    Refused {
-        text: r#"":x":1"#,
-        code: MetaCode::BadProperty,
-        pointer: "/:x",
-    },
-    Refused {
-        text: r#""a~/b:c":1"#,
-        code: MetaCode::BadProperty,
-        pointer: "/a~0~1b:c",
-    },
-];
+/// The parts that are refused, each with the code of its fault and the pointer below the part.
+const REFUSED: &str = r#""name":"_a" => BadName /name
+"name":"" => BadName /name
+"name":"a b" => BadName /name
+"name":"a..b" => BadName /name
+"name":"a." => BadName /name
+"name":".a" => BadName /name
+"name":"a%2" => BadName /name
+"name":"a-b" => BadName /name
+"name":"é" => BadName /name
+"name":1 => BadProperty /name
+"name":["a"] => BadProperty /name
+"name":1.5 => NotSupported /name
+"titles":1 => BadProperty /titles
+"titles":null => BadProperty /titles
+"titles":[1] => BadProperty /titles/0
+"titles":["a",1.5] => NotSupported /titles/1
+"titles":{"e n":"x"} => BadProperty /titles/e n
+"titles":{"en":1} => BadProperty /titles/en
+"titles":{"en":["x",1]} => BadProperty /titles/en/1
+"titles":{"en":{}} => BadProperty /titles/en
+"suppressOutput":"x" => BadProperty /suppressOutput
+"virtual":1 => BadProperty /virtual
+"virtual":"true" => BadProperty /virtual
+"@id":"_:c" => BadId /@id
+"@id":1 => BadProperty /@id
+"@type":"Columns" => BadProperty /@type
+"dc:x":1.5 => NotSupported /dc:x
+"dc:x":{"@id":"_:b"} => BadId /dc:x/@id
+":x":1 => BadProperty /:x
+"a~/b:c":1 => BadProperty /a~0~1b:c
+"#;
 
 const FRAME: (&str, &str) = (
     r#"{"@context":"http://www.w3.org/ns/csvw","url":"p.csv","tableSchema":{"columns":[{"#,
@@ -236,14 +62,14 @@ const FRAME: (&str, &str) = (
 
 #[test]
 fn columns_are_read(rt: HostRuntime) -> Result<(), Fail> {
-    assert_eq!(rt; first_unread(rt.alloc(), FRAME, &ACCEPTED)?, None);
+    assert_eq!(rt; first_unread(rt.alloc(), FRAME, ACCEPTED)?, None);
     Ok(())
 }
 
 #[test]
 fn columns_are_refused(rt: HostRuntime) -> Result<(), Fail> {
     assert_eq!(rt;
-        first_unrefused(rt.alloc(), FRAME, "/tableSchema/columns/0", &REFUSED)?,
+        first_unrefused(rt.alloc(), FRAME, "/tableSchema/columns/0", REFUSED)?,
         None
     );
     Ok(())

@@ -1,391 +1,93 @@
 //! Tests of the properties of a dialect.
-use crate::reading::{Accepted, Refused, first_unread, first_unrefused};
-use csvw_meta_core::MetaCode;
+use crate::reading::{first_unread, first_unrefused};
 use std::test::Fail;
 
 /// The parts that are read, each with its number of warnings.
-static ACCEPTED: [Accepted; 29] = [
-    Accepted {
-        text: r#""#,
-        warnings: 0,
-    },
-    Accepted {
-        text: r#""delimiter":";""#,
-        warnings: 0,
-    },
-    Accepted {
-        text: r#""delimiter":"é""#,
-        warnings: 0,
-    },
-    Accepted {
-        text: r#""delimiter":"\\""#,
-        warnings: 0,
-    },
-    Accepted {
-        text: r#""quoteChar":null"#,
-        warnings: 0,
-    },
-    Accepted {
-        text: r#""quoteChar":"'""#,
-        warnings: 0,
-    },
-    Accepted {
-        text: r#""doubleQuote":false"#,
-        warnings: 0,
-    },
-    Accepted {
-        text: r#""quoteChar":null,"delimiter":"\"""#,
-        warnings: 0,
-    },
-    Accepted {
-        text: r#""commentPrefix":null"#,
-        warnings: 0,
-    },
-    Accepted {
-        text: r#""commentPrefix":"1234567890123456""#,
-        warnings: 0,
-    },
-    Accepted {
-        text: r#""commentPrefix":"a\",b""#,
-        warnings: 0,
-    },
-    Accepted {
-        text: r#""header":false"#,
-        warnings: 0,
-    },
-    Accepted {
-        text: r#""headerRowCount":0"#,
-        warnings: 0,
-    },
-    Accepted {
-        text: r#""headerRowCount":8,"header":false"#,
-        warnings: 0,
-    },
-    Accepted {
-        text: r#""skipRows":18446744073709551615"#,
-        warnings: 0,
-    },
-    Accepted {
-        text: r#""skipColumns":1024"#,
-        warnings: 0,
-    },
-    Accepted {
-        text: r#""skipBlankRows":true"#,
-        warnings: 0,
-    },
-    Accepted {
-        text: r#""skipInitialSpace":true"#,
-        warnings: 0,
-    },
-    Accepted {
-        text: r#""trim":true"#,
-        warnings: 0,
-    },
-    Accepted {
-        text: r#""trim":"true""#,
-        warnings: 0,
-    },
-    Accepted {
-        text: r#""trim":"false""#,
-        warnings: 0,
-    },
-    Accepted {
-        text: r#""trim":"start""#,
-        warnings: 0,
-    },
-    Accepted {
-        text: r#""trim":"end""#,
-        warnings: 0,
-    },
-    Accepted {
-        text: r#""lineTerminators":"\n""#,
-        warnings: 0,
-    },
-    Accepted {
-        text: r#""lineTerminators":["\r\n","\n"]"#,
-        warnings: 0,
-    },
-    Accepted {
-        text: r#""encoding":"UTF-8""#,
-        warnings: 0,
-    },
-    Accepted {
-        text: r#""@id":"d","@type":"Dialect""#,
-        warnings: 0,
-    },
-    Accepted {
-        text: r#""lang":"en""#,
-        warnings: 1,
-    },
-    Accepted {
-        text: r#""notes":1.5,"dc:x":{"y":1}"#,
-        warnings: 2,
-    },
-];
+const ACCEPTED: &str = r#" => 0
+"delimiter":";" => 0
+"delimiter":"é" => 0
+"delimiter":"\\" => 0
+"quoteChar":null => 0
+"quoteChar":"'" => 0
+"doubleQuote":false => 0
+"quoteChar":null,"delimiter":"\"" => 0
+"commentPrefix":null => 0
+"commentPrefix":"1234567890123456" => 0
+"commentPrefix":"a\",b" => 0
+"header":false => 0
+"headerRowCount":0 => 0
+"headerRowCount":8,"header":false => 0
+"skipRows":18446744073709551615 => 0
+"skipColumns":1024 => 0
+"skipBlankRows":true => 0
+"skipInitialSpace":true => 0
+"trim":true => 0
+"trim":"true" => 0
+"trim":"false" => 0
+"trim":"start" => 0
+"trim":"end" => 0
+"lineTerminators":"\n" => 0
+"lineTerminators":["\r\n","\n"] => 0
+"encoding":"UTF-8" => 0
+"@id":"d","@type":"Dialect" => 0
+"lang":"en" => 1
+"notes":1.5,"dc:x":{"y":1} => 2
+"#;
 
-/// The parts that are refused, each with its fault.
-static REFUSED: [Refused; 52] = [
-    Refused {
-        text: r#""delimiter":";;""#,
-        code: MetaCode::NotSupported,
-        pointer: "/delimiter",
-    },
-    Refused {
-        text: r#""delimiter":"""#,
-        code: MetaCode::BadProperty,
-        pointer: "/delimiter",
-    },
-    Refused {
-        text: r#""delimiter":1"#,
-        code: MetaCode::BadProperty,
-        pointer: "/delimiter",
-    },
-    Refused {
-        text: r#""delimiter":null"#,
-        code: MetaCode::BadProperty,
-        pointer: "/delimiter",
-    },
-    Refused {
-        text: r#""delimiter":"\n""#,
-        code: MetaCode::BadDialect,
-        pointer: "/delimiter",
-    },
-    Refused {
-        text: r#""delimiter":"\"""#,
-        code: MetaCode::BadDialect,
-        pointer: "",
-    },
-    Refused {
-        text: r#""delimiter":"\\","doubleQuote":false"#,
-        code: MetaCode::BadDialect,
-        pointer: "",
-    },
-    Refused {
-        text: r#""quoteChar":"''""#,
-        code: MetaCode::BadProperty,
-        pointer: "/quoteChar",
-    },
-    Refused {
-        text: r#""quoteChar":"""#,
-        code: MetaCode::BadProperty,
-        pointer: "/quoteChar",
-    },
-    Refused {
-        text: r#""quoteChar":1"#,
-        code: MetaCode::BadProperty,
-        pointer: "/quoteChar",
-    },
-    Refused {
-        text: r#""quoteChar":"\r""#,
-        code: MetaCode::BadDialect,
-        pointer: "/quoteChar",
-    },
-    Refused {
-        text: r#""quoteChar":",""#,
-        code: MetaCode::BadDialect,
-        pointer: "",
-    },
-    Refused {
-        text: r#""quoteChar":"\\","doubleQuote":false"#,
-        code: MetaCode::BadDialect,
-        pointer: "",
-    },
-    Refused {
-        text: r#""quoteChar":"'","delimiter":"'""#,
-        code: MetaCode::BadDialect,
-        pointer: "",
-    },
-    Refused {
-        text: r#""doubleQuote":1"#,
-        code: MetaCode::BadProperty,
-        pointer: "/doubleQuote",
-    },
-    Refused {
-        text: r#""doubleQuote":"true""#,
-        code: MetaCode::BadProperty,
-        pointer: "/doubleQuote",
-    },
-    Refused {
-        text: r#""commentPrefix":"""#,
-        code: MetaCode::BadProperty,
-        pointer: "/commentPrefix",
-    },
-    Refused {
-        text: r#""commentPrefix":"12345678901234567""#,
-        code: MetaCode::BadProperty,
-        pointer: "/commentPrefix",
-    },
-    Refused {
-        text: r#""commentPrefix":"a\n""#,
-        code: MetaCode::BadDialect,
-        pointer: "/commentPrefix",
-    },
-    Refused {
-        text: r#""commentPrefix":1"#,
-        code: MetaCode::BadProperty,
-        pointer: "/commentPrefix",
-    },
-    Refused {
-        text: r#""header":1"#,
-        code: MetaCode::BadProperty,
-        pointer: "/header",
-    },
-    Refused {
-        text: r#""header":null"#,
-        code: MetaCode::BadProperty,
-        pointer: "/header",
-    },
-    Refused {
-        text: r#""headerRowCount":9"#,
-        code: MetaCode::TooMany,
-        pointer: "/headerRowCount",
-    },
-    Refused {
-        text: r#""headerRowCount":-1"#,
-        code: MetaCode::BadProperty,
-        pointer: "/headerRowCount",
-    },
-    Refused {
-        text: r#""headerRowCount":1.0"#,
-        code: MetaCode::NotSupported,
-        pointer: "/headerRowCount",
-    },
-    Refused {
-        text: r#""headerRowCount":1e0"#,
-        code: MetaCode::NotSupported,
-        pointer: "/headerRowCount",
-    },
-    Refused {
-        text: r#""headerRowCount":-0"#,
-        code: MetaCode::NotSupported,
-        pointer: "/headerRowCount",
-    },
-    Refused {
-        text: r#""headerRowCount":"1""#,
-        code: MetaCode::BadProperty,
-        pointer: "/headerRowCount",
-    },
-    Refused {
-        text: r#""skipRows":-1"#,
-        code: MetaCode::BadProperty,
-        pointer: "/skipRows",
-    },
-    Refused {
-        text: r#""skipRows":18446744073709551616"#,
-        code: MetaCode::NotSupported,
-        pointer: "/skipRows",
-    },
-    Refused {
-        text: r#""skipRows":true"#,
-        code: MetaCode::BadProperty,
-        pointer: "/skipRows",
-    },
-    Refused {
-        text: r#""skipColumns":1025"#,
-        code: MetaCode::TooMany,
-        pointer: "/skipColumns",
-    },
-    Refused {
-        text: r#""skipColumns":-1"#,
-        code: MetaCode::BadProperty,
-        pointer: "/skipColumns",
-    },
-    Refused {
-        text: r#""skipColumns":0.5"#,
-        code: MetaCode::NotSupported,
-        pointer: "/skipColumns",
-    },
-    Refused {
-        text: r#""skipBlankRows":0"#,
-        code: MetaCode::BadProperty,
-        pointer: "/skipBlankRows",
-    },
-    Refused {
-        text: r#""skipInitialSpace":"x""#,
-        code: MetaCode::BadProperty,
-        pointer: "/skipInitialSpace",
-    },
-    Refused {
-        text: r#""trim":"both""#,
-        code: MetaCode::BadProperty,
-        pointer: "/trim",
-    },
-    Refused {
-        text: r#""trim":1"#,
-        code: MetaCode::BadProperty,
-        pointer: "/trim",
-    },
-    Refused {
-        text: r#""trim":null"#,
-        code: MetaCode::BadProperty,
-        pointer: "/trim",
-    },
-    Refused {
-        text: r#""trim":1.5"#,
-        code: MetaCode::NotSupported,
-        pointer: "/trim",
-    },
-    Refused {
-        text: r#""lineTerminators":"\r""#,
-        code: MetaCode::NotSupported,
-        pointer: "/lineTerminators",
-    },
-    Refused {
-        text: r#""lineTerminators":["\n","\r"]"#,
-        code: MetaCode::NotSupported,
-        pointer: "/lineTerminators/1",
-    },
-    Refused {
-        text: r#""lineTerminators":[]"#,
-        code: MetaCode::BadDialect,
-        pointer: "/lineTerminators",
-    },
-    Refused {
-        text: r#""lineTerminators":"""#,
-        code: MetaCode::NotSupported,
-        pointer: "/lineTerminators",
-    },
-    Refused {
-        text: r#""lineTerminators":1"#,
-        code: MetaCode::BadProperty,
-        pointer: "/lineTerminators",
-    },
-    Refused {
-        text: r#""lineTerminators":[1]"#,
-        code: MetaCode::BadProperty,
-        pointer: "/lineTerminators/0",
-    },
-    Refused {
-        text: r#""encoding":"latin1""#,
-        code: MetaCode::NotSupported,
-        pointer: "/encoding",
-    },
-    Refused {
-        text: r#""encoding":1"#,
-        code: MetaCode::BadProperty,
-        pointer: "/encoding",
-    },
-    Refused {
-        text: r#""encoding":"""#,
-        code: MetaCode::NotSupported,
-        pointer: "/encoding",
-    },
-    Refused {
-        text: r#""@id":"_:d""#,
-        code: MetaCode::BadId,
-        pointer: "/@id",
-    },
-    Refused {
-        text: r#""@type":"Dialects""#,
-        code: MetaCode::BadProperty,
-        pointer: "/@type",
-    },
-    Refused {
-        text: r#""dc:x":1.5"#,
-        code: MetaCode::NotSupported,
-        pointer: "/dc:x",
-    },
-];
+/// The parts that are refused, each with the code of its fault and the pointer below the part.
+const REFUSED: &str = r#""delimiter":";;" => NotSupported /delimiter
+"delimiter":"" => BadProperty /delimiter
+"delimiter":1 => BadProperty /delimiter
+"delimiter":null => BadProperty /delimiter
+"delimiter":"\n" => BadDialect /delimiter
+"delimiter":"\"" => BadDialect
+"delimiter":"\\","doubleQuote":false => BadDialect
+"quoteChar":"''" => BadProperty /quoteChar
+"quoteChar":"" => BadProperty /quoteChar
+"quoteChar":1 => BadProperty /quoteChar
+"quoteChar":"\r" => BadDialect /quoteChar
+"quoteChar":"," => BadDialect
+"quoteChar":"\\","doubleQuote":false => BadDialect
+"quoteChar":"'","delimiter":"'" => BadDialect
+"doubleQuote":1 => BadProperty /doubleQuote
+"doubleQuote":"true" => BadProperty /doubleQuote
+"commentPrefix":"" => BadProperty /commentPrefix
+"commentPrefix":"12345678901234567" => BadProperty /commentPrefix
+"commentPrefix":"a\n" => BadDialect /commentPrefix
+"commentPrefix":1 => BadProperty /commentPrefix
+"header":1 => BadProperty /header
+"header":null => BadProperty /header
+"headerRowCount":9 => TooMany /headerRowCount
+"headerRowCount":-1 => BadProperty /headerRowCount
+"headerRowCount":1.0 => NotSupported /headerRowCount
+"headerRowCount":1e0 => NotSupported /headerRowCount
+"headerRowCount":-0 => NotSupported /headerRowCount
+"headerRowCount":"1" => BadProperty /headerRowCount
+"skipRows":-1 => BadProperty /skipRows
+"skipRows":18446744073709551616 => NotSupported /skipRows
+"skipRows":true => BadProperty /skipRows
+"skipColumns":1025 => TooMany /skipColumns
+"skipColumns":-1 => BadProperty /skipColumns
+"skipColumns":0.5 => NotSupported /skipColumns
+"skipBlankRows":0 => BadProperty /skipBlankRows
+"skipInitialSpace":"x" => BadProperty /skipInitialSpace
+"trim":"both" => BadProperty /trim
+"trim":1 => BadProperty /trim
+"trim":null => BadProperty /trim
+"trim":1.5 => NotSupported /trim
+"lineTerminators":"\r" => NotSupported /lineTerminators
+"lineTerminators":["\n","\r"] => NotSupported /lineTerminators/1
+"lineTerminators":[] => BadDialect /lineTerminators
+"lineTerminators":"" => NotSupported /lineTerminators
+"lineTerminators":1 => BadProperty /lineTerminators
+"lineTerminators":[1] => BadProperty /lineTerminators/0
+"encoding":"latin1" => NotSupported /encoding
+"encoding":1 => BadProperty /encoding
+"encoding":"" => NotSupported /encoding
+"@id":"_:d" => BadId /@id
+"@type":"Dialects" => BadProperty /@type
+"dc:x":1.5 => NotSupported /dc:x
+"#;
 
 const FRAME: (&str, &str) = (
     r#"{"@context":"http://www.w3.org/ns/csvw","url":"p.csv","dialect":{"#,
@@ -394,14 +96,14 @@ const FRAME: (&str, &str) = (
 
 #[test]
 fn dialects_are_read(rt: HostRuntime) -> Result<(), Fail> {
-    assert_eq!(rt; first_unread(rt.alloc(), FRAME, &ACCEPTED)?, None);
+    assert_eq!(rt; first_unread(rt.alloc(), FRAME, ACCEPTED)?, None);
     Ok(())
 }
 
 #[test]
 fn dialects_are_refused(rt: HostRuntime) -> Result<(), Fail> {
     assert_eq!(rt;
-        first_unrefused(rt.alloc(), FRAME, "/dialect", &REFUSED)?,
+        first_unrefused(rt.alloc(), FRAME, "/dialect", REFUSED)?,
         None
     );
     Ok(())

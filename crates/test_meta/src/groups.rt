@@ -1,173 +1,54 @@
 //! Tests of the properties of a group and of its tables.
-use crate::reading::{Accepted, Refused, first_unread, first_unrefused};
-use csvw_meta_core::MetaCode;
+use crate::reading::{first_unread, first_unrefused};
 use std::test::Fail;
 
 /// The parts that are read, each with its number of warnings.
-static ACCEPTED: [Accepted; 8] = [
-    Accepted {
-        text: r#""tables":[{"url":"p.csv"}]"#,
-        warnings: 0,
-    },
-    Accepted {
-        text: r#""tables":[{"url":"p.csv"},{"url":"q.csv"}],"@type":"TableGroup","@id":"g""#,
-        warnings: 0,
-    },
-    Accepted {
-        text: r#""tables":[{"url":"p.csv"}],"url":"x""#,
-        warnings: 1,
-    },
-    Accepted {
-        text: r#""tables":[{"url":"p.csv"}],"suppressOutput":1"#,
-        warnings: 1,
-    },
-    Accepted {
-        text: r#""tables":[{"url":"p.csv","@context":"http://www.w3.org/ns/csvw"}]"#,
-        warnings: 1,
-    },
-    Accepted {
-        text: r#""tables":[{"url":"p.csv","tables":[]}]"#,
-        warnings: 1,
-    },
-    Accepted {
-        text: r#""tables":[{"url":"p.csv"}],"dialect":{"foo":1},"tableSchema":{"foo":1,"columns":[{"foo":1}]}"#,
-        warnings: 3,
-    },
-    Accepted {
-        text: r#""tables":[{"url":"p.csv"}],"notes":["x"],"dc:title":"T","tableDirection":1,"transformations":1"#,
-        warnings: 0,
-    },
-];
+const ACCEPTED: &str = r#""tables":[{"url":"p.csv"}] => 0
+"tables":[{"url":"p.csv"},{"url":"q.csv"}],"@type":"TableGroup","@id":"g" => 0
+"tables":[{"url":"p.csv"}],"url":"x" => 1
+"tables":[{"url":"p.csv"}],"suppressOutput":1 => 1
+"tables":[{"url":"p.csv","@context":"http://www.w3.org/ns/csvw"}] => 1
+"tables":[{"url":"p.csv","tables":[]}] => 1
+"tables":[{"url":"p.csv"}],"dialect":{"foo":1},"tableSchema":{"foo":1,"columns":[{"foo":1}]} => 3
+"tables":[{"url":"p.csv"}],"notes":["x"],"dc:title":"T","tableDirection":1,"transformations":1 => 0
+"#;
 
-/// The parts that are refused, each with its fault.
-static REFUSED: [Refused; 23] = [
-    Refused {
-        text: r#""tables":[]"#,
-        code: MetaCode::BadProperty,
-        pointer: "/tables",
-    },
-    Refused {
-        text: r#""tables":1"#,
-        code: MetaCode::BadProperty,
-        pointer: "/tables",
-    },
-    Refused {
-        text: r#""tables":{}"#,
-        code: MetaCode::BadProperty,
-        pointer: "/tables",
-    },
-    Refused {
-        text: r#""tables":null"#,
-        code: MetaCode::BadProperty,
-        pointer: "/tables",
-    },
-    Refused {
-        text: r#""tables":1.5"#,
-        code: MetaCode::NotSupported,
-        pointer: "/tables",
-    },
-    Refused {
-        text: r#""tables":[1]"#,
-        code: MetaCode::BadProperty,
-        pointer: "/tables/0",
-    },
-    Refused {
-        text: r#""tables":[1.5]"#,
-        code: MetaCode::NotSupported,
-        pointer: "/tables/0",
-    },
-    Refused {
-        text: r#""tables":[{}]"#,
-        code: MetaCode::BadProperty,
-        pointer: "/tables/0",
-    },
-    Refused {
-        text: r#""tables":[{"url":1}]"#,
-        code: MetaCode::BadProperty,
-        pointer: "/tables/0/url",
-    },
-    Refused {
-        text: r#""tables":[{"url":"p.csv"},{"url":"./p.csv"}]"#,
-        code: MetaCode::DuplicateTable,
-        pointer: "/tables/1/url",
-    },
-    Refused {
-        text: r#""tables":[{"url":"p.csv"},{"url":"q.csv"},{"url":"p.csv#x"}]"#,
-        code: MetaCode::DuplicateTable,
-        pointer: "/tables/2/url",
-    },
-    Refused {
-        text: r#""tables":[{"url":"p.csv"}],"@id":"_:x""#,
-        code: MetaCode::BadId,
-        pointer: "/@id",
-    },
-    Refused {
-        text: r#""tables":[{"url":"p.csv"}],"@id":null"#,
-        code: MetaCode::BadProperty,
-        pointer: "/@id",
-    },
-    Refused {
-        text: r#""tables":[{"url":"p.csv"}],"@type":"Table""#,
-        code: MetaCode::BadProperty,
-        pointer: "/@type",
-    },
-    Refused {
-        text: r#""tables":[{"url":"p.csv"}],"dialect":{"header":1}"#,
-        code: MetaCode::BadProperty,
-        pointer: "/dialect/header",
-    },
-    Refused {
-        text: r#""tables":[{"url":"p.csv","dialect":{}}],"dialect":{"delimiter":";;"}"#,
-        code: MetaCode::NotSupported,
-        pointer: "/dialect/delimiter",
-    },
-    Refused {
-        text: r#""tables":[{"url":"p.csv"}],"tableSchema":{"columns":1}"#,
-        code: MetaCode::BadProperty,
-        pointer: "/tableSchema/columns",
-    },
-    Refused {
-        text: r#""tables":[{"url":"p.csv","tableSchema":{}}],"tableSchema":{"columns":[{"name":"_a"}]}"#,
-        code: MetaCode::BadName,
-        pointer: "/tableSchema/columns/0/name",
-    },
-    Refused {
-        text: r#""tables":[{"url":"p.csv"}],"notes":{}"#,
-        code: MetaCode::BadProperty,
-        pointer: "/notes",
-    },
-    Refused {
-        text: r#""tables":[{"url":"p.csv"}],"dc:x":1.5"#,
-        code: MetaCode::NotSupported,
-        pointer: "/dc:x",
-    },
-    Refused {
-        text: r#""tables":[{"url":"p.csv","dc:x":1.5}]"#,
-        code: MetaCode::NotSupported,
-        pointer: "/tables/0/dc:x",
-    },
-    Refused {
-        text: r#""tables":[{"url":"p.csv","notes":1}]"#,
-        code: MetaCode::BadProperty,
-        pointer: "/tables/0/notes",
-    },
-    Refused {
-        text: r#""tables":[{"url":"p.csv"}],"required":1"#,
-        code: MetaCode::BadProperty,
-        pointer: "/required",
-    },
-];
+/// The parts that are refused, each with the code of its fault and the pointer below the part.
+const REFUSED: &str = r#""tables":[] => BadProperty /tables
+"tables":1 => BadProperty /tables
+"tables":{} => BadProperty /tables
+"tables":null => BadProperty /tables
+"tables":1.5 => NotSupported /tables
+"tables":[1] => BadProperty /tables/0
+"tables":[1.5] => NotSupported /tables/0
+"tables":[{}] => BadProperty /tables/0
+"tables":[{"url":1}] => BadProperty /tables/0/url
+"tables":[{"url":"p.csv"},{"url":"./p.csv"}] => DuplicateTable /tables/1/url
+"tables":[{"url":"p.csv"},{"url":"q.csv"},{"url":"p.csv#x"}] => DuplicateTable /tables/2/url
+"tables":[{"url":"p.csv"}],"@id":"_:x" => BadId /@id
+"tables":[{"url":"p.csv"}],"@id":null => BadProperty /@id
+"tables":[{"url":"p.csv"}],"@type":"Table" => BadProperty /@type
+"tables":[{"url":"p.csv"}],"dialect":{"header":1} => BadProperty /dialect/header
+"tables":[{"url":"p.csv","dialect":{}}],"dialect":{"delimiter":";;"} => NotSupported /dialect/delimiter
+"tables":[{"url":"p.csv"}],"tableSchema":{"columns":1} => BadProperty /tableSchema/columns
+"tables":[{"url":"p.csv","tableSchema":{}}],"tableSchema":{"columns":[{"name":"_a"}]} => BadName /tableSchema/columns/0/name
+"tables":[{"url":"p.csv"}],"notes":{} => BadProperty /notes
+"tables":[{"url":"p.csv"}],"dc:x":1.5 => NotSupported /dc:x
+"tables":[{"url":"p.csv","dc:x":1.5}] => NotSupported /tables/0/dc:x
+"tables":[{"url":"p.csv","notes":1}] => BadProperty /tables/0/notes
+"tables":[{"url":"p.csv"}],"required":1 => BadProperty /required
+"#;
 
 const FRAME: (&str, &str) = (r#"{"@context":"http://www.w3.org/ns/csvw","#, r#"}"#);
 
 #[test]
 fn groups_are_read(rt: HostRuntime) -> Result<(), Fail> {
-    assert_eq!(rt; first_unread(rt.alloc(), FRAME, &ACCEPTED)?, None);
+    assert_eq!(rt; first_unread(rt.alloc(), FRAME, ACCEPTED)?, None);
     Ok(())
 }
 
 #[test]
 fn groups_are_refused(rt: HostRuntime) -> Result<(), Fail> {
-    assert_eq!(rt; first_unrefused(rt.alloc(), FRAME, "", &REFUSED)?, None);
+    assert_eq!(rt; first_unrefused(rt.alloc(), FRAME, "", REFUSED)?, None);
     Ok(())
 }

@@ -152,18 +152,25 @@ fn push_times(text: &mut String, part: &str, count: usize) -> Result<(), AllocEr
     Ok(())
 }
 
-fn push_nested(text: &mut String, count: usize) -> Result<(), AllocError> {
+/// The text before and after a value of the annotation that is inside another.
+type Nest = (&'static str, &'static str);
+
+const OBJECTS: Nest = (r#"{"dc:x":"#, "}");
+
+const ARRAYS: Nest = ("[", "]");
+
+fn push_nested(text: &mut String, nest: Nest, count: usize) -> Result<(), AllocError> {
     text.push_str(r#"{"@context":"http://www.w3.org/ns/csvw","url":"p.csv","dc:x":"#)?;
-    push_times(text, r#"{"dc:x":"#, count)?;
+    push_times(text, nest.0, count)?;
     text.push_str("1")?;
-    push_times(text, "}", count)?;
+    push_times(text, nest.1, count)?;
     text.push_str("}")
 }
 
-/// Returns a document whose annotation is so many objects, one inside another.
-fn nested(alloc: Global, count: usize) -> Result<String, AllocError> {
+/// Returns a document whose annotation is so many values, one inside another.
+fn nested(alloc: Global, nest: Nest, count: usize) -> Result<String, AllocError> {
     let mut text = String::new(alloc);
-    push_nested(&mut text, count)?;
+    push_nested(&mut text, nest, count)?;
     Ok(text)
 }
 
@@ -203,21 +210,23 @@ fn documents_end_at_their_limits(rt: HostRuntime) -> Result<(), Fail> {
     Ok(())
 }
 
-fn nests(alloc: Global, count: usize) -> Result<bool, AllocError> {
-    let text = nested(alloc, count)?;
+fn nests(alloc: Global, nest: Nest, count: usize) -> Result<bool, AllocError> {
+    let text = nested(alloc, nest, count)?;
     Ok(is_read(alloc, text.as_str()))
 }
 
-fn nests_too_deep(alloc: Global, count: usize) -> Result<bool, AllocError> {
-    let text = nested(alloc, count)?;
+fn nests_too_deep(alloc: Global, nest: Nest, count: usize) -> Result<bool, AllocError> {
+    let text = nested(alloc, nest, count)?;
     Ok(is_refused(alloc, text.as_str(), (MetaCode::NotJson, "")))
 }
 
 #[test]
-fn objects_nest_up_to_their_limit(rt: HostRuntime) -> Result<(), Fail> {
+fn values_nest_up_to_their_limit(rt: HostRuntime) -> Result<(), Fail> {
     let alloc = rt.alloc();
-    assert!(rt; nests(alloc, 126)?);
-    assert!(rt; nests_too_deep(alloc, 127)?);
+    assert!(rt; nests(alloc, OBJECTS, 126)?);
+    assert!(rt; nests_too_deep(alloc, OBJECTS, 127)?);
+    assert!(rt; nests(alloc, ARRAYS, 126)?);
+    assert!(rt; nests_too_deep(alloc, ARRAYS, 127)?);
     Ok(())
 }
 

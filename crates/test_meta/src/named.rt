@@ -27,6 +27,9 @@ fn is_fault(described: Result<Description, MetaFault>, code: MetaCode, pointer: 
 /// A document that is read.
 const DOCUMENT: &str = r#"{"@context":"http://www.w3.org/ns/csvw","url":"p.csv"}"#;
 
+/// The document with white space around its tokens.
+const SPACED: &str = " \r\n{\"@context\" : \"http://www.w3.org/ns/csvw\"\t,\n\"url\":\"p.csv\"}\n";
+
 /// A document without a table.
 const NO_TABLE: &str = r#"{"@context":"http://www.w3.org/ns/csvw"}"#;
 
@@ -35,6 +38,8 @@ fn documents_are_read(rt: HostRuntime) {
     let alloc = rt.alloc();
     let base = "http://example.org/m.json";
     let read = Description::read(alloc, DOCUMENT.as_bytes(), base);
+    assert!(rt; is_of_table(read, "http://example.org/p.csv"));
+    let read = Description::read(alloc, SPACED.as_bytes(), base);
     assert!(rt; is_of_table(read, "http://example.org/p.csv"));
     let read = Description::read(alloc, NO_TABLE.as_bytes(), base);
     assert!(rt; is_fault(read, MetaCode::BadProperty, ""));

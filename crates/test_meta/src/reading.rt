@@ -1,32 +1,12 @@
 //! Checks of whole documents: that they are read, or refused with a fault.
-ghost use Rattle.std.specs.Prelude.{map, IfOk, IfSome};
-ghost use Rattle.std.specs.List.{Contains};
 
 use csvw_description::Description;
 use csvw_meta::read;
-use csvw_meta_core::MetaCode;
+use csvw_meta_core::{MetaCode, MetaFault};
 use std::alloc::{AllocError, Global};
 
 /// The URL of each document.
 const URL: &str = "http://example.org/m.json";
-
-/// A part of a document that is read.
-pub struct Accepted {
-    /// The part.
-    pub text: &'static str,
-    /// The number of its properties that are ignored with a warning.
-    pub warnings: usize,
-}
-
-/// A part of a document that is refused.
-pub struct Refused {
-    /// The part.
-    pub text: &'static str,
-    /// The code of its fault.
-    pub code: MetaCode,
-    /// The pointer of its fault, below the part.
-    pub pointer: &'static str,
-}
 
 fn count_in_schema(described: &Description) -> usize {
     let mut count = 0usize;
@@ -77,55 +57,70 @@ pub(crate) fn is_refused(alloc: Global, text: &str, fault: (MetaCode, &str)) -> 
     }
 }
 
-/// Whether the document with that part between the two texts is read with the right number of warnings.
-fn accepts(alloc: Global, frame: (&str, &str), case: &Accepted) -> Result<bool, AllocError> {
-    let text = document(alloc, frame, case.text)?;
-    Ok(warnings(alloc, text.as_str()) == Some(case.warnings))
+/// Whether the document with the part of a line between the two texts is read with the number of warnings of the line.
+fn accepts(alloc: Global, frame: (&str, &str), line: &str) -> Result<bool, AllocError> {
+    let Some((part, expected)) = line.split_once(" => ") else {
+        return Ok(false);
+    };
+    let text = document(alloc, frame, part)?;
+    let Some(found) = warnings(alloc, text.as_str()) else {
+        return Ok(false);
+    };
+    Ok(expected.parse::<usize>() == Ok(found))
 }
 
-/// Whether the document with that part between the two texts is refused with its fault. The pointer begins with `at`.
-fn refuses(
+/// Whether a fault is that of a line: a code, and a pointer that follows `at`.
+fn is_fault(
     alloc: Global,
-    frame: (&str, &str),
     at: &str,
-    case: &Refused,
+    fault: &MetaFault,
+    expected: &str,
 ) -> Result<bool, AllocError> {
-    let below = case.pointer;
+    let (code, below) = expected.split_once(' ').unwrap_or((expected, ""));
     let pointer = format!(in alloc; "{at}{below}")?;
-    let text = document(alloc, frame, case.text)?;
-    Ok(is_refused(alloc, text.as_str(), (case.code, pointer.as_str())))
+    Ok(fault.code.name() == code && fault.pointer.as_str() == pointer.as_str())
 }
 
-/// Returns the first part with which the document is not read with the right number of warnings, or `None`. The part is
-/// put between the two texts. It returns `AllocError` if there is no memory.
+/// Whether the document with the part of a line between the two texts is refused with the fault of the line. The pointer
+/// begins with `at`.
+fn refuses(alloc: Global, frame: (&str, &str), at: &str, line: &str) -> Result<bool, AllocError> {
+    let Some((part, expected)) = line.split_once(" => ") else {
+        return Ok(false);
+    };
+    let text = document(alloc, frame, part)?;
+    match read(alloc, text.as_bytes(), URL) {
+        Ok(_) => Ok(false),
+        Err(fault) => is_fault(alloc, at, &fault, expected),
+    }
+}
+
+/// Returns the first line whose document isn't read with the right number of warnings, or `None`. A line is a part of a
+/// document, ` => ` and a number. The part is put between the two texts. It returns `AllocError` if there is no memory.
 pub fn first_unread(
     alloc: Global,
     frame: (&str, &str),
-    cases: &[Accepted],
-) -> Result<Option<&'static str>, AllocError>
-    ensures { IfOk result (λ found. IfSome found (λ text. Contains (map (λ case. case.text) cases.now) text)) }
-{
-    for case in cases {
-        if !accepts(alloc, frame, case)? {
-            return Ok(Some(case.text));
+    lines: &'static str,
+) -> Result<Option<&'static str>, AllocError> {
+    for line in lines.lines() {
+        if !accepts(alloc, frame, line)? {
+            return Ok(Some(line));
         }
     }
     Ok(None)
 }
 
-/// Returns the first part with which the document is not refused with its fault, or `None`. The part is put between the
-/// two texts, and the pointer of the fault begins with `at`. It returns `AllocError` if there is no memory.
+/// Returns the first line whose document isn't refused with its fault, or `None`. A line is a part of a document, ` => `, a
+/// code, and the pointer below `at` if there is one. The part is put between the two texts. It returns `AllocError` if there
+/// is no memory.
 pub fn first_unrefused(
     alloc: Global,
     frame: (&str, &str),
     at: &str,
-    cases: &[Refused],
-) -> Result<Option<&'static str>, AllocError>
-    ensures { IfOk result (λ found. IfSome found (λ text. Contains (map (λ case. case.text) cases.now) text)) }
-{
-    for case in cases {
-        if !refuses(alloc, frame, at, case)? {
-            return Ok(Some(case.text));
+    lines: &'static str,
+) -> Result<Option<&'static str>, AllocError> {
+    for line in lines.lines() {
+        if !refuses(alloc, frame, at, line)? {
+            return Ok(Some(line));
         }
     }
     Ok(None)

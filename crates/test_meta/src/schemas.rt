@@ -1,185 +1,48 @@
 //! Tests of the properties of a schema.
-use crate::reading::{Accepted, Refused, first_unread, first_unrefused};
-use csvw_meta_core::MetaCode;
+use crate::reading::{first_unread, first_unrefused};
 use std::test::Fail;
 
 /// The parts that are read, each with its number of warnings.
-static ACCEPTED: [Accepted; 10] = [
-    Accepted {
-        text: r#""#,
-        warnings: 0,
-    },
-    Accepted {
-        text: r#""columns":[]"#,
-        warnings: 0,
-    },
-    Accepted {
-        text: r#""columns":[{},{}]"#,
-        warnings: 0,
-    },
-    Accepted {
-        text: r#""@id":"s","@type":"Schema""#,
-        warnings: 0,
-    },
-    Accepted {
-        text: r#""notes":[]"#,
-        warnings: 1,
-    },
-    Accepted {
-        text: r#""name":"x""#,
-        warnings: 1,
-    },
-    Accepted {
-        text: r#""dc:x":{"y":1}"#,
-        warnings: 1,
-    },
-    Accepted {
-        text: r#""dc:x":[{"y":1},{"z":2,"dc:w":{"v":1}}]"#,
-        warnings: 3,
-    },
-    Accepted {
-        text: r#""columns":[{"name":"a"},{"virtual":true},{"virtual":true}]"#,
-        warnings: 0,
-    },
-    Accepted {
-        text: r#""foreignKeys":[]"#,
-        warnings: 0,
-    },
-];
+const ACCEPTED: &str = r#" => 0
+"columns":[] => 0
+"columns":[{},{}] => 0
+"@id":"s","@type":"Schema" => 0
+"notes":[] => 1
+"name":"x" => 1
+"dc:x":{"y":1} => 1
+"dc:x":[{"y":1},{"z":2,"dc:w":{"v":1}}] => 3
+"columns":[{"name":"a"},{"virtual":true},{"virtual":true}] => 0
+"foreignKeys":[] => 0
+"#;
 
-/// The parts that are refused, each with its fault.
-static REFUSED: [Refused; 26] = [
-    Refused {
-        text: r#""columns":1"#,
-        code: MetaCode::BadProperty,
-        pointer: "/columns",
-    },
-    Refused {
-        text: r#""columns":{}"#,
-        code: MetaCode::BadProperty,
-        pointer: "/columns",
-    },
-    Refused {
-        text: r#""columns":null"#,
-        code: MetaCode::BadProperty,
-        pointer: "/columns",
-    },
-    Refused {
-        text: r#""columns":[1]"#,
-        code: MetaCode::BadProperty,
-        pointer: "/columns/0",
-    },
-    Refused {
-        text: r#""columns":[1.5]"#,
-        code: MetaCode::NotSupported,
-        pointer: "/columns/0",
-    },
-    Refused {
-        text: r#""columns":["a"]"#,
-        code: MetaCode::BadProperty,
-        pointer: "/columns/0",
-    },
-    Refused {
-        text: r#""@id":"_:s""#,
-        code: MetaCode::BadId,
-        pointer: "/@id",
-    },
-    Refused {
-        text: r#""@id":1"#,
-        code: MetaCode::BadProperty,
-        pointer: "/@id",
-    },
-    Refused {
-        text: r#""@type":"Table""#,
-        code: MetaCode::BadProperty,
-        pointer: "/@type",
-    },
-    Refused {
-        text: r#""rowTitles":"a""#,
-        code: MetaCode::NotSupported,
-        pointer: "/rowTitles",
-    },
-    Refused {
-        text: r#""rowTitles":1"#,
-        code: MetaCode::NotSupported,
-        pointer: "/rowTitles",
-    },
-    Refused {
-        text: r#""dc:x":1.5"#,
-        code: MetaCode::NotSupported,
-        pointer: "/dc:x",
-    },
-    Refused {
-        text: r#""1:x":1"#,
-        code: MetaCode::BadProperty,
-        pointer: "/1:x",
-    },
-    Refused {
-        text: r#""dc:x":{"@list":[]}"#,
-        code: MetaCode::NotSupported,
-        pointer: "/dc:x/@list",
-    },
-    Refused {
-        text: r#""columns":[{"name":"n"},{"name":"n"}]"#,
-        code: MetaCode::DuplicateName,
-        pointer: "/columns/1",
-    },
-    Refused {
-        text: r#""columns":[{"name":"n"},{"titles":"n"}]"#,
-        code: MetaCode::DuplicateName,
-        pointer: "/columns/1",
-    },
-    Refused {
-        text: r#""columns":[{"titles":"a b"},{"name":"a%20b"}]"#,
-        code: MetaCode::DuplicateName,
-        pointer: "/columns/1",
-    },
-    Refused {
-        text: r#""columns":[{},{"titles":"_col.1"}]"#,
-        code: MetaCode::DuplicateName,
-        pointer: "/columns/1",
-    },
-    Refused {
-        text: r#""columns":[{"virtual":true},{"name":"a"}]"#,
-        code: MetaCode::VirtualOrder,
-        pointer: "/columns/1",
-    },
-    Refused {
-        text: r#""columns":[{"name":"a"},{"virtual":true},{"virtual":true},{"name":"b"}]"#,
-        code: MetaCode::VirtualOrder,
-        pointer: "/columns/3",
-    },
-    Refused {
-        text: r#""primaryKey":[]"#,
-        code: MetaCode::BadProperty,
-        pointer: "/primaryKey",
-    },
-    Refused {
-        text: r#""primaryKey":1"#,
-        code: MetaCode::BadProperty,
-        pointer: "/primaryKey",
-    },
-    Refused {
-        text: r#""foreignKeys":1"#,
-        code: MetaCode::BadProperty,
-        pointer: "/foreignKeys",
-    },
-    Refused {
-        text: r#""foreignKeys":[1]"#,
-        code: MetaCode::BadProperty,
-        pointer: "/foreignKeys/0",
-    },
-    Refused {
-        text: r#""lang":1"#,
-        code: MetaCode::BadProperty,
-        pointer: "/lang",
-    },
-    Refused {
-        text: r#""valueUrl":"{}""#,
-        code: MetaCode::BadTemplate,
-        pointer: "/valueUrl",
-    },
-];
+/// The parts that are refused, each with the code of its fault and the pointer below the part.
+const REFUSED: &str = r#""columns":1 => BadProperty /columns
+"columns":{} => BadProperty /columns
+"columns":null => BadProperty /columns
+"columns":[1] => BadProperty /columns/0
+"columns":[1.5] => NotSupported /columns/0
+"columns":["a"] => BadProperty /columns/0
+"@id":"_:s" => BadId /@id
+"@id":1 => BadProperty /@id
+"@type":"Table" => BadProperty /@type
+"rowTitles":"a" => NotSupported /rowTitles
+"rowTitles":1 => NotSupported /rowTitles
+"dc:x":1.5 => NotSupported /dc:x
+"1:x":1 => BadProperty /1:x
+"dc:x":{"@list":[]} => NotSupported /dc:x/@list
+"columns":[{"name":"n"},{"name":"n"}] => DuplicateName /columns/1
+"columns":[{"name":"n"},{"titles":"n"}] => DuplicateName /columns/1
+"columns":[{"titles":"a b"},{"name":"a%20b"}] => DuplicateName /columns/1
+"columns":[{},{"titles":"_col.1"}] => DuplicateName /columns/1
+"columns":[{"virtual":true},{"name":"a"}] => VirtualOrder /columns/1
+"columns":[{"name":"a"},{"virtual":true},{"virtual":true},{"name":"b"}] => VirtualOrder /columns/3
+"primaryKey":[] => BadProperty /primaryKey
+"primaryKey":1 => BadProperty /primaryKey
+"foreignKeys":1 => BadProperty /foreignKeys
+"foreignKeys":[1] => BadProperty /foreignKeys/0
+"lang":1 => BadProperty /lang
+"valueUrl":"{}" => BadTemplate /valueUrl
+"#;
 
 const FRAME: (&str, &str) = (
     r#"{"@context":"http://www.w3.org/ns/csvw","url":"p.csv","tableSchema":{"#,
@@ -188,14 +51,14 @@ const FRAME: (&str, &str) = (
 
 #[test]
 fn schemas_are_read(rt: HostRuntime) -> Result<(), Fail> {
-    assert_eq!(rt; first_unread(rt.alloc(), FRAME, &ACCEPTED)?, None);
+    assert_eq!(rt; first_unread(rt.alloc(), FRAME, ACCEPTED)?, None);
     Ok(())
 }
 
 #[test]
 fn schemas_are_refused(rt: HostRuntime) -> Result<(), Fail> {
     assert_eq!(rt;
-        first_unrefused(rt.alloc(), FRAME, "/tableSchema", &REFUSED)?,
+        first_unrefused(rt.alloc(), FRAME, "/tableSchema", REFUSED)?,
         None
     );
     Ok(())

@@ -127,7 +127,8 @@ pub(crate) static CASES: [Case; 6] = [
             text: b"id,u\n7,a b%20|\n",
             rows: &[Row {
                 at: 15,
-                lines: "<http://example.org/p.csv#7> <http://example.org/p.csv#id> \"7\" .\n<http://example.org/p.csv#7> <http://schema.org/name> <http://x.org/a%20b%20%7C> .\n",
+                lines: "<http://example.org/p.csv#7> <http://example.org/p.csv#id> \"7\" .\n\
+                    <http://example.org/p.csv#7> <http://schema.org/name> <http://x.org/a%20b%20%7C> .\n",
             }],
         }],
         faults: "",

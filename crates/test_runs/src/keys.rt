@@ -15,7 +15,7 @@ struct Case {
     faults: &'static str,
 }
 
-static CASES: [Case; 17] = [
+static CASES: [Case; 21] = [
     Case {
         about: "Numbers are compared as values, and a reference over whole tables.",
         meta: r#"{"@context":"http://www.w3.org/ns/csvw","tables":[{"url":"a.csv",
@@ -56,6 +56,54 @@ static CASES: [Case; 17] = [
             "reference":{"resource":"p.csv","columnReference":"k"}}]}}"#,
         texts: &["k,parent\n1,1\n2,9\n"],
         faults: "error,NoReferencedRow,1,3,2\nerror,NoReferencedRow,1,3,2\n",
+    },
+    Case {
+        about: "Foreign keys in the same columns, to two tables.",
+        meta: r#"{"@context":"http://www.w3.org/ns/csvw","tables":[{"url":"a.csv",
+            "tableSchema":{"columns":[{"name":"x"},{"name":"y"}],"foreignKeys":[{"columnReference":["x","y"],
+            "reference":{"resource":"b.csv","columnReference":["u","v"]}},{"columnReference":["x","y"],
+            "reference":{"resource":"c.csv","columnReference":["s","t"]}}]}},
+            {"url":"b.csv","tableSchema":{"columns":[{"name":"u"},{"name":"v"}]}},
+            {"url":"c.csv","tableSchema":{"columns":[{"name":"s"},{"name":"t"}]}}]}"#,
+        texts: &[
+            "x,y\n1,1\n2,2\n,\n3,3\n",
+            "u,v\n1,1\n2,2\n2,2\n",
+            "s,t\n2,2\n3,3\n3,3\n",
+        ],
+        faults: "error,NoReferencedRow,1,2,1\nerror,ManyReferencedRows,1,3,1\n\
+            error,NoReferencedRow,1,5,1\nerror,ManyReferencedRows,1,5,1\n",
+    },
+    Case {
+        about: "Two equal foreign keys of two columns, with both kinds of faults.",
+        meta: r#"{"@context":"http://www.w3.org/ns/csvw","tables":[{"url":"a.csv",
+            "tableSchema":{"columns":[{"name":"x"},{"name":"y"}],"foreignKeys":[{"columnReference":["x","y"],
+            "reference":{"resource":"b.csv","columnReference":["u","v"]}},{"columnReference":["x","y"],
+            "reference":{"resource":"b.csv","columnReference":["u","v"]}}]}},
+            {"url":"b.csv","tableSchema":{"columns":[{"name":"u"},{"name":"v"}]}}]}"#,
+        texts: &["x,y\n1,1\n2,2\n3,3\n", "u,v\n2,2\n3,3\n2,2\n"],
+        faults: "error,NoReferencedRow,1,2,1\nerror,NoReferencedRow,1,2,1\n\
+            error,ManyReferencedRows,1,3,1\nerror,ManyReferencedRows,1,3,1\n",
+    },
+    Case {
+        about: "The same columns in another order are another key.",
+        meta: r#"{"@context":"http://www.w3.org/ns/csvw","tables":[{"url":"a.csv",
+            "tableSchema":{"columns":[{"name":"x"},{"name":"y"}],"foreignKeys":[{"columnReference":["x","y"],
+            "reference":{"resource":"b.csv","columnReference":["u","v"]}},{"columnReference":["y","x"],
+            "reference":{"resource":"b.csv","columnReference":["u","v"]}}]}},
+            {"url":"b.csv","tableSchema":{"columns":[{"name":"u"},{"name":"v"}]}}]}"#,
+        texts: &["x,y\n1,2\n4,3\n", "u,v\n1,2\n3,4\n"],
+        faults: "error,NoReferencedRow,1,2,2\nerror,NoReferencedRow,1,3,1\n",
+    },
+    Case {
+        about: "Two tables refer by columns of the same numbers.",
+        meta: r#"{"@context":"http://www.w3.org/ns/csvw","tables":[{"url":"a.csv",
+            "tableSchema":{"columns":[{"name":"x"}],
+            "foreignKeys":[{"columnReference":"x","reference":{"resource":"c.csv","columnReference":"k"}}]}},
+            {"url":"b.csv","tableSchema":{"columns":[{"name":"x"}],
+            "foreignKeys":[{"columnReference":"x","reference":{"resource":"c.csv","columnReference":"k"}}]}},
+            {"url":"c.csv","tableSchema":{"columns":[{"name":"k"}]}}]}"#,
+        texts: &["x\n1\n2\n", "x\n3\n1\n", "k\n1\n"],
+        faults: "error,NoReferencedRow,1,3,1\nerror,NoReferencedRow,2,2,1\n",
     },
     Case {
         about: "A key of two columns is broken where both are equal.",

@@ -35,6 +35,8 @@ mod runs;
 #[cfg(test)]
 mod standard;
 #[cfg(test)]
+mod wide;
+#[cfg(test)]
 mod worked;
 
 pub use running::{Ran, run_over};

@@ -16,6 +16,8 @@ mod iri_limits;
 #[cfg(test)]
 mod iris;
 #[cfg(test)]
+mod limited;
+#[cfg(test)]
 mod limits;
 #[cfg(test)]
 mod links;

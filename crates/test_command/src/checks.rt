@@ -1,0 +1,180 @@
+//! Checks of groups, and explanations of codes.
+
+use crate::runs::Sent::{Just, SomeText};
+use crate::runs::{Case, End, File, META, each_ends_so};
+
+const CHECK: &[&str] = &[
+    "csvw",
+    "check",
+    "--base",
+    "http://example.org/",
+    "m.json",
+    "p.csv",
+];
+
+const TYPED: &[u8] =
+    br#"{"@context":"http://www.w3.org/ns/csvw","url":"p.csv","tableSchema":{"columns":[{"name":"id","required":true},{"name":"n","datatype":"integer"}]}}"#;
+
+const FAULTS: &[u8] =
+    br#"p.csv:2 (row 1), column 1 "id": Required: "": a cell that is required has no value: fill it in
+    ,1\u000A2
+    ^
+p.csv:2 (row 1), column 2 "n": BadInteger: "1\u000A2": the text is no integer: write digits, with a sign where needed
+    ,1\u000A2
+     ^^^^^^^^
+    datatype integer
+p.csv:4 (row 2), column 2 "n": BadInteger: "x": the text is no integer: write digits, with a sign where needed
+    7,x
+      ^
+    datatype integer
+table 1: p.csv: 3 records
+  Required: 1 in table 1, column 1
+  BadInteger: 2 in table 1, column 2
+not valid
+"#;
+
+const RAGGED: &[u8] =
+    b"p.csv:2: RaggedRow: the row doesn't have one field for each column: add or remove fields; for a blank line write `skipBlankRows`
+    the row has 2 fields
+table 1: p.csv: 2 records
+not read to its end
+";
+
+const MISSING: &[u8] =
+    b"p.csv: Read: the file can't be opened or read: correct its path, or its permissions
+table 1: p.csv: 0 records
+not read to its end
+";
+
+static CHECKS: [Case; 5] = [
+    Case {
+        what: "a valid group",
+        words: CHECK,
+        files: &[
+            File {
+                path: "m.json",
+                bytes: META,
+            },
+            File {
+                path: "p.csv",
+                bytes: b"id\n1\n",
+            },
+        ],
+        end: End {
+            status: 0,
+            out: Just(b"table 1: p.csv: 2 records\nvalid\n"),
+            err: Just(b""),
+        },
+    },
+    Case {
+        what: "faults of cells, with their lines",
+        words: CHECK,
+        files: &[
+            File {
+                path: "m.json",
+                bytes: TYPED,
+            },
+            File {
+                path: "p.csv",
+                bytes: b"id,n\n,\"1\n2\"\n7,x\n",
+            },
+        ],
+        end: End {
+            status: 1,
+            out: Just(FAULTS),
+            err: Just(b""),
+        },
+    },
+    Case {
+        what: "a stop",
+        words: CHECK,
+        files: &[
+            File {
+                path: "m.json",
+                bytes: META,
+            },
+            File {
+                path: "p.csv",
+                bytes: b"id\n1,2\n",
+            },
+        ],
+        end: End {
+            status: 3,
+            out: Just(RAGGED),
+            err: Just(b""),
+        },
+    },
+    Case {
+        what: "a document without a context",
+        words: CHECK,
+        files: &[File {
+            path: "m.json",
+            bytes: b"{}",
+        }],
+        end: End {
+            status: 3,
+            out: Just(
+                b"m.json:1:1: BadContext: `@context` is not that of CSVW: `http://www.w3.org/ns/csvw`\n",
+            ),
+            err: Just(b""),
+        },
+    },
+    Case {
+        what: "a file beside the document that isn't there",
+        words: &["csvw", "check", "m.json"],
+        files: &[File {
+            path: "m.json",
+            bytes: META,
+        }],
+        end: End {
+            status: 4,
+            out: Just(MISSING),
+            err: Just(b""),
+        },
+    },
+];
+
+#[test]
+fn groups_are_checked(rt: HostRuntime) {
+    each_ends_so(&rt, rt.alloc(), &CHECKS);
+}
+
+static EXPLANATIONS: [Case; 3] = [
+    Case {
+        what: "all codes",
+        words: &["csvw", "explain"],
+        files: &[],
+        end: End {
+            status: 0,
+            out: SomeText,
+            err: Just(b""),
+        },
+    },
+    Case {
+        what: "a code",
+        words: &["csvw", "explain", "Write"],
+        files: &[],
+        end: End {
+            status: 0,
+            out: Just(
+                b"Write (stop)\n\nA write to standard output or standard error failed, as on a full disk or a broken pipe.\n\nInstead: Make room where the output goes, and begin anew.\n\n",
+            ),
+            err: Just(b""),
+        },
+    },
+    Case {
+        what: "a code that there isn't",
+        words: &["csvw", "explain", "Nothing"],
+        files: &[],
+        end: End {
+            status: 2,
+            out: Just(b""),
+            err: Just(b"csvw: there is no such code; `csvw explain` lists them\n"),
+        },
+    },
+];
+
+#[test]
+fn codes_are_explained(rt: HostRuntime) {
+    each_ends_so(&rt, rt.alloc(), &EXPLANATIONS);
+}
