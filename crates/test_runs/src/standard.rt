@@ -4,30 +4,6 @@ use crate::runs::{AMPLE, Case, End, each_leaves, leaves};
 use csvw_triples_core::Mode;
 
 static CASES: [Case; 7] = [
-    // an empty cell has the default as its value, and a null cell has none
-    Case {
-        meta: r#"{"@context":"http://www.w3.org/ns/csvw","url":"p.csv","tableSchema":{"columns":[{"name":"n","datatype":"integer","null":["","NA"],"default":"0"}]}}"#,
-        texts: &[b"n\n\nNA\n"],
-        end: End::Report,
-        graph: concat!(
-            "_:g <http://www.w3.org/1999/02/22-rdf-syntax-ns#type> <http://www.w3.org/ns/csvw#TableGroup> .\n",
-            "_:g <http://www.w3.org/ns/csvw#table> _:t1 .\n",
-            "_:t1 <http://www.w3.org/1999/02/22-rdf-syntax-ns#type> <http://www.w3.org/ns/csvw#Table> .\n",
-            "_:t1 <http://www.w3.org/ns/csvw#url> <http://example.org/p.csv> .\n",
-            "_:t1 <http://www.w3.org/ns/csvw#row> _:t1r1 .\n",
-            "_:t1r1 <http://www.w3.org/1999/02/22-rdf-syntax-ns#type> <http://www.w3.org/ns/csvw#Row> .\n",
-            "_:t1r1 <http://www.w3.org/ns/csvw#rownum> \"1\"^^<http://www.w3.org/2001/XMLSchema#integer> .\n",
-            "_:t1r1 <http://www.w3.org/ns/csvw#url> <http://example.org/p.csv#row=2> .\n",
-            "_:t1r1 <http://www.w3.org/ns/csvw#describes> _:t1r1s .\n",
-            "_:t1r1s <http://example.org/p.csv#n> \"0\"^^<http://www.w3.org/2001/XMLSchema#integer> .\n",
-            "_:t1 <http://www.w3.org/ns/csvw#row> _:t1r2 .\n",
-            "_:t1r2 <http://www.w3.org/1999/02/22-rdf-syntax-ns#type> <http://www.w3.org/ns/csvw#Row> .\n",
-            "_:t1r2 <http://www.w3.org/ns/csvw#rownum> \"2\"^^<http://www.w3.org/2001/XMLSchema#integer> .\n",
-            "_:t1r2 <http://www.w3.org/ns/csvw#url> <http://example.org/p.csv#row=3> .\n",
-            "_:t1r2 <http://www.w3.org/ns/csvw#describes> _:t1r2s .\n",
-        ),
-        faults: "",
-    },
     // a header alone
     Case {
         meta: r#"{"@context":"http://www.w3.org/ns/csvw","url":"p.csv"}"#,
@@ -128,6 +104,30 @@ static CASES: [Case; 7] = [
     Case {
         meta: r#"{"@context":"http://www.w3.org/ns/csvw","url":"p.csv","tableSchema":{"columns":[{"name":"n","datatype":"integer",
             "null":["","NA"],"default":"0"}]}}"#,
+        texts: &[b"n\n\nNA\n"],
+        end: End::Report,
+        graph: concat!(
+            "_:g <http://www.w3.org/1999/02/22-rdf-syntax-ns#type> <http://www.w3.org/ns/csvw#TableGroup> .\n",
+            "_:g <http://www.w3.org/ns/csvw#table> _:t1 .\n",
+            "_:t1 <http://www.w3.org/1999/02/22-rdf-syntax-ns#type> <http://www.w3.org/ns/csvw#Table> .\n",
+            "_:t1 <http://www.w3.org/ns/csvw#url> <http://example.org/p.csv> .\n",
+            "_:t1 <http://www.w3.org/ns/csvw#row> _:t1r1 .\n",
+            "_:t1r1 <http://www.w3.org/1999/02/22-rdf-syntax-ns#type> <http://www.w3.org/ns/csvw#Row> .\n",
+            "_:t1r1 <http://www.w3.org/ns/csvw#rownum> \"1\"^^<http://www.w3.org/2001/XMLSchema#integer> .\n",
+            "_:t1r1 <http://www.w3.org/ns/csvw#url> <http://example.org/p.csv#row=2> .\n",
+            "_:t1r1 <http://www.w3.org/ns/csvw#describes> _:t1r1s .\n",
+            "_:t1r1s <http://example.org/p.csv#n> \"0\"^^<http://www.w3.org/2001/XMLSchema#integer> .\n",
+            "_:t1 <http://www.w3.org/ns/csvw#row> _:t1r2 .\n",
+            "_:t1r2 <http://www.w3.org/1999/02/22-rdf-syntax-ns#type> <http://www.w3.org/ns/csvw#Row> .\n",
+            "_:t1r2 <http://www.w3.org/ns/csvw#rownum> \"2\"^^<http://www.w3.org/2001/XMLSchema#integer> .\n",
+            "_:t1r2 <http://www.w3.org/ns/csvw#url> <http://example.org/p.csv#row=3> .\n",
+            "_:t1r2 <http://www.w3.org/ns/csvw#describes> _:t1r2s .\n",
+        ),
+        faults: "",
+    },
+    // an empty cell has the default as its value, and a null cell has none
+    Case {
+        meta: r#"{"@context":"http://www.w3.org/ns/csvw","url":"p.csv","tableSchema":{"columns":[{"name":"n","datatype":"integer","null":["","NA"],"default":"0"}]}}"#,
         texts: &[b"n\n\nNA\n"],
         end: End::Report,
         graph: concat!(
