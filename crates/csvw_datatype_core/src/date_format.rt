@@ -32,6 +32,28 @@ impl DateFormat {
             _ => None,
         }
     }
+
+    /// Returns the pattern of the format, which `of` reads.
+    pub fn pattern(self) -> &'static str
+        ensures { result.now ≡ date_pattern self }
+    {
+        match self {
+            DateFormat::YearFirst => "yyyy-MM-dd",
+            DateFormat::Compact => "yyyyMMdd",
+            DateFormat::DayFirst(FieldDigits::Two, Separator::Dash) => "dd-MM-yyyy",
+            DateFormat::DayFirst(FieldDigits::Two, Separator::Slash) => "dd/MM/yyyy",
+            DateFormat::DayFirst(FieldDigits::Two, Separator::Dot) => "dd.MM.yyyy",
+            DateFormat::DayFirst(FieldDigits::OneOrTwo, Separator::Dash) => "d-M-yyyy",
+            DateFormat::DayFirst(FieldDigits::OneOrTwo, Separator::Slash) => "d/M/yyyy",
+            DateFormat::DayFirst(FieldDigits::OneOrTwo, Separator::Dot) => "d.M.yyyy",
+            DateFormat::MonthFirst(FieldDigits::Two, Separator::Dash) => "MM-dd-yyyy",
+            DateFormat::MonthFirst(FieldDigits::Two, Separator::Slash) => "MM/dd/yyyy",
+            DateFormat::MonthFirst(FieldDigits::Two, Separator::Dot) => "MM.dd.yyyy",
+            DateFormat::MonthFirst(FieldDigits::OneOrTwo, Separator::Dash) => "M-d-yyyy",
+            DateFormat::MonthFirst(FieldDigits::OneOrTwo, Separator::Slash) => "M/d/yyyy",
+            DateFormat::MonthFirst(FieldDigits::OneOrTwo, Separator::Dot) => "M.d.yyyy",
+        }
+    }
 }
 
 impl MomentFormat {
@@ -48,6 +70,16 @@ impl MomentFormat {
             "yyyy-MM-ddTHH:mm:ss" => Some(MomentFormat::Seconds),
             "yyyy-MM-ddTHH:mm" => Some(MomentFormat::Minutes),
             _ => None,
+        }
+    }
+
+    /// Returns the pattern of the format, which `of` reads.
+    pub fn pattern(self) -> &'static str
+        ensures { result.now ≡ moment_pattern self }
+    {
+        match self {
+            MomentFormat::Seconds => "yyyy-MM-ddTHH:mm:ss",
+            MomentFormat::Minutes => "yyyy-MM-ddTHH:mm",
         }
     }
 }

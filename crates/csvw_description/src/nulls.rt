@@ -47,6 +47,13 @@ impl Nulls {
         Ok(Nulls { texts, set })
     }
 
+    /// Returns the texts, in the order of the document.
+    pub fn texts(&self) -> &[Text]
+        ensures { result.now ≡ self.now }
+    {
+        self.texts.as_slice()
+    }
+
     /// Returns whether a text is one of the texts.
     #[inline(always)]
     pub fn contains(&self, text: &str) -> bool

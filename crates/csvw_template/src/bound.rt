@@ -40,7 +40,7 @@ pub enum BoundPart {
 /// Whether an expansion was added whole.
 #[derive(Clone, Copy, Debug, PartialEq, Eq)]
 pub enum Fit {
-    /// It was.
+    /// The expansion was added whole.
     Whole,
     /// The text with the whole expansion is longer than the limit. A part of the expansion may have been added.
     TooLong,
@@ -146,10 +146,11 @@ fn bind_names<N: Names>(
     Ok(bindings)
 }
 
-/// Adds the expansion of bound parts under these values, if the text then has at most `most` bytes.
+/// Adds the expansion of bound parts under these values, if the text with it has at most `most` bytes.
 ///
-/// It stops as soon as the text is longer, and encodes no value that is longer than what is left: encoding never
-/// shortens a text. Returns `AllocError` if memory runs out.
+/// Returns `Whole` if the whole expansion was added. Returns `TooLong` if the text with the whole expansion has more
+/// bytes. It then stops early: it adds no value that is longer than what is left, as encoding never shortens a text.
+/// Returns `AllocError` if memory runs out.
 #[tactic(auto, unfolding(crate::specs::Bound::expand_bound))]
 pub fn push_bound_within<V: Values>(
     out: &mut String,
@@ -174,7 +175,7 @@ pub fn push_bound_within<V: Values>(
     }
 }
 
-/// Adds what a part expands to. It stops before a value that is too long, and doesn't look at the length after the last.
+/// Adds what a part expands to. It stops before a value that is too long. It doesn't compare the length after the last value.
 fn push_bound_part<V: Values>(
     out: &mut String,
     part: &BoundPart,
