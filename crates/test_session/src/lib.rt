@@ -22,6 +22,8 @@ mod left;
 #[cfg(test)]
 mod opening;
 #[cfg(test)]
+mod parsed_cells;
+#[cfg(test)]
 mod plans;
 #[cfg(test)]
 mod rows;
