@@ -2,11 +2,12 @@
 ghost use Rattle.std.specs.Prelude.{◌≡◌, ℕ, List, Option, None};
 ghost use Rattle.csvw_streams.specs.declared.counted.Counted.{Counted as TheCounted};
 
+use crate::input::{Input, Watch};
 use csvw_streams::Counted;
 use percent_encoding::{AsciiSet, CONTROLS, ascii_set, utf8_percent_encode};
 use std::alloc::{AllocError, Global};
-use std::io::{self, Read, Stdin};
-use std::rt::{Env, Files};
+use std::io::{Read, Stdin};
+use std::rt::{Clock, Env, Files};
 use std::{fs, path};
 
 /// The name of standard input in place of a file's path.
@@ -37,6 +38,24 @@ fn file_url(alloc: Global, path: &str) -> Result<String, AllocError> {
     Ok(url)
 }
 
+/// At which streams of a process texts have colours.
+#[derive(Clone, Copy, Debug, PartialEq, Eq)]
+pub struct Colors {
+    /// At standard output.
+    pub out: bool,
+    /// At standard error.
+    pub err: bool,
+}
+
+/// Whether the progress of a file is shown on standard error.
+#[derive(Clone, Copy, Debug, PartialEq, Eq)]
+pub enum ProgressShown {
+    /// It isn't shown.
+    Never,
+    /// It is shown at most four times a second, and erased when the file is handed back.
+    Always,
+}
+
 /// Opens files to read, and takes their readers back.
 pub trait Opener {
     /// What reads a file that was opened.
@@ -57,31 +76,18 @@ pub trait Opener {
         None
     }
 
+    /// Returns at which streams texts have colours, if it isn't said.
+    fn colors(&self) -> Colors {
+        Colors {
+            out: false,
+            err: false,
+        }
+    }
+
     /// Takes back the reader of a file, in the state in which it was left and with its count of failures. Nothing more is
     /// read of it.
     fn close(&mut self, reader: Counted<Self::Reader>)
         ensures { closes self.old reader self.new };
-}
-
-/// A file, or standard input.
-#[derive(Drop)]
-pub enum Input<F> {
-    /// A file that was opened.
-    File(F),
-    /// Standard input.
-    Standard(Stdin),
-}
-
-impl<F: Read> Read for Input<F> {
-    // What a real file, pipe or terminal gives is told nowhere.
-    ghost remaining = { λ _. None };
-
-    fn read(&mut self, buf: &mut [u8]) -> io::Result<usize> {
-        match self {
-            Input::File(file) => file.read(buf),
-            Input::Standard(stdin) => stdin.read(buf),
-        }
-    }
 }
 
 /// Opens the files of a file system, and standard input by the name `-`, once.
@@ -91,35 +97,67 @@ pub struct FileOpener<'a, R> {
     rt: &'a R,
     /// Standard input, until it is opened.
     stdin: Option<Stdin>,
+    /// At which streams texts have colours.
+    colors: Colors,
+    /// Whether the progress of files is shown.
+    progress: ProgressShown,
 }
 
 impl<'a, R: Files> FileOpener<'a, R> {
-    /// Opens the files that this runtime reaches, and this standard input.
+    /// Opens the files that this runtime reaches, and this standard input. Nothing has colours, and no progress is
+    /// shown.
     pub fn new(rt: &'a R, stdin: Stdin) -> FileOpener<'a, R>
         ensures { result.rt ≡ rt.entry }
     {
         FileOpener {
             rt,
             stdin: Some(stdin),
+            colors: Colors {
+                out: false,
+                err: false,
+            },
+            progress: ProgressShown::Never,
+        }
+    }
+
+    /// Returns the same, with these colours and this progress.
+    pub fn showing(self, colors: Colors, progress: ProgressShown) -> FileOpener<'a, R>
+        ensures { result.rt ≡ self.entry.rt }
+    {
+        FileOpener {
+            rt: self.rt,
+            stdin: self.stdin,
+            colors,
+            progress,
         }
     }
 }
 
-impl<'a, R: Files + Env + AllocGlobal> Opener for FileOpener<'a, R> {
-    type Reader = Input<R::File>;
+impl<'a, R: Files + Clock + Eprint + AllocGlobal> FileOpener<'a, R> {
+    /// Returns what watches a file from now on, or `None` if no progress is shown.
+    fn watch(&self, path: &str) -> Option<Watch<'a, R>> {
+        match self.progress {
+            ProgressShown::Never => None,
+            ProgressShown::Always => Watch::of(self.rt, path),
+        }
+    }
+}
+
+impl<'a, R: Files + Env + Clock + Eprint + AllocGlobal> Opener for FileOpener<'a, R> {
+    type Reader = Input<'a, R>;
 
     // `fs::open` says nothing of the file that a path gives.
     ghost opens = { λ old _ _ new. new.rt ≡ old.rt };
 
     ghost closes = { λ old _ new. new ≡ old };
 
-    fn open(&mut self, path: &str) -> Option<Input<R::File>> {
+    fn open(&mut self, path: &str) -> Option<Input<'a, R>> {
         if path == STANDARD_INPUT {
             let stdin = self.stdin.take()?;
-            return Some(Input::Standard(stdin));
+            return Some(Input::standard(stdin, self.watch(path)));
         }
         let file = fs::open(self.rt, path).ok()?;
-        Some(Input::File(file))
+        Some(Input::file(file, self.watch(path)))
     }
 
     fn url(&self, path: &str) -> Option<String> {
@@ -127,7 +165,13 @@ impl<'a, R: Files + Env + AllocGlobal> Opener for FileOpener<'a, R> {
         file_url(self.rt.alloc(), path.as_path().as_str()).ok()
     }
 
-    fn close(&mut self, _reader: Counted<Input<R::File>>)
+    fn colors(&self) -> Colors {
+        self.colors
+    }
+
+    fn close(&mut self, reader: Counted<Input<'a, R>>)
         ensures { self.new ≡ self.old }
-    {}
+    {
+        reader.into_inner().end();
+    }
 }

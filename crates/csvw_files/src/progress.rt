@@ -1,0 +1,91 @@
+//! How far a file has been read, in a line at a terminal.
+
+use memchr::memchr_iter;
+use std::alloc::{AllocError, Global};
+use std::time::Duration;
+
+/// The time before the first line and between two lines, in milliseconds.
+const PAUSE: u64 = 250;
+
+/// The number of bytes in a megabyte.
+const MEGABYTE: u64 = 1_000_000;
+
+/// What erases the line of a terminal and goes to its begin (ECMA-48).
+pub(crate) const ERASED: &str = "\r\x1b[K";
+
+/// How far a file has been read.
+#[derive(Drop)]
+pub(crate) struct Progress {
+    /// The path of the file.
+    path: String,
+    /// The number of its bytes, if it is known.
+    total: Option<u64>,
+    /// The number of bytes that were read.
+    bytes: u64,
+    /// The number of line feeds among them.
+    lines: u64,
+    /// When the next line is due, in milliseconds from the start.
+    due: u64,
+}
+
+impl Progress {
+    /// Returns the progress of a file of which nothing was read. Fails with `AllocError` if memory runs out.
+    pub(crate) fn new(
+        alloc: Global,
+        path: &str,
+        total: Option<u64>,
+    ) -> Result<Progress, AllocError> {
+        Ok(Progress {
+            path: String::from_str(alloc, path)?,
+            total,
+            bytes: 0,
+            lines: 0,
+            due: PAUSE,
+        })
+    }
+
+    /// Whether a line was shown.
+    pub(crate) fn is_shown(&self) -> bool {
+        self.due > PAUSE
+    }
+
+    /// Counts a piece that was read.
+    pub(crate) fn count(&mut self, piece: &[u8]) {
+        self.bytes = self.bytes.saturating_add(piece.len() as u64);
+        self.lines = self
+            .lines
+            .saturating_add(memchr_iter(b'\n', piece).count() as u64);
+    }
+
+    /// Returns the line that is due after this time from the start, or `None` if none is due or memory runs out.
+    pub(crate) fn line(&mut self, alloc: Global, elapsed: Duration) -> Option<String> {
+        let now = u64::try_from(elapsed.as_millis()).ok()?;
+        if now < self.due {
+            return None;
+        }
+        self.due = now.saturating_add(PAUSE);
+        self.text(alloc, now).ok()
+    }
+
+    /// Returns the line after so many milliseconds.
+    fn text(&self, alloc: Global, now: u64) -> Result<String, AllocError> {
+        let mut text = String::from_str(alloc, ERASED)?;
+        let lines = self.lines;
+        let read = self.bytes / MEGABYTE;
+        text.push_str(self.path.as_str())?;
+        write!(text, ": {lines} lines, {read} MB")?;
+        if let Some(total) = self.total {
+            let whole = total / MEGABYTE;
+            write!(text, " of {whole} MB")?;
+        }
+        // bytes in a millisecond are thousands of them in a second
+        let rate = self.bytes / now.max(1);
+        let in_a_second = rate / 1000;
+        write!(text, ", {in_a_second} MB/s")?;
+        if let Some(total) = self.total {
+            let left = total.saturating_sub(self.bytes) / rate.max(1) / 1000;
+            write!(text, ", {left} s left")?;
+        }
+        Ok(text)
+    }
+}
