@@ -2,8 +2,8 @@
 ghost use Rattle.std.specs.Prelude.{IfOk};
 ghost use Rattle.csvw_columns.specs.Ready.{AreReady};
 
-use crate::halt::Halt;
 use crate::sink::NoGraph;
+use csvw_check_core::Halt;
 use csvw_columns::Plan;
 use csvw_engine_core::Stop;
 use csvw_files::Opener;
@@ -24,16 +24,16 @@ pub(crate) struct Found {
     pub(crate) faults: Seq<Fault>,
     /// The reason if the tables weren't read to their ends.
     pub(crate) stop: Option<Stop>,
-    /// The place of the table whose file was read at the stop, from 0.
-    pub(crate) place: usize,
+    /// The number of the table whose file was read at the stop, from 1. It is 0 if there was no stop.
+    pub(crate) table: u32,
     /// The number of complete rows that were read of each table. Rows of all kinds count.
     pub(crate) rows: Seq<u64>,
 }
 
-/// A stop, with the place of the table whose file was read, from 0.
+/// A stop, with the number of the table whose file was read, from 1.
 #[derive(Drop)]
 struct StopAt {
-    place: usize,
+    table: u32,
     stop: Stop,
 }
 
@@ -79,10 +79,10 @@ fn read_files<O: Opener>(
     room: &mut [u8],
 ) -> Result<(), StopAt> {
     let mut t = 0;
-    for (place, path) in paths.iter().enumerate() {
+    for path in paths {
         t = u32::saturating_add(t, 1);
         if let Err(stop) = read_file(session, t, path.as_str(), opener, room) {
-            return Err(StopAt { place, stop });
+            return Err(StopAt { table: t, stop });
         }
     }
     Ok(())
@@ -120,11 +120,11 @@ pub(crate) fn read<O: Opener>(
     let rows = rows_of(alloc, &session, paths.len())?;
     match ended {
         Ok(()) => finish(&mut session, rows),
-        Err(StopAt { place, stop }) => {
+        Err(StopAt { table, stop }) => {
             Ok(Found {
                 faults: session.faults_so_far()?,
                 stop: Some(stop),
-                place,
+                table,
                 rows,
             })
         }
@@ -138,7 +138,7 @@ fn finish(session: &mut Session<NoGraph>, rows: Seq<u64>) -> Result<Found, Halt>
             Ok(Found {
                 faults: outcome.faults,
                 stop: None,
-                place: 0,
+                table: 0,
                 rows,
             })
         }

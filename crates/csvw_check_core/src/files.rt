@@ -87,7 +87,7 @@ fn take(taken: &mut [bool], place: Option<usize>) {
 /// Returns the path of each table's file, which is empty if there is none. Files that are given are taken by
 /// their names first, and in their order else. If none is given, each is beside the document, under the name that ends the
 /// table's URL. Returns `AllocError` if memory runs out.
-pub(crate) fn paths(
+pub fn paths(
     alloc: Global,
     meta: &str,
     files: &[&str],
@@ -99,6 +99,24 @@ pub(crate) fn paths(
     let mut paths = Vec::new(alloc);
     for place in places(alloc, files, tables)?.as_slice() {
         paths.push(path_at(alloc, files, *place)?)?;
+    }
+    Ok(paths)
+}
+
+/// Returns the path of each table's file. Files that are given are in the order of the tables. If none is given, each is
+/// beside the document, under the name that ends the table's URL. Returns `AllocError` if memory runs out.
+pub(crate) fn paths_in_order(
+    alloc: Global,
+    meta: &str,
+    files: &[&str],
+    tables: &[TablePlan],
+) -> Result<Vec<String>, AllocError> {
+    if files.is_empty() {
+        return paths_beside(alloc, meta, tables);
+    }
+    let mut paths = Vec::new(alloc);
+    for file in files {
+        paths.push(String::from_str(alloc, file)?)?;
     }
     Ok(paths)
 }

@@ -66,7 +66,8 @@ impl<'a> Scan<'a> {
                     depth -= 1;
                     self.go_on();
                 }
-                Some(b',' | b'}' | b']') | None => return,
+                Some(b',' | b'}' | b']') if depth == 0 => return,
+                None => return,
                 Some(_) => self.go_on(),
             }
             if depth == 0 && self.ends_here() {

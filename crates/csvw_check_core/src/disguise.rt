@@ -1,7 +1,10 @@
 //! Files that are no text in UTF-8, known by their first bytes.
 
+use crate::line::push_text;
+use std::alloc::AllocError;
+
 /// Returns what a file is by its first bytes, if it is no text in UTF-8, and what to do.
-pub(crate) fn disguise(bytes: &[u8]) -> Option<&'static str> {
+fn disguise(bytes: &[u8]) -> Option<&'static str> {
     if bytes.starts_with(b"\x1F\x8B") {
         return Some("the file is compressed by gzip: decompress it first");
     }
@@ -17,6 +20,19 @@ pub(crate) fn disguise(bytes: &[u8]) -> Option<&'static str> {
         return Some("the file is in UTF-16: save it as UTF-8");
     }
     None
+}
+
+/// Adds what a file is by its first bytes, if it is no text.
+pub(crate) fn push_disguise(
+    lines: &mut String,
+    path: &str,
+    bytes: &[u8],
+) -> Result<(), AllocError> {
+    if let Some(text) = disguise(bytes) {
+        push_text(lines, path)?;
+        write!(lines, ": {text}\n")?;
+    }
+    Ok(())
 }
 
 /// The delimiters that a file may have instead, each with what to do.

@@ -13,7 +13,7 @@ pub enum Halt {
 }
 
 impl From<AllocError> for Halt {
-    ghost use Rattle.csvw_check.specs.declared.halt.Halt.TheVariants.{Memory};
+    ghost use Rattle.csvw_check_core.specs.declared.halt.Halt.TheVariants.{Memory};
 
     ghost from_gives = { λ _ halt. halt ≡ Memory };
 
@@ -23,7 +23,7 @@ impl From<AllocError> for Halt {
 }
 
 impl<T: Drop> From<AllocFailed<T>> for Halt {
-    ghost use Rattle.csvw_check.specs.declared.halt.Halt.TheVariants.{Memory};
+    ghost use Rattle.csvw_check_core.specs.declared.halt.Halt.TheVariants.{Memory};
 
     ghost from_gives = { λ _ halt. halt ≡ Memory };
 

@@ -1,39 +1,13 @@
 //! The rule that a fault breaks, with its values.
 
-use crate::line::push_text;
-use csvw_columns::TablePlan;
+use crate::bound::{push_bounds, range_of};
+use crate::key_rule::{push_foreign_keys, push_primary_key};
+use crate::line::{push_quoted, push_text};
+use crate::tables::{TableAt, declared};
 use csvw_columns_core::Column;
-use csvw_datatype::{Datatype, DateFormat, FieldDigits, Format, MomentFormat, Separator};
+use csvw_datatype::{Datatype, Format, Simple};
 use csvw_text::{Code, Fault};
 use std::alloc::AllocError;
-
-/// Returns the pattern of a format of dates.
-fn date_pattern(format: DateFormat) -> &'static str {
-    match format {
-        DateFormat::YearFirst => "yyyy-MM-dd",
-        DateFormat::Compact => "yyyyMMdd",
-        DateFormat::DayFirst(FieldDigits::Two, Separator::Dash) => "dd-MM-yyyy",
-        DateFormat::DayFirst(FieldDigits::Two, Separator::Slash) => "dd/MM/yyyy",
-        DateFormat::DayFirst(FieldDigits::Two, Separator::Dot) => "dd.MM.yyyy",
-        DateFormat::DayFirst(_, Separator::Dash) => "d-M-yyyy",
-        DateFormat::DayFirst(_, Separator::Slash) => "d/M/yyyy",
-        DateFormat::DayFirst(_, Separator::Dot) => "d.M.yyyy",
-        DateFormat::MonthFirst(FieldDigits::Two, Separator::Dash) => "MM-dd-yyyy",
-        DateFormat::MonthFirst(FieldDigits::Two, Separator::Slash) => "MM/dd/yyyy",
-        DateFormat::MonthFirst(FieldDigits::Two, Separator::Dot) => "MM.dd.yyyy",
-        DateFormat::MonthFirst(_, Separator::Dash) => "M-d-yyyy",
-        DateFormat::MonthFirst(_, Separator::Slash) => "M/d/yyyy",
-        DateFormat::MonthFirst(_, Separator::Dot) => "M.d.yyyy",
-    }
-}
-
-/// Returns the pattern of a format of dates with a time of day.
-fn moment_pattern(format: MomentFormat) -> &'static str {
-    match format {
-        MomentFormat::Seconds => "yyyy-MM-ddTHH:mm:ss",
-        MomentFormat::Minutes => "yyyy-MM-ddTHH:mm",
-    }
-}
 
 /// Adds the format of a datatype.
 fn push_format(text: &mut String, format: &Format) -> Result<(), AllocError> {
@@ -54,11 +28,11 @@ fn push_format(text: &mut String, format: &Format) -> Result<(), AllocError> {
         }
         Format::Day(format) => {
             text.push_str(", format ")?;
-            text.push_str(date_pattern(*format))
+            text.push_str(format.pattern())
         }
         Format::Moment(format) => {
             text.push_str(", format ")?;
-            text.push_str(moment_pattern(*format))
+            text.push_str(format.pattern())
         }
     }
 }
@@ -69,6 +43,17 @@ fn push_datatype(text: &mut String, datatype: &Datatype) -> Result<(), AllocErro
     text.push_str(datatype.simple.name())?;
     if let Some(format) = &datatype.format {
         push_format(text, format)?;
+    }
+    text.push('\n')
+}
+
+/// Adds the name of a datatype and the range of its numbers.
+fn push_range(text: &mut String, datatype: &Datatype) -> Result<(), AllocError> {
+    text.push_str("    datatype ")?;
+    text.push_str(datatype.simple.name())?;
+    if let Simple::Derived(width) = datatype.simple {
+        text.push_str(", ")?;
+        text.push_str(range_of(width))?;
     }
     text.push('\n')
 }
@@ -93,40 +78,62 @@ fn push_lengths(text: &mut String, datatype: &Datatype) -> Result<(), AllocError
 fn push_titles(text: &mut String, column: &Column) -> Result<(), AllocError> {
     text.push_str("    the column may be titled")?;
     for title in column.titles.as_slice() {
-        text.push_str(" \"")?;
-        push_text(text, title.as_str())?;
-        text.push('"')?;
+        text.push(' ')?;
+        push_quoted(text, title.as_str())?;
     }
     if column.titles.is_empty() {
-        text.push_str(" \"")?;
-        push_text(text, column.name.as_str())?;
-        text.push('"')?;
+        text.push(' ')?;
+        push_quoted(text, column.name.as_str())?;
     }
     text.push('\n')
 }
 
-/// Adds the rule that a fault in a declared column breaks, on a line of its own, if it has values to show.
-pub(crate) fn push_rule(
-    text: &mut String,
-    plan: &TablePlan,
-    fault: &Fault,
-) -> Result<(), AllocError> {
-    let Some(place) = usize::checked_sub(fault.place.column as usize, 1) else {
+/// Adds the texts that are null in a column, if they aren't the empty text alone.
+fn push_nulls(text: &mut String, column: &Column) -> Result<(), AllocError> {
+    let nulls = column.properties.null.get().texts();
+    if nulls.len() == 1 && nulls.iter().all(|null| null.is_empty()) {
         return Ok(());
-    };
-    let Some(column) = plan.declared.as_slice().get(place) else {
-        return Ok(());
-    };
+    }
+    text.push_str("    null")?;
+    for null in nulls {
+        text.push(' ')?;
+        push_quoted(text, null.as_str())?;
+    }
+    text.push('\n')
+}
+
+/// Adds the rule that a fault in a declared column breaks.
+fn push_column_rule(text: &mut String, column: &Column, code: Code) -> Result<(), AllocError> {
     let datatype = column.properties.datatype.get();
-    match fault.code {
+    match code {
         Code::BadBoolean
         | Code::BadInteger
         | Code::BadDecimal
-        | Code::OutOfRange
         | Code::BadDate
         | Code::BadDateTime => push_datatype(text, datatype),
+        Code::OutOfRange => push_range(text, datatype),
+        Code::BelowMinimum | Code::AboveMaximum => push_bounds(text, datatype),
         Code::WrongLength | Code::TooShort | Code::TooLong => push_lengths(text, datatype),
         Code::HeaderMismatch => push_titles(text, column),
+        Code::Required => push_nulls(text, column),
         _ => Ok(()),
+    }
+}
+
+/// Adds the rule that a fault in a column breaks, with its values, if it has some: lines of text.
+pub(crate) fn push_rule(
+    text: &mut String,
+    table: &TableAt<'_>,
+    fault: &Fault,
+) -> Result<(), AllocError> {
+    match fault.code {
+        Code::DuplicateKey => push_primary_key(text, table.plan),
+        Code::NoReferencedRow | Code::ManyReferencedRows => {
+            push_foreign_keys(text, table, fault.place.column)
+        }
+        code => match declared(table.plan, fault.place.column) {
+            Some(column) => push_column_rule(text, column, code),
+            None => Ok(()),
+        },
     }
 }

@@ -7,7 +7,7 @@ use std::collections::BTreeMap;
 /// A column of a table, and a code of faults in it.
 #[derive(Clone, Copy, Debug, PartialEq, Eq, PartialOrd, Ord)]
 pub(crate) struct Spot {
-    /// The number of the table, from 1.
+    /// The number of the table, from 1. It is 0 for faults of no table.
     pub(crate) table: u32,
     /// The number of the column, from 1. It is 0 for faults of no column.
     pub(crate) column: u32,
@@ -21,6 +21,15 @@ pub(crate) struct Counts {
     pub(crate) spots: BTreeMap<Spot, u64>,
 }
 
+/// Returns the column and the code of a fault.
+pub(crate) fn spot_of(fault: &Fault) -> Spot {
+    Spot {
+        table: fault.place.table,
+        column: fault.place.column,
+        code: fault.code,
+    }
+}
+
 impl Counts {
     /// Makes counts of no faults.
     pub(crate) fn new(alloc: Global) -> Counts {
@@ -29,15 +38,30 @@ impl Counts {
         }
     }
 
+    /// Counts these faults. Returns `AllocError` if memory runs out.
+    pub(crate) fn of(alloc: Global, faults: &[Fault]) -> Result<Counts, AllocError> {
+        let mut counts = Counts::new(alloc);
+        for fault in faults {
+            counts.count(fault)?;
+        }
+        Ok(counts)
+    }
+
     /// Counts a fault. Returns how many of its code there are in its column so far, or `AllocError` if memory runs out.
     pub(crate) fn count(&mut self, fault: &Fault) -> Result<u64, AllocError> {
-        let spot = Spot {
-            table: fault.place.table,
-            column: fault.place.column,
-            code: fault.code,
-        };
-        let times = self.spots.entry(spot)?.or_insert(0);
+        let times = self.spots.entry(spot_of(fault))?.or_insert(0);
         *times = times.saturating_add(1);
         Ok(*times)
+    }
+
+    /// Returns how many faults there are in a table.
+    pub(crate) fn of_table(&self, table: u32) -> u64 {
+        let mut sum = 0u64;
+        for (spot, times) in self.spots.iter() {
+            if spot.table == table {
+                sum = sum.saturating_add(*times);
+            }
+        }
+        sum
     }
 }

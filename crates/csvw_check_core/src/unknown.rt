@@ -1,7 +1,8 @@
 //! The properties of a document that the vocabulary doesn't list, and those that are meant.
 
 use crate::json_place::{Scan, line_and_column};
-use crate::line::push_text;
+use crate::page::Page;
+use crate::told::UnknownTold;
 use std::alloc::{AllocError, Global};
 use strsim::levenshtein;
 
@@ -89,9 +90,10 @@ struct Unknown<'a> {
     at: usize,
 }
 
-/// Whether the members of a value have names of their own: titles by languages, notes, and common properties.
+/// Whether the members of a value have names of their own: titles by languages, notes, transformations, and common
+/// properties.
 fn has_own_names(name: &str) -> bool {
-    name == "titles" || name == "notes" || name.contains(':')
+    name == "titles" || name == "notes" || name == "transformations" || name.contains(':')
 }
 
 /// Goes on to the next name that the vocabulary doesn't list.
@@ -106,10 +108,12 @@ fn next_unknown<'a>(scan: &mut Scan<'a>) -> Option<Unknown<'a>> {
                 if scan.byte() != Some(b':') {
                     continue;
                 }
-                if has_own_names(name) {
+                let is_unknown = !name.starts_with('@') && !LISTED.contains(&name);
+                if is_unknown || has_own_names(name) {
                     scan.skip(b":");
                     scan.value();
-                } else if !name.starts_with('@') && !LISTED.contains(&name) {
+                }
+                if is_unknown && !has_own_names(name) {
                     return Some(Unknown { name, at });
                 }
             }
@@ -120,22 +124,25 @@ fn next_unknown<'a>(scan: &mut Scan<'a>) -> Option<Unknown<'a>> {
     None
 }
 
-/// Adds a line for each property that the vocabulary doesn't list: its place, its name, and the listed name that is near.
-pub(crate) fn push_unknown(lines: &mut String, path: &str, bytes: &[u8]) -> Result<(), AllocError> {
+/// Adds each property that the vocabulary doesn't list: its place, its name, and the listed name that is near. Returns how
+/// many there are.
+pub(crate) fn tell_unknown(page: &mut Page, path: &str, bytes: &[u8]) -> Result<u64, AllocError> {
     let mut scan = Scan { bytes, at: 0 };
+    let mut count = 0u64;
     for _ in 0..bytes.len() {
         let Some(Unknown { name, at }) = next_unknown(&mut scan) else {
-            return Ok(());
+            break;
         };
         let (line, column) = line_and_column(bytes.get(..at).unwrap_or(&[]));
-        push_text(lines, path)?;
-        write!(lines, ":{line}:{column}: \"")?;
-        push_text(lines, name)?;
-        lines.push_str("\" isn't a property of the vocabulary")?;
-        if let Some(listed) = nearest(*lines.allocator(), name)? {
-            write!(lines, ": did you mean \"{listed}\"?")?;
-        }
-        lines.push('\n')?;
+        let near = nearest(page.alloc, name)?;
+        page.warning(&UnknownTold {
+            path,
+            line: line as u64,
+            column: column as u64,
+            name,
+            near,
+        })?;
+        count = count.saturating_add(1);
     }
-    Ok(())
+    Ok(count)
 }

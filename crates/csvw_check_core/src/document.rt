@@ -1,0 +1,174 @@
+//! The metadata document, and what is wrong with it.
+ghost use Rattle.std.specs.Prelude.{IfOk};
+ghost use Rattle.csvw_columns.specs.Ready.{AreReady};
+
+use crate::asked::Group;
+use crate::disguise::push_disguise;
+use crate::halt::Halt;
+use crate::json_place::{line_and_column, place_of};
+use crate::line::push_text;
+use crate::page::Page;
+use crate::told::StopTold;
+use csvw_columns::Plan;
+use csvw_files::{Opener, read_document};
+use csvw_meta::{Description, MetaCode, MetaFault, ReadDescription};
+use csvw_streams::Counted;
+use serde_json::Value;
+use std::alloc::{AllocError, Global};
+use std::io::Write;
+
+/// Reads a document and plans its tables.
+pub fn plan_of(alloc: Global, bytes: &[u8], base: &str) -> Result<Plan, MetaFault>
+    ensures { IfOk result (λ plan. AreReady plan.tables) }
+{
+    let description = Description::read(alloc, bytes, base)?;
+    Plan::build(alloc, description)
+}
+
+/// Returns the bytes without U+FEFF at their start.
+fn without_bom(bytes: &[u8]) -> &[u8] {
+    bytes.strip_prefix(b"\xEF\xBB\xBF").unwrap_or(bytes)
+}
+
+/// Returns the line and the column at which bytes stop being JSON, both from 1.
+fn end_of_json(alloc: Global, bytes: &[u8]) -> (usize, usize) {
+    let text = match str::from_utf8(without_bom(bytes)) {
+        Ok(text) => text,
+        Err(e) => return line_and_column(bytes.get(..e.valid_up_to()).unwrap_or(&[])),
+    };
+    match Value::from_str(alloc, text) {
+        Ok(_) => (1, 1),
+        Err(e) => (e.line(), e.column()),
+    }
+}
+
+/// Reads the document at a path. Returns its bytes, or `None` if it can't be opened or read.
+pub fn opened<O: Opener>(alloc: Global, path: &str, opener: &mut O) -> Option<Vec<u8>> {
+    let reader = opener.open(path)?;
+    let mut reader = Counted::new(reader);
+    let read = read_document(alloc, &mut reader);
+    opener.close(reader);
+    read.ok()
+}
+
+/// Adds what else helps with a fault of a document.
+fn push_document_hints(
+    hints: &mut String,
+    group: &Group<'_>,
+    bytes: &[u8],
+    fault: &MetaFault,
+) -> Result<(), AllocError> {
+    match fault.code {
+        MetaCode::NotJson => push_disguise(hints, group.meta, bytes),
+        MetaCode::BadUrl if fault.pointer.is_empty() => {
+            hints.push_str("    ")?;
+            push_text(hints, group.base)?;
+            hints.push_str(" isn't absolute: write `--base http://example.org/metadata.json`\n")
+        }
+        _ => Ok(()),
+    }
+}
+
+/// Adds a fault of the document: its place by lines and columns, its pointer, its code and what to do.
+pub(crate) fn tell_refused(
+    page: &mut Page,
+    group: &Group<'_>,
+    bytes: &[u8],
+    fault: &MetaFault,
+) -> Result<(), AllocError> {
+    let pointer = fault.pointer.as_str();
+    let (line, column) = match fault.code {
+        MetaCode::NotJson => end_of_json(page.alloc, bytes),
+        _ => place_of(bytes, pointer),
+    };
+    let mut hints = String::new(page.alloc);
+    push_document_hints(&mut hints, group, bytes, fault)?;
+    let sentence = fault.code.to_string(page.alloc)?;
+    page.stop(&StopTold {
+        name: fault.code.name(),
+        sentence: sentence.as_str(),
+        path: group.meta,
+        table: 0,
+        row: 0,
+        line: line as u64,
+        column: column as u64,
+        pointer,
+        hints: hints.as_str(),
+    })
+}
+
+/// Adds that a file can't be opened or read.
+pub(crate) fn tell_unread(page: &mut Page, path: &str, table: u32) -> Result<(), AllocError> {
+    page.stop(&StopTold {
+        name: "Read",
+        sentence: "the file can't be opened or read: correct its path, or its permissions",
+        path,
+        table,
+        row: 0,
+        line: 0,
+        column: 0,
+        pointer: "",
+        hints: "",
+    })
+}
+
+/// Adds that there is not one file for each table, and lists the tables.
+pub(crate) fn tell_table_count(
+    page: &mut Page,
+    group: &Group<'_>,
+    plan: &Plan,
+) -> Result<(), AllocError> {
+    let tables = plan.tables().len();
+    let files = group.files.len();
+    let mut sentence = String::new(page.alloc);
+    write!(
+        sentence,
+        "{tables} tables, {files} files: give one file for each table"
+    )?;
+    let mut hints = String::new(page.alloc);
+    for table in plan.tables() {
+        let number = table.number;
+        write!(hints, "  table {number}: ")?;
+        push_text(&mut hints, table.url.iri().as_str())?;
+        hints.push('\n')?;
+    }
+    page.stop(&StopTold {
+        name: "TableCount",
+        sentence: sentence.as_str(),
+        path: group.meta,
+        table: 0,
+        row: 0,
+        line: 0,
+        column: 0,
+        pointer: "",
+        hints: hints.as_str(),
+    })
+}
+
+/// Why nothing of a group can be read.
+#[derive(Clone, Copy)]
+pub enum Alone<'a> {
+    /// The document can't be opened or read.
+    Unread,
+    /// The document with these bytes has a fault.
+    Refused(&'a [u8], &'a MetaFault),
+    /// There is not one file for each table of this plan.
+    TableCount(&'a Plan),
+}
+
+/// Shows a page of the reason alone for which nothing of a group can be read.
+pub fn show_alone<W: Write>(
+    page: &mut Page,
+    group: &Group<'_>,
+    reason: &Alone<'_>,
+    out: &mut Counted<W>,
+) -> Result<(), Halt> {
+    page.begin(group.meta, None)?;
+    match reason {
+        Alone::Unread => tell_unread(page, group.meta, 0)?,
+        Alone::Refused(bytes, fault) => tell_refused(page, group, bytes, fault)?,
+        Alone::TableCount(plan) => tell_table_count(page, group, plan)?,
+    }
+    page.end(None)?;
+    page.send(out)
+}

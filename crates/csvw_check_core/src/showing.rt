@@ -1,0 +1,140 @@
+//! The report of a run that ended, shown to people.
+
+use crate::asked::{Show, Strict};
+use crate::document::{Alone, opened, plan_of, show_alone};
+use crate::files::paths_in_order;
+use crate::halt::Halt;
+use crate::page::Page;
+use crate::report::Report;
+use crate::reread::faults_of_report;
+use crate::status::{status_of, status_of_stop};
+use crate::stop::{Stopped, tell_stop};
+use crate::tables::Tables;
+use crate::walk::Walker;
+use csvw_columns::Plan;
+use csvw_files::Opener;
+use csvw_streams::Counted;
+use std::alloc::Global;
+use std::io::Write;
+
+/// What is shown of a run.
+#[derive(Clone, Copy)]
+enum Part {
+    /// Its report, and its stop if it stopped.
+    Report,
+    /// The words of its stop.
+    Stop,
+}
+
+/// Shows the report of a run, and its stop if it stopped. The document and the files are read again, so none of them
+/// can be standard input. A table whose file can't be read again is shown without rows.
+pub fn show<O: Opener, W: Write>(
+    alloc: Global,
+    asked: &Show<'_>,
+    opener: &mut O,
+    out: &mut Counted<W>,
+) -> Result<(), Halt> {
+    show_part(alloc, (asked, Part::Report), opener, out)
+}
+
+/// Shows the words of the stop of a run alone. It shows nothing if the run didn't stop.
+pub fn explain_stop<O: Opener, W: Write>(
+    alloc: Global,
+    asked: &Show<'_>,
+    opener: &mut O,
+    out: &mut Counted<W>,
+) -> Result<(), Halt> {
+    match asked.stop {
+        Some(_) => show_part(alloc, (asked, Part::Stop), opener, out),
+        None => Ok(()),
+    }
+}
+
+/// Whether there is not one file for each table of a plan.
+fn is_count_wrong(asked: &Show<'_>, plan: &Plan) -> bool {
+    !asked.files.is_empty() && asked.files.len() != plan.tables().len()
+}
+
+/// Reads the document, and shows a part of the run, or why there is no plan.
+fn show_part<O: Opener, W: Write>(
+    alloc: Global,
+    run: (&Show<'_>, Part),
+    opener: &mut O,
+    out: &mut Counted<W>,
+) -> Result<(), Halt> {
+    let (asked, part) = run;
+    let mut walker = Walker::new(alloc, asked.form, asked.color, asked.shown);
+    let group = asked.group();
+    let Some(bytes) = opened(alloc, asked.meta, opener) else {
+        return show_alone(&mut walker.page, &group, &Alone::Unread, out);
+    };
+    let document = bytes.as_slice();
+    let plan = match plan_of(alloc, document, asked.base) {
+        Ok(plan) => plan,
+        Err(fault) => {
+            let refused = Alone::Refused(document, &fault);
+            return show_alone(&mut walker.page, &group, &refused, out);
+        }
+    };
+    if is_count_wrong(asked, &plan) {
+        return show_alone(&mut walker.page, &group, &Alone::TableCount(&plan), out);
+    }
+    let paths = paths_in_order(alloc, asked.meta, asked.files, plan.tables())?;
+    let tables = Tables {
+        group,
+        document,
+        plan: &plan,
+        paths: paths.as_slice(),
+    };
+    match part {
+        Part::Report => show_report(asked, &tables, &mut walker, opener, out),
+        Part::Stop => show_stop(asked, &tables, &mut walker.page, opener, out),
+    }
+}
+
+/// Shows the report of a run, and its stop if it stopped.
+fn show_report<O: Opener, W: Write>(
+    asked: &Show<'_>,
+    tables: &Tables<'_>,
+    walker: &mut Walker,
+    opener: &mut O,
+    out: &mut Counted<W>,
+) -> Result<(), Halt> {
+    let faults = faults_of_report(walker.page.alloc, asked.report)?;
+    let status = match asked.stop {
+        Some(stop) => status_of_stop(stop),
+        None => status_of(faults.as_slice(), Strict::Errors),
+    };
+    let report = Report {
+        tables: *tables,
+        faults: faults.as_slice(),
+        rows: &[],
+        stop: stopped(asked),
+        status,
+    };
+    report.show(walker, opener, out)
+}
+
+/// Returns the stop of a run. Which table's file was read isn't known.
+fn stopped<'a>(asked: &Show<'a>) -> Option<Stopped<'a>> {
+    match asked.stop {
+        Some(stop) => Some(Stopped { stop, table: 0 }),
+        None => None,
+    }
+}
+
+/// Shows the words of the stop of a run alone.
+fn show_stop<O: Opener, W: Write>(
+    asked: &Show<'_>,
+    tables: &Tables<'_>,
+    page: &mut Page,
+    opener: &mut O,
+    out: &mut Counted<W>,
+) -> Result<(), Halt> {
+    page.begin(asked.meta, None)?;
+    if let Some(stopped) = &stopped(asked) {
+        tell_stop(page, tables, stopped, opener)?;
+    }
+    page.end(None)?;
+    page.send(out)
+}
