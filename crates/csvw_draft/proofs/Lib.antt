@@ -1,0 +1,3 @@
+mod NameLemmas
+mod ReadLemmas
+mod Sending

@@ -1,0 +1,144 @@
+//! One column of a table while its cells are read.
+
+use crate::kept::{Kept, Purpose, Room};
+use crate::kind::Kind;
+use crate::narrowed::Narrowed;
+use csvw_datatype::Value;
+use csvw_text::collapse;
+use std::alloc::{AllocError, Global};
+
+/// What is known of a column after some of its cells.
+#[derive(Drop)]
+pub(crate) struct Column {
+    alloc: Global,
+    /// The text of its header cell.
+    pub(crate) title: String,
+    /// The datatypes that its texts have.
+    narrowed: Narrowed,
+    /// Whether a cell is empty.
+    has_empty: bool,
+    /// Whether a cell that isn't empty has only white space.
+    has_blank: bool,
+    /// Its different texts.
+    pub(crate) kept: Kept,
+}
+
+/// Returns whether a text has white space that a datatype other than `string` collapses.
+fn has_white(text: &str) -> bool {
+    text.as_bytes()
+        .iter()
+        .any(|b| matches!(b, b' ' | b'\t' | b'\r' | b'\n'))
+}
+
+impl Column {
+    /// Makes a column with no cell yet. Returns `AllocError` if memory runs out.
+    pub(crate) fn new(alloc: Global, title: &str, purpose: Purpose) -> Result<Column, AllocError> {
+        Ok(Column {
+            alloc,
+            title: String::from_str(alloc, title)?,
+            narrowed: Narrowed::new(alloc)?,
+            has_empty: false,
+            has_blank: false,
+            kept: Kept::new(alloc, purpose),
+        })
+    }
+
+    /// Takes the text of one more cell. Returns `AllocError` if memory runs out.
+    pub(crate) fn take(&mut self, text: &str, room: &mut Room) -> Result<(), AllocError> {
+        if text.is_empty() {
+            self.has_empty = true;
+            return Ok(());
+        }
+        self.kept.add(text, room)?;
+        if self.narrowed.is_string() {
+            return Ok(());
+        }
+        if !has_white(text) {
+            self.narrowed.take(text);
+            return Ok(());
+        }
+        let collapsed = collapse(self.alloc, text)?;
+        if collapsed.is_empty() {
+            self.has_blank = true;
+        } else {
+            self.narrowed.take(collapsed.as_str());
+        }
+        Ok(())
+    }
+
+    /// Takes a cell that is empty.
+    pub(crate) fn take_empty(&mut self) {
+        self.has_empty = true;
+    }
+
+    /// Returns its datatype.
+    pub(crate) fn kind(&self) -> Kind {
+        self.narrowed.kind()
+    }
+
+    /// Returns whether no cell is null by its datatype. Only texts keep white space.
+    pub(crate) fn is_full(&self) -> bool {
+        !self.has_empty && (!self.has_blank || self.kind() == Kind::Text)
+    }
+
+    /// Returns its different values in order if each cell has one and no two have the same. Returns `None` if that isn't so,
+    /// or not known.
+    pub(crate) fn key_values(&self) -> Result<Option<Vec<Value>>, AllocError> {
+        if !self.is_full() || !self.kept.is_unique() {
+            return Ok(None);
+        }
+        let Some(mut values) = self.values()? else {
+            return Ok(None);
+        };
+        values.sort()?;
+        if has_equal_neighbours(values.as_slice()) {
+            return Ok(None);
+        }
+        Ok(Some(values))
+    }
+
+    /// Returns the values of its texts, or `None` if not all are kept. Returns `AllocError` if memory runs out.
+    fn values(&self) -> Result<Option<Vec<Value>>, AllocError> {
+        let Some(texts) = self.kept.texts() else {
+            return Ok(None);
+        };
+        let kind = self.kind();
+        let mut values = Vec::new(self.alloc);
+        for text in texts {
+            if let Some(value) = kind.value(self.alloc, text.as_str())? {
+                values.push(value)?;
+            }
+        }
+        Ok(Some(values))
+    }
+
+    /// Returns whether it has a value, all its texts are kept, and each value is one of these, which are in order.
+    pub(crate) fn is_within(&self, keys: &[Value]) -> Result<bool, AllocError> {
+        let Some(texts) = self.kept.texts() else {
+            return Ok(false);
+        };
+        let kind = self.kind();
+        let mut has_value = false;
+        for text in texts {
+            if let Some(value) = kind.value(self.alloc, text.as_str())? {
+                if keys.binary_search(&value).is_err() {
+                    return Ok(false);
+                }
+                has_value = true;
+            }
+        }
+        Ok(has_value)
+    }
+}
+
+/// Returns whether two neighbours are equal.
+fn has_equal_neighbours(values: &[Value]) -> bool {
+    for pair in values.windows(2) {
+        if let [a, b] = pair {
+            if a == b {
+                return true;
+            }
+        }
+    }
+    false
+}

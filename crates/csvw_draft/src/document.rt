@@ -1,0 +1,289 @@
+//! The document of a draft.
+
+use crate::form::{Comments, Form};
+use crate::keys::{ForeignKey, Named, foreign_keys, key_name, name_at};
+use crate::kind::Kind;
+use csvw_datatype_core::{DateFormat, MomentFormat};
+use serde::Serialize;
+use serde_json::to_string_pretty;
+use std::alloc::{AllocError, Global};
+
+/// The context of each document.
+const CONTEXT: &str = "http://www.w3.org/ns/csvw";
+
+/// The members of a context beside its URL.
+#[derive(Drop, Serialize)]
+struct BaseMember<'a> {
+    #[serde(rename = "@base")]
+    base: &'a str,
+}
+
+/// The context.
+#[derive(Drop, Serialize)]
+#[serde(untagged)]
+enum Context<'a> {
+    Plain(&'static str),
+    Based(&'static str, BaseMember<'a>),
+}
+
+/// A dialect: what isn't as in the default one.
+#[derive(Drop, Serialize)]
+#[serde(rename_all = "camelCase")]
+struct DialectPart {
+    #[serde(skip_serializing_if = "Option::is_none")]
+    delimiter: Option<char>,
+    #[serde(skip_serializing_if = "Option::is_none")]
+    quote_char: Option<char>,
+    #[serde(skip_serializing_if = "Option::is_none")]
+    comment_prefix: Option<Option<char>>,
+    #[serde(skip_serializing_if = "Option::is_none")]
+    header: Option<bool>,
+    #[serde(skip_serializing_if = "Option::is_none")]
+    skip_rows: Option<u8>,
+    #[serde(skip_serializing_if = "Option::is_none")]
+    skip_blank_rows: Option<bool>,
+}
+
+/// A datatype.
+#[derive(Drop, Serialize)]
+#[serde(untagged)]
+enum DatatypePart {
+    Name(&'static str),
+    WithFormat {
+        base: &'static str,
+        format: &'static str,
+    },
+}
+
+/// A column.
+#[derive(Drop, Serialize)]
+struct ColumnPart<'a> {
+    #[serde(skip_serializing_if = "Option::is_none")]
+    name: Option<&'a str>,
+    #[serde(skip_serializing_if = "Option::is_none")]
+    titles: Option<&'a str>,
+    #[serde(skip_serializing_if = "Option::is_none")]
+    datatype: Option<DatatypePart>,
+    #[serde(skip_serializing_if = "Option::is_none")]
+    required: Option<bool>,
+}
+
+/// What a foreign key refers to.
+#[derive(Drop, Serialize)]
+#[serde(rename_all = "camelCase")]
+struct ReferencePart<'a> {
+    resource: &'a str,
+    column_reference: &'a str,
+}
+
+/// A foreign key.
+#[derive(Drop, Serialize)]
+#[serde(rename_all = "camelCase")]
+struct ForeignKeyPart<'a> {
+    column_reference: &'a str,
+    reference: ReferencePart<'a>,
+}
+
+/// A schema.
+#[derive(Drop, Serialize)]
+#[serde(rename_all = "camelCase")]
+struct SchemaPart<'a> {
+    columns: Vec<ColumnPart<'a>>,
+    #[serde(skip_serializing_if = "Option::is_none")]
+    primary_key: Option<&'a str>,
+    #[serde(skip_serializing_if = "Option::is_none")]
+    foreign_keys: Option<Vec<ForeignKeyPart<'a>>>,
+}
+
+/// A table of a group.
+#[derive(Drop, Serialize)]
+#[serde(rename_all = "camelCase")]
+struct TablePart<'a> {
+    url: &'a str,
+    #[serde(skip_serializing_if = "Option::is_none")]
+    dialect: Option<DialectPart>,
+    table_schema: SchemaPart<'a>,
+}
+
+/// A document of one table.
+#[derive(Drop, Serialize)]
+#[serde(rename_all = "camelCase")]
+struct OneTable<'a> {
+    #[serde(rename = "@context")]
+    context: Context<'a>,
+    url: &'a str,
+    #[serde(skip_serializing_if = "Option::is_none")]
+    dialect: Option<DialectPart>,
+    table_schema: SchemaPart<'a>,
+}
+
+/// A document of several tables.
+#[derive(Drop, Serialize)]
+struct Group<'a> {
+    #[serde(rename = "@context")]
+    context: Context<'a>,
+    tables: Vec<TablePart<'a>>,
+}
+
+/// Returns the context with a base, if there is one.
+fn context_of(base: Option<&str>) -> Context<'_> {
+    match base {
+        Some(base) => Context::Based(CONTEXT, BaseMember { base }),
+        None => Context::Plain(CONTEXT),
+    }
+}
+
+/// Returns what of a table's dialect isn't as in the default one. A table without a header has no row.
+fn dialect_part(named: &Named) -> Option<DialectPart> {
+    let form = named.table.form;
+    let part = DialectPart {
+        delimiter: (form.delimiter != ',').then_some(form.delimiter),
+        quote_char: (form.quote != '"').then_some(form.quote),
+        comment_prefix: (form.comments == Comments::Read).then_some(None),
+        header: (!named.table.has_header).then_some(false),
+        skip_rows: (form.skip_rows > 0).then_some(form.skip_rows),
+        skip_blank_rows: named.table.skips_blank_rows().then_some(true),
+    };
+    if has_member(&part) { Some(part) } else { None }
+}
+
+/// Returns whether a dialect has a member.
+fn has_member(part: &DialectPart) -> bool {
+    part.delimiter.is_some()
+        || part.quote_char.is_some()
+        || part.comment_prefix.is_some()
+        || part.header.is_some()
+        || part.skip_rows.is_some()
+        || part.skip_blank_rows.is_some()
+}
+
+/// Returns a datatype, or `None` for `string`, which is the default.
+fn datatype_part(kind: Kind) -> Option<DatatypePart> {
+    match kind {
+        Kind::Text => None,
+        Kind::Truth => Some(DatatypePart::Name("boolean")),
+        Kind::Whole => Some(DatatypePart::Name("integer")),
+        Kind::Decimal => Some(DatatypePart::Name("decimal")),
+        Kind::Day(DateFormat::YearFirst) => Some(DatatypePart::Name("date")),
+        Kind::Day(format) => Some(DatatypePart::WithFormat {
+            base: "date",
+            format: format.pattern(),
+        }),
+        Kind::Moment(MomentFormat::Seconds) => Some(DatatypePart::Name("dateTime")),
+        Kind::Moment(format) => Some(DatatypePart::WithFormat {
+            base: "dateTime",
+            format: format.pattern(),
+        }),
+    }
+}
+
+/// Returns the columns of a table.
+fn column_parts<'a>(alloc: Global, named: &'a Named) -> Result<Vec<ColumnPart<'a>>, AllocError> {
+    let mut parts = Vec::new(alloc);
+    for (i, column) in named.table.columns.iter().enumerate() {
+        let name = name_at(named.names.as_slice(), i);
+        parts.push(ColumnPart {
+            name,
+            titles: name.map(|_| column.title.as_str()),
+            datatype: datatype_part(column.kind()),
+            required: (named.table.has_row && column.is_full()).then_some(true),
+        })?;
+    }
+    Ok(parts)
+}
+
+/// Returns a foreign key, or `None` if its columns have no names.
+fn key_part<'a>(
+    tables: &'a [Named],
+    place: usize,
+    urls: &'a [String],
+    key: ForeignKey,
+) -> Option<ForeignKeyPart<'a>> {
+    let other = tables.get(key.table)?;
+    Some(ForeignKeyPart {
+        column_reference: name_at(tables.get(place)?.names.as_slice(), key.column)?,
+        reference: ReferencePart {
+            resource: urls.get(key.table)?.as_str(),
+            column_reference: key_name(other)?,
+        },
+    })
+}
+
+/// Returns the foreign keys of the table at a place, or `None` if it has none.
+fn key_parts<'a>(
+    alloc: Global,
+    tables: &'a [Named],
+    place: usize,
+    urls: &'a [String],
+) -> Result<Option<Vec<ForeignKeyPart<'a>>>, AllocError> {
+    let mut parts = Vec::new(alloc);
+    for key in foreign_keys(alloc, tables, place)? {
+        if let Some(part) = key_part(tables, place, urls, key) {
+            parts.push(part)?;
+        }
+    }
+    Ok(if parts.is_empty() { None } else { Some(parts) })
+}
+
+/// Returns each table.
+fn table_parts<'a>(
+    alloc: Global,
+    tables: &'a [Named],
+    urls: &'a [String],
+) -> Result<Vec<TablePart<'a>>, AllocError> {
+    let mut parts = Vec::new(alloc);
+    for (i, (named, url)) in tables.iter().zip(urls).enumerate() {
+        parts.push(TablePart {
+            url: url.as_str(),
+            dialect: dialect_part(named),
+            table_schema: SchemaPart {
+                columns: column_parts(alloc, named)?,
+                primary_key: key_name(named),
+                foreign_keys: key_parts(alloc, tables, i, urls)?,
+            },
+        })?;
+    }
+    Ok(parts)
+}
+
+/// Returns the text of the document of some tables, each with its URL. It ends with a line feed. Returns `AllocError` if memory
+/// runs out.
+pub(crate) fn document<'a>(
+    alloc: Global,
+    base: Option<&'a str>,
+    tables: &'a [Named],
+    urls: &'a [String],
+) -> Result<String, AllocError> {
+    let mut parts = table_parts(alloc, tables, urls)?;
+    let context = context_of(base);
+    let one = if parts.len() == 1 { parts.pop() } else { None };
+    let text = match one {
+        Some(
+            TablePart {
+                url,
+                dialect,
+                table_schema,
+            },
+        ) => to_string_pretty(
+            alloc,
+            &OneTable {
+                context,
+                url,
+                dialect,
+                table_schema,
+            },
+        ),
+        None => to_string_pretty(
+            alloc,
+            &Group {
+                context,
+                tables: parts,
+            },
+        ),
+    };
+    let Ok(mut text) = text else {
+        return Err(AllocError);
+    };
+    text.push('\n')?;
+    Ok(text)
+}

@@ -1,0 +1,186 @@
+//! The keys of the tables of a draft.
+
+use crate::kind::Kind;
+use crate::table::Table;
+use crate::words::has_words;
+use csvw_datatype::Value;
+use std::alloc::{AllocError, Global};
+
+/// How many foreign keys a table may have.
+const MAX_FOREIGN_KEYS: usize = 64;
+
+/// The primary key of a table.
+#[derive(Drop)]
+pub(crate) struct Key {
+    /// The place of its column, from 0.
+    pub(crate) column: usize,
+    /// Its datatype.
+    pub(crate) kind: Kind,
+    /// Its values, in order.
+    pub(crate) values: Vec<Value>,
+}
+
+/// A foreign key of a table.
+#[derive(Clone, Copy, Debug, PartialEq, Eq)]
+pub(crate) struct ForeignKey {
+    /// The place of its column, from 0.
+    pub(crate) column: usize,
+    /// The place of the table that it refers to, from 0.
+    pub(crate) table: usize,
+}
+
+/// A table with the names of its columns.
+#[derive(Drop)]
+pub(crate) struct Named {
+    /// The table.
+    pub(crate) table: Table,
+    /// Its name: the name of its file without what follows the last dot.
+    pub(crate) name: String,
+    /// The name of each column. A column without a title has none.
+    pub(crate) names: Vec<Option<String>>,
+    /// Its primary key, if one is found.
+    pub(crate) key: Option<Key>,
+}
+
+/// A column that may refer to a key.
+#[derive(Clone, Copy)]
+struct Referring<'a> {
+    /// Its name.
+    name: &'a str,
+    /// Its datatype.
+    kind: Kind,
+    /// Whether it is the primary key of its own table.
+    is_key: bool,
+}
+
+/// Returns the primary key of a table: its first column with a name in which each cell has a value and no two have the same.
+pub(crate) fn primary_key(
+    table: &Table,
+    names: &[Option<String>],
+) -> Result<Option<Key>, AllocError> {
+    if !table.has_row {
+        return Ok(None);
+    }
+    for (i, (column, name)) in table.columns.iter().zip(names).enumerate() {
+        if name.is_none() {
+            continue;
+        }
+        if let Some(values) = column.key_values()? {
+            return Ok(Some(Key {
+                column: i,
+                kind: column.kind(),
+                values,
+            }));
+        }
+    }
+    Ok(None)
+}
+
+/// Returns the name of a table's primary key.
+pub(crate) fn key_name(named: &Named) -> Option<&str> {
+    let key = named.key.as_ref()?;
+    name_at(named.names.as_slice(), key.column)
+}
+
+/// Returns the name of the column at a place.
+pub(crate) fn name_at(names: &[Option<String>], column: usize) -> Option<&str> {
+    match names.get(column) {
+        Some(Some(name)) => Some(name.as_str()),
+        _ => None,
+    }
+}
+
+/// What the name of a column says of a reference to the key of a table.
+#[derive(Clone, Copy, Debug, PartialEq, Eq)]
+enum Hint {
+    /// It has the table's name in it, or is the key's name.
+    Strong,
+    /// It has the key's name in it.
+    Weak,
+    /// Nothing.
+    None,
+}
+
+/// Returns a name without an `s` at its end.
+fn singular(name: &str) -> &str {
+    name.strip_suffix('s').unwrap_or(name)
+}
+
+/// Returns what the name of a column says of a reference to the key of a table. Rows are often numbered: so a primary key of
+/// integers refers to another only by the table's name.
+fn hint_of(referring: Referring<'_>, other: &Named) -> Hint {
+    if has_words(referring.name, singular(other.name.as_str())) {
+        return Hint::Strong;
+    }
+    if referring.is_key && referring.kind == Kind::Whole {
+        return Hint::None;
+    }
+    match key_name(other) {
+        Some(key) if referring.name == key => Hint::Strong,
+        Some(key) if has_words(referring.name, key) => Hint::Weak,
+        _ => Hint::None,
+    }
+}
+
+/// Returns whether a column of a table refers to the primary key of another: its name gives this hint, it has the same datatype,
+/// and each of its values is one of the key.
+fn refers(named: &Named, place: usize, other: &Named, hint: Hint) -> Result<bool, AllocError> {
+    let (Some(name), Some(column), Some(key)) = (
+        name_at(named.names.as_slice(), place),
+        named.table.columns.get(place),
+        &other.key,
+    ) else {
+        return Ok(false);
+    };
+    let referring = Referring {
+        name,
+        kind: column.kind(),
+        is_key: named.key.as_ref().is_some_and(|own| own.column == place),
+    };
+    if referring.kind != key.kind || hint_of(referring, other) != hint {
+        return Ok(false);
+    }
+    column.is_within(key.values.as_slice())
+}
+
+/// Adds the foreign keys of a column to the tables whose names or keys give this hint.
+fn push_keys(
+    found: &mut Vec<ForeignKey>,
+    tables: &[Named],
+    place: usize,
+    column: usize,
+    hint: Hint,
+) -> Result<(), AllocError> {
+    let Some(named) = tables.get(place) else {
+        return Ok(());
+    };
+    for (table, other) in tables.iter().enumerate() {
+        let has_room = table != place && found.len() < MAX_FOREIGN_KEYS;
+        if has_room && refers(named, column, other, hint)? {
+            found.push(ForeignKey { column, table })?;
+        }
+    }
+    Ok(())
+}
+
+/// Returns the foreign keys of the table at a place. If the name of a column has the name of one table and the keys' names of
+/// others in it, the column refers to the first alone.
+pub(crate) fn foreign_keys(
+    alloc: Global,
+    tables: &[Named],
+    place: usize,
+) -> Result<Vec<ForeignKey>, AllocError> {
+    let mut found = Vec::new(alloc);
+    let columns = match tables.get(place) {
+        Some(named) => named.names.len(),
+        None => 0,
+    };
+    for column in 0..columns {
+        let before = found.len();
+        push_keys(&mut found, tables, place, column, Hint::Strong)?;
+        if found.len() == before {
+            push_keys(&mut found, tables, place, column, Hint::Weak)?;
+        }
+    }
+    Ok(found)
+}

@@ -1,0 +1,84 @@
+//! The lines that say what a draft left off.
+
+use crate::column::Column;
+use crate::kept::{KEPT_BYTES, KEPT_BYTES_IN_ALL, KEPT_VALUES, Limit};
+use crate::urls::last_part;
+use csvw_streams::{Counted, LineCut, LineRoom, push_parts, push_shown, write_out};
+use std::alloc::{AllocError, Global};
+use std::io::Write;
+
+/// Returns what is said of a limit.
+fn reason(alloc: Global, limit: Limit) -> Result<String, AllocError> {
+    match limit {
+        Limit::Values => format!(in alloc; "more than {KEPT_VALUES} values"),
+        Limit::Bytes => format!(in alloc; "more than {KEPT_BYTES} bytes of values"),
+        Limit::BytesInAll => format!(in alloc;
+            "more than {KEPT_BYTES_IN_ALL} bytes of values in all columns"
+        ),
+    }
+}
+
+/// Adds the name of a column: its title or, if it has none, its number.
+fn push_column<V: Write>(
+    err: &mut Counted<V>,
+    room: &mut LineRoom,
+    title: &str,
+    number: &str,
+) -> Result<(), LineCut> {
+    if title.is_empty() {
+        return push_parts(err, room, &[": column ", number]);
+    }
+    push_parts(err, room, &[": column \""])?;
+    push_shown(err, room, title)?;
+    push_parts(err, room, &["\""])
+}
+
+/// A line on a column.
+#[derive(Clone, Copy)]
+struct Line<'a> {
+    /// The path of the file.
+    path: &'a str,
+    /// The title of the column.
+    title: &'a str,
+    /// The number of the column, from 1.
+    number: &'a str,
+    /// What was left off.
+    reason: &'a str,
+}
+
+/// Sends a line.
+fn send_line<V: Write>(err: &mut Counted<V>, line: Line<'_>) -> Result<(), LineCut> {
+    let mut room = LineRoom::new();
+    push_parts(err, &mut room, &["csvw: "])?;
+    push_shown(err, &mut room, last_part(line.path))?;
+    push_column(err, &mut room, line.title, line.number)?;
+    let end = [": ", line.reason, ", so no key is looked for\n"];
+    push_parts(err, &mut room, &end)?;
+    match write_out(err, room.as_slice()) {
+        Ok(()) => Ok(()),
+        Err(_) => Err(LineCut),
+    }
+}
+
+/// Says of which columns of a table not all values were kept. It goes on if a line can't be sent.
+pub(crate) fn note_limits<V: Write>(
+    alloc: Global,
+    path: &str,
+    columns: &[Column],
+    err: &mut Counted<V>,
+) -> Result<(), AllocError> {
+    for (i, column) in columns.iter().enumerate() {
+        if let Some(limit) = column.kept.limit() {
+            let number = i.saturating_add(1).to_string(alloc)?;
+            let reason = reason(alloc, limit)?;
+            let line = Line {
+                path,
+                title: column.title.as_str(),
+                number: number.as_str(),
+                reason: reason.as_str(),
+            };
+            let _ = send_line(err, line);
+        }
+    }
+    Ok(())
+}
