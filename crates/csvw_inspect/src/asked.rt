@@ -1,0 +1,21 @@
+//! What is asked of an inspection.
+
+/// The form in which a document is shown.
+#[derive(Clone, Copy, Debug, PartialEq, Eq)]
+pub enum InspectForm {
+    /// Lines with a name and a value each, indented by what they belong to.
+    Text,
+    /// A JSON object. Its members have the names of the standard.
+    Json,
+}
+
+/// What is asked of an inspection.
+#[derive(Clone, Copy, Debug)]
+pub struct Inspect<'a> {
+    /// The absolute URL of the document.
+    pub base: &'a str,
+    /// The path of the document.
+    pub meta: &'a str,
+    /// The form in which it is shown.
+    pub form: InspectForm,
+}

@@ -1,0 +1,82 @@
+//! `inspect`: from the path of a document to the text.
+ghost use Rattle.std.specs.Prelude.{◌≡◌, IfErr, OnOk};
+ghost use Rattle.csvw_inspect.specs.Inspects.{Inspects};
+ghost use Rattle.csvw_streams.specs.Streams.{IsCut, Sends, stream_of};
+
+use crate::asked::{Inspect, InspectForm};
+use crate::document::document_of;
+use crate::json::json_of;
+use crate::text::lines_of;
+use csvw_columns::Plan;
+use csvw_engine_core::Stop;
+use csvw_files::{Opener, read_document};
+use csvw_meta::{Description, MetaCode, MetaFault, ReadDescription};
+use csvw_streams::{Counted, write_out};
+use std::alloc::{AllocError, Global};
+use std::io::Write;
+
+/// Writes what a metadata document says to `out`.
+///
+/// Returns `Read` if the document can't be read, `Meta` if it has a fault, `Write` if `out` failed, and `Memory` if memory
+/// ran out. Nothing is written then, unless `out` failed.
+pub fn inspect<O: Opener, W: Write>(
+    alloc: Global,
+    asked: &Inspect<'_>,
+    opener: &mut O,
+    out: &mut Counted<W>,
+) -> Result<(), Stop>
+    ensures { Inspects (stream_of W.contents out.old out.new) result }
+{
+    let text = text_of(alloc, asked, opener)?;
+    send(out, text.as_bytes())
+}
+
+/// Sends a text and flushes.
+fn send<W: Write>(out: &mut Counted<W>, bytes: &[u8]) -> Result<(), Stop>
+    ensures ok { OnOk result (Sends (stream_of W.contents out.old out.new) bytes.now) }
+    ensures cut { IfErr result (λ reason. (reason ≡ Stop.Write) × IsCut (stream_of W.contents out.old out.new) bytes.now) }
+{
+    let Ok(()) = write_out(out, bytes) else {
+        return Err(Stop::Write);
+    };
+    match out.flush() {
+        Ok(()) => Ok(()),
+        Err(_) => Err(Stop::Write),
+    }
+}
+
+/// Returns the text of a document.
+fn text_of<O: Opener>(alloc: Global, asked: &Inspect<'_>, opener: &mut O) -> Result<String, Stop> {
+    let bytes = bytes_of(alloc, asked.meta, opener)?;
+    let plan = match plan_of(alloc, bytes.as_slice(), asked.base) {
+        Ok(plan) => plan,
+        Err(fault) => {
+            return Err(match fault.code {
+                MetaCode::Memory => Stop::Memory,
+                _ => Stop::Meta(fault),
+            });
+        }
+    };
+    let view = document_of(alloc, asked, bytes.as_slice(), &plan)?;
+    Ok(match asked.form {
+        InspectForm::Text => lines_of(alloc, &view)?,
+        InspectForm::Json => json_of(alloc, view)?,
+    })
+}
+
+/// Opens and reads a document.
+fn bytes_of<O: Opener>(alloc: Global, path: &str, opener: &mut O) -> Result<Vec<u8>, Stop> {
+    let Some(reader) = opener.open(path) else {
+        return Err(Stop::Read);
+    };
+    let mut reader = Counted::new(reader);
+    let read = read_document(alloc, &mut reader);
+    opener.close(reader);
+    read
+}
+
+/// Reads a document and plans its tables.
+fn plan_of(alloc: Global, bytes: &[u8], base: &str) -> Result<Plan, MetaFault> {
+    let description = Description::read(alloc, bytes, base)?;
+    Plan::build(alloc, description)
+}
