@@ -1,0 +1,2 @@
+pub mod Shells
+pub mod Escapes

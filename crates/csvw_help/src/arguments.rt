@@ -1,0 +1,55 @@
+//! What a command takes, as far as help shows it.
+
+use clap::builder::ValueParser;
+use clap::{Arg, Command};
+use std::alloc::{AllocError, Global};
+
+/// Whether help shows an argument. The flags for help and for the version are shown in any case, so they are left out here.
+pub(crate) fn is_shown(arg: &Arg<'_>) -> bool {
+    !arg.is_hide_set() && arg.get_id() != "help" && arg.get_id() != "version"
+}
+
+/// Whether a subcommand is one of the program's own.
+pub(crate) fn is_own(command: &Command<'_>) -> bool {
+    command.get_name() != "help"
+}
+
+/// Whether an option has a value after it.
+pub(crate) fn takes_value(arg: &Arg<'_>) -> bool {
+    arg.get_action().takes_values()
+}
+
+/// Whether an argument can have several values.
+pub(crate) fn takes_several(arg: &Arg<'_>) -> bool {
+    arg.get_num_args()
+        .is_some_and(|range| range.max_values() > 1)
+}
+
+/// Whether a command has an argument that is no option.
+pub(crate) fn has_positionals(command: &Command<'_>) -> bool {
+    command
+        .get_arguments()
+        .iter()
+        .any(|arg| arg.is_positional() && is_shown(arg))
+}
+
+/// Returns the values that an argument can have, or none if they are free.
+pub(crate) fn possible_values<'a>(
+    alloc: Global,
+    arg: &Arg<'a>,
+) -> Result<Vec<&'a str>, AllocError> {
+    let mut names = Vec::new(alloc);
+    match arg.get_value_parser() {
+        ValueParser::Names(given) => names.extend_from_slice(given)?,
+        ValueParser::Values(values) => {
+            for value in values {
+                if !value.is_hide_set() {
+                    names.push(value.get_name())?;
+                }
+            }
+        }
+        ValueParser::Bool => names.extend_from_slice(&["true", "false"])?,
+        _ => {}
+    }
+    Ok(names)
+}
