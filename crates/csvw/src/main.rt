@@ -3,37 +3,52 @@
 //! # Promises
 //!
 //! - It is safe and ends. Only tests check that `main` hands the words, files and streams of its process to `command`.
+//! - Only tests check what it shows at a terminal: colours, progress and the explanation of a stop.
 #![tactic(auto)]
 
-use csvw_command::{FileOpener, Request, command, requested, tell_mistake, tell_stop};
+mod asked;
+mod words;
+
+use crate::asked::Asked;
+use crate::words::words_of;
+use csvw_command::{Colors, FileOpener, ProgressShown, command, tell_mistake, tell_stop};
 use csvw_engine::Stop;
 use csvw_text::Counted;
-use std::alloc::Global;
 use std::io::{self, BufWriter, IsTerminal, Stderr, Stdout};
 use std::process::ExitCode;
-use std::rt::Files;
+use std::rt::{Env, Files};
 use std::{env, fs};
 
 /// How many bytes of the output are kept before they are written.
 const BUFFERED: usize = 65_536;
 
-/// Whether the words ask for each line when it is made.
-fn asks_for_lines(alloc: Global, words: &[String]) -> bool {
-    match requested(alloc, words) {
-        Ok(Request::Plain { line_buffered, .. } | Request::Convert { line_buffered, .. }) =>
-            line_buffered,
-        Ok(Request::Validate(_) | Request::Check(_) | Request::Explain(_)) | Err(_) => false,
-    }
-}
-
-/// Whether each line is to be sent when it is made: where it is asked for, or shown at a terminal.
-fn is_line_buffered(alloc: Global, words: &[String], out: &Stdout) -> bool {
-    out.is_terminal() || asks_for_lines(alloc, words)
-}
+/// The variable of the environment that asks for no colours.
+const NO_COLOR: &str = "NO_COLOR";
 
 /// The null device, which takes the descriptor of a standard stream that is closed: a file that is opened later gets none of theirs.
 fn null_device<R: Files>(rt: &R) -> Option<R::File> {
     fs::open(rt, "/dev/null").ok()
+}
+
+/// Returns at which streams texts have colours: at terminals, if the environment doesn't ask for none.
+fn colors<R: Env + AllocGlobal>(rt: &R, out: &Stdout, err: &Stderr) -> Colors {
+    let are_wanted = match env::var(rt, NO_COLOR) {
+        Ok(value) => value.is_empty(),
+        Err(_) => true,
+    };
+    Colors {
+        out: are_wanted && out.is_terminal(),
+        err: are_wanted && err.is_terminal(),
+    }
+}
+
+/// Returns whether the progress is shown: at a terminal, if standard output is none or if it is asked for.
+fn progress(asked: Asked, out: &Stdout, err: &Stderr) -> ProgressShown {
+    if err.is_terminal() && (asked.progress || !out.is_terminal()) {
+        ProgressShown::Always
+    } else {
+        ProgressShown::Never
+    }
 }
 
 /// Runs the program on the words and streams of its process. At the end the buffer of standard output is
@@ -41,10 +56,17 @@ fn null_device<R: Files>(rt: &R) -> Option<R::File> {
 fn run(rt: &HostRuntime, err: &mut Counted<Stderr>) -> io::Result<u8> {
     let _standard = (null_device(rt), null_device(rt), null_device(rt));
     let alloc = rt.alloc();
-    let words = env::args(rt)?.collect::<Vec<String>>(alloc)?;
-    let mut opener = FileOpener::new(rt, rt.stdin());
     let out = rt.stdout();
-    if is_line_buffered(alloc, words.as_slice(), &out) {
+    let screen = rt.stderr();
+    let words = words_of(
+        alloc,
+        env::args(rt)?.collect::<Vec<String>>(alloc)?,
+        &screen,
+    )?;
+    let asked = Asked::of(alloc, words.as_slice());
+    let opener = FileOpener::new(rt, rt.stdin());
+    let mut opener = opener.showing(colors(rt, &out, &screen), progress(asked, &out, &screen));
+    if asked.line_buffered || out.is_terminal() {
         // without a buffer: a line is one write
         let mut out = Counted::new(out);
         return Ok(command(alloc, words.as_slice(), &mut opener, &mut out, err));

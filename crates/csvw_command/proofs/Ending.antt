@@ -1,13 +1,10 @@
 -- What a run over a group leaves, with what is told behind it.
-use Rattle.std.proofs.Common.{◌⊎◌, ℕ, Bool, true, false, List, sym, subst, ap₂, inl, inr, Option, Result, Ok, Err}
+use Rattle.std.proofs.Common.{◌⊎◌, ℕ, List, sym, subst, ap₂, inl, inr, Option, Result, Ok, Err}
 use Rattle.csvw_report.specs.declared.outcome.Outcome.{Outcome}
 use Rattle.csvw_engine_core.specs.declared.stop.Stop.{Stop}
-use Rattle.csvw_streams.specs.declared.counted.Counted.{Counted}
 use Rattle.csvw_streams.specs.Streams.{Stream}
-use Rattle.csvw_engine.specs.Runs.{Runs}
-use Rattle.csvw_command.specs.Groups.{ComesToEnd, EndsSo, StopsEarly, Leaves, conversion, order_of}
+use Rattle.csvw_command.specs.Groups.{ComesToEnd, EndsSo, StopsEarly}
 use Rattle.csvw_command.proofs.Sending.{stream}
-use Rattle.csvw_meta.specs.Document.{document}
 
 pub ends : (L : Stream → Result Outcome Stop → Type 0) (a b c : Option (List ℕ)) (n m k : ℕ) (r : Result Outcome Stop) (status : ℕ)
     → L (stream a b n m) r → EndsSo r (stream b c m k) status → ComesToEnd L (stream a c n k) status ⊎ StopsEarly L (stream a c n k) status

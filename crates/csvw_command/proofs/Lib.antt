@@ -1,5 +1,3 @@
-mod Asking
-mod Counting
 mod Ending
 mod Opening
 mod Running

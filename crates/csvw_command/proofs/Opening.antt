@@ -1,14 +1,15 @@
 -- The files of a group, opened one after the other.
 use Rattle.std.proofs.Common.{◌≡◌, ◌∙◌, ◌<◌, ◌+◌, ℕ, suc, List, [], ◌∷◌, ◌++◌, refl, sym, subst, ap, inl, inr, append_assoc, arith, drop, get_or, length}
-use Rattle.std.proofs.Common.{map, add-one, take, take-append-drop, Option, None, Some}
+use Rattle.std.proofs.Common.{map, take, take-append-drop, Option, None, Some}
 use Rattle.std.proofs.lemmas.List.{map-append, take-append-le}
-use Rattle.std.proofs.Math.Seq.{drop-cons, take-length, take-suc}
+use Rattle.std.proofs.Math.Seq.{drop-cons, take-length}
 use Rattle.clap.specs.Words.{Text}
 use Rattle.csvw_streams.specs.declared.counted.Counted.{Counted}
 use Rattle.csvw_streams.specs.Counted.{inner_of, failures_of}
-use Rattle.csvw_command.specs.declared.request.Group.{Group}
+use Rattle.csvw_command_core.specs.declared.request.Group.{Group}
 use Rattle.csvw_engine_core.specs.declared.stop.Stop.TheVariants as stop
 use Rattle.csvw_engine_core.specs.declared.stop.Stop.{Stop}
+use Rattle.csvw_command_core.proofs.Counting.{map_next}
 use Rattle.csvw_files.specs.Documents.{IsDocument, IsReadStop}
 use Rattle.csvw_command.specs.Groups.{ClosesAll, OpensAll, OpensGroup, OpensNot, ReadsMeta, StopsOpening}
 
@@ -31,11 +32,6 @@ opens_next opens old (p ∷ paths) (x ∷ readers) between path r new all one st
   steady = all.steady;
   rest = opens_next opens all.between paths readers between path r new all.rest one steady;
 }
-
--- the paths in front and one more
-pub map_next : {A B : Type 0} (f : A → B) (xs : List A) (i : ℕ) (d : A) → i < length xs
-    → map f (take (i + 1) xs) ≡ map f (take i xs) ++ (f (get_or xs i d) ∷ [])
-map_next f xs i d below = rw add-one (ap (map f) (take-suc xs i d below) ∙ map-append f (take i xs) (get_or xs i d ∷ []))
 
 -- the paths in front, one more, and the others
 map_parts : {A B : Type 0} (f : A → B) (xs : List A) (i : ℕ) (d : A) → i < length xs

@@ -1,18 +1,22 @@
 -- One run of the program: its words, its files, its two streams and its exit status: `Commands`.
-use Rattle.std.specs.Prelude.{◌≡◌, ◌⊎◌, ◌<◌, ◌≤◌, ℕ, List, [], ◌∷◌, Option, None, Some}
+use Rattle.std.specs.Prelude.{◌≡◌, ◌⊎◌, ◌≤◌, ℕ, List, [], ◌∷◌, Option, None, Some, false, true}
 use Rattle.clap.specs.Words.{HasKind, Text, fault_of, kind_of}
 use Rattle.clap.specs.declared.error.Error.{Error}
+use Rattle.csvw_engine_core.specs.declared.stop.Stop.{Stop}
 use Rattle.csvw_engine_core.specs.declared.stop.Stop.TheVariants as stop
 use Rattle.csvw_triples_core.specs.declared.mode.Mode.TheVariants as mode
-use Rattle.csvw_command.specs.Asked.{Asks, program_app}
-use Rattle.csvw_command.specs.declared.request.Request.{Request}
-use Rattle.csvw_command.specs.declared.request.Request.TheVariants.{Check, Convert, Explain, Plain, Validate}
+use Rattle.csvw_command_core.specs.Asked.{Asks, program_app}
+use Rattle.csvw_command_core.specs.Mistakes.{IsMistaken, IsSound}
+use Rattle.csvw_command_core.specs.declared.request.Request.{Request}
+use Rattle.csvw_command_core.specs.declared.request.Request.TheVariants.{Check, Completions, Convert, Draft, Explain, Inspect, Manual, Plain, Validate}
 use Rattle.csvw_meta.specs.Document.{plain_description}
 use Rattle.csvw_engine.specs.ReadOrder.{AreTableByTable}
 use Rattle.csvw_engine.specs.Runs.{Runs}
 use Rattle.csvw_command.specs.Answers.{Answers, GivesHelp, LacksMemory, TellsMistake, TellsStop}
-use Rattle.csvw_command.specs.StandardInput.{inputs_of}
 use Rattle.csvw_command.specs.Groups.{ComesToEnd, RunsGroup, StopsEarly, conversion}
+use Rattle.csvw_command.specs.Shown.{ShowsRun, is_default}
+use Rattle.csvw_triples_core.specs.declared.mode.Mode.{Mode}
+use Rattle.csvw_command_core.specs.declared.request.Group.{Group}
 use Rattle.csvw_streams.specs.declared.counted.Counted.{Counted}
 use Rattle.csvw_streams.specs.Counted.{inner_of, failures_of}
 use Rattle.csvw_streams.specs.Streams.{Stream, IsIdle}
@@ -46,30 +50,45 @@ pub record RunsPlain {O R : Type 0} (opens : O → Text → Option R → O → T
 abbrev pub Gives : Stream → Stream → ℕ → Type 0
 Gives out err status = GivesHelp out err status ⊎ (TellsMistake out err status ⊎ LacksMemory out err status)
 
--- what is asked for is done; of a check nothing is said
+-- A run over a group is `RunsGroup`, where its report and stop are told as a run tells them; else they are shown after it.
+pub record RunsReport {O R : Type 0} (opens : O → Text → Option R → O → Type 0) (closes : O → Counted R → O → Type 0) (remaining : R → Option (List ℕ))
+    (mode : Mode) (group : Group) (old new : O) (out err : Stream) (status : ℕ) : Type 0 where
+  pub default : is_default group ≡ true → RunsGroup opens closes remaining mode group old new out err status
+  pub shown : is_default group ≡ false → ShowsRun opens closes remaining mode group old out status
+  pub bound : status ≤ 4
+
+-- what was asked for is shown, or the stop is told
+abbrev pub EndsOrStops : Stream → ℕ → Type 0
+EndsOrStops err status = (IsIdle err × (status ≡ 0)) ⊎ ((reason : Stop) × TellsStop reason err status)
+
+-- what is asked for is done; of a check and of a draft nothing is said but the bound of the status
 abbrev pub RunsRequest : {O R : Type 0} → (O → Text → Option R → O → Type 0) → (O → Counted R → O → Type 0) → (R → Option (List ℕ)) → Request → O → O
     → Stream → Stream → ℕ → Type 0
-RunsRequest opens closes remaining (Plain url file line_buffered) old new out err status =
+RunsRequest opens closes remaining (Plain url file line_buffered progress) old new out err status =
     RunsPlain opens closes remaining url.now file.now old new out err status
-RunsRequest opens closes remaining (Validate group) old new out err status = RunsGroup opens closes remaining mode.Validate group old new out err status
+RunsRequest opens closes remaining (Validate group) old new out err status = RunsReport opens closes remaining mode.Validate group old new out err status
 RunsRequest opens closes remaining (Convert group minimal line_buffered) old new out err status =
-    RunsGroup opens closes remaining (conversion minimal) group old new out err status
+    RunsReport opens closes remaining (conversion minimal) group old new out err status
 RunsRequest opens closes remaining (Check asked) old new out err status = status ≤ 4
 RunsRequest opens closes remaining (Explain code) old new out err status = (new ≡ old) × Gives out err status
+RunsRequest opens closes remaining (Inspect asked) old new out err status = EndsOrStops err status
+RunsRequest opens closes remaining (Draft asked) old new out err status = status ≤ 4
+RunsRequest opens closes remaining (Completions shell) old new out err status = (new ≡ old) × Gives out err status
+RunsRequest opens closes remaining Manual old new out err status = (new ≡ old) × Gives out err status
 
 -- the words ask for something, and it is done
 pub record RunsAsked {O R : Type 0} (opens : O → Text → Option R → O → Type 0) (closes : O → Counted R → O → Type 0) (remaining : R → Option (List ℕ))
     (words : List Text) (old new : O) (out err : Stream) (status : ℕ) : Type 0 where
   pub request : Request
   pub asks : Asks words request
-  pub once : inputs_of request ≤ 1
+  pub sound : IsSound request
   pub runs : RunsRequest opens closes remaining request old new out err status
 
--- the words ask for a run that reads standard input for two files, which is told; no file is opened
-pub record AsksTwice {O : Type 0} (words : List Text) (old new : O) (out err : Stream) (status : ℕ) : Type 0 where
+-- the words ask for what is a mistake, which is told; no file is opened
+pub record AsksMistaken {O : Type 0} (words : List Text) (old new : O) (out err : Stream) (status : ℕ) : Type 0 where
   pub request : Request
   pub asks : Asks words request
-  pub twice : 1 < inputs_of request
+  pub mistaken : IsMistaken request
   pub opens_none : new ≡ old
   pub told : TellsMistake out err status
 
@@ -84,4 +103,4 @@ pub record AnswersWords {O : Type 0} (words : List Text) (old new : O) (out err 
 abbrev pub Commands : {O R : Type 0} → (O → Text → Option R → O → Type 0) → (O → Counted R → O → Type 0) → (R → Option (List ℕ)) → List Text → O → O
     → Stream → Stream → ℕ → Type 0
 Commands opens closes remaining words old new out err status =
-    RunsAsked opens closes remaining words old new out err status ⊎ (AsksTwice words old new out err status ⊎ AnswersWords words old new out err status)
+    RunsAsked opens closes remaining words old new out err status ⊎ (AsksMistaken words old new out err status ⊎ AnswersWords words old new out err status)

@@ -12,7 +12,8 @@ use Rattle.csvw_engine_core.specs.declared.stop.Stop.TheVariants as stop
 use Rattle.csvw_session.specs.Events.{Event}
 use Rattle.csvw_engine.specs.ReadOrder.{AreInTurn, AreTableByTable}
 use Rattle.csvw_engine.specs.Runs.{Runs}
-use Rattle.csvw_command.specs.declared.request.Group.{Group}
+use Rattle.csvw_command_core.specs.Asked.{paths_of}
+use Rattle.csvw_command_core.specs.declared.request.Group.{Group}
 use Rattle.csvw_command.specs.Answers.{TellsStop}
 use Rattle.csvw_files.specs.Documents.{IsDocument, IsReadStop}
 use Rattle.csvw_command.specs.Status.{outcome_status}
@@ -56,10 +57,6 @@ pub record StopsOpening {O R : Type 0} (opens : O → Text → Option R → O �
   pub between : O
   pub opened : OpensAll opens old front readers between
   pub fails : ((reason ≡ stop.Memory) × (new ≡ between)) ⊎ ((reason ≡ stop.Read) × MissesFirst opens between rest new)
-
--- the paths of the files of a group
-abbrev pub paths_of : Group → List Text
-paths_of group = map (λ file. file.now) group.files.items
 
 -- The metadata is opened and read: its reader, which had not failed, was read without a failure, and was handed back as it was left.
 pub record ReadsMeta {O R : Type 0} (opens : O → Text → Option R → O → Type 0) (closes : O → Counted R → O → Type 0) (remaining : R → Option (List ℕ))

@@ -1,7 +1,6 @@
 pub mod Answers
-pub mod Asked
 pub mod Commands
 pub mod Groups
 pub mod Lines
-pub mod StandardInput
+pub mod Shown
 pub mod Status

@@ -5,8 +5,8 @@ ghost use Rattle.csvw_engine.specs.Runs.{Runs};
 ghost use Rattle.csvw_streams.specs.Streams.{stream_of};
 ghost use Rattle.csvw_meta.specs.Document.{document};
 
-use crate::request::Group;
 use crate::tell::{outcome_status, tell_stop};
+use csvw_command_core::Group;
 use csvw_engine::{Outcome, Stop, run, run_turns};
 use csvw_files::{Opener, read_document};
 use csvw_text::Counted;
@@ -151,18 +151,47 @@ pub struct GroupRun<'a> {
     pub mode: Mode,
 }
 
+/// How a run over the files of a group ended.
+#[derive(Debug, Drop)]
+pub struct Ended {
+    /// Why it stopped, if it did.
+    pub stop: Option<Stop>,
+    /// Whether there are faults, of any kind.
+    pub has_faults: bool,
+    /// The exit status.
+    pub status: u8,
+}
+
+/// Returns how a run ended that has this status.
+fn end_of(ran: Result<Outcome, Stop>, status: u8) -> Ended
+    ensures { result.status ≡ status }
+{
+    match ran {
+        Ok(outcome) => Ended {
+            stop: None,
+            has_faults: !outcome.faults.is_empty(),
+            status,
+        },
+        Err(stop) => Ended {
+            stop: Some(stop),
+            has_faults: false,
+            status,
+        },
+    }
+}
+
 /// Runs over the files of a group. The graph goes to `out` and the report to `err`. In mode `Validate` the report goes to
-/// `out`. Returns the exit status; a stop is reported on `err`.
+/// `out`. Returns how the run ended; a stop is reported on `err`.
 pub fn run_group<O: Opener, W: Write, V: Write>(
     alloc: Global,
     asked: GroupRun<'_>,
     opener: &mut O,
     out: &mut Counted<W>,
     err: &mut Counted<V>,
-) -> u8
+) -> Ended
     ensures runs { RunsGroup O.opens O.closes O.Reader.remaining asked.entry.mode asked.entry.group.now opener.old opener.new
-        (stream_of W.contents out.old out.new) (stream_of V.contents err.old err.new) result }
-    ensures bound { result ≤ 4 }
+        (stream_of W.contents out.old out.new) (stream_of V.contents err.old err.new) result.status }
+    ensures bound { result.status ≤ 4 }
 {
     let GroupRun { group, mode } = asked;
     match open_group(alloc, group, opener) {
@@ -175,8 +204,12 @@ pub fn run_group<O: Opener, W: Write, V: Write>(
             };
             let ran = run_to(alloc, asked, readers.as_mut_slice(), out, err);
             close_all(readers, opener);
-            tell_end(&ran, err)
+            let status = tell_end(&ran, err);
+            end_of(ran, status)
         }
-        Err(stop) => tell_stop(&stop, err),
+        Err(stop) => {
+            let status = tell_stop(&stop, err);
+            end_of(Err(stop), status)
+        }
     }
 }

@@ -1,38 +1,26 @@
 //! What one run of the program does, over any files and writers.
 ghost use Rattle.std.specs.Prelude.{◌≡◌, ◌≤◌, map, string_bytes};
 ghost use Rattle.clap.specs.Words.{kind_of};
-ghost use Rattle.csvw_command.specs.Answers.{Answers, GivesText};
-ghost use Rattle.csvw_command.specs.Commands.{Commands, Gives, RunsPlain, RunsRequest};
+ghost use Rattle.csvw_command.specs.Answers.{Answers};
+ghost use Rattle.csvw_command.specs.Commands.{Commands, EndsOrStops, RunsPlain, RunsRequest};
 ghost use Rattle.csvw_streams.specs.Streams.{stream_of};
 
-use crate::group::{GroupRun, run_group, tell_end};
-use crate::request::{CheckedGroup, Request, requested};
-use crate::standard_input::reads_twice;
-use crate::tell::{SUCCESS, send, tell_mistake, tell_stop};
+use crate::group::{GroupRun, tell_end};
+use crate::shown::{color_of, form_of, run_report, shown_of};
+use crate::tell::{SUCCESS, tell_mistake, tell_stop};
+use crate::texts::{give_text, run_completions, run_explain, run_manual};
 use clap::Error;
 use clap::error::ErrorKind;
-use csvw_check::{Check, Shown, check};
+use csvw_check::{Check, Strict, check};
+use csvw_command_core::{CheckedGroup, DraftedFiles, Inspected, Request, mistake_in, requested};
+use csvw_draft::{Draft, draft};
 use csvw_engine::{Stop, plain};
-use csvw_explain::{push_codes, push_explanation};
 use csvw_files::Opener;
+use csvw_inspect::{Inspect, InspectForm, inspect};
 use csvw_text::Counted;
 use csvw_triples_core::Mode;
-use std::alloc::{AllocError, Global};
+use std::alloc::Global;
 use std::io::Write;
-
-/// What is told of a command line that names standard input twice.
-const TWICE: &str = "csvw: standard input is named for two files, and can be read for one\n";
-
-fn give_help<W: Write, V: Write>(text: &str, out: &mut Counted<W>, err: &mut Counted<V>) -> u8
-    ensures given { GivesText text.now (stream_of W.contents out.old out.new) (stream_of V.contents err.old err.new) result }
-    ensures bound { result ≤ 4 }
-{
-    if send(out, text.as_bytes()) {
-        SUCCESS
-    } else {
-        tell_stop(&Stop::Write, err)
-    }
-}
 
 /// Tells what `clap` answers in place of a request: help on `out`, a mistake on `err`.
 fn tell_words<W: Write, V: Write>(
@@ -49,7 +37,7 @@ fn tell_words<W: Write, V: Write>(
     };
     match answer.kind() {
         ErrorKind::OutOfMemory => tell_stop(&Stop::Memory, err),
-        ErrorKind::DisplayHelp | ErrorKind::DisplayVersion => give_help(text.as_str(), out, err),
+        ErrorKind::DisplayHelp | ErrorKind::DisplayVersion => give_text(text.as_str(), out, err),
         _ => tell_mistake(text.as_str(), err),
     }
 }
@@ -86,6 +74,15 @@ fn run_plain<O: Opener, W: Write, V: Write>(
 /// The base URL of a document whose own URL isn't known.
 const UNKNOWN_URL: &str = "file:///";
 
+/// Returns the URL of a document: this one, if it is given, or the one of its path.
+fn base_of<'a>(given: Option<&'a str>, own: &'a Option<String>) -> &'a str {
+    match (given, own) {
+        (Some(base), _) => base,
+        (None, Some(url)) => url.as_str(),
+        (None, None) => UNKNOWN_URL,
+    }
+}
+
 /// Shows what is wrong with a group.
 fn run_check<O: Opener, W: Write, V: Write>(
     alloc: Global,
@@ -97,55 +94,64 @@ fn run_check<O: Opener, W: Write, V: Write>(
     ensures { result ≤ 4 }
 {
     let own = opener.url(asked.meta);
-    let own = match &own {
-        Some(url) => url.as_str(),
-        None => UNKNOWN_URL,
-    };
     let asked = Check {
-        base: asked.base.unwrap_or(own),
+        base: base_of(asked.base, &own),
         meta: asked.meta,
         files: asked.files.as_slice(),
-        shown: match asked.all {
-            true => Shown::All,
-            false => Shown::First,
+        shown: shown_of(&asked.reporting),
+        form: form_of(asked.reporting.form),
+        color: color_of(asked.reporting.color, opener.colors().out),
+        strict: match asked.reporting.strict {
+            true => Strict::Warnings,
+            false => Strict::Errors,
         },
     };
     check(alloc, &asked, opener, out, err)
 }
 
-/// What is told if there is no code of a name.
-const NO_CODE: &str = "csvw: there is no such code; `csvw explain` lists them\n";
-
-/// Returns the text on a code, or on all codes. Returns `None` if there is no such code.
-fn explanation(alloc: Global, code: Option<&str>) -> Result<Option<String>, AllocError> {
-    let mut text = String::new(alloc);
-    let is_known = match code {
-        Some(code) => push_explanation(&mut text, code)?,
-        None => {
-            push_codes(&mut text)?;
-            true
-        }
-    };
-    match is_known {
-        true => Ok(Some(text)),
-        false => Ok(None),
-    }
-}
-
-/// Explains a code, or lists all codes.
-fn run_explain<W: Write, V: Write>(
+/// Shows what a metadata document says.
+fn run_inspect<O: Opener, W: Write, V: Write>(
     alloc: Global,
-    code: Option<&str>,
+    asked: &Inspected<'_>,
+    opener: &mut O,
     out: &mut Counted<W>,
     err: &mut Counted<V>,
 ) -> u8
-    ensures explains { Gives (stream_of W.contents out.old out.new) (stream_of V.contents err.old err.new) result }
+    ensures ends { EndsOrStops (stream_of V.contents err.old err.new) result }
     ensures bound { result ≤ 4 }
 {
-    match explanation(alloc, code) {
-        Ok(Some(text)) => give_help(text.as_str(), out, err),
-        Ok(None) => tell_mistake(NO_CODE, err),
-        Err(_) => tell_stop(&Stop::Memory, err),
+    let own = opener.url(asked.meta);
+    let asked = Inspect {
+        base: base_of(asked.base, &own),
+        meta: asked.meta,
+        form: match asked.json {
+            true => InspectForm::Json,
+            false => InspectForm::Text,
+        },
+    };
+    match inspect(alloc, &asked, opener, out) {
+        Ok(()) => SUCCESS,
+        Err(stop) => tell_stop(&stop, err),
+    }
+}
+
+/// Drafts a metadata document.
+fn run_draft<O: Opener, W: Write, V: Write>(
+    alloc: Global,
+    asked: &DraftedFiles<'_>,
+    opener: &mut O,
+    out: &mut Counted<W>,
+    err: &mut Counted<V>,
+) -> u8
+    ensures { result ≤ 4 }
+{
+    let asked = Draft {
+        base: asked.base,
+        files: asked.files.as_slice(),
+    };
+    match draft(alloc, &asked, opener, out, err) {
+        Ok(()) => SUCCESS,
+        Err(stop) => tell_stop(&stop, err),
     }
 }
 
@@ -167,25 +173,30 @@ fn run_request<O: Opener, W: Write, V: Write>(
         }
         Request::Validate(group) => {
             let mode = Mode::Validate;
-            run_group(alloc, GroupRun { group, mode }, opener, out, err)
+            run_report(alloc, GroupRun { group, mode }, opener, out, err)
         }
         Request::Convert { group, minimal, .. } => {
             let mode = match minimal {
                 true => Mode::Minimal,
                 false => Mode::Standard,
             };
-            run_group(alloc, GroupRun { group, mode }, opener, out, err)
+            run_report(alloc, GroupRun { group, mode }, opener, out, err)
         }
         Request::Check(asked) => run_check(alloc, asked, opener, out, err),
         Request::Explain(code) => run_explain(alloc, *code, out, err),
+        Request::Inspect(asked) => run_inspect(alloc, asked, opener, out, err),
+        Request::Draft(asked) => run_draft(alloc, asked, opener, out, err),
+        Request::Completions(shell) => run_completions(alloc, shell, out, err),
+        Request::Manual => run_manual(alloc, out, err),
     }
 }
 
-/// Runs the program on its words, the first of which is its name, and answers its exit status: 0 where
-/// there is no fault of kind error or help was asked for, 1 where there are faults, 2 where the command
-/// line is refused, as where it names standard input, `-`, for two files, 3 where metadata or a table is, 4 where a file or a stream failed or memory ran out.
-/// Help, graphs, the report of `validate` and the text of `check` go to `out`, everything else to `err`, other reports among it;
-/// on 3 and 4 its last line tells the stop.
+/// Runs the program on its words, the first of which is its name. Returns its exit status.
+///
+/// The status is 0 if no fault is an error, or if a text was asked for. It is 1 if there are faults, and 2 if the command
+/// line isn't accepted. It is 3 if metadata or a table isn't. It is 4 if a file or a stream failed or memory ran out.
+/// Texts, graphs, the report of `validate` and the page of `check` go to `out`. Everything else goes to `err`, other
+/// reports among it. On 3 and 4 its last line reports the stop, but for `check`.
 pub fn command<O: Opener, W: Write, V: Write>(
     alloc: Global,
     words: &[String],
@@ -197,9 +208,12 @@ pub fn command<O: Opener, W: Write, V: Write>(
         (stream_of W.contents out.old out.new) (stream_of V.contents err.old err.new) result }
     ensures bound { result ≤ 4 }
 {
-    match requested(alloc, words) {
-        Ok(request) if reads_twice(&request) => tell_mistake(TWICE, err),
-        Ok(request) => run_request(alloc, &request, opener, out, err),
-        Err(answer) => tell_words(alloc, &answer, out, err),
+    let request = match requested(alloc, words) {
+        Ok(request) => request,
+        Err(answer) => return tell_words(alloc, &answer, out, err),
+    };
+    match mistake_in(&request) {
+        Some(mistake) => tell_mistake(mistake, err),
+        None => run_request(alloc, &request, opener, out, err),
     }
 }

@@ -1,8 +1,8 @@
 -- The run is that of its mode. The readers are handed back, and a stop is reported after what the run left of `err`.
-use Rattle.std.proofs.Common.{rules, ◌≡◌, ◌∙◌, drop, inl, length, subst}
+use Rattle.std.proofs.Common.{rules, ◌≡◌, ◌∙◌, drop, inl, length, subst, sym}
 use Rattle.csvw_streams.specs.Counted.{inner_of, failures_of}
 use Rattle.csvw_streams.specs.Streams.{stream_of}
-use Rattle.csvw_command.specs.Groups.{ClosesAll, Leaves}
+use Rattle.csvw_command.specs.Groups.{ClosesAll, Leaves, RunsGroup}
 use Rattle.csvw_command.proofs.Ending.{ends}
 use Rattle.csvw_command.proofs.Opening.{opened_as, whole_front}
 use Rattle.csvw_command.proofs.group.run_group.Goals as goal
@@ -18,7 +18,8 @@ returns-in-Ok-clause-runs g c =
     let left = whole_front c.in-Ok.field-0.readers.len c.run_to-ran.new.readers (drop (length c.run_to-ran.new.readers) c.in-Ok.field-0.readers.items)
     (c.run_to-ran.auto.readers ∙ c.as_mut_slice.ensures.len) in
     let out = stream_of g.W.Write.contents c.args.out.now c.run_to-ran.new.out in
-    inl (record {
+    subst (λ status. RunsGroup g.O.Opener.opens g.O.Opener.closes g.O.Reader.Read.remaining c.args.asked.mode c.args.asked.group.now c.args.opener.now
+    c.close_all.new.opener out (stream_of told c.args.err.now c.tell_end-status.new.err) status) (sym c.end_of.ensures) (inl (record {
       bytes = bytes;
       readers = readers;
       between = c.open_group.new.opener;
@@ -28,7 +29,7 @@ returns-in-Ok-clause-runs g c =
       closed = subst (λ xs. ClosesAll g.O.Opener.closes c.open_group.new.opener xs c.close_all.new.opener) left c.close_all.ensures;
       runs = ends (Leaves g.O.Reader.Read.remaining c.args.asked.mode c.args.asked.group.now.turns bytes c.args.asked.group.now.base.now readers
           c.run_to-ran.new.readers out)
-          (told (inner_of c.args.err.now)) (told (inner_of c.run_to-ran.new.err)) (told (inner_of c.tell_end.new.err)) (failures_of c.args.err.now)
-          (failures_of c.run_to-ran.new.err) (failures_of c.tell_end.new.err)
-          c.run_to-ran.result c.tell_end.result c.run_to-ran.ensures c.tell_end.ensures.end;
-    })
+          (told (inner_of c.args.err.now)) (told (inner_of c.run_to-ran.new.err)) (told (inner_of c.tell_end-status.new.err)) (failures_of c.args.err.now)
+          (failures_of c.run_to-ran.new.err) (failures_of c.tell_end-status.new.err)
+          c.run_to-ran.result c.tell_end-status.result c.run_to-ran.ensures c.tell_end-status.ensures.end;
+    }))

@@ -1,5 +1,5 @@
 -- What the room has of the line is sent.
-use Rattle.std.proofs.Common.{rules, ◌≡◌, [], is_ok, subst, true}
+use Rattle.std.proofs.Common.{rules, ◌≡◌, is_ok, subst, true}
 use Rattle.csvw_streams.specs.Counted.{inner_of, failures_of}
 use Rattle.csvw_streams.specs.Lines.{SendsOn}
 use Rattle.csvw_streams.specs.Streams.{stream_of}

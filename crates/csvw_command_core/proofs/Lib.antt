@@ -1,0 +1,2 @@
+mod Asking
+pub mod Counting

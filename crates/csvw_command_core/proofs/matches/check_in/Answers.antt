@@ -1,0 +1,17 @@
+-- The words of a check.
+use Rattle.std.proofs.Common.{codes, refl, sym, ◌∙◌}
+use Rattle.clap.specs.Words.{found_of}
+use Rattle.clap.proofs.WalkLemmas.{first_value-rows}
+use Rattle.csvw_command_core.proofs.matches.check_in.Goals as goal
+
+pub returns : goal.returns
+returns c =
+    let found = found_of c.args.matches.now in
+    record {
+      name_is = refl;
+      base_is = sym (first_value-rows found (codes "base")) ∙ sym c.get_str-2.ensures;
+      meta_is = sym (first_value-rows found (codes "META")) ∙ sym c.in-Some.ensures;
+      files_are = c.in_ok-files_in.ensures;
+      reporting_is = c.reporting_in.ensures;
+      progress_is = c.has_flag.ensures;
+    }

@@ -1,0 +1,3 @@
+pub mod Asked
+pub mod Mistakes
+pub mod StandardInput

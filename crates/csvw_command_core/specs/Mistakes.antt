@@ -1,0 +1,68 @@
+-- What clap accepts and the program doesn't: standard input for two files, and names that there are not: `IsSound`, `IsMistaken`.
+use Rattle.std.specs.Prelude.{◌≡◌, ◌⊎◌, ◌<◌, ◌≤◌, ◌&&◌, ◌||◌, Bool, true, false, Option, None, Some, bytes_eq, codes}
+use Rattle.std.specs.Borrow.{Bor}
+use Rattle.clap.specs.Words.{Text}
+use Rattle.csvw_command_core.specs.StandardInput.{inputs_of}
+use Rattle.csvw_command_core.specs.declared.request.Reporting.{Reporting}
+use Rattle.csvw_command_core.specs.declared.request.Request.{Request}
+use Rattle.csvw_command_core.specs.declared.request.Request.TheVariants.{Check, Completions, Convert, Draft, Explain, Inspect, Manual, Plain, Validate}
+
+-- the forms of a report for people
+abbrev pub is_shown_form : Text → Bool
+is_shown_form name = bytes_eq name (codes "text") || (bytes_eq name (codes "html") || bytes_eq name (codes "json"))
+
+-- when a text has colours
+abbrev pub is_color : Text → Bool
+is_color name = bytes_eq name (codes "auto") || (bytes_eq name (codes "always") || bytes_eq name (codes "never"))
+
+-- the shells that there are completions for
+abbrev pub is_shell : Text → Bool
+is_shell name = bytes_eq name (codes "bash") || (bytes_eq name (codes "zsh") || bytes_eq name (codes "fish"))
+
+-- the forms of the report of a run
+abbrev pub is_report_form : Text → Bool
+is_report_form name = bytes_eq name (codes "csv") || is_shown_form name
+
+-- a form for people, if one is given
+abbrev pub knows_shown_form : Option (Bor Text) → Bool
+knows_shown_form None = true
+knows_shown_form (Some name) = is_shown_form name.now
+
+-- a form of the report of a run, if one is given
+abbrev pub knows_report_form : Option (Bor Text) → Bool
+knows_report_form None = true
+knows_report_form (Some name) = is_report_form name.now
+
+-- a colour, if one is given
+abbrev pub knows_color : Option (Bor Text) → Bool
+knows_color None = true
+knows_color (Some name) = is_color name.now
+
+-- the form and the colour of a check are known
+abbrev pub knows_shown : Reporting → Bool
+knows_shown reporting = knows_shown_form reporting.form && knows_color reporting.color
+
+-- the form and the colour of a run are known; its default form is `csv`
+abbrev pub knows_report : Reporting → Bool
+knows_report reporting = knows_report_form reporting.form && knows_color reporting.color
+
+-- the names that a request has are known
+abbrev pub knows_names : Request → Bool
+knows_names (Plain url file line_buffered progress) = true
+knows_names (Validate group) = knows_report group.reporting
+knows_names (Convert group minimal line_buffered) = knows_report group.reporting
+knows_names (Check asked) = knows_shown asked.reporting
+knows_names (Explain code) = true
+knows_names (Inspect asked) = true
+knows_names (Draft asked) = true
+knows_names (Completions shell) = is_shell shell.now
+knows_names Manual = true
+
+-- the program does what is asked for
+pub record IsSound (request : Request) : Type 0 where
+  pub once : inputs_of request ≤ 1
+  pub known : knows_names request ≡ true
+
+-- the request is a mistake of the command line
+abbrev pub IsMistaken : Request → Type 0
+IsMistaken request = (1 < inputs_of request) ⊎ (knows_names request ≡ false)

@@ -1,0 +1,215 @@
+//! The subcommands and the whole command line, in clap's terms.
+ghost use Rattle.clap.specs.Words.{app_of};
+ghost use Rattle.clap.specs.declared.builder.command.Command.TheViews.{out-Command};
+ghost use Rattle.csvw_command_core.specs.Asked.{check_app, completions_app, convert_app, draft_app, explain_app, group_app};
+ghost use Rattle.csvw_command_core.specs.Asked.{inspect_app, manual_app, plain_app, program_app, read_app};
+ghost use Rattle.csvw_command_core.specs.Asked.{validate_app, with_reporting};
+ghost use Rattle.std.specs.Prelude.{◌≡◌, IfOk, false};
+
+use crate::after_help;
+use crate::arguments::{
+    all, base, code, color, draft_base, explained, file, files, json, line_buffered, meta, minimal,
+    own_base, progress, report, shell, some_files, strict, turns, url,
+};
+use clap::Command;
+use std::alloc::{AllocError, Global};
+
+pub(crate) const PLAIN: &str = "plain";
+
+pub(crate) const VALIDATE: &str = "validate";
+
+pub(crate) const CONVERT: &str = "convert";
+
+pub(crate) const CHECK: &str = "check";
+
+pub(crate) const EXPLAIN: &str = "explain";
+
+pub(crate) const INSPECT: &str = "inspect";
+
+pub(crate) const DRAFT: &str = "draft";
+
+pub(crate) const COMPLETIONS: &str = "completions";
+
+pub(crate) const MANUAL: &str = "manual";
+
+const VERSION: &str = "0.3.0 (rattle 0.0.0)";
+
+/// Adds the options of a report. Fails with `AllocError` if memory runs out.
+fn with_reporting<'a>(alloc: Global, command: Command<'a>) -> Result<Command<'a>, AllocError>
+    requires { (out-Command command).has_globals ≡ false }
+    ensures app { IfOk result (λ made. app_of made ≡ with_reporting (app_of command.entry)) }
+    ensures local { IfOk result (λ made. (out-Command made).has_globals ≡ false) }
+{
+    command
+        .arg(report(alloc))?
+        .arg(color(alloc))?
+        .arg(all(alloc))?
+        .arg(strict(alloc))
+}
+
+/// Makes a subcommand on a group of tables, without the flags that others share. Fails with `AllocError` if memory runs
+/// out.
+fn read_command<'a>(
+    alloc: Global,
+    name: &'a str,
+    about: &'a str,
+    examples: &'a str,
+) -> Result<Command<'a>, AllocError>
+    ensures app { IfOk result (λ command. app_of command ≡ read_app name.entry.now) }
+    ensures local { IfOk result (λ command. (out-Command command).has_globals ≡ false) }
+{
+    let args = vec![in alloc; base(alloc), meta(alloc), files(alloc), turns(alloc)]?;
+    Command::new(alloc, name)
+        .about(about)
+        .after_help(examples)
+        .args(args)
+}
+
+/// Makes a subcommand on a group of tables. Fails with `AllocError` if memory runs out.
+fn group_command<'a>(
+    alloc: Global,
+    name: &'a str,
+    about: &'a str,
+    examples: &'a str,
+) -> Result<Command<'a>, AllocError>
+    ensures app { IfOk result (λ command. app_of command ≡ group_app name.entry.now) }
+    ensures local { IfOk result (λ command. (out-Command command).has_globals ≡ false) }
+{
+    let command = read_command(alloc, name, about, examples)?
+        .arg(explained(alloc))?
+        .arg(progress(alloc))?;
+    with_reporting(alloc, command)
+}
+
+fn validate_command<'a>(alloc: Global) -> Result<Command<'a>, AllocError>
+    ensures app { IfOk result (λ command. app_of command ≡ validate_app) }
+    ensures local { IfOk result (λ command. (out-Command command).has_globals ≡ false) }
+{
+    group_command(
+        alloc,
+        VALIDATE,
+        "Reports whether the tables are valid by their metadata document",
+        after_help::VALIDATE,
+    )
+}
+
+fn convert_command<'a>(alloc: Global) -> Result<Command<'a>, AllocError>
+    ensures app { IfOk result (λ command. app_of command ≡ convert_app) }
+    ensures local { IfOk result (λ command. (out-Command command).has_globals ≡ false) }
+{
+    group_command(
+        alloc,
+        CONVERT,
+        "Converts the tables of a metadata document to N-Triples on standard output",
+        after_help::CONVERT,
+    )?
+    .arg(minimal(alloc))?
+    .arg(line_buffered(alloc))
+}
+
+fn plain_command<'a>(alloc: Global) -> Result<Command<'a>, AllocError>
+    ensures app { IfOk result (λ command. app_of command ≡ plain_app) }
+    ensures local { IfOk result (λ command. (out-Command command).has_globals ≡ false) }
+{
+    let args = vec![in alloc;
+        url(alloc),
+        file(alloc),
+        line_buffered(alloc),
+        progress(alloc),
+    ]?;
+    Command::new(alloc, PLAIN)
+        .about("Converts one CSV file without metadata to N-Triples on standard output")
+        .after_help(after_help::PLAIN)
+        .args(args)
+}
+
+fn check_command<'a>(alloc: Global) -> Result<Command<'a>, AllocError>
+    ensures app { IfOk result (λ command. app_of command ≡ check_app) }
+    ensures local { IfOk result (λ command. (out-Command command).has_globals ≡ false) }
+{
+    let args = vec![in alloc;
+        own_base(alloc),
+        meta(alloc),
+        some_files(alloc),
+        progress(alloc),
+    ]?;
+    let command = Command::new(alloc, CHECK)
+        .about(
+            "Shows what is wrong with the tables of a metadata document, with files, lines and cells",
+        )
+        .after_help(after_help::CHECK)
+        .args(args)?;
+    with_reporting(alloc, command)
+}
+
+fn explain_command<'a>(alloc: Global) -> Result<Command<'a>, AllocError>
+    ensures app { IfOk result (λ command. app_of command ≡ explain_app) }
+    ensures local { IfOk result (λ command. (out-Command command).has_globals ≡ false) }
+{
+    Command::new(alloc, EXPLAIN)
+        .about("Explains a code of a report, of a document or of a stop")
+        .after_help(after_help::EXPLAIN)
+        .arg(code(alloc))
+}
+
+fn inspect_command<'a>(alloc: Global) -> Result<Command<'a>, AllocError>
+    ensures app { IfOk result (λ command. app_of command ≡ inspect_app) }
+    ensures local { IfOk result (λ command. (out-Command command).has_globals ≡ false) }
+{
+    let args = vec![in alloc; own_base(alloc), meta(alloc), json(alloc)]?;
+    Command::new(alloc, INSPECT)
+        .about("Shows what a metadata document says, with the defaults that apply")
+        .after_help(after_help::INSPECT)
+        .args(args)
+}
+
+fn draft_command<'a>(alloc: Global) -> Result<Command<'a>, AllocError>
+    ensures app { IfOk result (λ command. app_of command ≡ draft_app) }
+    ensures local { IfOk result (λ command. (out-Command command).has_globals ≡ false) }
+{
+    let args = vec![in alloc; draft_base(alloc), files(alloc)]?;
+    Command::new(alloc, DRAFT)
+        .about("Drafts a metadata document for CSV files")
+        .after_help(after_help::DRAFT)
+        .args(args)
+}
+
+fn completions_command<'a>(alloc: Global) -> Result<Command<'a>, AllocError>
+    ensures app { IfOk result (λ command. app_of command ≡ completions_app) }
+    ensures local { IfOk result (λ command. (out-Command command).has_globals ≡ false) }
+{
+    Command::new(alloc, COMPLETIONS)
+        .about("Writes the completions of this command line for a shell")
+        .after_help(after_help::COMPLETIONS)
+        .arg(shell(alloc))
+}
+
+fn manual_command<'a>(alloc: Global) -> Command<'a>
+    ensures app { app_of result ≡ manual_app }
+    ensures local { (out-Command result).has_globals ≡ false }
+{
+    Command::new(alloc, MANUAL)
+        .about("Writes the manual page of this command line")
+        .after_help(after_help::MANUAL)
+}
+
+/// Makes the whole command line. Fails with `AllocError` if memory runs out.
+pub fn command_line<'a>(alloc: Global) -> Result<Command<'a>, AllocError>
+    ensures { IfOk result (λ command. app_of command ≡ program_app) }
+{
+    Command::new(alloc, "csvw")
+        .about("Validates CSV on the Web and converts it to RDF")
+        .after_help(after_help::PROGRAM)
+        .version(VERSION)
+        .subcommand_required(true)
+        .arg_required_else_help(true)
+        .subcommand(validate_command(alloc)?)?
+        .subcommand(convert_command(alloc)?)?
+        .subcommand(plain_command(alloc)?)?
+        .subcommand(check_command(alloc)?)?
+        .subcommand(explain_command(alloc)?)?
+        .subcommand(inspect_command(alloc)?)?
+        .subcommand(draft_command(alloc)?)?
+        .subcommand(completions_command(alloc)?)?
+        .subcommand(manual_command(alloc))
+}
