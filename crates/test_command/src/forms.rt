@@ -1,0 +1,218 @@
+//! Checks as pages of HTML and of JSON, in colours, and strict: by the public calls of csvw_check. Texts of files come through
+//! as text.
+
+use crate::runs::{File, Files};
+use csvw_check::{Check, Color, Form, Shown, Strict, check};
+use csvw_text::Counted;
+use std::alloc::Global;
+use std::str;
+
+/// What a page is.
+#[derive(Clone, Copy)]
+enum Wanted {
+    /// Exactly this text.
+    Whole(&'static str),
+    /// A text that has these parts in this order, and nowhere the last one.
+    Parts(&'static [&'static str], &'static str),
+}
+
+impl Wanted {
+    /// Returns whether a page is this.
+    fn is(self, page: &[u8]) -> bool {
+        let Ok(page) = str::from_utf8(page) else {
+            return false;
+        };
+        match self {
+            Wanted::Whole(text) => page.as_bytes() == text.as_bytes(),
+            Wanted::Parts(parts, lacks) => {
+                let mut rest = page;
+                for part in parts {
+                    match rest.split_once(*part) {
+                        Some((_, behind)) => rest = behind,
+                        None => return false,
+                    }
+                }
+                !page.contains(lacks)
+            }
+        }
+    }
+}
+
+/// A check, and its page.
+struct Case {
+    /// What the case shows.
+    what: &'static str,
+    /// The form of the page.
+    form: Form,
+    /// Whether its lines have colours.
+    color: Color,
+    /// Which faults make the status that of an invalid group.
+    strict: Strict,
+    /// The files: the document `m.json`, and the tables.
+    files: &'static [File<'static>],
+    /// The status.
+    status: u8,
+    /// The page.
+    page: Wanted,
+}
+
+const META: File<'static> = File {
+    path: "m.json",
+    bytes: br#"{"@context":"http://www.w3.org/ns/csvw","url":"p.csv","tableSchema":{"columns":[{"name":"id","titles":"A&B"},{"name":"n","datatype":"integer"}]}}"#,
+};
+
+const MISSPELLED: File<'static> = File {
+    path: "m.json",
+    bytes: br#"{"@context":"http://www.w3.org/ns/csvw","url":"p.csv","tableschema":{"columns":[{"nam":"id"}]}}"#,
+};
+
+const SCRIPT: File<'static> = File {
+    path: "p.csv",
+    bytes: b"A&B,n\n<script>alert('x')</script>,\"<b>&\"\"2\"\"\"\n",
+};
+
+const RAGGED: File<'static> = File {
+    path: "p.csv",
+    bytes: b"A&B,n\n1\n",
+};
+
+const VALID: File<'static> = File {
+    path: "p.csv",
+    bytes: b"id\n1\n",
+};
+
+static CASES: [Case; 8] = [
+    Case {
+        what: "a cell with markup in HTML",
+        form: Form::Html,
+        color: Color::Never,
+        strict: Strict::Errors,
+        files: &[META, SCRIPT],
+        status: 1,
+        page: Wanted::Parts(
+            &[
+                "<!DOCTYPE html>\n<html lang=\"en\">\n",
+                "<h1>m.json: not valid</h1>\n",
+                "<tr><td>1</td><td>p.csv</td><td class=\"number\">2</td><td class=\"number\">1</td></tr>\n",
+                "<tr><td>1</td><td>2</td><td><a href=\"#t1c2BadInteger\">BadInteger</a></td><td class=\"number\">1</td></tr>\n",
+                "<h2 id=\"t1c2BadInteger\">p.csv, column 2: BadInteger: 1</h2>\n<article class=\"error\">\n<p class=\"at\">p.csv, line 2, row 1, column 2 “n”</p>\n<p class=\"error\"><b>error: BadInteger</b>: the text is no integer</p>\n<p class=\"hint\">Instead: write digits, with a sign where needed</p>\n<pre>&lt;script&gt;alert(&#39;x&#39;)&lt;/script&gt;,<mark>&lt;b&gt;&amp;&quot;2&quot;</mark></pre>\n<p class=\"rule\">datatype integer</p>\n</article>\n</main>\n</body>\n</html>\n",
+            ],
+            "<script",
+        ),
+    },
+    Case {
+        what: "a cell with markup in JSON",
+        form: Form::Json,
+        color: Color::Never,
+        strict: Strict::Errors,
+        files: &[META, SCRIPT],
+        status: 1,
+        page: Wanted::Whole(
+            "[\n{\"code\":\"BadInteger\",\"column\":2,\"file\":\"p.csv\",\"kind\":\"error\",\"line\":2,\"name\":\"n\",\"row\":2,\"sentence\":\"the text is no integer: write digits, with a sign where needed\",\"table\":1,\"text\":\"<b>&\\\"2\\\"\"}\n]\n",
+        ),
+    },
+    Case {
+        what: "a valid group in JSON",
+        form: Form::Json,
+        color: Color::Never,
+        strict: Strict::Errors,
+        files: &[
+            File {
+                path: "m.json",
+                bytes: crate::runs::META,
+            },
+            VALID,
+        ],
+        status: 0,
+        page: Wanted::Whole("[\n]\n"),
+    },
+    Case {
+        what: "a stop in JSON",
+        form: Form::Json,
+        color: Color::Never,
+        strict: Strict::Errors,
+        files: &[META, RAGGED],
+        status: 3,
+        page: Wanted::Whole(
+            "[\n{\"code\":\"RaggedRow\",\"column\":0,\"file\":\"p.csv\",\"hints\":[\"the row has 1 field\"],\"kind\":\"stop\",\"line\":2,\"name\":\"\",\"row\":2,\"sentence\":\"the row doesn't have one field for each column: add or remove fields; for a blank line write `skipBlankRows`\",\"table\":1,\"text\":null}\n]\n",
+        ),
+    },
+    Case {
+        what: "a stop in HTML",
+        form: Form::Html,
+        color: Color::Always,
+        strict: Strict::Errors,
+        files: &[META, RAGGED],
+        status: 3,
+        page: Wanted::Parts(
+            &[
+                "<h1>m.json: not read to its end</h1>\n",
+                "<p>No faults.</p>\n<h2 id=\"stop\">Why it was not read to its end</h2>\n<article class=\"error\">\n<p class=\"at\">p.csv, line 2</p>\n<p class=\"error\"><b>error: RaggedRow</b>: the row doesn&#39;t have one field for each column</p>\n",
+                "<p class=\"hint\">the row has 1 field</p>\n</article>\n</main>\n",
+            ],
+            "\u{1B}",
+        ),
+    },
+    Case {
+        what: "a fault in colours",
+        form: Form::Text,
+        color: Color::Always,
+        strict: Strict::Errors,
+        files: &[META, SCRIPT],
+        status: 1,
+        page: Wanted::Whole(
+            "p.csv:2 (row 1), column 2 \"n\": \u{1B}[1;31mBadInteger\u{1B}[0m: \"<b>&\"2\"\": the text is no integer: write digits, with a sign where needed\n    <script>alert('x')</script>,<b>&\"2\"\n                                \u{1B}[1;31m^^^^^^^\u{1B}[0m\n    datatype integer\ntable 1: p.csv: 2 records\n  BadInteger: 1 in table 1, column 2\nnot valid\n",
+        ),
+    },
+    Case {
+        what: "a warning",
+        form: Form::Text,
+        color: Color::Never,
+        strict: Strict::Errors,
+        files: &[MISSPELLED, VALID],
+        status: 0,
+        page: Wanted::Whole(
+            "m.json:1:55: warning: UnknownProperty: \"tableschema\" isn't a property of the vocabulary: did you mean \"tableSchema\"?\ntable 1: p.csv: 2 records\n  UnknownProperty: 1 in table 1\nvalid\n",
+        ),
+    },
+    Case {
+        what: "a warning of a strict check, in colours",
+        form: Form::Text,
+        color: Color::Always,
+        strict: Strict::Warnings,
+        files: &[MISSPELLED, VALID],
+        status: 1,
+        page: Wanted::Whole(
+            "m.json:1:55: \u{1B}[1;33mwarning\u{1B}[0m: \u{1B}[1;33mUnknownProperty\u{1B}[0m: \"tableschema\" isn't a property of the vocabulary: did you mean \"tableSchema\"?\ntable 1: p.csv: 2 records\n  UnknownProperty: 1 in table 1\nnot valid\n",
+        ),
+    },
+];
+
+/// Returns whether a check ends with this status and this page, and hands back every reader that it opened.
+fn is_checked(alloc: Global, case: &Case) -> bool {
+    let mut opener = Files::new(case.files);
+    let mut out = Counted::new(Vec::new(alloc));
+    let mut err = Counted::new(Vec::new(alloc));
+    let asked = Check {
+        base: "http://example.org/",
+        meta: "m.json",
+        files: &["p.csv"],
+        shown: Shown::First,
+        form: case.form,
+        color: case.color,
+        strict: case.strict,
+    };
+    let status = check(alloc, &asked, &mut opener, &mut out, &mut err);
+    let out = out.into_inner();
+    status == case.status
+        && case.page.is(out.as_slice())
+        && err.into_inner().is_empty()
+        && opener.opened == opener.closed
+}
+
+#[test]
+fn checks_are_shown_in_each_form(rt: HostRuntime) {
+    for case in &CASES {
+        assert!(rt; is_checked(rt.alloc(), case), "{}", case.what);
+    }
+}

@@ -1,0 +1,412 @@
+//! Drafts of tables in memory, beside documents that were written by hand.
+
+use csvw_draft::{Draft, draft};
+use csvw_engine_core::Stop;
+use csvw_files::Opener;
+use csvw_streams::Counted;
+use serde_json::Value;
+use std::alloc::Global;
+use std::io::{self, ErrorKind, Read, Write};
+use std::process::Abort;
+use std::str;
+
+/// A file in memory.
+#[derive(Clone, Copy)]
+struct File {
+    /// Its path.
+    path: &'static str,
+    /// Its content.
+    text: &'static str,
+}
+
+/// A reader that returns a few bytes at a time, and fails once it has returned so many times.
+#[derive(Drop)]
+struct Pieces {
+    /// The bytes that are left.
+    rest: &'static [u8],
+    /// How many reads don't fail.
+    reads: u64,
+}
+
+impl Read for Pieces {
+    ghost use Rattle.std.specs.Prelude.{Some};
+
+    ghost remaining = { λ p. Some p.rest.now };
+
+    fn read(&mut self, buf: &mut [u8]) -> io::Result<usize> {
+        if self.reads == 0 {
+            return Err(io::Error::from(ErrorKind::BrokenPipe));
+        }
+        self.reads -= 1;
+        let most = buf.len().min(7);
+        self.rest.read(&mut buf[..most])
+    }
+}
+
+/// Opens files in memory.
+#[derive(Drop)]
+struct Files {
+    files: &'static [File],
+    /// How many reads of a file don't fail.
+    reads: u64,
+}
+
+impl Opener for Files {
+    ghost use Rattle.std.specs.Prelude.{◌≡◌};
+
+    type Reader = Pieces;
+
+    ghost opens = { λ old _ _ new. new ≡ old };
+
+    ghost closes = { λ old _ new. new ≡ old };
+
+    fn open(&mut self, path: &str) -> Option<Pieces> {
+        for file in self.files {
+            if file.path == path {
+                return Some(Pieces {
+                    rest: file.text.as_bytes(),
+                    reads: self.reads,
+                });
+            }
+        }
+        None
+    }
+
+    fn close(&mut self, _reader: Counted<Pieces>)
+        ensures { self.new ≡ self.old }
+    {}
+}
+
+/// A writer that takes nothing.
+#[derive(Drop)]
+struct Full {}
+
+impl Write for Full {
+    ghost use Rattle.std.specs.Prelude.{[], Some};
+
+    ghost contents = { λ _. Some [] };
+
+    fn write(&mut self, _buf: &[u8]) -> io::Result<usize> {
+        Err(io::Error::from(ErrorKind::BrokenPipe))
+    }
+
+    fn flush(&mut self) -> io::Result<()> {
+        Ok(())
+    }
+}
+
+/// Returns the text of a draft, or the text of its stop.
+fn drafted(
+    alloc: Global,
+    files: &'static [File],
+    base: Option<&str>,
+    reads: u64,
+) -> Option<String> {
+    let mut paths = Vec::new(alloc);
+    for file in files {
+        paths.push(file.path).ok()?;
+    }
+    let mut out = Counted::new(Vec::new(alloc));
+    let mut err = Counted::new(Vec::new(alloc));
+    let asked = Draft {
+        base,
+        files: paths.as_slice(),
+    };
+    match draft(
+        alloc,
+        &asked,
+        &mut Files { files, reads },
+        &mut out,
+        &mut err,
+    ) {
+        Ok(()) => {
+            let bytes: Vec<u8> = out.into_inner();
+            String::from_str(alloc, str::from_utf8(bytes.as_slice()).ok()?).ok()
+        }
+        Err(stop) => format!(in alloc; "{stop:?}").ok(),
+    }
+}
+
+/// Returns a JSON text without white space, and with the members of objects in the order of their names.
+fn compact(alloc: Global, text: &str) -> Option<String> {
+    Value::from_str(alloc, text).ok()?.to_string(alloc).ok()
+}
+
+/// A draft of some files.
+#[derive(Clone, Copy)]
+struct Case {
+    /// The files.
+    files: &'static [File],
+    /// The document, or the text of the stop.
+    end: &'static str,
+}
+
+/// A case of one file.
+macro_rules! one {
+    ($path:literal, $text:literal, $end:literal) => {
+        Case {
+            files: &[File {
+                path: $path,
+                text: $text,
+            }],
+            end: $end,
+        }
+    };
+}
+
+static DOCUMENTS: [Case; 14] = [
+    one!(
+        "data/types.csv",
+        "id,First Name,n,when,ok\n1,Ann,1.5,01/02/2023,true\n2,,2,13/02/2023,false\n",
+        r#"{"@context":"http://www.w3.org/ns/csvw","url":"types.csv","tableSchema":{"columns":[
+            {"name":"id","titles":"id","datatype":"integer","required":true},
+            {"name":"First_Name","titles":"First Name"},
+            {"name":"n","titles":"n","datatype":"decimal","required":true},
+            {"name":"when","titles":"when","datatype":{"base":"date","format":"dd/MM/yyyy"},"required":true},
+            {"name":"ok","titles":"ok","datatype":"boolean","required":true}],
+            "primaryKey":"id"}}"#
+    ),
+    one!(
+        "quotes.csv",
+        "'a;b';n\n'x';1\n'y';2\n",
+        r#"{"@context":"http://www.w3.org/ns/csvw","url":"quotes.csv","dialect":{"delimiter":";","quoteChar":"'"},"tableSchema":{"columns":[
+            {"name":"a_b","titles":"a;b","required":true},
+            {"name":"n","titles":"n","datatype":"integer","required":true}],
+            "primaryKey":"a_b"}}"#
+    ),
+    one!(
+        "headers.csv",
+        "id,,id\n1,2,3\n",
+        r#"{"@context":"http://www.w3.org/ns/csvw","url":"headers.csv","tableSchema":{"columns":[
+            {"name":"id","titles":"id","datatype":"integer","required":true},
+            {"datatype":"integer","required":true},
+            {"name":"id_2","titles":"id","datatype":"integer","required":true}],
+            "primaryKey":"id"}}"#
+    ),
+    one!(
+        "blank.csv",
+        "a,b\n1,2\n\n3,\n",
+        r#"{"@context":"http://www.w3.org/ns/csvw","url":"blank.csv","dialect":{"skipBlankRows":true},"tableSchema":{"columns":[
+            {"name":"a","titles":"a","datatype":"integer","required":true},
+            {"name":"b","titles":"b","datatype":"integer"}],
+            "primaryKey":"a"}}"#
+    ),
+    one!(
+        "one.csv",
+        "a\n1\n\n3\n",
+        r#"{"@context":"http://www.w3.org/ns/csvw","url":"one.csv","tableSchema":{"columns":[
+            {"name":"a","titles":"a","datatype":"integer"}]}}"#
+    ),
+    one!(
+        "empty.csv",
+        "",
+        r#"{"@context":"http://www.w3.org/ns/csvw","url":"empty.csv","dialect":{"header":false},"tableSchema":{"columns":[]}}"#
+    ),
+    one!(
+        "header.csv",
+        "a|b",
+        r#"{"@context":"http://www.w3.org/ns/csvw","url":"header.csv","dialect":{"delimiter":"|"},"tableSchema":{"columns":[
+            {"name":"a","titles":"a"},{"name":"b","titles":"b"}]}}"#
+    ),
+    one!(
+        "dates.csv",
+        "d,t,m\n20.1.2024,2024-01-20T10:00,2024-01-20T10:00:59\n3.2.2024,2024-02-03T09:30,\n",
+        r#"{"@context":"http://www.w3.org/ns/csvw","url":"dates.csv","tableSchema":{"columns":[
+            {"name":"d","titles":"d","datatype":{"base":"date","format":"d.M.yyyy"},"required":true},
+            {"name":"t","titles":"t","datatype":{"base":"dateTime","format":"yyyy-MM-ddTHH:mm"},"required":true},
+            {"name":"m","titles":"m","datatype":"dateTime"}],
+            "primaryKey":"d"}}"#
+    ),
+    one!(
+        "truths.csv",
+        "flag,yes,none\n0,true,\n1,true,\n0,false,\n",
+        r#"{"@context":"http://www.w3.org/ns/csvw","url":"truths.csv","tableSchema":{"columns":[
+            {"name":"flag","titles":"flag","datatype":"integer","required":true},
+            {"name":"yes","titles":"yes","datatype":"boolean","required":true},
+            {"name":"none","titles":"none"}]}}"#
+    ),
+    one!(
+        "preamble.tsv",
+        "Report\nx\ty\tz\n1\t2\t3\n",
+        r#"{"@context":"http://www.w3.org/ns/csvw","url":"preamble.tsv","dialect":{"delimiter":"\t","skipRows":1},"tableSchema":{"columns":[
+            {"name":"x","titles":"x","datatype":"integer","required":true},
+            {"name":"y","titles":"y","datatype":"integer","required":true},
+            {"name":"z","titles":"z","datatype":"integer","required":true}],
+            "primaryKey":"x"}}"#
+    ),
+    one!(
+        "a b.csv",
+        "Größe,名前,_x\r\n1,2,\"a\n\"\"b\"\"\"\r\n1,2,3\r\n",
+        r#"{"@context":"http://www.w3.org/ns/csvw","url":"a%20b.csv","tableSchema":{"columns":[
+            {"name":"Gro_e","titles":"Größe","datatype":"integer","required":true},
+            {"name":"column_2","titles":"名前","datatype":"integer","required":true},
+            {"name":"x","titles":"_x","required":true}],
+            "primaryKey":"x"}}"#
+    ),
+    one!(
+        "spaces.csv",
+        "n,s,k\n 1 , ,1\n2,x,01\n, ,2\n",
+        r#"{"@context":"http://www.w3.org/ns/csvw","url":"spaces.csv","tableSchema":{"columns":[
+            {"name":"n","titles":"n","datatype":"integer"},
+            {"name":"s","titles":"s","required":true},
+            {"name":"k","titles":"k","datatype":"integer","required":true}]}}"#
+    ),
+    one!(
+        "comments.csv",
+        "#id,name\n1,a\n",
+        r##"{"@context":"http://www.w3.org/ns/csvw","url":"comments.csv","dialect":{"commentPrefix":null},"tableSchema":{"columns":[
+            {"name":"id","titles":"#id","datatype":"integer","required":true},
+            {"name":"name","titles":"name","required":true}],
+            "primaryKey":"id"}}"##
+    ),
+    Case {
+        files: &[
+            File {
+                path: "d/stations.csv",
+                text: "id,name\n1,A\n2,B\n3,C\n",
+            },
+            File {
+                path: "d/readings.csv",
+                text: "station_id,width,value\n1,1,0.5\n1,2,0.7\n3,3,\n",
+            },
+        ],
+        end: r#"{"@context":"http://www.w3.org/ns/csvw","tables":[
+            {"url":"stations.csv","tableSchema":{"columns":[
+            {"name":"id","titles":"id","datatype":"integer","required":true},
+            {"name":"name","titles":"name","required":true}],
+            "primaryKey":"id"}},
+            {"url":"readings.csv","tableSchema":{"columns":[
+            {"name":"station_id","titles":"station_id","datatype":"integer","required":true},
+            {"name":"width","titles":"width","datatype":"integer","required":true},
+            {"name":"value","titles":"value","datatype":"decimal"}],
+            "primaryKey":"width",
+            "foreignKeys":[{"columnReference":"station_id","reference":{"resource":"stations.csv","columnReference":"id"}}]}}]}"#,
+    },
+];
+
+#[test]
+fn tables_have_their_documents(rt: HostRuntime) {
+    let alloc = rt.alloc();
+    for case in &DOCUMENTS {
+        let found = drafted(alloc, case.files, None, u64::MAX).expect(&rt, "a draft");
+        assert!(rt; found.as_str().ends_with("\n}\n"), "{found}");
+        let found = compact(alloc, found.as_str()).expect(&rt, "a document");
+        let wanted = compact(alloc, case.end).expect(&rt, "a wanted document");
+        assert_eq!(rt; found.as_str(), wanted.as_str());
+    }
+}
+
+/// The text of a document, byte by byte.
+const TEXT: &str = r#"{
+  "@context": [
+    "http://www.w3.org/ns/csvw",
+    {
+      "@base": "http://example.org/"
+    }
+  ],
+  "url": "t.csv",
+  "tableSchema": {
+    "columns": [
+      {
+        "name": "id",
+        "titles": "id",
+        "datatype": "integer",
+        "required": true
+      }
+    ],
+    "primaryKey": "id"
+  }
+}
+"#;
+
+static TABLE: [File; 1] = [File {
+    path: "t.csv",
+    text: "id\n1\n",
+}];
+
+#[test]
+fn documents_have_a_base(rt: HostRuntime) {
+    let base = Some("http://example.org/");
+    let found = drafted(rt.alloc(), &TABLE, base, u64::MAX).expect(&rt, "a draft");
+    assert_eq!(rt; found.as_str(), TEXT);
+}
+
+static STOPS: [Case; 5] = [
+    one!(
+        "ragged.csv",
+        "a,b\n1,2\n3\n",
+        "Table { table: 1, row: 3, stop: RaggedRow }"
+    ),
+    one!(
+        "quote.csv",
+        "a\n1\"\n",
+        "Rows { table: 1, row: 2, stop: BadQuote }"
+    ),
+    one!(
+        "open.csv",
+        "a\n\"1\n",
+        "Rows { table: 1, row: 2, stop: UnclosedQuote }"
+    ),
+    Case {
+        files: &[
+            File {
+                path: "t.csv",
+                text: "id\n1\n",
+            },
+            File {
+                path: "./t.csv",
+                text: "id\n1\n",
+            },
+        ],
+        end: "Meta(MetaFault { code: DuplicateTable, pointer: Text { inner: \"/tables/1/url\" } })",
+    },
+    Case {
+        files: &[],
+        end: "Meta(MetaFault { code: BadProperty, pointer: Text { inner: \"/tables\" } })",
+    },
+];
+
+#[test]
+fn other_texts_have_stops(rt: HostRuntime) {
+    let alloc = rt.alloc();
+    for case in &STOPS {
+        let found = drafted(alloc, case.files, None, u64::MAX).expect(&rt, "a stop");
+        assert_eq!(rt; found.as_str(), case.end);
+    }
+}
+
+#[test]
+fn streams_fail(rt: HostRuntime) {
+    let alloc = rt.alloc();
+    assert_eq!(rt;
+        drafted(alloc, &TABLE, None, 0)
+            .expect(&rt, "a stop")
+            .as_str(),
+        "Read"
+    );
+    assert_eq!(rt;
+        drafted(alloc, &TABLE, None, 1)
+            .expect(&rt, "a stop")
+            .as_str(),
+        "Read"
+    );
+    let mut opener = Files {
+        files: &TABLE,
+        reads: u64::MAX,
+    };
+    let mut out = Counted::new(Full {});
+    let mut err = Counted::new(Full {});
+    let here = Draft {
+        base: None,
+        files: &["t.csv"],
+    };
+    let stop = draft(alloc, &here, &mut opener, &mut out, &mut err);
+    assert_eq!(rt; stop, Err(Stop::Write));
+    let missing = Draft {
+        base: None,
+        files: &["t.csv", "u.csv"],
+    };
+    let stop = draft(alloc, &missing, &mut opener, &mut out, &mut err);
+    assert_eq!(rt; stop, Err(Stop::Read));
+    assert_eq!(rt; out.failures(), 1);
+}
