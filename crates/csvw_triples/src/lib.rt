@@ -22,7 +22,8 @@ mod notes;
 mod opening;
 
 pub use csvw_triples_core::{
-    Lit, Mode, Node, Origin, SinkFault, Term, Triple, TripleSink, VecSink,
+    Lit, LitRef, Mode, Node, NodeRef, Origin, SinkFault, Term, TermRef, Triple, TripleRef,
+    TripleSink, VecSink,
 };
 pub use csvw_triples_rows::{
     Emitter, emit_row, row_triples_are_row_graph, rows_triples_are_table_graph,

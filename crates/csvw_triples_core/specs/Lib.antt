@@ -1,3 +1,4 @@
+pub mod Lent
 pub mod Literal
 pub mod Taking
 pub mod VecSink

@@ -8,9 +8,10 @@
 //! the whole triples that were taken (`FrontOf`).
 ghost use Rattle.std.specs.Prelude.{◌≡◌, ◌≢◌, ◌+◌, ◌<◌, ◌^◌, ◌-◌, List, [], ◌∷◌, ◌++◌, ℕ, Bool, true, false, OnOk, OnErr, IsTrue, Err, ◌↔◌};
 ghost use Rattle.csvw_triples_core.specs.declared.term.Triple.{Triple as TheTriple};
+ghost use Rattle.csvw_triples_core.specs.Lent.{triple_of};
 
-use crate::Triple;
-use std::alloc::AllocError;
+use crate::{Triple, TripleRef};
+use std::alloc::{AllocError, Global};
 use std::error::Error;
 use std::fmt;
 
@@ -91,6 +92,33 @@ pub trait TripleSink {
         ensures no_failure { result ≢ Err SinkFault.Device → failed self.new ≡ failed self.old }
         ensures device { result ≡ Err SinkFault.Device → is_open self.new ≡ false }
         ensures failure { result ≡ Err SinkFault.Device → failed self.old < 2 ^ 64 - 1 → failed self.new ≡ failed self.old + 1 };
+
+    /// Takes a lent triple at the end, as the owned triple that it is. On every error the sink gains nothing.
+    ///
+    /// The default body makes the owned triple and calls `put`. A sink that needs no owned triple has a body of its
+    /// own, which takes no memory for the triple.
+    ///
+    /// - `Memory` if memory runs out. The sink is open or closed as before.
+    /// - `Device` if the device failed in this call, within this triple. The sink is closed from then on, and the
+    ///   count of failures is one higher, unless it was 2^64 - 1.
+    /// - `Closed` only if the sink was closed before. A closed sink fails with it, unless memory runs out.
+    fn put_ref(&mut self, alloc: Global, triple: &TripleRef<'_>) -> Result<(), SinkFault>
+        ensures ok { OnOk result (gains self.old (triple_of triple.now ∷ []) self.new) }
+        ensures err { OnErr result (gains self.old [] self.new) }
+        ensures cut { result ≡ Err SinkFault.Device → cuts self.old (triple_of triple.now) self.new }
+        ensures open { OnOk result (IsTrue (is_open self.new)) }
+        ensures closed { result ≡ Err SinkFault.Closed → is_open self.old ≡ false }
+        ensures refused { is_open self.old ≡ false → result ≢ Err SinkFault.Memory → result ≡ Err SinkFault.Closed }
+        ensures memory { result ≢ Err SinkFault.Device → is_open self.new ≡ is_open self.old }
+        ensures no_failure { result ≢ Err SinkFault.Device → failed self.new ≡ failed self.old }
+        ensures device { result ≡ Err SinkFault.Device → is_open self.new ≡ false }
+        ensures failure { result ≡ Err SinkFault.Device → failed self.old < 2 ^ 64 - 1 → failed self.new ≡ failed self.old + 1 }
+    {
+        let Ok(owned) = triple.to_triple(alloc) else {
+            return Err(SinkFault::Memory);
+        };
+        self.put(&owned)
+    }
 
     /// A sink to which nothing happens gains nothing.
     ghost stays: { (s : Self) → gains s [] s };

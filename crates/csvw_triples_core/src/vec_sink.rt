@@ -3,7 +3,7 @@ ghost use Rattle.std.specs.Prelude.{◌≡◌, [], true, ◌++◌};
 ghost use Rattle.std.proofs.Common.{rules, append_assoc, append-nil};
 ghost use Rattle.csvw_triples_core.specs.VecSink.{triples_of};
 
-use crate::{SinkFault, Triple, TripleSink};
+use crate::{SinkFault, Triple, TripleRef, TripleSink};
 use std::alloc::Global;
 
 /// A sink that keeps its triples in a list.
@@ -46,7 +46,11 @@ impl TripleSink for VecSink {
     }
 
     fn put(&mut self, triple: &Triple) -> Result<(), SinkFault> {
-        let Ok(copy) = triple.clone(self.alloc) else {
+        self.put_ref(self.alloc, &triple.as_ref())
+    }
+
+    fn put_ref(&mut self, _: Global, triple: &TripleRef<'_>) -> Result<(), SinkFault> {
+        let Ok(copy) = triple.to_triple(self.alloc) else {
             return Err(SinkFault::Memory);
         };
         match self.items.push(copy) {
