@@ -12,8 +12,9 @@ make_file "$document" triples.py "$document"
 "$program" write 1 <"$document" >"$work/ours.nt"
 serdi -i ntriples -o ntriples "$document" | "$program" write 1 | cmp - "$work/ours.nt" || fail 'a run failed, or serdi reads other triples'
 
-# How many triples the document has, by our reader, by serdi and by rapper.
+# How many triples the document has, by our two readers, by serdi and by rapper.
 count=$("$program" count <"$document")
+[ "$count" = "$("$program" each <"$document")" ] || fail 'one triple after the other is another count'
 for other in "$(serdi -i ntriples -o ntriples "$document" | wc -l)" \
   "$(rapper -q -i ntriples -o ntriples "$document" http://example.org/ | wc -l)"; do
   [ "$count" = "$other triples" ] || fail "$count, and $other by another reader"
@@ -27,6 +28,7 @@ for _ in $(seq "$rounds"); do cat "$work/head.nt"; done | "$program" write 1 |
 
 for _ in $(seq "$runs"); do
   measure read "$program" count <"$document"
+  measure each "$program" each <"$document"
   measure read_rapper rapper -q -i ntriples -c - http://example.org/ <"$document"
   measure write "$program" write "$rounds" <"$work/head.nt"
   measure both "$program" write 1 <"$document"
@@ -45,6 +47,7 @@ size=$(awk -v b="$(wc -c <"$document")" 'BEGIN { print b / 1000000 }')
 echo "$count, $size MB; $(runs_line)"
 printf '%-16s %-8s %8s %8s %9s\n' what program seconds MB/s 'peak MB'
 row read ours read
+row 'one by one' ours each
 row read rapper read_rapper
 row write ours write
 row 'read and write' ours both

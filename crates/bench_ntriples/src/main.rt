@@ -6,7 +6,7 @@ mod stop;
 mod words;
 
 use convert::triples;
-use csvw_ntriples::{NtSink, read};
+use csvw_ntriples::{NtReader, NtSink, read};
 use csvw_text::Counted;
 use csvw_triples_core::{Triple, TripleSink};
 use std::alloc::Global;
@@ -47,6 +47,16 @@ fn write<W: Write>(
     Ok(())
 }
 
+/// Returns how many triples the document has, and keeps none of them.
+fn count_each(alloc: Global, document: &[u8]) -> Result<usize, Stop> {
+    let mut reader = NtReader::new(alloc, document);
+    let mut count = 0usize;
+    while reader.next()?.is_some() {
+        count += 1;
+    }
+    Ok(count)
+}
+
 fn tell<W: Write>(count: usize, out: &mut Counted<W>) -> Result<(), Stop> {
     match writeln!(out, "{count} triples") {
         Ok(()) => Ok(()),
@@ -67,6 +77,7 @@ fn run<R: Read, W: Write>(
     let document = read_all(alloc, input)?;
     match task {
         Task::Count => tell(read(alloc, document.as_slice())?.len(), out)?,
+        Task::Each => tell(count_each(alloc, document.as_slice())?, out)?,
         Task::Write(rounds) => write(alloc, rounds, document.as_slice(), out)?,
     }
     match out.flush() {

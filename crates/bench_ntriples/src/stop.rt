@@ -27,7 +27,10 @@ impl Stop {
     pub(crate) fn told(self) -> (u8, &'static str) {
         match self {
             Stop::Syntax => (1, "Syntax"),
-            Stop::Usage => (2, "count <DOCUMENT, or write ROUNDS <DOCUMENT"),
+            Stop::Usage => (
+                2,
+                "count <DOCUMENT, each <DOCUMENT, or write ROUNDS <DOCUMENT",
+            ),
             Stop::NotWritable => (3, "NotWritable"),
             Stop::Memory => (4, "Memory"),
             Stop::Read => (4, "Read"),

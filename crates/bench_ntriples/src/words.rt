@@ -5,6 +5,8 @@
 pub(crate) enum Task {
     /// Reads it and prints how many triples it has.
     Count,
+    /// Reads it one triple after the other and prints how many it has.
+    Each,
     /// Reads it and writes its triples this many times.
     Write(u64),
 }
@@ -19,6 +21,7 @@ pub(crate) fn requested(words: &[String]) -> Option<Task> {
     let name = words.get(1)?.as_str();
     match words.get(2) {
         None if name == "count" => Some(Task::Count),
+        None if name == "each" => Some(Task::Each),
         Some(rounds) if name == "write" => write_task(rounds.as_str()),
         _ => None,
     }

@@ -15,6 +15,7 @@ mod Labels
 mod Lines
 mod OnLines
 mod Once
+mod Passing
 mod Pieces
 mod Runs
 mod SameGraphs

@@ -5,6 +5,7 @@ pub mod Front
 pub mod Grammar
 pub mod LabelLaw
 pub mod NtSink
+pub mod Passing
 pub mod PlainCopy
 pub mod Reading
 pub mod SameUpTo

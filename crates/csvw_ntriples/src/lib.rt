@@ -11,6 +11,10 @@
 //! - A text denotes a list, line by line, exactly if it is a document of that list by the production `ntriplesDoc`
 //!   (`document_is_the_grammars`). Terminals are the longest in the whole text.
 //! - `read` returns that list exactly if there is one.
+//! - `NtReader` returns it one triple after the other, in the memory of the longest line. The triples that it
+//!   returned are those that the bytes before its place denote, also if a later line is wrong (`NtReader::next`).
+//!   The document denotes them, followed by what the rest denotes (`passes_join`, `passed_then_rest`,
+//!   `wrong_line_denotes_none`).
 #![tactic(auto)]
 
 mod copy;
@@ -26,8 +30,8 @@ mod write;
 
 pub use laws::{
     denotes_one_list, document_is_the_grammars, labels_differ, labels_name_one_to_one,
-    written_denotes,
+    passed_then_rest, passes_join, written_denotes, wrong_line_denotes_none,
 };
 pub use nt_sink::NtSink;
-pub use reading::read;
+pub use reading::{NtReader, read};
 pub use term::{NtFault, NtLit, NtNode, NtTerm, NtTriple};

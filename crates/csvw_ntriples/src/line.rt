@@ -6,12 +6,13 @@ ghost use Rattle.std.specs.Prelude.{◌≡◌, ◌++◌, true, codes, OnOk};
 ghost use Rattle.csvw_ntriples.specs.Front.{IsFront, front_text};
 ghost use Rattle.csvw_ntriples.specs.Written.{iri_text, node_text, line_text};
 ghost use Rattle.csvw_ntriples.specs.Writable.{IriFits, NodeFits, TripleFits, IsOrigin};
+ghost use Rattle.csvw_triples_core.specs.Lent.{node_of, triple_of};
 
 use crate::row_label::RowLabel;
 use crate::scratch::Scratch;
 use crate::write::{push_blank, push_iri, push_rest};
 use csvw_iri::Iri;
-use csvw_triples_core::{Node, Origin, Triple};
+use csvw_triples_core::{NodeRef, Origin, TripleRef};
 use std::alloc::{AllocError, Global};
 
 /// Makes the lines of triples, one over the other. Most triples have the subject of the triple before. If that is a
@@ -104,22 +105,22 @@ impl Line {
     }
 
     #[inline(always)]
-    fn begin(&mut self, node: &Node) -> Result<(), AllocError>
-        ensures text { OnOk result (self.new.bytes ≡ node_text node.now ++ codes " <") }
-        ensures fits { OnOk result (NodeFits node.now) }
+    fn begin(&mut self, node: &NodeRef<'_>) -> Result<(), AllocError>
+        ensures text { OnOk result (self.new.bytes ≡ node_text (node_of node.now) ++ codes " <") }
+        ensures fits { OnOk result (NodeFits (node_of node.now)) }
     {
         match node {
-            Node::Named(iri) => self.begin_named(iri),
-            Node::Blank(origin) => self.begin_blank(origin),
+            NodeRef::Named(iri) => self.begin_named(iri),
+            NodeRef::Blank(origin) => self.begin_blank(origin),
         }
     }
 
-    /// Becomes the line of a triple. Fails with `AllocError` if memory runs out; it is then perhaps a part of the
+    /// Becomes the line of a triple that is lent. Fails with `AllocError` if memory runs out; it is then perhaps a part of the
     /// line.
     #[inline(always)]
-    pub(crate) fn refill(&mut self, triple: &Triple) -> Result<(), AllocError>
-        ensures text { OnOk result (self.new.bytes ≡ line_text triple.now) }
-        ensures fits { OnOk result (TripleFits triple.now) }
+    pub(crate) fn refill(&mut self, triple: &TripleRef<'_>) -> Result<(), AllocError>
+        ensures text { OnOk result (self.new.bytes ≡ line_text (triple_of triple.now)) }
+        ensures fits { OnOk result (TripleFits (triple_of triple.now)) }
     {
         self.begin(&triple.s)?;
         let is_kept = self.is_kept;

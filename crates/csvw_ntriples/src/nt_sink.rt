@@ -4,17 +4,19 @@ ghost use Rattle.csvw_ntriples.specs.NtSink.{sink_out, sink_is_open};
 
 use crate::line::Line;
 use csvw_text::{Counted, write_out};
-use csvw_triples_core::{SinkFault, Triple, TripleSink};
+use csvw_triples_core::{SinkFault, Triple, TripleRef, TripleSink};
 use std::alloc::Global;
 use std::io::Write;
 
-/// Writes each triple as a line of N-Triples. It makes the whole line in memory, and sends it with `write_out`.
+/// Writes each triple as a line of N-Triples. It makes the whole line in memory, from the parts of the triple that it
+/// is lent, and sends it with `write_out`.
 /// After a line that was cut off it sends nothing more: each later `put` fails with `Closed`.
 #[derive(Drop)]
 pub struct NtSink<'a, W> {
     out: &'a mut Counted<W>,
     line: Line,
     is_open: bool,
+    alloc: Global,
 }
 
 impl<'a, W: Write> NtSink<'a, W> {
@@ -28,6 +30,7 @@ impl<'a, W: Write> NtSink<'a, W> {
             out,
             line: Line::new(alloc),
             is_open: true,
+            alloc,
         }
     }
 
@@ -40,6 +43,7 @@ impl<'a, W: Write> NtSink<'a, W> {
             out,
             line: _,
             is_open: _,
+            alloc: _,
         } = self;
         out
     }
@@ -72,6 +76,13 @@ impl<'a, W: Write> TripleSink for NtSink<'a, W> {
     }
 
     fn put(&mut self, triple: &Triple) -> Result<(), SinkFault> {
+        if !self.is_open {
+            return Err(SinkFault::Closed);
+        }
+        self.put_ref(self.alloc, &triple.as_ref())
+    }
+
+    fn put_ref(&mut self, _: Global, triple: &TripleRef<'_>) -> Result<(), SinkFault> {
         if !self.is_open {
             return Err(SinkFault::Closed);
         }

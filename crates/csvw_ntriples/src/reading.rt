@@ -1,5 +1,6 @@
 //! The reader of N-Triples documents.
 
+mod byte_line;
 mod character;
 mod document;
 mod enclosed;
@@ -10,4 +11,4 @@ mod runs;
 mod terminal;
 mod triple_line;
 
-pub use document::read;
+pub use document::{NtReader, read};

@@ -1,18 +1,19 @@
-//! Writes the line of a triple. The parts that most lines have are inlined into `put`. The parts that few lines
+//! Writes the line of a triple. The parts that most lines have are inlined into `put_ref`. The parts that few lines
 //! have are not.
-ghost use Rattle.std.specs.Prelude.{◌≡◌, ◌∷◌, [], ◌++◌, true, OnOk, flat_map, codes, decimal, Bool};
+ghost use Rattle.std.specs.Prelude.{◌≡◌, ◌∷◌, [], ◌++◌, true, OnOk, flat_map, codes, decimal, Bool, option_copied};
 ghost use Rattle.csvw_ntriples.specs.Written.{label, escaped, iri_text, blank_text, string_text};
 ghost use Rattle.csvw_ntriples.specs.Written.{datatype_text, suffix_text, is_string_type, lit_text, term_text};
 ghost use Rattle.csvw_ntriples.specs.Front.{rest_text, object_text};
 ghost use Rattle.csvw_ntriples.specs.Writable.{IriFits, SuffixFits, LitFits, TermFits, IsOrigin};
 ghost use Rattle.csvw_triples_core.specs.declared.term.Term.TheVariants as term;
+ghost use Rattle.csvw_triples_core.specs.Lent.{lit_of, term_of, triple_of};
 ghost use Rattle.csvw_text.specs.Language.{is_language_tag};
 
 use crate::row_label::RowLabel;
 use crate::scratch::Scratch;
 use csvw_iri::Iri;
 use csvw_text::LanguageTag;
-use csvw_triples_core::{Lit, Origin, Term, Triple};
+use csvw_triples_core::{LitRef, Origin, TermRef, TripleRef};
 use itoa::{Buffer, Integer};
 use std::alloc::AllocError;
 
@@ -146,11 +147,11 @@ fn end_tagged(out: &mut Scratch, tag: &LanguageTag) -> Result<(), AllocError>
 /// Adds the end of a literal and of its line.
 fn end_literal(
     out: &mut Scratch,
-    lang: &Option<LanguageTag>,
+    lang: Option<&LanguageTag>,
     datatype: &Iri,
 ) -> Result<(), AllocError>
-    ensures text { OnOk result (out.new ≡ out.old ++ 34 ∷ suffix_text lang.now datatype.now ++ codes " .\n") }
-    ensures fits { OnOk result (SuffixFits lang.now datatype.now) }
+    ensures text { OnOk result (out.new ≡ out.old ++ 34 ∷ suffix_text (option_copied lang.entry) datatype.now ++ codes " .\n") }
+    ensures fits { OnOk result (SuffixFits (option_copied lang.entry) datatype.now) }
 {
     match lang {
         None => end_typed(out, datatype),
@@ -180,25 +181,25 @@ fn push_labelled(out: &mut Scratch, last: &mut RowLabel, origin: Origin) -> Resu
 
 /// Adds the part of a line after the text of its predicate, if the object is a literal.
 #[inline(always)]
-fn push_literal(out: &mut Scratch, lit: &Lit) -> Result<(), AllocError>
-    ensures text { OnOk result (out.new ≡ out.old ++ object_text (term.Literal lit.now)) }
-    ensures fits { OnOk result (LitFits lit.now) }
+fn push_literal(out: &mut Scratch, lit: &LitRef<'_>) -> Result<(), AllocError>
+    ensures text { OnOk result (out.new ≡ out.old ++ object_text (term.Literal (lit_of lit.now))) }
+    ensures fits { OnOk result (LitFits (lit_of lit.now)) }
 {
     out.push_fixed(b"> \"")?;
-    push_escaped(out, lit.text.as_str().as_bytes())?;
-    end_literal(out, &lit.lang, &lit.datatype)
+    push_escaped(out, lit.text.as_bytes())?;
+    end_literal(out, lit.lang, lit.datatype)
 }
 
 /// Adds the part of a line after the text of its predicate.
 #[inline(always)]
-fn push_object(out: &mut Scratch, last: &mut RowLabel, term: &Term) -> Result<(), AllocError>
-    ensures text { OnOk result (out.new ≡ out.old ++ object_text term.now) }
-    ensures fits { OnOk result (TermFits term.now) }
+fn push_object(out: &mut Scratch, last: &mut RowLabel, term: &TermRef<'_>) -> Result<(), AllocError>
+    ensures text { OnOk result (out.new ≡ out.old ++ object_text (term_of term.now)) }
+    ensures fits { OnOk result (TermFits (term_of term.now)) }
 {
     match term {
-        Term::Named(iri) => push_named(out, iri),
-        Term::Blank(origin) => push_labelled(out, last, *origin),
-        Term::Literal(lit) => push_literal(out, lit),
+        TermRef::Named(iri) => push_named(out, iri),
+        TermRef::Blank(origin) => push_labelled(out, last, *origin),
+        TermRef::Literal(lit) => push_literal(out, lit),
     }
 }
 
@@ -207,11 +208,11 @@ fn push_object(out: &mut Scratch, last: &mut RowLabel, term: &Term) -> Result<()
 pub(crate) fn push_rest(
     out: &mut Scratch,
     last: &mut RowLabel,
-    triple: &Triple,
+    triple: &TripleRef<'_>,
 ) -> Result<(), AllocError>
-    ensures text { OnOk result (out.new ≡ out.old ++ rest_text triple.now) }
-    ensures fits { OnOk result (IriFits triple.now.p × TermFits triple.now.o) }
+    ensures text { OnOk result (out.new ≡ out.old ++ rest_text (triple_of triple.now)) }
+    ensures fits { OnOk result (IriFits triple.now.p.now × TermFits (term_of triple.now.o)) }
 {
-    push_iri(out, &triple.p)?;
+    push_iri(out, triple.p)?;
     push_object(out, last, &triple.o)
 }

@@ -10,7 +10,7 @@ use std::fmt::Debug;
 use std::process::Abort;
 
 /// Returns the text that shows a value.
-fn shown<T: Debug>(alloc: Global, value: &T) -> Option<String> {
+pub(crate) fn shown<T: Debug>(alloc: Global, value: &T) -> Option<String> {
     let mut text = String::new(alloc);
     match write!(text, "{value:?}") {
         Ok(()) => Some(text),

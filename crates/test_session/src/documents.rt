@@ -1,5 +1,6 @@
 //! Tests of N-Triples documents that are read, and of texts that are refused.
-use csvw_ntriples::{NtLit, NtNode, NtTerm, NtTriple, read};
+use crate::clones::shown;
+use csvw_ntriples::{NtFault, NtLit, NtNode, NtReader, NtTerm, NtTriple, read};
 use std::alloc::Global;
 use std::process::Abort;
 
@@ -116,6 +117,102 @@ fn bytes_that_are_no_text(rt: HostRuntime) {
     let alloc = rt.alloc();
     assert!(rt; count(alloc, b"<a:b> <a:b> \"\xff\" .").is_none());
     assert!(rt; count(alloc, b"<a:b> <a:b> \"\xc3").is_none());
+}
+
+/// Whether both triples show the same text.
+fn is_same(alloc: Global, triple: &NtTriple, other: &NtTriple) -> bool {
+    match (shown(alloc, triple), shown(alloc, other)) {
+        (Some(triple), Some(other)) => triple.as_str() == other.as_str(),
+        _ => false,
+    }
+}
+
+/// Whether the reader returns this triple next.
+fn is_next(alloc: Global, reader: &mut NtReader, want: &NtTriple) -> bool {
+    match reader.next() {
+        Ok(Some(triple)) => is_same(alloc, &triple, want),
+        Ok(None) | Err(_) => false,
+    }
+}
+
+/// Whether the reader returns these triples, one after the other.
+fn returns_each(alloc: Global, reader: &mut NtReader, triples: &[NtTriple]) -> bool {
+    for triple in triples {
+        if !is_next(alloc, reader, triple) {
+            return false;
+        }
+    }
+    true
+}
+
+fn ends(reader: &mut NtReader) -> bool {
+    matches!(reader.next(), Ok(None))
+}
+
+fn refuses(reader: &mut NtReader) -> bool {
+    matches!(reader.next(), Err(NtFault::Syntax))
+}
+
+/// Whether a reader of the text returns what `read` returns, one after the other, and stays at the end.
+fn reads_same(alloc: Global, text: &str) -> bool {
+    let Ok(triples) = read(alloc, text.as_bytes()) else {
+        return false;
+    };
+    let mut reader = NtReader::new(alloc, text.as_bytes());
+    returns_each(alloc, &mut reader, triples.as_slice()) && ends(&mut reader) && ends(&mut reader)
+}
+
+/// Whether a reader of the document and a wrong line returns what `read` returns of the document, and stays there.
+fn reads_up_to(alloc: Global, document: &str, wrong: &[u8]) -> bool {
+    let Ok(triples) = read(alloc, document.as_bytes()) else {
+        return false;
+    };
+    let Some(text) = with_line(alloc, document, wrong) else {
+        return false;
+    };
+    let mut reader = NtReader::new(alloc, text.as_slice());
+    returns_each(alloc, &mut reader, triples.as_slice())
+        && refuses(&mut reader)
+        && refuses(&mut reader)
+}
+
+/// Returns the document, a line break and the line.
+fn with_line(alloc: Global, document: &str, line: &[u8]) -> Option<Vec<u8>> {
+    let mut bytes = Vec::new(alloc);
+    for part in [document.as_bytes(), b"\n", line] {
+        let Ok(()) = bytes.extend_from_slice(part) else {
+            return None;
+        };
+    }
+    Some(bytes)
+}
+
+fn reads_each_same(rt: &impl Abort, alloc: Global, texts: &[&str]) {
+    for text in texts {
+        assert!(rt; reads_same(alloc, text), "{text:?}");
+    }
+}
+
+#[test]
+fn one_triple_after_the_other(rt: HostRuntime) {
+    let alloc = rt.alloc();
+    reads_each_same(&rt, alloc, &EMPTY);
+    reads_each_same(&rt, alloc, &ONE);
+    reads_each_same(&rt, alloc, &TWO);
+}
+
+#[test]
+fn triples_before_a_wrong_line(rt: HostRuntime) {
+    let alloc = rt.alloc();
+    for document in &TWO {
+        assert!(rt;
+            reads_up_to(alloc, document, b"<a:b> <a:b> \"\xff\" ."),
+            "{document:?}"
+        );
+    }
+    for wrong in &REFUSED {
+        assert!(rt; reads_up_to(alloc, TWO[1], wrong.as_bytes()), "{wrong:?}");
+    }
 }
 
 /// The expected subject.

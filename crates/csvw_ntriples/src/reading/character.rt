@@ -1,13 +1,7 @@
 //! Classes of characters.
 ghost use Rattle.std.specs.Prelude.{◌≡◌};
 ghost use Rattle.csvw_text.specs.Language.{is_letter_or_digit_char};
-ghost use Rattle.csvw_ntriples.specs.Character.{is_break, is_blank, is_label_letter, is_label_char, is_label_start, is_raw_in_iri, is_raw_in_string};
-
-pub(crate) fn is_line_break(c: char) -> bool
-    ensures { result ≡ is_break c }
-{
-    c == '\r' || c == '\n'
-}
+ghost use Rattle.csvw_ntriples.specs.Character.{is_blank, is_label_letter, is_label_char, is_label_start, is_raw_in_iri, is_raw_in_string};
 
 pub(crate) fn is_blank(c: char) -> bool
     ensures { result ≡ is_blank c }

@@ -1,7 +1,0 @@
-use Rattle.std.proofs.Common.{◌≡◌, take, false}
-use Rattle.std.specs.List.{AllByRecursion}
-use Rattle.csvw_ntriples.specs.Character.{is_break}
-use Rattle.csvw_ntriples.proofs.reading.document.first_line.Given as goal
-
-abbrev pub invariant-loop-i : goal.invariant-loop-i
-invariant-loop-i l = AllByRecursion (λ c. is_break c ≡ false) (take l.i l.text)
