@@ -6,3 +6,4 @@ mod Walking
 mod Standards
 mod StandardGraphs
 mod ModeGraphs
+mod Tagged

@@ -5,7 +5,7 @@ use Rattle.std.proofs.lemmas.List.{take-append-drop, map-append, length-drop}
 use Rattle.std.proofs.lemmas.List.Concat.{flat_map-append}
 use Rattle.std.proofs.Math.Seq.{take-suc}
 use Rattle.std.proofs.lemmas.Bool.Decides.{nat_tests}
-use Rattle.std.specs.Prelude.{◌==◌}
+use Rattle.std.specs.Prelude.{◌==◌, Option, Some, None}
 use Rattle.std.specs.List.{zip, AllByRecursion}
 use Rattle.csvw_columns_core.specs.declared.column.Column.{Column}
 use Rattle.csvw_annotate.specs.declared.row.AnnCell.{AnnCell}
@@ -18,6 +18,7 @@ use Rattle.csvw_triples_core.specs.declared.term.Term.TheVariants as term
 use Rattle.csvw_triples_core.specs.declared.term.Triple.{Triple}
 use Rattle.csvw_triples_rows.specs.Literals.{literal_of}
 use Rattle.csvw_triples_rows.specs.RowTriples.{triple, list_node, first_triple, rest_triple, list_triples, cell_triples, cells_triples}
+use Rattle.csvw_triples_rows.specs.Stems.{node_from}
 use Rattle.csvw_triples_rows.specs.Vocabulary.{rdf_first, rdf_rest, rdf_nil}
 
 -- what holds of all holds of one
@@ -117,24 +118,37 @@ module _ (entry : ℕ → Origin) (column : Column) where
       → cond ((i + 1) == length items) (term.Named rdf_nil) (term.Blank (entry k)) ≡ list_node entry k (drop (i + 1) items)
   rest_of_list k i items h = node_by k (drop (i + 1) items) _ (is_last _ i (length items) (length-drop (i + 1) items) h)
 
+  -- the node of a list by the entry that the code found
+  found : (b : Bool) (k : ℕ) (next : Option Origin) → next ≡ cond b None (Some (entry k)) → node_from next ≡ cond b (term.Named rdf_nil) (term.Blank (entry k))
+  found true k next e = ap node_from e
+  found false k next e = ap node_from e
+
   -- what an entry was put as
-  pub entry_put : (items : List Item) (i n : ℕ) (item : Item) (e : Origin) (rest : Term) → i < length items → item ≡ get_or items i item → n ≡ i + 1
-      → e ≡ entry n → rest ≡ cond ((i + 1) == length items) (term.Named rdf_nil) (term.Blank (entry (n + 1)))
+  pub entry_put : (items : List Item) (i n : ℕ) (item : Item) (e : Origin) (next : Option Origin) → i < length items → item ≡ get_or items i item
+      → n ≡ i + 1 → e ≡ entry n → next ≡ cond (n == length items) None (Some (entry (n + 1)))
       → front_triples 1 (i + 1) items
-      ≡ front_triples 1 i items ++ triple (node.Blank e) rdf_first (term.Literal (literal_of column item)) ∷ triple (node.Blank e) rdf_rest rest ∷ []
-  entry_put items i n item e rest h is number here left =
+      ≡ front_triples 1 i items ++ triple (node.Blank e) rdf_first (term.Literal (literal_of column item))
+      ∷ triple (node.Blank e) rdf_rest (node_from next) ∷ []
+  entry_put items i n item e next h is number here left =
       let so_far = front_triples 1 i items in
       let literal = term.Literal (literal_of column item) in
-      let rest_is = sym (left ∙ rest_of_list (n + 1) i items h) in
+      let last : (n == length items) ≡ ((i + 1) == length items) = ap (λ m. m == length items) number in
+      let by_place = ap (λ b. cond b (term.Named rdf_nil) (term.Blank (entry (n + 1)))) last in
+      let rest_is = sym (found _ (n + 1) next left ∙ by_place ∙ rest_of_list (n + 1) i items h) in
       entries_more items i n item h is number
       ∙ ap (λ o. so_far ++ first_triple entry column n item ∷ triple (node.Blank (entry n)) rdf_rest o ∷ []) rest_is
-      ∙ ap (λ b. so_far ++ triple (node.Blank b) rdf_first literal ∷ triple (node.Blank b) rdf_rest rest ∷ []) (sym here)
+      ∙ ap (λ b. so_far ++ triple (node.Blank b) rdf_first literal ∷ triple (node.Blank b) rdf_rest (node_from next) ∷ []) (sym here)
+
+  none_before : (n : ℕ) → (0 == n) ≡ (n == 0)
+  none_before n = grind (arith, nat_tests)
 
   -- and what a list was put as
-  pub list_put : (s : Node) (p : List ℕ) (items : List Item) (b : Bool) (list : Term) → b ≡ (length items == 0)
-      → list ≡ cond b (term.Named rdf_nil) (term.Blank (entry 1))
+  pub list_put : (s : Node) (p : List ℕ) (items : List Item) (first : Option Origin) (list : Term)
+      → first ≡ cond (0 == length items) None (Some (entry (0 + 1))) → list ≡ node_from first
       → triple s p (list_node entry 1 items) ∷ list_triples entry column 1 items ≡ (triple s p list ∷ []) ++ list_triples entry column 1 items
-  list_put s p items b list is e = ap (λ o. triple s p o ∷ list_triples entry column 1 items) (sym (e ∙ whole_list 1 items b is))
+  list_put s p items first list e is =
+      let list_is = is ∙ found _ 1 first e ∙ whole_list 1 items (0 == length items) (none_before (length items)) in
+      ap (λ o. triple s p o ∷ list_triples entry column 1 items) (sym list_is)
 
 -- cells
 

@@ -2,6 +2,7 @@ pub mod Vocabulary
 pub mod Literals
 pub mod Puts
 pub mod RowTriples
+pub mod Spelled
 pub mod Stems
 pub mod Graph
 pub mod CsvwVocabulary

@@ -1,36 +1,38 @@
 //! Writes the triples of rows into a sink.
 //!
-//! An `Emitter` makes each triple in the memory of the one before it.
-ghost use Rattle.std.specs.Prelude.{◌≡◌, [], ◌∷◌, length, map, IfOk, IfErr, OnOk, if◌then◌else◌};
-ghost use Rattle.csvw_datatype.specs.Lexical.{IsWritable};
+//! An `Emitter` lends the parts of each triple to the sink: IRIs and texts of the row, and names of its own.
+ghost use Rattle.std.specs.Prelude.{◌≡◌, [], ◌∷◌, length, map, IfErr, OnOk};
+ghost use Rattle.csvw_datatype.specs.Lexical.{IsWritable, lexical_of};
 ghost use Rattle.csvw_triples_core.specs.Taking.{FrontOf, Ends};
+ghost use Rattle.csvw_triples_core.specs.Lent.{node_of, term_of};
 ghost use Rattle.csvw_triples_core.specs.declared.term.Node.TheVariants as node;
 ghost use Rattle.csvw_triples_core.specs.declared.term.Term.TheVariants as term;
 ghost use Rattle.csvw_cell.specs.HasForm.{HaveForms, HasForm};
 ghost use Rattle.csvw_annotate.specs.HasForms.{CellsHaveForms, HasForms};
 ghost use Rattle.csvw_triples_rows.specs.Literals.{literal_of};
 ghost use Rattle.csvw_triples_rows.specs.Puts.{Puts};
-ghost use Rattle.csvw_triples_rows.specs.Stems.{object_triple, literal_triple, entries_in, entry_triples};
+ghost use Rattle.csvw_triples_rows.specs.Spelled.{spelled};
+ghost use Rattle.csvw_triples_rows.specs.Stems.{object_triple, literal_triple, entries_in, node_from, entry_triples};
 ghost use Rattle.csvw_triples_rows.specs.RowTriples.{triple, subject_of, predicate_of, entries_of, list_node, list_triples, items_triples, value_triples};
 ghost use Rattle.csvw_triples_rows.specs.RowTriples.{object_triples, cell_triples, cells_triples, minimal_triples};
 ghost use Rattle.csvw_triples_rows.specs.ModeTriples.{row_triples};
-ghost use Rattle.csvw_triples_rows.specs.Vocabulary.{rdf_first, rdf_rest, rdf_nil};
+ghost use Rattle.csvw_triples_rows.specs.Vocabulary.{rdf_first, rdf_rest};
 
 use crate::csvw_names::CsvwNames;
-use crate::literals::{literal_of, refill};
-use crate::putting::put_one;
+use crate::literals::{literal_of, spell, spelled};
+use crate::putting::put_object;
 use crate::rdf::RdfNames;
-use crate::stem::{ListPlace, RowPlace, Stem, predicate_of, subject_of};
+use crate::stem::{ListPlace, RowPlace, Stem};
 use csvw_annotate::{AnnCell, Row};
 use csvw_cell::{CellValue, Item};
 use csvw_columns_core::{Column, Columns};
-use csvw_iri::{Iri, named};
+use csvw_iri::Iri;
 use csvw_text::{Text, both};
-use csvw_triples_core::{Mode, Node, Origin, SinkFault, Term, Triple, TripleSink};
+use csvw_triples_core::{Mode, NodeRef, Origin, SinkFault, TermRef, TripleSink};
 use std::alloc::{AllocError, Global};
-use std::mem;
 
-/// Writes the triples of rows into sinks. It keeps the memory of one triple and of one row's IRI from row to row.
+/// Writes the triples of rows into sinks. It keeps the memory of one lexical form and of one row's IRI from row to
+/// row.
 #[derive(Debug, Drop)]
 pub struct Emitter {
     /// Where its memory comes from.
@@ -39,36 +41,25 @@ pub struct Emitter {
     names: RdfNames,
     /// The names of CSVW.
     pub(crate) csvw: CsvwNames,
-    /// The triple that was written last. The next one is made in its memory.
-    draft: Triple,
-    /// The text of an earlier literal, if the draft has no literal.
-    spare: Text,
+    /// The lexical form of the last value that was no text. The next one is written over it.
+    form: Text,
     /// The fragment of a row's IRI: its place in its source.
     pub(crate) fragment: Text,
     /// The IRI of the row that was written last. The next one is made in its memory.
     pub(crate) address: Iri,
 }
 
-/// Makes the first triple and the first IRI of a row, in whose memory the later ones are made.
-fn first_draft(alloc: Global) -> Result<(Triple, Iri), AllocError> {
-    let p = named(alloc, "http://www.w3.org/ns/csvw#row")?;
-    let address = p.clone(alloc)?;
-    let s = Node::Blank(Origin::Group);
-    let o = Term::Blank(Origin::Group);
-    Ok((Triple { s, p, o }, address))
-}
-
 impl Emitter {
     /// Makes an emitter. Fails with `AllocError` if memory runs out.
     pub fn new(alloc: Global) -> Result<Emitter, AllocError> {
         let names = both(RdfNames::new(alloc), CsvwNames::new(alloc));
-        let ((names, csvw), (draft, address)) = both(names, first_draft(alloc))?;
+        let (names, csvw) = names?;
+        let address = csvw.row.clone(alloc)?;
         Ok(Emitter {
             alloc,
             names,
             csvw,
-            draft,
-            spare: Text::new(alloc),
+            form: Text::new(alloc),
             fragment: Text::new(alloc),
             address,
         })
@@ -80,170 +71,82 @@ impl Emitter {
         Ok(Box::new(alloc, Emitter::new(alloc)?)?)
     }
 
-    /// Sets the subject and the predicate of the draft.
+    /// Writes the triple of an item. `spell` wrote the lexical form of its value.
     #[inline(always)]
-    fn aim(&mut self, stem: Stem)
-        ensures s { self.new.draft.s ≡ stem.s }
-        ensures p { self.new.draft.p ≡ stem.p }
-    {
-        let Stem { s, p } = stem;
-        self.draft.s = s;
-        self.draft.p = p;
-    }
-
-    /// Sets the subject and the predicate of the draft to those of a cell.
-    #[inline(always)]
-    fn aim_at(&mut self, place: RowPlace, column: &Column, cell: &AnnCell) -> Result<(), AllocError>
-        ensures s { OnOk result (self.new.draft.s ≡ subject_of place.table place.row cell.now) }
-        ensures p { OnOk result (self.new.draft.p ≡ predicate_of column.now cell.now) }
-    {
-        self.draft.s = subject_of(self.alloc, place, cell)?;
-        self.draft.p = predicate_of(self.alloc, column, cell)?;
-        Ok(())
-    }
-
-    /// Returns the memory of an earlier literal's text.
-    #[inline(always)]
-    pub(crate) fn take_spare(&mut self) -> Text
-        ensures s { self.new.draft.s ≡ self.old.draft.s }
-        ensures p { self.new.draft.p ≡ self.old.draft.p }
-    {
-        match mem::replace(&mut self.draft.o, Term::Blank(Origin::Group)) {
-            Term::Literal(literal) => literal.into_text(),
-            Term::Named(_) | Term::Blank(_) => mem::replace(&mut self.spare, Text::new(self.alloc)),
-        }
-    }
-
-    /// Sets the object of the draft.
-    #[inline(always)]
-    fn set_object(&mut self, o: Term)
-        ensures s { self.new.draft.s ≡ self.old.draft.s }
-        ensures p { self.new.draft.p ≡ self.old.draft.p }
-        ensures o { self.new.draft.o ≡ o }
-    {
-        if matches!(self.draft.o, Term::Literal(_)) {
-            self.spare = self.take_spare();
-        }
-        self.draft.o = o;
-    }
-
-    /// Sets the object of the draft to the literal of a value, in memory of its own. Most literals are made over
-    /// the one before instead.
-    #[inline(never)]
-    fn make_literal(&mut self, column: &Column, item: &Item) -> Result<(), AllocError>
-        requires { IsWritable item.now.value }
-        ensures s { self.new.draft.s ≡ self.old.draft.s }
-        ensures p { self.new.draft.p ≡ self.old.draft.p }
-        ensures o { OnOk result (self.new.draft.o ≡ term.Literal (literal_of column.now item.now)) }
-    {
-        let spare = self.take_spare();
-        let literal = literal_of(self.alloc, &self.names, column, item, spare)?;
-        self.draft.o = Term::Literal(literal);
-        Ok(())
-    }
-
-    /// Sets the object of the draft to the literal of a value.
-    #[inline(always)]
-    fn set_literal(&mut self, column: &Column, item: &Item) -> Result<(), AllocError>
-        requires { IsWritable item.now.value }
-        ensures s { self.new.draft.s ≡ self.old.draft.s }
-        ensures p { self.new.draft.p ≡ self.old.draft.p }
-        ensures o { OnOk result (self.new.draft.o ≡ term.Literal (literal_of column.now item.now)) }
-    {
-        if refill(self.alloc, &mut self.draft.o, column, item)? {
-            return Ok(());
-        }
-        self.make_literal(column, item)
-    }
-
-    pub(crate) fn put_object<S: TripleSink>(
-        &mut self,
-        stem: Stem,
-        o: Term,
+    fn put_item<S: TripleSink>(
+        &self,
+        stem: Stem<'_>,
+        column: &Column,
+        item: &Item,
         sink: &mut S,
     ) -> Result<(), SinkFault>
-        ensures { Puts S.gains S.cuts S.is_open S.failed sink.old (object_triple stem o ∷ []) sink.new result }
+        requires { spelled item.now.value self.now.form ≡ lexical_of item.now.value }
+        ensures { Puts S.gains S.cuts S.is_open S.failed sink.old (literal_triple stem.entry column.now item.now ∷ []) sink.new result }
     {
-        self.aim(stem);
-        self.set_object(o);
-        put_one(&self.draft, sink)
+        let text = spelled(&item.value, &self.form);
+        let literal = literal_of(&self.names, column, item, text);
+        put_object(self.alloc, stem, TermRef::Literal(literal), sink)
     }
 
+    #[inline(always)]
     fn emit_item<S: TripleSink>(
         &mut self,
-        stem: Stem,
+        stem: Stem<'_>,
         column: &Column,
         item: &Item,
         sink: &mut S,
     ) -> Result<(), SinkFault>
         requires { IsWritable item.now.value }
-        ensures { Puts S.gains S.cuts S.is_open S.failed sink.old (literal_triple stem column.now item.now ∷ []) sink.new result }
+        ensures { Puts S.gains S.cuts S.is_open S.failed sink.old (literal_triple stem.entry column.now item.now ∷ []) sink.new result }
     {
-        self.aim(stem);
-        self.set_literal(column, item)?;
-        put_one(&self.draft, sink)
-    }
-
-    /// Writes the triple of one of several items.
-    fn emit_one<S: TripleSink>(
-        &mut self,
-        stem: &Stem,
-        column: &Column,
-        item: &Item,
-        sink: &mut S,
-    ) -> Result<(), SinkFault>
-        requires { IsWritable item.now.value }
-        ensures { Puts S.gains S.cuts S.is_open S.failed sink.old (literal_triple stem.now column.now item.now ∷ []) sink.new result }
-    {
-        let stem = stem.clone(self.alloc)?;
-        self.emit_item(stem, column, item, sink)
+        spell(&mut self.form, &item.value)?;
+        self.put_item(stem, column, item, sink)
     }
 
     fn emit_items<S: TripleSink>(
         &mut self,
-        stem: &Stem,
+        stem: Stem<'_>,
         column: &Column,
         items: &[Item],
         sink: &mut S,
     ) -> Result<(), SinkFault>
         requires { HaveForms items.now }
-        ensures { Puts S.gains S.cuts S.is_open S.failed sink.old (map (literal_triple stem.now column.now) items.now) sink.new result }
+        ensures { Puts S.gains S.cuts S.is_open S.failed sink.old (map (literal_triple stem.entry column.now) items.now) sink.new result }
     {
         for i in 0..items.len() {
-            self.emit_one(stem, column, &items[i], sink)?;
+            self.emit_item(stem, column, &items[i], sink)?;
         }
         Ok(())
     }
 
-    /// Returns the node of a list from entry `k` on.
-    fn list_node(&self, place: ListPlace, k: u64, is_end: bool) -> Result<Term, AllocError>
-        ensures { IfOk result (λ o. o ≡ (if is_end then term.Named rdf_nil else term.Blank (entries_in place k))) }
+    /// Lends the node of a list, by its first entry.
+    fn list_node(&self, entry: Option<Origin>) -> TermRef<'_>
+        ensures { term_of result ≡ node_from entry }
     {
-        if is_end {
-            Ok(Term::Named(self.names.nil.clone(self.alloc)?))
-        } else {
-            Ok(Term::Blank(place.entry(k)))
+        match entry {
+            Some(origin) => TermRef::Blank(origin),
+            None => TermRef::Named(&self.names.nil),
         }
     }
 
-    fn first_stem(&self, entry: Origin) -> Result<Stem, AllocError>
-        ensures s { IfOk result (λ stem. stem.s ≡ node.Blank entry) }
-        ensures p { IfOk result (λ stem. stem.p ≡ rdf_first) }
+    fn first_stem(&self, entry: Origin) -> Stem<'_>
+        ensures s { node_of result.s ≡ node.Blank entry }
+        ensures p { result.p.now ≡ rdf_first }
     {
-        Ok(Stem {
-            s: Node::Blank(entry),
-            p: self.names.first.clone(self.alloc)?,
-        })
+        Stem {
+            s: NodeRef::Blank(entry),
+            p: &self.names.first,
+        }
     }
 
-    fn rest_stem(&self, entry: Origin) -> Result<Stem, AllocError>
-        ensures s { IfOk result (λ stem. stem.s ≡ node.Blank entry) }
-        ensures p { IfOk result (λ stem. stem.p ≡ rdf_rest) }
+    fn rest_stem(&self, entry: Origin) -> Stem<'_>
+        ensures s { node_of result.s ≡ node.Blank entry }
+        ensures p { result.p.now ≡ rdf_rest }
     {
-        Ok(Stem {
-            s: Node::Blank(entry),
-            p: self.names.rest.clone(self.alloc)?,
-        })
+        Stem {
+            s: NodeRef::Blank(entry),
+            p: &self.names.rest,
+        }
     }
 
     /// Writes the triple that says that an item is the first of an entry.
@@ -258,37 +161,41 @@ impl Emitter {
         ensures { Puts S.gains S.cuts S.is_open S.failed sink.old
             (triple (node.Blank entry) rdf_first (term.Literal (literal_of column.now item.now)) ∷ []) sink.new result }
     {
-        let stem = self.first_stem(entry)?;
-        self.emit_item(stem, column, item, sink)
+        spell(&mut self.form, &item.value)?;
+        self.put_item(self.first_stem(entry), column, item, sink)
     }
 
-    /// Writes the triple that says what the rest of an entry is.
+    /// Writes the triple that says what the rest of an entry is, by the entry after it.
     fn emit_rest<S: TripleSink>(
-        &mut self,
+        &self,
         entry: Origin,
-        rest: Term,
+        next: Option<Origin>,
         sink: &mut S,
     ) -> Result<(), SinkFault>
-        ensures { Puts S.gains S.cuts S.is_open S.failed sink.old (triple (node.Blank entry) rdf_rest rest ∷ []) sink.new result }
+        ensures { Puts S.gains S.cuts S.is_open S.failed sink.old (triple (node.Blank entry) rdf_rest (node_from next) ∷ []) sink.new result }
     {
-        let stem = self.rest_stem(entry)?;
-        self.put_object(stem, rest, sink)
+        put_object(
+            self.alloc,
+            self.rest_stem(entry),
+            self.list_node(next),
+            sink,
+        )
     }
 
-    /// Writes the triples of an entry.
+    /// Writes the triples of an entry, by the entry after it.
     fn emit_entry<S: TripleSink>(
         &mut self,
         entry: Origin,
         column: &Column,
         item: &Item,
-        rest: Term,
+        next: Option<Origin>,
         sink: &mut S,
     ) -> Result<(), SinkFault>
         requires { IsWritable item.now.value }
-        ensures { Puts S.gains S.cuts S.is_open S.failed sink.old (entry_triples entry column.now item.now rest) sink.new result }
+        ensures { Puts S.gains S.cuts S.is_open S.failed sink.old (entry_triples entry column.now item.now next) sink.new result }
     {
         self.emit_first(entry, column, item, sink)?;
-        self.emit_rest(entry, rest, sink)
+        self.emit_rest(entry, next, sink)
     }
 
     fn emit_entries<S: TripleSink>(
@@ -303,15 +210,15 @@ impl Emitter {
     {
         for i in 0..items.len() {
             let k = i as u64 + 1;
-            let rest = self.list_node(place, k + 1, i + 1 == items.len())?;
-            self.emit_entry(place.entry(k), column, &items[i], rest, sink)?;
+            let next = place.entry_after(k, items.len());
+            self.emit_entry(place.entry(k), column, &items[i], next, sink)?;
         }
         Ok(())
     }
 
     fn emit_list<S: TripleSink>(
         &mut self,
-        stem: Stem,
+        stem: Stem<'_>,
         place: ListPlace,
         column: &Column,
         items: &[Item],
@@ -319,17 +226,17 @@ impl Emitter {
     ) -> Result<(), SinkFault>
         requires { HaveForms items.now }
         ensures { Puts S.gains S.cuts S.is_open S.failed sink.old
-            (object_triple stem (list_node (entries_in place) 1 items.now)
+            (object_triple stem.entry (list_node (entries_in place) 1 items.now)
             ∷ list_triples (entries_in place) column.now 1 items.now) sink.new result }
     {
-        let list = self.list_node(place, 1, items.is_empty())?;
-        self.put_object(stem, list, sink)?;
+        let first = place.entry_after(0, items.len());
+        put_object(self.alloc, stem, self.list_node(first), sink)?;
         self.emit_entries(place, column, items, sink)
     }
 
     fn emit_many<S: TripleSink>(
         &mut self,
-        stem: Stem,
+        stem: Stem<'_>,
         place: ListPlace,
         column: &Column,
         items: &[Item],
@@ -337,18 +244,18 @@ impl Emitter {
     ) -> Result<(), SinkFault>
         requires { HaveForms items.now }
         ensures { Puts S.gains S.cuts S.is_open S.failed sink.old
-            (items_triples stem.s stem.p (entries_in place) column.now items.now) sink.new result }
+            (items_triples (node_of stem.entry.s) stem.entry.p.now (entries_in place) column.now items.now) sink.new result }
     {
         if column.properties.ordered {
             self.emit_list(stem, place, column, items, sink)
         } else {
-            self.emit_items(&stem, column, items, sink)
+            self.emit_items(stem, column, items, sink)
         }
     }
 
     fn emit_value<S: TripleSink>(
         &mut self,
-        stem: Stem,
+        stem: Stem<'_>,
         place: ListPlace,
         column: &Column,
         value: &CellValue,
@@ -356,7 +263,7 @@ impl Emitter {
     ) -> Result<(), SinkFault>
         requires { HasForm value.now }
         ensures { Puts S.gains S.cuts S.is_open S.failed sink.old
-            (value_triples stem.s stem.p (entries_in place) column.now value.now) sink.new result }
+            (value_triples (node_of stem.entry.s) stem.entry.p.now (entries_in place) column.now value.now) sink.new result }
     {
         match value {
             CellValue::Null => Ok(()),
@@ -365,21 +272,9 @@ impl Emitter {
         }
     }
 
-    fn emit_link<S: TripleSink>(
-        &mut self,
-        stem: Stem,
-        link: &Iri,
-        sink: &mut S,
-    ) -> Result<(), SinkFault>
-        ensures { Puts S.gains S.cuts S.is_open S.failed sink.old (object_triple stem (term.Named link.now) ∷ []) sink.new result }
-    {
-        let o = Term::Named(link.clone(self.alloc)?);
-        self.put_object(stem, o, sink)
-    }
-
     fn emit_objects<S: TripleSink>(
         &mut self,
-        stem: Stem,
+        stem: Stem<'_>,
         place: ListPlace,
         column: &Column,
         cell: &AnnCell,
@@ -387,10 +282,10 @@ impl Emitter {
     ) -> Result<(), SinkFault>
         requires { HasForm cell.now.value }
         ensures { Puts S.gains S.cuts S.is_open S.failed sink.old
-            (object_triples stem.s stem.p (entries_in place) column.now cell.now.value cell.now.link) sink.new result }
+            (object_triples (node_of stem.entry.s) stem.entry.p.now (entries_in place) column.now cell.now.value cell.now.link) sink.new result }
     {
         match &cell.link {
-            Some(link) => self.emit_link(stem, link, sink),
+            Some(link) => put_object(self.alloc, stem, TermRef::Named(link), sink),
             None => self.emit_value(stem, place, column, &cell.value, sink),
         }
     }
@@ -409,7 +304,7 @@ impl Emitter {
             (object_triples (subject_of place.table place.row cell.now) (predicate_of column.now cell.now)
             (entries_of place.table place.row column.now) column.now cell.now.value cell.now.link) sink.new result }
     {
-        let stem = Stem::of(self.alloc, place, column, cell)?;
+        let stem = Stem::of(place, column, cell);
         let list = ListPlace {
             table: place.table,
             row: place.row,
@@ -433,9 +328,7 @@ impl Emitter {
             (triple (subject_of place.table place.row cell.now) (predicate_of column.now cell.now)
             (term.Literal (literal_of column.now item.now)) ∷ []) sink.new result }
     {
-        self.aim_at(place, column, cell)?;
-        self.set_literal(column, item)?;
-        put_one(&self.draft, sink)
+        self.emit_item(Stem::of(place, column, cell), column, item, sink)
     }
 
     #[inline(always)]

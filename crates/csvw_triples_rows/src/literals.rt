@@ -1,10 +1,12 @@
 //! The literals of values.
-ghost use Rattle.std.specs.Prelude.{◌≡◌, true, false, None, IfOk, OnOk, bytes_eq, codes};
-ghost use Rattle.csvw_triples_core.specs.declared.term.Term.TheVariants as term;
+ghost use Rattle.std.specs.Prelude.{◌≡◌, OnOk, bytes_eq, codes};
+ghost use Rattle.csvw_iri.specs.Vocabulary.{lang_string};
 ghost use Rattle.csvw_datatype.specs.Lexical.{IsWritable, lexical_of};
 ghost use Rattle.csvw_datatype.specs.Strings.{is_string};
+ghost use Rattle.csvw_triples_core.specs.Lent.{lit_of};
 ghost use Rattle.csvw_triples_core.specs.Literal.{tagged_lit, typed_lit};
 ghost use Rattle.csvw_triples_rows.specs.Literals.{has_language, literal_of, read_literal};
+ghost use Rattle.csvw_triples_rows.specs.Spelled.{spelled};
 
 use crate::rdf::RdfNames;
 use csvw_cell::Item;
@@ -12,8 +14,8 @@ use csvw_columns_core::{Column, Properties};
 use csvw_datatype::Value;
 use csvw_iri::Iri;
 use csvw_text::{LanguageTag, Text};
-use csvw_triples_core::{Lit, Term};
-use std::alloc::{AllocError, Global};
+use csvw_triples_core::LitRef;
+use std::alloc::AllocError;
 
 /// Returns whether the tag is that of an undetermined language.
 fn is_undetermined(tag: &LanguageTag) -> bool
@@ -29,94 +31,79 @@ fn has_language(properties: &Properties) -> bool
     datatype.is_string() && datatype.id.is_none() && !is_undetermined(properties.lang.get())
 }
 
-fn tagged(alloc: Global, names: &RdfNames, text: Text, tag: &LanguageTag) -> Result<Lit, AllocError>
-    ensures { IfOk result (λ lit. lit ≡ tagged_lit text tag.now) }
+/// Writes the lexical form of a value over a text, unless the value is a text itself. Fails with `AllocError` if
+/// memory runs out.
+#[inline(always)]
+pub(crate) fn spell(form: &mut Text, value: &Value) -> Result<(), AllocError>
+    requires { IsWritable value.now }
+    ensures { OnOk result (spelled value.now form.new ≡ lexical_of value.now) }
 {
-    let datatype = names.lang_string.clone(alloc)?;
-    let lang = Some(tag.clone(alloc)?);
-    Ok(Lit {
+    match value {
+        Value::Text(_) => Ok(()),
+        Value::Truth(_) | Value::Number(_) | Value::Day(_) | Value::Moment(_) => {
+            value.refill_lexical(form)
+        }
+    }
+}
+
+/// Lends the lexical form of a value: the text that it is, else the form that `spell` wrote.
+#[inline(always)]
+pub(crate) fn spelled<'a>(value: &'a Value, form: &'a Text) -> &'a str
+    ensures { result.now ≡ spelled value.now form.now }
+{
+    match value {
+        Value::Text(text) => text.as_str(),
+        Value::Truth(_) | Value::Number(_) | Value::Day(_) | Value::Moment(_) => form.as_str(),
+    }
+}
+
+/// Lends a literal with a datatype and without a language.
+#[inline(always)]
+pub(crate) fn typed<'a>(text: &'a str, datatype: &'a Iri) -> LitRef<'a>
+    ensures { lit_of result ≡ typed_lit text.now datatype.now }
+{
+    LitRef {
         text,
         datatype,
-        lang,
-    })
+        lang: None,
+    }
 }
 
-fn read_literal(
-    alloc: Global,
-    names: &RdfNames,
-    column: &Column,
-    text: Text,
-) -> Result<Lit, AllocError>
-    ensures { IfOk result (λ lit. lit ≡ read_literal column.now text) }
+/// Lends a literal with a language. Its datatype is rdf:langString.
+fn tagged<'a>(text: &'a str, datatype: &'a Iri, tag: &'a LanguageTag) -> LitRef<'a>
+    requires { datatype.now ≡ lang_string }
+    ensures { lit_of result ≡ tagged_lit text.now tag.now }
+{
+    LitRef {
+        text,
+        datatype,
+        lang: Some(tag),
+    }
+}
+
+#[inline(always)]
+fn read_literal<'a>(names: &'a RdfNames, column: &'a Column, text: &'a str) -> LitRef<'a>
+    ensures { lit_of result ≡ read_literal column.now text.now }
 {
     if has_language(&column.properties) {
-        return tagged(alloc, names, text, column.properties.lang.get());
+        return tagged(text, &names.lang_string, column.properties.lang.get());
     }
-    Ok(Lit::typed(text, column.literal_datatype.clone(alloc)?))
+    typed(text, &column.literal_datatype)
 }
 
-/// Makes the literal of a value, with its text in the memory of another. Fails with `AllocError` if memory runs
-/// out.
-pub(crate) fn literal_of(
-    alloc: Global,
-    names: &RdfNames,
-    column: &Column,
+/// Lends the literal of a value, by its lexical form.
+#[inline(always)]
+pub(crate) fn literal_of<'a>(
+    names: &'a RdfNames,
+    column: &'a Column,
     item: &Item,
-    spare: Text,
-) -> Result<Lit, AllocError>
-    requires { IsWritable item.now.value }
-    ensures { IfOk result (λ lit. lit ≡ literal_of column.now item.now) }
+    text: &'a str,
+) -> LitRef<'a>
+    requires { text.now ≡ lexical_of item.now.value }
+    ensures { lit_of result ≡ literal_of column.now item.now }
 {
-    let mut text = spare;
-    item.value.refill_lexical(&mut text)?;
     if item.was_read {
-        return read_literal(alloc, names, column, text);
+        return read_literal(names, column, text);
     }
-    Ok(Lit::typed(text, names.string.clone(alloc)?))
-}
-
-/// Makes a literal the one of a value and a datatype, in its own memory.
-#[inline(always)]
-fn rewrite(
-    alloc: Global,
-    literal: &mut Lit,
-    value: &Value,
-    datatype: &Iri,
-) -> Result<(), AllocError>
-    requires lang { literal.old.lang ≡ None }
-    requires form { IsWritable value.now }
-    ensures { OnOk result (literal.new ≡ typed_lit (lexical_of value.now) datatype.now) }
-{
-    value.refill_lexical(&mut literal.text)?;
-    literal.datatype = datatype.clone(alloc)?;
-    Ok(())
-}
-
-/// Returns whether the literal of a value is its lexical form with the datatype of its column.
-fn is_typed_text(column: &Column, item: &Item) -> bool
-    ensures { result ≡ true → (item.now.was_read ≡ true) × (has_language column.now.properties ≡ false) }
-{
-    item.was_read && !has_language(&column.properties)
-}
-
-/// Makes the object the literal of a value, in the memory of the literal that it is, if neither has a language.
-/// Returns whether it did. Fails with `AllocError` if memory runs out.
-#[inline(always)]
-pub(crate) fn refill(
-    alloc: Global,
-    o: &mut Term,
-    column: &Column,
-    item: &Item,
-) -> Result<bool, AllocError>
-    requires { IsWritable item.now.value }
-    ensures { IfOk result (λ b. b ≡ true → o.new ≡ term.Literal (literal_of column.now item.now)) }
-{
-    let Term::Literal(literal) = o else {
-        return Ok(false);
-    };
-    if literal.lang.is_some() || !is_typed_text(column, item) {
-        return Ok(false);
-    }
-    rewrite(alloc, literal, &item.value, &column.literal_datatype)?;
-    Ok(true)
+    typed(text, &names.string)
 }

@@ -1,13 +1,31 @@
-//! Writes lists of triples into a sink.
+//! Writes triples into a sink.
 ghost use Rattle.std.specs.Prelude.{◌≡◌, [], ◌∷◌, OnOk, IfErr};
 ghost use Rattle.csvw_triples_core.specs.Taking.{FrontOf, Ends};
+ghost use Rattle.csvw_triples_core.specs.Lent.{term_of};
 ghost use Rattle.csvw_triples_rows.specs.Puts.{Puts};
+ghost use Rattle.csvw_triples_rows.specs.Stems.{object_triple};
 
-use csvw_triples_core::{SinkFault, Triple, TripleSink};
+use crate::stem::Stem;
+use csvw_triples_core::{SinkFault, TermRef, Triple, TripleRef, TripleSink};
+use std::alloc::Global;
+
+/// Writes a lent triple into a sink.
+#[inline(always)]
+pub(crate) fn put_object<'a, S: TripleSink>(
+    alloc: Global,
+    stem: Stem<'a>,
+    o: TermRef<'a>,
+    sink: &mut S,
+) -> Result<(), SinkFault>
+    ensures { Puts S.gains S.cuts S.is_open S.failed sink.old (object_triple stem.entry (term_of o.entry) ∷ []) sink.new result }
+{
+    let Stem { s, p } = stem;
+    sink.put_ref(alloc, &TripleRef { s, p, o })
+}
 
 /// Writes one triple into a sink.
 #[inline(always)]
-pub(crate) fn put_one<S: TripleSink>(triple: &Triple, sink: &mut S) -> Result<(), SinkFault>
+fn put_one<S: TripleSink>(triple: &Triple, sink: &mut S) -> Result<(), SinkFault>
     ensures { Puts S.gains S.cuts S.is_open S.failed sink.old (triple.now ∷ []) sink.new result }
 {
     sink.put(triple)

@@ -1,10 +1,8 @@
 //! Writes the triples of rows in standard mode into a sink.
-ghost use Rattle.std.specs.Prelude.{◌≡◌, [], ◌∷◌, ◌++◌, IfOk, OnOk, OnErr, None, length, decimal, option_copied};
+ghost use Rattle.std.specs.Prelude.{◌≡◌, [], ◌∷◌, ◌++◌, IfOk, OnOk, None, length, option_copied};
 ghost use Rattle.std.specs.List.{zip};
-ghost use Rattle.csvw_triples_core.specs.Literal.{typed_lit};
+ghost use Rattle.csvw_triples_core.specs.Lent.{node_of, term_of};
 ghost use Rattle.csvw_triples_core.specs.Taking.{FrontOf, Ends};
-ghost use Rattle.csvw_iri.specs.Vocabulary.{xsd_integer};
-ghost use Rattle.csvw_triples_rows.specs.CsvwVocabulary.{row_of_table};
 ghost use Rattle.csvw_cell.specs.HasForm.{HasForm};
 ghost use Rattle.csvw_annotate.specs.HasForms.{CellsHaveForms, HasForms};
 ghost use Rattle.csvw_triples_rows.specs.Puts.{Puts};
@@ -15,12 +13,14 @@ ghost use Rattle.csvw_triples_rows.specs.StandardTriples.{same_about, is_describ
 ghost use Rattle.csvw_triples_rows.specs.StandardTriples.{last_after, described_cells, standard_triples};
 
 use crate::emitter::Emitter;
+use crate::literals::typed;
+use crate::putting::put_object;
 use crate::stem::{RowPlace, Stem};
 use csvw_annotate::{AnnCell, Row};
 use csvw_columns_core::{Column, Columns};
 use csvw_iri::Iri;
 use csvw_text::Text;
-use csvw_triples_core::{Lit, Node, Origin, SinkFault, Term, TripleSink};
+use csvw_triples_core::{Node, NodeRef, Origin, SinkFault, TermRef, TripleSink};
 use itoa::Buffer;
 use std::alloc::{AllocError, Global};
 
@@ -29,31 +29,38 @@ use std::alloc::{AllocError, Global};
 pub fn table_node(alloc: Global, t: u32, id: &Option<Iri>) -> Result<Node, AllocError>
     ensures { IfOk result (λ s. s ≡ table_node t id.now) }
 {
+    table_node_ref(t, id).to_node(alloc)
+}
+
+/// Lends the node of table `t`.
+fn table_node_ref(t: u32, id: &Option<Iri>) -> NodeRef<'_>
+    ensures { node_of result ≡ table_node t id.now }
+{
     match id {
-        Some(iri) => Ok(Node::Named(iri.clone(alloc)?)),
-        None => Ok(Node::Blank(Origin::Table(t))),
+        Some(iri) => NodeRef::Named(iri),
+        None => NodeRef::Blank(Origin::Table(t)),
     }
 }
 
-/// Returns the subject of a cell as an object.
-fn subject_as_object(alloc: Global, place: RowPlace, cell: &AnnCell) -> Result<Term, AllocError>
-    ensures { IfOk result (λ o. o ≡ object_of (subject_of place.table place.row cell.now)) }
+/// Lends the subject of a cell as an object.
+fn subject_as_object(place: RowPlace, cell: &AnnCell) -> TermRef<'_>
+    ensures { term_of result ≡ object_of (subject_of place.table place.row cell.now) }
 {
     match &cell.about {
-        Some(iri) => Ok(Term::Named(iri.clone(alloc)?)),
-        None => Ok(Term::Blank(Origin::Subject(place.table, place.row))),
+        Some(iri) => TermRef::Named(iri),
+        None => TermRef::Blank(Origin::Subject(place.table, place.row)),
     }
 }
 
-/// Returns a subject and a predicate: the row and the one that is given.
-fn row_stem(alloc: Global, place: RowPlace, predicate: &Iri) -> Result<Stem, AllocError>
-    ensures s { IfOk result (λ stem. stem.s ≡ row_node place.table place.row) }
-    ensures p { IfOk result (λ stem. stem.p ≡ predicate.now) }
+/// Lends a subject and a predicate: the row and the one that is given.
+fn row_stem(place: RowPlace, predicate: &Iri) -> Stem<'_>
+    ensures s { node_of result.s ≡ row_node place.table place.row }
+    ensures p { result.p.now ≡ predicate.now }
 {
-    Ok(Stem {
-        s: Node::Blank(Origin::Row(place.table, place.row)),
-        p: predicate.clone(alloc)?,
-    })
+    Stem {
+        s: NodeRef::Blank(Origin::Row(place.table, place.row)),
+        p: predicate,
+    }
 }
 
 /// Writes the fragment of a row, its place in its source, over a text.
@@ -96,29 +103,18 @@ fn last_after<'a>(
 }
 
 impl Emitter {
-    /// Makes a number a literal, in the memory of the last one.
-    fn number_literal(&mut self, number: u64) -> Result<Lit, AllocError>
-        ensures { IfOk result (λ lit. lit ≡ typed_lit (decimal number) xsd_integer) }
-    {
-        let mut digits = Buffer::new();
-        let mut text = self.take_spare();
-        text.refill(digits.format(number))?;
-        Ok(Lit::typed(text, self.csvw.integer.clone(self.alloc)?))
-    }
-
-    /// Makes the IRI of a row: the URL of its table and its place in its source.
-    fn row_url(&mut self, columns: &Columns, row: &Row) -> Result<Iri, AllocError>
-        ensures { IfOk result (λ iri. iri ≡ row_url columns.now row.now) }
+    /// Makes its address the IRI of a row: the URL of its table and its place in its source.
+    fn refill_address(&mut self, columns: &Columns, row: &Row) -> Result<(), AllocError>
+        ensures { OnOk result (self.new.address ≡ row_url columns.now row.now) }
     {
         refill_fragment(&mut self.fragment, row.source)?;
         let url = columns.url.iri();
         self.address
-            .refill_with_fragment(self.alloc, url, self.fragment.as_str())?;
-        self.address.clone(self.alloc)
+            .refill_with_fragment(self.alloc, url, self.fragment.as_str())
     }
 
     fn emit_member<S: TripleSink>(
-        &mut self,
+        &self,
         columns: &Columns,
         place: RowPlace,
         sink: &mut S,
@@ -126,26 +122,27 @@ impl Emitter {
         ensures { Puts S.gains S.cuts S.is_open S.failed sink.old (member_triple place.table columns.now place.row ∷ []) sink.new result }
     {
         let stem = Stem {
-            s: table_node(self.alloc, place.table, &columns.id)?,
-            p: self.csvw.row.clone(self.alloc)?,
+            s: table_node_ref(place.table, &columns.id),
+            p: &self.csvw.row,
         };
-        self.put_object(stem, Term::Blank(Origin::Row(place.table, place.row)), sink)
+        let row = TermRef::Blank(Origin::Row(place.table, place.row));
+        put_object(self.alloc, stem, row, sink)
     }
 
-    fn emit_class<S: TripleSink>(&mut self, place: RowPlace, sink: &mut S) -> Result<(), SinkFault>
+    fn emit_class<S: TripleSink>(&self, place: RowPlace, sink: &mut S) -> Result<(), SinkFault>
         ensures { Puts S.gains S.cuts S.is_open S.failed sink.old (class_triple place.table place.row ∷ []) sink.new result }
     {
-        let stem = row_stem(self.alloc, place, &self.csvw.rdf_type)?;
-        let o = Term::Named(self.csvw.row_class.clone(self.alloc)?);
-        self.put_object(stem, o, sink)
+        let stem = row_stem(place, &self.csvw.rdf_type);
+        put_object(self.alloc, stem, TermRef::Named(&self.csvw.row_class), sink)
     }
 
-    fn emit_number<S: TripleSink>(&mut self, place: RowPlace, sink: &mut S) -> Result<(), SinkFault>
+    fn emit_number<S: TripleSink>(&self, place: RowPlace, sink: &mut S) -> Result<(), SinkFault>
         ensures { Puts S.gains S.cuts S.is_open S.failed sink.old (number_triple place.table place.row ∷ []) sink.new result }
     {
-        let stem = row_stem(self.alloc, place, &self.csvw.rownum)?;
-        let literal = self.number_literal(place.row)?;
-        self.put_object(stem, Term::Literal(literal), sink)
+        let mut digits = Buffer::new();
+        let literal = typed(digits.format(place.row), &self.csvw.integer);
+        let stem = row_stem(place, &self.csvw.rownum);
+        put_object(self.alloc, stem, TermRef::Literal(literal), sink)
     }
 
     fn emit_url<S: TripleSink>(
@@ -157,18 +154,19 @@ impl Emitter {
     ) -> Result<(), SinkFault>
         ensures { Puts S.gains S.cuts S.is_open S.failed sink.old (url_triple t columns.now row.now ∷ []) sink.new result }
     {
+        self.refill_address(columns, row)?;
         let place = RowPlace {
             table: t,
             row: row.number,
         };
-        let stem = row_stem(self.alloc, place, &self.csvw.url)?;
-        let iri = self.row_url(columns, row)?;
-        self.put_object(stem, Term::Named(iri), sink)
+        let names = &self.csvw;
+        let stem = row_stem(place, &names.url);
+        put_object(self.alloc, stem, TermRef::Named(&self.address), sink)
     }
 
     /// Writes that the table has the row, and the class of the row.
     fn emit_kind<S: TripleSink>(
-        &mut self,
+        &self,
         columns: &Columns,
         place: RowPlace,
         sink: &mut S,
@@ -217,7 +215,7 @@ impl Emitter {
     }
 
     fn emit_describes<S: TripleSink>(
-        &mut self,
+        &self,
         place: RowPlace,
         last: Option<&AnnCell>,
         cell: &AnnCell,
@@ -229,9 +227,8 @@ impl Emitter {
         if is_described(last, cell) {
             return Ok(());
         }
-        let stem = row_stem(self.alloc, place, &self.csvw.describes)?;
-        let o = subject_as_object(self.alloc, place, cell)?;
-        self.put_object(stem, o, sink)
+        let stem = row_stem(place, &self.csvw.describes);
+        put_object(self.alloc, stem, subject_as_object(place, cell), sink)
     }
 
     /// Writes what a cell adds to what the row describes, and then the triples of the cell.

@@ -1,13 +1,13 @@
 //! The subject and the predicate of a cell's triples, and the place of its list.
-ghost use Rattle.std.specs.Prelude.{◌≡◌, IfOk};
+ghost use Rattle.std.specs.Prelude.{◌≡◌, ◌≤◌, ◌==◌, ◌+◌, Some, None, if◌then◌else◌};
+ghost use Rattle.csvw_triples_core.specs.Lent.{node_of};
 ghost use Rattle.csvw_triples_rows.specs.RowTriples.{subject_of, predicate_of};
 ghost use Rattle.csvw_triples_rows.specs.Stems.{entries_in};
 
 use csvw_annotate::AnnCell;
 use csvw_columns_core::Column;
 use csvw_iri::Iri;
-use csvw_triples_core::{Node, Origin};
-use std::alloc::{AllocError, Global};
+use csvw_triples_core::{NodeRef, Origin};
 
 /// The place of a row: its table and its number.
 #[derive(Clone, Copy, Debug)]
@@ -18,13 +18,13 @@ pub struct RowPlace {
     pub row: u64,
 }
 
-/// A subject and a predicate.
-#[derive(Debug, Drop)]
-pub struct Stem {
+/// A subject and a predicate, both lent.
+#[derive(Clone, Copy)]
+pub struct Stem<'a> {
     /// The subject.
-    pub s: Node,
+    pub s: NodeRef<'a>,
     /// The predicate.
-    pub p: Iri,
+    pub p: &'a Iri,
 }
 
 /// The place of a cell whose value is an ordered list.
@@ -38,56 +38,39 @@ pub struct ListPlace {
     pub column: u32,
 }
 
+/// Lends the subject of a cell.
 #[inline(always)]
-pub(crate) fn subject_of(alloc: Global, place: RowPlace, cell: &AnnCell) -> Result<Node, AllocError>
-    ensures { IfOk result (λ s. s ≡ subject_of place.table place.row cell.now) }
+fn subject_of(place: RowPlace, cell: &AnnCell) -> NodeRef<'_>
+    ensures { node_of result ≡ subject_of place.table place.row cell.now }
 {
     match &cell.about {
-        Some(iri) => Ok(Node::Named(iri.clone(alloc)?)),
-        None => Ok(Node::Blank(Origin::Subject(place.table, place.row))),
+        Some(iri) => NodeRef::Named(iri),
+        None => NodeRef::Blank(Origin::Subject(place.table, place.row)),
     }
 }
 
+/// Lends the predicate of a cell.
 #[inline(always)]
-pub(crate) fn predicate_of(
-    alloc: Global,
-    column: &Column,
-    cell: &AnnCell,
-) -> Result<Iri, AllocError>
-    ensures { IfOk result (λ p. p ≡ predicate_of column.now cell.now) }
+fn predicate_of<'a>(column: &'a Column, cell: &'a AnnCell) -> &'a Iri
+    ensures { result.now ≡ predicate_of column.now cell.now }
 {
     match &cell.property {
-        Some(iri) => iri.clone(alloc),
-        None => column.predicate.clone(alloc),
+        Some(iri) => iri,
+        None => &column.predicate,
     }
 }
 
-impl Stem {
-    /// Returns the subject and the predicate of a cell. Fails with `AllocError` if memory runs out.
+impl<'a> Stem<'a> {
+    /// Lends the subject and the predicate of a cell.
     #[inline(always)]
-    pub fn of(
-        alloc: Global,
-        place: RowPlace,
-        column: &Column,
-        cell: &AnnCell,
-    ) -> Result<Stem, AllocError>
-        ensures s { IfOk result (λ stem. stem.s ≡ subject_of place.table place.row cell.now) }
-        ensures p { IfOk result (λ stem. stem.p ≡ predicate_of column.now cell.now) }
+    pub fn of(place: RowPlace, column: &'a Column, cell: &'a AnnCell) -> Stem<'a>
+        ensures s { node_of result.s ≡ subject_of place.table place.row cell.now }
+        ensures p { result.p.now ≡ predicate_of column.now cell.now }
     {
-        Ok(Stem {
-            s: subject_of(alloc, place, cell)?,
-            p: predicate_of(alloc, column, cell)?,
-        })
-    }
-
-    /// Returns an equal stem. Fails with `AllocError` if memory runs out.
-    pub fn clone(&self, alloc: Global) -> Result<Stem, AllocError>
-        ensures { IfOk result (λ stem. stem ≡ self.now) }
-    {
-        Ok(Stem {
-            s: self.s.clone(alloc)?,
-            p: self.p.clone(alloc)?,
-        })
+        Stem {
+            s: subject_of(place, cell),
+            p: predicate_of(column, cell),
+        }
     }
 }
 
@@ -97,5 +80,18 @@ impl ListPlace {
         ensures { result ≡ entries_in self k }
     {
         Origin::Entry(self.table, self.row, self.column, k)
+    }
+
+    /// Returns the entry after entry `k`, or `None` if a list of `count` items has no more. Entry 0 is before the
+    /// list.
+    pub fn entry_after(self, k: u64, count: usize) -> Option<Origin>
+        requires { k ≤ count }
+        ensures { result ≡ (if k == count then None else Some (entries_in self (k + 1))) }
+    {
+        if k == count as u64 {
+            None
+        } else {
+            Some(self.entry(k + 1))
+        }
     }
 }

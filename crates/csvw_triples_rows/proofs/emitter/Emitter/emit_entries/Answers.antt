@@ -1,11 +1,10 @@
 -- One entry more, a part of them, or all.
 use Rattle.std.proofs.Common.{refl, ◌∙◌, ap, arith, ◌+◌, ◌++◌, drop}
-use Rattle.std.specs.Prelude.{Ok, Err}
+use Rattle.std.specs.Prelude.{Ok}
 use Rattle.std.proofs.lemmas.Result.{err_from_is_err_and}
-use Rattle.csvw_triples_core.specs.declared.sink.SinkFault.TheVariants.{Memory}
 use Rattle.csvw_triples_rows.specs.RowTriples.{list_triples}
 use Rattle.csvw_triples_rows.specs.Stems.{entries_in}
-use Rattle.csvw_triples_rows.proofs.Emitting.{puts_nothing, no_memory, puts_then, puts_part, puts_same}
+use Rattle.csvw_triples_rows.proofs.Emitting.{puts_nothing, puts_then, puts_part, puts_same}
 use Rattle.csvw_triples_rows.proofs.Runs.{front_none, entries_left, entries_all, entry_put}
 use Rattle.csvw_triples_rows.proofs.emitter.Emitter.emit_entries.Goals as goal
 
@@ -15,30 +14,17 @@ loop-i-init g c =
     puts_nothing s.gains s.cuts s.is_open s.failed g.met.S.TripleSink.stays c.args.sink.now _
     (front_none (entries_in c.args.place) c.args.column.now 1 c.args.items.now)
 
-pub returns-in_err-rest : goal.returns-in_err-rest
-returns-in_err-rest g c =
-    let p = err_from_is_err_and c.from_residual.result c.from_residual.ensures.1 in
-    let s = g.S.TripleSink in
-    let goes_on = g.met.S.TripleSink.goes_on in
-    let entry = entries_in c.args.place in
-    let column = c.args.column.now in
-    let items = c.args.items.now in
-    let left = list_triples entry column (1 + c.loop-i.i) (drop c.loop-i.i items) in
-    let none = no_memory s.gains s.cuts s.is_open s.failed g.met.S.TripleSink.stays c.loop-i.sink left in
-    rw (p.1, p.2) (puts_then s.gains s.cuts s.is_open s.failed goes_on c.args.sink.now c.loop-i.sink c.loop-i.sink _ _ _ (Err Memory)
-    (entries_left entry column items c.loop-i.i) c.loop-i.invariant none)
-
 pub returns-in_err-emit_entry : goal.returns-in_err-emit_entry
 returns-in_err-emit_entry g c =
-    let p = err_from_is_err_and c.from_residual-in_err-emit_entry.result c.from_residual-in_err-emit_entry.ensures.1 in
+    let p = err_from_is_err_and c.from_residual.result c.from_residual.ensures.1 in
     let s = g.S.TripleSink in
     let part = puts_part s.gains s.cuts s.is_open s.failed g.met.S.TripleSink.goes_on c.args.sink.now c.loop-i.sink c.emit_entry.new.sink in
     let entry = entries_in c.args.place in
     let column = c.args.column.now in
     let items = c.args.items.now in
     let i = c.loop-i.i in
-    let more = entry_put entry column items i (i + 1) c.index-items-i.result c.entry.result c.in_ok-rest.rest
-    (omega arith) c.index-items-i.is refl c.entry.ensures c.in_ok-rest.ensures in
+    let more = entry_put entry column items i (i + 1) c.index-items-i.result c.entry.result c.entry_after-next.result
+    (omega arith) c.index-items-i.is refl c.entry.ensures c.entry_after-next.ensures in
     let parts = entries_left entry column items (i + 1) ∙ ap (λ ts. ts ++ list_triples entry column (1 + (i + 1)) (drop (i + 1) items)) more in
     rw (p.1, p.2) (part _ _ _ _ c.in_err-emit_entry.field-0.0 parts c.loop-i.invariant c.in_err-emit_entry.ensures)
 
@@ -48,8 +34,8 @@ loop-i-preserved g c =
     let then = puts_then s.gains s.cuts s.is_open s.failed g.met.S.TripleSink.goes_on c.args.sink.now c.loop-i.sink c.emit_entry.new.sink in
     let entry = entries_in c.args.place in
     let i = c.loop-i.i in
-    let more = entry_put entry c.args.column.now c.args.items.now i (i + 1) c.index-items-i.result c.entry.result c.in_ok-rest.rest
-    (omega arith) c.index-items-i.is refl c.entry.ensures c.in_ok-rest.ensures in
+    let more = entry_put entry c.args.column.now c.args.items.now i (i + 1) c.index-items-i.result c.entry.result c.entry_after-next.result
+    (omega arith) c.index-items-i.is refl c.entry.ensures c.entry_after-next.ensures in
     then _ _ _ (Ok tt) more c.loop-i.invariant c.in_ok-emit_entry.ensures
 
 pub returns : goal.returns

@@ -2,7 +2,7 @@
 use Rattle.std.proofs.Common.{◌≡◌, ◌∙◌, ℕ, List, true, sym, subst}
 use Rattle.csvw_iri.specs.Safe.{is_iri}
 use Rattle.csvw_triples_rows.proofs.Fragments.{fragment_raw}
-use Rattle.csvw_triples_rows.proofs.emitter.Emitter.row_url.Goals as goal
+use Rattle.csvw_triples_rows.proofs.emitter.Emitter.refill_address.Goals as goal
 
 pub refill_with_fragment-requires-clause-raw : goal.refill_with_fragment-requires-clause-raw
 refill_with_fragment-requires-clause-raw c =
