@@ -5,7 +5,6 @@ use Rattle.std.specs.Cmp.{both_tied, unsigned_ties, signed_Decides}
 use Rattle.std.specs.Ordering.{is_eq, int_eq, nat_cmp, ordering_then}
 use Rattle.std.proofs.lemmas.Bool.{and_from, and_parts, eq-eqb, eqb-true}
 use Rattle.std.proofs.lemmas.List.{map-append}
-use Rattle.std.proofs.lemmas.Map.Text.{is_eq-slice_cmp}
 use Rattle.std.proofs.lemmas.Nat.{div-add-mod'}
 use Rattle.csvw_annotate.specs.declared.row.Row.{Row}
 use Rattle.csvw_datatype.specs.declared.value.Value.{Value}
@@ -20,16 +19,9 @@ use Rattle.csvw_keys.specs.EqualKeys.{equal_cells, equal_keys, equal_values}
 use Rattle.csvw_keys.specs.Held.{held, held_cell, held_cells, held_keys, held_number, held_value, is_null_held, is_null_value}
 use Rattle.csvw_keys.specs.Key.{is_null_key, key_of}
 use Rattle.csvw_keys.proofs.EqualLemmas.{keys_are, truths_are}
-
-abbrev is_same : HeldValue → HeldValue → Bool
-is_same a b = is_eq (derived.ghosts.cmp a b)
+use Rattle.csvw_keys.proofs.TextLemmas.{agree, is_same, on_text, texts_are}
 
 -- ---- numbers
-
-agree : (s t : Bool) → (s ≡ true → t ≡ true) → (t ≡ true → s ≡ true) → s ≡ t
-agree true t there back = sym (there refl)
-agree false true there back = back refl
-agree false false there back = refl
 
 whole : (a b : ℕ) → a / 2 ^ 64 ≡ b / 2 ^ 64 → a % 2 ^ 64 ≡ b % 2 ^ 64 → a ≡ b
 whole a b high low = sym (div-add-mod' a (2 ^ 64)) ∙ ap (λ n. n * 2 ^ 64 + a % 2 ^ 64) high ∙ ap (λ n. b / 2 ^ 64 * 2 ^ 64 + n) low ∙ div-add-mod' b (2 ^ 64)
@@ -66,38 +58,38 @@ numbers_are (negsuc a) (negsuc b) = negatives a b ∙ halves (suc a) (suc b)
 -- ---- values
 
 number_apart : (n : ℤ) (v : Value) → equal_values (Number n) v ≡ is_same (held_number n) (held_value v)
-number_apart (pos n) (Text b) = refl
+number_apart (pos n) (Text b) = on_text (λ h. false ≡ is_same (held_number (pos n)) h) b refl refl
 number_apart (pos n) (Truth b) = refl
 number_apart (pos n) (Number b) = numbers_are (pos n) b
 number_apart (pos n) (Day b) = refl
 number_apart (pos n) (Moment b) = refl
-number_apart (negsuc n) (Text b) = refl
+number_apart (negsuc n) (Text b) = on_text (λ h. false ≡ is_same (held_number (negsuc n)) h) b refl refl
 number_apart (negsuc n) (Truth b) = refl
 number_apart (negsuc n) (Number b) = numbers_are (negsuc n) b
 number_apart (negsuc n) (Day b) = refl
 number_apart (negsuc n) (Moment b) = refl
 
 values_are : (a b : Value) → equal_values a b ≡ is_same (held_value a) (held_value b)
-values_are (Text a) (Text b) = sym (is_eq-slice_cmp a b)
-values_are (Text a) (Truth b) = refl
-values_are (Text a) (Number (pos b)) = refl
-values_are (Text a) (Number (negsuc b)) = refl
-values_are (Text a) (Day b) = refl
-values_are (Text a) (Moment b) = refl
-values_are (Truth a) (Text b) = refl
+values_are (Text a) (Text b) = texts_are a b
+values_are (Text a) (Truth b) = on_text (λ h. false ≡ is_same h (held_value (Truth b))) a refl refl
+values_are (Text a) (Number (pos b)) = on_text (λ h. false ≡ is_same h (held_number (pos b))) a refl refl
+values_are (Text a) (Number (negsuc b)) = on_text (λ h. false ≡ is_same h (held_number (negsuc b))) a refl refl
+values_are (Text a) (Day b) = on_text (λ h. false ≡ is_same h (held_value (Day b))) a refl refl
+values_are (Text a) (Moment b) = on_text (λ h. false ≡ is_same h (held_value (Moment b))) a refl refl
+values_are (Truth a) (Text b) = on_text (λ h. false ≡ is_same (held_value (Truth a)) h) b refl refl
 values_are (Truth a) (Truth b) = truths_are a b
 values_are (Truth a) (Number (pos b)) = refl
 values_are (Truth a) (Number (negsuc b)) = refl
 values_are (Truth a) (Day b) = refl
 values_are (Truth a) (Moment b) = refl
 values_are (Number a) b = number_apart a b
-values_are (Day a) (Text b) = refl
+values_are (Day a) (Text b) = on_text (λ h. false ≡ is_same (held_value (Day a)) h) b refl refl
 values_are (Day a) (Truth b) = refl
 values_are (Day a) (Number (pos b)) = refl
 values_are (Day a) (Number (negsuc b)) = refl
 values_are (Day a) (Day b) = refl
 values_are (Day a) (Moment b) = refl
-values_are (Moment a) (Text b) = refl
+values_are (Moment a) (Text b) = on_text (λ h. false ≡ is_same (held_value (Moment a)) h) b refl refl
 values_are (Moment a) (Truth b) = refl
 values_are (Moment a) (Number (pos b)) = refl
 values_are (Moment a) (Number (negsuc b)) = refl
@@ -110,7 +102,7 @@ abbrev as_cells : List KeyCell → HeldValue
 as_cells key = Cells (record { value = key })
 
 null_value : (v : Value) → false ≡ is_same (held_cell Null) (held_value v)
-null_value (Text t) = refl
+null_value (Text t) = on_text (λ h. false ≡ is_same (held_cell Null) h) t refl refl
 null_value (Truth t) = refl
 null_value (Number (pos n)) = refl
 null_value (Number (negsuc n)) = refl
@@ -118,7 +110,7 @@ null_value (Day n) = refl
 null_value (Moment n) = refl
 
 value_null : (v : Value) → false ≡ is_same (held_value v) (held_cell Null)
-value_null (Text t) = refl
+value_null (Text t) = on_text (λ h. false ≡ is_same h (held_cell Null)) t refl refl
 value_null (Truth t) = refl
 value_null (Number (pos n)) = refl
 value_null (Number (negsuc n)) = refl
@@ -126,7 +118,7 @@ value_null (Day n) = refl
 value_null (Moment n) = refl
 
 value_cells : (v : Value) (key : List KeyCell) → false ≡ is_same (held_value v) (as_cells key)
-value_cells (Text t) key = refl
+value_cells (Text t) key = on_text (λ h. false ≡ is_same h (as_cells key)) t refl refl
 value_cells (Truth t) key = refl
 value_cells (Number (pos n)) key = refl
 value_cells (Number (negsuc n)) key = refl
@@ -134,7 +126,7 @@ value_cells (Day n) key = refl
 value_cells (Moment n) key = refl
 
 cells_value : (key : List KeyCell) (v : Value) → false ≡ is_same (as_cells key) (held_value v)
-cells_value key (Text t) = refl
+cells_value key (Text t) = on_text (λ h. false ≡ is_same (as_cells key) h) t refl refl
 cells_value key (Truth t) = refl
 cells_value key (Number (pos n)) = refl
 cells_value key (Number (negsuc n)) = refl
@@ -193,7 +185,7 @@ one_key_more columns rows row =
     ap (map held) (map-append (key_of columns) rows (row ∷ [])) ∙ map-append held (map (key_of columns) rows) (key_of columns row ∷ [])
 
 no_null : (v : Value) → false ≡ is_null_value (held_value v)
-no_null (Text t) = refl
+no_null (Text t) = on_text (λ h. false ≡ is_null_value h) t refl refl
 no_null (Truth t) = refl
 no_null (Number (pos n)) = refl
 no_null (Number (negsuc n)) = refl

@@ -8,3 +8,4 @@ mod ReferenceLemmas
 mod ReferringLemmas
 mod ServingLemmas
 mod TallyLemmas
+mod TextLemmas

@@ -1,11 +1,12 @@
 -- Keys as they are stored.
-use Rattle.std.specs.Prelude.{ℕ, suc, ◌/◌, ◌%◌, ◌^◌, List, [], ◌∷◌, ℤ, pos, negsuc, Bool, true, false, map}
+use Rattle.std.specs.Prelude.{ℕ, suc, ◌/◌, ◌%◌, ◌^◌, List, [], ◌∷◌, ◌++◌, length, drop, replicate, nat_le, ℤ, pos, negsuc, Bool, true, false, map, if◌then◌else◌}
 use Rattle.csvw_annotate.specs.declared.row.Row.{Row}
 use Rattle.csvw_datatype.specs.declared.value.Value.{Value}
 use Rattle.csvw_datatype.specs.declared.value.Value.TheVariants as value
 use Rattle.csvw_keys.specs.declared.held.HeldKey.{HeldKey}
 use Rattle.csvw_keys.specs.declared.held_value.HeldValue.{HeldValue}
-use Rattle.csvw_keys.specs.declared.held_value.HeldValue.TheVariants.{Null, Text, Truth, Natural, Negative, Day, Moment, Cells}
+use Rattle.csvw_keys.specs.declared.held_value.TheConstants.{SHORT}
+use Rattle.csvw_keys.specs.declared.held_value.HeldValue.TheVariants.{Null, Short, Text, Truth, Natural, Negative, Day, Moment, Cells}
 use Rattle.csvw_keys.specs.declared.key.KeyCell.{KeyCell}
 use Rattle.csvw_keys.specs.declared.key.KeyCell.TheVariants as cell
 use Rattle.csvw_keys.specs.Key.{is_null_key, key_of}
@@ -15,8 +16,16 @@ abbrev pub held_number : ℤ → HeldValue
 held_number (pos n) = Natural (n / 2 ^ 64) (n % 2 ^ 64)
 held_number (negsuc n) = Negative (suc n / 2 ^ 64) (suc n % 2 ^ 64)
 
+-- a text with zeros after it, so that it has the number of bytes of a short text
+abbrev pub padded : List ℕ → List ℕ
+padded text = text ++ drop (length text) (replicate SHORT 0)
+
+-- a short text by its bytes and their number; a longer one stays as it is
+abbrev pub held_text : List ℕ → HeldValue
+held_text text = if nat_le (length text) SHORT then Short (padded text) (length text) else Text (record { value = text })
+
 abbrev pub held_value : Value → HeldValue
-held_value (value.Text text) = Text (record { value = text })
+held_value (value.Text text) = held_text text
 held_value (value.Truth truth) = Truth truth
 held_value (value.Number number) = held_number number
 held_value (value.Day day) = Day day

@@ -99,7 +99,8 @@ pub(crate) fn is_null_held(key: &HeldKey) -> bool
     match &key.value {
         HeldValue::Null => true,
         HeldValue::Cells(cells) => is_null_key(cells.value.get()),
-        HeldValue::Text(_) | HeldValue::Truth(_) | HeldValue::Day(_) => false,
-        HeldValue::Natural(_, _) | HeldValue::Negative(_, _) | HeldValue::Moment(_) => false,
+        HeldValue::Short(_, _) | HeldValue::Text(_) | HeldValue::Truth(_) => false,
+        HeldValue::Natural(_, _) | HeldValue::Negative(_, _) => false,
+        HeldValue::Day(_) | HeldValue::Moment(_) => false,
     }
 }

@@ -1,6 +1,6 @@
 //! The values of keys as they are stored.
-ghost use Rattle.std.specs.Prelude.{◌≡◌, IfOk};
-ghost use Rattle.csvw_keys.specs.Held.{held_cell, held_number, held_value};
+ghost use Rattle.std.specs.Prelude.{◌≡◌, ◌≤◌, IfOk, length};
+ghost use Rattle.csvw_keys.specs.Held.{held_cell, held_number, held_text, held_value, padded};
 ghost use Rattle.csvw_keys.specs.Key.{key_cell, key_cell_at};
 
 use crate::apart::Apart;
@@ -11,13 +11,18 @@ use csvw_datatype::Value;
 use csvw_text::{Copied, Seq, Text};
 use std::alloc::{AllocError, Global};
 
+/// The number of bytes of a text that is stored in the value itself.
+pub(crate) const SHORT: usize = 15;
+
 /// What is stored of a key. A key of one column that is not a list is its value. It takes 24 bytes: a number is in
-/// halves, and what is long is behind a pointer.
+/// halves, a short text is in the value itself, and what is long is behind a pointer.
 #[derive(Drop, PartialEq, Eq, PartialOrd, Ord)]
 pub enum HeldValue {
     /// A null cell.
     Null,
-    /// A text.
+    /// A text of at most 15 bytes: its bytes, with zeros after them, and their number.
+    Short([u8; SHORT], u8),
+    /// A longer text.
     Text(Apart<Text>),
     /// A truth.
     Truth(bool),
@@ -37,6 +42,7 @@ impl Copied for HeldValue {
     fn copied(&self, alloc: Global) -> Result<HeldValue, AllocError> {
         match self {
             HeldValue::Null => Ok(HeldValue::Null),
+            HeldValue::Short(bytes, len) => Ok(HeldValue::Short(*bytes, *len)),
             HeldValue::Text(text) => Ok(HeldValue::Text(text.copied(alloc)?)),
             HeldValue::Truth(truth) => Ok(HeldValue::Truth(*truth)),
             HeldValue::Natural(high, low) => Ok(HeldValue::Natural(*high, *low)),
@@ -64,11 +70,31 @@ fn held_number(number: i128) -> HeldValue
     }
 }
 
+/// Returns a text of at most 15 bytes with zeros after it.
+fn padded(text: &[u8]) -> [u8; SHORT]
+    requires { length text.now ≤ SHORT }
+    ensures { result ≡ padded text.now }
+{
+    let mut bytes = [0; SHORT];
+    bytes[..text.len()].copy_from_slice(text);
+    bytes
+}
+
+fn held_text(alloc: Global, text: &Text) -> Result<HeldValue, AllocError>
+    ensures { IfOk result (λ held. held ≡ held_text text.now) }
+{
+    let bytes = text.as_str().as_bytes();
+    if bytes.len() <= SHORT {
+        return Ok(HeldValue::Short(padded(bytes), bytes.len() as u8));
+    }
+    Ok(HeldValue::Text(Apart::new(alloc, text.clone(alloc)?)?))
+}
+
 fn held_value(alloc: Global, value: &Value) -> Result<HeldValue, AllocError>
     ensures { IfOk result (λ held. held ≡ held_value value.now) }
 {
     match value {
-        Value::Text(text) => Ok(HeldValue::Text(Apart::new(alloc, text.clone(alloc)?)?)),
+        Value::Text(text) => held_text(alloc, text),
         Value::Truth(truth) => Ok(HeldValue::Truth(*truth)),
         Value::Number(number) => Ok(held_number(*number)),
         Value::Day(day) => Ok(HeldValue::Day(*day)),

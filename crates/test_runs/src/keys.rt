@@ -15,7 +15,7 @@ struct Case {
     faults: &'static str,
 }
 
-static CASES: [Case; 21] = [
+static CASES: [Case; 22] = [
     Case {
         about: "Numbers are compared as values, and a reference over whole tables.",
         meta: r#"{"@context":"http://www.w3.org/ns/csvw","tables":[{"url":"a.csv",
@@ -39,6 +39,14 @@ static CASES: [Case; 21] = [
         meta: r#"{"@context":"http://www.w3.org/ns/csvw","url":"p.csv","tableSchema":{"columns":[{"name":"k","datatype":"integer"}],"primaryKey":"k"}}"#,
         texts: &["k\n\n\n"],
         faults: "error,DuplicateKey,1,3,1\n",
+    },
+    Case {
+        about: "Texts are whole keys, with 15 bytes, with 16, and with U+0000 at the end.",
+        meta: r#"{"@context":"http://www.w3.org/ns/csvw","url":"p.csv","tableSchema":{"columns":[{"name":"k"}],"primaryKey":"k"}}"#,
+        texts: &[
+            "k\nabcdefghijklmno\nabcdefghijklmnop\nabcdefghijklmn\na\na\0\nabcdefghijklmno\nabcdefghijklmnop\na\0\n",
+        ],
+        faults: "error,DuplicateKey,1,7,1\nerror,DuplicateKey,1,8,1\nerror,DuplicateKey,1,9,1\n",
     },
     Case {
         about: "A table may refer to itself.",
