@@ -3,7 +3,7 @@ ghost use Rattle.std.specs.Prelude.{◌≡◌, ◌<◌, ◌≤◌, ◌+◌, true
 ghost use Rattle.csvw_command_core.specs.StandardInput.{inputs_of, is_standard, standard_inputs};
 
 use crate::request::Request;
-use csvw_files::STANDARD_INPUT;
+use csvw_opener::STANDARD_INPUT;
 
 fn is_standard(file: &str) -> bool
     ensures { result ≡ is_standard file.now }
