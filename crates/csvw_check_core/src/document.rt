@@ -2,16 +2,11 @@
 ghost use Rattle.std.specs.Prelude.{IfOk};
 ghost use Rattle.csvw_columns.specs.Ready.{AreReady};
 
-use crate::asked::Group;
-use crate::disguise::push_disguise;
-use crate::halt::Halt;
-use crate::json_place::{line_and_column, place_of};
-use crate::line::push_text;
-use crate::page::Page;
-use crate::told::StopTold;
 use csvw_columns::Plan;
 use csvw_files::{Opener, read_document};
+use csvw_hints::{Group, line_and_column, place_of, push_disguise};
 use csvw_meta::{Description, MetaCode, MetaFault, ReadDescription};
+use csvw_page::{Halt, Page, StopShown, push_text};
 use csvw_streams::Counted;
 use serde_json::Value;
 use std::alloc::{AllocError, Global};
@@ -84,7 +79,7 @@ pub(crate) fn tell_refused(
     let mut hints = String::new(page.alloc);
     push_document_hints(&mut hints, group, bytes, fault)?;
     let sentence = fault.code.to_string(page.alloc)?;
-    page.stop(&StopTold {
+    page.stop(&StopShown {
         name: fault.code.name(),
         sentence: sentence.as_str(),
         path: group.meta,
@@ -99,7 +94,7 @@ pub(crate) fn tell_refused(
 
 /// Adds that a file can't be opened or read.
 pub(crate) fn tell_unread(page: &mut Page, path: &str, table: u32) -> Result<(), AllocError> {
-    page.stop(&StopTold {
+    page.stop(&StopShown {
         name: "Read",
         sentence: "the file can't be opened or read: correct its path, or its permissions",
         path,
@@ -132,7 +127,7 @@ pub(crate) fn tell_table_count(
         push_text(&mut hints, table.url.iri().as_str())?;
         hints.push('\n')?;
     }
-    page.stop(&StopTold {
+    page.stop(&StopShown {
         name: "TableCount",
         sentence: sentence.as_str(),
         path: group.meta,

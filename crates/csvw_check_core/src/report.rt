@@ -1,18 +1,12 @@
 //! The page of a group that was read: what is ignored, the faults, the stop and the summary.
 
-use crate::asked::{Form, Shown};
-use crate::counts::{Counts, Spot, spot_of};
-use crate::halt::Halt;
-use crate::page::Page;
 use crate::stop::{Stopped, tell_stop};
-use crate::tables::{TableAt, Tables};
-use crate::told::{SpotTold, Summary};
-use crate::unknown::tell_unknown;
-use crate::walk::{FIRST, Walker};
 use csvw_files::Opener;
+use csvw_hints::Tables;
+use csvw_page::{Counts, Halt, Summary};
+use csvw_reread::{GroupFaults, Walker};
 use csvw_streams::Counted;
-use csvw_text::{Code, Fault, Kind, Place};
-use std::alloc::{AllocError, Global};
+use csvw_text::Fault;
 use std::io::Write;
 
 /// What was found of a group.
@@ -30,195 +24,7 @@ pub struct Report<'a> {
     pub status: u8,
 }
 
-/// A fault, in the order by columns and codes.
-#[derive(Clone, Copy, PartialEq, Eq, PartialOrd, Ord)]
-struct ByColumn {
-    spot: Spot,
-    row: u64,
-    kind: Kind,
-}
-
-/// Divides faults, which are sorted, before the first of a table of this number or a later one.
-fn before_table(faults: &[Fault], table: u32) -> (&[Fault], &[Fault]) {
-    let count = faults
-        .iter()
-        .take_while(|fault| fault.place.table < table)
-        .count();
-    faults.split_at(count.min(faults.len()))
-}
-
-/// Returns the faults in the order by tables, columns, codes and rows.
-fn by_column(alloc: Global, faults: &[Fault]) -> Result<Vec<ByColumn>, AllocError> {
-    let mut sorted = Vec::new(alloc);
-    for fault in faults {
-        sorted.push(ByColumn {
-            spot: spot_of(fault),
-            row: fault.place.row,
-            kind: fault.kind,
-        })?;
-    }
-    sorted.sort_unstable();
-    Ok(sorted)
-}
-
-/// Returns the faults themselves.
-fn faults_of(alloc: Global, sorted: &[ByColumn]) -> Result<Vec<Fault>, AllocError> {
-    let mut faults = Vec::new(alloc);
-    for one in sorted {
-        faults.push(Fault {
-            place: Place {
-                table: one.spot.table,
-                row: one.row,
-                column: one.spot.column,
-            },
-            code: one.spot.code,
-            kind: one.kind,
-        })?;
-    }
-    Ok(faults)
-}
-
-/// Returns how many of so many faults of one code in one column are shown.
-fn shown_of(shown: Shown, times: u64) -> u64 {
-    match shown {
-        Shown::First => times.min(FIRST),
-        Shown::All => times,
-    }
-}
-
-/// Returns a count as a length.
-fn length_of(count: u64) -> usize {
-    usize::try_from(count).unwrap_or(usize::MAX)
-}
-
 impl Report<'_> {
-    /// Adds the properties of the document that are ignored.
-    fn tell_warnings(&self, page: &mut Page) -> Result<(), AllocError> {
-        let mut ignored = 0u64;
-        for fault in self.faults {
-            if fault.code == Code::UnknownProperty {
-                ignored = ignored.saturating_add(1);
-            }
-        }
-        if ignored == 0 {
-            return Ok(());
-        }
-        page.begin_warnings()?;
-        let meta = self.tables.group.meta;
-        let placed = tell_unknown(page, meta, self.tables.document)?;
-        match ignored.saturating_sub(placed) {
-            0 => Ok(()),
-            times => page.unplaced(meta, times),
-        }
-    }
-
-    /// Adds the faults of each table, with the texts of its file, in the order of its rows.
-    fn tell_by_row<O: Opener, W: Write>(
-        &self,
-        walker: &mut Walker,
-        opener: &mut O,
-        out: &mut Counted<W>,
-    ) -> Result<(), Halt> {
-        let (_, mut faults) = before_table(self.faults, 1);
-        for (plan, path) in self.tables.plan.tables().iter().zip(self.tables.paths) {
-            let (own, rest) = before_table(faults, plan.number.saturating_add(1));
-            faults = rest;
-            let table = TableAt {
-                tables: &self.tables,
-                plan,
-                path: path.as_str(),
-            };
-            walker.walk(&table, own, opener, out)?;
-        }
-        Ok(())
-    }
-
-    /// Adds how many faults are not shown of each code in each column.
-    fn tell_rests(&self, walker: &mut Walker, totals: &Counts) -> Result<(), AllocError> {
-        for (spot, times) in totals.spots.iter() {
-            let left = times.saturating_sub(shown_of(walker.shown, *times));
-            if left > 0 && spot.code != Code::UnknownProperty {
-                let path = self.tables.path_at(spot.table).unwrap_or("");
-                walker.page.rest(&SpotTold {
-                    spot: *spot,
-                    times: left,
-                    path,
-                })?;
-            }
-        }
-        Ok(())
-    }
-
-    /// Adds the faults of one code in one column.
-    fn tell_spot<O: Opener, W: Write>(
-        &self,
-        walker: &mut Walker,
-        faults: &[ByColumn],
-        opener: &mut O,
-        out: &mut Counted<W>,
-    ) -> Result<(), Halt> {
-        let Some(first) = faults.first() else {
-            return Ok(());
-        };
-        let spot = first.spot;
-        let Some(plan) = self.tables.plan_at(spot.table) else {
-            return Ok(());
-        };
-        let path = self.tables.path_at(spot.table).unwrap_or("");
-        let times = faults.len() as u64;
-        walker.page.heading(&SpotTold { spot, times, path })?;
-        let shown = shown_of(walker.shown, times);
-        let first = faults.get(..length_of(shown)).unwrap_or(faults);
-        let first = faults_of(walker.page.alloc, first)?;
-        let table = TableAt {
-            tables: &self.tables,
-            plan,
-            path,
-        };
-        walker.walk(&table, first.as_slice(), opener, out)?;
-        match times.saturating_sub(shown) {
-            0 => Ok(()),
-            times => Ok(walker.page.rest(&SpotTold { spot, times, path })?),
-        }
-    }
-
-    /// Adds the faults by columns and codes. The file of a table is read once for each code in each column.
-    fn tell_by_column<O: Opener, W: Write>(
-        &self,
-        walker: &mut Walker,
-        totals: &Counts,
-        opener: &mut O,
-        out: &mut Counted<W>,
-    ) -> Result<(), Halt> {
-        let sorted = by_column(walker.page.alloc, self.faults)?;
-        let mut faults = sorted.as_slice();
-        for (spot, times) in totals.spots.iter() {
-            let (own, rest) = faults.split_at(length_of(*times).min(faults.len()));
-            faults = rest;
-            if spot.code != Code::UnknownProperty {
-                self.tell_spot(walker, own, opener, out)?;
-            }
-        }
-        Ok(())
-    }
-
-    /// Adds the faults in the order of the page's form.
-    fn tell_all<O: Opener, W: Write>(
-        &self,
-        walker: &mut Walker,
-        totals: &Counts,
-        opener: &mut O,
-        out: &mut Counted<W>,
-    ) -> Result<(), Halt> {
-        match walker.page.form {
-            Form::Html => self.tell_by_column(walker, totals, opener, out),
-            Form::Text | Form::Json => {
-                self.tell_by_row(walker, opener, out)?;
-                Ok(self.tell_rests(walker, totals)?)
-            }
-        }
-    }
-
     /// Shows a page of the group, and sends it piece by piece.
     pub fn show<O: Opener, W: Write>(
         &self,
@@ -227,16 +33,31 @@ impl Report<'_> {
         out: &mut Counted<W>,
     ) -> Result<(), Halt> {
         let totals = Counts::of(walker.page.alloc, self.faults)?;
+        self.show_counted(&totals, walker, opener, out)
+    }
+
+    /// Shows a page of the group whose faults are counted.
+    fn show_counted<O: Opener, W: Write>(
+        &self,
+        totals: &Counts,
+        walker: &mut Walker,
+        opener: &mut O,
+        out: &mut Counted<W>,
+    ) -> Result<(), Halt> {
+        let faults = GroupFaults {
+            tables: self.tables,
+            faults: self.faults,
+        };
         let summary = Summary {
             paths: self.tables.paths,
             rows: self.rows,
-            totals: &totals,
+            totals,
             status: self.status,
         };
         walker.page.begin(self.tables.group.meta, Some(&summary))?;
-        self.tell_warnings(&mut walker.page)?;
+        faults.show_ignored(&mut walker.page)?;
         walker.page.send(out)?;
-        self.tell_all(walker, &totals, opener, out)?;
+        faults.show(walker, totals, opener, out)?;
         if let Some(stopped) = &self.stop {
             tell_stop(&mut walker.page, &self.tables, stopped, opener)?;
         }

@@ -2,17 +2,14 @@
 
 use crate::asked::{Show, Strict};
 use crate::document::{Alone, opened, plan_of, show_alone};
-use crate::files::paths_in_order;
-use crate::halt::Halt;
-use crate::page::Page;
 use crate::report::Report;
-use crate::reread::faults_of_report;
 use crate::status::{status_of, status_of_stop};
 use crate::stop::{Stopped, tell_stop};
-use crate::tables::Tables;
-use crate::walk::Walker;
 use csvw_columns::Plan;
 use csvw_files::Opener;
+use csvw_hints::Tables;
+use csvw_page::{Halt, Page};
+use csvw_reread::{Walker, faults_of_report, paths_in_order};
 use csvw_streams::Counted;
 use std::alloc::Global;
 use std::io::Write;
@@ -24,6 +21,17 @@ enum Part {
     Report,
     /// The words of its stop.
     Stop,
+}
+
+/// A run whose document was read.
+#[derive(Clone, Copy)]
+struct Run<'a> {
+    /// What is asked.
+    asked: &'a Show<'a>,
+    /// What is shown.
+    part: Part,
+    /// The bytes of the document.
+    document: &'a [u8],
 }
 
 /// Shows the report of a run, and its stop if it stopped. The document and the files are read again, so none of them
@@ -64,30 +72,66 @@ fn show_part<O: Opener, W: Write>(
 ) -> Result<(), Halt> {
     let (asked, part) = run;
     let mut walker = Walker::new(alloc, asked.form, asked.color, asked.shown);
-    let group = asked.group();
-    let Some(bytes) = opened(alloc, asked.meta, opener) else {
-        return show_alone(&mut walker.page, &group, &Alone::Unread, out);
-    };
-    let document = bytes.as_slice();
-    let plan = match plan_of(alloc, document, asked.base) {
-        Ok(plan) => plan,
+    match opened(alloc, asked.meta, opener) {
+        Some(bytes) => {
+            let run = Run {
+                asked,
+                part,
+                document: bytes.as_slice(),
+            };
+            show_document(&run, &mut walker, opener, out)
+        }
+        None => show_alone(&mut walker.page, &asked.group(), &Alone::Unread, out),
+    }
+}
+
+/// Plans the tables of the document, and shows a part of the run, or why there is no plan.
+fn show_document<O: Opener, W: Write>(
+    run: &Run<'_>,
+    walker: &mut Walker,
+    opener: &mut O,
+    out: &mut Counted<W>,
+) -> Result<(), Halt> {
+    let Run {
+        asked,
+        document,
+        ..
+    } = *run;
+    match plan_of(walker.page.alloc, document, asked.base) {
+        Ok(plan) => show_planned(run, &plan, walker, opener, out),
         Err(fault) => {
             let refused = Alone::Refused(document, &fault);
-            return show_alone(&mut walker.page, &group, &refused, out);
+            show_alone(&mut walker.page, &asked.group(), &refused, out)
         }
-    };
-    if is_count_wrong(asked, &plan) {
-        return show_alone(&mut walker.page, &group, &Alone::TableCount(&plan), out);
     }
-    let paths = paths_in_order(alloc, asked.meta, asked.files, plan.tables())?;
+}
+
+/// Finds the file of each table of a plan, and shows a part of the run.
+fn show_planned<O: Opener, W: Write>(
+    run: &Run<'_>,
+    plan: &Plan,
+    walker: &mut Walker,
+    opener: &mut O,
+    out: &mut Counted<W>,
+) -> Result<(), Halt> {
+    let Run {
+        asked,
+        document,
+        ..
+    } = *run;
+    let group = asked.group();
+    if is_count_wrong(asked, plan) {
+        return show_alone(&mut walker.page, &group, &Alone::TableCount(plan), out);
+    }
+    let paths = paths_in_order(walker.page.alloc, asked.meta, asked.files, plan.tables())?;
     let tables = Tables {
         group,
         document,
-        plan: &plan,
+        plan,
         paths: paths.as_slice(),
     };
-    match part {
-        Part::Report => show_report(asked, &tables, &mut walker, opener, out),
+    match run.part {
+        Part::Report => show_report(asked, &tables, walker, opener, out),
         Part::Stop => show_stop(asked, &tables, &mut walker.page, opener, out),
     }
 }

@@ -1,15 +1,13 @@
 //! Why the tables weren't read to their ends.
 
-use crate::disguise::{dialect_hint, push_disguise};
 use crate::document::{tell_refused, tell_table_count, tell_unread};
-use crate::page::Page;
-use crate::seek::seek;
-use crate::tables::Tables;
-use crate::told::StopTold;
 use csvw_columns::{TablePlan, TableStop};
 use csvw_engine_core::Stop;
 use csvw_files::Opener;
+use csvw_hints::{Tables, dialect_hint, push_disguise};
+use csvw_page::{Page, StopShown};
 use csvw_records::RowStop;
+use csvw_reread::seek;
 use csvw_streams::Counted;
 use std::alloc::AllocError;
 use std::io::Read;
@@ -47,7 +45,7 @@ fn tell_record_stop<O: Opener>(
         }
         push_first_bytes(&mut hints, plan, path, opener)?;
     }
-    page.stop(&StopTold {
+    page.stop(&StopShown {
         name: stop.name,
         sentence: stop.sentence,
         path,
@@ -126,7 +124,7 @@ fn table_sentence(stop: TableStop) -> &'static str {
 
 /// Adds a stop that is of no file.
 fn tell_plain(page: &mut Page, name: &str, sentence: &str) -> Result<(), AllocError> {
-    page.stop(&StopTold {
+    page.stop(&StopShown {
         name,
         sentence,
         path: "",

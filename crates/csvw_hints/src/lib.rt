@@ -1,0 +1,33 @@
+//! What helps a person with a fault or a stop: the rule that it breaks, where it is, and what was meant.
+//!
+//! - `push_rule` writes the rule of a column or of a key, with its values.
+//! - `place_of` returns the line and the column of a value of a document, by its JSON Pointer.
+//! - `show_unknown` shows the properties of a document that the vocabulary doesn't list, with the listed names that are near.
+//! - `push_disguise` and `dialect_hint` say what a file is by its first bytes, if it can't be read as the table says.
+//!
+//! The crate reads no files. csvw_check_core reads them, and shows a page with these words:
+//!
+//! ```text
+//! let mut rule = String::new(alloc);
+//! push_rule(&mut rule, &table, &fault)?;
+//! ```
+//!
+//! # Promises
+//!
+//! - Proved: each call is safe and ends, for all bytes of a document or a file.
+//! - Tested alone: the texts of the rules and hints.
+#![tactic(auto)]
+
+mod bound;
+mod disguise;
+mod json_place;
+mod key_rule;
+mod rule;
+mod tables;
+mod unknown;
+
+pub use disguise::{dialect_hint, push_disguise};
+pub use json_place::{line_and_column, place_of};
+pub use rule::push_rule;
+pub use tables::{Group, TableAt, Tables, field_of, name_of};
+pub use unknown::show_unknown;

@@ -1,0 +1,138 @@
+//! The rule that a fault breaks, with its values.
+
+use crate::bound::{push_bounds, range_of};
+use crate::key_rule::{push_foreign_keys, push_primary_key};
+use crate::tables::{TableAt, declared};
+use csvw_columns_core::Column;
+use csvw_datatype::{Datatype, Format, Simple};
+use csvw_page::{push_quoted, push_text};
+use csvw_text::{Code, Fault};
+use std::alloc::AllocError;
+
+/// Adds the format of a datatype.
+fn push_format(text: &mut String, format: &Format) -> Result<(), AllocError> {
+    match format {
+        Format::Truth(truth) => {
+            text.push_str(", format ")?;
+            push_text(text, truth.if_true.as_str())?;
+            text.push('|')?;
+            push_text(text, truth.if_false.as_str())
+        }
+        Format::Number(number) => {
+            let decimal = number.decimal_char;
+            write!(text, ", decimal character `{decimal}`")?;
+            match number.group_char {
+                Some(group) => write!(text, ", group character `{group}`"),
+                None => Ok(()),
+            }
+        }
+        Format::Day(format) => {
+            text.push_str(", format ")?;
+            text.push_str(format.pattern())
+        }
+        Format::Moment(format) => {
+            text.push_str(", format ")?;
+            text.push_str(format.pattern())
+        }
+    }
+}
+
+/// Adds the name and the format of a datatype.
+fn push_datatype(text: &mut String, datatype: &Datatype) -> Result<(), AllocError> {
+    text.push_str("    datatype ")?;
+    text.push_str(datatype.simple.name())?;
+    if let Some(format) = &datatype.format {
+        push_format(text, format)?;
+    }
+    text.push('\n')
+}
+
+/// Adds the name of a datatype and the range of its numbers.
+fn push_range(text: &mut String, datatype: &Datatype) -> Result<(), AllocError> {
+    text.push_str("    datatype ")?;
+    text.push_str(datatype.simple.name())?;
+    if let Simple::Derived(width) = datatype.simple {
+        text.push_str(", ")?;
+        text.push_str(range_of(width))?;
+    }
+    text.push('\n')
+}
+
+/// Adds the lengths that a text may have.
+fn push_lengths(text: &mut String, datatype: &Datatype) -> Result<(), AllocError> {
+    let facets = &datatype.facets;
+    text.push_str("   ")?;
+    push_length(text, "length", facets.length)?;
+    push_length(text, "minLength", facets.min_length)?;
+    push_length(text, "maxLength", facets.max_length)?;
+    text.push('\n')
+}
+
+/// Adds the name of a facet and its length, if it has one.
+fn push_length(text: &mut String, name: &str, length: Option<u64>) -> Result<(), AllocError> {
+    match length {
+        Some(length) => write!(text, " {name} {length}"),
+        None => Ok(()),
+    }
+}
+
+/// Adds the titles of a column.
+fn push_titles(text: &mut String, column: &Column) -> Result<(), AllocError> {
+    text.push_str("    the column may be titled")?;
+    for title in column.titles.as_slice() {
+        text.push(' ')?;
+        push_quoted(text, title.as_str())?;
+    }
+    if column.titles.is_empty() {
+        text.push(' ')?;
+        push_quoted(text, column.name.as_str())?;
+    }
+    text.push('\n')
+}
+
+/// Adds the texts that are null in a column, if they aren't the empty text alone.
+fn push_nulls(text: &mut String, column: &Column) -> Result<(), AllocError> {
+    let nulls = column.properties.null.get().texts();
+    if nulls.len() == 1 && nulls.iter().all(|null| null.is_empty()) {
+        return Ok(());
+    }
+    text.push_str("    null")?;
+    for null in nulls {
+        text.push(' ')?;
+        push_quoted(text, null.as_str())?;
+    }
+    text.push('\n')
+}
+
+/// Adds the rule that a fault in a declared column breaks.
+fn push_column_rule(text: &mut String, column: &Column, code: Code) -> Result<(), AllocError> {
+    let datatype = column.properties.datatype.get();
+    match code {
+        Code::BadBoolean
+        | Code::BadInteger
+        | Code::BadDecimal
+        | Code::BadDate
+        | Code::BadDateTime => push_datatype(text, datatype),
+        Code::OutOfRange => push_range(text, datatype),
+        Code::BelowMinimum | Code::AboveMaximum => push_bounds(text, datatype),
+        Code::WrongLength | Code::TooShort | Code::TooLong => push_lengths(text, datatype),
+        Code::HeaderMismatch => push_titles(text, column),
+        Code::Required => push_nulls(text, column),
+        _ => Ok(()),
+    }
+}
+
+/// Adds the rule that a fault of a table breaks, with its values, if it has some: lines of text. Returns `AllocError` if
+/// memory runs out.
+pub fn push_rule(text: &mut String, table: &TableAt<'_>, fault: &Fault) -> Result<(), AllocError> {
+    match fault.code {
+        Code::DuplicateKey => push_primary_key(text, table.plan),
+        Code::NoReferencedRow | Code::ManyReferencedRows => {
+            push_foreign_keys(text, table, fault.place.column)
+        }
+        code => match declared(table.plan, fault.place.column) {
+            Some(column) => push_column_rule(text, column, code),
+            None => Ok(()),
+        },
+    }
+}

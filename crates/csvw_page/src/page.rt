@@ -1,0 +1,161 @@
+//! `Page`: a page in one of three forms, which goes out piece by piece.
+
+use crate::form::{Color, Form};
+use crate::halt::Halt;
+use crate::shown::{FaultShown, SpotShown, StopShown, Summary, UnknownShown};
+use crate::{html_form, json_form, text_form};
+use csvw_streams::{Counted, write_out};
+use std::alloc::{AllocError, Global};
+use std::io::Write;
+
+/// A page, and what of it is not sent yet.
+#[derive(Drop)]
+pub struct Page {
+    /// The allocator of its memory.
+    pub alloc: Global,
+    /// The text that is not sent yet.
+    lines: String,
+    /// Its form.
+    pub form: Form,
+    /// Whether its lines have colours.
+    color: Color,
+    /// How many objects it has, in JSON.
+    objects: u64,
+}
+
+impl Page {
+    /// Makes an empty page.
+    pub fn new(alloc: Global, form: Form, color: Color) -> Page {
+        Page {
+            alloc,
+            lines: String::new(alloc),
+            form,
+            color,
+            objects: 0,
+        }
+    }
+
+    /// Sends the text that is not sent yet. Returns `Halt::Write` if the stream fails.
+    pub fn send<W: Write>(&mut self, out: &mut Counted<W>) -> Result<(), Halt> {
+        let sent = write_out(out, self.lines.as_bytes());
+        self.lines.clear();
+        match sent {
+            Ok(()) => Ok(()),
+            Err(_) => Err(Halt::Write),
+        }
+    }
+
+    /// Begins the page on the document at a path. There is a summary if the document was read. Returns `AllocError` if
+    /// memory runs out.
+    pub fn begin(&mut self, meta: &str, summary: Option<&Summary<'_>>) -> Result<(), AllocError> {
+        match self.form {
+            Form::Text => Ok(()),
+            Form::Html => html_form::push_begin(&mut self.lines, meta, summary),
+            Form::Json => self.lines.push_str("[\n"),
+        }
+    }
+
+    /// Adds a property of the document that is ignored. Returns `AllocError` if memory runs out.
+    pub fn warning(&mut self, shown: &UnknownShown<'_>) -> Result<(), AllocError> {
+        match self.form {
+            Form::Text => text_form::push_unknown(&mut self.lines, shown, self.color),
+            Form::Html => html_form::push_unknown(&mut self.lines, shown),
+            Form::Json => {
+                self.begin_object()?;
+                json_form::push_unknown(&mut self.lines, shown)
+            }
+        }
+    }
+
+    /// Begins the properties of the document that are ignored. Returns `AllocError` if memory runs out.
+    pub fn begin_warnings(&mut self) -> Result<(), AllocError> {
+        match self.form {
+            Form::Text | Form::Json => Ok(()),
+            Form::Html => html_form::push_warnings(&mut self.lines),
+        }
+    }
+
+    /// Adds how many properties of the document at a path are ignored whose places aren't known. Returns
+    /// `AllocError` if memory runs out.
+    pub fn unplaced(&mut self, meta: &str, times: u64) -> Result<(), AllocError> {
+        match self.form {
+            Form::Text => text_form::push_unplaced(&mut self.lines, meta, times, self.color),
+            Form::Html => html_form::push_unplaced(&mut self.lines, meta, times),
+            Form::Json => {
+                for _ in 0..times {
+                    self.begin_object()?;
+                    json_form::push_unplaced(&mut self.lines, meta)?;
+                }
+                Ok(())
+            }
+        }
+    }
+
+    /// Begins the faults of one code in one column. Returns `AllocError` if memory runs out.
+    pub fn heading(&mut self, shown: &SpotShown<'_>) -> Result<(), AllocError> {
+        match self.form {
+            Form::Text | Form::Json => Ok(()),
+            Form::Html => html_form::push_heading(&mut self.lines, shown),
+        }
+    }
+
+    /// Adds a fault, with its row. Returns `AllocError` if memory runs out.
+    pub fn fault(&mut self, shown: &FaultShown<'_>) -> Result<(), AllocError> {
+        match self.form {
+            Form::Text => text_form::push_fault(&mut self.lines, shown, self.color),
+            Form::Html => html_form::push_fault(&mut self.lines, shown),
+            Form::Json => {
+                self.begin_object()?;
+                json_form::push_fault(&mut self.lines, shown)
+            }
+        }
+    }
+
+    /// Adds how many faults of one code in one column are not shown. Returns `AllocError` if memory runs out.
+    pub fn rest(&mut self, shown: &SpotShown<'_>) -> Result<(), AllocError> {
+        match self.form {
+            Form::Text => Ok(()),
+            Form::Html => html_form::push_rest(&mut self.lines, shown.times),
+            Form::Json => {
+                self.begin_object()?;
+                json_form::push_rest(&mut self.lines, shown)
+            }
+        }
+    }
+
+    /// Adds why the document or a table wasn't read. Returns `AllocError` if memory runs out.
+    pub fn stop(&mut self, shown: &StopShown<'_>) -> Result<(), AllocError> {
+        match self.form {
+            Form::Text => text_form::push_stop(&mut self.lines, shown, self.color),
+            Form::Html => html_form::push_stop(&mut self.lines, shown),
+            Form::Json => {
+                self.begin_object()?;
+                json_form::push_stop(&mut self.lines, shown)
+            }
+        }
+    }
+
+    /// Ends the page, with the summary of what was found. Returns `AllocError` if memory runs out.
+    pub fn end(&mut self, summary: Option<&Summary<'_>>) -> Result<(), AllocError> {
+        match self.form {
+            Form::Text => match summary {
+                Some(summary) => text_form::push_summary(&mut self.lines, summary),
+                None => Ok(()),
+            },
+            Form::Html => self.lines.push_str("</main>\n</body>\n</html>\n"),
+            Form::Json => self.lines.push_str(match self.objects {
+                0 => "]\n",
+                _ => "\n]\n",
+            }),
+        }
+    }
+
+    /// Begins an object of a JSON array.
+    fn begin_object(&mut self) -> Result<(), AllocError> {
+        if self.objects > 0 {
+            self.lines.push_str(",\n")?;
+        }
+        self.objects = self.objects.saturating_add(1);
+        Ok(())
+    }
+}

@@ -1,0 +1,31 @@
+//! What is read a second time to show faults: the rows that they are in, and the text of a report.
+//!
+//! A fault names a place, and nothing of the file. A `Walker` has a page. `GroupFaults` goes through the files of a group
+//! with it, and adds each fault with its line, its cell and the rule that it breaks:
+//!
+//! ```text
+//! let faults = GroupFaults { tables, faults: found };
+//! let mut walker = Walker::new(alloc, Form::Text, Color::Never, Shown::First);
+//! faults.show(&mut walker, &Counts::of(alloc, found)?, opener, out)?;
+//! ```
+//!
+//! `paths` finds the file of each table. `seek` looks for the row that stops a table. `faults_of_report` reads a report back.
+//!
+//! # Promises
+//!
+//! - Proved: each call is safe and ends, also if a file changed since it was read first.
+//! - Tested alone: which lines, rows and files are found, and the texts of the pages.
+#![tactic(auto)]
+
+mod file_rows;
+mod files;
+mod group_faults;
+mod record;
+mod report_text;
+mod walk;
+
+pub use files::{paths, paths_in_order};
+pub use group_faults::GroupFaults;
+pub use record::{Seen, seek};
+pub use report_text::faults_of_report;
+pub use walk::{Shown, Walker};

@@ -1,0 +1,229 @@
+//! The faults of a table, with the texts of its file, which is read a second time.
+
+use crate::file_rows::{FileRows, LineCount, Piece};
+use csvw_hints::{TableAt, field_of, name_of, push_rule};
+use csvw_opener::Opener;
+use csvw_page::{CellShown, Color, Counts, FaultShown, Form, Halt, Page};
+use csvw_rows::{RawRow, Rows};
+use csvw_streams::Counted;
+use csvw_text::{Code, Fault};
+use std::alloc::{AllocError, Global};
+use std::io::{Read, Write};
+
+/// How many faults of one code in one column are shown, if not all are.
+pub(crate) const FIRST: u64 = 20;
+
+/// How many faults are shown of those with one code in one column.
+#[derive(Clone, Copy, Debug, PartialEq, Eq)]
+pub enum Shown {
+    /// The first 20. The others are counted.
+    First,
+    /// All.
+    All,
+}
+
+/// What is known of a file so far.
+#[derive(Drop)]
+struct Cursor<'a> {
+    /// The faults that are not shown yet.
+    faults: &'a [Fault],
+    /// The lines so far.
+    lines: LineCount,
+}
+
+/// A row in which faults are, if it is known, and the line at which it begins, from 1.
+#[derive(Clone, Copy)]
+struct RowAt<'a> {
+    row: Option<RawRow<'a>>,
+    line: u64,
+}
+
+/// A page, and what is known of the table whose faults it shows.
+#[derive(Drop)]
+pub struct Walker {
+    /// The page.
+    pub page: Page,
+    /// How many faults are shown of those with one code in one column.
+    pub(crate) shown: Shown,
+    /// How often each code occurs in each column so far.
+    so_far: Counts,
+    /// The fields of the first header row of the table.
+    header: Vec<String>,
+}
+
+/// Adds a fault, with its row.
+fn tell_one(
+    page: &mut Page,
+    table: &TableAt<'_>,
+    header: &[String],
+    fault: &Fault,
+    at: &RowAt<'_>,
+) -> Result<(), AllocError> {
+    let column = fault.place.column;
+    let cell = cell_of(table, column, at);
+    let mut rule = String::new(page.alloc);
+    if cell.is_some() {
+        push_rule(&mut rule, table, fault)?;
+    }
+    page.fault(&FaultShown {
+        fault: *fault,
+        path: table.path,
+        line: at.line,
+        number: match &at.row {
+            Some(row) => row.number(),
+            None => 0,
+        },
+        name: name_of(table.plan, header, column),
+        cell,
+        rule: rule.as_str(),
+    })
+}
+
+/// Returns the cell of a column in a row, if both are known.
+fn cell_of<'a>(table: &TableAt<'_>, column: u32, at: &RowAt<'a>) -> Option<CellShown<'a>> {
+    let row = at.row?;
+    let place = field_of(table.plan, column)?;
+    if place >= row.len() {
+        return None;
+    }
+    Some(CellShown {
+        row,
+        place,
+        text: row.field(place),
+        delimiter: table.plan.dialect.delimiter,
+    })
+}
+
+impl<'a> Cursor<'a> {
+    /// Returns the faults up to a row, and goes on to those after it.
+    fn faults_to(&mut self, source: u64) -> &'a [Fault] {
+        let faults = self.faults;
+        let count = faults
+            .iter()
+            .take_while(|fault| fault.place.row <= source)
+            .count();
+        let (here, rest) = faults.split_at(count.min(faults.len()));
+        self.faults = rest;
+        here
+    }
+}
+
+impl Walker {
+    /// Begins a page.
+    pub fn new(alloc: Global, form: Form, color: Color, shown: Shown) -> Walker {
+        Walker {
+            page: Page::new(alloc, form, color),
+            shown,
+            so_far: Counts::new(alloc),
+            header: Vec::new(alloc),
+        }
+    }
+
+    /// Keeps the fields of the first header row.
+    fn keep_header(&mut self, row: &RawRow<'_>) -> Result<(), AllocError> {
+        if row.number() > 0 || !self.header.is_empty() {
+            return Ok(());
+        }
+        for i in 0..row.len() {
+            self.header
+                .push(String::from_str(self.page.alloc, row.field(i))?)?;
+        }
+        Ok(())
+    }
+
+    /// Adds those of the faults at a row that are shown. Properties of the document that are ignored are shown elsewhere.
+    fn tell_faults(
+        &mut self,
+        table: &TableAt<'_>,
+        faults: &[Fault],
+        at: &RowAt<'_>,
+    ) -> Result<(), AllocError> {
+        for fault in faults {
+            let times = self.so_far.count(fault)?;
+            let is_shown = self.shown == Shown::All || times <= FIRST;
+            if is_shown && fault.code != Code::UnknownProperty {
+                tell_one(&mut self.page, table, self.header.as_slice(), fault, at)?;
+            }
+        }
+        Ok(())
+    }
+
+    /// Adds the faults of all complete rows that there are, and sends them. Returns whether the text goes on.
+    fn drain<W: Write>(
+        &mut self,
+        table: &TableAt<'_>,
+        rows: &mut Rows,
+        cursor: &mut Cursor<'_>,
+        out: &mut Counted<W>,
+    ) -> Result<bool, Halt> {
+        for _ in 0..u64::MAX {
+            match rows.next() {
+                Ok(Some(row)) => {
+                    let line = cursor.lines.pass(&row);
+                    self.keep_header(&row)?;
+                    let faults = cursor.faults_to(row.source());
+                    let at = RowAt {
+                        row: Some(row),
+                        line,
+                    };
+                    self.tell_faults(table, faults, &at)?;
+                }
+                Ok(None) => return Ok(true),
+                Err(_) => return Ok(false),
+            }
+            self.page.send(out)?;
+        }
+        Ok(false)
+    }
+
+    /// Reads a file, and adds the faults of its rows, as long as there are faults that aren't shown yet.
+    fn read_through<R: Read, W: Write>(
+        &mut self,
+        table: &TableAt<'_>,
+        reader: &mut R,
+        cursor: &mut Cursor<'_>,
+        out: &mut Counted<W>,
+    ) -> Result<(), Halt> {
+        let alloc = self.page.alloc;
+        let Some(mut file) = FileRows::new(alloc, table.plan)? else {
+            return Ok(());
+        };
+        for _ in 0..u64::MAX {
+            let piece = file.read(reader);
+            let goes_on = piece != Piece::Stopped
+                && self.drain(table, &mut file.rows, cursor, out)?;
+            if !goes_on || piece == Piece::Ended || cursor.faults.is_empty() {
+                break;
+            }
+        }
+        Ok(())
+    }
+
+    /// Adds faults of a table, which are sorted by rows, and sends them.
+    pub(crate) fn walk<O: Opener, W: Write>(
+        &mut self,
+        table: &TableAt<'_>,
+        faults: &[Fault],
+        opener: &mut O,
+        out: &mut Counted<W>,
+    ) -> Result<(), Halt> {
+        self.header.clear();
+        let mut cursor = Cursor {
+            faults,
+            lines: LineCount::new(),
+        };
+        let nowhere = RowAt { row: None, line: 0 };
+        let whole = cursor.faults_to(0);
+        self.tell_faults(table, whole, &nowhere)?;
+        if !cursor.faults.is_empty() {
+            if let Some(reader) = opener.open(table.path) {
+                let mut reader = Counted::new(reader);
+                let read = self.read_through(table, &mut reader, &mut cursor, out);
+                opener.close(reader);
+                read?;
+            }
+        }
+        self.tell_faults(table, cursor.faults, &nowhere)?;
+        self.page.send(out)
+    }
+}
