@@ -41,4 +41,7 @@ pub use csvw_ntriples::NtSink;
 pub use csvw_report::Outcome;
 pub use csvw_session::{Refused, Session, Stop};
 pub use csvw_text::{Code, Counted, Fault, Kind, Place};
-pub use csvw_triples::{Lit, Mode, Node, Origin, SinkFault, Term, Triple, TripleSink, VecSink};
+pub use csvw_triples::{
+    Lit, LitRef, Mode, Node, NodeRef, Origin, SinkFault, Term, TermRef, Triple, TripleRef,
+    TripleSink, VecSink,
+};
