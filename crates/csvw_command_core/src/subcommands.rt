@@ -32,7 +32,7 @@ pub(crate) const COMPLETIONS: &str = "completions";
 
 pub(crate) const MANUAL: &str = "manual";
 
-const VERSION: &str = "0.3.0 (rattle 0.0.0)";
+const VERSION: &str = "0.4.0 (rattle 0.0.0)";
 
 /// Adds the options of a report. Fails with `AllocError` if memory runs out.
 fn with_reporting<'a>(alloc: Global, command: Command<'a>) -> Result<Command<'a>, AllocError>
