@@ -1,8 +1,11 @@
 -- The cell of a text that isn't null, in a column without a separator. The search doesn't take the two results of a call apart.
-use Rattle.std.proofs.Common.{◌≡◌, ℕ, false, List, subst, sym, MatchBool}
+use Rattle.std.proofs.Common.{◌≡◌, ℕ, true, false, List, refl, subst, sym, MatchBool}
 use Rattle.std.specs.Prelude.{Result, Ok, Err, OnOk}
 use Rattle.csvw_fault.specs.declared.fault.Code.{Code}
 use Rattle.csvw_datatype.specs.declared.datatype.Datatype.{Datatype}
+use Rattle.csvw_datatype.specs.declared.simple.Simple.{Simple}
+use Rattle.csvw_datatype.specs.declared.simple.Simple.TheVariants as simples
+use Rattle.csvw_datatype.specs.Strings.{is_string, is_text, keeps_space, space_stays}
 use Rattle.csvw_columns_core.specs.declared.properties.Properties.{Properties}
 use Rattle.csvw_cell.specs.declared.cell.CellValue.{CellValue}
 use Rattle.csvw_cell.specs.declared.cell.CellValue.TheVariants.{Null}
@@ -15,3 +18,18 @@ single_judged (Ok u) p d text value faults apart same judged =
     let IsNull : Type 0 = (value ≡ Null) × (faults ≡ missing p) in
     subst (λ b. MatchBool b IsNull (IsJudged p.datatype text value faults)) (sym apart) (subst (λ d. IsJudged d text value faults) same judged)
 single_judged (Err x) p d text value faults apart same judged = tt
+
+text_stays : (s : Simple) → is_text s ≡ true → space_stays s ≡ true
+text_stays simples.Text h = refl
+text_stays simples.Truth h = cc
+text_stays simples.Whole h = cc
+text_stays simples.Decimal h = cc
+text_stays simples.Day h = cc
+text_stays simples.Uri h = cc
+text_stays (simples.Derived w) h = cc
+text_stays simples.Moment h = cc
+text_stays (simples.Other t) h = cc
+
+-- white space stays in a string
+pub string_keeps : (d : Datatype) → is_string d ≡ true → keeps_space d ≡ true
+string_keeps d h = text_stays d.simple h

@@ -11,7 +11,7 @@ use Rattle.csvw_datatype.specs.declared.datatype.Datatype.{Datatype}
 use Rattle.csvw_datatype.specs.declared.value.Value.TheVariants.{Text}
 use Rattle.csvw_datatype.specs.Reads.{Reads, Misread}
 use Rattle.csvw_datatype.specs.Breaks.{breaks}
-use Rattle.csvw_datatype.specs.Strings.{is_string}
+use Rattle.csvw_datatype.specs.Strings.{keeps_ends, keeps_space}
 use Rattle.csvw_columns_core.specs.declared.properties.Properties.{Properties}
 use Rattle.csvw_columns_core.specs.declared.column.Column.{Column}
 use Rattle.csvw_cell.specs.declared.cell.Item.{Item}
@@ -20,9 +20,9 @@ use Rattle.csvw_cell.specs.declared.cell.CellValue.{CellValue}
 use Rattle.csvw_cell.specs.declared.cell.CellValue.TheVariants.{Null, One, Many}
 use Rattle.csvw_cell.specs.Codes.{in_order, broken_codes}
 
--- steps 1 and 2, unless the base is string: CR, LF and tab become spaces, the ends are stripped and each run of spaces becomes one
+-- steps 1 and 2, unless white space stays: CR, LF and tab become spaces, the ends are stripped and each run of spaces becomes one
 abbrev pub normalized : Datatype → List ℕ → List ℕ
-normalized d text = if is_string d then text else encode_utf8_all (collapse (chars text))
+normalized d text = if keeps_space d then text else encode_utf8_all (collapse (chars text))
 
 -- steps 3 and 6: an empty text is replaced by `default`
 abbrev pub or_default : List ℕ → List ℕ → List ℕ
@@ -42,9 +42,9 @@ ArePartsBy separator text (part ∷ next ∷ parts) =
 abbrev pub AreParts : List ℕ → List ℕ → List (List ℕ) → Type 0
 AreParts separator text parts = MatchBool (length separator == 0) (parts ≡ text ∷ []) (ArePartsBy separator text parts)
 
--- an item is stripped of white space, unless the base is string
+-- an item is stripped of white space, unless its ends stay
 abbrev pub stripped : Datatype → List ℕ → List ℕ
-stripped d text = if is_string d then text else encode_utf8_all (strip_end (strip_start (chars text)))
+stripped d text = if keeps_ends d then text else encode_utf8_all (strip_end (strip_start (chars text)))
 
 -- steps 5 and 6 of one item
 abbrev pub item_text : Properties → List ℕ → List ℕ

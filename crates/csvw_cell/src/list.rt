@@ -1,7 +1,7 @@
 //! Lists: steps 4 to 9 of a cell with a separator.
 ghost use Rattle.std.specs.Prelude.{◌≡◌, ◌<◌, length, IfOk, map};
 ghost use Rattle.csvw_datatype.specs.Sound.{IsSound};
-ghost use Rattle.csvw_datatype.specs.Strings.{is_string};
+ghost use Rattle.csvw_datatype.specs.Strings.{keeps_ends};
 ghost use Rattle.csvw_cell.specs.CellOf.{is_null, or_default, stripped, item_text, texts_of, AreParts, ArePartsBy, AreItems, IsList, IsListOf};
 
 use crate::cell::{Cell, CellValue, Item};
@@ -38,7 +38,7 @@ pub fn or_default<'a>(default: &'a str, text: &'a str) -> &'a str
 fn stripped<'a>(datatype: &Datatype, text: &'a str) -> &'a str
     ensures { result.now ≡ stripped datatype.now text.now }
 {
-    if datatype.is_string() {
+    if datatype.keeps_ends() {
         text
     } else {
         strip_end(strip_start(text))

@@ -5,7 +5,7 @@ ghost use Rattle.std.specs.Prelude.{◌≡◌, true, false};
 ghost use Rattle.std.specs.List.{list_any};
 ghost use Rattle.std.specs.Str.{chars};
 ghost use Rattle.csvw_text.specs.Collapse.{is_space};
-ghost use Rattle.csvw_datatype.specs.Strings.{is_string};
+ghost use Rattle.csvw_datatype.specs.Strings.{keeps_space};
 ghost use Rattle.csvw_cell.specs.CellOf.{normalized};
 
 use csvw_datatype::Datatype;
@@ -46,7 +46,7 @@ fn has_space(text: &str) -> bool
 /// Returns true only if steps 1 and 2 leave the text as it is.
 pub(crate) fn is_normal(datatype: &Datatype, text: &str) -> bool
     ensures same { result ≡ true → normalized datatype.now text.now ≡ text.now }
-    ensures other { result ≡ false → is_string datatype.now ≡ false }
+    ensures other { result ≡ false → keeps_space datatype.now ≡ false }
 {
-    datatype.is_string() || !has_space(text)
+    datatype.keeps_space() || !has_space(text)
 }

@@ -153,6 +153,7 @@ fn by_separator(
 ///
 /// The column's datatype must have passed `Datatype::check`. Returns `AllocError` if memory runs out. Nothing is then
 /// said of the value and the faults.
+#[tactic(auto, using(crate::proofs::OverLemmas::string_keeps))]
 pub fn parse_over(
     alloc: Global,
     column: &Column,

@@ -2,9 +2,11 @@
 use Rattle.std.proofs.Common.{◌≡◌, ◌∙◌, ℕ, List, ◌++◌, refl, ap}
 use Rattle.std.specs.Prelude.{codes}
 use Rattle.csvw_iri.specs.Safe.{safe}
-use Rattle.csvw_datatype.specs.Names.{name_of}
+use Rattle.csvw_datatype.specs.Names.{name_of, text_type_iri}
 use Rattle.csvw_datatype.specs.declared.simple.Simple.{Simple}
 use Rattle.csvw_datatype.specs.declared.simple.Simple.TheVariants as simples
+use Rattle.csvw_datatype.specs.declared.simple.TextType.{TextType}
+use Rattle.csvw_datatype.specs.declared.simple.TextType.TheVariants as types
 use Rattle.csvw_datatype.specs.declared.simple.Width.{Width}
 use Rattle.csvw_datatype.specs.declared.simple.Width.TheVariants as widths
 use Rattle.csvw_columns_core.specs.LiteralDatatype.{xsd_type}
@@ -24,6 +26,14 @@ raw_width widths.PositiveInteger = refl
 raw_width widths.NonPositiveInteger = refl
 raw_width widths.NegativeInteger = refl
 
+raw_text_type : (t : TextType) → safe (xsd_type (simples.Other t)) ≡ xsd_type (simples.Other t)
+unfolding safe
+raw_text_type types.Any = refl
+raw_text_type types.Token = refl
+raw_text_type types.Xml = refl
+raw_text_type types.Html = refl
+raw_text_type types.Json = refl
+
 raw_type : (s : Simple) → safe (xsd_type s) ≡ xsd_type s
 unfolding safe
 raw_type simples.Text = refl
@@ -34,6 +44,15 @@ raw_type simples.Day = refl
 raw_type simples.Uri = refl
 raw_type (simples.Derived w) = raw_width w
 raw_type simples.Moment = refl
+raw_type (simples.Other t) = raw_text_type t
+
+pub raw_iri : (t : TextType) → safe (text_type_iri t) ≡ text_type_iri t
+unfolding safe
+raw_iri types.Any = refl
+raw_iri types.Token = refl
+raw_iri types.Xml = refl
+raw_iri types.Html = refl
+raw_iri types.Json = refl
 
 pub safe_type : (s : Simple) (text joined head name : List ℕ) → text ≡ joined → joined ≡ head ++ name
     → head ≡ codes "http://www.w3.org/2001/XMLSchema#" → name ≡ name_of s

@@ -120,6 +120,7 @@ module _ (numbers : NumbersGiven) (dates : DatesGiven) (moments : MomentsGiven) 
   bound_given simples.Moment text h = moment_given text _ (moments Seconds text)
   bound_given simples.Text text h = cc
   bound_given simples.Uri text h = cc
+  bound_given (simples.Other t) text h = cc
   bound_given simples.Truth text h = cc
 
 -- each bound fits its type
@@ -145,6 +146,7 @@ module _ (numbers : NumbersGiven) (dates : DatesGiven) (moments : MomentsGiven) 
   bound_fits simples.Moment text = fits_with simples.Moment text refl
   bound_fits simples.Text text = tt
   bound_fits simples.Uri text = tt
+  bound_fits (simples.Other t) text = tt
   bound_fits simples.Truth text = tt
 
 -- whole numbers in units of 10^-18
@@ -168,6 +170,7 @@ number_fits simples.Day z small = tt
 number_fits simples.Moment z small = tt
 number_fits simples.Text z small = tt
 number_fits simples.Uri z small = tt
+number_fits (simples.Other t) z small = tt
 number_fits simples.Truth z small = tt
 
 pub whole_fits : (s : Simple) (z : ℤ) → IfSome (bound_of_whole s z) (IsBoundOf s)

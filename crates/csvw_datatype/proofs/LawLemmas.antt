@@ -103,6 +103,7 @@ pub one_value : OneNumber → OneDate → OneMoment → (s : Simple) (f : Option
     → ReadsAs s f text w → v ≡ w
 one_value one date moment simples.Text f text v w ok r s = r ∙ sym s
 one_value one date moment simples.Uri f text v w ok r s = r ∙ sym s
+one_value one date moment (simples.Other t) f text v w ok r s = r ∙ sym s
 one_value one date moment simples.Truth f text v w ok r s = r.2 ∙ ap (λ b. values.Truth b) (one_truth f text r.0 s.0 ok r.1 s.1) ∙ sym s.2
 one_value one date moment simples.Whole f text v w ok r s = same_number one (whole_rules f) (whole_lawful f ok) (chars text) v w r.0 s.0 r.1 s.1 r.2 s.2
 one_value one date moment (simples.Derived width) f text v w ok r s =
@@ -118,6 +119,7 @@ pub value_or_code : OneNumber → (s : Simple) (f : Option Format) (text : List 
     → MisreadAs s f text code → ⊥
 value_or_code one simples.Text f text v code ok r m = m
 value_or_code one simples.Uri f text v code ok r m = m
+value_or_code one (simples.Other t) f text v code ok r m = m
 value_or_code one simples.Truth f text v code ok r m = m.0 r.0 r.1
 value_or_code one simples.Whole f text v code ok r m = not_misread (whole_rules f) (chars text) r.0 m.0 r.1 m.1
 value_or_code one (simples.Derived w) f text v code ok r m = elim m [
@@ -131,6 +133,7 @@ value_or_code one simples.Moment f text v code ok r m = m.0 r.0 r.1
 pub one_code : (s : Simple) (f : Option Format) (text : List ℕ) (c d : Code) → IsFormatOf s f → MisreadAs s f text c → MisreadAs s f text d → c ≡ d
 one_code simples.Text f text c d ok p q = absurd p
 one_code simples.Uri f text c d ok p q = absurd p
+one_code (simples.Other t) f text c d ok p q = absurd p
 one_code simples.Truth f text c d ok p q = p.1 ∙ sym q.1
 one_code simples.Whole f text c d ok p q = one_number_code BadInteger (whole_rules f) text c d p q
 one_code (simples.Derived w) f text c d ok p q = elim p [
@@ -193,6 +196,7 @@ at_value P v w e h = subst P (sym e) h
 pub writable : DatesInRange → MomentsInRange → (s : Simple) (f : Option Format) (text : List ℕ) (v : Value) → ReadsAs s f text v → IsWritable v
 writable dates moments simples.Text f text v r = at_value (λ v. IsWritable v) v (values.Text text) r tt
 writable dates moments simples.Uri f text v r = at_value (λ v. IsWritable v) v (values.Text text) r tt
+writable dates moments (simples.Other t) f text v r = at_value (λ v. IsWritable v) v (values.Text text) r tt
 writable dates moments simples.Truth f text v r = at_value (λ v. IsWritable v) v (values.Truth r.0) r.2 tt
 writable dates moments simples.Whole f text v r = at_value (λ v. IsWritable v) v (values.Number r.0) r.2 (size (whole_rules f) (chars text) r.0 r.1)
 writable dates moments (simples.Derived w) f text v r = at_value (λ v. IsWritable v) v (values.Number r.0) r.3 (size (whole_rules f) (chars text) r.0 r.1)
@@ -209,6 +213,7 @@ pub bound : DatesInRange → MomentsInRange → (s : Simple) (f : Option Format)
     → IsBoundOf s v
 bound dates moments simples.Text f text v h r = cc
 bound dates moments simples.Uri f text v h r = cc
+bound dates moments (simples.Other t) f text v h r = cc
 bound dates moments simples.Truth f text v h r = cc
 bound dates moments simples.Whole f text v h r =
     at_value (λ v. IsBoundOf simples.Whole v) v (values.Number r.0) r.2 (size (whole_rules f) (chars text) r.0 r.1, whole f (chars text) r.0 r.1)

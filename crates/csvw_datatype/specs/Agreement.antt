@@ -4,6 +4,7 @@ use Rattle.std.specs.Prelude.{◌≡◌, ◌⊎◌, ◌≤◌, Option, None, IfS
 use Rattle.csvw_datatype.specs.declared.value.Value.{Value}
 use Rattle.csvw_datatype.specs.declared.simple.Simple.{Simple}
 use Rattle.csvw_datatype.specs.declared.simple.Simple.TheVariants as simples
+use Rattle.csvw_datatype.specs.declared.simple.TextType.TheVariants as types
 use Rattle.csvw_datatype.specs.declared.datatype.Facets.{Facets}
 use Rattle.csvw_datatype.specs.Sound.{first_of}
 use Rattle.csvw_datatype.specs.Facets.{IsLess, IsAtMost}
@@ -16,9 +17,13 @@ IfBoth a b P = IfSome a (λ x. IfSome b (λ y. P x y))
 abbrev pub AreSame : Value → Value → Type 0
 AreSame a b = (IsLess a b → ⊥) × (IsLess b a → ⊥)
 
--- length, minLength and maxLength are for strings alone
+-- length, minLength and maxLength are for string and the types derived from it
+abbrev pub IsString : Simple → Type 0
+IsString s = (s ≡ simples.Text) ⊎ (s ≡ simples.Other types.Token) ⊎ (s ≡ simples.Other types.Xml) ⊎ (s ≡ simples.Other types.Html)
+    ⊎ (s ≡ simples.Other types.Json)
+
 abbrev pub LengthsApply : Simple → Facets → Type 0
-LengthsApply s f = (s ≡ simples.Text) ⊎ ((f.length ≡ None) × (f.min_length ≡ None) × (f.max_length ≡ None))
+LengthsApply s f = IsString s ⊎ ((f.length ≡ None) × (f.min_length ≡ None) × (f.max_length ≡ None))
 
 -- minLength isn't greater than maxLength, and length is neither less than minLength nor greater than maxLength
 pub record LengthsAgree (f : Facets) : Type 0 where

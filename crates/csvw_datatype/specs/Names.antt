@@ -1,7 +1,9 @@
 -- The names of datatypes (Metadata Vocabulary for Tabular Data, section 5.11.1).
 use Rattle.std.specs.Prelude.{◌≡◌, ◌⊎◌, ℕ, List, codes}
 use Rattle.csvw_datatype.specs.declared.simple.Simple.{Simple}
-use Rattle.csvw_datatype.specs.declared.simple.Simple.TheVariants.{Text, Truth, Whole, Decimal, Day, Uri, Derived, Moment}
+use Rattle.csvw_datatype.specs.declared.simple.Simple.TheVariants.{Text, Truth, Whole, Decimal, Day, Uri, Derived, Moment, Other}
+use Rattle.csvw_datatype.specs.declared.simple.TextType.{TextType}
+use Rattle.csvw_datatype.specs.declared.simple.TextType.TheVariants.{Any, Token, Xml, Html, Json}
 use Rattle.csvw_datatype.specs.declared.simple.Width.{Width}
 use Rattle.csvw_datatype.specs.declared.simple.Width.TheVariants.{Long, Int, Short, Byte, UnsignedLong, UnsignedInt, UnsignedShort, UnsignedByte}
 use Rattle.csvw_datatype.specs.declared.simple.Width.TheVariants.{NonNegativeInteger, PositiveInteger, NonPositiveInteger, NegativeInteger}
@@ -20,6 +22,26 @@ width_name PositiveInteger = codes "positiveInteger"
 width_name NonPositiveInteger = codes "nonPositiveInteger"
 width_name NegativeInteger = codes "negativeInteger"
 
+abbrev pub text_type_name : TextType → List ℕ
+text_type_name Any = codes "anyAtomicType"
+text_type_name Token = codes "token"
+text_type_name Xml = codes "xml"
+text_type_name Html = codes "html"
+text_type_name Json = codes "json"
+
+-- the type has this name, or its other name
+abbrev pub IsTextTypeNamed : List ℕ → TextType → Type 0
+IsTextTypeNamed name Any = (name ≡ codes "anyAtomicType") ⊎ (name ≡ codes "any")
+IsTextTypeNamed name t = name ≡ text_type_name t
+
+-- xml, html and json have IRIs of their own
+abbrev pub text_type_iri : TextType → List ℕ
+text_type_iri Any = codes "http://www.w3.org/2001/XMLSchema#anyAtomicType"
+text_type_iri Token = codes "http://www.w3.org/2001/XMLSchema#token"
+text_type_iri Xml = codes "http://www.w3.org/1999/02/22-rdf-syntax-ns#XMLLiteral"
+text_type_iri Html = codes "http://www.w3.org/1999/02/22-rdf-syntax-ns#HTML"
+text_type_iri Json = codes "http://www.w3.org/ns/csvw#JSON"
+
 abbrev pub name_of : Simple → List ℕ
 name_of Text = codes "string"
 name_of Truth = codes "boolean"
@@ -29,8 +51,10 @@ name_of Day = codes "date"
 name_of Uri = codes "anyURI"
 name_of (Derived w) = width_name w
 name_of Moment = codes "dateTime"
+name_of (Other t) = text_type_name t
 
 -- the type has this name, or its other name
 abbrev pub IsNamed : List ℕ → Simple → Type 0
 IsNamed name Moment = (name ≡ codes "dateTime") ⊎ (name ≡ codes "datetime")
+IsNamed name (Other t) = IsTextTypeNamed name t
 IsNamed name s = name ≡ name_of s

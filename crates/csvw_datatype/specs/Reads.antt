@@ -52,6 +52,7 @@ moment_format _ = Seconds
 abbrev pub ReadsAs : Simple → Option Format → List ℕ → Value → Type 0
 ReadsAs simples.Text format text v = v ≡ values.Text text
 ReadsAs simples.Uri format text v = v ≡ values.Text text
+ReadsAs (simples.Other t) format text v = v ≡ values.Text text
 ReadsAs simples.Truth format text v = (b : Bool) × SpellsTruth format text b × (v ≡ values.Truth b)
 ReadsAs simples.Whole format text v = (z : ℤ) × ReadsNumber (whole_rules format) (chars text) z × (v ≡ values.Number z)
 ReadsAs (simples.Derived w) format text v = (z : ℤ) × ReadsNumber (whole_rules format) (chars text) z × IsInWidth w z × (v ≡ values.Number z)
@@ -75,6 +76,7 @@ MisreadsNumber bad rules text code = (fault : NumberFault) × MisreadNumber rule
 abbrev pub MisreadAs : Simple → Option Format → List ℕ → Code → Type 0
 MisreadAs simples.Text format text code = ⊥
 MisreadAs simples.Uri format text code = ⊥
+MisreadAs (simples.Other t) format text code = ⊥
 MisreadAs simples.Truth format text code = ((b : Bool) → ¬ SpellsTruth format text b) × (code ≡ BadBoolean)
 MisreadAs simples.Whole format text code = MisreadsNumber BadInteger (whole_rules format) text code
 MisreadAs (simples.Derived w) format text code =

@@ -10,7 +10,7 @@ use Rattle.csvw_datatype.specs.declared.datatype.Facets.{Facets}
 use Rattle.csvw_datatype.specs.declared.datatype.Datatype.{Datatype}
 use Rattle.csvw_datatype.specs.Breaks.{has_lengths, is_below, fails, is_over, is_not_under}
 use Rattle.csvw_datatype.specs.Formats.{IsFormatOf}
-use Rattle.csvw_datatype.specs.Strings.{is_text}
+use Rattle.csvw_datatype.specs.Strings.{has_length}
 use Rattle.csvw_datatype.specs.Widths.{IsInWidth}
 
 -- a number that a text can spell, as a count of units of 10^-18
@@ -48,9 +48,9 @@ pub record AreBoundsOf (s : Simple) (f : Facets) : Type 0 where
   pub max_inclusive : IfSome f.max_inclusive (IsBoundOf s)
   pub max_exclusive : IfSome f.max_exclusive (IsBoundOf s)
 
--- lengths are facets of strings alone
+-- lengths are facets of strings, and of the types derived from them
 abbrev pub lengths_apply : Simple → Facets → Bool
-lengths_apply s f = is_text s || not (has_lengths f)
+lengths_apply s f = has_length s || not (has_lengths f)
 
 -- `minLength` is not above `maxLength`, and `length` is neither below `minLength` nor above `maxLength`
 abbrev pub lengths_agree : Facets → Bool

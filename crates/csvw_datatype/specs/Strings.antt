@@ -3,6 +3,7 @@ use Rattle.std.specs.Prelude.{Bool, true, false}
 use Rattle.csvw_datatype.specs.declared.datatype.Datatype.{Datatype}
 use Rattle.csvw_datatype.specs.declared.simple.Simple.{Simple}
 use Rattle.csvw_datatype.specs.declared.simple.Simple.TheVariants as simples
+use Rattle.csvw_datatype.specs.declared.simple.TextType.TheVariants as types
 
 -- the type is string
 abbrev pub is_text : Simple → Bool
@@ -12,3 +13,29 @@ is_text _ = false
 -- the base is string
 abbrev pub is_string : Datatype → Bool
 is_string d = is_text d.simple
+
+-- a type that is string or derived from it, so it has a length
+abbrev pub has_length : Simple → Bool
+has_length simples.Text = true
+has_length (simples.Other types.Any) = false
+has_length (simples.Other _) = true
+has_length _ = false
+
+-- white space stays as it is in cells of string, xml, html, json and anyAtomicType (Model for Tabular Data, section 6.4)
+abbrev pub space_stays : Simple → Bool
+space_stays simples.Text = true
+space_stays (simples.Other types.Token) = false
+space_stays (simples.Other _) = true
+space_stays _ = false
+
+abbrev pub keeps_space : Datatype → Bool
+keeps_space d = space_stays d.simple
+
+-- white space at the ends of items stays in lists of string and anyAtomicType
+abbrev pub ends_stay : Simple → Bool
+ends_stay simples.Text = true
+ends_stay (simples.Other types.Any) = true
+ends_stay _ = false
+
+abbrev pub keeps_ends : Datatype → Bool
+keeps_ends d = ends_stay d.simple

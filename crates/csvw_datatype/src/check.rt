@@ -4,7 +4,6 @@ ghost use Rattle.csvw_datatype_core.specs.LexicalDates.{IsDayNumber, IsMomentNum
 ghost use Rattle.csvw_datatype.specs.Breaks.{is_below, fails};
 ghost use Rattle.csvw_datatype.specs.Formats.{IsFormatOf};
 ghost use Rattle.csvw_datatype.specs.Sound.{IsSound, IsBoundOf, AreBoundsOf, IsNumberSize, IsWholeNumber};
-ghost use Rattle.csvw_datatype.specs.Strings.{is_text};
 ghost use Rattle.csvw_datatype.specs.Sound.{lengths_apply, lengths_agree, side_agrees, sides_agree, first_of, bounds_agree, agree};
 
 use crate::datatype::{Datatype, Facets};
@@ -35,7 +34,7 @@ impl Datatype {
     /// Checks that the format is one of the type's and that the facets fit the type and each other (Metadata
     /// Vocabulary for Tabular Data, section 5.11.2).
     ///
-    /// Lengths are for strings alone, bounds are values of an ordered type, and no facet rules out what another asks
+    /// Lengths are for strings and the types derived from them, bounds are values of an ordered type, and no facet rules out what another asks
     /// for. Returns `BadDatatype` otherwise. It takes no memory.
     pub fn check(&self) -> Result<(), BadDatatype>
         ensures { IsOk result ↔ IsSound self.now }
@@ -149,7 +148,7 @@ fn is_moment_number(moment: i64) -> bool
 fn lengths_apply(simple: Simple, facets: &Facets) -> bool
     ensures { result ≡ lengths_apply simple facets.now }
 {
-    matches!(simple, Simple::Text) || !has_lengths(facets)
+    simple.has_length() || !has_lengths(facets)
 }
 
 fn lengths_agree(facets: &Facets) -> bool

@@ -1,9 +1,9 @@
 //! `Datatype` and `Facets`: a datatype of a column.
 ghost use Rattle.std.specs.Prelude.{◌≡◌, IfOk};
-ghost use Rattle.csvw_datatype.specs.Strings.{is_string};
+ghost use Rattle.csvw_datatype.specs.Strings.{is_string, keeps_space, keeps_ends};
 
 use crate::format::Format;
-use crate::simple::Simple;
+use crate::simple::{Simple, TextType};
 use crate::value::Value;
 use csvw_iri::Iri;
 use csvw_text::{both, copied_option};
@@ -109,7 +109,45 @@ impl Datatype {
             | Simple::Day
             | Simple::Uri
             | Simple::Derived(_)
+            | Simple::Moment
+            | Simple::Other(_) => false,
+        }
+    }
+
+    /// Returns whether white space in a cell stays as it is (Model for Tabular Data, section 6.4, steps 1 and 2).
+    #[inline(always)]
+    pub fn keeps_space(&self) -> bool
+        ensures { result ≡ keeps_space self.now }
+    {
+        match self.simple {
+            Simple::Text => true,
+            Simple::Other(text_type) => !matches!(text_type, TextType::Token),
+            Simple::Truth
+            | Simple::Whole
+            | Simple::Decimal
+            | Simple::Day
+            | Simple::Uri
+            | Simple::Derived(_)
             | Simple::Moment => false,
+        }
+    }
+
+    /// Returns whether white space at the ends of the items of a list stays (Model for Tabular Data, section 6.4, step 6).
+    #[inline(always)]
+    pub fn keeps_ends(&self) -> bool
+        ensures { result ≡ keeps_ends self.now }
+    {
+        match self.simple {
+            Simple::Text | Simple::Other(TextType::Any) => true,
+            Simple::Truth
+            | Simple::Whole
+            | Simple::Decimal
+            | Simple::Day
+            | Simple::Uri
+            | Simple::Derived(_)
+            | Simple::Moment
+            | Simple::Other(TextType::Token | TextType::Xml | TextType::Html | TextType::Json) =>
+                false,
         }
     }
 

@@ -12,7 +12,8 @@
 //! - `Value::lexical` returns the lexical form. A value has one: the law `one_form`. Values that were read have one:
 //!   the law `values_of_texts`.
 //! - `are_equal` returns whether two values are equal.
-//! - `Datatype::is_string` returns whether the base is `string` (`is_string`).
+//! - `Datatype::is_string` returns whether the base is `string` (`is_string`). `keeps_space` and `keeps_ends` return whether
+//!   white space in cells and at the ends of items stays.
 //! - `Simple::bound` and `whole_bound` return the bounds that texts and whole numbers are: the law `bounds_read`.
 //!
 //! That a datatype is sound has at most one proof (`IsSound-prop`). So an invariant of a crate above can keep that it
@@ -42,5 +43,5 @@ pub use laws::{
     are_equal, broken_facets, lexical_forms, one_code, one_form, one_value, sound_facets,
     value_or_code, values_of_texts,
 };
-pub use simple::{Simple, Width};
+pub use simple::{Simple, TextType, Width};
 pub use value::Value;

@@ -39,7 +39,9 @@ impl Datatype {
         values_of_texts();
         let format = &self.format;
         match self.simple {
-            Simple::Text | Simple::Uri => Ok(Ok(Value::Text(Text::copied(alloc, text)?))),
+            Simple::Text | Simple::Uri | Simple::Other(_) => Ok(Ok(Value::Text(Text::copied(
+                alloc, text,
+            )?))),
             Simple::Truth => Ok(read_boolean(format, text)),
             Simple::Whole => Ok(read_whole(format, text)),
             Simple::Derived(width) => Ok(read_derived(width, format, text)),

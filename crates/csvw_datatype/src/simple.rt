@@ -1,6 +1,7 @@
 //! The built-in datatypes and their names.
 ghost use Rattle.std.specs.Prelude.{◌≡◌, MatchOption};
-ghost use Rattle.csvw_datatype.specs.Names.{name_of, IsNamed, width_name};
+ghost use Rattle.csvw_datatype.specs.Names.{name_of, IsNamed, width_name, text_type_name, IsTextTypeNamed, text_type_iri};
+ghost use Rattle.csvw_datatype.specs.Strings.{has_length};
 
 /// A derived integer type (XML Schema 1.1 part 2, sections 3.4.14 to 3.4.25).
 #[derive(Clone, Copy, Debug, PartialEq, Eq)]
@@ -31,6 +32,22 @@ pub enum Width {
     NegativeInteger,
 }
 
+/// A type of texts besides `string` and `anyURI`, of which each text is a value (Metadata Vocabulary for Tabular Data,
+/// section 5.11.1).
+#[derive(Clone, Copy, Debug, PartialEq, Eq)]
+pub enum TextType {
+    /// `anyAtomicType`: the type above all others.
+    Any,
+    /// `token`: a string without line breaks, tabs and spaces that repeat.
+    Token,
+    /// `xml`: a part of an XML document.
+    Xml,
+    /// `html`: a part of an HTML document.
+    Html,
+    /// `json`: a JSON text.
+    Json,
+}
+
 /// A built-in datatype (Metadata Vocabulary for Tabular Data, section 5.11.1).
 #[derive(Clone, Copy, Debug, PartialEq, Eq)]
 pub enum Simple {
@@ -50,6 +67,8 @@ pub enum Simple {
     Derived(Width),
     /// `dateTime`.
     Moment,
+    /// A type of texts besides `string` and `anyURI`.
+    Other(TextType),
 }
 
 impl Width {
@@ -93,8 +112,48 @@ impl Width {
     }
 }
 
+impl TextType {
+    fn name(self) -> &'static str
+        ensures { result.now ≡ text_type_name self }
+    {
+        match self {
+            TextType::Any => "anyAtomicType",
+            TextType::Token => "token",
+            TextType::Xml => "xml",
+            TextType::Html => "html",
+            TextType::Json => "json",
+        }
+    }
+
+    fn of(name: &str) -> Option<TextType>
+        ensures { MatchOption result ((t : TextType) → ¬ IsTextTypeNamed name.now t) (IsTextTypeNamed name.now) }
+    {
+        match name {
+            "any" | "anyAtomicType" => Some(TextType::Any),
+            "token" => Some(TextType::Token),
+            "xml" => Some(TextType::Xml),
+            "html" => Some(TextType::Html),
+            "json" => Some(TextType::Json),
+            _ => None,
+        }
+    }
+
+    /// Returns the IRI of the type (Metadata Vocabulary for Tabular Data, section 5.11.1).
+    pub fn iri(self) -> &'static str
+        ensures { result.now ≡ text_type_iri self }
+    {
+        match self {
+            TextType::Any => "http://www.w3.org/2001/XMLSchema#anyAtomicType",
+            TextType::Token => "http://www.w3.org/2001/XMLSchema#token",
+            TextType::Xml => "http://www.w3.org/1999/02/22-rdf-syntax-ns#XMLLiteral",
+            TextType::Html => "http://www.w3.org/1999/02/22-rdf-syntax-ns#HTML",
+            TextType::Json => "http://www.w3.org/ns/csvw#JSON",
+        }
+    }
+}
+
 impl Simple {
-    /// Returns the name of the type in XML Schema, after `http://www.w3.org/2001/XMLSchema#`.
+    /// Returns the name of the type in a metadata document.
     pub fn name(self) -> &'static str
         ensures { result.now ≡ name_of self }
     {
@@ -107,11 +166,24 @@ impl Simple {
             Simple::Uri => "anyURI",
             Simple::Derived(width) => width.name(),
             Simple::Moment => "dateTime",
+            Simple::Other(text_type) => text_type.name(),
         }
     }
 
-    /// Returns the type of a name, or `None` if no type has it. `datetime` is another name of `dateTime` (Metadata
-    /// Vocabulary for Tabular Data, section 5.11.1).
+    /// Returns whether the type is string or derived from it, so that lengths apply to its values (Metadata Vocabulary for
+    /// Tabular Data, section 5.11.2).
+    pub fn has_length(self) -> bool
+        ensures { result ≡ has_length self }
+    {
+        match self {
+            Simple::Text => true,
+            Simple::Other(text_type) => !matches!(text_type, TextType::Any),
+            _ => false,
+        }
+    }
+
+    /// Returns the type of a name, or `None` if no type has it. `datetime` is another name of `dateTime`, and `any` of
+    /// `anyAtomicType` (Metadata Vocabulary for Tabular Data, section 5.11.1).
     pub fn of(name: &str) -> Option<Simple>
         ensures { MatchOption result ((s : Simple) → ¬ IsNamed name.now s) (IsNamed name.now) }
     {
@@ -123,7 +195,10 @@ impl Simple {
             "date" => Some(Simple::Day),
             "anyURI" => Some(Simple::Uri),
             "dateTime" | "datetime" => Some(Simple::Moment),
-            _ => Width::of(name).map(Simple::Derived),
+            _ => match Width::of(name) {
+                Some(width) => Some(Simple::Derived(width)),
+                None => TextType::of(name).map(Simple::Other),
+            },
         }
     }
 }

@@ -6,8 +6,8 @@ use Rattle.std.proofs.lemmas.Str.{encodes-chars}
 use Rattle.csvw_text.specs.Strip.{strip_end}
 use Rattle.csvw_cell.proofs.list.stripped.Goals as goal
 
-pub returns-else-is_string : goal.returns-else-is_string
-returns-else-is_string c =
+pub returns-else-keeps_ends : goal.returns-else-keeps_ends
+returns-else-keeps_ends c =
     let r : List ℕ = c.strip_end.result.now in
     sym (encodes-chars r c.strip_end.utf8) ∙ ap encode_utf8_all (c.strip_end.ensures.chars ∙ ap strip_end c.strip_start.ensures.chars)
-    ∙ sym (cond-false _ _ _ (sym c.is_string.ensures ∙ c.if-is_string.false))
+    ∙ sym (cond-false _ _ _ (sym c.keeps_ends.ensures ∙ c.if-keeps_ends.false))

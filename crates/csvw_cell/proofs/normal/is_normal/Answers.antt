@@ -9,8 +9,8 @@ use Rattle.csvw_text.specs.Collapse.{is_space}
 use Rattle.csvw_cell.proofs.NormalLemmas.{collapse_same, no_space}
 use Rattle.csvw_cell.proofs.normal.is_normal.Goals as goal
 
-pub returns-else-is_string-clause-same : goal.returns-else-is_string-clause-same
-returns-else-is_string-clause-same c = λ e.
+pub returns-else-keeps_space-clause-same : goal.returns-else-keeps_space-clause-same
+returns-else-keeps_space-clause-same c = λ e.
     let text = c.args.text.now in
     let none : list_any is_space (chars text) ≡ false = sym c.has_space.ensures ∙ no_space c.has_space.result e in
-    cond-false _ _ _ (sym c.is_string.ensures ∙ c.if-is_string.false) ∙ ap encode_utf8_all (collapse_same (chars text) none) ∙ encodes-chars text c.utf8.text
+    cond-false _ _ _ (sym c.keeps_space.ensures ∙ c.if-keeps_space.false) ∙ ap encode_utf8_all (collapse_same (chars text) none) ∙ encodes-chars text c.utf8.text
