@@ -28,10 +28,12 @@ use Rattle.csvw_meta_inherited.specs.declared.inherited.InheritedFound.{Inherite
 use Rattle.csvw_meta.specs.declared.schema.SchemaFound.{SchemaFound}
 use Rattle.csvw_meta.specs.declared.table.TableFound.{TableFound}
 use Rattle.csvw_meta.specs.Body.{body, body_of, given_dialect, split}
-use Rattle.csvw_meta_core.specs.Context.{context}
+use Rattle.csvw_meta_core.specs.Context.{context, in_profile}
+use Rattle.csvw_meta_core.specs.declared.profile.Profile.{Profile}
+use Rattle.csvw_meta_core.specs.declared.profile.Profile.TheVariants.{Core}
 use Rattle.csvw_meta_dialect.specs.Dialect.{dialect}
 use Rattle.csvw_meta.specs.Described.{MayBeContext, described, hanging_on, judged_within, parts, sole_table, within}
-use Rattle.csvw_meta.specs.Document.{Document, MayBeUrl, document, judged, length_of, of_bytes, of_json, own_url, plain_description}
+use Rattle.csvw_meta.specs.Document.{Document, MayBeUrl, document_by, judged, length_of, of_bytes, of_json, own_url, plain_description}
 use Rattle.csvw_meta.specs.Group.{description_of, group, no_group, tables, url_faults, url_of}
 use Rattle.csvw_meta_core.specs.Fine.{Ensures, none_in_both, if_fine, also_fine}
 use Rattle.csvw_meta_inherited.specs.Inherited.{inherited}
@@ -207,27 +209,27 @@ module _ (datatypes : DatatypesFit) (dialects : DialectsFit) where
       let place = table_at (is_some (get (codes "tables") d)) at in
       also_fine IsFitGroup (λ g. IsPlannable (description_of g)) (parts context at d) (reference_faults place at) (parts_fine context at d) (plannable place at)
 
-  described_gives : (base : Parts) (at : List ℕ) (d : Data) → Gives (described base at d) IsPlannable
-  described_gives base at (json.object ms) g e =
+  described_gives : (profile : Profile) (base : Parts) (at : List ℕ) (d : Data) → Gives (described profile base at d) IsPlannable
+  described_gives profile base at (json.object ms) g e =
       let d = json.object ms in
-      gives_on IsPlannable (context base at d) (MayBeContext base at (context base at d)) (judged_within at d)
-      (λ c. gives_read IsPlannable (within c at d) (within_fine c at d)) g e
-  described_gives base at json.null g e = absurd (not_some g e)
-  described_gives base at (json.boolean b) g e = absurd (not_some g e)
-  described_gives base at (json.number n) g e = absurd (not_some g e)
-  described_gives base at (json.string s) g e = absurd (not_some g e)
-  described_gives base at (json.array ds) g e = absurd (not_some g e)
+      gives_on IsPlannable (context base at d) (MayBeContext base at (context base at d)) (λ c. judged_within at d (in_profile profile c))
+      (λ c. gives_read IsPlannable (within (in_profile profile c) at d) (within_fine (in_profile profile c) at d)) g e
+  described_gives profile base at json.null g e = absurd (not_some g e)
+  described_gives profile base at (json.boolean b) g e = absurd (not_some g e)
+  described_gives profile base at (json.number n) g e = absurd (not_some g e)
+  described_gives profile base at (json.string s) g e = absurd (not_some g e)
+  described_gives profile base at (json.array ds) g e = absurd (not_some g e)
 
-  of_json_gives : (base : Parts) (o : Option Data) → Gives (of_json base o) IsPlannable
-  of_json_gives base None = gives_read IsPlannable (faulty NotJson [] no_group) (λ h. cc)
-  of_json_gives base (Some d) = described_gives base [] d
+  of_json_gives : (profile : Profile) (base : Parts) (o : Option Data) → Gives (of_json profile base o) IsPlannable
+  of_json_gives profile base None = gives_read IsPlannable (faulty NotJson [] no_group) (λ h. cc)
+  of_json_gives profile base (Some d) = described_gives profile base [] d
 
   pub group_plannable : (x : Document) → Gives (judged x) IsPlannable
   unfolding judged
-  group_plannable (document url bytes) =
-      gives_on IsPlannable (length_of bytes) (λ t. ⊤) (λ t. hanging_on (own_url url) (MayBeUrl (own_url url)) (λ base. of_bytes base bytes))
-      (λ t. gives_on IsPlannable (own_url url) (MayBeUrl (own_url url)) (λ base. of_bytes base bytes)
-      (λ base. of_json_gives base (json_of (without_bom bytes))))
+  group_plannable (document_by profile url bytes) =
+      gives_on IsPlannable (length_of bytes) (λ t. ⊤) (λ t. hanging_on (own_url url) (MayBeUrl (own_url url)) (λ base. of_bytes profile base bytes))
+      (λ t. gives_on IsPlannable (own_url url) (MayBeUrl (own_url url)) (λ base. of_bytes profile base bytes)
+      (λ base. of_json_gives profile base (json_of (without_bom bytes))))
   group_plannable (plain_description url) =
-      gives_on IsPlannable (own_base [] url) (MayBeUrl (own_base [] url)) (λ base. described base [] (plain_document url))
-      (λ base. described_gives base [] (plain_document url))
+      gives_on IsPlannable (own_base [] url) (MayBeUrl (own_base [] url)) (λ base. described Core base [] (plain_document url))
+      (λ base. described_gives Core base [] (plain_document url))

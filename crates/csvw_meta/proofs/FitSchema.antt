@@ -27,6 +27,7 @@ use Rattle.csvw_meta_datatype.specs.Datatypes.{datatype}
 use Rattle.csvw_meta_keys.specs.declared.keys.KeysFound.{KeysFound}
 use Rattle.csvw_meta_keys.specs.Described.{names_of, described}
 use Rattle.csvw_meta_core.specs.declared.context.Context.{Context}
+use Rattle.csvw_meta_core.specs.declared.profile.Profile.{Profile}
 use Rattle.csvw_meta.specs.declared.schema.SchemaFound.{SchemaFound}
 use Rattle.csvw_meta.specs.Column.{column, column_of, no_column}
 use Rattle.csvw_meta_inherited.specs.Datatype.{given_datatype, split}
@@ -126,7 +127,8 @@ pub record IsFitFound (found : SchemaFound) : Type 0 where
 
 -- the law of csvw_meta_datatype: each datatype that is read fits together
 abbrev pub DatatypesFit : Type 0
-DatatypesFit = (against : Parts) (place : Place) (at : List ℕ) (d : Data) → IsSound (datatype against place at d).value.datatype
+DatatypesFit = (profile : Profile) (against : Parts) (place : Place) (at : List ℕ) (d : Data)
+    → IsSound (datatype profile against place at d).value.datatype
 
 module _ (datatypes : DatatypesFit) where
   given_sound : (context : Context) (table column : ℕ) (at : List ℕ) (d : Data)
@@ -134,8 +136,8 @@ module _ (datatypes : DatatypesFit) where
   unfolding given_datatype
   given_sound context table column at d =
       let place = place_of table column in
-      split_sound (optional (datatype context.base place) at d (codes "datatype")).value
-      (optional_value (λ f. IsSound f.datatype) (datatype context.base place) (datatypes context.base place) (below at (codes "datatype"))
+      split_sound (optional (datatype context.profile context.base place) at d (codes "datatype")).value
+      (optional_value (λ f. IsSound f.datatype) (datatype context.profile context.base place) (datatypes context.profile context.base place) (below at (codes "datatype"))
       (get (codes "datatype") d))
 
   pub inherited_sound : (context : Context) (table column : ℕ) (at : List ℕ) (d : Data) → HasSound (inherited context table column at d).value.inherited

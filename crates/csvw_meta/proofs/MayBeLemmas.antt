@@ -21,6 +21,7 @@ use Rattle.csvw_meta_core.specs.Pointer.{below, item_at}
 use Rattle.csvw_meta_core.specs.Read.{Read, fine, faulty, code_for, given, on_kind_as, under}
 use Rattle.csvw_meta_core.specs.Rules.{hides_property, is_at, is_of_several, is_within}
 use Rattle.csvw_meta_core.specs.declared.context.Context.{Context}
+use Rattle.csvw_meta_core.specs.declared.profile.Profile.TheVariants.{Core}
 use Rattle.csvw_meta_core.specs.Context.{context, context_base, context_found, context_items, context_value, further_context, is_vocabulary, no_context}
 use Rattle.csvw_meta_core.specs.Context.{other_items, plain_context, second_item, strangers}
 use Rattle.csvw_meta.specs.Described.{MayBeContext, is_known}
@@ -199,7 +200,7 @@ abbrev vocabulary : Data
 vocabulary = string (codes "http://www.w3.org/ns/csvw")
 
 joined : Read (Option (List ℕ)) → Read Parts → Read Context
-joined l b = record { faults = l.faults ++ (b.faults ++ []); value = record { base = b.value; language = l.value } }
+joined l b = record { faults = l.faults ++ (b.faults ++ []); value = record { base = b.value; language = l.value; profile = Core } }
 
 abbrev Joins : Parts → List ℕ → Option Data → Option Data → Type 0
 Joins base at own tag =
@@ -214,7 +215,7 @@ both_read base at (Some b) None = refl
 both_read base at (Some b) (Some t) = refl
 
 both_fine : (l : Read (Option (List ℕ))) (b : Read Parts) (tag : Option (List ℕ)) (url : Parts) → l ≡ fine tag → b ≡ fine url
-    → joined l b ≡ fine (record { base = url; language = tag })
+    → joined l b ≡ fine (record { base = url; language = tag; profile = Core })
 unfolding joined
 both_fine l b tag url p q = ap₂ joined p q
 
@@ -267,7 +268,7 @@ module _ (base : Parts) (at : List ℕ) where
       let all = others ++ (l.faults ++ (b.faults ++ [])) in
       let kb = kept (context_base base) base at_base own in
       let kl = kept of_language None at_language tag in
-      let c : Context = record { base = kb.value; language = kl.value } in (
+      let c : Context = record { base = kb.value; language = kl.value; profile = Core } in (
         c,
         record {
           instead = array (item vocabulary (item (object (with_both kb.member kl.member)) no_items));
@@ -325,11 +326,54 @@ module _ (base : Parts) (at : List ℕ) where
   unfolding is_known
   all_known name faults none = subst (λ fs. not (list_any (hides at name) fs) ≡ true) (sym none) refl
 
+  -- `@context` says nothing of the profile
+  core_further : (own : Parts) (place : List ℕ) (d : Data) (ms : Members) → (further_context own place d ms).value.profile ≡ Core
+  unfolding further_context
+  core_further own place d ms = refl
+
+  core_second : (own : Parts) (place : List ℕ) (d : Data) → (second_item own place d).value.profile ≡ Core
+  core_second own place (object ms) = core_further own (item_at place 1) (object ms) ms
+  core_second own place null = refl
+  core_second own place (boolean b) = refl
+  core_second own place (number n) = refl
+  core_second own place (string s) = refl
+  core_second own place (array ds) = refl
+
+  core_others : (own : Parts) (place : List ℕ) (ds : Items) → (other_items own place ds).value.profile ≡ Core
+  core_others own place no_items = refl
+  core_others own place (item b no_items) = core_second own place b
+  core_others own place (item b (item c ds)) = refl
+
+  core_if : (b : Bool) (r : Read Context) (place : List ℕ) → r.value.profile ≡ Core
+      → (if b then r else faulty BadContext place no_context).value.profile ≡ Core
+  core_if true r place h = h
+  core_if false r place h = refl
+
+  core_items : (own : Parts) (place : List ℕ) (ds : Items) → (context_items own place ds).value.profile ≡ Core
+  core_items own place no_items = refl
+  core_items own place (item a ds) = core_if (is_vocabulary a) (other_items own place ds) place (core_others own place ds)
+
+  core_value : (own : Parts) (place : List ℕ) (d : Data) → (context_value own place d).value.profile ≡ Core
+  core_value own place (array ds) = core_items own place ds
+  core_value own place (string s) = core_if (is_vocabulary (string s)) (fine (plain_context own)) place refl
+  core_value own place null = refl
+  core_value own place (boolean b) = refl
+  core_value own place (number n) = refl
+  core_value own place (object ms) = refl
+
+  core_found : (d : Data) (o : Option Data) → (context_found base at d o).value.profile ≡ Core
+  core_found d None = refl
+  core_found d (Some c) = core_value base (below at (codes "@context")) c
+
   pub has_context : (d : Data) → HasPossible (context base at d) (MayBeContext base at (context base at d))
   has_context d = record {
     own = own_may d (get (codes "@context") d);
     sole = λ none b may.
-        ap₂ (λ x y. record { base = x; language = y }) (may.base (all_known (codes "@base") _ none))
-        (may.language (all_known (codes "@language") _ none));
+        let own = (context base at d).value in
+        let its : b.profile ≡ Core = sym (ap (λ (r : Read Context). r.value.profile) may.says) ∙ core_value base (below at (codes "@context")) may.instead in
+        let same : b.profile ≡ own.profile = its ∙ sym (core_found d (get (codes "@context") d)) in
+        ap₂ (λ x y. record { base = x; language = y; profile = b.profile }) (may.base (all_known (codes "@base") _ none))
+        (may.language (all_known (codes "@language") _ none))
+        ∙ ap (λ p. record { base = own.base; language = own.language; profile = p }) same;
     some = found_may d (get (codes "@context") d);
   }

@@ -13,6 +13,8 @@ use Rattle.csvw_meta_notes.specs.Unlisted.{all_notes, all_warnings}
 use Rattle.csvw_meta_inherited.specs.Datatype.{given_datatype}
 use Rattle.csvw_meta_inherited.specs.Inherited.{uri_templates, cell_texts, inherited}
 use Rattle.csvw_meta_core.specs.declared.context.Context.{Context}
+use Rattle.csvw_meta_core.specs.declared.profile.Profile.TheVariants.{Core}
+use Rattle.csvw_meta_core.specs.Context.{in_profile}
 use Rattle.csvw_meta.specs.Body.{given_dialect, body}
 use Rattle.csvw_meta.specs.Described.{Describes, described, within}
 use Rattle.csvw_meta.specs.Document.{IsFault, judged, plain_description}
@@ -51,11 +53,11 @@ unfolding table_of given_dialect body inherited uri_templates cell_texts given_d
 faults_within c url f h = of_told_alone (base_of (Some c.base) url) f h
 
 -- at the URL of the document
-faults_at : (base : Parts) (url : List ℕ) (f : MetaFault) → (described base [] (plain_document url)).IsFault f → IsOfUrl f
+faults_at : (base : Parts) (url : List ℕ) (f : MetaFault) → (described Core base [] (plain_document url)).IsFault f → IsOfUrl f
 faults_at base url f (inl c) = absurd (none_in f c)
 faults_at base url f (inr w) =
     let some = (has_context base [] (plain_document url)).some in
-    faults_within some.0 url f (w some.0 some.1)
+    faults_within (in_profile Core some.0) url f (w some.0 some.1)
 
 url_faults : (url : List ℕ) (f : MetaFault) → IsFault (plain_description url) f → IsOfUrl f
 unfolding judged

@@ -16,7 +16,8 @@ use Rattle.csvw_meta_core.specs.Rules.{also, hides_property, is_at}
 use Rattle.csvw_meta_core.specs.declared.context.Context.{Context}
 use Rattle.csvw_meta.specs.declared.group.GroupFound.{GroupFound}
 use Rattle.csvw_meta.specs.declared.table.TableFound.{TableFound}
-use Rattle.csvw_meta_core.specs.Context.{context, context_value}
+use Rattle.csvw_meta_core.specs.declared.profile.Profile.{Profile}
+use Rattle.csvw_meta_core.specs.Context.{context, context_value, in_profile}
 use Rattle.csvw_meta.specs.Group.{group, description_of, no_group}
 use Rattle.csvw_description.specs.Inherited.{no_inherited}
 use Rattle.csvw_meta.specs.References.{table_at, reference_faults}
@@ -99,6 +100,7 @@ pub record MayBeContext (url : Parts) (at : List ℕ) (own : Read Context) (c : 
   pub base : is_known at (codes "@base") own.faults ≡ true → c.base ≡ own.value.base
   pub language : is_known at (codes "@language") own.faults ≡ true → c.language ≡ own.value.language
 
--- what the value describes within its context
-abbrev pub described : Parts → List ℕ → Data → Judged
-described base at d = hanging_on (context base at d) (MayBeContext base at (context base at d)) (judged_within at d)
+-- what the value describes within its context, if the document may use what the profile has
+abbrev pub described : Profile → Parts → List ℕ → Data → Judged
+described profile base at d =
+    hanging_on (context base at d) (MayBeContext base at (context base at d)) (λ c. judged_within at d (in_profile profile c))

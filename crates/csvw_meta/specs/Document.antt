@@ -7,6 +7,8 @@ use Rattle.csvw_iri.specs.Link.{base_of}
 use Rattle.csvw_description.specs.declared.description.Description.{Description}
 use Rattle.csvw_meta_core.specs.declared.fault.MetaFault.{MetaFault}
 use Rattle.csvw_meta_core.specs.declared.fault.MetaCode.TheVariants.{NotJson, TooLong}
+use Rattle.csvw_meta_core.specs.declared.profile.Profile.{Profile}
+use Rattle.csvw_meta_core.specs.declared.profile.Profile.TheVariants.{Core}
 use Rattle.csvw_meta_core.specs.Links.{told, no_url}
 use Rattle.csvw_meta_core.specs.Read.{Read, fine, faulty}
 use Rattle.csvw_meta.specs.Described.{Judged, described, hanging_on, judged_by}
@@ -17,10 +19,14 @@ use Rattle.csvw_meta.specs.declared.document.TheConstants.{MAX_DOCUMENT}
 
 -- the input of a read
 pub data Document : Type 0 where
-  -- a metadata document: the text of its URL, and its bytes
-  document : (url bytes : List ℕ) → Document
+  -- a metadata document that may use what the profile has: the text of its URL, and its bytes
+  document_by : (profile : Profile) (url bytes : List ℕ) → Document
   -- the text of a table's URL alone
   plain_description : (url : List ℕ) → Document
+
+-- a metadata document that may use what each document may use
+abbrev pub document : (url bytes : List ℕ) → Document
+document url bytes = document_by Core url bytes
 
 -- the URL of a document; a fault of it is at the document
 abbrev pub own_url : List ℕ → Read Parts
@@ -32,21 +38,21 @@ pub record MayBeUrl (own : Read Parts) (url : Parts) : Type 0 where
   pub resolves : base_of None text ≡ Ok url
   pub known : own.faults ≡ [] → url ≡ own.value
 
-abbrev pub of_json : Parts → Option Data → Judged
-of_json base None = judged_by (faulty NotJson [] no_group)
-of_json base (Some d) = described base [] d
+abbrev pub of_json : Profile → Parts → Option Data → Judged
+of_json profile base None = judged_by (faulty NotJson [] no_group)
+of_json profile base (Some d) = described profile base [] d
 
-abbrev pub of_bytes : Parts → List ℕ → Judged
-of_bytes base bytes = of_json base (json_of (without_bom bytes))
+abbrev pub of_bytes : Profile → Parts → List ℕ → Judged
+of_bytes profile base bytes = of_json profile base (json_of (without_bom bytes))
 
 -- A document has at most 1,048,576 bytes. Else it has that fault beside all others.
 abbrev pub length_of : List ℕ → Read ⊤
 length_of bytes = if nat_lt MAX_DOCUMENT (length bytes) then faulty TooLong [] tt else fine tt
 
 unfoldable pub judged : Document → Judged
-judged (document url bytes) =
-    hanging_on (length_of bytes) (λ _. ⊤) (λ _. hanging_on (own_url url) (MayBeUrl (own_url url)) (λ base. of_bytes base bytes))
-judged (plain_description url) = hanging_on (own_base [] url) (MayBeUrl (own_base [] url)) (λ base. described base [] (plain_document url))
+judged (document_by profile url bytes) =
+    hanging_on (length_of bytes) (λ _. ⊤) (λ _. hanging_on (own_url url) (MayBeUrl (own_url url)) (λ base. of_bytes profile base bytes))
+judged (plain_description url) = hanging_on (own_base [] url) (MayBeUrl (own_base [] url)) (λ base. described Core base [] (plain_document url))
 
 -- The document has this fault.
 abbrev pub IsFault : Document → MetaFault → Type 0

@@ -5,7 +5,7 @@ ghost use Rattle.csvw_description.specs.Plannable.{IsPlannable};
 ghost use Rattle.csvw_meta_core.specs.Pointer.{text_of};
 ghost use Rattle.csvw_meta_core.specs.Reads.{Reads};
 ghost use Rattle.csvw_meta.specs.Described.{Describes, sole_table, parts, within, described};
-ghost use Rattle.csvw_meta.specs.Document.{IsFault, document, group_in, judged, of_bytes, own_url};
+ghost use Rattle.csvw_meta.specs.Document.{IsFault, document, document_by, group_in, judged, of_bytes, own_url};
 
 use crate::body::{Body, DialectGiven};
 use crate::group::{GroupFound, description_of, read_group};
@@ -14,7 +14,7 @@ use crate::references::check_references;
 use crate::table::table_of;
 use csvw_description::{Description, no_inherited};
 use csvw_iri::{Base, IriFault};
-use csvw_meta_core::{Context, MetaCode, MetaFault, Part, Pointer, Refusal, read_context};
+use csvw_meta_core::{Context, MetaCode, MetaFault, Part, Pointer, Profile, Refusal, read_context};
 use csvw_meta_datatype::datatypes_fit;
 use csvw_meta_dialect::dialects_fit;
 use csvw_text::{Seq, Text};
@@ -69,15 +69,21 @@ fn within(context: &Context, part: &Part) -> Result<Description, Refusal>
 
 /// Reads what a value describes at the document's own URL.
 #[tactic(auto, using(crate::proofs::HangingLemmas::fails_on))]
-pub(crate) fn described(part: &Part, base: &Base) -> Result<Description, Refusal>
-    ensures { Describes result (described base.now (text_of part.now.at) (view part.now.value.now)) }
+pub(crate) fn described(profile: Profile, part: &Part, base: &Base) -> Result<Description, Refusal>
+    ensures { Describes result (described profile base.now (text_of part.now.at) (view part.now.value.now)) }
 {
-    let context = read_context(part, base)?;
+    let found = read_context(part, base)?;
+    let context = found.in_profile(profile);
     within(&context, part)
 }
 
-fn of_bytes(alloc: Global, base: &Base, bytes: &[u8]) -> Result<Description, Refusal>
-    ensures { Describes result (of_bytes base.now bytes.now) }
+fn of_bytes(
+    alloc: Global,
+    profile: Profile,
+    base: &Base,
+    bytes: &[u8],
+) -> Result<Description, Refusal>
+    ensures { Describes result (of_bytes profile base.now bytes.now) }
 {
     let value = json_of(alloc, without_bom(bytes))?;
     let part = Part {
@@ -85,7 +91,7 @@ fn of_bytes(alloc: Global, base: &Base, bytes: &[u8]) -> Result<Description, Ref
         at: Pointer::Root,
         value: &value,
     };
-    described(&part, base)
+    described(profile, &part, base)
 }
 
 fn own_url(alloc: Global, base: &str) -> Result<Base, Refusal>
@@ -100,34 +106,44 @@ fn own_url(alloc: Global, base: &str) -> Result<Base, Refusal>
 }
 
 #[tactic(auto, using(crate::proofs::HangingLemmas::fails_on), unfolding(crate::specs::Document::judged))]
-fn document(alloc: Global, bytes: &[u8], base: &str) -> Result<Description, Refusal>
-    ensures { Describes result (judged (document base.now bytes.now)) }
+fn document_by(
+    alloc: Global,
+    bytes: &[u8],
+    base: &str,
+    profile: Profile,
+) -> Result<Description, Refusal>
+    ensures { Describes result (judged (document_by profile base.now bytes.now)) }
 {
     if bytes.len() > MAX_DOCUMENT {
         return Err(document_fault(alloc, MetaCode::TooLong));
     }
     let base = own_url(alloc, base)?;
-    of_bytes(alloc, &base, bytes)
+    of_bytes(alloc, profile, &base, bytes)
 }
 
-/// Reads the group that a document describes, at its own URL. If it cannot, it returns a fault:
+/// Reads the group that a document in a profile describes, at its own URL. If it cannot, it returns a fault:
 ///
 /// - `TooLong` if the document has over 1,048,576 bytes;
 /// - `BadUrl` or `UrlTooLong` if its URL is not a URL;
 /// - `NotJson` if it is not a JSON text;
 /// - `BadContext` if it has no context;
-/// - the fault of one of its parts otherwise;
+/// - the fault of one of its parts otherwise, as `NotSupported` at a feature that the profile doesn't have;
 /// - `Memory` if there is no memory for the group.
-pub fn read(alloc: Global, bytes: &[u8], base: &str) -> Result<Description, MetaFault>
+pub fn read_by(
+    alloc: Global,
+    bytes: &[u8],
+    base: &str,
+    profile: Profile,
+) -> Result<Description, MetaFault>
     // The result comes from a document without faults, so it keeps the limits and rules of descriptions.
-    ensures found { IfOk result (λ d. group_in (document base.now bytes.now) ≡ Some d) }
+    ensures found { IfOk result (λ d. group_in (document_by profile base.now bytes.now) ≡ Some d) }
     ensures plannable { IfOk result IsPlannable }
     // A document that is refused has that fault.
-    ensures fault { IfErr result (λ e. e.code ≢ MetaCode.Memory → IsFault (document base.now bytes.now) e) }
+    ensures fault { IfErr result (λ e. e.code ≢ MetaCode.Memory → IsFault (document_by profile base.now bytes.now) e) }
 {
     datatypes_fit();
     dialects_fit();
-    match document(alloc, bytes, base) {
+    match document_by(alloc, bytes, base, profile) {
         Ok(description) => Ok(description),
         Err(Refusal::Fault(fault)) => Err(fault),
         Err(Refusal::Memory) => Err(MetaFault {
@@ -135,4 +151,14 @@ pub fn read(alloc: Global, bytes: &[u8], base: &str) -> Result<Description, Meta
             pointer: Text::new(alloc),
         }),
     }
+}
+
+/// Reads the group that a document describes, at its own URL. The document may use the features of `Profile::Core`. The
+/// faults are those of `read_by`.
+pub fn read(alloc: Global, bytes: &[u8], base: &str) -> Result<Description, MetaFault>
+    ensures found { IfOk result (λ d. group_in (document base.now bytes.now) ≡ Some d) }
+    ensures plannable { IfOk result IsPlannable }
+    ensures fault { IfErr result (λ e. e.code ≢ MetaCode.Memory → IsFault (document base.now bytes.now) e) }
+{
+    read_by(alloc, bytes, base, Profile::Core)
 }

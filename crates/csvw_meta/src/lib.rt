@@ -4,8 +4,8 @@
 //! # Promises
 //!
 //! - A group is returned exactly if there is no fault in the document, and it is the group that the document describes:
-//!   `read` (`document`), and the law `groups_have_no_faults` (`group_in`, `IsFault`).
-//! - A document that is refused has the fault that is returned: `read`.
+//!   `read` (`document`), `read_by` (`document_by`), and the law `groups_have_no_faults` (`group_in`, `IsFault`).
+//! - A document that is refused has the fault that is returned: `read`, `read_by`.
 //! - A group that is read keeps the limits on tables and columns (`IsPlannable`):
 //!   - its dialects are lawful, and each datatype passes `Datatype::check`;
 //!   - no two declared columns of a table have one name, and no two tables have one URL;
@@ -16,7 +16,7 @@
 //! - If the context or the document's own URL cannot be read, a fault is reported that the document has whatever they
 //!   are: `read`.
 //! - A fault of a URL alone is `BadUrl` or `UrlTooLong` at `/url`: `plain` (`plain_description`, `IsOfUrl`).
-//! - The trait `ReadDescription` has both calls as `Description::read` and `Description::plain`.
+//! - The trait `ReadDescription` has the calls as `Description::read`, `Description::read_by` and `Description::plain`.
 //! - The check of column names accepts a text as a variable exactly if the grammar of csvw_template does: the law
 //!   `variables_are_names` (`IsName`).
 //!
@@ -44,7 +44,7 @@ pub use csvw_description::{
     ColumnDescription, Description, ForeignKey, Inherited, Note, NoteLiteral, NoteObject,
     NoteValue, Schema, TableDescription,
 };
-pub use csvw_meta_core::{MetaCode, MetaFault};
-pub use document::read;
+pub use csvw_meta_core::{MetaCode, MetaFault, Profile};
+pub use document::{read, read_by};
 pub use read_description::ReadDescription;
 pub use url_alone::plain;

@@ -11,7 +11,7 @@ ghost use Rattle.csvw_meta.specs.UrlAlone.{IsOfUrl, own_base, plain_document};
 use crate::document::described;
 use csvw_description::Description;
 use csvw_iri::{Base, IriFault};
-use csvw_meta_core::{MetaCode, MetaFault, Part, Pointer, Refusal};
+use csvw_meta_core::{MetaCode, MetaFault, Part, Pointer, Profile, Refusal};
 use csvw_meta_datatype::datatypes_fit;
 use csvw_meta_dialect::dialects_fit;
 use csvw_text::Text;
@@ -49,7 +49,7 @@ fn plain_description(alloc: Global, url: &str) -> Result<Description, Refusal>
         value: &document,
     };
     let base = own_base(&part, url)?;
-    described(&part, &base)
+    described(Profile::Core, &part, &base)
 }
 
 /// Returns the group of the one table of that URL, with no schema and the default dialect. It is the description of a

@@ -11,6 +11,8 @@ use Rattle.csvw_meta_core.specs.Read.{Read, fine, faulty, ◌>>=◌, both, wrong
 use Rattle.csvw_meta_core.specs.Kinds.{language}
 use Rattle.csvw_meta_core.specs.Links.{told, no_url}
 use Rattle.csvw_meta_core.specs.declared.context.Context.{Context}
+use Rattle.csvw_meta_core.specs.declared.profile.Profile.{Profile}
+use Rattle.csvw_meta_core.specs.declared.profile.Profile.TheVariants.{Core}
 
 abbrev pub is_vocabulary : Data → Bool
 is_vocabulary null = false
@@ -21,11 +23,15 @@ is_vocabulary (array ds) = false
 is_vocabulary (object ms) = false
 
 abbrev pub no_context : Context
-no_context = record { base = no_url; language = None }
+no_context = record { base = no_url; language = None; profile = Core }
 
 -- the context with only the vocabulary
 abbrev pub plain_context : Parts → Context
-plain_context base = record { base = base; language = None }
+plain_context base = record { base = base; language = None; profile = Core }
+
+-- the same context in another profile
+abbrev pub in_profile : Profile → Context → Context
+in_profile profile c = record { base = c.base; language = c.language; profile = profile }
 
 -- the base of URLs in place of the document's own URL
 abbrev pub context_base : Parts → List ℕ → Data → Read Parts
@@ -45,7 +51,7 @@ further_context base at d ms = do
   others ← strangers at ms
   language ← optional (language BadContext) at d (codes "@language")
   base ← property (context_base base) base at d (codes "@base")
-  fine (record { base = base; language = language })
+  fine (record { base = base; language = language; profile = Core })
 
 -- the item after the text of the vocabulary
 abbrev pub second_item : Parts → List ℕ → Data → Read Context

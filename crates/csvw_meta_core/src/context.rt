@@ -4,23 +4,39 @@ ghost use Rattle.serde_json.specs.View.{view, items_view, members_view};
 ghost use Rattle.csvw_meta_core.specs.Pointer.{text_of};
 ghost use Rattle.csvw_meta_core.specs.Reads.{Reads};
 ghost use Rattle.csvw_meta_core.specs.Context.{is_vocabulary, stranger, strangers, further_context, second_item, other_items};
-ghost use Rattle.csvw_meta_core.specs.Context.{context_items, context_value, context, context_base};
+ghost use Rattle.csvw_meta_core.specs.Context.{context_items, context_value, context, context_base, in_profile};
 
 use crate::fault::{MetaCode, Refusal};
 use crate::kinds::Language;
 use crate::part::Part;
+use crate::profile::Profile;
 use crate::reader::Reader;
 use csvw_iri::{Base, IriFault};
 use csvw_text::LanguageTag;
 use serde_json::{Map, Value};
 
-/// What the context of a document says.
+/// The context in which a document is read: what its `@context` says, and the profile.
 #[derive(Drop)]
 pub struct Context {
     /// The base against which the document's URLs are resolved.
     pub base: Base,
     /// The language of its texts.
     pub language: Option<LanguageTag>,
+    /// The features that the document may use. `@context` says nothing of it.
+    pub profile: Profile,
+}
+
+impl Context {
+    /// Returns the same context in a profile.
+    pub fn in_profile(self, profile: Profile) -> Context
+        ensures { result ≡ in_profile profile self }
+    {
+        Context {
+            base: self.base,
+            language: self.language,
+            profile,
+        }
+    }
 }
 
 /// Reads the property `@base` of a context.
@@ -91,7 +107,11 @@ fn further_context(
         "@language",
     )?;
     let base = part.property(&ContextBase { base }, base.clone(part.alloc)?, "@base")?;
-    Ok(Context { base, language })
+    Ok(Context {
+        base,
+        language,
+        profile: Profile::Core,
+    })
 }
 
 fn second_item(part: &Part, base: &Base, second: &Value) -> Result<Context, Refusal>
@@ -111,6 +131,7 @@ fn other_items(part: &Part, base: &Base, others: &[Value]) -> Result<Context, Re
         [] => Ok(Context {
             base: base.clone(part.alloc)?,
             language: None,
+            profile: Profile::Core,
         }),
         [second] => second_item(part, base, second),
         _ => Err(part.refused(MetaCode::BadContext)),
@@ -134,12 +155,14 @@ fn context_value(part: &Part, base: &Base) -> Result<Context, Refusal>
         _ if is_vocabulary(part.value) => Ok(Context {
             base: base.clone(part.alloc)?,
             language: None,
+            profile: Profile::Core,
         }),
         _ => Err(part.wrong_as(MetaCode::BadContext)),
     }
 }
 
-/// Reads the context of the document that the part is, at the document's own URL. It returns the context, or one of:
+/// Reads the context of the document that the part is, at the document's own URL. It returns the context, in the profile
+/// `Core`, or one of:
 ///
 /// - `BadContext` if `@context` is missing or is not that of the vocabulary, and at a wrong member of it;
 /// - `NotSupported` if the document, `@context` or a member of it is a number that is not whole;

@@ -13,6 +13,7 @@
 //! - The context of a document is read at the document's own URL, or a fault in it is reported: `read_context`
 //!   (`context`; section 5.2).
 //! - `MetaCode::name` returns the name of the code (`name_of`).
+//! - A context is read in the profile `Core`, and `Context::in_profile` returns it in another (`in_profile`).
 //!
 //! # How a document is read
 //!
@@ -32,6 +33,7 @@ mod numbered;
 mod others;
 mod part;
 mod pointer;
+mod profile;
 mod reader;
 mod several;
 
@@ -46,5 +48,6 @@ pub use numbered::{NumberedReader, each_numbered};
 pub use others::{CommonProperty, Listed};
 pub use part::Part;
 pub use pointer::Pointer;
+pub use profile::Profile;
 pub use reader::{NotYet, OrNull, Reader, each};
 pub use several::Several;

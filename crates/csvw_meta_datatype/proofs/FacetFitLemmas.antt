@@ -9,7 +9,7 @@ use Rattle.csvw_datatype.specs.declared.datatype.Facets.{Facets}
 use Rattle.csvw_datatype.specs.Bounds.{bound_of, bound_of_whole}
 use Rattle.csvw_datatype.specs.Breaks.{no_facets, has_lengths}
 use Rattle.csvw_datatype.specs.Sound.{IsBoundOf, AreBoundsOf, lengths_apply, lengths_agree, bounds_agree, agree}
-use Rattle.csvw_datatype.specs.Strings.{is_text}
+use Rattle.csvw_datatype.specs.Strings.{has_length}
 use Rattle.csvw_meta_core.specs.declared.fault.MetaCode.TheVariants.{BadDatatype, BadProperty}
 use Rattle.csvw_meta_core.specs.Pointer.{below}
 use Rattle.csvw_meta_core.specs.Read.{fine, faulty, wrong, given, on_kind_as}
@@ -27,7 +27,7 @@ WholeBoundsFit = (s : Simple) (z : ℤ) → IfSome (bound_of_whole s z) (IsBound
 
 -- ---- lengths
 
-lengths_on_text : (s : Simple) → (b : Bool) → is_text s ≡ b → lengths_apply s no_facets ≡ true
+lengths_on_text : (s : Simple) → (b : Bool) → has_length s ≡ b → lengths_apply s no_facets ≡ true
 lengths_on_text s true is = ap (λ b. b || true) is
 lengths_on_text s false is = ap (λ b. b || true) is
 
@@ -35,18 +35,18 @@ on_another : (b : Bool) (at : List ℕ) (n : ℕ) → b ≡ false → (cond b (f
 on_another true at n is = cc
 on_another false at n is = refl
 
-kind_on_another : (s : Simple) (at : List ℕ) (d : Data) (o : Option ℕ) → is_text s ≡ false
+kind_on_another : (s : Simple) (at : List ℕ) (d : Data) (o : Option ℕ) → has_length s ≡ false
     → (on_kind_as BadProperty at d None o (length_on s at)).value ≡ None
 kind_on_another s at d None is = refl
-kind_on_another s at d (Some n) is = on_another (is_text s) at n is
+kind_on_another s at d (Some n) is = on_another (has_length s) at n is
 
-given_on_another : (s : Simple) (at : List ℕ) (o : Option Data) → is_text s ≡ false → (given (length s) None at o).value ≡ None
+given_on_another : (s : Simple) (at : List ℕ) (o : Option Data) → has_length s ≡ false → (given (length s) None at o).value ≡ None
 given_on_another s at None is = refl
 given_on_another s at (Some d) is = kind_on_another s at d _ is
 
 -- no length stands on another type than string
-applies : (s : Simple) (f : Facets) (b : Bool) → is_text s ≡ b → (is_text s ≡ false → f.length ≡ None) → (is_text s ≡ false → f.min_length ≡ None)
-    → (is_text s ≡ false → f.max_length ≡ None) → lengths_apply s f ≡ true
+applies : (s : Simple) (f : Facets) (b : Bool) → has_length s ≡ b → (has_length s ≡ false → f.length ≡ None) → (has_length s ≡ false → f.min_length ≡ None)
+    → (has_length s ≡ false → f.max_length ≡ None) → lengths_apply s f ≡ true
 applies s f true is exact least most = ap (λ b. b || not (has_lengths f)) is
 applies s f false is exact least most = rw (is, exact is, least is, most is) refl
 

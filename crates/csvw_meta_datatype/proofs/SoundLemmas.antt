@@ -6,7 +6,8 @@ use Rattle.serde_json.specs.Find.{get}
 use Rattle.url.specs.Parts.{Parts}
 use Rattle.csvw_fault.specs.declared.fault.Place.{Place}
 use Rattle.csvw_datatype.specs.declared.simple.Simple.{Simple}
-use Rattle.csvw_datatype.specs.declared.simple.Simple.TheVariants.{Text, Truth, Whole, Decimal, Day, Uri, Derived, Moment}
+use Rattle.csvw_datatype.specs.declared.simple.Simple.TheVariants.{Text, Truth, Whole, Decimal, Day, Uri, Derived, Moment, Other}
+use Rattle.csvw_datatype.specs.declared.simple.TextType.TheVariants.{Any, Token, Xml, Html, Json}
 use Rattle.csvw_datatype.specs.Formats.{IsFormatOf}
 use Rattle.csvw_datatype.specs.Sound.{AreBoundsOf, IsSound, lengths_apply}
 use Rattle.csvw_datatype.specs.Breaks.{no_facets}
@@ -20,7 +21,8 @@ use Rattle.csvw_meta_datatype.specs.Fit.{FacetsFit}
 use Rattle.csvw_meta_datatype.specs.declared.form.DatatypeFound.{DatatypeFound}
 use Rattle.csvw_meta_datatype.specs.Base.{base}
 use Rattle.csvw_meta_datatype.specs.Datatypes.{plain, named, of_type, based, form, datatype}
-use Rattle.csvw_meta_datatype.specs.Names.{all_simples}
+use Rattle.csvw_meta_core.specs.declared.profile.Profile.{Profile}
+use Rattle.csvw_meta_datatype.specs.Names.{simples_of}
 use Rattle.csvw_meta_datatype.specs.Whichever.{by_faults}
 
 no_lengths : (s : Simple) → lengths_apply s no_facets ≡ true
@@ -32,6 +34,11 @@ no_lengths Day = refl
 no_lengths Uri = refl
 no_lengths (Derived w) = refl
 no_lengths Moment = refl
+no_lengths (Other Any) = refl
+no_lengths (Other Token) = refl
+no_lengths (Other Xml) = refl
+no_lengths (Other Html) = refl
+no_lengths (Other Json) = refl
 
 no_bounds : (s : Simple) → AreBoundsOf s no_facets
 no_bounds s = record { minimum = tt; min_inclusive = tt; min_exclusive = tt; maximum = tt; max_inclusive = tt; max_exclusive = tt }
@@ -64,26 +71,26 @@ of_type_sound formats all iri place at d s =
       bounds_agree = fit.bounds_agree;
     }
 
-by_sound : (faults : List MetaFault) (s : Simple) (next : Simple → Read DatatypeFound) → ((t : Simple) → IsSound (next t).value.datatype)
-    → IsSound (by_faults all_simples (named Text) faults s next).value.datatype
-by_sound [] s next each = each s
-by_sound (f ∷ fs) s next each = plain_sound Text None
+by_sound : (types : List Simple) (faults : List MetaFault) (s : Simple) (next : Simple → Read DatatypeFound) → ((t : Simple) → IsSound (next t).value.datatype)
+    → IsSound (by_faults types (named Text) faults s next).value.datatype
+by_sound types [] s next each = each s
+by_sound types (f ∷ fs) s next each = plain_sound Text None
 
 module _ (formats : FormatsFit) (all : AllFacetsFit) where
-  based_sound : (iri : Option (List ℕ)) (place : Place) (at : List ℕ) (d : Data) → IsSound (based iri place at d).value.datatype
-  based_sound iri place at d =
-      let type = property base Text at d (codes "base") in
-      by_sound type.faults type.value (of_type iri place at d) (of_type_sound formats all iri place at d)
+  based_sound : (profile : Profile) (iri : Option (List ℕ)) (place : Place) (at : List ℕ) (d : Data) → IsSound (based profile iri place at d).value.datatype
+  based_sound profile iri place at d =
+      let type = property (base profile) Text at d (codes "base") in
+      by_sound (simples_of profile) type.faults type.value (of_type iri place at d) (of_type_sound formats all iri place at d)
 
-  form_sound : (against : Parts) (place : Place) (at : List ℕ) (d : Data) → IsSound (form against place at d).value.datatype
+  form_sound : (profile : Profile) (against : Parts) (place : Place) (at : List ℕ) (d : Data) → IsSound (form profile against place at d).value.datatype
   unfolding form
-  form_sound against place at d = based_sound (optional (id against) at d (codes "@id")).value place at d
+  form_sound profile against place at d = based_sound profile (optional (id against) at d (codes "@id")).value place at d
 
-  pub datatype_sound : (against : Parts) (place : Place) (at : List ℕ) (d : Data) → IsSound (datatype against place at d).value.datatype
+  pub datatype_sound : (profile : Profile) (against : Parts) (place : Place) (at : List ℕ) (d : Data) → IsSound (datatype profile against place at d).value.datatype
   unfolding datatype
-  datatype_sound against place at (object ms) = form_sound against place at (object ms)
-  datatype_sound against place at null = plain_sound _ _
-  datatype_sound against place at (boolean b) = plain_sound _ _
-  datatype_sound against place at (number n) = plain_sound _ _
-  datatype_sound against place at (string s) = plain_sound _ _
-  datatype_sound against place at (array ds) = plain_sound _ _
+  datatype_sound profile against place at (object ms) = form_sound profile against place at (object ms)
+  datatype_sound profile against place at null = plain_sound _ _
+  datatype_sound profile against place at (boolean b) = plain_sound _ _
+  datatype_sound profile against place at (number n) = plain_sound _ _
+  datatype_sound profile against place at (string s) = plain_sound _ _
+  datatype_sound profile against place at (array ds) = plain_sound _ _

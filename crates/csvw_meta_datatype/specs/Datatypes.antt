@@ -15,7 +15,8 @@ use Rattle.csvw_meta_datatype.specs.Formats.{no_format, format}
 use Rattle.csvw_meta_notes.specs.Unlisted.{unlisted}
 use Rattle.csvw_meta_datatype.specs.declared.form.DatatypeFound.{DatatypeFound}
 use Rattle.csvw_meta_datatype.specs.Base.{base}
-use Rattle.csvw_meta_datatype.specs.Names.{all_simples, datatype_names}
+use Rattle.csvw_meta_core.specs.declared.profile.Profile.{Profile}
+use Rattle.csvw_meta_datatype.specs.Names.{datatype_names, simples_of}
 use Rattle.csvw_meta_datatype.specs.Whichever.{whichever}
 
 -- the datatype of a type, with or without an `@id`
@@ -36,24 +37,25 @@ of_type id place at d simple = do
     warnings = found.warnings;
   })
 
--- If the type of an object can't be read, its format and facets have the faults that they have for every datatype.
-abbrev pub based : Option (List ℕ) → Place → List ℕ → Data → Read DatatypeFound
-based id place at d = whichever all_simples (named Text) (property base Text at d (codes "base")) (of_type id place at d)
+-- If the type of an object can't be read, its format and facets have the faults that they have for every datatype of the profile.
+abbrev pub based : Profile → Option (List ℕ) → Place → List ℕ → Data → Read DatatypeFound
+based profile id place at d =
+    whichever (simples_of profile) (named Text) (property (base profile) Text at d (codes "base")) (of_type id place at d)
 
 -- the datatype that an object describes
-unfoldable pub form : Parts → Place → List ℕ → Data → Read DatatypeFound
-form against place at d = do
+unfoldable pub form : Profile → Parts → Place → List ℕ → Data → Read DatatypeFound
+form profile against place at d = do
   iri ← optional (id against) at d (codes "@id")
   type ← optional (fixed (codes "Datatype")) at d (codes "@type")
   warnings ← unlisted against None (datatype_names ++ []) place at d
-  found ← based iri place at d
+  found ← based profile iri place at d
   fine (record { datatype = found.datatype; warnings = found.warnings ++ warnings })
 
 -- the datatype of a name or of an object
-unfoldable pub datatype : Parts → Place → List ℕ → Data → Read DatatypeFound
-datatype against place at (object ms) = form against place at (object ms)
-datatype against place at null = under named (base at null)
-datatype against place at (boolean b) = under named (base at (boolean b))
-datatype against place at (number n) = under named (base at (number n))
-datatype against place at (string s) = under named (base at (string s))
-datatype against place at (array ds) = under named (base at (array ds))
+unfoldable pub datatype : Profile → Parts → Place → List ℕ → Data → Read DatatypeFound
+datatype profile against place at (object ms) = form profile against place at (object ms)
+datatype profile against place at null = under named (base profile at null)
+datatype profile against place at (boolean b) = under named (base profile at (boolean b))
+datatype profile against place at (number n) = under named (base profile at (number n))
+datatype profile against place at (string s) = under named (base profile at (string s))
+datatype profile against place at (array ds) = under named (base profile at (array ds))

@@ -3,14 +3,14 @@ use Rattle.std.specs.Prelude.{ℕ, List, Option, Some, None, option_and_then, co
 use Rattle.serde_json.specs.Data.{Data}
 use Rattle.serde_json.specs.Find.{as_number, as_u64}
 use Rattle.csvw_datatype.specs.declared.simple.Simple.{Simple}
-use Rattle.csvw_datatype.specs.Strings.{is_text}
+use Rattle.csvw_datatype.specs.Strings.{has_length}
 use Rattle.csvw_meta_core.specs.declared.fault.MetaCode.TheVariants.{BadDatatype}
 use Rattle.csvw_meta_core.specs.Read.{Read, fine, faulty, ◌>>=◌, on_kind, property}
 use Rattle.csvw_meta_datatype.specs.declared.lengths.Lengths.{Lengths}
 
--- only strings have a length
+-- only string and the types derived from it have a length
 abbrev pub length_on : Simple → List ℕ → ℕ → Read (Option ℕ)
-length_on s at n = if is_text s then fine (Some n) else faulty BadDatatype at None
+length_on s at n = if has_length s then fine (Some n) else faulty BadDatatype at None
 
 -- a whole number of characters
 abbrev pub length : Simple → List ℕ → Data → Read (Option ℕ)

@@ -1,27 +1,47 @@
 -- The names of built-in datatypes, and the properties that are listed for a datatype (Metadata Vocabulary for Tabular Data, sections
 -- 5.11.1 and 5.11.2).
-use Rattle.std.specs.Prelude.{ℕ, List, [], ◌∷◌, codes, bytes_eq, if◌then◌else◌, Option, Some, None}
+use Rattle.std.specs.Prelude.{ℕ, List, [], ◌∷◌, Bool, true, false, codes, bytes_eq, filter, if◌then◌else◌, Option, Some, None}
 use Rattle.csvw_datatype.specs.declared.simple.Simple.{Simple}
-use Rattle.csvw_datatype.specs.declared.simple.Simple.TheVariants.{Text, Truth, Whole, Decimal, Day, Uri, Derived, Moment}
+use Rattle.csvw_datatype.specs.declared.simple.Simple.TheVariants.{Text, Truth, Whole, Decimal, Day, Uri, Derived, Moment, Other}
+use Rattle.csvw_datatype.specs.declared.simple.TextType.TheVariants.{Any, Token, Xml, Html, Json}
 use Rattle.csvw_datatype.specs.declared.simple.Width.TheVariants.{Long, Int, Short, Byte, UnsignedLong, UnsignedInt, UnsignedShort, UnsignedByte}
 use Rattle.csvw_datatype.specs.declared.simple.Width.TheVariants.{NonNegativeInteger, PositiveInteger, NonPositiveInteger, NegativeInteger}
 use Rattle.csvw_datatype.specs.Names.{name_of}
+use Rattle.csvw_meta_core.specs.declared.profile.Profile.{Profile}
+use Rattle.csvw_meta_core.specs.declared.profile.Profile.TheVariants.{Core, W3c}
 
--- the built-in datatypes
+-- the built-in datatypes of all profiles
 abbrev pub all_simples : List Simple
 all_simples =
     Text ∷ Truth ∷ Whole ∷ Decimal ∷ Day ∷ Uri ∷ Moment ∷ Derived Long ∷ Derived Int ∷ Derived Short ∷ Derived Byte ∷ Derived UnsignedLong
     ∷ Derived UnsignedInt ∷ Derived UnsignedShort ∷ Derived UnsignedByte ∷ Derived NonNegativeInteger ∷ Derived PositiveInteger
-    ∷ Derived NonPositiveInteger ∷ Derived NegativeInteger ∷ []
+    ∷ Derived NonPositiveInteger ∷ Derived NegativeInteger ∷ Other Any ∷ Other Token ∷ Other Xml ∷ Other Html ∷ Other Json ∷ []
 
 -- the first of them that has the name
 abbrev pub named_in : List Simple → List ℕ → Option Simple
 named_in [] name = None
 named_in (s ∷ ss) name = if bytes_eq name (name_of s) then Some s else named_in ss name
 
--- `datetime` is another name of `dateTime`
-abbrev pub named_of : List ℕ → Option Simple
-named_of name = if bytes_eq name (codes "datetime") then Some Moment else named_in all_simples name
+-- `datetime` is another name of `dateTime`, and `any` of `anyAtomicType`
+abbrev pub type_named : List ℕ → Option Simple
+type_named name =
+    if bytes_eq name (codes "datetime") then Some Moment else (if bytes_eq name (codes "any") then Some (Other Any) else named_in all_simples name)
+
+-- a document in the profile may use the type
+abbrev pub is_in : Profile → Simple → Bool
+is_in Core (Other t) = false
+is_in profile s = true
+
+abbrev pub simples_of : Profile → List Simple
+simples_of profile = filter (is_in profile) all_simples
+
+abbrev pub kept_in : Profile → Option Simple → Option Simple
+kept_in profile None = None
+kept_in profile (Some s) = if is_in profile s then Some s else None
+
+-- the type of a name that a document in the profile may use
+abbrev pub named_of : Profile → List ℕ → Option Simple
+named_of profile name = kept_in profile (type_named name)
 
 abbrev pub datatype_names : List (List ℕ)
 datatype_names =

@@ -1,31 +1,54 @@
 //! The names of built-in datatypes (Metadata Vocabulary for Tabular Data, section 5.11.1).
 ghost use Rattle.std.specs.Prelude.{◌≡◌};
-ghost use Rattle.csvw_meta_datatype.specs.Names.{named_of};
+ghost use Rattle.csvw_meta_datatype.specs.Names.{is_in, kept_in, named_of, type_named};
 ghost use Rattle.csvw_meta_datatype.specs.Base.{base};
 
 use csvw_datatype::Simple;
-use csvw_meta_core::{MetaCode, Part, Reader, Refusal};
+use csvw_meta_core::{MetaCode, Part, Profile, Reader, Refusal};
+
+/// Returns whether a document in a profile may use a type.
+fn is_in(profile: Profile, simple: Simple) -> bool
+    ensures { result ≡ is_in profile simple }
+{
+    match (profile, simple) {
+        (Profile::Core, Simple::Other(_)) => false,
+        (Profile::Core | Profile::W3c, _) => true,
+    }
+}
 
 fn simple_named(name: &str) -> Option<Simple>
-    ensures { result ≡ named_of name.now }
+    ensures { result ≡ type_named name.now }
 {
     Simple::of(name)
 }
 
-/// Reads the name of a built-in datatype. Another name is `NotSupported`.
+/// Returns a type if a document in a profile may use it.
+fn kept_in(profile: Profile, found: Option<Simple>) -> Option<Simple>
+    ensures { result ≡ kept_in profile found }
+{
+    match found {
+        Some(simple) if is_in(profile, simple) => Some(simple),
+        _ => None,
+    }
+}
+
+/// Reads the name of a built-in datatype. A name that the profile doesn't have is `NotSupported`.
 #[derive(Drop)]
-pub(crate) struct BaseReader;
+pub(crate) struct BaseReader {
+    /// The datatypes that the document may use.
+    pub(crate) profile: Profile,
+}
 
 impl Reader for BaseReader {
     type Output = Simple;
 
-    ghost reads = { λ _. base };
+    ghost reads = { λ r. base r.profile };
 
     fn read(&self, part: &Part) -> Result<Simple, Refusal> {
         let Some(name) = part.value.as_str() else {
             return Err(part.wrong());
         };
-        match simple_named(name) {
+        match kept_in(self.profile, simple_named(name)) {
             Some(simple) => Ok(simple),
             None => Err(part.refused(MetaCode::NotSupported)),
         }

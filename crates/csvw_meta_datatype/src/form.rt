@@ -12,7 +12,7 @@ use crate::facets::FacetsReader;
 use crate::format::{FormatFound, FormatReader};
 use csvw_datatype::{Datatype, Facets, Simple};
 use csvw_iri::{Base, Iri};
-use csvw_meta_core::{Fixed, IdReader, Part, Reader, Refusal, joined};
+use csvw_meta_core::{Fixed, IdReader, Part, Profile, Reader, Refusal, joined};
 use csvw_meta_notes::{NoteContext, read_unlisted};
 use csvw_text::{Fault, Place, Seq};
 
@@ -94,22 +94,32 @@ fn read_of_type(
 
 // The type decides which format and facets are allowed, so `base` is read first.
 #[tactic(auto, using(crate::proofs::ReadLemmas::fails_by))]
-fn read_based(id: Option<Iri>, place: Place, part: &Part) -> Result<DatatypeFound, Refusal>
-    ensures { Reads result (based id place (text_of part.now.at) (view part.now.value.now)) }
+fn read_based(
+    profile: Profile,
+    id: Option<Iri>,
+    place: Place,
+    part: &Part,
+) -> Result<DatatypeFound, Refusal>
+    ensures { Reads result (based profile id place (text_of part.now.at) (view part.now.value.now)) }
 {
-    let simple = part.property(&BaseReader, Simple::Text, "base")?;
+    let simple = part.property(&BaseReader { profile }, Simple::Text, "base")?;
     read_of_type(simple, id, place, part)
 }
 
 /// Reads the datatype that an object describes. Its `@id` is resolved against the base.
 #[tactic(auto, using(crate::proofs::ReadLemmas::fails_first), unfolding(crate::specs::Datatypes::form))]
-pub(crate) fn read_form(base: &Base, place: Place, part: &Part) -> Result<DatatypeFound, Refusal>
-    ensures { Reads result (form base.now place (text_of part.now.at) (view part.now.value.now)) }
+pub(crate) fn read_form(
+    profile: Profile,
+    base: &Base,
+    place: Place,
+    part: &Part,
+) -> Result<DatatypeFound, Refusal>
+    ensures { Reads result (form profile base.now place (text_of part.now.at) (view part.now.value.now)) }
 {
     let id = part.optional(&IdReader { base }, "@id")?;
     part.optional(&Fixed { text: "Datatype" }, "@type")?;
     let warnings = warnings_of(base, place, part)?;
-    let found = read_based(id, place, part)?;
+    let found = read_based(profile, id, place, part)?;
     let warnings = joined(found.warnings, warnings)?;
     Ok(DatatypeFound {
         datatype: found.datatype,

@@ -8,7 +8,7 @@ ghost use Rattle.csvw_meta_datatype.specs.Lengths.{length, lengths};
 use csvw_datatype::Simple;
 use csvw_meta_core::{MetaCode, Part, Reader, Refusal};
 
-/// Reads a length in characters. It is `BadDatatype` on any type except string.
+/// Reads a length in characters. It is `BadDatatype` on a type that isn't string or derived from it.
 #[derive(Drop)]
 struct LengthReader {
     /// The datatype's `base`.
@@ -24,9 +24,10 @@ impl Reader for LengthReader {
         let Some(length) = part.value.as_u64() else {
             return Err(part.wrong());
         };
-        match self.simple {
-            Simple::Text => Ok(Some(length)),
-            _ => Err(part.refused(MetaCode::BadDatatype)),
+        if self.simple.has_length() {
+            Ok(Some(length))
+        } else {
+            Err(part.refused(MetaCode::BadDatatype))
         }
     }
 }

@@ -2,13 +2,15 @@
 use crate::base::BaseReader;
 use crate::form::{DatatypeFound, plain, read_form};
 use csvw_iri::Base;
-use csvw_meta_core::{Part, Reader, Refusal};
+use csvw_meta_core::{Part, Profile, Reader, Refusal};
 use csvw_text::{Place, Seq};
 use serde_json::Value;
 
-/// Reads a datatype: the name of a built-in one, or an object. An unknown name is `NotSupported`.
+/// Reads a datatype: the name of a built-in one, or an object. A name that the profile doesn't have is `NotSupported`.
 #[derive(Drop)]
 pub struct DatatypeReader<'a> {
+    /// The datatypes that the document may use.
+    pub profile: Profile,
     /// The base against which its `@id` is resolved.
     pub base: &'a Base,
     /// The place of the warnings.
@@ -20,14 +22,17 @@ impl<'a> Reader for DatatypeReader<'a> {
 
     type Output = DatatypeFound;
 
-    ghost reads = { λ r. datatype r.base.now r.place };
+    ghost reads = { λ r. datatype r.profile r.base.now r.place };
 
     #[tactic(auto, unfolding(crate::specs::Datatypes::datatype))]
     fn read(&self, part: &Part) -> Result<DatatypeFound, Refusal> {
         match part.value {
-            Value::Object(_) => read_form(self.base, self.place, part),
+            Value::Object(_) => read_form(self.profile, self.base, self.place, part),
             _ => {
-                let simple = BaseReader.read(part)?;
+                let simple = BaseReader {
+                    profile: self.profile,
+                }
+                .read(part)?;
                 Ok(DatatypeFound {
                     datatype: plain(simple, None),
                     warnings: Seq::new(part.alloc),

@@ -14,4 +14,4 @@ split (Some found) = record { datatype = Some found.datatype; warnings = found.w
 
 -- the datatype of the column of this number (0: not a column), in the table of that number (0: in the group)
 unfoldable pub given_datatype : Context → ℕ → ℕ → List ℕ → Data → Read DatatypeGiven
-given_datatype context table column at d = under split (optional (datatype context.base (place_of table column)) at d (codes "datatype"))
+given_datatype context table column at d = under split (optional (datatype context.profile context.base (place_of table column)) at d (codes "datatype"))

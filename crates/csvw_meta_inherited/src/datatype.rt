@@ -45,6 +45,7 @@ pub(crate) fn read_datatype(
     ensures { Reads result (given_datatype context.now table column (text_of part.now.at) (view part.now.value.now)) }
 {
     let reader = DatatypeReader {
+        profile: context.profile,
         base: &context.base,
         place: Place {
             table,

@@ -22,12 +22,14 @@ use Rattle.csvw_meta_datatype.specs.Datatypes.{datatype}
 use Rattle.csvw_meta_datatype.specs.declared.form.DatatypeFound.{DatatypeFound}
 use Rattle.csvw_meta.specs.Body.{body, body_of, given_dialect, split}
 use Rattle.csvw_meta.specs.Column.{column, column_of, no_column}
-use Rattle.csvw_meta_core.specs.Context.{context}
+use Rattle.csvw_meta_core.specs.Context.{context, in_profile}
+use Rattle.csvw_meta_core.specs.declared.profile.Profile.{Profile}
+use Rattle.csvw_meta_core.specs.declared.profile.Profile.TheVariants.{Core}
 use Rattle.csvw_meta_inherited.specs.Datatype.{given_datatype}
 use Rattle.csvw_meta_inherited.specs.Datatype as datatypes
 use Rattle.csvw_meta.specs.Described.{Judged, MayBeContext, described, group_of, hanging_on, judged_by, judged_within, parts, sole_table, within}
 use Rattle.csvw_meta_dialect.specs.Dialect.{dialect, dialect_of, no_dialect}
-use Rattle.csvw_meta.specs.Document.{Document, MayBeUrl, document, judged, length_of, of_bytes, of_json, own_url, plain_description}
+use Rattle.csvw_meta.specs.Document.{Document, MayBeUrl, document_by, judged, length_of, of_bytes, of_json, own_url, plain_description}
 use Rattle.csvw_meta.specs.Group.{description_of, group, no_group, tables}
 use Rattle.csvw_meta_inherited.specs.Inherited.{inherited}
 use Rattle.csvw_meta.specs.Json.{json_of, without_bom}
@@ -90,8 +92,8 @@ given_datatype_quiet : (context : Context) (table column : ℕ) (at : List ℕ) 
 unfolding given_datatype
 given_datatype_quiet context table column at d =
     let place = place_of table column in
-    split_quiet (optional (datatype context.base place) at d (codes "datatype")).value
-    (optional_value IsQuietDatatype (datatype context.base place) (datatype_quiet context.base place) at d (codes "datatype"))
+    split_quiet (optional (datatype context.profile context.base place) at d (codes "datatype")).value
+    (optional_value IsQuietDatatype (datatype context.profile context.base place) (datatype_quiet context.profile context.base place) at d (codes "datatype"))
 
 inherited_quiet : (context : Context) (table column : ℕ) (at : List ℕ) (d : Data) → Quiet (inherited context table column at d).value.warnings
 unfolding inherited
@@ -281,18 +283,20 @@ within_gives at (json.number n) context = gives_value [] no_group refl
 within_gives at (json.string s) context = gives_value [] no_group refl
 within_gives at (json.array ds) context = gives_value [] no_group refl
 
-described_gives : (base : Parts) (at : List ℕ) (d : Data) → GivesQuiet (described base at d)
-described_gives base at d = gives_on (context base at d) (MayBeContext base at (context base at d)) (judged_within at d) (within_gives at d)
+described_gives : (profile : Profile) (base : Parts) (at : List ℕ) (d : Data) → GivesQuiet (described profile base at d)
+described_gives profile base at d =
+    gives_on (context base at d) (MayBeContext base at (context base at d)) (λ c. judged_within at d (in_profile profile c))
+    (λ c. within_gives at d (in_profile profile c))
 
-json_gives : (base : Parts) (o : Option Data) → GivesQuiet (of_json base o)
-json_gives base None = let r = faulty NotJson [] no_group in gives_value r.faults no_group refl
-json_gives base (Some d) = described_gives base [] d
+json_gives : (profile : Profile) (base : Parts) (o : Option Data) → GivesQuiet (of_json profile base o)
+json_gives profile base None = let r = faulty NotJson [] no_group in gives_value r.faults no_group refl
+json_gives profile base (Some d) = described_gives profile base [] d
 
 pub documents_warn : (x : Document) → GivesQuiet (judged x)
 unfolding judged
-documents_warn (document url bytes) =
-    gives_on (length_of bytes) (λ t. ⊤) (λ t. hanging_on (own_url url) (MayBeUrl (own_url url)) (λ base. of_bytes base bytes))
-    (λ t. gives_on (own_url url) (MayBeUrl (own_url url)) (λ base. of_bytes base bytes) (λ base. json_gives base (json_of (without_bom bytes))))
+documents_warn (document_by profile url bytes) =
+    gives_on (length_of bytes) (λ t. ⊤) (λ t. hanging_on (own_url url) (MayBeUrl (own_url url)) (λ base. of_bytes profile base bytes))
+    (λ t. gives_on (own_url url) (MayBeUrl (own_url url)) (λ base. of_bytes profile base bytes) (λ base. json_gives profile base (json_of (without_bom bytes))))
 documents_warn (plain_description url) =
-    gives_on (own_base [] url) (MayBeUrl (own_base [] url)) (λ base. described base [] (plain_document url))
-    (λ base. described_gives base [] (plain_document url))
+    gives_on (own_base [] url) (MayBeUrl (own_base [] url)) (λ base. described Core base [] (plain_document url))
+    (λ base. described_gives Core base [] (plain_document url))

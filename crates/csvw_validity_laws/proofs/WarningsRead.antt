@@ -24,7 +24,8 @@ use Rattle.csvw_meta_datatype.specs.Numbers.{format_names, number_form}
 use Rattle.csvw_meta_datatype.specs.declared.format.FormatFound.{FormatFound}
 use Rattle.csvw_meta_datatype.specs.Base.{base}
 use Rattle.csvw_meta_datatype.specs.Datatypes.{based, datatype, form, named, of_type}
-use Rattle.csvw_meta_datatype.specs.Names.{all_simples, datatype_names}
+use Rattle.csvw_meta_core.specs.declared.profile.Profile.{Profile}
+use Rattle.csvw_meta_datatype.specs.Names.{datatype_names, simples_of}
 use Rattle.csvw_meta_datatype.specs.Whichever.{by_faults}
 use Rattle.csvw_meta_datatype.specs.declared.form.DatatypeFound.{DatatypeFound}
 use Rattle.csvw_meta_keys.specs.Described as described
@@ -188,6 +189,7 @@ format_quiet : (simple : Simple) (place : Place) (at : List ℕ) (d : Data) → 
 unfolding format
 format_quiet simples.Text place at d = refl
 format_quiet simples.Uri place at d = refl
+format_quiet (simples.Other t) place at d = refl
 format_quiet simples.Truth place at d = refl
 format_quiet simples.Whole place at d = number_format_quiet place at d
 format_quiet (simples.Derived w) place at d = number_format_quiet place at d
@@ -204,26 +206,27 @@ whichever_value : {A B : Type 0} (P : B → Type 0) (values : List A) (dummy : B
 whichever_value P values dummy [] a next none h = h a
 whichever_value P values dummy (f ∷ fs) a next none h = none
 
-based_quiet : (id : Option (List ℕ)) (place : Place) (at : List ℕ) (d : Data) → IsQuietDatatype (based id place at d).value
-based_quiet id place at d =
-    let simple = property base simples.Text at d (codes "base") in
-    whichever_value IsQuietDatatype all_simples (named simples.Text) simple.faults simple.value (of_type id place at d) refl (of_type_quiet id place at d)
+based_quiet : (profile : Profile) (id : Option (List ℕ)) (place : Place) (at : List ℕ) (d : Data) → IsQuietDatatype (based profile id place at d).value
+based_quiet profile id place at d =
+    let simple = property (base profile) simples.Text at d (codes "base") in
+    whichever_value IsQuietDatatype (simples_of profile) (named simples.Text) simple.faults simple.value (of_type id place at d) refl (of_type_quiet id place at d)
 
-form_quiet : (against : Parts) (place : Place) (at : List ℕ) (d : Data) → IsQuietDatatype (form against place at d).value
+form_quiet : (profile : Profile) (against : Parts) (place : Place) (at : List ℕ) (d : Data) → IsQuietDatatype (form profile against place at d).value
 unfolding form
-form_quiet against place at d =
+form_quiet profile against place at d =
     let iri = (optional (id against) at d (codes "@id")).value in
-    quiet_join (based iri place at d).value.warnings (unlisted against None (datatype_names ++ []) place at d).value
-    (based_quiet iri place at d) (unlisted_quiet against None (datatype_names ++ []) place at d)
+    quiet_join (based profile iri place at d).value.warnings (unlisted against None (datatype_names ++ []) place at d).value
+    (based_quiet profile iri place at d) (unlisted_quiet against None (datatype_names ++ []) place at d)
 
-pub datatype_quiet : (against : Parts) (place : Place) (at : List ℕ) (d : Data) → IsQuietDatatype (datatype against place at d).value
+pub datatype_quiet : (profile : Profile) (against : Parts) (place : Place) (at : List ℕ) (d : Data)
+    → IsQuietDatatype (datatype profile against place at d).value
 unfolding datatype
-datatype_quiet against place at (object ms) = form_quiet against place at (object ms)
-datatype_quiet against place at null = refl
-datatype_quiet against place at (boolean b) = refl
-datatype_quiet against place at (number n) = refl
-datatype_quiet against place at (string s) = refl
-datatype_quiet against place at (array ds) = refl
+datatype_quiet profile against place at (object ms) = form_quiet profile against place at (object ms)
+datatype_quiet profile against place at null = refl
+datatype_quiet profile against place at (boolean b) = refl
+datatype_quiet profile against place at (number n) = refl
+datatype_quiet profile against place at (string s) = refl
+datatype_quiet profile against place at (array ds) = refl
 
 -- ---- keys
 

@@ -1,6 +1,7 @@
 -- The URL has no faults.
 use Rattle.std.proofs.Common.{[], subst, codes}
 use Rattle.csvw_meta_core.specs.Pointer.{below}
+use Rattle.csvw_meta_core.specs.declared.profile.Profile.TheVariants.{Core}
 use Rattle.csvw_meta.specs.Described.{Describes, described}
 use Rattle.csvw_meta.specs.Document.{MayBeUrl, judged}
 use Rattle.csvw_meta.specs.UrlAlone.{own_base, plain_document}
@@ -13,6 +14,6 @@ unfolding judged
 returns c =
     let url = c.args.url.now in
     let base = c.in_ok-base.base in
-    goes_on (own_base [] url) (MayBeUrl (own_base [] url)) (λ b. described b [] (plain_document url)) c.described.result base
+    goes_on (own_base [] url) (MayBeUrl (own_base [] url)) (λ b. described Core b [] (plain_document url)) c.described.result base
     c.in_ok-base.ensures (has_url (below [] (codes "url")) url)
-    (subst (λ v. Describes c.described.result (described base [] v)) c.in_ok-document.ensures c.described.ensures)
+    (subst (λ v. Describes c.described.result (described Core base [] v)) c.in_ok-document.ensures c.described.ensures)

@@ -11,27 +11,27 @@ pub returns-in_err-id : goal.returns-in_err-id
 unfolding form
 returns-in_err-id c =
     refused c.from_residual.result c.in_err-id.field-0.0
-    (form c.args.base.now c.args.place (text_of c.args.part.now.at) (view c.args.part.now.value.now)) c.from_residual.ensures.1
+    (form c.args.profile c.args.base.now c.args.place (text_of c.args.part.now.at) (view c.args.part.now.value.now)) c.from_residual.ensures.1
     (fails_first _ _ _ c.in_err-id.ensures)
 
 pub returns-in_err-optional : goal.returns-in_err-optional
 unfolding form
 returns-in_err-optional c =
     refused c.from_residual-in_err-optional.result c.in_err-optional.field-0.0
-    (form c.args.base.now c.args.place (text_of c.args.part.now.at) (view c.args.part.now.value.now)) c.from_residual-in_err-optional.ensures.1
+    (form c.args.profile c.args.base.now c.args.place (text_of c.args.part.now.at) (view c.args.part.now.value.now)) c.from_residual-in_err-optional.ensures.1
     (later _ _ _ _ c.in_ok-id.ensures (fails_first _ _ _ c.in_err-optional.ensures))
 
 pub returns-in_err-warnings : goal.returns-in_err-warnings
 unfolding form
 returns-in_err-warnings c =
     refused c.from_residual-in_err-warnings.result c.in_err-warnings.field-0.0
-    (form c.args.base.now c.args.place (text_of c.args.part.now.at) (view c.args.part.now.value.now)) c.from_residual-in_err-warnings.ensures.1
+    (form c.args.profile c.args.base.now c.args.place (text_of c.args.part.now.at) (view c.args.part.now.value.now)) c.from_residual-in_err-warnings.ensures.1
     (later _ _ _ _ c.in_ok-id.ensures (later _ _ _ _ c.in_ok-optional.ensures (fails_first _ _ _ c.in_err-warnings.ensures)))
 
 pub returns-in_err-warnings-2 : goal.returns-in_err-warnings-2
 returns-in_err-warnings-2 c =
     refused c.from_residual-in_err-warnings-2.result refusal.Memory
-    (form c.args.base.now c.args.place (text_of c.args.part.now.at) (view c.args.part.now.value.now))
+    (form c.args.profile c.args.base.now c.args.place (text_of c.args.part.now.at) (view c.args.part.now.value.now))
     c.from_residual-in_err-warnings-2.ensures.1 tt
 
 pub returns : goal.returns
