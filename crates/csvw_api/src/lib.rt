@@ -31,12 +31,12 @@
 //!
 //! - `run`, `run_turns` and `plain`: csvw_engine says what they leave in `out` and `report`, for each result.
 //! - `Session`: csvw_session says what its sink takes at each call; csvw_group_laws says what that is when all tables are ended.
-//! - `Description::read` and `Plan::build`: csvw_meta and csvw_columns say when they fail.
+//! - `Description::read`, `Description::read_by` and `Plan::build`: csvw_meta and csvw_columns say when they fail.
 #![tactic(auto)]
 
 pub use csvw_columns::Plan;
-pub use csvw_engine::{plain, run, run_turns, write_report};
-pub use csvw_meta::{Description, MetaCode, MetaFault, ReadDescription};
+pub use csvw_engine::{Order, Request, Way, plain, run, run_by, run_turns, write_report};
+pub use csvw_meta::{Description, MetaCode, MetaFault, Profile, ReadDescription};
 pub use csvw_ntriples::NtSink;
 pub use csvw_report::Outcome;
 pub use csvw_session::{Refused, Session, Stop};

@@ -22,11 +22,11 @@ use std::io::{Read, Write};
 
 /// What is written of tables, and the order in which they are read.
 #[derive(Clone, Copy)]
-pub(crate) struct Way {
+pub struct Way {
     /// Which triples are written.
-    pub(crate) mode: Mode,
+    pub mode: Mode,
     /// The order in which the tables are read.
-    pub(crate) order: Order,
+    pub order: Order,
 }
 
 /// Reads the tables of a session that has just started to their ends, and finishes it.

@@ -10,7 +10,7 @@
 //! # Promises
 //!
 //! - A run that is Ok wrote the graph of the group that the document and the readers' texts are, by the mode. It
-//!   reported the violations of the group (`run`, `run_turns` and `plain`, each by `Runs`).
+//!   reported the violations of the group (`run`, `run_turns`, `run_by` and `plain`, each by `Runs`).
 //! - For each stop, a run says why it stops and what it wrote before it (`Runs`).
 //! - Over an N-Triples sink a session writes whole lines of what the sink took, also if it did not start
 //!   (`sessions_write_lines`, `refused_starts_write_lines`).
@@ -34,9 +34,11 @@ mod run_group;
 mod turns;
 
 pub use csvw_columns::TableStop;
-pub use csvw_meta_core::{MetaCode, MetaFault};
+pub use csvw_meta_core::{MetaCode, MetaFault, Profile};
 pub use csvw_report::Outcome;
 pub use csvw_session::{Refused, Session, Stop};
 pub use csvw_triples_core::Mode;
+pub use group::Way;
 pub use reporting::write_report;
-pub use run_group::{plain, run, run_turns};
+pub use room::Order;
+pub use run_group::{Request, plain, run, run_by, run_turns};

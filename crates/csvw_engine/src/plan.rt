@@ -2,7 +2,7 @@
 ghost use Rattle.std.specs.Prelude.{◌≡◌, ◌≤◌, IfOk, IfErr, length};
 ghost use Rattle.csvw_columns.specs.PlanOf.{plan_of};
 ghost use Rattle.csvw_description.specs.Plannable.{IsPlannable};
-ghost use Rattle.csvw_meta.specs.Document.{document, plain_description};
+ghost use Rattle.csvw_meta.specs.Document.{document_by, plain_description};
 ghost use Rattle.csvw_columns.specs.Ready.{AreReady};
 ghost use Rattle.csvw_engine_core.specs.declared.stop.Stop.TheVariants as stop;
 ghost use Rattle.csvw_engine.specs.Planning.{IsMetaStop, TellsFault};
@@ -11,8 +11,8 @@ ghost use Rattle.csvw_engine.specs.Runs.{IsPlanned};
 use csvw_columns::Plan;
 use csvw_columns::laws::{described_can_be_planned, planned_descriptions_are_free_of_faults};
 use csvw_description::Description;
-use csvw_meta::{plain, read};
-use csvw_meta_core::{MetaCode, MetaFault};
+use csvw_meta::{plain, read_by};
+use csvw_meta_core::{MetaCode, MetaFault, Profile};
 use csvw_session::Stop;
 use std::alloc::Global;
 
@@ -41,14 +41,19 @@ fn built(alloc: Global, description: Description) -> Result<Plan, Stop>
     }
 }
 
-/// Returns the plan of the group that a document at this URL describes.
-pub(crate) fn planned(alloc: Global, meta: &[u8], base: &str) -> Result<Plan, Stop>
-    ensures plan { IfOk result (λ plan. IsPlanned (document base.now meta.now) plan) }
+/// Returns the plan of the group that a document in a profile describes, at this URL.
+pub(crate) fn planned(
+    alloc: Global,
+    meta: &[u8],
+    base: &str,
+    profile: Profile,
+) -> Result<Plan, Stop>
+    ensures plan { IfOk result (λ plan. IsPlanned (document_by profile base.now meta.now) plan) }
     ensures ready { IfOk result (λ plan. AreReady plan.tables) }
     ensures few { IfOk result (λ plan. length plan.tables ≤ 64) }
-    ensures stop { IfErr result (λ reason. IsMetaStop (document base.now meta.now) reason) }
+    ensures stop { IfErr result (λ reason. IsMetaStop (document_by profile base.now meta.now) reason) }
 {
-    match read(alloc, meta, base) {
+    match read_by(alloc, meta, base, profile) {
         Ok(description) => built(alloc, description),
         Err(fault) => Err(meta_stop(fault)),
     }

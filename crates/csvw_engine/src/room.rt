@@ -16,7 +16,7 @@ use std::io::Read;
 
 /// The order in which tables are read.
 #[derive(Clone, Copy)]
-pub(crate) enum Order {
+pub enum Order {
     /// One table after the other.
     TableByTable,
     /// A piece of each table in turn.

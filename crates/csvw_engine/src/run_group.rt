@@ -6,7 +6,7 @@ ghost use Rattle.csvw_streams.specs.Streams.{stream_of};
 ghost use Rattle.csvw_engine.specs.ReadOrder.{AreInTurn, AreTableByTable};
 ghost use Rattle.csvw_engine.specs.Rooms.{IsOrder};
 ghost use Rattle.csvw_engine.specs.Runs.{IsPlanned, Runs};
-ghost use Rattle.csvw_meta.specs.Document.{Document, document, plain_description};
+ghost use Rattle.csvw_meta.specs.Document.{Document, document, document_by, plain_description};
 
 use crate::flush::{flush, flush_after, is_failed_write};
 use crate::group::{Way, convert_tables};
@@ -14,6 +14,7 @@ use crate::plan::{planned, planned_alone};
 use crate::reporting::tell;
 use crate::room::Order;
 use csvw_columns::Plan;
+use csvw_meta_core::Profile;
 use csvw_report::Outcome;
 use csvw_session::Stop;
 use csvw_text::Counted;
@@ -25,13 +26,15 @@ use std_alloc::room::may_hold;
 
 /// A request to run over a group of tables.
 #[derive(Clone, Copy)]
-struct Asked<'a> {
+pub struct Request<'a> {
     /// The metadata document that describes the group.
-    meta: &'a [u8],
+    pub meta: &'a [u8],
     /// The URL of the document.
-    base: &'a str,
+    pub base: &'a str,
+    /// The features that the document may use.
+    pub profile: Profile,
     /// What is written, and the order in which the tables are read.
-    way: Way,
+    pub way: Way,
 }
 
 /// A run over the tables of a plan.
@@ -71,20 +74,21 @@ fn run_planned<R: Read, W: Write, V: Write>(
     Ok(outcome)
 }
 
-/// Reads a group of tables and writes their graph and report.
-fn run_in<R: Read, W: Write, V: Write>(
+/// Reads a group of tables as a request says, and writes their graph and report. In the profile `Core` it does what
+/// `run` and `run_turns` do. The errors are theirs.
+pub fn run_by<R: Read, W: Write, V: Write>(
     alloc: Global,
-    asked: Asked<'_>,
+    request: Request<'_>,
     readers: &mut [Counted<R>],
     out: &mut Counted<W>,
     report: &mut Counted<V>,
 ) -> Result<Outcome, Stop>
-    ensures { Runs R.remaining (IsOrder asked.entry.way.order) (document asked.entry.base.now asked.entry.meta.now) asked.entry.way.mode
-        readers.old readers.new
+    ensures { Runs R.remaining (IsOrder request.entry.way.order)
+        (document_by request.entry.profile request.entry.base.now request.entry.meta.now) request.entry.way.mode readers.old readers.new
         (stream_of W.contents out.old out.new) (stream_of V.contents report.old report.new) result }
 {
-    let way = asked.way;
-    let plan = planned(alloc, asked.meta, asked.base)?;
+    let way = request.way;
+    let plan = planned(alloc, request.meta, request.base, request.profile)?;
     run_planned(alloc, PlannedRun { plan, way }, readers, out, report)
 }
 
@@ -123,7 +127,13 @@ pub fn run<R: Read, W: Write, V: Write>(
         mode,
         order: Order::TableByTable,
     };
-    run_in(alloc, Asked { meta, base, way }, readers, out, report)
+    let request = Request {
+        meta,
+        base,
+        profile: Profile::Core,
+        way,
+    };
+    run_by(alloc, request, readers, out, report)
 }
 
 /// Reads a group of tables as `run` does, but reads a piece of each open table in turn. So the rows of all tables
@@ -145,7 +155,13 @@ pub fn run_turns<R: Read, W: Write, V: Write>(
         mode,
         order: Order::InTurns,
     };
-    run_in(alloc, Asked { meta, base, way }, readers, out, report)
+    let request = Request {
+        meta,
+        base,
+        profile: Profile::Core,
+        way,
+    };
+    run_by(alloc, request, readers, out, report)
 }
 
 /// Reads one table without a document. Its URL is `url`, its dialect is the default one, its header names its
