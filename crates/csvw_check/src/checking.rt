@@ -53,7 +53,7 @@ fn checked_group<O: Opener, W: Write>(
         return Ok(DEVICE);
     };
     let document = bytes.as_slice();
-    match plan_of(alloc, document, asked.base) {
+    match plan_of(alloc, document, asked.base, asked.profile) {
         Ok(plan) => check_plan((asked, document), plan, opener, walker, out),
         Err(fault) => {
             show_alone(

@@ -17,5 +17,7 @@ mod reading;
 mod sink;
 
 pub use checking::check;
-pub use csvw_check_core::{Check, Color, Form, Halt, Show, Shown, Strict, explain_stop, show};
+pub use csvw_check_core::{
+    Check, Color, Form, Halt, Profile, Show, Shown, Strict, explain_stop, show,
+};
 pub use csvw_engine_core::Stop;

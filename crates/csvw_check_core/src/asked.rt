@@ -2,6 +2,7 @@
 
 use csvw_engine_core::Stop;
 use csvw_hints::Group;
+use csvw_meta::Profile;
 use csvw_page::{Color, Form};
 use csvw_reread::Shown;
 
@@ -23,6 +24,8 @@ pub struct Check<'a> {
     pub meta: &'a str,
     /// The paths of the tables' files. If there are none, the files are found beside the document.
     pub files: &'a [&'a str],
+    /// The features that the document may use.
+    pub profile: Profile,
     /// How many faults are shown.
     pub shown: Shown,
     /// The form of the page.
@@ -43,6 +46,8 @@ pub struct Show<'a> {
     /// The paths of the tables' files, in the order of the tables. If there are none, the files are found beside the
     /// document.
     pub files: &'a [&'a str],
+    /// The features that the document may use.
+    pub profile: Profile,
     /// How many faults are shown.
     pub shown: Shown,
     /// The form of the page.

@@ -5,18 +5,18 @@ ghost use Rattle.csvw_columns.specs.Ready.{AreReady};
 use csvw_columns::Plan;
 use csvw_files::{Opener, read_document};
 use csvw_hints::{Group, line_and_column, place_of, push_disguise};
-use csvw_meta::{Description, MetaCode, MetaFault, ReadDescription};
+use csvw_meta::{Description, MetaCode, MetaFault, Profile, ReadDescription};
 use csvw_page::{Halt, Page, StopShown, push_text};
 use csvw_streams::Counted;
 use serde_json::Value;
 use std::alloc::{AllocError, Global};
 use std::io::Write;
 
-/// Reads a document and plans its tables.
-pub fn plan_of(alloc: Global, bytes: &[u8], base: &str) -> Result<Plan, MetaFault>
+/// Reads a document in a profile, and plans its tables.
+pub fn plan_of(alloc: Global, bytes: &[u8], base: &str, profile: Profile) -> Result<Plan, MetaFault>
     ensures { IfOk result (λ plan. AreReady plan.tables) }
 {
-    let description = Description::read(alloc, bytes, base)?;
+    let description = Description::read_by(alloc, bytes, base, profile)?;
     Plan::build(alloc, description)
 }
 
@@ -46,15 +46,57 @@ pub fn opened<O: Opener>(alloc: Global, path: &str, opener: &mut O) -> Option<Ve
     read.ok()
 }
 
+/// Returns whether the profile w3c alone has the datatype of a name.
+fn is_of_w3c(name: &str) -> bool {
+    matches!(
+        name,
+        "any" | "anyAtomicType" | "token" | "xml" | "html" | "json"
+    )
+}
+
+/// Returns whether a pointer is that of the name of a datatype.
+fn is_of_datatype(pointer: &str) -> bool {
+    pointer.ends_with("/datatype") || pointer.ends_with("/datatype/base")
+}
+
+/// Adds that the profile w3c has the datatype at a pointer, if it has.
+fn push_profile_hint(
+    hints: &mut String,
+    alloc: Global,
+    bytes: &[u8],
+    pointer: &str,
+) -> Result<(), AllocError> {
+    if !is_of_datatype(pointer) {
+        return Ok(());
+    }
+    let Ok(document) = Value::from_slice(alloc, without_bom(bytes)) else {
+        return Ok(());
+    };
+    let Some(value) = document.pointer(pointer) else {
+        return Ok(());
+    };
+    match value.as_str() {
+        Some(name) if is_of_w3c(name) => {
+            write!(
+                hints,
+                "    the profile w3c has the datatype {name}: write `--profile w3c`\n"
+            )
+        }
+        _ => Ok(()),
+    }
+}
+
 /// Adds what else helps with a fault of a document.
 fn push_document_hints(
     hints: &mut String,
+    alloc: Global,
     group: &Group<'_>,
     bytes: &[u8],
     fault: &MetaFault,
 ) -> Result<(), AllocError> {
     match fault.code {
         MetaCode::NotJson => push_disguise(hints, group.meta, bytes),
+        MetaCode::NotSupported => push_profile_hint(hints, alloc, bytes, fault.pointer.as_str()),
         MetaCode::BadUrl if fault.pointer.is_empty() => {
             hints.push_str("    ")?;
             push_text(hints, group.base)?;
@@ -77,7 +119,7 @@ pub(crate) fn tell_refused(
         _ => place_of(bytes, pointer),
     };
     let mut hints = String::new(page.alloc);
-    push_document_hints(&mut hints, group, bytes, fault)?;
+    push_document_hints(&mut hints, page.alloc, group, bytes, fault)?;
     let sentence = fault.code.to_string(page.alloc)?;
     page.stop(&StopShown {
         name: fault.code.name(),

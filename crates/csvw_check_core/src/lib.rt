@@ -22,6 +22,7 @@ mod stop;
 
 pub use asked::{Check, Show, Strict};
 pub use csvw_hints::{Group, Tables};
+pub use csvw_meta::Profile;
 pub use csvw_page::{Color, DEVICE, Form, Halt, Page, REFUSED, push_escaped};
 pub use csvw_reread::{Shown, Walker, paths};
 pub use document::{Alone, opened, plan_of, show_alone};

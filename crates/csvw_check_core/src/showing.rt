@@ -97,7 +97,7 @@ fn show_document<O: Opener, W: Write>(
         document,
         ..
     } = *run;
-    match plan_of(walker.page.alloc, document, asked.base) {
+    match plan_of(walker.page.alloc, document, asked.base, asked.profile) {
         Ok(plan) => show_planned(run, &plan, walker, opener, out),
         Err(fault) => {
             let refused = Alone::Refused(document, &fault);

@@ -1,5 +1,7 @@
 -- A run over the files of a group of tables, from their opening to their closing: `RunsGroup`.
 use Rattle.std.specs.Prelude.{◌≡◌, ◌⊎◌, ℕ, Bool, true, false, List, [], ◌∷◌, ◌++◌, map, Option, None, Some, IfSome, Result, Ok, Err}
+use Rattle.std.specs.Prelude.{bytes_eq, codes, if◌then◌else◌}
+use Rattle.std.specs.Borrow.{Bor}
 use Rattle.clap.specs.Words.{Text}
 use Rattle.csvw_streams.specs.declared.counted.Counted.{Counted}
 use Rattle.csvw_streams.specs.Counted.{inner_of, failures_of}
@@ -9,15 +11,18 @@ use Rattle.csvw_triples_core.specs.declared.mode.Mode.TheVariants as mode
 use Rattle.csvw_report.specs.declared.outcome.Outcome.{Outcome}
 use Rattle.csvw_engine_core.specs.declared.stop.Stop.{Stop}
 use Rattle.csvw_engine_core.specs.declared.stop.Stop.TheVariants as stop
-use Rattle.csvw_session.specs.Events.{Event}
-use Rattle.csvw_engine.specs.ReadOrder.{AreInTurn, AreTableByTable}
+use Rattle.csvw_engine.specs.Rooms.{IsOrder}
 use Rattle.csvw_engine.specs.Runs.{Runs}
+use Rattle.csvw_engine.specs.declared.room.Order.{Order}
+use Rattle.csvw_engine.specs.declared.room.Order.TheVariants.{InTurns, TableByTable}
 use Rattle.csvw_command_core.specs.Asked.{paths_of}
 use Rattle.csvw_command_core.specs.declared.request.Group.{Group}
 use Rattle.csvw_command.specs.Answers.{TellsStop}
 use Rattle.csvw_files.specs.Documents.{IsDocument, IsReadStop}
 use Rattle.csvw_command.specs.Status.{outcome_status}
-use Rattle.csvw_meta.specs.Document.{document}
+use Rattle.csvw_meta.specs.Document.{document_by}
+use Rattle.csvw_meta_core.specs.declared.profile.Profile.{Profile}
+use Rattle.csvw_meta_core.specs.declared.profile.Profile.TheVariants.{Core, W3c}
 
 -- a path gives this reader, which hasn't failed, and the rest follows
 pub record OpensFirst {O R : Type 0} (opens : O → Text → Option R → O → Type 0) (old : O) (path : Text) (r : Counted R) (Rest : O → Type 0) : Type 0 where
@@ -132,19 +137,24 @@ pub record StopsEarly (Leaves : Stream → Result Outcome Stop → Type 0) (err 
   pub told : TellsStop reason (record err { held = held; failures = failures }) status
 
 -- the order in which the tables are read: in turn, or one after the other
-abbrev pub order_of : Bool → ℕ → List Event → Type 0
-order_of true = AreInTurn
-order_of false = AreTableByTable
+abbrev pub order_of : Bool → Order
+order_of true = InTurns
+order_of false = TableByTable
+
+-- the profile of a name; without one it is the core
+abbrev pub profile_of : Option (Bor Text) → Profile
+profile_of None = Core
+profile_of (Some name) = if bytes_eq name.now (codes "w3c") then W3c else Core
 
 -- The graph goes to `out`, and the report to `err`; where there is no graph, the report goes to `out`.
-abbrev pub Leaves : {R : Type 0} → (R → Option (List ℕ)) → Mode → Bool → List ℕ → List ℕ → List (Counted R) → List (Counted R) → Stream → Stream
-    → Result Outcome Stop → Type 0
-Leaves remaining mode.Validate turns meta base readers left out err result =
-    Runs remaining (order_of turns) (document base meta) mode.Validate readers left err out result
-Leaves remaining mode.Minimal turns meta base readers left out err result =
-    Runs remaining (order_of turns) (document base meta) mode.Minimal readers left out err result
-Leaves remaining mode.Standard turns meta base readers left out err result =
-    Runs remaining (order_of turns) (document base meta) mode.Standard readers left out err result
+abbrev pub Leaves : {R : Type 0} → (R → Option (List ℕ)) → Mode → Order → Profile → List ℕ → List ℕ → List (Counted R) → List (Counted R) → Stream
+    → Stream → Result Outcome Stop → Type 0
+Leaves remaining mode.Validate order profile meta base readers left out err result =
+    Runs remaining (IsOrder order) (document_by profile base meta) mode.Validate readers left err out result
+Leaves remaining mode.Minimal order profile meta base readers left out err result =
+    Runs remaining (IsOrder order) (document_by profile base meta) mode.Minimal readers left out err result
+Leaves remaining mode.Standard order profile meta base readers left out err result =
+    Runs remaining (IsOrder order) (document_by profile base meta) mode.Standard readers left out err result
 
 -- the mode of a conversion, minimal or not
 abbrev pub conversion : Bool → Mode
@@ -160,8 +170,8 @@ pub record RunsOpened {O R : Type 0} (opens : O → Text → Option R → O → 
   pub opened : OpensGroup opens closes remaining group old between bytes readers
   pub left : List (Counted R)
   pub closed : ClosesAll closes between left new
-  pub runs : ComesToEnd (Leaves remaining mode group.turns bytes group.base.now readers left out) err status
-      ⊎ StopsEarly (Leaves remaining mode group.turns bytes group.base.now readers left out) err status
+  pub runs : ComesToEnd (Leaves remaining mode (order_of group.turns) (profile_of group.profile) bytes group.base.now readers left out) err status
+      ⊎ StopsEarly (Leaves remaining mode (order_of group.turns) (profile_of group.profile) bytes group.base.now readers left out) err status
 
 -- What a run over the files of a group does, and the status that it ends with.
 abbrev pub RunsGroup : {O R : Type 0} → (O → Text → Option R → O → Type 0) → (O → Counted R → O → Type 0) → (R → Option (List ℕ)) → Mode → Group → O → O

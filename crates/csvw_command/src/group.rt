@@ -1,13 +1,12 @@
 //! Runs over the files of a group of tables.
 ghost use Rattle.std.specs.Prelude.{◌≡◌, ◌≤◌, IfErr, IfOk, map};
 ghost use Rattle.csvw_command.specs.Groups.{ClosesAll, EndsSo, Leaves, OpensAll, OpensGroup, OpensNot, RunsGroup, StopsOpening, order_of};
-ghost use Rattle.csvw_engine.specs.Runs.{Runs};
 ghost use Rattle.csvw_streams.specs.Streams.{stream_of};
-ghost use Rattle.csvw_meta.specs.Document.{document};
 
+use crate::profile::profile_of;
 use crate::tell::{outcome_status, tell_stop};
 use csvw_command_core::Group;
-use csvw_engine::{Outcome, Stop, run, run_turns};
+use csvw_engine::{Order, Outcome, Request, Stop, Way, run_by};
 use csvw_files::{Opener, read_document};
 use csvw_text::Counted;
 use csvw_triples_core::Mode;
@@ -86,40 +85,13 @@ pub fn tell_end<V: Write>(ran: &Result<Outcome, Stop>, err: &mut Counted<V>) -> 
     }
 }
 
-/// What is asked of a run over a group.
-#[derive(Clone, Copy)]
-struct Asked<'a> {
-    /// The bytes of the metadata document.
-    meta: &'a [u8],
-    /// The URL of the document.
-    base: &'a str,
-    /// Which triples are written.
-    mode: Mode,
-    /// Whether a piece of each table is read in turn; else they are read one after the other.
-    turns: bool,
-}
-
-/// Reads the tables of a group one after the other or in turn, and writes their graph and report.
-fn run_over<R: Read, W: Write, V: Write>(
-    alloc: Global,
-    asked: Asked<'_>,
-    readers: &mut [Counted<R>],
-    out: &mut Counted<W>,
-    report: &mut Counted<V>,
-) -> Result<Outcome, Stop>
-    ensures { Runs R.remaining (order_of asked.entry.turns) (document asked.entry.base.now asked.entry.meta.now) asked.entry.mode
-        readers.old readers.new
-        (stream_of W.contents out.old out.new) (stream_of V.contents report.old report.new) result }
+/// Returns the order in which the tables are read: a piece of each in turn, or one after the other.
+fn order_of(turns: bool) -> Order
+    ensures { result ≡ order_of turns }
 {
-    let Asked {
-        meta,
-        base,
-        mode,
-        turns,
-    } = asked;
     match turns {
-        true => run_turns(alloc, meta, base, readers, mode, out, report),
-        false => run(alloc, meta, base, readers, mode, out, report),
+        true => Order::InTurns,
+        false => Order::TableByTable,
     }
 }
 
@@ -127,18 +99,19 @@ fn run_over<R: Read, W: Write, V: Write>(
 /// goes to `out`.
 fn run_to<R: Read, W: Write, V: Write>(
     alloc: Global,
-    asked: Asked<'_>,
+    request: Request<'_>,
     readers: &mut [Counted<R>],
     out: &mut Counted<W>,
     err: &mut Counted<V>,
 ) -> Result<Outcome, Stop>
-    ensures { Leaves R.remaining asked.entry.mode asked.entry.turns asked.entry.meta.now asked.entry.base.now readers.old readers.new
+    ensures { Leaves R.remaining request.entry.way.mode request.entry.way.order request.entry.profile request.entry.meta.now
+        request.entry.base.now readers.old readers.new
         (stream_of W.contents out.old out.new) (stream_of V.contents err.old err.new) result }
 {
-    match asked.mode {
-        Mode::Validate => run_over(alloc, asked, readers, err, out),
-        Mode::Minimal => run_over(alloc, asked, readers, out, err),
-        Mode::Standard => run_over(alloc, asked, readers, out, err),
+    match request.way.mode {
+        Mode::Validate => run_by(alloc, request, readers, err, out),
+        Mode::Minimal => run_by(alloc, request, readers, out, err),
+        Mode::Standard => run_by(alloc, request, readers, out, err),
     }
 }
 
@@ -196,13 +169,16 @@ pub fn run_group<O: Opener, W: Write, V: Write>(
     let GroupRun { group, mode } = asked;
     match open_group(alloc, group, opener) {
         Ok(Opened { meta, mut readers }) => {
-            let asked = Asked {
+            let request = Request {
                 meta: meta.as_slice(),
                 base: group.base,
-                mode,
-                turns: group.turns,
+                profile: profile_of(group.profile),
+                way: Way {
+                    mode,
+                    order: order_of(group.turns),
+                },
             };
-            let ran = run_to(alloc, asked, readers.as_mut_slice(), out, err);
+            let ran = run_to(alloc, request, readers.as_mut_slice(), out, err);
             close_all(readers, opener);
             let status = tell_end(&ran, err);
             end_of(ran, status)

@@ -13,6 +13,7 @@
 
 mod group;
 mod line;
+mod profile;
 mod program;
 mod shown;
 mod tell;

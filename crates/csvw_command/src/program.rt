@@ -6,6 +6,7 @@ ghost use Rattle.csvw_command.specs.Commands.{Commands, EndsOrStops, RunsPlain, 
 ghost use Rattle.csvw_streams.specs.Streams.{stream_of};
 
 use crate::group::{GroupRun, tell_end};
+use crate::profile::profile_of;
 use crate::shown::{color_of, form_of, run_report, shown_of};
 use crate::tell::{SUCCESS, tell_mistake, tell_stop};
 use crate::texts::{give_text, run_completions, run_explain, run_manual};
@@ -98,6 +99,7 @@ fn run_check<O: Opener, W: Write, V: Write>(
         base: base_of(asked.base, &own),
         meta: asked.meta,
         files: asked.files.as_slice(),
+        profile: profile_of(asked.profile),
         shown: shown_of(&asked.reporting),
         form: form_of(asked.reporting.form),
         color: color_of(asked.reporting.color, opener.colors().out),
@@ -124,6 +126,7 @@ fn run_inspect<O: Opener, W: Write, V: Write>(
     let asked = Inspect {
         base: base_of(asked.base, &own),
         meta: asked.meta,
+        profile: profile_of(asked.profile),
         form: match asked.json {
             true => InspectForm::Json,
             false => InspectForm::Text,

@@ -6,6 +6,7 @@ ghost use Rattle.csvw_streams.specs.Streams.{stream_of};
 ghost use Rattle.csvw_triples_core.specs.declared.mode.Mode.TheVariants as mode;
 
 use crate::group::{Ended, GroupRun, run_group};
+use crate::profile::profile_of;
 use crate::tell::tell_stop;
 use csvw_check::{Color, Form, Halt, Show, Shown, explain_stop, show};
 use csvw_command_core::{Group, Reporting};
@@ -86,6 +87,7 @@ impl<'a> Page<'a> {
             base: self.group.base,
             meta: self.group.meta,
             files: self.group.files.as_slice(),
+            profile: profile_of(self.group.profile),
             shown: shown_of(reporting),
             form: form_of(reporting.form),
             color: color_of(reporting.color, self.is_colored),

@@ -49,9 +49,11 @@ with_reporting app =
 abbrev pub read_app : Text → App
 read_app name = with_rule (with_rule (with_rule (with_rule (new_app name) base_rule) (required_rule (codes "META"))) files_rule) (flag_rule (codes "turns"))
 
--- the same, with `[--explain] [--progress]` and the options of a report
+-- the same, with `[--explain] [--progress] [--profile NAME]` and the options of a report
 abbrev pub group_app : Text → App
-group_app name = with_reporting (with_rule (with_rule (read_app name) (flag_rule (codes "explain"))) (flag_rule (codes "progress")))
+group_app name =
+    with_reporting (with_rule (with_rule (with_rule (read_app name) (flag_rule (codes "explain"))) (flag_rule (codes "progress")))
+    (option_rule (codes "profile")))
 
 -- the subcommand `validate`
 abbrev pub validate_app : App
@@ -68,21 +70,21 @@ plain_app =
     (flag_rule (codes "line-buffered")))
     (flag_rule (codes "progress"))
 
--- the subcommand `check [--base URL] META [FILE..] [--progress]`, with the options of a report
+-- the subcommand `check [--base URL] META [FILE..] [--progress] [--profile NAME]`, with the options of a report
 abbrev pub check_app : App
 check_app =
-    with_reporting (with_rule (with_rule (with_rule (with_rule (new_app (codes "check")) (option_rule (codes "base"))) (required_rule (codes "META")))
-    some_files_rule)
-    (flag_rule (codes "progress")))
+    with_reporting (with_rule (with_rule (with_rule (with_rule (with_rule (new_app (codes "check")) (option_rule (codes "base")))
+    (required_rule (codes "META"))) some_files_rule) (flag_rule (codes "progress"))) (option_rule (codes "profile")))
 
 -- the subcommand `explain [CODE]`
 abbrev pub explain_app : App
 explain_app = with_rule (new_app (codes "explain")) (new_rule (codes "CODE"))
 
--- the subcommand `inspect [--base URL] [--json] META`
+-- the subcommand `inspect [--base URL] [--json] [--profile NAME] META`
 abbrev pub inspect_app : App
 inspect_app =
-    with_rule (with_rule (with_rule (new_app (codes "inspect")) (option_rule (codes "base"))) (required_rule (codes "META"))) (flag_rule (codes "json"))
+    with_rule (with_rule (with_rule (with_rule (new_app (codes "inspect")) (option_rule (codes "base"))) (required_rule (codes "META")))
+    (flag_rule (codes "json"))) (option_rule (codes "profile"))
 
 -- the subcommand `draft [--base URL] FILE..`
 abbrev pub draft_app : App
@@ -124,11 +126,12 @@ pub record IsReporting (rows : List Row) (reporting : Reporting) : Type 0 where
   pub all_is : reporting.all ≡ flag_of (codes "all") rows
   pub strict_is : reporting.strict ≡ flag_of (codes "strict") rows
 
--- the URL, the metadata and all the files that the words of a subcommand name, and how they are read and reported
+-- the URL, the metadata, all the files and the profile that the words of a subcommand name, and how they are read and reported
 pub record IsGroup (rows : List Row) (group : Group) : Type 0 where
   pub base_is : first_of (codes "base") rows ≡ Some group.base.now
   pub meta_is : first_of (codes "META") rows ≡ Some group.meta.now
   pub files_are : all_of (codes "FILE") rows ≡ Some (map (λ file. file.now) group.files.items)
+  pub profile_is : first_of (codes "profile") rows ≡ option_map (λ profile. profile.now) group.profile
   pub turns_is : group.turns ≡ flag_of (codes "turns") rows
   pub reporting_is : IsReporting rows group.reporting
   pub explain_is : group.explain ≡ flag_of (codes "explain") rows
@@ -161,6 +164,7 @@ pub record ReadsCheck (name : Text) (rows : List Row) (asked : CheckedGroup) : T
   pub base_is : first_of (codes "base") rows ≡ option_map (λ base. base.now) asked.base
   pub meta_is : first_of (codes "META") rows ≡ Some asked.meta.now
   pub files_are : texts_of (all_of (codes "FILE") rows) ≡ map (λ file. file.now) asked.files.items
+  pub profile_is : first_of (codes "profile") rows ≡ option_map (λ profile. profile.now) asked.profile
   pub reporting_is : IsReporting rows asked.reporting
   pub progress_is : asked.progress ≡ flag_of (codes "progress") rows
 
@@ -172,6 +176,7 @@ pub record ReadsInspect (name : Text) (rows : List Row) (asked : Inspected) : Ty
   pub name_is : name ≡ codes "inspect"
   pub base_is : first_of (codes "base") rows ≡ option_map (λ base. base.now) asked.base
   pub meta_is : first_of (codes "META") rows ≡ Some asked.meta.now
+  pub profile_is : first_of (codes "profile") rows ≡ option_map (λ profile. profile.now) asked.profile
   pub json_is : asked.json ≡ flag_of (codes "json") rows
 
 pub record ReadsDraft (name : Text) (rows : List Row) (asked : DraftedFiles) : Type 0 where

@@ -15,6 +15,10 @@ is_shown_form name = bytes_eq name (codes "text") || (bytes_eq name (codes "html
 abbrev pub is_color : Text → Bool
 is_color name = bytes_eq name (codes "auto") || (bytes_eq name (codes "always") || bytes_eq name (codes "never"))
 
+-- the profiles of a document
+abbrev pub is_profile : Text → Bool
+is_profile name = bytes_eq name (codes "core") || bytes_eq name (codes "w3c")
+
 -- the shells that there are completions for
 abbrev pub is_shell : Text → Bool
 is_shell name = bytes_eq name (codes "bash") || (bytes_eq name (codes "zsh") || bytes_eq name (codes "fish"))
@@ -38,6 +42,11 @@ abbrev pub knows_color : Option (Bor Text) → Bool
 knows_color None = true
 knows_color (Some name) = is_color name.now
 
+-- a profile, if one is given
+abbrev pub knows_profile : Option (Bor Text) → Bool
+knows_profile None = true
+knows_profile (Some name) = is_profile name.now
+
 -- the form and the colour of a check are known
 abbrev pub knows_shown : Reporting → Bool
 knows_shown reporting = knows_shown_form reporting.form && knows_color reporting.color
@@ -46,17 +55,33 @@ knows_shown reporting = knows_shown_form reporting.form && knows_color reporting
 abbrev pub knows_report : Reporting → Bool
 knows_report reporting = knows_report_form reporting.form && knows_color reporting.color
 
+-- the form, the colour or the shell that a request has is known
+abbrev pub knows_output : Request → Bool
+knows_output (Plain url file line_buffered progress) = true
+knows_output (Validate group) = knows_report group.reporting
+knows_output (Convert group minimal line_buffered) = knows_report group.reporting
+knows_output (Check asked) = knows_shown asked.reporting
+knows_output (Explain code) = true
+knows_output (Inspect asked) = true
+knows_output (Draft asked) = true
+knows_output (Completions shell) = is_shell shell.now
+knows_output Manual = true
+
+-- the profile that a request has is known
+abbrev pub has_known_profile : Request → Bool
+has_known_profile (Plain url file line_buffered progress) = true
+has_known_profile (Validate group) = knows_profile group.profile
+has_known_profile (Convert group minimal line_buffered) = knows_profile group.profile
+has_known_profile (Check asked) = knows_profile asked.profile
+has_known_profile (Explain code) = true
+has_known_profile (Inspect asked) = knows_profile asked.profile
+has_known_profile (Draft asked) = true
+has_known_profile (Completions shell) = true
+has_known_profile Manual = true
+
 -- the names that a request has are known
 abbrev pub knows_names : Request → Bool
-knows_names (Plain url file line_buffered progress) = true
-knows_names (Validate group) = knows_report group.reporting
-knows_names (Convert group minimal line_buffered) = knows_report group.reporting
-knows_names (Check asked) = knows_shown asked.reporting
-knows_names (Explain code) = true
-knows_names (Inspect asked) = true
-knows_names (Draft asked) = true
-knows_names (Completions shell) = is_shell shell.now
-knows_names Manual = true
+knows_names request = has_known_profile request && knows_output request
 
 -- the program does what is asked for
 pub record IsSound (request : Request) : Type 0 where

@@ -37,6 +37,8 @@ pub(crate) const EXPLAINED: &str = "explain";
 
 pub(crate) const PROGRESS: &str = "progress";
 
+pub(crate) const PROFILE: &str = "profile";
+
 pub(crate) const JSON: &str = "json";
 
 fn required_word<'a>(alloc: Global, id: &'a str, help: &'a str) -> Arg<'a>
@@ -246,6 +248,18 @@ pub(crate) fn progress<'a>(alloc: Global) -> Arg<'a>
         alloc,
         PROGRESS,
         "Shows the progress on standard error, also if standard output is a terminal; never if standard error is none",
+    )
+}
+
+pub(crate) fn profile<'a>(alloc: Global) -> Arg<'a>
+    ensures rule { rule_of result ≡ option_rule (codes "profile") }
+    ensures local { result.global ≡ false }
+{
+    option(
+        alloc,
+        PROFILE,
+        "core|w3c",
+        "Which features a document may use: core, or w3c for more datatypes of the standard; it is core",
     )
 }
 

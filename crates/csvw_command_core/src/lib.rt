@@ -4,8 +4,8 @@
 //!
 //! - `requested` returns the request that the words make: the subcommand, the URL, all files in order, the options and
 //!   the flags (`Asks`). Else it returns the kind of clap's error or text (`FailsBy`).
-//! - `mistake_in` returns a text exactly if a request names standard input twice or names a form of reports, a colour
-//!   or a shell that there is not (`has_mistake`).
+//! - `mistake_in` returns a text exactly if a request names standard input twice or names a form of reports, a colour,
+//!   a profile or a shell that there is not (`IsMistaken`).
 //! - `command_line` returns the program's subcommands and arguments (`program_app`).
 #![tactic(auto)]
 

@@ -4,8 +4,8 @@ ghost use Rattle.csvw_command_core.specs.Asked.{IsGroup, IsReporting, Reads, fla
 ghost use Rattle.std.specs.Prelude.{◌≡◌, IfOk, IfSome, codes, map};
 
 use crate::arguments::{
-    ALL, BASE, CODE, COLOR, EXPLAINED, FILE, JSON, LINE_BUFFERED, META, MINIMAL, PROGRESS, REPORT,
-    SHELL, STRICT, TURNS, URL,
+    ALL, BASE, CODE, COLOR, EXPLAINED, FILE, JSON, LINE_BUFFERED, META, MINIMAL, PROFILE, PROGRESS,
+    REPORT, SHELL, STRICT, TURNS, URL,
 };
 use crate::request::{CheckedGroup, DraftedFiles, Group, Inspected, Reporting, Request};
 use crate::subcommands::{
@@ -47,6 +47,7 @@ fn group_in<'a>(alloc: Global, matches: &ArgMatches<'a>) -> Result<Option<Group<
                     base,
                     meta,
                     files,
+                    profile: matches.get_str(PROFILE),
                     turns: has_flag(matches, TURNS),
                     reporting: reporting_in(matches),
                     explain: has_flag(matches, EXPLAINED),
@@ -90,6 +91,7 @@ fn check_in<'a>(alloc: Global, matches: &ArgMatches<'a>) -> Result<Option<Reques
         base: matches.get_str(BASE),
         meta,
         files: files_in(alloc, matches)?,
+        profile: matches.get_str(PROFILE),
         reporting: reporting_in(matches),
         progress: has_flag(matches, PROGRESS),
     })))
@@ -108,6 +110,7 @@ fn inspect_in<'a>(matches: &ArgMatches<'a>) -> Option<Request<'a>>
     Some(Request::Inspect(Inspected {
         base: matches.get_str(BASE),
         meta,
+        profile: matches.get_str(PROFILE),
         json: has_flag(matches, JSON),
     }))
 }

@@ -1,7 +1,8 @@
 //! Mistakes that clap accepts: standard input for two files, and values of options that there are not.
 ghost use Rattle.std.specs.Prelude.{◌≡◌, MatchOption, false, true};
-ghost use Rattle.csvw_command_core.specs.Mistakes.{IsMistaken, IsSound, is_color, is_report_form, is_shell, is_shown_form};
-ghost use Rattle.csvw_command_core.specs.Mistakes.{knows_color, knows_names, knows_report, knows_report_form, knows_shown, knows_shown_form};
+ghost use Rattle.csvw_command_core.specs.Mistakes.{IsMistaken, IsSound, has_known_profile, is_color, is_profile, is_report_form, is_shell, is_shown_form};
+ghost use Rattle.csvw_command_core.specs.Mistakes.{knows_color, knows_names, knows_output, knows_profile, knows_report, knows_report_form, knows_shown};
+ghost use Rattle.csvw_command_core.specs.Mistakes.{knows_shown_form};
 
 use crate::request::{Reporting, Request};
 use crate::standard_input::reads_twice;
@@ -12,6 +13,9 @@ const TWICE: &str = "csvw: standard input is named for two files, and can be rea
 /// What is told of a form or a colour that there is not.
 const REPORTING: &str =
     "csvw: --report takes text, html or json, and csv but for `check`; --color takes auto, always or never\n";
+
+/// What is told of a profile that there is not.
+const PROFILE: &str = "csvw: --profile takes core or w3c\n";
 
 /// What is told of a shell that there is not.
 const SHELL: &str = "csvw: completions are for bash, zsh or fish\n";
@@ -32,6 +36,12 @@ fn is_color(name: &str) -> bool
     ensures { result ≡ is_color name.now }
 {
     name == "auto" || name == "always" || name == "never"
+}
+
+fn is_profile(name: &str) -> bool
+    ensures { result ≡ is_profile name.now }
+{
+    name == "core" || name == "w3c"
 }
 
 fn is_shell(name: &str) -> bool
@@ -67,6 +77,15 @@ fn knows_report_form(form: Option<&str>) -> bool
     }
 }
 
+fn knows_profile(profile: Option<&str>) -> bool
+    ensures { result ≡ knows_profile profile.entry }
+{
+    match profile {
+        Some(name) => is_profile(name),
+        None => true,
+    }
+}
+
 fn knows_shown(reporting: &Reporting<'_>) -> bool
     ensures { result ≡ knows_shown reporting.now }
 {
@@ -79,9 +98,9 @@ fn knows_report(reporting: &Reporting<'_>) -> bool
     knows_report_form(reporting.form) && knows_color(reporting.color)
 }
 
-/// Returns what is told of a name of the request that there is not, or `None` if all are known.
-fn unknown_name(request: &Request<'_>) -> Option<&'static str>
-    ensures { MatchOption result (knows_names request.now ≡ true) (λ _. knows_names request.now ≡ false) }
+/// Returns what is told of a form, a colour or a shell of the request that there is not, or `None` if all are known.
+fn unknown_output(request: &Request<'_>) -> Option<&'static str>
+    ensures { MatchOption result (knows_output request.now ≡ true) (λ _. knows_output request.now ≡ false) }
 {
     let (is_known, told) = match request {
         Request::Validate(group) => (knows_report(&group.reporting), REPORTING),
@@ -97,10 +116,36 @@ fn unknown_name(request: &Request<'_>) -> Option<&'static str>
     if is_known { None } else { Some(told) }
 }
 
+fn has_known_profile(request: &Request<'_>) -> bool
+    ensures { result ≡ has_known_profile request.now }
+{
+    match request {
+        Request::Validate(group) => knows_profile(group.profile),
+        Request::Convert { group, .. } => knows_profile(group.profile),
+        Request::Check(asked) => knows_profile(asked.profile),
+        Request::Inspect(asked) => knows_profile(asked.profile),
+        Request::Plain { .. }
+        | Request::Explain(_)
+        | Request::Draft(_)
+        | Request::Completions(_)
+        | Request::Manual => true,
+    }
+}
+
+/// Returns what is told of a name of the request that there is not, or `None` if all are known.
+fn unknown_name(request: &Request<'_>) -> Option<&'static str>
+    ensures { MatchOption result (knows_names request.now ≡ true) (λ _. knows_names request.now ≡ false) }
+{
+    if !has_known_profile(request) {
+        return Some(PROFILE);
+    }
+    unknown_output(request)
+}
+
 /// Returns what is told of a request that is a mistake, or `None` if it is none.
 ///
-/// A request is a mistake if it names standard input for two files, or a form of reports, a colour or a shell that
-/// there is not.
+/// A request is a mistake if it names standard input for two files, or a form of reports, a colour, a profile or a shell
+/// that there is not.
 pub fn mistake_in(request: &Request<'_>) -> Option<&'static str>
     ensures { MatchOption result (IsSound request.now) (λ _. IsMistaken request.now) }
 {

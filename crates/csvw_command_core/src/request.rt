@@ -30,6 +30,8 @@ pub struct Group<'a> {
     pub meta: &'a str,
     /// The files of the tables, in the order of the words.
     pub files: Vec<&'a str>,
+    /// The name of the profile of the document, if one is given.
+    pub profile: Option<&'a str>,
     /// Whether a piece of each file is read in turn. Else the files are read one after the other.
     pub turns: bool,
     /// How the report is shown.
@@ -49,6 +51,8 @@ pub struct CheckedGroup<'a> {
     pub meta: &'a str,
     /// The files of the tables, in the order of the words. There may be none.
     pub files: Vec<&'a str>,
+    /// The name of the profile of the document, if one is given.
+    pub profile: Option<&'a str>,
     /// How the report is shown.
     pub reporting: Reporting<'a>,
     /// Whether the progress is shown at a terminal.
@@ -62,6 +66,8 @@ pub struct Inspected<'a> {
     pub base: Option<&'a str>,
     /// The file that has the document.
     pub meta: &'a str,
+    /// The name of its profile, if one is given.
+    pub profile: Option<&'a str>,
     /// Whether it is shown as JSON. Else it is shown as text.
     pub json: bool,
 }

@@ -9,7 +9,7 @@ ghost use Rattle.std.specs.Prelude.{◌≡◌, IfOk, false};
 use crate::after_help;
 use crate::arguments::{
     all, base, code, color, draft_base, explained, file, files, json, line_buffered, meta, minimal,
-    own_base, progress, report, shell, some_files, strict, turns, url,
+    own_base, profile, progress, report, shell, some_files, strict, turns, url,
 };
 use clap::Command;
 use std::alloc::{AllocError, Global};
@@ -32,7 +32,7 @@ pub(crate) const COMPLETIONS: &str = "completions";
 
 pub(crate) const MANUAL: &str = "manual";
 
-const VERSION: &str = "0.4.0 (rattle 0.0.0)";
+const VERSION: &str = "0.5.0 (rattle 0.0.0)";
 
 /// Adds the options of a report. Fails with `AllocError` if memory runs out.
 fn with_reporting<'a>(alloc: Global, command: Command<'a>) -> Result<Command<'a>, AllocError>
@@ -77,7 +77,8 @@ fn group_command<'a>(
 {
     let command = read_command(alloc, name, about, examples)?
         .arg(explained(alloc))?
-        .arg(progress(alloc))?;
+        .arg(progress(alloc))?
+        .arg(profile(alloc))?;
     with_reporting(alloc, command)
 }
 
@@ -132,6 +133,7 @@ fn check_command<'a>(alloc: Global) -> Result<Command<'a>, AllocError>
         meta(alloc),
         some_files(alloc),
         progress(alloc),
+        profile(alloc),
     ]?;
     let command = Command::new(alloc, CHECK)
         .about(
@@ -156,7 +158,7 @@ fn inspect_command<'a>(alloc: Global) -> Result<Command<'a>, AllocError>
     ensures app { IfOk result (λ command. app_of command ≡ inspect_app) }
     ensures local { IfOk result (λ command. (out-Command command).has_globals ≡ false) }
 {
-    let args = vec![in alloc; own_base(alloc), meta(alloc), json(alloc)]?;
+    let args = vec![in alloc; own_base(alloc), meta(alloc), json(alloc), profile(alloc)]?;
     Command::new(alloc, INSPECT)
         .about("Shows what a metadata document says, with the defaults that apply")
         .after_help(after_help::INSPECT)

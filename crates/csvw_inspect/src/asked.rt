@@ -1,5 +1,7 @@
 //! What is asked of an inspection.
 
+use csvw_meta::Profile;
+
 /// The form in which a document is shown.
 #[derive(Clone, Copy, Debug, PartialEq, Eq)]
 pub enum InspectForm {
@@ -16,6 +18,8 @@ pub struct Inspect<'a> {
     pub base: &'a str,
     /// The path of the document.
     pub meta: &'a str,
+    /// The features that the document may use.
+    pub profile: Profile,
     /// The form in which it is shown.
     pub form: InspectForm,
 }

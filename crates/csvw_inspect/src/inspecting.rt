@@ -10,7 +10,7 @@ use crate::text::lines_of;
 use csvw_columns::Plan;
 use csvw_engine_core::Stop;
 use csvw_files::{Opener, read_document};
-use csvw_meta::{Description, MetaCode, MetaFault, ReadDescription};
+use csvw_meta::{Description, MetaCode, MetaFault, Profile, ReadDescription};
 use csvw_streams::{Counted, write_out};
 use std::alloc::{AllocError, Global};
 use std::io::Write;
@@ -48,7 +48,7 @@ fn send<W: Write>(out: &mut Counted<W>, bytes: &[u8]) -> Result<(), Stop>
 /// Returns the text of a document.
 fn text_of<O: Opener>(alloc: Global, asked: &Inspect<'_>, opener: &mut O) -> Result<String, Stop> {
     let bytes = bytes_of(alloc, asked.meta, opener)?;
-    let plan = match plan_of(alloc, bytes.as_slice(), asked.base) {
+    let plan = match plan_of(alloc, bytes.as_slice(), asked.base, asked.profile) {
         Ok(plan) => plan,
         Err(fault) => {
             return Err(match fault.code {
@@ -75,8 +75,8 @@ fn bytes_of<O: Opener>(alloc: Global, path: &str, opener: &mut O) -> Result<Vec<
     read
 }
 
-/// Reads a document and plans its tables.
-fn plan_of(alloc: Global, bytes: &[u8], base: &str) -> Result<Plan, MetaFault> {
-    let description = Description::read(alloc, bytes, base)?;
+/// Reads a document in a profile, and plans its tables.
+fn plan_of(alloc: Global, bytes: &[u8], base: &str, profile: Profile) -> Result<Plan, MetaFault> {
+    let description = Description::read_by(alloc, bytes, base, profile)?;
     Plan::build(alloc, description)
 }

@@ -2,7 +2,12 @@
 //! apply.
 //!
 //! ```text
-//! let asked = Inspect { base: "http://example.org/t.json", meta: "t.json", form: InspectForm::Text };
+//! let asked = Inspect {
+//!     base: "http://example.org/t.json",
+//!     meta: "t.json",
+//!     profile: Profile::Core,
+//!     form: InspectForm::Text,
+//! };
 //! inspect(alloc, &asked, &mut opener, &mut out)?;
 //! ```
 //!

@@ -12,5 +12,6 @@ returns c =
       name_is = refl;
       base_is = sym (first_value-rows found (codes "base")) ∙ sym c.get_str-2.ensures;
       meta_is = sym (first_value-rows found (codes "META")) ∙ meta;
+      profile_is = sym (first_value-rows found (codes "profile")) ∙ sym c.get_str-3.ensures;
       json_is = c.has_flag.ensures;
     }
