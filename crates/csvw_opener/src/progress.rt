@@ -10,6 +10,9 @@ const PAUSE: u64 = 250;
 /// The number of bytes in a megabyte.
 const MEGABYTE: u64 = 1_000_000;
 
+/// Of so many pieces, the line feeds of one are counted. That is what keeps the cost of progress low.
+const SAMPLED: u64 = 8;
+
 /// What erases the line of a terminal and goes to its begin (ECMA-48).
 pub(crate) const ERASED: &str = "\r\x1b[K";
 
@@ -20,10 +23,14 @@ pub(crate) struct Progress {
     path: String,
     /// The number of its bytes, if it is known.
     total: Option<u64>,
-    /// The number of bytes that were read.
+    /// The number of pieces that were read.
+    pieces: u64,
+    /// The number of their bytes.
     bytes: u64,
-    /// The number of line feeds among them.
-    lines: u64,
+    /// The number of bytes of the pieces whose line feeds were counted.
+    sampled: u64,
+    /// The number of line feeds in these pieces.
+    line_feeds: u64,
     /// When the next line is due, in milliseconds from the start.
     due: u64,
 }
@@ -38,8 +45,10 @@ impl Progress {
         Ok(Progress {
             path: String::from_str(alloc, path)?,
             total,
+            pieces: 0,
             bytes: 0,
-            lines: 0,
+            sampled: 0,
+            line_feeds: 0,
             due: PAUSE,
         })
     }
@@ -49,10 +58,23 @@ impl Progress {
         self.due > PAUSE
     }
 
-    /// Counts a piece that was read.
+    /// Counts a piece that was read, and the line feeds of the first of each eight pieces.
     pub(crate) fn count(&mut self, piece: &[u8]) {
-        self.bytes = self.bytes.saturating_add(piece.len() as u64);
-        self.lines = self.lines.saturating_add(line_feeds(piece));
+        let len = piece.len() as u64;
+        self.bytes = self.bytes.saturating_add(len);
+        if self.pieces % SAMPLED == 0 {
+            self.sampled = self.sampled.saturating_add(len);
+            self.line_feeds = self.line_feeds.saturating_add(line_feeds(piece));
+        }
+        self.pieces = self.pieces.saturating_add(1);
+    }
+
+    /// Returns about how many rows were read. A line feed counts as a row, and pieces that were not searched count as those
+    /// that were.
+    fn rows(&self) -> u64 {
+        let rows = u128::from(self.line_feeds) * u128::from(self.bytes)
+            / u128::from(self.sampled.max(1));
+        u64::try_from(rows).unwrap_or(u64::MAX)
     }
 
     /// Returns the line that is due after this time from the start, or `None` if none is due or memory runs out.
@@ -68,10 +90,10 @@ impl Progress {
     /// Returns the line after so many milliseconds.
     fn text(&self, alloc: Global, now: u64) -> Result<String, AllocError> {
         let mut text = String::from_str(alloc, ERASED)?;
-        let lines = self.lines;
+        let rows = self.rows();
         let read = self.bytes / MEGABYTE;
         text.push_str(self.path.as_str())?;
-        write!(text, ": {lines} lines, {read} MB")?;
+        write!(text, ": about {rows} rows, {read} MB")?;
         if let Some(total) = self.total {
             let whole = total / MEGABYTE;
             write!(text, " of {whole} MB")?;
