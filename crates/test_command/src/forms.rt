@@ -2,7 +2,7 @@
 //! as text.
 
 use crate::runs::{File, Files};
-use csvw_check::{Check, Color, Form, Shown, Strict, check};
+use csvw_check::{Check, Color, Form, Profile, Shown, Strict, check};
 use csvw_text::Counted;
 use std::alloc::Global;
 use std::str;
@@ -197,6 +197,7 @@ fn is_checked(alloc: Global, case: &Case) -> bool {
         base: "http://example.org/",
         meta: "m.json",
         files: &["p.csv"],
+        profile: Profile::Core,
         shown: Shown::First,
         form: case.form,
         color: case.color,

@@ -19,6 +19,8 @@ mod limits;
 #[cfg(test)]
 mod plain_runs;
 #[cfg(test)]
+mod profiles;
+#[cfg(test)]
 mod reports;
 #[cfg(test)]
 mod runs;

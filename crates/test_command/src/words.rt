@@ -20,7 +20,7 @@ static ANSWERS: [Case; 4] = [
         files: &[],
         end: End {
             status: 0,
-            out: Just(b"csvw 0.4.0 (rattle 0.0.0)\n"),
+            out: Just(b"csvw 0.5.0 (rattle 0.0.0)\n"),
             err: Just(b""),
         },
     },

@@ -10,6 +10,10 @@ mod facets;
 #[cfg(test)]
 mod nulls;
 #[cfg(test)]
+mod profiles;
+#[cfg(test)]
 mod ranges;
 #[cfg(test)]
 mod refusals;
+#[cfg(test)]
+mod tree_ops;

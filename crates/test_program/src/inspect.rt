@@ -5,7 +5,7 @@ use crate::inspected::{GROUP_TEXT, HEADER_TEXT, SMALL_JSON};
 use csvw_engine_core::Stop;
 use csvw_files::Opener;
 use csvw_inspect::{Inspect, InspectForm, inspect};
-use csvw_meta::MetaCode;
+use csvw_meta::{MetaCode, Profile};
 use csvw_streams::Counted;
 use std::alloc::Global;
 use std::io::{self, Write};
@@ -98,6 +98,7 @@ fn shown(alloc: Global, document: &str, form: InspectForm) -> (Vec<u8>, Result<(
     let asked = Inspect {
         base: BASE,
         meta: "t.json",
+        profile: Profile::Core,
         form,
     };
     let mut out = Counted::new(Vec::new(alloc));
@@ -150,6 +151,7 @@ fn reports_a_file_and_a_writer_that_fail(rt: HostRuntime) -> Result<(), Fail> {
     let mut asked = Inspect {
         base: BASE,
         meta: "t.json",
+        profile: Profile::Core,
         form: InspectForm::Text,
     };
     let mut full = Counted::new(Full {});

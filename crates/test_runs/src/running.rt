@@ -1,5 +1,5 @@
 //! Helpers that run over the texts of tables.
-use csvw_engine::{Stop, run, run_turns};
+use csvw_engine::{Order as ReadOrder, Profile, Request, Stop, Way, run, run_by, run_turns};
 use csvw_text::Counted;
 use csvw_triples_core::Mode;
 use std::alloc::{AllocError, Global};
@@ -62,6 +62,40 @@ pub(crate) fn run_in(
 /// Returns what a run over a document and the text of its table leaves. It returns `AllocError` if there is no memory.
 pub fn run_over(alloc: Global, meta: &str, text: &str, mode: Mode) -> Result<Ran, AllocError> {
     run_in(alloc, meta, &[text], mode, Order::OneByOne)
+}
+
+/// Returns what a run over a document in a profile and the text of its table leaves, in minimal mode. It returns
+/// `AllocError` if there is no memory.
+pub fn run_in_profile(
+    alloc: Global,
+    profile: Profile,
+    meta: &str,
+    text: &str,
+) -> Result<Ran, AllocError> {
+    let mut readers = readers_of(alloc, &[text])?;
+    let mut graph = Counted::new(Vec::new(alloc));
+    let mut report = Counted::new(Vec::new(alloc));
+    let request = Request {
+        meta: meta.as_bytes(),
+        base: "http://example.org/",
+        profile,
+        way: Way {
+            mode: Mode::Minimal,
+            order: ReadOrder::TableByTable,
+        },
+    };
+    let outcome = run_by(
+        alloc,
+        request,
+        readers.as_mut_slice(),
+        &mut graph,
+        &mut report,
+    );
+    Ok(Ran {
+        stop: outcome.err(),
+        graph: graph.into_inner(),
+        report: report.into_inner(),
+    })
 }
 
 /// Whether a report has exactly these lines after its heading.

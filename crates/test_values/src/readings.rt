@@ -1,7 +1,7 @@
 //! Texts with `;` between them, each with the lexical form of its value or the name of its code after `=>`. A text
 //! alone is its own form.
 use crate::datatypes::{Bound, Claim, Limits, PLAIN, Pattern, Row, UNLIMITED};
-use csvw_datatype::{Simple, Width};
+use csvw_datatype::{Simple, TextType, Width};
 
 pub(crate) static NUMBERS: [Row; 9] = [
     Row {
@@ -238,7 +238,7 @@ const MINUTES: &str = "\
 2024-02-29 23:59=>BadDateTime;\
 =>BadDateTime";
 
-pub(crate) static TEXTS: [Row; 5] = [
+pub(crate) static TEXTS: [Row; 6] = [
     Row {
         simple: Simple::Truth,
         texts: TRUTHS,
@@ -258,6 +258,11 @@ pub(crate) static TEXTS: [Row; 5] = [
     Row {
         simple: Simple::Uri,
         texts: "x y=>x y",
+        ..PLAIN
+    },
+    Row {
+        simple: Simple::Other(TextType::Json),
+        texts: " [1,  2] => [1,  2] ",
         ..PLAIN
     },
     Row {

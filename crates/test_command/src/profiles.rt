@@ -1,0 +1,270 @@
+//! The profiles of a document: datatypes that the profile w3c alone has, and names of profiles.
+
+use crate::runs::Sent::{Just, SomeText};
+use crate::runs::{CONVERT, Case, End, File, HEADING, VALIDATE, each_ends_so};
+
+/// A document with datatypes of the profile w3c, and a table with spaces in each cell.
+const TYPED: &[File<'static>] = &[
+    File {
+        path: "m.json",
+        bytes: br#"{"@context":"http://www.w3.org/ns/csvw","url":"p.csv","tableSchema":{"columns":[{"name":"j","datatype":"json"},{"name":"x","datatype":"xml"},{"name":"t","datatype":"token"}]}}"#,
+    },
+    File {
+        path: "p.csv",
+        bytes: b"j,x,t\n\"{\"\"a\"\":  1} \", <b>  c</b> , u  v \n",
+    },
+];
+
+/// Its graph in minimal mode. White space is kept in JSON and XML, and collapses in a token.
+const GRAPH: &[u8] =
+    br#"_:t1r1s <http://example.org/p.csv#j> "{\"a\":  1} "^^<http://www.w3.org/ns/csvw#JSON> .
+_:t1r1s <http://example.org/p.csv#x> " <b>  c</b> "^^<http://www.w3.org/1999/02/22-rdf-syntax-ns#XMLLiteral> .
+_:t1r1s <http://example.org/p.csv#t> "u v"^^<http://www.w3.org/2001/XMLSchema#token> .
+"#;
+
+/// The line of the stop in the profile core.
+const STOP: &[u8] = b"csvw: metadata NotSupported /tableSchema/columns/0/datatype\n";
+
+/// The page of a check in the profile core.
+const PAGE: &[u8] =
+    b"m.json:1:93: /tableSchema/columns/0/datatype: NotSupported: this part of the vocabulary is not supported: leave it out
+    the profile w3c has the datatype json: write `--profile w3c`
+";
+
+static PROFILES: [Case; 12] = [
+    Case {
+        what: "w3c, validated",
+        words: &[
+            "csvw",
+            "validate",
+            "--profile",
+            "w3c",
+            "--base",
+            "http://example.org/",
+            "m.json",
+            "p.csv",
+        ],
+        files: TYPED,
+        end: End {
+            status: 0,
+            out: Just(HEADING),
+            err: Just(b""),
+        },
+    },
+    Case {
+        what: "w3c, converted",
+        words: &[
+            "csvw",
+            "convert",
+            "--minimal",
+            "--profile",
+            "w3c",
+            "--base",
+            "http://example.org/",
+            "m.json",
+            "p.csv",
+        ],
+        files: TYPED,
+        end: End {
+            status: 0,
+            out: Just(GRAPH),
+            err: Just(HEADING),
+        },
+    },
+    Case {
+        what: "w3c, converted in turns",
+        words: &[
+            "csvw",
+            "convert",
+            "--minimal",
+            "--turns",
+            "--profile",
+            "w3c",
+            "--base",
+            "http://example.org/",
+            "m.json",
+            "p.csv",
+        ],
+        files: TYPED,
+        end: End {
+            status: 0,
+            out: Just(GRAPH),
+            err: Just(HEADING),
+        },
+    },
+    Case {
+        what: "w3c, with a report as JSON",
+        words: &[
+            "csvw",
+            "validate",
+            "--profile",
+            "w3c",
+            "--report",
+            "json",
+            "--base",
+            "http://example.org/",
+            "m.json",
+            "p.csv",
+        ],
+        files: TYPED,
+        end: End {
+            status: 0,
+            out: Just(b"[\n]\n"),
+            err: Just(b""),
+        },
+    },
+    Case {
+        what: "w3c, checked",
+        words: &["csvw", "check", "--profile", "w3c", "m.json", "p.csv"],
+        files: TYPED,
+        end: End {
+            status: 0,
+            out: Just(b"table 1: p.csv: 2 records\nvalid\n"),
+            err: Just(b""),
+        },
+    },
+    Case {
+        what: "w3c, inspected",
+        words: &["csvw", "inspect", "--profile", "w3c", "m.json"],
+        files: TYPED,
+        end: End {
+            status: 0,
+            out: SomeText,
+            err: Just(b""),
+        },
+    },
+    Case {
+        what: "no profile, validated",
+        words: VALIDATE,
+        files: TYPED,
+        end: End {
+            status: 3,
+            out: Just(b""),
+            err: Just(STOP),
+        },
+    },
+    Case {
+        what: "no profile, converted",
+        words: CONVERT,
+        files: TYPED,
+        end: End {
+            status: 3,
+            out: Just(b""),
+            err: Just(STOP),
+        },
+    },
+    Case {
+        what: "no profile, checked",
+        words: &["csvw", "check", "m.json", "p.csv"],
+        files: TYPED,
+        end: End {
+            status: 3,
+            out: Just(PAGE),
+            err: Just(b""),
+        },
+    },
+    Case {
+        what: "no profile, inspected",
+        words: &["csvw", "inspect", "m.json"],
+        files: TYPED,
+        end: End {
+            status: 3,
+            out: Just(b""),
+            err: Just(STOP),
+        },
+    },
+    Case {
+        what: "core, validated",
+        words: &[
+            "csvw",
+            "validate",
+            "--profile",
+            "core",
+            "--base",
+            "http://example.org/",
+            "m.json",
+            "p.csv",
+        ],
+        files: TYPED,
+        end: End {
+            status: 3,
+            out: Just(b""),
+            err: Just(STOP),
+        },
+    },
+    Case {
+        what: "core, converted",
+        words: &[
+            "csvw",
+            "convert",
+            "--minimal",
+            "--profile",
+            "core",
+            "--base",
+            "http://example.org/",
+            "m.json",
+            "p.csv",
+        ],
+        files: TYPED,
+        end: End {
+            status: 3,
+            out: Just(b""),
+            err: Just(STOP),
+        },
+    },
+];
+
+/// The line if a profile isn't known.
+const UNKNOWN: &[u8] = b"csvw: --profile takes core or w3c\n";
+
+static MISTAKES: [Case; 3] = [
+    Case {
+        what: "a profile that there is not, validated",
+        words: &[
+            "csvw",
+            "validate",
+            "--profile",
+            "xml",
+            "--base",
+            "http://example.org/",
+            "m.json",
+            "p.csv",
+        ],
+        files: &[],
+        end: End {
+            status: 2,
+            out: Just(b""),
+            err: Just(UNKNOWN),
+        },
+    },
+    Case {
+        what: "a profile that there is not, checked",
+        words: &["csvw", "check", "--profile", "W3C", "m.json"],
+        files: &[],
+        end: End {
+            status: 2,
+            out: Just(b""),
+            err: Just(UNKNOWN),
+        },
+    },
+    Case {
+        what: "a profile that there is not, inspected",
+        words: &["csvw", "inspect", "--profile", "", "m.json"],
+        files: &[],
+        end: End {
+            status: 2,
+            out: Just(b""),
+            err: Just(UNKNOWN),
+        },
+    },
+];
+
+#[test]
+fn a_profile_decides_on_the_datatypes(rt: HostRuntime) {
+    each_ends_so(&rt, rt.alloc(), &PROFILES);
+}
+
+#[test]
+fn profiles_that_there_are_not_are_mistakes(rt: HostRuntime) {
+    each_ends_so(&rt, rt.alloc(), &MISTAKES);
+}

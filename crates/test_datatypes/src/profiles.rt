@@ -1,0 +1,211 @@
+//! Tests of the datatypes of the profile w3c: their literals in the graph, and the documents that each profile refuses.
+use csvw_meta_core::{MetaCode, Profile};
+use csvw_session::Stop;
+use std::alloc::{AllocError, Global};
+use std::test::Fail;
+use test_runs::{Ran, run_in_profile};
+
+/// A datatype of the profile w3c, and a row of a column that has it.
+struct Case {
+    /// The properties of the column, except its name.
+    column: &'static str,
+    /// The field of the row.
+    field: &'static str,
+    /// The object of the row's triple, and the end of the line.
+    object: &'static str,
+}
+
+static CASES: [Case; 14] = [
+    Case {
+        column: r#""datatype":"json""#,
+        field: "\"[1,  2]\"",
+        object: "\"[1,  2]\"^^<http://www.w3.org/ns/csvw#JSON> .\n",
+    },
+    Case {
+        column: r#""datatype":"xml""#,
+        field: " <b>a</b> ",
+        object: "\" <b>a</b> \"^^<http://www.w3.org/1999/02/22-rdf-syntax-ns#XMLLiteral> .\n",
+    },
+    Case {
+        column: r#""datatype":"html""#,
+        field: "a\t<br>",
+        object: "\"a\t<br>\"^^<http://www.w3.org/1999/02/22-rdf-syntax-ns#HTML> .\n",
+    },
+    Case {
+        column: r#""datatype":"any""#,
+        field: " a  b ",
+        object: "\" a  b \"^^<http://www.w3.org/2001/XMLSchema#anyAtomicType> .\n",
+    },
+    Case {
+        column: r#""datatype":"anyAtomicType","lang":"de""#,
+        field: "a",
+        object: "\"a\"^^<http://www.w3.org/2001/XMLSchema#anyAtomicType> .\n",
+    },
+    Case {
+        column: r#""datatype":"token""#,
+        field: "\" a\t b\n\"",
+        object: "\"a b\"^^<http://www.w3.org/2001/XMLSchema#token> .\n",
+    },
+    Case {
+        column: r#""datatype":{"base":"token","maxLength":3}"#,
+        field: "  abc ",
+        object: "\"abc\"^^<http://www.w3.org/2001/XMLSchema#token> .\n",
+    },
+    Case {
+        column: r#""datatype":{"base":"json","@id":"http://example.org/d"}"#,
+        field: "{}",
+        object: "\"{}\"^^<http://example.org/d> .\n",
+    },
+    // white space at the ends of items stays for `any` alone
+    Case {
+        column: r#""datatype":"any","separator":";""#,
+        field: " a ",
+        object: "\" a \"^^<http://www.w3.org/2001/XMLSchema#anyAtomicType> .\n",
+    },
+    Case {
+        column: r#""datatype":"json","separator":";""#,
+        field: " 1  2 ",
+        object: "\"1  2\"^^<http://www.w3.org/ns/csvw#JSON> .\n",
+    },
+    // an empty text is null by default
+    Case {
+        column: r#""datatype":"json","default":"[]""#,
+        field: "\"\"",
+        object: "\"[]\"^^<http://www.w3.org/ns/csvw#JSON> .\n",
+    },
+    // the other datatypes are as they are in the profile core
+    Case {
+        column: r#""datatype":"string","lang":"de""#,
+        field: " a ",
+        object: "\" a \"@de .\n",
+    },
+    Case {
+        column: r#""datatype":"integer""#,
+        field: "07",
+        object: "\"7\"^^<http://www.w3.org/2001/XMLSchema#integer> .\n",
+    },
+    Case {
+        column: r#""datatype":"datetime""#,
+        field: "2024-01-02T03:04:05",
+        object: "\"2024-01-02T03:04:05\"^^<http://www.w3.org/2001/XMLSchema#dateTime> .\n",
+    },
+];
+
+/// A column's datatype, and the fault with which its document is refused in the profile w3c.
+struct Refused {
+    /// The datatype as it is in the document.
+    datatype: &'static str,
+    /// The code of the fault.
+    code: MetaCode,
+    /// The pointer of the fault, below the datatype.
+    pointer: &'static str,
+}
+
+static REFUSED: [Refused; 6] = [
+    Refused {
+        datatype: r#""Json""#,
+        code: MetaCode::NotSupported,
+        pointer: "",
+    },
+    Refused {
+        datatype: r#""double""#,
+        code: MetaCode::NotSupported,
+        pointer: "",
+    },
+    Refused {
+        datatype: r#"{"base":"token","format":"[a-z]*"}"#,
+        code: MetaCode::NotSupported,
+        pointer: "/format",
+    },
+    Refused {
+        datatype: r#"{"base":"any","length":1}"#,
+        code: MetaCode::BadDatatype,
+        pointer: "/length",
+    },
+    Refused {
+        datatype: r#"{"base":"json","minimum":"1"}"#,
+        code: MetaCode::BadDatatype,
+        pointer: "/minimum",
+    },
+    Refused {
+        datatype: r#"{"base":"xml","minLength":2,"maxLength":1}"#,
+        code: MetaCode::BadDatatype,
+        pointer: "",
+    },
+];
+
+/// Returns the document of a table whose one column has these properties.
+fn document_of(alloc: Global, column: &str) -> Result<String, AllocError> {
+    format!(in alloc;
+        "{{\"@context\":\"http://www.w3.org/ns/csvw\",\"url\":\"p.csv\",\"tableSchema\":{{\"columns\":[{{\"name\":\"id\",{column}}}]}}}}"
+    )
+}
+
+/// Returns what a run over the row of a case leaves, in a profile.
+fn ran_in(alloc: Global, profile: Profile, case: &Case) -> Result<Ran, AllocError> {
+    let meta = document_of(alloc, case.column)?;
+    let field = case.field;
+    let text = format!(in alloc; "id\n{field}\n")?;
+    run_in_profile(alloc, profile, meta.as_str(), text.as_str())
+}
+
+/// Whether the graph has the triple of the row alone.
+fn gives(alloc: Global, case: &Case) -> Result<bool, AllocError> {
+    let ran = ran_in(alloc, Profile::W3c, case)?;
+    let object = case.object;
+    let graph = format!(in alloc; "_:t1r1s <http://example.org/p.csv#id> {object}")?;
+    Ok(ran.stop.is_none() && ran.graph.as_slice() == graph.as_bytes())
+}
+
+/// Whether a run stopped with a fault of this code at this pointer, below the column's datatype.
+fn stops_at(alloc: Global, ran: &Ran, code: MetaCode, below: &str) -> Result<bool, AllocError> {
+    let pointer = format!(in alloc; "/tableSchema/columns/0/datatype{below}")?;
+    Ok(match &ran.stop {
+        Some(Stop::Meta(fault)) => {
+            fault.code == code && fault.pointer.as_str() == pointer.as_str()
+        }
+        _ => false,
+    })
+}
+
+/// Whether a document with this datatype is refused in the profile w3c, with that fault.
+fn is_refused(alloc: Global, case: &Refused) -> Result<bool, AllocError> {
+    let datatype = case.datatype;
+    let column = format!(in alloc; "\"datatype\":{datatype}")?;
+    let meta = document_of(alloc, column.as_str())?;
+    let ran = run_in_profile(alloc, Profile::W3c, meta.as_str(), "")?;
+    stops_at(alloc, &ran, case.code, case.pointer)
+}
+
+/// Whether a run in the profile core refuses the document of a case, at a pointer below its datatype.
+fn core_refuses(alloc: Global, case: &Case, below: &str) -> Result<bool, AllocError> {
+    let ran = ran_in(alloc, Profile::Core, case)?;
+    stops_at(alloc, &ran, MetaCode::NotSupported, below)
+}
+
+#[test]
+fn literals_have_their_datatypes(rt: HostRuntime) -> Result<(), Fail> {
+    for case in &CASES {
+        assert!(rt; gives(rt.alloc(), case)?, "{}", case.column);
+    }
+    Ok(())
+}
+
+#[test]
+fn other_datatypes_are_refused(rt: HostRuntime) -> Result<(), Fail> {
+    for case in &REFUSED {
+        assert!(rt; is_refused(rt.alloc(), case)?, "{}", case.datatype);
+    }
+    Ok(())
+}
+
+#[test]
+fn the_core_refuses_them(rt: HostRuntime) -> Result<(), Fail> {
+    for case in CASES.iter().take(6) {
+        assert!(rt; core_refuses(rt.alloc(), case, "")?, "{}", case.column);
+    }
+    for case in CASES.iter().skip(6).take(2) {
+        assert!(rt; core_refuses(rt.alloc(), case, "/base")?, "{}", case.column);
+    }
+    Ok(())
+}
