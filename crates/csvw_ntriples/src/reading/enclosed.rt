@@ -9,6 +9,9 @@ use crate::NtFault;
 use csvw_text::Text;
 use std::alloc::Global;
 
+/// The bytes that a text has room for at first. Most IRIs and literals fit, and don't grow then.
+const ROOM: usize = 48;
+
 /// The kinds of texts between delimiters.
 #[derive(Clone, Copy)]
 pub(crate) enum Enclosed {
@@ -105,7 +108,9 @@ fn piece(kind: Enclosed, text: &[char]) -> Option<(char, &[char])>
 pub(crate) fn body(alloc: Global, kind: Enclosed, text: &[char]) -> Result<(Text, &[char]), NtFault>
     ensures { Finds (ReadsBytes kind text.now) result }
 {
-    let mut value = String::new(alloc);
+    let Ok(mut value) = String::with_capacity(alloc, ROOM) else {
+        return Err(NtFault::Memory);
+    };
     let mut rest = text;
     while let Some((first, after)) = rest.split_first() {
         if is_mark(kind, *first) {

@@ -8,7 +8,7 @@ use Rattle.csvw_ntriples.proofs.reading.enclosed.body.Goals as goal
 pub loop-first-preserved : goal.loop-first-preserved
 loop-first-preserved c = let i = c.loop-first.invariant in
     body_more c.args.kind c.args.text.now i.1 c.loop-first.rest.now c.in-Some-piece.next.now i.0 c.in-Some-piece.c _ _ i.2 i.3 i.4
-    c.in-Some-piece.ensures.0 c.in-Ok.ensures.bytes
+    c.in-Some-piece.ensures.0 c.in-Ok-push.ensures.bytes
 
 pub returns-in_default-piece : goal.returns-in_default-piece
 returns-in_default-piece c = let i = c.loop-first.invariant in
@@ -20,4 +20,4 @@ returns-in_default-piece c = let i = c.loop-first.invariant in
 
 pub returns : goal.returns
 returns c = let i = c.loop-first.invariant in
-    body_end c.args.kind c.args.text.now i.1 c.loop-first.rest.now i.0 i.2 i.3 c.in_default.ensures.cases
+    body_end c.args.kind c.args.text.now i.1 c.loop-first.rest.now i.0 i.2 i.3 c.in_default-split_first.ensures.cases
