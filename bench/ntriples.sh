@@ -11,6 +11,7 @@ make_file "$document" triples.py "$document"
 # The triples in our spelling, of the document and of what serdi writes of it.
 "$program" write 1 <"$document" >"$work/ours.nt"
 serdi -i ntriples -o ntriples "$document" | "$program" write 1 | cmp - "$work/ours.nt" || fail 'a run failed, or serdi reads other triples'
+"$program" copy <"$document" | cmp - "$work/ours.nt" || fail 'one triple after the other is written otherwise'
 
 # How many triples the document has, by our two readers, by serdi and by rapper.
 count=$("$program" count <"$document")
@@ -26,12 +27,25 @@ rounds=$(($(wc -c <"$document") / $("$program" write 1 <"$work/head.nt" | wc -c)
 for _ in $(seq "$rounds"); do cat "$work/head.nt"; done | "$program" write 1 |
   cmp - <("$program" write "$rounds" <"$work/head.nt") || fail 'the writer alone writes something else than the lines so often'
 
+# The reader of serd alone, if its library is installed.
+serd=
+if pkg-config --exists serd-0; then
+  serd=$work/serd_count
+  # shellcheck disable=SC2046
+  cc -O2 -o "$serd" "$bench/serd_count.c" $(pkg-config --cflags --libs serd-0)
+  [ "$count" = "$("$serd" <"$document")" ] || fail 'the library of serd counts other triples'
+else
+  echo 'SKIPPED: the reader of serd alone, since libserd-dev is not installed' >&2
+fi
+
 for _ in $(seq "$runs"); do
   measure read "$program" count <"$document"
+  [ -z "$serd" ] || measure read_serd "$serd" <"$document"
   measure each "$program" each <"$document"
   measure read_rapper rapper -q -i ntriples -c - http://example.org/ <"$document"
   measure write "$program" write "$rounds" <"$work/head.nt"
   measure both "$program" write 1 <"$document"
+  measure copy "$program" copy <"$document"
   measure both_serdi serdi -i ntriples -o ntriples - <"$document"
   measure both_rapper rapper -q -i ntriples -o ntriples - http://example.org/ <"$document"
 done
@@ -47,9 +61,11 @@ size=$(awk -v b="$(wc -c <"$document")" 'BEGIN { print b / 1000000 }')
 echo "$count, $size MB; $(runs_line)"
 printf '%-16s %-8s %8s %8s %9s\n' what program seconds MB/s 'peak MB'
 row read ours read
-row 'one by one' ours each
+row 'read each' ours each
+[ -z "$serd" ] || row read serd read_serd
 row read rapper read_rapper
 row write ours write
 row 'read and write' ours both
+row 'copy each' ours copy
 row 'read and write' serdi both_serdi
 row 'read and write' rapper both_rapper

@@ -8,7 +8,8 @@ use csvw_triples_core::{Lit, Node, Origin, Term, Triple};
 use itoa::Buffer;
 use std::alloc::Global;
 
-const LANG_STRING: &str = "http://www.w3.org/1999/02/22-rdf-syntax-ns#langString";
+/// The datatype of a literal with a language.
+pub(crate) const LANG_STRING: &str = "http://www.w3.org/1999/02/22-rdf-syntax-ns#langString";
 
 /// Returns the number of the note with this label: `a` and a number without leading zeros.
 fn note_number(name: &str) -> Option<u64> {
@@ -22,14 +23,16 @@ fn note_number(name: &str) -> Option<u64> {
     }
 }
 
-fn note(name: &Text) -> Result<Origin, Stop> {
+/// Returns the note with this label. Fails with `NotWritable` if the label is not that of a note.
+pub(crate) fn note(name: &Text) -> Result<Origin, Stop> {
     match note_number(name.as_str()) {
         Some(number) => Ok(Origin::Note(number)),
         None => Err(Stop::NotWritable),
     }
 }
 
-fn iri(alloc: Global, text: &Text) -> Result<Iri, Stop> {
+/// Returns the IRI of this text. Fails with `NotWritable` if it has a character that can't be in an IRI as it is.
+pub(crate) fn iri(alloc: Global, text: &Text) -> Result<Iri, Stop> {
     let iri = made_safe(alloc, text.as_str())?;
     if iri.as_str() == text.as_str() {
         Ok(iri)

@@ -2,10 +2,12 @@
 #![tactic(auto)]
 
 mod convert;
+mod copier;
 mod stop;
 mod words;
 
 use convert::triples;
+use copier::Copier;
 use csvw_ntriples::{NtReader, NtSink, read};
 use csvw_text::Counted;
 use csvw_triples_core::{Triple, TripleSink};
@@ -57,6 +59,17 @@ fn count_each(alloc: Global, document: &[u8]) -> Result<usize, Stop> {
     Ok(count)
 }
 
+/// Writes each triple of the document as soon as it is read.
+fn copy<W: Write>(alloc: Global, document: &[u8], out: &mut Counted<W>) -> Result<(), Stop> {
+    let mut reader = NtReader::new(alloc, document);
+    let mut copier = Copier::new(alloc)?;
+    let mut sink = NtSink::new(alloc, out);
+    while let Some(triple) = reader.next()? {
+        copier.put(&triple, &mut sink)?;
+    }
+    Ok(())
+}
+
 fn tell<W: Write>(count: usize, out: &mut Counted<W>) -> Result<(), Stop> {
     match writeln!(out, "{count} triples") {
         Ok(()) => Ok(()),
@@ -78,6 +91,7 @@ fn run<R: Read, W: Write>(
     match task {
         Task::Count => tell(read(alloc, document.as_slice())?.len(), out)?,
         Task::Each => tell(count_each(alloc, document.as_slice())?, out)?,
+        Task::Copy => copy(alloc, document.as_slice(), out)?,
         Task::Write(rounds) => write(alloc, rounds, document.as_slice(), out)?,
     }
     match out.flush() {

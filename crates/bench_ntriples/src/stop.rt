@@ -29,7 +29,7 @@ impl Stop {
             Stop::Syntax => (1, "Syntax"),
             Stop::Usage => (
                 2,
-                "count <DOCUMENT, each <DOCUMENT, or write ROUNDS <DOCUMENT",
+                "count <DOCUMENT, each <DOCUMENT, copy <DOCUMENT, or write ROUNDS <DOCUMENT",
             ),
             Stop::NotWritable => (3, "NotWritable"),
             Stop::Memory => (4, "Memory"),

@@ -7,6 +7,8 @@ pub(crate) enum Task {
     Count,
     /// Reads it one triple after the other and prints how many it has.
     Each,
+    /// Reads it one triple after the other and writes each.
+    Copy,
     /// Reads it and writes its triples this many times.
     Write(u64),
 }
@@ -22,6 +24,7 @@ pub(crate) fn requested(words: &[String]) -> Option<Task> {
     match words.get(2) {
         None if name == "count" => Some(Task::Count),
         None if name == "each" => Some(Task::Each),
+        None if name == "copy" => Some(Task::Copy),
         Some(rounds) if name == "write" => write_task(rounds.as_str()),
         _ => None,
     }
