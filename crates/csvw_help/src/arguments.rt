@@ -1,6 +1,6 @@
 //! What a command takes, as far as help shows it.
 
-use clap::builder::ValueParser;
+use clap::builder::{PossibleValue, ValueParser};
 use clap::{Arg, Command};
 use std::alloc::{AllocError, Global};
 
@@ -33,23 +33,32 @@ pub(crate) fn has_positionals(command: &Command<'_>) -> bool {
         .any(|arg| arg.is_positional() && is_shown(arg))
 }
 
+/// Returns the names of the values that help shows.
+fn shown_names<'a>(
+    alloc: Global,
+    values: &[PossibleValue<'a>],
+) -> Result<Vec<&'a str>, AllocError> {
+    let mut names = Vec::new(alloc);
+    for value in values {
+        if !value.is_hide_set() {
+            names.push(value.get_name())?;
+        }
+    }
+    Ok(names)
+}
+
 /// Returns the values that an argument can have, or none if they are free.
 pub(crate) fn possible_values<'a>(
     alloc: Global,
     arg: &Arg<'a>,
 ) -> Result<Vec<&'a str>, AllocError> {
-    let mut names = Vec::new(alloc);
     match arg.get_value_parser() {
-        ValueParser::Names(given) => names.extend_from_slice(given)?,
-        ValueParser::Values(values) => {
-            for value in values {
-                if !value.is_hide_set() {
-                    names.push(value.get_name())?;
-                }
-            }
+        ValueParser::Names(names) => Vec::from_slice(alloc, names),
+        ValueParser::Values(values) => shown_names(alloc, values),
+        ValueParser::Bool => {
+            let names: &[&'a str] = &["true", "false"];
+            Vec::from_slice(alloc, names)
         }
-        ValueParser::Bool => names.extend_from_slice(&["true", "false"])?,
-        _ => {}
+        _ => Ok(Vec::new(alloc)),
     }
-    Ok(names)
 }

@@ -1,9 +1,10 @@
 //! The completions of a program for a shell.
 
-use crate::bash::push_bash;
-use crate::fish::push_fish;
+use crate::bash::add_bash;
+use crate::fish::add_fish;
+use crate::script::Script;
 use crate::shell::Shell;
-use crate::zsh::push_zsh;
+use crate::zsh::add_zsh;
 use clap::Command;
 use std::alloc::AllocError;
 
@@ -14,9 +15,11 @@ pub fn push_completions(
     command: &Command<'_>,
     shell: Shell,
 ) -> Result<(), AllocError> {
+    let mut script = Script::new(text);
     match shell {
-        Shell::Bash => push_bash(text, command),
-        Shell::Zsh => push_zsh(text, command),
-        Shell::Fish => push_fish(text, command),
+        Shell::Bash => add_bash(&mut script, command),
+        Shell::Zsh => add_zsh(&mut script, command),
+        Shell::Fish => add_fish(&mut script, command),
     }
+    script.end()
 }

@@ -24,6 +24,7 @@ mod completions;
 mod fish;
 mod manual;
 mod roff;
+mod script;
 mod shell;
 mod words;
 mod zsh;

@@ -1,177 +1,151 @@
 //! The manual page of a program, in roff's macros for manuals.
 
-use crate::arguments::{is_own, is_shown, possible_values, takes_value};
-use crate::roff::{push_roff, push_roff_char, push_roff_line};
+use crate::arguments::{is_own, is_shown, takes_value};
+use crate::script::Script;
 use clap::{Arg, Command};
 use std::alloc::AllocError;
 
 /// What each status says.
-const STATUSES: [(&str, &str); 5] = [
-    ("0", "No fault is an error."),
-    ("1", "A fault is an error."),
-    ("2", "The command line isn't accepted."),
-    ("3", "The metadata or a table can't be read as such."),
-    ("4", "A file or a stream failed, or memory ran out."),
-];
+const STATUSES: &str = ".SH EXIT STATUS
+.TP
+\\fB0\\fR
+No fault is an error.
+.TP
+\\fB1\\fR
+A fault is an error.
+.TP
+\\fB2\\fR
+The command line isn\\(aqt accepted.
+.TP
+\\fB3\\fR
+The metadata or a table can\\(aqt be read as such.
+.TP
+\\fB4\\fR
+A file or a stream failed, or memory ran out.
+";
 
-/// Adds the head of the page: the name in capitals, the section and the version.
-fn push_head(text: &mut String, command: &Command<'_>) -> Result<(), AllocError> {
-    text.push_str(".TH \"")?;
-    for c in command.get_name().chars() {
-        push_roff_char(text, c.to_ascii_uppercase())?;
-    }
-    text.push_str("\" 1 \"\" \"")?;
-    push_roff(text, command.get_version().unwrap_or(""))?;
-    text.push_str("\" \"User Commands\"\n")
+/// Adds the head of the page: the name in capitals, the section and the version. Then it adds the name and what the program does.
+fn add_head(page: &mut Script<'_>, command: &Command<'_>) {
+    page.fill(".TH \"%c\" 1 \"\" ", command.get_name());
+    page.fill(
+        "\"%r\" \"User Commands\"\n",
+        command.get_version().unwrap_or(""),
+    );
+    page.fill(".SH NAME\n%r", command.get_name());
+    page.fill(" \\- %r\n", command.get_about().unwrap_or(""));
 }
 
 /// Adds an argument as the command line shows it: `--base <URL>`, `--all`, `<FILE>...`.
-fn push_shape(text: &mut String, arg: &Arg<'_>) -> Result<(), AllocError> {
+fn add_shape(page: &mut Script<'_>, arg: &Arg<'_>) {
     if takes_value(arg) || arg.is_positional() {
-        let shape = format!(in *text.allocator(); "{arg}")?;
-        return push_roff(text, shape.as_str());
-    }
-    match (arg.get_long(), arg.get_short()) {
-        (Some(long), _) => {
-            text.push_str("\\-\\-")?;
-            push_roff(text, long)
-        }
-        (None, Some(short)) => {
-            text.push_str("\\-")?;
-            push_roff_char(text, short)
-        }
-        (None, None) => Ok(()),
+        page.add_shape(arg);
+    } else if let Some(long) = arg.get_long() {
+        page.fill("\\-\\-%r", long);
+    } else if let Some(short) = arg.get_short() {
+        page.push("\\-");
+        page.add_letter('r', short);
     }
 }
 
 /// Adds the arguments of a command after its name, in brackets if they can be left out.
-fn push_shapes(text: &mut String, command: &Command<'_>) -> Result<(), AllocError> {
+fn add_shapes(page: &mut Script<'_>, command: &Command<'_>) {
     for arg in command.get_arguments() {
-        if !is_shown(arg) {
-            continue;
-        }
-        if arg.is_required_set() || arg.is_positional() {
-            text.push(' ')?;
-            push_shape(text, arg)?;
-        } else {
-            text.push_str(" [")?;
-            push_shape(text, arg)?;
-            text.push(']')?;
+        if is_shown(arg) {
+            let is_needed = arg.is_required_set() || arg.is_positional();
+            page.push(if is_needed { " " } else { " [" });
+            add_shape(page, arg);
+            page.push(if is_needed { "" } else { "]" });
         }
     }
-    text.push('\n')
+    page.push("\n");
 }
 
 /// Adds the line that shows how a command is called.
-fn push_usage(text: &mut String, program: &str, command: &Command<'_>) -> Result<(), AllocError> {
-    text.push_str("\\fB")?;
-    push_roff(text, program)?;
-    text.push(' ')?;
-    push_roff(text, command.get_name())?;
-    text.push_str("\\fR")?;
-    push_shapes(text, command)
+fn add_usage(page: &mut Script<'_>, program: &str, command: &Command<'_>) {
+    page.fill("\\fB%r ", program);
+    page.fill("%r\\fR", command.get_name());
+    add_shapes(page, command);
+}
+
+/// Adds the values of an argument.
+fn add_values(page: &mut Script<'_>, arg: &Arg<'_>) {
+    let values = page.values(arg);
+    if !values.is_empty() {
+        page.push(".br\nPossible values: ");
+        page.add_list('r', ", ", values.as_slice());
+        page.push(".\n");
+    }
 }
 
 /// Adds an argument with its help and its values.
-fn push_argument(text: &mut String, arg: &Arg<'_>) -> Result<(), AllocError> {
-    text.push_str(".TP\n\\fB")?;
+fn add_argument(page: &mut Script<'_>, arg: &Arg<'_>) {
+    page.push(".TP\n\\fB");
     if let Some(short) = arg.get_short()
         && arg.get_long().is_some()
     {
-        text.push_str("\\-")?;
-        push_roff_char(text, short)?;
-        text.push_str(", ")?;
+        page.push("\\-");
+        page.add_letter('r', short);
+        page.push(", ");
     }
-    push_shape(text, arg)?;
-    text.push_str("\\fR\n")?;
-    push_roff_line(text, arg.get_long_help().or(arg.get_help()).unwrap_or(""))?;
-    let values = possible_values(*text.allocator(), arg)?;
-    if values.is_empty() {
-        return Ok(());
-    }
-    text.push_str(".br\nPossible values:")?;
-    for (i, value) in values.iter().enumerate() {
-        text.push_str(if i == 0 { " " } else { ", " })?;
-        push_roff(text, value)?;
-    }
-    text.push_str(".\n")
+    add_shape(page, arg);
+    let help = arg.get_long_help().or(arg.get_help()).unwrap_or("");
+    page.fill("\\fR\n%l", help);
+    add_values(page, arg);
 }
 
 /// Adds the arguments of a command.
-fn push_arguments(text: &mut String, command: &Command<'_>) -> Result<(), AllocError> {
+fn add_arguments(page: &mut Script<'_>, command: &Command<'_>) {
     for arg in command.get_arguments() {
         if is_shown(arg) {
-            push_argument(text, arg)?;
+            add_argument(page, arg);
         }
     }
-    Ok(())
 }
 
 /// Adds the ways to call the program.
-fn push_synopsis(text: &mut String, command: &Command<'_>) -> Result<(), AllocError> {
-    text.push_str(".SH SYNOPSIS\n")?;
+fn add_synopsis(page: &mut Script<'_>, command: &Command<'_>) {
+    page.push(".SH SYNOPSIS\n");
     for subcommand in command.get_subcommands() {
         if is_own(subcommand) {
-            push_usage(text, command.get_name(), subcommand)?;
-            text.push_str(".br\n")?;
+            add_usage(page, command.get_name(), subcommand);
+            page.push(".br\n");
         }
     }
-    text.push_str("\\fB")?;
-    push_roff(text, command.get_name())?;
-    text.push_str("\\fR [\\-\\-help]")?;
+    page.fill("\\fB%r\\fR [\\-\\-help]", command.get_name());
     if command.get_version().is_some() {
-        text.push_str(" [\\-\\-version]")?;
+        page.push(" [\\-\\-version]");
     }
-    push_shapes(text, command)
+    add_shapes(page, command);
 }
 
 /// Adds the subcommands.
-fn push_subcommands(text: &mut String, command: &Command<'_>) -> Result<(), AllocError> {
-    text.push_str(".SH COMMANDS\n")?;
+fn add_subcommands(page: &mut Script<'_>, command: &Command<'_>) {
+    page.push(".SH COMMANDS\n");
     for subcommand in command.get_subcommands() {
         if is_own(subcommand) {
-            text.push_str(".SS ")?;
-            push_roff(text, subcommand.get_name())?;
-            text.push('\n')?;
-            push_about(text, subcommand)?;
-            push_arguments(text, subcommand)?;
+            page.fill(".SS %r\n", subcommand.get_name());
+            add_description(page, subcommand);
         }
     }
-    Ok(())
 }
 
-/// Adds what a command does.
-fn push_about(text: &mut String, command: &Command<'_>) -> Result<(), AllocError> {
+/// Adds what a command does, and its arguments.
+fn add_description(page: &mut Script<'_>, command: &Command<'_>) {
     let about = command.get_long_about().or(command.get_about());
-    push_roff_line(text, about.unwrap_or(""))
-}
-
-/// Adds what each status says.
-fn push_statuses(text: &mut String) -> Result<(), AllocError> {
-    text.push_str(".SH EXIT STATUS\n")?;
-    for (status, meaning) in STATUSES {
-        text.push_str(".TP\n\\fB")?;
-        text.push_str(status)?;
-        text.push_str("\\fR\n")?;
-        push_roff_line(text, meaning)?;
-    }
-    Ok(())
+    page.fill("%l", about.unwrap_or(""));
+    add_arguments(page, command);
 }
 
 /// Adds the manual page of a program, for section 1 of the manual. Fails with `AllocError` if memory runs out.
 pub fn push_manual(text: &mut String, command: &Command<'_>) -> Result<(), AllocError> {
-    push_head(text, command)?;
-    text.push_str(".SH NAME\n")?;
-    push_roff(text, command.get_name())?;
-    text.push_str(" \\- ")?;
-    push_roff(text, command.get_about().unwrap_or(""))?;
-    text.push('\n')?;
-    push_synopsis(text, command)?;
-    text.push_str(".SH DESCRIPTION\n")?;
-    push_about(text, command)?;
-    push_arguments(text, command)?;
+    let mut page = Script::new(text);
+    add_head(&mut page, command);
+    add_synopsis(&mut page, command);
+    page.push(".SH DESCRIPTION\n");
+    add_description(&mut page, command);
     if command.has_subcommands() {
-        push_subcommands(text, command)?;
+        add_subcommands(&mut page, command);
     }
-    push_statuses(text)
+    page.push(STATUSES);
+    page.end()
 }

@@ -3,6 +3,7 @@ ghost use Rattle.std.specs.Prelude.{◌≡◌, ◌++◌, OnOk, flat_map, string_
 ghost use Rattle.std.specs.Str.{chars};
 ghost use Rattle.csvw_help.specs.Escapes.{roff_escaped};
 
+use clap::Arg;
 use std::alloc::AllocError;
 
 /// Adds a character of a text.
@@ -39,4 +40,18 @@ pub(crate) fn push_roff_line(text: &mut String, words: &str) -> Result<(), Alloc
     }
     push_roff(text, words)?;
     text.push('\n')
+}
+
+/// Adds a text within a line, in capitals.
+pub(crate) fn push_capitals(text: &mut String, words: &str) -> Result<(), AllocError> {
+    for c in words.chars() {
+        push_roff_char(text, c.to_ascii_uppercase())?;
+    }
+    Ok(())
+}
+
+/// Adds an argument as the command line shows it.
+pub(crate) fn push_shape(text: &mut String, arg: &Arg<'_>) -> Result<(), AllocError> {
+    let shape = format!(in *text.allocator(); "{arg}")?;
+    push_roff(text, shape.as_str())
 }

@@ -27,7 +27,7 @@ fn push_fish_char(text: &mut String, c: char) -> Result<(), AllocError>
 }
 
 /// Adds the characters of a text between single quotes, as bash and zsh read it.
-fn push_posix_text(text: &mut String, word: &str) -> Result<(), AllocError>
+pub(crate) fn push_posix_text(text: &mut String, word: &str) -> Result<(), AllocError>
     ensures { OnOk result (string_bytes text.new ≡ string_bytes text.old ++ flat_map posix_quoted (chars word.now)) }
 {
     for c in word.chars() {
@@ -37,7 +37,7 @@ fn push_posix_text(text: &mut String, word: &str) -> Result<(), AllocError>
 }
 
 /// Adds a text in single quotes, as bash and zsh read it.
-pub(crate) fn push_quoted(text: &mut String, word: &str) -> Result<(), AllocError>
+fn push_quoted(text: &mut String, word: &str) -> Result<(), AllocError>
     ensures { OnOk result (string_bytes text.new ≡ string_bytes text.old ++ in_quotes (flat_map posix_quoted (chars word.now))) }
 {
     text.push('\'')?;
@@ -86,6 +86,49 @@ pub(crate) fn push_fish_word(text: &mut String, word: &str) -> Result<(), AllocE
     } else {
         push_fish_quoted(text, word)
     }
+}
+
+/// Adds a word as bash and zsh read it, within single quotes of zsh.
+pub(crate) fn push_inner_word(text: &mut String, word: &str) -> Result<(), AllocError> {
+    if is_plain(word) {
+        return text.push_str(word);
+    }
+    let mut quoted = String::new(*text.allocator());
+    push_quoted(&mut quoted, word)?;
+    push_posix_text(text, quoted.as_str())
+}
+
+/// Adds a text of a specification of zsh, within single quotes. A colon, a bracket or a backslash has a backslash before it.
+pub(crate) fn push_specification(text: &mut String, words: &str) -> Result<(), AllocError> {
+    for c in words.chars() {
+        text.push_str(if matches!(c, '\\' | ':' | '[' | ']') {
+            "\\"
+        } else {
+            ""
+        })?;
+        push_posix_char(text, c)?;
+    }
+    Ok(())
+}
+
+/// Adds a word as fish reads it, within single quotes of fish.
+pub(crate) fn push_fish_inner(text: &mut String, word: &str) -> Result<(), AllocError> {
+    if is_plain(word) {
+        return text.push_str(word);
+    }
+    let mut quoted = String::new(*text.allocator());
+    push_fish_quoted(&mut quoted, word)?;
+    push_fish_text(text, quoted.as_str())
+}
+
+/// Adds a word that fish reads twice.
+pub(crate) fn push_fish_twice(text: &mut String, word: &str) -> Result<(), AllocError> {
+    if is_plain(word) {
+        return text.push_str(word);
+    }
+    let mut quoted = String::new(*text.allocator());
+    push_fish_quoted(&mut quoted, word)?;
+    push_fish_quoted(text, quoted.as_str())
 }
 
 /// Adds the name of the function that completes a program: an underscore, and each character that a name can't have as

@@ -1,18 +1,21 @@
 //! The completions for zsh.
 
-use crate::arguments::{is_own, is_shown, possible_values, takes_several, takes_value};
-use crate::words::{push_function, push_quoted, push_word};
+use crate::arguments::{is_own, is_shown, takes_several, takes_value};
+use crate::script::Script;
 use clap::{Arg, Command};
-use std::alloc::AllocError;
 
-const BEGIN: &str = "() {
+const BEGIN: &str = "#compdef %w
+
+%f() {
     local curcontext=$curcontext state line
     typeset -A opt_args
 ";
 
-const HELP: &str = "'(- *)'{-h,--help}'[Print help]'";
+const OPTIONS: &str = "    _arguments -C \\
+        '(- *)'{-h,--help}'[Print help]'";
 
-const VERSION: &str = " \\\n        '(- *)'{-V,--version}'[Print version]'";
+const VERSION: &str = " \\
+        '(- *)'{-V,--version}'[Print version]'";
 
 const STATES: &str = " \\
         '1:command:->command' \\
@@ -28,143 +31,114 @@ const STATES: &str = " \\
                     ;;
 ";
 
-/// Adds a text of a specification, in which a colon, a bracket or a backslash has a backslash before it.
-fn push_escaped(text: &mut String, words: &str) -> Result<(), AllocError> {
-    for c in words.chars() {
-        if matches!(c, '\\' | ':' | '[' | ']') {
-            text.push('\\')?;
-        }
-        text.push(c)?;
-    }
-    Ok(())
-}
+const CASE: &str = "                %w)
+                    _arguments \\
+                        '(- *)'{-h,--help}'[Print help]'";
+
+/// Calls what completes, or names the function if the file was read by `source`.
+const END: &str = "}
+
+if [[ $funcstack[1] == %f ]]; then
+    %f \"$@\"
+else
+    compdef %f %w
+fi
+";
 
 /// Adds what completes the value of an argument: its values, or `free` if it has none.
-fn push_action(spec: &mut String, arg: &Arg<'_>, free: &str) -> Result<(), AllocError> {
-    let values = possible_values(*spec.allocator(), arg)?;
-    spec.push(':')?;
-    push_escaped(spec, arg.get_id())?;
-    spec.push(':')?;
+fn add_action(script: &mut Script<'_>, arg: &Arg<'_>, free: &str) {
+    script.fill(":%s:", arg.get_id());
+    let values = script.values(arg);
     if values.is_empty() {
-        return spec.push_str(free);
+        script.push(free);
+    } else {
+        script.push("(");
+        script.add_list('i', " ", values.as_slice());
+        script.push(")");
     }
-    for (i, value) in values.iter().enumerate() {
-        spec.push(if i == 0 { '(' } else { ' ' })?;
-        push_word(spec, value)?;
-    }
-    spec.push(')')
 }
 
-/// Adds an argument, in quotes. A value that isn't an option's is completed as a file.
-fn push_argument(text: &mut String, arg: &Arg<'_>) -> Result<(), AllocError> {
-    let mut spec = String::new(*text.allocator());
+/// Adds an option.
+fn add_option(script: &mut Script<'_>, long: &str, arg: &Arg<'_>) {
+    script.fill(if takes_value(arg) { "--%s=" } else { "--%s" }, long);
+    script.fill("[%s]", arg.get_help().unwrap_or(""));
+    if takes_value(arg) {
+        add_action(script, arg, " ");
+    }
+}
+
+/// Adds an argument. A value that isn't an option's is completed as a file.
+fn add_argument(script: &mut Script<'_>, arg: &Arg<'_>) {
     match arg.get_long() {
-        Some(long) => {
-            spec.push_str("--")?;
-            push_escaped(&mut spec, long)?;
-            spec.push_str(if takes_value(arg) { "=[" } else { "[" })?;
-            push_escaped(&mut spec, arg.get_help().unwrap_or(""))?;
-            spec.push(']')?;
-            if takes_value(arg) {
-                push_action(&mut spec, arg, " ")?;
-            }
-        }
+        Some(long) => add_option(script, long, arg),
         None => {
-            spec.push_str(if takes_several(arg) { "*" } else { "" })?;
-            push_action(&mut spec, arg, "_files")?;
+            script.push(if takes_several(arg) { "*" } else { "" });
+            add_action(script, arg, "_files");
         }
     }
-    push_quoted(text, spec.as_str())
 }
 
-/// Adds the arguments of a command, each on a line of its own.
-fn push_arguments(
-    text: &mut String,
-    indent: &str,
-    command: &Command<'_>,
-) -> Result<(), AllocError> {
+/// Adds the arguments of a command, each in quotes on a line of its own.
+fn add_arguments(script: &mut Script<'_>, indent: &str, command: &Command<'_>) {
     for arg in command.get_arguments() {
         if is_shown(arg) && (arg.get_long().is_some() || arg.is_positional()) {
-            text.push_str(" \\\n")?;
-            text.push_str(indent)?;
-            push_argument(text, arg)?;
+            script.fill(" \\\n%p'", indent);
+            add_argument(script, arg);
+            script.push("'");
         }
     }
-    Ok(())
 }
 
 /// Adds the case of a subcommand.
-fn push_case(text: &mut String, command: &Command<'_>) -> Result<(), AllocError> {
-    text.push_str("                ")?;
-    push_word(text, command.get_name())?;
-    text.push_str(")\n                    _arguments \\\n                        ")?;
-    text.push_str(HELP)?;
-    push_arguments(text, "                        ", command)?;
-    text.push_str("\n                    ;;\n")
+fn add_case(script: &mut Script<'_>, command: &Command<'_>) {
+    script.fill(CASE, command.get_name());
+    add_arguments(script, "                        ", command);
+    script.push("\n                    ;;\n");
 }
 
 /// Adds the subcommands with what they do.
-fn push_subcommands(text: &mut String, command: &Command<'_>) -> Result<(), AllocError> {
-    text.push_str("    local -a subcommands=(\n")?;
+fn add_subcommands(script: &mut Script<'_>, command: &Command<'_>) {
+    script.push("    local -a subcommands=(\n");
     for subcommand in command.get_subcommands() {
         if is_own(subcommand) {
-            let mut entry = String::new(*text.allocator());
-            push_escaped(&mut entry, subcommand.get_name())?;
-            entry.push(':')?;
-            entry.push_str(subcommand.get_about().unwrap_or(""))?;
-            text.push_str("        ")?;
-            push_quoted(text, entry.as_str())?;
-            text.push('\n')?;
+            script.fill("        '%s:", subcommand.get_name());
+            script.fill("%t'\n", subcommand.get_about().unwrap_or(""));
         }
     }
-    text.push_str("        'help:Print help of a subcommand'\n    )\n")
+    script.push("        'help:Print help of a subcommand'\n    )\n");
 }
 
 /// Adds the cases of the subcommands.
-fn push_cases(text: &mut String, command: &Command<'_>) -> Result<(), AllocError> {
-    text.push_str(STATES)?;
+fn add_cases(script: &mut Script<'_>, command: &Command<'_>) {
+    script.push(STATES);
     for subcommand in command.get_subcommands() {
         if is_own(subcommand) {
-            push_case(text, subcommand)?;
+            add_case(script, subcommand);
         }
     }
-    text.push_str("            esac\n            ;;\n    esac\n")
+    script.push("            esac\n            ;;\n    esac\n");
+}
+
+/// Adds the options and the other arguments of the program itself.
+fn add_own(script: &mut Script<'_>, command: &Command<'_>) {
+    script.push(OPTIONS);
+    if command.get_version().is_some() {
+        script.push(VERSION);
+    }
+    add_arguments(script, "        ", command);
 }
 
 /// Adds the completions of a program for zsh.
-pub(crate) fn push_zsh(text: &mut String, command: &Command<'_>) -> Result<(), AllocError> {
+pub(crate) fn add_zsh(script: &mut Script<'_>, command: &Command<'_>) {
     let program = command.get_name();
-    text.push_str("#compdef ")?;
-    push_word(text, program)?;
-    text.push_str("\n\n")?;
-    push_function(text, program)?;
-    text.push_str(BEGIN)?;
+    script.fill(BEGIN, program);
     if command.has_subcommands() {
-        push_subcommands(text, command)?;
-    }
-    text.push_str("    _arguments -C \\\n        ")?;
-    text.push_str(HELP)?;
-    if command.get_version().is_some() {
-        text.push_str(VERSION)?;
-    }
-    push_arguments(text, "        ", command)?;
-    if command.has_subcommands() {
-        push_cases(text, command)?;
+        add_subcommands(script, command);
+        add_own(script, command);
+        add_cases(script, command);
     } else {
-        text.push('\n')?;
+        add_own(script, command);
+        script.push("\n");
     }
-    push_end(text, program)
-}
-
-/// Adds the call that completes, or that names the function if the file was read by `source`.
-fn push_end(text: &mut String, program: &str) -> Result<(), AllocError> {
-    text.push_str("}\n\nif [[ $funcstack[1] == ")?;
-    push_function(text, program)?;
-    text.push_str(" ]]; then\n    ")?;
-    push_function(text, program)?;
-    text.push_str(" \"$@\"\nelse\n    compdef ")?;
-    push_function(text, program)?;
-    text.push(' ')?;
-    push_word(text, program)?;
-    text.push_str("\nfi\n")
+    script.fill(END, program);
 }

@@ -1,0 +1,152 @@
+//! A text that is made of templates.
+
+use crate::arguments::possible_values;
+use crate::roff::{push_capitals, push_roff, push_roff_char, push_roff_line, push_shape};
+use crate::words::{
+    push_fish_inner, push_fish_quoted, push_fish_twice, push_fish_word, push_function,
+    push_inner_word, push_posix_text, push_specification, push_word,
+};
+use clap::Arg;
+use std::alloc::AllocError;
+
+/// Adds a part in the form that a letter of a template names.
+fn push_part(text: &mut String, form: char, part: &str) -> Result<(), AllocError> {
+    match form {
+        'w' => push_word(text, part),
+        'f' => push_function(text, part),
+        't' => push_posix_text(text, part),
+        'i' => push_inner_word(text, part),
+        's' => push_specification(text, part),
+        'W' => push_fish_word(text, part),
+        'Q' => push_fish_quoted(text, part),
+        'I' => push_fish_inner(text, part),
+        'D' => push_fish_twice(text, part),
+        'r' => push_roff(text, part),
+        'c' => push_capitals(text, part),
+        'l' => push_roff_line(text, part),
+        _ => text.push_str(part),
+    }
+}
+
+/// Adds what stands between two percent signs of a template: a letter, in whose form a part is written, and a text.
+fn push_piece(text: &mut String, piece: &str, part: &str) -> Result<(), AllocError> {
+    let mut rest = piece.chars();
+    if let Some(form) = rest.next() {
+        push_part(text, form, part)?;
+    }
+    text.push_str(rest.as_str())
+}
+
+/// Adds a template with a part.
+fn push_template(text: &mut String, template: &str, part: &str) -> Result<(), AllocError> {
+    let Some((first, rest)) = template.split_once('%') else {
+        return text.push_str(template);
+    };
+    text.push_str(first)?;
+    for piece in rest.split('%') {
+        push_piece(text, piece, part)?;
+    }
+    Ok(())
+}
+
+/// Adds some parts of one form, with a text between them.
+fn push_list(
+    text: &mut String,
+    form: char,
+    between: &str,
+    parts: &[&str],
+) -> Result<(), AllocError> {
+    for (i, part) in parts.iter().enumerate() {
+        text.push_str(if i == 0 { "" } else { between })?;
+        push_part(text, form, part)?;
+    }
+    Ok(())
+}
+
+/// Adds a letter, as roff if the form is `r`, and else as it is.
+fn push_letter(text: &mut String, form: char, letter: char) -> Result<(), AllocError> {
+    match form {
+        'r' => push_roff_char(text, letter),
+        _ => text.push(letter),
+    }
+}
+
+/// A text to which texts and templates are added. Once memory runs out, no more is added.
+///
+/// In a template a percent sign and a letter stand for a part, in one of these forms:
+///
+/// - `%p`: as it is,
+/// - `%w`: as a word of bash and zsh,
+/// - `%f`: as the name of the function that completes a program of this name,
+/// - `%t`, `%i`, `%s`: within quotes of zsh, as a text, a word, or a text of a specification,
+/// - `%W`, `%Q`: as a word of fish, or in quotes of fish,
+/// - `%I`, `%D`: as a word that fish reads twice, within quotes or not,
+/// - `%r`, `%c`: as roff, in capitals for `%c`,
+/// - `%l`: as a line of roff.
+#[derive(Drop)]
+pub(crate) struct Script<'a> {
+    text: &'a mut String,
+    is_cut: bool,
+}
+
+impl<'a> Script<'a> {
+    /// Begins to add to a text.
+    pub(crate) fn new(text: &'a mut String) -> Script<'a> {
+        Script {
+            text,
+            is_cut: false,
+        }
+    }
+
+    /// Adds a text as it is.
+    pub(crate) fn push(&mut self, text: &str) {
+        if !self.is_cut {
+            self.is_cut = self.text.push_str(text).is_err();
+        }
+    }
+
+    /// Adds a template with a part.
+    pub(crate) fn fill(&mut self, template: &str, part: &str) {
+        if !self.is_cut {
+            self.is_cut = push_template(self.text, template, part).is_err();
+        }
+    }
+
+    /// Adds some parts of one form, with a text between them.
+    pub(crate) fn add_list(&mut self, form: char, between: &str, parts: &[&str]) {
+        if !self.is_cut {
+            self.is_cut = push_list(self.text, form, between, parts).is_err();
+        }
+    }
+
+    /// Adds a letter, as roff if the form is `r`, and else as it is.
+    pub(crate) fn add_letter(&mut self, form: char, letter: char) {
+        if !self.is_cut {
+            self.is_cut = push_letter(self.text, form, letter).is_err();
+        }
+    }
+
+    /// Adds an argument as the command line shows it, as roff.
+    pub(crate) fn add_shape(&mut self, arg: &Arg<'_>) {
+        if !self.is_cut {
+            self.is_cut = push_shape(self.text, arg).is_err();
+        }
+    }
+
+    /// Returns the values that an argument can have, or none if they are free or memory runs out.
+    pub(crate) fn values<'v>(&mut self, arg: &Arg<'v>) -> Vec<&'v str> {
+        let alloc = *self.text.allocator();
+        match possible_values(alloc, arg) {
+            Ok(values) => values,
+            Err(_) => {
+                self.is_cut = true;
+                Vec::new(alloc)
+            }
+        }
+    }
+
+    /// Fails with `AllocError` if memory ran out.
+    pub(crate) fn end(self) -> Result<(), AllocError> {
+        if self.is_cut { Err(AllocError) } else { Ok(()) }
+    }
+}
