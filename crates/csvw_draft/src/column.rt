@@ -87,29 +87,28 @@ impl Column {
         if !self.is_full() || !self.kept.is_unique() {
             return Ok(None);
         }
-        let Some(mut values) = self.values()? else {
-            return Ok(None);
-        };
+        let mut values = Vec::new(self.alloc);
+        self.push_values(&mut values)?;
         values.sort()?;
-        if has_equal_neighbours(values.as_slice()) {
-            return Ok(None);
-        }
-        Ok(Some(values))
+        Ok(if has_equal_neighbours(values.as_slice()) {
+            None
+        } else {
+            Some(values)
+        })
     }
 
-    /// Returns the values of its texts, or `None` if not all are kept. Returns `AllocError` if memory runs out.
-    fn values(&self) -> Result<Option<Vec<Value>>, AllocError> {
+    /// Adds the values of its texts. Returns `AllocError` if memory runs out.
+    fn push_values(&self, values: &mut Vec<Value>) -> Result<(), AllocError> {
         let Some(texts) = self.kept.texts() else {
-            return Ok(None);
+            return Ok(());
         };
         let kind = self.kind();
-        let mut values = Vec::new(self.alloc);
         for text in texts {
             if let Some(value) = kind.value(self.alloc, text.as_str())? {
                 values.push(value)?;
             }
         }
-        Ok(Some(values))
+        Ok(())
     }
 
     /// Returns whether it has a value, all its texts are kept, and each value is one of these, which are in order.
@@ -120,14 +119,21 @@ impl Column {
         let kind = self.kind();
         let mut has_value = false;
         for text in texts {
-            if let Some(value) = kind.value(self.alloc, text.as_str())? {
-                if keys.binary_search(&value).is_err() {
-                    return Ok(false);
-                }
-                has_value = true;
+            match is_value_of(keys, kind.value(self.alloc, text.as_str())?) {
+                Some(true) => has_value = true,
+                Some(false) => return Ok(false),
+                None => {}
             }
         }
         Ok(has_value)
+    }
+}
+
+/// Returns whether a value is one of these, which are in order. Returns `None` if there is no value.
+fn is_value_of(keys: &[Value], value: Option<Value>) -> Option<bool> {
+    match value {
+        Some(value) => Some(keys.binary_search(&value).is_ok()),
+        None => None,
     }
 }
 

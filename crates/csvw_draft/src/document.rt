@@ -192,19 +192,13 @@ fn column_parts<'a>(alloc: Global, named: &'a Named) -> Result<Vec<ColumnPart<'a
     Ok(parts)
 }
 
-/// Returns a foreign key, or `None` if its columns have no names.
-fn key_part<'a>(
-    tables: &'a [Named],
-    place: usize,
-    urls: &'a [String],
-    key: ForeignKey,
-) -> Option<ForeignKeyPart<'a>> {
-    let other = tables.get(key.table)?;
+/// Returns a foreign key, or `None` if there is no URL for the table that it refers to.
+fn key_part<'a>(urls: &'a [String], key: ForeignKey<'a>) -> Option<ForeignKeyPart<'a>> {
     Some(ForeignKeyPart {
-        column_reference: name_at(tables.get(place)?.names.as_slice(), key.column)?,
+        column_reference: key.column,
         reference: ReferencePart {
             resource: urls.get(key.table)?.as_str(),
-            column_reference: key_name(other)?,
+            column_reference: key.key,
         },
     })
 }
@@ -218,7 +212,7 @@ fn key_parts<'a>(
 ) -> Result<Option<Vec<ForeignKeyPart<'a>>>, AllocError> {
     let mut parts = Vec::new(alloc);
     for key in foreign_keys(alloc, tables, place)? {
-        if let Some(part) = key_part(tables, place, urls, key) {
+        if let Some(part) = key_part(urls, key) {
             parts.push(part)?;
         }
     }

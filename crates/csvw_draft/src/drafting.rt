@@ -7,11 +7,9 @@ use crate::asked::Draft;
 use crate::document::document;
 use crate::halt::Halt;
 use crate::kept::{Purpose, Room};
-use crate::keys::{Named, primary_key};
-use crate::names::Names;
+use crate::keys::Named;
 use crate::note::note_limits;
 use crate::reading::{Place, read_file};
-use crate::table::Table;
 use crate::urls::{last_part, urls_of};
 use csvw_columns::Plan;
 use csvw_engine_core::Stop;
@@ -97,7 +95,8 @@ fn written<O: Opener, V: Write>(
     opener: &mut O,
     err: &mut Counted<V>,
 ) -> Result<String, Halt> {
-    let tables = read_tables(alloc, asked.files, opener, err)?;
+    let mut tables = Vec::new(alloc);
+    push_tables(&mut tables, asked.files, opener, err)?;
     let urls = urls_of(alloc, asked.files)?;
     Ok(document(alloc, asked.base, tables.as_slice(), urls.as_slice())?)
 }
@@ -111,15 +110,15 @@ fn judged(alloc: Global, bytes: &[u8], url: &str) -> Result<(), MetaFault>
     Ok(())
 }
 
-/// Reads the table of each file.
-fn read_tables<O: Opener, V: Write>(
-    alloc: Global,
+/// Adds the table of each file.
+fn push_tables<O: Opener, V: Write>(
+    tables: &mut Vec<Named>,
     files: &[&str],
     opener: &mut O,
     err: &mut Counted<V>,
-) -> Result<Vec<Named>, Halt> {
+) -> Result<(), Halt> {
+    let alloc = *tables.allocator();
     let mut room = Room::new();
-    let mut tables = Vec::new(alloc);
     let mut place = Place {
         number: 0,
         purpose: if files.len() > 1 {
@@ -130,11 +129,13 @@ fn read_tables<O: Opener, V: Write>(
     };
     for path in files {
         place.number = place.number.saturating_add(1);
-        let table = read_file(alloc, path, opener, place, &mut room)?;
-        note_limits(alloc, path, table.columns.as_slice(), err)?;
-        tables.push(named(alloc, path, table)?)?;
+        tables.push(Named::new(alloc, read_file(alloc, path, opener, place, &mut room)?))?;
+        if let Some(named) = tables.last_mut() {
+            note_limits(alloc, path, named.table.columns.as_slice(), err)?;
+            named.find(stem(path))?;
+        }
     }
-    Ok(tables)
+    Ok(())
 }
 
 /// Returns the name of a file without what follows its last dot.
@@ -144,31 +145,4 @@ fn stem(path: &str) -> &str {
         Some((stem, _)) if !stem.is_empty() => stem,
         _ => last,
     }
-}
-
-/// Names the columns of a table, and looks for its primary key.
-fn named(alloc: Global, path: &str, table: Table) -> Result<Named, AllocError> {
-    let names = names_of(alloc, &table)?;
-    let key = primary_key(&table, names.as_slice())?;
-    Ok(Named {
-        table,
-        name: String::from_str(alloc, stem(path))?,
-        names,
-        key,
-    })
-}
-
-/// Returns the name of each column. A column without a title has none.
-fn names_of(alloc: Global, table: &Table) -> Result<Vec<Option<String>>, AllocError> {
-    let mut taken = Names::new(alloc);
-    let mut names = Vec::new(alloc);
-    for (i, column) in table.columns.iter().enumerate() {
-        let title = column.title.as_str();
-        names.push(if title.is_empty() {
-            None
-        } else {
-            Some(taken.next(title, i.saturating_add(1))?)
-        })?;
-    }
-    Ok(names)
 }

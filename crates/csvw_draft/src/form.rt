@@ -3,7 +3,6 @@ ghost use Rattle.std.specs.Prelude.{◌<◌, ◌^◌, ◌-◌};
 
 use csvw_records::{Dialect, RowStop};
 use csvw_rows::{RawRow, Rows};
-use csvw_text::Text;
 use std::alloc::{AllocError, Global};
 
 /// The delimiters that are tried.
@@ -25,7 +24,7 @@ const FRONT_ROWS: u64 = 4_000_000_000;
 const BOM: &[u8] = b"\xEF\xBB\xBF";
 
 /// What a draft finds of a dialect. All else is as in the default dialect.
-#[derive(Clone, Copy, Debug, PartialEq, Eq)]
+#[derive(Clone, Copy)]
 pub(crate) struct Form {
     /// The character between two fields.
     pub(crate) delimiter: char,
@@ -38,7 +37,7 @@ pub(crate) struct Form {
 }
 
 /// What rows are that begin with `#`.
-#[derive(Clone, Copy, Debug, PartialEq, Eq)]
+#[derive(Clone, Copy, PartialEq, Eq)]
 pub(crate) enum Comments {
     /// Comments, as in the default dialect.
     Skipped,
@@ -62,20 +61,19 @@ impl Form {
         dialect.delimiter = self.delimiter;
         dialect.quote_char = Some(self.quote);
         dialect.skip_rows = u64::from(self.skip_rows);
-        dialect.comment_prefix = match self.comments {
-            Comments::Skipped => Some(Text::copied(alloc, "#")?),
-            Comments::Read => None,
-        };
+        if self.comments == Comments::Read {
+            dialect.comment_prefix = None;
+        }
         Ok(dialect)
     }
 
     /// Returns a reader of rows, or `None` if no text can be read by the form. Returns `AllocError` if memory runs out.
-    pub(crate) fn rows(&self, alloc: Global, max_rows: u64) -> Result<Option<Rows>, AllocError>
+    pub(crate) fn rows(&self, alloc: Global, max_rows: u64) -> Result<Option<Box<Rows>>, AllocError>
         requires { max_rows < 2 ^ 64 - 1 }
     {
         let dialect = self.dialect(alloc)?;
         match dialect.check() {
-            Ok(()) => Ok(Some(Rows::new(alloc, dialect, max_rows)?)),
+            Ok(()) => Ok(Some(Box::new(alloc, Rows::new(alloc, dialect, max_rows)?)?)),
             Err(_) => Ok(None),
         }
     }
@@ -135,15 +133,20 @@ fn fields_by(alloc: Global, front: Front<'_>, form: Form) -> Result<Option<usize
     } else {
         u64::MAX
     };
-    let Some(mut rows) = form.rows(alloc, FRONT_ROWS)? else {
-        return Ok(None);
-    };
+    match form.rows(alloc, FRONT_ROWS)? {
+        Some(mut rows) => fields_in(&mut rows, front, most),
+        None => Ok(None),
+    }
+}
+
+/// Returns the number of fields of the first rows, of at most so many, or `None` if they differ or can't be read.
+fn fields_in(rows: &mut Rows, front: Front<'_>, most: u64) -> Result<Option<usize>, AllocError> {
     let mut width = Width {
         rows: 0,
         fields: 0,
         is_ragged: false,
     };
-    if feed_front(&mut rows, front).is_err() {
+    if feed_front(rows, front).is_err() {
         return Ok(None);
     }
     for _ in 0..most {

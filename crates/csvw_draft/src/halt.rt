@@ -9,7 +9,7 @@ use csvw_records::RowStop;
 use std::alloc::{AllocError, AllocFailed};
 
 /// Why a draft ends before its document is written. No writer can be the reason.
-#[derive(Debug, Drop)]
+#[derive(Drop)]
 pub(crate) enum Halt {
     /// Memory ran out.
     Memory,

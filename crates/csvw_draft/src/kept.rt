@@ -4,19 +4,19 @@ use std::alloc::{AllocError, Global};
 use std::collections::HashSet;
 
 /// How many different texts of a column are kept at most.
-pub(crate) const KEPT_VALUES: usize = 100_000;
+const KEPT_VALUES: usize = 100_000;
 
 /// How many bytes the texts of a column may have that are kept. Each text counts 32 bytes more.
-pub(crate) const KEPT_BYTES: usize = 4_194_304;
+const KEPT_BYTES: usize = 4_194_304;
 
 /// How many bytes the texts of all columns of a draft may have that are kept. Each text counts 32 bytes more.
-pub(crate) const KEPT_BYTES_IN_ALL: usize = 268_435_456;
+const KEPT_BYTES_IN_ALL: usize = 268_435_456;
 
 /// How many bytes a text counts besides its own.
 const BYTES_OF_ONE: usize = 32;
 
 /// Why the texts of a column are no longer kept.
-#[derive(Clone, Copy, Debug, PartialEq, Eq)]
+#[derive(Clone, Copy)]
 pub(crate) enum Limit {
     /// There are more than `KEPT_VALUES`.
     Values,
@@ -24,6 +24,17 @@ pub(crate) enum Limit {
     Bytes,
     /// The texts of all columns have more than `KEPT_BYTES_IN_ALL`.
     BytesInAll,
+}
+
+impl Limit {
+    /// Returns what there is more of than may be kept.
+    pub(crate) fn text(self) -> &'static str {
+        match self {
+            Limit::Values => "more than 100000 values",
+            Limit::Bytes => "more than 4194304 bytes of values",
+            Limit::BytesInAll => "more than 268435456 bytes of values in all columns",
+        }
+    }
 }
 
 /// The room that is left for the texts of all columns.
@@ -57,7 +68,7 @@ impl Room {
 }
 
 /// What a column's texts are kept for.
-#[derive(Clone, Copy, Debug, PartialEq, Eq)]
+#[derive(Clone, Copy, PartialEq, Eq)]
 pub(crate) enum Purpose {
     /// For a primary key alone, because there is one table. A text that comes twice ends it.
     PrimaryKey,

@@ -1,6 +1,8 @@
 //! The keys of the tables of a draft.
 
+use crate::column::Column;
 use crate::kind::Kind;
+use crate::names::Names;
 use crate::table::Table;
 use crate::words::has_words;
 use csvw_datatype::Value;
@@ -21,12 +23,14 @@ pub(crate) struct Key {
 }
 
 /// A foreign key of a table.
-#[derive(Clone, Copy, Debug, PartialEq, Eq)]
-pub(crate) struct ForeignKey {
-    /// The place of its column, from 0.
-    pub(crate) column: usize,
+#[derive(Clone, Copy)]
+pub(crate) struct ForeignKey<'a> {
+    /// The name of its column.
+    pub(crate) column: &'a str,
     /// The place of the table that it refers to, from 0.
     pub(crate) table: usize,
+    /// The name of the column that it refers to.
+    pub(crate) key: &'a str,
 }
 
 /// A table with the names of its columns.
@@ -42,22 +46,51 @@ pub(crate) struct Named {
     pub(crate) key: Option<Key>,
 }
 
+impl Named {
+    /// Begins without names and without a key. It takes no memory.
+    pub(crate) fn new(alloc: Global, table: Table) -> Named {
+        Named {
+            table,
+            name: String::new(alloc),
+            names: Vec::new(alloc),
+            key: None,
+        }
+    }
+
+    /// Names the table and its columns, and looks for its primary key.
+    pub(crate) fn find(&mut self, name: &str) -> Result<(), AllocError> {
+        self.name.push_str(name)?;
+        push_names(&mut self.names, &self.table)?;
+        self.key = primary_key(&self.table, self.names.as_slice())?;
+        Ok(())
+    }
+}
+
+/// Adds the name of each column.
+fn push_names(names: &mut Vec<Option<String>>, table: &Table) -> Result<(), AllocError> {
+    let mut taken = Names::new(*names.allocator());
+    for (i, column) in table.columns.iter().enumerate() {
+        let name = taken.next(column.title.as_str(), i.saturating_add(1))?;
+        names.push(name)?;
+    }
+    Ok(())
+}
+
 /// A column that may refer to a key.
 #[derive(Clone, Copy)]
 struct Referring<'a> {
+    /// The place of its table, from 0.
+    table: usize,
     /// Its name.
     name: &'a str,
-    /// Its datatype.
-    kind: Kind,
+    /// What is known of its cells.
+    column: &'a Column,
     /// Whether it is the primary key of its own table.
     is_key: bool,
 }
 
 /// Returns the primary key of a table: its first column with a name in which each cell has a value and no two have the same.
-pub(crate) fn primary_key(
-    table: &Table,
-    names: &[Option<String>],
-) -> Result<Option<Key>, AllocError> {
+fn primary_key(table: &Table, names: &[Option<String>]) -> Result<Option<Key>, AllocError> {
     if !table.has_row {
         return Ok(None);
     }
@@ -91,7 +124,7 @@ pub(crate) fn name_at(names: &[Option<String>], column: usize) -> Option<&str> {
 }
 
 /// What the name of a column says of a reference to the key of a table.
-#[derive(Clone, Copy, Debug, PartialEq, Eq)]
+#[derive(Clone, Copy, PartialEq, Eq)]
 enum Hint {
     /// It has the table's name in it, or is the key's name.
     Strong,
@@ -112,7 +145,7 @@ fn hint_of(referring: Referring<'_>, other: &Named) -> Hint {
     if has_words(referring.name, singular(other.name.as_str())) {
         return Hint::Strong;
     }
-    if referring.is_key && referring.kind == Kind::Whole {
+    if referring.is_key && referring.column.kind() == Kind::Whole {
         return Hint::None;
     }
     match key_name(other) {
@@ -122,64 +155,78 @@ fn hint_of(referring: Referring<'_>, other: &Named) -> Hint {
     }
 }
 
-/// Returns whether a column of a table refers to the primary key of another: its name gives this hint, it has the same datatype,
+/// Returns what is known of the column at a place of a table, or `None` if it has no name.
+fn referring_at(tables: &[Named], table: usize, place: usize) -> Option<Referring<'_>> {
+    let named = tables.get(table)?;
+    Some(Referring {
+        table,
+        name: name_at(named.names.as_slice(), place)?,
+        column: named.table.columns.get(place)?,
+        is_key: named.key.as_ref().is_some_and(|own| own.column == place),
+    })
+}
+
+/// Returns whether a column refers to the primary key of another table: its name gives this hint, it has the same datatype,
 /// and each of its values is one of the key.
-fn refers(named: &Named, place: usize, other: &Named, hint: Hint) -> Result<bool, AllocError> {
-    let (Some(name), Some(column), Some(key)) = (
-        name_at(named.names.as_slice(), place),
-        named.table.columns.get(place),
-        &other.key,
-    ) else {
+fn refers(referring: Referring<'_>, other: &Named, hint: Hint) -> Result<bool, AllocError> {
+    let Some(key) = &other.key else {
         return Ok(false);
     };
-    let referring = Referring {
-        name,
-        kind: column.kind(),
-        is_key: named.key.as_ref().is_some_and(|own| own.column == place),
-    };
-    if referring.kind != key.kind || hint_of(referring, other) != hint {
+    if referring.column.kind() != key.kind || hint_of(referring, other) != hint {
         return Ok(false);
     }
-    column.is_within(key.values.as_slice())
+    referring.column.is_within(key.values.as_slice())
 }
 
 /// Adds the foreign keys of a column to the tables whose names or keys give this hint.
-fn push_keys(
-    found: &mut Vec<ForeignKey>,
-    tables: &[Named],
-    place: usize,
-    column: usize,
+fn push_keys<'a>(
+    found: &mut Vec<ForeignKey<'a>>,
+    tables: &'a [Named],
+    referring: Referring<'a>,
     hint: Hint,
 ) -> Result<(), AllocError> {
-    let Some(named) = tables.get(place) else {
-        return Ok(());
-    };
     for (table, other) in tables.iter().enumerate() {
-        let has_room = table != place && found.len() < MAX_FOREIGN_KEYS;
-        if has_room && refers(named, column, other, hint)? {
-            found.push(ForeignKey { column, table })?;
+        let has_room = table != referring.table && found.len() < MAX_FOREIGN_KEYS;
+        if has_room && refers(referring, other, hint)? {
+            found.push(ForeignKey {
+                column: referring.name,
+                table,
+                key: key_name(other).unwrap_or(""),
+            })?;
         }
     }
     Ok(())
 }
 
-/// Returns the foreign keys of the table at a place. If the name of a column has the name of one table and the keys' names of
-/// others in it, the column refers to the first alone.
+/// Adds the foreign keys of a column. If its name has the name of one table and the keys' names of others in it, it refers to the
+/// first alone.
+fn push_strongest<'a>(
+    found: &mut Vec<ForeignKey<'a>>,
+    tables: &'a [Named],
+    referring: Referring<'a>,
+) -> Result<(), AllocError> {
+    let before = found.len();
+    push_keys(found, tables, referring, Hint::Strong)?;
+    if found.len() > before {
+        return Ok(());
+    }
+    push_keys(found, tables, referring, Hint::Weak)
+}
+
+/// Returns the foreign keys of the table at a place.
 pub(crate) fn foreign_keys(
     alloc: Global,
     tables: &[Named],
     place: usize,
-) -> Result<Vec<ForeignKey>, AllocError> {
+) -> Result<Vec<ForeignKey<'_>>, AllocError> {
     let mut found = Vec::new(alloc);
     let columns = match tables.get(place) {
         Some(named) => named.names.len(),
         None => 0,
     };
     for column in 0..columns {
-        let before = found.len();
-        push_keys(&mut found, tables, place, column, Hint::Strong)?;
-        if found.len() == before {
-            push_keys(&mut found, tables, place, column, Hint::Weak)?;
+        if let Some(referring) = referring_at(tables, place, column) {
+            push_strongest(&mut found, tables, referring)?;
         }
     }
     Ok(found)

@@ -24,7 +24,7 @@ const DECIMAL: NumberRules = NumberRules {
 };
 
 /// A datatype that a draft gives to a column, with its format.
-#[derive(Clone, Copy, Debug, PartialEq, Eq)]
+#[derive(Clone, Copy, PartialEq, Eq)]
 pub enum Kind {
     /// `boolean`, written as `true` and `false`. `1` and `0` are integers here.
     Truth,

@@ -84,16 +84,29 @@ impl Names {
         }
     }
 
-    /// Returns the name of the column of this number, from 1, made from its title. No column so far has it. Returns
-    /// `AllocError` if memory runs out.
-    pub(crate) fn next(&mut self, title: &str, number: usize) -> Result<String, AllocError> {
-        let mut name = name_of(self.alloc, title)?;
-        if name.is_empty() {
-            write!(name, "column_{number}")?;
+    /// Returns the name of the column of this number, from 1, made from its title. No column so far has it. A column without a
+    /// title has none. Returns `AllocError` if memory runs out.
+    pub(crate) fn next(
+        &mut self,
+        title: &str,
+        number: usize,
+    ) -> Result<Option<String>, AllocError> {
+        if title.is_empty() {
+            return Ok(None);
         }
-        let name = self.unique(name)?;
+        let name = self.unique(self.column_name(title, number)?)?;
         self.taken.insert(name.clone()?)?;
-        Ok(name)
+        Ok(Some(name))
+    }
+
+    /// Returns a name made from a title, or from the column's number if the title has no letter and no digit.
+    fn column_name(&self, title: &str, number: usize) -> Result<String, AllocError> {
+        let name = name_of(self.alloc, title)?;
+        if name.is_empty() {
+            format!(in self.alloc; "column_{number}")
+        } else {
+            Ok(name)
+        }
     }
 
     /// Returns a name, with a number behind it if a column has the name.

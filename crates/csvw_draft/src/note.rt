@@ -1,22 +1,10 @@
 //! The lines that say what a draft left off.
 
 use crate::column::Column;
-use crate::kept::{KEPT_BYTES, KEPT_BYTES_IN_ALL, KEPT_VALUES, Limit};
 use crate::urls::last_part;
 use csvw_streams::{Counted, LineCut, LineRoom, push_parts, push_shown, write_out};
 use std::alloc::{AllocError, Global};
 use std::io::Write;
-
-/// Returns what is said of a limit.
-fn reason(alloc: Global, limit: Limit) -> Result<String, AllocError> {
-    match limit {
-        Limit::Values => format!(in alloc; "more than {KEPT_VALUES} values"),
-        Limit::Bytes => format!(in alloc; "more than {KEPT_BYTES} bytes of values"),
-        Limit::BytesInAll => format!(in alloc;
-            "more than {KEPT_BYTES_IN_ALL} bytes of values in all columns"
-        ),
-    }
-}
 
 /// Adds the name of a column: its title or, if it has none, its number.
 fn push_column<V: Write>(
@@ -70,12 +58,11 @@ pub(crate) fn note_limits<V: Write>(
     for (i, column) in columns.iter().enumerate() {
         if let Some(limit) = column.kept.limit() {
             let number = i.saturating_add(1).to_string(alloc)?;
-            let reason = reason(alloc, limit)?;
             let line = Line {
                 path,
                 title: column.title.as_str(),
                 number: number.as_str(),
-                reason: reason.as_str(),
+                reason: limit.text(),
             };
             let _ = send_line(err, line);
         }

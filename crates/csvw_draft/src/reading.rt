@@ -53,29 +53,87 @@ fn feed(rows: &mut Rows, piece: &[u8]) -> Result<(), RowStop> {
     }
 }
 
-/// Takes the rows of a piece of the table's text, or its last rows if the piece is empty.
-fn take_rows(
-    table: &mut Table,
-    rows: &mut Rows,
-    piece: &[u8],
+/// A table that is being read.
+#[derive(Drop)]
+struct Reading<'a> {
+    /// The table so far.
+    table: &'a mut Table,
+    /// Its reader of rows.
+    rows: &'a mut Rows,
+    /// Its number, from 1.
     number: u32,
-    room: &mut Room,
-) -> Result<(), Halt> {
-    if let Err(stop) = feed(rows, piece) {
-        return Err(Halt::of_row_stop(number, rows.row(), stop));
-    }
-    for _ in 0..u64::MAX {
-        match rows.next() {
-            Ok(Some(row)) => {
-                if let Err(misfit) = table.take(&row, room) {
-                    return Err(Halt::of_misfit(number, row.source(), misfit));
+    /// The room that is left for its texts.
+    room: &'a mut Room,
+}
+
+impl Reading<'_> {
+    /// Takes the rows of a piece of the table's text, or its last rows if the piece is empty.
+    fn take(&mut self, piece: &[u8]) -> Result<(), Halt> {
+        if let Err(stop) = feed(self.rows, piece) {
+            return Err(Halt::of_row_stop(self.number, self.rows.row(), stop));
+        }
+        for _ in 0..u64::MAX {
+            match self.rows.next() {
+                Ok(Some(row)) => {
+                    if let Err(misfit) = self.table.take(&row, self.room) {
+                        return Err(Halt::of_misfit(self.number, row.source(), misfit));
+                    }
+                }
+                Ok(None) => break,
+                Err(stop) => {
+                    return Err(Halt::of_row_stop(self.number, self.rows.row(), stop));
                 }
             }
-            Ok(None) => return Ok(()),
-            Err(stop) => return Err(Halt::of_row_stop(number, rows.row(), stop)),
         }
+        Ok(())
     }
-    Ok(())
+
+    /// Takes all rows of a text whose first piece was read.
+    fn take_all<R: Read>(
+        &mut self,
+        reader: &mut Counted<R>,
+        piece: &mut [u8],
+        filled: usize,
+    ) -> Result<(), Halt> {
+        let mut filled = filled;
+        for _ in 0..u64::MAX {
+            self.take(&piece[..filled.min(piece.len())])?;
+            if filled < PIECE {
+                break;
+            }
+            filled = fill(reader, piece)?;
+        }
+        self.take(&[])
+    }
+}
+
+/// Reads a table to its end, in pieces.
+fn read_pieces<R: Read>(
+    alloc: Global,
+    reader: &mut Counted<R>,
+    piece: &mut [u8],
+    place: Place,
+    room: &mut Room,
+) -> Result<Table, Halt> {
+    let filled = fill(reader, piece)?;
+    let front = Front {
+        bytes: &piece[..filled.min(piece.len())],
+        is_whole: filled < PIECE,
+    };
+    let form = form_of(alloc, front)?;
+    let Some(mut rows) = form.rows(alloc, MAX_ROWS)? else {
+        return Err(Halt::Memory);
+    };
+    let mut table = Table::new(alloc, form, place.purpose);
+    let mut reading = Reading {
+        table: &mut table,
+        rows: &mut rows,
+        number: place.number,
+        room,
+    };
+    reading.take_all(reader, piece, filled)?;
+    table.end();
+    Ok(table)
 }
 
 /// Reads a table to its end.
@@ -86,28 +144,7 @@ fn read_table<R: Read>(
     room: &mut Room,
 ) -> Result<Table, Halt> {
     let mut buffer = vec![in alloc; 0u8; PIECE]?;
-    let piece = buffer.as_mut_slice();
-    let mut filled = fill(reader, piece)?;
-    let front = Front {
-        bytes: &piece[..filled.min(piece.len())],
-        is_whole: filled < PIECE,
-    };
-    let form = form_of(alloc, front)?;
-    let Some(mut rows) = form.rows(alloc, MAX_ROWS)? else {
-        return Err(Halt::Memory);
-    };
-    let mut table = Table::new(alloc, form, place.purpose);
-    for _ in 0..u64::MAX {
-        let read = &piece[..filled.min(piece.len())];
-        take_rows(&mut table, &mut rows, read, place.number, room)?;
-        if filled < PIECE {
-            break;
-        }
-        filled = fill(reader, piece)?;
-    }
-    take_rows(&mut table, &mut rows, &[], place.number, room)?;
-    table.end();
-    Ok(table)
+    read_pieces(alloc, reader, buffer.as_mut_slice(), place, room)
 }
 
 /// Opens the file at a path and reads the table.

@@ -10,7 +10,7 @@ use std::alloc::{AllocError, AllocFailed, Global};
 const MAX_COLUMNS: usize = 1_024;
 
 /// Why a row can't be a row of the table.
-#[derive(Clone, Copy, Debug, PartialEq, Eq)]
+#[derive(Clone, Copy)]
 pub(crate) enum Misfit {
     /// Memory ran out.
     Memory,

@@ -70,16 +70,20 @@ fn count_alike(files: &[&str], path: &str) -> usize {
     files.iter().filter(|file| last_part(file) == last).count()
 }
 
-/// Returns the URL of each file: the last part of its path or, if another path ends with it, all parts.
+/// Returns the URL of a file: the last part of its path or, if another path ends with it, all parts.
+fn url_of(alloc: Global, files: &[&str], path: &str) -> Result<String, AllocError> {
+    if count_alike(files, path) > 1 {
+        long_url(alloc, path)
+    } else {
+        short_url(alloc, path)
+    }
+}
+
+/// Returns the URL of each file.
 pub(crate) fn urls_of(alloc: Global, files: &[&str]) -> Result<Vec<String>, AllocError> {
     let mut urls = Vec::new(alloc);
     for path in files {
-        let url = if count_alike(files, path) > 1 {
-            long_url(alloc, path)?
-        } else {
-            short_url(alloc, path)?
-        };
-        urls.push(url)?;
+        urls.push(url_of(alloc, files, path)?)?;
     }
     Ok(urls)
 }
