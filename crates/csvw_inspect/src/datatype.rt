@@ -2,8 +2,9 @@
 ghost use Rattle.std.specs.Prelude.{◌≡◌, true};
 ghost use Rattle.csvw_datatype.specs.Lexical.{IsWritable};
 
-use crate::property::{Properties, character};
-use csvw_datatype::{Datatype, Facets, Format, NumberFormat, Value as Bound};
+use crate::property::{Property, given, length, text};
+use crate::value::{Shown, character};
+use csvw_datatype::{Datatype, Format, NumberFormat, TruthFormat, Value as Bound};
 use serde_json::{Value, json};
 use std::alloc::{AllocError, Global};
 
@@ -32,30 +33,21 @@ fn is_writable(bound: &Bound) -> bool
     }
 }
 
-/// Adds a bound, if there is one.
-fn put_bound(
-    list: &mut Properties,
-    alloc: Global,
-    name: &'static str,
-    bound: &Option<Bound>,
-) -> Result<(), AllocError> {
+/// Returns a bound, if there is one.
+fn bound<'a>(name: &'static str, bound: &'a Option<Bound>) -> Property<'a> {
     match bound {
-        Some(bound) if is_writable(bound) => list.put(name, Value::String(bound.lexical(alloc)?)),
-        _ => Ok(()),
+        Some(bound) if is_writable(bound) => given(name, Shown::Bound(bound)),
+        _ => given(name, Shown::Nothing),
     }
 }
 
-/// Adds the facets that are set.
-fn put_facets(list: &mut Properties, alloc: Global, facets: &Facets) -> Result<(), AllocError> {
-    list.put_number("length", facets.length)?;
-    list.put_number("minLength", facets.min_length)?;
-    list.put_number("maxLength", facets.max_length)?;
-    put_bound(list, alloc, "minimum", &facets.minimum)?;
-    put_bound(list, alloc, "minInclusive", &facets.min_inclusive)?;
-    put_bound(list, alloc, "minExclusive", &facets.min_exclusive)?;
-    put_bound(list, alloc, "maximum", &facets.maximum)?;
-    put_bound(list, alloc, "maxInclusive", &facets.max_inclusive)?;
-    put_bound(list, alloc, "maxExclusive", &facets.max_exclusive)
+/// Returns the lexical form of a bound.
+pub(crate) fn bound_value(alloc: Global, bound: &Bound) -> Result<Value, AllocError> {
+    if is_writable(bound) {
+        Ok(Value::String(bound.lexical(alloc)?))
+    } else {
+        Ok(Value::Null)
+    }
 }
 
 /// Returns the characters of numbers.
@@ -68,15 +60,16 @@ fn number_format(alloc: Global, format: NumberFormat) -> Result<Value, AllocErro
     json!(in alloc; { "decimalChar": decimal, "groupChar": group })
 }
 
+/// Returns the texts of booleans.
+fn truth_format(alloc: Global, format: &TruthFormat) -> Result<Value, AllocError> {
+    let texts = [format.if_true.as_str(), format.if_false.as_str()];
+    Ok(Value::String(texts.join(alloc, "|")?))
+}
+
 /// Returns the value of `format`.
-fn format_of(alloc: Global, format: &Format) -> Result<Value, AllocError> {
+pub(crate) fn format_value(alloc: Global, format: &Format) -> Result<Value, AllocError> {
     match format {
-        Format::Truth(truth) => {
-            let mut text = String::from_str(alloc, truth.if_true.as_str())?;
-            text.push('|')?;
-            text.push_str(truth.if_false.as_str())?;
-            Ok(Value::String(text))
-        }
+        Format::Truth(truth) => truth_format(alloc, truth),
         Format::Number(number) => number_format(alloc, *number),
         Format::Day(day) => Value::try_from_str(alloc, day.pattern()),
         Format::Moment(moment) => Value::try_from_str(alloc, moment.pattern()),
@@ -84,15 +77,28 @@ fn format_of(alloc: Global, format: &Format) -> Result<Value, AllocError> {
 }
 
 /// Returns the properties of a datatype.
-pub(crate) fn datatype_of(alloc: Global, datatype: &Datatype) -> Result<Properties, AllocError> {
-    let mut list = Properties::new(alloc);
-    list.compare_text("base", datatype.simple.name(), "string")?;
-    if let Some(id) = &datatype.id {
-        list.put_text("@id", id.as_str())?;
-    }
-    if let Some(format) = &datatype.format {
-        list.put("format", format_of(alloc, format)?)?;
-    }
-    put_facets(&mut list, alloc, &datatype.facets)?;
-    Ok(list)
+pub(crate) fn datatype_properties(datatype: &Datatype) -> [Property<'_>; 12] {
+    let facets = &datatype.facets;
+    let id = match &datatype.id {
+        Some(id) => Shown::Text(id.as_str()),
+        None => Shown::Nothing,
+    };
+    let format = match &datatype.format {
+        Some(format) => Shown::Format(format),
+        None => Shown::Nothing,
+    };
+    [
+        text("base", datatype.simple.name(), "string"),
+        given("@id", id),
+        given("format", format),
+        length("length", facets.length),
+        length("minLength", facets.min_length),
+        length("maxLength", facets.max_length),
+        bound("minimum", &facets.minimum),
+        bound("minInclusive", &facets.min_inclusive),
+        bound("minExclusive", &facets.min_exclusive),
+        bound("maximum", &facets.maximum),
+        bound("maxInclusive", &facets.max_inclusive),
+        bound("maxExclusive", &facets.max_exclusive),
+    ]
 }

@@ -1,84 +1,81 @@
 //! A dialect.
 
-use crate::property::{Properties, character};
+use crate::property::{Property, default, given, number, text, truth};
+use crate::value::Shown;
 use csvw_records::{Dialect, LineTerminators, Trim};
-use serde_json::{Value, json};
-use std::alloc::{AllocError, Global};
 
-/// Returns the value of `trim`.
-fn trim(alloc: Global, trim: Trim) -> Result<Value, AllocError> {
+/// Returns `quoteChar`. The default is `"`.
+fn quote_char(quote: Option<char>) -> Property<'static> {
+    let name = "quoteChar";
+    match quote {
+        Some('"') => default(name, Shown::Character('"')),
+        Some(quote) => given(name, Shown::Character(quote)),
+        None => given(name, Shown::Null),
+    }
+}
+
+/// Returns `delimiter`. The default is a comma.
+fn delimiter(delimiter: char) -> Property<'static> {
+    let name = "delimiter";
+    match delimiter {
+        ',' => default(name, Shown::Character(',')),
+        _ => given(name, Shown::Character(delimiter)),
+    }
+}
+
+/// Returns `commentPrefix`. The default is `#`.
+fn comment_prefix(dialect: &Dialect) -> Property<'_> {
+    let name = "commentPrefix";
+    match &dialect.comment_prefix {
+        Some(prefix) => text(name, prefix.as_str(), "#"),
+        None => given(name, Shown::Null),
+    }
+}
+
+/// Returns `doubleQuote`. The default is true.
+fn double_quote(is_doubled: bool) -> Property<'static> {
+    let name = "doubleQuote";
+    match is_doubled {
+        true => default(name, Shown::Truth(true)),
+        false => given(name, Shown::Truth(false)),
+    }
+}
+
+/// Returns `trim`. The default is false.
+fn trim(trim: Trim) -> Property<'static> {
+    let name = "trim";
     match trim {
-        Trim::No => Ok(Value::from(false)),
-        Trim::Both => Ok(Value::from(true)),
-        Trim::Start => Value::try_from_str(alloc, "start"),
-        Trim::End => Value::try_from_str(alloc, "end"),
+        Trim::No => default(name, Shown::Truth(false)),
+        Trim::Both => given(name, Shown::Truth(true)),
+        Trim::Start => given(name, Shown::Text("start")),
+        Trim::End => given(name, Shown::Text("end")),
     }
 }
 
-/// Returns the value of `lineTerminators`.
-fn terminators(alloc: Global, terminators: LineTerminators) -> Result<Value, AllocError> {
+/// Returns `lineTerminators`. The default is both.
+fn terminators(terminators: LineTerminators) -> Property<'static> {
+    let name = "lineTerminators";
     match (terminators.crlf, terminators.lf) {
-        (true, true) => json!(in alloc; ["\r\n", "\n"]),
-        (true, false) => json!(in alloc; ["\r\n"]),
-        (false, true) => json!(in alloc; ["\n"]),
-        (false, false) => json!(in alloc; []),
+        (true, true) => default(name, Shown::Words(&["\r\n", "\n"])),
+        (true, false) => given(name, Shown::Words(&["\r\n"])),
+        (false, true) => given(name, Shown::Words(&["\n"])),
+        (false, false) => given(name, Shown::Words(&[])),
     }
 }
 
-/// Adds the characters and texts of a dialect.
-fn put_texts(
-    list: &mut Properties,
-    alloc: Global,
-    dialect: &Dialect,
-    default: &Dialect,
-) -> Result<(), AllocError> {
-    let prefix = |dialect: &Dialect| match &dialect.comment_prefix {
-        Some(prefix) => Value::try_from_str(alloc, prefix.as_str()),
-        None => Ok(Value::Null),
-    };
-    list.compare("commentPrefix", prefix(dialect)?, &prefix(default)?)?;
-    let delimiter = character(alloc, dialect.delimiter)?;
-    list.compare(
-        "delimiter",
-        delimiter,
-        &character(alloc, default.delimiter)?,
-    )?;
-    let quote = |dialect: &Dialect| match dialect.quote_char {
-        Some(quote) => character(alloc, quote),
-        None => Ok(Value::Null),
-    };
-    list.compare("quoteChar", quote(dialect)?, &quote(default)?)?;
-    let double_quote = Value::from(dialect.double_quote);
-    list.compare(
-        "doubleQuote",
-        double_quote,
-        &Value::from(default.double_quote),
-    )?;
-    let ends = terminators(alloc, dialect.line_terminators)?;
-    list.compare(
-        "lineTerminators",
-        ends,
-        &terminators(alloc, default.line_terminators)?,
-    )?;
-    let trimmed = trim(alloc, dialect.trim)?;
-    list.compare("trim", trimmed, &trim(alloc, default.trim)?)
-}
-
-/// Returns the properties of a dialect.
-pub(crate) fn dialect_of(alloc: Global, dialect: &Dialect) -> Result<Properties, AllocError> {
-    let default = Dialect::new(alloc)?;
-    let mut list = Properties::new(alloc);
-    put_texts(&mut list, alloc, dialect, &default)?;
-    let header = u64::from(dialect.header_row_count);
-    list.compare_number(
-        "headerRowCount",
-        header,
-        u64::from(default.header_row_count),
-    )?;
-    list.compare_number("skipRows", dialect.skip_rows, default.skip_rows)?;
-    let skipped = u64::from(dialect.skip_columns);
-    list.compare_number("skipColumns", skipped, u64::from(default.skip_columns))?;
-    list.compare_truth("skipBlankRows", dialect.skip_blank_rows)?;
-    list.compare_truth("skipInitialSpace", dialect.skip_initial_space)?;
-    Ok(list)
+/// Returns the properties of a dialect. The defaults are those of `Dialect::new`.
+pub(crate) fn dialect_properties(dialect: &Dialect) -> [Property<'_>; 11] {
+    [
+        comment_prefix(dialect),
+        delimiter(dialect.delimiter),
+        quote_char(dialect.quote_char),
+        double_quote(dialect.double_quote),
+        terminators(dialect.line_terminators),
+        trim(dialect.trim),
+        number("headerRowCount", u64::from(dialect.header_row_count), 1),
+        number("skipRows", dialect.skip_rows, 0),
+        number("skipColumns", u64::from(dialect.skip_columns), 0),
+        truth("skipBlankRows", dialect.skip_blank_rows),
+        truth("skipInitialSpace", dialect.skip_initial_space),
+    ]
 }

@@ -4,7 +4,6 @@ ghost use Rattle.csvw_inspect.specs.Inspects.{Inspects};
 ghost use Rattle.csvw_streams.specs.Streams.{IsCut, Sends, stream_of};
 
 use crate::asked::{Inspect, InspectForm};
-use crate::document::document_of;
 use crate::json::json_of;
 use crate::text::lines_of;
 use csvw_columns::Plan;
@@ -48,20 +47,26 @@ fn send<W: Write>(out: &mut Counted<W>, bytes: &[u8]) -> Result<(), Stop>
 /// Returns the text of a document.
 fn text_of<O: Opener>(alloc: Global, asked: &Inspect<'_>, opener: &mut O) -> Result<String, Stop> {
     let bytes = bytes_of(alloc, asked.meta, opener)?;
-    let plan = match plan_of(alloc, bytes.as_slice(), asked.base, asked.profile) {
-        Ok(plan) => plan,
-        Err(fault) => {
-            return Err(match fault.code {
-                MetaCode::Memory => Stop::Memory,
-                _ => Stop::Meta(fault),
-            });
-        }
-    };
-    let view = document_of(alloc, asked, bytes.as_slice(), &plan)?;
-    Ok(match asked.form {
-        InspectForm::Text => lines_of(alloc, &view)?,
-        InspectForm::Json => json_of(alloc, view)?,
-    })
+    match plan_of(alloc, bytes.as_slice(), asked.base, asked.profile) {
+        Ok(plan) => Ok(shown(alloc, asked, bytes.as_slice(), &plan)?),
+        Err(fault) => Err(match fault.code {
+            MetaCode::Memory => Stop::Memory,
+            _ => Stop::Meta(fault),
+        }),
+    }
+}
+
+/// Returns what is shown of a document with these bytes, in the form that is asked.
+fn shown(
+    alloc: Global,
+    asked: &Inspect<'_>,
+    bytes: &[u8],
+    plan: &Plan,
+) -> Result<String, AllocError> {
+    match asked.form {
+        InspectForm::Text => lines_of(alloc, asked, bytes, plan),
+        InspectForm::Json => json_of(alloc, asked, bytes, plan),
+    }
 }
 
 /// Opens and reads a document.

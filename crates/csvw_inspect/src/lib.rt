@@ -29,6 +29,7 @@ mod link;
 mod property;
 mod table;
 mod text;
+mod value;
 
 pub use asked::{Inspect, InspectForm};
 pub use inspecting::inspect;

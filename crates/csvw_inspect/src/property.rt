@@ -1,11 +1,10 @@
-//! Properties with their values, in the order in which they are shown.
+//! Properties with their values.
 
-use csvw_text::Text;
-use serde_json::Value;
-use std::alloc::{AllocError, Global};
+use crate::value::Shown;
+use csvw_iri::Iri;
 
 /// Where a value comes from.
-#[derive(Clone, Copy, Debug, PartialEq, Eq)]
+#[derive(Clone, Copy)]
 pub(crate) enum Origin {
     /// The document, or what the document implies.
     Document,
@@ -14,169 +13,91 @@ pub(crate) enum Origin {
 }
 
 /// A property.
-#[derive(Drop)]
-pub(crate) struct Property {
+#[derive(Clone, Copy)]
+pub(crate) struct Property<'a> {
     /// The name, as in the standard.
     pub(crate) name: &'static str,
-    /// The value: a text, a number, a boolean, null, or a list or an object of them.
-    pub(crate) value: Value,
+    /// The value.
+    pub(crate) value: Shown<'a>,
     /// Where the value comes from.
     pub(crate) origin: Origin,
 }
 
-/// Properties, in the order in which they are shown.
-#[derive(Drop)]
-pub(crate) struct Properties {
-    /// What their values are allocated by.
-    alloc: Global,
-    /// The properties.
-    items: Vec<Property>,
-}
-
-impl Properties {
-    /// Returns an empty list.
-    pub(crate) fn new(alloc: Global) -> Properties {
-        Properties {
-            alloc,
-            items: Vec::new(alloc),
-        }
-    }
-
-    /// Returns the allocator.
-    pub(crate) fn allocator(&self) -> Global {
-        self.alloc
-    }
-
-    /// Returns the properties.
-    pub(crate) fn as_slice(&self) -> &[Property] {
-        self.items.as_slice()
-    }
-
-    /// Returns the properties, to take them apart.
-    pub(crate) fn into_items(self) -> Vec<Property> {
-        self.items
-    }
-
-    /// Adds a property that has no default.
-    pub(crate) fn put(&mut self, name: &'static str, value: Value) -> Result<(), AllocError> {
-        let origin = Origin::Document;
-        self.items.push(Property {
-            name,
-            value,
-            origin,
-        })?;
-        Ok(())
-    }
-
-    /// Adds a property whose value is the default.
-    pub(crate) fn put_default(
-        &mut self,
-        name: &'static str,
-        value: Value,
-    ) -> Result<(), AllocError> {
-        let origin = Origin::Default;
-        self.items.push(Property {
-            name,
-            value,
-            origin,
-        })?;
-        Ok(())
-    }
-
-    /// Adds a property that has a default.
-    pub(crate) fn compare(
-        &mut self,
-        name: &'static str,
-        value: Value,
-        default: &Value,
-    ) -> Result<(), AllocError> {
-        if value == *default {
-            self.put_default(name, value)
-        } else {
-            self.put(name, value)
-        }
-    }
-
-    /// Adds a text without a default.
-    pub(crate) fn put_text(&mut self, name: &'static str, text: &str) -> Result<(), AllocError> {
-        let value = Value::try_from_str(self.alloc, text)?;
-        self.put(name, value)
-    }
-
-    /// Adds a text with its default.
-    pub(crate) fn compare_text(
-        &mut self,
-        name: &'static str,
-        text: &str,
-        default: &str,
-    ) -> Result<(), AllocError> {
-        let value = Value::try_from_str(self.alloc, text)?;
-        let default = Value::try_from_str(self.alloc, default)?;
-        self.compare(name, value, &default)
-    }
-
-    /// Adds a text that is null by default.
-    pub(crate) fn compare_optional(
-        &mut self,
-        name: &'static str,
-        text: Option<&str>,
-    ) -> Result<(), AllocError> {
-        let value = optional(self.alloc, text)?;
-        self.compare(name, value, &Value::Null)
-    }
-
-    /// Adds a number, if there is one.
-    pub(crate) fn put_number(
-        &mut self,
-        name: &'static str,
-        number: Option<u64>,
-    ) -> Result<(), AllocError> {
-        match number {
-            Some(number) => self.put(name, Value::from(number)),
-            None => Ok(()),
-        }
-    }
-
-    /// Adds a number with its default.
-    pub(crate) fn compare_number(
-        &mut self,
-        name: &'static str,
-        number: u64,
-        default: u64,
-    ) -> Result<(), AllocError> {
-        self.compare(name, Value::from(number), &Value::from(default))
-    }
-
-    /// Adds a boolean that is false by default.
-    pub(crate) fn compare_truth(
-        &mut self,
-        name: &'static str,
-        is_true: bool,
-    ) -> Result<(), AllocError> {
-        self.compare(name, Value::from(is_true), &Value::from(false))
+/// Returns a property that has no default.
+pub(crate) fn given<'a>(name: &'static str, value: Shown<'a>) -> Property<'a> {
+    Property {
+        name,
+        value,
+        origin: Origin::Document,
     }
 }
 
-/// Returns a text, or null.
-pub(crate) fn optional(alloc: Global, text: Option<&str>) -> Result<Value, AllocError> {
+/// Returns a property whose value is the default.
+pub(crate) fn default<'a>(name: &'static str, value: Shown<'a>) -> Property<'a> {
+    Property {
+        name,
+        value,
+        origin: Origin::Default,
+    }
+}
+
+/// Returns a text with its default.
+pub(crate) fn text<'a>(name: &'static str, text: &'a str, default_text: &str) -> Property<'a> {
+    if text == default_text {
+        default(name, Shown::Text(text))
+    } else {
+        given(name, Shown::Text(text))
+    }
+}
+
+/// Returns a text that is null by default.
+pub(crate) fn optional<'a>(name: &'static str, text: Option<&'a str>) -> Property<'a> {
     match text {
-        Some(text) => Value::try_from_str(alloc, text),
-        None => Ok(Value::Null),
+        Some(text) => given(name, Shown::Text(text)),
+        None => default(name, Shown::Null),
     }
 }
 
-/// Returns a text of one character.
-pub(crate) fn character(alloc: Global, c: char) -> Result<Value, AllocError> {
-    let mut text = String::new(alloc);
-    text.push(c)?;
-    Ok(Value::String(text))
+/// Returns a number with its default.
+pub(crate) fn number(name: &'static str, number: u64, default_number: u64) -> Property<'static> {
+    if number == default_number {
+        default(name, Shown::Number(number))
+    } else {
+        given(name, Shown::Number(number))
+    }
 }
 
-/// Returns a list of texts.
-pub(crate) fn list(alloc: Global, texts: &[Text]) -> Result<Value, AllocError> {
-    let mut values = Vec::new(alloc);
-    for text in texts {
-        values.push(Value::try_from_str(alloc, text.as_str())?)?;
+/// Returns a number, if there is one.
+pub(crate) fn length(name: &'static str, length: Option<u64>) -> Property<'static> {
+    given(
+        name,
+        match length {
+            Some(length) => Shown::Number(length),
+            None => Shown::Nothing,
+        },
+    )
+}
+
+/// Returns a boolean that is false by default.
+pub(crate) fn truth(name: &'static str, truth: bool) -> Property<'static> {
+    if truth {
+        given(name, Shown::Truth(true))
+    } else {
+        default(name, Shown::Truth(false))
     }
-    Ok(Value::Array(values))
+}
+
+impl Property<'_> {
+    /// Whether the property is shown.
+    pub(crate) fn is_shown(&self) -> bool {
+        !matches!(self.value, Shown::Nothing)
+    }
+}
+
+/// Returns the text of an IRI, if there is one.
+pub(crate) fn text_of_iri(iri: &Option<Iri>) -> Option<&str> {
+    match iri {
+        Some(iri) => Some(iri.as_str()),
+        None => None,
+    }
 }

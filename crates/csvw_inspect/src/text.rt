@@ -1,48 +1,60 @@
 //! A document as lines.
 
-use crate::column::ColumnView;
-use crate::document::DocumentView;
-use crate::property::{Origin, Properties, Property};
-use crate::table::TableView;
+use crate::asked::Inspect;
+use crate::column::{column_properties, link_properties};
+use crate::datatype::datatype_properties;
+use crate::dialect::dialect_properties;
+use crate::document::{document_properties, kind_of, warning_properties};
+use crate::link::{example_row, set_column};
+use crate::property::{Origin, Property};
+use crate::table::{foreign_key_properties, key_properties, table_properties};
+use crate::value::value_of;
+use csvw_columns::{Plan, TablePlan};
+use csvw_columns_core::Column;
 use std::alloc::{AllocError, Global};
 
-/// Returns the length of the longest name.
-fn width_of(properties: &[Property]) -> usize {
-    properties
-        .iter()
-        .map(|property| property.name.len())
-        .max()
-        .unwrap_or(0)
+/// Spaces, at least as many as a name has letters.
+const SPACES: &str = "                    ";
+
+/// Returns the length of the longest name of the properties that are shown.
+fn width_of(properties: &[Property<'_>]) -> usize {
+    let mut width = 0usize;
+    for property in properties {
+        if property.is_shown() {
+            width = width.max(property.name.len());
+        }
+    }
+    width
 }
 
-/// Adds a property: its name, spaces up to `width` characters, and its value.
+/// Adds a property, if it is shown: its name, spaces up to `width` characters, and its value.
 fn push_property(
     text: &mut String,
     indent: &str,
     width: usize,
-    property: &Property,
+    property: &Property<'_>,
 ) -> Result<(), AllocError> {
-    text.push_str(indent)?;
-    text.push_str(property.name)?;
-    for _ in property.name.len()..width {
-        text.push(' ')?;
+    if !property.is_shown() {
+        return Ok(());
     }
-    text.push_str("  ")?;
-    let value = property.value.to_string(*text.allocator())?;
-    text.push_str(value.as_str())?;
-    text.push_str(match property.origin {
-        Origin::Default => " (default)\n",
-        Origin::Document => "\n",
-    })
+    let name = property.name;
+    let spaces = SPACES.get(name.len()..width).unwrap_or("");
+    let origin = match property.origin {
+        Origin::Default => " (default)",
+        Origin::Document => "",
+    };
+    let value = value_of(*text.allocator(), property.value)?;
+    write!(text, "{indent}{name}{spaces}  {value}{origin}\n")
 }
 
-/// Adds properties, a line each, with their values below one another.
+/// Adds properties under a heading, a line each, with their values below one another.
 fn push_properties(
     text: &mut String,
+    heading: &str,
     indent: &str,
-    properties: &Properties,
+    properties: &[Property<'_>],
 ) -> Result<(), AllocError> {
-    let properties = properties.as_slice();
+    text.push_str(heading)?;
     let width = width_of(properties);
     for property in properties {
         push_property(text, indent, width, property)?;
@@ -50,69 +62,111 @@ fn push_properties(
     Ok(())
 }
 
-/// Adds a column with its datatype and its links in the example row.
-fn push_column(text: &mut String, number: usize, view: &ColumnView) -> Result<(), AllocError> {
+/// Adds a column with its datatype.
+fn push_column(text: &mut String, number: usize, column: &Column) -> Result<(), AllocError> {
     write!(text, "  column {number}\n")?;
-    push_properties(text, "    ", &view.column)?;
-    text.push_str("    datatype\n")?;
-    push_properties(text, "      ", &view.datatype)?;
-    if view.example.as_slice().is_empty() {
+    push_properties(text, "", "    ", &column_properties(column))?;
+    let datatype = column.properties.datatype.get();
+    push_properties(
+        text,
+        "    datatype\n",
+        "      ",
+        &datatype_properties(datatype),
+    )
+}
+
+/// Adds links in the example row, if there are some.
+fn push_links(text: &mut String, links: &[Property<'_>]) -> Result<(), AllocError> {
+    if width_of(links) == 0 {
         return Ok(());
     }
-    text.push_str("    links of an example row\n")?;
-    push_properties(text, "      ", &view.example)
+    push_properties(text, "    links of an example row\n", "      ", links)
 }
 
 /// Adds the columns of a table.
-fn push_columns(text: &mut String, views: &[ColumnView]) -> Result<(), AllocError> {
-    if views.is_empty() {
+fn push_columns(text: &mut String, table: &TablePlan) -> Result<(), AllocError> {
+    if table.declared.is_empty() {
         return text.push_str("  columns from the header\n");
     }
-    for (i, view) in views.iter().enumerate() {
-        push_column(text, i.saturating_add(1), view)?;
+    let alloc = *text.allocator();
+    let mut vars = example_row(alloc, table)?;
+    for (i, column) in table.declared.as_slice().iter().enumerate() {
+        set_column(&mut vars, alloc, column)?;
+        push_column(text, i.saturating_add(1), column)?;
+        push_links(text, &link_properties(table, column, &vars))?;
     }
     Ok(())
 }
 
 /// Adds the foreign keys of a table.
-fn push_foreign_keys(text: &mut String, keys: &[Properties]) -> Result<(), AllocError> {
-    for (i, key) in keys.iter().enumerate() {
+fn push_foreign_keys(
+    text: &mut String,
+    tables: &[TablePlan],
+    table: &TablePlan,
+) -> Result<(), AllocError> {
+    for (i, key) in table.foreign_keys.as_slice().iter().enumerate() {
         let number = i.saturating_add(1);
         write!(text, "  foreign key {number}\n")?;
-        push_properties(text, "    ", key)?;
+        push_properties(
+            text,
+            "",
+            "    ",
+            &foreign_key_properties(tables, table, key),
+        )?;
     }
     Ok(())
 }
 
 /// Adds a table.
-fn push_table(text: &mut String, number: usize, view: &TableView) -> Result<(), AllocError> {
+fn push_table(
+    text: &mut String,
+    number: usize,
+    tables: &[TablePlan],
+    table: &TablePlan,
+) -> Result<(), AllocError> {
     write!(text, "\ntable {number}\n")?;
-    push_properties(text, "  ", &view.table)?;
-    text.push_str("  dialect\n")?;
-    push_properties(text, "    ", &view.dialect)?;
-    push_columns(text, view.columns.as_slice())?;
-    text.push_str("  keys\n")?;
-    push_properties(text, "    ", &view.keys)?;
-    push_foreign_keys(text, view.foreign_keys.as_slice())
+    push_properties(text, "", "  ", &table_properties(table))?;
+    let dialect = dialect_properties(&table.dialect);
+    push_properties(text, "  dialect\n", "    ", &dialect)?;
+    push_columns(text, table)?;
+    push_properties(text, "  keys\n", "    ", &key_properties(table))?;
+    push_foreign_keys(text, tables, table)
 }
 
 /// Adds the warnings of a document.
-fn push_warnings(text: &mut String, warnings: &[Properties]) -> Result<(), AllocError> {
-    for (i, warning) in warnings.iter().enumerate() {
+fn push_warnings(text: &mut String, bytes: &[u8], plan: &Plan) -> Result<(), AllocError> {
+    let kind = kind_of(*text.allocator(), bytes, plan);
+    for (i, fault) in plan.warnings().iter().enumerate() {
         let number = i.saturating_add(1);
         write!(text, "\nwarning {number}\n")?;
-        push_properties(text, "  ", warning)?;
+        push_properties(text, "", "  ", &warning_properties(kind, fault))?;
     }
     Ok(())
 }
 
-/// Returns a document as lines.
-pub(crate) fn lines_of(alloc: Global, view: &DocumentView) -> Result<String, AllocError> {
-    let mut text = String::from_str(alloc, "document\n")?;
-    push_properties(&mut text, "  ", &view.group)?;
-    for (i, table) in view.tables.iter().enumerate() {
-        push_table(&mut text, i.saturating_add(1), table)?;
+/// Adds the tables of a document.
+fn push_tables(text: &mut String, tables: &[TablePlan]) -> Result<(), AllocError> {
+    for (i, table) in tables.iter().enumerate() {
+        push_table(text, i.saturating_add(1), tables, table)?;
     }
-    push_warnings(&mut text, view.warnings.as_slice())?;
+    Ok(())
+}
+
+/// Returns a document with these bytes as lines.
+pub(crate) fn lines_of(
+    alloc: Global,
+    asked: &Inspect<'_>,
+    bytes: &[u8],
+    plan: &Plan,
+) -> Result<String, AllocError> {
+    let mut text = String::new(alloc);
+    push_properties(
+        &mut text,
+        "document\n",
+        "  ",
+        &document_properties(asked, plan),
+    )?;
+    push_tables(&mut text, plan.tables())?;
+    push_warnings(&mut text, bytes, plan)?;
     Ok(text)
 }
