@@ -5,6 +5,7 @@ ghost use Rattle.csvw_records.specs.Lawful.{IsLawful};
 use csvw_columns::TablePlan;
 use csvw_records::{Dialect, Trim};
 use csvw_rows::{RawRow, Rows};
+use csvw_text::both;
 use std::alloc::{AllocError, Global};
 use std::io::Read;
 
@@ -40,8 +41,8 @@ impl FileRows {
         let Some(dialect) = whole_dialect(alloc, plan)? else {
             return Ok(None);
         };
-        let room = vec![in alloc; 0u8; PIECE]?;
-        let rows = Rows::new(alloc, dialect, MAX_ROWS)?;
+        let room = vec![in alloc; 0u8; PIECE];
+        let (rows, room) = both(Rows::new(alloc, dialect, MAX_ROWS), room)?;
         Ok(Some(FileRows { rows, room }))
     }
 

@@ -22,19 +22,17 @@ fn without_query(url: &str) -> &str {
 fn name_of(alloc: Global, table: &TablePlan) -> Result<String, AllocError> {
     let url = without_query(table.url.iri().as_str());
     let last = Path::new(url).file_name().unwrap_or("");
-    let mut name = String::new(alloc);
-    name.push_str(percent_decode_str(last).decode_utf8_lossy(alloc)?.as_str())?;
-    Ok(name)
+    let name = percent_decode_str(last).decode_utf8_lossy(alloc)?;
+    String::from_str(alloc, name.as_str())
 }
 
-/// Returns the path of a file beside the document.
-fn beside(alloc: Global, meta: &str, name: &str) -> Result<String, AllocError> {
-    let mut path = String::new(alloc);
+/// Returns the path beside the document of a table's file.
+fn path_beside(alloc: Global, meta: &str, table: &TablePlan) -> Result<String, AllocError> {
+    let name = name_of(alloc, table)?;
     match Path::new(meta).parent() {
-        Some(folder) => path.push_str(folder.join(alloc, name)?.as_path().as_str())?,
-        None => path.push_str(name)?,
+        Some(folder) => Ok(folder.join(alloc, name.as_str())?.into_string()),
+        None => Ok(name),
     }
-    Ok(path)
 }
 
 /// Returns the place of the first file of this name that no table has yet.
@@ -52,6 +50,29 @@ fn first_left(taken: &[bool]) -> Option<usize> {
     taken.iter().position(|is_taken| !*is_taken)
 }
 
+/// Takes the file of a table's name, if there is one that no table has yet. Returns its place.
+fn take_named(
+    alloc: Global,
+    files: &[&str],
+    taken: &mut [bool],
+    table: &TablePlan,
+) -> Result<Option<usize>, AllocError> {
+    let name = name_of(alloc, table)?;
+    let place = place_of(files, taken, name.as_str());
+    take(taken, place);
+    Ok(place)
+}
+
+/// Takes a file that is left for each table that has none.
+fn take_left(places: &mut [Option<usize>], taken: &mut [bool]) {
+    for place in places {
+        if place.is_none() {
+            *place = first_left(taken);
+            take(taken, *place);
+        }
+    }
+}
+
 /// Returns the place of the file for each table: the file of the table's name, else the first file that is left.
 fn places(
     alloc: Global,
@@ -61,17 +82,9 @@ fn places(
     let mut taken = vec![in alloc; false; files.len()]?;
     let mut places = Vec::new(alloc);
     for table in tables {
-        let name = name_of(alloc, table)?;
-        let place = place_of(files, taken.as_slice(), name.as_str());
-        take(taken.as_mut_slice(), place);
-        places.push(place)?;
+        places.push(take_named(alloc, files, taken.as_mut_slice(), table)?)?;
     }
-    for place in places.as_mut_slice() {
-        if place.is_none() {
-            *place = first_left(taken.as_slice());
-            take(taken.as_mut_slice(), *place);
-        }
-    }
+    take_left(places.as_mut_slice(), taken.as_mut_slice());
     Ok(places)
 }
 
@@ -96,11 +109,8 @@ pub fn paths(
     if files.is_empty() {
         return paths_beside(alloc, meta, tables);
     }
-    let mut paths = Vec::new(alloc);
-    for place in places(alloc, files, tables)?.as_slice() {
-        paths.push(path_at(alloc, files, *place)?)?;
-    }
-    Ok(paths)
+    let places = places(alloc, files, tables)?;
+    paths_at(alloc, files, places.as_slice())
 }
 
 /// Returns the path of each table's file. Files that are given are in the order of the tables. If none is given, each is
@@ -121,13 +131,28 @@ pub fn paths_in_order(
     Ok(paths)
 }
 
-/// Returns a copy of the path at a place.
-fn path_at(alloc: Global, files: &[&str], place: Option<usize>) -> Result<String, AllocError> {
-    let mut path = String::new(alloc);
-    if let Some(i) = place {
-        path.push_str(files.get(i).unwrap_or(&""))?;
+/// Returns copies of the paths at these places, which are empty if there is no place.
+fn paths_at(
+    alloc: Global,
+    files: &[&str],
+    places: &[Option<usize>],
+) -> Result<Vec<String>, AllocError> {
+    let mut paths = Vec::new(alloc);
+    for place in places {
+        paths.push(String::from_str(alloc, path_at(files, *place))?)?;
     }
-    Ok(path)
+    Ok(paths)
+}
+
+/// Returns the path at a place, which is empty if there is no place.
+fn path_at<'a>(files: &[&'a str], place: Option<usize>) -> &'a str {
+    let Some(i) = place else {
+        return "";
+    };
+    match files.get(i) {
+        Some(path) => *path,
+        None => "",
+    }
 }
 
 /// Returns the path beside the document of each table's file.
@@ -138,8 +163,7 @@ fn paths_beside(
 ) -> Result<Vec<String>, AllocError> {
     let mut paths = Vec::new(alloc);
     for table in tables {
-        let name = name_of(alloc, table)?;
-        paths.push(beside(alloc, meta, name.as_str())?)?;
+        paths.push(path_beside(alloc, meta, table)?)?;
     }
     Ok(paths)
 }

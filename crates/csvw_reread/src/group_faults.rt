@@ -3,9 +3,9 @@
 use crate::walk::{FIRST, Shown, Walker};
 use csvw_hints::{TableAt, Tables, show_unknown};
 use csvw_opener::Opener;
-use csvw_page::{Counts, Form, Halt, Page, Spot, SpotShown, spot_of};
+use csvw_page::{Counts, Form, Halt, Page, SpotShown, spot_of};
 use csvw_streams::Counted;
-use csvw_text::{Code, Fault, Kind, Place};
+use csvw_text::{Code, Fault};
 use std::alloc::{AllocError, Global};
 use std::io::Write;
 
@@ -18,14 +18,6 @@ pub struct GroupFaults<'a> {
     pub faults: &'a [Fault],
 }
 
-/// A fault, in the order by columns and codes.
-#[derive(Clone, Copy, PartialEq, Eq, PartialOrd, Ord)]
-struct ByColumn {
-    spot: Spot,
-    row: u64,
-    kind: Kind,
-}
-
 /// Divides faults, which are sorted, before the first of a table of this number or a later one.
 fn before_table(faults: &[Fault], table: u32) -> (&[Fault], &[Fault]) {
     let count = faults
@@ -36,34 +28,10 @@ fn before_table(faults: &[Fault], table: u32) -> (&[Fault], &[Fault]) {
 }
 
 /// Returns the faults in the order by tables, columns, codes and rows.
-fn by_column(alloc: Global, faults: &[Fault]) -> Result<Vec<ByColumn>, AllocError> {
-    let mut sorted = Vec::new(alloc);
-    for fault in faults {
-        sorted.push(ByColumn {
-            spot: spot_of(fault),
-            row: fault.place.row,
-            kind: fault.kind,
-        })?;
-    }
-    sorted.sort_unstable();
+fn by_column(alloc: Global, faults: &[Fault]) -> Result<Vec<Fault>, AllocError> {
+    let mut sorted = Vec::from_slice(alloc, faults)?;
+    sorted.sort_unstable_by_key(|fault| (spot_of(fault), fault.place.row, fault.kind));
     Ok(sorted)
-}
-
-/// Returns the faults themselves.
-fn faults_of(alloc: Global, sorted: &[ByColumn]) -> Result<Vec<Fault>, AllocError> {
-    let mut faults = Vec::new(alloc);
-    for one in sorted {
-        faults.push(Fault {
-            place: Place {
-                table: one.spot.table,
-                row: one.row,
-                column: one.spot.column,
-            },
-            code: one.spot.code,
-            kind: one.kind,
-        })?;
-    }
-    Ok(faults)
 }
 
 /// Returns how many of so many faults of one code in one column are shown.
@@ -141,14 +109,14 @@ impl GroupFaults<'_> {
     fn tell_spot<O: Opener, W: Write>(
         &self,
         walker: &mut Walker,
-        faults: &[ByColumn],
+        faults: &[Fault],
         opener: &mut O,
         out: &mut Counted<W>,
     ) -> Result<(), Halt> {
         let Some(first) = faults.first() else {
             return Ok(());
         };
-        let spot = first.spot;
+        let spot = spot_of(first);
         let Some(plan) = self.tables.plan_at(spot.table) else {
             return Ok(());
         };
@@ -157,13 +125,12 @@ impl GroupFaults<'_> {
         walker.page.heading(&SpotShown { spot, times, path })?;
         let shown = shown_of(walker.shown, times);
         let first = faults.get(..length_of(shown)).unwrap_or(faults);
-        let first = faults_of(walker.page.alloc, first)?;
         let table = TableAt {
             tables: &self.tables,
             plan,
             path,
         };
-        walker.walk(&table, first.as_slice(), opener, out)?;
+        walker.walk(&table, first, opener, out)?;
         match times.saturating_sub(shown) {
             0 => Ok(()),
             times => Ok(walker.page.rest(&SpotShown { spot, times, path })?),

@@ -49,34 +49,8 @@ pub struct Walker {
     so_far: Counts,
     /// The fields of the first header row of the table.
     header: Vec<String>,
-}
-
-/// Adds a fault, with its row.
-fn tell_one(
-    page: &mut Page,
-    table: &TableAt<'_>,
-    header: &[String],
-    fault: &Fault,
-    at: &RowAt<'_>,
-) -> Result<(), AllocError> {
-    let column = fault.place.column;
-    let cell = cell_of(table, column, at);
-    let mut rule = String::new(page.alloc);
-    if cell.is_some() {
-        push_rule(&mut rule, table, fault)?;
-    }
-    page.fault(&FaultShown {
-        fault: *fault,
-        path: table.path,
-        line: at.line,
-        number: match &at.row {
-            Some(row) => row.number(),
-            None => 0,
-        },
-        name: name_of(table.plan, header, column),
-        cell,
-        rule: rule.as_str(),
-    })
+    /// The rule that the last fault breaks.
+    rule: String,
 }
 
 /// Returns the cell of a column in a row, if both are known.
@@ -116,6 +90,7 @@ impl Walker {
             shown,
             so_far: Counts::new(alloc),
             header: Vec::new(alloc),
+            rule: String::new(alloc),
         }
     }
 
@@ -131,6 +106,33 @@ impl Walker {
         Ok(())
     }
 
+    /// Adds a fault, with its row.
+    fn tell_one(
+        &mut self,
+        table: &TableAt<'_>,
+        fault: &Fault,
+        at: &RowAt<'_>,
+    ) -> Result<(), AllocError> {
+        let column = fault.place.column;
+        let cell = cell_of(table, column, at);
+        self.rule.clear();
+        if cell.is_some() {
+            push_rule(&mut self.rule, table, fault)?;
+        }
+        self.page.fault(&FaultShown {
+            fault: *fault,
+            path: table.path,
+            line: at.line,
+            number: match &at.row {
+                Some(row) => row.number(),
+                None => 0,
+            },
+            name: name_of(table.plan, self.header.as_slice(), column),
+            cell,
+            rule: self.rule.as_str(),
+        })
+    }
+
     /// Adds those of the faults at a row that are shown. Properties of the document that are ignored are shown elsewhere.
     fn tell_faults(
         &mut self,
@@ -142,10 +144,27 @@ impl Walker {
             let times = self.so_far.count(fault)?;
             let is_shown = self.shown == Shown::All || times <= FIRST;
             if is_shown && fault.code != Code::UnknownProperty {
-                tell_one(&mut self.page, table, self.header.as_slice(), fault, at)?;
+                self.tell_one(table, fault, at)?;
             }
         }
         Ok(())
+    }
+
+    /// Adds the faults of a row.
+    fn tell_row(
+        &mut self,
+        table: &TableAt<'_>,
+        row: RawRow<'_>,
+        cursor: &mut Cursor<'_>,
+    ) -> Result<(), AllocError> {
+        let line = cursor.lines.pass(&row);
+        self.keep_header(&row)?;
+        let faults = cursor.faults_to(row.source());
+        let at = RowAt {
+            row: Some(row),
+            line,
+        };
+        self.tell_faults(table, faults, &at)
     }
 
     /// Adds the faults of all complete rows that there are, and sends them. Returns whether the text goes on.
@@ -158,16 +177,7 @@ impl Walker {
     ) -> Result<bool, Halt> {
         for _ in 0..u64::MAX {
             match rows.next() {
-                Ok(Some(row)) => {
-                    let line = cursor.lines.pass(&row);
-                    self.keep_header(&row)?;
-                    let faults = cursor.faults_to(row.source());
-                    let at = RowAt {
-                        row: Some(row),
-                        line,
-                    };
-                    self.tell_faults(table, faults, &at)?;
-                }
+                Ok(Some(row)) => self.tell_row(table, row, cursor)?,
                 Ok(None) => return Ok(true),
                 Err(_) => return Ok(false),
             }
