@@ -46,63 +46,88 @@ fn checked_group<O: Opener, W: Write>(
     walker: &mut Walker,
     out: &mut Counted<W>,
 ) -> Result<u8, Halt> {
-    let alloc = walker.page.alloc;
-    let group = asked.group();
-    let Some(bytes) = opened(alloc, asked.meta, opener) else {
-        show_alone(&mut walker.page, &group, &Alone::Unread, out)?;
-        return Ok(DEVICE);
-    };
-    let document = bytes.as_slice();
-    match plan_of(alloc, document, asked.base, asked.profile) {
-        Ok(plan) => check_plan((asked, document), plan, opener, walker, out),
-        Err(fault) => {
-            show_alone(
-                &mut walker.page,
-                &group,
-                &Alone::Refused(document, &fault),
-                out,
-            )?;
-            Ok(REFUSED)
+    match opened(walker.page.alloc, asked.meta, opener) {
+        Some(bytes) => check_document((asked, bytes.as_slice()), opener, walker, out),
+        None => {
+            show_alone(&mut walker.page, &asked.group(), &Alone::Unread, out)?;
+            Ok(DEVICE)
         }
     }
+}
+
+/// Plans the tables of the document, and checks them. Returns the status.
+fn check_document<O: Opener, W: Write>(
+    source: (&Check<'_>, &[u8]),
+    opener: &mut O,
+    walker: &mut Walker,
+    out: &mut Counted<W>,
+) -> Result<u8, Halt> {
+    let (asked, document) = source;
+    match plan_of(walker.page.alloc, document, asked.base, asked.profile) {
+        Ok(plan) => check_plan(source, &plan, opener, walker, out),
+        Err(fault) => {
+            let refused = Alone::Refused(document, &fault);
+            refuse(asked, &refused, walker, out)
+        }
+    }
+}
+
+/// Shows why nothing of a group can be read, which is refused. Returns the status.
+fn refuse<W: Write>(
+    asked: &Check<'_>,
+    reason: &Alone<'_>,
+    walker: &mut Walker,
+    out: &mut Counted<W>,
+) -> Result<u8, Halt> {
+    show_alone(&mut walker.page, &asked.group(), reason, out)?;
+    Ok(REFUSED)
 }
 
 /// Finds the file of each table, and checks them. Returns the status.
 fn check_plan<O: Opener, W: Write>(
     source: (&Check<'_>, &[u8]),
-    plan: Plan,
+    plan: &Plan,
     opener: &mut O,
     walker: &mut Walker,
     out: &mut Counted<W>,
 ) -> Result<u8, Halt>
-    requires { AreReady plan.tables }
+    requires { AreReady plan.now.tables }
 {
-    let alloc = walker.page.alloc;
     let (asked, document) = source;
-    let group = asked.group();
     let is_given = !asked.files.is_empty();
     if is_given && asked.files.len() != plan.tables().len() {
-        show_alone(&mut walker.page, &group, &Alone::TableCount(&plan), out)?;
-        return Ok(REFUSED);
+        return refuse(asked, &Alone::TableCount(plan), walker, out);
     }
-    let paths = paths(alloc, asked.meta, asked.files, plan.tables())?;
-    let copy = plan.clone(alloc)?;
-    let found = read(alloc, copy, paths.as_slice(), opener)?;
-    let status = found_status(asked, &found);
+    let paths = paths(walker.page.alloc, asked.meta, asked.files, plan.tables())?;
+    let tables = Tables {
+        group: asked.group(),
+        document,
+        plan,
+        paths: paths.as_slice(),
+    };
+    check_tables(asked, &tables, opener, walker, out)
+}
+
+/// Reads the tables, and shows what is wrong with them. Returns the status.
+fn check_tables<O: Opener, W: Write>(
+    asked: &Check<'_>,
+    tables: &Tables<'_>,
+    opener: &mut O,
+    walker: &mut Walker,
+    out: &mut Counted<W>,
+) -> Result<u8, Halt>
+    requires { AreReady tables.now.plan.now.tables }
+{
+    let found = read(walker.page.alloc, tables.plan, tables.paths, opener)?;
     let report = Report {
-        tables: Tables {
-            group,
-            document,
-            plan: &plan,
-            paths: paths.as_slice(),
-        },
+        tables: *tables,
         faults: found.faults.as_slice(),
         rows: found.rows.as_slice(),
         stop: stopped(&found),
-        status,
+        status: found_status(asked, &found),
     };
     report.show(walker, opener, out)?;
-    Ok(status)
+    Ok(report.status)
 }
 
 /// Returns the status of what was found.

@@ -9,7 +9,7 @@ use csvw_engine_core::Stop;
 use csvw_files::Opener;
 use csvw_session::Session;
 use csvw_streams::Counted;
-use csvw_text::{Fault, Seq};
+use csvw_text::{Fault, Seq, both};
 use csvw_triples_core::Mode;
 use std::alloc::{AllocError, Global};
 use std::io::Read;
@@ -103,45 +103,68 @@ fn rows_of(
     Ok(rows)
 }
 
-/// Reads the tables of a plan from the files at these paths, one path for each table. Halts only if memory runs out.
-pub(crate) fn read<O: Opener>(
+/// Reads the tables of a session from the files at these paths. Halts only if memory runs out.
+fn read_session<O: Opener>(
     alloc: Global,
-    plan: Plan,
+    session: &mut Session<NoGraph>,
     paths: &[String],
     opener: &mut O,
-) -> Result<Found, Halt>
-    requires { AreReady plan.tables }
-{
+) -> Result<Found, Halt> {
     let mut room = vec![in alloc; 0u8; PIECE]?;
-    let Ok(mut session) = Session::start(alloc, plan, Mode::Validate, NoGraph {}) else {
-        return Err(Halt::Memory);
-    };
-    let ended = read_files(&mut session, paths, opener, room.as_mut_slice());
-    let rows = rows_of(alloc, &session, paths.len())?;
-    match ended {
-        Ok(()) => finish(&mut session, rows),
-        Err(StopAt { table, stop }) => {
-            Ok(Found {
-                faults: session.faults_so_far()?,
-                stop: Some(stop),
-                table,
-                rows,
-            })
-        }
+    match read_files(session, paths, opener, room.as_mut_slice()) {
+        Ok(()) => found_whole(alloc, session, paths.len()),
+        Err(at) => found_before(alloc, session, at, paths.len()),
     }
 }
 
-/// Finishes the session.
-fn finish(session: &mut Session<NoGraph>, rows: Seq<u64>) -> Result<Found, Halt> {
-    match session.finish() {
-        Ok(outcome) => {
-            Ok(Found {
-                faults: outcome.faults,
-                stop: None,
-                table: 0,
-                rows,
-            })
-        }
-        Err(_) => Err(Halt::Memory),
-    }
+/// Reads the tables of a plan from the files at these paths, one path for each table. Halts only if memory runs out.
+pub(crate) fn read<O: Opener>(
+    alloc: Global,
+    plan: &Plan,
+    paths: &[String],
+    opener: &mut O,
+) -> Result<Found, Halt>
+    requires { AreReady plan.now.tables }
+{
+    let plan = plan.clone(alloc)?;
+    let Ok(mut session) = Session::start(alloc, plan, Mode::Validate, NoGraph {}) else {
+        return Err(Halt::Memory);
+    };
+    let found = read_session(alloc, &mut session, paths, opener);
+    let _ = session.into_sink();
+    found
+}
+
+/// Finishes the session. Returns what so many tables were found to be.
+fn found_whole(
+    alloc: Global,
+    session: &mut Session<NoGraph>,
+    tables: usize,
+) -> Result<Found, Halt> {
+    let Ok(outcome) = session.finish() else {
+        return Err(Halt::Memory);
+    };
+    let rows = rows_of(alloc, session, tables)?;
+    Ok(Found {
+        faults: outcome.faults,
+        stop: None,
+        table: 0,
+        rows,
+    })
+}
+
+/// Returns what so many tables were found to be before a stop.
+fn found_before(
+    alloc: Global,
+    session: &Session<NoGraph>,
+    at: StopAt,
+    tables: usize,
+) -> Result<Found, Halt> {
+    let (faults, rows) = both(session.faults_so_far(), rows_of(alloc, session, tables))?;
+    Ok(Found {
+        faults,
+        stop: Some(at.stop),
+        table: at.table,
+        rows,
+    })
 }

@@ -7,7 +7,7 @@ use csvw_page::{Color, Form};
 use csvw_reread::Shown;
 
 /// Which faults make the status that of an invalid group.
-#[derive(Clone, Copy, Debug, PartialEq, Eq)]
+#[derive(Clone, Copy, PartialEq, Eq)]
 pub enum Strict {
     /// Those that are errors.
     Errors,
@@ -16,7 +16,7 @@ pub enum Strict {
 }
 
 /// What is asked of a check.
-#[derive(Clone, Copy, Debug)]
+#[derive(Clone, Copy)]
 pub struct Check<'a> {
     /// The absolute URL of the metadata document.
     pub base: &'a str,
@@ -37,7 +37,7 @@ pub struct Check<'a> {
 }
 
 /// What is asked of the showing of a report.
-#[derive(Clone, Copy, Debug)]
+#[derive(Clone, Copy)]
 pub struct Show<'a> {
     /// The absolute URL of the metadata document.
     pub base: &'a str,

@@ -6,11 +6,18 @@ use csvw_columns::Plan;
 use csvw_files::{Opener, read_document};
 use csvw_hints::{Group, line_and_column, place_of, push_disguise};
 use csvw_meta::{Description, MetaCode, MetaFault, Profile, ReadDescription};
-use csvw_page::{Halt, Page, StopShown, push_text};
+use csvw_page::{Halt, Page, StopShown, Summary, push_text};
 use csvw_streams::Counted;
 use serde_json::Value;
 use std::alloc::{AllocError, Global};
 use std::io::Write;
+
+/// The names of the datatypes that the profile w3c alone has.
+const OF_W3C: [&str; 6] = ["any", "anyAtomicType", "token", "xml", "html", "json"];
+
+/// What to do if a file can't be read.
+pub(crate) const UNREAD: &str =
+    "the file can't be opened or read: correct its path, or its permissions";
 
 /// Reads a document in a profile, and plans its tables.
 pub fn plan_of(alloc: Global, bytes: &[u8], base: &str, profile: Profile) -> Result<Plan, MetaFault>
@@ -48,10 +55,7 @@ pub fn opened<O: Opener>(alloc: Global, path: &str, opener: &mut O) -> Option<Ve
 
 /// Returns whether the profile w3c alone has the datatype of a name.
 fn is_of_w3c(name: &str) -> bool {
-    matches!(
-        name,
-        "any" | "anyAtomicType" | "token" | "xml" | "html" | "json"
-    )
+    OF_W3C.contains(&name)
 }
 
 /// Returns whether a pointer is that of the name of a datatype.
@@ -134,11 +138,17 @@ pub(crate) fn tell_refused(
     })
 }
 
-/// Adds that a file can't be opened or read.
-pub(crate) fn tell_unread(page: &mut Page, path: &str, table: u32) -> Result<(), AllocError> {
+/// Adds a stop that is at no place of a file. The path is empty if it is of no file.
+pub(crate) fn tell_plain(
+    page: &mut Page,
+    name: &str,
+    sentence: &str,
+    path: &str,
+    table: u32,
+) -> Result<(), AllocError> {
     page.stop(&StopShown {
-        name: "Read",
-        sentence: "the file can't be opened or read: correct its path, or its permissions",
+        name,
+        sentence,
         path,
         table,
         row: 0,
@@ -157,11 +167,6 @@ pub(crate) fn tell_table_count(
 ) -> Result<(), AllocError> {
     let tables = plan.tables().len();
     let files = group.files.len();
-    let mut sentence = String::new(page.alloc);
-    write!(
-        sentence,
-        "{tables} tables, {files} files: give one file for each table"
-    )?;
     let mut hints = String::new(page.alloc);
     for table in plan.tables() {
         let number = table.number;
@@ -169,6 +174,9 @@ pub(crate) fn tell_table_count(
         push_text(&mut hints, table.url.iri().as_str())?;
         hints.push('\n')?;
     }
+    let sentence = format!(in page.alloc;
+        "{tables} tables, {files} files: give one file for each table"
+    )?;
     page.stop(&StopShown {
         name: "TableCount",
         sentence: sentence.as_str(),
@@ -193,6 +201,16 @@ pub enum Alone<'a> {
     TableCount(&'a Plan),
 }
 
+/// Ends a page, and sends it.
+pub(crate) fn end_page<W: Write>(
+    page: &mut Page,
+    summary: Option<&Summary<'_>>,
+    out: &mut Counted<W>,
+) -> Result<(), Halt> {
+    page.end(summary)?;
+    page.send(out)
+}
+
 /// Shows a page of the reason alone for which nothing of a group can be read.
 pub fn show_alone<W: Write>(
     page: &mut Page,
@@ -201,11 +219,11 @@ pub fn show_alone<W: Write>(
     out: &mut Counted<W>,
 ) -> Result<(), Halt> {
     page.begin(group.meta, None)?;
-    match reason {
-        Alone::Unread => tell_unread(page, group.meta, 0)?,
-        Alone::Refused(bytes, fault) => tell_refused(page, group, bytes, fault)?,
-        Alone::TableCount(plan) => tell_table_count(page, group, plan)?,
-    }
-    page.end(None)?;
-    page.send(out)
+    let told = match reason {
+        Alone::Unread => tell_plain(page, "Read", UNREAD, group.meta, 0),
+        Alone::Refused(bytes, fault) => tell_refused(page, group, bytes, fault),
+        Alone::TableCount(plan) => tell_table_count(page, group, plan),
+    };
+    told?;
+    end_page(page, None, out)
 }

@@ -1,5 +1,6 @@
 //! The page of a group that was read: what is ignored, the faults, the stop and the summary.
 
+use crate::document::end_page;
 use crate::stop::{Stopped, tell_stop};
 use csvw_files::Opener;
 use csvw_hints::Tables;
@@ -61,7 +62,6 @@ impl Report<'_> {
         if let Some(stopped) = &self.stop {
             tell_stop(&mut walker.page, &self.tables, stopped, opener)?;
         }
-        walker.page.end(Some(&summary))?;
-        walker.page.send(out)
+        end_page(&mut walker.page, Some(&summary), out)
     }
 }

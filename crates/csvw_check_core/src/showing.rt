@@ -1,11 +1,12 @@
 //! The report of a run that ended, shown to people.
 
 use crate::asked::{Show, Strict};
-use crate::document::{Alone, opened, plan_of, show_alone};
+use crate::document::{Alone, end_page, opened, plan_of, show_alone};
 use crate::report::Report;
 use crate::status::{status_of, status_of_stop};
 use crate::stop::{Stopped, tell_stop};
 use csvw_columns::Plan;
+use csvw_engine_core::Stop;
 use csvw_files::Opener;
 use csvw_hints::Tables;
 use csvw_page::{Halt, Page};
@@ -16,11 +17,11 @@ use std::io::Write;
 
 /// What is shown of a run.
 #[derive(Clone, Copy)]
-enum Part {
+enum Part<'a> {
     /// Its report, and its stop if it stopped.
     Report,
-    /// The words of its stop.
-    Stop,
+    /// The words of this stop.
+    Stop(&'a Stop),
 }
 
 /// A run whose document was read.
@@ -29,7 +30,7 @@ struct Run<'a> {
     /// What is asked.
     asked: &'a Show<'a>,
     /// What is shown.
-    part: Part,
+    part: Part<'a>,
     /// The bytes of the document.
     document: &'a [u8],
 }
@@ -53,7 +54,7 @@ pub fn explain_stop<O: Opener, W: Write>(
     out: &mut Counted<W>,
 ) -> Result<(), Halt> {
     match asked.stop {
-        Some(_) => show_part(alloc, (asked, Part::Stop), opener, out),
+        Some(stop) => show_part(alloc, (asked, Part::Stop(stop)), opener, out),
         None => Ok(()),
     }
 }
@@ -66,7 +67,7 @@ fn is_count_wrong(asked: &Show<'_>, plan: &Plan) -> bool {
 /// Reads the document, and shows a part of the run, or why there is no plan.
 fn show_part<O: Opener, W: Write>(
     alloc: Global,
-    run: (&Show<'_>, Part),
+    run: (&Show<'_>, Part<'_>),
     opener: &mut O,
     out: &mut Counted<W>,
 ) -> Result<(), Halt> {
@@ -132,7 +133,7 @@ fn show_planned<O: Opener, W: Write>(
     };
     match run.part {
         Part::Report => show_report(asked, &tables, walker, opener, out),
-        Part::Stop => show_stop(asked, &tables, &mut walker.page, opener, out),
+        Part::Stop(stop) => show_stop(stop, &tables, &mut walker.page, opener, out),
     }
 }
 
@@ -169,16 +170,13 @@ fn stopped<'a>(asked: &Show<'a>) -> Option<Stopped<'a>> {
 
 /// Shows the words of the stop of a run alone.
 fn show_stop<O: Opener, W: Write>(
-    asked: &Show<'_>,
+    stop: &Stop,
     tables: &Tables<'_>,
     page: &mut Page,
     opener: &mut O,
     out: &mut Counted<W>,
 ) -> Result<(), Halt> {
-    page.begin(asked.meta, None)?;
-    if let Some(stopped) = &stopped(asked) {
-        tell_stop(page, tables, stopped, opener)?;
-    }
-    page.end(None)?;
-    page.send(out)
+    page.begin(tables.group.meta, None)?;
+    tell_stop(page, tables, &Stopped { stop, table: 0 }, opener)?;
+    end_page(page, None, out)
 }

@@ -7,10 +7,10 @@ use csvw_text::{Fault, Kind};
 
 /// Returns the status by the faults.
 pub fn status_of(faults: &[Fault], strict: Strict) -> u8 {
-    let counts = faults.iter().any(|fault| match strict {
-        Strict::Errors => fault.kind == Kind::Error,
-        Strict::Warnings => true,
-    });
+    let counts = match strict {
+        Strict::Errors => faults.iter().any(|fault| fault.kind == Kind::Error),
+        Strict::Warnings => !faults.is_empty(),
+    };
     match counts {
         true => INVALID,
         false => VALID,

@@ -1,6 +1,6 @@
 //! Why the tables weren't read to their ends.
 
-use crate::document::{tell_refused, tell_table_count, tell_unread};
+use crate::document::{UNREAD, tell_plain, tell_refused, tell_table_count};
 use csvw_columns::{TablePlan, TableStop};
 use csvw_engine_core::Stop;
 use csvw_files::Opener;
@@ -122,21 +122,6 @@ fn table_sentence(stop: TableStop) -> &'static str {
     }
 }
 
-/// Adds a stop that is of no file.
-fn tell_plain(page: &mut Page, name: &str, sentence: &str) -> Result<(), AllocError> {
-    page.stop(&StopShown {
-        name,
-        sentence,
-        path: "",
-        table: 0,
-        row: 0,
-        line: 0,
-        column: 0,
-        pointer: "",
-        hints: "",
-    })
-}
-
 /// A stop, with the table whose file was read.
 #[derive(Clone, Copy)]
 pub struct Stopped<'a> {
@@ -171,11 +156,13 @@ fn tell_read_stop<O: Opener>(
         table => table,
     };
     match tables.path_at(table) {
-        Some(path) => tell_unread(page, path, table),
+        Some(path) => tell_plain(page, "Read", UNREAD, path, table),
         None => tell_plain(
             page,
             "Read",
             "a file could not be read: look at the files, and try again",
+            "",
+            0,
         ),
     }
 }
@@ -213,11 +200,15 @@ pub(crate) fn tell_stop<O: Opener>(
             page,
             "Write",
             "the graph or the report could not be written: make room where it goes, and begin anew",
+            "",
+            0,
         ),
         _ => tell_plain(
             page,
             "Memory",
             "there is no memory: free some, and try again",
+            "",
+            0,
         ),
     }
 }
