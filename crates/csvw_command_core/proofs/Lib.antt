@@ -1,2 +1,3 @@
 mod Asking
 pub mod Counting
+pub mod Joining

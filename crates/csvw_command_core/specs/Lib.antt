@@ -1,3 +1,4 @@
 pub mod Asked
 pub mod Mistakes
 pub mod StandardInput
+pub mod Joined

@@ -9,7 +9,7 @@ use clap::Error;
 use std::alloc::{AllocError, Global};
 
 /// How a report is shown.
-#[derive(Clone, Copy, Debug)]
+#[derive(Clone, Copy)]
 pub struct Reporting<'a> {
     /// The name of its form, if one is given.
     pub form: Option<&'a str>,
@@ -22,7 +22,7 @@ pub struct Reporting<'a> {
 }
 
 /// A group of tables, by its metadata document.
-#[derive(Debug, Drop)]
+#[derive(Drop)]
 pub struct Group<'a> {
     /// The URL of the metadata document.
     pub base: &'a str,
@@ -43,7 +43,7 @@ pub struct Group<'a> {
 }
 
 /// A group of tables to check, by its metadata document.
-#[derive(Debug, Drop)]
+#[derive(Drop)]
 pub struct CheckedGroup<'a> {
     /// The URL of the metadata document, if it is given.
     pub base: Option<&'a str>,
@@ -60,7 +60,7 @@ pub struct CheckedGroup<'a> {
 }
 
 /// A metadata document to show.
-#[derive(Clone, Copy, Debug)]
+#[derive(Clone, Copy)]
 pub struct Inspected<'a> {
     /// The URL of the document, if it is given.
     pub base: Option<&'a str>,
@@ -73,7 +73,7 @@ pub struct Inspected<'a> {
 }
 
 /// Tables for which a metadata document is drafted.
-#[derive(Debug, Drop)]
+#[derive(Drop)]
 pub struct DraftedFiles<'a> {
     /// The URL against which the tables' URLs are resolved, if it is given.
     pub base: Option<&'a str>,
@@ -82,7 +82,7 @@ pub struct DraftedFiles<'a> {
 }
 
 /// A request: what the command line asks the program to do.
-#[derive(Debug, Drop)]
+#[derive(Drop)]
 pub enum Request<'a> {
     /// Converts one table at this URL, without metadata, from this file.
     Plain {

@@ -4,6 +4,7 @@ ghost use Rattle.clap.specs.declared.builder.command.Command.TheViews.{out-Comma
 ghost use Rattle.csvw_command_core.specs.Asked.{check_app, completions_app, convert_app, draft_app, explain_app, group_app};
 ghost use Rattle.csvw_command_core.specs.Asked.{inspect_app, manual_app, plain_app, program_app, read_app};
 ghost use Rattle.csvw_command_core.specs.Asked.{validate_app, with_reporting};
+ghost use Rattle.csvw_command_core.specs.Joined.{Joins};
 ghost use Rattle.std.specs.Prelude.{◌≡◌, IfOk, false};
 
 use crate::after_help;
@@ -195,23 +196,34 @@ fn manual_command<'a>(alloc: Global) -> Command<'a>
         .after_help(after_help::MANUAL)
 }
 
+/// Adds a subcommand to a command, if both could be made. So the caller has no early return, which would drop a command.
+/// Fails with `AllocError` if memory runs out, or if one of them failed.
+fn with<'a>(
+    command: Result<Command<'a>, AllocError>,
+    subcommand: Result<Command<'a>, AllocError>,
+) -> Result<Command<'a>, AllocError>
+    ensures { IfOk result (λ made. Joins command.entry subcommand.entry made) }
+{
+    command?.subcommand(subcommand?)
+}
+
 /// Makes the whole command line. Fails with `AllocError` if memory runs out.
 pub fn command_line<'a>(alloc: Global) -> Result<Command<'a>, AllocError>
     ensures { IfOk result (λ command. app_of command ≡ program_app) }
 {
-    Command::new(alloc, "csvw")
+    let command = Command::new(alloc, "csvw")
         .about("Validates CSV on the Web and converts it to RDF")
         .after_help(after_help::PROGRAM)
         .version(VERSION)
         .subcommand_required(true)
-        .arg_required_else_help(true)
-        .subcommand(validate_command(alloc)?)?
-        .subcommand(convert_command(alloc)?)?
-        .subcommand(plain_command(alloc)?)?
-        .subcommand(check_command(alloc)?)?
-        .subcommand(explain_command(alloc)?)?
-        .subcommand(inspect_command(alloc)?)?
-        .subcommand(draft_command(alloc)?)?
-        .subcommand(completions_command(alloc)?)?
-        .subcommand(manual_command(alloc))
+        .arg_required_else_help(true);
+    let command = with(Ok(command), validate_command(alloc));
+    let command = with(command, convert_command(alloc));
+    let command = with(command, plain_command(alloc));
+    let command = with(command, check_command(alloc));
+    let command = with(command, explain_command(alloc));
+    let command = with(command, inspect_command(alloc));
+    let command = with(command, draft_command(alloc));
+    let command = with(command, completions_command(alloc));
+    with(command, Ok(manual_command(alloc)))
 }
