@@ -13,3 +13,5 @@ mod SourceSteps
 mod Sources
 mod States
 mod TextLemmas
+pub mod Skips
+pub mod RowEnds

@@ -1,8 +1,8 @@
 -- Bytes and their text.
-use Rattle.std.proofs.Common.{◌≡◌, ℕ, zero, suc, ◌+◌, ◌≤◌, Bool, true, false, ◌==◌, List, [], ◌∷◌, ◌++◌, length, take, drop, refl, sym, ap, ◌∙◌, arith}
+use Rattle.std.proofs.Common.{◌≡◌, ℕ, zero, suc, ◌+◌, ◌≤◌, Bool, true, false, ◌==◌, if◌then◌else◌, List, [], ◌∷◌, ◌++◌, length, take, drop, refl, sym, ap, ◌∙◌, arith}
 use Rattle.std.proofs.Common.{length-drop, chars, subst, length-append}
 use Rattle.std.specs.Prelude.{IsUtf8, encode_utf8_all}
-use Rattle.std.specs.Str.Lossy.{utf8_valid_len}
+use Rattle.std.specs.Str.Lossy.{valid_len_up_to, utf8_valid_len}
 use Rattle.std.proofs.lemmas.Grind.{common_steps}
 use Rattle.std.proofs.lemmas.Bool.Decides.{nat_tests}
 use Rattle.std.proofs.lemmas.List.{take-append-drop, take-append-le}
@@ -107,3 +107,17 @@ take_all n l h = grind (arith, common_steps)
 
 pub same_front : (a x b y : List ℕ) (n : ℕ) → a ++ x ≡ b ++ y → n ≤ length a → n ≤ length b → take n a ≡ take n b
 same_front a x b y n e h k = sym (take-append-le n a x h) ∙ ap (take n) e ∙ take-append-le n b y k
+
+up_to_valid : (bs : List ℕ) (n : ℕ) → IsUtf8 (take (valid_len_up_to bs n) bs)
+up_to_valid bs zero = IsUtf8-nil
+up_to_valid bs (suc n) = by_test (is_utf8 (take (suc n) bs)) refl (up_to_valid bs n)
+  where
+    by_test : (b : Bool) → is_utf8 (take (suc n) bs) ≡ b → IsUtf8 (take (valid_len_up_to bs n) bs)
+        → IsUtf8 (take (if b then suc n else valid_len_up_to bs n) bs)
+    by_test true e h = IsUtf8-from_is_utf8 (take (suc n) bs) e
+    by_test false e h = h
+
+-- the bytes before the first that isn't UTF-8 are a text
+pub front_valid : (bs : List ℕ) → IsUtf8 (take (utf8_valid_len bs) bs)
+unfolding utf8_valid_len
+front_valid bs = up_to_valid bs (length bs)

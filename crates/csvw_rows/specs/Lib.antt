@@ -5,3 +5,4 @@ pub mod RowValue
 pub mod RowsLending
 pub mod RowsState
 pub mod SourceState
+pub mod Skips

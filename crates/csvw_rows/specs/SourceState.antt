@@ -1,5 +1,5 @@
 -- The state of a source of text.
-use Rattle.std.specs.Prelude.{◌≡◌, ℕ, Bool, not, List, ◌++◌, drop, is_some, chars}
+use Rattle.std.specs.Prelude.{◌≡◌, ℕ, ◌+◌, Bool, not, List, ◌++◌, length, drop, is_some, chars}
 use Rattle.std.specs.Str.Lossy.{utf8_valid_len, utf8_error_len}
 use Rattle.csvw_rows.specs.declared.source.Source.{Source}
 use Rattle.csvw_records.specs.Files.{text_of, content, is_empty}
@@ -30,6 +30,10 @@ pending_of s = s.pending.items
 
 abbrev pub begun_of : Source → Bool
 begun_of s = s.begun
+
+-- the number of bytes that aren't taken, and of those at the end that are not a whole character
+abbrev pub unread_bytes_in : Source → ℕ
+unread_bytes_in s = length (rest_bytes s) + length (pending_of s)
 
 -- it has decoded these bytes
 pub record Decodes (s : Source) (bytes : List ℕ) : Type 0 where

@@ -1,5 +1,6 @@
 //! Laws of the rows that a reader gave. The calls do nothing.
 ghost use Rattle.csvw_rows.specs.GivenLaws.{GivenBegin, GivenBeginLater, GivenFirst, GivenFirstLater, NothingGiven};
+ghost use Rattle.csvw_rows.specs.Skips.{RowEnds};
 
 use csvw_records::laws::record_laws;
 
@@ -33,6 +34,14 @@ pub fn given_first_later()
 /// A law: if nothing was read, nothing was given.
 pub fn nothing_given()
     ensures { NothingGiven }
+{
+    record_laws();
+}
+
+/// A law: if a row was read of a text that hasn't ended, a row ends before the bytes that are unread. All rows before
+/// that place were returned.
+pub fn row_ends()
+    ensures { RowEnds }
 {
     record_laws();
 }

@@ -17,6 +17,9 @@
 //! - A stop other than `Memory` comes after all rows. It is at the shortest front that begins no file, at a byte that
 //!   can't continue UTF-8 text, or at the end of bytes that are not a file.
 //! - A stop stays. A later call returns it again, and `row` stays the same.
+//! - `skip_to` goes on after rows whose bytes weren't fed, as if they had been fed and returned (`SkipsTo`). So one part
+//!   of a file can be read alone, with the numbers of the whole.
+//! - After `None` a row ends before the bytes that are unread, which `unread_bytes` counts: the law `row_ends`.
 //! - The laws `given_first`, `given_first_later`, `given_begin`, `given_begin_later` and `nothing_given` connect the
 //!   rows that were given with those of all bytes that begin with the bytes so far.
 #![tactic(auto)]

@@ -63,6 +63,7 @@ impl Rows {
     ghost use Rattle.csvw_rows.specs.RowsState.{IsIgnoredNext, IsIgnoredRead, IsOpenFront, IsSettledLen, EndsIgnored};
     ghost use Rattle.csvw_rows.specs.RowsState.{may_become_comment, sure_of, IsKnown};
     ghost use Rattle.csvw_rows.specs.RowsLending.{RestsAdvanced};
+    ghost use Rattle.csvw_rows.specs.Skips.{can_skip, unread_bytes_of, SkipsTo};
     ghost use Rattle.csvw_rows.specs.SourceState.{rest_of};
     ghost use Rattle.csvw_rows.specs.RowValue.{row_of};
     ghost use Rattle.csvw_rows.specs.NextRows.{is_last};
@@ -106,6 +107,37 @@ impl Rows {
         ensures { result ≡ reading_of self.now }
     {
         self.row + 1
+    }
+
+    /// Returns the number of bytes that were fed and that no row has which was read. After `next` returned `None`, a row
+    /// ends before them: the law `row_ends`.
+    pub fn unread_bytes(&self) -> usize
+        ensures { result ≡ unread_bytes_of self.now }
+    {
+        self.source.unread_bytes()
+    }
+
+    /// Goes on after rows whose bytes aren't fed, as if they had been fed and all their rows returned. There are `rows`
+    /// rows of all kinds from the start of the file then, and `remained` header rows and data rows among them.
+    ///
+    /// Returns false, and changes nothing, if the text has ended, if a stop was returned, if bytes are unread, or if
+    /// no reader can have these numbers.
+    pub fn skip_to(&mut self, rows: u64, remained: u64) -> bool
+        ensures result { result ≡ can_skip self.old rows remained }
+        ensures skips { result ≡ true → SkipsTo self.old self.new rows remained }
+        ensures same { result ≡ false → self.new ≡ self.old }
+    {
+        record_laws();
+        if self.ended || self.stop.is_some() || self.unread_bytes() > 0 {
+            return false;
+        }
+        if remained > rows || rows > self.max_rows {
+            return false;
+        }
+        self.source.begin();
+        self.row = rows;
+        self.remained = remained;
+        true
     }
 
     /// Adds some more bytes of the text. Returns the stop that was returned before, or `Memory` if memory runs out.

@@ -30,7 +30,7 @@ pub struct Source {
 }
 
 impl Source {
-    ghost use Rattle.csvw_rows.specs.SourceState.{text_items, taken_of, rest_bytes, rest_of, is_bad_of, pending_of, begun_of, Pushes, Grows};
+    ghost use Rattle.csvw_rows.specs.SourceState.{text_items, taken_of, rest_bytes, rest_of, is_bad_of, pending_of, begun_of, unread_bytes_in, Pushes, Grows};
 
     /// Returns a source without text.
     pub fn new(alloc: Global) -> Source
@@ -123,6 +123,24 @@ impl Source {
         ensures begun { begun_of self.new ≡ begun_of self.old }
     {
         self.taken += len;
+    }
+
+    /// Returns the number of bytes that aren't taken, with those at the end that are not a whole character.
+    pub fn unread_bytes(&self) -> usize
+        ensures { result ≡ unread_bytes_in self.now }
+    {
+        (self.text.len() - self.taken) + self.pending.len()
+    }
+
+    /// Goes on after text that isn't there: a character came.
+    pub fn begin(&mut self)
+        ensures items { text_items self.new ≡ text_items self.old }
+        ensures rest { rest_bytes self.new ≡ rest_bytes self.old }
+        ensures pending { pending_of self.new ≡ pending_of self.old }
+        ensures bad { is_bad_of self.new ≡ is_bad_of self.old }
+        ensures begun { begun_of self.new ≡ true }
+    {
+        self.begun = true;
     }
 
     /// Returns whether the bytes are not UTF-8, whatever follows.
