@@ -63,7 +63,7 @@ pub no_triples : (mode : Mode) (t : ℕ) (columns : Option Columns) → table_tr
 no_triples mode t None = refl
 no_triples mode t (Some columns) = refl
 
-triples_more : (mode : Mode) (t : ℕ) (columns : Option Columns) (rows more : List Row)
+pub triples_more : (mode : Mode) (t : ℕ) (columns : Option Columns) (rows more : List Row)
     → table_triples mode t columns (rows ++ more) ≡ table_triples mode t columns rows ++ table_triples mode t columns more
 triples_more mode t None rows more = refl
 triples_more mode t (Some columns) rows more = flat_map-append (row_triples mode t columns) rows more
@@ -72,7 +72,7 @@ no_faults : (t : ℕ) (columns : Option Columns) → table_faults t columns [] �
 no_faults t None = refl
 no_faults t (Some columns) = refl
 
-faults_more : (t : ℕ) (columns : Option Columns) (rows more : List Row)
+pub faults_more : (t : ℕ) (columns : Option Columns) (rows more : List Row)
     → table_faults t columns (rows ++ more) ≡ table_faults t columns rows ++ table_faults t columns more
 faults_more t None rows more = refl
 faults_more t (Some columns) rows more = flat_map-append (row_faults t columns.columns) rows more

@@ -1,8 +1,10 @@
 mod Ending
 mod Faults
-mod Going
+pub mod Going
 mod Headers
+pub mod Joining
 mod Lists
 mod Moving
 mod Own
+mod SkipLemmas
 mod Steps

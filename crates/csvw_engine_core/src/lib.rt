@@ -13,6 +13,7 @@
 //!   `EndOutcome`).
 //! - A stop in the text has the number of this table (`IsOf`). It comes only after all rows before it. It comes
 //!   where the records stop, or the table refuses the next row or its header.
+//! - `Table::skip_to` goes on after rows that are read elsewhere, as if they had been read here (`SkipsTable`).
 //! - After `Memory` and `Write` the sink took a front of the triples of the rows that come first, each of them
 //!   whole.
 //! - After `Write` the sink is closed. If it was open, its device failed within the next triple.
@@ -20,6 +21,7 @@
 
 mod giving;
 mod head;
+mod skipping;
 mod step;
 mod stop;
 mod table;
