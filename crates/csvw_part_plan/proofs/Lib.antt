@@ -1,0 +1,7 @@
+mod Cells
+mod Chains
+mod Empty
+mod LastPiece
+mod Lines
+mod NoPlans
+mod Sending
