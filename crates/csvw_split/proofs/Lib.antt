@@ -1,0 +1,3 @@
+mod CutLemmas
+mod FileLemmas
+mod SplitLemmas

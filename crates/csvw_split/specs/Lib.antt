@@ -1,0 +1,4 @@
+pub mod Cuts
+pub mod FileState
+pub mod Passing
+pub mod Split
