@@ -1,0 +1,4 @@
+mod Joining
+mod Lists
+mod Pieces
+mod Ready

@@ -1,0 +1,3 @@
+pub mod Joining
+pub mod Parts
+pub mod Pieces
