@@ -18,21 +18,29 @@ use std::alloc::AllocError;
 
 /// The dialect of an object, and the warnings on it and on the object.
 #[derive(Drop)]
-pub(crate) struct DialectGiven {
-    pub(crate) dialect: Option<Dialect>,
-    pub(crate) warnings: Seq<Fault>,
+pub struct DialectGiven {
+    /// The dialect, or `None` if the object has none of its own.
+    pub dialect: Option<Dialect>,
+    /// The warnings on the dialect, then those on the object.
+    pub warnings: Seq<Fault>,
 }
 
 /// The schema of an object and its keys, its inherited properties, and the warnings on its datatype.
 #[derive(Drop)]
-pub(crate) struct Body {
-    pub(crate) schema: Option<Schema>,
-    pub(crate) keys: Option<KeysFound>,
-    pub(crate) inherited: Inherited,
-    pub(crate) warnings: Seq<Fault>,
+pub struct Body {
+    /// The schema, or `None` if the object has none of its own.
+    pub schema: Option<Schema>,
+    /// The keys of the schema with their places, or `None` if there is no schema.
+    pub keys: Option<KeysFound>,
+    /// The inherited properties of the object itself.
+    pub inherited: Inherited,
+    /// The warnings on the datatype among them.
+    pub warnings: Seq<Fault>,
 }
 
-fn split(found: Option<DialectFound>, warnings: Seq<Fault>) -> Result<DialectGiven, AllocError>
+/// Returns the dialect of an object, with the warnings on it and then those on the object. It returns `AllocError` if
+/// there is no memory.
+pub fn split(found: Option<DialectFound>, warnings: Seq<Fault>) -> Result<DialectGiven, AllocError>
     ensures { IfOk result (λ g. g ≡ split warnings found) }
 {
     let Some(found) = found else {
@@ -63,7 +71,8 @@ pub(crate) fn read_dialect(
     Ok(split(found, warnings)?)
 }
 
-fn body_of(schema: Option<SchemaFound>, found: InheritedFound) -> Body
+/// Returns what a schema and inherited properties are together.
+pub fn body_of(schema: Option<SchemaFound>, found: InheritedFound) -> Body
     ensures { result ≡ body_of schema found }
 {
     match schema {

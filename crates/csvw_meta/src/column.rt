@@ -17,7 +17,7 @@ use csvw_text::{Fault, Place, Seq};
 use serde_json::Value;
 
 /// The properties of a column.
-const COLUMN: [&str; 6] = [
+pub const COLUMN: [&str; 6] = [
     "@id",
     "@type",
     "name",
@@ -28,11 +28,11 @@ const COLUMN: [&str; 6] = [
 
 /// Reads a column, by its number.
 #[derive(Drop)]
-pub(crate) struct ColumnReader<'a> {
+pub struct ColumnReader<'a> {
     /// The document's context.
-    pub(crate) context: &'a Context,
+    pub context: &'a Context,
     /// The number of its table, or 0 in the schema of the group.
-    pub(crate) table: u32,
+    pub table: u32,
 }
 
 impl<'a> NumberedReader for ColumnReader<'a> {

@@ -21,7 +21,7 @@ use csvw_text::{Seq, Text};
 use std::alloc::Global;
 
 /// The greatest number of bytes of a document.
-const MAX_DOCUMENT: usize = 1048576;
+pub const MAX_DOCUMENT: usize = 1048576;
 
 /// Reads the group of the one table that the document is.
 fn of_table(context: &Context, part: &Part) -> Result<GroupFound, Refusal>
@@ -94,7 +94,8 @@ fn of_bytes(
     described(profile, &part, base)
 }
 
-fn own_url(alloc: Global, base: &str) -> Result<Base, Refusal>
+/// Reads the URL of a document. A text that is not a URL is `BadUrl` or `UrlTooLong`, at the document.
+pub fn own_url(alloc: Global, base: &str) -> Result<Base, Refusal>
     ensures { Reads result (own_url base.now) }
 {
     match Base::new(alloc, base) {

@@ -20,7 +20,7 @@ use csvw_text::{Fault, Place, Seq, Text, both};
 use std::alloc::{AllocError, Global};
 
 /// The properties of a group.
-const GROUP: [&str; 9] = [
+pub const GROUP: [&str; 9] = [
     "@context",
     "@id",
     "@type",
@@ -33,21 +33,21 @@ const GROUP: [&str; 9] = [
 ];
 
 /// The greatest number of tables of a group.
-const MAX_TABLES: u32 = 64;
+pub const MAX_TABLES: u32 = 64;
 
 /// The parts of a group. Its keys may name what does not exist.
 #[derive(Drop)]
-pub(crate) struct GroupFound {
+pub struct GroupFound {
     /// Its `@id`.
-    pub(crate) id: Option<Iri>,
+    pub id: Option<Iri>,
     /// Its tables.
-    pub(crate) tables: Seq<TableFound>,
+    pub tables: Seq<TableFound>,
     /// Its dialect, and the warnings on it and on the group.
-    pub(crate) given: DialectGiven,
+    pub given: DialectGiven,
     /// Its schema and its inherited properties.
-    pub(crate) body: Body,
+    pub body: Body,
     /// Its annotations.
-    pub(crate) notes: Seq<Note>,
+    pub notes: Seq<Note>,
 }
 
 /// The warnings on the group, and on its annotations.
@@ -68,7 +68,8 @@ fn url_of(alloc: Global, found: &TableFound) -> Result<Text, AllocError>
     Text::copied(alloc, found.table.url.iri().as_str())
 }
 
-fn urls(alloc: Global, tables: &[TableFound]) -> Result<Seq<Text>, AllocError>
+/// Returns the URLs of tables, made safe, or `AllocError` if there is no memory.
+pub fn urls(alloc: Global, tables: &[TableFound]) -> Result<Seq<Text>, AllocError>
     ensures { IfOk result (λ s. s ≡ map url_of tables.now) }
 {
     let mut urls = Vec::new(alloc);
@@ -99,9 +100,9 @@ fn check_urls(part: &Part, tables: &[TableFound]) -> Result<(), Refusal>
 
 /// Reads the tables of a group.
 #[derive(Drop)]
-struct Tables<'a> {
+pub struct Tables<'a> {
     /// The document's context.
-    context: &'a Context,
+    pub context: &'a Context,
 }
 
 impl<'a> Reader for Tables<'a> {

@@ -21,7 +21,7 @@ pub(crate) fn document_fault(alloc: Global, code: MetaCode) -> Refusal
 }
 
 /// Returns the value of the bytes. If they are not a JSON text, the fault is `NotJson`.
-pub(crate) fn json_of(alloc: Global, bytes: &[u8]) -> Result<Value, Refusal>
+pub fn json_of(alloc: Global, bytes: &[u8]) -> Result<Value, Refusal>
     ensures { MatchResult result (λ v. json_of bytes.now ≡ Some (view v))
         (λ e. Fails e (record { code = MetaCode.NotJson; pointer = [] } ∷ []) × (e ≢ Refusal.Memory → json_of bytes.now ≡ None)) }
 {
@@ -43,7 +43,7 @@ fn json_of_text(alloc: Global, text: &str) -> Result<Value, Refusal>
 }
 
 /// Returns the bytes without U+FEFF at their start.
-pub(crate) fn without_bom(bytes: &[u8]) -> &[u8]
+pub fn without_bom(bytes: &[u8]) -> &[u8]
     ensures { result.now ≡ without_bom bytes.now }
 {
     match bytes.strip_prefix(b"\xEF\xBB\xBF") {

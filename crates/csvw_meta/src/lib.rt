@@ -22,21 +22,24 @@
 //!
 //! The values that depend on the document's URL or its context have, if those cannot be read, only the faults that
 //! they have for every URL and context (`hanging_on` in specs/). So the faults of a document are a predicate.
+//!
+//! Programs need only the calls above. The public modules have the parts of what is read, for crates that list all
+//! faults of a document.
 #![tactic(auto)]
 
-mod body;
-mod column;
-mod document;
-mod group;
-mod json;
+pub mod body;
+pub mod column;
+pub mod document;
+pub mod group;
+pub mod json;
 pub mod laws;
-mod name;
+pub mod name;
 mod read_description;
-mod references;
+pub mod references;
 mod repeated;
-mod schema;
-mod table;
-mod titles;
+pub mod schema;
+pub mod table;
+pub mod titles;
 mod url_alone;
 mod virtual_order;
 

@@ -74,7 +74,7 @@ fn is_variable(alloc: Global, text: &str) -> Result<bool, AllocError>
 /// Reads a declared name: the name of a variable (RFC 6570, section 2.3) that doesn't begin with `_`. Another text is
 /// `BadName`.
 #[derive(Drop)]
-pub(crate) struct NameReader;
+pub struct NameReader;
 
 impl Reader for NameReader {
     type Output = Name;

@@ -15,7 +15,9 @@ use csvw_meta_keys::{KeysFound, Target, check_keys};
 use csvw_text::{Seq, Text};
 use std::alloc::{AllocError, Global};
 
-fn declared_names(alloc: Global, schema: &Option<Schema>) -> Result<Seq<Text>, AllocError>
+/// Returns the names of the columns of a schema, or none if there is no schema. It returns `AllocError` if there is no
+/// memory.
+pub fn declared_names(alloc: Global, schema: &Option<Schema>) -> Result<Seq<Text>, AllocError>
     ensures { IfOk result (λ s. s ≡ declared_names schema.now) }
 {
     match schema {
@@ -47,7 +49,8 @@ fn target_of(
     })
 }
 
-fn targets_of(alloc: Global, group: &GroupFound) -> Result<Seq<Target>, AllocError>
+/// Returns the tables of a group, as those to which keys may refer. It returns `AllocError` if there is no memory.
+pub fn targets_of(alloc: Global, group: &GroupFound) -> Result<Seq<Target>, AllocError>
     ensures { IfOk result (λ s. s ≡ targets group.now) }
 {
     let mut targets = Vec::new(alloc);

@@ -24,7 +24,7 @@ use serde_json::Value;
 use std::alloc::{AllocError, Global};
 
 /// The properties of a schema.
-const SCHEMA: [&str; 6] = [
+pub const SCHEMA: [&str; 6] = [
     "@id",
     "@type",
     "columns",
@@ -34,15 +34,15 @@ const SCHEMA: [&str; 6] = [
 ];
 
 /// The greatest number of columns of a table.
-const MAX_COLUMNS: u32 = 1024;
+pub const MAX_COLUMNS: u32 = 1024;
 
 /// A schema, and its keys with their places.
 #[derive(Drop)]
-pub(crate) struct SchemaFound {
+pub struct SchemaFound {
     /// The schema.
-    pub(crate) schema: Schema,
+    pub schema: Schema,
     /// Its keys.
-    pub(crate) keys: KeysFound,
+    pub keys: KeysFound,
 }
 
 /// The warnings on the schema of the table of this number, 0 for the group's. Its annotations say nothing.
@@ -67,10 +67,7 @@ fn column_name(alloc: Global, column: &ColumnDescription, index: usize) -> Resul
 }
 
 /// Returns the names of columns, numbered from 1, or `AllocError` if there is no memory.
-pub(crate) fn column_names(
-    alloc: Global,
-    columns: &[ColumnDescription],
-) -> Result<Seq<Text>, AllocError>
+pub fn column_names(alloc: Global, columns: &[ColumnDescription]) -> Result<Seq<Text>, AllocError>
     ensures { IfOk result (λ s. s ≡ numbered_names 0 columns.now) }
 {
     let mut names = Vec::new(alloc);
@@ -115,11 +112,11 @@ fn check_columns(part: &Part, columns: &[ColumnDescription]) -> Result<(), Refus
 
 /// Reads the columns of a schema.
 #[derive(Drop)]
-struct Columns<'a> {
+pub struct Columns<'a> {
     /// The document's context.
-    context: &'a Context,
+    pub context: &'a Context,
     /// The number of their table, or 0 in the schema of the group.
-    table: u32,
+    pub table: u32,
 }
 
 impl<'a> Reader for Columns<'a> {
@@ -148,11 +145,11 @@ impl<'a> Reader for Columns<'a> {
 
 /// Reads a schema. The URL of a schema is `NotSupported`.
 #[derive(Drop)]
-pub(crate) struct SchemaReader<'a> {
+pub struct SchemaReader<'a> {
     /// The document's context.
-    pub(crate) context: &'a Context,
+    pub context: &'a Context,
     /// The number of its table, or 0 for the schema of the group.
-    pub(crate) table: u32,
+    pub table: u32,
 }
 
 impl<'a> Reader for SchemaReader<'a> {
@@ -199,8 +196,9 @@ fn described_keys(
     })
 }
 
-/// Returns the schema of these columns and keys, with its warnings and then those on the keys.
-fn with_keys(
+/// Returns the schema of these columns and keys, with its warnings and then those on the keys. It returns `AllocError` if
+/// there is no memory.
+pub fn with_keys(
     alloc: Global,
     columns: Seq<ColumnDescription>,
     found: InheritedFound,

@@ -20,7 +20,7 @@ use csvw_text::{Fault, Place, Seq};
 use serde_json::Value;
 
 /// The properties of a table of a group.
-const TABLE: [&str; 9] = [
+pub const TABLE: [&str; 9] = [
     "url",
     "@id",
     "@type",
@@ -33,7 +33,7 @@ const TABLE: [&str; 9] = [
 ];
 
 /// The properties of a table that is the document.
-const SOLE_TABLE: [&str; 10] = [
+pub const SOLE_TABLE: [&str; 10] = [
     "@context",
     "url",
     "@id",
@@ -48,18 +48,18 @@ const SOLE_TABLE: [&str; 10] = [
 
 /// A table, and the keys of its own schema with their places.
 #[derive(Drop)]
-pub(crate) struct TableFound {
+pub struct TableFound {
     /// The table.
-    pub(crate) table: TableDescription,
+    pub table: TableDescription,
     /// The keys, or `None` if the table has no schema of its own.
-    pub(crate) keys: Option<KeysFound>,
+    pub keys: Option<KeysFound>,
 }
 
 /// Reads a table of a group, by its number.
 #[derive(Drop)]
-pub(crate) struct TableReader<'a> {
+pub struct TableReader<'a> {
     /// The document's context.
-    pub(crate) context: &'a Context,
+    pub context: &'a Context,
 }
 
 impl<'a> NumberedReader for TableReader<'a> {

@@ -11,8 +11,8 @@ use csvw_text::{LanguageTag, Seq, Text};
 use serde_json::{Map, Value};
 use std::alloc::{AllocError, Global};
 
-/// Returns the texts that are not empty.
-fn not_empty(alloc: Global, texts: &[Text]) -> Result<Seq<Text>, AllocError>
+/// Returns the texts that are not empty, or `AllocError` if there is no memory.
+pub fn not_empty(alloc: Global, texts: &[Text]) -> Result<Seq<Text>, AllocError>
     ensures { IfOk result (λ s. s ≡ not_empty texts.now) }
 {
     let mut kept = Vec::new(alloc);
@@ -24,7 +24,8 @@ fn not_empty(alloc: Global, texts: &[Text]) -> Result<Seq<Text>, AllocError>
     Ok(Seq::of(kept))
 }
 
-fn is_language(language: &Option<LanguageTag>, key: &str) -> bool
+/// Returns whether a key is the language.
+pub fn is_language(language: &Option<LanguageTag>, key: &str) -> bool
     ensures { result ≡ is_language language.now key.now }
 {
     match language {
@@ -41,7 +42,8 @@ fn title_texts(part: &Part) -> Result<Seq<Text>, Refusal>
     Ok(not_empty(part.alloc, texts.as_slice())?)
 }
 
-fn is_tag(alloc: Global, key: &str) -> Result<bool, AllocError>
+/// Returns whether a key is a language tag, or `AllocError` if there is no memory.
+pub fn is_tag(alloc: Global, key: &str) -> Result<bool, AllocError>
     ensures { IfOk result (λ b. b ≡ is_language_tag key.now) }
 {
     let tag = LanguageTag::of(alloc, Text::copied(alloc, key)?)?;
@@ -84,9 +86,9 @@ fn all_titles(
 /// Reads the titles of a column that are not empty: a text, an array of texts, or an object from languages to either.
 /// Those of the context's language come first.
 #[derive(Drop)]
-pub(crate) struct Titles<'a> {
+pub struct Titles<'a> {
     /// The context's language.
-    pub(crate) language: &'a Option<LanguageTag>,
+    pub language: &'a Option<LanguageTag>,
 }
 
 impl<'a> Reader for Titles<'a> {

@@ -7,7 +7,7 @@ use csvw_datatype::Simple;
 use csvw_meta_core::{MetaCode, Part, Profile, Reader, Refusal};
 
 /// Returns whether a document in a profile may use a type.
-fn is_in(profile: Profile, simple: Simple) -> bool
+pub fn is_in(profile: Profile, simple: Simple) -> bool
     ensures { result ≡ is_in profile simple }
 {
     match (profile, simple) {
@@ -34,9 +34,9 @@ fn kept_in(profile: Profile, found: Option<Simple>) -> Option<Simple>
 
 /// Reads the name of a built-in datatype. A name that the profile doesn't have is `NotSupported`.
 #[derive(Drop)]
-pub(crate) struct BaseReader {
+pub struct BaseReader {
     /// The datatypes that the document may use.
-    pub(crate) profile: Profile,
+    pub profile: Profile,
 }
 
 impl Reader for BaseReader {

@@ -12,9 +12,9 @@ use serde_json::Value;
 /// Reads a bound: a text in the default format of the type or, for a type of numbers, a whole number. It is
 /// `BadDatatype` if it is not a value of the type, or if the values of the type have no order.
 #[derive(Drop)]
-struct BoundReader {
+pub struct BoundReader {
     /// The datatype's `base`.
-    simple: Simple,
+    pub simple: Simple,
 }
 
 impl Reader for BoundReader {
@@ -60,15 +60,21 @@ fn is_dated(simple: Simple) -> bool
     matches!(simple, Simple::Day | Simple::Moment)
 }
 
-/// The bounds of a datatype.
+/// The bounds of a datatype. `None`: it does not have the bound.
 #[derive(Drop)]
-pub(crate) struct Bounds {
-    pub(crate) minimum: Option<Bound>,
-    pub(crate) min_inclusive: Option<Bound>,
-    pub(crate) min_exclusive: Option<Bound>,
-    pub(crate) maximum: Option<Bound>,
-    pub(crate) max_inclusive: Option<Bound>,
-    pub(crate) max_exclusive: Option<Bound>,
+pub struct Bounds {
+    /// `minimum`: another name of `minInclusive`.
+    pub minimum: Option<Bound>,
+    /// `minInclusive`: the least value.
+    pub min_inclusive: Option<Bound>,
+    /// `minExclusive`: a value that is less than each value.
+    pub min_exclusive: Option<Bound>,
+    /// `maximum`: another name of `maxInclusive`.
+    pub maximum: Option<Bound>,
+    /// `maxInclusive`: the greatest value.
+    pub max_inclusive: Option<Bound>,
+    /// `maxExclusive`: a value that is greater than each value.
+    pub max_exclusive: Option<Bound>,
 }
 
 #[tactic(auto, using(crate::proofs::ReadLemmas::fails_first), unfolding(crate::specs::Bounds::bounds))]

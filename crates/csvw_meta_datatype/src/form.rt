@@ -17,7 +17,7 @@ use csvw_meta_notes::{NoteContext, read_unlisted};
 use csvw_text::{Fault, Place, Seq};
 
 /// The properties that are listed for a datatype.
-const DATATYPE: [&str; 13] = [
+pub const DATATYPE: [&str; 13] = [
     "@id",
     "@type",
     "base",
@@ -43,7 +43,7 @@ pub struct DatatypeFound {
 }
 
 /// Returns the datatype of a type without a format and facets, with or without an `@id`.
-pub(crate) fn plain(simple: Simple, id: Option<Iri>) -> Datatype
+pub fn plain(simple: Simple, id: Option<Iri>) -> Datatype
     ensures { result ≡ plain simple id }
 {
     Datatype {

@@ -10,9 +10,9 @@ use csvw_meta_core::{MetaCode, Part, Reader, Refusal};
 
 /// Reads a length in characters. It is `BadDatatype` on a type that isn't string or derived from it.
 #[derive(Drop)]
-struct LengthReader {
+pub struct LengthReader {
     /// The datatype's `base`.
-    simple: Simple,
+    pub simple: Simple,
 }
 
 impl Reader for LengthReader {
@@ -32,12 +32,15 @@ impl Reader for LengthReader {
     }
 }
 
-/// The lengths of a datatype, in characters.
+/// The lengths of a datatype, in characters. `None`: it does not have the length.
 #[derive(Drop)]
-pub(crate) struct Lengths {
-    pub(crate) length: Option<u64>,
-    pub(crate) min_length: Option<u64>,
-    pub(crate) max_length: Option<u64>,
+pub struct Lengths {
+    /// `length`: the length of each text.
+    pub length: Option<u64>,
+    /// `minLength`: the least length.
+    pub min_length: Option<u64>,
+    /// `maxLength`: the greatest length.
+    pub max_length: Option<u64>,
 }
 
 #[tactic(auto, using(crate::proofs::ReadLemmas::fails_first), unfolding(crate::specs::Lengths::lengths))]

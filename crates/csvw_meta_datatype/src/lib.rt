@@ -8,21 +8,23 @@
 //! - The datatype that is read passes `Datatype::check`: the law `datatypes_fit` (`IsSound`).
 //! - A format that is read is one of its type, and facets that are read fit the type and each other: the private laws
 //!   `formats_fit` and `facets_fit`.
+//!
+//! The public modules have the parts of a datatype, for crates that list all faults of a document.
 #![tactic(auto)]
 
-mod base;
-mod bounds;
+pub mod base;
+pub mod bounds;
 mod facet_laws;
 mod facets;
-mod form;
-mod format;
+pub mod form;
+pub mod format;
 mod format_laws;
 mod laws;
-mod lengths;
-mod number;
-mod pattern;
+pub mod lengths;
+pub mod number;
+pub mod pattern;
 mod reader;
-mod truth;
+pub mod truth;
 
 pub use form::DatatypeFound;
 pub use laws::datatypes_fit;

@@ -12,14 +12,15 @@ use csvw_meta_core::{CommonProperty, Listed, MetaCode, NotYet, Part, Reader, Ref
 use csvw_text::{Fault, Place, Seq};
 
 /// The properties that are listed for the format of a number.
-const FORMAT: [&str; 3] = ["pattern", "decimalChar", "groupChar"];
+pub const FORMAT: [&str; 3] = ["pattern", "decimalChar", "groupChar"];
 
 /// The characters of a number, and the warnings on them.
 #[derive(Drop)]
-pub(crate) struct NumberFound {
-    pub(crate) format: NumberFormat,
+pub struct NumberFound {
+    /// The characters.
+    pub format: NumberFormat,
     /// A warning for each property that is ignored.
-    pub(crate) warnings: Seq<Fault>,
+    pub warnings: Seq<Fault>,
 }
 
 fn sole(text: &str) -> Option<char>
@@ -44,7 +45,7 @@ fn is_free(c: char) -> bool
 
 /// Reads a character that separates the digits of a number. Another text is `BadDatatype`.
 #[derive(Drop)]
-struct CharReader;
+pub struct CharReader;
 
 impl Reader for CharReader {
     type Output = char;
@@ -62,8 +63,8 @@ impl Reader for CharReader {
     }
 }
 
-/// Whether the group character equals the decimal character.
-fn clashes(format: NumberFormat) -> bool
+/// Returns whether the group character equals the decimal character.
+pub fn clashes(format: NumberFormat) -> bool
     ensures { result ≡ clashes format }
 {
     match format.group_char {

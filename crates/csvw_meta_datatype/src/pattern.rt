@@ -19,7 +19,7 @@ fn moment_format_of(pattern: &str) -> Option<MomentFormat>
 
 /// Reads the pattern of a date. A pattern that is not one of the fourteen is `NotSupported`.
 #[derive(Drop)]
-pub(crate) struct DatePattern;
+pub struct DatePattern;
 
 impl Reader for DatePattern {
     type Output = DateFormat;
@@ -39,7 +39,7 @@ impl Reader for DatePattern {
 
 /// Reads the pattern of a date with a time of day. A pattern that is not one of the two is `NotSupported`.
 #[derive(Drop)]
-pub(crate) struct MomentPattern;
+pub struct MomentPattern;
 
 impl Reader for MomentPattern {
     type Output = MomentFormat;

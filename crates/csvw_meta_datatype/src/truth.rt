@@ -14,7 +14,7 @@ fn truth_format_of(alloc: Global, pattern: &str) -> Result<Option<TruthFormat>, 
 
 /// Reads two different texts with `|` between them. Another text is `BadDatatype`.
 #[derive(Drop)]
-pub(crate) struct TruthPattern;
+pub struct TruthPattern;
 
 impl Reader for TruthPattern {
     type Output = TruthFormat;

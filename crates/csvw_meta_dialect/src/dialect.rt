@@ -21,13 +21,13 @@ use csvw_text::{Fault, Place, Seq, Text};
 use serde_json::Value;
 
 /// The greatest number of bytes of a prefix of comment rows.
-const MAX_PREFIX: usize = 16;
+pub const MAX_PREFIX: usize = 16;
 
 /// The greatest number of header rows.
-const MAX_HEADER_ROWS: u8 = 8;
+pub const MAX_HEADER_ROWS: u8 = 8;
 
 /// The greatest number of columns that are skipped.
-const MAX_SKIPPED_COLUMNS: u32 = 1024;
+pub const MAX_SKIPPED_COLUMNS: u32 = 1024;
 
 /// The properties of a dialect.
 const DIALECT: [&str; 15] = [
@@ -72,9 +72,9 @@ fn has_break(text: &str) -> bool
 /// Reads a delimiter or a quote: one character, neither CR nor LF. CR and LF are `BadDialect`. An empty text is
 /// `BadProperty`.
 #[derive(Drop)]
-struct Mark {
+pub struct Mark {
     /// The code for a text of several characters.
-    several: MetaCode,
+    pub several: MetaCode,
 }
 
 impl Reader for Mark {
@@ -98,7 +98,7 @@ impl Reader for Mark {
 /// Reads the prefix of comment rows: 1 to 16 bytes, without CR and LF. Another length is `BadProperty`. A text with CR
 /// or LF is `BadDialect`.
 #[derive(Drop)]
-struct CommentPrefix;
+pub struct CommentPrefix;
 
 impl Reader for CommentPrefix {
     type Output = Text;
@@ -134,7 +134,7 @@ fn trim_named(text: &str) -> Option<Trim>
 /// Reads what is stripped from fields: a boolean, or one of the texts `true`, `false`, `start` and `end`. Another text
 /// is `BadProperty`.
 #[derive(Drop)]
-struct TrimReader;
+pub struct TrimReader;
 
 impl Reader for TrimReader {
     type Output = Trim;
@@ -162,7 +162,7 @@ fn is_utf8_name(text: &str) -> bool
 
 /// Reads the name of the one supported encoding, UTF-8, in any case. Another text is `NotSupported`.
 #[derive(Drop)]
-struct Encoding;
+pub struct Encoding;
 
 impl Reader for Encoding {
     type Output = ();
@@ -180,7 +180,7 @@ impl Reader for Encoding {
 
 /// Reads a line terminator: CR LF or LF. Another text is `NotSupported`.
 #[derive(Drop)]
-struct Terminator;
+pub struct Terminator;
 
 impl Reader for Terminator {
     type Output = LineTerminators;
@@ -226,7 +226,7 @@ fn joined(terminators: &[LineTerminators]) -> LineTerminators
 
 /// Reads one line terminator, or an array of at least one. An empty array is `BadDialect`.
 #[derive(Drop)]
-struct Terminators;
+pub struct Terminators;
 
 impl Reader for Terminators {
     type Output = LineTerminators;

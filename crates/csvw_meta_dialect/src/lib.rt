@@ -11,5 +11,8 @@
 mod dialect;
 mod laws;
 
-pub use dialect::{DialectFound, DialectReader};
+pub use dialect::{
+    CommentPrefix, DialectFound, DialectReader, Encoding, MAX_HEADER_ROWS, MAX_PREFIX,
+    MAX_SKIPPED_COLUMNS, Mark, Terminator, Terminators, TrimReader,
+};
 pub use laws::dialects_fit;

@@ -13,12 +13,15 @@ use std::alloc::{AllocError, Global};
 
 /// The datatype of an object, and the warnings on it.
 #[derive(Drop)]
-pub(crate) struct DatatypeGiven {
-    pub(crate) datatype: Option<Shared<Datatype>>,
-    pub(crate) warnings: Seq<Fault>,
+pub struct DatatypeGiven {
+    /// The datatype, or `None` if the object has none of its own.
+    pub datatype: Option<Shared<Datatype>>,
+    /// A warning for each property of the datatype that is ignored.
+    pub warnings: Seq<Fault>,
 }
 
-fn split(alloc: Global, found: Option<DatatypeFound>) -> Result<DatatypeGiven, AllocError>
+/// Returns the datatype and the warnings on it apart, or `AllocError` if there is no memory.
+pub fn split(alloc: Global, found: Option<DatatypeFound>) -> Result<DatatypeGiven, AllocError>
     ensures { IfOk result (λ g. g ≡ split found) }
 {
     match found {

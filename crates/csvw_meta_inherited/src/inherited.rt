@@ -59,13 +59,13 @@ pub struct InheritedFound {
 
 /// The URI template properties of an object. `None`: the object does not have the property.
 #[derive(Drop)]
-struct UriTemplates {
+pub struct UriTemplates {
     /// `aboutUrl`: the subject of the cells' triples.
-    about_url: Option<Shared<Template>>,
+    pub about_url: Option<Shared<Template>>,
     /// `propertyUrl`: their predicate.
-    property_url: Option<Shared<Template>>,
+    pub property_url: Option<Shared<Template>>,
     /// `valueUrl`: their object.
-    value_url: Option<Shared<Template>>,
+    pub value_url: Option<Shared<Template>>,
 }
 
 #[tactic(auto, using(crate::proofs::ReadLemmas::fails_first), unfolding(crate::specs::Inherited::uri_templates))]
@@ -99,13 +99,13 @@ fn uri_templates(part: &Part) -> Result<UriTemplates, Refusal>
 
 /// What an object says of the texts of cells. `None`: the object does not have the property.
 #[derive(Drop)]
-struct CellTexts {
+pub struct CellTexts {
     /// `default`: the text that replaces an empty text.
-    default: Option<Shared<Text>>,
+    pub default: Option<Shared<Text>>,
     /// `lang`: the language of texts.
-    lang: Option<Shared<LanguageTag>>,
+    pub lang: Option<Shared<LanguageTag>>,
     /// `null`: the texts that are null.
-    null: Option<Shared<Nulls>>,
+    pub null: Option<Shared<Nulls>>,
 }
 
 #[tactic(auto, using(crate::proofs::ReadLemmas::fails_first), unfolding(crate::specs::Inherited::cell_texts))]

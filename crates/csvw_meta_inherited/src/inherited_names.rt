@@ -12,7 +12,7 @@ use csvw_meta_notes::{read_all_warnings, warnings_at};
 use csvw_text::{Fault, Place, Seq};
 
 /// The inherited properties.
-const INHERITED: [&str; 11] = [
+pub const INHERITED: [&str; 11] = [
     "aboutUrl",
     "propertyUrl",
     "valueUrl",

@@ -8,13 +8,15 @@
 //! - A property of an object that is neither of its kind nor inherited is a warning: `inheriting_warnings`
 //!   (`unlisted`), and of a table or a group `annotated_warnings` (`all_warnings`).
 //! - A text is read as a URI template by the grammar of csvw_template: the law `templates_are_read` (`IsTheReading`).
+//!
+//! The public modules have the parts of what is read, for crates that list all faults of a document.
 #![tactic(auto)]
 
-mod datatype;
-mod inherited;
-mod inherited_names;
+pub mod datatype;
+pub mod inherited;
+pub mod inherited_names;
 mod laws;
-mod template;
+pub mod template;
 
 pub use inherited::{InheritedFound, read_inherited};
 pub use inherited_names::{annotated_warnings, inheriting_warnings};

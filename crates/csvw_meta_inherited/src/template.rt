@@ -7,7 +7,7 @@ use csvw_template::{Template, TemplateFault};
 /// Reads a text that is a URI template. The fault is the first one of the template: `TooLong`, `BadTemplate` or
 /// `TemplateLevel`.
 #[derive(Drop)]
-pub(crate) struct TemplateReader;
+pub struct TemplateReader;
 
 impl Reader for TemplateReader {
     ghost use Rattle.csvw_meta_inherited.specs.TemplateText.{template_text};

@@ -9,7 +9,7 @@ use serde_json::Value;
 use std::alloc::AllocError;
 
 /// How many columns a key has at most.
-const MAX_COLUMNS: u32 = 16;
+pub const MAX_COLUMNS: u32 = 16;
 
 /// The name of a column in a key, and its place.
 #[derive(Debug, Drop)]
@@ -20,7 +20,8 @@ pub struct KeyName {
     pub at: Text,
 }
 
-fn name_here(part: &Part, name: &str) -> Result<KeyName, AllocError>
+/// Returns a name at the place of a part, or `AllocError` if there is no memory.
+pub fn name_here(part: &Part, name: &str) -> Result<KeyName, AllocError>
     ensures { IfOk result (λ k. k ≡ named_at (text_of part.now.at) name.now) }
 {
     Ok(KeyName {
@@ -31,7 +32,7 @@ fn name_here(part: &Part, name: &str) -> Result<KeyName, AllocError>
 
 /// Reads the name of a column.
 #[derive(Drop)]
-struct KeyNameReader;
+pub struct KeyNameReader;
 
 impl NumberedReader for KeyNameReader {
     type Output = KeyName;
@@ -49,7 +50,7 @@ impl NumberedReader for KeyNameReader {
 /// Reads the name of a column, or an array of 1 to 16 names. An empty array is `BadProperty`, and a longer one is
 /// `TooMany`.
 #[derive(Drop)]
-pub(crate) struct ColumnNames;
+pub struct ColumnNames;
 
 impl Reader for ColumnNames {
     type Output = Seq<KeyName>;

@@ -16,7 +16,7 @@ use serde_json::Value;
 use std::alloc::AllocError;
 
 /// The properties that are listed for a foreign key.
-const FOREIGN_KEY: [&str; 2] = ["columnReference", "reference"];
+pub const FOREIGN_KEY: [&str; 2] = ["columnReference", "reference"];
 
 /// A foreign key, as a document describes it.
 #[derive(Debug, Drop)]
@@ -45,8 +45,9 @@ fn warnings_of(place: Place, part: &Part) -> Result<Seq<Fault>, Refusal>
     listed.read(part)
 }
 
-/// Returns the foreign key of these columns, with the warnings on it and on its reference.
-fn with_reference(
+/// Returns the foreign key of these columns, with the warnings on it and on its reference. It returns `AllocError` if
+/// there is no memory.
+pub fn with_reference(
     part: &Part,
     warnings: Seq<Fault>,
     columns: Seq<KeyName>,
@@ -76,11 +77,11 @@ fn foreign_key_of(base: &Base, place: Place, part: &Part) -> Result<ForeignKeyFo
 
 /// Reads a foreign key.
 #[derive(Drop)]
-pub(crate) struct ForeignKeyReader<'a> {
+pub struct ForeignKeyReader<'a> {
     /// The base against which URLs are resolved.
-    pub(crate) base: &'a Base,
+    pub base: &'a Base,
     /// The place of the warnings.
-    pub(crate) place: Place,
+    pub place: Place,
 }
 
 impl<'a> NumberedReader for ForeignKeyReader<'a> {

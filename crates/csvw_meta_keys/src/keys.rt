@@ -12,7 +12,7 @@ use csvw_meta_core::{Part, Refusal, Several};
 use csvw_text::{Place, Seq};
 
 /// The greatest number of foreign keys of a schema.
-const MAX_FOREIGN_KEYS: u32 = 64;
+pub const MAX_FOREIGN_KEYS: u32 = 64;
 
 /// The keys of a schema, as a document describes them.
 #[derive(Debug, Drop)]

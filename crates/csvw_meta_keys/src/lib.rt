@@ -10,14 +10,16 @@
 //!   equally long. Else it returns `BadReference` at the name, the URL or the foreign key.
 //! - `primary_key`, `foreign_keys` and `warnings` return the keys and the warnings (`names_of`, `described`,
 //!   `all_warnings`).
+//!
+//! The public modules have the parts of keys, for crates that list all faults of a document.
 #![tactic(auto)]
 
-mod column_names;
+pub mod column_names;
 mod described;
-mod foreign_key;
-mod keys;
-mod naming;
-mod reference;
+pub mod foreign_key;
+pub mod keys;
+pub mod naming;
+pub mod reference;
 
 pub use column_names::KeyName;
 pub use foreign_key::ForeignKeyFound;

@@ -34,7 +34,8 @@ fn refused(alloc: Global, at: &Text) -> Refusal
     }
 }
 
-fn has_name(names: &[Text], name: &str) -> bool
+/// Returns whether a name is one of these.
+pub fn has_name(names: &[Text], name: &str) -> bool
     ensures { result ≡ has_name names.now name.now }
 {
     names.iter().any(|n| n.as_str() == name)
@@ -53,7 +54,7 @@ fn check_names(alloc: Global, names: &[Text], key: &[KeyName]) -> Result<(), Ref
 }
 
 /// Returns the first of the tables that has a URL.
-fn target_of<'a>(targets: &'a [Target], url: &str) -> Option<&'a Target>
+pub fn target_of<'a>(targets: &'a [Target], url: &str) -> Option<&'a Target>
     ensures { MatchOption result (target_of targets.now url.now ≡ None) (λ t. target_of targets.now url.now ≡ Some t.now) }
 {
     for target in targets {

@@ -15,7 +15,7 @@ use csvw_text::{Fault, Place, Seq, Text, both};
 use serde_json::Value;
 
 /// The properties that are listed for the reference of a foreign key.
-const REFERENCE: [&str; 3] = ["resource", "schemaReference", "columnReference"];
+pub const REFERENCE: [&str; 3] = ["resource", "schemaReference", "columnReference"];
 
 /// The URL of a referenced table, and its place.
 #[derive(Debug, Drop)]
@@ -28,13 +28,13 @@ pub struct Resource {
 
 /// The reference of a foreign key.
 #[derive(Debug, Drop)]
-pub(crate) struct ReferenceFound {
+pub struct ReferenceFound {
     /// The table.
-    pub(crate) resource: Resource,
+    pub resource: Resource,
     /// The names of the referenced columns.
-    pub(crate) columns: Seq<KeyName>,
+    pub columns: Seq<KeyName>,
     /// A warning for each property that is ignored.
-    pub(crate) warnings: Seq<Fault>,
+    pub warnings: Seq<Fault>,
 }
 
 /// Returns the table of this URL, with the place of the part.
@@ -48,9 +48,9 @@ fn resource_of(part: &Part, url: &Iri) -> Result<Resource, Refusal>
 /// Reads the URL of a table. It is resolved against a base, and its fragment is dropped. A text that resolves to no
 /// URL is `UrlTooLong` or `BadUrl`.
 #[derive(Drop)]
-struct ResourceReader<'a> {
+pub struct ResourceReader<'a> {
     /// The base.
-    base: &'a Base,
+    pub base: &'a Base,
 }
 
 impl<'a> Reader for ResourceReader<'a> {
@@ -93,11 +93,11 @@ fn reference_of(base: &Base, place: Place, part: &Part) -> Result<ReferenceFound
 /// Reads the reference of a foreign key: the URL of a table, and columns of it. A reference to a schema is
 /// `NotSupported`.
 #[derive(Drop)]
-pub(crate) struct ReferenceReader<'a> {
+pub struct ReferenceReader<'a> {
     /// The base against which URLs are resolved.
-    pub(crate) base: &'a Base,
+    pub base: &'a Base,
     /// The place of the warnings.
-    pub(crate) place: Place,
+    pub place: Place,
 }
 
 impl<'a> Reader for ReferenceReader<'a> {

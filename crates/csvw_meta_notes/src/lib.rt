@@ -26,4 +26,8 @@ mod warnings;
 pub use annotations::NoteContext;
 pub use in_context::{read_notes, warnings_at};
 pub use laws::notes_fit;
+pub use literal::{check_for_text, check_one};
+pub use members::{check_literal_member, check_node_member, has_colon};
+pub use name::{TypeName, TypeNames, read_name};
+pub use node::NodeId;
 pub use unlisted::{read_all_notes, read_all_warnings, read_unlisted};

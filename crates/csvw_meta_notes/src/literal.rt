@@ -18,7 +18,8 @@ use csvw_text::LanguageTag;
 use serde_json::{Map, Value};
 use std::alloc::{AllocError, Global};
 
-fn check_one(part: &Part) -> Result<(), Refusal>
+/// Checks that an object has no `@language` or no `@type`. An object with both is `BadProperty`.
+pub fn check_one(part: &Part) -> Result<(), Refusal>
     ensures { Reads result (one_of (text_of part.now.at) (get (codes "@language") (view part.now.value.now)) (get (codes "@type") (view part.now.value.now))) }
 {
     match part.value.get("@language") {
@@ -40,7 +41,9 @@ fn is_no_text(value: &Value) -> bool
     }
 }
 
-fn check_for_text(part: &Part, value: &Value) -> Result<(), Refusal>
+/// Checks the `@language` of an object with this `@value`. Beside a whole number or a boolean, it is `BadProperty`, or
+/// `NotSupported` if it is a number that is not whole.
+pub fn check_for_text(part: &Part, value: &Value) -> Result<(), Refusal>
     ensures { Reads result (for_text (text_of part.now.at) (view value.now) (get (codes "@language") (view part.now.value.now))) }
 {
     match part.value.get("@language") {

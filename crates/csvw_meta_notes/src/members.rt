@@ -11,7 +11,7 @@ use csvw_meta_core::{MetaCode, Part, Refusal};
 use serde_json::{Map, Value};
 
 /// Whether a name is the name of a common property.
-pub(crate) fn has_colon(name: &str) -> bool
+pub fn has_colon(name: &str) -> bool
     ensures { result ≡ has_colon name.now }
 {
     name.as_bytes().contains(&b':')
@@ -46,7 +46,9 @@ fn is_literal_keyword(name: &str) -> bool
     name == "@value" || name == "@language" || name == "@type"
 }
 
-fn check_literal_member(part: &Part, name: &str, value: &Value) -> Result<(), Refusal>
+/// Checks a member of a literal. Any other keyword, and any common property, is `BadProperty`, or `NotSupported` if its
+/// value is a number that is not whole.
+pub fn check_literal_member(part: &Part, name: &str, value: &Value) -> Result<(), Refusal>
     ensures { Reads result (literal_member (text_of part.now.at) name.now (view value.now)) }
 {
     if is_literal_keyword(name) {
@@ -86,7 +88,9 @@ fn check_no_list(part: &Part, name: &str, value: &Value) -> Result<(), Refusal>
     check_no_keyword(part, name, value)
 }
 
-fn check_node_member(part: &Part, name: &str, value: &Value) -> Result<(), Refusal>
+/// Checks a member of a node. A list or a set is `NotSupported`. Any other keyword is `BadProperty`, or `NotSupported` if
+/// its value is a number that is not whole.
+pub fn check_node_member(part: &Part, name: &str, value: &Value) -> Result<(), Refusal>
     ensures { Reads result (node_member (text_of part.now.at) name.now (view value.now)) }
 {
     if matches!(name, "@id" | "@type") {

@@ -60,7 +60,7 @@ fn has_scheme(text: &str) -> bool
 
 /// Returns the IRI of a name of this part. If it is not an IRI, the fault is that of a value of a wrong kind:
 /// `BadProperty`, or `NotSupported` if the value of the part is a number that is not whole.
-pub(crate) fn read_name(part: &Part, name: &str) -> Result<Iri, Refusal>
+pub fn read_name(part: &Part, name: &str) -> Result<Iri, Refusal>
     ensures { Reads result (name_of (text_of part.now.at) (view part.now.value.now) name.now) }
 {
     let expanded = expand_prefix(part.alloc, name)?;
@@ -72,7 +72,7 @@ pub(crate) fn read_name(part: &Part, name: &str) -> Result<Iri, Refusal>
 
 /// Reads one type, which is expanded as a name.
 #[derive(Drop)]
-pub(crate) struct TypeName;
+pub struct TypeName;
 
 impl Reader for TypeName {
     type Output = Iri;
@@ -89,7 +89,7 @@ impl Reader for TypeName {
 
 /// Reads one type, or an array of types.
 #[derive(Drop)]
-pub(crate) struct TypeNames;
+pub struct TypeNames;
 
 impl Reader for TypeNames {
     type Output = Seq<Iri>;

@@ -8,9 +8,9 @@ use csvw_meta_core::{MetaCode, Part, Reader, Refusal};
 /// Reads the `@id` of a node. Its prefix is replaced, and the result is resolved against a base. A text that names a
 /// blank node is `BadId`. A text that resolves to nothing is `UrlTooLong` or `BadUrl`.
 #[derive(Drop)]
-pub(crate) struct NodeId<'a> {
+pub struct NodeId<'a> {
     /// The base.
-    pub(crate) base: &'a Base,
+    pub base: &'a Base,
 }
 
 impl<'a> Reader for NodeId<'a> {
