@@ -1,0 +1,10 @@
+mod AnyLemmas
+mod ColumnsLemmas
+mod FaultsLemmas
+mod FlagsLemmas
+mod ItemsLemmas
+mod KnownLemmas
+mod RepeatedLemmas
+mod SeenLemmas
+mod TitlesLemmas
+mod WarningsLemmas

@@ -1,0 +1,6 @@
+-- The faults of the items come before that of their number.
+use Rattle.std.proofs.Common.{append_assoc}
+use Rattle.csvw_meta_faults.proofs.schema.find_some.Goals as goal
+
+pub returns : goal.returns
+returns c = λ table. simp append_assoc at (rw (c.in_ok-find_each.ensures table) at c.find_count.ensures)

@@ -1,0 +1,3 @@
+pub mod ColumnName
+pub mod Flags
+pub mod Seen

@@ -1,0 +1,68 @@
+//! Which names and properties of columns could be read (Metadata Vocabulary for Tabular Data, section 5.6).
+ghost use Rattle.std.specs.Prelude.{◌≡◌, IfOk, length};
+ghost use Rattle.std.specs.List.{list_any};
+ghost use Rattle.csvw_meta_core.specs.Pointer.{item_at};
+ghost use Rattle.csvw_meta_core.specs.Rules.{could_read_property};
+ghost use Rattle.csvw_meta.specs.NamesRead.{hides_name, name_known};
+ghost use Rattle.csvw_meta_faults.specs.Flags.{AreFlags};
+
+use csvw_description::ColumnDescription;
+use csvw_meta_faults_core::{Hiding, below, item_at};
+use std::alloc::{AllocError, Global};
+
+/// Returns whether a fault hides the name of the column at this pointer.
+fn hides_name(
+    alloc: Global,
+    hiding: Hiding,
+    at: &str,
+    column: &ColumnDescription,
+) -> Result<bool, AllocError>
+    ensures { IfOk result (λ b. b ≡ list_any (hides_name at.now column.now) hiding.entry.faults.now) }
+{
+    let hidden = hiding.hides_property(alloc, at, "name")?;
+    if hidden {
+        return Ok(true);
+    }
+    if column.name.is_some() {
+        return Ok(false);
+    }
+    let titles = below(alloc, at, "titles")?;
+    hiding.is_within(alloc, titles.as_str())
+}
+
+/// Returns for each column of the array at this pointer whether its name could be read.
+pub(crate) fn names_known(
+    alloc: Global,
+    hiding: Hiding,
+    at: &str,
+    columns: &[ColumnDescription],
+) -> Result<Vec<bool>, AllocError>
+    ensures { IfOk result (λ flags. AreFlags (name_known hiding.entry.faults.now at.now columns.now) (length columns.now) flags.items) }
+{
+    let mut known = Vec::new(alloc);
+    for (i, column) in columns.iter().enumerate() {
+        let item = item_at(alloc, at, i)?;
+        let hidden = hides_name(alloc, hiding, item.as_str(), column)?;
+        known.push(!hidden)?;
+    }
+    Ok(known)
+}
+
+/// Returns for each of so many items of the array at this pointer whether the property of that name could be read.
+pub(crate) fn property_known(
+    alloc: Global,
+    hiding: Hiding,
+    at: &str,
+    name: &str,
+    count: usize,
+) -> Result<Vec<bool>, AllocError>
+    ensures { IfOk result (λ flags. AreFlags (λ i. could_read_property hiding.entry.faults.now (item_at at.now i) name.now) count flags.items) }
+{
+    let mut known = Vec::new(alloc);
+    for i in 0..count {
+        let item = item_at(alloc, at, i)?;
+        let hidden = hiding.hides_property(alloc, item.as_str(), name)?;
+        known.push(!hidden)?;
+    }
+    Ok(known)
+}

@@ -1,0 +1,6 @@
+mod AnyLemmas
+mod ContextLemmas
+mod DialectLemmas
+mod EachLemmas
+mod NamesLemmas
+mod SoleLemmas

@@ -1,0 +1,3 @@
+mod FaultsLemmas
+mod ItemsLemmas
+mod WhicheverLemmas

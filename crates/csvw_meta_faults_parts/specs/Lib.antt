@@ -1,0 +1,3 @@
+pub mod BareKeys
+pub mod Items
+pub mod Leaves

@@ -1,0 +1,87 @@
+//! The faults of formats (Metadata Vocabulary for Tabular Data, section 5.11.2).
+ghost use Rattle.std.specs.Prelude.{◌≡◌, ◌++◌, OnOk, codes};
+ghost use Rattle.serde_json.specs.View.{view};
+ghost use Rattle.csvw_fault.specs.declared.fault.Place.{Place as ThePlace};
+ghost use Rattle.csvw_meta_core.specs.Pointer.{text_of};
+ghost use Rattle.csvw_meta_core.specs.Read.{property};
+ghost use Rattle.csvw_meta_datatype.specs.Formats.{format, no_format, number_format};
+ghost use Rattle.csvw_meta_faults_parts.specs.Leaves.{date_has_one, moment_has_one, truth_format_has_one};
+
+use crate::leaf::{Leaf, OneFault};
+use crate::number::find_number_form;
+use csvw_datatype::Simple;
+use csvw_meta_core::{MetaCode, MetaFault, Part};
+use csvw_meta_datatype::pattern::{DatePattern, MomentPattern};
+use csvw_meta_datatype::truth::TruthPattern;
+use csvw_meta_faults_core::{add_fault, add_wrong, find_sole};
+use serde_json::Value;
+use std::alloc::AllocError;
+
+impl OneFault for DatePattern {
+    ghost at_most_one = { λ _. date_has_one };
+}
+
+impl OneFault for MomentPattern {
+    ghost at_most_one = { λ _. moment_has_one };
+}
+
+impl OneFault for TruthPattern {
+    ghost at_most_one = { λ _. truth_format_has_one };
+}
+
+/// Adds the faults of the format of a number.
+fn find_number_format(part: &Part, faults: &mut Vec<MetaFault>) -> Result<(), AllocError>
+    ensures { (place : ThePlace) → OnOk result (faults.new.items ≡ faults.old.items
+        ++ (number_format place (text_of part.now.at) (view part.now.value.now)).faults) }
+{
+    match part.value {
+        Value::Object(_) => find_number_form(part, faults),
+        Value::String(_) => add_fault(part, MetaCode::NotSupported, faults),
+        _ => add_wrong(part, faults),
+    }
+}
+
+/// Adds the faults of the format of a datatype of this type.
+#[tactic(auto, unfolding(csvw_meta_datatype::specs::Formats::format))]
+fn find_format_here(
+    simple: Simple,
+    part: &Part,
+    faults: &mut Vec<MetaFault>,
+) -> Result<(), AllocError>
+    ensures { (place : ThePlace) → OnOk result (faults.new.items ≡ faults.old.items
+        ++ (format simple place (text_of part.now.at) (view part.now.value.now)).faults) }
+{
+    let truth = Leaf {
+        reader: TruthPattern,
+    };
+    let day = Leaf {
+        reader: DatePattern,
+    };
+    let moment = Leaf {
+        reader: MomentPattern,
+    };
+    match simple {
+        Simple::Text | Simple::Uri | Simple::Other(_) => {
+            add_fault(part, MetaCode::NotSupported, faults)
+        }
+        Simple::Whole | Simple::Derived(_) | Simple::Decimal => find_number_format(part, faults),
+        Simple::Truth => find_sole(part, &truth, faults),
+        Simple::Day => find_sole(part, &day, faults),
+        Simple::Moment => find_sole(part, &moment, faults),
+    }
+}
+
+/// Adds the faults of the property `format` for a datatype of this type.
+pub fn find_format(
+    simple: Simple,
+    part: &Part,
+    faults: &mut Vec<MetaFault>,
+) -> Result<(), AllocError>
+    ensures { (place : ThePlace) → OnOk result (faults.new.items ≡ faults.old.items
+        ++ (property (format simple place) no_format (text_of part.now.at) (view part.now.value.now) (codes "format")).faults) }
+{
+    match part.value.get("format") {
+        None => Ok(()),
+        Some(value) => find_format_here(simple, &part.member("format", value), faults),
+    }
+}

@@ -1,0 +1,116 @@
+//! What the keys of a schema say (Metadata Vocabulary for Tabular Data, section 5.5), whatever faults they have.
+ghost use Rattle.std.specs.Prelude.{◌≡◌, [], IfOk, codes, map};
+ghost use Rattle.serde_json.specs.View.{items_view, view};
+ghost use Rattle.csvw_fault.specs.declared.fault.Place.{Place as ThePlace};
+ghost use Rattle.csvw_meta_core.specs.Pointer.{item_at, text_of};
+ghost use Rattle.csvw_meta_core.specs.Read.{each_numbered, needed, property};
+ghost use Rattle.csvw_meta_keys.specs.ForeignKeys.{foreign_key, foreign_keys};
+ghost use Rattle.csvw_meta_keys.specs.Keys.{keys};
+ghost use Rattle.csvw_meta_keys.specs.References.{reference as reference_read, no_reference};
+ghost use Rattle.csvw_meta_faults_parts.specs.BareKeys.{bare_key, bare_keys, bare_reference};
+
+use crate::items::array_items;
+use crate::seen_key_names::names_at;
+use crate::seen_reference::{no_reference, reference_seen};
+use csvw_iri::Base;
+use csvw_meta_core::Part;
+use csvw_meta_keys::reference::ReferenceFound;
+use csvw_meta_keys::{ForeignKeyFound, KeysFound};
+use csvw_text::Seq;
+use serde_json::Value;
+use std::alloc::AllocError;
+
+/// Returns what the property `reference` says, without warnings.
+fn reference_at(base: &Base, part: &Part) -> Result<ReferenceFound, AllocError>
+    ensures { (place : ThePlace) → IfOk result (λ r. r ≡ bare_reference (needed (reference_read base.now place)
+        (no_reference (text_of part.now.at)) (text_of part.now.at) (view part.now.value.now)
+        (codes "reference")).value) }
+{
+    match part.value.get("reference") {
+        Some(value) => reference_seen(base, &part.member("reference", value)),
+        None => no_reference(part),
+    }
+}
+
+/// Returns what a foreign key says, without its warnings.
+#[tactic(auto, unfolding(csvw_meta_keys::specs::ForeignKeys::foreign_key_of))]
+fn foreign_key_seen(base: &Base, part: &Part) -> Result<ForeignKeyFound, AllocError>
+    ensures { (place : ThePlace) → IfOk result (λ k. k ≡ bare_key (foreign_key base.now place (text_of part.now.at) (view part.now.value.now)).value) }
+{
+    let at = part.at.text(part.alloc)?;
+    match part.value {
+        Value::Object(_) => {
+            let columns = names_at(part, "columnReference")?;
+            let reference = reference_at(base, part)?;
+            Ok(ForeignKeyFound {
+                at,
+                columns,
+                resource: reference.resource,
+                referenced: reference.columns,
+                warnings: Seq::new(part.alloc),
+            })
+        }
+        _ => {
+            let reference = no_reference(part)?;
+            Ok(ForeignKeyFound {
+                at,
+                columns: Seq::new(part.alloc),
+                resource: reference.resource,
+                referenced: reference.columns,
+                warnings: Seq::new(part.alloc),
+            })
+        }
+    }
+}
+
+fn item_key(
+    base: &Base,
+    part: &Part,
+    index: usize,
+    item: &Value,
+) -> Result<ForeignKeyFound, AllocError>
+    ensures { (place : ThePlace) → IfOk result (λ k. k ≡ bare_key (foreign_key base.now place (item_at (text_of part.now.at) index) (view item.now)).value) }
+{
+    foreign_key_seen(base, &part.item(index, item))
+}
+
+/// Returns what each foreign key of an array says, without their warnings.
+fn each_seen(base: &Base, part: &Part, items: &[Value]) -> Result<Seq<ForeignKeyFound>, AllocError>
+    ensures { (place : ThePlace) → IfOk result (λ ks. ks
+        ≡ map bare_key (each_numbered (λ n. foreign_key base.now place) (text_of part.now.at) 0 (items_view items.now)).value) }
+{
+    let mut keys = Vec::new(part.alloc);
+    for (i, item) in items.iter().enumerate() {
+        let key = item_key(base, part, i, item)?;
+        keys.push(key)?;
+    }
+    Ok(Seq::of(keys))
+}
+
+/// Returns what the foreign keys of an array say, or none if the value is not an array.
+fn foreign_keys_here(base: &Base, part: &Part) -> Result<Seq<ForeignKeyFound>, AllocError>
+    ensures { (place : ThePlace) → IfOk result (λ ks. ks ≡ map bare_key (foreign_keys base.now place (text_of part.now.at) (view part.now.value.now)).value) }
+{
+    each_seen(base, part, array_items(part.value))
+}
+
+/// Returns what the foreign keys of the schema say.
+fn foreign_keys_seen(base: &Base, part: &Part) -> Result<Seq<ForeignKeyFound>, AllocError>
+    ensures { (place : ThePlace) → IfOk result (λ ks. ks
+        ≡ map bare_key (property (foreign_keys base.now place) [] (text_of part.now.at) (view part.now.value.now) (codes "foreignKeys")).value) }
+{
+    match part.value.get("foreignKeys") {
+        Some(value) => foreign_keys_here(base, &part.member("foreignKeys", value)),
+        None => Ok(Seq::new(part.alloc)),
+    }
+}
+
+/// Returns what the keys of the schema that the part is say, without their warnings.
+#[tactic(auto, unfolding(csvw_meta_keys::specs::Keys::keys))]
+pub fn keys_seen(base: &Base, part: &Part) -> Result<KeysFound, AllocError>
+    ensures { (place : ThePlace) → IfOk result (λ k. k ≡ bare_keys (keys base.now place (text_of part.now.at) (view part.now.value.now)).value) }
+{
+    let primary = names_at(part, "primaryKey")?;
+    let foreign = foreign_keys_seen(base, part)?;
+    Ok(KeysFound { primary, foreign })
+}

@@ -1,0 +1,49 @@
+//! The built-in datatypes of a profile (Metadata Vocabulary for Tabular Data, section 5.11.1).
+ghost use Rattle.std.specs.Prelude.{◌≡◌, IfOk};
+ghost use Rattle.csvw_meta_datatype.specs.Names.{all_simples, simples_of};
+
+use csvw_datatype::{Simple, TextType, Width};
+use csvw_meta_core::Profile;
+use csvw_meta_datatype::base::is_in;
+use std::alloc::{AllocError, Global};
+
+/// The built-in datatypes of all profiles.
+static ALL: [Simple; 24] = [
+    Simple::Text,
+    Simple::Truth,
+    Simple::Whole,
+    Simple::Decimal,
+    Simple::Day,
+    Simple::Uri,
+    Simple::Moment,
+    Simple::Derived(Width::Long),
+    Simple::Derived(Width::Int),
+    Simple::Derived(Width::Short),
+    Simple::Derived(Width::Byte),
+    Simple::Derived(Width::UnsignedLong),
+    Simple::Derived(Width::UnsignedInt),
+    Simple::Derived(Width::UnsignedShort),
+    Simple::Derived(Width::UnsignedByte),
+    Simple::Derived(Width::NonNegativeInteger),
+    Simple::Derived(Width::PositiveInteger),
+    Simple::Derived(Width::NonPositiveInteger),
+    Simple::Derived(Width::NegativeInteger),
+    Simple::Other(TextType::Any),
+    Simple::Other(TextType::Token),
+    Simple::Other(TextType::Xml),
+    Simple::Other(TextType::Html),
+    Simple::Other(TextType::Json),
+];
+
+/// Returns the built-in datatypes of a profile, or `AllocError` if there is no memory.
+pub fn simples_of(alloc: Global, profile: Profile) -> Result<Vec<Simple>, AllocError>
+    ensures { IfOk result (λ v. v.items ≡ simples_of profile) }
+{
+    let mut simples = Vec::new(alloc);
+    for simple in &ALL {
+        if is_in(profile, *simple) {
+            simples.push(*simple)?;
+        }
+    }
+    Ok(simples)
+}
