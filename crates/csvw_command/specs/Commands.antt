@@ -8,13 +8,13 @@ use Rattle.csvw_triples_core.specs.declared.mode.Mode.TheVariants as mode
 use Rattle.csvw_command_core.specs.Asked.{Asks, program_app}
 use Rattle.csvw_command_core.specs.Mistakes.{IsMistaken, IsSound}
 use Rattle.csvw_command_core.specs.declared.request.Request.{Request}
-use Rattle.csvw_command_core.specs.declared.request.Request.TheVariants.{Check, Completions, Convert, Draft, Explain, Inspect, Manual, Plain, Validate}
+use Rattle.csvw_command_core.specs.declared.request.Request.TheVariants.{Check, Completions, Convert, Draft, Explain, Inspect, Manual, Plain, Split, Validate}
 use Rattle.csvw_meta.specs.Document.{plain_description}
 use Rattle.csvw_engine.specs.ReadOrder.{AreTableByTable}
 use Rattle.csvw_engine.specs.Runs.{Runs}
 use Rattle.csvw_command.specs.Answers.{Answers, GivesHelp, LacksMemory, TellsMistake, TellsStop}
 use Rattle.csvw_command.specs.Groups.{ComesToEnd, RunsGroup, StopsEarly, conversion}
-use Rattle.csvw_command.specs.Shown.{ShowsRun, is_default}
+use Rattle.csvw_command.specs.Shown.{ShowsRun, is_default, is_whole}
 use Rattle.csvw_triples_core.specs.declared.mode.Mode.{Mode}
 use Rattle.csvw_command_core.specs.declared.request.Group.{Group}
 use Rattle.csvw_streams.specs.declared.counted.Counted.{Counted}
@@ -50,18 +50,19 @@ pub record RunsPlain {O R : Type 0} (opens : O → Text → Option R → O → T
 abbrev pub Gives : Stream → Stream → ℕ → Type 0
 Gives out err status = GivesHelp out err status ⊎ (TellsMistake out err status ⊎ LacksMemory out err status)
 
--- A run over a group is `RunsGroup`, where its report and stop are told as a run tells them; else they are shown after it.
+-- A run over a group is `RunsGroup`, where its report and stop are told as a run tells them; else they are shown after it. Of a run over one part
+-- nothing is said here but the bound of the status.
 pub record RunsReport {O R : Type 0} (opens : O → Text → Option R → O → Type 0) (closes : O → Counted R → O → Type 0) (remaining : R → Option (List ℕ))
     (mode : Mode) (group : Group) (old new : O) (out err : Stream) (status : ℕ) : Type 0 where
-  pub default : is_default group ≡ true → RunsGroup opens closes remaining mode group old new out err status
-  pub shown : is_default group ≡ false → ShowsRun opens closes remaining mode group old out status
+  pub default : is_whole group ≡ true → is_default group ≡ true → RunsGroup opens closes remaining mode group old new out err status
+  pub shown : is_whole group ≡ true → is_default group ≡ false → ShowsRun opens closes remaining mode group old out status
   pub bound : status ≤ 4
 
 -- what was asked for is shown, or the stop is told
 abbrev pub EndsOrStops : Stream → ℕ → Type 0
 EndsOrStops err status = (IsIdle err × (status ≡ 0)) ⊎ ((reason : Stop) × TellsStop reason err status)
 
--- what is asked for is done; of a check and of a draft nothing is said but the bound of the status
+-- what is asked for is done; of a check, a draft and a split nothing is said but the bound of the status
 abbrev pub RunsRequest : {O R : Type 0} → (O → Text → Option R → O → Type 0) → (O → Counted R → O → Type 0) → (R → Option (List ℕ)) → Request → O → O
     → Stream → Stream → ℕ → Type 0
 RunsRequest opens closes remaining (Plain url file line_buffered progress) old new out err status =
@@ -73,6 +74,7 @@ RunsRequest opens closes remaining (Check asked) old new out err status = status
 RunsRequest opens closes remaining (Explain code) old new out err status = (new ≡ old) × Gives out err status
 RunsRequest opens closes remaining (Inspect asked) old new out err status = EndsOrStops err status
 RunsRequest opens closes remaining (Draft asked) old new out err status = status ≤ 4
+RunsRequest opens closes remaining (Split asked) old new out err status = status ≤ 4
 RunsRequest opens closes remaining (Completions shell) old new out err status = (new ≡ old) × Gives out err status
 RunsRequest opens closes remaining Manual old new out err status = (new ≡ old) × Gives out err status
 

@@ -13,14 +13,17 @@
 
 mod group;
 mod line;
+mod parts;
+mod plans;
 mod profile;
 mod program;
 mod shown;
+mod split;
 mod tell;
 mod texts;
 
 pub use csvw_command_core::{
-    CheckedGroup, DraftedFiles, Group, Inspected, Reporting, Request, requested,
+    CheckedGroup, DraftedFiles, Group, Inspected, Reporting, Request, SplitFiles, requested,
 };
 pub use csvw_files::{Colors, FileOpener, Input, Opener, ProgressShown};
 pub use program::command;

@@ -3,11 +3,13 @@ ghost use Rattle.std.specs.Prelude.{◌≡◌, ◌≤◌, map, string_bytes};
 ghost use Rattle.clap.specs.Words.{kind_of};
 ghost use Rattle.csvw_command.specs.Answers.{Answers};
 ghost use Rattle.csvw_command.specs.Commands.{Commands, EndsOrStops, RunsPlain, RunsRequest};
+ghost use Rattle.csvw_command.specs.Groups.{conversion};
 ghost use Rattle.csvw_streams.specs.Streams.{stream_of};
 
 use crate::group::{GroupRun, tell_end};
 use crate::profile::profile_of;
 use crate::shown::{color_of, form_of, run_report, shown_of};
+use crate::split::run_split;
 use crate::tell::{SUCCESS, tell_mistake, tell_stop};
 use crate::texts::{give_text, run_completions, run_explain, run_manual};
 use clap::Error;
@@ -158,6 +160,16 @@ fn run_draft<O: Opener, W: Write, V: Write>(
     }
 }
 
+/// Returns the mode of a conversion.
+fn conversion(minimal: bool) -> Mode
+    ensures { result ≡ conversion minimal }
+{
+    match minimal {
+        true => Mode::Minimal,
+        false => Mode::Standard,
+    }
+}
+
 /// Does what the words ask for.
 fn run_request<O: Opener, W: Write, V: Write>(
     alloc: Global,
@@ -179,16 +191,14 @@ fn run_request<O: Opener, W: Write, V: Write>(
             run_report(alloc, GroupRun { group, mode }, opener, out, err)
         }
         Request::Convert { group, minimal, .. } => {
-            let mode = match minimal {
-                true => Mode::Minimal,
-                false => Mode::Standard,
-            };
+            let mode = conversion(*minimal);
             run_report(alloc, GroupRun { group, mode }, opener, out, err)
         }
         Request::Check(asked) => run_check(alloc, asked, opener, out, err),
         Request::Explain(code) => run_explain(alloc, *code, out, err),
         Request::Inspect(asked) => run_inspect(alloc, asked, opener, out, err),
         Request::Draft(asked) => run_draft(alloc, asked, opener, out, err),
+        Request::Split(asked) => run_split(alloc, asked, opener, out, err),
         Request::Completions(shell) => run_completions(alloc, shell, out, err),
         Request::Manual => run_manual(alloc, out, err),
     }

@@ -1,11 +1,12 @@
 //! Runs whose report is shown in another form than CSV, whose warnings count, or whose stop is explained.
 ghost use Rattle.std.specs.Prelude.{◌≡◌, ◌≤◌, false, true};
 ghost use Rattle.csvw_command.specs.Groups.{RunsGroup};
-ghost use Rattle.csvw_command.specs.Shown.{IsShownStatus, ShowsRun, is_csv, is_default};
+ghost use Rattle.csvw_command.specs.Shown.{IsShownStatus, ShowsRun, is_csv, is_default, is_whole};
 ghost use Rattle.csvw_streams.specs.Streams.{stream_of};
 ghost use Rattle.csvw_triples_core.specs.declared.mode.Mode.TheVariants as mode;
 
 use crate::group::{Ended, GroupRun, run_group};
+use crate::parts::run_one_part;
 use crate::profile::profile_of;
 use crate::tell::tell_stop;
 use csvw_check::{Color, Form, Halt, Show, Shown, explain_stop, show};
@@ -32,8 +33,15 @@ fn is_csv(form: Option<&str>) -> bool
     }
 }
 
+/// Returns whether all rows are read, and not those of one part.
+fn is_whole(group: &Group<'_>) -> bool
+    ensures { result ≡ is_whole group.now }
+{
+    group.part.is_none() && group.plan.is_none()
+}
+
 /// Whether the report and a stop are told as a run tells them.
-fn is_default(group: &Group<'_>) -> bool
+pub(crate) fn is_default(group: &Group<'_>) -> bool
     ensures { result ≡ is_default group.now }
 {
     is_csv(group.reporting.form) && !group.reporting.strict && !group.explain
@@ -229,13 +237,16 @@ pub fn run_report<O: Opener, W: Write, V: Write>(
     out: &mut Counted<W>,
     err: &mut Counted<V>,
 ) -> u8
-    ensures default { is_default asked.entry.group.now ≡ true → RunsGroup O.opens O.closes O.Reader.remaining asked.entry.mode asked.entry.group.now
+    ensures default { is_whole asked.entry.group.now ≡ true → is_default asked.entry.group.now ≡ true → RunsGroup O.opens O.closes O.Reader.remaining asked.entry.mode asked.entry.group.now
         opener.old opener.new (stream_of W.contents out.old out.new) (stream_of V.contents err.old err.new) result }
-    ensures shown { is_default asked.entry.group.now ≡ false → ShowsRun O.opens O.closes O.Reader.remaining asked.entry.mode asked.entry.group.now
+    ensures shown { is_whole asked.entry.group.now ≡ true → is_default asked.entry.group.now ≡ false → ShowsRun O.opens O.closes O.Reader.remaining asked.entry.mode asked.entry.group.now
         opener.old (stream_of W.contents out.old out.new) result }
     ensures bound { result ≤ 4 }
 {
     let GroupRun { group, mode } = asked;
+    if !is_whole(group) {
+        return run_one_part(alloc, asked, opener, out, err);
+    }
     if is_default(group) {
         return run_group(alloc, asked, opener, out, err).status;
     }

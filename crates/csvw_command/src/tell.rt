@@ -58,6 +58,15 @@ pub fn tell_mistake<V: Write>(text: &str, err: &mut Counted<V>) -> u8
     USAGE
 }
 
+/// Reports in one line why the plan of a part is refused. Returns its status, 3, even if the line can't be sent.
+pub fn tell_refused<V: Write>(line: &str, err: &mut Counted<V>) -> u8
+    ensures told { Tells (stream_of V.contents err.old err.new) line.now }
+    ensures status { result ≡ 3 }
+{
+    let _ = send(err, line.as_bytes());
+    REFUSED
+}
+
 /// The status of a run that came to its end.
 pub fn outcome_status(outcome: &Outcome) -> u8
     ensures { result ≡ outcome_status outcome.now }

@@ -1,6 +1,7 @@
 -- The request that the words of a command line make, as the crate `clap` reads them: `Asks`, `program_app`.
-use Rattle.std.specs.Prelude.{◌≡◌, Bool, List, [], Option, None, Some, codes, false, find, map, option_and_then, option_map, true}
+use Rattle.std.specs.Prelude.{◌≡◌, ◌⊎◌, ◌<◌, ◌^◌, ℕ, Bool, List, [], Option, None, Some, codes, false, find, map, option_and_then, option_map, true}
 use Rattle.std.specs.Str.{bytes_eq}
+use Rattle.std.specs.Str.Parse.{IsNumeral, digits_value, without_leading_plus}
 use Rattle.clap.specs.Words.{App, Row, Rule, Text, all_of, fault_of, first_of, new_app, new_rule, subcommand_of, with_rule, with_subcommand}
 use Rattle.clap.specs.Simple.{new_shape}
 use Rattle.clap.specs.Lexer.{usize_max}
@@ -12,8 +13,9 @@ use Rattle.csvw_command_core.specs.declared.request.DraftedFiles.{DraftedFiles}
 use Rattle.csvw_command_core.specs.declared.request.Group.{Group}
 use Rattle.csvw_command_core.specs.declared.request.Inspected.{Inspected}
 use Rattle.csvw_command_core.specs.declared.request.Reporting.{Reporting}
+use Rattle.csvw_command_core.specs.declared.request.SplitFiles.{SplitFiles}
 use Rattle.csvw_command_core.specs.declared.request.Request.{Request}
-use Rattle.csvw_command_core.specs.declared.request.Request.TheVariants.{Check, Completions, Convert, Draft, Explain, Inspect, Manual, Plain, Validate}
+use Rattle.csvw_command_core.specs.declared.request.Request.TheVariants.{Check, Completions, Convert, Draft, Explain, Inspect, Manual, Plain, Split, Validate}
 
 -- a positional argument that must be there
 abbrev pub required_rule : Text → Rule
@@ -26,6 +28,10 @@ flag_rule id = record (new_rule id) { long = Some id; action = Some SetTrue }
 -- the option `--base URL`, which must be there
 abbrev pub base_rule : Rule
 base_rule = record (required_rule (codes "base")) { long = Some (codes "base"); value_names = 1 }
+
+-- the option `--parts N`, which must be there
+abbrev pub parts_rule : Rule
+parts_rule = record (required_rule (codes "parts")) { long = Some (codes "parts"); value_names = 1 }
 
 -- the positional argument of one or more files
 abbrev pub files_rule : Rule
@@ -49,11 +55,11 @@ with_reporting app =
 abbrev pub read_app : Text → App
 read_app name = with_rule (with_rule (with_rule (with_rule (new_app name) base_rule) (required_rule (codes "META"))) files_rule) (flag_rule (codes "turns"))
 
--- the same, with `[--explain] [--progress] [--profile NAME]` and the options of a report
+-- the same, with `[--explain] [--progress] [--profile NAME] [--part K] [--plan PLAN]` and the options of a report
 abbrev pub group_app : Text → App
 group_app name =
-    with_reporting (with_rule (with_rule (with_rule (read_app name) (flag_rule (codes "explain"))) (flag_rule (codes "progress")))
-    (option_rule (codes "profile")))
+    with_reporting (with_rule (with_rule (with_rule (with_rule (with_rule (read_app name) (flag_rule (codes "explain"))) (flag_rule (codes "progress")))
+    (option_rule (codes "profile"))) (option_rule (codes "part"))) (option_rule (codes "plan")))
 
 -- the subcommand `validate`
 abbrev pub validate_app : App
@@ -90,6 +96,12 @@ inspect_app =
 abbrev pub draft_app : App
 draft_app = with_rule (with_rule (new_app (codes "draft")) (option_rule (codes "base"))) files_rule
 
+-- the subcommand `split --parts N --base URL META FILE.. [--profile NAME]`
+abbrev pub split_app : App
+split_app =
+    with_rule (with_rule (with_rule (with_rule (with_rule (new_app (codes "split")) parts_rule) base_rule) (required_rule (codes "META"))) files_rule)
+    (option_rule (codes "profile"))
+
 -- the subcommand `completions SHELL`
 abbrev pub completions_app : App
 completions_app = with_rule (new_app (codes "completions")) (required_rule (codes "SHELL"))
@@ -108,8 +120,8 @@ bare_app = record (new_app (codes "csvw")) {
 unfoldable pub program_app : App
 program_app =
     with_subcommand (with_subcommand (with_subcommand (with_subcommand (with_subcommand (with_subcommand (with_subcommand (with_subcommand
-    (with_subcommand bare_app validate_app.top) convert_app.top) plain_app.top) check_app.top) explain_app.top) inspect_app.top) draft_app.top)
-    completions_app.top) manual_app.top
+    (with_subcommand (with_subcommand bare_app validate_app.top) convert_app.top) plain_app.top) check_app.top) explain_app.top) inspect_app.top)
+    draft_app.top) split_app.top) completions_app.top) manual_app.top
 
 abbrev pub is_from_words : Option ValueSource → Bool
 is_from_words (Some CommandLine) = true
@@ -136,6 +148,8 @@ pub record IsGroup (rows : List Row) (group : Group) : Type 0 where
   pub reporting_is : IsReporting rows group.reporting
   pub explain_is : group.explain ≡ flag_of (codes "explain") rows
   pub progress_is : group.progress ≡ flag_of (codes "progress") rows
+  pub part_is : first_of (codes "part") rows ≡ option_map (λ part. part.now) group.part
+  pub plan_is : first_of (codes "plan") rows ≡ option_map (λ plan. plan.now) group.plan
 
 pub record ReadsPlain (name : Text) (rows : List Row) (url file : Text) (line_buffered progress : Bool) : Type 0 where
   pub name_is : name ≡ codes "plain"
@@ -184,6 +198,24 @@ pub record ReadsDraft (name : Text) (rows : List Row) (asked : DraftedFiles) : T
   pub base_is : first_of (codes "base") rows ≡ option_map (λ base. base.now) asked.base
   pub files_are : texts_of (all_of (codes "FILE") rows) ≡ map (λ file. file.now) asked.files.items
 
+-- the word writes a number that is a u32
+abbrev pub IsCountWord : Text → Type 0
+IsCountWord word = IsNumeral 10 (without_leading_plus word) × (digits_value 10 (without_leading_plus word) < 2 ^ 32)
+
+-- the number that a word writes, or 0 if it writes none
+abbrev pub IsCount : Text → ℕ → Type 0
+IsCount word n = (IsCountWord word × (n ≡ digits_value 10 (without_leading_plus word))) ⊎ ((¬ IsCountWord word) × (n ≡ 0))
+
+pub record ReadsSplit (name : Text) (rows : List Row) (asked : SplitFiles) : Type 0 where
+  pub name_is : name ≡ codes "split"
+  pub base_is : first_of (codes "base") rows ≡ Some asked.base.now
+  pub meta_is : first_of (codes "META") rows ≡ Some asked.meta.now
+  pub files_are : texts_of (all_of (codes "FILE") rows) ≡ map (λ file. file.now) asked.files.items
+  pub profile_is : first_of (codes "profile") rows ≡ option_map (λ profile. profile.now) asked.profile
+  pub word : Text
+  pub word_is : first_of (codes "parts") rows ≡ Some word
+  pub parts_are : IsCount word asked.parts
+
 pub record ReadsCompletions (name : Text) (rows : List Row) (shell : Text) : Type 0 where
   pub name_is : name ≡ codes "completions"
   pub shell_is : first_of (codes "SHELL") rows ≡ Some shell
@@ -197,6 +229,7 @@ Reads name rows (Check asked) = ReadsCheck name rows asked
 Reads name rows (Explain code) = ReadsExplain name rows (option_map (λ text. text.now) code)
 Reads name rows (Inspect asked) = ReadsInspect name rows asked
 Reads name rows (Draft asked) = ReadsDraft name rows asked
+Reads name rows (Split asked) = ReadsSplit name rows asked
 Reads name rows (Completions shell) = ReadsCompletions name rows shell.now
 Reads name rows Manual = name ≡ codes "manual"
 

@@ -1,11 +1,11 @@
 -- What clap accepts and the program doesn't: standard input for two files, and names that there are not: `IsSound`, `IsMistaken`.
-use Rattle.std.specs.Prelude.{◌≡◌, ◌⊎◌, ◌<◌, ◌≤◌, ◌&&◌, ◌||◌, Bool, true, false, Option, None, Some, bytes_eq, codes}
+use Rattle.std.specs.Prelude.{◌≡◌, ◌⊎◌, ◌<◌, ◌≤◌, ◌&&◌, ◌||◌, Bool, true, false, Option, None, Some, bytes_eq, codes, nat_lt}
 use Rattle.std.specs.Borrow.{Bor}
 use Rattle.clap.specs.Words.{Text}
 use Rattle.csvw_command_core.specs.StandardInput.{inputs_of}
 use Rattle.csvw_command_core.specs.declared.request.Reporting.{Reporting}
 use Rattle.csvw_command_core.specs.declared.request.Request.{Request}
-use Rattle.csvw_command_core.specs.declared.request.Request.TheVariants.{Check, Completions, Convert, Draft, Explain, Inspect, Manual, Plain, Validate}
+use Rattle.csvw_command_core.specs.declared.request.Request.TheVariants.{Check, Completions, Convert, Draft, Explain, Inspect, Manual, Plain, Split, Validate}
 
 -- the forms of a report for people
 abbrev pub is_shown_form : Text → Bool
@@ -55,7 +55,7 @@ knows_shown reporting = knows_shown_form reporting.form && knows_color reporting
 abbrev pub knows_report : Reporting → Bool
 knows_report reporting = knows_report_form reporting.form && knows_color reporting.color
 
--- the form, the colour or the shell that a request has is known
+-- the form, the colour, the number of parts or the shell that a request has is known
 abbrev pub knows_output : Request → Bool
 knows_output (Plain url file line_buffered progress) = true
 knows_output (Validate group) = knows_report group.reporting
@@ -64,6 +64,7 @@ knows_output (Check asked) = knows_shown asked.reporting
 knows_output (Explain code) = true
 knows_output (Inspect asked) = true
 knows_output (Draft asked) = true
+knows_output (Split asked) = nat_lt 0 asked.parts
 knows_output (Completions shell) = is_shell shell.now
 knows_output Manual = true
 
@@ -76,6 +77,7 @@ has_known_profile (Check asked) = knows_profile asked.profile
 has_known_profile (Explain code) = true
 has_known_profile (Inspect asked) = knows_profile asked.profile
 has_known_profile (Draft asked) = true
+has_known_profile (Split asked) = knows_profile asked.profile
 has_known_profile (Completions shell) = true
 has_known_profile Manual = true
 

@@ -2,7 +2,7 @@
 use Rattle.std.specs.Prelude.{ℕ, Bool, List, [], ◌∷◌, codes, bytes_eq, filter, length, map}
 use Rattle.clap.specs.Words.{Text}
 use Rattle.csvw_command_core.specs.declared.request.Request.{Request}
-use Rattle.csvw_command_core.specs.declared.request.Request.TheVariants.{Check, Completions, Convert, Draft, Explain, Inspect, Manual, Plain, Validate}
+use Rattle.csvw_command_core.specs.declared.request.Request.TheVariants.{Check, Completions, Convert, Draft, Explain, Inspect, Manual, Plain, Split, Validate}
 use Rattle.csvw_command_core.specs.Asked.{paths_of}
 
 -- this name stands for standard input
@@ -22,5 +22,6 @@ inputs_of (Explain code) = 0
 inputs_of (Check asked) = standard_inputs asked.meta.now (map (λ file. file.now) asked.files.items)
 inputs_of (Inspect asked) = length (filter is_standard (asked.meta.now ∷ []))
 inputs_of (Draft asked) = standard_inputs [] (map (λ file. file.now) asked.files.items)
+inputs_of (Split asked) = standard_inputs asked.meta.now (map (λ file. file.now) asked.files.items)
 inputs_of (Completions shell) = 0
 inputs_of Manual = 0

@@ -54,6 +54,12 @@ Examples:
 
 What it finds in the tables is a first guess: read it, and then run `csvw check` with it.";
 
+pub(crate) const SPLIT: &str = "\
+Examples:
+  csvw split --parts 8 --base http://example.org/t.json t.json t.csv > plan.csv
+
+A line of the plan is the bytes of a table that a part reads, with the numbers of rows before them. Standard input can't be split.";
+
 pub(crate) const COMPLETIONS: &str = "\
 Examples:
   csvw completions bash > ~/.local/share/bash-completion/completions/csvw

@@ -1,6 +1,6 @@
 //! The options, flags and positional arguments, in clap's terms.
 ghost use Rattle.clap.specs.Words.{rule_of};
-ghost use Rattle.csvw_command_core.specs.Asked.{base_rule, files_rule, flag_rule, option_rule, required_rule, some_files_rule};
+ghost use Rattle.csvw_command_core.specs.Asked.{base_rule, files_rule, flag_rule, option_rule, parts_rule, required_rule, some_files_rule};
 ghost use Rattle.std.specs.Prelude.{◌≡◌, codes, false};
 ghost use Rattle.clap.specs.Words.{new_rule};
 
@@ -40,6 +40,12 @@ pub(crate) const PROGRESS: &str = "progress";
 pub(crate) const PROFILE: &str = "profile";
 
 pub(crate) const JSON: &str = "json";
+
+pub(crate) const PART: &str = "part";
+
+pub(crate) const PLAN: &str = "plan";
+
+pub(crate) const PARTS: &str = "parts";
 
 fn required_word<'a>(alloc: Global, id: &'a str, help: &'a str) -> Arg<'a>
     ensures rule { rule_of result ≡ required_rule id.entry.now }
@@ -91,6 +97,17 @@ pub(crate) fn base<'a>(alloc: Global) -> Arg<'a>
         .help(
             "The absolute URL of the metadata document, as in `--base http://example.org/tables.json`",
         )
+}
+
+pub(crate) fn parts<'a>(alloc: Global) -> Arg<'a>
+    ensures rule { rule_of result ≡ parts_rule }
+    ensures local { result.global ≡ false }
+{
+    Arg::new(alloc, PARTS)
+        .long(PARTS)
+        .value_name("N")
+        .required(true)
+        .help("How many parts there are at most, from 1 to 4294967295, as in `--parts 8`")
 }
 
 pub(crate) fn files<'a>(alloc: Global) -> Arg<'a>
@@ -260,6 +277,30 @@ pub(crate) fn profile<'a>(alloc: Global) -> Arg<'a>
         PROFILE,
         "core|w3c",
         "Which features a document may use: core, or w3c for more datatypes of the standard; it is core",
+    )
+}
+
+pub(crate) fn part<'a>(alloc: Global) -> Arg<'a>
+    ensures rule { rule_of result ≡ option_rule (codes "part") }
+    ensures local { result.global ≡ false }
+{
+    option(
+        alloc,
+        PART,
+        "K",
+        "Reads the rows of part K of a plan alone, as in `csvw convert --part 2 --plan plan.csv --base URL t.json t.csv`",
+    )
+}
+
+pub(crate) fn plan<'a>(alloc: Global) -> Arg<'a>
+    ensures rule { rule_of result ≡ option_rule (codes "plan") }
+    ensures local { result.global ≡ false }
+{
+    option(
+        alloc,
+        PLAN,
+        "PLAN",
+        "The file with the plan of the parts, which `csvw split` wrote for the same files",
     )
 }
 

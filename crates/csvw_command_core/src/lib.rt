@@ -18,5 +18,7 @@ mod standard_input;
 mod subcommands;
 
 pub use mistakes::mistake_in;
-pub use request::{CheckedGroup, DraftedFiles, Group, Inspected, Reporting, Request, requested};
+pub use request::{
+    CheckedGroup, DraftedFiles, Group, Inspected, Reporting, Request, SplitFiles, requested,
+};
 pub use subcommands::command_line;

@@ -1,15 +1,17 @@
 //! Reads the matches of a subcommand into a request.
 ghost use Rattle.clap.specs.Words.{all_of, found_of, rows_of};
-ghost use Rattle.csvw_command_core.specs.Asked.{IsGroup, IsReporting, Reads, flag_of, texts_of};
+ghost use Rattle.csvw_command_core.specs.Asked.{IsCount, IsGroup, IsReporting, Reads, flag_of, texts_of};
 ghost use Rattle.std.specs.Prelude.{◌≡◌, IfOk, IfSome, codes, map};
 
 use crate::arguments::{
-    ALL, BASE, CODE, COLOR, EXPLAINED, FILE, JSON, LINE_BUFFERED, META, MINIMAL, PROFILE, PROGRESS,
-    REPORT, SHELL, STRICT, TURNS, URL,
+    ALL, BASE, CODE, COLOR, EXPLAINED, FILE, JSON, LINE_BUFFERED, META, MINIMAL, PART, PARTS, PLAN,
+    PROFILE, PROGRESS, REPORT, SHELL, STRICT, TURNS, URL,
 };
-use crate::request::{CheckedGroup, DraftedFiles, Group, Inspected, Reporting, Request};
+use crate::request::{
+    CheckedGroup, DraftedFiles, Group, Inspected, Reporting, Request, SplitFiles,
+};
 use crate::subcommands::{
-    CHECK, COMPLETIONS, CONVERT, DRAFT, EXPLAIN, INSPECT, MANUAL, PLAIN, VALIDATE,
+    CHECK, COMPLETIONS, CONVERT, DRAFT, EXPLAIN, INSPECT, MANUAL, PLAIN, SPLIT, VALIDATE,
 };
 use clap::ArgMatches;
 use clap::parser::ValueSource;
@@ -52,6 +54,8 @@ fn group_in<'a>(alloc: Global, matches: &ArgMatches<'a>) -> Result<Option<Group<
                     reporting: reporting_in(matches),
                     explain: has_flag(matches, EXPLAINED),
                     progress: has_flag(matches, PROGRESS),
+                    part: matches.get_str(PART),
+                    plan: matches.get_str(PLAN),
                 }));
             }
         }
@@ -124,6 +128,37 @@ fn draft_in<'a>(alloc: Global, matches: &ArgMatches<'a>) -> Result<Request<'a>, 
     }))
 }
 
+/// Returns the number that a word writes, or 0 if it is none or greater than the greatest `u32`.
+fn count_of(word: &str) -> u32
+    ensures { IsCount word.now result }
+{
+    match word.parse::<u32>() {
+        Ok(count) => count,
+        Err(_) => 0,
+    }
+}
+
+fn split_in<'a>(alloc: Global, matches: &ArgMatches<'a>) -> Result<Option<Request<'a>>, AllocError>
+    ensures { IfOk result (λ found. IfSome found (λ request. Reads (codes "split") (rows_of (found_of matches.now)) request)) }
+{
+    let Some(base) = matches.get_str(BASE) else {
+        return Ok(None);
+    };
+    let Some(meta) = matches.get_str(META) else {
+        return Ok(None);
+    };
+    let Some(parts) = matches.get_str(PARTS) else {
+        return Ok(None);
+    };
+    Ok(Some(Request::Split(SplitFiles {
+        base,
+        meta,
+        files: files_in(alloc, matches)?,
+        profile: matches.get_str(PROFILE),
+        parts: count_of(parts),
+    })))
+}
+
 fn completions_in<'a>(matches: &ArgMatches<'a>) -> Option<Request<'a>>
     ensures { IfSome result (λ request. Reads (codes "completions") (rows_of (found_of matches.now)) request) }
 {
@@ -177,6 +212,9 @@ pub(crate) fn request_of<'a>(
     }
     if name == DRAFT {
         return Ok(Some(draft_in(alloc, matches)?));
+    }
+    if name == SPLIT {
+        return split_in(alloc, matches);
     }
     if name == COMPLETIONS {
         return Ok(completions_in(matches));

@@ -17,6 +17,9 @@ const REPORTING: &str =
 /// What is told of a profile that there is not.
 const PROFILE: &str = "csvw: --profile takes core or w3c\n";
 
+/// What is told of a number of parts that there can't be.
+const PARTS: &str = "csvw: --parts takes a number from 1 to 4294967295\n";
+
 /// What is told of a shell that there is not.
 const SHELL: &str = "csvw: completions are for bash, zsh or fish\n";
 
@@ -98,7 +101,8 @@ fn knows_report(reporting: &Reporting<'_>) -> bool
     knows_report_form(reporting.form) && knows_color(reporting.color)
 }
 
-/// Returns what is told of a form, a colour or a shell of the request that there is not, or `None` if all are known.
+/// Returns what is told of a form, a colour, a number of parts or a shell of the request that there is not, or `None` if all
+/// are known.
 fn unknown_output(request: &Request<'_>) -> Option<&'static str>
     ensures { MatchOption result (knows_output request.now ≡ true) (λ _. knows_output request.now ≡ false) }
 {
@@ -106,6 +110,7 @@ fn unknown_output(request: &Request<'_>) -> Option<&'static str>
         Request::Validate(group) => (knows_report(&group.reporting), REPORTING),
         Request::Convert { group, .. } => (knows_report(&group.reporting), REPORTING),
         Request::Check(asked) => (knows_shown(&asked.reporting), REPORTING),
+        Request::Split(asked) => (0 < asked.parts, PARTS),
         Request::Completions(shell) => (is_shell(shell), SHELL),
         Request::Plain { .. }
         | Request::Explain(_)
@@ -124,6 +129,7 @@ fn has_known_profile(request: &Request<'_>) -> bool
         Request::Convert { group, .. } => knows_profile(group.profile),
         Request::Check(asked) => knows_profile(asked.profile),
         Request::Inspect(asked) => knows_profile(asked.profile),
+        Request::Split(asked) => knows_profile(asked.profile),
         Request::Plain { .. }
         | Request::Explain(_)
         | Request::Draft(_)

@@ -40,6 +40,10 @@ pub struct Group<'a> {
     pub explain: bool,
     /// Whether the progress is shown at a terminal.
     pub progress: bool,
+    /// The number of the part that is read, if one is given. Else all rows are read.
+    pub part: Option<&'a str>,
+    /// The file that has the plan of the parts, if one is given.
+    pub plan: Option<&'a str>,
 }
 
 /// A group of tables to check, by its metadata document.
@@ -81,6 +85,21 @@ pub struct DraftedFiles<'a> {
     pub files: Vec<&'a str>,
 }
 
+/// Tables whose files are split into parts.
+#[derive(Drop)]
+pub struct SplitFiles<'a> {
+    /// The URL of the metadata document.
+    pub base: &'a str,
+    /// The file that has the document.
+    pub meta: &'a str,
+    /// The files of the tables, in the order of the words.
+    pub files: Vec<&'a str>,
+    /// The name of the profile of the document, if one is given.
+    pub profile: Option<&'a str>,
+    /// How many parts there are at most. It is 0 if the word is no number from 1 to 4294967295.
+    pub parts: u32,
+}
+
 /// A request: what the command line asks the program to do.
 #[derive(Drop)]
 pub enum Request<'a> {
@@ -115,6 +134,8 @@ pub enum Request<'a> {
     Inspect(Inspected<'a>),
     /// Drafts a metadata document for tables.
     Draft(DraftedFiles<'a>),
+    /// Splits the files of tables into parts.
+    Split(SplitFiles<'a>),
     /// Writes the completions of the command line for the shell of this name.
     Completions(&'a str),
     /// Writes the manual page.

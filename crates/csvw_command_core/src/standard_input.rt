@@ -43,5 +43,6 @@ pub(crate) fn reads_twice(request: &Request<'_>) -> bool
         Request::Convert { group, .. } => names_twice(group.meta, group.files.as_slice()),
         Request::Check(asked) => names_twice(asked.meta, asked.files.as_slice()),
         Request::Draft(asked) => names_twice("", asked.files.as_slice()),
+        Request::Split(asked) => names_twice(asked.meta, asked.files.as_slice()),
     }
 }

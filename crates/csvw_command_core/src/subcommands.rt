@@ -2,7 +2,7 @@
 ghost use Rattle.clap.specs.Words.{app_of};
 ghost use Rattle.clap.specs.declared.builder.command.Command.TheViews.{out-Command};
 ghost use Rattle.csvw_command_core.specs.Asked.{check_app, completions_app, convert_app, draft_app, explain_app, group_app};
-ghost use Rattle.csvw_command_core.specs.Asked.{inspect_app, manual_app, plain_app, program_app, read_app};
+ghost use Rattle.csvw_command_core.specs.Asked.{inspect_app, manual_app, plain_app, program_app, read_app, split_app};
 ghost use Rattle.csvw_command_core.specs.Asked.{validate_app, with_reporting};
 ghost use Rattle.csvw_command_core.specs.Joined.{Joins};
 ghost use Rattle.std.specs.Prelude.{◌≡◌, IfOk, false};
@@ -10,7 +10,7 @@ ghost use Rattle.std.specs.Prelude.{◌≡◌, IfOk, false};
 use crate::after_help;
 use crate::arguments::{
     all, base, code, color, draft_base, explained, file, files, json, line_buffered, meta, minimal,
-    own_base, profile, progress, report, shell, some_files, strict, turns, url,
+    own_base, part, parts, plan, profile, progress, report, shell, some_files, strict, turns, url,
 };
 use clap::Command;
 use std::alloc::{AllocError, Global};
@@ -28,6 +28,8 @@ pub(crate) const EXPLAIN: &str = "explain";
 pub(crate) const INSPECT: &str = "inspect";
 
 pub(crate) const DRAFT: &str = "draft";
+
+pub(crate) const SPLIT: &str = "split";
 
 pub(crate) const COMPLETIONS: &str = "completions";
 
@@ -76,10 +78,14 @@ fn group_command<'a>(
     ensures app { IfOk result (λ command. app_of command ≡ group_app name.entry.now) }
     ensures local { IfOk result (λ command. (out-Command command).has_globals ≡ false) }
 {
-    let command = read_command(alloc, name, about, examples)?
-        .arg(explained(alloc))?
-        .arg(progress(alloc))?
-        .arg(profile(alloc))?;
+    let args = vec![in alloc;
+        explained(alloc),
+        progress(alloc),
+        profile(alloc),
+        part(alloc),
+        plan(alloc),
+    ]?;
+    let command = read_command(alloc, name, about, examples)?.args(args)?;
     with_reporting(alloc, command)
 }
 
@@ -177,6 +183,25 @@ fn draft_command<'a>(alloc: Global) -> Result<Command<'a>, AllocError>
         .args(args)
 }
 
+fn split_command<'a>(alloc: Global) -> Result<Command<'a>, AllocError>
+    ensures app { IfOk result (λ command. app_of command ≡ split_app) }
+    ensures local { IfOk result (λ command. (out-Command command).has_globals ≡ false) }
+{
+    let args = vec![in alloc;
+        parts(alloc),
+        base(alloc),
+        meta(alloc),
+        files(alloc),
+        profile(alloc),
+    ]?;
+    Command::new(alloc, SPLIT)
+        .about(
+            "Splits the files of tables into parts, at ends of rows, and writes the plan of the parts",
+        )
+        .after_help(after_help::SPLIT)
+        .args(args)
+}
+
 fn completions_command<'a>(alloc: Global) -> Result<Command<'a>, AllocError>
     ensures app { IfOk result (λ command. app_of command ≡ completions_app) }
     ensures local { IfOk result (λ command. (out-Command command).has_globals ≡ false) }
@@ -224,6 +249,7 @@ pub fn command_line<'a>(alloc: Global) -> Result<Command<'a>, AllocError>
     let command = with(command, explain_command(alloc));
     let command = with(command, inspect_command(alloc));
     let command = with(command, draft_command(alloc));
+    let command = with(command, split_command(alloc));
     let command = with(command, completions_command(alloc));
     with(command, Ok(manual_command(alloc)))
 }

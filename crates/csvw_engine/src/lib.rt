@@ -39,6 +39,7 @@ pub use csvw_report::Outcome;
 pub use csvw_session::{Refused, Session, Stop};
 pub use csvw_triples_core::Mode;
 pub use group::Way;
+pub use plan::planned;
 pub use reporting::write_report;
 pub use room::Order;
 pub use run_group::{Request, plain, run, run_by, run_turns};

@@ -42,12 +42,7 @@ fn built(alloc: Global, description: Description) -> Result<Plan, Stop>
 }
 
 /// Returns the plan of the group that a document in a profile describes, at this URL.
-pub(crate) fn planned(
-    alloc: Global,
-    meta: &[u8],
-    base: &str,
-    profile: Profile,
-) -> Result<Plan, Stop>
+pub fn planned(alloc: Global, meta: &[u8], base: &str, profile: Profile) -> Result<Plan, Stop>
     ensures plan { IfOk result (λ plan. IsPlanned (document_by profile base.now meta.now) plan) }
     ensures ready { IfOk result (λ plan. AreReady plan.tables) }
     ensures few { IfOk result (λ plan. length plan.tables ≤ 64) }

@@ -6,7 +6,7 @@ use crate::input::{Input, Watch};
 use csvw_streams::Counted;
 use percent_encoding::{AsciiSet, CONTROLS, ascii_set, utf8_percent_encode};
 use std::alloc::{AllocError, Global};
-use std::io::{Read, Stdin};
+use std::io::{Read, Seek, SeekFrom, Stdin};
 use std::rt::{Clock, Env, Files};
 use std::{fs, path};
 
@@ -71,8 +71,18 @@ pub trait Opener {
     fn open(&mut self, path: &str) -> Option<Self::Reader>
         ensures { opens self.old path.now result self.new };
 
+    /// Opens the file at this path from a byte on, from 0. Returns `None` if it can't be opened, or not at that byte.
+    fn open_at(&mut self, _path: &str, _first_byte: u64) -> Option<Self::Reader> {
+        None
+    }
+
     /// Returns the `file:` URL of the file at a path, or `None` if it isn't known.
     fn url(&self, _path: &str) -> Option<String> {
+        None
+    }
+
+    /// Returns the number of bytes of the file at a path, or `None` if it isn't known, as that of standard input.
+    fn length(&self, _path: &str) -> Option<u64> {
         None
     }
 
@@ -160,9 +170,28 @@ impl<'a, R: Files + Env + Clock + Eprint + AllocGlobal> Opener for FileOpener<'a
         Some(Input::file(file, self.watch(path)))
     }
 
+    fn open_at(&mut self, path: &str, first_byte: u64) -> Option<Input<'a, R>> {
+        if path == STANDARD_INPUT {
+            return None;
+        }
+        let mut file = fs::open(self.rt, path).ok()?;
+        file.seek(SeekFrom::Start(first_byte)).ok()?;
+        Some(Input::file(file, self.watch(path)))
+    }
+
     fn url(&self, path: &str) -> Option<String> {
         let path = path::absolute(self.rt, path).ok()?;
         file_url(self.rt.alloc(), path.as_path().as_str()).ok()
+    }
+
+    fn length(&self, path: &str) -> Option<u64> {
+        if path == STANDARD_INPUT {
+            return None;
+        }
+        match self.rt.metadata(path) {
+            Ok(metadata) if metadata.is_file() => Some(metadata.len()),
+            _ => None,
+        }
     }
 
     fn colors(&self) -> Colors {

@@ -17,6 +17,8 @@ mod groups;
 #[cfg(test)]
 mod limits;
 #[cfg(test)]
+mod parts;
+#[cfg(test)]
 mod plain_runs;
 #[cfg(test)]
 mod profiles;
@@ -24,6 +26,8 @@ mod profiles;
 mod reports;
 #[cfg(test)]
 mod runs;
+#[cfg(test)]
+mod splits;
 #[cfg(test)]
 mod turns;
 #[cfg(test)]

@@ -127,6 +127,22 @@ impl<'a> Opener for Files<'a> {
         Some(reader)
     }
 
+    fn open_at(&mut self, path: &str, first_byte: u64) -> Option<FailingReader<'a>> {
+        let mut reader = self.reader_of(path)?;
+        reader.rest = reader.rest.get(usize::try_from(first_byte).ok()?..)?;
+        self.opened = self.opened.saturating_add(1);
+        Some(reader)
+    }
+
+    fn length(&self, path: &str) -> Option<u64> {
+        for file in self.files {
+            if file.path == path && path != "-" {
+                return Some(file.bytes.len() as u64);
+            }
+        }
+        None
+    }
+
     fn close(&mut self, reader: Counted<FailingReader<'a>>)
         ensures { self.new.files ≡ self.old.files }
     {

@@ -18,4 +18,6 @@ returns-in-Some-get_strs c =
       reporting_is = c.reporting_in.ensures;
       explain_is = c.has_flag-in-Some-get_strs.ensures;
       progress_is = c.has_flag-in-Some-get_strs-2.ensures;
+      part_is = sym (first_value-rows found (codes "part")) ∙ sym c.get_str-in-Some-get_strs-2.ensures;
+      plan_is = sym (first_value-rows found (codes "plan")) ∙ sym c.get_str-in-Some-get_strs-3.ensures;
     }

@@ -22,5 +22,6 @@ returns c =
     let five = joined _ _ _ _ _ four c.explain_command.ensures.app c.explain_command.ensures.local c.with-command-5.ensures in
     let six = joined _ _ _ _ _ five c.inspect_command.ensures.app c.inspect_command.ensures.local c.with-command-6.ensures in
     let seven = joined _ _ _ _ _ six c.draft_command.ensures.app c.draft_command.ensures.local c.with-command-7.ensures in
-    let eight = joined _ _ _ _ _ seven c.completions_command.ensures.app c.completions_command.ensures.local c.with-command-8.ensures in
-    joined _ _ _ _ _ eight c.manual_command.ensures.app c.manual_command.ensures.local c.with.ensures
+    let eight = joined _ _ _ _ _ seven c.split_command.ensures.app c.split_command.ensures.local c.with-command-8.ensures in
+    let nine = joined _ _ _ _ _ eight c.completions_command.ensures.app c.completions_command.ensures.local c.with-command-9.ensures in
+    joined _ _ _ _ _ nine c.manual_command.ensures.app c.manual_command.ensures.local c.with.ensures

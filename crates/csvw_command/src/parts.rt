@@ -1,0 +1,209 @@
+//! Runs over the rows of one part of a group.
+ghost use Rattle.std.specs.Prelude.{◌≤◌, IfOk};
+ghost use Rattle.csvw_columns.specs.Ready.{AreReady};
+
+use crate::group::GroupRun;
+use crate::plans::{DocumentFile, plan_of, read_file};
+use crate::shown::is_default;
+use crate::tell::{outcome_status, tell_mistake, tell_refused, tell_stop};
+use csvw_columns::Plan;
+use csvw_command_core::Group;
+use csvw_engine::{Outcome, Stop, write_report};
+use csvw_files::Opener;
+use csvw_ntriples::NtSink;
+use csvw_part_plan::{Piece, part_count, read_plan};
+use csvw_parts::{PartRequest, PartStop, run_part};
+use csvw_text::{Counted, Seq};
+use csvw_triples_core::Mode;
+use std::alloc::{AllocError, Global};
+use std::io::Write;
+
+/// What is told if a part has no plan, or a plan no part.
+const TOGETHER: &str = "csvw: --part and --plan go together\n";
+
+/// What is told if a part is asked for a page.
+const CSV_ALONE: &str =
+    "csvw: a part has a report in CSV; --report, --strict and --explain are for whole runs\n";
+
+/// What is told if there is no part of the number.
+const NO_PART: &str = "csvw: the plan has no part of this number; parts are numbered from 1\n";
+
+/// What is told if keys can't be judged.
+const KEYS: &str =
+    "csvw: the group has keys, which can't be judged by one part; convert and validate it as a whole\n";
+
+/// Why a part isn't run.
+#[derive(Drop)]
+enum NoRun {
+    /// The command line is wrong in this way.
+    Mistake(&'static str),
+    /// The plan or a file is refused, with this line.
+    Refused(String),
+    /// It stops.
+    Stop(Stop),
+}
+
+impl From<Stop> for NoRun {
+    fn from(stop: Stop) -> NoRun {
+        NoRun::Stop(stop)
+    }
+}
+
+impl From<AllocError> for NoRun {
+    fn from(_: AllocError) -> NoRun {
+        NoRun::Stop(Stop::Memory)
+    }
+}
+
+/// The plan of the parts, and the number of the one that is asked for.
+#[derive(Drop)]
+struct Part {
+    /// The pieces of all parts.
+    pieces: Seq<Piece>,
+    /// The number, from 1.
+    number: u32,
+}
+
+/// Reads the plan of the parts.
+fn read_part<O: Opener>(alloc: Global, group: &Group<'_>, opener: &mut O) -> Result<Part, NoRun> {
+    let (Some(number), Some(path)) = (group.part, group.plan) else {
+        return Err(NoRun::Mistake(TOGETHER));
+    };
+    if !is_default(group) {
+        return Err(NoRun::Mistake(CSV_ALONE));
+    }
+    let Ok(number) = number.parse::<u32>() else {
+        return Err(NoRun::Mistake(NO_PART));
+    };
+    let text = read_file(alloc, path, opener)?;
+    match read_plan(alloc, text.as_slice()) {
+        Ok(pieces) => {
+            if number == 0 || number > part_count(pieces.as_slice()) {
+                return Err(NoRun::Mistake(NO_PART));
+            }
+            Ok(Part { pieces, number })
+        }
+        Err(fault) => {
+            let mut line = String::new(alloc);
+            write!(line, "csvw: plan {fault}\n")?;
+            Err(NoRun::Refused(line))
+        }
+    }
+}
+
+/// Whether a table of the group has a key.
+fn has_keys(plan: &Plan) -> bool {
+    plan.tables().iter().any(|table| !table.primary_key.is_empty()
+        || !table.foreign_keys.is_empty())
+}
+
+/// Reads the metadata, and makes the plan of the group.
+fn read_group<O: Opener>(alloc: Global, group: &Group<'_>, opener: &mut O) -> Result<Plan, NoRun>
+    ensures { IfOk result (λ plan. AreReady plan.tables) }
+{
+    let document = DocumentFile {
+        path: group.meta,
+        base: group.base,
+        profile: group.profile,
+    };
+    let plan = plan_of(alloc, document, opener)?;
+    if plan.tables().len() != group.files.len() {
+        return Err(NoRun::Stop(Stop::TableCount));
+    }
+    if has_keys(&plan) {
+        return Err(NoRun::Mistake(KEYS));
+    }
+    Ok(plan)
+}
+
+/// Sends what is left of a stream. Fails with `Write` if it can't.
+fn flush<W: Write>(w: &mut Counted<W>) -> Result<(), Stop> {
+    match w.flush() {
+        Ok(()) => Ok(()),
+        Err(_) => Err(Stop::Write),
+    }
+}
+
+/// Writes the lines of the rows of a part, and then its report.
+fn write_part<O: Opener, W: Write, V: Write>(
+    request: PartRequest<'_>,
+    opener: &mut O,
+    graph: &mut Counted<W>,
+    report: &mut Counted<V>,
+) -> Result<Outcome, PartStop>
+    requires { AreReady request.plan.now.tables }
+{
+    let mut sink = NtSink::new(request.alloc, graph);
+    let ran = run_part(request, opener, &mut sink);
+    let graph = sink.into_inner();
+    if !matches!(ran, Err(PartStop::Stop(Stop::Write))) {
+        flush(graph)?;
+    }
+    let outcome = ran?;
+    write_report(request.alloc, outcome.faults.as_slice(), report)?;
+    flush(report)?;
+    Ok(outcome)
+}
+
+/// Reports how a part ended. Returns the status.
+fn tell_part<V: Write>(alloc: Global, ran: &Result<Outcome, PartStop>, err: &mut Counted<V>) -> u8
+    ensures { result ≤ 4 }
+{
+    match ran {
+        Ok(outcome) => outcome_status(outcome),
+        Err(PartStop::Stop(stop)) => tell_stop(stop, err),
+        Err(PartStop::Plan(differs)) => {
+            let mut line = String::new(alloc);
+            match write!(line, "csvw: plan {differs}\n") {
+                Ok(()) => tell_refused(line.as_str(), err),
+                Err(_) => tell_stop(&Stop::Memory, err),
+            }
+        }
+    }
+}
+
+/// Reads what a part needs before its rows.
+fn read_plans<O: Opener>(
+    alloc: Global,
+    group: &Group<'_>,
+    opener: &mut O,
+) -> Result<(Part, Plan), NoRun>
+    ensures { IfOk result (λ plans. AreReady plans.1.tables) }
+{
+    let part = read_part(alloc, group, opener)?;
+    let plan = read_group(alloc, group, opener)?;
+    Ok((part, plan))
+}
+
+/// Converts or validates the rows of one part of a group. The graph and the report go where those of the whole go.
+/// Returns the exit status. A plan that doesn't fit the files is told on `err`, with status 3.
+pub(crate) fn run_one_part<O: Opener, W: Write, V: Write>(
+    alloc: Global,
+    asked: GroupRun<'_>,
+    opener: &mut O,
+    out: &mut Counted<W>,
+    err: &mut Counted<V>,
+) -> u8
+    ensures { result ≤ 4 }
+{
+    let GroupRun { group, mode } = asked;
+    let (part, plan) = match read_plans(alloc, group, opener) {
+        Ok(read) => read,
+        Err(NoRun::Mistake(text)) => return tell_mistake(text, err),
+        Err(NoRun::Refused(line)) => return tell_refused(line.as_str(), err),
+        Err(NoRun::Stop(stop)) => return tell_stop(&stop, err),
+    };
+    let request = PartRequest {
+        alloc,
+        plan: &plan,
+        mode,
+        pieces: part.pieces.as_slice(),
+        number: part.number,
+        files: group.files.as_slice(),
+    };
+    let ran = match mode {
+        Mode::Validate => write_part(request, opener, err, out),
+        Mode::Minimal | Mode::Standard => write_part(request, opener, out, err),
+    };
+    tell_part(alloc, &ran, err)
+}
