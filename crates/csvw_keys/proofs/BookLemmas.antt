@@ -10,15 +10,16 @@ use Rattle.std.proofs.lemmas.List.Elements.{All-cons, All-head, All-nil, All-tai
 use Rattle.csvw_annotate.specs.declared.row.Row.{Row}
 use Rattle.csvw_keys.specs.contracts.held.HeldKeyOrd.TheImpl as derived
 use Rattle.csvw_keys.specs.declared.book.Book.{Book}
-use Rattle.csvw_keys.specs.declared.book.Book.TheVariants.{Primary, Referenced, Referring, Foreign}
+use Rattle.csvw_keys.specs.declared.book.Book.TheVariants.{Primary, Referenced, Referring, Foreign, Recording}
 use Rattle.csvw_keys.specs.declared.foreign_key.ForeignKey.{ForeignKey}
 use Rattle.csvw_keys.specs.declared.held.HeldKey.{HeldKey}
 use Rattle.csvw_keys.specs.declared.referring.Referring.{Referring as KeptRow}
 use Rattle.csvw_keys.specs.Books.{KeepsBook, Purpose, book_rows, book_times, counts_in, first_in, first_told, is_served, lists_in, purpose_of}
-use Rattle.csvw_keys.specs.Books.{purposes_of, rules_for, rules_in, times_in, told, told_by, told_reference}
+use Rattle.csvw_keys.specs.Books.{book_records, purposes_of, records_in, rules_for, rules_in, times_in, told, told_by, told_reference}
 use Rattle.csvw_keys.specs.Duplicates.{duplicate_faults}
 use Rattle.csvw_keys.specs.Held.{held_keys}
 use Rattle.csvw_keys.specs.KeyRules.{KeyRule, Refers, duplicates_of, key_faults, rule_faults}
+use Rattle.csvw_keys.specs.RecordingBooks.{keyed_rows}
 use Rattle.csvw_keys.specs.ReferenceBooks.{held_row}
 use Rattle.csvw_keys.specs.References.{reference_faults, referring_of}
 use Rattle.csvw_keys.specs.Tallies.{count_of}
@@ -53,6 +54,7 @@ module _ (tables : ℕ → List Row) where
       keeps.each key ∙ moved book.table table book.columns columns key (eqb-true _ _ parts.0) ((bytes_decides _ _).0 parts.1)
   counts_are (Referring book) table columns keeps same key = absurd (false≢true same)
   counts_are (Foreign foreign) table columns keeps same key = absurd (false≢true same)
+  counts_are (Recording book) table columns keeps same key = absurd (false≢true same)
 
   abbrev rows_of : ℕ → List ℕ → List KeptRow
   rows_of table columns = map held_row (referring_of columns (tables table))
@@ -67,6 +69,19 @@ module _ (tables : ℕ → List Row) where
       ∙ ap (λ n. Some (rows_of n book.columns)) (eqb-true book.table table parts.0)
       ∙ ap (λ cs. Some (rows_of table cs)) ((bytes_decides book.columns columns).0 parts.1)
   rows_are table columns (Foreign foreign) keeps same = absurd (false≢true same)
+  rows_are table columns (Recording book) keeps same = absurd (false≢true same)
+
+  records_are : (table : ℕ) (columns : List ℕ) (b : Book) → KeepsBook b tables → records_in table columns (purpose_of b) ≡ true
+      → Some (book_records b) ≡ Some (keyed_rows columns (tables table))
+  records_are table columns (Primary book) keeps same = absurd (false≢true same)
+  records_are table columns (Referenced book) keeps same = absurd (false≢true same)
+  records_are table columns (Referring book) keeps same = absurd (false≢true same)
+  records_are table columns (Foreign foreign) keeps same = absurd (false≢true same)
+  records_are table columns (Recording book) keeps same =
+      let parts = and_parts _ _ same in
+      ap Some keeps
+      ∙ ap (λ n. Some (keyed_rows book.columns (tables n))) (eqb-true book.table table parts.0)
+      ∙ ap (λ cs. Some (keyed_rows cs (tables table))) ((bytes_decides book.columns columns).0 parts.1)
 
   -- what each book with a purpose knows is known by the first of them
   module _ {X : Type 0} (is_wanted : Purpose → Bool) (known_by : Book → X) (Is : Option X → Type 0)
@@ -84,6 +99,13 @@ module _ (tables : ℕ → List Row) where
     first_is (b ∷ bs) keeps any =
         by_test b bs (is_wanted (purpose_of b)) refl (All-head (λ x. KeepsBook x tables) b bs keeps)
         (first_is bs (All-tail (λ x. KeepsBook x tables) b bs keeps)) any
+
+  -- what is recorded of a table is its rows
+  pub recorded_is : (table : ℕ) (columns : List ℕ) (bs : List Book) → All (λ b. KeepsBook b tables) bs
+      → list_any (records_in table columns) (purposes_of bs) ≡ true
+      → first_in (records_in table columns) book_records bs ≡ Some (keyed_rows columns (tables table))
+  recorded_is table columns bs keeps any =
+      first_is (records_in table columns) book_records (λ found. found ≡ Some (keyed_rows columns (tables table))) (records_are table columns) bs keeps any
 
   module _ (foreign : ForeignKey) where
     abbrev faults : List Fault
@@ -116,6 +138,7 @@ module _ (tables : ℕ → List Row) where
     told_is (Primary book) kept served = kept.faults ∙ sym (append-nil (duplicate_faults book.table book.columns (tables book.table)))
     told_is (Referenced book) kept served = refl
     told_is (Referring book) kept served = refl
+    told_is (Recording book) kept served = refl
     told_is (Foreign foreign) kept served =
         reference_told foreign books keeps (All-head IsServed _ [] served) ∙ sym (append-nil (faults foreign))
 
@@ -140,3 +163,4 @@ module _ (tables : ℕ → List Row) where
   first_told_is n (Referenced book ∷ bs) keeps = first_told_is n bs (All-tail (λ x. KeepsBook x tables) (Referenced book) bs keeps)
   first_told_is n (Referring book ∷ bs) keeps = first_told_is n bs (All-tail (λ x. KeepsBook x tables) (Referring book) bs keeps)
   first_told_is n (Foreign foreign ∷ bs) keeps = first_told_is n bs (All-tail (λ x. KeepsBook x tables) (Foreign foreign) bs keeps)
+  first_told_is n (Recording book ∷ bs) keeps = first_told_is n bs (All-tail (λ x. KeepsBook x tables) (Recording book) bs keeps)

@@ -10,7 +10,6 @@ use Rattle.csvw_annotate.specs.declared.row.Row.{Row}
 use Rattle.csvw_datatype.specs.declared.value.Value.{Value}
 use Rattle.csvw_datatype.specs.declared.value.Value.TheVariants.{Text, Truth, Number, Day, Moment}
 use Rattle.csvw_keys.specs.contracts.held.HeldKeyOrd.TheImpl as key_order
-use Rattle.csvw_keys.specs.contracts.held_value.HeldValueOrd.TheImpl as derived
 use Rattle.csvw_keys.specs.declared.held_value.HeldValue.{HeldValue}
 use Rattle.csvw_keys.specs.declared.held_value.HeldValue.TheVariants.{Cells}
 use Rattle.csvw_keys.specs.declared.key.KeyCell.{KeyCell}

@@ -4,6 +4,7 @@ mod HeldLemmas
 mod ListLemmas
 mod OrderLemmas
 mod PrimaryLemmas
+mod RecordingLemmas
 mod ReferenceLemmas
 mod ReferringLemmas
 mod ServingLemmas

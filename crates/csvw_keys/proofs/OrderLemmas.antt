@@ -2,7 +2,7 @@
 use Rattle.std.proofs.Common.{◌≡◌, ℕ, List, [], ◌∷◌, ◌++◌, Bool, true, false, refl, sym, ap, ◌∙◌, subst, if◌then◌else◌}
 use Rattle.std.specs.List.Sorted.{IsPermutation}
 use Rattle.csvw_annotate.specs.declared.row.Row.{Row}
-use Rattle.csvw_keys.specs.KeyRules.{KeyRule, Unique, Refers, AreKeyFaults, key_faults, rule_faults}
+use Rattle.csvw_keys.specs.KeyRules.{KeyRule, Unique, Refers, Recorded, AreKeyFaults, key_faults, rule_faults}
 use Rattle.csvw_keys.specs.Duplicates.{duplicate_faults}
 use Rattle.csvw_keys.specs.References.{reference_faults}
 use Rattle.csvw_report.specs.ReportLaws.{SortsToOne}
@@ -14,6 +14,7 @@ module _ (tables others : ℕ → List Row) (equal : (n : ℕ) → tables n ≡ 
   equal_rule (Refers table columns referenced_table referenced) =
       ap (λ rows. reference_faults table columns rows referenced (tables referenced_table)) (equal table)
       ∙ ap (λ rows. reference_faults table columns (others table) referenced rows) (equal referenced_table)
+  equal_rule (Recorded table columns) = refl
 
   equal_faults : (rules : List KeyRule) → key_faults rules tables ≡ key_faults rules others
   equal_faults [] = refl

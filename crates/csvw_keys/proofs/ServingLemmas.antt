@@ -10,8 +10,8 @@ use Rattle.std.proofs.lemmas.List.Elements.{All-cons, All-nil, All-push}
 use Rattle.std.proofs.lemmas.List.Folds.{list_any-append}
 use Rattle.csvw_keys.specs.declared.book.Book.{Book}
 use Rattle.csvw_keys.specs.Books.{IsMore, KeepsBook, Purpose, Keeps, counts_in, first_in, is_served, lists_in, no_rows, purpose_of, purposes_of}
-use Rattle.csvw_keys.specs.Books.{rules_for, rules_in}
-use Rattle.csvw_keys.specs.KeyRules.{KeyRule, Unique, Refers, primary_rules}
+use Rattle.csvw_keys.specs.Books.{records_in, rules_for, rules_in}
+use Rattle.csvw_keys.specs.KeyRules.{KeyRule, Unique, Refers, Recorded, primary_rules}
 
 module _ (books : List Book) (b : Book) where
   with_book : purposes_of (books ++ b ∷ []) ≡ purposes_of books ++ purpose_of b ∷ []
@@ -58,6 +58,7 @@ served_still old new more (Unique table columns) served = refl
 served_still old new more (Refers table columns referenced_table referenced) served =
     let parts = and_parts _ _ served in
     and_from _ _ (more.purposes (lists_in table columns) parts.0) (more.purposes (counts_in referenced_table referenced) parts.1)
+served_still old new more (Recorded table columns) served = more.purposes (records_in table columns) served
 
 module _ {X : Type 0} (is_wanted : Purpose → Bool) (known_by : Book → X) where
   by_test : (b : Book) (bs : List Book) (known : X) (test : Bool)
@@ -66,6 +67,16 @@ module _ {X : Type 0} (is_wanted : Purpose → Bool) (known_by : Book → X) whe
       → (test || list_any is_wanted (purposes_of bs)) ≡ true
   by_test b bs known true rest is = refl
   by_test b bs known false rest is = rest is
+
+  some_by_test : (b : Book) (bs : List Book) (test : Bool) → (list_any is_wanted (purposes_of bs) ≡ true → is_some (first_in is_wanted known_by bs) ≡ true)
+      → (test || list_any is_wanted (purposes_of bs)) ≡ true
+      → is_some (if test then Some (known_by b) else first_in is_wanted known_by bs) ≡ true
+  some_by_test b bs true rest any = refl
+  some_by_test b bs false rest any = rest any
+
+  pub some_in : (bs : List Book) → list_any is_wanted (purposes_of bs) ≡ true → is_some (first_in is_wanted known_by bs) ≡ true
+  some_in [] any = absurd (false≢true any)
+  some_in (b ∷ bs) any = some_by_test b bs (is_wanted (purpose_of b)) (some_in bs) any
 
   pub found_in : (bs : List Book) (known : X) → first_in is_wanted known_by bs ≡ Some known → list_any is_wanted (purposes_of bs) ≡ true
   found_in [] known is = cc

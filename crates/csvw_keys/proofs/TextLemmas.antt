@@ -1,8 +1,7 @@
 -- Stored texts compare as equal exactly if they are equal. A short text is found again among its bytes and the zeros after them.
 use Rattle.std.proofs.Common.{if◌then◌else◌, ◌≡◌, ℕ, ◌++◌, List, length, take, drop, replicate, [], ◌∷◌, Bool, true, false, ◌&&◌, refl, sym, ap, ◌∙◌, nat_eq, nat_le, bytes_eq}
 use Rattle.std.specs.Cmp.{both_tied, unsigned_ties}
-use Rattle.std.specs.Ordering.{is_eq, nat_cmp, ordering_then}
-use Rattle.std.specs.Cmp.Lexicographic.{slice_cmp}
+use Rattle.std.specs.Ordering.{is_eq}
 use Rattle.std.proofs.lemmas.Bool.{and_from, and_parts, eq-eqb, eqb-true}
 use Rattle.std.proofs.lemmas.Map.Text.{is_eq-slice_cmp}
 use Rattle.std.proofs.lemmas.Slice.Eq.{bytes_eq-Decides}

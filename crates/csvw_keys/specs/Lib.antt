@@ -7,6 +7,7 @@ pub mod KeyRules
 pub mod KeyLaws
 pub mod Places
 pub mod PrimaryBooks
+pub mod RecordingBooks
 pub mod ReferenceBooks
 pub mod References
 pub mod Tables

@@ -2,8 +2,9 @@
 ghost use Rattle.std.specs.Prelude.{◌≡◌, ◌++◌, ℕ, true, false, List, Some, None, IfOk, MatchOption, OnOk};
 ghost use Rattle.csvw_annotate.specs.declared.row.Row.{Row};
 ghost use Rattle.csvw_keys.specs.Books.{KeepsBook, IsRoomy, book_rows, book_times, counts_in, duplicates_in, is_primary_of, lists_in};
-ghost use Rattle.csvw_keys.specs.Books.{no_rows, purpose_of, rows_in, times_in, told, told_reference};
-ghost use Rattle.csvw_keys.specs.Books.{Counts, Keeps, Lists};
+ghost use Rattle.csvw_keys.specs.Books.{no_rows, purpose_of, rows_in, told, told_reference};
+ghost use Rattle.csvw_keys.specs.Books.{book_records, recorded_in, records_in, times_in};
+ghost use Rattle.csvw_keys.specs.Books.{Counts, Keeps, Lists, Records};
 ghost use Rattle.csvw_keys.specs.contracts.held.HeldKeyOrd.TheImpl as derived;
 ghost use Rattle.csvw_keys.specs.KeyRules.{KeyRule, reference_rule};
 ghost use Rattle.csvw_keys.specs.KeyRules.KeyRule.{Unique};
@@ -13,9 +14,10 @@ ghost use Rattle.csvw_keys.specs.Tallies.{tally_times};
 use crate::foreign_key::ForeignKey;
 use crate::held::HeldKey;
 use crate::primary::PrimaryBook;
+use crate::recording::{KeyedRow, RecordingBook};
 use crate::referenced::ReferencedBook;
 use crate::referring::{Referring, ReferringBook};
-use crate::table_book::{add, make_room};
+use crate::table_book::{TableBook, add, make_room};
 use crate::tally::Tally;
 use csvw_annotate::Row;
 use csvw_columns::ForeignKeyPlan;
@@ -33,6 +35,8 @@ pub(crate) enum Book {
     Referring(ReferringBook),
     /// A foreign key. It keeps no rows.
     Foreign(ForeignKey),
+    /// For records of the rows of a table with their keys in some columns.
+    Recording(RecordingBook),
 }
 
 fn copied(alloc: Global, numbers: &[u32]) -> Result<Seq<u32>, AllocError>
@@ -73,6 +77,16 @@ pub(crate) fn referring_book(alloc: Global, table: u32, columns: &[u32]) -> Resu
 {
     let columns = copied(alloc, columns)?;
     Ok(Book::Referring(ReferringBook::new(alloc, table, columns)))
+}
+
+/// Returns the book of the rows of a table with their keys in the columns of these numbers, from 1. It has no rows. It
+/// is an `AllocError` if there is no memory.
+pub(crate) fn recording_book(alloc: Global, table: u32, columns: &[u32]) -> Result<Book, AllocError>
+    ensures purpose { IfOk result (λ b. purpose_of b ≡ Records table columns.now) }
+    ensures keeps { IfOk result (λ b. KeepsBook b no_rows) }
+{
+    let columns = copied(alloc, columns)?;
+    Ok(Book::Recording(RecordingBook::new(alloc, table, columns)))
 }
 
 /// Returns the book of a foreign key of a table, or `AllocError` if there is no memory.
@@ -127,6 +141,23 @@ pub(crate) fn referring_in<'a>(
     None
 }
 
+/// Returns the rows of a table with their keys in these columns, by the first book that records them.
+pub(crate) fn recorded_in<'a>(
+    books: &'a [Book],
+    table: u32,
+    columns: &[u32],
+) -> Option<&'a [KeyedRow]>
+    ensures { MatchOption result (recorded_in table columns.now books.now ≡ None)
+        (λ rows. recorded_in table columns.now books.now ≡ Some rows.now) }
+{
+    for book in books {
+        if let Some(rows) = book.recorded(table, columns) {
+            return Some(rows);
+        }
+    }
+    None
+}
+
 impl Book {
     /// Makes room for a row of a table, or returns `AllocError` if there is no memory. It changes nothing that is
     /// reported.
@@ -144,6 +175,7 @@ impl Book {
             Book::Primary(book) => make_room(book, alloc, table, row),
             Book::Referenced(book) => make_room(book, alloc, table, row),
             Book::Referring(book) => make_room(book, alloc, table, row),
+            Book::Recording(book) => make_room(book, alloc, table, row),
             Book::Foreign(_) => Ok(()),
         }
     }
@@ -158,6 +190,21 @@ impl Book {
             Book::Primary(book) => add(book, table, row),
             Book::Referenced(book) => add(book, table, row),
             Book::Referring(book) => add(book, table, row),
+            Book::Recording(book) => add(book, table, row),
+            Book::Foreign(_) => {}
+        }
+    }
+
+    /// Drops all rows. It takes no memory.
+    pub(crate) fn forget(&mut self, alloc: Global)
+        ensures purpose { purpose_of self.new ≡ purpose_of self.old }
+        ensures keeps { KeepsBook self.new no_rows }
+    {
+        match self {
+            Book::Primary(book) => book.forget(alloc),
+            Book::Referenced(book) => book.forget(alloc),
+            Book::Referring(book) => book.forget(alloc),
+            Book::Recording(book) => book.forget(alloc),
             Book::Foreign(_) => {}
         }
     }
@@ -183,7 +230,7 @@ impl Book {
                     None
                 }
             }
-            Book::Referring(_) | Book::Foreign(_) => None,
+            Book::Referring(_) | Book::Foreign(_) | Book::Recording(_) => None,
         }
     }
 
@@ -195,6 +242,19 @@ impl Book {
         match self {
             Book::Referring(book) => book.rows_in(table, columns),
             Book::Primary(_) | Book::Referenced(_) | Book::Foreign(_) => None,
+            Book::Recording(_) => None,
+        }
+    }
+
+    /// Returns the rows of a table with their keys in these columns, if this book records them.
+    fn recorded(&self, table: u32, columns: &[u32]) -> Option<&[KeyedRow]>
+        ensures { MatchOption result (records_in table columns.now (purpose_of self.now) ≡ false)
+            (λ rows. (records_in table columns.now (purpose_of self.now) ≡ true) × (rows.now ≡ book_records self.now)) }
+    {
+        match self {
+            Book::Recording(book) => book.rows_in(table, columns),
+            Book::Primary(_) | Book::Referenced(_) | Book::Foreign(_) => None,
+            Book::Referring(_) => None,
         }
     }
 
@@ -209,7 +269,7 @@ impl Book {
     {
         match self {
             Book::Primary(book) => faults.extend_from_slice(book.faults()),
-            Book::Referenced(_) | Book::Referring(_) => Ok(()),
+            Book::Referenced(_) | Book::Referring(_) | Book::Recording(_) => Ok(()),
             Book::Foreign(key) => tell_reference(alloc, books, key, faults),
         }
     }
@@ -228,6 +288,7 @@ impl Book {
                 }
             }
             Book::Referenced(_) | Book::Referring(_) | Book::Foreign(_) => None,
+            Book::Recording(_) => None,
         }
     }
 }

@@ -1,15 +1,20 @@
 //! The keys of a group.
-ghost use Rattle.std.specs.Prelude.{◌≡◌, ◌++◌, ℕ, true, List, All, IfOk, MatchResult, OnOk, flat_map, map};
+ghost use Rattle.std.specs.Prelude.{◌≡◌, ◌++◌, [], ℕ, true, false, List, All, IfOk, MatchOption, MatchResult, OnOk, flat_map, map};
 ghost use Rattle.std.specs.List.{list_any};
 ghost use Rattle.csvw_annotate.specs.declared.row.Row.{Row};
 ghost use Rattle.csvw_keys.specs.Books.{KeepsBook, KeepsKeys, IsMore, IsRoomy, counts_in, first_told, is_served, lists_in, no_rows};
 ghost use Rattle.csvw_keys.specs.Books.{purpose_of, purposes_of, rules_in, told};
 ghost use Rattle.csvw_keys.specs.KeyRules.{KeyRule, AreKeyFaults, duplicates_of, primary_rules, reference_rule, rules_of, table_rules};
+ghost use Rattle.csvw_keys.specs.KeyRules.{is_recorded, recorded_rules};
+ghost use Rattle.csvw_keys.specs.RecordingBooks.{keyed_rows};
 ghost use Rattle.csvw_keys.specs.Tables.{with_row};
 
 use crate::book::{
-    Book, primary_book, reference_book, referenced_book, referring_book, referring_in, tally_in,
+    Book, primary_book, recorded_in, reference_book, referenced_book, referring_book, referring_in,
+    tally_in,
 };
+use crate::recording::KeyedRow;
+use crate::recording_books::recording_books;
 use csvw_annotate::Row;
 use csvw_columns::{ForeignKeyPlan, Plan, TablePlan};
 use csvw_report::sorted;
@@ -25,7 +30,7 @@ pub struct KeyBook {
     alloc: Global,
     /// A book of each key, in the order of the tables. For each table these are the primary key, then its foreign
     /// keys. After these is one book for each table and columns that refer, and one for each table and columns that
-    /// are referenced and are not a primary key.
+    /// are referenced and are not a primary key. In a book that records there is one for each table and columns.
     books: Vec<Book>,
 }
 
@@ -182,6 +187,16 @@ fn add_to_each(books: &mut [Book], table: u32, row: &Row)
     }
 }
 
+/// Drops all rows of each book.
+fn forget_each(alloc: Global, books: &mut [Book])
+    ensures purposes { purposes_of books.new ≡ purposes_of books.old }
+    ensures keeps { All (λ b. KeepsBook b no_rows) books.new }
+{
+    for i in 0..books.len() {
+        books[i].forget(alloc);
+    }
+}
+
 /// Returns the faults of the books, one book after the other.
 fn all_told(alloc: Global, books: &[Book]) -> Result<Vec<Fault>, AllocError>
     ensures { IfOk result (λ faults. faults.items ≡ flat_map (told books.now) books.now) }
@@ -215,6 +230,17 @@ impl KeyBook {
         Ok(KeyBook { alloc, books })
     }
 
+    /// Makes a book that records the rows of the tables of a plan's keys, each with its key, and finds no fault. For each
+    /// table and columns that a key needs it keeps the rows once. It has no rows. It is an `AllocError` if there is no
+    /// memory.
+    pub fn recording(alloc: Global, plan: &Plan) -> Result<KeyBook, AllocError>
+        ensures no_keys { IfOk result (λ book. KeepsKeys book [] no_rows) }
+        ensures records { IfOk result (λ book. KeepsKeys book (recorded_rules (rules_of plan.now)) no_rows) }
+    {
+        let books = recording_books(alloc, plan.tables())?;
+        Ok(KeyBook { alloc, books })
+    }
+
     /// Adds a row at the end of the table of this number, from 1. It returns `AllocError` if there is no memory. Then
     /// the book keeps the rows that it kept before.
     pub fn add(&mut self, table: u32, row: &Row) -> Result<(), AllocError>
@@ -224,6 +250,23 @@ impl KeyBook {
         make_room(self.alloc, self.books.as_mut_slice(), table, row)?;
         add_to_each(self.books.as_mut_slice(), table, row);
         Ok(())
+    }
+
+    /// Returns the rows so far of the table of this number, from 1, each with its key in these columns. If the book does
+    /// not record them, it returns `None`. It takes no memory.
+    pub fn recorded(&self, table: u32, columns: &[u32]) -> Option<&[KeyedRow]>
+        ensures { (rules : List KeyRule) (tables : ℕ → List Row) → KeepsKeys self.now rules tables
+            → MatchOption result (is_recorded table columns.now rules ≡ false) (λ rows. rows.now ≡ keyed_rows columns.now (tables table)) }
+    {
+        recorded_in(self.books.as_slice(), table, columns)
+    }
+
+    /// Drops the rows so far. The book keeps the same keys and records the same columns. It takes no memory.
+    pub fn forget_rows(&mut self)
+        ensures purposes { purposes_of self.new.books.items ≡ purposes_of self.old.books.items }
+        ensures keeps { (rules : List KeyRule) (tables : ℕ → List Row) → KeepsKeys self.old rules tables → KeepsKeys self.new rules no_rows }
+    {
+        forget_each(self.alloc, self.books.as_mut_slice());
     }
 
     /// Returns the faults of the rows so far of the table of this number, from 1, by its primary key. It takes no

@@ -13,6 +13,9 @@
 //! - A foreign key has a fault for each row whose key cells are not all null and that does not equal exactly one row of
 //!   the referenced table: `KeyBook::finish`.
 //! - `KeyBook::duplicates` (`duplicates_of`) returns the faults of a table's primary key.
+//! - `KeyBook::recording` (`recorded_rules`) starts a book that records the rows of the tables of a plan's keys instead.
+//!   `KeyBook::recorded` (`keyed_rows`) returns the rows of a table with their keys. `KeyBook::forget_rows` drops the
+//!   rows.
 //! - Equal tables have equal faults: the law `equal_tables_have_equal_faults`.
 //! - The order of rows of different tables does not matter: the law `tables_are_apart`.
 //!
@@ -24,6 +27,8 @@
 //!   number of each row. Foreign keys in the same columns of a table share it.
 //! - What foreign keys refer to is counted by the book of a primary key in the same columns. If there is none, one book
 //!   for each table and columns only counts.
+//! - A book that records has all rows of each table and columns of a key, with their key cells and source numbers. It
+//!   counts nothing.
 //! - A key of one column is kept as its value (`HeldKey`). Nothing else of a row is kept.
 //! - A reference is open until the end, even if its row was found. A second equal row may still come.
 //!
@@ -43,6 +48,8 @@ mod key_book;
 pub mod laws;
 mod places;
 mod primary;
+mod recording;
+mod recording_books;
 mod referenced;
 mod referring;
 mod table_book;
@@ -51,3 +58,4 @@ mod times;
 
 pub use key::{Key, KeyCell};
 pub use key_book::KeyBook;
+pub use recording::KeyedRow;

@@ -75,6 +75,11 @@ impl TableBook for PrimaryBook {
         let fault = fault_of(Code::DuplicateKey, self.table, self.columns.as_slice(), row);
         note(&mut self.found, self.tally.count(), fault);
     }
+
+    fn forget(&mut self, alloc: Global) {
+        self.tally = Tally::new(alloc);
+        self.found.clear();
+    }
 }
 
 /// Adds the fault of a row if its key was there before. There must be room for it.

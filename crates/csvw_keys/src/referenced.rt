@@ -55,4 +55,8 @@ impl TableBook for ReferencedBook {
     fn add_own(&mut self, _row: &Row) {
         let _ = self.tally.count();
     }
+
+    fn forget(&mut self, alloc: Global) {
+        self.tally = Tally::new(alloc);
+    }
 }

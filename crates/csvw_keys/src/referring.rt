@@ -85,6 +85,10 @@ impl TableBook for ReferringBook {
         };
         refer(&mut self.rows, key, row.source);
     }
+
+    fn forget(&mut self, _alloc: Global) {
+        self.rows.clear();
+    }
 }
 
 /// Adds a row if its key refers to others. There must be room for it.

@@ -36,6 +36,12 @@ pub(crate) trait TableBook {
         ensures table { table_of self.new ≡ table_of self.old }
         ensures columns { columns_of self.new ≡ columns_of self.old }
         ensures keeps { is_staged self.old row.now → (rows : List TheRow) → keeps self.old rows → keeps self.new (rows ++ row.now ∷ []) };
+
+    /// Drops all rows. It takes no memory.
+    fn forget(&mut self, alloc: Global)
+        ensures table { table_of self.new ≡ table_of self.old }
+        ensures columns { columns_of self.new ≡ columns_of self.old }
+        ensures keeps { keeps self.new [] };
 }
 
 /// Makes room for a row of a table. It does nothing if the table is not the book's own. It returns `AllocError` if

@@ -10,7 +10,7 @@ use Rattle.csvw_annotate.specs.declared.row.Row.{Row}
 use Rattle.csvw_keys.specs.Duplicates.{is_among, duplicate, duplicates_behind}
 use Rattle.csvw_keys.specs.EqualKeys.{equal_keys}
 use Rattle.csvw_keys.specs.Key.{is_null_key, key_of}
-use Rattle.csvw_keys.specs.KeyRules.{KeyRule, Unique, Refers, rule_faults, key_faults}
+use Rattle.csvw_keys.specs.KeyRules.{KeyRule, Unique, Refers, Recorded, rule_faults, key_faults}
 use Rattle.csvw_keys.specs.Places.{fault_of}
 use Rattle.csvw_keys.specs.References.{ReferringRow, fault_by_count, reference_fault, referring_of}
 use Rattle.csvw_keys.specs.declared.key.KeyCell.{KeyCell}
@@ -167,10 +167,12 @@ module _ (tables : ℕ → List Row) where
   kept : (rule : KeyRule) → Quiet (rule_faults tables rule) → Keeps tables rule
   kept (Unique table columns) q = (apart_from_quiet table columns [] (tables table) q).1
   kept (Refers table columns other referenced) q = fine_from_quiet table columns (map (key_of referenced) (tables other)) (tables table) q
+  kept (Recorded table columns) q = tt
 
   quiet : (rule : KeyRule) → Keeps tables rule → Quiet (rule_faults tables rule)
   quiet (Unique table columns) k = quiet_from_apart table columns [] (tables table) (all_new table columns (tables table)) k
   quiet (Refers table columns other referenced) k = quiet_from_fine table columns (map (key_of referenced) (tables other)) (tables table) k
+  quiet (Recorded table columns) k = refl
 
   pub all_kept : (rules : List KeyRule) → Quiet (key_faults rules tables) → All (Keeps tables) rules
   all_kept [] q = All-nil (Keeps tables)

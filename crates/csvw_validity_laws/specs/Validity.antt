@@ -13,7 +13,7 @@ use Rattle.csvw_columns.specs.declared.plan.TablePlan.{TablePlan}
 use Rattle.csvw_annotate.specs.declared.row.Row.{Row}
 use Rattle.csvw_keys.specs.EqualKeys.{equal_keys}
 use Rattle.csvw_keys.specs.Key.{is_null_key, key_of}
-use Rattle.csvw_keys.specs.KeyRules.{KeyRule, Unique, Refers, rules_of}
+use Rattle.csvw_keys.specs.KeyRules.{KeyRule, Unique, Refers, Recorded, rules_of}
 use Rattle.csvw_keys.specs.declared.key.KeyCell.{KeyCell}
 use Rattle.csvw_engine_core.specs.Annotated.{header_count, header_rows}
 use Rattle.csvw_engine_core.specs.Tables.{max_rows}
@@ -56,11 +56,12 @@ AreApart (key ∷ keys) = All (λ other. equal_keys other key ≡ false) keys ×
 abbrev pub RefersToOne : List (List KeyCell) → List KeyCell → Type 0
 RefersToOne keys key = (is_null_key key ≡ true) ⊎ (count_by (equal_keys key) keys ≡ 1)
 
--- no two rows of a table have equal key cells; each row that refers to others refers to one
+-- No two rows of a table have equal key cells. Each row that refers to others refers to one. What is recorded asks nothing of the rows.
 abbrev pub Keeps : (ℕ → List Row) → KeyRule → Type 0
 Keeps tables (Unique table columns) = AreApart (map (key_of columns) (tables table))
 Keeps tables (Refers table columns referenced_table referenced) =
     All (λ row. RefersToOne (map (key_of referenced) (tables referenced_table)) (key_of columns row)) (tables table)
+Keeps tables (Recorded table columns) = Unit {0}
 
 -- each table is valid by itself, and the rows of all tables keep the keys of the plan
 pub record IsValid (plan : Plan) (texts : ℕ → List ℕ) (tables : List Table) : Type 0 where

@@ -1,6 +1,7 @@
 -- The book of the table has one row more. The table stays the same.
 use Rattle.std.proofs.Common.{sym, subst}
 use Rattle.csvw_keys.specs.Books.{IsRoomy, KeepsBook}
+use Rattle.csvw_keys.specs.RecordingBooks.{KeepsRecording}
 use Rattle.csvw_keys.specs.ReferenceBooks.{KeepsReferenced, KeepsReferring}
 use Rattle.csvw_keys.specs.Tables.{with_row}
 use Rattle.csvw_keys.proofs.book.Book.add.Goals as goal
@@ -22,3 +23,12 @@ returns-in-Referring-clause-keeps c = λ roomy tables keeps.
     let staged = subst (λ b. IsRoomy b table row) c.in-Referring.is roomy in
     let before = subst (λ b. KeepsBook b tables) c.in-Referring.is keeps in
     subst (λ n. KeepsReferring added.new.book (with_row tables table row n)) (sym added.ensures.table) (added.ensures.keeps staged tables before)
+
+pub returns-in-Recording-clause-keeps : goal.returns-in-Recording-clause-keeps
+returns-in-Recording-clause-keeps c = λ roomy tables keeps.
+    let table = c.args.table in
+    let row = c.args.row.now in
+    let added = c.add-in-Recording in
+    let staged = subst (λ b. IsRoomy b table row) c.in-Recording.is roomy in
+    let before = subst (λ b. KeepsBook b tables) c.in-Recording.is keeps in
+    subst (λ n. KeepsRecording added.new.book (with_row tables table row n)) (sym added.ensures.table) (added.ensures.keeps staged tables before)
