@@ -1,0 +1,9 @@
+pub mod Groups
+pub mod Judging
+pub mod JudgesKeys
+pub mod RecordFaults
+pub mod RecordLaws
+pub mod Records
+pub mod RightRecords
+pub mod Runs
+pub mod Sorted
