@@ -1,0 +1,10 @@
+mod FaultLemmas
+mod FitLemmas
+mod JoinLemmas
+mod LineLemmas
+mod ListLemmas
+mod ListingLemmas
+mod PlainLemmas
+mod Sending
+mod SourceLemmas
+mod SpellingLemmas
