@@ -1,6 +1,6 @@
-mod Cells
+pub mod Cells
 mod Chains
-mod Empty
+pub mod Empty
 mod LastPiece
 mod Lines
 mod NoPlans

@@ -29,6 +29,7 @@ mod piece;
 mod reading;
 mod writing;
 
+pub use digits::{number, parted};
 pub use fault::{LineFault, PlanFault};
 pub use parts::{file_length, next_piece, part_count, pieces_of};
 pub use piece::Piece;

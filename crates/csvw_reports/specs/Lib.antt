@@ -1,0 +1,4 @@
+pub mod Joining
+pub mod Reading
+pub mod Refusals
+pub mod ReportLaws
