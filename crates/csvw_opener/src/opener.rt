@@ -6,7 +6,8 @@ use crate::input::{Input, Watch};
 use csvw_streams::Counted;
 use percent_encoding::{AsciiSet, CONTROLS, ascii_set, utf8_percent_encode};
 use std::alloc::{AllocError, Global};
-use std::io::{Read, Seek, SeekFrom, Stdin};
+use std::fs::OpenOptions;
+use std::io::{Read, Seek, SeekFrom, Stdin, Write};
 use std::rt::{Clock, Env, Files};
 use std::{fs, path};
 
@@ -56,10 +57,13 @@ pub enum ProgressShown {
     Always,
 }
 
-/// Opens files to read, and takes their readers back.
+/// Opens files to read, and takes their readers back. Creates files to write.
 pub trait Opener {
     /// What reads a file that was opened.
     type Reader: Read + Drop;
+
+    /// What writes a file that was created.
+    type Writer: Write + Drop;
 
     // What a path gives, and what it leaves.
     ghost opens: { Self → List ℕ → Option Self.Reader → Self → Type 0 };
@@ -73,6 +77,11 @@ pub trait Opener {
 
     /// Opens the file at this path from a byte on, from 0. Returns `None` if it can't be opened, or not at that byte.
     fn open_at(&mut self, _path: &str, _first_byte: u64) -> Option<Self::Reader> {
+        None
+    }
+
+    /// Creates the file at this path, or empties the one that is there. Returns `None` if it can't.
+    fn create(&mut self, _path: &str) -> Option<Self::Writer> {
         None
     }
 
@@ -156,6 +165,8 @@ impl<'a, R: Files + Clock + Eprint + AllocGlobal> FileOpener<'a, R> {
 impl<'a, R: Files + Env + Clock + Eprint + AllocGlobal> Opener for FileOpener<'a, R> {
     type Reader = Input<'a, R>;
 
+    type Writer = R::File;
+
     // `fs::open` says nothing of the file that a path gives.
     ghost opens = { λ old _ _ new. new.rt ≡ old.rt };
 
@@ -177,6 +188,12 @@ impl<'a, R: Files + Env + Clock + Eprint + AllocGlobal> Opener for FileOpener<'a
         let mut file = fs::open(self.rt, path).ok()?;
         file.seek(SeekFrom::Start(first_byte)).ok()?;
         Some(Input::file(file, self.watch(path)))
+    }
+
+    fn create(&mut self, path: &str) -> Option<R::File> {
+        let mut how = OpenOptions::new();
+        how.write(true).create(true).truncate(true);
+        self.rt.open_file(&how, path).ok()
     }
 
     fn url(&self, path: &str) -> Option<String> {

@@ -56,6 +56,8 @@ impl Opener for Files {
 
     type Reader = Pieces;
 
+    type Writer = Vec<u8>;
+
     ghost opens = { λ old _ _ new. new ≡ old };
 
     ghost closes = { λ old _ new. new ≡ old };

@@ -25,6 +25,8 @@ impl<'a> Opener for OneFile<'a> {
 
     type Reader = &'a [u8];
 
+    type Writer = Vec<u8>;
+
     ghost opens = { λ _ _ _ _. Unit {0} };
 
     ghost closes = { λ old _ new. new ≡ old };
