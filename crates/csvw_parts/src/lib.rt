@@ -22,6 +22,7 @@ pub mod laws;
 mod part;
 mod reading;
 mod run;
+mod state;
 mod stop;
 
 pub use fault::PartFault;

@@ -5,18 +5,22 @@ ghost use Rattle.csvw_engine_core.specs.Tables.{is_ended};
 
 use crate::fault::PartFault;
 use crate::part::{RowsBefore, TablePart};
+use crate::state::PartState;
 use crate::stop::{Differs, Mismatch, PartStop};
 use csvw_columns::{Plan, TablePlan};
 use csvw_engine_core::Stop;
 use csvw_keys::KeyBook;
 use csvw_opener::Opener;
 use csvw_part_plan::{Piece, next_piece};
-use csvw_report::{Outcome, sorted};
+use csvw_report::Outcome;
 use csvw_text::{Counted, Fault, Seq};
 use csvw_triples::{VecSink, emit_opening};
 use csvw_triples_rows::{Mode, TripleSink};
 use std::alloc::{AllocError, Global};
-use std::io::Read;
+use std::io::{Read, Write};
+
+/// How many bytes of a table are read at most before the records of their keys are written.
+const BETWEEN_RECORDS: u64 = 1_048_576;
 
 /// A part of a run over a group.
 #[derive(Clone, Copy)]
@@ -128,53 +132,78 @@ fn is_at_end<R: Read>(reader: &mut Counted<R>) -> Result<bool, Stop> {
 }
 
 /// Ends a table with its last piece, and checks that its file ends there.
-fn end_table<'a, R: Read, S: TripleSink>(
+fn end_table<'a, R: Read, S: TripleSink, W: Write + Drop>(
     asked: Asked<'a>,
     part: &mut TablePart<'a>,
     reader: &mut Counted<R>,
     sink: &mut S,
-    keys: &mut KeyBook,
+    state: &mut PartState<'a, W>,
 ) -> Result<(), PartStop>
     requires ready { IsReady part.old.plan.now }
     requires not_ended { is_ended part.old.table ≡ false }
 {
     match is_at_end(reader) {
-        Ok(true) => match part.end(sink, keys) {
-            Ok(()) => Ok(()),
-            Err(stop) => Err(PartStop::Stop(stop)),
-        },
+        Ok(true) => {
+            part.end(sink, &mut state.book)?;
+            state.send()?;
+            Ok(())
+        }
         Ok(false) => Err(asked.differs(Mismatch::LongFile)),
         Err(stop) => Err(PartStop::Stop(stop)),
     }
 }
 
-/// Reads the bytes of the piece, and checks that a row ends there as the plan says.
-fn read_body<'a, R: Read, S: TripleSink>(
+/// Reads the bytes of the piece. The records of the keys are written after some bytes at a time.
+fn read_bytes<'a, R: Read, S: TripleSink, W: Write + Drop>(
     asked: Asked<'a>,
     part: &mut TablePart<'a>,
     reader: &mut Counted<R>,
     sink: &mut S,
-    keys: &mut KeyBook,
+    state: &mut PartState<'a, W>,
+) -> Result<(), PartStop>
+    requires ready { IsReady part.old.plan.now }
+    requires not_ended { is_ended part.old.table ≡ false }
+    ensures plan { part.new.plan ≡ part.old.plan }
+    ensures not_ended { OnOk result (is_ended part.new.table ≡ false) }
+{
+    let mut left = asked.piece.bytes;
+    while left > 0 {
+        let count = left.min(BETWEEN_RECORDS);
+        if let Err(fault) = part.read(reader, count, sink, &mut state.book) {
+            return Err(asked.stop_of(fault));
+        }
+        state.send()?;
+        left -= count;
+    }
+    Ok(())
+}
+
+/// Reads the bytes of the piece, and checks that a row ends there as the plan says.
+fn read_body<'a, R: Read, S: TripleSink, W: Write + Drop>(
+    asked: Asked<'a>,
+    part: &mut TablePart<'a>,
+    reader: &mut Counted<R>,
+    sink: &mut S,
+    state: &mut PartState<'a, W>,
 ) -> Result<(), PartStop>
     requires ready { IsReady part.old.plan.now }
     requires not_ended { is_ended part.old.table ≡ false }
 {
-    if let Err(fault) = part.read(reader, asked.piece.bytes, sink, keys) {
-        return Err(asked.stop_of(fault));
-    }
+    read_bytes(asked, part, reader, sink, state)?;
     match next_piece(asked.request.pieces, &asked.piece) {
         Some(next) if part.rows_here() == Some(next.rows_before) => Ok(()),
         Some(_) => Err(asked.differs(Mismatch::Rows)),
-        None => end_table(asked, part, reader, sink, keys),
+        None => end_table(asked, part, reader, sink, state),
     }
 }
 
 /// Reads the rows of a piece.
-fn read_rows<'a, O: Opener, S: TripleSink>(
+fn read_rows<'a, O: Opener, S: TripleSink, W: Write + Drop>(
     asked: Asked<'a>,
     part: &mut TablePart<'a>,
     opener: &mut O,
     sink: &mut S,
+    state: &mut PartState<'a, W>,
 ) -> Result<(), PartStop>
     requires ready { IsReady part.old.plan.now }
     requires not_ended { is_ended part.old.table ≡ false }
@@ -182,11 +211,10 @@ fn read_rows<'a, O: Opener, S: TripleSink>(
     if asked.piece.first_byte > 0 {
         read_front(asked, part, opener)?;
     }
-    let mut keys = KeyBook::new(asked.request.alloc, asked.request.plan)?;
     match opener.open_at(asked.file, asked.piece.first_byte) {
         Some(reader) => {
             let mut reader = Counted::new(reader);
-            let read = read_body(asked, part, &mut reader, sink, &mut keys);
+            let read = read_body(asked, part, &mut reader, sink, state);
             opener.close(reader);
             read
         }
@@ -222,12 +250,12 @@ fn asked_of<'a>(request: PartRequest<'a>, piece: Piece) -> Option<Asked<'a>>
 }
 
 /// Reads a piece, and adds its faults.
-fn add_piece<O: Opener, S: TripleSink>(
-    request: PartRequest<'_>,
+fn add_piece<'a, O: Opener, S: TripleSink, W: Write + Drop>(
+    request: PartRequest<'a>,
     piece: Piece,
     opener: &mut O,
     sink: &mut S,
-    faults: &mut Seq<Fault>,
+    state: &mut PartState<'a, W>,
 ) -> Result<(), PartStop>
     requires { AreReady request.plan.now.tables }
 {
@@ -235,8 +263,8 @@ fn add_piece<O: Opener, S: TripleSink>(
         return Err(PartStop::Stop(Stop::TableCount));
     };
     let mut part = TablePart::new(request.alloc, asked.table, request.mode)?;
-    match read_rows(asked, &mut part, opener, sink) {
-        Ok(()) => match list_faults(&piece, &part, faults) {
+    match read_rows(asked, &mut part, opener, sink, state) {
+        Ok(()) => match list_faults(&piece, &part, &mut state.faults) {
             Ok(()) => Ok(()),
             Err(_) => Err(PartStop::Stop(Stop::Memory)),
         },
@@ -254,15 +282,14 @@ fn begins_in(request: PartRequest<'_>, table: u32) -> bool {
         && piece.first_byte == 0)
 }
 
-/// Returns the warnings of the tables that begin in the part. Part 1 has those of the group, too.
-fn warnings_of(request: PartRequest<'_>) -> Result<Seq<Fault>, AllocError> {
-    let mut faults = Seq::new(request.alloc);
+/// Adds the warnings of the tables that begin in the part. Part 1 has those of the group, too.
+fn add_warnings(request: PartRequest<'_>, faults: &mut Seq<Fault>) -> Result<(), AllocError> {
     for warning in request.plan.warnings() {
         if begins_in(request, warning.place.table) {
             faults.push(*warning)?;
         }
     }
-    Ok(faults)
+    Ok(())
 }
 
 /// Puts the triples of the group and its tables into the sink, if this is part 1.
@@ -276,25 +303,39 @@ fn open<S: TripleSink>(request: PartRequest<'_>, sink: &mut S) -> Result<(), Par
     }
 }
 
-/// Gives the triples of a part to a sink. Returns its faults, in the order of reports.
-///
-/// Part 1 has the triples of the group and its tables. After these come those of the rows of its pieces, in order. It
-/// stops as a run does, with the rows of the whole tables, or if a file isn't the one that was split.
-pub fn run_part<O: Opener, S: TripleSink>(
-    request: PartRequest<'_>,
+/// Reads the pieces of a part.
+fn read_pieces<'a, O: Opener, S: TripleSink, W: Write + Drop>(
+    request: PartRequest<'a>,
     opener: &mut O,
     sink: &mut S,
+    state: &mut PartState<'a, W>,
+) -> Result<(), PartStop>
+    requires { AreReady request.plan.now.tables }
+{
+    for piece in request.pieces {
+        if piece.part == request.number {
+            add_piece(request, *piece, opener, sink, state)?;
+        }
+    }
+    Ok(())
+}
+
+/// Gives the triples of a part to a sink. Returns its faults, in the order of reports.
+///
+/// Part 1 has the triples of the group and its tables. After these come those of the rows of its pieces, in order. With
+/// `records` a record of each row and key is written there. It stops as a run does, with the rows of the whole tables, or
+/// if a file isn't the one that was split.
+pub fn run_part<'a, O: Opener, S: TripleSink, W: Write + Drop>(
+    request: PartRequest<'a>,
+    opener: &mut O,
+    sink: &mut S,
+    records: Option<Counted<W>>,
 ) -> Result<Outcome, PartStop>
     requires { AreReady request.plan.now.tables }
 {
     open(request, sink)?;
-    let mut faults = warnings_of(request)?;
-    for piece in request.pieces {
-        if piece.part == request.number {
-            add_piece(request, *piece, opener, sink, &mut faults)?;
-        }
-    }
-    Ok(Outcome {
-        faults: sorted(faults),
-    })
+    let mut state = PartState::new(request.alloc, request.plan, records)?;
+    add_warnings(request, &mut state.faults)?;
+    read_pieces(request, opener, sink, &mut state)?;
+    Ok(state.finish()?)
 }
