@@ -12,10 +12,11 @@ use Rattle.csvw_command_core.specs.declared.request.CheckedGroup.{CheckedGroup}
 use Rattle.csvw_command_core.specs.declared.request.DraftedFiles.{DraftedFiles}
 use Rattle.csvw_command_core.specs.declared.request.Group.{Group}
 use Rattle.csvw_command_core.specs.declared.request.Inspected.{Inspected}
+use Rattle.csvw_command_core.specs.declared.request.JudgedKeys.{JudgedKeys}
 use Rattle.csvw_command_core.specs.declared.request.Reporting.{Reporting}
 use Rattle.csvw_command_core.specs.declared.request.SplitFiles.{SplitFiles}
 use Rattle.csvw_command_core.specs.declared.request.Request.{Request}
-use Rattle.csvw_command_core.specs.declared.request.Request.TheVariants.{Check, Completions, Convert, Draft, Explain, Inspect, Manual, Plain, Split, Validate}
+use Rattle.csvw_command_core.specs.declared.request.Request.TheVariants.{Check, Completions, Convert, Draft, Explain, Inspect, Keys, Manual, Plain, Report, Split, Validate}
 
 -- a positional argument that must be there
 abbrev pub required_rule : Text → Rule
@@ -55,11 +56,11 @@ with_reporting app =
 abbrev pub read_app : Text → App
 read_app name = with_rule (with_rule (with_rule (with_rule (new_app name) base_rule) (required_rule (codes "META"))) files_rule) (flag_rule (codes "turns"))
 
--- the same, with `[--explain] [--progress] [--profile NAME] [--part K] [--plan PLAN]` and the options of a report
+-- the same, with `[--explain] [--progress] [--profile NAME] [--part K] [--plan PLAN] [--keys KEYS]` and the options of a report
 abbrev pub group_app : Text → App
 group_app name =
-    with_reporting (with_rule (with_rule (with_rule (with_rule (with_rule (read_app name) (flag_rule (codes "explain"))) (flag_rule (codes "progress")))
-    (option_rule (codes "profile"))) (option_rule (codes "part"))) (option_rule (codes "plan")))
+    with_reporting (with_rule (with_rule (with_rule (with_rule (with_rule (with_rule (read_app name) (flag_rule (codes "explain")))
+    (flag_rule (codes "progress"))) (option_rule (codes "profile"))) (option_rule (codes "part"))) (option_rule (codes "plan"))) (option_rule (codes "keys")))
 
 -- the subcommand `validate`
 abbrev pub validate_app : App
@@ -102,6 +103,14 @@ split_app =
     with_rule (with_rule (with_rule (with_rule (with_rule (new_app (codes "split")) parts_rule) base_rule) (required_rule (codes "META"))) files_rule)
     (option_rule (codes "profile"))
 
+-- the subcommand `keys --base URL META [--profile NAME]`
+abbrev pub keys_app : App
+keys_app = with_rule (with_rule (with_rule (new_app (codes "keys")) base_rule) (required_rule (codes "META"))) (option_rule (codes "profile"))
+
+-- the subcommand `report FILE..`
+abbrev pub report_app : App
+report_app = with_rule (new_app (codes "report")) files_rule
+
 -- the subcommand `completions SHELL`
 abbrev pub completions_app : App
 completions_app = with_rule (new_app (codes "completions")) (required_rule (codes "SHELL"))
@@ -120,8 +129,8 @@ bare_app = record (new_app (codes "csvw")) {
 unfoldable pub program_app : App
 program_app =
     with_subcommand (with_subcommand (with_subcommand (with_subcommand (with_subcommand (with_subcommand (with_subcommand (with_subcommand
-    (with_subcommand (with_subcommand bare_app validate_app.top) convert_app.top) plain_app.top) check_app.top) explain_app.top) inspect_app.top)
-    draft_app.top) split_app.top) completions_app.top) manual_app.top
+    (with_subcommand (with_subcommand (with_subcommand (with_subcommand bare_app validate_app.top) convert_app.top) plain_app.top) check_app.top)
+    explain_app.top) inspect_app.top) draft_app.top) split_app.top) keys_app.top) report_app.top) completions_app.top) manual_app.top
 
 abbrev pub is_from_words : Option ValueSource → Bool
 is_from_words (Some CommandLine) = true
@@ -150,6 +159,7 @@ pub record IsGroup (rows : List Row) (group : Group) : Type 0 where
   pub progress_is : group.progress ≡ flag_of (codes "progress") rows
   pub part_is : first_of (codes "part") rows ≡ option_map (λ part. part.now) group.part
   pub plan_is : first_of (codes "plan") rows ≡ option_map (λ plan. plan.now) group.plan
+  pub keys_is : first_of (codes "keys") rows ≡ option_map (λ keys. keys.now) group.keys
 
 pub record ReadsPlain (name : Text) (rows : List Row) (url file : Text) (line_buffered progress : Bool) : Type 0 where
   pub name_is : name ≡ codes "plain"
@@ -216,6 +226,16 @@ pub record ReadsSplit (name : Text) (rows : List Row) (asked : SplitFiles) : Typ
   pub word_is : first_of (codes "parts") rows ≡ Some word
   pub parts_are : IsCount word asked.parts
 
+pub record ReadsKeys (name : Text) (rows : List Row) (asked : JudgedKeys) : Type 0 where
+  pub name_is : name ≡ codes "keys"
+  pub base_is : first_of (codes "base") rows ≡ Some asked.base.now
+  pub meta_is : first_of (codes "META") rows ≡ Some asked.meta.now
+  pub profile_is : first_of (codes "profile") rows ≡ option_map (λ profile. profile.now) asked.profile
+
+pub record ReadsReport (name : Text) (rows : List Row) (files : List Text) : Type 0 where
+  pub name_is : name ≡ codes "report"
+  pub files_are : texts_of (all_of (codes "FILE") rows) ≡ files
+
 pub record ReadsCompletions (name : Text) (rows : List Row) (shell : Text) : Type 0 where
   pub name_is : name ≡ codes "completions"
   pub shell_is : first_of (codes "SHELL") rows ≡ Some shell
@@ -230,6 +250,8 @@ Reads name rows (Explain code) = ReadsExplain name rows (option_map (λ text. te
 Reads name rows (Inspect asked) = ReadsInspect name rows asked
 Reads name rows (Draft asked) = ReadsDraft name rows asked
 Reads name rows (Split asked) = ReadsSplit name rows asked
+Reads name rows (Keys asked) = ReadsKeys name rows asked
+Reads name rows (Report files) = ReadsReport name rows (map (λ file. file.now) files.items)
 Reads name rows (Completions shell) = ReadsCompletions name rows shell.now
 Reads name rows Manual = name ≡ codes "manual"
 

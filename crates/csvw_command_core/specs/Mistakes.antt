@@ -5,7 +5,7 @@ use Rattle.clap.specs.Words.{Text}
 use Rattle.csvw_command_core.specs.StandardInput.{inputs_of}
 use Rattle.csvw_command_core.specs.declared.request.Reporting.{Reporting}
 use Rattle.csvw_command_core.specs.declared.request.Request.{Request}
-use Rattle.csvw_command_core.specs.declared.request.Request.TheVariants.{Check, Completions, Convert, Draft, Explain, Inspect, Manual, Plain, Split, Validate}
+use Rattle.csvw_command_core.specs.declared.request.Request.TheVariants.{Check, Completions, Convert, Draft, Explain, Inspect, Keys, Manual, Plain, Report, Split, Validate}
 
 -- the forms of a report for people
 abbrev pub is_shown_form : Text → Bool
@@ -65,6 +65,8 @@ knows_output (Explain code) = true
 knows_output (Inspect asked) = true
 knows_output (Draft asked) = true
 knows_output (Split asked) = nat_lt 0 asked.parts
+knows_output (Keys asked) = true
+knows_output (Report files) = true
 knows_output (Completions shell) = is_shell shell.now
 knows_output Manual = true
 
@@ -78,6 +80,8 @@ has_known_profile (Explain code) = true
 has_known_profile (Inspect asked) = knows_profile asked.profile
 has_known_profile (Draft asked) = true
 has_known_profile (Split asked) = knows_profile asked.profile
+has_known_profile (Keys asked) = knows_profile asked.profile
+has_known_profile (Report files) = true
 has_known_profile (Completions shell) = true
 has_known_profile Manual = true
 

@@ -60,6 +60,18 @@ Examples:
 
 A line of the plan is the bytes of a table that a part reads, with the numbers of rows before them. Standard input can't be split.";
 
+pub(crate) const KEYS: &str = "\
+Examples:
+  LC_ALL=C sort *.keys | csvw keys --base http://example.org/t.json t.json > keys.csv
+
+The records come from standard input, in the order of their bytes. The faults of keys are a report on standard output, in the order of the keys.";
+
+pub(crate) const REPORT: &str = "\
+Examples:
+  csvw report 1.csv 2.csv 3.csv keys.csv > report.csv
+
+The status is 0 if no fault is an error, else 1. A file that isn't a report, as of a part that stopped, is refused.";
+
 pub(crate) const COMPLETIONS: &str = "\
 Examples:
   csvw completions bash > ~/.local/share/bash-completion/completions/csvw

@@ -47,6 +47,8 @@ pub(crate) const PLAN: &str = "plan";
 
 pub(crate) const PARTS: &str = "parts";
 
+pub(crate) const KEYS: &str = "keys";
+
 fn required_word<'a>(alloc: Global, id: &'a str, help: &'a str) -> Arg<'a>
     ensures rule { rule_of result ≡ required_rule id.entry.now }
     ensures local { result.global ≡ false }
@@ -118,6 +120,15 @@ pub(crate) fn files<'a>(alloc: Global) -> Arg<'a>
         .required(true)
         .num_args(1..)
         .help("The CSV file of each table, in the order of the metadata")
+}
+
+pub(crate) fn report_files<'a>(alloc: Global) -> Arg<'a>
+    ensures rule { rule_of result ≡ files_rule }
+    ensures local { result.global ≡ false }
+{
+    Arg::new(alloc, FILE).required(true).num_args(1..).help(
+        "The file with the report of each part, and that with the report of the keys",
+    )
 }
 
 pub(crate) fn meta<'a>(alloc: Global) -> Arg<'a>
@@ -301,6 +312,18 @@ pub(crate) fn plan<'a>(alloc: Global) -> Arg<'a>
         PLAN,
         "PLAN",
         "The file with the plan of the parts, which `csvw split` wrote for the same files",
+    )
+}
+
+pub(crate) fn keys<'a>(alloc: Global) -> Arg<'a>
+    ensures rule { rule_of result ≡ option_rule (codes "keys") }
+    ensures local { result.global ≡ false }
+{
+    option(
+        alloc,
+        KEYS,
+        "KEYS",
+        "The file to which the keys of the rows of the part are written, for `csvw keys`",
     )
 }
 

@@ -19,6 +19,7 @@ mod subcommands;
 
 pub use mistakes::mistake_in;
 pub use request::{
-    CheckedGroup, DraftedFiles, Group, Inspected, Reporting, Request, SplitFiles, requested,
+    CheckedGroup, DraftedFiles, Group, Inspected, JudgedKeys, Reporting, Request, SplitFiles,
+    requested,
 };
 pub use subcommands::command_line;

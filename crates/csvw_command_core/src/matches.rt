@@ -4,11 +4,11 @@ ghost use Rattle.csvw_command_core.specs.Asked.{IsCount, IsGroup, IsReporting, R
 ghost use Rattle.std.specs.Prelude.{◌≡◌, IfOk, IfSome, codes, map};
 
 use crate::arguments::{
-    ALL, BASE, CODE, COLOR, EXPLAINED, FILE, JSON, LINE_BUFFERED, META, MINIMAL, PART, PARTS, PLAN,
-    PROFILE, PROGRESS, REPORT, SHELL, STRICT, TURNS, URL,
+    ALL, BASE, CODE, COLOR, EXPLAINED, FILE, JSON, KEYS, LINE_BUFFERED, META, MINIMAL, PART, PARTS,
+    PLAN, PROFILE, PROGRESS, REPORT, SHELL, STRICT, TURNS, URL,
 };
 use crate::request::{
-    CheckedGroup, DraftedFiles, Group, Inspected, Reporting, Request, SplitFiles,
+    CheckedGroup, DraftedFiles, Group, Inspected, JudgedKeys, Reporting, Request, SplitFiles,
 };
 use crate::subcommands::{
     CHECK, COMPLETIONS, CONVERT, DRAFT, EXPLAIN, INSPECT, MANUAL, PLAIN, SPLIT, VALIDATE,
@@ -56,6 +56,7 @@ fn group_in<'a>(alloc: Global, matches: &ArgMatches<'a>) -> Result<Option<Group<
                     progress: has_flag(matches, PROGRESS),
                     part: matches.get_str(PART),
                     plan: matches.get_str(PLAN),
+                    keys: matches.get_str(KEYS),
                 }));
             }
         }
@@ -159,6 +160,24 @@ fn split_in<'a>(alloc: Global, matches: &ArgMatches<'a>) -> Result<Option<Reques
     })))
 }
 
+fn keys_in<'a>(matches: &ArgMatches<'a>) -> Option<Request<'a>>
+    ensures { IfSome result (λ request. Reads (codes "keys") (rows_of (found_of matches.now)) request) }
+{
+    let base = matches.get_str(BASE)?;
+    let meta = matches.get_str(META)?;
+    Some(Request::Keys(JudgedKeys {
+        base,
+        meta,
+        profile: matches.get_str(PROFILE),
+    }))
+}
+
+fn report_in<'a>(alloc: Global, matches: &ArgMatches<'a>) -> Result<Request<'a>, AllocError>
+    ensures { IfOk result (λ request. Reads (codes "report") (rows_of (found_of matches.now)) request) }
+{
+    Ok(Request::Report(files_in(alloc, matches)?))
+}
+
 fn completions_in<'a>(matches: &ArgMatches<'a>) -> Option<Request<'a>>
     ensures { IfSome result (λ request. Reads (codes "completions") (rows_of (found_of matches.now)) request) }
 {
@@ -215,6 +234,12 @@ pub(crate) fn request_of<'a>(
     }
     if name == SPLIT {
         return split_in(alloc, matches);
+    }
+    if name == KEYS {
+        return Ok(keys_in(matches));
+    }
+    if name == REPORT {
+        return Ok(Some(report_in(alloc, matches)?));
     }
     if name == COMPLETIONS {
         return Ok(completions_in(matches));

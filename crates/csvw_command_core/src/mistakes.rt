@@ -116,6 +116,8 @@ fn unknown_output(request: &Request<'_>) -> Option<&'static str>
         | Request::Explain(_)
         | Request::Inspect(_)
         | Request::Draft(_)
+        | Request::Keys(_)
+        | Request::Report(_)
         | Request::Manual => (true, ""),
     };
     if is_known { None } else { Some(told) }
@@ -130,9 +132,11 @@ fn has_known_profile(request: &Request<'_>) -> bool
         Request::Check(asked) => knows_profile(asked.profile),
         Request::Inspect(asked) => knows_profile(asked.profile),
         Request::Split(asked) => knows_profile(asked.profile),
+        Request::Keys(asked) => knows_profile(asked.profile),
         Request::Plain { .. }
         | Request::Explain(_)
         | Request::Draft(_)
+        | Request::Report(_)
         | Request::Completions(_)
         | Request::Manual => true,
     }

@@ -44,6 +44,8 @@ pub struct Group<'a> {
     pub part: Option<&'a str>,
     /// The file that has the plan of the parts, if one is given.
     pub plan: Option<&'a str>,
+    /// The file to which the keys of the part's rows are written, if one is given.
+    pub keys: Option<&'a str>,
 }
 
 /// A group of tables to check, by its metadata document.
@@ -100,6 +102,17 @@ pub struct SplitFiles<'a> {
     pub parts: u32,
 }
 
+/// A group whose keys are judged by the records of its parts.
+#[derive(Clone, Copy)]
+pub struct JudgedKeys<'a> {
+    /// The URL of the metadata document.
+    pub base: &'a str,
+    /// The file that has the document.
+    pub meta: &'a str,
+    /// The name of the profile of the document, if one is given.
+    pub profile: Option<&'a str>,
+}
+
 /// A request: what the command line asks the program to do.
 #[derive(Drop)]
 pub enum Request<'a> {
@@ -136,6 +149,10 @@ pub enum Request<'a> {
     Draft(DraftedFiles<'a>),
     /// Splits the files of tables into parts.
     Split(SplitFiles<'a>),
+    /// Judges the keys of a group by the sorted records on standard input.
+    Keys(JudgedKeys<'a>),
+    /// Joins the reports in these files to one.
+    Report(Vec<&'a str>),
     /// Writes the completions of the command line for the shell of this name.
     Completions(&'a str),
     /// Writes the manual page.

@@ -44,5 +44,7 @@ pub(crate) fn reads_twice(request: &Request<'_>) -> bool
         Request::Check(asked) => names_twice(asked.meta, asked.files.as_slice()),
         Request::Draft(asked) => names_twice("", asked.files.as_slice()),
         Request::Split(asked) => names_twice(asked.meta, asked.files.as_slice()),
+        Request::Keys(asked) => is_standard(asked.meta),
+        Request::Report(files) => names_twice("", files.as_slice()),
     }
 }

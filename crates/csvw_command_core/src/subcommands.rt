@@ -2,15 +2,16 @@
 ghost use Rattle.clap.specs.Words.{app_of};
 ghost use Rattle.clap.specs.declared.builder.command.Command.TheViews.{out-Command};
 ghost use Rattle.csvw_command_core.specs.Asked.{check_app, completions_app, convert_app, draft_app, explain_app, group_app};
-ghost use Rattle.csvw_command_core.specs.Asked.{inspect_app, manual_app, plain_app, program_app, read_app, split_app};
+ghost use Rattle.csvw_command_core.specs.Asked.{inspect_app, keys_app, manual_app, plain_app, program_app, read_app, report_app, split_app};
 ghost use Rattle.csvw_command_core.specs.Asked.{validate_app, with_reporting};
 ghost use Rattle.csvw_command_core.specs.Joined.{Joins};
 ghost use Rattle.std.specs.Prelude.{◌≡◌, IfOk, false};
 
 use crate::after_help;
 use crate::arguments::{
-    all, base, code, color, draft_base, explained, file, files, json, line_buffered, meta, minimal,
-    own_base, part, parts, plan, profile, progress, report, shell, some_files, strict, turns, url,
+    KEYS, REPORT, all, base, code, color, draft_base, explained, file, files, json, keys,
+    line_buffered, meta, minimal, own_base, part, parts, plan, profile, progress, report,
+    report_files, shell, some_files, strict, turns, url,
 };
 use clap::Command;
 use std::alloc::{AllocError, Global};
@@ -84,6 +85,7 @@ fn group_command<'a>(
         profile(alloc),
         part(alloc),
         plan(alloc),
+        keys(alloc),
     ]?;
     let command = read_command(alloc, name, about, examples)?.args(args)?;
     with_reporting(alloc, command)
@@ -202,6 +204,27 @@ fn split_command<'a>(alloc: Global) -> Result<Command<'a>, AllocError>
         .args(args)
 }
 
+fn keys_command<'a>(alloc: Global) -> Result<Command<'a>, AllocError>
+    ensures app { IfOk result (λ command. app_of command ≡ keys_app) }
+    ensures local { IfOk result (λ command. (out-Command command).has_globals ≡ false) }
+{
+    let args = vec![in alloc; base(alloc), meta(alloc), profile(alloc)]?;
+    Command::new(alloc, KEYS)
+        .about("Judges the keys of a group by the sorted records that its parts wrote")
+        .after_help(after_help::KEYS)
+        .args(args)
+}
+
+fn report_command<'a>(alloc: Global) -> Result<Command<'a>, AllocError>
+    ensures app { IfOk result (λ command. app_of command ≡ report_app) }
+    ensures local { IfOk result (λ command. (out-Command command).has_globals ≡ false) }
+{
+    Command::new(alloc, REPORT)
+        .about("Joins the reports of parts to one")
+        .after_help(after_help::REPORT)
+        .arg(report_files(alloc))
+}
+
 fn completions_command<'a>(alloc: Global) -> Result<Command<'a>, AllocError>
     ensures app { IfOk result (λ command. app_of command ≡ completions_app) }
     ensures local { IfOk result (λ command. (out-Command command).has_globals ≡ false) }
@@ -250,6 +273,8 @@ pub fn command_line<'a>(alloc: Global) -> Result<Command<'a>, AllocError>
     let command = with(command, inspect_command(alloc));
     let command = with(command, draft_command(alloc));
     let command = with(command, split_command(alloc));
+    let command = with(command, keys_command(alloc));
+    let command = with(command, report_command(alloc));
     let command = with(command, completions_command(alloc));
     with(command, Ok(manual_command(alloc)))
 }

@@ -20,4 +20,5 @@ returns-in-Some-get_strs c =
       progress_is = c.has_flag-in-Some-get_strs-2.ensures;
       part_is = sym (first_value-rows found (codes "part")) ∙ sym c.get_str-in-Some-get_strs-2.ensures;
       plan_is = sym (first_value-rows found (codes "plan")) ∙ sym c.get_str-in-Some-get_strs-3.ensures;
+      keys_is = sym (first_value-rows found (codes "keys")) ∙ sym c.get_str-in-Some-get_strs-4.ensures;
     }

@@ -23,5 +23,7 @@ returns c =
     let six = joined _ _ _ _ _ five c.inspect_command.ensures.app c.inspect_command.ensures.local c.with-command-6.ensures in
     let seven = joined _ _ _ _ _ six c.draft_command.ensures.app c.draft_command.ensures.local c.with-command-7.ensures in
     let eight = joined _ _ _ _ _ seven c.split_command.ensures.app c.split_command.ensures.local c.with-command-8.ensures in
-    let nine = joined _ _ _ _ _ eight c.completions_command.ensures.app c.completions_command.ensures.local c.with-command-9.ensures in
-    joined _ _ _ _ _ nine c.manual_command.ensures.app c.manual_command.ensures.local c.with.ensures
+    let nine = joined _ _ _ _ _ eight c.keys_command.ensures.app c.keys_command.ensures.local c.with-command-9.ensures in
+    let ten = joined _ _ _ _ _ nine c.report_command.ensures.app c.report_command.ensures.local c.with-command-10.ensures in
+    let eleven = joined _ _ _ _ _ ten c.completions_command.ensures.app c.completions_command.ensures.local c.with-command-11.ensures in
+    joined _ _ _ _ _ eleven c.manual_command.ensures.app c.manual_command.ensures.local c.with.ensures
