@@ -1,10 +1,16 @@
 mod AnyLemmas
+mod BareGroupLemmas
 mod ColumnsLemmas
+mod ContextKnownLemmas
 mod FaultsLemmas
+mod FrontsLemmas
 mod FlagsLemmas
 mod ItemsLemmas
 mod KnownLemmas
+mod ListedLemmas
 mod RepeatedLemmas
 mod SeenLemmas
+mod SetLemmas
+mod TargetsLemmas
 mod TitlesLemmas
 mod WarningsLemmas

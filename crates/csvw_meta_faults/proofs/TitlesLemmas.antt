@@ -1,5 +1,5 @@
 -- The titles that are seen already, and those that are seen next.
-use Rattle.std.proofs.Common.{◌≡◌, ℕ, List, ◌++◌}
+use Rattle.std.proofs.Common.{ℕ, List, ◌++◌}
 use Rattle.csvw_meta.specs.Titles.{Sorted}
 
 abbrev pub with_fronts : List (List ℕ) → List (List ℕ) → Sorted → Sorted

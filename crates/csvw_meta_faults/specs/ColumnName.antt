@@ -1,9 +1,8 @@
 -- The declared name of a column has at most one fault, and the empty name stands in: `name_has_one`, `name_stands_in` (Metadata
 -- Vocabulary for Tabular Data, section 5.6).
-use Rattle.std.specs.Prelude.{ℕ, List, [], Bool, true, false, Option, Some, None, if◌then◌else◌, refl}
+use Rattle.std.specs.Prelude.{ℕ, List, [], if◌then◌else◌, refl}
 use Rattle.serde_json.specs.Data.{Data}
 use Rattle.serde_json.specs.Find.{as_str}
-use Rattle.csvw_meta_core.specs.declared.fault.MetaCode.{MetaCode}
 use Rattle.csvw_meta_core.specs.declared.fault.MetaCode.TheVariants.{BadName, BadProperty}
 use Rattle.csvw_meta_core.specs.Read.{fine, faulty}
 use Rattle.csvw_meta.specs.DeclaredName.{is_declared, name}

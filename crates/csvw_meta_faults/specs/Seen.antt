@@ -1,12 +1,9 @@
 -- What the checks over several values need of a document: `bare_column`, `bare_schema` and others. They are the values without what
 -- these checks don't look at.
-use Rattle.std.specs.Prelude.{ℕ, List, [], map, false, Option, Some, None, option_map, unwrap_or}
+use Rattle.std.specs.Prelude.{[], map, false, None, option_map, unwrap_or}
 use Rattle.csvw_description.specs.declared.column.ColumnDescription.{ColumnDescription}
 use Rattle.csvw_description.specs.declared.schema.Schema.{Schema}
 use Rattle.csvw_description.specs.Inherited.{no_inherited}
-use Rattle.csvw_meta_keys.specs.declared.foreign_key.ForeignKeyFound.{ForeignKeyFound}
-use Rattle.csvw_meta_keys.specs.declared.keys.KeysFound.{KeysFound}
-use Rattle.csvw_meta_keys.specs.declared.reference.ReferenceFound.{ReferenceFound}
 use Rattle.csvw_meta_core.specs.Links.{no_url}
 use Rattle.csvw_meta.specs.declared.schema.SchemaFound.{SchemaFound}
 use Rattle.csvw_meta.specs.declared.table.TableFound.{TableFound}

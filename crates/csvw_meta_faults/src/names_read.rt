@@ -6,20 +6,21 @@ ghost use Rattle.csvw_meta_core.specs.Rules.{could_read_property};
 ghost use Rattle.csvw_meta.specs.NamesRead.{hides_name, name_known};
 ghost use Rattle.csvw_meta_faults.specs.Flags.{AreFlags};
 
+use crate::marks::Marks;
 use csvw_description::ColumnDescription;
-use csvw_meta_faults_core::{Hiding, below, item_at};
+use csvw_meta_faults_core::{below, item_at};
 use std::alloc::{AllocError, Global};
 
 /// Returns whether a fault hides the name of the column at this pointer.
-fn hides_name(
+pub(crate) fn hides_name(
     alloc: Global,
-    hiding: Hiding,
+    marks: &Marks,
     at: &str,
     column: &ColumnDescription,
 ) -> Result<bool, AllocError>
-    ensures { IfOk result (λ b. b ≡ list_any (hides_name at.now column.now) hiding.entry.faults.now) }
+    ensures { IfOk result (λ b. b ≡ list_any (hides_name at.now column.now) marks.now.faults.now) }
 {
-    let hidden = hiding.hides_property(alloc, at, "name")?;
+    let hidden = marks.hides_property(alloc, at, "name")?;
     if hidden {
         return Ok(true);
     }
@@ -27,22 +28,22 @@ fn hides_name(
         return Ok(false);
     }
     let titles = below(alloc, at, "titles")?;
-    hiding.is_within(alloc, titles.as_str())
+    Ok(marks.is_within(titles.as_str()))
 }
 
 /// Returns for each column of the array at this pointer whether its name could be read.
 pub(crate) fn names_known(
     alloc: Global,
-    hiding: Hiding,
+    marks: &Marks,
     at: &str,
     columns: &[ColumnDescription],
 ) -> Result<Vec<bool>, AllocError>
-    ensures { IfOk result (λ flags. AreFlags (name_known hiding.entry.faults.now at.now columns.now) (length columns.now) flags.items) }
+    ensures { IfOk result (λ flags. AreFlags (name_known marks.now.faults.now at.now columns.now) (length columns.now) flags.items) }
 {
     let mut known = Vec::new(alloc);
     for (i, column) in columns.iter().enumerate() {
         let item = item_at(alloc, at, i)?;
-        let hidden = hides_name(alloc, hiding, item.as_str(), column)?;
+        let hidden = hides_name(alloc, marks, item.as_str(), column)?;
         known.push(!hidden)?;
     }
     Ok(known)
@@ -51,17 +52,17 @@ pub(crate) fn names_known(
 /// Returns for each of so many items of the array at this pointer whether the property of that name could be read.
 pub(crate) fn property_known(
     alloc: Global,
-    hiding: Hiding,
+    marks: &Marks,
     at: &str,
     name: &str,
     count: usize,
 ) -> Result<Vec<bool>, AllocError>
-    ensures { IfOk result (λ flags. AreFlags (λ i. could_read_property hiding.entry.faults.now (item_at at.now i) name.now) count flags.items) }
+    ensures { IfOk result (λ flags. AreFlags (λ i. could_read_property marks.now.faults.now (item_at at.now i) name.now) count flags.items) }
 {
     let mut known = Vec::new(alloc);
     for i in 0..count {
         let item = item_at(alloc, at, i)?;
-        let hidden = hiding.hides_property(alloc, item.as_str(), name)?;
+        let hidden = marks.hides_property(alloc, item.as_str(), name)?;
         known.push(!hidden)?;
     }
     Ok(known)

@@ -51,7 +51,7 @@ fn table_with(url: Option<Base>, own: Option<SchemaFound>) -> TableSeen
 }
 
 /// Returns what is seen of the table that an object is.
-fn table_of_seen(context: &Context, part: &Part) -> Result<TableSeen, AllocError>
+pub(crate) fn table_of_seen(context: &Context, part: &Part) -> Result<TableSeen, AllocError>
     ensures { (sole : Bool) (number : ℕ) → IfOk result (λ t. as_table t
         ≡ bare_table (table_of context.now sole number (text_of part.now.at) (view part.now.value.now)).value) }
 {

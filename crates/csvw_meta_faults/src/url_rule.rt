@@ -5,11 +5,11 @@ ghost use Rattle.csvw_meta.specs.Group.{url_faults, url_of};
 ghost use Rattle.csvw_meta_faults.specs.Seen.{as_table};
 
 use crate::faults_at::faults_at_members;
+use crate::marks::Marks;
 use crate::names_read::property_known;
 use crate::repeated::repeated_at;
 use crate::seen::TableSeen;
 use csvw_meta_core::{MetaCode, MetaFault, Part};
-use csvw_meta_faults_core::Hiding;
 use csvw_text::{Seq, Text};
 use std::alloc::{AllocError, Global};
 
@@ -44,8 +44,8 @@ pub(crate) fn url_faults(
     ensures { IfOk result (λ fs. fs ≡ url_faults (text_of part.now.at) own.now (map as_table tables.now)) }
 {
     let at = part.at.text(part.alloc)?;
-    let hiding = Hiding { faults: own };
-    let known = property_known(part.alloc, hiding, at.as_str(), "url", tables.len())?;
+    let marks = Marks::of(part.alloc, own)?;
+    let known = property_known(part.alloc, &marks, at.as_str(), "url", tables.len())?;
     let urls = urls(part.alloc, tables)?;
     let indices = repeated_at(part.alloc, known.as_slice(), urls.as_slice())?;
     faults_at_members(part, MetaCode::DuplicateTable, "url", indices.as_slice())

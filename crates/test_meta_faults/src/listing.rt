@@ -2,6 +2,7 @@
 
 use csvw_iri::Base;
 use csvw_meta_core::{Context, MetaFault, Part, Pointer, Profile};
+use csvw_meta_faults::faults_in;
 use csvw_meta_faults_core::{find_all_notes, find_context, find_dialect, find_unlisted};
 use serde_json::Value;
 use std::alloc::{AllocError, Global};
@@ -12,6 +13,8 @@ const URL: &str = "http://example.org/m.json";
 /// What is looked for faults.
 #[derive(Clone, Copy)]
 pub enum Kind {
+    /// A whole document.
+    Document,
     /// The context of a document.
     Context,
     /// A dialect.
@@ -43,6 +46,7 @@ fn find(
         Kind::Dialect => find_dialect(part, &context(part.alloc, base)?, faults),
         Kind::Notes => find_all_notes(part, base, faults),
         Kind::Unlisted => find_unlisted(part, base, faults),
+        Kind::Document => Ok(()),
     }
 }
 
@@ -72,7 +76,7 @@ fn written(alloc: Global, faults: &[MetaFault]) -> Result<String, AllocError> {
     Ok(text)
 }
 
-/// Returns the faults of a document, or `None` if it is no JSON text.
+/// Returns the faults of a part, or `None` if it is no JSON text.
 fn faults(alloc: Global, kind: Kind, document: &str) -> Result<Option<String>, AllocError> {
     let Ok(value) = Value::from_str(alloc, document) else {
         return Ok(None);
@@ -90,12 +94,34 @@ fn faults(alloc: Global, kind: Kind, document: &str) -> Result<Option<String>, A
     Ok(Some(written(alloc, found.as_slice())?))
 }
 
+/// Returns the faults of a whole document. A document that begins with `{C` has the context of the vocabulary.
+fn document_faults(alloc: Global, document: &str) -> Result<Option<String>, AllocError> {
+    let mut text = String::new(alloc);
+    match document.strip_prefix("{C") {
+        Some(rest) => {
+            text.push_str("{\"@context\":\"http://www.w3.org/ns/csvw\"")?;
+            text.push_str(rest)?;
+        }
+        None => text.push_str(document)?,
+    }
+    let found = faults_in(alloc, text.as_bytes(), URL, Profile::Core)?;
+    Ok(Some(written(alloc, found.as_slice())?))
+}
+
+/// Returns the faults of a document or a part, or `None` if it is a part and no JSON text.
+fn faults_of(alloc: Global, kind: Kind, text: &str) -> Result<Option<String>, AllocError> {
+    match kind {
+        Kind::Document => document_faults(alloc, text),
+        _ => faults(alloc, kind, text),
+    }
+}
+
 /// Whether a document has the faults of its line.
 fn is_right(alloc: Global, kind: Kind, line: &str) -> Result<bool, AllocError> {
     let Some((document, expected)) = line.split_once(" => ") else {
         return Ok(false);
     };
-    match faults(alloc, kind, document)? {
+    match faults_of(alloc, kind, document)? {
         Some(found) => Ok(found.as_str() == expected),
         None => Ok(false),
     }

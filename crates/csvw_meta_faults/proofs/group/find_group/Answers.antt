@@ -1,5 +1,5 @@
 -- The faults of a part come before those of the next ones. The warnings have none.
-use Rattle.std.proofs.Common.{[], ◌++◌, append_assoc}
+use Rattle.std.proofs.Common.{◌++◌, append_assoc}
 use Rattle.std.proofs.lemmas.List.{append-nil}
 use Rattle.serde_json.specs.View.{view}
 use Rattle.csvw_meta_core.specs.Pointer.{text_of}

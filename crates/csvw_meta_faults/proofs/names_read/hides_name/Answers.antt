@@ -10,12 +10,12 @@ pub returns-then-hidden : goal.returns-then-hidden
 returns-then-hidden c =
     let at = c.args.at.now in
     sym (any_first (hides_property at (codes "name")) (λ f. is_none c.args.column.now.name && is_within (below at (codes "titles")) f)
-    c.args.hiding.faults.now (sym c.in_ok-hidden.ensures ∙ c.if-hidden.true))
+    c.args.marks.now.faults.now (sym c.in_ok-hidden.ensures ∙ c.if-hidden.true))
 
 pub returns : goal.returns
 returns c =
     let at = c.args.at.now in
-    let faults = c.args.hiding.faults.now in
+    let faults = c.args.marks.now.faults.now in
     let bare : is_none c.args.column.now.name ≡ true = none_of c.args.column.now.name (sym c.is_some.ensures ∙ c.if-is_some.false) in
     rw (
       any_rest (hides_property at (codes "name")) (λ f. is_none c.args.column.now.name && is_within (below at (codes "titles")) f) faults

@@ -5,4 +5,4 @@ use Rattle.csvw_meta_faults.specs.Flags.{AreFlags}
 use Rattle.csvw_meta_faults.proofs.names_read.property_known.Given as goal
 
 abbrev pub invariant-loop-i : goal.invariant-loop-i
-invariant-loop-i l = AreFlags (λ i. could_read_property l.hiding.faults.now (item_at l.at i) l.name) l.i l.known.items
+invariant-loop-i l = AreFlags (λ i. could_read_property l.marks.faults.now (item_at l.at i) l.name) l.i l.known.items

@@ -1,5 +1,5 @@
 -- The faults of the columns by themselves come before those of all of them together.
-use Rattle.std.proofs.Common.{◌≡◌, ◌++◌, ◌∙◌, ap, ap₂, append_assoc, sym}
+use Rattle.std.proofs.Common.{◌≡◌, ◌++◌, ◌∙◌, ap, ap₂, append_assoc}
 use Rattle.serde_json.specs.View.{view}
 use Rattle.csvw_meta_core.specs.Pointer.{text_of}
 use Rattle.csvw_meta_core.specs.Several.{several}

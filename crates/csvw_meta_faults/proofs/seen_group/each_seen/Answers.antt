@@ -1,5 +1,5 @@
 -- The value of an item comes before those of the remaining ones.
-use Rattle.std.proofs.Common.{◌≡◌, ◌∙◌, ◌+◌, ap, map, sym}
+use Rattle.std.proofs.Common.{◌∙◌, ◌+◌, ap, map}
 use Rattle.std.proofs.lemmas.List.{map-append}
 use Rattle.csvw_meta_core.specs.Pointer.{text_of}
 use Rattle.csvw_meta.specs.Table.{table}

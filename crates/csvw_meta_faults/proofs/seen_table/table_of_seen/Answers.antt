@@ -1,5 +1,5 @@
 -- The schema and the keys are those of the body.
-use Rattle.std.proofs.Common.{◌≡◌, ◌∙◌, [], None, Option, ap, codes, false, option_map, unwrap_or}
+use Rattle.std.proofs.Common.{◌∙◌, [], None, Option, ap, codes, false, option_map, unwrap_or}
 use Rattle.serde_json.specs.View.{view}
 use Rattle.url.specs.Parts.{Parts}
 use Rattle.csvw_description.specs.Inherited.{no_inherited}

@@ -1,8 +1,6 @@
 -- What is found so far, and then what is left, is the whole.
 use Rattle.std.proofs.Common.{◌≡◌, ◌++◌, drop}
-use Rattle.serde_json.specs.View.{items_view}
 use Rattle.csvw_meta_core.specs.Pointer.{text_of}
-use Rattle.csvw_meta_core.specs.Read.{each_numbered}
 use Rattle.csvw_meta_core.specs.Kinds.{text}
 use Rattle.csvw_meta_faults.proofs.ItemsLemmas.{values_from}
 use Rattle.csvw_meta_faults.proofs.seen_titles.each_text.Given as goal

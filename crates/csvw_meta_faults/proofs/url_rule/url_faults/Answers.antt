@@ -1,5 +1,5 @@
 -- The URLs that are known are those that the definition says.
-use Rattle.std.proofs.Common.{◌≡◌, ◌<◌, ◌∙◌, [], IfOk, List, arith, codes, false, get_or, length, map, subst, ℕ}
+use Rattle.std.proofs.Common.{◌≡◌, ◌∙◌, [], IfOk, List, arith, codes, false, get_or, length, map, subst, ℕ}
 use Rattle.csvw_meta_core.specs.declared.fault.MetaCode.TheVariants.{DuplicateTable}
 use Rattle.csvw_meta_core.specs.declared.fault.MetaFault.{MetaFault}
 use Rattle.csvw_meta_core.specs.Pointer.{below, item_at, text_of}
@@ -18,7 +18,7 @@ returns c =
     let test = λ (i : ℕ). could_read_property c.args.own.now (item_at at i) (codes "url") in
     let fault : ℕ → MetaFault = λ i. record { code = DuplicateTable; pointer = below (item_at at i) (codes "url") } in
     let found = rw (c.as_slice.ensures.value, c.as_slice-2.ensures, c.in_ok-urls.ensures) at (c.in_ok-indices.ensures fault) in
-    let known : AreFlags test (length ts) c.in_ok-known.known.items = rw (c.as_str.ensures, c.in_ok-at.ensures) at c.in_ok-known.ensures in
+    let known : AreFlags test (length ts) c.in_ok-known.known.items = rw (c.as_str.ensures, c.in_ok-at.ensures, c.in_ok-marks.ensures) at c.in_ok-known.ensures in
     let same = repeated_same (λ i. get_or c.in_ok-known.known.items i false) test fault [] 0 (map url_of (map as_table ts))
     (λ j low high. known.each j (omega (arith, high, length_urls ts))) in
     subst (λ (all : List MetaFault). IfOk c.faults_at_members.result (λ fs. fs ≡ all)) (found ∙ same) (rw c.as_slice-3.ensures at c.faults_at_members.ensures)

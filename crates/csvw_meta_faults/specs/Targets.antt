@@ -1,0 +1,80 @@
+-- What the check of references between tables needs of each table: `seen_targets`, `known_in` (Metadata Vocabulary for Tabular
+-- Data, sections 5.5.1 and 5.5.2).
+use Rattle.std.specs.Prelude.{ℕ, ◌+◌, ◌||◌, not, List, [], ◌∷◌, ◌++◌, Bool, true, Option, Some, None, bytes_eq, codes, is_some, map, if◌then◌else◌}
+use Rattle.std.specs.List.{list_any}
+use Rattle.csvw_iri.specs.Link.{iri_of}
+use Rattle.csvw_description.specs.Keys.{declared_names}
+use Rattle.csvw_meta_core.specs.declared.fault.MetaFault.{MetaFault}
+use Rattle.csvw_meta_core.specs.Rules.{could_read, hides_property}
+use Rattle.csvw_meta_keys.specs.declared.keys.KeysFound.{KeysFound}
+use Rattle.csvw_meta_keys.specs.declared.naming.Target.{Target}
+use Rattle.csvw_meta_keys.specs.Naming.{Known, key_faults}
+use Rattle.csvw_meta.specs.References.{hides_names, hides_side}
+use Rattle.csvw_meta.specs.declared.table.TableFound.{TableFound}
+use Rattle.csvw_meta_faults.specs.declared.references.Scene.{Scene}
+use Rattle.csvw_meta_faults.specs.declared.seen.GroupSeen.{GroupSeen}
+use Rattle.csvw_meta_faults.specs.declared.seen.TableSeen.{TableSeen}
+use Rattle.csvw_meta_faults.specs.declared.targets.TargetSeen.{TargetSeen}
+
+-- ---- tables
+
+-- what is seen of the table at a pointer, in a document with these faults
+abbrev pub seen_target : List ℕ → List MetaFault → TableFound → TargetSeen
+seen_target at faults t = record {
+  url = iri_of t.table.url;
+  names = declared_names t.table.schema;
+  has_schema = is_some t.table.schema;
+  url_hidden = list_any (hides_property at (codes "url")) faults;
+  names_hidden = list_any (hides_names at t.table.schema) faults;
+}
+
+-- the same of each table, the first of which has the index i
+abbrev pub seen_targets : (ℕ → List ℕ) → List MetaFault → ℕ → List TableFound → List TargetSeen
+seen_targets place faults i [] = []
+seen_targets place faults i (t ∷ ts) = seen_target (place i) faults t ∷ seen_targets place faults (i + 1) ts
+
+-- a table to which keys may refer, in a group whose schema declares these names
+abbrev pub as_target : List (List ℕ) → TargetSeen → Target
+as_target group t = record { url = t.url; names = if t.has_schema then t.names else group }
+
+-- ---- what could be read
+
+-- The names of the first of the tables with the URL could be read, and the URLs of the tables up to it. `group` says of the group's schema
+-- whether a fault hides its names.
+abbrev pub names_known : Bool → List TargetSeen → List ℕ → Bool
+names_known group [] url = true
+names_known group (t ∷ ts) url =
+    not (t.url_hidden || (if bytes_eq t.url url then (if t.has_schema then t.names_hidden else group) else not (names_known group ts url)))
+
+-- `own` says whether the names could be read of the schema that has the keys.
+abbrev pub known_in : Scene → Bool → Known
+known_in scene own = record {
+  own = own;
+  urls = scene.urls_known;
+  names = names_known scene.group_hidden scene.targets.now;
+  at = could_read scene.marks.now.faults.now;
+  sides = λ at. not (list_any (hides_side at) scene.marks.now.faults.now);
+}
+
+-- ---- what is wrong
+
+abbrev pub targets_in : Scene → List Target
+targets_in scene = map (as_target scene.group_names.now) scene.targets.now
+
+-- what is wrong with the keys of a schema with columns of these names, if it has keys
+abbrev pub faults_of_keys : Known → List (List ℕ) → List Target → Option KeysFound → List MetaFault
+faults_of_keys known own targets None = []
+faults_of_keys known own targets (Some keys) = key_faults known own targets keys
+
+-- the same of each table's own schema
+abbrev pub faults_of_tables : (Bool → Known) → List Target → List TargetSeen → List TableSeen → List MetaFault
+faults_of_tables known targets [] ts = []
+faults_of_tables known targets (s ∷ ss) [] = []
+faults_of_tables known targets (s ∷ ss) (t ∷ ts) =
+    faults_of_keys (known (not s.names_hidden)) s.names targets t.keys ++ faults_of_tables known targets ss ts
+
+-- the same of the group's schema, and then of each table's own one
+unfoldable pub faults_of_group : Scene → GroupSeen → List MetaFault
+faults_of_group scene group =
+    faults_of_keys (known_in scene (not scene.group_hidden)) scene.group_names.now (targets_in scene) group.keys
+    ++ faults_of_tables (known_in scene) (targets_in scene) scene.targets.now group.tables

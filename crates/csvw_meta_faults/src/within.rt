@@ -1,0 +1,118 @@
+//! The faults of the document within its context: those of its parts, and those of what its keys name (Metadata Vocabulary
+//! for Tabular Data, section 5).
+ghost use Rattle.std.specs.Prelude.{◌≡◌, ◌++◌, ◌||◌, IfOk, OnOk, codes, is_some, length, not};
+ghost use Rattle.std.specs.List.{list_any};
+ghost use Rattle.serde_json.specs.Find.{get};
+ghost use Rattle.serde_json.specs.View.{view};
+ghost use Rattle.csvw_description.specs.Keys.{declared_names};
+ghost use Rattle.csvw_meta_core.specs.Pointer.{below as further_below, text_of};
+ghost use Rattle.csvw_meta_core.specs.Rules.{is_at};
+ghost use Rattle.csvw_meta.specs.Described.{within};
+ghost use Rattle.csvw_meta.specs.References.{reference_faults, table_at};
+ghost use Rattle.csvw_meta_faults.specs.SeenGroup.{as_group};
+ghost use Rattle.csvw_meta_faults.specs.Targets.{faults_of_group};
+
+use crate::group::find_parts;
+use crate::hidden_names::hides_names;
+use crate::marks::Marks;
+use crate::references::{OwnNames, Scene, find_in_schema, find_in_tables};
+use crate::seen::GroupSeen;
+use crate::seen_group::parts_seen;
+use crate::targets::{TargetSeen, targets_seen};
+use csvw_description::{Nulls, Schema};
+use csvw_meta::references::declared_names;
+use csvw_meta_core::{Context, MetaFault, Part};
+use csvw_meta_faults_core::below;
+use std::alloc::{AllocError, Global};
+
+/// Adds the faults of what the keys of the group's schema name, and then those of each table's own schema.
+#[tactic(auto, unfolding(crate::specs::Targets::faults_of_group))]
+fn find_in_group(
+    scene: &Scene,
+    group: &GroupSeen,
+    faults: &mut Vec<MetaFault>,
+) -> Result<(), AllocError>
+    requires { length scene.now.targets.now ≡ length group.now.tables }
+    ensures { OnOk result (faults.new.items ≡ faults.old.items ++ faults_of_group scene.now group.now) }
+{
+    let own = OwnNames {
+        names: scene.group_names,
+        known: !scene.group_hidden,
+    };
+    find_in_schema(scene, own, &group.keys, faults)?;
+    find_in_tables(scene, group.tables.as_slice(), faults)
+}
+
+/// Returns whether a fault hides the URL of one of these tables.
+fn hides_url(targets: &[TargetSeen]) -> bool
+    ensures { result ≡ list_any (λ t. t.url_hidden) targets.now }
+{
+    targets.iter().any(|target| target.url_hidden)
+}
+
+/// Returns whether the URLs of all tables of the group at this pointer could be read.
+fn urls_known(
+    alloc: Global,
+    marks: &Marks,
+    at: &str,
+    targets: &[TargetSeen],
+) -> Result<bool, AllocError>
+    ensures { IfOk result (λ b. b ≡ not (list_any (is_at (further_below at.now (codes "tables"))) marks.now.faults.now
+        || list_any (λ t. t.url_hidden) targets.now)) }
+{
+    let tables = below(alloc, at, "tables")?;
+    let hidden = marks.is_at(tables.as_str());
+    let url_hidden = hides_url(targets);
+    Ok(!(hidden || url_hidden))
+}
+
+fn names_of(alloc: Global, schema: &Option<Schema>) -> Result<Nulls, AllocError>
+    ensures { IfOk result (λ n. n ≡ declared_names schema.now) }
+{
+    Nulls::of(alloc, declared_names(alloc, schema)?)
+}
+
+/// Adds the faults of what the keys of all schemas of the group name. `own` has the faults of its parts.
+fn find_references(
+    part: &Part,
+    own: &[MetaFault],
+    group: &GroupSeen,
+    faults: &mut Vec<MetaFault>,
+) -> Result<(), AllocError>
+    ensures { OnOk result (faults.new.items ≡ faults.old.items ++ reference_faults
+        (table_at (is_some (get (codes "tables") (view part.now.value.now))) (text_of part.now.at)) (text_of part.now.at) own.now (as_group group.now)) }
+{
+    let marks = Marks::of(part.alloc, own)?;
+    let at = part.at.text(part.alloc)?;
+    let targets = targets_seen(part, &marks, group.tables.as_slice())?;
+    let group_names = names_of(part.alloc, &group.schema)?;
+    let group_hidden = hides_names(part.alloc, &marks, at.as_str(), &group.schema)?;
+    let urls_known = urls_known(part.alloc, &marks, at.as_str(), targets.as_slice())?;
+    let scene = Scene {
+        alloc: part.alloc,
+        marks: &marks,
+        targets: targets.as_slice(),
+        group_names: &group_names,
+        group_hidden,
+        urls_known,
+    };
+    find_in_group(&scene, group, faults)
+}
+
+/// Adds the faults of the document within its context. It returns `AllocError` if there is no memory for them.
+pub fn find_within(
+    context: &Context,
+    part: &Part,
+    faults: &mut Vec<MetaFault>,
+) -> Result<(), AllocError>
+    ensures { OnOk result (faults.new.items ≡ faults.old.items ++ (within context.now (text_of part.now.at) (view part.now.value.now)).faults) }
+{
+    let mut own = Vec::new(part.alloc);
+    find_parts(context, part, &mut own)?;
+    let group = parts_seen(context, part)?;
+    let mut together = Vec::new(part.alloc);
+    find_references(part, own.as_slice(), &group, &mut together)?;
+    faults.append(&mut own)?;
+    faults.append(&mut together)?;
+    Ok(())
+}
