@@ -4,8 +4,8 @@ ghost use Rattle.csvw_columns.specs.Ready.{AreReady};
 
 use crate::reading::{Found, read};
 use csvw_check_core::{
-    Alone, Check, DEVICE, Halt, REFUSED, Report, Stopped, Tables, Walker, opened, paths, plan_of,
-    show_alone, status_of, status_of_stop,
+    Alone, Check, DEVICE, Halt, REFUSED, Refused, Report, Stopped, Tables, Walker, faults_of,
+    opened, paths, plan_of, show_alone, status_of, status_of_stop,
 };
 use csvw_columns::Plan;
 use csvw_files::Opener;
@@ -66,8 +66,14 @@ fn check_document<O: Opener, W: Write>(
     match plan_of(walker.page.alloc, document, asked.base, asked.profile) {
         Ok(plan) => check_plan(source, &plan, opener, walker, out),
         Err(fault) => {
-            let refused = Alone::Refused(document, &fault);
-            refuse(asked, &refused, walker, out)
+            let faults = faults_of(walker.page.alloc, document, asked.base, asked.profile);
+            let refused = Refused {
+                bytes: document,
+                fault: &fault,
+                faults: faults.as_slice(),
+                shown: asked.shown,
+            };
+            refuse(asked, &Alone::Refused(&refused), walker, out)
         }
     }
 }

@@ -2,7 +2,9 @@
 ghost use Rattle.std.specs.Prelude.{IfOk};
 ghost use Rattle.csvw_columns.specs.Ready.{AreReady};
 
+use crate::refused::{Refused, tell_all};
 use csvw_columns::Plan;
+use csvw_datatype::Simple;
 use csvw_files::{Opener, read_document};
 use csvw_hints::{Group, line_and_column, place_of, push_disguise};
 use csvw_meta::{Description, MetaCode, MetaFault, Profile, ReadDescription};
@@ -11,9 +13,6 @@ use csvw_streams::Counted;
 use serde_json::Value;
 use std::alloc::{AllocError, Global};
 use std::io::Write;
-
-/// The names of the datatypes that the profile w3c alone has.
-const OF_W3C: [&str; 6] = ["any", "anyAtomicType", "token", "xml", "html", "json"];
 
 /// What to do if a file can't be read.
 pub(crate) const UNREAD: &str =
@@ -55,7 +54,7 @@ pub fn opened<O: Opener>(alloc: Global, path: &str, opener: &mut O) -> Option<Ve
 
 /// Returns whether the profile w3c alone has the datatype of a name.
 fn is_of_w3c(name: &str) -> bool {
-    OF_W3C.contains(&name)
+    matches!(Simple::of(name), Some(Simple::Other(_)))
 }
 
 /// Returns whether a pointer is that of the name of a datatype.
@@ -110,18 +109,24 @@ fn push_document_hints(
     }
 }
 
-/// Adds a fault of the document: its place by lines and columns, its pointer, its code and what to do.
-pub(crate) fn tell_refused(
+/// Returns the line and the column of a fault of the document, both from 1.
+pub(crate) fn place_of_fault(alloc: Global, bytes: &[u8], fault: &MetaFault) -> (usize, usize) {
+    match fault.code {
+        MetaCode::NotJson => end_of_json(alloc, bytes),
+        _ => place_of(bytes, fault.pointer.as_str()),
+    }
+}
+
+/// Adds a fault of the document: its place by lines and columns, its pointer, its code and what to do. A line of 0 is not
+/// shown.
+pub(crate) fn tell_fault(
     page: &mut Page,
     group: &Group<'_>,
     bytes: &[u8],
     fault: &MetaFault,
+    place: (usize, usize),
 ) -> Result<(), AllocError> {
-    let pointer = fault.pointer.as_str();
-    let (line, column) = match fault.code {
-        MetaCode::NotJson => end_of_json(page.alloc, bytes),
-        _ => place_of(bytes, pointer),
-    };
+    let (line, column) = place;
     let mut hints = String::new(page.alloc);
     push_document_hints(&mut hints, page.alloc, group, bytes, fault)?;
     let sentence = fault.code.to_string(page.alloc)?;
@@ -133,9 +138,20 @@ pub(crate) fn tell_refused(
         row: 0,
         line: line as u64,
         column: column as u64,
-        pointer,
+        pointer: fault.pointer.as_str(),
         hints: hints.as_str(),
     })
+}
+
+/// Adds the fault by which the document is refused.
+pub(crate) fn tell_refused(
+    page: &mut Page,
+    group: &Group<'_>,
+    bytes: &[u8],
+    fault: &MetaFault,
+) -> Result<(), AllocError> {
+    let place = place_of_fault(page.alloc, bytes, fault);
+    tell_fault(page, group, bytes, fault, place)
 }
 
 /// Adds a stop that is at no place of a file. The path is empty if it is of no file.
@@ -195,8 +211,8 @@ pub(crate) fn tell_table_count(
 pub enum Alone<'a> {
     /// The document can't be opened or read.
     Unread,
-    /// The document with these bytes has a fault.
-    Refused(&'a [u8], &'a MetaFault),
+    /// The document has faults.
+    Refused(&'a Refused<'a>),
     /// There is not one file for each table of this plan.
     TableCount(&'a Plan),
 }
@@ -221,7 +237,7 @@ pub fn show_alone<W: Write>(
     page.begin(group.meta, None)?;
     let told = match reason {
         Alone::Unread => tell_plain(page, "Read", UNREAD, group.meta, 0),
-        Alone::Refused(bytes, fault) => tell_refused(page, group, bytes, fault),
+        Alone::Refused(refused) => tell_all(page, group, refused),
         Alone::TableCount(plan) => tell_table_count(page, group, plan),
     };
     told?;

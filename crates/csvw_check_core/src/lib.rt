@@ -2,8 +2,9 @@
 //! HTML and as JSON.
 //!
 //! This is the middle part of `csvw check`. It reads no tables through a session. The upper part, csvw_check, does, and
-//! shows here what it found. `show` shows the report of a run that ended. The lower parts are csvw_page (the forms of a
-//! page), csvw_hints (rules and places) and csvw_reread (the rows of faults).
+//! shows here what it found. `show` shows the report of a run that ended. A document that is refused is shown with all of
+//! its faults (`Refused`). The lower parts are csvw_page (the forms of a page), csvw_hints (rules and places) and
+//! csvw_reread (the rows of faults).
 //!
 //! # Promises
 //!
@@ -15,6 +16,7 @@
 
 mod asked;
 mod document;
+mod refused;
 mod report;
 mod showing;
 mod status;
@@ -26,6 +28,7 @@ pub use csvw_meta::Profile;
 pub use csvw_page::{Color, DEVICE, Form, Halt, Page, REFUSED, push_escaped};
 pub use csvw_reread::{Shown, Walker, paths};
 pub use document::{Alone, opened, plan_of, show_alone};
+pub use refused::{Refused, faults_of};
 pub use report::Report;
 pub use showing::{explain_stop, show};
 pub use status::{status_of, status_of_stop};

@@ -2,6 +2,7 @@
 
 use crate::asked::{Show, Strict};
 use crate::document::{Alone, end_page, opened, plan_of, show_alone};
+use crate::refused::{Refused, faults_of};
 use crate::report::Report;
 use crate::status::{status_of, status_of_stop};
 use crate::stop::{Stopped, tell_stop};
@@ -101,8 +102,19 @@ fn show_document<O: Opener, W: Write>(
     match plan_of(walker.page.alloc, document, asked.base, asked.profile) {
         Ok(plan) => show_planned(run, &plan, walker, opener, out),
         Err(fault) => {
-            let refused = Alone::Refused(document, &fault);
-            show_alone(&mut walker.page, &asked.group(), &refused, out)
+            let faults = faults_of(walker.page.alloc, document, asked.base, asked.profile);
+            let refused = Refused {
+                bytes: document,
+                fault: &fault,
+                faults: faults.as_slice(),
+                shown: asked.shown,
+            };
+            show_alone(
+                &mut walker.page,
+                &asked.group(),
+                &Alone::Refused(&refused),
+                out,
+            )
         }
     }
 }

@@ -5,8 +5,8 @@ use crate::escape::push_escaped;
 use crate::html_style::STYLE;
 use crate::line::{push_column, push_text, row_shown};
 use crate::shown::{
-    CellShown, FaultShown, RowPlace, SpotShown, StopPlace, StopShown, Summary, UnknownShown,
-    kind_name,
+    CellShown, FaultShown, MoreShown, RowPlace, SpotShown, StopPlace, StopShown, Summary,
+    UnknownShown, kind_name,
 };
 use crate::status::{REFUSED, verdict};
 use csvw_text::Code;
@@ -290,11 +290,20 @@ fn push_near(page: &mut String, shown: &UnknownShown<'_>) -> Result<(), AllocErr
     page.push_str("”?</p>\n")
 }
 
+/// Begins the reasons why the document or a table wasn't read.
+pub(crate) fn push_stops(page: &mut String) -> Result<(), AllocError> {
+    page.push_str("<h2 id=\"stop\">Why it was not read to its end</h2>\n")
+}
+
+/// Adds how many faults of one code in the document are not shown.
+pub(crate) fn push_more(page: &mut String, shown: &MoreShown<'_>) -> Result<(), AllocError> {
+    let MoreShown { name, times, .. } = *shown;
+    write!(page, "<p>{name}: {times} more</p>\n")
+}
+
 /// Adds why the document or a table wasn't read.
 pub(crate) fn push_stop(page: &mut String, shown: &StopShown<'_>) -> Result<(), AllocError> {
-    page.push_str(
-        "<h2 id=\"stop\">Why it was not read to its end</h2>\n<article class=\"error\">\n",
-    )?;
+    page.push_str("<article class=\"error\">\n")?;
     push_stop_file(page, shown)?;
     push_name(page, "error", shown.name)?;
     push_sentence(page, shown.sentence)?;

@@ -1,6 +1,6 @@
 //! A page in JSON: an object for each fault.
 
-use crate::shown::{FaultShown, SpotShown, StopShown, UnknownShown, kind_name};
+use crate::shown::{FaultShown, MoreShown, SpotShown, StopShown, UnknownShown, kind_name};
 use csvw_text::Code;
 use serde_json::{Value, json};
 use std::alloc::{AllocError, Global};
@@ -124,6 +124,20 @@ pub(crate) fn push_rest(lines: &mut String, shown: &SpotShown<'_>) -> Result<(),
         "file": shown.path,
         "table": shown.spot.table,
         "column": shown.spot.column,
+        "count": shown.times
+    })?;
+    push_object(lines, &object)
+}
+
+/// Adds how many faults of one code in the document are not shown.
+pub(crate) fn push_more(lines: &mut String, shown: &MoreShown<'_>) -> Result<(), AllocError> {
+    let alloc = *lines.allocator();
+    let object = json!(in alloc; {
+        "kind": "rest",
+        "code": shown.name,
+        "file": shown.path,
+        "table": 0,
+        "column": 0,
         "count": shown.times
     })?;
     push_object(lines, &object)

@@ -1,7 +1,7 @@
 //! The page of a report: what is wrong with a group of tables, for people, as text, as HTML and as JSON.
 //!
 //! A `Page` takes faults, ignored properties, counts and stops one after the other, with all that is shown of each
-//! (`FaultShown`, `UnknownShown`, `SpotShown`, `StopShown`). It writes them in its form, and `send` sends what is written
+//! (`FaultShown`, `UnknownShown`, `SpotShown`, `StopShown`, `MoreShown`). It writes them in its form, and `send` sends what is written
 //! so far:
 //!
 //! ```text
@@ -41,5 +41,5 @@ pub use form::{Color, Form};
 pub use halt::Halt;
 pub use line::{push_quoted, push_text};
 pub use page::Page;
-pub use shown::{CellShown, FaultShown, SpotShown, StopShown, Summary, UnknownShown};
+pub use shown::{CellShown, FaultShown, MoreShown, SpotShown, StopShown, Summary, UnknownShown};
 pub use status::{DEVICE, INVALID, REFUSED, VALID};

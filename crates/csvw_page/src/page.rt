@@ -2,7 +2,7 @@
 
 use crate::form::{Color, Form};
 use crate::halt::Halt;
-use crate::shown::{FaultShown, SpotShown, StopShown, Summary, UnknownShown};
+use crate::shown::{FaultShown, MoreShown, SpotShown, StopShown, Summary, UnknownShown};
 use crate::{html_form, json_form, text_form};
 use csvw_streams::{Counted, write_out};
 use std::alloc::{AllocError, Global};
@@ -21,6 +21,8 @@ pub struct Page {
     color: Color,
     /// How many objects it has, in JSON.
     objects: u64,
+    /// How many stops it has.
+    stops: u64,
 }
 
 impl Page {
@@ -32,6 +34,7 @@ impl Page {
             form,
             color,
             objects: 0,
+            stops: 0,
         }
     }
 
@@ -123,15 +126,24 @@ impl Page {
         }
     }
 
-    /// Adds why the document or a table wasn't read. Returns `AllocError` if memory runs out.
+    /// Adds why the document or a table wasn't read. A document may have several reasons. Returns `AllocError` if memory
+    /// runs out.
     pub fn stop(&mut self, shown: &StopShown<'_>) -> Result<(), AllocError> {
+        self.begin_stop()?;
         match self.form {
             Form::Text => text_form::push_stop(&mut self.lines, shown, self.color),
             Form::Html => html_form::push_stop(&mut self.lines, shown),
-            Form::Json => {
-                self.begin_object()?;
-                json_form::push_stop(&mut self.lines, shown)
-            }
+            Form::Json => json_form::push_stop(&mut self.lines, shown),
+        }
+    }
+
+    /// Adds how many faults of one code in the document at a path are not shown. Returns `AllocError` if memory runs out.
+    pub fn more_stops(&mut self, shown: &MoreShown<'_>) -> Result<(), AllocError> {
+        self.begin_stop()?;
+        match self.form {
+            Form::Text => text_form::push_more(&mut self.lines, shown, self.color),
+            Form::Html => html_form::push_more(&mut self.lines, shown),
+            Form::Json => json_form::push_more(&mut self.lines, shown),
         }
     }
 
@@ -147,6 +159,17 @@ impl Page {
                 0 => "]\n",
                 _ => "\n]\n",
             }),
+        }
+    }
+
+    /// Begins a stop: the heading before the first, in HTML, and an object, in JSON.
+    fn begin_stop(&mut self) -> Result<(), AllocError> {
+        let is_first = self.stops == 0;
+        self.stops = self.stops.saturating_add(1);
+        match self.form {
+            Form::Html if is_first => html_form::push_stops(&mut self.lines),
+            Form::Text | Form::Html => Ok(()),
+            Form::Json => self.begin_object(),
         }
     }
 

@@ -95,6 +95,17 @@ pub struct SpotShown<'a> {
     pub path: &'a str,
 }
 
+/// Faults of the document with one code that are not shown.
+#[derive(Clone, Copy)]
+pub struct MoreShown<'a> {
+    /// The path of the document.
+    pub path: &'a str,
+    /// The name of the code.
+    pub name: &'a str,
+    /// How many faults there are.
+    pub times: u64,
+}
+
 /// Why the document or a table wasn't read, with all that is shown of it.
 #[derive(Clone, Copy)]
 pub struct StopShown<'a> {

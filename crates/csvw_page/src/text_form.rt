@@ -3,7 +3,9 @@
 use crate::counts::Spot;
 use crate::form::Color;
 use crate::line::{Mark, push_column, push_quoted, push_text, row_shown};
-use crate::shown::{CellShown, FaultShown, RowPlace, StopPlace, StopShown, Summary, UnknownShown};
+use crate::shown::{
+    CellShown, FaultShown, MoreShown, RowPlace, StopPlace, StopShown, Summary, UnknownShown,
+};
 use crate::status::verdict;
 use csvw_text::Kind;
 use std::alloc::AllocError;
@@ -217,6 +219,19 @@ pub(crate) fn push_stop(
     lines.push_str(shown.sentence)?;
     lines.push('\n')?;
     lines.push_str(shown.hints)
+}
+
+/// Adds how many faults of one code in the document are not shown.
+pub(crate) fn push_more(
+    lines: &mut String,
+    shown: &MoreShown<'_>,
+    color: Color,
+) -> Result<(), AllocError> {
+    push_text(lines, shown.path)?;
+    lines.push_str(": ")?;
+    push_inked(lines, shown.name, Ink::Error, color)?;
+    let times = shown.times;
+    write!(lines, ": {times} more\n")
 }
 
 /// Adds the file of a stop and the place in it, with a colon if the stop is of a file.

@@ -46,7 +46,22 @@ table 1: p.csv: 0 records
 not read to its end
 ";
 
-static CHECKS: [Case; 5] = [
+/// A document with four faults.
+const FOUR: &[u8] = br#"{"@context":"http://www.w3.org/ns/csvw",
+"dialect":{"header":1},
+"url":1,
+"tableSchema":{"columns":[{"name":"a"},{"name":"a"}],
+"primaryKey":"b"}}
+"#;
+
+const FOUR_FAULTS: &[u8] =
+    b"m.json:2:12: /dialect/header: BadProperty: a value is of a wrong kind, or a property is missing
+m.json:3:1: /url: BadProperty: a value is of a wrong kind, or a property is missing
+m.json:4:40: /tableSchema/columns/1: DuplicateName: two columns of a table have one name: rename one of them
+m.json:5:1: /tableSchema/primaryKey: BadReference: a key names a column or a table that is not there
+";
+
+static CHECKS: [Case; 6] = [
     Case {
         what: "a valid group",
         words: CHECK,
@@ -114,8 +129,23 @@ static CHECKS: [Case; 5] = [
         end: End {
             status: 3,
             out: Just(
-                b"m.json:1:1: BadContext: `@context` is not that of CSVW: `http://www.w3.org/ns/csvw`\n",
+                b"m.json:1:1: BadContext: `@context` is not that of CSVW: `http://www.w3.org/ns/csvw`
+m.json:1:1: BadProperty: a value is of a wrong kind, or a property is missing
+",
             ),
+            err: Just(b""),
+        },
+    },
+    Case {
+        what: "a document with four faults, in the order of their places",
+        words: CHECK,
+        files: &[File {
+            path: "m.json",
+            bytes: FOUR,
+        }],
+        end: End {
+            status: 3,
+            out: Just(FOUR_FAULTS),
             err: Just(b""),
         },
     },

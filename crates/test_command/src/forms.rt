@@ -56,6 +56,18 @@ struct Case {
     page: Wanted,
 }
 
+/// A document with two faults.
+const TWO: File<'static> = File {
+    path: "m.json",
+    bytes: br#"{"@context":"http://www.w3.org/ns/csvw","url":1,"dialect":{"header":1}}"#,
+};
+
+/// A document with 22 faults of one code.
+const MANY: File<'static> = File {
+    path: "m.json",
+    bytes: br#"{"@context":"http://www.w3.org/ns/csvw","url":"p.csv","tableSchema":{"columns":[1,1,1,1,1,1,1,1,1,1,1,1,1,1,1,1,1,1,1,1,1,1]}}"#,
+};
+
 const META: File<'static> = File {
     path: "m.json",
     bytes: br#"{"@context":"http://www.w3.org/ns/csvw","url":"p.csv","tableSchema":{"columns":[{"name":"id","titles":"A&B"},{"name":"n","datatype":"integer"}]}}"#,
@@ -81,7 +93,7 @@ const VALID: File<'static> = File {
     bytes: b"id\n1\n",
 };
 
-static CASES: [Case; 8] = [
+static CASES: [Case; 11] = [
     Case {
         what: "a cell with markup in HTML",
         form: Form::Html,
@@ -151,6 +163,46 @@ static CASES: [Case; 8] = [
                 "<p class=\"hint\">the row has 1 field</p>\n</article>\n</main>\n",
             ],
             "\u{1B}",
+        ),
+    },
+    Case {
+        what: "two faults of a document in JSON",
+        form: Form::Json,
+        color: Color::Never,
+        strict: Strict::Errors,
+        files: &[TWO],
+        status: 3,
+        page: Wanted::Whole(
+            "[\n{\"code\":\"BadProperty\",\"column\":41,\"file\":\"m.json\",\"hints\":[],\"kind\":\"stop\",\"line\":1,\"name\":\"/url\",\"row\":0,\"sentence\":\"a value is of a wrong kind, or a property is missing\",\"table\":0,\"text\":null},\n{\"code\":\"BadProperty\",\"column\":60,\"file\":\"m.json\",\"hints\":[],\"kind\":\"stop\",\"line\":1,\"name\":\"/dialect/header\",\"row\":0,\"sentence\":\"a value is of a wrong kind, or a property is missing\",\"table\":0,\"text\":null}\n]\n",
+        ),
+    },
+    Case {
+        what: "two faults of a document in HTML, with one heading",
+        form: Form::Html,
+        color: Color::Never,
+        strict: Strict::Errors,
+        files: &[TWO],
+        status: 3,
+        page: Wanted::Parts(
+            &[
+                "<h2 id=\"stop\">Why it was not read to its end</h2>\n<article class=\"error\">\n<p class=\"at\">m.json, line 1, character 41, at /url</p>\n<p class=\"error\"><b>error: BadProperty</b>: a value is of a wrong kind, or a property is missing</p>\n</article>\n<article class=\"error\">\n<p class=\"at\">m.json, line 1, character 60, at /dialect/header</p>\n",
+                "</article>\n</main>\n",
+            ],
+            "\u{1B}",
+        ),
+    },
+    Case {
+        what: "more than 20 faults of one code in a document",
+        form: Form::Text,
+        color: Color::Never,
+        strict: Strict::Errors,
+        files: &[MANY],
+        status: 3,
+        page: Wanted::Parts(
+            &[
+                "m.json:1:119: /tableSchema/columns/19: BadProperty: a value is of a wrong kind, or a property is missing\nm.json: BadProperty: 2 more\n",
+            ],
+            "/tableSchema/columns/20",
         ),
     },
     Case {

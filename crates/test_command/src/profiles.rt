@@ -29,6 +29,10 @@ const STOP: &[u8] = b"csvw: metadata NotSupported /tableSchema/columns/0/datatyp
 const PAGE: &[u8] =
     b"m.json:1:93: /tableSchema/columns/0/datatype: NotSupported: this part of the vocabulary is not supported: leave it out
     the profile w3c has the datatype json: write `--profile w3c`
+m.json:1:124: /tableSchema/columns/1/datatype: NotSupported: this part of the vocabulary is not supported: leave it out
+    the profile w3c has the datatype xml: write `--profile w3c`
+m.json:1:154: /tableSchema/columns/2/datatype: NotSupported: this part of the vocabulary is not supported: leave it out
+    the profile w3c has the datatype token: write `--profile w3c`
 ";
 
 static PROFILES: [Case; 12] = [

@@ -1,0 +1,217 @@
+//! A document that is refused, with all of its faults.
+
+use crate::document::{place_of_fault, tell_fault, tell_refused};
+use csvw_hints::Group;
+use csvw_meta::{MetaCode, MetaFault, Profile};
+use csvw_meta_faults::faults_in;
+use csvw_page::{MoreShown, Page};
+use csvw_reread::Shown;
+use csvw_text::Seq;
+use std::alloc::{AllocError, Global};
+
+/// How many faults of one code are shown, unless all are.
+const FIRST: u64 = 20;
+
+/// How many faults have their lines. To find one takes a walk through the document.
+const PLACED: usize = 1_000;
+
+/// How many bytes the pointers of all faults may take, at each depth of the document, so that they are listed.
+const MOST: usize = 16_777_216;
+
+/// What is known of the bytes of a document so far.
+#[derive(Clone, Copy)]
+struct Scan {
+    /// Whether a text goes on.
+    in_text: bool,
+    /// Whether a backslash comes before.
+    is_escaped: bool,
+    /// The length of the last text.
+    text: usize,
+    /// The length of the longest text that is a name.
+    longest: usize,
+    /// How many values there are at most.
+    values: usize,
+}
+
+impl Scan {
+    /// Takes a byte of a text.
+    fn text_byte(&mut self, b: u8) {
+        self.in_text = self.is_escaped || b != b'"';
+        self.is_escaped = !self.is_escaped && b == b'\\';
+        self.text = self.text.saturating_add(1);
+    }
+
+    /// Takes a byte outside texts.
+    fn other_byte(&mut self, b: u8) {
+        match b {
+            b'"' => {
+                self.in_text = true;
+                self.text = 0;
+            }
+            b':' => {
+                self.longest = self.longest.max(self.text);
+                self.values = self.values.saturating_add(1);
+            }
+            b',' | b'[' => self.values = self.values.saturating_add(1),
+            _ => {}
+        }
+    }
+
+    /// Takes a byte.
+    fn byte(&mut self, b: u8) {
+        if self.in_text {
+            self.text_byte(b);
+        } else {
+            self.other_byte(b);
+        }
+    }
+}
+
+/// Whether the pointers of a document's values may take much memory, since it has a long name and many values.
+fn is_heavy(bytes: &[u8]) -> bool {
+    let mut scan = Scan {
+        in_text: false,
+        is_escaped: false,
+        text: 0,
+        longest: 0,
+        values: 0,
+    };
+    for b in bytes {
+        scan.byte(*b);
+    }
+    scan.values.saturating_mul(scan.longest) > MOST
+}
+
+/// A document that is refused.
+#[derive(Clone, Copy)]
+pub struct Refused<'a> {
+    /// The bytes of the document.
+    pub bytes: &'a [u8],
+    /// The fault by which it is refused.
+    pub fault: &'a MetaFault,
+    /// All of its faults. There are none if they may take too much memory.
+    pub faults: &'a [MetaFault],
+    /// How many of them are shown.
+    pub shown: Shown,
+}
+
+/// Which faults of a document are shown.
+#[derive(Drop)]
+struct Chosen {
+    /// The places of the faults in the document, each with the index of its fault.
+    places: Vec<((usize, usize), usize)>,
+    /// The indices of the faults whose lines aren't looked for.
+    others: Vec<usize>,
+    /// How many faults there are of each code.
+    counts: Vec<(MetaCode, u64)>,
+}
+
+/// Returns the faults of a document in a profile, or none if there is no memory for them, or if they may take much.
+pub fn faults_of(alloc: Global, bytes: &[u8], base: &str, profile: Profile) -> Seq<MetaFault> {
+    if is_heavy(bytes) {
+        return Seq::new(alloc);
+    }
+    match faults_in(alloc, bytes, base, profile) {
+        Ok(faults) => faults,
+        Err(_) => Seq::new(alloc),
+    }
+}
+
+/// Counts one more fault of a code. Returns how many there are of it now.
+fn count(counts: &mut Vec<(MetaCode, u64)>, code: MetaCode) -> Result<u64, AllocError> {
+    for (counted, times) in counts.iter_mut() {
+        if *counted == code {
+            *times = times.saturating_add(1);
+            return Ok(*times);
+        }
+    }
+    counts.push((code, 1))?;
+    Ok(1)
+}
+
+/// Chooses a fault, if it is shown.
+fn choose(
+    chosen: &mut Chosen,
+    alloc: Global,
+    refused: &Refused<'_>,
+    index: usize,
+    fault: &MetaFault,
+) -> Result<(), AllocError> {
+    let times = count(&mut chosen.counts, fault.code)?;
+    if refused.shown == Shown::First && times > FIRST {
+        return Ok(());
+    }
+    if chosen.places.len() < PLACED {
+        let place = place_of_fault(alloc, refused.bytes, fault);
+        chosen.places.push((place, index))?;
+    } else {
+        chosen.others.push(index)?;
+    }
+    Ok(())
+}
+
+/// Returns which faults are shown. Those with places are in the order of the places.
+fn choose_all(alloc: Global, refused: &Refused<'_>) -> Result<Chosen, AllocError> {
+    let mut chosen = Chosen {
+        places: Vec::new(alloc),
+        others: Vec::new(alloc),
+        counts: Vec::new(alloc),
+    };
+    for (i, fault) in refused.faults.iter().enumerate() {
+        choose(&mut chosen, alloc, refused, i, fault)?;
+    }
+    chosen.places.sort()?;
+    Ok(chosen)
+}
+
+/// Adds how many faults of each code are not shown.
+fn tell_more(page: &mut Page, path: &str, counts: &[(MetaCode, u64)]) -> Result<(), AllocError> {
+    for (code, times) in counts {
+        if *times > FIRST {
+            page.more_stops(&MoreShown {
+                path,
+                name: code.name(),
+                times: times.saturating_sub(FIRST),
+            })?;
+        }
+    }
+    Ok(())
+}
+
+/// Adds the faults that are chosen.
+fn tell_chosen(
+    page: &mut Page,
+    group: &Group<'_>,
+    refused: &Refused<'_>,
+    chosen: &Chosen,
+) -> Result<(), AllocError> {
+    for (place, index) in chosen.places.iter() {
+        if let Some(fault) = refused.faults.get(*index) {
+            tell_fault(page, group, refused.bytes, fault, *place)?;
+        }
+    }
+    for index in chosen.others.iter() {
+        if let Some(fault) = refused.faults.get(*index) {
+            tell_fault(page, group, refused.bytes, fault, (0, 0))?;
+        }
+    }
+    Ok(())
+}
+
+/// Adds the faults of a document, in the order of their places. Unless all are shown, it adds the first 20 of each code
+/// and counts the others.
+pub(crate) fn tell_all(
+    page: &mut Page,
+    group: &Group<'_>,
+    refused: &Refused<'_>,
+) -> Result<(), AllocError> {
+    if refused.faults.is_empty() {
+        return tell_refused(page, group, refused.bytes, refused.fault);
+    }
+    let chosen = choose_all(page.alloc, refused)?;
+    tell_chosen(page, group, refused, &chosen)?;
+    match refused.shown {
+        Shown::First => tell_more(page, group.meta, chosen.counts.as_slice()),
+        Shown::All => Ok(()),
+    }
+}
