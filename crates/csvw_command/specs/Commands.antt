@@ -8,7 +8,7 @@ use Rattle.csvw_triples_core.specs.declared.mode.Mode.TheVariants as mode
 use Rattle.csvw_command_core.specs.Asked.{Asks, program_app}
 use Rattle.csvw_command_core.specs.Mistakes.{IsMistaken, IsSound}
 use Rattle.csvw_command_core.specs.declared.request.Request.{Request}
-use Rattle.csvw_command_core.specs.declared.request.Request.TheVariants.{Check, Completions, Convert, Draft, Explain, Inspect, Manual, Plain, Split, Validate}
+use Rattle.csvw_command_core.specs.declared.request.Request.TheVariants.{Check, Completions, Convert, Draft, Explain, Inspect, Keys, Manual, Plain, Report, Split, Validate}
 use Rattle.csvw_meta.specs.Document.{plain_description}
 use Rattle.csvw_engine.specs.ReadOrder.{AreTableByTable}
 use Rattle.csvw_engine.specs.Runs.{Runs}
@@ -62,7 +62,8 @@ pub record RunsReport {O R : Type 0} (opens : O → Text → Option R → O → 
 abbrev pub EndsOrStops : Stream → ℕ → Type 0
 EndsOrStops err status = (IsIdle err × (status ≡ 0)) ⊎ ((reason : Stop) × TellsStop reason err status)
 
--- what is asked for is done; of a check, a draft and a split nothing is said but the bound of the status
+-- what is asked for is done; of a check, a draft, a split, keys and reports nothing is said but the bound of the
+-- status
 abbrev pub RunsRequest : {O R : Type 0} → (O → Text → Option R → O → Type 0) → (O → Counted R → O → Type 0) → (R → Option (List ℕ)) → Request → O → O
     → Stream → Stream → ℕ → Type 0
 RunsRequest opens closes remaining (Plain url file line_buffered progress) old new out err status =
@@ -75,6 +76,8 @@ RunsRequest opens closes remaining (Explain code) old new out err status = (new 
 RunsRequest opens closes remaining (Inspect asked) old new out err status = EndsOrStops err status
 RunsRequest opens closes remaining (Draft asked) old new out err status = status ≤ 4
 RunsRequest opens closes remaining (Split asked) old new out err status = status ≤ 4
+RunsRequest opens closes remaining (Keys asked) old new out err status = status ≤ 4
+RunsRequest opens closes remaining (Report files) old new out err status = status ≤ 4
 RunsRequest opens closes remaining (Completions shell) old new out err status = (new ≡ old) × Gives out err status
 RunsRequest opens closes remaining Manual old new out err status = (new ≡ old) × Gives out err status
 

@@ -18,9 +18,9 @@ is_csv (Some name) = bytes_eq name.now (codes "csv")
 abbrev pub is_default : Group → Bool
 is_default group = is_csv group.reporting.form && (not group.reporting.strict && not group.explain)
 
--- all rows are read, and not those of one part
+-- all rows are read, and not those of one part; only a part writes its keys
 abbrev pub is_whole : Group → Bool
-is_whole group = not (is_some group.part) && not (is_some group.plan)
+is_whole group = not (is_some group.part) && (not (is_some group.plan) && not (is_some group.keys))
 
 -- The status is that of the run, or 4 where the page can't be made or sent, or 1 where warnings count.
 abbrev pub IsShownStatus : Bool → ℕ → ℕ → Type 0

@@ -12,18 +12,21 @@
 #![tactic(auto)]
 
 mod group;
+mod keys;
 mod line;
 mod parts;
 mod plans;
 mod profile;
 mod program;
+mod reports;
 mod shown;
 mod split;
 mod tell;
 mod texts;
 
 pub use csvw_command_core::{
-    CheckedGroup, DraftedFiles, Group, Inspected, Reporting, Request, SplitFiles, requested,
+    CheckedGroup, DraftedFiles, Group, Inspected, JudgedKeys, Reporting, Request, SplitFiles,
+    requested,
 };
 pub use csvw_files::{Colors, FileOpener, Input, Opener, ProgressShown};
 pub use program::command;

@@ -9,17 +9,17 @@ use crate::tell::{outcome_status, tell_mistake, tell_refused, tell_stop};
 use csvw_columns::Plan;
 use csvw_command_core::Group;
 use csvw_engine::{Outcome, Stop, write_report};
-use csvw_files::Opener;
+use csvw_files::{Opener, STANDARD_INPUT};
 use csvw_ntriples::NtSink;
 use csvw_part_plan::{Piece, part_count, read_plan};
 use csvw_parts::{PartRequest, PartStop, run_part};
 use csvw_text::{Counted, Seq};
-use csvw_triples_core::Mode;
+use csvw_triples_core::{Mode, TripleSink};
 use std::alloc::{AllocError, Global};
 use std::io::Write;
 
-/// What is told if a part has no plan, or a plan no part.
-const TOGETHER: &str = "csvw: --part and --plan go together\n";
+/// What is told if a part has no plan, or a plan no part, or keys none of them.
+const TOGETHER: &str = "csvw: --part and --plan go together, and --keys goes with them\n";
 
 /// What is told if a part is asked for a page.
 const CSV_ALONE: &str =
@@ -28,9 +28,12 @@ const CSV_ALONE: &str =
 /// What is told if there is no part of the number.
 const NO_PART: &str = "csvw: the plan has no part of this number; parts are numbered from 1\n";
 
-/// What is told if keys can't be judged.
+/// What is told if the keys of a part have no file.
 const KEYS: &str =
-    "csvw: the group has keys, which can't be judged by one part; convert and validate it as a whole\n";
+    "csvw: the group has keys, which can't be judged by one part; write those of its rows with --keys KEYS, for `csvw keys`\n";
+
+/// What is told if the keys would be written over a file that is read.
+const KEYS_READ: &str = "csvw: --keys names a file that is read, or standard input\n";
 
 /// Why a part isn't run.
 #[derive(Drop)]
@@ -91,6 +94,14 @@ fn read_part<O: Opener>(alloc: Global, group: &Group<'_>, opener: &mut O) -> Res
     }
 }
 
+/// Whether the keys would be written over a file that is read, or to standard input.
+fn writes_over(group: &Group<'_>, keys: &str) -> bool {
+    keys == STANDARD_INPUT
+        || keys == group.meta
+        || group.plan == Some(keys)
+        || group.files.contains(&keys)
+}
+
 /// Whether a table of the group has a key.
 fn has_keys(plan: &Plan) -> bool {
     plan.tables().iter().any(|table| !table.primary_key.is_empty()
@@ -110,10 +121,11 @@ fn read_group<O: Opener>(alloc: Global, group: &Group<'_>, opener: &mut O) -> Re
     if plan.tables().len() != group.files.len() {
         return Err(NoRun::Stop(Stop::TableCount));
     }
-    if has_keys(&plan) {
-        return Err(NoRun::Mistake(KEYS));
+    match group.keys {
+        None if has_keys(&plan) => Err(NoRun::Mistake(KEYS)),
+        Some(keys) if writes_over(group, keys) => Err(NoRun::Mistake(KEYS_READ)),
+        _ => Ok(plan),
     }
-    Ok(plan)
 }
 
 /// Sends what is left of a stream. Fails with `Write` if it can't.
@@ -124,9 +136,29 @@ fn flush<W: Write>(w: &mut Counted<W>) -> Result<(), Stop> {
     }
 }
 
+/// Gives the triples of a part to a sink, and writes the records of its keys to a file, if one is named.
+fn run_with_keys<O: Opener, S: TripleSink>(
+    request: PartRequest<'_>,
+    keys: Option<&str>,
+    opener: &mut O,
+    sink: &mut S,
+) -> Result<Outcome, PartStop>
+    requires { AreReady request.plan.now.tables }
+{
+    let records = match keys {
+        Some(path) => match opener.create(path) {
+            Some(file) => Some(Counted::new(file)),
+            None => return Err(PartStop::Stop(Stop::Write)),
+        },
+        None => None,
+    };
+    run_part(request, opener, sink, records)
+}
+
 /// Writes the lines of the rows of a part, and then its report.
 fn write_part<O: Opener, W: Write, V: Write>(
     request: PartRequest<'_>,
+    keys: Option<&str>,
     opener: &mut O,
     graph: &mut Counted<W>,
     report: &mut Counted<V>,
@@ -134,7 +166,7 @@ fn write_part<O: Opener, W: Write, V: Write>(
     requires { AreReady request.plan.now.tables }
 {
     let mut sink = NtSink::new(request.alloc, graph);
-    let ran = run_part(request, opener, &mut sink);
+    let ran = run_with_keys(request, keys, opener, &mut sink);
     let graph = sink.into_inner();
     if !matches!(ran, Err(PartStop::Stop(Stop::Write))) {
         flush(graph)?;
@@ -162,6 +194,14 @@ fn tell_part<V: Write>(alloc: Global, ran: &Result<Outcome, PartStop>, err: &mut
     }
 }
 
+/// Whether the plan of the parts has pieces of all tables of the group.
+fn has_all_tables(part: &Part, plan: &Plan) -> bool {
+    match part.pieces.as_slice().last() {
+        Some(piece) => piece.table as usize == plan.tables().len(),
+        None => false,
+    }
+}
+
 /// Reads what a part needs before its rows.
 fn read_plans<O: Opener>(
     alloc: Global,
@@ -172,7 +212,11 @@ fn read_plans<O: Opener>(
 {
     let part = read_part(alloc, group, opener)?;
     let plan = read_group(alloc, group, opener)?;
-    Ok((part, plan))
+    if has_all_tables(&part, &plan) {
+        Ok((part, plan))
+    } else {
+        Err(NoRun::Stop(Stop::TableCount))
+    }
 }
 
 /// Converts or validates the rows of one part of a group. The graph and the report go where those of the whole go.
@@ -202,8 +246,8 @@ pub(crate) fn run_one_part<O: Opener, W: Write, V: Write>(
         files: group.files.as_slice(),
     };
     let ran = match mode {
-        Mode::Validate => write_part(request, opener, err, out),
-        Mode::Minimal | Mode::Standard => write_part(request, opener, out, err),
+        Mode::Validate => write_part(request, group.keys, opener, err, out),
+        Mode::Minimal | Mode::Standard => write_part(request, group.keys, opener, out, err),
     };
     tell_part(alloc, &ran, err)
 }

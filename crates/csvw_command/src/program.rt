@@ -7,7 +7,9 @@ ghost use Rattle.csvw_command.specs.Groups.{conversion};
 ghost use Rattle.csvw_streams.specs.Streams.{stream_of};
 
 use crate::group::{GroupRun, tell_end};
+use crate::keys::run_keys;
 use crate::profile::profile_of;
+use crate::reports::run_join;
 use crate::shown::{color_of, form_of, run_report, shown_of};
 use crate::split::run_split;
 use crate::tell::{SUCCESS, tell_mistake, tell_stop};
@@ -199,6 +201,8 @@ fn run_request<O: Opener, W: Write, V: Write>(
         Request::Inspect(asked) => run_inspect(alloc, asked, opener, out, err),
         Request::Draft(asked) => run_draft(alloc, asked, opener, out, err),
         Request::Split(asked) => run_split(alloc, asked, opener, out, err),
+        Request::Keys(asked) => run_keys(alloc, asked, opener, out, err),
+        Request::Report(files) => run_join(alloc, files.as_slice(), opener, out, err),
         Request::Completions(shell) => run_completions(alloc, shell, out, err),
         Request::Manual => run_manual(alloc, out, err),
     }

@@ -37,7 +37,7 @@ fn is_csv(form: Option<&str>) -> bool
 fn is_whole(group: &Group<'_>) -> bool
     ensures { result ≡ is_whole group.now }
 {
-    group.part.is_none() && group.plan.is_none()
+    group.part.is_none() && group.plan.is_none() && group.keys.is_none()
 }
 
 /// Whether the report and a stop are told as a run tells them.

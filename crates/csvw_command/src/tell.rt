@@ -12,7 +12,7 @@ use std::io::Write;
 /// The tables were read to their ends, and no fault is an error; or help was asked for.
 pub const SUCCESS: u8 = 0;
 /// The tables were read to their ends, and a fault is an error.
-const FAULTS: u8 = 1;
+pub(crate) const FAULTS: u8 = 1;
 /// The command line was refused.
 const USAGE: u8 = 2;
 /// The metadata or a table was refused.
@@ -65,6 +65,15 @@ pub fn tell_refused<V: Write>(line: &str, err: &mut Counted<V>) -> u8
 {
     let _ = send(err, line.as_bytes());
     REFUSED
+}
+
+/// Reports in one line which file can't be opened or read. Returns its status, 4, even if the line can't be sent.
+pub fn tell_unread<V: Write>(line: &str, err: &mut Counted<V>) -> u8
+    ensures told { Tells (stream_of V.contents err.old err.new) line.now }
+    ensures status { result ≡ 4 }
+{
+    let _ = send(err, line.as_bytes());
+    DEVICE
 }
 
 /// The status of a run that came to its end.

@@ -15,6 +15,8 @@ mod forms;
 #[cfg(test)]
 mod groups;
 #[cfg(test)]
+mod joins;
+#[cfg(test)]
 mod limits;
 #[cfg(test)]
 mod parts;

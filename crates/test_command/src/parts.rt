@@ -61,7 +61,7 @@ struct PartCase {
     err: &'static [u8],
 }
 
-static PARTS: [PartCase; 14] = [
+static PARTS: [PartCase; 18] = [
     PartCase {
         words: "convert --minimal --part 1 --plan plan.csv",
         meta: META,
@@ -162,7 +162,7 @@ _:t1r3s <http://example.org/p.csv#x> \"d\" .
         plan: PLAN,
         status: 2,
         out: b"",
-        err: b"csvw: --part and --plan go together\n",
+        err: b"csvw: --part and --plan go together, and --keys goes with them\n",
     },
     PartCase {
         words: "validate --report text --part 1 --plan plan.csv",
@@ -173,12 +173,44 @@ _:t1r3s <http://example.org/p.csv#x> \"d\" .
         err: b"csvw: a part has a report in CSV; --report, --strict and --explain are for whole runs\n",
     },
     PartCase {
+        words: "validate --part 1 --plan plan.csv --keys p.csv",
+        meta: KEYED,
+        plan: PLAN,
+        status: 2,
+        out: b"",
+        err: b"csvw: --keys names a file that is read, or standard input\n",
+    },
+    PartCase {
+        words: "validate --part 1 --plan plan.csv --keys -",
+        meta: KEYED,
+        plan: PLAN,
+        status: 2,
+        out: b"",
+        err: b"csvw: --keys names a file that is read, or standard input\n",
+    },
+    PartCase {
+        words: "validate --keys 1.keys",
+        meta: KEYED,
+        plan: PLAN,
+        status: 2,
+        out: b"",
+        err: b"csvw: --part and --plan go together, and --keys goes with them\n",
+    },
+    PartCase {
+        words: "validate --part 1 --plan plan.csv --keys 1.keys",
+        meta: KEYED,
+        plan: PLAN,
+        status: 4,
+        out: b"",
+        err: b"csvw: Write\n",
+    },
+    PartCase {
         words: "validate --part 1 --plan plan.csv",
         meta: KEYED,
         plan: PLAN,
         status: 2,
         out: b"",
-        err: b"csvw: the group has keys, which can't be judged by one part; convert and validate it as a whole\n",
+        err: b"csvw: the group has keys, which can't be judged by one part; write those of its rows with --keys KEYS, for `csvw keys`\n",
     },
 ];
 
@@ -215,6 +247,50 @@ fn part_ends_so(alloc: Global, case: &PartCase) -> bool {
         err: Just(case.err),
     };
     ends_so(alloc, words.as_slice(), &files, end)
+}
+
+/// A document of two tables.
+const TWO: &[u8] =
+    br#"{"@context":"http://www.w3.org/ns/csvw","tables":[{"url":"p.csv"},{"url":"q.csv"}]}"#;
+
+/// The words that read a part of its tables.
+const OF_TWO: &[&str] = &[
+    "csvw",
+    "validate",
+    "--part",
+    "1",
+    "--plan",
+    "plan.csv",
+    "--base",
+    "http://example.org/",
+    "m.json",
+    "p.csv",
+    "p.csv",
+];
+
+#[test]
+fn plan_without_a_table_is_refused(rt: HostRuntime) {
+    let alloc = rt.alloc();
+    let files = [
+        File {
+            path: "m.json",
+            bytes: TWO,
+        },
+        File {
+            path: "p.csv",
+            bytes: TABLE,
+        },
+        File {
+            path: "plan.csv",
+            bytes: PLAN,
+        },
+    ];
+    let end = End {
+        status: 3,
+        out: Just(b""),
+        err: Just(b"csvw: TableCount\n"),
+    };
+    assert!(rt; ends_so(alloc, OF_TWO, &files, end), "two tables");
 }
 
 #[test]

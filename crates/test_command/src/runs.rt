@@ -117,6 +117,8 @@ impl<'a> Files<'a> {
 impl<'a> Opener for Files<'a> {
     type Reader = FailingReader<'a>;
 
+    type Writer = Vec<u8>;
+
     ghost opens = { λ old _ _ new. new.files ≡ old.files };
 
     ghost closes = { λ old _ new. new.files ≡ old.files };
