@@ -12,7 +12,8 @@ use Rattle.csvw_key_records.specs.declared.feed.KeyFeed.{KeyFeed}
 use Rattle.csvw_key_records.specs.declared.record.KeyRecord.{KeyRecord}
 use Rattle.csvw_key_records.specs.declared.stop.KeyStop.{KeyStop}
 use Rattle.csvw_key_records.specs.declared.stop.KeyStop.TheVariants as stop
-use Rattle.csvw_key_records.specs.JudgesKeys.{Blames, Gives, JudgesAll, JudgesFront}
+use Rattle.csvw_key_records.specs.declared.stop.LineFault.TheVariants as fault
+use Rattle.csvw_key_records.specs.JudgesKeys.{Blames, EndsAt, Gives, JudgesAll, JudgesFront}
 use Rattle.csvw_key_records.specs.Runs.{EndsValid, EndsWrong, Fed, Feeds, Halts, IsAfter, IsOwn, IsWrong, SentBefore, StopsFeed}
 use Rattle.csvw_key_records.proofs.Feeding.{rests}
 
@@ -30,6 +31,17 @@ blames_own old new text stop.Memory own steady = steady
 blames_own old new text stop.Read own steady = absurd own
 blames_own old new text stop.Write own steady = steady
 blames_own old new text (stop.Line n wrong) own steady = steady
+
+ended_own : (left : Option (List ℕ)) (reason : KeyStop) → IsOwn reason → EndsAt left reason
+ended_own left stop.Memory own = tt
+ended_own left stop.Read own = tt
+ended_own left stop.Write own = tt
+ended_own left (stop.Line n fault.NoRecord) own = tt
+ended_own left (stop.Line n fault.Cut) own = absurd own
+ended_own left (stop.Line n fault.TooLong) own = tt
+ended_own left (stop.Line n fault.Order) own = tt
+ended_own left (stop.Line n fault.Twice) own = tt
+ended_own left (stop.Line n fault.Row) own = tt
 
 -- a feed can stop with `Memory` and `Read` as it stands
 rests_fed : (feed : KeyFeed) (text : List ℕ) (s : Stream) (reason : KeyStop) → Fed feed text s
@@ -60,6 +72,7 @@ module _ {R W : Type 0} (remaining : R → Option (List ℕ)) (contents : W → 
       halts = rests_fed feed is.text (stream_of contents out_old out_mid) stop.Memory is.fed (λ t sent. sent) (λ n. tt) (λ records. tt);
       consumed = is.consumed;
       blames = is.steady;
+      ended = tt;
     }
 
     pub stops_many : 2 ^ 40 ≤ reads → JudgesFront remaining contents old mid out_old out_mid stop.Read
@@ -68,6 +81,7 @@ module _ {R W : Type 0} (remaining : R → Option (List ℕ)) (contents : W → 
       halts = rests_fed feed is.text (stream_of contents out_old out_mid) stop.Read is.fed (λ t sent. sent) (λ n. tt) (λ records. tt);
       consumed = is.consumed;
       blames = let many = is.many in inr (omega (arith, many, large), is.steady);
+      ended = tt;
     }
 
     module _ (new : Counted R) (room : List ℕ) where
@@ -79,6 +93,7 @@ module _ {R W : Type 0} (remaining : R → Option (List ℕ)) (contents : W → 
         consumed = subst (Consumes (remaining (inner_of old)) (remaining (inner_of new))) (append-nil is.text)
             (Consumes-trans (remaining (inner_of old)) (remaining (inner_of mid)) (remaining (inner_of new)) is.text [] is.consumed gives.0);
         blames = inl (gives.1 ∙ ap one_more is.steady);
+        ended = tt;
       }
       stops_read stop.Write gives = absurd gives
       stops_read (stop.Line n wrong) gives = absurd gives
@@ -113,6 +128,7 @@ module _ {R W : Type 0} (remaining : R → Option (List ℕ)) (contents : W → 
           halts = stops is.text (contents (inner_of out_old)) (failures_of out_old) is.fed;
           consumed = taken;
           blames = blames_own old new (is.text ++ take n room) reason own still;
+          ended = ended_own (remaining (inner_of new)) reason own;
         }
 
         module _ (none : n ≡ 0) where
@@ -132,10 +148,13 @@ module _ {R W : Type 0} (remaining : R → Option (List ℕ)) (contents : W → 
                 valid_is = e.valid_is;
               }
 
-          pub ends_wrong : (reason : KeyStop) → IsOwn reason → EndsWrong feed reason → JudgesFront remaining contents old new out_old out_mid reason
-          ends_wrong reason own ends = record {
-            text = is.text;
-            halts = ends is.text (stream_of contents out_old out_mid) is.fed;
-            consumed = at_end;
-            blames = blames_own old new is.text reason own still;
-          }
+          pub ends_wrong : (reason : KeyStop) (k : ℕ) → reason ≡ stop.Line k fault.Cut → EndsWrong feed reason
+              → JudgesFront remaining contents old new out_old out_mid reason
+          ends_wrong reason k cut ends =
+              subst (JudgesFront remaining contents old new out_old out_mid) (sym cut) record {
+                text = is.text;
+                halts = subst (EndsWrong feed) cut ends is.text (stream_of contents out_old out_mid) is.fed;
+                consumed = at_end;
+                blames = still;
+                ended = gives.2 none;
+              }

@@ -1,5 +1,5 @@
 -- No line of sorted records is wrong.
-use Rattle.std.proofs.Common.{◌≡◌, ◌≢◌, ℕ, ◌<◌, ◌&&◌, ◌||◌, ◌==◌, true, List, [], ◌∷◌, ◌++◌, flat_map, get_or, length, refl, sym, ap, ap₂, ◌∙◌, subst, append_assoc, length-append, arith, lit<}
+use Rattle.std.proofs.Common.{◌≡◌, ◌≢◌, ℕ, ◌&&◌, ◌||◌, ◌==◌, true, List, [], ◌∷◌, ◌++◌, flat_map, get_or, length, refl, sym, ap, ap₂, ◌∙◌, subst, append_assoc, append-nil, length-append, arith, lit<}
 use Rattle.std.specs.Prelude.{codes, decimal, nat_eq}
 use Rattle.std.specs.List.{All, AllPairs, list_any}
 use Rattle.std.proofs.lemmas.Bool.Decides.{Decides-eqb}
@@ -17,11 +17,12 @@ use Rattle.csvw_key_records.specs.declared.stop.LineFault.TheVariants as fault
 use Rattle.csvw_key_records.specs.Groups.{has_unique}
 use Rattle.csvw_key_records.specs.Judging.{IsDisorder}
 use Rattle.csvw_key_records.specs.Records.{Fits, front_of, line_of, role_name}
-use Rattle.csvw_key_records.specs.RightRecords.{AreApart, RightPasses}
-use Rattle.csvw_key_records.specs.Runs.{HasDisorder, HasNoEnd, HasNoRecord, IsWrong}
+use Rattle.csvw_key_records.specs.RightRecords.{AreApart, IsSeen, RightPasses}
+use Rattle.csvw_key_records.specs.Runs.{HasDisorder, HasNoEnd, HasNoRecord, IsOfLine, IsWrong}
 use Rattle.csvw_key_records.specs.Sorted.{AreSorted, IsBefore}
 use Rattle.csvw_key_records.proofs.Cells.{IsWithout, first_unique, wider, without_end}
 use Rattle.csvw_key_records.proofs.Lines.{has_end}
+use Rattle.csvw_key_records.proofs.Running.{wrong_more}
 use Rattle.csvw_key_records.proofs.SameKeys.{both}
 use Rattle.csvw_key_records.proofs.Uniqueness.{line_unique, no_line}
 
@@ -125,9 +126,6 @@ lines_end : (more : List KeyRecord) (rest : List ℕ) → rest ≡ flat_map line
 lines_end [] rest is some none = some is
 lines_end (q ∷ qs) rest is some none = has_end 10 (body_of q) (flat_map line_of qs) (subst HasNoEnd (is ∙ line_end q (flat_map line_of qs)) none)
 
-not_empty : (rest : List ℕ) → 0 < length rest → rest ≢ []
-not_empty rest long none = let zero_long = ap length none in omega arith
-
 some_record : (more : List KeyRecord) (rest : List ℕ) → rest ≡ flat_map line_of more → All Fits more → HasNoRecord rest → ⊥
 some_record [] rest is fits wrong =
     let none : wrong.is_line.body ++ 10 ∷ wrong.after ≡ [] =
@@ -156,20 +154,28 @@ disordered before (q ∷ qs) rest d is fits sorted apart named wrong =
     fails why.Row disorder named = none_twice before q qs apart disorder.0 disorder.1
 
 pub passes : RightPasses
-passes records s n wrong right halts =
-    let others = after halts.records records halts.rest halts.judged.fit right.fit halts.is_text in
-    of others wrong halts.wrong
+passes records text rest s n wrong right is seen halts =
+    let whole : flat_map line_of records ≡ flat_map line_of halts.records ++ (halts.rest ++ rest) =
+    is ∙ (ap (λ t. t ++ rest) halts.is_text ∙ append_assoc (flat_map line_of halts.records) halts.rest rest) in
+    let others = after halts.records records (halts.rest ++ rest) halts.judged.fit right.fit whole in
+    of others wrong seen halts.wrong
   where
-    of : (others : After halts.records records halts.rest) (f : LineFault) → IsWrong halts.records halts.rest (stop.Line n f) → ⊥
-    of others fault.NoRecord is = some_record others.more halts.rest others.is_rest others.fit is
-    of others fault.Cut is = lines_end others.more halts.rest others.is_rest is.0 is.1
-    of others fault.TooLong is = lines_end others.more halts.rest others.is_rest (not_empty halts.rest (let long = is.0 in omega (arith, long))) is.1
-    of others fault.Order is =
-        disordered halts.records others.more halts.rest why.Order others.is_rest others.fit (subst AreSorted others.all right.sorted)
-        (subst (AllPairs AreApart) others.all right.apart) (λ same. cc) is
-    of others fault.Twice is =
-        disordered halts.records others.more halts.rest why.Twice others.is_rest others.fit (subst AreSorted others.all right.sorted)
-        (subst (AllPairs AreApart) others.all right.apart) (λ same. cc) is
-    of others fault.Row is =
-        disordered halts.records others.more halts.rest why.Row others.is_rest others.fit (subst AreSorted others.all right.sorted)
-        (subst (AllPairs AreApart) others.all right.apart) (λ same. cc) is
+    more_wrong : (f : LineFault) → IsOfLine (stop.Line n f) → IsWrong halts.records halts.rest (stop.Line n f)
+        → IsWrong halts.records (halts.rest ++ rest) (stop.Line n f)
+    more_wrong f of_line is = wrong_more halts.records halts.rest rest (stop.Line n f) of_line is
+
+    of : (others : After halts.records records (halts.rest ++ rest)) (f : LineFault) → IsSeen rest f → IsWrong halts.records halts.rest (stop.Line n f) → ⊥
+    of others fault.NoRecord seen is = some_record others.more (halts.rest ++ rest) others.is_rest others.fit (more_wrong fault.NoRecord tt is)
+    of others fault.Cut seen is =
+        let none : halts.rest ++ rest ≡ halts.rest = ap (λ t. halts.rest ++ t) seen ∙ append-nil halts.rest in
+        lines_end others.more halts.rest (sym none ∙ others.is_rest) is.0 is.1
+    of others fault.TooLong seen is = seen
+    of others fault.Order seen is =
+        disordered halts.records others.more (halts.rest ++ rest) why.Order others.is_rest others.fit (subst AreSorted others.all right.sorted)
+        (subst (AllPairs AreApart) others.all right.apart) (λ same. cc) (more_wrong fault.Order tt is)
+    of others fault.Twice seen is =
+        disordered halts.records others.more (halts.rest ++ rest) why.Twice others.is_rest others.fit (subst AreSorted others.all right.sorted)
+        (subst (AllPairs AreApart) others.all right.apart) (λ same. cc) (more_wrong fault.Twice tt is)
+    of others fault.Row seen is =
+        disordered halts.records others.more (halts.rest ++ rest) why.Row others.is_rest others.fit (subst AreSorted others.all right.sorted)
+        (subst (AllPairs AreApart) others.all right.apart) (λ same. cc) (more_wrong fault.Row tt is)

@@ -149,7 +149,7 @@ more_disorder records rest u d is = record {
 }
 
 -- what is wrong with a line is wrong with whatever follows
-wrong_more : (records : List KeyRecord) (rest u : List ℕ) (reason : KeyStop) → IsOfLine reason → IsWrong records rest reason → IsWrong records (rest ++ u) reason
+pub wrong_more : (records : List KeyRecord) (rest u : List ℕ) (reason : KeyStop) → IsOfLine reason → IsWrong records rest reason → IsWrong records (rest ++ u) reason
 wrong_more records rest u stop.Memory of_line is = tt
 wrong_more records rest u stop.Read of_line is = tt
 wrong_more records rest u stop.Write of_line is = tt
@@ -170,7 +170,12 @@ pub own_of_line : (reason : KeyStop) → IsOfLine reason → IsOwn reason
 own_of_line stop.Memory of_line = tt
 own_of_line stop.Read of_line = of_line
 own_of_line stop.Write of_line = tt
-own_of_line (stop.Line n wrong) of_line = tt
+own_of_line (stop.Line n fault.NoRecord) of_line = tt
+own_of_line (stop.Line n fault.Cut) of_line = of_line
+own_of_line (stop.Line n fault.TooLong) of_line = tt
+own_of_line (stop.Line n fault.Order) of_line = tt
+own_of_line (stop.Line n fault.Twice) of_line = tt
+own_of_line (stop.Line n fault.Row) of_line = tt
 
 -- a text that stops a run stops it with whatever follows
 pub halts_more : (t u : List ℕ) (s : Stream) (reason : KeyStop) → IsOfLine reason → Halts t s reason → Halts (t ++ u) s reason

@@ -10,6 +10,7 @@ use Rattle.csvw_streams.specs.Streams.{Sends, stream_of}
 use Rattle.csvw_key_records.specs.declared.record.KeyRecord.{KeyRecord}
 use Rattle.csvw_key_records.specs.declared.stop.KeyStop.{KeyStop}
 use Rattle.csvw_key_records.specs.declared.stop.KeyStop.TheVariants as stop
+use Rattle.csvw_key_records.specs.declared.stop.LineFault.TheVariants as fault
 use Rattle.csvw_key_records.specs.Records.{line_of}
 use Rattle.csvw_key_records.specs.Runs.{AreJudged, Halts}
 
@@ -40,6 +41,18 @@ Blames old new text stop.Read = (failures_of new ≡ one_more (failures_of old))
 Blames old new text stop.Write = failures_of new ≡ failures_of old
 Blames old new text (stop.Line n wrong) = failures_of new ≡ failures_of old
 
+-- a last line without a line feed is at the end of what the reader has
+abbrev pub EndsAt : Option (List ℕ) → KeyStop → Type 0
+EndsAt left stop.Memory = Unit {0}
+EndsAt left stop.Read = Unit {0}
+EndsAt left stop.Write = Unit {0}
+EndsAt left (stop.Line n fault.NoRecord) = Unit {0}
+EndsAt left (stop.Line n fault.Cut) = IsAtEnd left
+EndsAt left (stop.Line n fault.TooLong) = Unit {0}
+EndsAt left (stop.Line n fault.Order) = Unit {0}
+EndsAt left (stop.Line n fault.Twice) = Unit {0}
+EndsAt left (stop.Line n fault.Row) = Unit {0}
+
 -- the reader gave this text, in which the run stopped
 pub record JudgesFront {R W : Type 0} (remaining : R → Option (List ℕ)) (contents : W → Option (List ℕ)) (old new : Counted R) (out_old out_new : Counted W)
     (reason : KeyStop) : Type 0 where
@@ -47,3 +60,4 @@ pub record JudgesFront {R W : Type 0} (remaining : R → Option (List ℕ)) (con
   pub halts : Halts text (stream_of contents out_old out_new) reason
   pub consumed : Consumes (remaining (inner_of old)) (remaining (inner_of new)) text
   pub blames : Blames old new text reason
+  pub ended : EndsAt (remaining (inner_of new)) reason

@@ -73,12 +73,17 @@ IsAfter lines stop.Read = Unit {0}
 IsAfter lines stop.Write = Unit {0}
 IsAfter lines (stop.Line n wrong) = n ≡ counted (suc lines)
 
--- the stop is not that of the reader
+-- the stop is not that of the reader, or of its end
 abbrev pub IsOwn : KeyStop → Type 0
 IsOwn stop.Memory = Unit {0}
 IsOwn stop.Read = ⊥
 IsOwn stop.Write = Unit {0}
-IsOwn (stop.Line n wrong) = Unit {0}
+IsOwn (stop.Line n fault.NoRecord) = Unit {0}
+IsOwn (stop.Line n fault.Cut) = ⊥
+IsOwn (stop.Line n fault.TooLong) = Unit {0}
+IsOwn (stop.Line n fault.Order) = Unit {0}
+IsOwn (stop.Line n fault.Twice) = Unit {0}
+IsOwn (stop.Line n fault.Row) = Unit {0}
 
 -- no line ends in this text
 abbrev pub HasNoEnd : List ℕ → Type 0

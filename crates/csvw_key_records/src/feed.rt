@@ -1,7 +1,9 @@
 //! `KeyFeed`: the bytes of records as they come, cut into lines.
 ghost use Rattle.std.specs.Prelude.{◌≡◌, ◌++◌, [], List, ℕ, Option, OnOk, IfErr, IfOk};
 ghost use Rattle.csvw_streams.specs.Streams.{Stream, Sends};
-ghost use Rattle.csvw_key_records.specs.Runs.{EndsValid, EndsWrong, Fed, Feeds, IsOwn, StopsFeed};
+ghost use Rattle.csvw_key_records.specs.Runs.{EndsValid, EndsWrong, Fed, Feeds, IsOwn, StopsFeed, next};
+ghost use Rattle.csvw_key_records.specs.declared.stop.KeyStop.TheVariants as stop;
+ghost use Rattle.csvw_key_records.specs.declared.stop.LineFault.TheVariants as fault;
 
 use crate::run::KeyRun;
 use crate::stop::{KeyStop, LineFault};
@@ -67,7 +69,7 @@ impl KeyFeed {
     pub(crate) fn end(&self) -> Result<bool, KeyStop>
         ensures ok { IfOk result (λ valid. EndsValid self.now valid) }
         ensures stop { IfErr result (λ reason. EndsWrong self.now reason) }
-        ensures own { IfErr result IsOwn }
+        ensures cut { IfErr result (λ reason. reason ≡ stop.Line (next self.now.run.lines) fault.Cut) }
     {
         if self.unread.as_slice().is_empty() {
             Ok(self.run.is_valid())

@@ -17,8 +17,8 @@ pub fn lines_are_unique()
     ensures { LinesAreUnique }
 {}
 
-/// A law: no run over the lines of sorted records stops at a line, if no two records are of one row with one primary key. So
-/// `judge_keys` stops in such a file only with `Memory`, `Read` or `Write`.
+/// A law: no run over the lines of sorted records stops at a line that is not too long, if no two records are of one row with one
+/// primary key. So `judge_keys` stops in such a file only with `Memory`, `Read`, `Write` or `TooLong`.
 pub fn right_passes()
     ensures { RightPasses }
 {}

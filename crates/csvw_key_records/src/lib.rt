@@ -33,7 +33,8 @@
 //!   `keeps_faults`.
 //! - It stops at the first line that is wrong, with its number and the rule that it breaks: the line is that of no record, it has no line
 //!   feed, it is longer than 16 MiB, or the records are not sorted with it (`IsWrong`).
-//! - It does not stop at a line of sorted records, if no row has two records of one primary key: the law `right_passes`.
+//! - It does not stop at a line of sorted records that is not too long, if no row has two records of one primary key: the law
+//!   `right_passes`.
 #![tactic(auto)]
 
 mod digits;

@@ -1,6 +1,8 @@
 -- What a read gave is fed; or the run ends or stops there.
-use Rattle.std.proofs.Common.{◌<◌, ◌≤◌, ◌^◌, arith}
-use Rattle.csvw_key_records.specs.Runs.{EndsValid, EndsWrong, IsOwn}
+use Rattle.std.proofs.Common.{◌≡◌, ◌<◌, ◌≤◌, ◌^◌, arith}
+use Rattle.csvw_key_records.specs.declared.stop.KeyStop.TheVariants as stop
+use Rattle.csvw_key_records.specs.declared.stop.LineFault.TheVariants as fault
+use Rattle.csvw_key_records.specs.Runs.{EndsValid, EndsWrong, next}
 use Rattle.csvw_key_records.specs.JudgesKeys.{JudgesAll, JudgesFront}
 use Rattle.csvw_key_records.proofs.Judging.{ends_all, ends_wrong, fed_more, fed_none, stops_fed, stops_many, stops_read}
 use Rattle.csvw_key_records.proofs.Running.{both_err, if_ok}
@@ -23,10 +25,12 @@ returns-then-n-eq0-clause-ok g c =
 
 pub returns-then-n-eq0-clause-stop : goal.returns-then-n-eq0-clause-stop
 returns-then-n-eq0-clause-stop g c =
-    both_err c.end.result IsOwn (EndsWrong c.loop-reads.feed)
+    let lines = next c.loop-reads.feed.run.lines in
+    both_err c.end.result (λ reason. reason ≡ stop.Line lines fault.Cut) (EndsWrong c.loop-reads.feed)
     (JudgesFront g.R.Read.remaining g.W.Write.contents c.args.reader.now c.read_some.new.reader c.args.out.now c.loop-reads.out)
-    (ends_wrong g.R.Read.remaining g.W.Write.contents c.args.reader.now c.loop-reads.reader c.args.out.now c.loop-reads.out c.loop-reads.feed c.loop-reads._reads
-    c.loop-reads.invariant c.read_some.new.reader c.read_some.new.room c.in-Ok.n c.in-Ok.ensures.bytes c.if-n-eq0.true) c.end.ensures.own c.end.ensures.stop
+    (λ reason cut ends. ends_wrong g.R.Read.remaining g.W.Write.contents c.args.reader.now c.loop-reads.reader c.args.out.now c.loop-reads.out c.loop-reads.feed
+    c.loop-reads._reads c.loop-reads.invariant c.read_some.new.reader c.read_some.new.room c.in-Ok.n c.in-Ok.ensures.bytes c.if-n-eq0.true reason lines cut ends)
+    c.end.ensures.cut c.end.ensures.stop
 
 pub returns-in-Err-feed-clause-stop : goal.returns-in-Err-feed-clause-stop
 returns-in-Err-feed-clause-stop g c =
