@@ -1,5 +1,5 @@
 //! Where files come from.
-ghost use Rattle.std.specs.Prelude.{◌≡◌, ℕ, List, Option, None};
+ghost use Rattle.std.specs.Prelude.{◌≡◌, ℕ, IfSome, List, Option, None};
 ghost use Rattle.csvw_streams.specs.declared.counted.Counted.{Counted as TheCounted};
 
 use crate::input::{Input, Watch};
@@ -68,6 +68,9 @@ pub trait Opener {
     // What a path gives, and what it leaves.
     ghost opens: { Self → List ℕ → Option Self.Reader → Self → Type 0 };
 
+    // What reads the file of a path from a byte on, and what opening it leaves.
+    ghost opens_at: { Self → List ℕ → ℕ → Self.Reader → Self → Type 0 };
+
     // What a reader that is handed back leaves.
     ghost closes: { Self → TheCounted Self.Reader → Self → Type 0 };
 
@@ -76,7 +79,9 @@ pub trait Opener {
         ensures { opens self.old path.now result self.new };
 
     /// Opens the file at this path from a byte on, from 0. Returns `None` if it can't be opened, or not at that byte.
-    fn open_at(&mut self, _path: &str, _first_byte: u64) -> Option<Self::Reader> {
+    fn open_at(&mut self, path: &str, first_byte: u64) -> Option<Self::Reader>
+        ensures { IfSome result (λ reader. opens_at self.old path.now first_byte reader self.new) }
+    {
         None
     }
 
@@ -169,6 +174,9 @@ impl<'a, R: Files + Env + Clock + Eprint + AllocGlobal> Opener for FileOpener<'a
 
     // `fs::open` says nothing of the file that a path gives.
     ghost opens = { λ old _ _ new. new.rt ≡ old.rt };
+
+    // Nor does `seek` say at which byte it reads.
+    ghost opens_at = { λ old _ _ _ new. new.rt ≡ old.rt };
 
     ghost closes = { λ old _ new. new ≡ old };
 
