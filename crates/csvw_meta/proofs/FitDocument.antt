@@ -1,7 +1,6 @@
 -- The description of a document without faults can be planned.
 use Rattle.std.proofs.Common.{◌≡◌, ◌≢◌, ◌≤◌, ℕ, List, [], ◌∷◌, ◌++◌, Bool, true, false, Option, Some, None, refl, ap, subst, arith, length, map, All}
 use Rattle.std.proofs.Common.{AllPairs, codes, IfSome, is_some}
-use Rattle.std.specs.Prelude.{⊤}
 use Rattle.std.proofs.lemmas.List.{length-map}
 use Rattle.std.proofs.lemmas.List.Elements.{All-cons, All-map, All-weaker}
 use Rattle.serde_json.specs.Data.{Data}
@@ -12,9 +11,9 @@ use Rattle.csvw_fault.specs.declared.fault.Fault.{Fault}
 use Rattle.csvw_iri.specs.Link.{iri_of}
 use Rattle.csvw_description.specs.declared.description.Description.{Description}
 use Rattle.csvw_description.specs.Plannable.{HasSound, IsFitDialect, IsFitSchema, IsFitTable, IsPlannable}
-use Rattle.csvw_meta_core.specs.declared.fault.MetaCode.TheVariants.{DuplicateTable, NotJson}
+use Rattle.csvw_meta_core.specs.declared.fault.MetaCode.TheVariants.{DuplicateTable}
 use Rattle.csvw_meta_core.specs.Pointer.{below, item_at}
-use Rattle.csvw_meta_core.specs.Read.{faulty, optional, property, needed}
+use Rattle.csvw_meta_core.specs.Read.{optional, property, needed}
 use Rattle.csvw_meta_core.specs.Kinds.{fixed, truth}
 use Rattle.csvw_meta_core.specs.Links.{id, no_url, url}
 use Rattle.csvw_meta_keys.specs.Naming.{all_known}
@@ -32,10 +31,10 @@ use Rattle.csvw_meta_core.specs.Context.{context, in_profile}
 use Rattle.csvw_meta_core.specs.declared.profile.Profile.{Profile}
 use Rattle.csvw_meta_core.specs.declared.profile.Profile.TheVariants.{Core}
 use Rattle.csvw_meta_dialect.specs.Dialect.{dialect}
-use Rattle.csvw_meta.specs.Described.{MayBeContext, described, hanging_on, judged_within, parts, sole_table, within}
-use Rattle.csvw_meta.specs.Document.{Document, MayBeUrl, document_by, judged, length_of, of_bytes, of_json, own_url, plain_description}
+use Rattle.csvw_meta.specs.Described.{described, parts, sole_table, within}
+use Rattle.csvw_meta.specs.Document.{Document, document_by, group_in, judged, length_of, of_bytes, of_json, of_short, own_url, plain_description}
 use Rattle.csvw_meta.specs.Group.{description_of, group, no_group, tables, url_faults, url_of}
-use Rattle.csvw_meta_core.specs.Fine.{Ensures, none_in_both, if_fine, also_fine}
+use Rattle.csvw_meta_core.specs.Fine.{Ensures, none_in_both, not_none, if_fine, also_fine}
 use Rattle.csvw_meta_inherited.specs.Inherited.{inherited}
 use Rattle.csvw_meta.specs.Json.{json_of, without_bom}
 use Rattle.csvw_meta_inherited.specs.Names.{inherited_names}
@@ -46,9 +45,10 @@ use Rattle.csvw_meta.specs.Schema.{schema}
 use Rattle.csvw_meta_core.specs.Several.{several}
 use Rattle.csvw_meta.specs.Table.{no_table, table, table_of, table_others}
 use Rattle.csvw_meta.specs.UrlAlone.{own_base, plain_document}
+use Rattle.csvw_meta.specs.UsableContext.{usable_context}
 use Rattle.csvw_meta.proofs.FineLemmas.{on_object_fine, needed_fine, optional_fine, several_fine}
 use Rattle.csvw_meta.proofs.FitKeys.{DescribesAny, schema_resolves, tables_resolve}
-use Rattle.csvw_meta.proofs.HangingLemmas.{Gives, gives_on, gives_read}
+use Rattle.csvw_meta.proofs.OverLemmas.{fine_if_read, over_fine}
 use Rattle.csvw_meta.proofs.FitSchema.{DatatypesFit, IsFitFound, inherited_sound, pairs_apart, schema_fine}
 
 -- ---- dialects and bodies
@@ -132,9 +132,6 @@ plannable place at g fit h =
 
 -- ---- from bodies to documents
 
-not_some : (d : Description) → None ≡ Some d → ⊥
-not_some d e = cc
-
 module _ (datatypes : DatatypesFit) (dialects : DialectsFit) where
   body_fine : (context : Context) (table : ℕ) (at : List ℕ) (d : Data) → Ensures (body context table at d) IsFitBody
   unfolding body
@@ -209,27 +206,30 @@ module _ (datatypes : DatatypesFit) (dialects : DialectsFit) where
       let place = table_at (is_some (get (codes "tables") d)) at in
       also_fine IsFitGroup (λ g. IsPlannable (description_of g)) (parts context at d) (reference_faults place at) (parts_fine context at d) (plannable place at)
 
-  described_gives : (profile : Profile) (base : Parts) (at : List ℕ) (d : Data) → Gives (described profile base at d) IsPlannable
-  described_gives profile base at (json.object ms) g e =
+  described_fine : (profile : Profile) (base : Parts) (at : List ℕ) (d : Data) → Ensures (described profile base at d) IsPlannable
+  described_fine profile base at (json.object ms) h =
       let d = json.object ms in
-      gives_on IsPlannable (context base at d) (MayBeContext base at (context base at d)) (λ c. judged_within at d (in_profile profile c))
-      (λ c. gives_read IsPlannable (within (in_profile profile c) at d) (within_fine (in_profile profile c) at d)) g e
-  described_gives profile base at json.null g e = absurd (not_some g e)
-  described_gives profile base at (json.boolean b) g e = absurd (not_some g e)
-  described_gives profile base at (json.number n) g e = absurd (not_some g e)
-  described_gives profile base at (json.string s) g e = absurd (not_some g e)
-  described_gives profile base at (json.array ds) g e = absurd (not_some g e)
+      let c = in_profile profile (usable_context base at d) in
+      within_fine c at d (none_in_both (context base at d).faults (within c at d).faults h).1
+  described_fine profile base at json.null h = absurd (not_none _ _ h)
+  described_fine profile base at (json.boolean b) h = absurd (not_none _ _ h)
+  described_fine profile base at (json.number n) h = absurd (not_none _ _ h)
+  described_fine profile base at (json.string s) h = absurd (not_none _ _ h)
+  described_fine profile base at (json.array ds) h = absurd (not_none _ _ h)
 
-  of_json_gives : (profile : Profile) (base : Parts) (o : Option Data) → Gives (of_json profile base o) IsPlannable
-  of_json_gives profile base None = gives_read IsPlannable (faulty NotJson [] no_group) (λ h. cc)
-  of_json_gives profile base (Some d) = described_gives profile base [] d
+  of_json_fine : (profile : Profile) (base : Parts) (o : Option Data) → Ensures (of_json profile base o) IsPlannable
+  of_json_fine profile base None h = absurd (not_none _ _ h)
+  of_json_fine profile base (Some d) h = described_fine profile base [] d h
 
-  pub group_plannable : (x : Document) → Gives (judged x) IsPlannable
+  judged_fine : (x : Document) → Ensures (judged x) IsPlannable
   unfolding judged
-  group_plannable (document_by profile url bytes) =
-      gives_on IsPlannable (length_of bytes) (λ t. ⊤) (λ t. hanging_on (own_url url) (MayBeUrl (own_url url)) (λ base. of_bytes profile base bytes))
-      (λ t. gives_on IsPlannable (own_url url) (MayBeUrl (own_url url)) (λ base. of_bytes profile base bytes)
-      (λ base. of_json_gives profile base (json_of (without_bom bytes))))
-  group_plannable (plain_description url) =
-      gives_on IsPlannable (own_base [] url) (MayBeUrl (own_base [] url)) (λ base. described Core base [] (plain_document url))
-      (λ base. described_gives Core base [] (plain_document url))
+  judged_fine (document_by profile url bytes) =
+      over_fine no_group (λ t. of_short profile url bytes) IsPlannable
+      (λ t. over_fine no_group (λ base. of_bytes profile base bytes) IsPlannable (λ base. of_json_fine profile base (json_of (without_bom bytes)))
+      (own_url url)) (length_of bytes)
+  judged_fine (plain_description url) =
+      over_fine no_group (λ base. described Core base [] (plain_document url)) IsPlannable
+      (λ base. described_fine Core base [] (plain_document url)) (own_base [] url)
+
+  pub group_plannable : (x : Document) (d : Description) → group_in x ≡ Some d → IsPlannable d
+  group_plannable x = fine_if_read IsPlannable (judged x) (judged_fine x)

@@ -1,15 +1,14 @@
-mod ExactLemmas
 mod FineLemmas
 mod FirstLemmas
 mod FitDocument
 mod FitKeys
 mod FitSchema
-mod HangingLemmas
 mod JsonLemmas
-mod MayBeLemmas
+mod OverLemmas
 mod ReadLemmas
 mod ReferencesLemmas
 mod RepeatedLemmas
 mod TitlesLemmas
 mod UrlFaults
+mod UsableLemmas
 mod VariableLemmas

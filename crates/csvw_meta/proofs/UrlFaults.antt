@@ -14,14 +14,16 @@ use Rattle.csvw_meta_inherited.specs.Datatype.{given_datatype}
 use Rattle.csvw_meta_inherited.specs.Inherited.{uri_templates, cell_texts, inherited}
 use Rattle.csvw_meta_core.specs.declared.context.Context.{Context}
 use Rattle.csvw_meta_core.specs.declared.profile.Profile.TheVariants.{Core}
-use Rattle.csvw_meta_core.specs.Context.{in_profile}
+use Rattle.csvw_meta_core.specs.Context.{in_profile, plain_context}
+use Rattle.csvw_meta_core.specs.Read.{over}
+use Rattle.csvw_meta_core.specs.Reads.{Fails}
 use Rattle.csvw_meta.specs.Body.{given_dialect, body}
-use Rattle.csvw_meta.specs.Described.{Describes, described, within}
-use Rattle.csvw_meta.specs.Document.{IsFault, judged, plain_description}
+use Rattle.csvw_meta.specs.Described.{described, within}
+use Rattle.csvw_meta.specs.Document.{IsFault, document_faults, judged, plain_description}
+use Rattle.csvw_meta.specs.Group.{no_group}
 use Rattle.csvw_meta.specs.Table.{table_of}
 use Rattle.csvw_meta.specs.UrlAlone.{IsOfUrl, plain_document}
-use Rattle.csvw_meta.proofs.HangingLemmas.{none_in}
-use Rattle.csvw_meta.proofs.MayBeLemmas.{has_url, has_context}
+use Rattle.csvw_meta.proofs.OverLemmas.{none_in}
 
 -- the pointer of the URL
 abbrev at_url : List ℕ
@@ -53,19 +55,19 @@ unfolding table_of given_dialect body inherited uri_templates cell_texts given_d
 faults_within c url f h = of_told_alone (base_of (Some c.base) url) f h
 
 -- at the URL of the document
-faults_at : (base : Parts) (url : List ℕ) (f : MetaFault) → (described Core base [] (plain_document url)).IsFault f → IsOfUrl f
-faults_at base url f (inl c) = absurd (none_in f c)
-faults_at base url f (inr w) =
-    let some = (has_context base [] (plain_document url)).some in
-    faults_within (in_profile Core some.0) url f (w some.0 some.1)
+faults_at : (base : Parts) (url : List ℕ) (f : MetaFault) → Contains (described Core base [] (plain_document url)).faults f → IsOfUrl f
+faults_at base url f c = faults_within (in_profile Core (plain_context base)) url f c
+
+over_told : (r : Result Parts iri.Refusal) (url : List ℕ) (f : MetaFault)
+    → Contains (over no_group (told at_url no_url r) (λ base. described Core base [] (plain_document url))).faults f → IsOfUrl f
+over_told (Ok base) url f c = faults_at base url f c
+over_told (Err too_long) url f c = of_told (Err too_long) f c
+over_told (Err bad) url f c = of_told (Err bad) f c
 
 url_faults : (url : List ℕ) (f : MetaFault) → IsFault (plain_description url) f → IsOfUrl f
 unfolding judged
-url_faults url f (inl c) = of_told (base_of None url) f c
-url_faults url f (inr w) =
-    let some = (has_url at_url url).some in
-    faults_at some.0 url f (w some.0 some.1)
+url_faults url f c = over_told (base_of None url) url f c
 
 -- what a call that reads the document is refused with
-pub refused_by_url : (url : List ℕ) (e : Refusal) (f : MetaFault) → e ≡ refusal.Fault f → Describes (Err e) (judged (plain_description url)) → IsOfUrl f
-refused_by_url url e f is h = url_faults url f (subst (λ r. Describes (Err r) (judged (plain_description url))) is h)
+pub refused_by_url : (url : List ℕ) (e : Refusal) (f : MetaFault) → e ≡ refusal.Fault f → Fails e (document_faults (plain_description url)) → IsOfUrl f
+refused_by_url url e f is h = url_faults url f (subst (λ r. Fails r (document_faults (plain_description url))) is h)

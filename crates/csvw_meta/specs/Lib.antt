@@ -4,6 +4,7 @@ pub mod DeclaredName
 pub mod Described
 pub mod Document
 pub mod Group
+pub mod IfRead
 pub mod Json
 pub mod NamesRead
 pub mod References
@@ -12,4 +13,5 @@ pub mod Schema
 pub mod Table
 pub mod Titles
 pub mod UrlAlone
+pub mod UsableContext
 pub mod VirtualOrder

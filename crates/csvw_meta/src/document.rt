@@ -4,7 +4,7 @@ ghost use Rattle.serde_json.specs.View.{view};
 ghost use Rattle.csvw_description.specs.Plannable.{IsPlannable};
 ghost use Rattle.csvw_meta_core.specs.Pointer.{text_of};
 ghost use Rattle.csvw_meta_core.specs.Reads.{Reads};
-ghost use Rattle.csvw_meta.specs.Described.{Describes, sole_table, parts, within, described};
+ghost use Rattle.csvw_meta.specs.Described.{sole_table, parts, within, described};
 ghost use Rattle.csvw_meta.specs.Document.{IsFault, document, document_by, group_in, judged, of_bytes, own_url};
 
 use crate::body::{Body, DialectGiven};
@@ -68,9 +68,9 @@ fn within(context: &Context, part: &Part) -> Result<Description, Refusal>
 }
 
 /// Reads what a value describes at the document's own URL.
-#[tactic(auto, using(crate::proofs::HangingLemmas::fails_on))]
+#[tactic(auto, using(crate::proofs::ReadLemmas::fails_first))]
 pub(crate) fn described(profile: Profile, part: &Part, base: &Base) -> Result<Description, Refusal>
-    ensures { Describes result (described profile base.now (text_of part.now.at) (view part.now.value.now)) }
+    ensures { Reads result (described profile base.now (text_of part.now.at) (view part.now.value.now)) }
 {
     let found = read_context(part, base)?;
     let context = found.in_profile(profile);
@@ -83,7 +83,7 @@ fn of_bytes(
     base: &Base,
     bytes: &[u8],
 ) -> Result<Description, Refusal>
-    ensures { Describes result (of_bytes profile base.now bytes.now) }
+    ensures { Reads result (of_bytes profile base.now bytes.now) }
 {
     let value = json_of(alloc, without_bom(bytes))?;
     let part = Part {
@@ -106,14 +106,14 @@ pub fn own_url(alloc: Global, base: &str) -> Result<Base, Refusal>
     }
 }
 
-#[tactic(auto, using(crate::proofs::HangingLemmas::fails_on), unfolding(crate::specs::Document::judged))]
+#[tactic(auto, using(crate::proofs::OverLemmas::fails_over), unfolding(crate::specs::Document::judged))]
 fn document_by(
     alloc: Global,
     bytes: &[u8],
     base: &str,
     profile: Profile,
 ) -> Result<Description, Refusal>
-    ensures { Describes result (judged (document_by profile base.now bytes.now)) }
+    ensures { Reads result (judged (document_by profile base.now bytes.now)) }
 {
     if bytes.len() > MAX_DOCUMENT {
         return Err(document_fault(alloc, MetaCode::TooLong));

@@ -4,7 +4,7 @@
 //! # Promises
 //!
 //! - A group is returned exactly if there is no fault in the document, and it is the group that the document describes:
-//!   `read` (`document`), `read_by` (`document_by`), and the law `groups_have_no_faults` (`group_in`, `IsFault`).
+//!   `read` (`document`), `read_by` (`document_by`), and the law `groups_have_no_faults` (`group_in`, `document_faults`).
 //! - A document that is refused has the fault that is returned: `read`, `read_by`.
 //! - A group that is read keeps the limits on tables and columns (`IsPlannable`):
 //!   - its dialects are lawful, and each datatype passes `Datatype::check`;
@@ -13,15 +13,16 @@
 //! - The annotations of the group and of its tables are those of their common properties and notes. The annotations of
 //!   other objects are checked: `read`.
 //! - A rule over several values checks those that could be read: `read`.
-//! - If the context or the document's own URL cannot be read, a fault is reported that the document has whatever they
-//!   are: `read`.
 //! - A fault of a URL alone is `BadUrl` or `UrlTooLong` at `/url`: `plain` (`plain_description`, `IsOfUrl`).
 //! - The trait `ReadDescription` has the calls as `Description::read`, `Description::read_by` and `Description::plain`.
 //! - The check of column names accepts a text as a variable exactly if the grammar of csvw_template does: the law
 //!   `variables_are_names` (`IsName`).
 //!
-//! The values that depend on the document's URL or its context have, if those cannot be read, only the faults that
-//! they have for every URL and context (`hanging_on` in specs/). So the faults of a document are a predicate.
+//! The faults of a document are one list (`document_faults` in specs/). Three kinds of documents have one fault alone: those
+//! that are too long, those whose own URL is not a URL, and those that are not JSON texts. The faults of any other document
+//! are those of its context, and then those of its parts. If the context has faults, the parts are read in it as far as it
+//! could be read (`usable_context`): the document's own URL takes the place of its base, and no language that of its
+//! language.
 //!
 //! Programs need only the calls above. The public modules have the parts of what is read, for crates that list all
 //! faults of a document.

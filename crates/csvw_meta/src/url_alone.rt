@@ -4,7 +4,6 @@ ghost use Rattle.serde_json.specs.View.{view};
 ghost use Rattle.csvw_description.specs.Plannable.{IsPlannable};
 ghost use Rattle.csvw_meta_core.specs.Pointer.{text_of};
 ghost use Rattle.csvw_meta_core.specs.Reads.{Reads};
-ghost use Rattle.csvw_meta.specs.Described.{Describes};
 ghost use Rattle.csvw_meta.specs.Document.{IsFault, group_in, judged, plain_description};
 ghost use Rattle.csvw_meta.specs.UrlAlone.{IsOfUrl, own_base, plain_document};
 
@@ -38,9 +37,9 @@ fn own_base(part: &Part, url: &str) -> Result<Base, Refusal>
     }
 }
 
-#[tactic(auto, using(crate::proofs::HangingLemmas::fails_on), unfolding(crate::specs::Document::judged))]
+#[tactic(auto, using(crate::proofs::OverLemmas::fails_over), unfolding(crate::specs::Document::judged))]
 fn plain_description(alloc: Global, url: &str) -> Result<Description, Refusal>
-    ensures { Describes result (judged (plain_description url.now)) }
+    ensures { Reads result (judged (plain_description url.now)) }
 {
     let document = plain_document(alloc, url)?;
     let part = Part {

@@ -1,7 +1,6 @@
 -- What is ignored in a document is reported only as warnings.
 use Rattle.std.proofs.Common.{◌≡◌, ℕ, List, [], ◌∷◌, ◌++◌, Bool, true, false, Option, Some, None, refl, subst, codes, if◌then◌else◌, IfSome, All, map}
 use Rattle.std.proofs.Common.{flat_map, is_some}
-use Rattle.std.specs.Prelude.{⊤}
 use Rattle.std.proofs.lemmas.List.Elements.{All-cons, All-map, All-nil}
 use Rattle.serde_json.specs.Data.{Data}
 use Rattle.serde_json.specs.Data as json
@@ -11,10 +10,9 @@ use Rattle.csvw_fault.specs.declared.fault.Fault.{Fault}
 use Rattle.csvw_description.specs.Unknown.{in_schema, in_table, unknown}
 use Rattle.csvw_description.specs.declared.column.ColumnDescription.{ColumnDescription}
 use Rattle.csvw_description.specs.declared.description.Description.{Description}
-use Rattle.csvw_meta_core.specs.declared.fault.MetaCode.TheVariants.{NotJson}
 use Rattle.csvw_meta_core.specs.declared.fault.MetaFault.{MetaFault}
 use Rattle.csvw_meta_core.specs.Links.{no_url}
-use Rattle.csvw_meta_core.specs.Read.{Read, faulty, optional, property}
+use Rattle.csvw_meta_core.specs.Read.{Read, optional, over_faults, property}
 use Rattle.csvw_meta_keys.specs.Described as described_keys
 use Rattle.csvw_meta_keys.specs.Keys.{keys}
 use Rattle.csvw_meta_notes.specs.Unlisted.{all_warnings, unlisted}
@@ -27,11 +25,12 @@ use Rattle.csvw_meta_core.specs.declared.profile.Profile.{Profile}
 use Rattle.csvw_meta_core.specs.declared.profile.Profile.TheVariants.{Core}
 use Rattle.csvw_meta_inherited.specs.Datatype.{given_datatype}
 use Rattle.csvw_meta_inherited.specs.Datatype as datatypes
-use Rattle.csvw_meta.specs.Described.{Judged, MayBeContext, described, group_of, hanging_on, judged_by, judged_within, parts, sole_table, within}
+use Rattle.csvw_meta.specs.Described.{described, group_of, parts, sole_table, within}
 use Rattle.csvw_meta_dialect.specs.Dialect.{dialect, dialect_of, no_dialect}
-use Rattle.csvw_meta.specs.Document.{Document, MayBeUrl, document_by, judged, length_of, of_bytes, of_json, own_url, plain_description}
+use Rattle.csvw_meta.specs.Document.{Document, document_by, group_in, judged, length_of, of_bytes, of_json, of_short, own_url, plain_description}
 use Rattle.csvw_meta.specs.Group.{description_of, group, no_group, tables}
 use Rattle.csvw_meta_inherited.specs.Inherited.{inherited}
+use Rattle.csvw_meta.specs.IfRead.{unless}
 use Rattle.csvw_meta.specs.Json.{json_of, without_bom}
 use Rattle.csvw_meta_inherited.specs.Names.{inherited_names}
 use Rattle.csvw_meta_notes.specs.Places.{place_of}
@@ -44,6 +43,7 @@ use Rattle.csvw_meta.specs.Schema.{columns, no_schema, schema, schema_of}
 use Rattle.csvw_meta_core.specs.Several.{several}
 use Rattle.csvw_meta.specs.Table.{no_table, table, table_of, table_others}
 use Rattle.csvw_meta.specs.UrlAlone.{own_base, plain_document}
+use Rattle.csvw_meta.specs.UsableContext.{usable_context}
 use Rattle.csvw_validity_laws.proofs.Quiet.{Quiet, quiet_flat, quiet_join}
 use Rattle.csvw_validity_laws.proofs.WarningsRead.{IsQuietDatatype, TypeOf, all_quiet, datatype_quiet, each_value, keys_quiet, linked_value}
 use Rattle.csvw_validity_laws.proofs.WarningsRead.{needed_value, object_value, optional_value, property_value, unlisted_quiet}
@@ -254,49 +254,37 @@ within_quiet context at d =
 
 -- ---- documents
 
--- if there is a group, what is described is quiet
-abbrev GivesQuiet : Judged → Type 0
-GivesQuiet judged = (description : Description) → judged.group ≡ Some description → IsQuiet description
+described_quiet : (profile : Profile) (base : Parts) (at : List ℕ) (d : Data) → IsQuiet (described profile base at d).value
+described_quiet profile base at (json.object ms) = within_quiet (in_profile profile (usable_context base at (json.object ms))) at (json.object ms)
+described_quiet profile base at json.null = refl
+described_quiet profile base at (json.boolean b) = refl
+described_quiet profile base at (json.number n) = refl
+described_quiet profile base at (json.string s) = refl
+described_quiet profile base at (json.array ds) = refl
 
-none_described : (description : Description) → None ≡ Some description → IsQuiet description
-none_described description e = cc
+json_quiet : (profile : Profile) (base : Parts) (o : Option Data) → IsQuiet (of_json profile base o).value
+json_quiet profile base None = refl
+json_quiet profile base (Some d) = described_quiet profile base [] d
 
-gives_value : (faults : List MetaFault) (d : Description) → IsQuiet d → GivesQuiet (judged_by (record { faults = faults; value = d }))
-gives_value [] d q description e = let same : d ≡ description = cc in subst IsQuiet same q
-gives_value (f ∷ fs) d q description e = none_described description e
+over_quiet : {A : Type 0} (faults : List MetaFault) (a : A) (next : A → Read Description) → ((a : A) → IsQuiet (next a).value)
+    → IsQuiet (over_faults no_group faults a next).value
+over_quiet [] a next q = q a
+over_quiet (f ∷ fs) a next q = refl
 
-gives_after : {A : Type 0} (faults : List MetaFault) (a : A) (MayBe : A → Type 0) (judge : A → Judged) → GivesQuiet (judge a)
-    → GivesQuiet (hanging_on (record { faults = faults; value = a }) MayBe judge)
-gives_after [] a MayBe judge q description e = q description e
-gives_after (f ∷ fs) a MayBe judge q description e = none_described description e
-
-gives_on : {A : Type 0} (r : Read A) (MayBe : A → Type 0) (judge : A → Judged) → ((a : A) → GivesQuiet (judge a)) → GivesQuiet (hanging_on r MayBe judge)
-gives_on r MayBe judge each = gives_after r.faults r.value MayBe judge (each r.value)
-
-within_gives : (at : List ℕ) (d : Data) (context : Context) → GivesQuiet (judged_within at d context)
-within_gives at (json.object ms) context =
-    let r = within context at (json.object ms) in
-    gives_value r.faults r.value (within_quiet context at (json.object ms))
-within_gives at json.null context = gives_value [] no_group refl
-within_gives at (json.boolean b) context = gives_value [] no_group refl
-within_gives at (json.number n) context = gives_value [] no_group refl
-within_gives at (json.string s) context = gives_value [] no_group refl
-within_gives at (json.array ds) context = gives_value [] no_group refl
-
-described_gives : (profile : Profile) (base : Parts) (at : List ℕ) (d : Data) → GivesQuiet (described profile base at d)
-described_gives profile base at d =
-    gives_on (context base at d) (MayBeContext base at (context base at d)) (λ c. judged_within at d (in_profile profile c))
-    (λ c. within_gives at d (in_profile profile c))
-
-json_gives : (profile : Profile) (base : Parts) (o : Option Data) → GivesQuiet (of_json profile base o)
-json_gives profile base None = let r = faulty NotJson [] no_group in gives_value r.faults no_group refl
-json_gives profile base (Some d) = described_gives profile base [] d
-
-pub documents_warn : (x : Document) → GivesQuiet (judged x)
+judged_quiet : (x : Document) → IsQuiet (judged x).value
 unfolding judged
-documents_warn (document_by profile url bytes) =
-    gives_on (length_of bytes) (λ t. ⊤) (λ t. hanging_on (own_url url) (MayBeUrl (own_url url)) (λ base. of_bytes profile base bytes))
-    (λ t. gives_on (own_url url) (MayBeUrl (own_url url)) (λ base. of_bytes profile base bytes) (λ base. json_gives profile base (json_of (without_bom bytes))))
-documents_warn (plain_description url) =
-    gives_on (own_base [] url) (MayBeUrl (own_base [] url)) (λ base. described Core base [] (plain_document url))
-    (λ base. described_gives Core base [] (plain_document url))
+judged_quiet (document_by profile url bytes) =
+    over_quiet (length_of bytes).faults (length_of bytes).value (λ t. of_short profile url bytes)
+    (λ t. over_quiet (own_url url).faults (own_url url).value (λ base. of_bytes profile base bytes)
+    (λ base. json_quiet profile base (json_of (without_bom bytes))))
+judged_quiet (plain_description url) =
+    over_quiet (own_base [] url).faults (own_base [] url).value (λ base. described Core base [] (plain_document url))
+    (λ base. described_quiet Core base [] (plain_document url))
+
+quiet_unless : (faults : List MetaFault) (d description : Description) → IsQuiet d → unless faults d ≡ Some description → IsQuiet description
+quiet_unless [] d description q e = let same : d ≡ description = cc in subst IsQuiet same q
+quiet_unless (f ∷ fs) d description q e = cc
+
+-- if there is a group, what is described is quiet
+pub documents_warn : (x : Document) (description : Description) → group_in x ≡ Some description → IsQuiet description
+documents_warn x description = quiet_unless (judged x).faults (judged x).value description (judged_quiet x)
