@@ -1,13 +1,12 @@
 mod AnyLemmas
 mod BareGroupLemmas
 mod ColumnsLemmas
-mod ContextKnownLemmas
 mod FaultsLemmas
 mod FrontsLemmas
 mod FlagsLemmas
 mod ItemsLemmas
 mod KnownLemmas
-mod ListedLemmas
+mod DocumentLemmas
 mod RepeatedLemmas
 mod SeenLemmas
 mod SetLemmas

@@ -1,17 +1,12 @@
 //! All faults of a document (Metadata Vocabulary for Tabular Data, section 5).
-ghost use Rattle.std.specs.Prelude.{◌≡◌, ◌++◌, ◌==◌, ◌∷◌, [], Contains, IfOk, OnOk, Some, is_some, length};
+ghost use Rattle.std.specs.Prelude.{◌≡◌, ◌++◌, ◌==◌, ◌∷◌, [], Contains, IfOk, OnOk, is_some, length};
 ghost use Rattle.serde_json.specs.View.{view};
 ghost use Rattle.csvw_meta_core.specs.Pointer.{text_of};
-ghost use Rattle.csvw_meta_core.specs.Context.{in_profile};
-ghost use Rattle.csvw_meta_core.specs.declared.context.Context.{Context as TheContext};
-ghost use Rattle.csvw_meta.specs.Document.{IsFault, document_by, group_in, own_url};
-ghost use Rattle.csvw_meta.specs.Json.{json_of, without_bom};
+ghost use Rattle.csvw_meta.specs.Described.{described, described_within};
+ghost use Rattle.csvw_meta.specs.Document.{IsFault, document_by, document_faults, group_in, of_bytes, of_short};
 ghost use Rattle.csvw_meta_core.specs.declared.fault.MetaFault.{MetaFault as TheFault};
-ghost use Rattle.csvw_meta_faults.specs.Listed.{CouldRead, first_or, json_faults, listed, part_faults, value_faults};
-ghost use Rattle.csvw_meta_faults.specs.SeenContext.{seen_context};
 
-use crate::context_known::are_known;
-use crate::seen_context::context_seen;
+use crate::usable_context::usable_context;
 use crate::within::find_within;
 use csvw_iri::Base;
 use csvw_meta::document::{MAX_DOCUMENT, own_url};
@@ -28,7 +23,7 @@ fn find_in_parts(
     part: &Part,
     faults: &mut Vec<MetaFault>,
 ) -> Result<(), AllocError>
-    ensures { OnOk result (faults.new.items ≡ faults.old.items ++ part_faults context.now (text_of part.now.at) (view part.now.value.now)) }
+    ensures { OnOk result (faults.new.items ≡ faults.old.items ++ (described_within (text_of part.now.at) (view part.now.value.now) context.now).faults) }
 {
     match part.value {
         Value::Object(_members) => find_within(context, part, faults),
@@ -36,41 +31,20 @@ fn find_in_parts(
     }
 }
 
-/// Adds the faults of the parts of a document whose context is known.
-fn find_known(
-    profile: Profile,
-    part: &Part,
-    base: &Base,
-    faults: &mut Vec<MetaFault>,
-) -> Result<(), AllocError>
-    ensures { (context : TheContext) → seen_context base.now (text_of part.now.at) (view part.now.value.now) ≡ Some context →
-        OnOk result (faults.new.items ≡ faults.old.items ++ part_faults (in_profile profile context) (text_of part.now.at) (view part.now.value.now)) }
-{
-    let Some(context) = context_seen(part, base)? else {
-        return Ok(());
-    };
-    let context = context.in_profile(profile);
-    find_in_parts(&context, part, faults)
-}
-
-/// Adds the faults of the value of a document at its own URL.
+/// Adds the faults of the value of a document at its own URL: those of its context, and then those of its parts within the
+/// context as far as it could be read.
 fn find_described(
     profile: Profile,
     part: &Part,
     base: &Base,
     faults: &mut Vec<MetaFault>,
 ) -> Result<(), AllocError>
-    ensures { text_of part.now.at ≡ [] → OnOk result (faults.new.items ≡ faults.old.items ++ value_faults profile base.now [] (view part.now.value.now)) }
+    ensures { OnOk result (faults.new.items ≡ faults.old.items ++ (described profile base.now (text_of part.now.at) (view part.now.value.now)).faults) }
 {
-    let mut own = Vec::new(part.alloc);
-    find_context(part, base, &mut own)?;
-    let known = are_known(part.alloc, own.as_slice(), "")?;
-    faults.append(&mut own)?;
-    if known {
-        find_known(profile, part, base, faults)
-    } else {
-        Ok(())
-    }
+    find_context(part, base, faults)?;
+    let usable = usable_context(part, base)?;
+    let context = usable.in_profile(profile);
+    find_in_parts(&context, part, faults)
 }
 
 fn find_in_bytes(
@@ -80,7 +54,7 @@ fn find_in_bytes(
     bytes: &[u8],
     faults: &mut Vec<MetaFault>,
 ) -> Result<(), AllocError>
-    ensures { OnOk result (faults.new.items ≡ faults.old.items ++ json_faults profile base.now (json_of (without_bom bytes.now))) }
+    ensures { OnOk result (faults.new.items ≡ faults.old.items ++ (of_bytes profile base.now bytes.now).faults) }
 {
     match json_of(alloc, without_bom(bytes)) {
         Ok(value) => {
@@ -125,8 +99,7 @@ fn find_in_short(
     profile: Profile,
     faults: &mut Vec<MetaFault>,
 ) -> Result<(), AllocError>
-    ensures { OnOk result (faults.new.items ≡ faults.old.items
-        ++ first_or (own_url base.now).faults (json_faults profile (own_url base.now).value (json_of (without_bom bytes.now)))) }
+    ensures { OnOk result (faults.new.items ≡ faults.old.items ++ (of_short profile base.now bytes.now).faults) }
 {
     match own_url(alloc, base) {
         Ok(base) => find_in_bytes(alloc, profile, &base, bytes, faults),
@@ -145,7 +118,7 @@ fn find_in_document(
     profile: Profile,
     faults: &mut Vec<MetaFault>,
 ) -> Result<(), AllocError>
-    ensures { OnOk result (faults.new.items ≡ faults.old.items ++ listed profile base.now bytes.now) }
+    ensures { OnOk result (faults.new.items ≡ faults.old.items ++ document_faults (document_by profile base.now bytes.now)) }
 {
     if bytes.len() > MAX_DOCUMENT {
         faults.push(MetaFault {
@@ -157,27 +130,26 @@ fn find_in_document(
     find_in_short(alloc, bytes, base, profile, faults)
 }
 
-/// Returns the faults of a document in a profile, at its own URL, in the order of the definition. There are none exactly if
+/// Returns all faults of a document in a profile, at its own URL, in the order of the definition. There are none exactly if
 /// the document describes a group. It returns `AllocError` if there is no memory for them.
 ///
-/// The list has all faults of the document, with these exceptions:
-///
 /// - A document with over 1,048,576 bytes has the fault `TooLong` alone.
-/// - If its URL is not a URL, the list has only that fault.
-/// - If the base or the language of its context can't be read, the list has only the faults of the context. Other faults may
-///   depend on it.
+/// - Otherwise, if its URL is not a URL, it has that fault alone.
+/// - Otherwise, if it is not a JSON text, it has the fault `NotJson` alone.
+/// - Otherwise it has the faults of its context, and then those of its parts. If the base of the context can't be read, the
+///   document's own URL takes its place. If the language can't be read, `None` does.
 pub fn faults_in(
     alloc: Global,
     bytes: &[u8],
     base: &str,
     profile: Profile,
 ) -> Result<Seq<MetaFault>, AllocError>
-    // The faults are those of the definition, in its order.
-    ensures order { IfOk result (λ fs. fs ≡ listed profile base.now bytes.now) }
+    // The list is that of the definition.
+    ensures order { IfOk result (λ fs. fs ≡ document_faults (document_by profile base.now bytes.now)) }
     // Each of them is a fault of the document.
     ensures faults { IfOk result (λ fs. (f : TheFault) → Contains fs f → IsFault (document_by profile base.now bytes.now) f) }
     // No fault of the document is missing.
-    ensures all { CouldRead base.now bytes.now → IfOk result (λ fs. (f : TheFault) → IsFault (document_by profile base.now bytes.now) f → Contains fs f) }
+    ensures all { IfOk result (λ fs. (f : TheFault) → IsFault (document_by profile base.now bytes.now) f → Contains fs f) }
     // There is none exactly if the document describes a group.
     ensures none { IfOk result (λ fs. (length fs == 0) ≡ is_some (group_in (document_by profile base.now bytes.now))) }
 {

@@ -16,10 +16,8 @@
 //!
 //! # Promises
 //!
-//! - Each fault of the list is a fault of the document, and the order is that of the definition: `faults_in` (`IsFault`,
-//!   `listed`).
-//! - No fault is missing if the document isn't too long, and its URL and the base and the language of its context could be
-//!   read: `faults_in` (`CouldRead`).
+//! - The list is that of the definition, in its order: `faults_in` (`document_faults`). So each fault of the list is a fault
+//!   of the document, and none is missing (`IsFault`).
 //! - The list is empty exactly if the document describes a group: `faults_in` (`group_in`).
 //! - The faults of a schema are listed, with those of its columns together: names that are equal, and virtual columns
 //!   that come too early: `find_schema` (`schema`).
@@ -36,12 +34,14 @@
 //!
 //! A value that can't be read has the value in its place that the definition has. So the columns, the keys and the tables
 //! are read again, with only what the rules look at (`bare_group`).
+//!
+//! If the base or the language of the context can't be read, the parts are read in the context as far as it could be read:
+//! the document's own URL takes the place of the base, and none that of the language (`usable_context`).
 #![tactic(auto)]
 
 mod body;
 mod column;
 mod column_rules;
-mod context_known;
 mod document;
 mod faults_at;
 mod fronts;
@@ -55,7 +55,6 @@ mod repeated;
 mod schema;
 mod seen;
 mod seen_column;
-mod seen_context;
 mod seen_group;
 mod seen_schema;
 mod seen_table;
@@ -64,6 +63,7 @@ mod table;
 mod targets;
 mod titles;
 mod url_rule;
+mod usable_context;
 mod virtual_order;
 mod within;
 
