@@ -1,9 +1,9 @@
 -- The first rule that a piece breaks after those before it in a plan: `fault_after`.
-use Rattle.std.specs.Prelude.{ℕ, ◌+◌, ◌^◌, ◌==◌, ◌&&◌, ◌||◌, not, nat_lt, if◌then◌else◌, List, Option, Some, None}
+use Rattle.std.specs.Prelude.{◌≡◌, ℕ, ◌+◌, ◌^◌, ◌==◌, ◌&&◌, ◌||◌, not, nat_lt, if◌then◌else◌, List, [], ◌∷◌, ◌++◌, Option, Some, None}
 use Rattle.csvw_part_plan.specs.declared.piece.Piece.{Piece}
 use Rattle.csvw_part_plan.specs.declared.fault.LineFault.{LineFault}
 use Rattle.csvw_part_plan.specs.declared.fault.LineFault.TheVariants.{Part, Table, FirstByte, LastByte, Rows, HeaderBytes}
-use Rattle.csvw_part_plan.specs.Plans.{last_piece}
+use Rattle.csvw_part_plan.specs.Plans.{TileFront, last_piece}
 
 abbrev pub end_fault : Piece → Option LineFault
 end_fault p = if nat_lt (p.first_byte + p.bytes) (2 ^ 64) then None else Some LastByte
@@ -47,3 +47,7 @@ fault_by (Some before) p = next_fault before p
 -- of a piece after those before it
 abbrev pub fault_after : List Piece → Piece → Option LineFault
 fault_after before p = fault_by (last_piece before) p
+
+-- pieces that tile fronts of files, and one more that breaks no rule
+abbrev pub TilingGoesOn : Type 0
+TilingGoesOn = (before : List Piece) (p : Piece) → TileFront before → fault_after before p ≡ None → TileFront (before ++ p ∷ [])

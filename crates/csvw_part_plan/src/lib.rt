@@ -17,6 +17,8 @@
 //!   on from 1, 1 and 0 without gaps, and counts of rows don't fall.
 //! - It refuses a text at its first wrong line, with the rule that is broken there (`IsRefused`). Such a text is no plan: the law
 //!   `refused_is_no_plan`.
+//! - `fault_after` returns the first rule that a piece breaks after those before it. Pieces that tile fronts of files, and one more
+//!   that breaks no rule, tile fronts of files (`TileFront`): the law `tiling_goes_on`.
 #![tactic(auto)]
 
 mod digits;
@@ -31,6 +33,7 @@ mod writing;
 
 pub use digits::{number, parted};
 pub use fault::{LineFault, PlanFault};
+pub use order::fault_after;
 pub use parts::{file_length, next_piece, part_count, pieces_of};
 pub use piece::Piece;
 pub use reading::read_plan;

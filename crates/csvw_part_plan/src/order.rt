@@ -1,6 +1,6 @@
-//! Whether a piece follows the one before it.
+//! Whether a piece follows those before it.
 ghost use Rattle.std.specs.Prelude.{◌≡◌, ◌+◌, ◌==◌};
-ghost use Rattle.csvw_part_plan.specs.Order.{first_fault, begin_fault, end_fault, next_fault, table_fault, going_fault};
+ghost use Rattle.csvw_part_plan.specs.Order.{first_fault, begin_fault, end_fault, fault_after, next_fault, table_fault, going_fault};
 
 use crate::fault::LineFault;
 use crate::piece::Piece;
@@ -43,7 +43,7 @@ fn begin_fault(piece: &Piece) -> Option<LineFault>
 }
 
 /// Returns the rule that a piece breaks as the first of a plan.
-pub(crate) fn first_fault(piece: &Piece) -> Option<LineFault>
+fn first_fault(piece: &Piece) -> Option<LineFault>
     ensures { result ≡ first_fault piece.now }
 {
     if piece.part != 1 {
@@ -88,12 +88,23 @@ fn table_fault(before: &Piece, piece: &Piece) -> Option<LineFault>
 }
 
 /// Returns the rule that a piece breaks after another one.
-pub(crate) fn next_fault(before: &Piece, piece: &Piece) -> Option<LineFault>
+fn next_fault(before: &Piece, piece: &Piece) -> Option<LineFault>
     ensures { result ≡ next_fault before.now piece.now }
 {
     if piece.table == before.table {
         going_fault(before, piece)
     } else {
         table_fault(before, piece)
+    }
+}
+
+/// Returns the first rule that a piece breaks after those before it in a plan. There may be none before it. If the pieces before it
+/// tile fronts of files and it breaks no rule, all of them tile fronts of files: the law `tiling_goes_on`.
+pub fn fault_after(before: &[Piece], piece: &Piece) -> Option<LineFault>
+    ensures { result ≡ fault_after before.now piece.now }
+{
+    match before.last() {
+        Some(last) => next_fault(last, piece),
+        None => first_fault(piece),
     }
 }

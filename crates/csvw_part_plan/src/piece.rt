@@ -15,7 +15,7 @@ pub struct Piece {
     pub rows_before: u64,
     /// The number of data rows of the file before the piece.
     pub data_rows_before: u64,
-    /// The number of bytes of the front of the file that has its skipped rows and header rows. If the table has no header row and no
-    /// columns, the front also has the first data row.
+    /// The number of bytes of the front of the file that has its skipped rows and header rows. If the table has no header row, the
+    /// front has the first data row.
     pub header_bytes: u64,
 }

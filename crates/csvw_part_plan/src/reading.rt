@@ -6,7 +6,7 @@ ghost use Rattle.csvw_part_plan.specs.Refusals.{IsRefused, at_line};
 
 use crate::fault::{LineFault, PlanFault};
 use crate::line::piece_at;
-use crate::order::{first_fault, next_fault};
+use crate::order::fault_after;
 use crate::piece::Piece;
 use csvw_text::Seq;
 use std::alloc::Global;
@@ -20,16 +20,6 @@ fn after_heading(text: &[u8]) -> Option<&[u8]>
     ensures { MatchOption result ((rest : List ℕ) → text.now ≡ heading ++ rest → ⊥) (λ rest. text.now ≡ heading ++ rest.now) }
 {
     text.strip_prefix(HEADING.as_bytes())
-}
-
-/// Returns the rule that a piece breaks after those before it.
-fn fault_after(before: &[Piece], piece: &Piece) -> Option<LineFault>
-    ensures { result ≡ fault_after before.now piece.now }
-{
-    match before.last() {
-        Some(last) => next_fault(last, piece),
-        None => first_fault(piece),
-    }
 }
 
 /// Returns the fault of the line after the heading and the lines of some pieces.

@@ -1,5 +1,5 @@
 -- The rows of a file so far: their counts, and where one ends.
-use Rattle.std.proofs.Common.{◌≡◌, ℕ, zero, suc, ◌+◌, ◌-◌, ◌<◌, ◌≤◌, ◌^◌, ◌==◌, Bool, true, false, List, [], ◌∷◌, ◌++◌, length, drop, min, refl, sym, ap, subst, ◌∙◌, arith, inl, inr}
+use Rattle.std.proofs.Common.{◌≡◌, ℕ, ◌+◌, ◌-◌, ◌<◌, ◌≤◌, ◌^◌, Bool, true, false, List, [], ◌∷◌, ◌++◌, length, drop, min, refl, sym, ap, subst, ◌∙◌, arith, inl, inr}
 use Rattle.std.proofs.Common.{Option, Some, None, length-drop}
 use Rattle.std.specs.List.{enumerate_from, filter_map, cons_option}
 use Rattle.std.specs.Str.{chars}
@@ -12,12 +12,12 @@ use Rattle.csvw_records.specs.declared.dialect.Dialect.{Dialect}
 use Rattle.csvw_records.specs.Files.{AreRows, Body, Row, content, given as given_row, is_text, remaining, remaining_fields}
 use Rattle.csvw_records.specs.RowValue.{Given}
 use Rattle.csvw_rows.specs.declared.rows.Rows.{Rows}
-use Rattle.csvw_rows.specs.RowsState.{HasRead, Holds}
+use Rattle.csvw_rows.specs.RowsState.{Holds}
 use Rattle.csvw_rows.specs.Skips.{unread_bytes_of}
 use Rattle.csvw_rows.specs.SourceState.{pending_of, rest_bytes, rest_of}
 use Rattle.csvw_part_laws.specs.Parts.{AreWholeRows}
 use Rattle.csvw_split.specs.declared.file.FileRows.{FileRows}
-use Rattle.csvw_split.specs.FileState.{Follows, HasRows, data_rows_of, max_rows, rows_of}
+use Rattle.csvw_split.specs.FileState.{Follows, HasGiven, HasRows, data_rows_of, given_of, max_rows, rows_of}
 use Rattle.csvw_split.specs.Passing.{PassesMany}
 
 -- rows that were read, and then some more
@@ -98,24 +98,37 @@ all_read s d text given h none =
     ]
 
 -- nothing is unread, so a row ends there
-pub row_ends : (s : FileRows) (d : Dialect) (text : List ℕ) → Follows s d text → unread_bytes_of s.rows ≡ 0 → 1 < s.rows.row + 1
-    → HasRows d text (rows_of s) (data_rows_of s)
-row_ends s d text f none some =
+ends_whole : (s : FileRows) (d : Dialect) (text : List ℕ) → (f : Follows s d text) → unread_bytes_of s.rows ≡ 0 → 1 < s.rows.row + 1
+    → AreWholeRows d text f.holds.rows
+ends_whole s d text f none some =
     let h = f.holds in
     let rest : rest_bytes s.rows.source ≡ [] = none_left (rest_bytes s.rows.source) (omega arith) in
     let pending : pending_of s.rows.source ≡ [] = none_left (pending_of s.rows.source) (omega arith) in
     let row = h.row_is in
+    record {
+      is_utf8 = whole_text text (sym h.decodes.pending ∙ pending);
+      are_rows = all_read s.rows d text f.given h (ap chars rest ∙ no_chars);
+      some = omega arith;
+      short = h.read.limits.1;
+    }
+
+-- the counts of all rows and of the data rows
+pub row_ends : (s : FileRows) (d : Dialect) (text : List ℕ) → Follows s d text → unread_bytes_of s.rows ≡ 0 → 1 < s.rows.row + 1
+    → HasRows d text (rows_of s) (data_rows_of s)
+row_ends s d text f none some =
+    let h = f.holds in
+    let row = h.row_is in
     let body = ap length h.given_is ∙ body_len d h.rows in
     let count = f.count in
     let headers = f.headers in
-    record {
-      all = h.rows;
-      whole = record {
-        is_utf8 = whole_text text (sym h.decodes.pending ∙ pending);
-        are_rows = all_read s.rows d text f.given h (ap chars rest ∙ no_chars);
-        some = omega arith;
-        short = h.read.limits.1;
-      };
-      rows_are = omega arith;
-      data_rows_are = omega arith;
-    }
+    record { all = h.rows; whole = ends_whole s d text f none some; rows_are = omega arith; data_rows_are = omega arith }
+
+-- the counts of all rows, and of the header rows and data rows
+pub rows_given : (s : FileRows) (d : Dialect) (text : List ℕ) → Follows s d text → unread_bytes_of s.rows ≡ 0 → 1 < s.rows.row + 1
+    → HasGiven d text (rows_of s) (given_of s)
+rows_given s d text f none some =
+    let h = f.holds in
+    let row = h.row_is in
+    let body = ap length h.given_is ∙ body_len d h.rows in
+    let count = f.count in
+    record { all = h.rows; whole = ends_whole s d text f none some; rows_are = omega arith; given_are = omega arith }

@@ -1,10 +1,13 @@
--- The places of a file where pieces begin: `IsCut`, `Cuts`.
-use Rattle.std.specs.Prelude.{◌≡◌, ◌≤◌, ◌-◌, ℕ, List, length, take}
+-- The places of a file where pieces begin: `IsCut`, `Cuts`, `IsCutUp`.
+use Rattle.std.specs.Prelude.{◌≡◌, ◌≤◌, ◌-◌, ℕ, List, length, take, Option, Some, None, IfSome}
 use Rattle.std.specs.List.{All}
 use Rattle.csvw_records.specs.declared.dialect.Dialect.{Dialect}
+use Rattle.csvw_columns.specs.declared.plan.TablePlan.{TablePlan}
 use Rattle.csvw_split.specs.declared.cuts.Cut.{Cut}
 use Rattle.csvw_split.specs.declared.cuts.FileCuts.{FileCuts}
+use Rattle.csvw_split.specs.declared.cuts.WholeCuts.{WholeCuts}
 use Rattle.csvw_split.specs.FileState.{Follows, HasRows}
+use Rattle.csvw_split.specs.Front.{HasFront, IsFront, front_rows}
 
 -- the start of a file
 abbrev pub start : Cut
@@ -19,8 +22,23 @@ pub record IsCut (d : Dialect) (text : List ℕ) (c : Cut) : Type 0 where
 abbrev pub left_of : FileCuts → ℕ
 left_of s = s.length - s.bytes
 
--- these bytes of the file were read, and cut at ends of rows
-pub record Cuts (s : FileCuts) (d : Dialect) (text : List ℕ) : Type 0 where
-  pub follows : Follows s.file d text
+-- the front was read before this cut
+abbrev pub IsAfterFront : Option ℕ → Cut → Type 0
+IsAfterFront None c = ⊥
+IsAfterFront (Some front) c = front ≤ c.first_byte
+
+-- these bytes of the file were read, and cut at ends of rows after the front that makes the columns known
+pub record Cuts (s : FileCuts) (t : TablePlan) (text : List ℕ) : Type 0 where
+  pub follows : Follows s.file t.dialect text
   pub bytes : s.bytes ≡ length text
-  pub cuts : All (IsCut d text) s.cuts
+  pub skipped : s.wanted.skip_rows ≡ t.dialect.skip_rows
+  pub needed : s.wanted.front_rows ≡ front_rows t
+  pub front : IfSome s.header_bytes (IsFront t text)
+  pub cuts : All (IsCut t.dialect text) s.cuts
+  pub after_front : All (IsAfterFront s.header_bytes) s.cuts
+
+-- the whole file was cut at ends of rows after the front that makes the columns known
+pub record IsCutUp (t : TablePlan) (text : List ℕ) (whole : WholeCuts) : Type 0 where
+  pub length_is : whole.length ≡ length text
+  pub cuts : All (IsCut t.dialect text) whole.cuts
+  pub fronts : All (λ (c : Cut). HasFront t text whole.header_bytes c.first_byte) whole.cuts

@@ -1,4 +1,4 @@
--- The rows of a file so far: `Follows`; and the rows before a place where a row ends: `HasRows` (RFC 4180, section 2).
+-- The rows of a file so far: `Follows`; and the rows before a place where a row ends: `HasRows`, `HasGiven` (RFC 4180, section 2).
 use Rattle.std.specs.Prelude.{◌≡◌, ℕ, ◌-◌, false, List, length}
 use Rattle.csvw_records.specs.declared.dialect.Dialect.{Dialect}
 use Rattle.csvw_records.specs.Files.{Row, remaining}
@@ -36,3 +36,10 @@ pub record HasRows (d : Dialect) (text : List ℕ) (rows data_rows : ℕ) : Type
   pub whole : AreWholeRows d text all
   pub rows_are : rows ≡ length all
   pub data_rows_are : data_rows ≡ length (remaining d 1 all) - d.header_row_count
+
+-- the bytes are whole rows: so many of all kinds, and so many header rows and data rows
+pub record HasGiven (d : Dialect) (text : List ℕ) (rows given : ℕ) : Type 0 where
+  pub all : List Row
+  pub whole : AreWholeRows d text all
+  pub rows_are : rows ≡ length all
+  pub given_are : given ≡ length (remaining d 1 all)

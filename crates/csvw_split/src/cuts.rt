@@ -1,6 +1,7 @@
 //! The places of a file where pieces begin.
-ghost use Rattle.std.specs.Prelude.{◌≡◌, ◌+◌, ◌<◌, ◌≤◌, ◌++◌, ℕ, List, [], length, IfOk, IfSome, OnOk};
-ghost use Rattle.csvw_records.specs.declared.dialect.Dialect.{Dialect as TheDialect};
+ghost use Rattle.std.specs.Prelude.{◌≡◌, ◌+◌, ◌<◌, ◌≤◌, ◌++◌, ℕ, List, [], length, true, None, IfOk, IfSome, IsSome, OnOk};
+ghost use Rattle.csvw_columns.specs.declared.plan.TablePlan.{TablePlan as ThePlan};
+ghost use Rattle.csvw_split.specs.Front.{front_rows};
 
 use crate::file::{FileRows, Halt};
 use crate::shares::Shares;
@@ -65,18 +66,17 @@ pub(crate) struct FileCuts {
 pub(crate) struct WholeCuts {
     /// The cuts after the start.
     pub(crate) cuts: Seq<Cut>,
+    /// The number of bytes of the file.
+    pub(crate) length: u64,
     /// The number of bytes of its front.
     pub(crate) header_bytes: u64,
 }
 
-/// Returns the number of header rows and data rows that the columns need.
-fn front_rows(table: &TablePlan) -> u64 {
-    let headers = u64::from(table.dialect.header_row_count);
-    if headers == 0 && table.declared.is_empty() {
-        1
-    } else {
-        headers
-    }
+/// Returns the number of header rows and data rows that make the columns known: the header rows or, without them, the first data row.
+fn front_rows(table: &TablePlan) -> u64
+    ensures { result ≡ front_rows table.now }
+{
+    u64::from(table.dialect.header_row_count).max(1)
 }
 
 /// Returns the number of bytes of the first line, with its line feed.
@@ -91,7 +91,8 @@ fn line_len(bytes: &[u8]) -> usize
 }
 
 impl FileCuts {
-    ghost use Rattle.csvw_split.specs.Cuts.{Cuts, left_of};
+    ghost use Rattle.csvw_split.specs.Cuts.{Cuts, IsCutUp, left_of};
+    ghost use Rattle.csvw_split.specs.Front.{IsFront};
 
     /// Begins a file of this length. Returns `None` if the dialect of its table reads no text.
     pub(crate) fn new(
@@ -100,7 +101,7 @@ impl FileCuts {
         length: u64,
         shares: Shares,
     ) -> Result<Option<FileCuts>, AllocError>
-        ensures cuts { IfOk result (λ found. IfSome found (λ f. Cuts f table.now.dialect [])) }
+        ensures cuts { IfOk result (λ found. IfSome found (λ f. Cuts f table.now [])) }
         ensures left { IfOk result (λ found. IfSome found (λ f. left_of f ≡ length)) }
     {
         let dialect = table.dialect.clone(alloc)?;
@@ -113,17 +114,12 @@ impl FileCuts {
             next: shares.next_after(0),
             shares,
         };
-        let header_bytes = if wanted.skip_rows == 0 && wanted.front_rows == 0 {
-            Some(0)
-        } else {
-            None
-        };
         Ok(Some(FileCuts {
             file: FileRows::new(alloc, dialect)?,
             length,
             bytes: 0,
             wanted,
-            header_bytes,
+            header_bytes: None,
             last: START,
             cuts: Seq::new(alloc),
         }))
@@ -153,16 +149,22 @@ impl FileCuts {
     }
 
     /// Returns whether the front of the file was just read.
-    fn is_at_front_end(&self) -> bool {
-        self.header_bytes.is_none()
-            && self.file.is_at_row_end()
-            && self.file.row_count() >= self.wanted.skip_rows
-            && self.file.given() >= self.wanted.front_rows
+    fn is_at_front_end(&self) -> bool
+        ensures none { result ≡ true → self.now.header_bytes ≡ None }
+        ensures front { result ≡ true → (t : ThePlan) (text : List ℕ) → Cuts self.now t text → IsFront t text self.now.bytes }
+    {
+        if self.header_bytes.is_some() || !self.file.is_at_row_end() {
+            return false;
+        }
+        if self.file.row_count() < self.wanted.skip_rows {
+            return false;
+        }
+        self.file.given() >= self.wanted.front_rows
     }
 
     /// Notes the length of the front, if it was just read.
     fn note_front(&mut self)
-        ensures cuts { (d : TheDialect) (text : List ℕ) → Cuts self.old d text → Cuts self.new d text }
+        ensures cuts { (t : ThePlan) (text : List ℕ) → Cuts self.old t text → Cuts self.new t text }
         ensures left { left_of self.new ≡ left_of self.old }
     {
         if self.is_at_front_end() {
@@ -176,6 +178,8 @@ impl FileCuts {
         ensures count { self.new.bytes ≡ self.old.bytes + length bytes.now }
         ensures file { self.new.file ≡ self.old.file }
         ensures cuts { self.new.cuts ≡ self.old.cuts }
+        ensures wanted { self.new.wanted ≡ self.old.wanted }
+        ensures header { self.new.header_bytes ≡ self.old.header_bytes }
         ensures left { left_of self.new + length bytes.now ≡ left_of self.old }
     {
         self.bytes += bytes.len() as u64;
@@ -184,7 +188,7 @@ impl FileCuts {
     /// Feeds some bytes.
     fn feed(&mut self, bytes: &[u8]) -> Result<(), Halt>
         requires { length bytes.now ≤ left_of self.old }
-        ensures cuts { OnOk result ((d : TheDialect) (text : List ℕ) → Cuts self.old d text → Cuts self.new d (text ++ bytes.now)) }
+        ensures cuts { OnOk result ((t : ThePlan) (text : List ℕ) → Cuts self.old t text → Cuts self.new t (text ++ bytes.now)) }
         ensures left { OnOk result (left_of self.new + length bytes.now ≡ left_of self.old) }
     {
         self.file.feed(bytes)?;
@@ -192,16 +196,19 @@ impl FileCuts {
         Ok(())
     }
 
-    /// Returns whether a piece may begin here: it is wanted, it isn't empty, and the piece before it has a data row.
-    fn may_begin(&self) -> bool {
+    /// Returns whether a piece may begin here: it is wanted, it isn't empty, the front was read, and the piece before it has a data row.
+    fn may_begin(&self) -> bool
+        ensures { result ≡ true → IsSome self.now.header_bytes }
+    {
         self.wanted.next <= self.bytes
+            && self.header_bytes.is_some()
             && self.bytes < self.length
             && self.file.data_rows() > self.last.data_rows_before
     }
 
     /// Adds a cut here, if a piece begins here.
     fn cut(&mut self) -> Result<(), AllocError>
-        ensures cuts { OnOk result ((d : TheDialect) (text : List ℕ) → Cuts self.old d text → Cuts self.new d text) }
+        ensures cuts { OnOk result ((t : ThePlan) (text : List ℕ) → Cuts self.old t text → Cuts self.new t text) }
         ensures left { left_of self.new ≡ left_of self.old }
     {
         if !self.may_begin() || !self.file.is_at_row_end() {
@@ -221,7 +228,7 @@ impl FileCuts {
     /// Takes some bytes, at most one line while the end of the front or of a piece is looked for.
     fn step(&mut self, bytes: &[u8]) -> Result<(), Halt>
         requires { length bytes.now ≤ left_of self.old }
-        ensures cuts { OnOk result ((d : TheDialect) (text : List ℕ) → Cuts self.old d text → Cuts self.new d (text ++ bytes.now)) }
+        ensures cuts { OnOk result ((t : ThePlan) (text : List ℕ) → Cuts self.old t text → Cuts self.new t (text ++ bytes.now)) }
         ensures left { OnOk result (left_of self.new + length bytes.now ≡ left_of self.old) }
     {
         self.feed(bytes)?;
@@ -240,7 +247,7 @@ impl FileCuts {
     /// Takes a piece that was read.
     pub(crate) fn take(&mut self, piece: &[u8]) -> Result<(), Halt>
         requires { length piece.now ≤ left_of self.old }
-        ensures cuts { OnOk result ((d : TheDialect) (text : List ℕ) → Cuts self.old d text → Cuts self.new d (text ++ piece.now)) }
+        ensures cuts { OnOk result ((t : ThePlan) (text : List ℕ) → Cuts self.old t text → Cuts self.new t (text ++ piece.now)) }
     {
         let mut rest = piece;
         while !rest.is_empty() {
@@ -253,7 +260,8 @@ impl FileCuts {
 
     /// Ends the file. Returns the cuts.
     pub(crate) fn end(self) -> Result<WholeCuts, Halt>
-        ensures { IfOk result (λ whole. whole.cuts ≡ self.cuts) }
+        requires { left_of self ≡ 0 }
+        ensures { IfOk result (λ whole. (t : ThePlan) (text : List ℕ) → Cuts self t text → IsCutUp t text whole) }
     {
         let FileCuts {
             file,
@@ -265,6 +273,7 @@ impl FileCuts {
         file.end()?;
         Ok(WholeCuts {
             cuts,
+            length,
             header_bytes: header_bytes.unwrap_or(length),
         })
     }

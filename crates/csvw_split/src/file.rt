@@ -63,7 +63,7 @@ pub(crate) struct FileRows {
 }
 
 impl FileRows {
-    ghost use Rattle.csvw_split.specs.FileState.{Follows, HasRows, data_rows_of, given_of, rows_of};
+    ghost use Rattle.csvw_split.specs.FileState.{Follows, HasGiven, HasRows, data_rows_of, given_of, rows_of};
 
     /// Returns the rows of no bytes yet, or `AllocError` if memory runs out.
     pub(crate) fn new(alloc: Global, dialect: Dialect) -> Result<FileRows, AllocError>
@@ -101,7 +101,8 @@ impl FileRows {
 
     /// Returns whether a row ends where the bytes end.
     pub(crate) fn is_at_row_end(&self) -> bool
-        ensures { (d : TheDialect) (text : List ℕ) → Follows self.now d text → result ≡ true → HasRows d text (rows_of self.now) (data_rows_of self.now) }
+        ensures rows { (d : TheDialect) (text : List ℕ) → Follows self.now d text → result ≡ true → HasRows d text (rows_of self.now) (data_rows_of self.now) }
+        ensures given { (d : TheDialect) (text : List ℕ) → Follows self.now d text → result ≡ true → HasGiven d text (rows_of self.now) (given_of self.now) }
     {
         self.rows.unread_bytes() == 0 && self.rows.row() > 1
     }

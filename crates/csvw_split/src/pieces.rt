@@ -1,13 +1,16 @@
 //! The pieces of files by their cuts.
 ghost use Rattle.std.specs.Prelude.{◌≡◌, [], ℕ, List, Option, OnOk};
-ghost use Rattle.csvw_records.specs.declared.dialect.Dialect.{Dialect as TheDialect};
-ghost use Rattle.csvw_split.specs.Split.{Adds, AreCutsOf, Pushes};
+ghost use Rattle.csvw_columns.specs.declared.plan.TablePlan.{TablePlan as ThePlan};
+ghost use Rattle.csvw_part_plan.specs.Plans.{TileFront};
+ghost use Rattle.csvw_split.specs.Adding.{AddsFile, AreCutsOf, Pushes};
 
 use crate::cuts::{Cut, START, WholeCuts};
 use crate::shares::Shares;
-use csvw_part_plan::Piece;
+use crate::stop::SplitStop;
+use csvw_part_plan::laws::tiling_goes_on;
+use csvw_part_plan::{Piece, fault_after};
 use csvw_text::Seq;
-use std::alloc::{AllocError, Global};
+use std::alloc::Global;
 
 /// The pieces of the files so far.
 #[derive(Drop)]
@@ -52,11 +55,12 @@ impl Pieces {
         }
     }
 
-    /// Adds a piece that begins at a cut and ends at a place.
-    fn push(&mut self, table: u32, cut: Cut, end: u64, header_bytes: u64) -> Result<(), AllocError>
-        ensures { OnOk result (Pushes table cut self.old.pieces self.new.pieces) }
+    /// Adds a piece that begins at a cut and ends at a place. Returns `NoPlan` if it breaks a rule of plans.
+    fn push(&mut self, table: u32, cut: Cut, end: u64, header_bytes: u64) -> Result<(), SplitStop>
+        ensures piece { OnOk result (Pushes table cut end header_bytes self.old.pieces self.new.pieces) }
+        ensures tiles { OnOk result (TileFront self.old.pieces → TileFront self.new.pieces) }
     {
-        self.pieces.push(Piece {
+        let piece = Piece {
             part: self.part,
             table,
             first_byte: cut.first_byte,
@@ -64,17 +68,21 @@ impl Pieces {
             rows_before: cut.rows_before,
             data_rows_before: cut.data_rows_before,
             header_bytes,
-        })
+        };
+        if fault_after(self.pieces.as_slice(), &piece).is_some() {
+            return Err(SplitStop::NoPlan);
+        }
+        tiling_goes_on();
+        match self.pieces.push(piece) {
+            Ok(()) => Ok(()),
+            Err(_) => Err(SplitStop::Memory),
+        }
     }
 
     /// Adds the pieces of the next file. Its first piece begins a part if another share begins there.
-    pub(crate) fn add(
-        &mut self,
-        table: u32,
-        length: u64,
-        whole: &WholeCuts,
-    ) -> Result<(), AllocError>
-        ensures { OnOk result ((d : TheDialect) (known : Option (List ℕ)) → AreCutsOf d known whole.now.cuts → Adds table d known self.old.pieces self.new.pieces) }
+    pub(crate) fn add(&mut self, table: u32, whole: &WholeCuts) -> Result<(), SplitStop>
+        ensures adds { OnOk result ((t : ThePlan) (known : Option (List ℕ)) → t.number ≡ table → AreCutsOf t known whole.now → AddsFile t known self.old.pieces self.new.pieces) }
+        ensures tiles { OnOk result (TileFront self.old.pieces → TileFront self.new.pieces) }
     {
         self.begin_table();
         let mut begin = START;
@@ -83,8 +91,8 @@ impl Pieces {
             self.begin_part(cut.first_byte);
             begin = *cut;
         }
-        self.push(table, begin, length, whole.header_bytes)?;
-        self.shares = self.shares.after(length);
+        self.push(table, begin, whole.length, whole.header_bytes)?;
+        self.shares = self.shares.after(whole.length);
         Ok(())
     }
 }

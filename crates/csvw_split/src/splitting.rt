@@ -1,9 +1,11 @@
 //! `split`: the pieces of parts of about equally many bytes.
-ghost use Rattle.std.specs.Prelude.{◌≡◌, [], IfOk, OnOk};
-ghost use Rattle.csvw_records.specs.declared.dialect.Dialect.{Dialect as TheDialect};
+ghost use Rattle.std.specs.Prelude.{◌<◌, [], ℕ, List, length, IfOk, OnOk};
+ghost use Rattle.csvw_columns.specs.declared.plan.TablePlan.{TablePlan as ThePlan};
+ghost use Rattle.csvw_part_plan.specs.Plans.{TileFront};
 ghost use Rattle.csvw_streams.specs.Counted.{inner_of};
-ghost use Rattle.csvw_split.specs.Cuts.{Cuts};
-ghost use Rattle.csvw_split.specs.Split.{Adds, AreCuts, AreCutsOf};
+ghost use Rattle.csvw_split.specs.Cuts.{Cuts, IsCutUp};
+ghost use Rattle.csvw_split.specs.Adding.{AddsFile, AreCutsOf};
+ghost use Rattle.csvw_split.specs.Split.{AreCuts, AreWholeFiles, HaveFronts, TilesAll};
 
 use crate::cuts::{FileCuts, WholeCuts};
 use crate::file::Halt;
@@ -49,7 +51,7 @@ fn of_halt(table: u32, halt: Halt) -> SplitStop {
 
 /// Ends a file. Returns its cuts.
 fn finished(cuts: FileCuts, table: u32) -> Result<WholeCuts, SplitStop>
-    ensures { IfOk result (λ whole. whole.cuts ≡ cuts.cuts) }
+    ensures { IfOk result (λ whole. (t : ThePlan) (text : List ℕ) → Cuts cuts t text → IsCutUp t text whole) }
 {
     if cuts.left() != 0 {
         return Err(SplitStop::Length { table });
@@ -67,7 +69,8 @@ fn read_cuts<R: Read>(
     reader: &mut Counted<R>,
     room: &mut [u8],
 ) -> Result<WholeCuts, SplitStop>
-    ensures { IfOk result (λ whole. (d : TheDialect) → Cuts begun d [] → AreCutsOf d (R.remaining (inner_of reader.old)) whole.cuts) }
+    requires { 0 < length room.old }
+    ensures { IfOk result (λ whole. (t : ThePlan) → Cuts begun t [] → AreCutsOf t (R.remaining (inner_of reader.old)) whole) }
 {
     let mut cuts = begun;
     for _ in 0..MAX_READS {
@@ -101,10 +104,10 @@ fn split_table<R: Read>(
     alloc: Global,
     table: &TablePlan,
     file: &mut TableFile<R>,
-    room: &mut [u8],
     pieces: &mut Pieces,
 ) -> Result<(), SplitStop>
-    ensures { OnOk result (Adds table.now.number table.now.dialect (R.remaining (inner_of file.old.reader)) pieces.old.pieces pieces.new.pieces) }
+    ensures adds { OnOk result (AddsFile table.now (R.remaining (inner_of file.old.reader)) pieces.old.pieces pieces.new.pieces) }
+    ensures tiles { OnOk result (TileFront pieces.old.pieces → TileFront pieces.new.pieces) }
 {
     let number = table.number;
     let Ok(begun) = FileCuts::new(alloc, table, file.length, pieces.shares) else {
@@ -113,11 +116,11 @@ fn split_table<R: Read>(
     let Some(cuts) = begun else {
         return Err(SplitStop::Dialect { table: number });
     };
-    let whole = read_cuts(cuts, number, &mut file.reader, room)?;
-    match pieces.add(number, file.length, &whole) {
-        Ok(()) => Ok(()),
-        Err(_) => Err(SplitStop::Memory),
-    }
+    let Ok(mut room) = vec![in alloc; 0u8; PIECE] else {
+        return Err(SplitStop::Memory);
+    };
+    let whole = read_cuts(cuts, number, &mut file.reader, room.as_mut_slice())?;
+    pieces.add(number, &whole)
 }
 
 /// Returns the pieces of at most so many parts, with about equally many bytes each. A piece begins at the start of a file, or
@@ -130,6 +133,7 @@ fn split_table<R: Read>(
 /// - `Length` if a file has another length than was said.
 /// - `Rows` with the first row of a table that can't be read.
 /// - `Dialect` if the dialect of a table reads no text.
+/// - `NoPlan` if the tables aren't numbered from 1, in order.
 /// - `Memory` if memory runs out.
 pub fn split<R: Read>(
     alloc: Global,
@@ -137,23 +141,21 @@ pub fn split<R: Read>(
     files: &mut [TableFile<R>],
     parts: u32,
 ) -> Result<Seq<Piece>, SplitStop>
-    ensures { IfOk result (AreCuts R.remaining tables.now files.old) }
+    ensures cuts { IfOk result (AreCuts R.remaining tables.now files.old) }
+    ensures fronts { IfOk result (HaveFronts R.remaining tables.now files.old) }
+    ensures whole { IfOk result (AreWholeFiles R.remaining tables.now files.old) }
+    ensures tiles { IfOk result (TilesAll tables.now) }
 {
     if tables.len() != files.len() {
         return Err(SplitStop::TableCount);
     }
-    let Ok(mut room) = vec![in alloc; 0u8; PIECE] else {
-        return Err(SplitStop::Memory);
-    };
     let mut pieces = Pieces::new(alloc, Shares::new(total_length(files), parts));
     for i in 0..files.len() {
-        split_table(
-            alloc,
-            &tables[i],
-            &mut files[i],
-            room.as_mut_slice(),
-            &mut pieces,
-        )?;
+        let table = &tables[i];
+        if u64::from(table.number) != i as u64 + 1 {
+            return Err(SplitStop::NoPlan);
+        }
+        split_table(alloc, table, &mut files[i], &mut pieces)?;
     }
     Ok(pieces.pieces)
 }

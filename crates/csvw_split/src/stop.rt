@@ -16,6 +16,8 @@ pub enum SplitStop {
         /// The table's number in its group, from 1.
         table: u32,
     },
+    /// The pieces don't tile the files: the tables aren't numbered from 1, in order.
+    NoPlan,
     /// The reader of a table failed, or 2^40 reads of it were made.
     Read {
         /// The table's number in its group, from 1.
@@ -45,6 +47,7 @@ impl fmt::Display for SplitStop {
             SplitStop::Dialect { table } => {
                 write!(f, "table {table}: its dialect reads no text")
             }
+            SplitStop::NoPlan => f.write_str("the pieces don't tile the files"),
             SplitStop::Read { table } => write!(f, "table {table}: its file can't be read"),
             SplitStop::Length { table } => {
                 write!(f, "table {table}: its file has another length than before")

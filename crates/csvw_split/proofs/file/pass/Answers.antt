@@ -1,5 +1,5 @@
 -- The rows before, and one more or none.
-use Rattle.std.proofs.Common.{◌≡◌, false, true, refl, rules, add-zero, sym, ◌∙◌}
+use Rattle.std.proofs.Common.{◌≡◌, refl, rules, add-zero, sym, ◌∙◌}
 use Rattle.csvw_split.proofs.FileLemmas.{many_more}
 use Rattle.csvw_split.proofs.file.pass.Goals as goal
 
