@@ -59,7 +59,7 @@ pub fn run_keys<O: Opener, W: Write, V: Write>(
         profile: asked.profile,
     };
     if let Err(stop) = plan_of(alloc, document, opener) {
-        return tell_stop(&stop, err);
+        return stop.tell(err);
     }
     let Some(reader) = opener.open(STANDARD_INPUT) else {
         return tell_stop(&Stop::Read, err);

@@ -3,7 +3,7 @@ ghost use Rattle.std.specs.Prelude.{◌≤◌, IfOk};
 ghost use Rattle.csvw_columns.specs.Ready.{AreReady};
 
 use crate::group::GroupRun;
-use crate::plans::{DocumentFile, plan_of, read_file};
+use crate::plans::{DocumentFile, FileStop, plan_of, read_file, unread};
 use crate::shown::is_default;
 use crate::tell::{outcome_status, tell_mistake, tell_refused, tell_stop};
 use csvw_columns::Plan;
@@ -37,24 +37,24 @@ const KEYS_READ: &str = "csvw: --keys names a file that is read, or standard inp
 
 /// Why a part isn't run.
 #[derive(Drop)]
-enum NoRun {
+enum NoRun<'a> {
     /// The command line is wrong in this way.
     Mistake(&'static str),
     /// The plan or a file is refused, with this line.
     Refused(String),
-    /// It stops.
-    Stop(Stop),
+    /// A file can't be read, or it stops.
+    Stop(FileStop<'a>),
 }
 
-impl From<Stop> for NoRun {
-    fn from(stop: Stop) -> NoRun {
+impl<'a> From<FileStop<'a>> for NoRun<'a> {
+    fn from(stop: FileStop<'a>) -> NoRun<'a> {
         NoRun::Stop(stop)
     }
 }
 
-impl From<AllocError> for NoRun {
-    fn from(_: AllocError) -> NoRun {
-        NoRun::Stop(Stop::Memory)
+impl<'a> From<AllocError> for NoRun<'a> {
+    fn from(_: AllocError) -> NoRun<'a> {
+        NoRun::Stop(FileStop::Stop(Stop::Memory))
     }
 }
 
@@ -68,7 +68,11 @@ struct Part {
 }
 
 /// Reads the plan of the parts.
-fn read_part<O: Opener>(alloc: Global, group: &Group<'_>, opener: &mut O) -> Result<Part, NoRun> {
+fn read_part<'a, O: Opener>(
+    alloc: Global,
+    group: &Group<'a>,
+    opener: &mut O,
+) -> Result<Part, NoRun<'a>> {
     let (Some(number), Some(path)) = (group.part, group.plan) else {
         return Err(NoRun::Mistake(TOGETHER));
     };
@@ -109,7 +113,11 @@ fn has_keys(plan: &Plan) -> bool {
 }
 
 /// Reads the metadata, and makes the plan of the group.
-fn read_group<O: Opener>(alloc: Global, group: &Group<'_>, opener: &mut O) -> Result<Plan, NoRun>
+fn read_group<'a, O: Opener>(
+    alloc: Global,
+    group: &Group<'a>,
+    opener: &mut O,
+) -> Result<Plan, NoRun<'a>>
     ensures { IfOk result (λ plan. AreReady plan.tables) }
 {
     let document = DocumentFile {
@@ -119,7 +127,7 @@ fn read_group<O: Opener>(alloc: Global, group: &Group<'_>, opener: &mut O) -> Re
     };
     let plan = plan_of(alloc, document, opener)?;
     if plan.tables().len() != group.files.len() {
-        return Err(NoRun::Stop(Stop::TableCount));
+        return Err(NoRun::Stop(FileStop::Stop(Stop::TableCount)));
     }
     match group.keys {
         None if has_keys(&plan) => Err(NoRun::Mistake(KEYS)),
@@ -152,7 +160,8 @@ fn run_with_keys<O: Opener, S: TripleSink>(
         },
         None => None,
     };
-    run_part(request, opener, sink, records)
+    let run = run_part(request, opener, sink, records)?;
+    Ok(run.outcome)
 }
 
 /// Writes the lines of the rows of a part, and then its report.
@@ -177,13 +186,19 @@ fn write_part<O: Opener, W: Write, V: Write>(
     Ok(outcome)
 }
 
-/// Reports how a part ended. Returns the status.
-fn tell_part<V: Write>(alloc: Global, ran: &Result<Outcome, PartStop>, err: &mut Counted<V>) -> u8
+/// Reports how a part of these files ended. Returns the status.
+fn tell_part<V: Write>(
+    alloc: Global,
+    files: &[&str],
+    ran: &Result<Outcome, PartStop>,
+    err: &mut Counted<V>,
+) -> u8
     ensures { result ≤ 4 }
 {
     match ran {
         Ok(outcome) => outcome_status(outcome),
         Err(PartStop::Stop(stop)) => tell_stop(stop, err),
+        Err(PartStop::Unread { table }) => unread(*table, files).tell(err),
         Err(PartStop::Plan(differs)) => {
             let mut line = String::new(alloc);
             match write!(line, "csvw: plan {differs}\n") {
@@ -203,11 +218,11 @@ fn has_all_tables(part: &Part, plan: &Plan) -> bool {
 }
 
 /// Reads what a part needs before its rows.
-fn read_plans<O: Opener>(
+fn read_plans<'a, O: Opener>(
     alloc: Global,
-    group: &Group<'_>,
+    group: &Group<'a>,
     opener: &mut O,
-) -> Result<(Part, Plan), NoRun>
+) -> Result<(Part, Plan), NoRun<'a>>
     ensures { IfOk result (λ plans. AreReady plans.1.tables) }
 {
     let part = read_part(alloc, group, opener)?;
@@ -215,7 +230,7 @@ fn read_plans<O: Opener>(
     if has_all_tables(&part, &plan) {
         Ok((part, plan))
     } else {
-        Err(NoRun::Stop(Stop::TableCount))
+        Err(NoRun::Stop(FileStop::Stop(Stop::TableCount)))
     }
 }
 
@@ -235,7 +250,7 @@ pub(crate) fn run_one_part<O: Opener, W: Write, V: Write>(
         Ok(read) => read,
         Err(NoRun::Mistake(text)) => return tell_mistake(text, err),
         Err(NoRun::Refused(line)) => return tell_refused(line.as_str(), err),
-        Err(NoRun::Stop(stop)) => return tell_stop(&stop, err),
+        Err(NoRun::Stop(stop)) => return stop.tell(err),
     };
     let request = PartRequest {
         alloc,
@@ -249,5 +264,5 @@ pub(crate) fn run_one_part<O: Opener, W: Write, V: Write>(
         Mode::Validate => write_part(request, group.keys, opener, err, out),
         Mode::Minimal | Mode::Standard => write_part(request, group.keys, opener, out, err),
     };
-    tell_part(alloc, &ran, err)
+    tell_part(alloc, group.files.as_slice(), &ran, err)
 }

@@ -1,13 +1,54 @@
 //! The plan of a group whose document is a file.
-ghost use Rattle.std.specs.Prelude.{IfOk};
+ghost use Rattle.std.specs.Prelude.{◌≤◌, IfOk};
 ghost use Rattle.csvw_columns.specs.Ready.{AreReady};
 
 use crate::profile::profile_of;
+use crate::tell::tell_stop;
 use csvw_columns::Plan;
 use csvw_engine::{Stop, planned};
-use csvw_files::{Opener, read_document};
+use csvw_files::{Opener, note_unread, read_document};
 use csvw_text::Counted;
 use std::alloc::Global;
+use std::io::Write;
+
+/// Why a command that reads files stops.
+#[derive(Drop)]
+pub(crate) enum FileStop<'a> {
+    /// The file at this path can't be opened or read.
+    Unread(&'a str),
+    /// It stops as a run does.
+    Stop(Stop),
+}
+
+impl<'a> From<Stop> for FileStop<'a> {
+    fn from(stop: Stop) -> FileStop<'a> {
+        FileStop::Stop(stop)
+    }
+}
+
+impl FileStop<'_> {
+    /// Reports the stop: a file that can't be read in a line that names it, and then the stop in its line. Returns the
+    /// status.
+    pub(crate) fn tell<V: Write>(&self, err: &mut Counted<V>) -> u8
+        ensures { result ≤ 4 }
+    {
+        match self {
+            FileStop::Unread(path) => {
+                note_unread(path, err);
+                tell_stop(&Stop::Read, err)
+            }
+            FileStop::Stop(stop) => tell_stop(stop, err),
+        }
+    }
+}
+
+/// Returns that the file of a table can't be read. The first of the paths is that of table 1.
+pub(crate) fn unread<'a>(table: u32, paths: &[&'a str]) -> FileStop<'a> {
+    match paths.get((table as usize).wrapping_sub(1)) {
+        Some(path) => FileStop::Unread(path),
+        None => FileStop::Stop(Stop::Read),
+    }
+}
 
 /// A metadata document in a file.
 #[derive(Clone, Copy)]
@@ -21,29 +62,36 @@ pub(crate) struct DocumentFile<'a> {
 }
 
 /// Reads a file of at most the length of a document, or one byte more.
-pub(crate) fn read_file<O: Opener>(
+pub(crate) fn read_file<'a, O: Opener>(
     alloc: Global,
-    path: &str,
+    path: &'a str,
     opener: &mut O,
-) -> Result<Vec<u8>, Stop> {
+) -> Result<Vec<u8>, FileStop<'a>> {
     let Some(reader) = opener.open(path) else {
-        return Err(Stop::Read);
+        return Err(FileStop::Unread(path));
     };
     let mut reader = Counted::new(reader);
     let read = read_document(alloc, &mut reader);
     opener.close(reader);
-    read
+    match read {
+        Ok(bytes) => Ok(bytes),
+        Err(Stop::Read) => Err(FileStop::Unread(path)),
+        Err(stop) => Err(FileStop::Stop(stop)),
+    }
 }
 
 /// Reads a metadata document, and plans its tables.
-pub(crate) fn plan_of<O: Opener>(
+pub(crate) fn plan_of<'a, O: Opener>(
     alloc: Global,
-    document: DocumentFile<'_>,
+    document: DocumentFile<'a>,
     opener: &mut O,
-) -> Result<Plan, Stop>
+) -> Result<Plan, FileStop<'a>>
     ensures { IfOk result (λ plan. AreReady plan.tables) }
 {
     let meta = read_file(alloc, document.path, opener)?;
     let profile = profile_of(document.profile);
-    planned(alloc, meta.as_slice(), document.base, profile)
+    match planned(alloc, meta.as_slice(), document.base, profile) {
+        Ok(plan) => Ok(plan),
+        Err(stop) => Err(FileStop::Stop(stop)),
+    }
 }

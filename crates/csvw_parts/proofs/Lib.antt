@@ -1,4 +1,11 @@
+mod Bodies
+mod Chains
+mod Gains
 mod Joining
 mod Lists
+mod Opening
 mod Pieces
 mod Ready
+mod Recording
+mod Starting
+mod Taking

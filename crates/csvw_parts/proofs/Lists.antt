@@ -1,6 +1,6 @@
--- Lists and bytes.
-use Rattle.std.proofs.Common.{◌≡◌, ℕ, List, [], ◌∷◌, length, refl, arith}
+-- Lists without elements.
+use Rattle.std.proofs.Common.{◌≡◌, List, [], ◌∷◌, length, refl, arith}
 
-pub no_bytes : (l : List ℕ) → length l ≡ 0 → l ≡ []
-no_bytes [] e = refl
-no_bytes (x ∷ xs) e = absurd (omega (arith, e))
+pub none_left : {X : Type 0} (l : List X) → length l ≡ 0 → l ≡ []
+none_left [] e = refl
+none_left (x ∷ xs) e = absurd (omega (arith, e))

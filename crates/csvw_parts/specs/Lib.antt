@@ -1,3 +1,12 @@
+pub mod Fronts
 pub mod Joining
+pub mod Outlets
+pub mod PartGains
+pub mod PartRows
+pub mod PartRuns
+pub mod PartSteps
 pub mod Parts
+pub mod PieceRows
 pub mod Pieces
+pub mod Reading
+pub mod Recording

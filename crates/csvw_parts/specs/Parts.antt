@@ -1,6 +1,6 @@
 -- A piece of a table after bytes that were read, after rows that another part reads, and at its end: `ReadsPart`, `SkipsPart`,
 -- `EndsPart`, `EndsAtRow`.
-use Rattle.std.specs.Prelude.{◌≡◌, ◌<◌, ◌+◌, ℕ, Bool, false, List, ◌++◌, length, Option, Result, Ok, Err}
+use Rattle.std.specs.Prelude.{◌≡◌, ◌<◌, ◌+◌, ℕ, Bool, false, List, [], ◌++◌, length, Option, Result, Ok, Err}
 use Rattle.std.specs.Io.KnownBytes.{Consumes, IsAtEnd}
 use Rattle.csvw_records.specs.Files.{Body, remaining}
 use Rattle.csvw_records.specs.Files.{Row as Record}
@@ -74,3 +74,8 @@ abbrev pub EndsAtRow : TablePart → ℕ → Type 0
 EndsAtRow part rows = (mode : Mode) (bytes : List ℕ) (given : List Given) (annotated : List Row)
     → TableHolds part.plan.now mode part.table bytes false given annotated → 0 < rows
     → (whole : List Record) × AreWholeRows part.plan.now.dialect bytes whole × (Body part.plan.now.dialect whole ≡ given) × (length whole ≡ rows)
+
+-- If no row of any kind was read, none was given.
+abbrev pub HasNoRow : TablePart → ℕ → Type 0
+HasNoRow part rows = (mode : Mode) (bytes : List ℕ) (given : List Given) (annotated : List Row)
+    → TableHolds part.plan.now mode part.table bytes false given annotated → rows ≡ 0 → given ≡ []

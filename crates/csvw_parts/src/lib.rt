@@ -15,6 +15,14 @@
 //!   so far are whole rows then (`EndsAtRow`), which is what `skip_to` needs for the next piece.
 //! - The triples and the faults of all pieces, one after the other, are those of the whole table: the law
 //!   `pieces_join`.
+//! - `run_part` reads the pieces of one part, in the order of the plan (`RunsPart`). Each reader is one that the opener
+//!   returned, and is handed back. What a part gives is said for all bytes that may come before its pieces (`HaveBefore`):
+//!   - The sink took the opening, if this is part 1, and then the triples of the rows of the pieces, as rows of the whole
+//!     tables (`GivesPart`). A row ends where the piece ends, after as many rows as the plan says, or the file ends there.
+//!   - The faults, which are sorted, are the warnings of the tables that begin in the part, the faults of their headers, and
+//!     those of the cells of the rows.
+//!   - If records are asked for, the lines of those of all keys of the rows were written, in some order (`SendsRecords`).
+//!     The writer was flushed, and is handed back.
 #![tactic(auto)]
 
 mod fault;
@@ -28,4 +36,5 @@ mod stop;
 pub use fault::PartFault;
 pub use part::{RowsBefore, TablePart};
 pub use run::{PartRequest, run_part};
+pub use state::PartRun;
 pub use stop::{Differs, Mismatch, PartStop};

@@ -1,10 +1,10 @@
 //! A piece of a table that is read.
-ghost use Rattle.std.specs.Prelude.{◌≡◌, IfOk, MatchOption, OnOk, false, true, ◌++◌};
+ghost use Rattle.std.specs.Prelude.{◌≡◌, IfOk, IfSome, MatchOption, OnOk, false, true, ◌++◌};
 ghost use Rattle.csvw_columns.specs.Ready.{IsReady};
 ghost use Rattle.csvw_engine_core.specs.Skipping.{SkipsTable, can_skip_table};
 ghost use Rattle.csvw_engine_core.specs.Tables.{IsNewTable, faults_of, header_faults_of, is_ended, outlets};
 ghost use Rattle.csvw_rows.specs.Skips.{unread_bytes_of};
-ghost use Rattle.csvw_parts.specs.Parts.{EndsAtRow, EndsPart, ReadsPart};
+ghost use Rattle.csvw_parts.specs.Parts.{EndsAtRow, EndsPart, HasNoRow, ReadsPart};
 
 use crate::fault::PartFault;
 use crate::reading::{PIECE, buffer_of, read_piece};
@@ -106,7 +106,8 @@ impl<'a> TablePart<'a> {
     /// Returns how many rows of all kinds there are from the start of the file, or `None` if no row ends where reading
     /// ended.
     pub fn rows_here(&self) -> Option<u64>
-        ensures { MatchOption result (unread_bytes_of self.now.table.rows ≡ 0 → ⊥) (EndsAtRow self.now) }
+        ensures ends { MatchOption result (unread_bytes_of self.now.table.rows ≡ 0 → ⊥) (EndsAtRow self.now) }
+        ensures none { IfSome result (HasNoRow self.now) }
     {
         row_ends();
         if self.table.unread_bytes() > 0 {

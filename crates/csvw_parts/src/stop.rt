@@ -54,8 +54,13 @@ impl fmt::Display for Differs {
 /// Why a part stops.
 #[derive(Debug, Drop, PartialEq, Eq)]
 pub enum PartStop {
-    /// A table, a file, a stream or memory stops it.
+    /// A table, a stream or memory stops it.
     Stop(Stop),
+    /// The file of a table can't be opened or read.
+    Unread {
+        /// The number of the table, from 1.
+        table: u32,
+    },
     /// The plan isn't one of the files.
     Plan(Differs),
 }
