@@ -16,7 +16,7 @@ use Rattle.csvw_keys.specs.KeyRules.{key_faults, rules_of}
 use Rattle.csvw_join_laws.specs.Joining.{AreCutInto, PartsJoin, Planned, TablePiece, piece_faults, piece_triples, pieces_of, whole}
 
 -- by parts or by pieces
-by_parts : {X Y : Type 0} (f : X → List Y) (parts : List (List X)) → flat_map (flat_map f) parts ≡ flat_map f (flat_map (λ part. part) parts)
+pub by_parts : {X Y : Type 0} (f : X → List Y) (parts : List (List X)) → flat_map (flat_map f) parts ≡ flat_map f (flat_map (λ part. part) parts)
 by_parts f [] = refl
 by_parts f (part ∷ parts) = ap (λ l. flat_map f part ++ l) (by_parts f parts) ∙ sym (flat_map-append f part (flat_map (λ p. p) parts))
 
@@ -35,7 +35,7 @@ module _ {Y : Type 0} (f : TablePlan → Columns → List Row → List Y) (none 
       (of_table t ps (All-tail has_plan p ps plans) (All-tail has_columns p ps columns))
       ∙ sym (more t.0 t.1.columns p.rows (flat_map (λ q. q.rows) ps))
 
-  of_tables : (tables : List Planned) (pieces : List TablePiece) → AreCutInto tables pieces
+  pub of_tables : (tables : List Planned) (pieces : List TablePiece) → AreCutInto tables pieces
       → flat_map of_piece pieces ≡ flat_map (λ t. of_piece (whole t)) tables
   of_tables [] pieces cut = ap (flat_map of_piece) cut
   of_tables (t ∷ tables) pieces cut =

@@ -1,1 +1,7 @@
+mod Chains
 mod Joins
+mod Keys
+mod Places
+mod Ranges
+mod Running
+mod Taking

@@ -1,1 +1,5 @@
+pub mod Finding
 pub mod Joining
+pub mod Keys
+pub mod PlanPieces
+pub mod Running

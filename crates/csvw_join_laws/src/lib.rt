@@ -9,6 +9,15 @@
 //!   `parts_join` (`JoinedParts`).
 //! - The faults of the cells of all parts, with the warnings of the metadata, the faults of the headers and those of the
 //!   keys, are the violations of the group: the law `parts_join`.
+//! - The faults of the keys are those that the joined records of the rows of all parts show, in any order: the law
+//!   `keys_join` (`AreFoundByParts`). It asks nothing of source numbers, since the rows of annotated tables are those of files.
+//! - The pieces of every plan that `split` of csvw_split returns are pieces of the annotated tables of its files: the law
+//!   `cuts_are_pieces` (`ArePiecesOfTables`). A piece has the rows of its table from its count of data rows on, up to the count of the
+//!   next piece. The bytes before it are the rows before them.
+//! - Before each piece of a part that ran over such a plan come the bytes of its file before it, and the first rows of its table, so
+//!   what `run_part` of csvw_parts promises holds: the law `parts_give` (`PartGives`).
+//! - The rows that a part finds up to a later piece are the first rows of the annotated table, and those up to the end of the file are
+//!   all: the law `find_rows` (`FindRows`).
 #![tactic(auto)]
 
 pub mod laws;
