@@ -10,10 +10,11 @@ use crate::kept::{Purpose, Room};
 use crate::keys::Named;
 use crate::note::note_limits;
 use crate::reading::{Place, read_file};
+use crate::table::Table;
 use crate::urls::{last_part, urls_of};
 use csvw_columns::Plan;
 use csvw_engine_core::Stop;
-use csvw_files::Opener;
+use csvw_files::{Opener, note_unread};
 use csvw_meta::{Description, MetaFault, ReadDescription};
 use csvw_streams::{Counted, write_out};
 use std::alloc::{AllocError, Global};
@@ -110,6 +111,22 @@ fn judged(alloc: Global, bytes: &[u8], url: &str) -> Result<(), MetaFault>
     Ok(())
 }
 
+/// Opens the file at a path and reads the table. A file that can't be opened or read is named on `err`.
+fn read_named<O: Opener, V: Write>(
+    path: &str,
+    opener: &mut O,
+    place: Place,
+    room: &mut Room,
+    reports: (Global, &mut Counted<V>),
+) -> Result<Table, Halt> {
+    let (alloc, err) = reports;
+    let read = read_file(alloc, path, opener, place, room);
+    if let Err(Halt::Read) = &read {
+        note_unread(path, err);
+    }
+    read
+}
+
 /// Adds the table of each file.
 fn push_tables<O: Opener, V: Write>(
     tables: &mut Vec<Named>,
@@ -129,7 +146,8 @@ fn push_tables<O: Opener, V: Write>(
     };
     for path in files {
         place.number = place.number.saturating_add(1);
-        tables.push(Named::new(alloc, read_file(alloc, path, opener, place, &mut room)?))?;
+        let table = read_named(path, opener, place, &mut room, (alloc, err))?;
+        tables.push(Named::new(alloc, table))?;
         if let Some(named) = tables.last_mut() {
             note_limits(alloc, path, named.table.columns.as_slice(), err)?;
             named.find(stem(path))?;

@@ -4,9 +4,12 @@
 //!
 //! - `read_document` returns the bytes of its reader, as far as the limit of a document shows (`IsDocument`). `Read`
 //!   comes only if that reader failed (`IsReadStop`).
+//! - Tested alone: `note_unread` writes a line that names a file which can't be read.
 #![tactic(auto)]
 
 mod document;
+mod unread;
 
 pub use csvw_opener::{Colors, FileOpener, Input, Opener, ProgressShown, STANDARD_INPUT};
 pub use document::read_document;
+pub use unread::note_unread;
