@@ -117,18 +117,29 @@ pub(crate) fn place_of_fault(alloc: Global, bytes: &[u8], fault: &MetaFault) -> 
     }
 }
 
-/// Adds a fault of the document: its place by lines and columns, its pointer, its code and what to do. A line of 0 is not
-/// shown.
+/// A fault of the document that is shown.
+#[derive(Clone, Copy)]
+pub(crate) struct Told<'a> {
+    /// The fault.
+    pub(crate) fault: &'a MetaFault,
+    /// Its line and its column, both from 1. A line of 0 is not shown.
+    pub(crate) place: (usize, usize),
+    /// A line that follows what else helps with it, or nothing.
+    pub(crate) note: &'static str,
+}
+
+/// Adds a fault of the document: its place by lines and columns, its pointer, its code and what to do.
 pub(crate) fn tell_fault(
     page: &mut Page,
     group: &Group<'_>,
     bytes: &[u8],
-    fault: &MetaFault,
-    place: (usize, usize),
+    told: Told<'_>,
 ) -> Result<(), AllocError> {
+    let Told { fault, place, note } = told;
     let (line, column) = place;
     let mut hints = String::new(page.alloc);
     push_document_hints(&mut hints, page.alloc, group, bytes, fault)?;
+    hints.push_str(note)?;
     let sentence = fault.code.to_string(page.alloc)?;
     page.stop(&StopShown {
         name: fault.code.name(),
@@ -150,8 +161,12 @@ pub(crate) fn tell_refused(
     bytes: &[u8],
     fault: &MetaFault,
 ) -> Result<(), AllocError> {
-    let place = place_of_fault(page.alloc, bytes, fault);
-    tell_fault(page, group, bytes, fault, place)
+    let told = Told {
+        fault,
+        place: place_of_fault(page.alloc, bytes, fault),
+        note: "",
+    };
+    tell_fault(page, group, bytes, told)
 }
 
 /// Adds a stop that is at no place of a file. The path is empty if it is of no file.

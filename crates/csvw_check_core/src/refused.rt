@@ -1,7 +1,8 @@
 //! A document that is refused, with all of its faults.
 
-use crate::document::{place_of_fault, tell_fault, tell_refused};
-use csvw_hints::Group;
+use crate::document::{Told, place_of_fault, tell_fault};
+use csvw_hints::{Group, show_unknown};
+use csvw_meta::document::MAX_DOCUMENT;
 use csvw_meta::{MetaCode, MetaFault, Profile};
 use csvw_meta_faults::faults_in;
 use csvw_page::{MoreShown, Page};
@@ -17,6 +18,10 @@ const PLACED: usize = 1_000;
 
 /// How many bytes the pointers of all faults may take, at each depth of the document, so that they are listed.
 const MOST: usize = 16_777_216;
+
+/// What is told if the faults aren't listed. A document that is refused has at least one.
+const NOT_LISTED: &str =
+    "    other faults aren't listed: the names in the document are too long, or memory is short\n";
 
 /// What is known of the bytes of a document so far.
 #[derive(Clone, Copy)]
@@ -178,6 +183,25 @@ fn tell_more(page: &mut Page, path: &str, counts: &[(MetaCode, u64)]) -> Result<
     Ok(())
 }
 
+/// Returns a fault of the list as it is shown.
+fn listed(fault: &MetaFault, place: (usize, usize)) -> Told<'_> {
+    Told {
+        fault,
+        place,
+        note: "",
+    }
+}
+
+/// Adds the fault by which the document is refused, if the faults aren't listed.
+fn tell_first(page: &mut Page, group: &Group<'_>, refused: &Refused<'_>) -> Result<(), AllocError> {
+    let told = Told {
+        fault: refused.fault,
+        place: place_of_fault(page.alloc, refused.bytes, refused.fault),
+        note: NOT_LISTED,
+    };
+    tell_fault(page, group, refused.bytes, told)
+}
+
 /// Adds the faults that are chosen.
 fn tell_chosen(
     page: &mut Page,
@@ -187,26 +211,40 @@ fn tell_chosen(
 ) -> Result<(), AllocError> {
     for (place, index) in chosen.places.iter() {
         if let Some(fault) = refused.faults.get(*index) {
-            tell_fault(page, group, refused.bytes, fault, *place)?;
+            tell_fault(page, group, refused.bytes, listed(fault, *place))?;
         }
     }
     for index in chosen.others.iter() {
         if let Some(fault) = refused.faults.get(*index) {
-            tell_fault(page, group, refused.bytes, fault, (0, 0))?;
+            tell_fault(page, group, refused.bytes, listed(fault, (0, 0)))?;
         }
     }
     Ok(())
 }
 
-/// Adds the faults of a document, in the order of their places. Unless all are shown, it adds the first 20 of each code
-/// and counts the others.
+/// Adds the properties of a document that the vocabulary doesn't list, if the document is JSON and was read whole.
+fn tell_unknown(
+    page: &mut Page,
+    group: &Group<'_>,
+    refused: &Refused<'_>,
+) -> Result<(), AllocError> {
+    if refused.fault.code == MetaCode::NotJson || refused.bytes.len() > MAX_DOCUMENT {
+        return Ok(());
+    }
+    show_unknown(page, group.meta, refused.bytes)?;
+    Ok(())
+}
+
+/// Adds the properties of a document that are ignored, and its faults, in the order of their places. Unless all are shown,
+/// it adds the first 20 faults of each code and counts the others.
 pub(crate) fn tell_all(
     page: &mut Page,
     group: &Group<'_>,
     refused: &Refused<'_>,
 ) -> Result<(), AllocError> {
+    tell_unknown(page, group, refused)?;
     if refused.faults.is_empty() {
-        return tell_refused(page, group, refused.bytes, refused.fault);
+        return tell_first(page, group, refused);
     }
     let chosen = choose_all(page.alloc, refused)?;
     tell_chosen(page, group, refused, &chosen)?;

@@ -150,17 +150,50 @@ pub fn place_of(bytes: &[u8], pointer: &str) -> (usize, usize) {
     line_and_column(bytes.get(..offset).unwrap_or(&[]))
 }
 
-/// Returns the line and the column behind these bytes, both from 1.
-pub fn line_and_column(before: &[u8]) -> (usize, usize) {
-    let mut line = 1usize;
-    let mut column = 1usize;
-    for b in before {
-        if *b == b'\n' {
-            line = line.saturating_add(1);
-            column = 1;
-        } else if *b & 0xC0 != 0x80 {
-            column = column.saturating_add(1);
+/// A place of a text that is read from its start to its end, with its line and its column, both from 1. A column counts
+/// characters.
+#[derive(Clone, Copy)]
+pub(crate) struct Lines {
+    /// The place in bytes.
+    at: usize,
+    /// The line.
+    pub(crate) line: usize,
+    /// The column.
+    pub(crate) column: usize,
+}
+
+impl Lines {
+    /// Returns the start of a text.
+    pub(crate) fn new() -> Lines {
+        Lines {
+            at: 0,
+            line: 1,
+            column: 1,
         }
     }
-    (line, column)
+
+    /// Takes a byte.
+    fn take(&mut self, b: u8) {
+        if b == b'\n' {
+            self.line = self.line.saturating_add(1);
+            self.column = 1;
+        } else if b & 0xC0 != 0x80 {
+            self.column = self.column.saturating_add(1);
+        }
+    }
+
+    /// Goes on to a later place of the same text.
+    pub(crate) fn go_to(&mut self, bytes: &[u8], at: usize) {
+        for b in bytes.get(self.at..at).unwrap_or(&[]) {
+            self.take(*b);
+        }
+        self.at = at;
+    }
+}
+
+/// Returns the line and the column behind these bytes, both from 1.
+pub fn line_and_column(before: &[u8]) -> (usize, usize) {
+    let mut lines = Lines::new();
+    lines.go_to(before, before.len());
+    (lines.line, lines.column)
 }

@@ -1,6 +1,6 @@
 //! The properties of a document that the vocabulary doesn't list, and those that are meant.
 
-use crate::json_place::{Scan, line_and_column};
+use crate::json_place::{Lines, Scan};
 use csvw_page::{Page, UnknownShown};
 use std::alloc::{AllocError, Global};
 use strsim::levenshtein;
@@ -123,21 +123,25 @@ fn next_unknown<'a>(scan: &mut Scan<'a>) -> Option<Unknown<'a>> {
     None
 }
 
-/// Adds each property that the vocabulary doesn't list: its place, its name, and the listed name that is near. Returns how
-/// many there are.
+/// Adds each property that the vocabulary doesn't list: its place, its name, and the listed name that is near. Begins the
+/// warnings of the page at the first one. Returns how many there are.
 pub fn show_unknown(page: &mut Page, path: &str, bytes: &[u8]) -> Result<u64, AllocError> {
     let mut scan = Scan { bytes, at: 0 };
+    let mut lines = Lines::new();
     let mut count = 0u64;
     for _ in 0..bytes.len() {
         let Some(Unknown { name, at }) = next_unknown(&mut scan) else {
             break;
         };
-        let (line, column) = line_and_column(bytes.get(..at).unwrap_or(&[]));
+        if count == 0 {
+            page.begin_warnings()?;
+        }
+        lines.go_to(bytes, at);
         let near = nearest(page.alloc, name)?;
         page.warning(&UnknownShown {
             path,
-            line: line as u64,
-            column: column as u64,
+            line: lines.line as u64,
+            column: lines.column as u64,
             name,
             near,
         })?;

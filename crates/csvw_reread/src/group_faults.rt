@@ -59,9 +59,11 @@ impl GroupFaults<'_> {
         if ignored == 0 {
             return Ok(());
         }
-        page.begin_warnings()?;
         let meta = self.tables.group.meta;
         let placed = show_unknown(page, meta, self.tables.document)?;
+        if placed == 0 {
+            page.begin_warnings()?;
+        }
         match ignored.saturating_sub(placed) {
             0 => Ok(()),
             times => page.unplaced(meta, times),
