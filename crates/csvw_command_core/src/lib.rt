@@ -10,6 +10,7 @@
 #![tactic(auto)]
 
 mod after_help;
+mod argument_help;
 mod arguments;
 mod matches;
 mod mistakes;

@@ -7,12 +7,12 @@ ghost use Rattle.csvw_command_core.specs.Asked.{validate_app, with_reporting};
 ghost use Rattle.csvw_command_core.specs.Joined.{Joins};
 ghost use Rattle.std.specs.Prelude.{◌≡◌, IfOk, false};
 
-use crate::after_help;
 use crate::arguments::{
-    KEYS, REPORT, all, base, code, color, draft_base, explained, file, files, json, keys,
-    line_buffered, meta, minimal, own_base, part, parts, plan, profile, progress, report,
-    report_files, shell, some_files, strict, turns, url,
+    ALL, BASE, COLOR, EXPLAINED, FILE, JSON, KEYS, LINE_BUFFERED, META, MINIMAL, PART, PLAN,
+    PROFILE, PROGRESS, REPORT, SHELL, STRICT, TURNS, URL, base, code, files, flag, option, parts,
+    required_word, some_files,
 };
+use crate::{after_help, argument_help};
 use clap::Command;
 use std::alloc::{AllocError, Global};
 
@@ -45,10 +45,10 @@ fn with_reporting<'a>(alloc: Global, command: Command<'a>) -> Result<Command<'a>
     ensures local { IfOk result (λ made. (out-Command made).has_globals ≡ false) }
 {
     command
-        .arg(report(alloc))?
-        .arg(color(alloc))?
-        .arg(all(alloc))?
-        .arg(strict(alloc))
+        .arg(option(alloc, REPORT, "csv|text|html|json", argument_help::REPORT))?
+        .arg(option(alloc, COLOR, "auto|always|never", argument_help::COLOR))?
+        .arg(flag(alloc, ALL, argument_help::ALL))?
+        .arg(flag(alloc, STRICT, argument_help::STRICT))
 }
 
 /// Makes a subcommand on a group of tables, without the flags that others share. Fails with `AllocError` if memory runs
@@ -62,7 +62,12 @@ fn read_command<'a>(
     ensures app { IfOk result (λ command. app_of command ≡ read_app name.entry.now) }
     ensures local { IfOk result (λ command. (out-Command command).has_globals ≡ false) }
 {
-    let args = vec![in alloc; base(alloc), meta(alloc), files(alloc), turns(alloc)]?;
+    let args = vec![in alloc;
+        base(alloc),
+        required_word(alloc, META, argument_help::META),
+        files(alloc, argument_help::FILES),
+        flag(alloc, TURNS, argument_help::TURNS),
+    ]?;
     Command::new(alloc, name)
         .about(about)
         .after_help(examples)
@@ -80,12 +85,12 @@ fn group_command<'a>(
     ensures local { IfOk result (λ command. (out-Command command).has_globals ≡ false) }
 {
     let args = vec![in alloc;
-        explained(alloc),
-        progress(alloc),
-        profile(alloc),
-        part(alloc),
-        plan(alloc),
-        keys(alloc),
+        flag(alloc, EXPLAINED, argument_help::EXPLAINED),
+        flag(alloc, PROGRESS, argument_help::PROGRESS),
+        option(alloc, PROFILE, "core|w3c", argument_help::PROFILE),
+        option(alloc, PART, "K", argument_help::PART),
+        option(alloc, PLAN, "PLAN", argument_help::PLAN),
+        option(alloc, KEYS, "KEYS", argument_help::KEYS),
     ]?;
     let command = read_command(alloc, name, about, examples)?.args(args)?;
     with_reporting(alloc, command)
@@ -113,8 +118,8 @@ fn convert_command<'a>(alloc: Global) -> Result<Command<'a>, AllocError>
         "Converts the tables of a metadata document to N-Triples on standard output",
         after_help::CONVERT,
     )?
-    .arg(minimal(alloc))?
-    .arg(line_buffered(alloc))
+    .arg(flag(alloc, MINIMAL, argument_help::MINIMAL))?
+    .arg(flag(alloc, LINE_BUFFERED, argument_help::LINE_BUFFERED))
 }
 
 fn plain_command<'a>(alloc: Global) -> Result<Command<'a>, AllocError>
@@ -122,10 +127,10 @@ fn plain_command<'a>(alloc: Global) -> Result<Command<'a>, AllocError>
     ensures local { IfOk result (λ command. (out-Command command).has_globals ≡ false) }
 {
     let args = vec![in alloc;
-        url(alloc),
-        file(alloc),
-        line_buffered(alloc),
-        progress(alloc),
+        required_word(alloc, URL, argument_help::URL),
+        required_word(alloc, FILE, argument_help::FILE),
+        flag(alloc, LINE_BUFFERED, argument_help::LINE_BUFFERED),
+        flag(alloc, PROGRESS, argument_help::PROGRESS),
     ]?;
     Command::new(alloc, PLAIN)
         .about("Converts one CSV file without metadata to N-Triples on standard output")
@@ -138,11 +143,11 @@ fn check_command<'a>(alloc: Global) -> Result<Command<'a>, AllocError>
     ensures local { IfOk result (λ command. (out-Command command).has_globals ≡ false) }
 {
     let args = vec![in alloc;
-        own_base(alloc),
-        meta(alloc),
+        option(alloc, BASE, URL, argument_help::OWN_BASE),
+        required_word(alloc, META, argument_help::META),
         some_files(alloc),
-        progress(alloc),
-        profile(alloc),
+        flag(alloc, PROGRESS, argument_help::PROGRESS),
+        option(alloc, PROFILE, "core|w3c", argument_help::PROFILE),
     ]?;
     let command = Command::new(alloc, CHECK)
         .about(
@@ -167,7 +172,12 @@ fn inspect_command<'a>(alloc: Global) -> Result<Command<'a>, AllocError>
     ensures app { IfOk result (λ command. app_of command ≡ inspect_app) }
     ensures local { IfOk result (λ command. (out-Command command).has_globals ≡ false) }
 {
-    let args = vec![in alloc; own_base(alloc), meta(alloc), json(alloc), profile(alloc)]?;
+    let args = vec![in alloc;
+        option(alloc, BASE, URL, argument_help::OWN_BASE),
+        required_word(alloc, META, argument_help::META),
+        flag(alloc, JSON, argument_help::JSON),
+        option(alloc, PROFILE, "core|w3c", argument_help::PROFILE),
+    ]?;
     Command::new(alloc, INSPECT)
         .about("Shows what a metadata document says, with the defaults that apply")
         .after_help(after_help::INSPECT)
@@ -178,7 +188,10 @@ fn draft_command<'a>(alloc: Global) -> Result<Command<'a>, AllocError>
     ensures app { IfOk result (λ command. app_of command ≡ draft_app) }
     ensures local { IfOk result (λ command. (out-Command command).has_globals ≡ false) }
 {
-    let args = vec![in alloc; draft_base(alloc), files(alloc)]?;
+    let args = vec![in alloc;
+        option(alloc, BASE, URL, argument_help::DRAFT_BASE),
+        files(alloc, argument_help::FILES),
+    ]?;
     Command::new(alloc, DRAFT)
         .about("Drafts a metadata document for CSV files")
         .after_help(after_help::DRAFT)
@@ -192,9 +205,9 @@ fn split_command<'a>(alloc: Global) -> Result<Command<'a>, AllocError>
     let args = vec![in alloc;
         parts(alloc),
         base(alloc),
-        meta(alloc),
-        files(alloc),
-        profile(alloc),
+        required_word(alloc, META, argument_help::META),
+        files(alloc, argument_help::FILES),
+        option(alloc, PROFILE, "core|w3c", argument_help::PROFILE),
     ]?;
     Command::new(alloc, SPLIT)
         .about(
@@ -208,7 +221,11 @@ fn keys_command<'a>(alloc: Global) -> Result<Command<'a>, AllocError>
     ensures app { IfOk result (λ command. app_of command ≡ keys_app) }
     ensures local { IfOk result (λ command. (out-Command command).has_globals ≡ false) }
 {
-    let args = vec![in alloc; base(alloc), meta(alloc), profile(alloc)]?;
+    let args = vec![in alloc;
+        base(alloc),
+        required_word(alloc, META, argument_help::META),
+        option(alloc, PROFILE, "core|w3c", argument_help::PROFILE),
+    ]?;
     Command::new(alloc, KEYS)
         .about("Judges the keys of a group by the sorted records that its parts wrote")
         .after_help(after_help::KEYS)
@@ -222,7 +239,7 @@ fn report_command<'a>(alloc: Global) -> Result<Command<'a>, AllocError>
     Command::new(alloc, REPORT)
         .about("Joins the reports of parts to one")
         .after_help(after_help::REPORT)
-        .arg(report_files(alloc))
+        .arg(files(alloc, argument_help::REPORT_FILES))
 }
 
 fn completions_command<'a>(alloc: Global) -> Result<Command<'a>, AllocError>
@@ -232,7 +249,7 @@ fn completions_command<'a>(alloc: Global) -> Result<Command<'a>, AllocError>
     Command::new(alloc, COMPLETIONS)
         .about("Writes the completions of this command line for a shell")
         .after_help(after_help::COMPLETIONS)
-        .arg(shell(alloc))
+        .arg(required_word(alloc, SHELL, argument_help::SHELL))
 }
 
 fn manual_command<'a>(alloc: Global) -> Command<'a>
