@@ -61,7 +61,18 @@ m.json:4:40: /tableSchema/columns/1: DuplicateName: two columns of a table have 
 m.json:5:1: /tableSchema/primaryKey: BadReference: a key names a column or a table that is not there
 ";
 
-static CHECKS: [Case; 6] = [
+/// A document with a misspelled property and a fault.
+const MISSPELLED: &[u8] = br#"{"@context":"http://www.w3.org/ns/csvw",
+"dialect":{"delimeter":";"},
+"url":1}
+"#;
+
+const MISSPELLED_FAULTS: &[u8] =
+    b"m.json:2:12: warning: UnknownProperty: \"delimeter\" isn't a property of the vocabulary: did you mean \"delimiter\"?
+m.json:3:1: /url: BadProperty: a value is of a wrong kind, or a property is missing
+";
+
+static CHECKS: [Case; 7] = [
     Case {
         what: "a valid group",
         words: CHECK,
@@ -146,6 +157,19 @@ m.json:1:1: BadProperty: a value is of a wrong kind, or a property is missing
         end: End {
             status: 3,
             out: Just(FOUR_FAULTS),
+            err: Just(b""),
+        },
+    },
+    Case {
+        what: "a document with an unknown property and a fault",
+        words: CHECK,
+        files: &[File {
+            path: "m.json",
+            bytes: MISSPELLED,
+        }],
+        end: End {
+            status: 3,
+            out: Just(MISSPELLED_FAULTS),
             err: Just(b""),
         },
     },

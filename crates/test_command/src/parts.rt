@@ -12,6 +12,10 @@ const META: &[u8] =
 const KEYED: &[u8] =
     br#"{"@context":"http://www.w3.org/ns/csvw","url":"p.csv","tableSchema":{"columns":[{"name":"id","datatype":"integer"},{"name":"x"}],"primaryKey":"id"}}"#;
 
+/// A document whose table has no header row.
+const HEADERLESS: &[u8] =
+    br#"{"@context":"http://www.w3.org/ns/csvw","url":"p.csv","dialect":{"header":false},"tableSchema":{"columns":[{"name":"id"},{"name":"x"}]}}"#;
+
 /// Its table. The second data row has a line break in quotes, and the third has no integer.
 const TABLE: &[u8] = b"id,x\n1,a\n2,\"b\nc\"\nz,d\n";
 
@@ -19,6 +23,13 @@ const TABLE: &[u8] = b"id,x\n1,a\n2,\"b\nc\"\nz,d\n";
 const PLAN: &[u8] = b"part,table,first_byte,bytes,rows_before,data_rows_before,header_bytes
 1,1,0,9,0,0,5
 2,1,9,12,2,1,5
+";
+
+/// A plan of the same parts, if there is no header row.
+const HEADERLESS_PLAN: &[u8] =
+    b"part,table,first_byte,bytes,rows_before,data_rows_before,header_bytes
+1,1,0,9,0,0,5
+2,1,9,12,2,2,5
 ";
 
 /// A plan whose first part ends in the quotes of the third row.
@@ -61,7 +72,7 @@ struct PartCase {
     err: &'static [u8],
 }
 
-static PARTS: [PartCase; 18] = [
+static PARTS: [PartCase; 20] = [
     PartCase {
         words: "convert --minimal --part 1 --plan plan.csv",
         meta: META,
@@ -83,6 +94,18 @@ _:t1r3s <http://example.org/p.csv#id> \"z\" .
 _:t1r3s <http://example.org/p.csv#x> \"d\" .
 ",
         err: b"kind,code,table,row,column\nerror,BadInteger,1,4,1\n",
+    },
+    PartCase {
+        words: "convert --minimal --part 2 --plan plan.csv",
+        meta: HEADERLESS,
+        plan: HEADERLESS_PLAN,
+        status: 0,
+        out: b"_:t1r3s <http://example.org/p.csv#id> \"2\" .
+_:t1r3s <http://example.org/p.csv#x> \"b\\nc\" .
+_:t1r4s <http://example.org/p.csv#id> \"z\" .
+_:t1r4s <http://example.org/p.csv#x> \"d\" .
+",
+        err: b"kind,code,table,row,column\n",
     },
     PartCase {
         words: "validate --part 1 --plan plan.csv",
@@ -131,6 +154,14 @@ _:t1r3s <http://example.org/p.csv#x> \"d\" .
         status: 3,
         out: b"",
         err: b"csvw: plan table 1 part 2: the file is shorter than the plan says\n",
+    },
+    PartCase {
+        words: "validate --part 1 --plan q.csv",
+        meta: META,
+        plan: PLAN,
+        status: 4,
+        out: b"",
+        err: b"csvw: q.csv: the file can't be opened or read\ncsvw: Read\n",
     },
     PartCase {
         words: "validate --part 1 --plan p.csv",

@@ -388,7 +388,7 @@ static TEXTS: [Case; 8] = [
         end: End {
             status: 4,
             out: Just(b""),
-            err: Just(b"csvw: Read\n"),
+            err: Just(b"csvw: q.csv: the file can't be opened or read\ncsvw: Read\n"),
         },
     },
 ];

@@ -121,6 +121,8 @@ impl<'a> Opener for Files<'a> {
 
     ghost opens = { λ old _ _ new. new.files ≡ old.files };
 
+    ghost opens_at = { λ old _ _ _ new. new.files ≡ old.files };
+
     ghost closes = { λ old _ new. new.files ≡ old.files };
 
     fn open(&mut self, path: &str) -> Option<FailingReader<'a>> {

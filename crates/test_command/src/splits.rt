@@ -33,7 +33,7 @@ const DOCUMENT: File<'static> = File {
     bytes: META,
 };
 
-static SPLITS: [Case; 8] = [
+static SPLITS: [Case; 9] = [
     Case {
         what: "two parts of a table",
         words: SPLIT,
@@ -94,7 +94,17 @@ static SPLITS: [Case; 8] = [
         end: End {
             status: 4,
             out: Just(b""),
-            err: Just(b"csvw: Read\n"),
+            err: Just(b"csvw: p.csv: the file can't be opened or read\ncsvw: Read\n"),
+        },
+    },
+    Case {
+        what: "a document that isn't there",
+        words: SPLIT,
+        files: &[],
+        end: End {
+            status: 4,
+            out: Just(b""),
+            err: Just(b"csvw: m.json: the file can't be opened or read\ncsvw: Read\n"),
         },
     },
     Case {

@@ -12,8 +12,19 @@ const WHOLE: &str = r#"x => NotJson
 {"url":1} => BadContext; BadProperty /url
 {"@context":["http://www.w3.org/ns/csvw",{"a":1}],"url":1} => BadContext /@context/1/a; BadProperty /url
 {"@context":["http://www.w3.org/ns/csvw",{"a":1,"@base":"http://example.org/b/"}],"url":1} => BadContext /@context/1/a; BadProperty /url
-{"@context":["http://www.w3.org/ns/csvw",{"@language":1,"@base":2}],"url":1} => BadContext /@context/1/@language; BadContext /@context/1/@base
-{"@context":"x","url":1} => BadContext /@context
+"#;
+
+/// Documents whose context has faults. The parts are read in it as far as it could be read.
+const CONTEXTS: &str =
+    r#"{"@context":["http://www.w3.org/ns/csvw",{"@language":1,"@base":2}],"url":1} => BadContext /@context/1/@language; BadContext /@context/1/@base; BadProperty /url
+{"@context":["http://www.w3.org/ns/csvw",{"@base":"http://[x","@language":"1"}],"tables":[{"url":"a.csv","tableSchema":{"columns":[{"name":"x","datatype":"no"}]}},{"url":"b.csv"},{"url":"http://example.org/a.csv"},{"url":"a.csv"}]} => BadContext /@context/1/@language; BadUrl /@context/1/@base; NotSupported /tables/0/tableSchema/columns/0/datatype; DuplicateTable /tables/2/url; DuplicateTable /tables/3/url
+{"@context":["http://www.w3.org/ns/csvw",{"@base":"b/","@language":"e n"}],"tables":[{"url":"a"},{"url":"http://example.org/a"},{"url":"http://example.org/b/a"}]} => BadContext /@context/1/@language; DuplicateTable /tables/2/url
+{"@context":["http://www.w3.org/ns/csvw",{"@base":1.5,"@language":"en"}],"url":"a","tableSchema":{"columns":[{"titles":{"de":"y","en":"x"}},{"name":"y"},{"name":"x"}]}} => NotSupported /@context/1/@base; DuplicateName /tableSchema/columns/2
+{"@context":["http://www.w3.org/ns/csvw",{"@language":"e n"}],"url":"a","tableSchema":{"columns":[{"titles":{"de":"y","en":"x"}},{"name":"x"},{"name":"y"}]}} => BadContext /@context/1/@language; DuplicateName /tableSchema/columns/2
+{"@context":"http://example.org/","tables":[{"url":"a"},{"url":"http://example.org/a"},{"url":1}]} => BadContext /@context; BadProperty /tables/2/url; DuplicateTable /tables/1/url
+{"@context":["http://www.w3.org/ns/csvw",{"@base":"b/"},{}],"tables":[{"url":"a"},{"url":"http://example.org/a"}]} => BadContext /@context; DuplicateTable /tables/1/url
+{"@context":[{"@base":"b/"}],"url":"a","tableSchema":{"columns":[{"name":"x"}],"primaryKey":"z"}} => BadContext /@context; BadReference /tableSchema/primaryKey
+{"@context":{"@base":"b/"},"url":"http://["} => BadContext /@context; BadUrl /url
 "#;
 
 /// Documents with faults of single values.
@@ -42,6 +53,12 @@ const REFERENCES: &str =
 #[test]
 fn whole(rt: HostRuntime) -> Result<(), Fail> {
     assert_eq!(rt; first_wrong(rt.alloc(), Kind::Document, WHOLE)?, None);
+    Ok(())
+}
+
+#[test]
+fn contexts(rt: HostRuntime) -> Result<(), Fail> {
+    assert_eq!(rt; first_wrong(rt.alloc(), Kind::Document, CONTEXTS)?, None);
     Ok(())
 }
 

@@ -60,6 +60,8 @@ impl Opener for Files {
 
     ghost opens = { λ old _ _ new. new ≡ old };
 
+    ghost opens_at = { λ _ _ _ _ _. Unit {0} };
+
     ghost closes = { λ old _ new. new ≡ old };
 
     fn open(&mut self, path: &str) -> Option<Pieces> {

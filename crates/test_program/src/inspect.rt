@@ -29,6 +29,8 @@ impl<'a> Opener for OneFile<'a> {
 
     ghost opens = { λ _ _ _ _. Unit {0} };
 
+    ghost opens_at = { λ _ _ _ _ _. Unit {0} };
+
     ghost closes = { λ old _ new. new ≡ old };
 
     fn open(&mut self, path: &str) -> Option<&'a [u8]> {

@@ -1,6 +1,6 @@
 //! Readers and writers that are slow or fail, and a line that doesn't end.
 
-use crate::files::name_of;
+use crate::key_files::name_of;
 use csvw_key_records::judge_keys;
 use csvw_text::Counted;
 use std::alloc::{AllocError, Global};

@@ -3,7 +3,7 @@
 use csvw_columns::Plan;
 use csvw_meta::read;
 use csvw_part_plan::{Piece, read_plan, write_plan};
-use csvw_split::{TableFile, split};
+use csvw_split::{SplitStop, TableFile, split};
 use csvw_streams::Counted;
 use std::alloc::{AllocError, Global};
 use std::process::Abort;
@@ -114,7 +114,7 @@ static CASES: [Case; 19] = [
         meta: DECLARED,
         files: &["1,2\n3,4\n5,6\n"],
         parts: 2,
-        want: "1,1,0,8,0,0,0\n2,1,8,4,2,2,0\n",
+        want: "1,1,0,8,0,0,4\n2,1,8,4,2,2,4\n",
     },
     Case {
         name: "a skipped row",
@@ -318,4 +318,22 @@ fn long_gives(alloc: Global) -> Result<bool, AllocError> {
 #[test]
 fn a_long_file(rt: HostRuntime) {
     assert!(rt; long_gives(rt.alloc()) == Ok(true));
+}
+
+/// Returns whether the second table of a group alone is refused.
+fn refuses_order(alloc: Global) -> Result<bool, AllocError> {
+    let Some(plan) = plan_of(alloc, TWO) else {
+        return Ok(false);
+    };
+    let Some((_, later)) = plan.tables().split_first() else {
+        return Ok(false);
+    };
+    let mut files = files_of(alloc, &["b\n1\n"], Said::True)?;
+    let pieces = split(alloc, later, files.as_mut_slice(), 2);
+    Ok(matches!(pieces, Err(SplitStop::NoPlan)))
+}
+
+#[test]
+fn tables_out_of_order(rt: HostRuntime) {
+    assert!(rt; refuses_order(rt.alloc()) == Ok(true));
 }
