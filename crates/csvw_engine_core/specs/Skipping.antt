@@ -1,5 +1,5 @@
 -- A table that goes on after rows that are read elsewhere: `SkipsTable`.
-use Rattle.std.specs.Prelude.{◌≡◌, ℕ, ◌+◌, Bool, false, ◌&&◌, is_some, List, [], ◌++◌, length}
+use Rattle.std.specs.Prelude.{◌≡◌, ℕ, ◌+◌, ◌<◌, Bool, false, ◌&&◌, is_some, List, [], ◌++◌, length, Option, Some, None}
 use Rattle.csvw_records.specs.Files.{Body, remaining}
 use Rattle.csvw_records.specs.Files.{Row as Record}
 use Rattle.csvw_records.specs.RowValue.{Given}
@@ -11,6 +11,11 @@ use Rattle.csvw_triples_core.specs.declared.mode.Mode.{Mode}
 use Rattle.csvw_engine_core.specs.Annotated.{HasRows, header_count}
 use Rattle.csvw_engine_core.specs.Tables.{TableHolds, is_ended}
 use Rattle.csvw_engine_core.specs.declared.table.Table.{Table}
+
+-- so many of the header rows and data rows are data rows; there is no number if there are too few for the header
+abbrev pub HasDataRows : ℕ → ℕ → Option ℕ → Type 0
+HasDataRows headers remained None = remained < headers
+HasDataRows headers remained (Some count) = headers + count ≡ remained
 
 -- its columns are known, and its reader can go on there
 abbrev pub can_skip_table : TablePlan → Table → ℕ → ℕ → Bool

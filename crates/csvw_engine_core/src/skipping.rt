@@ -1,8 +1,9 @@
 //! A table that goes on after rows that are read elsewhere.
 ghost use Rattle.std.specs.Prelude.{◌≡◌, ◌++◌, true, false, OnOk};
-ghost use Rattle.csvw_engine_core.specs.Skipping.{can_skip_table, SkipsTable};
+ghost use Rattle.csvw_engine_core.specs.Annotated.{header_count};
+ghost use Rattle.csvw_engine_core.specs.Skipping.{can_skip_table, HasDataRows, SkipsTable};
 ghost use Rattle.csvw_engine_core.specs.Tables.{faults_of, header_faults_of};
-ghost use Rattle.csvw_rows.specs.Skips.{unread_bytes_of};
+ghost use Rattle.csvw_rows.specs.Skips.{remained_of, unread_bytes_of};
 
 use crate::table::Table;
 use csvw_columns::TablePlan;
@@ -16,6 +17,14 @@ impl Table {
         ensures { result ≡ unread_bytes_of self.now.rows }
     {
         self.rows.unread_bytes()
+    }
+
+    /// Returns the number of data rows that were read, or `None` if the header isn't complete.
+    pub fn data_rows_read(&self, plan: &TablePlan) -> Option<u64>
+        ensures { HasDataRows (header_count plan.now) (remained_of self.now.rows) result }
+    {
+        let headers = u64::from(plan.dialect.header_row_count);
+        self.rows.remained().checked_sub(headers)
     }
 
     /// Goes on after rows that are read elsewhere, as if their bytes had been fed. There are `rows` rows of all kinds
@@ -42,6 +51,7 @@ impl Table {
         self.faults = Seq::new(self.alloc);
         true
     }
+
     /// Adds the faults of its header. Fails with `AllocError` if memory runs out.
     pub fn list_header_faults(&self, faults: &mut Seq<Fault>) -> Result<(), AllocError>
         ensures { OnOk result (faults.new ≡ faults.old ++ header_faults_of self.now) }

@@ -98,6 +98,7 @@ module _ (laws : RecordLaws) where
         };
         body = sym h.given_is;
         reading = ap (λ (n : ℕ). n + 1) h.row_is;
+        remained = h.remained_is;
       }
 
   pub row_ends : RowEnds

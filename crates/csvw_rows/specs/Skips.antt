@@ -13,6 +13,10 @@ use Rattle.csvw_rows.specs.SourceState.{unread_bytes_in}
 abbrev pub unread_bytes_of : Rows → ℕ
 unread_bytes_of s = unread_bytes_in s.source
 
+-- the number of header rows and data rows that were read
+abbrev pub remained_of : Rows → ℕ
+remained_of s = s.remained
+
 -- the reader can go on after so many rows of all kinds, of which so many remained
 abbrev pub can_skip : Rows → ℕ → ℕ → Bool
 can_skip s rows remained =
@@ -36,6 +40,7 @@ pub record EndsRow (s : Rows) (d : Dialect) (bytes : List ℕ) (given : List Giv
   pub are_rows : AreWholeRows d front rows
   pub body : Body d rows ≡ given
   pub reading : reading_of s ≡ length rows + 1
+  pub remained : remained_of s ≡ length (remaining d 1 rows)
 
 -- If a row was read of a text that hasn't ended, a row ends before the bytes that are unread.
 abbrev pub RowEnds : Type 0

@@ -63,7 +63,7 @@ impl Rows {
     ghost use Rattle.csvw_rows.specs.RowsState.{IsIgnoredNext, IsIgnoredRead, IsOpenFront, IsSettledLen, EndsIgnored};
     ghost use Rattle.csvw_rows.specs.RowsState.{may_become_comment, sure_of, IsKnown};
     ghost use Rattle.csvw_rows.specs.RowsLending.{RestsAdvanced};
-    ghost use Rattle.csvw_rows.specs.Skips.{can_skip, unread_bytes_of, SkipsTo};
+    ghost use Rattle.csvw_rows.specs.Skips.{can_skip, remained_of, unread_bytes_of, SkipsTo};
     ghost use Rattle.csvw_rows.specs.SourceState.{rest_of};
     ghost use Rattle.csvw_rows.specs.RowValue.{row_of};
     ghost use Rattle.csvw_rows.specs.NextRows.{is_last};
@@ -107,6 +107,13 @@ impl Rows {
         ensures { result ≡ reading_of self.now }
     {
         self.row + 1
+    }
+
+    /// Returns the number of header rows and data rows among the complete rows.
+    pub fn remained(&self) -> u64
+        ensures { result ≡ remained_of self.now }
+    {
+        self.remained
     }
 
     /// Returns the number of bytes that were fed and that no row has which was read. After `next` returned `None`, a row
