@@ -17,6 +17,9 @@ passed false fault others none = (refl, none)
 is_so : (n m : ℕ) → not (n == m) ≡ false → n ≡ m
 is_so n m fails = grind (arith, nat_tests)
 
+is_positive : (n : ℕ) → (n == 0) ≡ false → 0 < n
+is_positive n fails = grind (arith, nat_tests)
+
 neither : (a b : Bool) → (a || b) ≡ false → (a ≡ false) × (b ≡ false)
 neither true b none = cc
 neither false b none = (refl, none)
@@ -49,13 +52,15 @@ goes_on : (before p : Piece) → p.table ≡ before.table → going_fault before
 goes_on before p table none =
     let part = passed _ _ _ none in
     let place = passed _ _ _ part.1 in
+    let at = neither _ _ place.0 in
     let rows = passed _ _ _ place.1 in
     let both = neither _ _ rows.0 in
     let header = passed _ _ _ rows.1 in (
       inl record {
         part = is_so _ _ part.0;
         table = table;
-        first_byte = is_so _ _ place.0;
+        first_byte = is_so _ _ at.1;
+        later = is_positive _ at.0;
         rows = not_less _ _ both.0;
         data_rows = not_less _ _ both.1;
         header = is_so _ _ header.0;

@@ -83,6 +83,9 @@ passes false fault others fails none = none
 so : (n m : ℕ) → n ≡ m → not (n == m) ≡ false
 so n m is = grind (arith, nat_tests)
 
+positive : (n : ℕ) → 0 < n → (n == 0) ≡ false
+positive n is = grind (arith, nat_tests)
+
 not_less : (n m : ℕ) → m ≤ n → nat_lt n m ≡ false
 not_less n m is = grind (arith, nat_tests)
 
@@ -106,8 +109,8 @@ first_passes p is = passes _ _ _ (so _ _ is.part) (passes _ _ _ (so _ _ is.table
 
 going_passes : (p q : Piece) → GoesOn p q → EndFits q → going_fault p q ≡ None
 going_passes p q is fits =
-    passes _ _ _ (so _ _ is.part) (passes _ _ _ (so _ _ is.first_byte) (passes _ _ _ (both _ _ (not_less _ _ is.rows) (not_less _ _ is.data_rows))
-    (passes _ _ _ (so _ _ is.header) (end_passes q fits))))
+    passes _ _ _ (so _ _ is.part) (passes _ _ _ (both _ _ (positive _ is.later) (so _ _ is.first_byte))
+    (passes _ _ _ (both _ _ (not_less _ _ is.rows) (not_less _ _ is.data_rows)) (passes _ _ _ (so _ _ is.header) (end_passes q fits))))
 
 one_of : (n m k : ℕ) → (n ≡ m) ⊎ (n ≡ k) → (not (n == m) && not (n == k)) ≡ false
 one_of n m k (inl is) = let no = so n m is in rw no refl

@@ -23,7 +23,7 @@ first_fault p = if not (p.part == 1) then Some Part else if not (p.table == 1) t
 abbrev pub going_fault : Piece → Piece → Option LineFault
 going_fault before p =
     if not (p.part == before.part + 1) then Some Part
-    else if not (p.first_byte == before.first_byte + before.bytes) then Some FirstByte
+    else if (p.first_byte == 0) || not (p.first_byte == before.first_byte + before.bytes) then Some FirstByte
     else if nat_lt p.rows_before before.rows_before || nat_lt p.data_rows_before before.data_rows_before then Some Rows
     else if not (p.header_bytes == before.header_bytes) then Some HeaderBytes
     else end_fault p

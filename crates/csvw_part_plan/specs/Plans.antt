@@ -36,11 +36,12 @@ pub record Begins (p : Piece) : Type 0 where
   pub rows : p.rows_before ≡ 0
   pub data_rows : p.data_rows_before ≡ 0
 
--- a later piece of a table, in the next part, begins where the one before it ends
+-- a later piece of a table, in the next part, begins where the one before it ends. That is after byte 0, so no other piece of the table begins its file
 pub record GoesOn (p q : Piece) : Type 0 where
   pub part : q.part ≡ p.part + 1
   pub table : q.table ≡ p.table
   pub first_byte : q.first_byte ≡ p.first_byte + p.bytes
+  pub later : 0 < q.first_byte
   pub rows : p.rows_before ≤ q.rows_before
   pub data_rows : p.data_rows_before ≤ q.data_rows_before
   pub header : q.header_bytes ≡ p.header_bytes

@@ -16,7 +16,8 @@ pub enum LineFault {
     Part,
     /// The table is neither that of the line before nor the next one. Table 1 comes first.
     Table,
-    /// The piece doesn't begin where the one before it in its file ends, or at byte 0 of a file.
+    /// The first piece of a table doesn't begin at byte 0 of its file. Or a later one doesn't begin where the one before it ends, or
+    /// begins at byte 0.
     FirstByte,
     /// The piece ends after the greatest place of a byte.
     LastByte,
@@ -42,7 +43,7 @@ impl LineFault {
             }
             LineFault::Table => "table must be that of the line before or the next one, from 1",
             LineFault::FirstByte => {
-                "first_byte must be where the piece before it ends, or 0 for the first piece of a table"
+                "first_byte must be 0 for the first piece of a table; for a later one where the piece before it ends, and not 0"
             }
             LineFault::LastByte => "first_byte and bytes together must be less than 2^64",
             LineFault::Rows => {

@@ -14,7 +14,7 @@
 //!
 //! - `write_plan` sends exactly the text of a plan: the heading and a line for each piece (`plan_text`).
 //! - `read_plan` returns exactly the pieces whose text it reads, and only if they tile the files (`Tiles`): tables, parts and bytes go
-//!   on from 1, 1 and 0 without gaps, and counts of rows don't fall.
+//!   on from 1, 1 and 0 without gaps, and counts of rows don't fall. Only the first piece of a table begins at byte 0.
 //! - It refuses a text at its first wrong line, with the rule that is broken there (`IsRefused`). Such a text is no plan: the law
 //!   `refused_is_no_plan`.
 //! - `fault_after` returns the first rule that a piece breaks after those before it. Pieces that tile fronts of files, and one more

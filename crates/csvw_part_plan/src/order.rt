@@ -62,7 +62,7 @@ fn going_fault(before: &Piece, piece: &Piece) -> Option<LineFault>
     if !is_next(before.part, piece.part) {
         return Some(LineFault::Part);
     }
-    if !ends_at(before, piece.first_byte) {
+    if piece.first_byte == 0 || !ends_at(before, piece.first_byte) {
         return Some(LineFault::FirstByte);
     }
     if piece.rows_before < before.rows_before || piece.data_rows_before < before.data_rows_before {

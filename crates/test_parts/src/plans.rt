@@ -8,7 +8,7 @@ use std::process::Abort;
 const HEADING: &str = "part,table,first_byte,bytes,rows_before,data_rows_before,header_bytes\n";
 
 /// Lines after the heading, and the line and the fault that are expected.
-static FAULTS: [(&str, &str); 30] = [
+static FAULTS: [(&str, &str); 31] = [
     ("", "2 NoPiece"),
     ("1,1,0,4,0,0,2", "2 Numbers"),
     ("1,1,0,4,0,0\n", "2 Numbers"),
@@ -34,6 +34,7 @@ static FAULTS: [(&str, &str); 30] = [
     ("1,1,0,4,0,0,2\n2,1,5,4,2,1,2\n", "3 FirstByte"),
     ("1,1,0,4,0,0,2\n2,1,3,4,2,1,2\n", "3 FirstByte"),
     ("1,1,0,4,0,0,2\n2,2,4,4,0,0,2\n", "3 FirstByte"),
+    ("1,1,0,0,0,0,2\n2,1,0,4,0,0,2\n", "3 FirstByte"),
     ("1,1,0,4,0,0,2\n2,1,4,4,2,1,2\n3,1,8,4,1,1,2\n", "4 Rows"),
     ("1,1,0,4,0,0,2\n2,1,4,4,2,1,2\n3,1,8,4,3,0,2\n", "4 Rows"),
     ("1,1,0,4,0,0,2\n2,2,0,4,2,0,2\n", "3 Rows"),
