@@ -1,9 +1,9 @@
 -- The bytes of a piece, and the row or the file that ends there.
-use Rattle.std.proofs.Common.{◌≡◌, ◌<◌, ℕ, false, List, [], ◌++◌, append_assoc, length, subst, Option, Some, None, Result, Ok, Err}
+use Rattle.std.proofs.Common.{◌≡◌, ◌<◌, ◌+◌, ℕ, false, List, [], ◌++◌, append_assoc, length, subst, Option, Some, None, Result, Ok, Err}
 use Rattle.std.specs.Borrow.{Bor}
 use Rattle.std.specs.Prelude.{OnOk}
 use Rattle.csvw_rows.specs.GivenLaws.{GivenFirst}
-use Rattle.csvw_records.specs.Files.{Body}
+use Rattle.csvw_records.specs.Files.{Body, remaining}
 use Rattle.csvw_records.specs.Files.{Row as Record}
 use Rattle.csvw_records.specs.RowValue.{Given}
 use Rattle.csvw_part_laws.specs.Parts.{AreWholeRows}
@@ -16,7 +16,7 @@ use Rattle.csvw_keys.specs.KeyRules.{KeyRule}
 use Rattle.csvw_row_keys.specs.RecordLaws.{JoinsRecords}
 use Rattle.csvw_triples_core.specs.declared.mode.Mode.{Mode}
 use Rattle.csvw_triples_core.specs.declared.term.Triple.{Triple}
-use Rattle.csvw_engine_core.specs.Annotated.{IsWholeTable}
+use Rattle.csvw_engine_core.specs.Annotated.{IsWholeTable, header_count}
 use Rattle.csvw_engine_core.specs.Tables.{TableHolds, max_rows}
 use Rattle.csvw_engine_core.specs.declared.table.Table.{Table}
 use Rattle.csvw_engine_core.proofs.Going.{none_more}
@@ -32,28 +32,33 @@ pub both_ok : {X E P Q C : Type 0} (r : Result X E) → OnOk r P → OnOk r Q �
 both_ok (Ok x) p q f = f p q
 both_ok (Err e) p q f = tt
 
-abbrev pub EndsRow : TablePlan → Table → ℕ → Type 0
-EndsRow plan t count = (mode : Mode) (bytes : List ℕ) (given : List Given) (rows : List Row) → TableHolds plan mode t bytes false given rows → 0 < count
+abbrev pub EndsRow : TablePlan → Table → ℕ → ℕ → Type 0
+EndsRow plan t count data_count = (mode : Mode) (bytes : List ℕ) (given : List Given) (rows : List Row)
+    → TableHolds plan mode t bytes false given rows → 0 < count
     → (whole : List Record) × AreWholeRows plan.dialect bytes whole × (Body plan.dialect whole ≡ given) × (length whole ≡ count)
+    × (header_count plan + data_count ≡ length (remaining plan.dialect 1 whole))
 
-abbrev pub HasNone : TablePlan → Table → ℕ → Type 0
-HasNone plan t count = (mode : Mode) (bytes : List ℕ) (given : List Given) (rows : List Row) → TableHolds plan mode t bytes false given rows → count ≡ 0
-    → given ≡ []
+abbrev pub HasNone : TablePlan → Table → ℕ → ℕ → Type 0
+HasNone plan t count data_count = (mode : Mode) (bytes : List ℕ) (given : List Given) (rows : List Row)
+    → TableHolds plan mode t bytes false given rows → count ≡ 0 → (given ≡ []) × (header_count plan + data_count ≡ 0)
 
 -- no row was given, by the plan of the part
-pub none_here : (part : TablePart) (count : ℕ) (plan : Bor TablePlan) → part.plan ≡ plan → HasNoRow part count → HasNone plan.now part.table count
-none_here part count plan same none = subst (λ (p : Bor TablePlan). HasNone p.now part.table count) same none
+pub none_here : (part : TablePart) (count data_count : ℕ) (plan : Bor TablePlan) → part.plan ≡ plan → HasNoRow part count data_count
+    → HasNone plan.now part.table count data_count
+none_here part count data_count plan same none = subst (λ (p : Bor TablePlan). HasNone p.now part.table count data_count) same none
 
 -- a row ends there, by the plan of the part
-pub ends_here : (part : TablePart) (count : ℕ) (plan : Bor TablePlan) → part.plan ≡ plan → EndsAtRow part count → EndsRow plan.now part.table count
-ends_here part count plan same ends = subst (λ (p : Bor TablePlan). EndsRow p.now part.table count) same ends
+pub ends_here : (part : TablePart) (count data_count : ℕ) (plan : Bor TablePlan) → part.plan ≡ plan → EndsAtRow part count data_count
+    → EndsRow plan.now part.table count data_count
+ends_here part count data_count plan same ends = subst (λ (p : Bor TablePlan). EndsRow p.now part.table count data_count) same ends
 
 module _ {R S W : Type 0} (remaining : R → Option (List ℕ)) (out : Outs S W) (rules : List KeyRule) (law : JoinsRecords) (stays : (s : S) → out.gains s [] s)
     (goes_on : (a b c : S) (xs ys : List Triple) → out.gains a xs b → out.gains b ys c → out.gains a (xs ++ ys) c) (plan : TablePlan) (old mid : Table)
     (reader left : Counted R) (count : ℕ) (before between : Kept S W) (t : TakesBytes remaining out rules plan old mid reader left count before between)
   where
     -- a row ends there, and another piece follows
-    pub body_row : GivenFirst → (next : Piece) → EndsRow plan mid next.rows_before → HasNone plan mid next.rows_before
+    pub body_row : GivenFirst → (next : Piece) → EndsRow plan mid next.rows_before next.data_rows_before
+        → HasNone plan mid next.rows_before next.data_rows_before
         → TakesBody remaining out rules plan (Some next) old mid reader left count before between
     body_row first next ends none = record {
       text = t.text;
@@ -70,7 +75,7 @@ module _ {R S W : Type 0} (remaining : R → Option (List ℕ)) (out : Outs S W)
               table = record { head = g.holds.head.known; has = g.holds.has };
               ends = λ some.
                   let e = ends mode (bytes ++ t.text) (given ++ g.raws) (rows ++ g.more) g.holds some in
-                  record { whole = e.0; are_rows = e.1; body = e.2; count_is = e.3 };
+                  record { whole = e.0; are_rows = e.1; body = e.2; count = e.3; data_count = e.4 };
               none = none mode (bytes ++ t.text) (given ++ g.raws) (rows ++ g.more) g.holds;
             };
             takes = g.takes;

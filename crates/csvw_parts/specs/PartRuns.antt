@@ -1,5 +1,5 @@
 -- A run over the pieces of one part: `RunsPart`.
-use Rattle.std.specs.Prelude.{◌≡◌, ℕ, Bool, ◌&&◌, nat_eq, if◌then◌else◌, List, [], ◌++◌, filter, flat_map, Option}
+use Rattle.std.specs.Prelude.{◌≡◌, ℕ, Bool, ◌&&◌, ◌||◌, nat_eq, nat_lt, if◌then◌else◌, List, [], ◌++◌, filter, flat_map, length, Option}
 use Rattle.std.specs.List.{list_any}
 use Rattle.std.specs.List.Sorted.{IsPermutation, IsSorted}
 use Rattle.csvw_streams.specs.declared.counted.Counted.{Counted}
@@ -35,9 +35,14 @@ opening_of request = if nat_eq request.number 1 then opening request.mode reques
 abbrev pub begins_with : ℕ → ℕ → Piece → Bool
 begins_with number table piece = nat_eq piece.part number && nat_eq piece.table table && nat_eq piece.first_byte 0
 
--- the table begins in the part; the group, whose number is 0, begins in part 1
+-- no table of the group has this number, as the group itself, whose number is 0
+abbrev pub is_no_table : PartRequest → ℕ → Bool
+is_no_table request table = nat_eq table 0 || nat_lt (length request.plan.now.tables) table
+
+-- the table begins in the part; what is no table begins in part 1
 abbrev pub begins_in : PartRequest → ℕ → Bool
-begins_in request table = if nat_eq table 0 then nat_eq request.number 1 else list_any (begins_with request.number table) request.pieces.now
+begins_in request table =
+    if is_no_table request table then nat_eq request.number 1 else list_any (begins_with request.number table) request.pieces.now
 
 -- the warnings of the tables that begin in the part
 abbrev pub warnings_of : PartRequest → List Fault

@@ -14,6 +14,8 @@ use Rattle.csvw_annotate.specs.declared.row.Row.{Row}
 use Rattle.csvw_triples_core.specs.Taking.{IsAsReady}
 use Rattle.csvw_triples_core.specs.declared.mode.Mode.{Mode}
 use Rattle.csvw_triples_core.specs.declared.term.Triple.{Triple}
+use Rattle.csvw_rows.specs.Skips.{remained_of, unread_bytes_of}
+use Rattle.csvw_engine_core.specs.Annotated.{header_count}
 use Rattle.csvw_engine_core.specs.Tables.{TableHolds, TableOutcome, EndOutcome, Gone, Outlets, is_ended}
 use Rattle.csvw_engine_core.specs.declared.stop.Stop.{Stop}
 use Rattle.csvw_engine_core.specs.declared.table.Table.{Table}
@@ -69,13 +71,20 @@ abbrev pub EndsPart : {S : Type 0} → (S → List Triple → S → Type 0) → 
 EndsPart gains cuts is_open failed plan old new before now result = (mode : Mode) (bytes : List ℕ) (given : List Given) (rows : List Row)
     → TableHolds plan mode old bytes false given rows → EndOutcome gains cuts is_open failed plan mode bytes given rows old new before now result
 
--- A row ends where reading ended, after so many rows of all kinds. If there is a row, the bytes so far are whole rows, which were given.
-abbrev pub EndsAtRow : TablePart → ℕ → Type 0
-EndsAtRow part rows = (mode : Mode) (bytes : List ℕ) (given : List Given) (annotated : List Row)
+-- A row ends where reading ended, after so many rows of all kinds, and so many data rows. If there is a row, the bytes so far are whole rows,
+-- which were given.
+abbrev pub EndsAtRow : TablePart → ℕ → ℕ → Type 0
+EndsAtRow part rows data_rows = (mode : Mode) (bytes : List ℕ) (given : List Given) (annotated : List Row)
     → TableHolds part.plan.now mode part.table bytes false given annotated → 0 < rows
     → (whole : List Record) × AreWholeRows part.plan.now.dialect bytes whole × (Body part.plan.now.dialect whole ≡ given) × (length whole ≡ rows)
+    × (header_count part.plan.now + data_rows ≡ length (remaining part.plan.now.dialect 1 whole))
 
--- If no row of any kind was read, none was given.
-abbrev pub HasNoRow : TablePart → ℕ → Type 0
-HasNoRow part rows = (mode : Mode) (bytes : List ℕ) (given : List Given) (annotated : List Row)
-    → TableHolds part.plan.now mode part.table bytes false given annotated → rows ≡ 0 → given ≡ []
+-- If no row of any kind was read, none was given, and there is no header row or data row.
+abbrev pub HasNoRow : TablePart → ℕ → ℕ → Type 0
+HasNoRow part rows data_rows = (mode : Mode) (bytes : List ℕ) (given : List Given) (annotated : List Row)
+    → TableHolds part.plan.now mode part.table bytes false given annotated → rows ≡ 0
+    → (given ≡ []) × (header_count part.plan.now + data_rows ≡ 0)
+
+-- bytes are unread, or there are too few rows for the header
+abbrev pub IsNoRowEnd : TablePart → Type 0
+IsNoRowEnd part = unread_bytes_of part.table.rows ≡ 0 → remained_of part.table.rows < header_count part.plan.now

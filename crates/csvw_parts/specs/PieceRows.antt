@@ -35,20 +35,26 @@ abbrev pub ComesBefore : ℕ → TablePlan → Piece → List ℕ → Option Col
 ComesBefore zero plan piece front columns bytes rows = (bytes ≡ []) × (rows ≡ [])
 ComesBefore (suc byte) plan piece front columns bytes rows = StandBefore plan piece front columns bytes rows
 
--- The bytes are whole rows, of which there are so many.
-pub record AreRowsHere (plan : TablePlan) (bytes : List ℕ) (given : List Given) (count : ℕ) : Type 0 where
+-- The bytes are whole rows, in the numbers of a piece that begins there.
+pub record AreRowsHere (plan : TablePlan) (bytes : List ℕ) (given : List Given) (next : Piece) : Type 0 where
   pub whole : List Record
   pub are_rows : AreWholeRows plan.dialect bytes whole
   pub body : Body plan.dialect whole ≡ given
-  pub count_is : length whole ≡ count
+  pub count : length whole ≡ next.rows_before
+  pub data_count : header_count plan + next.data_rows_before ≡ length (remaining plan.dialect 1 whole)
 
--- The bytes, which are the front of a file, have these rows of the table, and a row ends there. There are so many rows of all kinds.
-pub record AreRowsTo (plan : TablePlan) (bytes : List ℕ) (columns : Option Columns) (faults : List Fault) (rows : List Row) (count : ℕ) : Type 0 where
+-- no row of any kind comes before a piece, so there is no header row and no data row
+abbrev pub HasNoneBefore : TablePlan → List Given → Piece → Type 0
+HasNoneBefore plan given next = (given ≡ []) × (header_count plan + next.data_rows_before ≡ 0)
+
+-- The bytes, which are the front of a file, have these rows of the table. A row ends there, and the next piece begins after as many rows of all
+-- kinds and data rows as its numbers say.
+pub record AreRowsTo (plan : TablePlan) (bytes : List ℕ) (columns : Option Columns) (faults : List Fault) (rows : List Row) (next : Piece) : Type 0 where
   pub given : List Given
   pub first : AreFirst plan.dialect max_rows bytes false given
   pub table : IsTable plan given columns faults rows
-  pub ends : 0 < count → AreRowsHere plan bytes given count
-  pub none : count ≡ 0 → given ≡ []
+  pub ends : 0 < next.rows_before → AreRowsHere plan bytes given next
+  pub none : next.rows_before ≡ 0 → HasNoneBefore plan given next
 
 -- The bytes are a whole file, whose rows are these rows of the table.
 pub record AreAllRows (plan : TablePlan) (bytes : List ℕ) (columns : Option Columns) (faults : List Fault) (rows : List Row) : Type 0 where
@@ -60,5 +66,5 @@ pub record AreAllRows (plan : TablePlan) (bytes : List ℕ) (columns : Option Co
 
 -- the bytes up to the end of a piece have these rows, if this piece of its table follows
 abbrev pub AreRowsUpTo : Option Piece → TablePlan → List ℕ → Option Columns → List Fault → List Row → Type 0
-AreRowsUpTo (Some next) plan bytes columns faults rows = AreRowsTo plan bytes columns faults rows next.rows_before
+AreRowsUpTo (Some next) plan bytes columns faults rows = AreRowsTo plan bytes columns faults rows next
 AreRowsUpTo None plan bytes columns faults rows = AreAllRows plan bytes columns faults rows

@@ -11,14 +11,15 @@
 //! - `TablePart::skip_to` goes on after rows that another part reads, as if they had been read here (`SkipsTable`).
 //!   So the next rows have the numbers, the triples and the faults that they have in the whole table.
 //! - `TablePart::end` ends the table at the end of its file (`EndsPart`).
-//! - `TablePart::rows_here` returns how many rows there are from the start of the file, if a row ends there. The bytes
-//!   so far are whole rows then (`EndsAtRow`), which is what `skip_to` needs for the next piece.
+//! - `TablePart::rows_here` returns how many rows and data rows there are from the start of the file, if a row ends there.
+//!   The bytes so far are whole rows then (`EndsAtRow`), which is what `skip_to` needs for the next piece.
 //! - The triples and the faults of all pieces, one after the other, are those of the whole table: the law
 //!   `pieces_join`.
 //! - `run_part` reads the pieces of one part, in the order of the plan (`RunsPart`). Each reader is one that the opener
 //!   returned, and is handed back. What a part gives is said for all bytes that may come before its pieces (`HaveBefore`):
 //!   - The sink took the opening, if this is part 1, and then the triples of the rows of the pieces, as rows of the whole
-//!     tables (`GivesPart`). A row ends where the piece ends, after as many rows as the plan says, or the file ends there.
+//!     tables (`GivesPart`). A row ends where the piece ends, after as many rows and data rows as the plan says, or the
+//!     file ends there.
 //!   - The faults, which are sorted, are the warnings of the tables that begin in the part, the faults of their headers, and
 //!     those of the cells of the rows.
 //!   - If records are asked for, the lines of those of all keys of the rows were written, in some order (`SendsRecords`).

@@ -3,8 +3,7 @@ ghost use Rattle.std.specs.Prelude.{◌≡◌, IfOk, IfSome, MatchOption, OnOk, 
 ghost use Rattle.csvw_columns.specs.Ready.{IsReady};
 ghost use Rattle.csvw_engine_core.specs.Skipping.{SkipsTable, can_skip_table};
 ghost use Rattle.csvw_engine_core.specs.Tables.{IsNewTable, faults_of, header_faults_of, is_ended, outlets};
-ghost use Rattle.csvw_rows.specs.Skips.{unread_bytes_of};
-ghost use Rattle.csvw_parts.specs.Parts.{EndsAtRow, EndsPart, HasNoRow, ReadsPart};
+ghost use Rattle.csvw_parts.specs.Parts.{EndsAtRow, EndsPart, HasNoRow, IsNoRowEnd, ReadsPart};
 
 use crate::fault::PartFault;
 use crate::reading::{PIECE, buffer_of, read_piece};
@@ -103,17 +102,21 @@ impl<'a> TablePart<'a> {
         end_table(self.plan, &mut self.table, sink, keys)
     }
 
-    /// Returns how many rows of all kinds there are from the start of the file, or `None` if no row ends where reading
-    /// ended.
-    pub fn rows_here(&self) -> Option<u64>
-        ensures ends { MatchOption result (unread_bytes_of self.now.table.rows ≡ 0 → ⊥) (EndsAtRow self.now) }
-        ensures none { IfSome result (HasNoRow self.now) }
+    /// Returns how many rows there are from the start of the file, or `None` if no row ends where reading ended, or if the
+    /// header isn't complete there.
+    pub fn rows_here(&self) -> Option<RowsBefore>
+        ensures ends { MatchOption result (IsNoRowEnd self.now) (λ here. EndsAtRow self.now here.rows here.data_rows) }
+        ensures none { IfSome result (λ here. HasNoRow self.now here.rows here.data_rows) }
     {
         row_ends();
         if self.table.unread_bytes() > 0 {
             return None;
         }
-        Some(self.table.rows_read())
+        let data_rows = self.table.data_rows_read(self.plan)?;
+        Some(RowsBefore {
+            rows: self.table.rows_read(),
+            data_rows,
+        })
     }
 
     /// Adds the faults of its header. Fails with `AllocError` if memory runs out.

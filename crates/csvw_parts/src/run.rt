@@ -236,13 +236,13 @@ fn read_bytes<'a, R: Read, S: TripleSink, W: Write + Drop>(
     Ok(())
 }
 
-/// Returns whether a row ends where reading ended, after so many rows of all kinds.
-fn ends_there(part: &TablePart<'_>, rows: u64) -> bool
-    ensures ends { result ≡ true → EndsAtRow part.now rows }
-    ensures none { result ≡ true → HasNoRow part.now rows }
+/// Returns whether a row ends where reading ended, after as many rows as the next piece of the table says.
+fn ends_there(part: &TablePart<'_>, next: &Piece) -> bool
+    ensures ends { result ≡ true → EndsAtRow part.now next.now.rows_before next.now.data_rows_before }
+    ensures none { result ≡ true → HasNoRow part.now next.now.rows_before next.now.data_rows_before }
 {
     match part.rows_here() {
-        Some(here) => here == rows,
+        Some(here) => { here.rows == next.rows_before && here.data_rows == next.data_rows_before }
         None => false,
     }
 }
@@ -267,7 +267,7 @@ fn read_body<'a, R: Read, S: TripleSink, W: Write + Drop>(
     parts_have_all_records();
     read_bytes(asked, part, reader, sink, state)?;
     match next_piece(asked.request.pieces, &asked.piece) {
-        Some(next) if ends_there(part, next.rows_before) => Ok(()),
+        Some(next) if ends_there(part, &next) => Ok(()),
         Some(_) => Err(asked.differs(Mismatch::Rows)),
         None => end_table(asked, part, reader, sink, state),
     }
@@ -375,11 +375,11 @@ fn has_begin(number: u32, table: u32, pieces: &[Piece]) -> bool
     pieces.iter().any(|piece| begins_with(number, table, piece))
 }
 
-/// Returns whether a table begins in the part. A group does in part 1.
+/// Returns whether a table begins in the part. A group, whose number is 0, begins in part 1.
 fn begins_in(request: PartRequest<'_>, table: u32) -> bool
     ensures { result ≡ begins_in request.entry table }
 {
-    if table == 0 {
+    if table == 0 || request.plan.tables().len() < table as usize {
         request.number == 1
     } else {
         has_begin(request.number, table, request.pieces)

@@ -28,8 +28,8 @@ returns-in-Some-clause-takes g c =
     c.in-Some.ensures
     (body_row g.R.Read.remaining out rules c.parts_have_all_records.ensures g.met.S.TripleSink.stays g.met.S.TripleSink.goes_on plan.now
     c.args.part.now.table read.part.table c.args.reader.now read.reader c.args.asked.piece.bytes start now done.takes c.given_first.ensures next
-    (ends_here read.part next.rows_before plan done.plan (c.ends_there.ensures.ends c.if-ends_there.true))
-    (none_here read.part next.rows_before plan done.plan (c.ends_there.ensures.none c.if-ends_there.true)))
+    (ends_here read.part next.rows_before next.data_rows_before plan done.plan (c.ends_there.ensures.ends c.if-ends_there.true))
+    (none_here read.part next.rows_before next.data_rows_before plan done.plan (c.ends_there.ensures.none c.if-ends_there.true)))
 
 pub returns-in-None-clause-takes : goal.returns-in-None-clause-takes
 returns-in-None-clause-takes g c =

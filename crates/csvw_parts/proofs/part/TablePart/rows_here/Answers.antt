@@ -1,6 +1,5 @@
 -- Where nothing is unread, the bytes so far are whole rows.
 use Rattle.std.proofs.Common.{◌≡◌, ◌∙◌, ◌<◌, ◌++◌, ℕ, List, [], append-nil, ap, sym, subst, arith}
-use Rattle.csvw_records.specs.Files.{Body}
 use Rattle.csvw_part_laws.specs.Parts.{AreWholeRows}
 use Rattle.csvw_engine_core.specs.Tables.{max_rows}
 use Rattle.csvw_rows.specs.RowsState.{reading_of}
@@ -21,11 +20,5 @@ returns-clause-ends c = λ mode bytes given annotated h some.
       subst (λ (l : List ℕ). AreWholeRows d l e.rows) (sym all) e.are_rows,
       e.body,
       (let r = e.reading in omega (arith, r, read)),
+      c.in_ok-data_rows.ensures ∙ e.remained,
     )
-
-pub returns-clause-none : goal.returns-clause-none
-returns-clause-none c = λ mode bytes given annotated h zero.
-    let read = c.rows_read.ensures in
-    let row = h.reader.row_is in
-    let none : h.reader.rows ≡ [] = none_left h.reader.rows (omega (arith, read, row, zero)) in
-    h.reader.given_is ∙ ap (Body c.args.self.now.plan.now.dialect) none
