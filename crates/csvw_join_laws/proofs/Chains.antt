@@ -25,23 +25,23 @@ both_pass true b is so = so
 both_pass false b is so = cc
 
 -- another piece is of an earlier table, or of the same one in a part that isn't later
-abbrev Before : Piece → Piece → Type 0
+abbrev pub Before : Piece → Piece → Type 0
 Before p x = (x.table < p.table) ⊎ ((x.table ≡ p.table) × (x.part ≤ p.part))
 
-not_later : (p x : Piece) → Before p x → is_later p x ≡ false
+pub not_later : (p x : Piece) → Before p x → is_later p x ≡ false
 not_later p x (inl less) = left_false (x.table == p.table) (nat_lt p.part x.part) (grind (arith, nat_tests))
 not_later p x (inr same) = let few = same.1 in right_false (x.table == p.table) (nat_lt p.part x.part) (grind (arith, nat_tests))
 
-after_table : (p x : Piece) → p.table < x.table → is_later p x ≡ false
+pub after_table : (p x : Piece) → p.table < x.table → is_later p x ≡ false
 after_table p x less = left_false (x.table == p.table) (nat_lt p.part x.part) (grind (arith, nat_tests))
 
-goes_later : (p q : Piece) → GoesOn p q → is_later p q ≡ true
+pub goes_later : (p q : Piece) → GoesOn p q → is_later p q ≡ true
 goes_later p q on =
     let table = on.table in
     let part = on.part in
     both_pass (q.table == p.table) (nat_lt p.part q.part) (grind (arith, nat_tests)) (grind (arith, nat_tests))
 
-find-none : (test : Piece → Bool) (xs : List Piece) → All (λ x. test x ≡ false) xs → find test xs ≡ None
+pub find-none : (test : Piece → Bool) (xs : List Piece) → All (λ x. test x ≡ false) xs → find test xs ≡ None
 find-none test [] none = refl
 find-none test (x ∷ xs) none =
     let fails = λ (y : Piece). test y ≡ false in
@@ -51,14 +51,14 @@ none_of : (b : Bool) (p : Piece) → b ≡ false → (let found : Option Piece =
 none_of true p is = cc
 none_of false p is = refl
 
-last_of-none : (table : ℕ) (ys : List Piece) → All (λ p. p.table ≢ table) ys → last_of table ys ≡ None
+pub last_of-none : (table : ℕ) (ys : List Piece) → All (λ p. p.table ≢ table) ys → last_of table ys ≡ None
 last_of-none table [] others = refl
 last_of-none table (y ∷ ys) others =
     let other = λ (p : Piece). p.table ≢ table in
     let apart : y.table ≢ table = All-head other y ys others in
     ap (or_later table y) (last_of-none table ys (All-tail other y ys others)) ∙ none_of (y.table == table) y (grind (arith, nat_tests))
 
-at_drop : {X : Type 0} (xs : List X) (k : ℕ) (x : X) (ys : List X) → drop k xs ≡ x ∷ ys → (slice_get xs k ≡ Some x) × (drop (suc k) xs ≡ ys)
+pub at_drop : {X : Type 0} (xs : List X) (k : ℕ) (x : X) (ys : List X) → drop k xs ≡ x ∷ ys → (slice_get xs k ≡ Some x) × (drop (suc k) xs ≡ ys)
 at_drop [] zero x ys is = cc
 at_drop [] (suc k) x ys is = cc
 at_drop (z ∷ zs) zero x ys is = (cc, cc)
@@ -83,7 +83,7 @@ right_of : (P : Piece → Type 0) (xs ys : List Piece) → All P (xs ++ ys) → 
 right_of P [] ys every = every
 right_of P (x ∷ xs) ys every = right_of P xs ys (All-tail P x (xs ++ ys) every)
 
-before_on : (p q x : Piece) → GoesOn p q → Before p x → Before q x
+pub before_on : (p q x : Piece) → GoesOn p q → Before p x → Before q x
 before_on p q x on (inl less) = let table = on.table in inl (omega arith)
 before_on p q x on (inr same) =
     let table = on.table in
@@ -91,12 +91,12 @@ before_on p q x on (inr same) =
     let few = same.1 in
     inr (same.0 ∙ sym table, omega arith)
 
-before_next : (p q x : Piece) → q.table ≡ p.table + 1 → Before p x → Before q x
+pub before_next : (p q x : Piece) → q.table ≡ p.table + 1 → Before p x → Before q x
 before_next p q x up (inl less) = inl (omega arith)
 before_next p q x up (inr same) = let table = same.0 in inl (omega arith)
 
 -- the tables of a chain go up
-tables_up : (p : Piece) (ps : List Piece) → AreChained p ps → All (λ x. p.table ≤ x.table) (p ∷ ps)
+pub tables_up : (p : Piece) (ps : List Piece) → AreChained p ps → All (λ x. p.table ≤ x.table) (p ∷ ps)
 tables_up p [] chain = All-cons (λ (x : Piece). p.table ≤ x.table) p [] (omega arith) (All-nil (λ (x : Piece). p.table ≤ x.table))
 tables_up p (q ∷ qs) chain =
     let from = λ (x : Piece). p.table ≤ x.table in

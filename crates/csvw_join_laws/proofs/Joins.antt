@@ -43,10 +43,10 @@ module _ {Y : Type 0} (f : TablePlan → Columns → List Row → List Y) (none 
       ∙ ap₂ (λ a b. a ++ b) (of_table t cut.own cut.of_table.plans cut.of_table.columns ∙ ap (f t.0 t.1.columns) cut.of_table.rows)
       (of_tables tables cut.others cut.rest)
 
-same : {X : Type 0} (xs ys : List X) → xs ≡ ys → IsPermutation xs ys
+pub same : {X : Type 0} (xs ys : List X) → xs ≡ ys → IsPermutation xs ys
 same xs ys e = subst (IsPermutation xs) e (IsPermutation-refl xs)
 
-both : {X : Type 0} (ps qs rs ss : List X) → IsPermutation ps qs → IsPermutation rs ss → IsPermutation (ps ++ rs) (qs ++ ss)
+pub both : {X : Type 0} (ps qs rs ss : List X) → IsPermutation ps qs → IsPermutation rs ss → IsPermutation (ps ++ rs) (qs ++ ss)
 both ps qs rs ss a b = IsPermutation-trans _ _ _ (IsPermutation-append_left rs ps qs a) (IsPermutation-append_right qs rs ss b)
 
 -- the second and the third of four lists change places
@@ -59,7 +59,7 @@ middle ps qs rs ss =
     (subst (IsPermutation (ps ++ ((qs ++ rs) ++ ss))) back (IsPermutation-append_right ps _ _ swapped))
 
 -- what each item has first, and what each item has then
-apart : {X Y : Type 0} (f g : X → List Y) (xs : List X) → IsPermutation (flat_map (λ x. f x ++ g x) xs) (flat_map f xs ++ flat_map g xs)
+pub apart : {X Y : Type 0} (f g : X → List Y) (xs : List X) → IsPermutation (flat_map (λ x. f x ++ g x) xs) (flat_map f xs ++ flat_map g xs)
 apart f g [] = IsPermutation-refl []
 apart f g (x ∷ xs) =
     IsPermutation-trans _ _ _ (both _ _ _ _ (IsPermutation-refl (f x ++ g x)) (apart f g xs)) (middle (f x) (g x) (flat_map f xs) (flat_map g xs))

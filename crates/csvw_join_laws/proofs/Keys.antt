@@ -84,7 +84,7 @@ numbered_rows plans tables numbered many zero = none_before 1 zero plans tables 
 numbered_rows plans tables numbered many (suc i) = table_at 1 (suc i) i plans tables numbered many (omega arith)
 
 -- the rows of all parts are those of the tables
-rows_joined : (plan : Plan) (tables : List Table) (parts : List (List TablePiece)) → length tables ≡ length plan.tables
+pub rows_joined : (plan : Plan) (tables : List Table) (parts : List (List TablePiece)) → length tables ≡ length plan.tables
     → AreCutInto (zip plan.tables tables) (pieces_of parts) → (n : ℕ) → all_of (map rows_in parts) n ≡ rows_of tables n
 rows_joined plan tables parts many cut n =
     flat_map-map (λ (part : ℕ → List Row). part n) rows_in parts ∙ by_parts (rows_if n) parts

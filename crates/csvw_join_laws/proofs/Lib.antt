@@ -1,7 +1,17 @@
+mod Begins
 mod Chains
+mod Graphs
+mod Headers
 mod Joins
 mod Keys
+mod Nexts
+mod OwnRows
+mod PartGiven
 mod Places
 mod Ranges
 mod Running
+mod RunsJoined
+mod Sums
 mod Taking
+mod Texts
+mod Warnings

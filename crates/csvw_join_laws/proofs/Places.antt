@@ -79,6 +79,33 @@ heads_front plan front more columns faults enough heads =
     subst (λ w. IsMatch plan (header_rows plan front) w columns faults) (same_width h front more enough)
     (subst (λ r. IsMatch plan r (first_width h (front ++ more)) columns faults) rows heads)
 
+pub zip_len : (plans : List TablePlan) (tables : List Table) → length tables ≡ length plans → length (zip plans tables) ≡ length plans
+zip_len [] [] many = refl
+zip_len [] (t ∷ ts) many = cc
+zip_len (p ∷ ps) [] many = cc
+zip_len (p ∷ ps) (t ∷ ts) many = ap suc (zip_len ps ts (omega (arith, many)))
+
+-- each table has a last piece
+pub has_last : {R : Type 0} (remaining_of : R → Option (List ℕ)) (plans : List TablePlan) (files : List (TableFile R)) (pieces : List Piece)
+    → AreWholeFiles remaining_of plans files pieces → (n : ℕ) → n ≡ length plans → 0 < n → last_of n pieces ≢ None
+has_last remaining_of plans files pieces whole n at some =
+    let one_each = whole.one_each in
+    elim (slice_get_cases files (n - 1)).1 [
+      | inl found ↦
+          let ends = whole.ends (n - 1) found.0 found.2 in
+          let same : n - 1 + 1 ≡ n = omega (arith, some) in
+          λ (none : last_of n pieces ≡ None). let both : None ≡ Some ends.last = sym none ∙ ap (λ k. last_of k pieces) (sym same) ∙ ends.is_last in cc
+      | inr past ↦ absurd (omega (arith, past, one_each, at, some))
+    ]
+
+pub low_table : {R : Type 0} (remaining_of : R → Option (List ℕ)) (plans : List TablePlan) (files : List (TableFile R)) (pieces : List Piece)
+    → AreWholeFiles remaining_of plans files pieces → (n : ℕ) → n ≡ length plans → (p : Piece) → IsPieceOfSome remaining_of plans files p → p.table ≤ n
+low_table remaining_of plans files pieces whole n at p is =
+    let number = whole.numbers is.i is.plan is.plan_is in
+    let table_is = is.piece.0 in
+    let within = slice_get_within plans is.i is.plan is.plan_is in
+    omega arith
+
 module _ (rows_of_parts : RowsOfParts) (go_on : NumbersGoOn) where
   -- the rows of a file that begins with whole rows
   record Begun (plan : TablePlan) (front : List FileRow) (rows : List FileRow) : Type 0 where
@@ -232,33 +259,6 @@ module _ (rows_of_parts : RowsOfParts) (go_on : NumbersGoOn) where
               }
           | inr past ↦ absurd (omega (arith, within, many, past))
         ]
-
-  zip_len : (plans : List TablePlan) (tables : List Table) → length tables ≡ length plans → length (zip plans tables) ≡ length plans
-  zip_len [] [] many = refl
-  zip_len [] (t ∷ ts) many = cc
-  zip_len (p ∷ ps) [] many = cc
-  zip_len (p ∷ ps) (t ∷ ts) many = ap suc (zip_len ps ts (omega (arith, many)))
-
-  -- each table has a last piece
-  has_last : {R : Type 0} (remaining_of : R → Option (List ℕ)) (plans : List TablePlan) (files : List (TableFile R)) (pieces : List Piece)
-      → AreWholeFiles remaining_of plans files pieces → (n : ℕ) → n ≡ length plans → 0 < n → last_of n pieces ≢ None
-  has_last remaining_of plans files pieces whole n at some =
-      let one_each = whole.one_each in
-      elim (slice_get_cases files (n - 1)).1 [
-        | inl found ↦
-            let ends = whole.ends (n - 1) found.0 found.2 in
-            let same : n - 1 + 1 ≡ n = omega (arith, some) in
-            λ (none : last_of n pieces ≡ None). let both : None ≡ Some ends.last = sym none ∙ ap (λ k. last_of k pieces) (sym same) ∙ ends.is_last in cc
-        | inr past ↦ absurd (omega (arith, past, one_each, at, some))
-      ]
-
-  low_table : {R : Type 0} (remaining_of : R → Option (List ℕ)) (plans : List TablePlan) (files : List (TableFile R)) (pieces : List Piece)
-      → AreWholeFiles remaining_of plans files pieces → (n : ℕ) → n ≡ length plans → (p : Piece) → IsPieceOfSome remaining_of plans files p → p.table ≤ n
-  low_table remaining_of plans files pieces whole n at p is =
-      let number = whole.numbers is.i is.plan is.plan_is in
-      let table_is = is.piece.0 in
-      let within = slice_get_within plans is.i is.plan is.plan_is in
-      omega arith
 
   pub cuts_are_pieces : {R : Type 0} (remaining_of : R → Option (List ℕ)) → CutsArePieces remaining_of
   cuts_are_pieces remaining_of plan files texts tables pieces of give lawful are =

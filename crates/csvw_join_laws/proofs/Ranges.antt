@@ -7,20 +7,21 @@ use Rattle.std.proofs.lemmas.Bool.Decides.{nat_tests}
 use Rattle.std.proofs.lemmas.List.Elements.{All-cons, All-head, All-nil, All-tail, All-weaker}
 use Rattle.csvw_part_plan.specs.Plans.{AreChained, Follows, TileFront, last_piece, part_count, part_of}
 use Rattle.csvw_part_plan.specs.declared.piece.Piece.{Piece}
+use Rattle.csvw_join_laws.specs.AllParts.{numbers}
 use Rattle.csvw_join_laws.specs.Joining.{Planned, TablePiece, pieces_of}
-use Rattle.csvw_join_laws.specs.PlanPieces.{parts_from, parts_of, table_pieces}
+use Rattle.csvw_join_laws.specs.PlanPieces.{part_pieces, parts_from, parts_of, table_pieces}
 
-abbrev last : Piece → List Piece → Piece
+abbrev pub last : Piece → List Piece → Piece
 last p [] = p
 last p (q ∷ qs) = last q qs
 
-last_piece-cons : (p : Piece) (ps : List Piece) → last_piece (p ∷ ps) ≡ Some (last p ps)
+pub last_piece-cons : (p : Piece) (ps : List Piece) → last_piece (p ∷ ps) ≡ Some (last p ps)
 last_piece-cons p [] = refl
 last_piece-cons p (q ∷ qs) =
     let at : length (p ∷ q ∷ qs) - 1 ≡ suc (length (q ∷ qs) - 1) = omega arith in
     ap (slice_get (p ∷ q ∷ qs)) at ∙ last_piece-cons q qs
 
-part_up : (p q : Piece) → Follows p q → p.part ≤ q.part
+pub part_up : (p q : Piece) → Follows p q → p.part ≤ q.part
 part_up p q follows =
     elim follows.0 [
       | inl on ↦ let part = on.part in omega arith
@@ -35,13 +36,13 @@ parts_up p (q ∷ qs) chain =
     let up = part_up p q chain.0 in
     All-cons from q qs up (All-weaker (λ (x : Piece). q.part ≤ x.part) from (λ x le. omega (arith, le, up)) qs (parts_up q qs chain.1))
 
-last_up : (p : Piece) (ps : List Piece) → AreChained p ps → p.part ≤ (last p ps).part
+pub last_up : (p : Piece) (ps : List Piece) → AreChained p ps → p.part ≤ (last p ps).part
 last_up p [] chain = omega arith
 last_up p (q ∷ qs) chain = let up = part_up p q chain.0 in let more = last_up q qs chain.1 in omega arith
 
-module _ (item : Piece → List TablePiece) where
+module _ {Y : Type 0} (item : Piece → List Y) where
   -- the pieces of so many parts from one on
-  abbrev by_range : List Piece → ℕ → ℕ → List TablePiece
+  abbrev by_range : List Piece → ℕ → ℕ → List Y
   by_range ps k zero = []
   by_range ps k (suc n) = flat_map item (filter (λ p. p.part == k) ps) ++ by_range ps (suc k) n
 
@@ -96,6 +97,19 @@ module _ (item : Piece → List TablePiece) where
       insert p (q ∷ qs) (parts_up p (q ∷ qs) chain) k n from (omega (arith, up, over, below))
       ∙ ap (λ l. item p ++ l) (ranged q qs chain.1 k n (omega (arith, up, from)) below)
 
+  -- by parts or in order
+  pub in_order : (pieces : List Piece) → TileFront pieces → by_range pieces 1 (part_count pieces) ≡ flat_map item pieces
+  in_order [] tile = no_range 1 0
+  in_order (p ∷ ps) tile =
+      let first = tile.0.part in
+      let count : part_count (p ∷ ps) ≡ (last p ps).part = ap part_of (last_piece-cons p ps) in
+      ranged p ps tile.1 1 (part_count (p ∷ ps)) (omega (arith, first)) (omega (arith, count))
+
+  -- by the numbers of parts
+  pub by_numbers : (ps : List Piece) (k n : ℕ) → flat_map (λ i. flat_map item (filter (λ p. p.part == i) ps)) (numbers k n) ≡ by_range ps k n
+  by_numbers ps k zero = refl
+  by_numbers ps k (suc n) = ap (λ l. flat_map item (filter (λ p. p.part == k) ps) ++ l) (by_numbers ps (suc k) n)
+
 module _ (planned : List Planned) (all : List Piece) where
   abbrev item_of : Piece → List TablePiece
   item_of p = table_pieces planned all p
@@ -104,13 +118,12 @@ module _ (planned : List Planned) (all : List Piece) where
   by_parts_from k zero = refl
   by_parts_from k (suc n) = ap (λ l. flat_map item_of (filter (λ p. p.part == k) all) ++ l) (by_parts_from (suc k) n)
 
-  in_order : (pieces : List Piece) → TileFront pieces → by_range item_of pieces 1 (part_count pieces) ≡ flat_map item_of pieces
-  in_order [] tile = no_range item_of 1 0
-  in_order (p ∷ ps) tile =
-      let first = tile.0.part in
-      let count : part_count (p ∷ ps) ≡ (last p ps).part = ap part_of (last_piece-cons p ps) in
-      ranged item_of p ps tile.1 1 (part_count (p ∷ ps)) (omega (arith, first)) (omega (arith, count))
-
   -- the pieces of all parts are all pieces, in order
   pub parts_in_order : TileFront all → pieces_of (parts_of planned all) ≡ flat_map item_of all
-  parts_in_order tile = by_parts_from 1 (part_count all) ∙ in_order all tile
+  parts_in_order tile = by_parts_from 1 (part_count all) ∙ in_order item_of all tile
+
+  -- what the parts have, by their numbers
+  pub parts_by_numbers : {Y : Type 0} (f : List TablePiece → List Y) (k n : ℕ)
+      → flat_map (λ i. f (part_pieces planned all i)) (numbers k n) ≡ flat_map f (parts_from planned all k n)
+  parts_by_numbers f k zero = refl
+  parts_by_numbers f k (suc n) = ap (λ l. f (part_pieces planned all k) ++ l) (parts_by_numbers f (suc k) n)

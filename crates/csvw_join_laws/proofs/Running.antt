@@ -1,12 +1,12 @@
 -- Before each piece of a part come the bytes of its file that are before it.
-use Rattle.std.proofs.Common.{◌≡◌, ◌∙◌, ℕ, zero, suc, ◌-◌, ◌<◌, ◌==◌, Bool, true, false, cond, List, [], ◌∷◌, ◌++◌, Option, Some, None, refl, sym, ap, subst, arith, inl, inr, drop, length, take, take-append-drop}
+use Rattle.std.proofs.Common.{◌≡◌, ◌∙◌, ℕ, zero, suc, ◌-◌, ◌<◌, List, [], ◌∷◌, ◌++◌, Option, Some, None, refl, sym, ap, subst, arith, inl, inr, drop, length, take, take-append-drop}
 use Rattle.std.specs.Prelude.{slice_get}
 use Rattle.std.specs.List.{All}
 use Rattle.std.specs.Str.{chars}
 use Rattle.std.specs.Str.Lossy.{utf8_valid_len}
 use Rattle.std.specs.Io.KnownBytes.{Consumes}
 use Rattle.std.proofs.lemmas.List.{take-take, take_at}
-use Rattle.std.proofs.lemmas.List.Elements.{All-cons, All-head, All-tail}
+use Rattle.std.proofs.lemmas.List.Elements.{All-head, All-tail}
 use Rattle.csvw_annotate.specs.declared.row.Row.{Row}
 use Rattle.csvw_columns.specs.declared.plan.TablePlan.{TablePlan}
 use Rattle.csvw_columns_core.specs.declared.columns.Columns.{Columns}
@@ -20,7 +20,7 @@ use Rattle.csvw_parts.specs.Fronts.{Opens}
 use Rattle.csvw_parts.specs.Outlets.{Outs}
 use Rattle.csvw_parts.specs.PartGains.{HasBefore, HaveBefore}
 use Rattle.csvw_parts.specs.PartRows.{KnowsFront, ReadsBefore}
-use Rattle.csvw_parts.specs.PartRuns.{own_of, own_pieces}
+use Rattle.csvw_parts.specs.PartRuns.{own_pieces}
 use Rattle.csvw_parts.specs.PartSteps.{AddsPiece, AddsPieces, Reached}
 use Rattle.csvw_parts.specs.PieceRows.{ComesBefore, IsFront, StandBefore}
 use Rattle.csvw_parts.specs.declared.run.PartRequest.{PartRequest}
@@ -33,6 +33,7 @@ use Rattle.csvw_records.specs.declared.dialect.Dialect.{Dialect}
 use Rattle.csvw_join_laws.specs.PlanPieces.{AreLawful, AreRowsOf, HasRowsBefore, IsTableBefore}
 use Rattle.csvw_join_laws.specs.Running.{ArePlaced, IsPlaced, OpensTexts, PartsGive, paths_of}
 use Rattle.csvw_join_laws.proofs.Chains.{drop_none}
+use Rattle.csvw_join_laws.proofs.Nexts.{own_have}
 use Rattle.csvw_join_laws.proofs.Places.{heads_front}
 
 no_chars : content (let e : List ℕ = [] in e) ≡ []
@@ -165,17 +166,8 @@ module _ (laws : RecordsAreLawful) (rows_of_parts : RowsOfParts) (go_on : Number
         let others = have_before ps c.between after c.rest (All-tail Places p ps has) in
         ((first.0, others.0), (first.1, others.1))
 
-    kept : (b : Bool) (p : Piece) (ps : List Piece) → Places p → All Places ps → All Places (cond b (p ∷ ps) ps)
-    kept true p ps has others = All-cons Places p ps has others
-    kept false p ps has others = others
-
-    own_placed : (number : ℕ) (pieces : List Piece) → All Places pieces → All Places (own_of number pieces)
-    own_placed number [] has = has
-    own_placed number (p ∷ ps) has =
-        kept (p.part == number) p (own_of number ps) (All-head Places p ps has) (own_placed number ps (All-tail Places p ps has))
-
   pub parts_give : {O R S W : Type 0} (opener : Opens O R) (out : Outs S W) → PartsGive opener out
   parts_give opener out request texts tables old new sink gained records run opens lawful are places runs =
-      let own = own_placed opener out request texts tables opens lawful request.number request.pieces.now places in
+      let own = own_have (HasRowsBefore request.plan.now.tables texts tables) request.number request.pieces.now places in
       let both = have_before opener out request texts tables opens lawful (own_pieces request) _ runs.own.last runs.own.pieces own in
       record { before = both.0; placed = both.1; gives = runs.gives both.0 }

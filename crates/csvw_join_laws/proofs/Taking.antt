@@ -41,7 +41,7 @@ module _ (one_list : HaveOneList) (one_annotation : HaveOneAnnotation) (rows_of_
       cc
 
   to_next : (q : Piece) → IsTableBefore plan table text q → (columns : Option Columns) (faults : List Fault) (rows : List Row)
-      → AreRowsTo plan (take q.first_byte text) columns faults rows q.rows_before
+      → AreRowsTo plan (take q.first_byte text) columns faults rows q
       → IsFound table columns faults rows (take q.data_rows_before table.rows)
   to_next q before columns faults rows to =
       let d = plan.dialect in
@@ -51,7 +51,7 @@ module _ (one_list : HaveOneList) (one_annotation : HaveOneAnnotation) (rows_of_
       let here = to.ends (omega (arith, count, some)) in
       let file = front_file rows_of_parts go_on plan text q.first_byte before.front are.file ready.dialect before.whole are.is_file in
       let few = file.limits.0 in
-      let counted = here.count_is in
+      let counted = here.count in
       let mine : File d max_rows bytes here.whole = record {
         is_utf8 = here.are_rows.is_utf8;
         are_rows = inl here.are_rows.are_rows;

@@ -20,7 +20,7 @@ pub record FindRows : Type 0 where
   -- the rows up to a later piece are the first rows of the table, as many as the piece says
   pub to_next : (plan : TablePlan) (text : List ℕ) (table : Table) (q : Piece) (columns : Option Columns) (faults : List Fault) (rows : List Row)
       → IsReady plan → IsAnnotated plan text table → IsTableBefore plan table text q
-      → AreRowsTo plan (take q.first_byte text) columns faults rows q.rows_before
+      → AreRowsTo plan (take q.first_byte text) columns faults rows q
       → IsFound table columns faults rows (take q.data_rows_before table.rows)
   -- the rows of the whole file are all rows of the table
   pub to_end : (plan : TablePlan) (text : List ℕ) (table : Table) (columns : Option Columns) (faults : List Fault) (rows : List Row)

@@ -1,3 +1,4 @@
+pub mod AllParts
 pub mod Finding
 pub mod Joining
 pub mod Keys

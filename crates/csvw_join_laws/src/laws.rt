@@ -1,4 +1,5 @@
 //! Laws of the parts of a group. A call of a law does nothing.
+ghost use Rattle.csvw_join_laws.specs.AllParts.{RunsJoin};
 ghost use Rattle.csvw_join_laws.specs.Finding.{FindRows};
 ghost use Rattle.csvw_join_laws.specs.Joining.{PartsJoin};
 ghost use Rattle.csvw_join_laws.specs.Keys.{KeysJoin};
@@ -11,7 +12,8 @@ use csvw_group_laws::laws::texts_have_one_annotation;
 use csvw_opener::Opener;
 use csvw_part_laws::laws::{numbers_go_on, rows_of_parts};
 use csvw_records::laws::{have_one_list, record_laws};
-use csvw_row_keys::laws::{records_find_faults_of_parts, sources_ascend};
+use csvw_row_keys::laws::{parts_have_all_records, records_find_faults_of_parts, sources_ascend};
+use csvw_triples::{opening_is_the_graphs, rows_triples_are_table_graph};
 use csvw_triples_core::TripleSink;
 use std::io::{Read, Write};
 
@@ -53,4 +55,19 @@ pub fn find_rows()
     texts_have_one_annotation();
     rows_of_parts();
     numbers_go_on();
+}
+
+/// A law: the runs of all parts over a plan that `split` returns are, together, the whole group: its triples in order, its records and
+/// its violations.
+pub fn runs_join<F: Read, O: Opener, S: TripleSink, W: Write + Drop>()
+    ensures { RunsJoin F.remaining (opener_of O.opens O.opens_at O.closes O.Reader.remaining) (outs S.gains S.is_open S.failed W.contents) }
+{
+    find_rows();
+    parts_give::<O, S, W>();
+    cuts_are_pieces::<F>();
+    parts_join();
+    keys_join();
+    parts_have_all_records();
+    opening_is_the_graphs();
+    rows_triples_are_table_graph();
 }

@@ -18,6 +18,9 @@
 //!   what `run_part` of csvw_parts promises holds: the law `parts_give` (`PartGives`).
 //! - The rows that a part finds up to a later piece are the first rows of the annotated table, and those up to the end of the file are
 //!   all: the law `find_rows` (`FindRows`).
+//! - The runs of all parts over such a plan are, together, the whole group: the law `runs_join` (`RunsJoin`). Their triples, part by
+//!   part, are those of the group in order, and its graph. Their records are those of all rows. Their faults, with those that these
+//!   records show, are the violations of the group.
 #![tactic(auto)]
 
 pub mod laws;
