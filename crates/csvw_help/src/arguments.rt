@@ -21,16 +21,20 @@ pub(crate) fn takes_value(arg: &Arg<'_>) -> bool {
 
 /// Whether an argument can have several values.
 pub(crate) fn takes_several(arg: &Arg<'_>) -> bool {
-    arg.get_num_args()
-        .is_some_and(|range| range.max_values() > 1)
+    match arg.get_num_args() {
+        Some(range) => range.max_values() > 1,
+        None => false,
+    }
 }
 
 /// Whether a command has an argument that is no option.
 pub(crate) fn has_positionals(command: &Command<'_>) -> bool {
-    command
-        .get_arguments()
-        .iter()
-        .any(|arg| arg.is_positional() && is_shown(arg))
+    for arg in command.get_arguments() {
+        if arg.is_positional() && is_shown(arg) {
+            return true;
+        }
+    }
+    false
 }
 
 /// Returns the names of the values that help shows.

@@ -31,6 +31,9 @@ const FOUND: &str = ")
     done
 ";
 
+/// Offers values.
+const VALUES: &str = ":*) words=(%w) ;;\n";
+
 const FREE: &str = ":*) compopt +o bashdefault +o default 2>/dev/null ;;\n";
 
 /// Offers the words that begin with what is completed.
@@ -46,21 +49,13 @@ const END: &str = "    esac
 complete -o bashdefault -o default -F %f %w
 ";
 
-/// Adds the names of the subcommands, each after a text.
-fn add_names(script: &mut Script<'_>, before: &str, command: &Command<'_>) {
+/// Adds a template for each subcommand, with its name.
+fn add_names(script: &mut Script<'_>, template: &str, command: &Command<'_>) {
     for subcommand in command.get_subcommands() {
         if is_own(subcommand) {
-            script.push(before);
-            script.fill("%w", subcommand.get_name());
+            script.fill(template, subcommand.get_name());
         }
     }
-}
-
-/// Adds the values that are offered.
-fn add_values(script: &mut Script<'_>, values: &[&str]) {
-    script.push(":*) words=(");
-    script.add_list('w', " ", values);
-    script.push(") ;;\n");
 }
 
 /// Adds what completes the value of an option.
@@ -70,11 +65,8 @@ fn add_option(script: &mut Script<'_>, name: &str, arg: &Arg<'_>) {
     };
     script.fill("        %w:--", name);
     script.fill("%w", long);
-    let values = script.values(arg);
-    if values.is_empty() {
+    if !script.add_values(VALUES, " ", arg) {
         script.push(FREE);
-    } else {
-        add_values(script, values.as_slice());
     }
 }
 
@@ -108,7 +100,7 @@ fn add_positional(script: &mut Script<'_>, name: &str, arg: &Arg<'_>) {
     let values = script.values(arg);
     if !values.is_empty() {
         script.fill("        %w", name);
-        add_values(script, values.as_slice());
+        script.add_list(VALUES, " ", values.as_slice());
     }
 }
 
@@ -147,9 +139,9 @@ fn add_own(script: &mut Script<'_>, command: &Command<'_>) {
         return add_one(script, "", command);
     }
     script.push("        help:*) words=(help");
-    add_names(script, " ", command);
+    add_names(script, " %w", command);
     script.push(") ;;\n        *) words=(help");
-    add_names(script, " ", command);
+    add_names(script, " %w", command);
     script.push(" ");
     add_long_names(script, command);
     script.push(") ;;\n");
@@ -161,7 +153,7 @@ pub(crate) fn add_bash(script: &mut Script<'_>, command: &Command<'_>) {
     script.fill(BEGIN, program);
     if command.has_subcommands() {
         script.push(SEARCH);
-        add_names(script, "|", command);
+        add_names(script, "|%w", command);
         script.push(FOUND);
     }
     script.push("    case $subcommand:$prev:$cur in\n");

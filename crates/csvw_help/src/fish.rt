@@ -4,6 +4,9 @@ use crate::arguments::{has_positionals, is_own, is_shown, takes_value};
 use crate::script::Script;
 use clap::{Arg, Command};
 
+/// The values that an argument can have, as fish reads them.
+const VALUES: &str = " -a '%I'";
+
 /// Where a completion is offered.
 #[derive(Clone, Copy)]
 struct Place<'a> {
@@ -33,22 +36,6 @@ fn add_end(script: &mut Script<'_>, help: Option<&str>) {
     script.push("\n");
 }
 
-/// Adds the values that an argument can have, as fish reads them after `-a`.
-fn add_values(script: &mut Script<'_>, values: &[&str]) {
-    script.push(" -a '");
-    script.add_list('I', " ", values);
-    script.push("'");
-}
-
-/// Adds the value of an option.
-fn add_value(script: &mut Script<'_>, arg: &Arg<'_>) {
-    script.push(" -x");
-    let values = script.values(arg);
-    if !values.is_empty() {
-        add_values(script, values.as_slice());
-    }
-}
-
 /// Adds an option.
 fn add_option(script: &mut Script<'_>, place: &Place<'_>, arg: &Arg<'_>) {
     add_start(script, place);
@@ -60,7 +47,8 @@ fn add_option(script: &mut Script<'_>, place: &Place<'_>, arg: &Arg<'_>) {
         script.fill(" -l %W", long);
     }
     if takes_value(arg) {
-        add_value(script, arg);
+        script.push(" -x");
+        script.add_values(VALUES, " ", arg);
     }
     add_end(script, arg.get_help());
 }
@@ -70,7 +58,7 @@ fn add_positional(script: &mut Script<'_>, place: &Place<'_>, arg: &Arg<'_>) {
     let values = script.values(arg);
     if !values.is_empty() {
         add_start(script, place);
-        add_values(script, values.as_slice());
+        script.add_list(VALUES, " ", values.as_slice());
         script.push("\n");
     }
 }

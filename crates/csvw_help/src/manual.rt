@@ -67,16 +67,6 @@ fn add_usage(page: &mut Script<'_>, program: &str, command: &Command<'_>) {
     add_shapes(page, command);
 }
 
-/// Adds the values of an argument.
-fn add_values(page: &mut Script<'_>, arg: &Arg<'_>) {
-    let values = page.values(arg);
-    if !values.is_empty() {
-        page.push(".br\nPossible values: ");
-        page.add_list('r', ", ", values.as_slice());
-        page.push(".\n");
-    }
-}
-
 /// Adds an argument with its help and its values.
 fn add_argument(page: &mut Script<'_>, arg: &Arg<'_>) {
     page.push(".TP\n\\fB");
@@ -90,7 +80,7 @@ fn add_argument(page: &mut Script<'_>, arg: &Arg<'_>) {
     add_shape(page, arg);
     let help = arg.get_long_help().or(arg.get_help()).unwrap_or("");
     page.fill("\\fR\n%l", help);
-    add_values(page, arg);
+    page.add_values(".br\nPossible values: %r.\n", ", ", arg);
 }
 
 /// Adds the arguments of a command.

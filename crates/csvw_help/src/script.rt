@@ -50,7 +50,7 @@ fn push_template(text: &mut String, template: &str, part: &str) -> Result<(), Al
 }
 
 /// Adds some parts of one form, with a text between them.
-fn push_list(
+fn push_parts(
     text: &mut String,
     form: char,
     between: &str,
@@ -61,6 +61,24 @@ fn push_list(
         push_part(text, form, part)?;
     }
     Ok(())
+}
+
+/// Adds a template with some parts, in the form that the letter after its percent sign names.
+fn push_list(
+    text: &mut String,
+    template: &str,
+    between: &str,
+    parts: &[&str],
+) -> Result<(), AllocError> {
+    let Some((before, rest)) = template.split_once('%') else {
+        return text.push_str(template);
+    };
+    text.push_str(before)?;
+    let mut after = rest.chars();
+    if let Some(form) = after.next() {
+        push_parts(text, form, between, parts)?;
+    }
+    text.push_str(after.as_str())
 }
 
 /// Adds a letter, as roff if the form is `r`, and else as it is.
@@ -112,11 +130,22 @@ impl<'a> Script<'a> {
         }
     }
 
-    /// Adds some parts of one form, with a text between them.
-    pub(crate) fn add_list(&mut self, form: char, between: &str, parts: &[&str]) {
+    /// Adds a template with some parts in place of one, and a text between them.
+    pub(crate) fn add_list(&mut self, template: &str, between: &str, parts: &[&str]) {
         if !self.is_cut {
-            self.is_cut = push_list(self.text, form, between, parts).is_err();
+            self.is_cut = push_list(self.text, template, between, parts).is_err();
         }
+    }
+
+    /// Adds a template with the values that an argument can have, and a text between them. Returns whether it has any: it adds
+    /// nothing if they are free or memory runs out.
+    pub(crate) fn add_values(&mut self, template: &str, between: &str, arg: &Arg<'_>) -> bool {
+        let values = self.values(arg);
+        if values.is_empty() {
+            return false;
+        }
+        self.add_list(template, between, values.as_slice());
+        true
     }
 
     /// Adds a letter, as roff if the form is `r`, and else as it is.

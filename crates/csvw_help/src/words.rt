@@ -66,8 +66,12 @@ pub(crate) fn push_fish_quoted(text: &mut String, word: &str) -> Result<(), Allo
 
 /// Whether a shell reads a word as it is written.
 fn is_plain(word: &str) -> bool {
+    for b in word.bytes() {
+        if !(b.is_ascii_alphanumeric() || b == b'-' || b == b'_' || b == b'.') {
+            return false;
+        }
+    }
     !word.is_empty()
-        && word.bytes().all(|b| b.is_ascii_alphanumeric() || b == b'-' || b == b'_' || b == b'.')
 }
 
 /// Adds a word as bash and zsh read it, in quotes if it needs them.

@@ -48,13 +48,8 @@ fi
 /// Adds what completes the value of an argument: its values, or `free` if it has none.
 fn add_action(script: &mut Script<'_>, arg: &Arg<'_>, free: &str) {
     script.fill(":%s:", arg.get_id());
-    let values = script.values(arg);
-    if values.is_empty() {
+    if !script.add_values("(%i)", " ", arg) {
         script.push(free);
-    } else {
-        script.push("(");
-        script.add_list('i', " ", values.as_slice());
-        script.push(")");
     }
 }
 

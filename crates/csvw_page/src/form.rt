@@ -1,7 +1,7 @@
 //! The form of a page, and whether it has colours.
 
 /// The form of a page.
-#[derive(Clone, Copy, Debug, PartialEq, Eq)]
+#[derive(Clone, Copy)]
 pub enum Form {
     /// Lines of text.
     Text,
@@ -18,7 +18,7 @@ pub enum Form {
 }
 
 /// Whether lines of text have colours, by the codes of ANSI (ECMA-48).
-#[derive(Clone, Copy, Debug, PartialEq, Eq)]
+#[derive(Clone, Copy)]
 pub enum Color {
     /// Lines have no colours.
     Never,

@@ -3,7 +3,7 @@
 use crate::counts::{Counts, Spot};
 use crate::escape::push_escaped;
 use crate::html_style::STYLE;
-use crate::line::{push_column, push_text, row_shown};
+use crate::line::{RowShown, push_column, push_text, row_shown};
 use crate::shown::{
     CellShown, FaultShown, MoreShown, RowPlace, SpotShown, StopPlace, StopShown, Summary,
     UnknownShown, kind_name,
@@ -19,6 +19,10 @@ fn push_clipped(page: &mut String, text: &str) -> Result<(), AllocError> {
     push_escaped(page, shown.as_str())
 }
 
+/// What is before the title.
+const HEAD: &str = "<!DOCTYPE html>\n<html lang=\"en\">\n<head>\n<meta charset=\"utf-8\">
+<meta name=\"viewport\" content=\"width=device-width, initial-scale=1\">\n<title>";
+
 /// Begins the page, with its title and its summary. There is no summary if the document wasn't read.
 pub(crate) fn push_begin(
     page: &mut String,
@@ -29,10 +33,7 @@ pub(crate) fn push_begin(
         Some(summary) => summary.status,
         None => REFUSED,
     });
-    page.push_str("<!DOCTYPE html>\n<html lang=\"en\">\n<head>\n<meta charset=\"utf-8\">\n")?;
-    page.push_str(
-        "<meta name=\"viewport\" content=\"width=device-width, initial-scale=1\">\n<title>",
-    )?;
+    page.push_str(HEAD)?;
     push_clipped(page, meta)?;
     write!(page, ": {verdict}</title>\n")?;
     page.push_str(STYLE)?;
@@ -62,14 +63,24 @@ fn push_tables(page: &mut String, summary: &Summary<'_>) -> Result<(), AllocErro
     let mut number = 0u32;
     for (i, path) in summary.paths.iter().enumerate() {
         number = number.saturating_add(1);
-        write!(page, "<tr><td>{number}</td><td>")?;
-        push_clipped(page, path.as_str())?;
-        page.push_str("</td><td class=\"number\">")?;
-        push_rows(page, summary.rows.get(i).copied())?;
         let faults = summary.totals.of_table(number);
-        write!(page, "</td><td class=\"number\">{faults}</td></tr>\n")?;
+        write!(page, "<tr><td>{number}</td><td>")?;
+        push_table(page, path.as_str(), summary.rows.get(i).copied(), faults)?;
     }
     page.push_str("</table></div>\n")
+}
+
+/// Adds what follows the number of a table: its file, the rows that were read of it, and its faults.
+fn push_table(
+    page: &mut String,
+    path: &str,
+    rows: Option<u64>,
+    faults: u64,
+) -> Result<(), AllocError> {
+    push_clipped(page, path)?;
+    page.push_str("</td><td class=\"number\">")?;
+    push_rows(page, rows)?;
+    write!(page, "</td><td class=\"number\">{faults}</td></tr>\n")
 }
 
 /// Adds the number of rows that were read of a table, if it is known.
@@ -86,25 +97,24 @@ fn push_spots(page: &mut String, totals: &Counts) -> Result<(), AllocError> {
         "<div class=\"wide\"><table>\n<caption>Faults by column and code</caption>\n<tr><th scope=\"col\">Table</th><th scope=\"col\">Column</th><th scope=\"col\">Code</th><th scope=\"col\" class=\"number\">Faults</th></tr>\n",
     )?;
     for (spot, times) in totals.spots.iter() {
-        let Spot {
-            table,
-            column,
-            code,
-        } = *spot;
-        page.push_str("<tr><td>")?;
-        push_number(page, table)?;
-        page.push_str("</td><td>")?;
-        push_number(page, column)?;
-        let name = code.name();
-        page.push_str("</td><td><a href=\"#")?;
-        push_anchor(page, spot)?;
-        let times = *times;
-        write!(
-            page,
-            "\">{name}</a></td><td class=\"number\">{times}</td></tr>\n"
-        )?;
+        push_spot(page, spot, *times)?;
     }
     page.push_str("</table></div>\n")
+}
+
+/// Adds how many faults of one code there are in a column.
+fn push_spot(page: &mut String, spot: &Spot, times: u64) -> Result<(), AllocError> {
+    page.push_str("<tr><td>")?;
+    push_number(page, spot.table)?;
+    page.push_str("</td><td>")?;
+    push_number(page, spot.column)?;
+    page.push_str("</td><td><a href=\"#")?;
+    push_anchor(page, spot)?;
+    let name = spot.code.name();
+    write!(
+        page,
+        "\">{name}</a></td><td class=\"number\">{times}</td></tr>\n"
+    )
 }
 
 /// Adds a number, or a dash if it is 0.
@@ -174,11 +184,7 @@ fn push_sentence(page: &mut String, sentence: &str) -> Result<(), AllocError> {
 
 /// Adds the name and the severity of a fault or a stop.
 fn push_name(page: &mut String, severity: &str, name: &str) -> Result<(), AllocError> {
-    page.push_str("<p class=\"")?;
-    page.push_str(severity)?;
-    page.push_str("\"><b>")?;
-    page.push_str(severity)?;
-    page.push_str(": ")?;
+    write!(page, "<p class=\"{severity}\"><b>{severity}: ")?;
     push_escaped(page, name)?;
     page.push_str("</b>: ")
 }
@@ -219,8 +225,7 @@ pub(crate) fn push_fault(page: &mut String, shown: &FaultShown<'_>) -> Result<()
     write!(page, "<article class=\"{severity}\">\n")?;
     push_place(page, shown)?;
     push_name(page, severity, shown.fault.code.name())?;
-    let sentence = shown.fault.code.to_string(*page.allocator())?;
-    push_sentence(page, sentence.as_str())?;
+    push_code(page, shown.fault.code)?;
     if let Some(cell) = &shown.cell {
         push_cell(page, cell)?;
     }
@@ -228,9 +233,20 @@ pub(crate) fn push_fault(page: &mut String, shown: &FaultShown<'_>) -> Result<()
     page.push_str("</article>\n")
 }
 
+/// Adds what a code says.
+fn push_code(page: &mut String, code: Code) -> Result<(), AllocError> {
+    let sentence = code.to_string(*page.allocator())?;
+    push_sentence(page, sentence.as_str())
+}
+
 /// Adds a row with a cell marked.
 fn push_cell(page: &mut String, cell: &CellShown<'_>) -> Result<(), AllocError> {
     let row = row_shown(*page.allocator(), cell)?;
+    push_row(page, &row)
+}
+
+/// Adds the fields around a cell, with the cell marked.
+fn push_row(page: &mut String, row: &RowShown) -> Result<(), AllocError> {
     page.push_str("<pre>")?;
     push_escaped(page, row.before.as_str())?;
     page.push_str("<mark>")?;
@@ -243,13 +259,16 @@ fn push_cell(page: &mut String, cell: &CellShown<'_>) -> Result<(), AllocError> 
 /// Adds lines of text, each in a paragraph of this class.
 fn push_lines(page: &mut String, lines: &str, class: &str) -> Result<(), AllocError> {
     for line in lines.lines() {
-        page.push_str("<p class=\"")?;
-        page.push_str(class)?;
-        page.push_str("\">")?;
-        push_escaped(page, line.trim())?;
-        page.push_str("</p>\n")?;
+        push_line(page, line.trim(), class)?;
     }
     Ok(())
+}
+
+/// Adds a line of text, in a paragraph of this class.
+fn push_line(page: &mut String, line: &str, class: &str) -> Result<(), AllocError> {
+    write!(page, "<p class=\"{class}\">")?;
+    push_escaped(page, line)?;
+    page.push_str("</p>\n")
 }
 
 /// Adds how many faults of one code in one column are not shown.

@@ -2,10 +2,28 @@
 
 use crate::shown::{FaultShown, MoreShown, SpotShown, StopShown, UnknownShown, kind_name};
 use csvw_text::Code;
-use serde_json::{Value, json};
+use serde::{Described, Serialize, Serializer};
 use std::alloc::{AllocError, Global};
 
-/// The members that objects of all kinds but `rest` have, but `text`.
+/// The lines of a text, without the spaces around each.
+#[derive(Clone, Copy)]
+struct Lines<'a> {
+    text: &'a str,
+}
+
+impl Described for Lines<'_> {}
+
+impl Serialize for Lines<'_> {
+    fn serialize<S: Serializer>(&self, out: &mut S) -> Result<(), S::Error> {
+        out.begin_seq(None)?;
+        for line in self.text.lines() {
+            out.str(line.trim())?;
+        }
+        out.end_seq()
+    }
+}
+
+/// The members of an object of any kind but `rest`.
 #[derive(Clone, Copy)]
 struct Members<'a> {
     kind: &'static str,
@@ -19,41 +37,106 @@ struct Members<'a> {
     name: &'a str,
 }
 
-/// Returns an object of these members and of the text of a cell, which is null if there is none.
-fn object_of(
-    alloc: Global,
-    members: &Members<'_>,
-    text: Option<&str>,
-) -> Result<Value, AllocError> {
-    let text = match text {
-        Some(text) => Value::String(String::from_str(alloc, text)?),
-        None => Value::Null,
-    };
-    json!(in alloc; {
-        "kind": members.kind,
-        "code": members.code,
-        "sentence": members.sentence,
-        "file": members.file,
-        "table": members.table,
-        "row": members.row,
-        "line": members.line,
-        "column": members.column,
-        "name": members.name,
-        "text": text
-    })
+/// The members of an object of the kind `rest`.
+#[derive(Clone, Copy)]
+struct Rest<'a> {
+    code: &'a str,
+    file: &'a str,
+    table: u32,
+    column: u32,
+    count: u64,
 }
 
-/// Adds an object in one line.
-fn push_object(lines: &mut String, object: &Value) -> Result<(), AllocError> {
-    let text = object.to_string(*lines.allocator())?;
-    lines.push_str(text.as_str())
+/// Adds a member of an object, after a text.
+fn push_member<T: Serialize>(
+    lines: &mut String,
+    before: &str,
+    name: &str,
+    value: &T,
+) -> Result<(), AllocError> {
+    let Ok(value) = serde_json::to_string(*lines.allocator(), value) else {
+        return Err(AllocError);
+    };
+    write!(lines, "{before}\"{name}\":{value}")
+}
+
+/// An object to whose line members are added, in byte order of their names. Once memory runs out, no more is added.
+#[derive(Drop)]
+struct Object<'a> {
+    lines: &'a mut String,
+    has_member: bool,
+    is_cut: bool,
+}
+
+impl<'a> Object<'a> {
+    /// Begins an object.
+    fn new(lines: &'a mut String) -> Object<'a> {
+        Object {
+            lines,
+            has_member: false,
+            is_cut: false,
+        }
+    }
+
+    /// Adds a member.
+    fn put<T: Serialize>(&mut self, name: &str, value: &T) {
+        if !self.is_cut {
+            let before = if self.has_member { "," } else { "{" };
+            self.has_member = true;
+            self.is_cut = push_member(self.lines, before, name, value).is_err();
+        }
+    }
+
+    /// Ends the object. Fails with `AllocError` if memory ran out.
+    fn end(self) -> Result<(), AllocError> {
+        if self.is_cut {
+            return Err(AllocError);
+        }
+        self.lines.push('}')
+    }
+}
+
+/// Adds an object of any kind but `rest`, with the lines of hints if there are some, and with the text of a cell, which is
+/// null if there is none.
+fn push_object(
+    lines: &mut String,
+    members: &Members<'_>,
+    hints: Option<Lines<'_>>,
+    text: Option<&str>,
+) -> Result<(), AllocError> {
+    let mut object = Object::new(lines);
+    object.put("code", &members.code);
+    object.put("column", &members.column);
+    object.put("file", &members.file);
+    if let Some(hints) = hints {
+        object.put("hints", &hints);
+    }
+    object.put("kind", &members.kind);
+    object.put("line", &members.line);
+    object.put("name", &members.name);
+    object.put("row", &members.row);
+    object.put("sentence", &members.sentence);
+    object.put("table", &members.table);
+    object.put("text", &text);
+    object.end()
+}
+
+/// Adds an object of the kind `rest`.
+fn push_rest_of(lines: &mut String, rest: &Rest<'_>) -> Result<(), AllocError> {
+    let mut object = Object::new(lines);
+    object.put("code", &rest.code);
+    object.put("column", &rest.column);
+    object.put("count", &rest.count);
+    object.put("file", &rest.file);
+    object.put("kind", &"rest");
+    object.put("table", &rest.table);
+    object.end()
 }
 
 /// Adds a fault.
 pub(crate) fn push_fault(lines: &mut String, shown: &FaultShown<'_>) -> Result<(), AllocError> {
-    let alloc = *lines.allocator();
     let code = shown.fault.code;
-    let sentence = code.to_string(alloc)?;
+    let sentence = code.to_string(*lines.allocator())?;
     let members = Members {
         kind: kind_name(shown.fault.kind),
         code: code.name(),
@@ -69,7 +152,7 @@ pub(crate) fn push_fault(lines: &mut String, shown: &FaultShown<'_>) -> Result<(
         Some(cell) => Some(cell.text),
         None => None,
     };
-    push_object(lines, &object_of(alloc, &members, text)?)
+    push_object(lines, &members, None, text)
 }
 
 /// Returns what is wrong with a property that is ignored, and the listed name that is near.
@@ -85,8 +168,7 @@ fn unknown_sentence(alloc: Global, shown: &UnknownShown<'_>) -> Result<String, A
 
 /// Adds a property of the document that is ignored. Its line and its column are those of the document.
 pub(crate) fn push_unknown(lines: &mut String, shown: &UnknownShown<'_>) -> Result<(), AllocError> {
-    let alloc = *lines.allocator();
-    let sentence = unknown_sentence(alloc, shown)?;
+    let sentence = unknown_sentence(*lines.allocator(), shown)?;
     let members = Members {
         kind: "warning",
         code: Code::UnknownProperty.name(),
@@ -98,7 +180,7 @@ pub(crate) fn push_unknown(lines: &mut String, shown: &UnknownShown<'_>) -> Resu
         column: shown.column,
         name: shown.name,
     };
-    push_object(lines, &object_of(alloc, &members, None)?)
+    push_object(lines, &members, None, None)
 }
 
 /// Adds a property of the document at a path that is ignored, and whose place isn't known.
@@ -117,44 +199,30 @@ pub(crate) fn push_unplaced(lines: &mut String, meta: &str) -> Result<(), AllocE
 
 /// Adds how many faults of one code in one column are not shown.
 pub(crate) fn push_rest(lines: &mut String, shown: &SpotShown<'_>) -> Result<(), AllocError> {
-    let alloc = *lines.allocator();
-    let object = json!(in alloc; {
-        "kind": "rest",
-        "code": shown.spot.code.name(),
-        "file": shown.path,
-        "table": shown.spot.table,
-        "column": shown.spot.column,
-        "count": shown.times
-    })?;
-    push_object(lines, &object)
+    let rest = Rest {
+        code: shown.spot.code.name(),
+        file: shown.path,
+        table: shown.spot.table,
+        column: shown.spot.column,
+        count: shown.times,
+    };
+    push_rest_of(lines, &rest)
 }
 
 /// Adds how many faults of one code in the document are not shown.
 pub(crate) fn push_more(lines: &mut String, shown: &MoreShown<'_>) -> Result<(), AllocError> {
-    let alloc = *lines.allocator();
-    let object = json!(in alloc; {
-        "kind": "rest",
-        "code": shown.name,
-        "file": shown.path,
-        "table": 0,
-        "column": 0,
-        "count": shown.times
-    })?;
-    push_object(lines, &object)
-}
-
-/// Returns the lines of a text as an array.
-fn hints_of(alloc: Global, hints: &str) -> Result<Value, AllocError> {
-    let mut items = Vec::new(alloc);
-    for line in hints.lines() {
-        items.push(Value::String(String::from_str(alloc, line.trim())?))?;
-    }
-    Ok(Value::Array(items))
+    let rest = Rest {
+        code: shown.name,
+        file: shown.path,
+        table: 0,
+        column: 0,
+        count: shown.times,
+    };
+    push_rest_of(lines, &rest)
 }
 
 /// Adds why the document or a table wasn't read. Its name is the JSON Pointer of a value of the document.
 pub(crate) fn push_stop(lines: &mut String, shown: &StopShown<'_>) -> Result<(), AllocError> {
-    let alloc = *lines.allocator();
     let members = Members {
         kind: "stop",
         code: shown.name,
@@ -166,10 +234,6 @@ pub(crate) fn push_stop(lines: &mut String, shown: &StopShown<'_>) -> Result<(),
         column: shown.column,
         name: shown.pointer,
     };
-    let mut object = object_of(alloc, &members, None)?;
-    if let Some(object) = object.as_object_mut() {
-        let hints = hints_of(alloc, shown.hints)?;
-        object.insert(String::from_str(alloc, "hints")?, hints)?;
-    }
-    push_object(lines, &object)
+    let hints = Lines { text: shown.hints };
+    push_object(lines, &members, Some(hints), None)
 }

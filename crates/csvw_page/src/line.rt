@@ -88,6 +88,36 @@ impl RowShown {
     }
 }
 
+/// Adds the field at a place of a row: to what is before the cell, to the cell, or to what is after it.
+fn push_field(
+    shown: &mut RowShown,
+    cell: &CellShown<'_>,
+    place: usize,
+    field: &str,
+) -> Result<(), AllocError> {
+    if place < cell.place {
+        push_text(&mut shown.before, field)?;
+        push_shown(&mut shown.before, cell.delimiter)
+    } else if place == cell.place {
+        push_text(&mut shown.cell, field)
+    } else {
+        push_shown(&mut shown.after, cell.delimiter)?;
+        push_text(&mut shown.after, field)
+    }
+}
+
+/// Adds the fields of a row around a cell.
+fn push_fields(shown: &mut RowShown, cell: &CellShown<'_>) -> Result<(), AllocError> {
+    let first = cell.place.saturating_sub(NEIGHBOURS);
+    if first > 0 {
+        shown.before.push('…')?;
+    }
+    for i in first..cell.row.len().min(cell.place.saturating_add(NEIGHBOURS)) {
+        push_field(shown, cell, i, cell.row.field(i))?;
+    }
+    Ok(())
+}
+
 /// Returns the fields of a row around a cell, or `AllocError` if memory runs out.
 pub(crate) fn row_shown(alloc: Global, cell: &CellShown<'_>) -> Result<RowShown, AllocError> {
     let mut shown = RowShown {
@@ -95,22 +125,6 @@ pub(crate) fn row_shown(alloc: Global, cell: &CellShown<'_>) -> Result<RowShown,
         cell: String::new(alloc),
         after: String::new(alloc),
     };
-    let place = cell.place;
-    let first = place.saturating_sub(NEIGHBOURS);
-    if first > 0 {
-        shown.before.push('…')?;
-    }
-    for i in first..cell.row.len().min(place.saturating_add(NEIGHBOURS)) {
-        let field = cell.row.field(i);
-        if i < place {
-            push_text(&mut shown.before, field)?;
-            push_shown(&mut shown.before, cell.delimiter)?;
-        } else if i == place {
-            push_text(&mut shown.cell, field)?;
-        } else {
-            push_shown(&mut shown.after, cell.delimiter)?;
-            push_text(&mut shown.after, field)?;
-        }
-    }
+    push_fields(&mut shown, cell)?;
     Ok(shown)
 }

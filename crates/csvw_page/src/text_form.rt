@@ -2,7 +2,7 @@
 
 use crate::counts::Spot;
 use crate::form::Color;
-use crate::line::{Mark, push_column, push_quoted, push_text, row_shown};
+use crate::line::{Mark, RowShown, push_column, push_quoted, push_text, row_shown};
 use crate::shown::{
     CellShown, FaultShown, MoreShown, RowPlace, StopPlace, StopShown, Summary, UnknownShown,
 };
@@ -130,12 +130,17 @@ const INDENT: usize = 4;
 /// Adds a row with a mark under a cell, each on a line of its own.
 fn push_cell(lines: &mut String, cell: &CellShown<'_>, color: Color) -> Result<(), AllocError> {
     let row = row_shown(*lines.allocator(), cell)?;
+    push_row(lines, &row)?;
+    push_mark(lines, row.mark(INDENT), color)?;
+    lines.push('\n')
+}
+
+/// Adds the fields of a row, on a line of their own.
+fn push_row(lines: &mut String, row: &RowShown) -> Result<(), AllocError> {
     lines.push_str("    ")?;
     lines.push_str(row.before.as_str())?;
     lines.push_str(row.cell.as_str())?;
     lines.push_str(row.after.as_str())?;
-    lines.push('\n')?;
-    push_mark(lines, row.mark(INDENT), color)?;
     lines.push('\n')
 }
 
