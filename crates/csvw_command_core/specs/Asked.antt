@@ -70,12 +70,11 @@ validate_app = group_app (codes "validate")
 abbrev pub convert_app : App
 convert_app = with_rule (with_rule (group_app (codes "convert")) (flag_rule (codes "minimal"))) (flag_rule (codes "line-buffered"))
 
--- the subcommand `plain [--line-buffered] [--progress] URL FILE`
+-- the subcommand `plain [--line-buffered] [--explain] [--progress] URL FILE`
 abbrev pub plain_app : App
 plain_app =
-    with_rule (with_rule (with_rule (with_rule (new_app (codes "plain")) (required_rule (codes "URL"))) (required_rule (codes "FILE")))
-    (flag_rule (codes "line-buffered")))
-    (flag_rule (codes "progress"))
+    with_rule (with_rule (with_rule (with_rule (with_rule (new_app (codes "plain")) (required_rule (codes "URL"))) (required_rule (codes "FILE")))
+    (flag_rule (codes "line-buffered"))) (flag_rule (codes "explain"))) (flag_rule (codes "progress"))
 
 -- the subcommand `check [--base URL] META [FILE..] [--progress] [--profile NAME]`, with the options of a report
 abbrev pub check_app : App
@@ -87,11 +86,11 @@ check_app =
 abbrev pub explain_app : App
 explain_app = with_rule (new_app (codes "explain")) (new_rule (codes "CODE"))
 
--- the subcommand `inspect [--base URL] [--json] [--profile NAME] META`
+-- the subcommand `inspect [--base URL] [--json] [--explain] [--profile NAME] META`
 abbrev pub inspect_app : App
 inspect_app =
-    with_rule (with_rule (with_rule (with_rule (new_app (codes "inspect")) (option_rule (codes "base"))) (required_rule (codes "META")))
-    (flag_rule (codes "json"))) (option_rule (codes "profile"))
+    with_rule (with_rule (with_rule (with_rule (with_rule (new_app (codes "inspect")) (option_rule (codes "base"))) (required_rule (codes "META")))
+    (flag_rule (codes "json"))) (flag_rule (codes "explain"))) (option_rule (codes "profile"))
 
 -- the subcommand `draft [--base URL] FILE..`
 abbrev pub draft_app : App
@@ -161,11 +160,12 @@ pub record IsGroup (rows : List Row) (group : Group) : Type 0 where
   pub plan_is : first_of (codes "plan") rows ≡ option_map (λ plan. plan.now) group.plan
   pub keys_is : first_of (codes "keys") rows ≡ option_map (λ keys. keys.now) group.keys
 
-pub record ReadsPlain (name : Text) (rows : List Row) (url file : Text) (line_buffered progress : Bool) : Type 0 where
+pub record ReadsPlain (name : Text) (rows : List Row) (url file : Text) (line_buffered explain progress : Bool) : Type 0 where
   pub name_is : name ≡ codes "plain"
   pub url_is : first_of (codes "URL") rows ≡ Some url
   pub file_is : first_of (codes "FILE") rows ≡ Some file
   pub line_buffered_is : line_buffered ≡ flag_of (codes "line-buffered") rows
+  pub explain_is : explain ≡ flag_of (codes "explain") rows
   pub progress_is : progress ≡ flag_of (codes "progress") rows
 
 pub record ReadsValidate (name : Text) (rows : List Row) (group : Group) : Type 0 where
@@ -202,6 +202,7 @@ pub record ReadsInspect (name : Text) (rows : List Row) (asked : Inspected) : Ty
   pub meta_is : first_of (codes "META") rows ≡ Some asked.meta.now
   pub profile_is : first_of (codes "profile") rows ≡ option_map (λ profile. profile.now) asked.profile
   pub json_is : asked.json ≡ flag_of (codes "json") rows
+  pub explain_is : asked.explain ≡ flag_of (codes "explain") rows
 
 pub record ReadsDraft (name : Text) (rows : List Row) (asked : DraftedFiles) : Type 0 where
   pub name_is : name ≡ codes "draft"
@@ -242,7 +243,7 @@ pub record ReadsCompletions (name : Text) (rows : List Row) (shell : Text) : Typ
 
 -- a subcommand of this name with these rows makes this request
 abbrev pub Reads : Text → List Row → Request → Type 0
-Reads name rows (Plain url file line_buffered progress) = ReadsPlain name rows url.now file.now line_buffered progress
+Reads name rows (Plain url file line_buffered explain progress) = ReadsPlain name rows url.now file.now line_buffered explain progress
 Reads name rows (Validate group) = ReadsValidate name rows group
 Reads name rows (Convert group minimal line_buffered) = ReadsConvert name rows group minimal line_buffered
 Reads name rows (Check asked) = ReadsCheck name rows asked

@@ -57,7 +57,7 @@ knows_report reporting = knows_report_form reporting.form && knows_color reporti
 
 -- the form, the colour, the number of parts or the shell that a request has is known
 abbrev pub knows_output : Request → Bool
-knows_output (Plain url file line_buffered progress) = true
+knows_output (Plain url file line_buffered explain progress) = true
 knows_output (Validate group) = knows_report group.reporting
 knows_output (Convert group minimal line_buffered) = knows_report group.reporting
 knows_output (Check asked) = knows_shown asked.reporting
@@ -72,7 +72,7 @@ knows_output Manual = true
 
 -- the profile that a request has is known
 abbrev pub has_known_profile : Request → Bool
-has_known_profile (Plain url file line_buffered progress) = true
+has_known_profile (Plain url file line_buffered explain progress) = true
 has_known_profile (Validate group) = knows_profile group.profile
 has_known_profile (Convert group minimal line_buffered) = knows_profile group.profile
 has_known_profile (Check asked) = knows_profile asked.profile

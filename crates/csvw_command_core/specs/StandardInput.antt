@@ -15,7 +15,7 @@ standard_inputs meta files = length (filter is_standard (meta ∷ files))
 
 -- How often a request names standard input. The records of keys are always read from it.
 abbrev pub inputs_of : Request → ℕ
-inputs_of (Plain url file line_buffered progress) = length (filter is_standard (file.now ∷ []))
+inputs_of (Plain url file line_buffered explain progress) = length (filter is_standard (file.now ∷ []))
 inputs_of (Validate group) = standard_inputs group.meta.now (paths_of group)
 inputs_of (Convert group minimal line_buffered) = standard_inputs group.meta.now (paths_of group)
 inputs_of (Explain code) = 0

@@ -73,6 +73,7 @@ fn plain_in<'a>(matches: &ArgMatches<'a>) -> Option<Request<'a>>
         url,
         file,
         line_buffered: has_flag(matches, LINE_BUFFERED),
+        explain: has_flag(matches, EXPLAINED),
         progress: has_flag(matches, PROGRESS),
     })
 }
@@ -117,6 +118,7 @@ fn inspect_in<'a>(matches: &ArgMatches<'a>) -> Option<Request<'a>>
         meta,
         profile: matches.get_str(PROFILE),
         json: has_flag(matches, JSON),
+        explain: has_flag(matches, EXPLAINED),
     }))
 }
 

@@ -76,6 +76,8 @@ pub struct Inspected<'a> {
     pub profile: Option<&'a str>,
     /// Whether it is shown as JSON. Else it is shown as text.
     pub json: bool,
+    /// Whether a stop is explained.
+    pub explain: bool,
 }
 
 /// Tables for which a metadata document is drafted.
@@ -125,6 +127,8 @@ pub enum Request<'a> {
         /// Whether each line of the graph is sent when it is made. Else lines wait for a full buffer, except at a
         /// terminal.
         line_buffered: bool,
+        /// Whether a stop is explained.
+        explain: bool,
         /// Whether the progress is shown at a terminal.
         progress: bool,
     },

@@ -130,6 +130,7 @@ fn plain_command<'a>(alloc: Global) -> Result<Command<'a>, AllocError>
         required_word(alloc, URL, argument_help::URL),
         required_word(alloc, FILE, argument_help::FILE),
         flag(alloc, LINE_BUFFERED, argument_help::LINE_BUFFERED),
+        flag(alloc, EXPLAINED, argument_help::EXPLAINED),
         flag(alloc, PROGRESS, argument_help::PROGRESS),
     ]?;
     Command::new(alloc, PLAIN)
@@ -176,6 +177,7 @@ fn inspect_command<'a>(alloc: Global) -> Result<Command<'a>, AllocError>
         option(alloc, BASE, URL, argument_help::OWN_BASE),
         required_word(alloc, META, argument_help::META),
         flag(alloc, JSON, argument_help::JSON),
+        flag(alloc, EXPLAINED, argument_help::EXPLAINED),
         option(alloc, PROFILE, "core|w3c", argument_help::PROFILE),
     ]?;
     Command::new(alloc, INSPECT)

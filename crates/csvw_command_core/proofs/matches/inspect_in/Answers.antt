@@ -14,4 +14,5 @@ returns c =
       meta_is = sym (first_value-rows found (codes "META")) ∙ meta;
       profile_is = sym (first_value-rows found (codes "profile")) ∙ sym c.get_str-3.ensures;
       json_is = c.has_flag.ensures;
+      explain_is = c.has_flag-2.ensures;
     }

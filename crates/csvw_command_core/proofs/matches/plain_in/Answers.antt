@@ -14,5 +14,6 @@ returns c =
       url_is = sym (first_value-rows found (codes "URL")) ∙ url;
       file_is = sym (first_value-rows found (codes "FILE")) ∙ file;
       line_buffered_is = c.has_flag.ensures;
-      progress_is = c.has_flag-2.ensures;
+      explain_is = c.has_flag-2.ensures;
+      progress_is = c.has_flag-3.ensures;
     }
