@@ -18,6 +18,7 @@ mod sink;
 
 pub use checking::check;
 pub use csvw_check_core::{
-    Check, Color, Form, Halt, Profile, Show, Shown, Strict, explain_stop, show,
+    Check, Color, Form, Halt, Profile, Show, ShowTable, Shown, Strict, explain_look_stop,
+    explain_stop, explain_table_stop, show,
 };
 pub use csvw_engine_core::Stop;

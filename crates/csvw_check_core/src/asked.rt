@@ -60,6 +60,19 @@ pub struct Show<'a> {
     pub stop: Option<&'a Stop>,
 }
 
+/// What is asked of the explanation of the stop of a table without metadata.
+#[derive(Clone, Copy)]
+pub struct ShowTable<'a> {
+    /// The URL of the table.
+    pub url: &'a str,
+    /// The path of its file.
+    pub file: &'a str,
+    /// Whether the lines have colours.
+    pub color: Color,
+    /// Why the run stopped.
+    pub stop: &'a Stop,
+}
+
 impl<'a> Check<'a> {
     /// Returns the document and the files.
     pub fn group(&self) -> Group<'a> {

@@ -18,6 +18,10 @@ use std::io::Write;
 pub(crate) const UNREAD: &str =
     "the file can't be opened or read: correct its path, or its permissions";
 
+/// What is told of a document that is refused and can't be read again.
+const UNSEEN: &str =
+    "    the document can't be read again: give it as a file, and its other faults are listed with their lines\n";
+
 /// Reads a document in a profile, and plans its tables.
 pub fn plan_of(alloc: Global, bytes: &[u8], base: &str, profile: Profile) -> Result<Plan, MetaFault>
     ensures { IfOk result (λ plan. AreReady plan.tables) }
@@ -169,6 +173,16 @@ pub(crate) fn tell_refused(
     tell_fault(page, group, bytes, told)
 }
 
+/// Adds the fault by which a document is refused that can't be read again, as from standard input.
+fn tell_unseen(page: &mut Page, group: &Group<'_>, fault: &MetaFault) -> Result<(), AllocError> {
+    let told = Told {
+        fault,
+        place: (0, 0),
+        note: UNSEEN,
+    };
+    tell_fault(page, group, &[], told)
+}
+
 /// Adds a stop that is at no place of a file. The path is empty if it is of no file.
 pub(crate) fn tell_plain(
     page: &mut Page,
@@ -226,6 +240,8 @@ pub(crate) fn tell_table_count(
 pub enum Alone<'a> {
     /// The document can't be opened or read.
     Unread,
+    /// The document has this fault, and can't be read again.
+    Unseen(&'a MetaFault),
     /// The document has faults.
     Refused(&'a Refused<'a>),
     /// There is not one file for each table of this plan.
@@ -252,6 +268,7 @@ pub fn show_alone<W: Write>(
     page.begin(group.meta, None)?;
     let told = match reason {
         Alone::Unread => tell_plain(page, "Read", UNREAD, group.meta, 0),
+        Alone::Unseen(fault) => tell_unseen(page, group, fault),
         Alone::Refused(refused) => tell_all(page, group, refused),
         Alone::TableCount(plan) => tell_table_count(page, group, plan),
     };

@@ -3,8 +3,8 @@
 //!
 //! This is the middle part of `csvw check`. It reads no tables through a session. The upper part, csvw_check, does, and
 //! shows here what it found. `show` shows the report of a run that ended. A document that is refused is shown with all of
-//! its faults (`Refused`). The lower parts are csvw_page (the forms of a page), csvw_hints (rules and places) and
-//! csvw_reread (the rows of faults).
+//! its faults (`Refused`). `explain_stop`, `explain_table_stop` and `explain_look_stop` show the words of a stop alone. The
+//! lower parts are csvw_page (the forms of a page), csvw_hints (rules and places) and csvw_reread (the rows of faults).
 //!
 //! # Promises
 //!
@@ -16,18 +16,20 @@
 
 mod asked;
 mod document;
+mod explaining;
 mod refused;
 mod report;
 mod showing;
 mod status;
 mod stop;
 
-pub use asked::{Check, Show, Strict};
+pub use asked::{Check, Show, ShowTable, Strict};
 pub use csvw_hints::{Group, Tables};
 pub use csvw_meta::Profile;
 pub use csvw_page::{Color, DEVICE, Form, Halt, Page, REFUSED, push_escaped};
 pub use csvw_reread::{Shown, Walker, paths};
 pub use document::{Alone, opened, plan_of, show_alone};
+pub use explaining::{explain_look_stop, explain_table_stop};
 pub use refused::{Refused, faults_of};
 pub use report::Report;
 pub use showing::{explain_stop, show};

@@ -83,7 +83,15 @@ fn show_part<O: Opener, W: Write>(
             };
             show_document(&run, &mut walker, opener, out)
         }
-        None => show_alone(&mut walker.page, &asked.group(), &Alone::Unread, out),
+        None => show_alone(&mut walker.page, &asked.group(), &unread(asked), out),
+    }
+}
+
+/// Returns what is told if the document can't be read again. The run may have read it and refused it.
+fn unread<'a>(asked: &Show<'a>) -> Alone<'a> {
+    match asked.stop {
+        Some(Stop::Meta(fault)) => Alone::Unseen(fault),
+        _ => Alone::Unread,
     }
 }
 

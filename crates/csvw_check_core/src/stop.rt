@@ -15,6 +15,10 @@ use std::io::Read;
 /// How many bytes at the start of a file are looked at.
 const FIRST: usize = 512;
 
+/// Where a dialect is written.
+const DRAFTED: &str =
+    "    a metadata document has the dialect: `csvw draft` writes one, and `csvw convert` reads it\n";
+
 /// A stop in a record of a table.
 #[derive(Clone, Copy)]
 struct RecordStop {
@@ -43,7 +47,7 @@ fn tell_record_stop<O: Opener>(
             line = seen.line;
             push_fields(&mut hints, seen.fields)?;
         }
-        push_first_bytes(&mut hints, plan, path, opener)?;
+        push_first_bytes(&mut hints, tables, plan, path, opener)?;
     }
     page.stop(&StopShown {
         name: stop.name,
@@ -67,9 +71,18 @@ fn push_fields(hints: &mut String, fields: Option<usize>) -> Result<(), AllocErr
     }
 }
 
+/// Adds where a dialect is written, if the table has no document yet.
+fn push_draft(hints: &mut String, tables: &Tables<'_>) -> Result<(), AllocError> {
+    match tables.group.meta {
+        "" => hints.push_str(DRAFTED),
+        _ => Ok(()),
+    }
+}
+
 /// Adds what the first bytes of a file say of the file and of its dialect.
 fn push_first_bytes<O: Opener>(
     hints: &mut String,
+    tables: &Tables<'_>,
     plan: &TablePlan,
     path: &str,
     opener: &mut O,
@@ -87,7 +100,10 @@ fn push_first_bytes<O: Opener>(
     let bytes = first.get(..n).unwrap_or(&[]);
     push_disguise(hints, path, bytes)?;
     match dialect_hint(bytes, plan.dialect.delimiter) {
-        Some(hint) => write!(hints, "    {hint}\n"),
+        Some(hint) => {
+            write!(hints, "    {hint}\n")?;
+            push_draft(hints, tables)
+        }
         None => Ok(()),
     }
 }
@@ -167,6 +183,17 @@ fn tell_read_stop<O: Opener>(
     }
 }
 
+/// Adds that memory ran out.
+pub(crate) fn tell_memory(page: &mut Page) -> Result<(), AllocError> {
+    tell_plain(
+        page,
+        "Memory",
+        "there is no memory: free some, and try again",
+        "",
+        0,
+    )
+}
+
 /// Adds why the tables weren't read to their ends.
 pub(crate) fn tell_stop<O: Opener>(
     page: &mut Page,
@@ -203,12 +230,6 @@ pub(crate) fn tell_stop<O: Opener>(
             "",
             0,
         ),
-        _ => tell_plain(
-            page,
-            "Memory",
-            "there is no memory: free some, and try again",
-            "",
-            0,
-        ),
+        _ => tell_memory(page),
     }
 }
