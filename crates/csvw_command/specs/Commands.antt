@@ -1,5 +1,5 @@
 -- One run of the program: its words, its files, its two streams and its exit status: `Commands`.
-use Rattle.std.specs.Prelude.{◌≡◌, ◌⊎◌, ◌≤◌, ℕ, List, [], ◌∷◌, Option, None, Some, false, true}
+use Rattle.std.specs.Prelude.{◌≡◌, ◌⊎◌, ◌≤◌, ℕ, Bool, List, [], ◌∷◌, Option, None, Some, false, true}
 use Rattle.clap.specs.Words.{HasKind, Text, fault_of, kind_of}
 use Rattle.clap.specs.declared.error.Error.{Error}
 use Rattle.csvw_engine_core.specs.declared.stop.Stop.{Stop}
@@ -13,6 +13,7 @@ use Rattle.csvw_meta.specs.Document.{plain_description}
 use Rattle.csvw_engine.specs.ReadOrder.{AreTableByTable}
 use Rattle.csvw_engine.specs.Runs.{Runs}
 use Rattle.csvw_command.specs.Answers.{Answers, GivesHelp, LacksMemory, TellsMistake, TellsStop}
+use Rattle.csvw_command.specs.Explained.{IsExplained}
 use Rattle.csvw_command.specs.Groups.{ComesToEnd, RunsGroup, StopsEarly, conversion}
 use Rattle.csvw_command.specs.Shown.{ShowsRun, is_default, is_whole}
 use Rattle.csvw_triples_core.specs.declared.mode.Mode.{Mode}
@@ -46,6 +47,20 @@ pub record RunsPlain {O R : Type 0} (opens : O → Text → Option R → O → T
   pub is_opened : opens old file opened between
   pub runs : RunsOn closes remaining url between new out err status opened
 
+-- The table is read as by a run without the explanation, which stops. Behind the line of the stop a text follows, for which files may be opened.
+pub record ExplainsPlain {O R : Type 0} (opens : O → Text → Option R → O → Type 0) (closes : O → Counted R → O → Type 0) (remaining : R → Option (List ℕ))
+    (url file : Text) (old : O) (out err : Stream) (status : ℕ) : Type 0 where
+  pub between : O
+  pub is_stop : 3 ≤ status
+  pub explained : IsExplained (λ told. RunsPlain opens closes remaining url file old between out told status) err
+
+-- the run of one table, whose stop is explained if the flag for that is there
+abbrev pub RunsTable : {O R : Type 0} → (O → Text → Option R → O → Type 0) → (O → Counted R → O → Type 0) → (R → Option (List ℕ)) → Bool → Text → Text
+    → O → O → Stream → Stream → ℕ → Type 0
+RunsTable opens closes remaining false url file old new out err status = RunsPlain opens closes remaining url file old new out err status
+RunsTable opens closes remaining true url file old new out err status =
+    RunsPlain opens closes remaining url file old new out err status ⊎ ExplainsPlain opens closes remaining url file old out err status
+
 -- a text on codes is given, or there is no such code, or memory ran out
 abbrev pub Gives : Stream → Stream → ℕ → Type 0
 Gives out err status = GivesHelp out err status ⊎ (TellsMistake out err status ⊎ LacksMemory out err status)
@@ -62,18 +77,23 @@ pub record RunsReport {O R : Type 0} (opens : O → Text → Option R → O → 
 abbrev pub EndsOrStops : Stream → ℕ → Type 0
 EndsOrStops err status = (IsIdle err × (status ≡ 0)) ⊎ ((reason : Stop) × TellsStop reason err status)
 
+-- the same, but the stop is explained if the flag for that is there
+abbrev pub RunsInspect : Bool → Stream → ℕ → Type 0
+RunsInspect false err status = EndsOrStops err status
+RunsInspect true err status = EndsOrStops err status ⊎ ((reason : Stop) × IsExplained (λ told. TellsStop reason told status) err)
+
 -- what is asked for is done; of a check, a draft, a split, keys and reports nothing is said but the bound of the
 -- status
 abbrev pub RunsRequest : {O R : Type 0} → (O → Text → Option R → O → Type 0) → (O → Counted R → O → Type 0) → (R → Option (List ℕ)) → Request → O → O
     → Stream → Stream → ℕ → Type 0
-RunsRequest opens closes remaining (Plain url file line_buffered progress) old new out err status =
-    RunsPlain opens closes remaining url.now file.now old new out err status
+RunsRequest opens closes remaining (Plain url file line_buffered explain progress) old new out err status =
+    RunsTable opens closes remaining explain url.now file.now old new out err status
 RunsRequest opens closes remaining (Validate group) old new out err status = RunsReport opens closes remaining mode.Validate group old new out err status
 RunsRequest opens closes remaining (Convert group minimal line_buffered) old new out err status =
     RunsReport opens closes remaining (conversion minimal) group old new out err status
 RunsRequest opens closes remaining (Check asked) old new out err status = status ≤ 4
 RunsRequest opens closes remaining (Explain code) old new out err status = (new ≡ old) × Gives out err status
-RunsRequest opens closes remaining (Inspect asked) old new out err status = EndsOrStops err status
+RunsRequest opens closes remaining (Inspect asked) old new out err status = RunsInspect asked.explain err status
 RunsRequest opens closes remaining (Draft asked) old new out err status = status ≤ 4
 RunsRequest opens closes remaining (Split asked) old new out err status = status ≤ 4
 RunsRequest opens closes remaining (Keys asked) old new out err status = status ≤ 4

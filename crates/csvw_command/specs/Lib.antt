@@ -1,5 +1,6 @@
 pub mod Answers
 pub mod Commands
+pub mod Explained
 pub mod Groups
 pub mod Lines
 pub mod Shown

@@ -136,7 +136,7 @@ pub struct Ended {
 }
 
 /// Returns how a run ended that has this status.
-fn end_of(ran: Result<Outcome, Stop>, status: u8) -> Ended
+pub fn end_of(ran: Result<Outcome, Stop>, status: u8) -> Ended
     ensures { result.status ≡ status }
 {
     match ran {

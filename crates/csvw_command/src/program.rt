@@ -2,26 +2,27 @@
 ghost use Rattle.std.specs.Prelude.{◌≡◌, ◌≤◌, map, string_bytes};
 ghost use Rattle.clap.specs.Words.{kind_of};
 ghost use Rattle.csvw_command.specs.Answers.{Answers};
-ghost use Rattle.csvw_command.specs.Commands.{Commands, EndsOrStops, RunsPlain, RunsRequest};
+ghost use Rattle.csvw_command.specs.Commands.{Commands, RunsRequest};
 ghost use Rattle.csvw_command.specs.Groups.{conversion};
 ghost use Rattle.csvw_streams.specs.Streams.{stream_of};
 
-use crate::group::{GroupRun, tell_end};
+use crate::group::GroupRun;
 use crate::keys::run_keys;
+use crate::look::{base_of, run_inspect};
 use crate::profile::profile_of;
 use crate::reports::run_join;
 use crate::shown::{color_of, form_of, run_report, shown_of};
 use crate::split::run_split;
+use crate::table::{PlainTable, run_table};
 use crate::tell::{SUCCESS, tell_mistake, tell_stop};
 use crate::texts::{give_text, run_completions, run_explain, run_manual};
 use clap::Error;
 use clap::error::ErrorKind;
 use csvw_check::{Check, Strict, check};
-use csvw_command_core::{CheckedGroup, DraftedFiles, Inspected, Request, mistake_in, requested};
+use csvw_command_core::{CheckedGroup, DraftedFiles, Request, mistake_in, requested};
 use csvw_draft::{Draft, draft};
-use csvw_engine::{Stop, plain};
+use csvw_engine::Stop;
 use csvw_files::Opener;
-use csvw_inspect::{Inspect, InspectForm, inspect};
 use csvw_text::Counted;
 use csvw_triples_core::Mode;
 use std::alloc::Global;
@@ -44,47 +45,6 @@ fn tell_words<W: Write, V: Write>(
         ErrorKind::OutOfMemory => tell_stop(&Stop::Memory, err),
         ErrorKind::DisplayHelp | ErrorKind::DisplayVersion => give_text(text.as_str(), out, err),
         _ => tell_mistake(text.as_str(), err),
-    }
-}
-
-/// A table without metadata.
-#[derive(Clone, Copy)]
-struct PlainTable<'a> {
-    /// Its URL.
-    url: &'a str,
-    /// The file that has it.
-    file: &'a str,
-}
-
-fn run_plain<O: Opener, W: Write, V: Write>(
-    alloc: Global,
-    table: PlainTable<'_>,
-    opener: &mut O,
-    out: &mut Counted<W>,
-    err: &mut Counted<V>,
-) -> u8
-    ensures runs { RunsPlain O.opens O.closes O.Reader.remaining table.entry.url.now table.entry.file.now opener.old opener.new
-        (stream_of W.contents out.old out.new) (stream_of V.contents err.old err.new) result }
-    ensures bound { result ≤ 4 }
-{
-    let Some(reader) = opener.open(table.file) else {
-        return tell_stop(&Stop::Read, err);
-    };
-    let mut input = Counted::new(reader);
-    let ran = plain(alloc, table.url, &mut input, out, err);
-    opener.close(input);
-    tell_end(&ran, err)
-}
-
-/// The base URL of a document whose own URL isn't known.
-const UNKNOWN_URL: &str = "file:///";
-
-/// Returns the URL of a document: this one, if it is given, or the one of its path.
-fn base_of<'a>(given: Option<&'a str>, own: &'a Option<String>) -> &'a str {
-    match (given, own) {
-        (Some(base), _) => base,
-        (None, Some(url)) => url.as_str(),
-        (None, None) => UNKNOWN_URL,
     }
 }
 
@@ -113,33 +73,6 @@ fn run_check<O: Opener, W: Write, V: Write>(
         },
     };
     check(alloc, &asked, opener, out, err)
-}
-
-/// Shows what a metadata document says.
-fn run_inspect<O: Opener, W: Write, V: Write>(
-    alloc: Global,
-    asked: &Inspected<'_>,
-    opener: &mut O,
-    out: &mut Counted<W>,
-    err: &mut Counted<V>,
-) -> u8
-    ensures ends { EndsOrStops (stream_of V.contents err.old err.new) result }
-    ensures bound { result ≤ 4 }
-{
-    let own = opener.url(asked.meta);
-    let asked = Inspect {
-        base: base_of(asked.base, &own),
-        meta: asked.meta,
-        profile: profile_of(asked.profile),
-        form: match asked.json {
-            true => InspectForm::Json,
-            false => InspectForm::Text,
-        },
-    };
-    match inspect(alloc, &asked, opener, out) {
-        Ok(()) => SUCCESS,
-        Err(stop) => tell_stop(&stop, err),
-    }
 }
 
 /// Drafts a metadata document.
@@ -185,8 +118,18 @@ fn run_request<O: Opener, W: Write, V: Write>(
     ensures bound { result ≤ 4 }
 {
     match request {
-        Request::Plain { url, file, .. } => {
-            run_plain(alloc, PlainTable { url, file }, opener, out, err)
+        Request::Plain {
+            url,
+            file,
+            explain,
+            ..
+        } => {
+            let table = PlainTable {
+                url,
+                file,
+                explain: *explain,
+            };
+            run_table(alloc, table, opener, out, err)
         }
         Request::Validate(group) => {
             let mode = Mode::Validate;
@@ -213,7 +156,7 @@ fn run_request<O: Opener, W: Write, V: Write>(
 /// The status is 0 if no fault is an error, or if a text was asked for. It is 1 if there are faults, and 2 if the command
 /// line isn't accepted. It is 3 if metadata or a table isn't. It is 4 if a file or a stream failed or memory ran out.
 /// Texts, graphs, the report of `validate` and the page of `check` go to `out`. Everything else goes to `err`, other
-/// reports among it. On 3 and 4 its last line reports the stop, but for `check`.
+/// reports among it. On 3 and 4 a line reports the stop, but for `check`. It is the last one, unless the stop is explained.
 pub fn command<O: Opener, W: Write, V: Write>(
     alloc: Global,
     words: &[String],

@@ -15,8 +15,8 @@ pub const SUCCESS: u8 = 0;
 pub(crate) const FAULTS: u8 = 1;
 /// The command line was refused.
 const USAGE: u8 = 2;
-/// The metadata or a table was refused.
-const REFUSED: u8 = 3;
+/// The metadata or a table was refused. No stop has a status below it.
+pub(crate) const REFUSED: u8 = 3;
 /// A file or a stream failed, or there was no memory.
 const DEVICE: u8 = 4;
 
