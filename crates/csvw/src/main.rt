@@ -11,9 +11,10 @@ mod words;
 
 use crate::asked::Asked;
 use crate::words::words_of;
-use csvw_command::{Colors, FileOpener, ProgressShown, command, tell_mistake, tell_stop};
+use csvw_command::{Colors, FileOpener, Opener, ProgressShown, command, tell_mistake, tell_stop};
 use csvw_engine::Stop;
 use csvw_text::Counted;
+use std::alloc::Global;
 use std::io::{self, BufWriter, IsTerminal, Stderr, Stdout};
 use std::process::ExitCode;
 use std::rt::{Env, Files};
@@ -51,40 +52,65 @@ fn progress(asked: Asked, out: &Stdout, err: &Stderr) -> ProgressShown {
     }
 }
 
-/// Runs the program on the words and streams of its process. At the end the buffer of standard output is
-/// let go unsent: it is empty, or what a failed write left of it.
-fn run(rt: &HostRuntime, err: &mut Counted<Stderr>) -> io::Result<u8> {
-    let _standard = (null_device(rt), null_device(rt), null_device(rt));
+/// Returns the words of the process.
+///
+/// Fails with `InvalidData` if a word is no UTF-8, and with another kind if memory runs out.
+fn own_words(rt: &HostRuntime) -> io::Result<Vec<String>> {
+    let alloc = rt.alloc();
+    let words = env::args(rt)?.collect::<Vec<String>>(alloc)?;
+    Ok(words_of(alloc, words, &rt.stderr())?)
+}
+
+/// Runs the program with a buffer before standard output. At the end the buffer is let go unsent: it is empty, or what a
+/// failed write left of it.
+fn run_buffered<O: Opener>(
+    words: &[String],
+    opener: &mut O,
+    out: Stdout,
+    err: &mut Counted<Stderr>,
+    alloc: Global,
+) -> u8 {
+    let Ok(buffer) = BufWriter::with_capacity(alloc, BUFFERED, out) else {
+        return tell_stop(&Stop::Memory, err);
+    };
+    let mut out = Counted::new(buffer);
+    let status = command(alloc, words, opener, &mut out, err);
+    let (_, _) = out.into_inner().into_parts();
+    status
+}
+
+/// Runs the program on its words and the streams of its process.
+fn run(rt: &HostRuntime, words: &[String], err: &mut Counted<Stderr>) -> u8 {
     let alloc = rt.alloc();
     let out = rt.stdout();
     let screen = rt.stderr();
-    let words = words_of(
-        alloc,
-        env::args(rt)?.collect::<Vec<String>>(alloc)?,
-        &screen,
-    )?;
-    let asked = Asked::of(alloc, words.as_slice());
+    let asked = Asked::of(alloc, words);
     let opener = FileOpener::new(rt, rt.stdin());
     let mut opener = opener.showing(colors(rt, &out, &screen), progress(asked, &out, &screen));
     if asked.line_buffered || out.is_terminal() {
         // without a buffer: a line is one write
         let mut out = Counted::new(out);
-        return Ok(command(alloc, words.as_slice(), &mut opener, &mut out, err));
+        return command(alloc, words, &mut opener, &mut out, err);
     }
-    let mut out = Counted::new(BufWriter::with_capacity(alloc, BUFFERED, out)?);
-    let status = command(alloc, words.as_slice(), &mut opener, &mut out, err);
-    let (_, _) = out.into_inner().into_parts();
-    Ok(status)
+    run_buffered(words, &mut opener, out, err, alloc)
+}
+
+/// Says why there are no words.
+fn tell_no_words(fault: &io::Error, err: &mut Counted<Stderr>) -> u8 {
+    match fault.kind() {
+        io::ErrorKind::InvalidData => {
+            tell_mistake("csvw: a word of the command line is no UTF-8\n", err)
+        }
+        _ => tell_stop(&Stop::Memory, err),
+    }
 }
 
 fn main(rt: HostRuntime) -> ExitCode {
+    let _standard = (null_device(&rt), null_device(&rt), null_device(&rt));
     let mut err = Counted::new(rt.stderr());
-    let status = match run(&rt, &mut err) {
-        Ok(status) => status,
-        Err(fault) if fault.kind() == io::ErrorKind::InvalidData => {
-            tell_mistake("csvw: a word of the command line is no UTF-8\n", &mut err)
-        }
-        Err(_) => tell_stop(&Stop::Memory, &mut err),
+    let status = match own_words(&rt) {
+        Ok(words) => run(&rt, words.as_slice(), &mut err),
+        Err(fault) => tell_no_words(&fault, &mut err),
     };
     ExitCode::from(status)
 }

@@ -9,16 +9,21 @@ const EXPLAIN: &str = "--explain";
 /// The place of the subcommand among the words, from 0.
 const SUBCOMMAND: usize = 1;
 
-/// Whether the words ask for a run, and not for the explanation of its stop.
-fn may_be_explained(words: &[String]) -> bool {
-    let is_run = match words.get(SUBCOMMAND) {
-        Some(word) => word.as_str() == "validate" || word.as_str() == "convert",
-        None => false,
-    };
-    is_run && !words.iter().any(|word| word.as_str() == EXPLAIN)
+/// Whether a subcommand of this name has the flag.
+fn is_explained(name: &str) -> bool {
+    name == "validate" || name == "convert" || name == "plain" || name == "inspect"
 }
 
-/// Returns the words. At a terminal a run also explains its stop, so the flag for that follows the subcommand.
+/// Whether the words ask for a subcommand that has the flag, and not for the explanation of its stop.
+fn may_be_explained(words: &[String]) -> bool {
+    let has_flag = match words.get(SUBCOMMAND) {
+        Some(word) => is_explained(word.as_str()),
+        None => false,
+    };
+    has_flag && !words.iter().any(|word| word.as_str() == EXPLAIN)
+}
+
+/// Returns the words. At a terminal a stop is also explained, so the flag for that follows the subcommand.
 ///
 /// Fails with `AllocError` if memory runs out.
 pub(crate) fn words_of(
