@@ -9,6 +9,8 @@ mod documents;
 #[cfg(test)]
 mod examples;
 #[cfg(test)]
+mod explanations;
+#[cfg(test)]
 mod failures;
 #[cfg(test)]
 mod forms;

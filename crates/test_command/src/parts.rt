@@ -44,6 +44,13 @@ const OTHER_ROWS: &[u8] = b"part,table,first_byte,bytes,rows_before,data_rows_be
 2,1,9,12,3,2,5
 ";
 
+/// A plan with another number of data rows before its second part.
+const OTHER_DATA_ROWS: &[u8] =
+    b"part,table,first_byte,bytes,rows_before,data_rows_before,header_bytes
+1,1,0,9,0,0,5
+2,1,9,12,2,2,5
+";
+
 /// A plan of a shorter file.
 const SHORTER: &[u8] = b"part,table,first_byte,bytes,rows_before,data_rows_before,header_bytes
 1,1,0,9,0,0,5
@@ -72,7 +79,7 @@ struct PartCase {
     err: &'static [u8],
 }
 
-static PARTS: [PartCase; 20] = [
+static PARTS: [PartCase; 21] = [
     PartCase {
         words: "convert --minimal --part 1 --plan plan.csv",
         meta: META,
@@ -135,6 +142,14 @@ _:t1r4s <http://example.org/p.csv#x> \"d\" .
         words: "validate --part 1 --plan plan.csv",
         meta: META,
         plan: OTHER_ROWS,
+        status: 3,
+        out: b"",
+        err: b"csvw: plan table 1 part 1: the rows don't end where the plan says, or there are other numbers of them\n",
+    },
+    PartCase {
+        words: "validate --part 1 --plan plan.csv",
+        meta: META,
+        plan: OTHER_DATA_ROWS,
         status: 3,
         out: b"",
         err: b"csvw: plan table 1 part 1: the rows don't end where the plan says, or there are other numbers of them\n",
