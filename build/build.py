@@ -289,13 +289,14 @@ class Build:
             clear_lanes()
 
     def link(self):
-        """Proves the program itself and links it, over the libraries that are done."""
+        """Proves the program itself, by as many jobs as there are lanes, and links it, over the libraries that are done."""
         began, folder = time.monotonic(), CRATES / "csvw"
         (folder / "out").mkdir(exist_ok=True)
         with open(folder / "out" / "build.log", "wb") as log:
             how = {"stdin": subprocess.DEVNULL, "stdout": log, "stderr": subprocess.STDOUT}
-            ran = subprocess.Popen(["rt", "run", "--", "--help"], cwd=folder, **how)
-            self.running["csvw"] = ran, None, 1, began
+            jobs = max(1, min(MOST_JOBS, self.lanes))
+            ran = subprocess.Popen(["rt", "run", "--jobs", str(jobs), "--", "--help"], cwd=folder, **how)
+            self.running["csvw"] = ran, None, jobs, began
             try:
                 ran.wait()
             finally:
