@@ -5,8 +5,8 @@
 //! - `Opener::open` opens a file (`opens`). `Opener::close` takes its reader back, in the state in which it was left
 //!   (`closes`).
 //! - `FileOpener` opens the files of a file system, and standard input by the name `-`, once.
-//! - Tested alone: `FileOpener` creates files, or empties those that are there. It shows how far a file has been read, at
-//!   most four times a second, and erases the line.
+//! - Tested alone: `Opener::io_error` returns why a file can't be opened or read. `FileOpener` creates files, or empties
+//!   those that are there. It shows how far a file has been read, at most four times a second, and erases the line.
 #![tactic(auto)]
 
 mod input;

@@ -7,7 +7,7 @@ use csvw_streams::Counted;
 use percent_encoding::{AsciiSet, CONTROLS, ascii_set, utf8_percent_encode};
 use std::alloc::{AllocError, Global};
 use std::fs::OpenOptions;
-use std::io::{Read, Seek, SeekFrom, Stdin, Write};
+use std::io::{self, Read, Seek, SeekFrom, Stdin, Write};
 use std::rt::{Clock, Env, Files};
 use std::{fs, path};
 
@@ -97,6 +97,11 @@ pub trait Opener {
 
     /// Returns the number of bytes of the file at a path, or `None` if it isn't known, as that of standard input.
     fn length(&self, _path: &str) -> Option<u64> {
+        None
+    }
+
+    /// Returns the error with which the system refuses to open or read the file at a path, or `None` if it isn't known.
+    fn io_error(&self, _path: &str) -> Option<io::Error> {
         None
     }
 
@@ -216,6 +221,16 @@ impl<'a, R: Files + Env + Clock + Eprint + AllocGlobal> Opener for FileOpener<'a
         match self.rt.metadata(path) {
             Ok(metadata) if metadata.is_file() => Some(metadata.len()),
             _ => None,
+        }
+    }
+
+    fn io_error(&self, path: &str) -> Option<io::Error> {
+        if path == STANDARD_INPUT {
+            return None;
+        }
+        match fs::open(self.rt, path) {
+            Ok(mut file) => file.read(&mut [0u8; 1]).err(),
+            Err(fault) => Some(fault),
         }
     }
 
