@@ -122,7 +122,7 @@ fn read_named<O: Opener, V: Write>(
     let (alloc, err) = reports;
     let read = read_file(alloc, path, opener, place, room);
     if let Err(Halt::Read) = &read {
-        note_unread(path, err);
+        note_unread(path, opener.io_error(path), err);
     }
     read
 }

@@ -4,7 +4,7 @@
 //!
 //! - `read_document` returns the bytes of its reader, as far as the limit of a document shows (`IsDocument`). `Read`
 //!   comes only if that reader failed (`IsReadStop`).
-//! - Tested alone: `note_unread` writes a line that names a file which can't be read.
+//! - Tested alone: `note_unread` writes a line that names a file which can't be read, with the system's error.
 #![tactic(auto)]
 
 mod document;
