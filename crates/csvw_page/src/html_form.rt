@@ -5,7 +5,7 @@ use crate::escape::push_escaped;
 use crate::html_style::STYLE;
 use crate::line::{RowShown, push_column, push_text, row_shown};
 use crate::shown::{
-    CellShown, FaultShown, MoreShown, RowPlace, SpotShown, StopPlace, StopShown, Summary,
+    CellShown, FaultShown, Meant, MoreShown, RowPlace, SpotShown, StopPlace, StopShown, Summary,
     UnknownShown, kind_name,
 };
 use crate::status::{REFUSED, verdict};
@@ -152,7 +152,7 @@ pub(crate) fn push_unplaced(page: &mut String, meta: &str, times: u64) -> Result
     push_name(page, "warning", "UnknownProperty")?;
     write!(
         page,
-        "{times} more: a property of another object, or in an annotation</p>\n</article>\n"
+        "{times} more, whose names have escapes</p>\n</article>\n"
     )
 }
 
@@ -281,12 +281,14 @@ pub(crate) fn push_unknown(page: &mut String, shown: &UnknownShown<'_>) -> Resul
     page.push_str("<article class=\"warning\">\n<p class=\"at\">")?;
     push_clipped(page, shown.path)?;
     push_character(page, shown)?;
+    push_pointer(page, shown.pointer)?;
     page.push_str("</p>\n")?;
     push_name(page, "warning", "UnknownProperty")?;
     page.push_str("“")?;
     push_clipped(page, shown.name)?;
-    page.push_str("” isn’t a property of the vocabulary</p>\n")?;
-    push_near(page, shown)?;
+    let object = shown.object;
+    write!(page, "” isn’t a property of {object}</p>\n")?;
+    push_meant(page, shown.meant)?;
     page.push_str("</article>\n")
 }
 
@@ -299,14 +301,15 @@ fn push_character(page: &mut String, shown: &UnknownShown<'_>) -> Result<(), All
     }
 }
 
-/// Adds the name of a property that is meant, if one is near.
-fn push_near(page: &mut String, shown: &UnknownShown<'_>) -> Result<(), AllocError> {
-    let Some(near) = shown.near else {
-        return Ok(());
-    };
-    page.push_str("<p class=\"hint\">Did you mean “")?;
-    push_escaped(page, near)?;
-    page.push_str("”?</p>\n")
+/// Adds what is meant by the name of a property, if it is known.
+fn push_meant(page: &mut String, meant: Meant) -> Result<(), AllocError> {
+    match meant {
+        Meant::Nothing => Ok(()),
+        Meant::Name(name) => write!(page, "<p class=\"hint\">Did you mean “{name}”?</p>\n"),
+        Meant::Object(object) => {
+            write!(page, "<p class=\"hint\">It is a property of {object}</p>\n")
+        }
+    }
 }
 
 /// Begins the reasons why the document or a table wasn't read.

@@ -1,6 +1,6 @@
 //! A page in JSON: an object for each fault.
 
-use crate::shown::{FaultShown, MoreShown, SpotShown, StopShown, UnknownShown, kind_name};
+use crate::shown::{FaultShown, Meant, MoreShown, SpotShown, StopShown, UnknownShown, kind_name};
 use csvw_text::Code;
 use serde::{Described, Serialize, Serializer};
 use std::alloc::{AllocError, Global};
@@ -155,13 +155,13 @@ pub(crate) fn push_fault(lines: &mut String, shown: &FaultShown<'_>) -> Result<(
     push_object(lines, &members, None, text)
 }
 
-/// Returns what is wrong with a property that is ignored, and the listed name that is near.
+/// Returns what is wrong with a property that is ignored, and what is meant.
 fn unknown_sentence(alloc: Global, shown: &UnknownShown<'_>) -> Result<String, AllocError> {
     let mut sentence = Code::UnknownProperty.to_string(alloc)?;
-    if let Some(near) = shown.near {
-        sentence.push_str(": did you mean \"")?;
-        sentence.push_str(near)?;
-        sentence.push_str("\"?")?;
+    match shown.meant {
+        Meant::Nothing => {}
+        Meant::Name(name) => write!(sentence, ": did you mean \"{name}\"?")?,
+        Meant::Object(object) => write!(sentence, ": it is a property of {object}")?,
     }
     Ok(sentence)
 }
@@ -191,8 +191,10 @@ pub(crate) fn push_unplaced(lines: &mut String, meta: &str) -> Result<(), AllocE
             path: meta,
             line: 0,
             column: 0,
+            pointer: "",
             name: "",
-            near: None,
+            object: "",
+            meant: Meant::Nothing,
         },
     )
 }

@@ -41,5 +41,7 @@ pub use form::{Color, Form};
 pub use halt::Halt;
 pub use line::{push_quoted, push_text};
 pub use page::Page;
-pub use shown::{CellShown, FaultShown, MoreShown, SpotShown, StopShown, Summary, UnknownShown};
+pub use shown::{
+    CellShown, FaultShown, Meant, MoreShown, SpotShown, StopShown, Summary, UnknownShown,
+};
 pub use status::{DEVICE, INVALID, REFUSED, VALID};

@@ -69,6 +69,17 @@ pub(crate) fn kind_name(kind: Kind) -> &'static str {
     }
 }
 
+/// What is meant by the name of a property that is ignored, as far as it is known.
+#[derive(Clone, Copy)]
+pub enum Meant {
+    /// It isn't known.
+    Nothing,
+    /// The property of this name, which is near.
+    Name(&'static str),
+    /// The property of the same name in this object.
+    Object(&'static str),
+}
+
 /// A property of the document that is ignored.
 #[derive(Clone, Copy)]
 pub struct UnknownShown<'a> {
@@ -78,10 +89,14 @@ pub struct UnknownShown<'a> {
     pub line: u64,
     /// The column of that line, from 1.
     pub column: u64,
+    /// The JSON Pointer of the property. It is empty if it isn't known.
+    pub pointer: &'a str,
     /// The name.
     pub name: &'a str,
-    /// The name that is meant, if one is near.
-    pub near: Option<&'static str>,
+    /// The object that doesn't have the property, with its article. It is empty if it isn't known.
+    pub object: &'static str,
+    /// What is meant.
+    pub meant: Meant,
 }
 
 /// Faults of one code in one column.

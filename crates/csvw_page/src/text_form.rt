@@ -4,7 +4,7 @@ use crate::counts::Spot;
 use crate::form::Color;
 use crate::line::{Mark, RowShown, push_column, push_quoted, push_text, row_shown};
 use crate::shown::{
-    CellShown, FaultShown, MoreShown, RowPlace, StopPlace, StopShown, Summary, UnknownShown,
+    CellShown, FaultShown, Meant, MoreShown, RowPlace, StopPlace, StopShown, Summary, UnknownShown,
 };
 use crate::status::verdict;
 use csvw_text::Kind;
@@ -162,7 +162,7 @@ fn push_ignored(line: &mut String, color: Color) -> Result<(), AllocError> {
     push_inked(line, "UnknownProperty", Ink::Warning, color)
 }
 
-/// Adds a property of the document that is ignored: its place, its name, and the listed name that is near.
+/// Adds a property of the document that is ignored: its place, its name, its object, and what is meant.
 pub(crate) fn push_unknown(
     lines: &mut String,
     shown: &UnknownShown<'_>,
@@ -170,12 +170,23 @@ pub(crate) fn push_unknown(
 ) -> Result<(), AllocError> {
     push_text(lines, shown.path)?;
     push_character(lines, shown)?;
+    push_property(lines, shown.pointer)?;
     push_ignored(lines, color)?;
     lines.push_str(": ")?;
     push_quoted(lines, shown.name)?;
-    lines.push_str(" isn't a property of the vocabulary")?;
-    push_near(lines, shown)?;
+    let object = shown.object;
+    write!(lines, " isn't a property of {object}")?;
+    push_meant(lines, shown.meant)?;
     lines.push('\n')
+}
+
+/// Adds the JSON Pointer of a property behind a colon, if it is known.
+fn push_property(line: &mut String, pointer: &str) -> Result<(), AllocError> {
+    if pointer.is_empty() {
+        return Ok(());
+    }
+    line.push_str(": ")?;
+    push_text(line, pointer)
 }
 
 /// Adds where the name of a property is in its document, if it is known.
@@ -188,11 +199,12 @@ fn push_character(line: &mut String, shown: &UnknownShown<'_>) -> Result<(), All
     }
 }
 
-/// Adds the name of a property that is meant, if one is near.
-fn push_near(line: &mut String, shown: &UnknownShown<'_>) -> Result<(), AllocError> {
-    match shown.near {
-        Some(near) => write!(line, ": did you mean \"{near}\"?"),
-        None => Ok(()),
+/// Adds what is meant by the name of a property, if it is known.
+fn push_meant(line: &mut String, meant: Meant) -> Result<(), AllocError> {
+    match meant {
+        Meant::Nothing => Ok(()),
+        Meant::Name(name) => write!(line, ": did you mean \"{name}\"?"),
+        Meant::Object(object) => write!(line, ", but of {object}"),
     }
 }
 
@@ -205,10 +217,7 @@ pub(crate) fn push_unplaced(
 ) -> Result<(), AllocError> {
     push_text(lines, meta)?;
     push_ignored(lines, color)?;
-    write!(
-        lines,
-        ": {times} more: a property of another object, or in an annotation\n"
-    )
+    write!(lines, ": {times} more, whose names have escapes\n")
 }
 
 /// Adds why the document or a table wasn't read: the place, the name of the stop, what to do, and what else helps.
