@@ -2,26 +2,26 @@
 
 /// A place in the bytes of a document.
 #[derive(Clone, Copy)]
-pub(crate) struct Scan<'a> {
+pub struct Scan<'a> {
     /// The bytes of the document.
-    pub(crate) bytes: &'a [u8],
+    pub bytes: &'a [u8],
     /// The place, from 0.
-    pub(crate) at: usize,
+    pub at: usize,
 }
 
 impl<'a> Scan<'a> {
     /// Returns the byte at this place.
-    pub(crate) fn byte(&self) -> Option<u8> {
+    pub fn byte(&self) -> Option<u8> {
         self.bytes.get(self.at).copied()
     }
 
     /// Goes on by one byte.
-    pub(crate) fn go_on(&mut self) {
+    pub fn go_on(&mut self) {
         self.at = self.at.saturating_add(1);
     }
 
     /// Goes on to the next byte that isn't white space or one of the given bytes.
-    pub(crate) fn skip(&mut self, other: &[u8]) {
+    pub fn skip(&mut self, other: &[u8]) {
         for _ in 0..self.bytes.len() {
             match self.byte() {
                 Some(b' ' | b'\n' | b'\r' | b'\t') => self.go_on(),
@@ -32,7 +32,7 @@ impl<'a> Scan<'a> {
     }
 
     /// Goes on behind the string at this place, and returns the bytes between its quotes.
-    pub(crate) fn string(&mut self) -> &'a [u8] {
+    pub fn string(&mut self) -> &'a [u8] {
         self.go_on();
         let begin = self.at;
         for _ in 0..self.bytes.len() {
@@ -51,7 +51,7 @@ impl<'a> Scan<'a> {
     }
 
     /// Goes on behind the value at this place.
-    pub(crate) fn value(&mut self) {
+    pub fn value(&mut self) {
         let mut depth = 0usize;
         for _ in 0..self.bytes.len() {
             match self.byte() {
@@ -85,7 +85,7 @@ impl<'a> Scan<'a> {
     }
 
     /// Goes on to the last member of this name of the object at this place. Returns the place of its name.
-    fn member(&mut self, name: &[u8]) -> Option<usize> {
+    pub fn member(&mut self, name: &[u8]) -> Option<usize> {
         let mut found = None;
         self.go_on();
         for _ in 0..self.bytes.len() {
@@ -153,18 +153,18 @@ pub fn place_of(bytes: &[u8], pointer: &str) -> (usize, usize) {
 /// A place of a text that is read from its start to its end, with its line and its column, both from 1. A column counts
 /// characters.
 #[derive(Clone, Copy)]
-pub(crate) struct Lines {
+pub struct Lines {
     /// The place in bytes.
     at: usize,
     /// The line.
-    pub(crate) line: usize,
+    pub line: usize,
     /// The column.
-    pub(crate) column: usize,
+    pub column: usize,
 }
 
 impl Lines {
     /// Returns the start of a text.
-    pub(crate) fn new() -> Lines {
+    pub fn new() -> Lines {
         Lines {
             at: 0,
             line: 1,
@@ -183,7 +183,7 @@ impl Lines {
     }
 
     /// Goes on to a later place of the same text.
-    pub(crate) fn go_to(&mut self, bytes: &[u8], at: usize) {
+    pub fn go_to(&mut self, bytes: &[u8], at: usize) {
         for b in bytes.get(self.at..at).unwrap_or(&[]) {
             self.take(*b);
         }

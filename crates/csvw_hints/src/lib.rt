@@ -2,7 +2,7 @@
 //!
 //! - `push_rule` writes the rule of a column or of a key, with its values.
 //! - `place_of` returns the line and the column of a value of a document, by its JSON Pointer.
-//! - `show_unknown` shows the properties of a document that the vocabulary doesn't list, with the listed names that are near.
+//! - `Scan` walks through the bytes of a document, and `Lines` counts its lines.
 //! - `push_disguise` and `dialect_hint` say what a file is by its first bytes, if it can't be read as the table says.
 //!
 //! The crate reads no files. csvw_check_core reads them, and shows a page with these words:
@@ -24,10 +24,8 @@ mod json_place;
 mod key_rule;
 mod rule;
 mod tables;
-mod unknown;
 
 pub use disguise::{dialect_hint, push_disguise};
-pub use json_place::{line_and_column, place_of};
+pub use json_place::{Lines, Scan, line_and_column, place_of};
 pub use rule::push_rule;
 pub use tables::{Group, TableAt, Tables, field_of, name_of};
-pub use unknown::show_unknown;

@@ -2,7 +2,8 @@
 
 use crate::bound::{push_bounds, range_of};
 use crate::key_rule::{push_foreign_keys, push_primary_key};
-use crate::tables::{TableAt, declared};
+use crate::tables::{TableAt, declared, field_of};
+use csvw_columns::TablePlan;
 use csvw_columns_core::Column;
 use csvw_datatype::{Datatype, Format, Simple};
 use csvw_page::{push_quoted, push_text};
@@ -122,9 +123,28 @@ fn push_column_rule(text: &mut String, column: &Column, code: Code) -> Result<()
     }
 }
 
-/// Adds the rule that a fault of a table breaks, with its values, if it has some: lines of text. Returns `AllocError` if
-/// memory runs out.
+/// Adds which column of the file is the column of a table, if the dialect skips columns.
+fn push_file_column(text: &mut String, plan: &TablePlan, column: u32) -> Result<(), AllocError> {
+    let skipped = plan.dialect.skip_columns;
+    if skipped == 0 {
+        return Ok(());
+    }
+    match field_of(plan, column) {
+        Some(field) => {
+            let number = field.saturating_add(1);
+            write!(
+                text,
+                "    column {number} of the file, since skipColumns is {skipped}\n"
+            )
+        }
+        None => Ok(()),
+    }
+}
+
+/// Adds the rule that a fault of a table breaks, with its values, if it has some: lines of text. The column of the file
+/// comes first, if columns are skipped. Returns `AllocError` if memory runs out.
 pub fn push_rule(text: &mut String, table: &TableAt<'_>, fault: &Fault) -> Result<(), AllocError> {
+    push_file_column(text, table.plan, fault.place.column)?;
     match fault.code {
         Code::DuplicateKey => push_primary_key(text, table.plan),
         Code::NoReferencedRow | Code::ManyReferencedRows => {
