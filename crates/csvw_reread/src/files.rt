@@ -167,3 +167,49 @@ fn paths_beside(
     }
     Ok(paths)
 }
+
+/// Returns the names of the tables' files by their URLs.
+fn names_of(alloc: Global, tables: &[TablePlan]) -> Result<Vec<String>, AllocError> {
+    let mut names = Vec::new(alloc);
+    for table in tables {
+        names.push(name_of(alloc, table)?)?;
+    }
+    Ok(names)
+}
+
+/// Whether the file at a place has this name.
+fn is_named(paths: &[String], place: usize, name: &str) -> bool {
+    match paths.get(place) {
+        Some(path) => Path::new(path.as_str()).file_name() == Some(name),
+        None => false,
+    }
+}
+
+/// Returns the place of a table which has the file of the table at a place, and whose file that table has.
+fn other_of(names: &[String], paths: &[String], place: usize, name: &str) -> Option<usize> {
+    for (other, other_name) in names.iter().enumerate() {
+        let is_swapped = is_named(paths, place, other_name.as_str())
+            && is_named(paths, other, name)
+            && other_name.as_str() != name;
+        if is_swapped {
+            return Some(other);
+        }
+    }
+    None
+}
+
+/// Returns the places, from 0, of two tables whose files look swapped: each has the file that the URL of the other names.
+/// Returns `AllocError` if memory runs out.
+pub fn swapped(
+    alloc: Global,
+    tables: &[TablePlan],
+    paths: &[String],
+) -> Result<Option<(usize, usize)>, AllocError> {
+    let names = names_of(alloc, tables)?;
+    for (place, name) in names.iter().enumerate() {
+        if let Some(other) = other_of(names.as_slice(), paths, place, name.as_str()) {
+            return Ok(Some((place, other)));
+        }
+    }
+    Ok(None)
+}

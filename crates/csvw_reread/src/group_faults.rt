@@ -1,9 +1,10 @@
 //! The faults of a group, each with its row, in the order of a page's form.
+ghost use Rattle.csvw_columns.specs.Ready.{AreReady};
 
 use crate::walk::{FIRST, Shown, Walker};
-use csvw_hints::{TableAt, Tables, show_unknown};
+use csvw_hints::{TableAt, Tables};
 use csvw_opener::Opener;
-use csvw_page::{Counts, Form, Halt, Page, SpotShown, spot_of};
+use csvw_page::{Counts, Form, Halt, SpotShown, spot_of};
 use csvw_streams::Counted;
 use csvw_text::{Code, Fault};
 use std::alloc::{AllocError, Global};
@@ -48,35 +49,15 @@ fn length_of(count: u64) -> usize {
 }
 
 impl GroupFaults<'_> {
-    /// Adds the properties of the document that are ignored. Returns `AllocError` if memory runs out.
-    pub fn show_ignored(&self, page: &mut Page) -> Result<(), AllocError> {
-        let mut ignored = 0u64;
-        for fault in self.faults {
-            if fault.code == Code::UnknownProperty {
-                ignored = ignored.saturating_add(1);
-            }
-        }
-        if ignored == 0 {
-            return Ok(());
-        }
-        let meta = self.tables.group.meta;
-        let placed = show_unknown(page, meta, self.tables.document)?;
-        if placed == 0 {
-            page.begin_warnings()?;
-        }
-        match ignored.saturating_sub(placed) {
-            0 => Ok(()),
-            times => page.unplaced(meta, times),
-        }
-    }
-
     /// Adds the faults of each table, with the texts of its file, in the order of its rows.
     fn tell_by_row<O: Opener, W: Write>(
         &self,
         walker: &mut Walker,
         opener: &mut O,
         out: &mut Counted<W>,
-    ) -> Result<(), Halt> {
+    ) -> Result<(), Halt>
+        requires { AreReady self.now.tables.plan.now.tables }
+    {
         let (_, mut faults) = before_table(self.faults, 1);
         for (plan, path) in self.tables.plan.tables().iter().zip(self.tables.paths) {
             let (own, rest) = before_table(faults, plan.number.saturating_add(1));
@@ -114,7 +95,9 @@ impl GroupFaults<'_> {
         faults: &[Fault],
         opener: &mut O,
         out: &mut Counted<W>,
-    ) -> Result<(), Halt> {
+    ) -> Result<(), Halt>
+        requires { AreReady self.now.tables.plan.now.tables }
+    {
         let Some(first) = faults.first() else {
             return Ok(());
         };
@@ -146,7 +129,9 @@ impl GroupFaults<'_> {
         totals: &Counts,
         opener: &mut O,
         out: &mut Counted<W>,
-    ) -> Result<(), Halt> {
+    ) -> Result<(), Halt>
+        requires { AreReady self.now.tables.plan.now.tables }
+    {
         let sorted = by_column(walker.page.alloc, self.faults)?;
         let mut faults = sorted.as_slice();
         for (spot, times) in totals.spots.iter() {
@@ -167,7 +152,9 @@ impl GroupFaults<'_> {
         totals: &Counts,
         opener: &mut O,
         out: &mut Counted<W>,
-    ) -> Result<(), Halt> {
+    ) -> Result<(), Halt>
+        requires { AreReady self.now.tables.plan.now.tables }
+    {
         match walker.page.form {
             Form::Html => self.tell_by_column(walker, totals, opener, out),
             Form::Text | Form::Json => {

@@ -20,11 +20,13 @@
 mod file_rows;
 mod files;
 mod group_faults;
+mod keyed_rows;
 mod record;
+mod repeats;
 mod report_text;
 mod walk;
 
-pub use files::{paths, paths_in_order};
+pub use files::{paths, paths_in_order, swapped};
 pub use group_faults::GroupFaults;
 pub use record::{Seen, seek};
 pub use report_text::faults_of_report;

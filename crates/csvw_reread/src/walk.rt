@@ -1,14 +1,20 @@
 //! The faults of a table, with the texts of its file, which is read a second time.
+ghost use Rattle.csvw_columns.specs.Ready.{AreReady};
 
 use crate::file_rows::{FileRows, LineCount, Piece};
+use crate::repeats::{Repeat, keep_place, push_first, repeats_of};
 use csvw_hints::{TableAt, field_of, name_of, push_rule};
-use csvw_opener::Opener;
+use csvw_opener::{Opener, STANDARD_INPUT};
 use csvw_page::{CellShown, Color, Counts, FaultShown, Form, Halt, Page};
 use csvw_rows::{RawRow, Rows};
 use csvw_streams::Counted;
 use csvw_text::{Code, Fault};
 use std::alloc::{AllocError, Global};
 use std::io::{Read, Write};
+
+/// What is told once of the faults in standard input.
+const UNSEEN: &str =
+    "    standard input can't be read again: give a file, and the rows of its faults are shown\n";
 
 /// How many faults of one code in one column are shown, if not all are.
 pub(crate) const FIRST: u64 = 20;
@@ -51,6 +57,10 @@ pub struct Walker {
     header: Vec<String>,
     /// The rule that the last fault breaks.
     rule: String,
+    /// The first rows of the table that repeat its primary key.
+    repeats: Vec<Repeat>,
+    /// Whether it was told that standard input can't be read again.
+    has_told: bool,
 }
 
 /// Returns the cell of a column in a row, if both are known.
@@ -91,6 +101,8 @@ impl Walker {
             so_far: Counts::new(alloc),
             header: Vec::new(alloc),
             rule: String::new(alloc),
+            repeats: Vec::new(alloc),
+            has_told: false,
         }
     }
 
@@ -106,6 +118,29 @@ impl Walker {
         Ok(())
     }
 
+    /// Makes the rule that a fault in a table breaks, with the first row of a key that is repeated.
+    fn make_rule(&mut self, table: &TableAt<'_>, fault: &Fault) -> Result<(), AllocError> {
+        push_rule(&mut self.rule, table, fault)?;
+        match fault.code {
+            Code::DuplicateKey => push_first(
+                &mut self.rule,
+                table.path,
+                fault.place.row,
+                self.repeats.as_slice(),
+            ),
+            _ => Ok(()),
+        }
+    }
+
+    /// Makes what is told of a fault whose row isn't known, in place of a rule.
+    fn tell_unseen(&mut self, table: &TableAt<'_>, fault: &Fault) -> Result<(), AllocError> {
+        if self.has_told || fault.place.row == 0 || table.path != STANDARD_INPUT {
+            return Ok(());
+        }
+        self.has_told = true;
+        self.rule.push_str(UNSEEN)
+    }
+
     /// Adds a fault, with its row.
     fn tell_one(
         &mut self,
@@ -117,7 +152,9 @@ impl Walker {
         let cell = cell_of(table, column, at);
         self.rule.clear();
         if cell.is_some() {
-            push_rule(&mut self.rule, table, fault)?;
+            self.make_rule(table, fault)?;
+        } else {
+            self.tell_unseen(table, fault)?;
         }
         self.page.fault(&FaultShown {
             fault: *fault,
@@ -159,6 +196,12 @@ impl Walker {
     ) -> Result<(), AllocError> {
         let line = cursor.lines.pass(&row);
         self.keep_header(&row)?;
+        keep_place(
+            self.repeats.as_mut_slice(),
+            row.source(),
+            line,
+            row.number(),
+        );
         let faults = cursor.faults_to(row.source());
         let at = RowAt {
             row: Some(row),
@@ -216,8 +259,11 @@ impl Walker {
         faults: &[Fault],
         opener: &mut O,
         out: &mut Counted<W>,
-    ) -> Result<(), Halt> {
+    ) -> Result<(), Halt>
+        requires { AreReady table.now.tables.now.plan.now.tables }
+    {
         self.header.clear();
+        self.repeats = repeats_of(self.page.alloc, table, faults, opener)?;
         let mut cursor = Cursor {
             faults,
             lines: LineCount::new(),
