@@ -2,10 +2,11 @@
 ghost use Rattle.std.specs.Prelude.{◌≤◌};
 ghost use Rattle.csvw_columns.specs.Ready.{AreReady};
 
+use crate::faults::faults_of;
 use crate::reading::{Found, read};
 use csvw_check_core::{
-    Alone, Check, DEVICE, Halt, REFUSED, Refused, Report, Stopped, Tables, Walker, faults_of,
-    opened, paths, plan_of, show_alone, status_of, status_of_stop,
+    Alone, Check, DEVICE, Halt, REFUSED, Refused, Report, Stopped, Tables, Walker, opened, paths,
+    plan_of, show_alone, status_of, status_of_stop,
 };
 use csvw_columns::Plan;
 use csvw_files::Opener;
@@ -49,7 +50,8 @@ fn checked_group<O: Opener, W: Write>(
     match opened(walker.page.alloc, asked.meta, opener) {
         Some(bytes) => check_document((asked, bytes.as_slice()), opener, walker, out),
         None => {
-            show_alone(&mut walker.page, &asked.group(), &Alone::Unread, out)?;
+            let reason = Alone::Unread(opener.io_error(asked.meta));
+            show_alone(&mut walker.page, &asked.group(), &reason, out)?;
             Ok(DEVICE)
         }
     }

@@ -1,7 +1,8 @@
 //! A check of a group of tables for the person at the desk: the upper part of the layer, which reads the tables through a
-//! session.
+//! session, and lists the faults of a document that is refused.
 //!
-//! csvw_check_core is the lower part. It shows what was found.
+//! `show` shows the report of a run that ended. `explain_stop`, `explain_table_stop` and `explain_look_stop` show the words
+//! of a stop alone. csvw_check_core is the lower part. It has the parts of a page.
 //!
 //! # Promises
 //!
@@ -13,12 +14,14 @@
 #![tactic(auto)]
 
 mod checking;
+mod explaining;
+mod faults;
 mod reading;
+mod showing;
 mod sink;
 
 pub use checking::check;
-pub use csvw_check_core::{
-    Check, Color, Form, Halt, Profile, Show, ShowTable, Shown, Strict, explain_look_stop,
-    explain_stop, explain_table_stop, show,
-};
+pub use csvw_check_core::{Check, Color, Form, Halt, Profile, Show, ShowTable, Shown, Strict};
 pub use csvw_engine_core::Stop;
+pub use explaining::{explain_look_stop, explain_table_stop};
+pub use showing::{explain_stop, show};

@@ -2,9 +2,11 @@
 ghost use Rattle.std.specs.Prelude.{IfOk};
 ghost use Rattle.csvw_columns.specs.Ready.{AreReady};
 
+use crate::datatype_hint::push_datatype_hint;
+use crate::expected::{JsonEnd, push_expected};
+use crate::missing::push_missing;
 use crate::refused::{Refused, tell_all};
 use csvw_columns::Plan;
-use csvw_datatype::Simple;
 use csvw_files::{Opener, read_document};
 use csvw_hints::{Group, line_and_column, place_of, push_disguise};
 use csvw_meta::{Description, MetaCode, MetaFault, Profile, ReadDescription};
@@ -12,11 +14,10 @@ use csvw_page::{Halt, Page, StopShown, Summary, push_text};
 use csvw_streams::Counted;
 use serde_json::Value;
 use std::alloc::{AllocError, Global};
-use std::io::Write;
+use std::io::{self, Write};
 
 /// What to do if a file can't be read.
-pub(crate) const UNREAD: &str =
-    "the file can't be opened or read: correct its path, or its permissions";
+const UNREAD: &str = "the file can't be opened or read: correct its path, or its permissions";
 
 /// What is told of a document that is refused and can't be read again.
 const UNSEEN: &str =
@@ -47,6 +48,14 @@ fn end_of_json(alloc: Global, bytes: &[u8]) -> (usize, usize) {
     }
 }
 
+/// Returns where bytes in UTF-8 stop being JSON.
+fn json_end(alloc: Global, bytes: &[u8]) -> JsonEnd {
+    match Value::from_slice(alloc, without_bom(bytes)) {
+        Err(e) if !e.is_eof() => JsonEnd::Place(e.line(), e.column()),
+        _ => JsonEnd::End,
+    }
+}
+
 /// Reads the document at a path. Returns its bytes, or `None` if it can't be opened or read.
 pub fn opened<O: Opener>(alloc: Global, path: &str, opener: &mut O) -> Option<Vec<u8>> {
     let reader = opener.open(path)?;
@@ -56,41 +65,18 @@ pub fn opened<O: Opener>(alloc: Global, path: &str, opener: &mut O) -> Option<Ve
     read.ok()
 }
 
-/// Returns whether the profile w3c alone has the datatype of a name.
-fn is_of_w3c(name: &str) -> bool {
-    matches!(Simple::of(name), Some(Simple::Other(_)))
-}
-
-/// Returns whether a pointer is that of the name of a datatype.
-fn is_of_datatype(pointer: &str) -> bool {
-    pointer.ends_with("/datatype") || pointer.ends_with("/datatype/base")
-}
-
-/// Adds that the profile w3c has the datatype at a pointer, if it has.
-fn push_profile_hint(
+/// Adds what helps with a document that is no JSON: what its file is, or else what is expected.
+fn push_json_hint(
     hints: &mut String,
     alloc: Global,
+    meta: &str,
     bytes: &[u8],
-    pointer: &str,
 ) -> Result<(), AllocError> {
-    if !is_of_datatype(pointer) {
+    push_disguise(hints, meta, bytes)?;
+    if !hints.is_empty() || bytes.is_empty() || str::from_utf8(bytes).is_err() {
         return Ok(());
     }
-    let Ok(document) = Value::from_slice(alloc, without_bom(bytes)) else {
-        return Ok(());
-    };
-    let Some(value) = document.pointer(pointer) else {
-        return Ok(());
-    };
-    match value.as_str() {
-        Some(name) if is_of_w3c(name) => {
-            write!(
-                hints,
-                "    the profile w3c has the datatype {name}: write `--profile w3c`\n"
-            )
-        }
-        _ => Ok(()),
-    }
+    push_expected(hints, alloc, without_bom(bytes), json_end(alloc, bytes))
 }
 
 /// Adds what else helps with a fault of a document.
@@ -102,8 +88,13 @@ fn push_document_hints(
     fault: &MetaFault,
 ) -> Result<(), AllocError> {
     match fault.code {
-        MetaCode::NotJson => push_disguise(hints, group.meta, bytes),
-        MetaCode::NotSupported => push_profile_hint(hints, alloc, bytes, fault.pointer.as_str()),
+        MetaCode::NotJson => push_json_hint(hints, alloc, group.meta, bytes),
+        MetaCode::NotSupported => {
+            push_datatype_hint(hints, alloc, without_bom(bytes), fault.pointer.as_str())
+        }
+        MetaCode::BadProperty => {
+            push_missing(hints, alloc, without_bom(bytes), fault.pointer.as_str())
+        }
         MetaCode::BadUrl if fault.pointer.is_empty() => {
             hints.push_str("    ")?;
             push_text(hints, group.base)?;
@@ -184,7 +175,7 @@ fn tell_unseen(page: &mut Page, group: &Group<'_>, fault: &MetaFault) -> Result<
 }
 
 /// Adds a stop that is at no place of a file. The path is empty if it is of no file.
-pub(crate) fn tell_plain(
+pub fn tell_plain(
     page: &mut Page,
     name: &str,
     sentence: &str,
@@ -202,6 +193,58 @@ pub(crate) fn tell_plain(
         pointer: "",
         hints: "",
     })
+}
+
+/// A file that can't be opened or read.
+#[derive(Clone, Copy)]
+pub struct UnreadFile<'a> {
+    /// Its path.
+    pub path: &'a str,
+    /// The number of its table, from 1. It is 0 if it has no table.
+    pub table: u32,
+    /// The system's error, if it is known.
+    pub error: Option<io::Error>,
+}
+
+/// Adds what the system says of a file that can't be read, if it is known.
+fn push_error(hints: &mut String, error: Option<io::Error>) -> Result<(), AllocError> {
+    match error {
+        Some(error) => write!(hints, "    the system says: {error}\n"),
+        None => Ok(()),
+    }
+}
+
+/// Adds that a file can't be opened or read, and what the system says.
+pub fn tell_unread(page: &mut Page, file: &UnreadFile<'_>) -> Result<(), AllocError> {
+    let mut hints = String::new(page.alloc);
+    push_error(&mut hints, file.error)?;
+    page.stop(&StopShown {
+        name: "Read",
+        sentence: UNREAD,
+        path: file.path,
+        table: file.table,
+        row: 0,
+        line: 0,
+        column: 0,
+        pointer: "",
+        hints: hints.as_str(),
+    })
+}
+
+/// Adds that the document can't be opened or read.
+pub fn tell_unread_document(
+    page: &mut Page,
+    meta: &str,
+    error: Option<io::Error>,
+) -> Result<(), AllocError> {
+    tell_unread(
+        page,
+        &UnreadFile {
+            path: meta,
+            table: 0,
+            error,
+        },
+    )
 }
 
 /// Adds that there is not one file for each table, and lists the tables.
@@ -238,8 +281,8 @@ pub(crate) fn tell_table_count(
 /// Why nothing of a group can be read.
 #[derive(Clone, Copy)]
 pub enum Alone<'a> {
-    /// The document can't be opened or read.
-    Unread,
+    /// The document can't be opened or read. The system's error is here, if it is known.
+    Unread(Option<io::Error>),
     /// The document has this fault, and can't be read again.
     Unseen(&'a MetaFault),
     /// The document has faults.
@@ -249,7 +292,7 @@ pub enum Alone<'a> {
 }
 
 /// Ends a page, and sends it.
-pub(crate) fn end_page<W: Write>(
+pub fn end_page<W: Write>(
     page: &mut Page,
     summary: Option<&Summary<'_>>,
     out: &mut Counted<W>,
@@ -267,7 +310,7 @@ pub fn show_alone<W: Write>(
 ) -> Result<(), Halt> {
     page.begin(group.meta, None)?;
     let told = match reason {
-        Alone::Unread => tell_plain(page, "Read", UNREAD, group.meta, 0),
+        Alone::Unread(error) => tell_unread_document(page, group.meta, *error),
         Alone::Unseen(fault) => tell_unseen(page, group, fault),
         Alone::Refused(refused) => tell_all(page, group, refused),
         Alone::TableCount(plan) => tell_table_count(page, group, plan),

@@ -1,9 +1,9 @@
 //! The page of a check: how the faults of a group of tables, its stop and its document are shown to people, as text, as
 //! HTML and as JSON.
 //!
-//! This is the middle part of `csvw check`. It reads no tables through a session. The upper part, csvw_check, does, and
-//! shows here what it found. `show` shows the report of a run that ended. A document that is refused is shown with all of
-//! its faults (`Refused`). `explain_stop`, `explain_table_stop` and `explain_look_stop` show the words of a stop alone. The
+//! This is the middle part of `csvw check`. It reads no tables through a session and finds no faults. The upper part,
+//! csvw_check, does, and shows here what it found: `Report::show` shows a group that was read, `show_alone` why nothing of
+//! it can be read, and `tell_stop` a stop. A document that is refused is shown with all of its faults (`Refused`). The
 //! lower parts are csvw_page (the forms of a page), csvw_hints (rules and places) and csvw_reread (the rows of faults).
 //!
 //! # Promises
@@ -15,23 +15,28 @@
 #![tactic(auto)]
 
 mod asked;
+mod datatype_hint;
 mod document;
-mod explaining;
+mod expected;
+mod missing;
+mod near;
+mod objects;
 mod refused;
 mod report;
-mod showing;
 mod status;
 mod stop;
+mod unknown;
 
 pub use asked::{Check, Show, ShowTable, Strict};
 pub use csvw_hints::{Group, Tables};
 pub use csvw_meta::Profile;
 pub use csvw_page::{Color, DEVICE, Form, Halt, Page, REFUSED, push_escaped};
 pub use csvw_reread::{Shown, Walker, paths};
-pub use document::{Alone, opened, plan_of, show_alone};
-pub use explaining::{explain_look_stop, explain_table_stop};
-pub use refused::{Refused, faults_of};
+pub use document::{
+    Alone, UnreadFile, end_page, opened, plan_of, show_alone, tell_plain, tell_unread,
+    tell_unread_document,
+};
+pub use refused::Refused;
 pub use report::Report;
-pub use showing::{explain_stop, show};
 pub use status::{status_of, status_of_stop};
-pub use stop::Stopped;
+pub use stop::{Stopped, tell_memory, tell_stop};

@@ -1,13 +1,12 @@
 //! A document that is refused, with all of its faults.
 
 use crate::document::{Told, place_of_fault, tell_fault};
-use csvw_hints::{Group, show_unknown};
+use crate::unknown::show_unknown;
+use csvw_hints::Group;
 use csvw_meta::document::MAX_DOCUMENT;
-use csvw_meta::{MetaCode, MetaFault, Profile};
-use csvw_meta_faults::faults_in;
+use csvw_meta::{MetaCode, MetaFault};
 use csvw_page::{MoreShown, Page};
 use csvw_reread::Shown;
-use csvw_text::Seq;
 use std::alloc::{AllocError, Global};
 
 /// How many faults of one code are shown, unless all are.
@@ -16,76 +15,9 @@ const FIRST: u64 = 20;
 /// How many faults have their lines. To find one takes a walk through the document.
 const PLACED: usize = 1_000;
 
-/// How many bytes the pointers of all faults may take, at each depth of the document, so that they are listed.
-const MOST: usize = 16_777_216;
-
 /// What is told if the faults aren't listed. A document that is refused has at least one.
 const NOT_LISTED: &str =
     "    other faults aren't listed: the names in the document are too long, or memory is short\n";
-
-/// What is known of the bytes of a document so far.
-#[derive(Clone, Copy)]
-struct Scan {
-    /// Whether a text goes on.
-    in_text: bool,
-    /// Whether a backslash comes before.
-    is_escaped: bool,
-    /// The length of the last text.
-    text: usize,
-    /// The length of the longest text that is a name.
-    longest: usize,
-    /// How many values there are at most.
-    values: usize,
-}
-
-impl Scan {
-    /// Takes a byte of a text.
-    fn text_byte(&mut self, b: u8) {
-        self.in_text = self.is_escaped || b != b'"';
-        self.is_escaped = !self.is_escaped && b == b'\\';
-        self.text = self.text.saturating_add(1);
-    }
-
-    /// Takes a byte outside texts.
-    fn other_byte(&mut self, b: u8) {
-        match b {
-            b'"' => {
-                self.in_text = true;
-                self.text = 0;
-            }
-            b':' => {
-                self.longest = self.longest.max(self.text);
-                self.values = self.values.saturating_add(1);
-            }
-            b',' | b'[' => self.values = self.values.saturating_add(1),
-            _ => {}
-        }
-    }
-
-    /// Takes a byte.
-    fn byte(&mut self, b: u8) {
-        if self.in_text {
-            self.text_byte(b);
-        } else {
-            self.other_byte(b);
-        }
-    }
-}
-
-/// Whether the pointers of a document's values may take much memory, since it has a long name and many values.
-fn is_heavy(bytes: &[u8]) -> bool {
-    let mut scan = Scan {
-        in_text: false,
-        is_escaped: false,
-        text: 0,
-        longest: 0,
-        values: 0,
-    };
-    for b in bytes {
-        scan.byte(*b);
-    }
-    scan.values.saturating_mul(scan.longest) > MOST
-}
 
 /// A document that is refused.
 #[derive(Clone, Copy)]
@@ -109,17 +41,6 @@ struct Chosen {
     others: Vec<usize>,
     /// How many faults there are of each code.
     counts: Vec<(MetaCode, u64)>,
-}
-
-/// Returns the faults of a document in a profile, or none if there is no memory for them, or if they may take much.
-pub fn faults_of(alloc: Global, bytes: &[u8], base: &str, profile: Profile) -> Seq<MetaFault> {
-    if is_heavy(bytes) {
-        return Seq::new(alloc);
-    }
-    match faults_in(alloc, bytes, base, profile) {
-        Ok(faults) => faults,
-        Err(_) => Seq::new(alloc),
-    }
 }
 
 /// Counts one more fault of a code. Returns how many there are of it now.
@@ -222,7 +143,7 @@ fn tell_chosen(
     Ok(())
 }
 
-/// Adds the properties of a document that the vocabulary doesn't list, if the document is JSON and was read whole.
+/// Adds the properties of a document that are ignored, if the document is JSON and was read whole.
 fn tell_unknown(
     page: &mut Page,
     group: &Group<'_>,

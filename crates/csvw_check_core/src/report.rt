@@ -1,13 +1,15 @@
 //! The page of a group that was read: what is ignored, the faults, the stop and the summary.
+ghost use Rattle.csvw_columns.specs.Ready.{AreReady};
 
 use crate::document::end_page;
 use crate::stop::{Stopped, tell_stop};
+use crate::unknown::show_ignored;
 use csvw_files::Opener;
 use csvw_hints::Tables;
 use csvw_page::{Counts, Halt, Summary};
 use csvw_reread::{GroupFaults, Walker};
 use csvw_streams::Counted;
-use csvw_text::Fault;
+use csvw_text::{Code, Fault};
 use std::io::Write;
 
 /// What was found of a group.
@@ -25,6 +27,14 @@ pub struct Report<'a> {
     pub status: u8,
 }
 
+/// Returns how many properties of the document are ignored.
+fn ignored(faults: &[Fault]) -> u64 {
+    let ignored = faults
+        .iter()
+        .filter(|fault| fault.code == Code::UnknownProperty);
+    ignored.count() as u64
+}
+
 impl Report<'_> {
     /// Shows a page of the group, and sends it piece by piece.
     pub fn show<O: Opener, W: Write>(
@@ -32,7 +42,9 @@ impl Report<'_> {
         walker: &mut Walker,
         opener: &mut O,
         out: &mut Counted<W>,
-    ) -> Result<(), Halt> {
+    ) -> Result<(), Halt>
+        requires { AreReady self.now.tables.plan.now.tables }
+    {
         let totals = Counts::of(walker.page.alloc, self.faults)?;
         self.show_counted(&totals, walker, opener, out)
     }
@@ -44,7 +56,9 @@ impl Report<'_> {
         walker: &mut Walker,
         opener: &mut O,
         out: &mut Counted<W>,
-    ) -> Result<(), Halt> {
+    ) -> Result<(), Halt>
+        requires { AreReady self.now.tables.plan.now.tables }
+    {
         let faults = GroupFaults {
             tables: self.tables,
             faults: self.faults,
@@ -56,7 +70,12 @@ impl Report<'_> {
             status: self.status,
         };
         walker.page.begin(self.tables.group.meta, Some(&summary))?;
-        faults.show_ignored(&mut walker.page)?;
+        show_ignored(
+            &mut walker.page,
+            self.tables.group.meta,
+            self.tables.document,
+            ignored(self.faults),
+        )?;
         walker.page.send(out)?;
         faults.show(walker, totals, opener, out)?;
         if let Some(stopped) = &self.stop {

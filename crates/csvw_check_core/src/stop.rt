@@ -1,13 +1,13 @@
 //! Why the tables weren't read to their ends.
 
-use crate::document::{UNREAD, tell_plain, tell_refused, tell_table_count};
+use crate::document::{UnreadFile, tell_plain, tell_refused, tell_table_count, tell_unread};
 use csvw_columns::{TablePlan, TableStop};
 use csvw_engine_core::Stop;
-use csvw_files::Opener;
+use csvw_files::{Opener, STANDARD_INPUT};
 use csvw_hints::{Tables, dialect_hint, push_disguise};
-use csvw_page::{Page, StopShown};
+use csvw_page::{Page, StopShown, push_text};
 use csvw_records::RowStop;
-use csvw_reread::seek;
+use csvw_reread::{seek, swapped};
 use csvw_streams::Counted;
 use std::alloc::AllocError;
 use std::io::Read;
@@ -18,6 +18,10 @@ const FIRST: usize = 512;
 /// Where a dialect is written.
 const DRAFTED: &str =
     "    a metadata document has the dialect: `csvw draft` writes one, and `csvw convert` reads it\n";
+
+/// What is told of a stop in standard input.
+const UNSEEN: &str =
+    "    standard input can't be read again: give a file, and the line of the stop is shown\n";
 
 /// A stop in a record of a table.
 #[derive(Clone, Copy)]
@@ -49,6 +53,10 @@ fn tell_record_stop<O: Opener>(
         }
         push_first_bytes(&mut hints, tables, plan, path, opener)?;
     }
+    if path == STANDARD_INPUT {
+        hints.push_str(UNSEEN)?;
+    }
+    push_swapped(&mut hints, tables)?;
     page.stop(&StopShown {
         name: stop.name,
         sentence: stop.sentence,
@@ -60,6 +68,29 @@ fn tell_record_stop<O: Opener>(
         pointer: "",
         hints: hints.as_str(),
     })
+}
+
+/// Adds the number and the file of a table.
+fn push_file(hints: &mut String, place: usize, path: &str) -> Result<(), AllocError> {
+    let number = place.saturating_add(1);
+    write!(hints, "table {number} has ")?;
+    push_text(hints, path)
+}
+
+/// Adds which files two tables have by their URLs, if they look swapped.
+fn push_swapped(hints: &mut String, tables: &Tables<'_>) -> Result<(), AllocError> {
+    let found = swapped(*hints.allocator(), tables.plan.tables(), tables.paths)?;
+    let Some((one, other)) = found else {
+        return Ok(());
+    };
+    let (Some(first), Some(second)) = (tables.paths.get(other), tables.paths.get(one)) else {
+        return Ok(());
+    };
+    hints.push_str("    the files look swapped: by their URLs ")?;
+    push_file(hints, one, first.as_str())?;
+    hints.push_str(", and ")?;
+    push_file(hints, other, second.as_str())?;
+    hints.push('\n')
 }
 
 /// Adds how many fields a row has, if it is known.
@@ -172,7 +203,14 @@ fn tell_read_stop<O: Opener>(
         table => table,
     };
     match tables.path_at(table) {
-        Some(path) => tell_plain(page, "Read", UNREAD, path, table),
+        Some(path) => tell_unread(
+            page,
+            &UnreadFile {
+                path,
+                table,
+                error: opener.io_error(path),
+            },
+        ),
         None => tell_plain(
             page,
             "Read",
@@ -184,7 +222,7 @@ fn tell_read_stop<O: Opener>(
 }
 
 /// Adds that memory ran out.
-pub(crate) fn tell_memory(page: &mut Page) -> Result<(), AllocError> {
+pub fn tell_memory(page: &mut Page) -> Result<(), AllocError> {
     tell_plain(
         page,
         "Memory",
@@ -195,7 +233,7 @@ pub(crate) fn tell_memory(page: &mut Page) -> Result<(), AllocError> {
 }
 
 /// Adds why the tables weren't read to their ends.
-pub(crate) fn tell_stop<O: Opener>(
+pub fn tell_stop<O: Opener>(
     page: &mut Page,
     tables: &Tables<'_>,
     stopped: &Stopped<'_>,

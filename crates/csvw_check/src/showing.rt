@@ -1,17 +1,15 @@
 //! The report of a run that ended, shown to people.
+ghost use Rattle.csvw_columns.specs.Ready.{AreReady};
 
-use crate::asked::{Show, Strict};
-use crate::document::{Alone, end_page, opened, plan_of, show_alone};
-use crate::refused::{Refused, faults_of};
-use crate::report::Report;
-use crate::status::{status_of, status_of_stop};
-use crate::stop::{Stopped, tell_stop};
+use crate::faults::faults_of;
+use csvw_check_core::{
+    Alone, Halt, Page, Refused, Report, Show, Stopped, Strict, Tables, Walker, end_page, opened,
+    plan_of, show_alone, status_of, status_of_stop, tell_stop,
+};
 use csvw_columns::Plan;
 use csvw_engine_core::Stop;
 use csvw_files::Opener;
-use csvw_hints::Tables;
-use csvw_page::{Halt, Page};
-use csvw_reread::{Walker, faults_of_report, paths_in_order};
+use csvw_reread::{faults_of_report, paths_in_order};
 use csvw_streams::Counted;
 use std::alloc::Global;
 use std::io::Write;
@@ -83,15 +81,18 @@ fn show_part<O: Opener, W: Write>(
             };
             show_document(&run, &mut walker, opener, out)
         }
-        None => show_alone(&mut walker.page, &asked.group(), &unread(asked), out),
+        None => {
+            let reason = unread(asked, opener);
+            show_alone(&mut walker.page, &asked.group(), &reason, out)
+        }
     }
 }
 
 /// Returns what is told if the document can't be read again. The run may have read it and refused it.
-fn unread<'a>(asked: &Show<'a>) -> Alone<'a> {
+fn unread<'a, O: Opener>(asked: &Show<'a>, opener: &O) -> Alone<'a> {
     match asked.stop {
         Some(Stop::Meta(fault)) => Alone::Unseen(fault),
-        _ => Alone::Unread,
+        _ => Alone::Unread(opener.io_error(asked.meta)),
     }
 }
 
@@ -134,7 +135,9 @@ fn show_planned<O: Opener, W: Write>(
     walker: &mut Walker,
     opener: &mut O,
     out: &mut Counted<W>,
-) -> Result<(), Halt> {
+) -> Result<(), Halt>
+    requires { AreReady plan.now.tables }
+{
     let Run {
         asked,
         document,
@@ -164,7 +167,9 @@ fn show_report<O: Opener, W: Write>(
     walker: &mut Walker,
     opener: &mut O,
     out: &mut Counted<W>,
-) -> Result<(), Halt> {
+) -> Result<(), Halt>
+    requires { AreReady tables.now.plan.now.tables }
+{
     let faults = faults_of_report(walker.page.alloc, asked.report)?;
     let status = match asked.stop {
         Some(stop) => status_of_stop(stop),

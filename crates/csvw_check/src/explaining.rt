@@ -1,15 +1,15 @@
 //! The stop of a run that has no report of a group: of one table without metadata, and of a look at a document.
 
-use crate::asked::{Show, ShowTable};
-use crate::document::{UNREAD, end_page, tell_plain};
 use crate::showing::explain_stop;
-use crate::stop::{Stopped, tell_memory, tell_stop};
+use csvw_check_core::{
+    Form, Group, Halt, Page, Show, ShowTable, Stopped, Tables, UnreadFile, end_page, tell_memory,
+    tell_plain, tell_stop, tell_unread, tell_unread_document,
+};
 use csvw_columns::Plan;
 use csvw_engine_core::Stop;
 use csvw_files::Opener;
-use csvw_hints::{Group, Tables};
 use csvw_meta::{Description, MetaCode, MetaFault, ReadDescription};
-use csvw_page::{Form, Halt, Page, StopShown, push_text};
+use csvw_page::{StopShown, push_text};
 use csvw_streams::Counted;
 use std::alloc::{AllocError, Global};
 use std::io::Write;
@@ -95,7 +95,14 @@ pub fn explain_table_stop<O: Opener, W: Write>(
 ) -> Result<(), Halt> {
     let mut page = Page::new(alloc, Form::Text, asked.color);
     match asked.stop {
-        Stop::Read => tell_plain(&mut page, "Read", UNREAD, asked.file, 1)?,
+        Stop::Read => {
+            let file = UnreadFile {
+                path: asked.file,
+                table: 1,
+                error: opener.io_error(asked.file),
+            };
+            tell_unread(&mut page, &file)?
+        }
         Stop::Meta(fault) => tell_url(&mut page, asked.url, fault)?,
         _ => tell_table_stop(&mut page, asked, opener)?,
     }
@@ -103,9 +110,14 @@ pub fn explain_table_stop<O: Opener, W: Write>(
 }
 
 /// Adds that a device failed while a document was shown, or that memory ran out.
-fn tell_look_stop(page: &mut Page, meta: &str, stop: &Stop) -> Result<(), AllocError> {
+fn tell_look_stop<O: Opener>(
+    page: &mut Page,
+    meta: &str,
+    stop: &Stop,
+    opener: &O,
+) -> Result<(), AllocError> {
     match stop {
-        Stop::Read => tell_plain(page, "Read", UNREAD, meta, 0),
+        Stop::Read => tell_unread_document(page, meta, opener.io_error(meta)),
         Stop::Write => tell_plain(page, "Write", UNWRITTEN, "", 0),
         _ => tell_memory(page),
     }
@@ -125,7 +137,7 @@ pub fn explain_look_stop<O: Opener, W: Write>(
         Some(stop) => {
             let mut page = Page::new(alloc, asked.form, asked.color);
             page.begin(asked.meta, None)?;
-            tell_look_stop(&mut page, asked.meta, stop)?;
+            tell_look_stop(&mut page, asked.meta, stop, opener)?;
             end_page(&mut page, None, out)
         }
     }

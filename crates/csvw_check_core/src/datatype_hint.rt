@@ -1,0 +1,131 @@
+//! What to write in place of a datatype that isn't supported (Metadata Vocabulary for Tabular Data, section 5.11.1).
+
+use crate::near::near_name;
+use csvw_datatype::Simple;
+use csvw_page::push_text;
+use serde_json::Value;
+use std::alloc::{AllocError, Global};
+
+/// The datatypes of the standard that no profile has, each with the one to write in its place.
+const OTHERS: [(&str, &str); 22] = [
+    ("number", "decimal"),
+    ("double", "decimal"),
+    ("float", "decimal"),
+    ("time", "string"),
+    ("dateTimeStamp", "dateTime"),
+    ("duration", "string"),
+    ("dayTimeDuration", "string"),
+    ("yearMonthDuration", "string"),
+    ("gDay", "string"),
+    ("gMonth", "string"),
+    ("gMonthDay", "string"),
+    ("gYear", "integer"),
+    ("gYearMonth", "string"),
+    ("hexBinary", "string"),
+    ("base64Binary", "string"),
+    ("binary", "string"),
+    ("normalizedString", "string"),
+    ("language", "string"),
+    ("Name", "string"),
+    ("NMTOKEN", "string"),
+    ("QName", "string"),
+    ("anySimpleType", "string"),
+];
+
+/// The datatypes that there are.
+const NAMES: [&str; 25] = [
+    "string",
+    "anyURI",
+    "boolean",
+    "decimal",
+    "integer",
+    "long",
+    "int",
+    "short",
+    "byte",
+    "nonNegativeInteger",
+    "positiveInteger",
+    "unsignedLong",
+    "unsignedInt",
+    "unsignedShort",
+    "unsignedByte",
+    "nonPositiveInteger",
+    "negativeInteger",
+    "date",
+    "dateTime",
+    "datetime",
+    "any",
+    "anyAtomicType",
+    "token",
+    "xml",
+    "html",
+];
+
+/// Returns the datatype to write in place of one that no profile has.
+fn instead_of(name: &str) -> Option<&'static str> {
+    for (other, instead) in &OTHERS {
+        if *other == name {
+            return Some(*instead);
+        }
+    }
+    None
+}
+
+/// Adds that a name is that of no datatype, and the one that is near.
+fn push_no_datatype(hints: &mut String, name: &str) -> Result<(), AllocError> {
+    let near = near_name(*hints.allocator(), name, &[&NAMES])?;
+    hints.push_str("    ")?;
+    push_text(hints, name)?;
+    hints.push_str(" is no datatype of the standard")?;
+    match near {
+        Some(near) => write!(hints, ": did you mean {near}?\n"),
+        None => hints.push('\n'),
+    }
+}
+
+/// Adds what to write in place of the datatype of a name.
+fn push_instead(hints: &mut String, name: &str) -> Result<(), AllocError> {
+    if let Some(Simple::Other(_)) = Simple::of(name) {
+        return write!(
+            hints,
+            "    the profile w3c has the datatype {name}: write `--profile w3c`\n"
+        );
+    }
+    if Simple::of(name).is_some() {
+        return Ok(());
+    }
+    match instead_of(name) {
+        Some(instead) => write!(
+            hints,
+            "    the datatype {name} is of the standard, but isn't supported: write {instead}\n"
+        ),
+        None => push_no_datatype(hints, name),
+    }
+}
+
+/// Whether a pointer is that of the name of a datatype.
+fn is_of_datatype(pointer: &str) -> bool {
+    pointer.ends_with("/datatype") || pointer.ends_with("/datatype/base")
+}
+
+/// Adds what to write in place of a datatype that isn't supported, if the pointer is that of one.
+pub(crate) fn push_datatype_hint(
+    hints: &mut String,
+    alloc: Global,
+    bytes: &[u8],
+    pointer: &str,
+) -> Result<(), AllocError> {
+    if !is_of_datatype(pointer) {
+        return Ok(());
+    }
+    let Ok(document) = Value::from_slice(alloc, bytes) else {
+        return Ok(());
+    };
+    let Some(value) = document.pointer(pointer) else {
+        return Ok(());
+    };
+    match value.as_str() {
+        Some(name) => push_instead(hints, name),
+        None => Ok(()),
+    }
+}
