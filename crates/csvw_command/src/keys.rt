@@ -59,7 +59,7 @@ pub fn run_keys<O: Opener, W: Write, V: Write>(
         profile: asked.profile,
     };
     if let Err(stop) = plan_of(alloc, document, opener) {
-        return stop.tell(err);
+        return stop.tell(opener, err);
     }
     let Some(reader) = opener.open(STANDARD_INPUT) else {
         return tell_stop(&Stop::Read, err);

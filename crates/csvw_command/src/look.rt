@@ -29,15 +29,15 @@ pub(crate) fn base_of<'a>(given: Option<&'a str>, own: &'a Option<String>) -> &'
 fn tell_look<O: Opener, V: Write>(
     alloc: Global,
     look: StoppedLook<'_>,
-    explain: bool,
+    asked: &Inspected<'_>,
     opener: &mut O,
     err: &mut Counted<V>,
 ) -> u8
-    ensures runs { RunsInspect explain (stream_of V.contents err.old err.new) result }
+    ensures runs { RunsInspect asked.now.explain (stream_of V.contents err.old err.new) result }
     ensures bound { result ≤ 4 }
 {
     let status = tell_stop(look.stop, err);
-    if explain {
+    if asked.explain {
         explain_look(alloc, look, opener, err);
     }
     status
@@ -71,7 +71,7 @@ pub(crate) fn run_inspect<O: Opener, W: Write, V: Write>(
                 asked: &look,
                 stop: &stop,
             };
-            tell_look(alloc, look, asked.explain, opener, err)
+            tell_look(alloc, look, asked, opener, err)
         }
     }
 }

@@ -187,10 +187,11 @@ fn write_part<O: Opener, W: Write, V: Write>(
 }
 
 /// Reports how a part of these files ended. Returns the status.
-fn tell_part<V: Write>(
+fn tell_part<O: Opener, V: Write>(
     alloc: Global,
     files: &[&str],
     ran: &Result<Outcome, PartStop>,
+    opener: &O,
     err: &mut Counted<V>,
 ) -> u8
     ensures { result ≤ 4 }
@@ -198,7 +199,7 @@ fn tell_part<V: Write>(
     match ran {
         Ok(outcome) => outcome_status(outcome),
         Err(PartStop::Stop(stop)) => tell_stop(stop, err),
-        Err(PartStop::Unread { table }) => unread(*table, files).tell(err),
+        Err(PartStop::Unread { table }) => unread(*table, files).tell(opener, err),
         Err(PartStop::Plan(differs)) => {
             let mut line = String::new(alloc);
             match write!(line, "csvw: plan {differs}\n") {
@@ -250,7 +251,7 @@ pub(crate) fn run_one_part<O: Opener, W: Write, V: Write>(
         Ok(read) => read,
         Err(NoRun::Mistake(text)) => return tell_mistake(text, err),
         Err(NoRun::Refused(line)) => return tell_refused(line.as_str(), err),
-        Err(NoRun::Stop(stop)) => return stop.tell(err),
+        Err(NoRun::Stop(stop)) => return stop.tell(opener, err),
     };
     let request = PartRequest {
         alloc,
@@ -264,5 +265,5 @@ pub(crate) fn run_one_part<O: Opener, W: Write, V: Write>(
         Mode::Validate => write_part(request, group.keys, opener, err, out),
         Mode::Minimal | Mode::Standard => write_part(request, group.keys, opener, out, err),
     };
-    tell_part(alloc, group.files.as_slice(), &ran, err)
+    tell_part(alloc, group.files.as_slice(), &ran, opener, err)
 }

@@ -27,14 +27,14 @@ impl<'a> From<Stop> for FileStop<'a> {
 }
 
 impl FileStop<'_> {
-    /// Reports the stop: a file that can't be read in a line that names it, and then the stop in its line. Returns the
-    /// status.
-    pub(crate) fn tell<V: Write>(&self, err: &mut Counted<V>) -> u8
+    /// Reports the stop: a file that can't be read in a line that names it, with the system's error, and then the stop in
+    /// its line. Returns the status.
+    pub(crate) fn tell<O: Opener, V: Write>(&self, opener: &O, err: &mut Counted<V>) -> u8
         ensures { result ≤ 4 }
     {
         match self {
             FileStop::Unread(path) => {
-                note_unread(path, err);
+                note_unread(path, opener.io_error(path), err);
                 tell_stop(&Stop::Read, err)
             }
             FileStop::Stop(stop) => tell_stop(stop, err),

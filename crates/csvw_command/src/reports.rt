@@ -7,7 +7,7 @@ use csvw_files::Opener;
 use csvw_reports::{JoinedReports, ReportFault};
 use csvw_text::Counted;
 use std::alloc::{AllocError, Global};
-use std::io::{ErrorKind, Read, Write};
+use std::io::{self, ErrorKind, Read, Write};
 
 /// Why the reports aren't joined.
 #[derive(Drop)]
@@ -59,9 +59,19 @@ fn refusal(
     Ok(NotJoined::Refused(line))
 }
 
+/// Returns the line that a report's file can't be opened or read, with the system's error if it is known.
+fn unread_line(alloc: Global, path: &str, error: Option<io::Error>) -> Result<String, AllocError> {
+    match error {
+        Some(error) => {
+            format!(in alloc; "csvw: report {path}: the file can't be opened or read: {error}\n")
+        }
+        None => format!(in alloc; "csvw: report {path}: the file can't be opened or read\n"),
+    }
+}
+
 /// Returns that a file can't be opened or read, as a line.
-fn unread(alloc: Global, path: &str) -> NotJoined {
-    match format!(in alloc; "csvw: report {path}: the file can't be opened or read\n") {
+fn unread<O: Opener>(alloc: Global, path: &str, opener: &O) -> NotJoined {
+    match unread_line(alloc, path, opener.io_error(path)) {
         Ok(line) => NotJoined::Unread(line),
         Err(_) => NotJoined::Memory,
     }
@@ -70,7 +80,7 @@ fn unread(alloc: Global, path: &str) -> NotJoined {
 /// Reads a file to its end.
 fn read_whole<O: Opener>(alloc: Global, path: &str, opener: &mut O) -> Result<Vec<u8>, NotJoined> {
     let Some(reader) = opener.open(path) else {
-        return Err(unread(alloc, path));
+        return Err(unread(alloc, path, opener));
     };
     let mut reader = Counted::new(reader);
     let mut bytes = Vec::new(alloc);
@@ -79,7 +89,7 @@ fn read_whole<O: Opener>(alloc: Global, path: &str, opener: &mut O) -> Result<Ve
     match read {
         Ok(_) => Ok(bytes),
         Err(fault) if fault.kind() == ErrorKind::OutOfMemory => Err(NotJoined::Memory),
-        Err(_) => Err(unread(alloc, path)),
+        Err(_) => Err(unread(alloc, path, opener)),
     }
 }
 

@@ -129,7 +129,7 @@ pub fn run_split<O: Opener, W: Write, V: Write>(
 {
     let pieces = match pieces_of(alloc, asked, opener) {
         Ok(pieces) => pieces,
-        Err(NoPlan::Stop(stop)) => return stop.tell(err),
+        Err(NoPlan::Stop(stop)) => return stop.tell(opener, err),
         Err(NoPlan::NoLength) => return tell_mistake(NO_LENGTH, err),
     };
     if write_plan(pieces.as_slice(), out).is_err() || out.flush().is_err() {
