@@ -42,9 +42,42 @@ not read to its end
 
 const MISSING: &[u8] =
     b"p.csv: Read: the file can't be opened or read: correct its path, or its permissions
+    the system says: No such file or directory (os error 2)
 table 1: p.csv: 0 records
 not read to its end
 ";
+
+/// A document whose table has a key of one decimal, after a column that is skipped.
+const KEYED: &[u8] =
+    br#"{"@context":"http://www.w3.org/ns/csvw","url":"p.csv","dialect":{"skipColumns":1},
+"tableSchema":{"columns":[{"name":"id","datatype":"decimal"},{"name":"n"}],"primaryKey":"id"}}"#;
+
+/// The first rows of two keys begin at lines 2 and 5. The first of them has a line break in its skipped cell.
+const KEYED_ROWS: &[u8] = b"x,id,n\n\"a\nb\",1,1\nx,1.0,2\nx,2,3\nx,1.00,4\nx,2.0,5\n";
+
+const REPEATED: &[u8] =
+    br#"p.csv:4 (row 2), column 1 "id": DuplicateKey: "1.0": an earlier row has the same primary key: change one of them
+    x,1.0,2
+      ^^^
+    column 2 of the file, since skipColumns is 1
+    primary key: column 1 "id"
+    the first row with this key: p.csv:2 (row 1)
+p.csv:6 (row 4), column 1 "id": DuplicateKey: "1.00": an earlier row has the same primary key: change one of them
+    x,1.00,4
+      ^^^^
+    column 2 of the file, since skipColumns is 1
+    primary key: column 1 "id"
+    the first row with this key: p.csv:2 (row 1)
+p.csv:7 (row 5), column 1 "id": DuplicateKey: "2.0": an earlier row has the same primary key: change one of them
+    x,2.0,5
+      ^^^
+    column 2 of the file, since skipColumns is 1
+    primary key: column 1 "id"
+    the first row with this key: p.csv:5 (row 3)
+table 1: p.csv: 6 records
+  DuplicateKey: 3 in table 1, column 1
+not valid
+"#;
 
 /// A document with four faults.
 const FOUR: &[u8] = br#"{"@context":"http://www.w3.org/ns/csvw",
@@ -68,11 +101,11 @@ const MISSPELLED: &[u8] = br#"{"@context":"http://www.w3.org/ns/csvw",
 "#;
 
 const MISSPELLED_FAULTS: &[u8] =
-    b"m.json:2:12: warning: UnknownProperty: \"delimeter\" isn't a property of the vocabulary: did you mean \"delimiter\"?
+    b"m.json:2:12: /dialect/delimeter: warning: UnknownProperty: \"delimeter\" isn't a property of a dialect: did you mean \"delimiter\"?
 m.json:3:1: /url: BadProperty: a value is of a wrong kind, or a property is missing
 ";
 
-static CHECKS: [Case; 7] = [
+static CHECKS: [Case; 8] = [
     Case {
         what: "a valid group",
         words: CHECK,
@@ -112,6 +145,25 @@ static CHECKS: [Case; 7] = [
         },
     },
     Case {
+        what: "keys that are repeated, each with its first row, behind a column that is skipped",
+        words: CHECK,
+        files: &[
+            File {
+                path: "m.json",
+                bytes: KEYED,
+            },
+            File {
+                path: "p.csv",
+                bytes: KEYED_ROWS,
+            },
+        ],
+        end: End {
+            status: 1,
+            out: Just(REPEATED),
+            err: Just(b""),
+        },
+    },
+    Case {
         what: "a stop",
         words: CHECK,
         files: &[
@@ -142,6 +194,7 @@ static CHECKS: [Case; 7] = [
             out: Just(
                 b"m.json:1:1: BadContext: `@context` is not that of CSVW: `http://www.w3.org/ns/csvw`
 m.json:1:1: BadProperty: a value is of a wrong kind, or a property is missing
+    the property \"url\" is missing
 ",
             ),
             err: Just(b""),

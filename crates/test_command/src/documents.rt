@@ -4,6 +4,7 @@ use crate::runs::Sent::Just;
 use crate::runs::{CONVERT, End, File, VALIDATE, ends_so};
 use std::alloc::Global;
 use std::process::Abort;
+use std::str;
 
 /// A document that is refused.
 struct Refusal {
@@ -68,6 +69,106 @@ fn a_document_that_is_refused_has_its_line(rt: HostRuntime) {
         };
         assert!(rt; ends(alloc, VALIDATE, refusal.meta, b"id\n", end));
         assert!(rt; ends(alloc, CONVERT, refusal.meta, b"id\n", end));
+    }
+}
+
+/// Documents that are no JSON, each with what `csvw check` says.
+static NO_JSON: [Refusal; 11] = [
+    Refusal {
+        meta: b"{'url':1}",
+        line: b"m.json:1:2: NotJson: the bytes are no JSON text, or nest too deep: correct them\n    expected a name in double quotes, or `}`: write double quotes\n",
+    },
+    Refusal {
+        meta: b"{\"a\":1,}",
+        line: b"m.json:1:8: NotJson: the bytes are no JSON text, or nest too deep: correct them\n    expected a name in double quotes: remove the comma before it\n",
+    },
+    Refusal {
+        meta: b"{\"a\":1 \"b\":2}",
+        line: b"m.json:1:8: NotJson: the bytes are no JSON text, or nest too deep: correct them\n    expected `,` or `}`\n",
+    },
+    Refusal {
+        meta: b"{\"a\" 1}",
+        line: b"m.json:1:6: NotJson: the bytes are no JSON text, or nest too deep: correct them\n    expected `:`\n",
+    },
+    Refusal {
+        meta: b"{\"a\":tru}",
+        line: b"m.json:1:6: NotJson: the bytes are no JSON text, or nest too deep: correct them\n    expected a value: a number, a text in double quotes, `true`, `false` or `null`\n",
+    },
+    Refusal {
+        meta: b"{\"a\":1}x",
+        line: b"m.json:1:8: NotJson: the bytes are no JSON text, or nest too deep: correct them\n    expected the end of the document\n",
+    },
+    Refusal {
+        meta: b"{\"a\":[1,\n// two\n2]}",
+        line: b"m.json:2:1: NotJson: the bytes are no JSON text, or nest too deep: correct them\n    expected a value: JSON has no comments: remove this one\n",
+    },
+    Refusal {
+        meta: b"{\"a\":[1,2",
+        line: b"m.json:1:9: NotJson: the bytes are no JSON text, or nest too deep: correct them\n    expected `,` or `]`: the document ends too early\n",
+    },
+    Refusal {
+        meta: b"{\"a\":\"x",
+        line: b"m.json:1:6: NotJson: the bytes are no JSON text, or nest too deep: correct them\n    expected a closing quote: the document ends too early\n",
+    },
+    Refusal {
+        meta: b"{\"a\":\"x\ny\"}",
+        line: b"m.json:1:6: NotJson: the bytes are no JSON text, or nest too deep: correct them\n    expected a value: this text isn't closed, or it has a line break or an unknown escape\n",
+    },
+    Refusal {
+        meta: b"{\"a\":1e999}",
+        line: b"m.json:1:11: NotJson: the bytes are no JSON text, or nest too deep: correct them\n    expected `,` or `}`: the number before it is too great\n",
+    },
+];
+
+/// Documents that are refused, each with what `csvw check` says and what helps.
+static HELPED: [Refusal; 6] = [
+    Refusal {
+        meta: b"{\"@context\":\"http://www.w3.org/ns/csvw\",\"tableSchema\":{}}",
+        line: b"m.json:1:1: BadProperty: a value is of a wrong kind, or a property is missing\n    the property \"url\" is missing\n",
+    },
+    Refusal {
+        meta: b"{\"@context\":\"http://www.w3.org/ns/csvw\",\n\"tables\":[{\"url\":\"a.csv\"},\n{\"notes\":[]}]}",
+        line: b"m.json:3:1: /tables/1: BadProperty: a value is of a wrong kind, or a property is missing\n    the property \"url\" is missing\n",
+    },
+    Refusal {
+        meta: b"{\"@context\":\"http://www.w3.org/ns/csvw\",\"url\":\"p.csv\",\n\"tableSchema\":{\"columns\":[{\"name\":\"a\"}],\"foreignKeys\":[\n{\"columnReference\":\"a\"}]}}",
+        line: b"m.json:3:1: /tableSchema/foreignKeys/0: BadProperty: a value is of a wrong kind, or a property is missing\n    the property \"reference\" is missing\n",
+    },
+    Refusal {
+        meta: b"{\"@context\":\"http://www.w3.org/ns/csvw\",\"url\":\"p.csv\",\"tableSchema\":{\"columns\":[{\"name\":\"a\",\n\"datatype\":\"number\"}]}}",
+        line: b"m.json:2:1: /tableSchema/columns/0/datatype: NotSupported: this part of the vocabulary is not supported: leave it out\n    the datatype number is of the standard, but isn't supported: write decimal\n",
+    },
+    Refusal {
+        meta: b"{\"@context\":\"http://www.w3.org/ns/csvw\",\"url\":\"p.csv\",\"tableSchema\":{\"columns\":[{\"name\":\"a\",\"datatype\":{\n\"base\":\"Integer\"}}]}}",
+        line: b"m.json:2:1: /tableSchema/columns/0/datatype/base: NotSupported: this part of the vocabulary is not supported: leave it out\n    Integer is no datatype of the standard: did you mean integer?\n",
+    },
+    Refusal {
+        meta: b"{\"@context\":\"http://www.w3.org/ns/csvw\",\"url\":\"p.csv\",\"tableSchema\":{\"columns\":[{\"name\":\"a\",\n\"datatype\":\"quantity\"}]}}",
+        line: b"m.json:2:1: /tableSchema/columns/0/datatype: NotSupported: this part of the vocabulary is not supported: leave it out\n    quantity is no datatype of the standard\n",
+    },
+];
+
+/// The words that check a group of one table.
+const CHECK: &[&str] = &[
+    "csvw",
+    "check",
+    "--base",
+    "http://example.org/",
+    "m.json",
+    "p.csv",
+];
+
+#[test]
+fn a_document_that_is_refused_is_told_with_what_helps(rt: HostRuntime) {
+    let alloc = rt.alloc();
+    for refusal in NO_JSON.iter().chain(&HELPED) {
+        let end = End {
+            status: 3,
+            out: Just(refusal.line),
+            err: Just(b""),
+        };
+        let meta = str::from_utf8(refusal.meta).unwrap_or("");
+        assert!(rt; ends(alloc, CHECK, refusal.meta, b"id\n", end), "{meta}");
     }
 }
 

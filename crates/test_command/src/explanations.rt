@@ -21,7 +21,7 @@ static TABLES: [Case; 10] = [
             status: 4,
             out: Just(b""),
             err: Just(
-                b"csvw: Read\np.csv: Read: the file can't be opened or read: correct its path, or its permissions\n",
+                b"csvw: Read\np.csv: Read: the file can't be opened or read: correct its path, or its permissions\n    the system says: No such file or directory (os error 2)\n",
             ),
         },
     },
@@ -43,7 +43,7 @@ static TABLES: [Case; 10] = [
             status: 4,
             out: Just(b""),
             err: Just(
-                b"csvw: Read\np.csv: Read: the file can't be opened or read: correct its path, or its permissions\n",
+                b"csvw: Read\np.csv: Read: the file can't be opened or read: correct its path, or its permissions\n    the system says: No such file or directory (os error 2)\n",
             ),
         },
     },
@@ -179,7 +179,7 @@ static LOOKS: [Case; 8] = [
             status: 4,
             out: Just(b""),
             err: Just(
-                b"csvw: Read\nm.json: Read: the file can't be opened or read: correct its path, or its permissions\n",
+                b"csvw: Read\nm.json: Read: the file can't be opened or read: correct its path, or its permissions\n    the system says: No such file or directory (os error 2)\n",
             ),
         },
     },
@@ -274,6 +274,55 @@ static LOOKS: [Case; 8] = [
         },
     },
 ];
+
+/// A document of two tables, and their files.
+const PAIR: &[File<'static>] = &[
+    File {
+        path: "m.json",
+        bytes: br#"{"@context":"http://www.w3.org/ns/csvw","tables":[
+{"url":"a.csv","tableSchema":{"columns":[{"name":"a"}]}},
+{"url":"b.csv","tableSchema":{"columns":[{"name":"b"},{"name":"c"}]}}]}"#,
+    },
+    File {
+        path: "a.csv",
+        bytes: b"a\n1\n",
+    },
+    File {
+        path: "b.csv",
+        bytes: b"b,c\n1,2\n",
+    },
+];
+
+const SWAPPED: &[u8] = b"csvw: RaggedRow table 1 row 2
+b.csv:2: RaggedRow: the row doesn't have one field for each column: add or remove fields; for a blank line write `skipBlankRows`
+    the row has 2 fields
+    the files look swapped: by their URLs table 1 has a.csv, and table 2 has b.csv
+";
+
+static GROUPS: [Case; 1] = [Case {
+    what: "files that are swapped, explained",
+    words: &[
+        "csvw",
+        "validate",
+        "--explain",
+        "--base",
+        "http://example.org/",
+        "m.json",
+        "b.csv",
+        "a.csv",
+    ],
+    files: PAIR,
+    end: End {
+        status: 3,
+        out: Just(b""),
+        err: Just(SWAPPED),
+    },
+}];
+
+#[test]
+fn stops_of_a_group_are_explained(rt: HostRuntime) {
+    each_ends_so(&rt, rt.alloc(), &GROUPS);
+}
 
 #[test]
 fn stops_of_a_table_are_explained(rt: HostRuntime) {

@@ -78,6 +78,29 @@ const MISSPELLED: File<'static> = File {
     bytes: br#"{"@context":"http://www.w3.org/ns/csvw","url":"p.csv","tableschema":{"columns":[{"nam":"id"}]}}"#,
 };
 
+/// A document with properties in objects that don't have them.
+const MISPLACED: File<'static> = File {
+    path: "m.json",
+    bytes: br#"{"@context":"http://www.w3.org/ns/csvw",
+"url":"p.csv","delimiter":";",
+"dialect":{"lang":"en"},
+"notes":[{"dc:t":{"x":1}}],
+"tableSchema":{"columns":[{"name":"id","titles":{"en":"id"},"notes":[],"url":"u"}],"suppressOutput":true}}"#,
+};
+
+const MISPLACED_WARNINGS: &str =
+    r#"m.json:2:15: /delimiter: warning: UnknownProperty: "delimiter" isn't a property of a table, but of a dialect
+m.json:3:12: /dialect/lang: warning: UnknownProperty: "lang" isn't a property of a dialect, but of a table group
+m.json:4:19: /notes/0/dc:t/x: warning: UnknownProperty: "x" isn't a property of an annotation
+m.json:5:61: /tableSchema/columns/0/notes: warning: UnknownProperty: "notes" isn't a property of a column, but of a table group
+m.json:5:72: /tableSchema/columns/0/url: warning: UnknownProperty: "url" isn't a property of a column, but of a table
+m.json:5:84: /tableSchema/suppressOutput: warning: UnknownProperty: "suppressOutput" isn't a property of a schema, but of a table
+table 1: p.csv: 2 records
+  UnknownProperty: 4 in table 1
+  UnknownProperty: 2 in table 1, column 1
+valid
+"#;
+
 const SCRIPT: File<'static> = File {
     path: "p.csv",
     bytes: b"A&B,n\n<script>alert('x')</script>,\"<b>&\"\"2\"\"\"\n",
@@ -93,7 +116,7 @@ const VALID: File<'static> = File {
     bytes: b"id\n1\n",
 };
 
-static CASES: [Case; 11] = [
+static CASES: [Case; 12] = [
     Case {
         what: "a cell with markup in HTML",
         form: Form::Html,
@@ -224,8 +247,17 @@ static CASES: [Case; 11] = [
         files: &[MISSPELLED, VALID],
         status: 0,
         page: Wanted::Whole(
-            "m.json:1:55: warning: UnknownProperty: \"tableschema\" isn't a property of the vocabulary: did you mean \"tableSchema\"?\ntable 1: p.csv: 2 records\n  UnknownProperty: 1 in table 1\nvalid\n",
+            "m.json:1:55: /tableschema: warning: UnknownProperty: \"tableschema\" isn't a property of a table: did you mean \"tableSchema\"?\ntable 1: p.csv: 2 records\n  UnknownProperty: 1 in table 1\nvalid\n",
         ),
+    },
+    Case {
+        what: "properties in objects that don't have them",
+        form: Form::Text,
+        color: Color::Never,
+        strict: Strict::Errors,
+        files: &[MISPLACED, VALID],
+        status: 0,
+        page: Wanted::Whole(MISPLACED_WARNINGS),
     },
     Case {
         what: "a warning of a strict check, in colours",
@@ -235,7 +267,7 @@ static CASES: [Case; 11] = [
         files: &[MISSPELLED, VALID],
         status: 1,
         page: Wanted::Whole(
-            "m.json:1:55: \u{1B}[1;33mwarning\u{1B}[0m: \u{1B}[1;33mUnknownProperty\u{1B}[0m: \"tableschema\" isn't a property of the vocabulary: did you mean \"tableSchema\"?\ntable 1: p.csv: 2 records\n  UnknownProperty: 1 in table 1\nnot valid\n",
+            "m.json:1:55: /tableschema: \u{1B}[1;33mwarning\u{1B}[0m: \u{1B}[1;33mUnknownProperty\u{1B}[0m: \"tableschema\" isn't a property of a table: did you mean \"tableSchema\"?\ntable 1: p.csv: 2 records\n  UnknownProperty: 1 in table 1\nnot valid\n",
         ),
     },
 ];

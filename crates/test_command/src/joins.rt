@@ -114,7 +114,9 @@ static REPORTS: [Case; 6] = [
         end: End {
             status: 4,
             out: Just(b""),
-            err: Just(b"csvw: report 2.csv: the file can't be opened or read\n"),
+            err: Just(
+                b"csvw: report 2.csv: the file can't be opened or read: No such file or directory (os error 2)\n",
+            ),
         },
     },
 ];

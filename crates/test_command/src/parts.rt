@@ -176,7 +176,7 @@ _:t1r4s <http://example.org/p.csv#x> \"d\" .
         plan: PLAN,
         status: 4,
         out: b"",
-        err: b"csvw: q.csv: the file can't be opened or read\ncsvw: Read\n",
+        err: b"csvw: q.csv: the file can't be opened or read: No such file or directory (os error 2)\ncsvw: Read\n",
     },
     PartCase {
         words: "validate --part 1 --plan p.csv",

@@ -388,7 +388,9 @@ static TEXTS: [Case; 8] = [
         end: End {
             status: 4,
             out: Just(b""),
-            err: Just(b"csvw: q.csv: the file can't be opened or read\ncsvw: Read\n"),
+            err: Just(
+                b"csvw: q.csv: the file can't be opened or read: No such file or directory (os error 2)\ncsvw: Read\n",
+            ),
         },
     },
 ];

@@ -4,7 +4,7 @@ ghost use Rattle.std.specs.Prelude.{◌≡◌};
 use csvw_command::{Opener, command};
 use csvw_text::Counted;
 use std::alloc::{AllocError, Global};
-use std::io::Write;
+use std::io::{self, Write};
 use std::process::Abort;
 use std::str;
 use test_fakes::FailingReader;
@@ -38,6 +38,9 @@ pub(crate) const CONVERT: &[&str] = &[
     "m.json",
     "p.csv",
 ];
+
+/// The number of the system's error for a file that there isn't (POSIX, `ENOENT`, on Linux).
+const NO_FILE: i32 = 2;
 
 /// A file in memory.
 #[derive(Clone, Copy)]
@@ -145,6 +148,13 @@ impl<'a> Opener for Files<'a> {
             }
         }
         None
+    }
+
+    fn io_error(&self, path: &str) -> Option<io::Error> {
+        match self.reader_of(path) {
+            Some(_) => None,
+            None => Some(io::Error::from_raw_os_error(NO_FILE)),
+        }
     }
 
     fn close(&mut self, reader: Counted<FailingReader<'a>>)

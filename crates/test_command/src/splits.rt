@@ -94,7 +94,9 @@ static SPLITS: [Case; 9] = [
         end: End {
             status: 4,
             out: Just(b""),
-            err: Just(b"csvw: p.csv: the file can't be opened or read\ncsvw: Read\n"),
+            err: Just(
+                b"csvw: p.csv: the file can't be opened or read: No such file or directory (os error 2)\ncsvw: Read\n",
+            ),
         },
     },
     Case {
@@ -104,7 +106,9 @@ static SPLITS: [Case; 9] = [
         end: End {
             status: 4,
             out: Just(b""),
-            err: Just(b"csvw: m.json: the file can't be opened or read\ncsvw: Read\n"),
+            err: Just(
+                b"csvw: m.json: the file can't be opened or read: No such file or directory (os error 2)\ncsvw: Read\n",
+            ),
         },
     },
     Case {
