@@ -4,6 +4,7 @@ ghost use Rattle.csvw_columns.specs.Ready.{AreReady};
 
 use crate::faults::faults_of;
 use crate::reading::{Found, read};
+use crate::repeats::repeats_of;
 use csvw_check_core::{
     Alone, Check, DEVICE, Halt, REFUSED, Refused, Report, Stopped, Tables, Walker, opened, paths,
     plan_of, show_alone, status_of, status_of_stop,
@@ -126,10 +127,13 @@ fn check_tables<O: Opener, W: Write>(
 ) -> Result<u8, Halt>
     requires { AreReady tables.now.plan.now.tables }
 {
-    let found = read(walker.page.alloc, tables.plan, tables.paths, opener)?;
+    let alloc = walker.page.alloc;
+    let found = read(alloc, tables.plan, tables.paths, opener)?;
+    let repeats = repeats_of(alloc, tables, found.faults.as_slice(), asked.shown, opener)?;
     let report = Report {
         tables: *tables,
         faults: found.faults.as_slice(),
+        repeats: repeats.as_slice(),
         rows: found.rows.as_slice(),
         stop: stopped(&found),
         status: found_status(asked, &found),

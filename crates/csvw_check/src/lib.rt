@@ -2,7 +2,8 @@
 //! session, and lists the faults of a document that is refused.
 //!
 //! `show` shows the report of a run that ended. `explain_stop`, `explain_table_stop` and `explain_look_stop` show the words
-//! of a stop alone. csvw_check_core is the lower part. It has the parts of a page.
+//! of a stop alone. csvw_check_core is the lower part. It has the parts of a page. Below a row that repeats a primary key is
+//! the first row with the key: `repeats` reads the files twice more for that.
 //!
 //! # Promises
 //!
@@ -16,7 +17,10 @@
 mod checking;
 mod explaining;
 mod faults;
+mod keyed_rows;
 mod reading;
+mod repeating_rows;
+mod repeats;
 mod showing;
 mod sink;
 

@@ -2,6 +2,7 @@
 ghost use Rattle.csvw_columns.specs.Ready.{AreReady};
 
 use crate::faults::faults_of;
+use crate::repeats::repeats_of;
 use csvw_check_core::{
     Alone, Halt, Page, Refused, Report, Show, Stopped, Strict, Tables, Walker, end_page, opened,
     plan_of, show_alone, status_of, status_of_stop, tell_stop,
@@ -170,7 +171,9 @@ fn show_report<O: Opener, W: Write>(
 ) -> Result<(), Halt>
     requires { AreReady tables.now.plan.now.tables }
 {
-    let faults = faults_of_report(walker.page.alloc, asked.report)?;
+    let alloc = walker.page.alloc;
+    let faults = faults_of_report(alloc, asked.report)?;
+    let repeats = repeats_of(alloc, tables, faults.as_slice(), asked.shown, opener)?;
     let status = match asked.stop {
         Some(stop) => status_of_stop(stop),
         None => status_of(faults.as_slice(), Strict::Errors),
@@ -178,6 +181,7 @@ fn show_report<O: Opener, W: Write>(
     let report = Report {
         tables: *tables,
         faults: faults.as_slice(),
+        repeats: repeats.as_slice(),
         rows: &[],
         stop: stopped(asked),
         status,

@@ -31,7 +31,7 @@ pub use asked::{Check, Show, ShowTable, Strict};
 pub use csvw_hints::{Group, Tables};
 pub use csvw_meta::Profile;
 pub use csvw_page::{Color, DEVICE, Form, Halt, Page, REFUSED, push_escaped};
-pub use csvw_reread::{Shown, Walker, paths};
+pub use csvw_reread::{Repeat, Shown, Walker, paths};
 pub use document::{
     Alone, UnreadFile, end_page, opened, plan_of, show_alone, tell_plain, tell_unread,
     tell_unread_document,

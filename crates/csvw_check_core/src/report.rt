@@ -1,5 +1,4 @@
 //! The page of a group that was read: what is ignored, the faults, the stop and the summary.
-ghost use Rattle.csvw_columns.specs.Ready.{AreReady};
 
 use crate::document::end_page;
 use crate::stop::{Stopped, tell_stop};
@@ -7,7 +6,7 @@ use crate::unknown::show_ignored;
 use csvw_files::Opener;
 use csvw_hints::Tables;
 use csvw_page::{Counts, Halt, Summary};
-use csvw_reread::{GroupFaults, Walker};
+use csvw_reread::{GroupFaults, Repeat, Walker};
 use csvw_streams::Counted;
 use csvw_text::{Code, Fault};
 use std::io::Write;
@@ -19,6 +18,9 @@ pub struct Report<'a> {
     pub tables: Tables<'a>,
     /// The faults, in the order of reports.
     pub faults: &'a [Fault],
+    /// The rows that repeat a primary key, sorted by tables and rows. A row that isn't here is shown without the first row
+    /// that has its key.
+    pub repeats: &'a [Repeat],
     /// The number of rows that were read of each table. There are none if they aren't known.
     pub rows: &'a [u64],
     /// Why the tables weren't read to their ends, if they weren't.
@@ -42,9 +44,7 @@ impl Report<'_> {
         walker: &mut Walker,
         opener: &mut O,
         out: &mut Counted<W>,
-    ) -> Result<(), Halt>
-        requires { AreReady self.now.tables.plan.now.tables }
-    {
+    ) -> Result<(), Halt> {
         let totals = Counts::of(walker.page.alloc, self.faults)?;
         self.show_counted(&totals, walker, opener, out)
     }
@@ -56,12 +56,11 @@ impl Report<'_> {
         walker: &mut Walker,
         opener: &mut O,
         out: &mut Counted<W>,
-    ) -> Result<(), Halt>
-        requires { AreReady self.now.tables.plan.now.tables }
-    {
+    ) -> Result<(), Halt> {
         let faults = GroupFaults {
             tables: self.tables,
             faults: self.faults,
+            repeats: self.repeats,
         };
         let summary = Summary {
             paths: self.tables.paths,

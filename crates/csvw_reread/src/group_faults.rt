@@ -1,6 +1,6 @@
 //! The faults of a group, each with its row, in the order of a page's form.
-ghost use Rattle.csvw_columns.specs.Ready.{AreReady};
 
+use crate::first_rows::Repeat;
 use crate::walk::{FIRST, Shown, Walker};
 use csvw_hints::{TableAt, Tables};
 use csvw_opener::Opener;
@@ -17,6 +17,9 @@ pub struct GroupFaults<'a> {
     pub tables: Tables<'a>,
     /// The faults, in the order of reports.
     pub faults: &'a [Fault],
+    /// The rows that repeat a primary key, sorted by tables and rows. A row that isn't here is shown without the first row
+    /// that has its key.
+    pub repeats: &'a [Repeat],
 }
 
 /// Divides faults, which are sorted, before the first of a table of this number or a later one.
@@ -55,9 +58,7 @@ impl GroupFaults<'_> {
         walker: &mut Walker,
         opener: &mut O,
         out: &mut Counted<W>,
-    ) -> Result<(), Halt>
-        requires { AreReady self.now.tables.plan.now.tables }
-    {
+    ) -> Result<(), Halt> {
         let (_, mut faults) = before_table(self.faults, 1);
         for (plan, path) in self.tables.plan.tables().iter().zip(self.tables.paths) {
             let (own, rest) = before_table(faults, plan.number.saturating_add(1));
@@ -67,6 +68,7 @@ impl GroupFaults<'_> {
                 plan,
                 path: path.as_str(),
             };
+            walker.begin_table(self.repeats, plan.number)?;
             walker.walk(&table, own, opener, out)?;
         }
         Ok(())
@@ -95,9 +97,7 @@ impl GroupFaults<'_> {
         faults: &[Fault],
         opener: &mut O,
         out: &mut Counted<W>,
-    ) -> Result<(), Halt>
-        requires { AreReady self.now.tables.plan.now.tables }
-    {
+    ) -> Result<(), Halt> {
         let Some(first) = faults.first() else {
             return Ok(());
         };
@@ -115,6 +115,7 @@ impl GroupFaults<'_> {
             plan,
             path,
         };
+        walker.begin_table(self.repeats, spot.table)?;
         walker.walk(&table, first, opener, out)?;
         match times.saturating_sub(shown) {
             0 => Ok(()),
@@ -129,9 +130,7 @@ impl GroupFaults<'_> {
         totals: &Counts,
         opener: &mut O,
         out: &mut Counted<W>,
-    ) -> Result<(), Halt>
-        requires { AreReady self.now.tables.plan.now.tables }
-    {
+    ) -> Result<(), Halt> {
         let sorted = by_column(walker.page.alloc, self.faults)?;
         let mut faults = sorted.as_slice();
         for (spot, times) in totals.spots.iter() {
@@ -152,9 +151,7 @@ impl GroupFaults<'_> {
         totals: &Counts,
         opener: &mut O,
         out: &mut Counted<W>,
-    ) -> Result<(), Halt>
-        requires { AreReady self.now.tables.plan.now.tables }
-    {
+    ) -> Result<(), Halt> {
         match walker.page.form {
             Form::Html => self.tell_by_column(walker, totals, opener, out),
             Form::Text | Form::Json => {

@@ -4,12 +4,15 @@
 //! with it, and adds each fault with its line, its cell and the rule that it breaks:
 //!
 //! ```text
-//! let faults = GroupFaults { tables, faults: found };
+//! let faults = GroupFaults { tables, faults: found, repeats: &[] };
 //! let mut walker = Walker::new(alloc, Form::Text, Color::Never, Shown::First);
 //! faults.show(&mut walker, &Counts::of(alloc, found)?, opener, out)?;
 //! ```
 //!
-//! `paths` finds the file of each table. `seek` looks for the row that stops a table. `faults_of_report` reads a report back.
+//! A `Repeat` says which row has a primary key first that a later row repeats. The walk shows where that row is.
+//!
+//! `paths` and `paths_in_order` find the file of each table, and `swapped` two tables whose files look swapped. `seek` looks
+//! for the row that stops a table. `faults_of_report` reads a report back.
 //!
 //! # Promises
 //!
@@ -19,14 +22,14 @@
 
 mod file_rows;
 mod files;
+mod first_rows;
 mod group_faults;
-mod keyed_rows;
 mod record;
-mod repeats;
 mod report_text;
 mod walk;
 
 pub use files::{paths, paths_in_order, swapped};
+pub use first_rows::Repeat;
 pub use group_faults::GroupFaults;
 pub use record::{Seen, seek};
 pub use report_text::faults_of_report;

@@ -1,8 +1,7 @@
 //! The faults of a table, with the texts of its file, which is read a second time.
-ghost use Rattle.csvw_columns.specs.Ready.{AreReady};
 
 use crate::file_rows::{FileRows, LineCount, Piece};
-use crate::repeats::{Repeat, keep_place, push_first, repeats_of};
+use crate::first_rows::{FirstRows, Repeat};
 use csvw_hints::{TableAt, field_of, name_of, push_rule};
 use csvw_opener::{Opener, STANDARD_INPUT};
 use csvw_page::{CellShown, Color, Counts, FaultShown, Form, Halt, Page};
@@ -57,8 +56,8 @@ pub struct Walker {
     header: Vec<String>,
     /// The rule that the last fault breaks.
     rule: String,
-    /// The first rows of the table that repeat its primary key.
-    repeats: Vec<Repeat>,
+    /// The rows of the table that repeat its primary key, and the first rows with their keys.
+    firsts: FirstRows,
     /// Whether it was told that standard input can't be read again.
     has_told: bool,
 }
@@ -101,7 +100,7 @@ impl Walker {
             so_far: Counts::new(alloc),
             header: Vec::new(alloc),
             rule: String::new(alloc),
-            repeats: Vec::new(alloc),
+            firsts: FirstRows::new(alloc),
             has_told: false,
         }
     }
@@ -122,12 +121,10 @@ impl Walker {
     fn make_rule(&mut self, table: &TableAt<'_>, fault: &Fault) -> Result<(), AllocError> {
         push_rule(&mut self.rule, table, fault)?;
         match fault.code {
-            Code::DuplicateKey => push_first(
-                &mut self.rule,
-                table.path,
-                fault.place.row,
-                self.repeats.as_slice(),
-            ),
+            Code::DuplicateKey => {
+                self.firsts
+                    .push_first(&mut self.rule, table.path, fault.place.row)
+            }
             _ => Ok(()),
         }
     }
@@ -196,12 +193,7 @@ impl Walker {
     ) -> Result<(), AllocError> {
         let line = cursor.lines.pass(&row);
         self.keep_header(&row)?;
-        keep_place(
-            self.repeats.as_mut_slice(),
-            row.source(),
-            line,
-            row.number(),
-        );
+        self.firsts.pass(row.source(), line, row.number());
         let faults = cursor.faults_to(row.source());
         let at = RowAt {
             row: Some(row),
@@ -252,18 +244,20 @@ impl Walker {
         Ok(())
     }
 
-    /// Adds faults of a table, which are sorted by rows, and sends them.
+    /// Begins a table, with those of the repeating rows of the group that are in it.
+    pub(crate) fn begin_table(&mut self, repeats: &[Repeat], table: u32) -> Result<(), AllocError> {
+        self.header.clear();
+        self.firsts.begin(repeats, table)
+    }
+
+    /// Adds faults of the table that was begun, which are sorted by rows, and sends them.
     pub(crate) fn walk<O: Opener, W: Write>(
         &mut self,
         table: &TableAt<'_>,
         faults: &[Fault],
         opener: &mut O,
         out: &mut Counted<W>,
-    ) -> Result<(), Halt>
-        requires { AreReady table.now.tables.now.plan.now.tables }
-    {
-        self.header.clear();
-        self.repeats = repeats_of(self.page.alloc, table, faults, opener)?;
+    ) -> Result<(), Halt> {
         let mut cursor = Cursor {
             faults,
             lines: LineCount::new(),

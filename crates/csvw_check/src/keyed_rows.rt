@@ -3,10 +3,10 @@ ghost use Rattle.std.specs.Prelude.{◌≡◌, false};
 ghost use Rattle.csvw_columns.specs.Ready.{IsReady};
 ghost use Rattle.csvw_engine_core.specs.Tables.{is_ended};
 
-use crate::file_rows::Piece;
 use csvw_columns::{Plan, TablePlan};
 use csvw_engine_core::{Table, end_table, feed_table};
 use csvw_keys::{KeyBook, KeyedRow};
+use csvw_text::both;
 use csvw_triples_core::{Mode, VecSink};
 use std::alloc::{AllocError, Global};
 use std::io::Read;
@@ -36,55 +36,57 @@ impl KeyedRows {
     ) -> Result<KeyedRows, AllocError>
         requires { IsReady table.now }
     {
+        let room = vec![in alloc; 0u8; PIECE];
+        let (keys, room) = both(KeyBook::recording(alloc, plan), room)?;
+        let (table, rest) = both(Table::new(alloc, table, Mode::Validate), Ok((keys, room)))?;
+        let (keys, room) = rest;
         Ok(KeyedRows {
-            table: Table::new(alloc, table, Mode::Validate)?,
-            keys: KeyBook::recording(alloc, plan)?,
+            table,
+            keys,
             sink: VecSink::new(alloc),
-            room: vec![in alloc; 0u8; PIECE]?,
+            room,
         })
     }
 
-    /// Reads a piece of the file. A failed read ends the file.
-    pub(crate) fn read<R: Read>(&mut self, table: &TablePlan, reader: &mut R) -> Piece
+    /// Reads a piece of the file. Returns whether the file goes on. A failed read ends the file.
+    pub(crate) fn read<R: Read>(&mut self, table: &TablePlan, reader: &mut R) -> bool
         requires { IsReady table.now }
     {
         if self.table.is_ended() {
-            return Piece::Stopped;
+            return false;
         }
         self.keys.forget_rows();
         match reader.read(self.room.as_mut_slice()) {
             Ok(n) if n > 0 => self.feed(table, n),
-            _ => self.end(table),
+            _ => {
+                self.end(table);
+                false
+            }
         }
     }
 
-    /// Takes the first bytes of the room as the next piece.
-    fn feed(&mut self, table: &TablePlan, n: usize) -> Piece
+    /// Takes the first bytes of the room as the next piece. Returns whether the file goes on.
+    fn feed(&mut self, table: &TablePlan, n: usize) -> bool
         requires ready { IsReady table.now }
         requires not_ended { is_ended self.old.table ≡ false }
     {
         let piece = self.room.as_slice().get(..n).unwrap_or(&[]);
-        match feed_table(
+        let fed = feed_table(
             table,
             &mut self.table,
             piece,
             &mut self.sink,
             &mut self.keys,
-        ) {
-            Ok(()) => Piece::Fed,
-            Err(_) => Piece::Stopped,
-        }
+        );
+        fed.is_ok()
     }
 
     /// Ends the file.
-    fn end(&mut self, table: &TablePlan) -> Piece
+    fn end(&mut self, table: &TablePlan)
         requires ready { IsReady table.now }
         requires not_ended { is_ended self.old.table ≡ false }
     {
-        match end_table(table, &mut self.table, &mut self.sink, &mut self.keys) {
-            Ok(()) => Piece::Ended,
-            Err(_) => Piece::Stopped,
-        }
+        let _ = end_table(table, &mut self.table, &mut self.sink, &mut self.keys);
     }
 
     /// Returns the rows of the last piece, each with its primary key.

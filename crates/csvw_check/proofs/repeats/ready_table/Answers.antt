@@ -2,7 +2,7 @@
 use Rattle.std.proofs.Common.{refl, sym, subst}
 use Rattle.std.proofs.lemmas.Option.{slice_get_read}
 use Rattle.csvw_columns.specs.Ready.{AreReady}
-use Rattle.csvw_reread.proofs.repeats.ready_table.Goals as goal
+use Rattle.csvw_check.proofs.repeats.ready_table.Goals as goal
 
 pub returns : goal.returns
 returns c =
