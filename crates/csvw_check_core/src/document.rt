@@ -44,7 +44,7 @@ fn end_of_json(alloc: Global, bytes: &[u8]) -> (usize, usize) {
     };
     match Value::from_str(alloc, text) {
         Ok(_) => (1, 1),
-        Err(e) => (e.line(), e.column()),
+        Err(e) => (e.line().max(1), e.column().max(1)),
     }
 }
 
@@ -73,10 +73,21 @@ fn push_json_hint(
     bytes: &[u8],
 ) -> Result<(), AllocError> {
     push_disguise(hints, meta, bytes)?;
-    if !hints.is_empty() || bytes.is_empty() || str::from_utf8(bytes).is_err() {
+    if !hints.is_empty() || str::from_utf8(bytes).is_err() {
         return Ok(());
     }
     push_expected(hints, alloc, without_bom(bytes), json_end(alloc, bytes))
+}
+
+/// A fault of the document that is shown.
+#[derive(Clone, Copy)]
+pub(crate) struct Told<'a> {
+    /// The fault.
+    pub(crate) fault: &'a MetaFault,
+    /// Its line and its column, both from 1. A line of 0 is not shown, since the document can't be read again.
+    pub(crate) place: (usize, usize),
+    /// A line that follows what else helps with it, or nothing.
+    pub(crate) note: &'static str,
 }
 
 /// Adds what else helps with a fault of a document.
@@ -85,9 +96,11 @@ fn push_document_hints(
     alloc: Global,
     group: &Group<'_>,
     bytes: &[u8],
-    fault: &MetaFault,
+    told: &Told<'_>,
 ) -> Result<(), AllocError> {
+    let fault = told.fault;
     match fault.code {
+        MetaCode::NotJson if told.place.0 == 0 => Ok(()),
         MetaCode::NotJson => push_json_hint(hints, alloc, group.meta, bytes),
         MetaCode::NotSupported => {
             push_datatype_hint(hints, alloc, without_bom(bytes), fault.pointer.as_str())
@@ -112,17 +125,6 @@ pub(crate) fn place_of_fault(alloc: Global, bytes: &[u8], fault: &MetaFault) -> 
     }
 }
 
-/// A fault of the document that is shown.
-#[derive(Clone, Copy)]
-pub(crate) struct Told<'a> {
-    /// The fault.
-    pub(crate) fault: &'a MetaFault,
-    /// Its line and its column, both from 1. A line of 0 is not shown.
-    pub(crate) place: (usize, usize),
-    /// A line that follows what else helps with it, or nothing.
-    pub(crate) note: &'static str,
-}
-
 /// Adds a fault of the document: its place by lines and columns, its pointer, its code and what to do.
 pub(crate) fn tell_fault(
     page: &mut Page,
@@ -133,7 +135,7 @@ pub(crate) fn tell_fault(
     let Told { fault, place, note } = told;
     let (line, column) = place;
     let mut hints = String::new(page.alloc);
-    push_document_hints(&mut hints, page.alloc, group, bytes, fault)?;
+    push_document_hints(&mut hints, page.alloc, group, bytes, &told)?;
     hints.push_str(note)?;
     let sentence = fault.code.to_string(page.alloc)?;
     page.stop(&StopShown {

@@ -8,10 +8,10 @@ fn needed(pointer: &str) -> &'static [&'static str] {
     let mut tokens = pointer.rsplit('/');
     let last = tokens.next().unwrap_or("");
     let before = tokens.next().unwrap_or("");
-    match (before.as_bytes(), last.as_bytes()) {
-        (b"", b"") | (b"tables", _) => &["url"],
-        (b"foreignKeys", _) => &["columnReference", "reference"],
-        (_, b"reference") => &["resource", "columnReference"],
+    match (before, last) {
+        ("", "") | ("tables", _) => &["url"],
+        ("foreignKeys", _) => &["columnReference", "reference"],
+        (_, "reference") => &["resource", "columnReference"],
         _ => &[],
     }
 }

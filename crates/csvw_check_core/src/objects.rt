@@ -136,17 +136,17 @@ impl Object {
         if name.contains(':') {
             return Object::Annotation;
         }
-        match (self, name.as_bytes()) {
+        match (self, name) {
             (Object::Annotation, _) => Object::Annotation,
-            (Object::Group, b"tables") => Object::Table,
-            (Object::Group | Object::Table | Object::SoleTable, b"tableSchema") => Object::Schema,
-            (Object::Group | Object::Table | Object::SoleTable, b"dialect") => Object::Dialect,
-            (Object::Group | Object::Table | Object::SoleTable, b"notes") => Object::Annotation,
-            (Object::Schema, b"columns") => Object::Column,
-            (Object::Schema, b"foreignKeys") => Object::ForeignKey,
-            (Object::ForeignKey, b"reference") => Object::Reference,
-            (Object::Datatype, b"format") => Object::NumberFormat,
-            (object, b"datatype") if !object.inherited().is_empty() => Object::Datatype,
+            (Object::Group, "tables") => Object::Table,
+            (Object::Group | Object::Table | Object::SoleTable, "tableSchema") => Object::Schema,
+            (Object::Group | Object::Table | Object::SoleTable, "dialect") => Object::Dialect,
+            (Object::Group | Object::Table | Object::SoleTable, "notes") => Object::Annotation,
+            (Object::Schema, "columns") => Object::Column,
+            (Object::Schema, "foreignKeys") => Object::ForeignKey,
+            (Object::ForeignKey, "reference") => Object::Reference,
+            (Object::Datatype, "format") => Object::NumberFormat,
+            (object, "datatype") if !object.inherited().is_empty() => Object::Datatype,
             _ => Object::Other,
         }
     }
