@@ -1,0 +1,7 @@
+mod TrimLemmas
+mod FormLemmas
+mod StayLemmas
+mod DigitLemmas
+mod CanonicalLemmas
+mod ValueLemmas
+mod EqualLemmas

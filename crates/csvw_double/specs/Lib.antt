@@ -1,0 +1,4 @@
+pub mod Digits
+pub mod Doubles
+pub mod Forms
+pub mod Values

@@ -1,0 +1,25 @@
+//! How texts write doubles, and the one text that each value has (XML Schema Part 2, sections 3.3.4 and 3.3.5).
+//!
+//! A double here is a number with all of its digits, as its text writes it, or `INF`, `-INF` or `NaN`. It isn't rounded to
+//! 64 or 32 bits. Two texts are one value if they are the same number: `1E3`, `1000` and `1000.0`.
+//!
+//! ```text
+//! let text = canonical_double(alloc, "0.42546245E2")?; // Ok("42.546245")
+//! ```
+//!
+//! # Promises
+//!
+//! - `canonical_double` returns the canonical text of a text's value exactly if the text is a double (`double_form`).
+//! - The law `canonical_texts_stay`: the canonical text of a double is a double, and its own canonical text.
+//! - The law `equal_doubles`: two numbers have one canonical text exactly if they are equal (`IsOneNumber`).
+#![tactic(auto)]
+
+mod double;
+mod form;
+mod laws;
+mod numeral;
+mod trimmed;
+
+pub use double::canonical_double;
+pub use laws::{canonical_texts_stay, equal_doubles};
+pub use numeral::DoubleFault;
