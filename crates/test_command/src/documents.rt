@@ -73,7 +73,11 @@ fn a_document_that_is_refused_has_its_line(rt: HostRuntime) {
 }
 
 /// Documents that are no JSON, each with what `csvw check` says.
-static NO_JSON: [Refusal; 11] = [
+static NO_JSON: [Refusal; 12] = [
+    Refusal {
+        meta: b"",
+        line: b"m.json:1:1: NotJson: the bytes are no JSON text, or nest too deep: correct them\n    expected `{`: the document ends too early\n",
+    },
     Refusal {
         meta: b"{'url':1}",
         line: b"m.json:1:2: NotJson: the bytes are no JSON text, or nest too deep: correct them\n    expected a name in double quotes, or `}`: write double quotes\n",

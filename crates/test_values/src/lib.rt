@@ -1,4 +1,4 @@
-//! Tests of texts, IRIs, templates and datatypes: worked values, links, expansions, and writers that fail.
+//! Tests of texts, IRIs, templates, datatypes and doubles: worked values, links, expansions, and writers that fail.
 #![tactic(auto)]
 
 #[cfg(test)]
@@ -9,6 +9,8 @@ mod claims;
 mod copies;
 #[cfg(test)]
 mod datatypes;
+#[cfg(test)]
+mod doubles;
 #[cfg(test)]
 mod encoded;
 #[cfg(test)]
