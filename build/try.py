@@ -7,11 +7,13 @@ Standard output, standard error and the status are those of the program. One lin
 is. A run ends after 60 seconds, and writes at most 1 MiB to each of its streams; past that it says so, and the status
 is 4.
 """
+import os
 import re
 import subprocess
 import sys
 import tempfile
 from pathlib import Path
+from urllib.parse import quote
 
 TOP = Path(__file__).resolve().parent.parent
 LIMITS = "at most 60 seconds and 1 MiB of output"
@@ -24,16 +26,25 @@ def lent_name(word, number):
     return word if inside else f"file{number}/{Path(word).name.replace('=', '_')}"
 
 
+def named_beside(document):
+    """The files beside a document whose names it has, as `csvw check` finds the files of tables."""
+    text = Path(document).read_bytes()
+    beside = [it for it in Path(document).resolve().parent.iterdir() if it.is_file() and "=" not in it.name]
+    return [it for it in beside if os.fsencode(it.name) in text or quote(it.name).encode() in text]
+
+
 def as_data(words):
     """The words for the program, and the flags that lend it the files that they name."""
-    given, flags = [], []
+    given, lent = [], {}
     for number, word in enumerate(words):
         if word != "-" and Path(word).is_file():
             name = lent_name(word, number)
-            flags += ["--data", f"{name}={Path(word).resolve()}"]
+            if words[0] == "check" and not lent:
+                lent.update({str(Path(name).parent / it.name): it for it in named_beside(word)})
+            lent[name] = Path(word).resolve()
             word = name
         given.append(word)
-    return given, flags
+    return given, [flag for name, path in lent.items() for flag in ("--data", f"{name}={path}")]
 
 
 def main():
