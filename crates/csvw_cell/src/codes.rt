@@ -10,7 +10,7 @@ use csvw_text::{Code, Seq};
 use std::alloc::{AllocError, Global};
 
 /// The codes that a cell may have, in their order.
-const CELL_CODES: [Code; 13] = [
+const CELL_CODES: [Code; 14] = [
     Code::Required,
     Code::BadBoolean,
     Code::BadInteger,
@@ -19,6 +19,7 @@ const CELL_CODES: [Code; 13] = [
     Code::OutOfRange,
     Code::BadDate,
     Code::BadDateTime,
+    Code::BadDouble,
     Code::WrongLength,
     Code::TooShort,
     Code::TooLong,

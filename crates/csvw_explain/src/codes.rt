@@ -109,7 +109,7 @@ Section: Model for Tabular Data, section 6.4.2.
 
 ## NumberTooLong (fault of a table)
 
-A number is 10^20 or more in size, or finer than 10^-18.
+A number is 10^20 or more in size, or finer than 10^-18. Or the exponent of a double has more than 18 digits.
 
 Example:
 
@@ -158,6 +158,19 @@ Example:
 Instead: Write `2024-02-29T23:59:00`, without a zone, or describe the format `yyyy-MM-ddTHH:mm`.
 
 Section: Model for Tabular Data, section 6.4.4.
+
+## BadDouble (fault of a table)
+
+The text of a cell is no double: no number with digits, perhaps a point and an exponent, and not `INF`, `-INF` or `NaN`.
+
+Example:
+
+    metadata.json: {"@context":"http://www.w3.org/ns/csvw","url":"t.csv","tableSchema":{"columns":[{"name":"n","datatype":"double"}]}}
+    t.csv: n\n1.5E\n
+
+Instead: Write digits after the `E`: `1.5E3`. The datatypes `double`, `float` and `number` need `--profile w3c`.
+
+Section: XML Schema part 2, section 3.3.5.
 
 ## WrongLength (fault of a table)
 
@@ -384,14 +397,14 @@ Section: a limit of this program.
 
 ## NotSupported (fault of a document)
 
-A part of the vocabulary that this program does not support: a datatype as `number` or `double`, a `format` of strings, a schema or a dialect by its URL, a number with a fraction.
+A part of the vocabulary that this program does not support: a datatype as `time` or `duration`, a `format` of strings, a schema or a dialect by its URL, a number with a fraction.
 
 Example:
 
-    metadata.json: {"@context":"http://www.w3.org/ns/csvw","url":"t.csv","tableSchema":{"columns":[{"name":"n","datatype":"number"}]}}
+    metadata.json: {"@context":"http://www.w3.org/ns/csvw","url":"t.csv","tableSchema":{"columns":[{"name":"n","datatype":"time"}]}}
     t.csv: n\n1\n
 
-Instead: Leave it out, or write what is supported: `decimal` for `number`, `"minimum": "0.5"` for 0.5, the schema itself for its URL.
+Instead: Leave it out, or write what is supported: `--profile w3c` for `number`, `string` for `time`, `"minimum": "0.5"` for 0.5, the schema itself for its URL.
 
 Section: Metadata Vocabulary, section 5.
 

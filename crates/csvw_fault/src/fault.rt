@@ -44,7 +44,7 @@ pub enum Code {
     BadInteger,
     /// The text is not a decimal of the column's format.
     BadDecimal,
-    /// The number is 10^20 or more in size, or finer than 10^-18.
+    /// The number is 10^20 or more in size, or finer than 10^-18. The exponent of a double has more than 18 digits.
     NumberTooLong,
     /// The number is outside the range of its derived type.
     OutOfRange,
@@ -52,6 +52,8 @@ pub enum Code {
     BadDate,
     /// The text is not a date with a time of day of the column's format.
     BadDateTime,
+    /// The text is not a number with an exponent, nor `INF`, `-INF` or `NaN`. The column is of doubles or floats.
+    BadDouble,
     /// The text does not have the length that the facet `length` says.
     WrongLength,
     /// The text is shorter than the facet `minLength` says.
@@ -90,6 +92,7 @@ impl Code {
             Code::OutOfRange => "the number is outside its datatype: correct one of them",
             Code::BadDate => "the text is no date: write a day as `format` spells it",
             Code::BadDateTime => "the text is no date and time: write one as `format` spells it",
+            Code::BadDouble => "the text is no double: write digits, as in 1.5E3, or INF or NaN",
             Code::WrongLength => "the value has another length than `length` says: correct it",
             Code::TooShort => "the value is shorter than `minLength` says: lengthen it",
             Code::TooLong => "the value is longer than `maxLength` says: shorten it",
@@ -141,6 +144,7 @@ impl Code {
             Code::OutOfRange => "OutOfRange",
             Code::BadDate => "BadDate",
             Code::BadDateTime => "BadDateTime",
+            Code::BadDouble => "BadDouble",
             Code::WrongLength => "WrongLength",
             Code::TooShort => "TooShort",
             Code::TooLong => "TooLong",

@@ -113,7 +113,8 @@ fn push_column_rule(text: &mut String, column: &Column, code: Code) -> Result<()
         | Code::BadInteger
         | Code::BadDecimal
         | Code::BadDate
-        | Code::BadDateTime => push_datatype(text, datatype),
+        | Code::BadDateTime
+        | Code::BadDouble => push_datatype(text, datatype),
         Code::OutOfRange => push_range(text, datatype),
         Code::BelowMinimum | Code::AboveMaximum => push_bounds(text, datatype),
         Code::WrongLength | Code::TooShort | Code::TooLong => push_lengths(text, datatype),

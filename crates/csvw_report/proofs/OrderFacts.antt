@@ -7,7 +7,7 @@ use Rattle.csvw_fault.specs.contracts.fault.CodeOrd.TheImpl as derived_code
 use Rattle.csvw_fault.specs.contracts.fault.KindOrd.TheImpl as derived_kind
 use Rattle.csvw_fault.specs.declared.fault.Code.{Code}
 use Rattle.csvw_fault.specs.declared.fault.Code.TheVariants.{UnknownProperty, HeaderMissing, HeaderCount, HeaderMismatch, Required, BadBoolean}
-use Rattle.csvw_fault.specs.declared.fault.Code.TheVariants.{BadInteger, BadDecimal, NumberTooLong, OutOfRange, BadDate, BadDateTime, WrongLength}
+use Rattle.csvw_fault.specs.declared.fault.Code.TheVariants.{BadInteger, BadDecimal, NumberTooLong, OutOfRange, BadDate, BadDateTime, BadDouble, WrongLength}
 use Rattle.csvw_fault.specs.declared.fault.Code.TheVariants.{TooShort, TooLong, BelowMinimum, AboveMaximum, BadUrl, UrlTooLong, DuplicateKey}
 use Rattle.csvw_fault.specs.declared.fault.Code.TheVariants.{NoReferencedRow, ManyReferencedRows}
 use Rattle.csvw_fault.specs.declared.fault.Fault.{Fault}
@@ -40,6 +40,8 @@ code-is BadDate UnknownProperty = refl
 code-is BadDate _ = refl
 code-is BadDateTime UnknownProperty = refl
 code-is BadDateTime _ = refl
+code-is BadDouble UnknownProperty = refl
+code-is BadDouble _ = refl
 code-is WrongLength UnknownProperty = refl
 code-is WrongLength _ = refl
 code-is TooShort UnknownProperty = refl

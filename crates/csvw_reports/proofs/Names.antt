@@ -6,7 +6,7 @@ use Rattle.std.proofs.lemmas.Slice.Eq.{bytes_eq-Decides}
 use Rattle.csvw_fault.specs.Code.{name_of}
 use Rattle.csvw_fault.specs.declared.fault.Code.{Code}
 use Rattle.csvw_fault.specs.declared.fault.Code.TheVariants.{UnknownProperty, HeaderMissing, HeaderCount, HeaderMismatch, Required, BadBoolean}
-use Rattle.csvw_fault.specs.declared.fault.Code.TheVariants.{BadInteger, BadDecimal, NumberTooLong, OutOfRange, BadDate, BadDateTime, WrongLength}
+use Rattle.csvw_fault.specs.declared.fault.Code.TheVariants.{BadInteger, BadDecimal, NumberTooLong, OutOfRange, BadDate, BadDateTime, BadDouble, WrongLength}
 use Rattle.csvw_fault.specs.declared.fault.Code.TheVariants.{TooShort, TooLong, BelowMinimum, AboveMaximum, BadUrl, UrlTooLong, DuplicateKey}
 use Rattle.csvw_fault.specs.declared.fault.Code.TheVariants.{NoReferencedRow, ManyReferencedRows}
 use Rattle.csvw_fault.specs.declared.fault.Kind.{Kind}
@@ -29,6 +29,7 @@ is_at NumberTooLong = refl
 is_at OutOfRange = refl
 is_at BadDate = refl
 is_at BadDateTime = refl
+is_at BadDouble = refl
 is_at WrongLength = refl
 is_at TooShort = refl
 is_at TooLong = refl
@@ -81,6 +82,7 @@ code_without_comma NumberTooLong = refl
 code_without_comma OutOfRange = refl
 code_without_comma BadDate = refl
 code_without_comma BadDateTime = refl
+code_without_comma BadDouble = refl
 code_without_comma WrongLength = refl
 code_without_comma TooShort = refl
 code_without_comma TooLong = refl

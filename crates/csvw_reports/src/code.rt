@@ -9,7 +9,7 @@ ghost use Rattle.csvw_report.specs.Report.{kind_name};
 use csvw_text::{Code, Kind};
 
 /// All codes, in their order.
-pub(crate) const CODES: [Code; 22] = [
+pub(crate) const CODES: [Code; 23] = [
     Code::UnknownProperty,
     Code::HeaderMissing,
     Code::HeaderCount,
@@ -22,6 +22,7 @@ pub(crate) const CODES: [Code; 22] = [
     Code::OutOfRange,
     Code::BadDate,
     Code::BadDateTime,
+    Code::BadDouble,
     Code::WrongLength,
     Code::TooShort,
     Code::TooLong,

@@ -5,7 +5,7 @@ use csvw_text::{Code, Fault, Kind, Place};
 use std::alloc::{AllocError, Global};
 
 /// All codes.
-const CODES: [Code; 22] = [
+const CODES: [Code; 23] = [
     Code::UnknownProperty,
     Code::HeaderMissing,
     Code::HeaderCount,
@@ -18,6 +18,7 @@ const CODES: [Code; 22] = [
     Code::OutOfRange,
     Code::BadDate,
     Code::BadDateTime,
+    Code::BadDouble,
     Code::WrongLength,
     Code::TooShort,
     Code::TooLong,
