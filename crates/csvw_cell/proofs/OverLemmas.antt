@@ -29,6 +29,7 @@ text_stays simples.Uri h = cc
 text_stays (simples.Derived w) h = cc
 text_stays simples.Moment h = cc
 text_stays (simples.Other t) h = cc
+text_stays (simples.Floating t) h = cc
 
 -- white space stays in a string
 pub string_keeps : (d : Datatype) → is_string d ≡ true → keeps_space d ≡ true

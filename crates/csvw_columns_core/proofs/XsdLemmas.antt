@@ -5,6 +5,8 @@ use Rattle.csvw_iri.specs.Safe.{safe}
 use Rattle.csvw_datatype.specs.Names.{name_of, text_type_iri}
 use Rattle.csvw_datatype.specs.declared.simple.Simple.{Simple}
 use Rattle.csvw_datatype.specs.declared.simple.Simple.TheVariants as simples
+use Rattle.csvw_datatype.specs.declared.simple.Floating.{Floating}
+use Rattle.csvw_datatype.specs.declared.simple.Floating.TheVariants as floating
 use Rattle.csvw_datatype.specs.declared.simple.TextType.{TextType}
 use Rattle.csvw_datatype.specs.declared.simple.TextType.TheVariants as types
 use Rattle.csvw_datatype.specs.declared.simple.Width.{Width}
@@ -34,6 +36,11 @@ raw_text_type types.Xml = refl
 raw_text_type types.Html = refl
 raw_text_type types.Json = refl
 
+raw_floating : (t : Floating) → safe (xsd_type (simples.Floating t)) ≡ xsd_type (simples.Floating t)
+unfolding safe
+raw_floating floating.Double = refl
+raw_floating floating.Float = refl
+
 raw_type : (s : Simple) → safe (xsd_type s) ≡ xsd_type s
 unfolding safe
 raw_type simples.Text = refl
@@ -45,6 +52,7 @@ raw_type simples.Uri = refl
 raw_type (simples.Derived w) = raw_width w
 raw_type simples.Moment = refl
 raw_type (simples.Other t) = raw_text_type t
+raw_type (simples.Floating t) = raw_floating t
 
 pub raw_iri : (t : TextType) → safe (text_type_iri t) ≡ text_type_iri t
 unfolding safe

@@ -87,6 +87,7 @@ is_string (simples.Derived w) = (λ h. absurd (no h), λ h. absurd (none_of_them
 is_string simples.Decimal = (λ h. absurd (no h), λ h. absurd (none_of_them simples.Decimal (λ e. cc) (λ t e. cc) h))
 is_string simples.Day = (λ h. absurd (no h), λ h. absurd (none_of_them simples.Day (λ e. cc) (λ t e. cc) h))
 is_string simples.Moment = (λ h. absurd (no h), λ h. absurd (none_of_them simples.Moment (λ e. cc) (λ t e. cc) h))
+is_string (simples.Floating f) = (λ h. absurd (no h), λ h. absurd (none_of_them (simples.Floating f) (λ e. cc) (λ t e. cc) h))
 is_string (simples.Other types.Any) = (λ h. absurd (no h), λ h. absurd (any_is_none h))
 is_string (simples.Other types.Token) = (λ h. inr (inl refl), λ h. refl)
 is_string (simples.Other types.Xml) = (λ h. inr (inr (inl refl)), λ h. refl)

@@ -121,6 +121,7 @@ module _ (numbers : NumbersGiven) (dates : DatesGiven) (moments : MomentsGiven) 
   bound_given simples.Text text h = cc
   bound_given simples.Uri text h = cc
   bound_given (simples.Other t) text h = cc
+  bound_given (simples.Floating t) text h = cc
   bound_given simples.Truth text h = cc
 
 -- each bound fits its type
@@ -147,6 +148,7 @@ module _ (numbers : NumbersGiven) (dates : DatesGiven) (moments : MomentsGiven) 
   bound_fits simples.Text text = tt
   bound_fits simples.Uri text = tt
   bound_fits (simples.Other t) text = tt
+  bound_fits (simples.Floating t) text = tt
   bound_fits simples.Truth text = tt
 
 -- whole numbers in units of 10^-18
@@ -171,6 +173,7 @@ number_fits simples.Moment z small = tt
 number_fits simples.Text z small = tt
 number_fits simples.Uri z small = tt
 number_fits (simples.Other t) z small = tt
+number_fits (simples.Floating t) z small = tt
 number_fits simples.Truth z small = tt
 
 pub whole_fits : (s : Simple) (z : ℤ) → IfSome (bound_of_whole s z) (IsBoundOf s)

@@ -1,6 +1,6 @@
 -- A text has one value or one code.
 use Rattle.std.proofs.Common.{◌≡◌, ℕ, zero, suc, ◌*◌, ◌%◌, ◌^◌, ◌<◌, ◌⊎◌, inl, inr, Bool, true, false, Option, Some, None, List, [], ◌∷◌, length}
-use Rattle.std.proofs.Common.{refl, sym, ap, subst, ◌∙◌, arith, ℤ, unsigned_abs, unwrap_or, Result, Ok, Err, MatchResult, IfOk}
+use Rattle.std.proofs.Common.{refl, sym, ap, subst, ◌∙◌, arith, ℤ, unsigned_abs, unwrap_or, Result, Ok, Err, MatchResult, IfOk, ◌&&◌, if◌then◌else◌}
 use Rattle.std.specs.Prelude.{codes}
 use Rattle.std.specs.Str.{chars}
 use Rattle.std.specs.Str.Parse.{digits_value}
@@ -20,6 +20,10 @@ use Rattle.csvw_datatype_core.specs.declared.moment.MomentFormat.{MomentFormat}
 use Rattle.csvw_datatype_core.specs.Dates.{ReadsDate}
 use Rattle.csvw_datatype_core.specs.Moments.{ReadsMoment}
 use Rattle.csvw_datatype_core.specs.LexicalDates.{IsDayNumber, IsMomentNumber}
+use Rattle.csvw_double.specs.declared.numeral.DoubleFault.{DoubleFault}
+use Rattle.csvw_double.specs.declared.numeral.DoubleFault.TheVariants as double_faults
+use Rattle.csvw_double.specs.Doubles.{is_number, is_short}
+use Rattle.csvw_double.specs.Forms.{IsDoubleFault, double_form, or_else, special_form}
 use Rattle.csvw_datatype.specs.declared.value.Value.{Value}
 use Rattle.csvw_datatype.specs.declared.value.Value.TheVariants as values
 use Rattle.csvw_datatype.specs.declared.simple.Simple.{Simple}
@@ -29,7 +33,7 @@ use Rattle.csvw_datatype.specs.declared.format.Format.{Format}
 use Rattle.csvw_datatype.specs.declared.format.Format.TheVariants as formats
 use Rattle.csvw_datatype.specs.Formats.{IsFormatOf}
 use Rattle.csvw_datatype.specs.Widths.{IsInWidth}
-use Rattle.csvw_datatype.specs.Reads.{SpellsTruth, whole_rules, decimal_rules, date_format, moment_format, ReadsAs, MisreadAs, MisreadsNumber, number_code}
+use Rattle.csvw_datatype.specs.Reads.{SpellsTruth, whole_rules, decimal_rules, date_format, moment_format, ReadsAs, MisreadAs, MisreadsNumber, number_code, double_code}
 use Rattle.csvw_datatype.specs.Sound.{IsNumberSize, IsWholeNumber, IsBoundOf, has_bounds}
 use Rattle.csvw_datatype.specs.Lexical.{IsWritable}
 use Rattle.csvw_datatype.proofs.FormatLemmas.{whole_lawful, derived_lawful, decimal_lawful}
@@ -97,6 +101,43 @@ one_fault rules cs faults.TooLong faults.Bad p q = absurd (q p.0)
 one_number_code : (bad : Code) (rules : NumberRules) (text : List ℕ) (c d : Code) → MisreadsNumber bad rules text c → MisreadsNumber bad rules text d → c ≡ d
 one_number_code bad rules text c d p q = p.2 ∙ ap (number_code bad) (one_fault rules (chars text) p.0 q.0 p.1 q.1) ∙ sym q.2
 
+-- doubles
+
+no_double : (o : Option (List ℕ)) (a b : Bool) (x form : List ℕ) → o ≡ None → (a && b) ≡ false → or_else o (if a && b then Some x else None) ≡ Some form → ⊥
+no_double None true true x form none is e = cc
+no_double None true false x form none is e = cc
+no_double None false b x form none is e = cc
+no_double (Some y) a b x form none is e = cc
+
+either : (a b : Bool) → a ≡ false → (a && b) ≡ false
+either false b is = refl
+either true b is = cc
+
+second : (a b : Bool) → b ≡ false → (a && b) ≡ false
+second true b is = is
+second false b is = refl
+
+double_or_fault : (text form : List ℕ) (fault : DoubleFault) → double_form text ≡ Some form → IsDoubleFault text fault → ⊥
+unfolding double_form
+double_or_fault text form double_faults.Bad is h = no_double (special_form text) (is_number text) (is_short text) _ form h.0 (either (is_number text) (is_short text) h.1) is
+double_or_fault text form double_faults.TooLong is h =
+    no_double (special_form text) (is_number text) (is_short text) _ form h.0 (second (is_number text) (is_short text) h.1.1) is
+
+one_double_fault : (text : List ℕ) (a b : DoubleFault) → IsDoubleFault text a → IsDoubleFault text b → a ≡ b
+one_double_fault text double_faults.Bad double_faults.Bad p q = refl
+one_double_fault text double_faults.TooLong double_faults.TooLong p q = refl
+one_double_fault text double_faults.Bad double_faults.TooLong p q = absurd (apart p.1 q.1.0)
+  where
+    apart : {b : Bool} → b ≡ false → b ≡ true → ⊥
+    apart x y = cc
+one_double_fault text double_faults.TooLong double_faults.Bad p q = absurd (apart q.1 p.1.0)
+  where
+    apart : {b : Bool} → b ≡ false → b ≡ true → ⊥
+    apart x y = cc
+
+inside : (x y : List ℕ) → Some x ≡ Some y → x ≡ y
+inside x y e = ap (λ o. unwrap_or o []) e
+
 -- values
 
 pub one_value : OneNumber → OneDate → OneMoment → (s : Simple) (f : Option Format) (text : List ℕ) (v w : Value) → IsFormatOf s f → ReadsAs s f text v
@@ -104,6 +145,7 @@ pub one_value : OneNumber → OneDate → OneMoment → (s : Simple) (f : Option
 one_value one date moment simples.Text f text v w ok r s = r ∙ sym s
 one_value one date moment simples.Uri f text v w ok r s = r ∙ sym s
 one_value one date moment (simples.Other t) f text v w ok r s = r ∙ sym s
+one_value one date moment (simples.Floating t) f text v w ok r s = r.2 ∙ ap (λ x. values.Text x) (inside r.0 s.0 (sym r.1 ∙ s.1)) ∙ sym s.2
 one_value one date moment simples.Truth f text v w ok r s = r.2 ∙ ap (λ b. values.Truth b) (one_truth f text r.0 s.0 ok r.1 s.1) ∙ sym s.2
 one_value one date moment simples.Whole f text v w ok r s = same_number one (whole_rules f) (whole_lawful f ok) (chars text) v w r.0 s.0 r.1 s.1 r.2 s.2
 one_value one date moment (simples.Derived width) f text v w ok r s =
@@ -120,6 +162,7 @@ pub value_or_code : OneNumber → (s : Simple) (f : Option Format) (text : List 
 value_or_code one simples.Text f text v code ok r m = m
 value_or_code one simples.Uri f text v code ok r m = m
 value_or_code one (simples.Other t) f text v code ok r m = m
+value_or_code one (simples.Floating t) f text v code ok r m = double_or_fault text r.0 m.0 r.1 m.1
 value_or_code one simples.Truth f text v code ok r m = m.0 r.0 r.1
 value_or_code one simples.Whole f text v code ok r m = not_misread (whole_rules f) (chars text) r.0 m.0 r.1 m.1
 value_or_code one (simples.Derived w) f text v code ok r m = elim m [
@@ -134,6 +177,7 @@ pub one_code : (s : Simple) (f : Option Format) (text : List ℕ) (c d : Code) �
 one_code simples.Text f text c d ok p q = absurd p
 one_code simples.Uri f text c d ok p q = absurd p
 one_code (simples.Other t) f text c d ok p q = absurd p
+one_code (simples.Floating t) f text c d ok p q = p.2 ∙ ap double_code (one_double_fault text p.0 q.0 p.1 q.1) ∙ sym q.2
 one_code simples.Truth f text c d ok p q = p.1 ∙ sym q.1
 one_code simples.Whole f text c d ok p q = one_number_code BadInteger (whole_rules f) text c d p q
 one_code (simples.Derived w) f text c d ok p q = elim p [
@@ -197,6 +241,7 @@ pub writable : DatesInRange → MomentsInRange → (s : Simple) (f : Option Form
 writable dates moments simples.Text f text v r = at_value (λ v. IsWritable v) v (values.Text text) r tt
 writable dates moments simples.Uri f text v r = at_value (λ v. IsWritable v) v (values.Text text) r tt
 writable dates moments (simples.Other t) f text v r = at_value (λ v. IsWritable v) v (values.Text text) r tt
+writable dates moments (simples.Floating t) f text v r = at_value (λ v. IsWritable v) v (values.Text r.0) r.2 tt
 writable dates moments simples.Truth f text v r = at_value (λ v. IsWritable v) v (values.Truth r.0) r.2 tt
 writable dates moments simples.Whole f text v r = at_value (λ v. IsWritable v) v (values.Number r.0) r.2 (size (whole_rules f) (chars text) r.0 r.1)
 writable dates moments (simples.Derived w) f text v r = at_value (λ v. IsWritable v) v (values.Number r.0) r.3 (size (whole_rules f) (chars text) r.0 r.1)
@@ -214,6 +259,7 @@ pub bound : DatesInRange → MomentsInRange → (s : Simple) (f : Option Format)
 bound dates moments simples.Text f text v h r = cc
 bound dates moments simples.Uri f text v h r = cc
 bound dates moments (simples.Other t) f text v h r = cc
+bound dates moments (simples.Floating t) f text v h r = cc
 bound dates moments simples.Truth f text v h r = cc
 bound dates moments simples.Whole f text v h r =
     at_value (λ v. IsBoundOf simples.Whole v) v (values.Number r.0) r.2 (size (whole_rules f) (chars text) r.0 r.1, whole f (chars text) r.0 r.1)

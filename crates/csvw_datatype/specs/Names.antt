@@ -1,7 +1,9 @@
 -- The names of datatypes (Metadata Vocabulary for Tabular Data, section 5.11.1).
 use Rattle.std.specs.Prelude.{◌≡◌, ◌⊎◌, ℕ, List, codes}
 use Rattle.csvw_datatype.specs.declared.simple.Simple.{Simple}
-use Rattle.csvw_datatype.specs.declared.simple.Simple.TheVariants.{Text, Truth, Whole, Decimal, Day, Uri, Derived, Moment, Other}
+use Rattle.csvw_datatype.specs.declared.simple.Simple.TheVariants.{Text, Truth, Whole, Decimal, Day, Uri, Derived, Moment, Other, Floating}
+use Rattle.csvw_datatype.specs.declared.simple.Floating.{Floating as FloatingType}
+use Rattle.csvw_datatype.specs.declared.simple.Floating.TheVariants.{Double, Float}
 use Rattle.csvw_datatype.specs.declared.simple.TextType.{TextType}
 use Rattle.csvw_datatype.specs.declared.simple.TextType.TheVariants.{Any, Token, Xml, Html, Json}
 use Rattle.csvw_datatype.specs.declared.simple.Width.{Width}
@@ -21,6 +23,15 @@ width_name NonNegativeInteger = codes "nonNegativeInteger"
 width_name PositiveInteger = codes "positiveInteger"
 width_name NonPositiveInteger = codes "nonPositiveInteger"
 width_name NegativeInteger = codes "negativeInteger"
+
+abbrev pub floating_name : FloatingType → List ℕ
+floating_name Double = codes "double"
+floating_name Float = codes "float"
+
+-- the type has this name, or its other name
+abbrev pub IsFloatingNamed : List ℕ → FloatingType → Type 0
+IsFloatingNamed name Double = (name ≡ codes "double") ⊎ (name ≡ codes "number")
+IsFloatingNamed name Float = name ≡ codes "float"
 
 abbrev pub text_type_name : TextType → List ℕ
 text_type_name Any = codes "anyAtomicType"
@@ -52,9 +63,17 @@ name_of Uri = codes "anyURI"
 name_of (Derived w) = width_name w
 name_of Moment = codes "dateTime"
 name_of (Other t) = text_type_name t
+name_of (Floating t) = floating_name t
 
 -- the type has this name, or its other name
 abbrev pub IsNamed : List ℕ → Simple → Type 0
 IsNamed name Moment = (name ≡ codes "dateTime") ⊎ (name ≡ codes "datetime")
 IsNamed name (Other t) = IsTextTypeNamed name t
+IsNamed name (Floating t) = IsFloatingNamed name t
 IsNamed name s = name ≡ name_of s
+
+-- no type that is derived from others, has exponents or is a text has this name
+pub record IsNoneNamed (name : List ℕ) : Type 0 where
+  pub width : (w : Width) → ¬ (name ≡ width_name w)
+  pub floating : (t : FloatingType) → ¬ IsFloatingNamed name t
+  pub text_type : (t : TextType) → ¬ IsTextTypeNamed name t

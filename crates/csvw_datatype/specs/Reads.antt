@@ -3,7 +3,7 @@
 use Rattle.std.specs.Prelude.{◌≡◌, ℕ, ◌⊎◌, Bool, true, false, Option, Some, None, codes, List, ℤ}
 use Rattle.std.specs.Str.{chars}
 use Rattle.csvw_fault.specs.declared.fault.Code.{Code}
-use Rattle.csvw_fault.specs.declared.fault.Code.TheVariants.{BadBoolean, BadInteger, BadDecimal, NumberTooLong, OutOfRange, BadDate, BadDateTime}
+use Rattle.csvw_fault.specs.declared.fault.Code.TheVariants.{BadBoolean, BadInteger, BadDecimal, NumberTooLong, OutOfRange, BadDate, BadDateTime, BadDouble}
 use Rattle.csvw_datatype_core.specs.declared.number.NumberRules.{NumberRules}
 use Rattle.csvw_datatype_core.specs.declared.number.NumberFault.{NumberFault}
 use Rattle.csvw_datatype_core.specs.declared.number.NumberFault.TheVariants as faults
@@ -15,6 +15,9 @@ use Rattle.csvw_datatype_core.specs.Numbers.{ReadsNumber}
 use Rattle.csvw_datatype_core.specs.Misread.{MisreadNumber}
 use Rattle.csvw_datatype_core.specs.Dates.{ReadsDate}
 use Rattle.csvw_datatype_core.specs.Moments.{ReadsMoment}
+use Rattle.csvw_double.specs.declared.numeral.DoubleFault.{DoubleFault}
+use Rattle.csvw_double.specs.declared.numeral.DoubleFault.TheVariants as double_faults
+use Rattle.csvw_double.specs.Forms.{IsDoubleFault, double_form}
 use Rattle.csvw_datatype.specs.declared.value.Value.{Value}
 use Rattle.csvw_datatype.specs.declared.value.Value.TheVariants as values
 use Rattle.csvw_datatype.specs.declared.simple.Simple.{Simple}
@@ -48,11 +51,16 @@ abbrev pub moment_format : Option Format → MomentFormat
 moment_format (Some (formats.Moment f)) = f
 moment_format _ = Seconds
 
+-- the value of a double is its canonical text
+abbrev pub ReadsDouble : List ℕ → Value → Type 0
+ReadsDouble text v = (form : List ℕ) × (double_form text ≡ Some form) × (v ≡ values.Text form)
+
 -- the text is this value
 abbrev pub ReadsAs : Simple → Option Format → List ℕ → Value → Type 0
 ReadsAs simples.Text format text v = v ≡ values.Text text
 ReadsAs simples.Uri format text v = v ≡ values.Text text
 ReadsAs (simples.Other t) format text v = v ≡ values.Text text
+ReadsAs (simples.Floating t) format text v = ReadsDouble text v
 ReadsAs simples.Truth format text v = (b : Bool) × SpellsTruth format text b × (v ≡ values.Truth b)
 ReadsAs simples.Whole format text v = (z : ℤ) × ReadsNumber (whole_rules format) (chars text) z × (v ≡ values.Number z)
 ReadsAs (simples.Derived w) format text v = (z : ℤ) × ReadsNumber (whole_rules format) (chars text) z × IsInWidth w z × (v ≡ values.Number z)
@@ -69,14 +77,23 @@ abbrev pub number_code : Code → NumberFault → Code
 number_code bad faults.Bad = bad
 number_code bad faults.TooLong = NumberTooLong
 
+-- the code of a text that is no double
+abbrev pub double_code : DoubleFault → Code
+double_code double_faults.Bad = BadDouble
+double_code double_faults.TooLong = NumberTooLong
+
 abbrev pub MisreadsNumber : Code → NumberRules → List ℕ → Code → Type 0
 MisreadsNumber bad rules text code = (fault : NumberFault) × MisreadNumber rules (chars text) fault × (code ≡ number_code bad fault)
+
+abbrev pub MisreadsDouble : List ℕ → Code → Type 0
+MisreadsDouble text code = (fault : DoubleFault) × IsDoubleFault text fault × (code ≡ double_code fault)
 
 -- the text is not a value, for this reason
 abbrev pub MisreadAs : Simple → Option Format → List ℕ → Code → Type 0
 MisreadAs simples.Text format text code = ⊥
 MisreadAs simples.Uri format text code = ⊥
 MisreadAs (simples.Other t) format text code = ⊥
+MisreadAs (simples.Floating t) format text code = MisreadsDouble text code
 MisreadAs simples.Truth format text code = ((b : Bool) → ¬ SpellsTruth format text b) × (code ≡ BadBoolean)
 MisreadAs simples.Whole format text code = MisreadsNumber BadInteger (whole_rules format) text code
 MisreadAs (simples.Derived w) format text code =

@@ -38,7 +38,9 @@ impl Simple {
             Simple::Decimal => number_bounds(self, number_of(&decimal_rules(&None), text)),
             Simple::Day => day_of(text).map(Value::Day),
             Simple::Moment => moment_of(text).map(Value::Moment),
-            Simple::Text | Simple::Uri | Simple::Truth | Simple::Other(_) => None,
+            Simple::Text | Simple::Uri | Simple::Truth | Simple::Other(_) | Simple::Floating(_) => {
+                None
+            }
         }
     }
 

@@ -110,7 +110,8 @@ impl Datatype {
             | Simple::Uri
             | Simple::Derived(_)
             | Simple::Moment
-            | Simple::Other(_) => false,
+            | Simple::Other(_)
+            | Simple::Floating(_) => false,
         }
     }
 
@@ -128,7 +129,8 @@ impl Datatype {
             | Simple::Day
             | Simple::Uri
             | Simple::Derived(_)
-            | Simple::Moment => false,
+            | Simple::Moment
+            | Simple::Floating(_) => false,
         }
     }
 
@@ -146,6 +148,7 @@ impl Datatype {
             | Simple::Uri
             | Simple::Derived(_)
             | Simple::Moment
+            | Simple::Floating(_)
             | Simple::Other(TextType::Token | TextType::Xml | TextType::Html | TextType::Json) =>
                 false,
         }

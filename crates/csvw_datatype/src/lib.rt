@@ -43,5 +43,5 @@ pub use laws::{
     are_equal, broken_facets, lexical_forms, one_code, one_form, one_value, sound_facets,
     value_or_code, values_of_texts,
 };
-pub use simple::{Simple, TextType, Width};
+pub use simple::{Floating, Simple, TextType, Width};
 pub use value::Value;

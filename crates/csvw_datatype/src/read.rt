@@ -2,7 +2,7 @@
 ghost use Rattle.std.specs.Prelude.{◌≡◌, IfOk, MatchResult};
 ghost use Rattle.csvw_datatype_core.specs.Numbers.{IsLawful};
 ghost use Rattle.csvw_datatype.specs.declared.simple.Simple.TheVariants as simples;
-ghost use Rattle.csvw_datatype.specs.Reads.{Reads, Misread, whole_rules, decimal_rules, date_format, moment_format, number_code, ReadsAs, MisreadAs};
+ghost use Rattle.csvw_datatype.specs.Reads.{Reads, Misread, whole_rules, decimal_rules, date_format, moment_format, number_code, double_code, ReadsAs, MisreadAs, ReadsDouble, MisreadsDouble};
 ghost use Rattle.csvw_datatype.specs.Sound.{IsSound};
 ghost use Rattle.csvw_datatype.specs.Lexical.{IsWritable};
 
@@ -16,6 +16,7 @@ use crate::width::is_in_width;
 use csvw_datatype_core::{
     DateFormat, MomentFormat, NumberFault, NumberRules, read_date, read_moment, read_number,
 };
+use csvw_double::{DoubleFault, canonical_double};
 use csvw_text::{Code, Text};
 use std::alloc::{AllocError, Global};
 
@@ -23,8 +24,9 @@ impl Datatype {
     /// Returns the value that a text is, or the code of why it is none (Model for Tabular Data and Metadata on the
     /// Web, section 6.4). The datatype must have passed `check`.
     ///
-    /// - `BadBoolean`, `BadInteger`, `BadDecimal`, `BadDate` or `BadDateTime` if the text isn't written as one.
-    /// - `NumberTooLong` if a number is 10^20 or more in size or not a whole multiple of 10^-18.
+    /// - `BadBoolean`, `BadInteger`, `BadDecimal`, `BadDate`, `BadDateTime` or `BadDouble` if the text isn't written as one.
+    /// - `NumberTooLong` if a number is 10^20 or more in size or not a whole multiple of 10^-18, or if the exponent of a
+    ///   double has more than 18 digits.
     /// - Otherwise `OutOfRange` if the number is outside its derived type.
     ///
     /// Returns `AllocError` if memory runs out.
@@ -48,7 +50,27 @@ impl Datatype {
             Simple::Decimal => Ok(read_decimal(format, text)),
             Simple::Day => Ok(read_day(format, text)),
             Simple::Moment => Ok(read_date_time(format, text)),
+            Simple::Floating(_) => read_double(alloc, text),
         }
+    }
+}
+
+/// Reads a number with an exponent. Its value is its canonical text.
+fn read_double(alloc: Global, text: &str) -> Result<Result<Value, Code>, AllocError>
+    ensures { IfOk result (λ answer. MatchResult answer (ReadsDouble text.now) (MisreadsDouble text.now)) }
+{
+    match canonical_double(alloc, text)? {
+        Ok(form) => Ok(Ok(Value::Text(form))),
+        Err(fault) => Ok(Err(double_code(fault))),
+    }
+}
+
+fn double_code(fault: DoubleFault) -> Code
+    ensures { result ≡ double_code fault }
+{
+    match fault {
+        DoubleFault::Bad => Code::BadDouble,
+        DoubleFault::TooLong => Code::NumberTooLong,
     }
 }
 

@@ -1,6 +1,6 @@
 //! The built-in datatypes and their names.
 ghost use Rattle.std.specs.Prelude.{◌≡◌, MatchOption};
-ghost use Rattle.csvw_datatype.specs.Names.{name_of, IsNamed, width_name, text_type_name, IsTextTypeNamed, text_type_iri};
+ghost use Rattle.csvw_datatype.specs.Names.{name_of, IsNamed, width_name, floating_name, IsFloatingNamed, text_type_name, IsTextTypeNamed, text_type_iri, IsNoneNamed};
 ghost use Rattle.csvw_datatype.specs.Strings.{has_length};
 
 /// A derived integer type (XML Schema 1.1 part 2, sections 3.4.14 to 3.4.25).
@@ -30,6 +30,15 @@ pub enum Width {
     NonPositiveInteger,
     /// `negativeInteger`: up to -1.
     NegativeInteger,
+}
+
+/// A type of numbers with an exponent (XML Schema 1.1 part 2, sections 3.3.4 and 3.3.5).
+#[derive(Clone, Copy, Debug, PartialEq, Eq)]
+pub enum Floating {
+    /// `double`, which is `number`, too.
+    Double,
+    /// `float`.
+    Float,
 }
 
 /// A type of texts besides `string` and `anyURI`, of which each text is a value (Metadata Vocabulary for Tabular Data,
@@ -69,6 +78,8 @@ pub enum Simple {
     Moment,
     /// A type of texts besides `string` and `anyURI`.
     Other(TextType),
+    /// A type of numbers with an exponent.
+    Floating(Floating),
 }
 
 impl Width {
@@ -107,6 +118,27 @@ impl Width {
             "positiveInteger" => Some(Width::PositiveInteger),
             "nonPositiveInteger" => Some(Width::NonPositiveInteger),
             "negativeInteger" => Some(Width::NegativeInteger),
+            _ => None,
+        }
+    }
+}
+
+impl Floating {
+    fn name(self) -> &'static str
+        ensures { result.now ≡ floating_name self }
+    {
+        match self {
+            Floating::Double => "double",
+            Floating::Float => "float",
+        }
+    }
+
+    fn of(name: &str) -> Option<Floating>
+        ensures { MatchOption result ((t : Floating) → ¬ IsFloatingNamed name.now t) (IsFloatingNamed name.now) }
+    {
+        match name {
+            "double" | "number" => Some(Floating::Double),
+            "float" => Some(Floating::Float),
             _ => None,
         }
     }
@@ -152,6 +184,19 @@ impl TextType {
     }
 }
 
+/// Returns the type of a name, if it is one of those that are derived from others, or have exponents, or are texts.
+fn derived_or_other(name: &str) -> Option<Simple>
+    ensures { MatchOption result (IsNoneNamed name.now) (IsNamed name.now) }
+{
+    if let Some(width) = Width::of(name) {
+        return Some(Simple::Derived(width));
+    }
+    match Floating::of(name) {
+        Some(floating) => Some(Simple::Floating(floating)),
+        None => TextType::of(name).map(Simple::Other),
+    }
+}
+
 impl Simple {
     /// Returns the name of the type in a metadata document.
     pub fn name(self) -> &'static str
@@ -167,6 +212,7 @@ impl Simple {
             Simple::Derived(width) => width.name(),
             Simple::Moment => "dateTime",
             Simple::Other(text_type) => text_type.name(),
+            Simple::Floating(floating) => floating.name(),
         }
     }
 
@@ -182,8 +228,8 @@ impl Simple {
         }
     }
 
-    /// Returns the type of a name, or `None` if no type has it. `datetime` is another name of `dateTime`, and `any` of
-    /// `anyAtomicType` (Metadata Vocabulary for Tabular Data, section 5.11.1).
+    /// Returns the type of a name, or `None` if no type has it. `datetime` is another name of `dateTime`, `any` of
+    /// `anyAtomicType`, and `number` of `double` (Metadata Vocabulary for Tabular Data, section 5.11.1).
     pub fn of(name: &str) -> Option<Simple>
         ensures { MatchOption result ((s : Simple) → ¬ IsNamed name.now s) (IsNamed name.now) }
     {
@@ -195,10 +241,7 @@ impl Simple {
             "date" => Some(Simple::Day),
             "anyURI" => Some(Simple::Uri),
             "dateTime" | "datetime" => Some(Simple::Moment),
-            _ => match Width::of(name) {
-                Some(width) => Some(Simple::Derived(width)),
-                None => TextType::of(name).map(Simple::Other),
-            },
+            _ => derived_or_other(name),
         }
     }
 }
