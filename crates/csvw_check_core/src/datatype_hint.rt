@@ -7,10 +7,7 @@ use serde_json::Value;
 use std::alloc::{AllocError, Global};
 
 /// The datatypes of the standard that no profile has, each with the one to write in its place.
-const OTHERS: [(&str, &str); 22] = [
-    ("number", "decimal"),
-    ("double", "decimal"),
-    ("float", "decimal"),
+const OTHERS: [(&str, &str); 19] = [
     ("time", "string"),
     ("dateTimeStamp", "dateTime"),
     ("duration", "string"),
@@ -33,7 +30,7 @@ const OTHERS: [(&str, &str); 22] = [
 ];
 
 /// The datatypes that there are.
-const NAMES: [&str; 25] = [
+const NAMES: [&str; 28] = [
     "string",
     "anyURI",
     "boolean",
@@ -59,6 +56,9 @@ const NAMES: [&str; 25] = [
     "token",
     "xml",
     "html",
+    "number",
+    "double",
+    "float",
 ];
 
 /// Returns the datatype to write in place of one that no profile has.
@@ -85,7 +85,7 @@ fn push_no_datatype(hints: &mut String, name: &str) -> Result<(), AllocError> {
 
 /// Adds what to write in place of the datatype of a name.
 fn push_instead(hints: &mut String, name: &str) -> Result<(), AllocError> {
-    if let Some(Simple::Other(_)) = Simple::of(name) {
+    if let Some(Simple::Other(_) | Simple::Floating(_)) = Simple::of(name) {
         return write!(
             hints,
             "    the profile w3c has the datatype {name}: write `--profile w3c`\n"

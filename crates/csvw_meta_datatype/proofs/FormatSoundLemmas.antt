@@ -165,6 +165,7 @@ unfolding format
 format_sound simples.Text place at d = tt
 format_sound simples.Uri place at d = tt
 format_sound (simples.Other t) place at d = tt
+format_sound (simples.Floating t) place at d = tt
 format_sound simples.Truth place at d = truth_sound at d
 format_sound simples.Whole place at d = as_whole (number_format place at d).value.format (number_sound place at d)
 format_sound (simples.Derived w) place at d = as_whole (number_format place at d).value.format (number_sound place at d)

@@ -2,13 +2,15 @@
 use Rattle.std.proofs.Common.{◌≡◌, MatchOption, inl, inr, ℕ, List, [], ◌∷◌, Option, Some, None, Bool, true, false, refl, bytes_eq, codes, sym}
 use Rattle.std.proofs.lemmas.Slice.Eq.{bytes_eq-Decides}
 use Rattle.csvw_datatype.specs.declared.simple.Simple.{Simple}
-use Rattle.csvw_datatype.specs.declared.simple.Simple.TheVariants.{Text, Truth, Whole, Decimal, Day, Uri, Derived, Moment, Other}
+use Rattle.csvw_datatype.specs.declared.simple.Simple.TheVariants.{Text, Truth, Whole, Decimal, Day, Uri, Derived, Moment, Other, Floating}
+use Rattle.csvw_datatype.specs.declared.simple.Floating.{Floating as FloatingType}
+use Rattle.csvw_datatype.specs.declared.simple.Floating.TheVariants.{Double, Float}
 use Rattle.csvw_datatype.specs.declared.simple.TextType.{TextType}
 use Rattle.csvw_datatype.specs.declared.simple.TextType.TheVariants.{Any, Token, Xml, Html, Json}
 use Rattle.csvw_datatype.specs.declared.simple.Width.{Width}
 use Rattle.csvw_datatype.specs.declared.simple.Width.TheVariants.{Long, Int, Short, Byte, UnsignedLong, UnsignedInt, UnsignedShort, UnsignedByte}
 use Rattle.csvw_datatype.specs.declared.simple.Width.TheVariants.{NonNegativeInteger, PositiveInteger, NonPositiveInteger, NegativeInteger}
-use Rattle.csvw_datatype.specs.Names.{name_of, width_name, text_type_name, IsTextTypeNamed, IsNamed}
+use Rattle.csvw_datatype.specs.Names.{name_of, width_name, text_type_name, IsFloatingNamed, IsTextTypeNamed, IsNamed}
 use Rattle.csvw_meta_datatype.specs.Names.{all_simples, named_in, type_named}
 
 is_text_type_named : (name : List ℕ) (t : TextType) → name ≡ text_type_name t → IsTextTypeNamed name t
@@ -28,6 +30,8 @@ is_named name Uri e = e
 is_named name (Derived w) e = e
 is_named name Moment e = inl e
 is_named name (Other t) e = is_text_type_named name t e
+is_named name (Floating Double) e = inl e
+is_named name (Floating Float) e = e
 
 unequal : (b : Bool) → (b ≡ true → ⊥) → b ≡ false
 unequal true h = absurd (h refl)
@@ -42,7 +46,11 @@ none_in name h (s ∷ ss) = rw (differs name (name_of s) (λ e. h s (is_named na
 
 pub none_named : (name : List ℕ) → ((s : Simple) → IsNamed name s → ⊥) → type_named name ≡ None
 none_named name h =
-    rw (differs name (codes "datetime") (λ e. h Moment (inr e)), differs name (codes "any") (λ e. h (Other Any) (inr e))) (none_in name h all_simples)
+    rw (
+      differs name (codes "datetime") (λ e. h Moment (inr e)),
+      differs name (codes "any") (λ e. h (Other Any) (inr e)),
+      differs name (codes "number") (λ e. h (Floating Double) (inr e)),
+    ) (none_in name h all_simples)
 
 width_named : (name : List ℕ) (w : Width) → name ≡ width_name w → type_named name ≡ Some (Derived w)
 width_named name Long e = rw e refl
@@ -66,6 +74,11 @@ text_type_named name Xml e = rw e refl
 text_type_named name Html e = rw e refl
 text_type_named name Json e = rw e refl
 
+floating_named : (name : List ℕ) (t : FloatingType) → IsFloatingNamed name t → type_named name ≡ Some (Floating t)
+floating_named name Double (inl e) = rw e refl
+floating_named name Double (inr e) = rw e refl
+floating_named name Float e = rw e refl
+
 pub one_named : (name : List ℕ) (s : Simple) → IsNamed name s → type_named name ≡ Some s
 one_named name Text e = rw e refl
 one_named name Truth e = rw e refl
@@ -77,6 +90,7 @@ one_named name (Derived w) e = width_named name w e
 one_named name Moment (inl e) = rw e refl
 one_named name Moment (inr e) = rw e refl
 one_named name (Other t) e = text_type_named name t e
+one_named name (Floating t) e = floating_named name t e
 
 -- what `Simple::of` answers
 pub named_as : (name : List ℕ) (o : Option Simple) → MatchOption o ((s : Simple) → ¬ IsNamed name s) (IsNamed name) → o ≡ type_named name

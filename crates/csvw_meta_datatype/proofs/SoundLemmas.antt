@@ -6,7 +6,7 @@ use Rattle.serde_json.specs.Find.{get}
 use Rattle.url.specs.Parts.{Parts}
 use Rattle.csvw_fault.specs.declared.fault.Place.{Place}
 use Rattle.csvw_datatype.specs.declared.simple.Simple.{Simple}
-use Rattle.csvw_datatype.specs.declared.simple.Simple.TheVariants.{Text, Truth, Whole, Decimal, Day, Uri, Derived, Moment, Other}
+use Rattle.csvw_datatype.specs.declared.simple.Simple.TheVariants.{Text, Truth, Whole, Decimal, Day, Uri, Derived, Moment, Other, Floating}
 use Rattle.csvw_datatype.specs.declared.simple.TextType.TheVariants.{Any, Token, Xml, Html, Json}
 use Rattle.csvw_datatype.specs.Formats.{IsFormatOf}
 use Rattle.csvw_datatype.specs.Sound.{AreBoundsOf, IsSound, lengths_apply}
@@ -34,6 +34,7 @@ no_lengths Day = refl
 no_lengths Uri = refl
 no_lengths (Derived w) = refl
 no_lengths Moment = refl
+no_lengths (Floating t) = refl
 no_lengths (Other Any) = refl
 no_lengths (Other Token) = refl
 no_lengths (Other Xml) = refl

@@ -6,14 +6,19 @@ use Rattle.csvw_datatype.specs.declared.value.Value.{Value}
 use Rattle.csvw_datatype.specs.declared.simple.Simple.{Simple}
 use Rattle.csvw_datatype.specs.declared.simple.Simple.TheVariants as simples
 use Rattle.csvw_datatype.specs.Bounds.{bound_of, bound_of_whole}
-use Rattle.csvw_meta_core.specs.declared.fault.MetaCode.TheVariants.{BadDatatype}
+use Rattle.csvw_meta_core.specs.declared.fault.MetaCode.{MetaCode}
+use Rattle.csvw_meta_core.specs.declared.fault.MetaCode.TheVariants.{BadDatatype, NotSupported}
 use Rattle.csvw_meta_core.specs.Read.{Read, fine, faulty, ◌>>=◌, wrong, property}
 use Rattle.csvw_meta_datatype.specs.declared.bounds.Bounds.{Bounds}
 
--- a bound that can't be read, or is on a type without an order, is wrong
-abbrev pub bound_found : List ℕ → Option Value → Read (Option Value)
-bound_found at None = faulty BadDatatype at None
-bound_found at (Some v) = fine (Some v)
+-- a bound that can't be read, or is on a type without an order, is wrong; one of numbers with an exponent isn't supported
+abbrev pub no_bound : Simple → MetaCode
+no_bound (simples.Floating t) = NotSupported
+no_bound _ = BadDatatype
+
+abbrev pub bound_found : Simple → List ℕ → Option Value → Read (Option Value)
+bound_found s at None = faulty (no_bound s) at None
+bound_found s at (Some v) = fine (Some v)
 
 -- the values are days or moments, whose bounds are only texts
 abbrev pub is_dated : Simple → Bool
@@ -23,11 +28,11 @@ is_dated _ = false
 
 abbrev pub bound_of_integer : Simple → List ℕ → Data → Option ℤ → Read (Option Value)
 bound_of_integer s at d None = wrong at d None
-bound_of_integer s at d (Some z) = if is_dated s then wrong at d None else bound_found at (bound_of_whole s z)
+bound_of_integer s at d (Some z) = if is_dated s then wrong at d None else bound_found s at (bound_of_whole s z)
 
 -- a text in the default format of the type, or a whole number
 abbrev pub bound : Simple → List ℕ → Data → Read (Option Value)
-bound s at (string text) = bound_found at (bound_of s text)
+bound s at (string text) = bound_found s at (bound_of s text)
 bound s at (number n) = bound_of_integer s at (number n) (as_integer n)
 bound s at null = wrong at null None
 bound s at (boolean b) = wrong at (boolean b) None

@@ -28,11 +28,12 @@ number_found f = record { format = Some (formats.Number f.format); warnings = f.
 abbrev pub number_format : Place → List ℕ → Data → Read FormatFound
 number_format place at d = on_linked_object at d no_format (under number_found (number_form place at d))
 
--- the format of a type; no format of a type of texts is supported
+-- the format of a type; no format of a type of texts, or of numbers with an exponent, is supported
 unfoldable pub format : Simple → Place → List ℕ → Data → Read FormatFound
 format simples.Text place at d = faulty NotSupported at no_format
 format simples.Uri place at d = faulty NotSupported at no_format
 format (simples.Other t) place at d = faulty NotSupported at no_format
+format (simples.Floating t) place at d = faulty NotSupported at no_format
 format simples.Truth place at d = under (λ f. found (formats.Truth f)) (truth_format at d)
 format simples.Whole place at d = number_format place at d
 format (simples.Derived w) place at d = number_format place at d

@@ -2,7 +2,8 @@
 -- 5.11.1 and 5.11.2).
 use Rattle.std.specs.Prelude.{ℕ, List, [], ◌∷◌, Bool, true, false, codes, bytes_eq, filter, if◌then◌else◌, Option, Some, None}
 use Rattle.csvw_datatype.specs.declared.simple.Simple.{Simple}
-use Rattle.csvw_datatype.specs.declared.simple.Simple.TheVariants.{Text, Truth, Whole, Decimal, Day, Uri, Derived, Moment, Other}
+use Rattle.csvw_datatype.specs.declared.simple.Simple.TheVariants.{Text, Truth, Whole, Decimal, Day, Uri, Derived, Moment, Other, Floating}
+use Rattle.csvw_datatype.specs.declared.simple.Floating.TheVariants.{Double, Float}
 use Rattle.csvw_datatype.specs.declared.simple.TextType.TheVariants.{Any, Token, Xml, Html, Json}
 use Rattle.csvw_datatype.specs.declared.simple.Width.TheVariants.{Long, Int, Short, Byte, UnsignedLong, UnsignedInt, UnsignedShort, UnsignedByte}
 use Rattle.csvw_datatype.specs.declared.simple.Width.TheVariants.{NonNegativeInteger, PositiveInteger, NonPositiveInteger, NegativeInteger}
@@ -15,21 +16,26 @@ abbrev pub all_simples : List Simple
 all_simples =
     Text ∷ Truth ∷ Whole ∷ Decimal ∷ Day ∷ Uri ∷ Moment ∷ Derived Long ∷ Derived Int ∷ Derived Short ∷ Derived Byte ∷ Derived UnsignedLong
     ∷ Derived UnsignedInt ∷ Derived UnsignedShort ∷ Derived UnsignedByte ∷ Derived NonNegativeInteger ∷ Derived PositiveInteger
-    ∷ Derived NonPositiveInteger ∷ Derived NegativeInteger ∷ Other Any ∷ Other Token ∷ Other Xml ∷ Other Html ∷ Other Json ∷ []
+    ∷ Derived NonPositiveInteger ∷ Derived NegativeInteger ∷ Other Any ∷ Other Token ∷ Other Xml ∷ Other Html ∷ Other Json
+    ∷ Floating Double ∷ Floating Float ∷ []
 
 -- the first of them that has the name
 abbrev pub named_in : List Simple → List ℕ → Option Simple
 named_in [] name = None
 named_in (s ∷ ss) name = if bytes_eq name (name_of s) then Some s else named_in ss name
 
--- `datetime` is another name of `dateTime`, and `any` of `anyAtomicType`
+-- `datetime` is another name of `dateTime`, `any` of `anyAtomicType`, and `number` of `double`
 abbrev pub type_named : List ℕ → Option Simple
 type_named name =
-    if bytes_eq name (codes "datetime") then Some Moment else (if bytes_eq name (codes "any") then Some (Other Any) else named_in all_simples name)
+    if bytes_eq name (codes "datetime") then Some Moment
+    else (if bytes_eq name (codes "any") then Some (Other Any)
+    else (if bytes_eq name (codes "number") then Some (Floating Double)
+    else named_in all_simples name))
 
 -- a document in the profile may use the type
 abbrev pub is_in : Profile → Simple → Bool
 is_in Core (Other t) = false
+is_in Core (Floating t) = false
 is_in profile s = true
 
 abbrev pub simples_of : Profile → List Simple

@@ -11,7 +11,7 @@ pub fn is_in(profile: Profile, simple: Simple) -> bool
     ensures { result ≡ is_in profile simple }
 {
     match (profile, simple) {
-        (Profile::Core, Simple::Other(_)) => false,
+        (Profile::Core, Simple::Other(_) | Simple::Floating(_)) => false,
         (Profile::Core | Profile::W3c, _) => true,
     }
 }

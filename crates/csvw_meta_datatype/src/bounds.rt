@@ -3,14 +3,15 @@ ghost use Rattle.std.specs.Prelude.{◌≡◌};
 ghost use Rattle.serde_json.specs.View.{view};
 ghost use Rattle.csvw_meta_core.specs.Pointer.{text_of};
 ghost use Rattle.csvw_meta_core.specs.Reads.{Reads};
-ghost use Rattle.csvw_meta_datatype.specs.Bounds.{is_dated, bound, bound_found, bound_of_integer, bounds};
+ghost use Rattle.csvw_meta_datatype.specs.Bounds.{is_dated, bound, bound_found, bound_of_integer, bounds, no_bound};
 
 use csvw_datatype::{Simple, Value as Bound};
 use csvw_meta_core::{MetaCode, Part, Reader, Refusal};
 use serde_json::Value;
 
 /// Reads a bound: a text in the default format of the type or, for a type of numbers, a whole number. It is
-/// `BadDatatype` if it is not a value of the type, or if the values of the type have no order.
+/// `BadDatatype` if it is not a value of the type, or if the values of the type have no order. A bound of numbers with an
+/// exponent is `NotSupported`.
 #[derive(Drop)]
 pub struct BoundReader {
     /// The datatype's `base`.
@@ -24,19 +25,29 @@ impl Reader for BoundReader {
 
     fn read(&self, part: &Part) -> Result<Option<Bound>, Refusal> {
         match part.value {
-            Value::String(text) => bound_found(part, self.simple.bound(text)),
+            Value::String(text) => bound_found(self.simple, part, self.simple.bound(text)),
             Value::Number(number) => bound_of_integer(self.simple, part, number.as_i128()),
             _ => Err(part.wrong()),
         }
     }
 }
 
-fn bound_found(part: &Part, bound: Option<Bound>) -> Result<Option<Bound>, Refusal>
-    ensures { Reads result (bound_found (text_of part.now.at) bound) }
+/// Returns the code of a text or a number that is no bound of a type.
+fn no_bound(simple: Simple) -> MetaCode
+    ensures { result ≡ no_bound simple }
+{
+    match simple {
+        Simple::Floating(_) => MetaCode::NotSupported,
+        _ => MetaCode::BadDatatype,
+    }
+}
+
+fn bound_found(simple: Simple, part: &Part, bound: Option<Bound>) -> Result<Option<Bound>, Refusal>
+    ensures { Reads result (bound_found simple (text_of part.now.at) bound) }
 {
     match bound {
         Some(bound) => Ok(Some(bound)),
-        None => Err(part.refused(MetaCode::BadDatatype)),
+        None => Err(part.refused(no_bound(simple))),
     }
 }
 
@@ -48,7 +59,9 @@ fn bound_of_integer(
     ensures { Reads result (bound_of_integer simple (text_of part.now.at) (view part.now.value.now) integer) }
 {
     match integer {
-        Some(integer) if !is_dated(simple) => bound_found(part, simple.whole_bound(integer)),
+        Some(integer) if !is_dated(simple) => {
+            bound_found(simple, part, simple.whole_bound(integer))
+        }
         _ => Err(part.wrong()),
     }
 }

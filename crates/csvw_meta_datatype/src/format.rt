@@ -22,7 +22,7 @@ pub struct FormatFound {
     pub warnings: Seq<Fault>,
 }
 
-/// Reads the format of a datatype. For a type of texts it is `NotSupported`. For a number, a text is `NotSupported`.
+/// Reads the format of a datatype. For a type of texts or of numbers with an exponent it is `NotSupported`. For a number, a text is `NotSupported`.
 /// A pattern of a date or a moment that is not supported is `NotSupported`. A wrong character of a number or a wrong
 /// pattern of a boolean is `BadDatatype`.
 #[derive(Drop)]
@@ -59,7 +59,7 @@ impl Reader for FormatReader {
     #[tactic(auto, unfolding(crate::specs::Formats::format))]
     fn read(&self, part: &Part) -> Result<FormatFound, Refusal> {
         let format = match self.simple {
-            Simple::Text | Simple::Uri | Simple::Other(_) => {
+            Simple::Text | Simple::Uri | Simple::Other(_) | Simple::Floating(_) => {
                 return Err(part.refused(MetaCode::NotSupported));
             }
             Simple::Whole | Simple::Derived(_) | Simple::Decimal => {

@@ -62,26 +62,26 @@ length_stands_in s at d =
 
 -- ---- bounds
 
-found_has_one : (at : List ℕ) (o : Option Value) → AtMostOne (bound_found at o).faults
-found_has_one at None = tt
-found_has_one at (Some v) = tt
+found_has_one : (s : Simple) (at : List ℕ) (o : Option Value) → AtMostOne (bound_found s at o).faults
+found_has_one s at None = tt
+found_has_one s at (Some v) = tt
 
-found_stands_in : (at : List ℕ) (o : Option Value) → StandsIn None (bound_found at o)
-found_stands_in at None = refl
-found_stands_in at (Some v) = tt
+found_stands_in : (s : Simple) (at : List ℕ) (o : Option Value) → StandsIn None (bound_found s at o)
+found_stands_in s at None = refl
+found_stands_in s at (Some v) = tt
 
 integer_has_one : (s : Simple) (at : List ℕ) (d : Data) (o : Option ℤ) → AtMostOne (bound_of_integer s at d o).faults
 integer_has_one s at d None = tt
 integer_has_one s at d (Some z) =
-    of_test (is_dated s) (wrong at d None) (bound_found at (bound_of_whole s z)) tt (found_has_one at (bound_of_whole s z))
+    of_test (is_dated s) (wrong at d None) (bound_found s at (bound_of_whole s z)) tt (found_has_one s at (bound_of_whole s z))
 
 integer_stands_in : (s : Simple) (at : List ℕ) (d : Data) (o : Option ℤ) → StandsIn None (bound_of_integer s at d o)
 integer_stands_in s at d None = refl
 integer_stands_in s at d (Some z) =
-    in_test None (is_dated s) (wrong at d None) (bound_found at (bound_of_whole s z)) refl (found_stands_in at (bound_of_whole s z))
+    in_test None (is_dated s) (wrong at d None) (bound_found s at (bound_of_whole s z)) refl (found_stands_in s at (bound_of_whole s z))
 
 pub bound_has_one : (s : Simple) (at : List ℕ) (d : Data) → AtMostOne (bound s at d).faults
-bound_has_one s at (string text) = found_has_one at (bound_of s text)
+bound_has_one s at (string text) = found_has_one s at (bound_of s text)
 bound_has_one s at (number n) = integer_has_one s at (number n) (as_integer n)
 bound_has_one s at null = tt
 bound_has_one s at (boolean b) = tt
@@ -89,7 +89,7 @@ bound_has_one s at (array ds) = tt
 bound_has_one s at (object ms) = tt
 
 pub bound_stands_in : (s : Simple) (at : List ℕ) (d : Data) → StandsIn None (bound s at d)
-bound_stands_in s at (string text) = found_stands_in at (bound_of s text)
+bound_stands_in s at (string text) = found_stands_in s at (bound_of s text)
 bound_stands_in s at (number n) = integer_stands_in s at (number n) (as_integer n)
 bound_stands_in s at null = refl
 bound_stands_in s at (boolean b) = refl

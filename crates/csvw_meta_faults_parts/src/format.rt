@@ -61,7 +61,7 @@ fn find_format_here(
         reader: MomentPattern,
     };
     match simple {
-        Simple::Text | Simple::Uri | Simple::Other(_) => {
+        Simple::Text | Simple::Uri | Simple::Other(_) | Simple::Floating(_) => {
             add_fault(part, MetaCode::NotSupported, faults)
         }
         Simple::Whole | Simple::Derived(_) | Simple::Decimal => find_number_format(part, faults),

@@ -1,14 +1,14 @@
 //! The built-in datatypes of a profile (Metadata Vocabulary for Tabular Data, section 5.11.1).
-ghost use Rattle.std.specs.Prelude.{◌≡◌, IfOk};
-ghost use Rattle.csvw_meta_datatype.specs.Names.{all_simples, simples_of};
+ghost use Rattle.std.specs.Prelude.{◌≡◌, IfOk, filter};
+ghost use Rattle.csvw_meta_datatype.specs.Names.{all_simples, is_in, simples_of};
 
-use csvw_datatype::{Simple, TextType, Width};
+use csvw_datatype::{Floating, Simple, TextType, Width};
 use csvw_meta_core::Profile;
 use csvw_meta_datatype::base::is_in;
 use std::alloc::{AllocError, Global};
 
 /// The built-in datatypes of all profiles.
-static ALL: [Simple; 24] = [
+static ALL: [Simple; 26] = [
     Simple::Text,
     Simple::Truth,
     Simple::Whole,
@@ -33,17 +33,26 @@ static ALL: [Simple; 24] = [
     Simple::Other(TextType::Xml),
     Simple::Other(TextType::Html),
     Simple::Other(TextType::Json),
+    Simple::Floating(Floating::Double),
+    Simple::Floating(Floating::Float),
 ];
+
+/// Returns those of some datatypes that a document in a profile may use, or `AllocError` if there is no memory.
+fn kept_in(alloc: Global, profile: Profile, simples: &[Simple]) -> Result<Vec<Simple>, AllocError>
+    ensures { IfOk result (λ v. v.items ≡ filter (is_in profile) simples.now) }
+{
+    let mut kept = Vec::new(alloc);
+    for simple in simples {
+        if is_in(profile, *simple) {
+            kept.push(*simple)?;
+        }
+    }
+    Ok(kept)
+}
 
 /// Returns the built-in datatypes of a profile, or `AllocError` if there is no memory.
 pub fn simples_of(alloc: Global, profile: Profile) -> Result<Vec<Simple>, AllocError>
     ensures { IfOk result (λ v. v.items ≡ simples_of profile) }
 {
-    let mut simples = Vec::new(alloc);
-    for simple in &ALL {
-        if is_in(profile, *simple) {
-            simples.push(*simple)?;
-        }
-    }
-    Ok(simples)
+    kept_in(alloc, profile, &ALL)
 }

@@ -190,6 +190,7 @@ unfolding format
 format_quiet simples.Text place at d = refl
 format_quiet simples.Uri place at d = refl
 format_quiet (simples.Other t) place at d = refl
+format_quiet (simples.Floating t) place at d = refl
 format_quiet simples.Truth place at d = refl
 format_quiet simples.Whole place at d = number_format_quiet place at d
 format_quiet (simples.Derived w) place at d = number_format_quiet place at d
