@@ -4,7 +4,7 @@ ghost use Rattle.csvw_columns.specs.Ready.{AreReady};
 
 use crate::faults::faults_of;
 use crate::reading::{Found, read};
-use crate::repeats::repeats_of;
+use crate::repeats::{most_of, repeats_of};
 use csvw_check_core::{
     Alone, Check, DEVICE, Halt, REFUSED, Refused, Report, Stopped, Tables, Walker, opened, paths,
     plan_of, show_alone, status_of, status_of_stop,
@@ -129,7 +129,8 @@ fn check_tables<O: Opener, W: Write>(
 {
     let alloc = walker.page.alloc;
     let found = read(alloc, tables.plan, tables.paths, opener)?;
-    let repeats = repeats_of(alloc, tables, found.faults.as_slice(), asked.shown, opener)?;
+    let most = most_of(asked.form, asked.shown);
+    let repeats = repeats_of(alloc, tables, found.faults.as_slice(), most, opener)?;
     let report = Report {
         tables: *tables,
         faults: found.faults.as_slice(),

@@ -5,7 +5,7 @@ ghost use Rattle.csvw_columns.specs.Ready.{AreReady, IsReady};
 
 use crate::keyed_rows::KeyedRows;
 use crate::repeating_rows::RepeatingRows;
-use csvw_check_core::{Repeat, Shown, Tables};
+use csvw_check_core::{Form, Repeat, Shown, Tables};
 use csvw_columns::laws::each_table_is_ready;
 use csvw_columns::{Plan, TablePlan};
 use csvw_files::Opener;
@@ -17,6 +17,9 @@ use std::io::Read;
 /// Of how many rows of a table the first row with their key is looked for, if not all faults are shown.
 const MOST: usize = 20;
 
+/// Of how many rows of a table it is looked for, if all faults are shown. Their keys are held.
+const MOST_OF_ALL: usize = 100_000;
+
 /// What a file is read for.
 #[derive(Clone, Copy)]
 enum Purpose {
@@ -26,11 +29,12 @@ enum Purpose {
     Firsts,
 }
 
-/// Returns how many rows of a table are looked for.
-fn most_of(shown: Shown) -> usize {
-    match shown {
-        Shown::First => MOST,
-        Shown::All => usize::MAX,
+/// Returns of how many rows of a table the first row with their key is shown on a page of this form.
+pub(crate) fn most_of(form: Form, shown: Shown) -> usize {
+    match (form, shown) {
+        (Form::Json, _) => 0,
+        (Form::Text | Form::Html, Shown::First) => MOST,
+        (Form::Text | Form::Html, Shown::All) => MOST_OF_ALL,
     }
 }
 
@@ -145,12 +149,12 @@ fn add_table<O: Opener>(
 }
 
 /// Returns the rows that repeat a primary key by these faults, which are in the order of reports, each with the first row
-/// that has the key: of each table the first 20, or all if all faults are shown. Returns `AllocError` if memory runs out.
+/// that has the key: of each table at most so many. Returns `AllocError` if memory runs out.
 pub(crate) fn repeats_of<O: Opener>(
     alloc: Global,
     tables: &Tables<'_>,
     faults: &[Fault],
-    shown: Shown,
+    most: usize,
     opener: &mut O,
 ) -> Result<Vec<Repeat>, AllocError>
     requires { AreReady tables.now.plan.now.tables }
@@ -159,7 +163,7 @@ pub(crate) fn repeats_of<O: Opener>(
     let mut number = 0;
     for _ in tables.paths {
         number = u32::saturating_add(number, 1);
-        let rows = rows_of(alloc, in_table(faults, number), most_of(shown))?;
+        let rows = rows_of(alloc, in_table(faults, number), most)?;
         if !rows.is_empty() {
             let repeating = RepeatingRows::new(alloc, number, rows);
             add_table(&mut repeats, alloc, repeating, tables, opener)?;

@@ -2,7 +2,7 @@
 ghost use Rattle.csvw_columns.specs.Ready.{AreReady};
 
 use crate::faults::faults_of;
-use crate::repeats::repeats_of;
+use crate::repeats::{most_of, repeats_of};
 use csvw_check_core::{
     Alone, Halt, Page, Refused, Report, Show, Stopped, Strict, Tables, Walker, end_page, opened,
     plan_of, show_alone, status_of, status_of_stop, tell_stop,
@@ -173,7 +173,8 @@ fn show_report<O: Opener, W: Write>(
 {
     let alloc = walker.page.alloc;
     let faults = faults_of_report(alloc, asked.report)?;
-    let repeats = repeats_of(alloc, tables, faults.as_slice(), asked.shown, opener)?;
+    let most = most_of(asked.form, asked.shown);
+    let repeats = repeats_of(alloc, tables, faults.as_slice(), most, opener)?;
     let status = match asked.stop {
         Some(stop) => status_of_stop(stop),
         None => status_of(faults.as_slice(), Strict::Errors),
