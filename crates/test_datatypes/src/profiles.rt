@@ -15,7 +15,7 @@ struct Case {
     object: &'static str,
 }
 
-static CASES: [Case; 14] = [
+static CASES: [Case; 17] = [
     Case {
         column: r#""datatype":"json""#,
         field: "\"[1,  2]\"",
@@ -73,6 +73,22 @@ static CASES: [Case; 14] = [
         field: "\"\"",
         object: "\"[]\"^^<http://www.w3.org/ns/csvw#JSON> .\n",
     },
+    // numbers with an exponent
+    Case {
+        column: r#""datatype":"number""#,
+        field: " 4.2546245E1 ",
+        object: "\"42.546245\"^^<http://www.w3.org/2001/XMLSchema#double> .\n",
+    },
+    Case {
+        column: r#""datatype":"float""#,
+        field: "-INF",
+        object: "\"-INF\"^^<http://www.w3.org/2001/XMLSchema#float> .\n",
+    },
+    Case {
+        column: r#""datatype":{"base":"double","@id":"http://example.org/d"}"#,
+        field: "1e+21",
+        object: "\"1e21\"^^<http://example.org/d> .\n",
+    },
     // the other datatypes are as they are in the profile core
     Case {
         column: r#""datatype":"string","lang":"de""#,
@@ -101,14 +117,14 @@ struct Refused {
     pointer: &'static str,
 }
 
-static REFUSED: [Refused; 6] = [
+static REFUSED: [Refused; 8] = [
     Refused {
         datatype: r#""Json""#,
         code: MetaCode::NotSupported,
         pointer: "",
     },
     Refused {
-        datatype: r#""double""#,
+        datatype: r#""duration""#,
         code: MetaCode::NotSupported,
         pointer: "",
     },
@@ -126,6 +142,16 @@ static REFUSED: [Refused; 6] = [
         datatype: r#"{"base":"json","minimum":"1"}"#,
         code: MetaCode::BadDatatype,
         pointer: "/minimum",
+    },
+    Refused {
+        datatype: r#"{"base":"double","minimum":"0"}"#,
+        code: MetaCode::NotSupported,
+        pointer: "/minimum",
+    },
+    Refused {
+        datatype: r#"{"base":"number","format":{"decimalChar":","}}"#,
+        code: MetaCode::NotSupported,
+        pointer: "/format",
     },
     Refused {
         datatype: r#"{"base":"xml","minLength":2,"maxLength":1}"#,

@@ -3,8 +3,8 @@
 use crate::limits::{BREAKS, ONES, SOUND};
 use crate::readings::{BOUNDS, DATE_FORMATS, DATES, FULL, NO_FORMATS, NUMBERS, TEXTS};
 use csvw_datatype::{
-    Broken, Datatype, DateFormat, Facets, Format, MomentFormat, NumberFormat, Simple, TruthFormat,
-    Value, Width,
+    Broken, Datatype, DateFormat, Facets, Floating, Format, MomentFormat, NumberFormat, Simple,
+    TruthFormat, Value, Width,
 };
 use csvw_text::Text;
 use std::alloc::{AllocError, Global};
@@ -284,11 +284,13 @@ fn texts_under_datatypes(rt: HostRuntime) -> Result<(), Fail> {
 }
 
 /// Names of datatypes, and their bases.
-static NAMES: [(&str, Option<Simple>); 4] = [
+static NAMES: [(&str, Option<Simple>); 6] = [
     ("dateTime", Some(Simple::Moment)),
     ("datetime", Some(Simple::Moment)),
     ("unsignedShort", Some(Simple::Derived(Width::UnsignedShort))),
-    ("float", None),
+    ("float", Some(Simple::Floating(Floating::Float))),
+    ("number", Some(Simple::Floating(Floating::Double))),
+    ("time", None),
 ];
 
 fn names_each(rt: &impl Abort, names: &[(&str, Option<Simple>)]) {

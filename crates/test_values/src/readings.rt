@@ -1,7 +1,7 @@
 //! Texts with `;` between them, each with the lexical form of its value or the name of its code after `=>`. A text
 //! alone is its own form.
 use crate::datatypes::{Bound, Claim, Limits, PLAIN, Pattern, Row, UNLIMITED};
-use csvw_datatype::{Simple, TextType, Width};
+use csvw_datatype::{Floating, Simple, TextType, Width};
 
 pub(crate) static NUMBERS: [Row; 9] = [
     Row {
@@ -238,7 +238,7 @@ const MINUTES: &str = "\
 2024-02-29 23:59=>BadDateTime;\
 =>BadDateTime";
 
-pub(crate) static TEXTS: [Row; 6] = [
+pub(crate) static TEXTS: [Row; 8] = [
     Row {
         simple: Simple::Truth,
         texts: TRUTHS,
@@ -263,6 +263,16 @@ pub(crate) static TEXTS: [Row; 6] = [
     Row {
         simple: Simple::Other(TextType::Json),
         texts: " [1,  2] => [1,  2] ",
+        ..PLAIN
+    },
+    Row {
+        simple: Simple::Floating(Floating::Double),
+        texts: "1E3=>1000;-0=>0;+INF=>INF;NaN;1.5E=>BadDouble;=>BadDouble;1E1000000000000000000=>NumberTooLong",
+        ..PLAIN
+    },
+    Row {
+        simple: Simple::Floating(Floating::Float),
+        texts: "0.00000012=>1.2e-7;inf=>BadDouble",
         ..PLAIN
     },
     Row {
