@@ -3,6 +3,7 @@ pub mod Lawful
 pub mod Scan
 pub mod Step
 pub mod Misread
+pub mod NumberPatterns
 pub mod LexicalNumbers
 pub mod Dates
 pub mod Fields

@@ -1,4 +1,4 @@
-//! How texts write numbers, dates and moments, and their lexical forms: the lower part of csvw_datatype.
+//! How texts write numbers, dates and moments, their lexical forms, and patterns of numbers: the lower part of csvw_datatype.
 //!
 //! # Promises
 //!
@@ -8,6 +8,8 @@
 //! - The laws `one_number`, `one_date` and `one_moment`: a text has one value at most.
 //! - `number_text`, `date_text` and `moment_text` return a lexical form, which is read again as the value.
 //! - The laws `one_number_text`, `one_date_text` and `one_moment_text`: a value has one lexical form.
+//! - `NumberPattern::of` returns the pattern that a text is, or why it is none (`pattern_of`). `fits` returns whether a
+//!   number is written as the pattern says (`fits`). `push_to` writes the pattern (`pattern_form`).
 #![tactic(auto)]
 
 mod ascii;
@@ -17,6 +19,7 @@ mod lexical_date;
 mod lexical_number;
 mod moment;
 mod number;
+mod number_pattern;
 mod short_number;
 mod values;
 
@@ -26,5 +29,6 @@ pub use lexical_date::{
 };
 pub use lexical_number::{number_forms, number_text, one_number_text, refill_number};
 pub use moment::{MomentFormat, one_moment, read_moment};
-pub use number::{NumberFault, NumberRules, one_number, read_number};
+pub use number::{Mark, NumberFault, NumberRules, one_number, read_number};
+pub use number_pattern::{GroupSizes, NumberPattern, PatternFault};
 pub use values::values_read;

@@ -60,7 +60,7 @@ pub enum Place {
 }
 
 /// The mark at the end of a number.
-#[derive(Clone, Copy)]
+#[derive(Clone, Copy, Debug, PartialEq, Eq)]
 pub enum Mark {
     /// No mark.
     Plain,
