@@ -73,30 +73,30 @@ IsNumberGiven rules cs o = MatchOption o ((z : ℤ) → ReadsNumber rules cs z �
 
 whole_given : (text : List ℕ) (o : Option ℤ) → IsNumberGiven (whole_rules None) (chars text) o
     → IsBoundGiven simples.Whole text (option_and_then (number_bound simples.Whole) o)
-whole_given text None h = λ v r. h r.0 r.1
-whole_given text (Some z) h = (z, h, refl)
+whole_given text None h = λ v r. h r.0 r.1.0
+whole_given text (Some z) h = (z, (h, refl), refl)
 
 decimal_given : (text : List ℕ) (o : Option ℤ) → IsNumberGiven (decimal_rules None) (chars text) o
     → IsBoundGiven simples.Decimal text (option_and_then (number_bound simples.Decimal) o)
-decimal_given text None h = λ v r. h r.0 r.1
-decimal_given text (Some z) h = (z, h, refl)
+decimal_given text None h = λ v r. h r.0 r.1.0
+decimal_given text (Some z) h = (z, (h, refl), refl)
 
 -- no other number of the text is in the range
 outside : OneNumber → (w : Width) (text : List ℕ) (z : ℤ) → ReadsNumber (whole_rules None) (chars text) z → is_in_width w z ≡ false
     → (v : Value) → ReadsAs (simples.Derived w) None text v → ⊥
 outside one w text z h never v r =
     let P : ℤ → Type 0 = λ y. IsInWidth w y in
-    let k = (width_test w z).1 (subst P (one (whole_rules None) (chars text) r.0 z (whole_lawful None tt) r.1 h) r.2) in
+    let k = (width_test w z).1 (subst P (one (whole_rules None) (chars text) r.0 z (whole_lawful None tt) r.1.0 h) r.2) in
     cc
 
 in_range_given : OneNumber → (w : Width) (text : List ℕ) (z : ℤ) (b : Bool) → ReadsNumber (whole_rules None) (chars text) z
     → is_in_width w z ≡ b → IsBoundGiven (simples.Derived w) text (cond b (Some (values.Number z)) None)
-in_range_given one w text z true h is = (z, h, (width_test w z).0 is, refl)
+in_range_given one w text z true h is = (z, (h, refl), (width_test w z).0 is, refl)
 in_range_given one w text z false h is = outside one w text z h is
 
 derived_given : OneNumber → (w : Width) (text : List ℕ) (o : Option ℤ) → IsNumberGiven (whole_rules None) (chars text) o
     → IsBoundGiven (simples.Derived w) text (option_and_then (number_bound (simples.Derived w)) o)
-derived_given one w text None h = λ v r. h r.0 r.1
+derived_given one w text None h = λ v r. h r.0 r.1.0
 derived_given one w text (Some z) h = in_range_given one w text z _ h refl
 
 day_given : (text : List ℕ) (o : Option ℤ) → MatchOption o ((day : ℤ) → ReadsDate YearFirst text day → ⊥) (ReadsDate YearFirst text)

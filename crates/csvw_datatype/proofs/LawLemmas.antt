@@ -31,9 +31,9 @@ use Rattle.csvw_datatype.specs.declared.simple.Simple.TheVariants as simples
 use Rattle.csvw_datatype.specs.declared.simple.Width.{Width}
 use Rattle.csvw_datatype.specs.declared.format.Format.{Format}
 use Rattle.csvw_datatype.specs.declared.format.Format.TheVariants as formats
-use Rattle.csvw_datatype.specs.Formats.{IsFormatOf}
+use Rattle.csvw_datatype.specs.Formats.{IsFormatOf, fits_format}
 use Rattle.csvw_datatype.specs.Widths.{IsInWidth}
-use Rattle.csvw_datatype.specs.Reads.{SpellsTruth, whole_rules, decimal_rules, date_format, moment_format, ReadsAs, MisreadAs, MisreadsNumber, number_code, double_code}
+use Rattle.csvw_datatype.specs.Reads.{SpellsTruth, whole_rules, decimal_rules, date_format, moment_format, ReadsAs, ReadsNumberAs, MisreadAs, MisreadsNumber, number_code, double_code}
 use Rattle.csvw_datatype.specs.Sound.{IsNumberSize, IsWholeNumber, IsBoundOf, has_bounds}
 use Rattle.csvw_datatype.specs.Lexical.{IsWritable}
 use Rattle.csvw_datatype.proofs.FormatLemmas.{whole_lawful, derived_lawful, decimal_lawful}
@@ -98,8 +98,20 @@ one_fault rules cs faults.TooLong faults.TooLong p q = refl
 one_fault rules cs faults.Bad faults.TooLong p q = absurd (p q.0)
 one_fault rules cs faults.TooLong faults.Bad p q = absurd (q p.0)
 
-one_number_code : (bad : Code) (rules : NumberRules) (text : List ℕ) (c d : Code) → MisreadsNumber bad rules text c → MisreadsNumber bad rules text d → c ≡ d
-one_number_code bad rules text c d p q = p.2 ∙ ap (number_code bad) (one_fault rules (chars text) p.0 q.0 p.1 q.1) ∙ sym q.2
+no_both : (b : Bool) → b ≡ true → b ≡ false → ⊥
+no_both b t f = cc
+
+not_misread_as : (bad : Code) (rules : NumberRules) (f : Option Format) (text : List ℕ) (z : ℤ) (c : Code) → ReadsNumberAs rules f text z
+    → MisreadsNumber bad rules f text c → ⊥
+not_misread_as bad rules f text z c r (inl m) = no_both (fits_format f (chars text)) r.1 m.0
+not_misread_as bad rules f text z c r (inr m) = not_misread rules (chars text) z m.1 r.0 m.2
+
+one_number_code : (bad : Code) (rules : NumberRules) (f : Option Format) (text : List ℕ) (c d : Code) → MisreadsNumber bad rules f text c
+    → MisreadsNumber bad rules f text d → c ≡ d
+one_number_code bad rules f text c d (inl p) (inl q) = p.1 ∙ sym q.1
+one_number_code bad rules f text c d (inl p) (inr q) = absurd (no_both (fits_format f (chars text)) q.0 p.0)
+one_number_code bad rules f text c d (inr p) (inl q) = absurd (no_both (fits_format f (chars text)) p.0 q.0)
+one_number_code bad rules f text c d (inr p) (inr q) = p.3 ∙ ap (number_code bad) (one_fault rules (chars text) p.1 q.1 p.2 q.2) ∙ sym q.3
 
 -- doubles
 
@@ -147,10 +159,10 @@ one_value one date moment simples.Uri f text v w ok r s = r ∙ sym s
 one_value one date moment (simples.Other t) f text v w ok r s = r ∙ sym s
 one_value one date moment (simples.Floating t) f text v w ok r s = r.2 ∙ ap (λ x. values.Text x) (inside r.0 s.0 (sym r.1 ∙ s.1)) ∙ sym s.2
 one_value one date moment simples.Truth f text v w ok r s = r.2 ∙ ap (λ b. values.Truth b) (one_truth f text r.0 s.0 ok r.1 s.1) ∙ sym s.2
-one_value one date moment simples.Whole f text v w ok r s = same_number one (whole_rules f) (whole_lawful f ok) (chars text) v w r.0 s.0 r.1 s.1 r.2 s.2
+one_value one date moment simples.Whole f text v w ok r s = same_number one (whole_rules f) (whole_lawful f ok) (chars text) v w r.0 s.0 r.1.0 s.1.0 r.2 s.2
 one_value one date moment (simples.Derived width) f text v w ok r s =
-    same_number one (whole_rules f) (derived_lawful width f ok) (chars text) v w r.0 s.0 r.1 s.1 r.3 s.3
-one_value one date moment simples.Decimal f text v w ok r s = same_number one (decimal_rules f) (decimal_lawful f ok) (chars text) v w r.0 s.0 r.1 s.1 r.2 s.2
+    same_number one (whole_rules f) (derived_lawful width f ok) (chars text) v w r.0 s.0 r.1.0 s.1.0 r.3 s.3
+one_value one date moment simples.Decimal f text v w ok r s = same_number one (decimal_rules f) (decimal_lawful f ok) (chars text) v w r.0 s.0 r.1.0 s.1.0 r.2 s.2
 one_value one date moment simples.Day f text v w ok r s = r.2 ∙ ap (λ d. values.Day d) (date (date_format f) text r.0 s.0 r.1 s.1) ∙ sym s.2
 one_value one date moment simples.Moment f text v w ok r s = r.2 ∙ ap (λ m. values.Moment m) (moment (moment_format f) text r.0 s.0 r.1 s.1) ∙ sym s.2
 
@@ -164,12 +176,12 @@ value_or_code one simples.Uri f text v code ok r m = m
 value_or_code one (simples.Other t) f text v code ok r m = m
 value_or_code one (simples.Floating t) f text v code ok r m = double_or_fault text r.0 m.0 r.1 m.1
 value_or_code one simples.Truth f text v code ok r m = m.0 r.0 r.1
-value_or_code one simples.Whole f text v code ok r m = not_misread (whole_rules f) (chars text) r.0 m.0 r.1 m.1
+value_or_code one simples.Whole f text v code ok r m = not_misread_as BadInteger (whole_rules f) f text r.0 code r.1 m
 value_or_code one (simples.Derived w) f text v code ok r m = elim m [
-  | inl n ↦ not_misread (whole_rules f) (chars text) r.0 n.0 r.1 n.1
-  | inr n ↦ n.2 (in_width w r.0 n.0 (one (whole_rules f) (chars text) r.0 n.0 (derived_lawful w f ok) r.1 n.1) r.2)
+  | inl n ↦ not_misread_as BadInteger (whole_rules f) f text r.0 code r.1 n
+  | inr n ↦ n.2 (in_width w r.0 n.0 (one (whole_rules f) (chars text) r.0 n.0 (derived_lawful w f ok) r.1.0 n.1.0) r.2)
 ]
-value_or_code one simples.Decimal f text v code ok r m = not_misread (decimal_rules f) (chars text) r.0 m.0 r.1 m.1
+value_or_code one simples.Decimal f text v code ok r m = not_misread_as BadDecimal (decimal_rules f) f text r.0 code r.1 m
 value_or_code one simples.Day f text v code ok r m = m.0 r.0 r.1
 value_or_code one simples.Moment f text v code ok r m = m.0 r.0 r.1
 
@@ -179,18 +191,18 @@ one_code simples.Uri f text c d ok p q = absurd p
 one_code (simples.Other t) f text c d ok p q = absurd p
 one_code (simples.Floating t) f text c d ok p q = p.2 ∙ ap double_code (one_double_fault text p.0 q.0 p.1 q.1) ∙ sym q.2
 one_code simples.Truth f text c d ok p q = p.1 ∙ sym q.1
-one_code simples.Whole f text c d ok p q = one_number_code BadInteger (whole_rules f) text c d p q
+one_code simples.Whole f text c d ok p q = one_number_code BadInteger (whole_rules f) f text c d p q
 one_code (simples.Derived w) f text c d ok p q = elim p [
   | inl m ↦ elim q [
-    | inl n ↦ one_number_code BadInteger (whole_rules f) text c d m n
-    | inr n ↦ absurd (not_misread (whole_rules f) (chars text) n.0 m.0 n.1 m.1)
+    | inl n ↦ one_number_code BadInteger (whole_rules f) f text c d m n
+    | inr n ↦ absurd (not_misread_as BadInteger (whole_rules f) f text n.0 c n.1 m)
   ]
   | inr m ↦ elim q [
-    | inl n ↦ absurd (not_misread (whole_rules f) (chars text) m.0 n.0 m.1 n.1)
+    | inl n ↦ absurd (not_misread_as BadInteger (whole_rules f) f text m.0 d m.1 n)
     | inr n ↦ m.3 ∙ sym n.3
   ]
 ]
-one_code simples.Decimal f text c d ok p q = one_number_code BadDecimal (decimal_rules f) text c d p q
+one_code simples.Decimal f text c d ok p q = one_number_code BadDecimal (decimal_rules f) f text c d p q
 one_code simples.Day f text c d ok p q = p.1 ∙ sym q.1
 one_code simples.Moment f text c d ok p q = p.1 ∙ sym q.1
 
@@ -243,9 +255,9 @@ writable dates moments simples.Uri f text v r = at_value (λ v. IsWritable v) v 
 writable dates moments (simples.Other t) f text v r = at_value (λ v. IsWritable v) v (values.Text text) r tt
 writable dates moments (simples.Floating t) f text v r = at_value (λ v. IsWritable v) v (values.Text r.0) r.2 tt
 writable dates moments simples.Truth f text v r = at_value (λ v. IsWritable v) v (values.Truth r.0) r.2 tt
-writable dates moments simples.Whole f text v r = at_value (λ v. IsWritable v) v (values.Number r.0) r.2 (size (whole_rules f) (chars text) r.0 r.1)
-writable dates moments (simples.Derived w) f text v r = at_value (λ v. IsWritable v) v (values.Number r.0) r.3 (size (whole_rules f) (chars text) r.0 r.1)
-writable dates moments simples.Decimal f text v r = at_value (λ v. IsWritable v) v (values.Number r.0) r.2 (size (decimal_rules f) (chars text) r.0 r.1)
+writable dates moments simples.Whole f text v r = at_value (λ v. IsWritable v) v (values.Number r.0) r.2 (size (whole_rules f) (chars text) r.0 r.1.0)
+writable dates moments (simples.Derived w) f text v r = at_value (λ v. IsWritable v) v (values.Number r.0) r.3 (size (whole_rules f) (chars text) r.0 r.1.0)
+writable dates moments simples.Decimal f text v r = at_value (λ v. IsWritable v) v (values.Number r.0) r.2 (size (decimal_rules f) (chars text) r.0 r.1.0)
 writable dates moments simples.Day f text v r = at_value (λ v. IsWritable v) v (values.Day r.0) r.2 (dates (date_format f) text r.0 r.1)
 writable dates moments simples.Moment f text v r = at_value (λ v. IsWritable v) v (values.Moment r.0) r.2 (moments (moment_format f) text r.0 r.1)
 
@@ -262,10 +274,10 @@ bound dates moments (simples.Other t) f text v h r = cc
 bound dates moments (simples.Floating t) f text v h r = cc
 bound dates moments simples.Truth f text v h r = cc
 bound dates moments simples.Whole f text v h r =
-    at_value (λ v. IsBoundOf simples.Whole v) v (values.Number r.0) r.2 (size (whole_rules f) (chars text) r.0 r.1, whole f (chars text) r.0 r.1)
+    at_value (λ v. IsBoundOf simples.Whole v) v (values.Number r.0) r.2 (size (whole_rules f) (chars text) r.0 r.1.0, whole f (chars text) r.0 r.1.0)
 bound dates moments (simples.Derived w) f text v h r = at_value (λ v. IsBoundOf (simples.Derived w) v) v (values.Number r.0) r.3
-    (size (whole_rules f) (chars text) r.0 r.1, whole f (chars text) r.0 r.1, r.2)
+    (size (whole_rules f) (chars text) r.0 r.1.0, whole f (chars text) r.0 r.1.0, r.2)
 bound dates moments simples.Decimal f text v h r =
-    at_value (λ v. IsBoundOf simples.Decimal v) v (values.Number r.0) r.2 (size (decimal_rules f) (chars text) r.0 r.1)
+    at_value (λ v. IsBoundOf simples.Decimal v) v (values.Number r.0) r.2 (size (decimal_rules f) (chars text) r.0 r.1.0)
 bound dates moments simples.Day f text v h r = at_value (λ v. IsBoundOf simples.Day v) v (values.Day r.0) r.2 (dates (date_format f) text r.0 r.1)
 bound dates moments simples.Moment f text v h r = at_value (λ v. IsBoundOf simples.Moment v) v (values.Moment r.0) r.2 (moments (moment_format f) text r.0 r.1)

@@ -25,7 +25,7 @@ use Rattle.csvw_datatype.specs.declared.simple.Simple.TheVariants as simples
 use Rattle.csvw_datatype.specs.declared.format.Format.{Format}
 use Rattle.csvw_datatype.specs.declared.format.Format.TheVariants as formats
 use Rattle.csvw_datatype.specs.declared.datatype.Datatype.{Datatype}
-use Rattle.csvw_datatype.specs.Formats.{format_rules}
+use Rattle.csvw_datatype.specs.Formats.{fits_format, format_rules}
 use Rattle.csvw_datatype.specs.Widths.{IsInWidth}
 
 -- the texts of booleans
@@ -55,6 +55,10 @@ moment_format _ = Seconds
 abbrev pub ReadsDouble : List ℕ → Value → Type 0
 ReadsDouble text v = (form : List ℕ) × (double_form text ≡ Some form) × (v ≡ values.Text form)
 
+-- the text is this number, and is written as the format's pattern says
+abbrev pub ReadsNumberAs : NumberRules → Option Format → List ℕ → ℤ → Type 0
+ReadsNumberAs rules format text z = ReadsNumber rules (chars text) z × (fits_format format (chars text) ≡ true)
+
 -- the text is this value
 abbrev pub ReadsAs : Simple → Option Format → List ℕ → Value → Type 0
 ReadsAs simples.Text format text v = v ≡ values.Text text
@@ -62,9 +66,9 @@ ReadsAs simples.Uri format text v = v ≡ values.Text text
 ReadsAs (simples.Other t) format text v = v ≡ values.Text text
 ReadsAs (simples.Floating t) format text v = ReadsDouble text v
 ReadsAs simples.Truth format text v = (b : Bool) × SpellsTruth format text b × (v ≡ values.Truth b)
-ReadsAs simples.Whole format text v = (z : ℤ) × ReadsNumber (whole_rules format) (chars text) z × (v ≡ values.Number z)
-ReadsAs (simples.Derived w) format text v = (z : ℤ) × ReadsNumber (whole_rules format) (chars text) z × IsInWidth w z × (v ≡ values.Number z)
-ReadsAs simples.Decimal format text v = (z : ℤ) × ReadsNumber (decimal_rules format) (chars text) z × (v ≡ values.Number z)
+ReadsAs simples.Whole format text v = (z : ℤ) × ReadsNumberAs (whole_rules format) format text z × (v ≡ values.Number z)
+ReadsAs (simples.Derived w) format text v = (z : ℤ) × ReadsNumberAs (whole_rules format) format text z × IsInWidth w z × (v ≡ values.Number z)
+ReadsAs simples.Decimal format text v = (z : ℤ) × ReadsNumberAs (decimal_rules format) format text z × (v ≡ values.Number z)
 ReadsAs simples.Day format text v = (day : ℤ) × ReadsDate (date_format format) text day × (v ≡ values.Day day)
 ReadsAs simples.Moment format text v = (moment : ℤ) × ReadsMoment (moment_format format) text moment × (v ≡ values.Moment moment)
 
@@ -82,8 +86,11 @@ abbrev pub double_code : DoubleFault → Code
 double_code double_faults.Bad = BadDouble
 double_code double_faults.TooLong = NumberTooLong
 
-abbrev pub MisreadsNumber : Code → NumberRules → List ℕ → Code → Type 0
-MisreadsNumber bad rules text code = (fault : NumberFault) × MisreadNumber rules (chars text) fault × (code ≡ number_code bad fault)
+-- a text that isn't written as the pattern says is no number of the format
+abbrev pub MisreadsNumber : Code → NumberRules → Option Format → List ℕ → Code → Type 0
+MisreadsNumber bad rules format text code =
+    ((fits_format format (chars text) ≡ false) × (code ≡ bad))
+    ⊎ ((fits_format format (chars text) ≡ true) × (fault : NumberFault) × MisreadNumber rules (chars text) fault × (code ≡ number_code bad fault))
 
 abbrev pub MisreadsDouble : List ℕ → Code → Type 0
 MisreadsDouble text code = (fault : DoubleFault) × IsDoubleFault text fault × (code ≡ double_code fault)
@@ -95,11 +102,11 @@ MisreadAs simples.Uri format text code = ⊥
 MisreadAs (simples.Other t) format text code = ⊥
 MisreadAs (simples.Floating t) format text code = MisreadsDouble text code
 MisreadAs simples.Truth format text code = ((b : Bool) → ¬ SpellsTruth format text b) × (code ≡ BadBoolean)
-MisreadAs simples.Whole format text code = MisreadsNumber BadInteger (whole_rules format) text code
+MisreadAs simples.Whole format text code = MisreadsNumber BadInteger (whole_rules format) format text code
 MisreadAs (simples.Derived w) format text code =
-    MisreadsNumber BadInteger (whole_rules format) text code
-    ⊎ ((z : ℤ) × ReadsNumber (whole_rules format) (chars text) z × (¬ IsInWidth w z) × (code ≡ OutOfRange))
-MisreadAs simples.Decimal format text code = MisreadsNumber BadDecimal (decimal_rules format) text code
+    MisreadsNumber BadInteger (whole_rules format) format text code
+    ⊎ ((z : ℤ) × ReadsNumberAs (whole_rules format) format text z × (¬ IsInWidth w z) × (code ≡ OutOfRange))
+MisreadAs simples.Decimal format text code = MisreadsNumber BadDecimal (decimal_rules format) format text code
 MisreadAs simples.Day format text code = ((day : ℤ) → ¬ ReadsDate (date_format format) text day) × (code ≡ BadDate)
 MisreadAs simples.Moment format text code = ((moment : ℤ) → ¬ ReadsMoment (moment_format format) text moment) × (code ≡ BadDateTime)
 

@@ -1,9 +1,9 @@
 //! The formats that texts of a datatype are written in.
-ghost use Rattle.std.specs.Prelude.{◌≡◌, ◌≢◌, ◌↔◌, IfOk, IsTrue, MatchOption, option_copied, ℕ};
+ghost use Rattle.std.specs.Prelude.{◌≡◌, ◌≢◌, ◌↔◌, ◌++◌, IfOk, OnOk, IsTrue, MatchOption, option_copied, string_bytes, encode_utf8_all, ℕ};
 ghost use Rattle.csvw_datatype.specs.Characters.{IsCharacter};
 ghost use Rattle.csvw_datatype.specs.Bars.{IsTruthText, has_bar, HasNoSplit, IsOnlySplit};
 
-use csvw_datatype_core::{DateFormat, MomentFormat, NumberRules};
+use csvw_datatype_core::{DateFormat, MomentFormat, NumberPattern, NumberRules};
 use csvw_text::{Copied, Text};
 use std::alloc::{AllocError, Global};
 
@@ -16,13 +16,15 @@ pub struct TruthFormat {
     pub if_false: Text,
 }
 
-/// The characters of a number (Model for Tabular Data and Metadata on the Web, section 6.4.2).
+/// The characters of a number, and its pattern (Model for Tabular Data and Metadata on the Web, section 6.4.2).
 #[derive(Clone, Copy, Debug, PartialEq, Eq)]
 pub struct NumberFormat {
     /// `decimalChar`, the character before a fraction.
     pub decimal_char: char,
     /// `groupChar`, the character that may be between two digits of the whole part.
     pub group_char: Option<char>,
+    /// `pattern`, if there is one. Without it numbers have as many digits and group characters as they like.
+    pub pattern: Option<NumberPattern>,
 }
 
 /// The way in which texts of a datatype are written, if it isn't the default.
@@ -86,10 +88,11 @@ impl TruthFormat {
 
 impl NumberFormat {
     ghost use Rattle.csvw_datatype.specs.declared.format.NumberFormat.{NumberFormat};
-    ghost use Rattle.csvw_datatype.specs.Formats.{IsNumberFormat, format_rules};
+    ghost use Rattle.std.specs.Str.{chars};
+    ghost use Rattle.csvw_datatype.specs.Formats.{IsNumberFormat, fits_pattern, format_rules, pattern_form_of};
 
-    /// Returns the format of the texts of `decimalChar`, which is `.` if it is absent, and `groupChar`. Returns
-    /// `None` if one of them isn't one character (Metadata Vocabulary for Tabular Data, section 5.11.2).
+    /// Returns the format without a pattern of the texts of `decimalChar`, which is `.` if it is absent, and `groupChar`.
+    /// Returns `None` if one of them isn't one character (Metadata Vocabulary for Tabular Data, section 5.11.2).
     pub fn of(decimal_char: Option<&str>, group_char: Option<&str>) -> Option<NumberFormat>
         ensures { MatchOption result
             ((f : NumberFormat) → ¬ IsNumberFormat (option_copied decimal_char.entry) (option_copied group_char.entry) f)
@@ -106,17 +109,38 @@ impl NumberFormat {
         Some(NumberFormat {
             decimal_char,
             group_char,
+            pattern: None,
         })
     }
 
     /// Returns how decimals are written in the format.
-    pub(crate) fn rules(&self) -> NumberRules
+    pub fn rules(&self) -> NumberRules
         ensures { result ≡ format_rules self.now }
     {
         NumberRules {
             decimal_char: Some(self.decimal_char),
             group_char: self.group_char,
             allows_marks: true,
+        }
+    }
+
+    /// Adds the pattern to a text, if there is one. Returns `AllocError` if memory runs out.
+    pub fn push_pattern(&self, text: &mut String) -> Result<(), AllocError>
+        ensures { OnOk result (string_bytes text.new ≡ string_bytes text.old ++ encode_utf8_all (pattern_form_of self.now)) }
+    {
+        match &self.pattern {
+            Some(pattern) => pattern.push_to(&self.rules(), text),
+            None => Ok(()),
+        }
+    }
+
+    /// Returns whether a number is written as the pattern says, if there is one.
+    pub(crate) fn fits(&self, text: &str) -> bool
+        ensures { result ≡ fits_pattern self.now (chars text.now) }
+    {
+        match &self.pattern {
+            Some(pattern) => pattern.fits(&self.rules(), text),
+            None => true,
         }
     }
 }

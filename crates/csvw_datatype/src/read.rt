@@ -2,7 +2,10 @@
 ghost use Rattle.std.specs.Prelude.{◌≡◌, IfOk, MatchResult};
 ghost use Rattle.csvw_datatype_core.specs.Numbers.{IsLawful};
 ghost use Rattle.csvw_datatype.specs.declared.simple.Simple.TheVariants as simples;
-ghost use Rattle.csvw_datatype.specs.Reads.{Reads, Misread, whole_rules, decimal_rules, date_format, moment_format, number_code, double_code, ReadsAs, MisreadAs, ReadsDouble, MisreadsDouble};
+ghost use Rattle.std.specs.Str.{chars};
+ghost use Rattle.csvw_fault.specs.declared.fault.Code.TheVariants.{BadInteger};
+ghost use Rattle.csvw_datatype.specs.Formats.{fits_format};
+ghost use Rattle.csvw_datatype.specs.Reads.{Reads, ReadsNumberAs, MisreadsNumber, Misread, whole_rules, decimal_rules, date_format, moment_format, number_code, double_code, ReadsAs, MisreadAs, ReadsDouble, MisreadsDouble};
 ghost use Rattle.csvw_datatype.specs.Sound.{IsSound};
 ghost use Rattle.csvw_datatype.specs.Lexical.{IsWritable};
 
@@ -24,7 +27,8 @@ impl Datatype {
     /// Returns the value that a text is, or the code of why it is none (Model for Tabular Data and Metadata on the
     /// Web, section 6.4). The datatype must have passed `check`.
     ///
-    /// - `BadBoolean`, `BadInteger`, `BadDecimal`, `BadDate`, `BadDateTime` or `BadDouble` if the text isn't written as one.
+    /// - `BadBoolean`, `BadInteger`, `BadDecimal`, `BadDate`, `BadDateTime` or `BadDouble` if the text isn't written as one, or
+    ///   not as the pattern of numbers says.
     /// - `NumberTooLong` if a number is 10^20 or more in size or not a whole multiple of 10^-18, or if the exponent of a
     ///   double has more than 18 digits.
     /// - Otherwise `OutOfRange` if the number is outside its derived type.
@@ -84,14 +88,52 @@ fn read_boolean(format: &Option<Format>, text: &str) -> Result<Value, Code>
     }
 }
 
+/// Returns whether a number is written as the format's pattern says.
+fn fits_format(format: &Option<Format>, text: &str) -> bool
+    ensures { result ≡ fits_format format.now (chars text.now) }
+{
+    match format {
+        Some(Format::Number(format)) => format.fits(text),
+        Some(Format::Truth(_) | Format::Day(_) | Format::Moment(_)) | None => true,
+    }
+}
+
+/// Reads a number of a format. Its code is this one if the text is no such number.
+fn read_formatted(
+    rules: &NumberRules,
+    bad: Code,
+    format: &Option<Format>,
+    text: &str,
+) -> Result<i128, Code>
+    requires { IsLawful rules.now }
+    ensures { MatchResult result (ReadsNumberAs rules.now format.now text.now) (MisreadsNumber bad rules.now format.now text.now) }
+{
+    if !fits_format(format, text) {
+        return Err(bad);
+    }
+    match read_number(rules, text) {
+        Ok(number) => Ok(number),
+        Err(fault) => Err(number_code(bad, fault)),
+    }
+}
+
+/// Reads the whole number of a format.
+fn whole_number(format: &Option<Format>, text: &str) -> Result<i128, Code>
+    requires { IsLawful (whole_rules format.now) }
+    ensures { MatchResult result (ReadsNumberAs (whole_rules format.now) format.now text.now)
+        (MisreadsNumber BadInteger (whole_rules format.now) format.now text.now) }
+{
+    read_formatted(&whole_rules(format), Code::BadInteger, format, text)
+}
+
 fn read_whole(format: &Option<Format>, text: &str) -> Result<Value, Code>
     requires { IsLawful (whole_rules format.now) }
     ensures { MatchResult result (ReadsAs simples.Whole format.now text.now)
         (MisreadAs simples.Whole format.now text.now) }
 {
-    match read_number(&whole_rules(format), text) {
+    match whole_number(format, text) {
         Ok(number) => Ok(Value::Number(number)),
-        Err(fault) => Err(number_code(Code::BadInteger, fault)),
+        Err(code) => Err(code),
     }
 }
 
@@ -100,7 +142,7 @@ fn read_derived(width: Width, format: &Option<Format>, text: &str) -> Result<Val
     ensures { MatchResult result (ReadsAs (simples.Derived width) format.now text.now)
         (MisreadAs (simples.Derived width) format.now text.now) }
 {
-    match read_number(&whole_rules(format), text) {
+    match whole_number(format, text) {
         Ok(number) => {
             if is_in_width(width, number) {
                 Ok(Value::Number(number))
@@ -108,7 +150,7 @@ fn read_derived(width: Width, format: &Option<Format>, text: &str) -> Result<Val
                 Err(Code::OutOfRange)
             }
         }
-        Err(fault) => Err(number_code(Code::BadInteger, fault)),
+        Err(code) => Err(code),
     }
 }
 
@@ -117,9 +159,9 @@ fn read_decimal(format: &Option<Format>, text: &str) -> Result<Value, Code>
     ensures { MatchResult result (ReadsAs simples.Decimal format.now text.now)
         (MisreadAs simples.Decimal format.now text.now) }
 {
-    match read_number(&decimal_rules(format), text) {
+    match read_formatted(&decimal_rules(format), Code::BadDecimal, format, text) {
         Ok(number) => Ok(Value::Number(number)),
-        Err(fault) => Err(number_code(Code::BadDecimal, fault)),
+        Err(code) => Err(code),
     }
 }
 
