@@ -1,11 +1,13 @@
 -- Each format that is read is one of its type, even if there is a fault in it.
-use Rattle.std.proofs.Common.{◌≡◌, ◌&&◌, not, ℕ, List, [], ◌∷◌, Bool, true, false, Option, Some, None, IfSome, refl, bytes_eq, codes, chars}
+use Rattle.std.proofs.Common.{◌≡◌, ◌&&◌, not, ℕ, List, [], ◌∷◌, Bool, true, false, Option, Some, None, IfSome, refl, bytes_eq, codes, chars, ◌==◌, Result, Ok, Err}
 use Rattle.std.proofs.Common.{if◌then◌else◌, arith}
 use Rattle.std.proofs.lemmas.Bool.Decides.{nat_tests}
 use Rattle.std.proofs.lemmas.Slice.Eq.{bytes_eq-Decides}
 use Rattle.serde_json.specs.Data.{Data, null, boolean, number, string, array, object}
 use Rattle.serde_json.specs.Find.{get, as_str}
 use Rattle.csvw_fault.specs.declared.fault.Place.{Place}
+use Rattle.csvw_datatype_core.specs.declared.number_pattern.NumberPattern.{NumberPattern}
+use Rattle.csvw_datatype_core.specs.declared.number_pattern.PatternFault.{PatternFault}
 use Rattle.csvw_datatype_core.specs.Numbers.{IsFree, IsLawful}
 use Rattle.csvw_datatype.specs.Bars.{has_bar, IsTruthText}
 use Rattle.csvw_datatype.specs.Formats.{AreTruthTexts, IsFormatOf, format_rules}
@@ -16,10 +18,13 @@ use Rattle.csvw_datatype.specs.declared.format.Format.{Format}
 use Rattle.csvw_datatype.specs.declared.format.Format.TheVariants as formats
 use Rattle.csvw_meta_core.specs.declared.fault.MetaCode.TheVariants.{BadDatatype}
 use Rattle.csvw_meta_core.specs.Pointer.{below}
-use Rattle.csvw_meta_core.specs.Read.{fine, faulty, given, under, on_kind}
-use Rattle.csvw_meta_datatype.specs.Formats.{number_found, number_format, format}
+use Rattle.csvw_meta_core.specs.declared.profile.Profile.{Profile}
+use Rattle.csvw_meta_core.specs.declared.profile.Profile.TheVariants.{Core, W3c}
+use Rattle.csvw_meta_core.specs.Read.{Read, fine, faulty, given, under, on_kind, on_linked_object}
+use Rattle.csvw_meta_datatype.specs.declared.format.FormatFound.{FormatFound}
+use Rattle.csvw_meta_datatype.specs.Formats.{no_format, number_found, number_format, format, pattern_read, text_or}
 use Rattle.csvw_meta_datatype.specs.Numbers.{is_free, character_found, character, sole, number_parts, no_characters, is_character, clashes}
-use Rattle.csvw_meta_datatype.specs.Numbers.{lawful_number, number_form}
+use Rattle.csvw_meta_datatype.specs.Numbers.{lawful_number, number_form, pattern_in, patterned, default_group, with_group, with_pattern}
 use Rattle.csvw_meta_datatype.specs.Truths.{is_truth_text, are_truth_texts, truth_texts, truth_format_of, no_truths, truths_found, truth_format}
 use Rattle.csvw_meta_datatype.specs.Truths.{before_bar, behind_bar}
 
@@ -110,9 +115,9 @@ optional_free at (Some d) = character_free at d
 abbrev AreFree : NumberFormat → Type 0
 AreFree f = IsFree f.decimal_char × IfSome f.group_char IsFree
 
-parts_free : (at : List ℕ) (d : Data) → AreFree (number_parts at d).value
+parts_free : (profile : Profile) (at : List ℕ) (d : Data) → AreFree (number_parts profile at d).value.format
 unfolding number_parts
-parts_free at d =
+parts_free profile at d =
     (given_free (below at (codes "decimalChar")) (get (codes "decimalChar") d), optional_free (below at (codes "groupChar")) (get (codes "groupChar") d))
 
 differ_of : (a : ℕ) (g : Option ℕ) → is_character a g ≡ false → (c : ℕ) → Some a ≡ Some c → g ≡ Some c → ⊥
@@ -125,31 +130,80 @@ differ_of a (Some b) h c p q =
 lawful_of : (f : NumberFormat) → AreFree f → clashes f ≡ false → IsLawful (format_rules f)
 lawful_of f free h = record { decimal_char = free.0; group_char = free.1; differ = differ_of f.decimal_char f.group_char h }
 
-default_lawful : IsLawful (format_rules no_characters)
-default_lawful = lawful_of no_characters (point_free, tt) refl
+comma_free : IsFree 44
+comma_free = record {
+  no_digit = λ h. omega arith;
+  no_plus = λ e. omega arith;
+  no_minus = λ e. omega arith;
+  no_percent = λ e. omega arith;
+  no_per_mille = λ e. omega arith;
+  no_tab = λ e. omega arith;
+  no_line_feed = λ e. omega arith;
+  no_carriage_return = λ e. omega arith;
+}
 
-chosen_lawful : (f : NumberFormat) → AreFree f → (b : Bool) → clashes f ≡ b → IsLawful (format_rules (if b then no_characters else f))
-chosen_lawful f free true h = default_lawful
-chosen_lawful f free false h = lawful_of f free h
+-- the default group character of a pattern is free and differs from the decimal character
+group_free : (c : ℕ) (b : Bool) → (c == 44) ≡ b → IfSome (if b then None else Some 44) IsFree × (is_character c (if b then None else Some 44) ≡ false)
+group_free c true e = (tt, refl)
+group_free c false e = (comma_free, grind (arith, nat_tests))
 
-lawful_sound : (at : List ℕ) (d : Data) → IsLawful (format_rules (lawful_number at d).value)
-lawful_sound at d = chosen_lawful (number_parts at d).value (parts_free at d) (clashes (number_parts at d).value) refl
+group_both : (c : ℕ) (g : Option ℕ) → IsFree c → IfSome g IsFree → is_character c g ≡ false
+    → (IsFree c × IfSome (default_group c g) IsFree) × (is_character c (default_group c g) ≡ false)
+group_both c None decimal group h = let g = group_free c (c == 44) refl in ((decimal, g.0), g.1)
+group_both c (Some g) decimal group h = ((decimal, group), h)
+
+group_lawful : (f : NumberFormat) → AreFree f → clashes f ≡ false → AreFree (with_group f) × (clashes (with_group f) ≡ false)
+group_lawful f free h = group_both f.decimal_char f.group_char free.0 free.1 h
+
+patterned_lawful : (f : NumberFormat) (r : Result NumberPattern PatternFault) → AreFree f → clashes f ≡ false → IsLawful (format_rules (patterned f r))
+patterned_lawful f (Ok p) free h =
+    let g = group_lawful f free h in
+    let l = lawful_of (with_group f) g.0 g.1 in record { decimal_char = l.decimal_char; group_char = l.group_char; differ = l.differ }
+patterned_lawful f (Err fault) free h = lawful_of f free h
+
+pattern_lawful : (f : NumberFormat) (o : Option (List ℕ)) → AreFree f → clashes f ≡ false → IsLawful (format_rules (with_pattern f o))
+pattern_lawful f None free h = lawful_of f free h
+pattern_lawful f (Some s) free h = patterned_lawful f (pattern_in f s) free h
+
+chosen_lawful : (f : NumberFormat) (o : Option (List ℕ)) → AreFree f → (b : Bool) → clashes f ≡ b
+    → IsLawful (format_rules (with_pattern (if b then no_characters else f) o))
+chosen_lawful f o free true h = pattern_lawful no_characters o (point_free, tt) refl
+chosen_lawful f o free false h = pattern_lawful f o free h
+
+lawful_sound : (profile : Profile) (at : List ℕ) (d : Data) → IsLawful (format_rules (lawful_number profile at d).value)
+lawful_sound profile at d =
+    let parts = (number_parts profile at d).value in
+    chosen_lawful parts.format parts.pattern (parts_free profile at d) (clashes parts.format) refl
 
 -- the format of a number, where there is one, has lawful characters
 abbrev IsOfNumbers : Option Format → Type 0
 IsOfNumbers o = IsFormatOf simples.Decimal o
 
-form_sound : (place : Place) (at : List ℕ) (d : Data) → IsOfNumbers (number_found (number_form place at d).value).format
+form_sound : (profile : Profile) (place : Place) (at : List ℕ) (d : Data) → IsOfNumbers (number_found (number_form profile place at d).value).format
 unfolding number_form
-form_sound place at d = lawful_sound at d
+form_sound profile place at d = lawful_sound profile at d
 
-number_sound : (place : Place) (at : List ℕ) (d : Data) → IsOfNumbers (number_format place at d).value.format
-number_sound place at (object ms) = form_sound place at (object ms)
-number_sound place at null = tt
-number_sound place at (boolean b) = tt
-number_sound place at (number n) = tt
-number_sound place at (string s) = tt
-number_sound place at (array ds) = tt
+linked_sound : (profile : Profile) (place : Place) (at : List ℕ) (d : Data)
+    → IsOfNumbers (on_linked_object at d no_format (under number_found (number_form profile place at d))).value.format
+linked_sound profile place at (object ms) = form_sound profile place at (object ms)
+linked_sound profile place at null = tt
+linked_sound profile place at (boolean b) = tt
+linked_sound profile place at (number n) = tt
+linked_sound profile place at (string s) = tt
+linked_sound profile place at (array ds) = tt
+
+text_sound : (at : List ℕ) (r : Result NumberPattern PatternFault) → IsOfNumbers (pattern_read at r).value.format
+text_sound at (Ok p) = patterned_lawful no_characters (Ok p) (point_free, tt) refl
+text_sound at (Err fault) = tt
+
+either_sound : (profile : Profile) (at : List ℕ) (o : Option (List ℕ)) (r : Read FormatFound) → IsOfNumbers r.value.format
+    → IsOfNumbers (text_or profile at o r).value.format
+either_sound Core at o r h = h
+either_sound W3c at None r h = h
+either_sound W3c at (Some s) r h = text_sound at (pattern_in no_characters s)
+
+number_sound : (profile : Profile) (place : Place) (at : List ℕ) (d : Data) → IsOfNumbers (number_format profile place at d).value.format
+number_sound profile place at d = either_sound profile at (as_str d) _ (linked_sound profile place at d)
 
 as_whole : (o : Option Format) → IsOfNumbers o → IsFormatOf simples.Whole o
 as_whole None h = tt
@@ -160,15 +214,15 @@ as_whole (Some (formats.Moment f)) h = absurd h
 
 -- ---- all types
 
-pub format_sound : (simple : Simple) (place : Place) (at : List ℕ) (d : Data) → IsFormatOf simple (format simple place at d).value.format
+pub format_sound : (profile : Profile) (simple : Simple) (place : Place) (at : List ℕ) (d : Data) → IsFormatOf simple (format profile simple place at d).value.format
 unfolding format
-format_sound simples.Text place at d = tt
-format_sound simples.Uri place at d = tt
-format_sound (simples.Other t) place at d = tt
-format_sound (simples.Floating t) place at d = tt
-format_sound simples.Truth place at d = truth_sound at d
-format_sound simples.Whole place at d = as_whole (number_format place at d).value.format (number_sound place at d)
-format_sound (simples.Derived w) place at d = as_whole (number_format place at d).value.format (number_sound place at d)
-format_sound simples.Decimal place at d = number_sound place at d
-format_sound simples.Day place at d = tt
-format_sound simples.Moment place at d = tt
+format_sound profile simples.Text place at d = tt
+format_sound profile simples.Uri place at d = tt
+format_sound profile (simples.Other t) place at d = tt
+format_sound profile (simples.Floating t) place at d = tt
+format_sound profile simples.Truth place at d = truth_sound at d
+format_sound profile simples.Whole place at d = as_whole (number_format profile place at d).value.format (number_sound profile place at d)
+format_sound profile (simples.Derived w) place at d = as_whole (number_format profile place at d).value.format (number_sound profile place at d)
+format_sound profile simples.Decimal place at d = number_sound profile place at d
+format_sound profile simples.Day place at d = tt
+format_sound profile simples.Moment place at d = tt

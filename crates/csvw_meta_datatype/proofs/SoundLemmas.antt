@@ -50,22 +50,23 @@ plain_sound s id = record { format = tt; bounds = no_bounds s; lengths_apply = n
 -- the laws of formats and facets
 
 abbrev FormatsFit : Type 0
-FormatsFit = (s : Simple) (place : Place) (at : List ℕ) (d : Data) → IsFormatOf s (format s place at d).value.format
+FormatsFit = (profile : Profile) (s : Simple) (place : Place) (at : List ℕ) (d : Data) → IsFormatOf s (format profile s place at d).value.format
 
 abbrev AllFacetsFit : Type 0
 AllFacetsFit = (s : Simple) (at : List ℕ) (d : Data) → FacetsFit s (facets s at d).value
 
-given_format : FormatsFit → (s : Simple) (place : Place) (at : List ℕ) (o : Option Data) → IsFormatOf s (given (format s place) no_format at o).value.format
-given_format formats s place at None = tt
-given_format formats s place at (Some d) = formats s place at d
+given_format : FormatsFit → (profile : Profile) (s : Simple) (place : Place) (at : List ℕ) (o : Option Data)
+    → IsFormatOf s (given (format profile s place) no_format at o).value.format
+given_format formats profile s place at None = tt
+given_format formats profile s place at (Some d) = formats profile s place at d
 
-of_type_sound : FormatsFit → AllFacetsFit → (iri : Option (List ℕ)) (place : Place) (at : List ℕ) (d : Data) (s : Simple)
-    → IsSound (of_type iri place at d s).value.datatype
+of_type_sound : FormatsFit → AllFacetsFit → (profile : Profile) (iri : Option (List ℕ)) (place : Place) (at : List ℕ) (d : Data) (s : Simple)
+    → IsSound (of_type profile iri place at d s).value.datatype
 unfolding of_type
-of_type_sound formats all iri place at d s =
+of_type_sound formats all profile iri place at d s =
     let fit : FacetsFit s (facets s at d).value = all s at d in
     record {
-      format = given_format formats s place (below at (codes "format")) (get (codes "format") d);
+      format = given_format formats profile s place (below at (codes "format")) (get (codes "format") d);
       bounds = fit.bounds;
       lengths_apply = fit.lengths_apply;
       lengths_agree = fit.lengths_agree;
@@ -81,7 +82,7 @@ module _ (formats : FormatsFit) (all : AllFacetsFit) where
   based_sound : (profile : Profile) (iri : Option (List ℕ)) (place : Place) (at : List ℕ) (d : Data) → IsSound (based profile iri place at d).value.datatype
   based_sound profile iri place at d =
       let type = property (base profile) Text at d (codes "base") in
-      by_sound (simples_of profile) type.faults type.value (of_type iri place at d) (of_type_sound formats all iri place at d)
+      by_sound (simples_of profile) type.faults type.value (of_type profile iri place at d) (of_type_sound formats all profile iri place at d)
 
   form_sound : (profile : Profile) (against : Parts) (place : Place) (at : List ℕ) (d : Data) → IsSound (form profile against place at d).value.datatype
   unfolding form

@@ -28,9 +28,9 @@ abbrev pub named : Simple → DatatypeFound
 named simple = record { datatype = plain simple None; warnings = [] }
 
 -- The datatype of a type, with the format and the facets of an object.
-unfoldable pub of_type : Option (List ℕ) → Place → List ℕ → Data → Simple → Read DatatypeFound
-of_type id place at d simple = do
-  found ← property (format simple place) no_format at d (codes "format")
+unfoldable pub of_type : Profile → Option (List ℕ) → Place → List ℕ → Data → Simple → Read DatatypeFound
+of_type profile id place at d simple = do
+  found ← property (format profile simple place) no_format at d (codes "format")
   facets ← facets simple at d
   fine (record {
     datatype = record { simple = simple; id = id; format = found.format; facets = facets };
@@ -40,7 +40,7 @@ of_type id place at d simple = do
 -- If the type of an object can't be read, its format and facets have the faults that they have for every datatype of the profile.
 abbrev pub based : Profile → Option (List ℕ) → Place → List ℕ → Data → Read DatatypeFound
 based profile id place at d =
-    whichever (simples_of profile) (named Text) (property (base profile) Text at d (codes "base")) (of_type id place at d)
+    whichever (simples_of profile) (named Text) (property (base profile) Text at d (codes "base")) (of_type profile id place at d)
 
 -- the datatype that an object describes
 unfoldable pub form : Profile → Parts → Place → List ℕ → Data → Read DatatypeFound

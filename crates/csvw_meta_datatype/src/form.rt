@@ -68,18 +68,24 @@ fn warnings_of(base: &Base, place: Place, part: &Part) -> Result<Seq<Fault>, Ref
 /// Reads the format and the facets of the object, for the datatype of a type.
 #[tactic(auto, using(crate::proofs::ReadLemmas::fails_first), unfolding(crate::specs::Datatypes::of_type))]
 fn read_of_type(
+    profile: Profile,
     simple: Simple,
     id: Option<Iri>,
     place: Place,
     part: &Part,
 ) -> Result<DatatypeFound, Refusal>
-    ensures { Reads result (of_type id place (text_of part.now.at) (view part.now.value.now) simple) }
+    ensures { Reads result (of_type profile id place (text_of part.now.at) (view part.now.value.now) simple) }
 {
     let none = FormatFound {
         format: None,
         warnings: Seq::new(part.alloc),
     };
-    let found = part.property(&FormatReader { simple, place }, none, "format")?;
+    let reader = FormatReader {
+        profile,
+        simple,
+        place,
+    };
+    let found = part.property(&reader, none, "format")?;
     let facets = FacetsReader { simple }.read(part)?;
     Ok(DatatypeFound {
         datatype: Datatype {
@@ -103,7 +109,7 @@ fn read_based(
     ensures { Reads result (based profile id place (text_of part.now.at) (view part.now.value.now)) }
 {
     let simple = part.property(&BaseReader { profile }, Simple::Text, "base")?;
-    read_of_type(simple, id, place, part)
+    read_of_type(profile, simple, id, place, part)
 }
 
 /// Reads the datatype that an object describes. Its `@id` is resolved against the base.

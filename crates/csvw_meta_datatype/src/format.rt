@@ -3,13 +3,15 @@ ghost use Rattle.std.specs.Prelude.{◌≡◌};
 ghost use Rattle.serde_json.specs.View.{view};
 ghost use Rattle.csvw_meta_core.specs.Pointer.{text_of};
 ghost use Rattle.csvw_meta_core.specs.Reads.{Reads};
-ghost use Rattle.csvw_meta_datatype.specs.Formats.{number_format};
+ghost use Rattle.csvw_meta_core.specs.Read.{under};
+ghost use Rattle.csvw_meta_datatype.specs.Formats.{number_format, number_found, text_format};
+ghost use Rattle.csvw_meta_datatype.specs.Numbers.{number_form};
 
-use crate::number::read_number_form;
+use crate::number::{PLAIN, pattern_code, pattern_in, patterned, read_number_form};
 use crate::pattern::{DatePattern, MomentPattern};
 use crate::truth::TruthPattern;
 use csvw_datatype::{Format, Simple};
-use csvw_meta_core::{MetaCode, Part, Reader, Refusal};
+use csvw_meta_core::{MetaCode, Part, Profile, Reader, Refusal};
 use csvw_text::{Fault, Place, Seq};
 use serde_json::Value;
 
@@ -22,29 +24,50 @@ pub struct FormatFound {
     pub warnings: Seq<Fault>,
 }
 
-/// Reads the format of a datatype. For a type of texts or of numbers with an exponent it is `NotSupported`. For a number, a text is `NotSupported`.
-/// A pattern of a date or a moment that is not supported is `NotSupported`. A wrong character of a number or a wrong
-/// pattern of a boolean is `BadDatatype`.
+/// Reads the format of a datatype. For a type of texts or of numbers with an exponent it is `NotSupported`. For a number, a
+/// text is `NotSupported` in the profile core. A pattern of a date or a moment that is not supported is `NotSupported`, and
+/// so is one of a number with a character that isn't. A wrong character or pattern of a number, or a wrong pattern of a
+/// boolean, is `BadDatatype`.
 #[derive(Drop)]
 pub struct FormatReader {
+    /// The formats that the document may use.
+    pub profile: Profile,
     /// The datatype's `base`.
     pub simple: Simple,
     /// The place of the warnings.
     pub place: Place,
 }
 
-fn read_number_format(place: Place, part: &Part) -> Result<FormatFound, Refusal>
-    ensures { Reads result (number_format place (text_of part.now.at) (view part.now.value.now)) }
+fn read_number_object(profile: Profile, place: Place, part: &Part) -> Result<FormatFound, Refusal>
+    ensures { Reads result (under number_found (number_form profile place (text_of part.now.at) (view part.now.value.now))) }
 {
-    match part.value {
-        Value::Object(_) => {
-            let found = read_number_form(place, part)?;
-            Ok(FormatFound {
-                format: Some(Format::Number(found.format)),
-                warnings: found.warnings,
-            })
-        }
-        Value::String(_) => Err(part.refused(MetaCode::NotSupported)),
+    let found = read_number_form(profile, place, part)?;
+    Ok(FormatFound {
+        format: Some(Format::Number(found.format)),
+        warnings: found.warnings,
+    })
+}
+
+/// Reads a text as the pattern of numbers.
+fn read_number_text(text: &str, part: &Part) -> Result<FormatFound, Refusal>
+    ensures { Reads result (text_format (text_of part.now.at) text.now) }
+{
+    match pattern_in(PLAIN, text) {
+        Ok(pattern) => Ok(FormatFound {
+            format: Some(Format::Number(patterned(PLAIN, pattern))),
+            warnings: Seq::new(part.alloc),
+        }),
+        Err(fault) => Err(part.refused(pattern_code(fault))),
+    }
+}
+
+fn read_number_format(profile: Profile, place: Place, part: &Part) -> Result<FormatFound, Refusal>
+    ensures { Reads result (number_format profile place (text_of part.now.at) (view part.now.value.now)) }
+{
+    match (profile, part.value) {
+        (_, Value::Object(_)) => read_number_object(profile, place, part),
+        (Profile::W3c, Value::String(text)) => read_number_text(text.as_str(), part),
+        (Profile::Core, Value::String(_)) => Err(part.refused(MetaCode::NotSupported)),
         _ => Err(part.wrong()),
     }
 }
@@ -54,7 +77,7 @@ impl Reader for FormatReader {
 
     type Output = FormatFound;
 
-    ghost reads = { λ r. format r.simple r.place };
+    ghost reads = { λ r. format r.profile r.simple r.place };
 
     #[tactic(auto, unfolding(crate::specs::Formats::format))]
     fn read(&self, part: &Part) -> Result<FormatFound, Refusal> {
@@ -63,7 +86,7 @@ impl Reader for FormatReader {
                 return Err(part.refused(MetaCode::NotSupported));
             }
             Simple::Whole | Simple::Derived(_) | Simple::Decimal => {
-                return read_number_format(self.place, part);
+                return read_number_format(self.profile, self.place, part);
             }
             Simple::Truth => Format::Truth(TruthPattern.read(part)?),
             Simple::Day => Format::Day(DatePattern.read(part)?),

@@ -18,10 +18,11 @@ use Rattle.csvw_template.specs.Reading as reading
 use Rattle.csvw_meta_core.specs.declared.fault.MetaCode.{MetaCode}
 use Rattle.csvw_meta_core.specs.declared.fault.MetaCode.TheVariants.{BadDatatype, BadProperty, NotSupported}
 use Rattle.csvw_meta_core.specs.declared.profile.Profile.{Profile}
+use Rattle.csvw_meta_core.specs.declared.profile.Profile.TheVariants.{Core, W3c}
 use Rattle.csvw_meta_core.specs.Read.{Read, fine, faulty, on_kind_as, wrong}
 use Rattle.csvw_meta_datatype.specs.Lengths.{length, length_on}
 use Rattle.csvw_meta_datatype.specs.Bounds.{bound, bound_found, bound_of_integer, is_dated}
-use Rattle.csvw_meta_datatype.specs.Numbers.{character, character_found, is_free, sole}
+use Rattle.csvw_meta_datatype.specs.Numbers.{character, character_found, is_free, pattern_text, sole}
 use Rattle.csvw_meta_datatype.specs.Base.{base, simple_found}
 use Rattle.csvw_meta_datatype.specs.Names.{named_of}
 use Rattle.csvw_meta_datatype.specs.Patterns.{date_format, date_format_of, moment_format, moment_format_of, pattern_found}
@@ -113,6 +114,14 @@ character_has_one at d =
 pub character_stands_in : (at : List ℕ) (d : Data) → StandsIn 46 (character at d)
 character_stands_in at d =
     in_kind BadProperty at d 46 (as_str d) (λ s. character_found at (sole (chars s))) (λ s. character_found_stands_in at (sole (chars s)))
+
+pub pattern_text_has_one : (profile : Profile) (at : List ℕ) (d : Data) → AtMostOne (pattern_text profile at d).faults
+pattern_text_has_one Core at d = tt
+pattern_text_has_one W3c at d = of_kind BadProperty at d None (as_str d) (λ s. fine (Some s)) (λ s. tt)
+
+pub pattern_text_stands_in : (profile : Profile) (at : List ℕ) (d : Data) → StandsIn None (pattern_text profile at d)
+pattern_text_stands_in Core at d = refl
+pattern_text_stands_in W3c at d = in_kind BadProperty at d None (as_str d) (λ s. fine (Some s)) (λ s. tt)
 
 -- ---- formats
 

@@ -25,32 +25,45 @@ impl OneFault for BaseReader {
 
 /// Adds the faults of the format and the facets of the object, for the datatype of a type.
 #[tactic(auto, unfolding(csvw_meta_datatype::specs::Datatypes::of_type))]
-fn find_of_type(simple: Simple, part: &Part, faults: &mut Vec<MetaFault>) -> Result<(), AllocError>
+fn find_of_type(
+    profile: Profile,
+    simple: Simple,
+    part: &Part,
+    faults: &mut Vec<MetaFault>,
+) -> Result<(), AllocError>
     ensures { (id : Option (List ℕ)) (place : ThePlace) → OnOk result (faults.new.items ≡ faults.old.items
-        ++ (of_type id place (text_of part.now.at) (view part.now.value.now) simple).faults) }
+        ++ (of_type profile id place (text_of part.now.at) (view part.now.value.now) simple).faults) }
 {
-    find_format(simple, part, faults)?;
+    find_format(profile, simple, part, faults)?;
     find_facets(simple, part, faults)
 }
 
 /// Returns the faults of the format and the facets for the datatype of a type.
-fn faults_of_type(simple: Simple, part: &Part) -> Result<Seq<MetaFault>, AllocError>
+fn faults_of_type(
+    profile: Profile,
+    simple: Simple,
+    part: &Part,
+) -> Result<Seq<MetaFault>, AllocError>
     ensures { (id : Option (List ℕ)) (place : ThePlace) → IfOk result (λ fs. fs ≡
-        (of_type id place (text_of part.now.at) (view part.now.value.now) simple).faults) }
+        (of_type profile id place (text_of part.now.at) (view part.now.value.now) simple).faults) }
 {
     let mut faults = Vec::new(part.alloc);
-    find_of_type(simple, part, &mut faults)?;
+    find_of_type(profile, simple, part, &mut faults)?;
     Ok(Seq::of(faults))
 }
 
 /// Returns the faults of the format and the facets for each of these types.
-fn faults_of_each(simples: &[Simple], part: &Part) -> Result<Seq<Seq<MetaFault>>, AllocError>
+fn faults_of_each(
+    profile: Profile,
+    simples: &[Simple],
+    part: &Part,
+) -> Result<Seq<Seq<MetaFault>>, AllocError>
     ensures { (id : Option (List ℕ)) (place : ThePlace) → IfOk result (λ lists. lists
-        ≡ map (λ s. (of_type id place (text_of part.now.at) (view part.now.value.now) s).faults) simples.now) }
+        ≡ map (λ s. (of_type profile id place (text_of part.now.at) (view part.now.value.now) s).faults) simples.now) }
 {
     let mut lists = Vec::new(part.alloc);
     for simple in simples {
-        let list = faults_of_type(*simple, part)?;
+        let list = faults_of_type(profile, *simple, part)?;
         lists.push(list)?;
     }
     Ok(Seq::of(lists))
@@ -59,10 +72,10 @@ fn faults_of_each(simples: &[Simple], part: &Part) -> Result<Seq<Seq<MetaFault>>
 /// Returns the faults of the format and the facets that every datatype of the profile has.
 fn faults_of_any(profile: Profile, part: &Part) -> Result<Seq<MetaFault>, AllocError>
     ensures { (id : Option (List ℕ)) (place : ThePlace) → IfOk result (λ fs. fs ≡ of_any
-        (map (λ s. (of_type id place (text_of part.now.at) (view part.now.value.now) s).faults) (simples_of profile))) }
+        (map (λ s. (of_type profile id place (text_of part.now.at) (view part.now.value.now) s).faults) (simples_of profile))) }
 {
     let simples = simples_of(part.alloc, profile)?;
-    let lists = faults_of_each(simples.as_slice(), part)?;
+    let lists = faults_of_each(profile, simples.as_slice(), part)?;
     of_any(part.alloc, lists.as_slice())
 }
 
@@ -74,7 +87,7 @@ fn add_of_any(
     faults: &mut Vec<MetaFault>,
 ) -> Result<(), AllocError>
     ensures { (id : Option (List ℕ)) (place : ThePlace) → OnOk result (faults.new.items ≡ faults.old.items ++ fault ∷ of_any
-        (map (λ s. (of_type id place (text_of part.now.at) (view part.now.value.now) s).faults) (simples_of profile))) }
+        (map (λ s. (of_type profile id place (text_of part.now.at) (view part.now.value.now) s).faults) (simples_of profile))) }
 {
     let shared = faults_of_any(profile, part)?;
     faults.push(fault)?;
@@ -93,7 +106,7 @@ pub fn find_based(
         ++ (based profile id place (text_of part.now.at) (view part.now.value.now)).faults) }
 {
     match part.property(&BaseReader { profile }, Simple::Text, "base") {
-        Ok(simple) => find_of_type(simple, part, faults),
+        Ok(simple) => find_of_type(profile, simple, part, faults),
         Err(Refusal::Memory) => Err(AllocError),
         Err(Refusal::Fault(fault)) => add_of_any(profile, fault, part, faults),
     }

@@ -4,13 +4,14 @@ ghost use Rattle.serde_json.specs.View.{view};
 ghost use Rattle.csvw_fault.specs.declared.fault.Place.{Place as ThePlace};
 ghost use Rattle.csvw_meta_core.specs.Pointer.{text_of};
 ghost use Rattle.csvw_meta_core.specs.Read.{property};
-ghost use Rattle.csvw_meta_datatype.specs.Formats.{format, no_format, number_format};
+ghost use Rattle.csvw_meta_datatype.specs.Formats.{format, no_format, number_format, text_format};
 ghost use Rattle.csvw_meta_faults_parts.specs.Leaves.{date_has_one, moment_has_one, truth_format_has_one};
 
 use crate::leaf::{Leaf, OneFault};
 use crate::number::find_number_form;
 use csvw_datatype::Simple;
-use csvw_meta_core::{MetaCode, MetaFault, Part};
+use csvw_meta_core::{MetaCode, MetaFault, Part, Profile};
+use csvw_meta_datatype::number::{PLAIN, pattern_code, pattern_in};
 use csvw_meta_datatype::pattern::{DatePattern, MomentPattern};
 use csvw_meta_datatype::truth::TruthPattern;
 use csvw_meta_faults_core::{add_fault, add_wrong, find_sole};
@@ -29,14 +30,29 @@ impl OneFault for TruthPattern {
     ghost at_most_one = { λ _. truth_format_has_one };
 }
 
-/// Adds the faults of the format of a number.
-fn find_number_format(part: &Part, faults: &mut Vec<MetaFault>) -> Result<(), AllocError>
-    ensures { (place : ThePlace) → OnOk result (faults.new.items ≡ faults.old.items
-        ++ (number_format place (text_of part.now.at) (view part.now.value.now)).faults) }
+/// Adds the fault of a text as the pattern of numbers.
+fn find_number_text(text: &str, part: &Part, faults: &mut Vec<MetaFault>) -> Result<(), AllocError>
+    ensures { OnOk result (faults.new.items ≡ faults.old.items ++ (text_format (text_of part.now.at) text.now).faults) }
 {
-    match part.value {
-        Value::Object(_) => find_number_form(part, faults),
-        Value::String(_) => add_fault(part, MetaCode::NotSupported, faults),
+    match pattern_in(PLAIN, text) {
+        Ok(_) => Ok(()),
+        Err(fault) => add_fault(part, pattern_code(fault), faults),
+    }
+}
+
+/// Adds the faults of the format of a number.
+fn find_number_format(
+    profile: Profile,
+    part: &Part,
+    faults: &mut Vec<MetaFault>,
+) -> Result<(), AllocError>
+    ensures { (place : ThePlace) → OnOk result (faults.new.items ≡ faults.old.items
+        ++ (number_format profile place (text_of part.now.at) (view part.now.value.now)).faults) }
+{
+    match (profile, part.value) {
+        (_, Value::Object(_)) => find_number_form(profile, part, faults),
+        (Profile::W3c, Value::String(text)) => find_number_text(text.as_str(), part, faults),
+        (Profile::Core, Value::String(_)) => add_fault(part, MetaCode::NotSupported, faults),
         _ => add_wrong(part, faults),
     }
 }
@@ -44,12 +60,13 @@ fn find_number_format(part: &Part, faults: &mut Vec<MetaFault>) -> Result<(), Al
 /// Adds the faults of the format of a datatype of this type.
 #[tactic(auto, unfolding(csvw_meta_datatype::specs::Formats::format))]
 fn find_format_here(
+    profile: Profile,
     simple: Simple,
     part: &Part,
     faults: &mut Vec<MetaFault>,
 ) -> Result<(), AllocError>
     ensures { (place : ThePlace) → OnOk result (faults.new.items ≡ faults.old.items
-        ++ (format simple place (text_of part.now.at) (view part.now.value.now)).faults) }
+        ++ (format profile simple place (text_of part.now.at) (view part.now.value.now)).faults) }
 {
     let truth = Leaf {
         reader: TruthPattern,
@@ -64,7 +81,9 @@ fn find_format_here(
         Simple::Text | Simple::Uri | Simple::Other(_) | Simple::Floating(_) => {
             add_fault(part, MetaCode::NotSupported, faults)
         }
-        Simple::Whole | Simple::Derived(_) | Simple::Decimal => find_number_format(part, faults),
+        Simple::Whole | Simple::Derived(_) | Simple::Decimal => {
+            find_number_format(profile, part, faults)
+        }
         Simple::Truth => find_sole(part, &truth, faults),
         Simple::Day => find_sole(part, &day, faults),
         Simple::Moment => find_sole(part, &moment, faults),
@@ -73,15 +92,16 @@ fn find_format_here(
 
 /// Adds the faults of the property `format` for a datatype of this type.
 pub fn find_format(
+    profile: Profile,
     simple: Simple,
     part: &Part,
     faults: &mut Vec<MetaFault>,
 ) -> Result<(), AllocError>
     ensures { (place : ThePlace) → OnOk result (faults.new.items ≡ faults.old.items
-        ++ (property (format simple place) no_format (text_of part.now.at) (view part.now.value.now) (codes "format")).faults) }
+        ++ (property (format profile simple place) no_format (text_of part.now.at) (view part.now.value.now) (codes "format")).faults) }
 {
     match part.value.get("format") {
         None => Ok(()),
-        Some(value) => find_format_here(simple, &part.member("format", value), faults),
+        Some(value) => find_format_here(profile, simple, &part.member("format", value), faults),
     }
 }

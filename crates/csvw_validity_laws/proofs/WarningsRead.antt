@@ -1,11 +1,13 @@
 -- What is ignored in the parts of a document is reported only as warnings, whatever other faults there are.
-use Rattle.std.proofs.Common.{ℕ, ◌+◌, List, [], ◌∷◌, ◌++◌, Bool, true, false, Option, Some, None, refl, codes, if◌then◌else◌, IfSome, All}
+use Rattle.std.proofs.Common.{ℕ, ◌+◌, List, [], ◌∷◌, ◌++◌, Bool, true, false, Option, Some, None, refl, codes, if◌then◌else◌, IfSome, All, Result, Ok, Err}
 use Rattle.std.proofs.lemmas.List.Elements.{All-cons, All-nil}
 use Rattle.serde_json.specs.Data.{Data, null, boolean, number, string, array, object, Items, no_items, item, Members, no_members, member}
-use Rattle.serde_json.specs.Find.{get}
+use Rattle.serde_json.specs.Find.{as_str, get}
 use Rattle.url.specs.Parts.{Parts}
 use Rattle.csvw_fault.specs.declared.fault.Fault.{Fault}
 use Rattle.csvw_fault.specs.declared.fault.Place.{Place}
+use Rattle.csvw_datatype_core.specs.declared.number_pattern.NumberPattern.{NumberPattern}
+use Rattle.csvw_datatype_core.specs.declared.number_pattern.PatternFault.{PatternFault}
 use Rattle.csvw_datatype.specs.declared.simple.Simple.{Simple}
 use Rattle.csvw_datatype.specs.declared.simple.Simple.TheVariants as simples
 use Rattle.csvw_meta_core.specs.declared.fault.MetaFault.{MetaFault}
@@ -19,12 +21,13 @@ use Rattle.csvw_meta_notes.specs.Members.{has_at}
 use Rattle.csvw_meta_notes.specs.Unlisted.{all_warnings, unlisted}
 use Rattle.csvw_meta_notes.specs.Warnings.{all_warned, annotation_warnings, common_warned, given_warned, members_warned, note_warnings}
 use Rattle.csvw_meta_notes.specs.Warnings.{unless_ignored, warned}
-use Rattle.csvw_meta_datatype.specs.Formats.{format, no_format, number_format, number_found}
-use Rattle.csvw_meta_datatype.specs.Numbers.{format_names, number_form}
+use Rattle.csvw_meta_datatype.specs.Formats.{format, no_format, number_format, number_found, pattern_read, text_or}
+use Rattle.csvw_meta_datatype.specs.Numbers.{format_names, no_characters, number_form, pattern_in}
 use Rattle.csvw_meta_datatype.specs.declared.format.FormatFound.{FormatFound}
 use Rattle.csvw_meta_datatype.specs.Base.{base}
 use Rattle.csvw_meta_datatype.specs.Datatypes.{based, datatype, form, named, of_type}
 use Rattle.csvw_meta_core.specs.declared.profile.Profile.{Profile}
+use Rattle.csvw_meta_core.specs.declared.profile.Profile.TheVariants.{Core, W3c}
 use Rattle.csvw_meta_datatype.specs.Names.{datatype_names, simples_of}
 use Rattle.csvw_meta_datatype.specs.Whichever.{by_faults}
 use Rattle.csvw_meta_datatype.specs.declared.form.DatatypeFound.{DatatypeFound}
@@ -178,29 +181,43 @@ IsQuietFormat found = Quiet found.warnings
 abbrev pub IsQuietDatatype : DatatypeFound → Type 0
 IsQuietDatatype found = Quiet found.warnings
 
-number_form_quiet : (place : Place) (at : List ℕ) (d : Data) → Quiet (number_form place at d).value.warnings
+number_form_quiet : (profile : Profile) (place : Place) (at : List ℕ) (d : Data) → Quiet (number_form profile place at d).value.warnings
 unfolding number_form
-number_form_quiet place at d = others_quiet (format_names ++ []) Refused place at d
+number_form_quiet profile place at d = others_quiet (format_names ++ []) Refused place at d
 
-number_format_quiet : (place : Place) (at : List ℕ) (d : Data) → IsQuietFormat (number_format place at d).value
-number_format_quiet place at d = linked_value IsQuietFormat at d no_format (under number_found (number_form place at d)) refl (number_form_quiet place at d)
+text_or_quiet : (profile : Profile) (at : List ℕ) (o : Option (List ℕ)) (r : Read FormatFound) → IsQuietFormat r.value
+    → IsQuietFormat (text_or profile at o r).value
+text_or_quiet Core at o r h = h
+text_or_quiet W3c at None r h = h
+text_or_quiet W3c at (Some s) r h = pattern_quiet at (pattern_in no_characters s)
+  where
+    pattern_quiet : (at : List ℕ) (p : Result NumberPattern PatternFault) → IsQuietFormat (pattern_read at p).value
+    pattern_quiet at (Ok p) = refl
+    pattern_quiet at (Err fault) = refl
 
-format_quiet : (simple : Simple) (place : Place) (at : List ℕ) (d : Data) → IsQuietFormat (format simple place at d).value
+number_format_quiet : (profile : Profile) (place : Place) (at : List ℕ) (d : Data) → IsQuietFormat (number_format profile place at d).value
+number_format_quiet profile place at d =
+    text_or_quiet profile at (as_str d) _
+    (linked_value IsQuietFormat at d no_format (under number_found (number_form profile place at d)) refl (number_form_quiet profile place at d))
+
+format_quiet : (profile : Profile) (simple : Simple) (place : Place) (at : List ℕ) (d : Data) → IsQuietFormat (format profile simple place at d).value
 unfolding format
-format_quiet simples.Text place at d = refl
-format_quiet simples.Uri place at d = refl
-format_quiet (simples.Other t) place at d = refl
-format_quiet (simples.Floating t) place at d = refl
-format_quiet simples.Truth place at d = refl
-format_quiet simples.Whole place at d = number_format_quiet place at d
-format_quiet (simples.Derived w) place at d = number_format_quiet place at d
-format_quiet simples.Decimal place at d = number_format_quiet place at d
-format_quiet simples.Day place at d = refl
-format_quiet simples.Moment place at d = refl
+format_quiet profile simples.Text place at d = refl
+format_quiet profile simples.Uri place at d = refl
+format_quiet profile (simples.Other t) place at d = refl
+format_quiet profile (simples.Floating t) place at d = refl
+format_quiet profile simples.Truth place at d = refl
+format_quiet profile simples.Whole place at d = number_format_quiet profile place at d
+format_quiet profile (simples.Derived w) place at d = number_format_quiet profile place at d
+format_quiet profile simples.Decimal place at d = number_format_quiet profile place at d
+format_quiet profile simples.Day place at d = refl
+format_quiet profile simples.Moment place at d = refl
 
-of_type_quiet : (id : Option (List ℕ)) (place : Place) (at : List ℕ) (d : Data) (simple : Simple) → IsQuietDatatype (of_type id place at d simple).value
+of_type_quiet : (profile : Profile) (id : Option (List ℕ)) (place : Place) (at : List ℕ) (d : Data) (simple : Simple)
+    → IsQuietDatatype (of_type profile id place at d simple).value
 unfolding of_type
-of_type_quiet id place at d simple = property_value IsQuietFormat (format simple place) (format_quiet simple place) no_format refl at d (codes "format")
+of_type_quiet profile id place at d simple =
+    property_value IsQuietFormat (format profile simple place) (format_quiet profile simple place) no_format refl at d (codes "format")
 
 whichever_value : {A B : Type 0} (P : B → Type 0) (values : List A) (dummy : B) (faults : List MetaFault) (a : A) (next : A → Read B)
     → P dummy → ((x : A) → P (next x).value) → P (by_faults values dummy faults a next).value
@@ -210,7 +227,7 @@ whichever_value P values dummy (f ∷ fs) a next none h = none
 based_quiet : (profile : Profile) (id : Option (List ℕ)) (place : Place) (at : List ℕ) (d : Data) → IsQuietDatatype (based profile id place at d).value
 based_quiet profile id place at d =
     let simple = property (base profile) simples.Text at d (codes "base") in
-    whichever_value IsQuietDatatype (simples_of profile) (named simples.Text) simple.faults simple.value (of_type id place at d) refl (of_type_quiet id place at d)
+    whichever_value IsQuietDatatype (simples_of profile) (named simples.Text) simple.faults simple.value (of_type profile id place at d) refl (of_type_quiet profile id place at d)
 
 form_quiet : (profile : Profile) (against : Parts) (place : Place) (at : List ℕ) (d : Data) → IsQuietDatatype (form profile against place at d).value
 unfolding form

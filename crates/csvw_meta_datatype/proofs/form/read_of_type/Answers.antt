@@ -9,12 +9,12 @@ pub returns-in_err-found : goal.returns-in_err-found
 unfolding of_type
 returns-in_err-found c =
     refused c.from_residual.result c.in_err-found.field-0.0
-    (of_type c.args.id c.args.place (text_of c.args.part.now.at) (view c.args.part.now.value.now) c.args.simple) c.from_residual.ensures.1
+    (of_type c.args.profile c.args.id c.args.place (text_of c.args.part.now.at) (view c.args.part.now.value.now) c.args.simple) c.from_residual.ensures.1
     (fails_first _ _ _ (rw c.new.ensures at c.in_err-found.ensures))
 
 pub returns-in_err-facets : goal.returns-in_err-facets
 unfolding of_type
 returns-in_err-facets c =
     refused c.from_residual-in_err-facets.result c.in_err-facets.field-0.0
-    (of_type c.args.id c.args.place (text_of c.args.part.now.at) (view c.args.part.now.value.now) c.args.simple) c.from_residual-in_err-facets.ensures.1
+    (of_type c.args.profile c.args.id c.args.place (text_of c.args.part.now.at) (view c.args.part.now.value.now) c.args.simple) c.from_residual-in_err-facets.ensures.1
     (later _ _ _ _ (rw c.new.ensures at c.in_ok-found.ensures) (fails_first _ _ _ c.in_err-facets.ensures))

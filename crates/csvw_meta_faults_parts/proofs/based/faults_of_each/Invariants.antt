@@ -9,4 +9,4 @@ use Rattle.csvw_meta_faults_parts.proofs.based.faults_of_each.Given as goal
 abbrev pub invariant-loop-simple : goal.invariant-loop-simple
 invariant-loop-simple l =
     (id : Option (List ℕ)) (place : Place) → l.lists.items
-    ≡ map (λ s. (of_type id place (text_of l.part.at) (view l.part.value.now) s).faults) (take l.simple-index l.simples)
+    ≡ map (λ s. (of_type l.profile id place (text_of l.part.at) (view l.part.value.now) s).faults) (take l.simple-index l.simples)
