@@ -5,10 +5,25 @@ use crate::key_rule::{push_foreign_keys, push_primary_key};
 use crate::tables::{TableAt, declared, field_of};
 use csvw_columns::TablePlan;
 use csvw_columns_core::Column;
-use csvw_datatype::{Datatype, Format, Simple};
+use csvw_datatype::{Datatype, Format, NumberFormat, Simple};
 use csvw_page::{push_quoted, push_text};
 use csvw_text::{Code, Fault};
 use std::alloc::AllocError;
+
+/// Adds the pattern and the characters of numbers.
+fn push_number_format(text: &mut String, format: &NumberFormat) -> Result<(), AllocError> {
+    if format.pattern.is_some() {
+        text.push_str(", pattern `")?;
+        format.push_pattern(text)?;
+        text.push('`')?;
+    }
+    let decimal = format.decimal_char;
+    write!(text, ", decimal character `{decimal}`")?;
+    match format.group_char {
+        Some(group) => write!(text, ", group character `{group}`"),
+        None => Ok(()),
+    }
+}
 
 /// Adds the format of a datatype.
 fn push_format(text: &mut String, format: &Format) -> Result<(), AllocError> {
@@ -19,14 +34,7 @@ fn push_format(text: &mut String, format: &Format) -> Result<(), AllocError> {
             text.push('|')?;
             push_text(text, truth.if_false.as_str())
         }
-        Format::Number(number) => {
-            let decimal = number.decimal_char;
-            write!(text, ", decimal character `{decimal}`")?;
-            match number.group_char {
-                Some(group) => write!(text, ", group character `{group}`"),
-                None => Ok(()),
-            }
-        }
+        Format::Number(number) => push_number_format(text, number),
         Format::Day(format) => {
             text.push_str(", format ")?;
             text.push_str(format.pattern())

@@ -50,14 +50,19 @@ pub(crate) fn bound_value(alloc: Global, bound: &Bound) -> Result<Value, AllocEr
     }
 }
 
-/// Returns the characters of numbers.
-fn number_format(alloc: Global, format: NumberFormat) -> Result<Value, AllocError> {
+/// Returns the characters of numbers, and their pattern if there is one.
+fn number_format(alloc: Global, format: &NumberFormat) -> Result<Value, AllocError> {
     let decimal = character(alloc, format.decimal_char)?;
     let group = match format.group_char {
         Some(group) => character(alloc, group)?,
         None => Value::Null,
     };
-    json!(in alloc; { "decimalChar": decimal, "groupChar": group })
+    if format.pattern.is_none() {
+        return json!(in alloc; { "decimalChar": decimal, "groupChar": group });
+    }
+    let mut pattern = String::new(alloc);
+    format.push_pattern(&mut pattern)?;
+    json!(in alloc; { "pattern": pattern, "decimalChar": decimal, "groupChar": group })
 }
 
 /// Returns the texts of booleans.
@@ -70,7 +75,7 @@ fn truth_format(alloc: Global, format: &TruthFormat) -> Result<Value, AllocError
 pub(crate) fn format_value(alloc: Global, format: &Format) -> Result<Value, AllocError> {
     match format {
         Format::Truth(truth) => truth_format(alloc, truth),
-        Format::Number(number) => number_format(alloc, *number),
+        Format::Number(number) => number_format(alloc, number),
         Format::Day(day) => Value::try_from_str(alloc, day.pattern()),
         Format::Moment(moment) => Value::try_from_str(alloc, moment.pattern()),
     }
