@@ -102,8 +102,8 @@ fn push_document_hints(
     match fault.code {
         MetaCode::NotJson if told.place.0 == 0 => Ok(()),
         MetaCode::NotJson => push_json_hint(hints, alloc, group.meta, bytes),
-        MetaCode::NotSupported => {
-            push_datatype_hint(hints, alloc, without_bom(bytes), fault.pointer.as_str())
+        MetaCode::NotSupported | MetaCode::BadDatatype => {
+            push_datatype_hint(hints, alloc, without_bom(bytes), fault)
         }
         MetaCode::BadProperty => {
             push_missing(hints, alloc, without_bom(bytes), fault.pointer.as_str())

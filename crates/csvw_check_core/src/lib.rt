@@ -21,6 +21,7 @@ mod expected;
 mod missing;
 mod near;
 mod objects;
+mod pattern_hint;
 mod refused;
 mod report;
 mod status;
