@@ -42,16 +42,29 @@ impl Counts {
     /// Counts these faults. Returns `AllocError` if memory runs out.
     pub fn of(alloc: Global, faults: &[Fault]) -> Result<Counts, AllocError> {
         let mut counts = Counts::new(alloc);
-        for fault in faults {
-            counts.count(fault)?;
+        for alike in faults.chunk_by(|a, b| spot_of(a) == spot_of(b)) {
+            counts.count_all(alike)?;
         }
         Ok(counts)
     }
 
     /// Counts a fault. Returns how many of its code there are in its column so far, or `AllocError` if memory runs out.
     pub fn count(&mut self, fault: &Fault) -> Result<u64, AllocError> {
-        let times = self.spots.entry(spot_of(fault))?.or_insert(0);
-        *times = times.saturating_add(1);
+        self.add(spot_of(fault), 1)
+    }
+
+    /// Counts faults of one code in one column.
+    fn count_all(&mut self, faults: &[Fault]) -> Result<(), AllocError> {
+        if let Some(first) = faults.first() {
+            self.add(spot_of(first), faults.len() as u64)?;
+        }
+        Ok(())
+    }
+
+    /// Adds to how often a code occurs in a column. Returns how often that is so far.
+    fn add(&mut self, spot: Spot, more: u64) -> Result<u64, AllocError> {
+        let times = self.spots.entry(spot)?.or_insert(0);
+        *times = times.saturating_add(more);
         Ok(*times)
     }
 

@@ -3,10 +3,10 @@
 use crate::counts::{Counts, Spot};
 use crate::escape::push_escaped;
 use crate::html_style::STYLE;
-use crate::line::{RowShown, push_column, push_text, row_shown};
+use crate::line::{RowShown, push_column, push_text};
 use crate::shown::{
-    CellShown, FaultShown, Meant, MoreShown, RowPlace, SpotShown, StopPlace, StopShown, Summary,
-    UnknownShown, kind_name,
+    FaultShown, Meant, MoreShown, RowPlace, SpotShown, StopPlace, StopShown, Summary, UnknownShown,
+    kind_name,
 };
 use crate::status::{REFUSED, verdict};
 use csvw_text::Code;
@@ -219,15 +219,20 @@ fn push_column_name(page: &mut String, name: &str) -> Result<(), AllocError> {
     page.push('”')
 }
 
-/// Adds a fault, with its row and the rule that it breaks.
-pub(crate) fn push_fault(page: &mut String, shown: &FaultShown<'_>) -> Result<(), AllocError> {
+/// Adds a fault, with its row and the rule that it breaks. The room of a row is used for its row.
+pub(crate) fn push_fault(
+    page: &mut String,
+    room: &mut RowShown,
+    shown: &FaultShown<'_>,
+) -> Result<(), AllocError> {
     let severity = kind_name(shown.fault.kind);
     write!(page, "<article class=\"{severity}\">\n")?;
     push_place(page, shown)?;
     push_name(page, severity, shown.fault.code.name())?;
     push_code(page, shown.fault.code)?;
     if let Some(cell) = &shown.cell {
-        push_cell(page, cell)?;
+        room.refill(cell)?;
+        push_row(page, room)?;
     }
     push_lines(page, shown.rule, "rule")?;
     page.push_str("</article>\n")
@@ -237,12 +242,6 @@ pub(crate) fn push_fault(page: &mut String, shown: &FaultShown<'_>) -> Result<()
 fn push_code(page: &mut String, code: Code) -> Result<(), AllocError> {
     let sentence = code.to_string(*page.allocator())?;
     push_sentence(page, sentence.as_str())
-}
-
-/// Adds a row with a cell marked.
-fn push_cell(page: &mut String, cell: &CellShown<'_>) -> Result<(), AllocError> {
-    let row = row_shown(*page.allocator(), cell)?;
-    push_row(page, &row)
 }
 
 /// Adds the fields around a cell, with the cell marked.

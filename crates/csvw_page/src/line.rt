@@ -20,9 +20,23 @@ fn push_shown(line: &mut String, c: char) -> Result<(), AllocError> {
     }
 }
 
+/// Whether a text has printable characters of ASCII alone. Each of them is shown as it is, in one column of a terminal.
+fn is_plain(text: &str) -> bool {
+    text.as_bytes().iter().all(|b| matches!(*b, b' '..=b'~'))
+}
+
 /// Adds the first 60 characters of a text, and an ellipsis if there are more. A control character is written as `\u` and
 /// four hexadecimal digits. Returns `AllocError` if memory runs out.
 pub fn push_text(line: &mut String, text: &str) -> Result<(), AllocError> {
+    if text.len() <= SHOWN_CHARACTERS && is_plain(text) {
+        line.push_str(text)
+    } else {
+        push_characters(line, text)
+    }
+}
+
+/// Adds a text as `push_text` does, character by character.
+fn push_characters(line: &mut String, text: &str) -> Result<(), AllocError> {
     let mut left = SHOWN_CHARACTERS;
     for c in text.chars() {
         if left == 0 {
@@ -51,6 +65,9 @@ pub(crate) fn push_column(line: &mut String, number: u32) -> Result<(), AllocErr
 
 /// Returns how many columns of a terminal a line takes.
 fn width(line: &str) -> usize {
+    if is_plain(line) {
+        return line.len();
+    }
     let mut width = 0usize;
     for c in line.chars() {
         width = width.saturating_add(c.width().unwrap_or(0));
@@ -79,6 +96,24 @@ pub(crate) struct RowShown {
 }
 
 impl RowShown {
+    /// Makes a row of no fields.
+    pub(crate) fn new(alloc: Global) -> RowShown {
+        RowShown {
+            before: String::new(alloc),
+            cell: String::new(alloc),
+            after: String::new(alloc),
+        }
+    }
+
+    /// Takes the fields of a row around a cell in place of those before. Their room is used again. Returns `AllocError` if
+    /// memory runs out.
+    pub(crate) fn refill(&mut self, cell: &CellShown<'_>) -> Result<(), AllocError> {
+        self.before.clear();
+        self.cell.clear();
+        self.after.clear();
+        push_fields(self, cell)
+    }
+
     /// Returns where the cell is, if the row begins a line after so many columns.
     pub(crate) fn mark(&self, indent: usize) -> Mark {
         Mark {
@@ -116,15 +151,4 @@ fn push_fields(shown: &mut RowShown, cell: &CellShown<'_>) -> Result<(), AllocEr
         push_field(shown, cell, i, cell.row.field(i))?;
     }
     Ok(())
-}
-
-/// Returns the fields of a row around a cell, or `AllocError` if memory runs out.
-pub(crate) fn row_shown(alloc: Global, cell: &CellShown<'_>) -> Result<RowShown, AllocError> {
-    let mut shown = RowShown {
-        before: String::new(alloc),
-        cell: String::new(alloc),
-        after: String::new(alloc),
-    };
-    push_fields(&mut shown, cell)?;
-    Ok(shown)
 }

@@ -2,6 +2,7 @@
 
 use crate::form::{Color, Form};
 use crate::halt::Halt;
+use crate::line::RowShown;
 use crate::shown::{FaultShown, MoreShown, SpotShown, StopShown, Summary, UnknownShown};
 use crate::{html_form, json_form, text_form};
 use csvw_streams::{Counted, write_out};
@@ -15,6 +16,8 @@ pub struct Page {
     pub alloc: Global,
     /// The text that is not sent yet.
     lines: String,
+    /// The room for the row of a fault.
+    row: RowShown,
     /// Its form.
     pub form: Form,
     /// Whether its lines have colours.
@@ -31,6 +34,7 @@ impl Page {
         Page {
             alloc,
             lines: String::new(alloc),
+            row: RowShown::new(alloc),
             form,
             color,
             objects: 0,
@@ -105,8 +109,8 @@ impl Page {
     /// Adds a fault, with its row. Returns `AllocError` if memory runs out.
     pub fn fault(&mut self, shown: &FaultShown<'_>) -> Result<(), AllocError> {
         match self.form {
-            Form::Text => text_form::push_fault(&mut self.lines, shown, self.color),
-            Form::Html => html_form::push_fault(&mut self.lines, shown),
+            Form::Text => text_form::push_fault(&mut self.lines, &mut self.row, shown, self.color),
+            Form::Html => html_form::push_fault(&mut self.lines, &mut self.row, shown),
             Form::Json => {
                 self.begin_object()?;
                 json_form::push_fault(&mut self.lines, shown)

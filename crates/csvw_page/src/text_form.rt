@@ -2,9 +2,9 @@
 
 use crate::counts::Spot;
 use crate::form::Color;
-use crate::line::{Mark, RowShown, push_column, push_quoted, push_text, row_shown};
+use crate::line::{Mark, RowShown, push_column, push_quoted, push_text};
 use crate::shown::{
-    CellShown, FaultShown, Meant, MoreShown, RowPlace, StopPlace, StopShown, Summary, UnknownShown,
+    FaultShown, Meant, MoreShown, RowPlace, StopPlace, StopShown, Summary, UnknownShown,
 };
 use crate::status::verdict;
 use csvw_text::Kind;
@@ -78,9 +78,11 @@ fn push_column_name(line: &mut String, name: &str) -> Result<(), AllocError> {
     push_quoted(line, name)
 }
 
-/// Adds a fault: where it is, its code, the text of the cell, what to do, and the row with a mark and the rule.
+/// Adds a fault: where it is, its code, the text of the cell, what to do, and the row with a mark and the rule. The room of
+/// a row is used for its row.
 pub(crate) fn push_fault(
     lines: &mut String,
+    room: &mut RowShown,
     shown: &FaultShown<'_>,
     color: Color,
 ) -> Result<(), AllocError> {
@@ -96,7 +98,8 @@ pub(crate) fn push_fault(
     let code = shown.fault.code;
     write!(lines, ": {code}\n")?;
     if let Some(cell) = &shown.cell {
-        push_cell(lines, cell, color)?;
+        room.refill(cell)?;
+        push_cell(lines, room, color)?;
     }
     lines.push_str(shown.rule)
 }
@@ -128,9 +131,8 @@ fn push_cell_text(line: &mut String, shown: &FaultShown<'_>) -> Result<(), Alloc
 const INDENT: usize = 4;
 
 /// Adds a row with a mark under a cell, each on a line of its own.
-fn push_cell(lines: &mut String, cell: &CellShown<'_>, color: Color) -> Result<(), AllocError> {
-    let row = row_shown(*lines.allocator(), cell)?;
-    push_row(lines, &row)?;
+fn push_cell(lines: &mut String, row: &RowShown, color: Color) -> Result<(), AllocError> {
+    push_row(lines, row)?;
     push_mark(lines, row.mark(INDENT), color)?;
     lines.push('\n')
 }
