@@ -33,6 +33,10 @@ pub(crate) struct FirstRows {
     repeats: Vec<Repeat>,
     /// The first rows, in their order.
     rows: Vec<FirstRow>,
+    /// How many of the first rows are before the last row that was passed.
+    passed: usize,
+    /// How many of the rows that repeat a key are before the last row that was asked for.
+    asked: usize,
 }
 
 /// Returns those of the repeating rows of a group, which are sorted, that are in the table of this number.
@@ -42,12 +46,29 @@ fn in_table(repeats: &[Repeat], table: u32) -> &[Repeat] {
     repeats.get(begin..end).unwrap_or(&[])
 }
 
+/// Returns how many of these rows, from a place on, are before the row of this number in its source.
+fn rows_before(rows: &[FirstRow], place: usize, source: u64) -> usize {
+    let rows = rows.get(place..).unwrap_or(&[]);
+    rows.iter().take_while(|row| row.source < source).count()
+}
+
+/// Returns how many of these repeating rows, from a place on, are before the row of this number in its source.
+fn repeats_before(repeats: &[Repeat], place: usize, source: u64) -> usize {
+    let repeats = repeats.get(place..).unwrap_or(&[]);
+    repeats
+        .iter()
+        .take_while(|repeat| repeat.row < source)
+        .count()
+}
+
 impl FirstRows {
     /// Begins with no rows.
     pub(crate) fn new(alloc: Global) -> FirstRows {
         FirstRows {
             repeats: Vec::new(alloc),
             rows: Vec::new(alloc),
+            passed: 0,
+            asked: 0,
         }
     }
 
@@ -56,6 +77,8 @@ impl FirstRows {
     pub(crate) fn begin(&mut self, repeats: &[Repeat], table: u32) -> Result<(), AllocError> {
         self.repeats.clear();
         self.rows.clear();
+        self.passed = 0;
+        self.asked = 0;
         for repeat in in_table(repeats, table) {
             self.repeats.push(*repeat)?;
             self.rows.push(FirstRow {
@@ -69,23 +92,27 @@ impl FirstRows {
         Ok(())
     }
 
-    /// Passes a row of the file, and keeps its place if it is a first row.
+    /// Passes a row of the file, and keeps its place if it is a first row. Rows are passed in their order.
     pub(crate) fn pass(&mut self, source: u64, line: u64, number: u64) {
-        if let Ok(place) = self.rows.binary_search_by_key(&source, |row| row.source) {
-            if let Some(row) = self.rows.get_mut(place) {
+        let before = rows_before(self.rows.as_slice(), self.passed, source);
+        self.passed = self.passed.saturating_add(before);
+        if let Some(row) = self.rows.get_mut(self.passed) {
+            if row.source == source {
                 row.line = line;
                 row.number = number;
             }
         }
     }
 
-    /// Returns the first row with the key of the row of this number in its source, if it is passed.
-    fn first_of(&self, source: u64) -> Option<FirstRow> {
-        let place = self
-            .repeats
-            .binary_search_by_key(&source, |repeat| repeat.row)
-            .ok()?;
-        let repeat = self.repeats.get(place)?;
+    /// Returns the first row with the key of the row of this number in its source, if it is passed. Rows are asked for in
+    /// their order.
+    fn first_of(&mut self, source: u64) -> Option<FirstRow> {
+        let before = repeats_before(self.repeats.as_slice(), self.asked, source);
+        self.asked = self.asked.saturating_add(before);
+        let repeat = self.repeats.get(self.asked)?;
+        if repeat.row != source {
+            return None;
+        }
         let place = self
             .rows
             .binary_search_by_key(&repeat.first, |row| row.source)
@@ -99,7 +126,7 @@ impl FirstRows {
 
     /// Adds a line of text: where the first row with the key of this row is, if it is passed.
     pub(crate) fn push_first(
-        &self,
+        &mut self,
         text: &mut String,
         path: &str,
         source: u64,

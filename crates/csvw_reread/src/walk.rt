@@ -4,7 +4,7 @@ use crate::file_rows::{FileRows, LineCount, Piece};
 use crate::first_rows::{FirstRows, Repeat};
 use csvw_hints::{TableAt, field_of, name_of, push_rule};
 use csvw_opener::{Opener, STANDARD_INPUT};
-use csvw_page::{CellShown, Color, Counts, FaultShown, Form, Halt, Page};
+use csvw_page::{CellShown, Color, Counts, FaultShown, Form, Halt, Page, Spot, spot_of};
 use csvw_rows::{RawRow, Rows};
 use csvw_streams::Counted;
 use csvw_text::{Code, Fault};
@@ -50,12 +50,16 @@ pub struct Walker {
     pub page: Page,
     /// How many faults are shown of those with one code in one column.
     pub(crate) shown: Shown,
-    /// How often each code occurs in each column so far.
+    /// How often each code occurs in each column so far, if not all faults are shown.
     so_far: Counts,
     /// The fields of the first header row of the table.
     header: Vec<String>,
-    /// The rule that the last fault breaks.
+    /// The rule that the faults of one code in one column break.
     rule: String,
+    /// The column and the code of these faults, if the rule of a fault was made.
+    spot: Option<Spot>,
+    /// What is told below the last fault: its rule, and what is told of this fault alone.
+    below: String,
     /// The rows of the table that repeat its primary key, and the first rows with their keys.
     firsts: FirstRows,
     /// Whether it was told that standard input can't be read again.
@@ -100,6 +104,8 @@ impl Walker {
             so_far: Counts::new(alloc),
             header: Vec::new(alloc),
             rule: String::new(alloc),
+            spot: None,
+            below: String::new(alloc),
             firsts: FirstRows::new(alloc),
             has_told: false,
         }
@@ -117,13 +123,27 @@ impl Walker {
         Ok(())
     }
 
-    /// Makes the rule that a fault in a table breaks, with the first row of a key that is repeated.
+    /// Makes the rule that a fault in a table breaks. The rule of the same code in the same column is made once.
     fn make_rule(&mut self, table: &TableAt<'_>, fault: &Fault) -> Result<(), AllocError> {
+        let spot = spot_of(fault);
+        if self.spot == Some(spot) {
+            return Ok(());
+        }
+        self.spot = None;
+        self.rule.clear();
         push_rule(&mut self.rule, table, fault)?;
+        self.spot = Some(spot);
+        Ok(())
+    }
+
+    /// Makes what is told below a fault in a table: the rule that it breaks, with the first row of a key that is repeated.
+    fn tell_rule(&mut self, table: &TableAt<'_>, fault: &Fault) -> Result<(), AllocError> {
+        self.make_rule(table, fault)?;
+        self.below.push_str(self.rule.as_str())?;
         match fault.code {
             Code::DuplicateKey => {
                 self.firsts
-                    .push_first(&mut self.rule, table.path, fault.place.row)
+                    .push_first(&mut self.below, table.path, fault.place.row)
             }
             _ => Ok(()),
         }
@@ -135,7 +155,7 @@ impl Walker {
             return Ok(());
         }
         self.has_told = true;
-        self.rule.push_str(UNSEEN)
+        self.below.push_str(UNSEEN)
     }
 
     /// Adds a fault, with its row.
@@ -147,9 +167,9 @@ impl Walker {
     ) -> Result<(), AllocError> {
         let column = fault.place.column;
         let cell = cell_of(table, column, at);
-        self.rule.clear();
+        self.below.clear();
         if cell.is_some() {
-            self.make_rule(table, fault)?;
+            self.tell_rule(table, fault)?;
         } else {
             self.tell_unseen(table, fault)?;
         }
@@ -163,11 +183,23 @@ impl Walker {
             },
             name: name_of(table.plan, self.header.as_slice(), column),
             cell,
-            rule: self.rule.as_str(),
+            rule: self.below.as_str(),
         })
     }
 
-    /// Adds those of the faults at a row that are shown. Properties of the document that are ignored are shown elsewhere.
+    /// Returns whether a fault is shown. It is counted if not all are. Properties of the document that are ignored are shown
+    /// elsewhere.
+    fn is_shown(&mut self, fault: &Fault) -> Result<bool, AllocError> {
+        if fault.code == Code::UnknownProperty {
+            return Ok(false);
+        }
+        match self.shown {
+            Shown::First => Ok(self.so_far.count(fault)? <= FIRST),
+            Shown::All => Ok(true),
+        }
+    }
+
+    /// Adds those of the faults at a row that are shown.
     fn tell_faults(
         &mut self,
         table: &TableAt<'_>,
@@ -175,9 +207,7 @@ impl Walker {
         at: &RowAt<'_>,
     ) -> Result<(), AllocError> {
         for fault in faults {
-            let times = self.so_far.count(fault)?;
-            let is_shown = self.shown == Shown::All || times <= FIRST;
-            if is_shown && fault.code != Code::UnknownProperty {
+            if self.is_shown(fault)? {
                 self.tell_one(table, fault, at)?;
             }
         }
