@@ -10,7 +10,7 @@ use csvw_check_core::{
 use csvw_columns::Plan;
 use csvw_engine_core::Stop;
 use csvw_files::Opener;
-use csvw_reread::{faults_of_report, paths_in_order};
+use csvw_reread::paths_in_order;
 use csvw_streams::Counted;
 use std::alloc::Global;
 use std::io::Write;
@@ -172,16 +172,15 @@ fn show_report<O: Opener, W: Write>(
     requires { AreReady tables.now.plan.now.tables }
 {
     let alloc = walker.page.alloc;
-    let faults = faults_of_report(alloc, asked.report)?;
     let most = most_of(asked.form, asked.shown);
-    let repeats = repeats_of(alloc, tables, faults.as_slice(), most, opener)?;
+    let repeats = repeats_of(alloc, tables, asked.faults, most, opener)?;
     let status = match asked.stop {
         Some(stop) => status_of_stop(stop),
-        None => status_of(faults.as_slice(), Strict::Errors),
+        None => status_of(asked.faults, Strict::Errors),
     };
     let report = Report {
         tables: *tables,
-        faults: faults.as_slice(),
+        faults: asked.faults,
         repeats: repeats.as_slice(),
         rows: &[],
         stop: stopped(asked),

@@ -5,6 +5,7 @@ use csvw_hints::Group;
 use csvw_meta::Profile;
 use csvw_page::{Color, Form};
 use csvw_reread::Shown;
+use csvw_text::Fault;
 
 /// Which faults make the status that of an invalid group.
 #[derive(Clone, Copy, PartialEq, Eq)]
@@ -54,8 +55,8 @@ pub struct Show<'a> {
     pub form: Form,
     /// Whether its lines have colours.
     pub color: Color,
-    /// The report that the run wrote.
-    pub report: &'a [u8],
+    /// The faults that the run found, in the order of reports. There are none if it stopped.
+    pub faults: &'a [Fault],
     /// Why the run stopped, if it did.
     pub stop: Option<&'a Stop>,
 }

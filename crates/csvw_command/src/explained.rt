@@ -77,7 +77,7 @@ pub(crate) fn explain_look<O: Opener, V: Write>(
         shown: Shown::First,
         form: Form::Text,
         color: color_of(None, opener.colors().err),
-        report: &[],
+        faults: &[],
         stop: Some(look.stop),
     };
     let mut words = Counted::new(Vec::new(alloc));

@@ -8,7 +8,7 @@ use crate::tell::{outcome_status, tell_stop};
 use csvw_command_core::Group;
 use csvw_engine::{Order, Outcome, Request, Stop, Way, run_by};
 use csvw_files::{Opener, read_document};
-use csvw_text::Counted;
+use csvw_text::{Counted, Fault, Seq};
 use csvw_triples_core::Mode;
 use std::alloc::Global;
 use std::io::{Read, Write};
@@ -129,25 +129,25 @@ pub struct GroupRun<'a> {
 pub struct Ended {
     /// Why it stopped, if it did.
     pub stop: Option<Stop>,
-    /// Whether there are faults, of any kind.
-    pub has_faults: bool,
+    /// The faults that were found, of any kind, in the order of reports. There are none after a stop.
+    pub faults: Seq<Fault>,
     /// The exit status.
     pub status: u8,
 }
 
 /// Returns how a run ended that has this status.
-pub fn end_of(ran: Result<Outcome, Stop>, status: u8) -> Ended
+pub fn end_of(alloc: Global, ran: Result<Outcome, Stop>, status: u8) -> Ended
     ensures { result.status ≡ status }
 {
     match ran {
         Ok(outcome) => Ended {
             stop: None,
-            has_faults: !outcome.faults.is_empty(),
+            faults: outcome.faults,
             status,
         },
         Err(stop) => Ended {
             stop: Some(stop),
-            has_faults: false,
+            faults: Seq::new(alloc),
             status,
         },
     }
@@ -181,11 +181,11 @@ pub fn run_group<O: Opener, W: Write, V: Write>(
             let ran = run_to(alloc, request, readers.as_mut_slice(), out, err);
             close_all(readers, opener);
             let status = tell_end(&ran, err);
-            end_of(ran, status)
+            end_of(alloc, ran, status)
         }
         Err(stop) => {
             let status = tell_stop(&stop, err);
-            end_of(Err(stop), status)
+            end_of(alloc, Err(stop), status)
         }
     }
 }

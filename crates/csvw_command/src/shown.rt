@@ -16,7 +16,7 @@ use csvw_files::{Colors, Opener};
 use csvw_text::Counted;
 use csvw_triples_core::Mode;
 use std::alloc::Global;
-use std::io::Write;
+use std::io::{self, Write};
 
 /// The status if a warning counts as an error.
 const WARNED: u8 = 1;
@@ -74,15 +74,13 @@ pub fn shown_of(reporting: &Reporting<'_>) -> Shown {
     }
 }
 
-/// A run that ended, and its report.
+/// A run that ended, whose faults or stop are shown.
 #[derive(Clone, Copy)]
 struct Page<'a> {
     /// The group.
     group: &'a Group<'a>,
     /// How the run ended.
     ended: &'a Ended,
-    /// The report that it wrote, as CSV.
-    report: &'a [u8],
     /// Whether the page has colours by default.
     is_colored: bool,
 }
@@ -99,7 +97,7 @@ impl<'a> Page<'a> {
             shown: shown_of(reporting),
             form: form_of(reporting.form),
             color: color_of(reporting.color, self.is_colored),
-            report: self.report,
+            faults: self.ended.faults.as_slice(),
             stop: self.ended.stop.as_ref(),
         }
     }
@@ -108,7 +106,7 @@ impl<'a> Page<'a> {
     fn status(self) -> u8
         ensures { IsShownStatus self.entry.group.now.reporting.strict self.entry.ended.now.status result }
     {
-        if self.group.reporting.strict && self.ended.status == 0 && self.ended.has_faults {
+        if self.group.reporting.strict && self.ended.status == 0 && !self.ended.faults.is_empty() {
             WARNED
         } else {
             self.ended.status
@@ -133,7 +131,7 @@ fn show_page<O: Opener, W: Write>(
     }
 }
 
-/// Reports whether the tables are valid. The report is shown on `out`.
+/// Reports whether the tables are valid. The report is shown on `out`, in place of the one that the run writes.
 fn validate_shown<O: Opener, W: Write, V: Write>(
     alloc: Global,
     group: &Group<'_>,
@@ -145,17 +143,15 @@ fn validate_shown<O: Opener, W: Write, V: Write>(
         (stream_of W.contents out.old out.new) result }
     ensures bound { result ≤ 4 }
 {
-    let mut report = Counted::new(Vec::new(alloc));
+    let mut report = Counted::new(io::sink());
     let asked = GroupRun {
         group,
         mode: Mode::Validate,
     };
     let ended = run_group(alloc, asked, opener, &mut report, err);
-    let report = report.into_inner();
     let page = Page {
         group,
         ended: &ended,
-        report: report.as_slice(),
         is_colored: opener.colors().out,
     };
     match show_page(alloc, page, opener, out) {
@@ -167,7 +163,8 @@ fn validate_shown<O: Opener, W: Write, V: Write>(
     }
 }
 
-/// Converts the tables. The graph goes to `out`, and the report is shown on `err`, with the line of a stop at its end.
+/// Converts the tables. The graph goes to `out`, and the report is shown on `err`, in place of the one that the run writes,
+/// with the line of a stop at its end.
 fn convert_shown<O: Opener, W: Write, V: Write>(
     alloc: Global,
     asked: GroupRun<'_>,
@@ -179,17 +176,11 @@ fn convert_shown<O: Opener, W: Write, V: Write>(
         (stream_of W.contents out.old out.new) result }
     ensures bound { result ≤ 4 }
 {
-    let mut report = Counted::new(Vec::new(alloc));
+    let mut report = Counted::new(io::sink());
     let ended = run_group(alloc, asked, opener, out, &mut report);
-    let report = match ended.stop {
-        // A run that stops writes no report, but the line of the stop.
-        Some(_) => Vec::new(alloc),
-        None => report.into_inner(),
-    };
     let page = Page {
         group: asked.group,
         ended: &ended,
-        report: report.as_slice(),
         is_colored: opener.colors().err,
     };
     if let Some(stop) = show_page(alloc, page, opener, err) {
@@ -218,7 +209,6 @@ fn run_explained<O: Opener, W: Write, V: Write>(
     let page = Page {
         group: asked.group,
         ended: &ended,
-        report: &[],
         is_colored: opener.colors().err,
     };
     if asked.group.explain && ended.stop.is_some() {

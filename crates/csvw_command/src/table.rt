@@ -37,13 +37,13 @@ fn run_plain<O: Opener, W: Write, V: Write>(
 {
     let Some(reader) = opener.open(table.file) else {
         let status = tell_stop(&Stop::Read, err);
-        return end_of(Err(Stop::Read), status);
+        return end_of(alloc, Err(Stop::Read), status);
     };
     let mut input = Counted::new(reader);
     let ran = plain(alloc, table.url, &mut input, out, err);
     opener.close(input);
     let status = tell_end(&ran, err);
-    end_of(ran, status)
+    end_of(alloc, ran, status)
 }
 
 /// Converts a table. A stop is explained on `err`, if that is asked for. Returns the exit status.

@@ -1,4 +1,4 @@
-//! What is read a second time to show faults: the rows that they are in, and the text of a report.
+//! What is read a second time to show faults: the rows that they are in.
 //!
 //! A fault names a place, and nothing of the file. A `Walker` has a page. `GroupFaults` goes through the files of a group
 //! with it, and adds each fault with its line, its cell and the rule that it breaks:
@@ -12,7 +12,7 @@
 //! A `Repeat` says which row has a primary key first that a later row repeats. The walk shows where that row is.
 //!
 //! `paths` and `paths_in_order` find the file of each table, and `swapped` two tables whose files look swapped. `seek` looks
-//! for the row that stops a table. `faults_of_report` reads a report back.
+//! for the row that stops a table.
 //!
 //! # Promises
 //!
@@ -25,12 +25,10 @@ mod files;
 mod first_rows;
 mod group_faults;
 mod record;
-mod report_text;
 mod walk;
 
 pub use files::{paths, paths_in_order, swapped};
 pub use first_rows::Repeat;
 pub use group_faults::GroupFaults;
 pub use record::{Seen, seek};
-pub use report_text::faults_of_report;
 pub use walk::{Shown, Walker};
