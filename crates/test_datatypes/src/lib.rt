@@ -1,10 +1,19 @@
-//! Tests of datatypes by whole runs: the datatypes of documents, and the cells in the graph and in the report.
+//! Tests by whole runs: the datatypes of documents, the cells in the graph and in the report, and the examples of the
+//! Recommendations in both modes.
 #![tactic(auto)]
 
 #[cfg(test)]
 mod cells;
 #[cfg(test)]
+mod countries;
+#[cfg(test)]
+mod country_slices;
+#[cfg(test)]
 mod documents;
+#[cfg(test)]
+mod events;
+#[cfg(test)]
+mod examples;
 #[cfg(test)]
 mod facets;
 #[cfg(test)]
@@ -15,5 +24,7 @@ mod profiles;
 mod ranges;
 #[cfg(test)]
 mod refusals;
+#[cfg(test)]
+mod roles;
 #[cfg(test)]
 mod tree_ops;

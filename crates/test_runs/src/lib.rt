@@ -39,4 +39,4 @@ mod wide;
 #[cfg(test)]
 mod worked;
 
-pub use running::{Ran, run_in_profile, run_over};
+pub use running::{Ran, run_in_profile, run_over, run_tables_in_profile};

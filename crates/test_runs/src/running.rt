@@ -64,15 +64,16 @@ pub fn run_over(alloc: Global, meta: &str, text: &str, mode: Mode) -> Result<Ran
     run_in(alloc, meta, &[text], mode, Order::OneByOne)
 }
 
-/// Returns what a run over a document in a profile and the text of its table leaves, in minimal mode. It returns
+/// Returns what a run over a document in a profile and the texts of its tables leaves, in this mode. It returns
 /// `AllocError` if there is no memory.
-pub fn run_in_profile(
+pub fn run_tables_in_profile(
     alloc: Global,
     profile: Profile,
+    mode: Mode,
     meta: &str,
-    text: &str,
+    texts: &[&str],
 ) -> Result<Ran, AllocError> {
-    let mut readers = readers_of(alloc, &[text])?;
+    let mut readers = readers_of(alloc, texts)?;
     let mut graph = Counted::new(Vec::new(alloc));
     let mut report = Counted::new(Vec::new(alloc));
     let request = Request {
@@ -80,7 +81,7 @@ pub fn run_in_profile(
         base: "http://example.org/",
         profile,
         way: Way {
-            mode: Mode::Minimal,
+            mode,
             order: ReadOrder::TableByTable,
         },
     };
@@ -96,6 +97,17 @@ pub fn run_in_profile(
         graph: graph.into_inner(),
         report: report.into_inner(),
     })
+}
+
+/// Returns what a run over a document in a profile and the text of its table leaves, in minimal mode. It returns
+/// `AllocError` if there is no memory.
+pub fn run_in_profile(
+    alloc: Global,
+    profile: Profile,
+    meta: &str,
+    text: &str,
+) -> Result<Ran, AllocError> {
+    run_tables_in_profile(alloc, profile, Mode::Minimal, meta, &[text])
 }
 
 /// Whether a report has exactly these lines after its heading.
