@@ -107,6 +107,47 @@ static CASES: [Case; 17] = [
     },
 ];
 
+/// Numbers under patterns, which the profile core refuses at the format.
+static PATTERNED: [Case; 7] = [
+    Case {
+        column: r##""datatype":{"base":"decimal","format":"#,##0.00"}"##,
+        field: "\"1,234.50\"",
+        object: "\"1234.5\"^^<http://www.w3.org/2001/XMLSchema#decimal> .\n",
+    },
+    Case {
+        column: r##""datatype":{"base":"integer","format":"000"}"##,
+        field: "007",
+        object: "\"7\"^^<http://www.w3.org/2001/XMLSchema#integer> .\n",
+    },
+    // a text that doesn't fit stays a string
+    Case {
+        column: r##""datatype":{"base":"integer","format":"000"}"##,
+        field: "7",
+        object: "\"7\" .\n",
+    },
+    Case {
+        column: r##""datatype":{"base":"decimal","format":"#0.0#%"}"##,
+        field: "12.5%",
+        object: "\"0.125\"^^<http://www.w3.org/2001/XMLSchema#decimal> .\n",
+    },
+    Case {
+        column: r##""datatype":{"base":"decimal","format":{"pattern":"#.##0,00","decimalChar":",","groupChar":"."}}"##,
+        field: "\"-1.234,50\"",
+        object: "\"-1234.5\"^^<http://www.w3.org/2001/XMLSchema#decimal> .\n",
+    },
+    // without `groupChar` it is a comma, if the decimal character isn't one
+    Case {
+        column: r##""datatype":{"base":"unsignedInt","format":{"pattern":"#,##0"}}"##,
+        field: "\"12,345\"",
+        object: "\"12345\"^^<http://www.w3.org/2001/XMLSchema#unsignedInt> .\n",
+    },
+    Case {
+        column: r##""datatype":{"base":"decimal","format":{"pattern":"0,0","decimalChar":","}}"##,
+        field: "\"3,5\"",
+        object: "\"3.5\"^^<http://www.w3.org/2001/XMLSchema#decimal> .\n",
+    },
+];
+
 /// A column's datatype, and the fault with which its document is refused in the profile w3c.
 struct Refused {
     /// The datatype as it is in the document.
@@ -117,7 +158,43 @@ struct Refused {
     pointer: &'static str,
 }
 
-static REFUSED: [Refused; 8] = [
+static REFUSED: [Refused; 15] = [
+    Refused {
+        datatype: r##"{"base":"decimal","format":"0#"}"##,
+        code: MetaCode::BadDatatype,
+        pointer: "/format",
+    },
+    Refused {
+        datatype: r#"{"base":"decimal","format":"0E0"}"#,
+        code: MetaCode::NotSupported,
+        pointer: "/format",
+    },
+    Refused {
+        datatype: r#"{"base":"decimal","format":{"pattern":"0.","groupChar":" "}}"#,
+        code: MetaCode::BadDatatype,
+        pointer: "/format/pattern",
+    },
+    Refused {
+        datatype: r#"{"base":"integer","format":{"pattern":"0;0"}}"#,
+        code: MetaCode::NotSupported,
+        pointer: "/format/pattern",
+    },
+    Refused {
+        datatype: r#"{"base":"integer","format":{"pattern":0}}"#,
+        code: MetaCode::BadProperty,
+        pointer: "/format/pattern",
+    },
+    // equal characters are the fault before the pattern
+    Refused {
+        datatype: r##"{"base":"decimal","format":{"pattern":"0#","decimalChar":",","groupChar":","}}"##,
+        code: MetaCode::BadDatatype,
+        pointer: "/format",
+    },
+    Refused {
+        datatype: r##"{"base":"decimal","format":{"pattern":"0#","decimalChar":"5"}}"##,
+        code: MetaCode::BadDatatype,
+        pointer: "/format/decimalChar",
+    },
     Refused {
         datatype: r#""Json""#,
         code: MetaCode::NotSupported,
@@ -213,6 +290,33 @@ fn core_refuses(alloc: Global, case: &Case, below: &str) -> Result<bool, AllocEr
 fn literals_have_their_datatypes(rt: HostRuntime) -> Result<(), Fail> {
     for case in &CASES {
         assert!(rt; gives(rt.alloc(), case)?, "{}", case.column);
+    }
+    Ok(())
+}
+
+#[test]
+fn numbers_have_their_patterns(rt: HostRuntime) -> Result<(), Fail> {
+    for case in &PATTERNED {
+        assert!(rt; gives(rt.alloc(), case)?, "{} {}", case.column, case.field);
+    }
+    Ok(())
+}
+
+#[test]
+fn the_core_refuses_their_patterns(rt: HostRuntime) -> Result<(), Fail> {
+    for case in PATTERNED.iter().take(4) {
+        assert!(rt;
+            core_refuses(rt.alloc(), case, "/format")?,
+            "{}",
+            case.column
+        );
+    }
+    for case in PATTERNED.iter().skip(4) {
+        assert!(rt;
+            core_refuses(rt.alloc(), case, "/format/pattern")?,
+            "{}",
+            case.column
+        );
     }
     Ok(())
 }

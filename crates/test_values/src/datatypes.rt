@@ -1,11 +1,13 @@
 //! Texts under datatypes: their values in lexical form, the facets that those break, and the datatypes that are
 //! sound.
 use crate::limits::{BREAKS, ONES, SOUND};
+use crate::patterns::PATTERNED;
 use crate::readings::{BOUNDS, DATE_FORMATS, DATES, FULL, NO_FORMATS, NUMBERS, TEXTS};
 use csvw_datatype::{
     Broken, Datatype, DateFormat, Facets, Floating, Format, MomentFormat, NumberFormat, Simple,
     TruthFormat, Value, Width,
 };
+use csvw_datatype_core::NumberPattern;
 use csvw_text::Text;
 use std::alloc::{AllocError, Global};
 use std::process::Abort;
@@ -18,6 +20,8 @@ pub(crate) enum Pattern {
     Plain,
     /// The decimal character and the group character.
     Number(char, Option<char>),
+    /// These, and a pattern of numbers.
+    Written(char, Option<char>, &'static str),
     /// A format of dates.
     Day(&'static str),
     /// A format of moments.
@@ -122,11 +126,28 @@ fn format_of(alloc: Global, pattern: &Pattern) -> Result<Option<Format>, AllocEr
         Pattern::Number(decimal_char, group_char) => Ok(Some(Format::Number(NumberFormat {
             decimal_char: *decimal_char,
             group_char: *group_char,
+            pattern: None,
         }))),
+        Pattern::Written(decimal_char, group_char, text) => {
+            Ok(patterned_of(*decimal_char, *group_char, text))
+        }
         Pattern::Day(text) => Ok(DateFormat::of(text).map(Format::Day)),
         Pattern::Moment(text) => Ok(MomentFormat::of(text).map(Format::Moment)),
         Pattern::Truth(text) => truth_format_of(alloc, text),
     }
+}
+
+fn patterned_of(decimal_char: char, group_char: Option<char>, text: &str) -> Option<Format> {
+    let format = NumberFormat {
+        decimal_char,
+        group_char,
+        pattern: None,
+    };
+    let pattern = NumberPattern::of(&format.rules(), text).ok()?;
+    Some(Format::Number(NumberFormat {
+        pattern: Some(pattern),
+        ..format
+    }))
 }
 
 fn truth_format_of(alloc: Global, text: &str) -> Result<Option<Format>, AllocError> {
@@ -264,6 +285,7 @@ fn all_hold(rt: &impl Abort, alloc: Global) -> Result<(), AllocError> {
     for rows in [
         NUMBERS.as_slice(),
         &DATES,
+        &PATTERNED,
         &DATE_FORMATS,
         &TEXTS,
         &BOUNDS,

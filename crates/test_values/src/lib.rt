@@ -26,6 +26,8 @@ mod links;
 #[cfg(test)]
 mod own;
 #[cfg(test)]
+mod patterns;
+#[cfg(test)]
 mod readings;
 #[cfg(test)]
 mod tables;
