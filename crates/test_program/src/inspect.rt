@@ -93,8 +93,27 @@ const SMALL: &str =
     r##"{"@context": "http://www.w3.org/ns/csvw", "url": "t.csv", "tableSchema": {"columns": [
   {"name": "n", "aboutUrl": "{#n}", "datatype": {"@id": "http://example.org/short", "base": "string", "length": 3}}]}}"##;
 
-/// Returns what is shown of a document, and the stop.
-fn shown(alloc: Global, document: &str, form: InspectForm) -> (Vec<u8>, Result<(), Stop>) {
+/// A table whose numbers have patterns.
+const PATTERNED: &str =
+    r####"{"@context": "http://www.w3.org/ns/csvw", "url": "t.csv", "tableSchema": {"columns": [
+  {"name": "a", "datatype": {"base": "decimal", "format": "###,##0.0#"}},
+  {"name": "b", "datatype": {"base": "integer", "format": {"pattern": "+000", "groupChar": "'"}}},
+  {"name": "c", "datatype": {"base": "decimal", "format": {"pattern": "#.##.##0,0%", "decimalChar": ",", "groupChar": "."}}}]}}"####;
+
+/// The formats that are shown of them.
+const PATTERNS: [&str; 3] = [
+    "format  {\"decimalChar\":\".\",\"groupChar\":\",\",\"pattern\":\"#,##0.0#\"}\n",
+    "format  {\"decimalChar\":\".\",\"groupChar\":\"'\",\"pattern\":\"+000\"}\n",
+    "format  {\"decimalChar\":\",\",\"groupChar\":\".\",\"pattern\":\"#.##.##0,0%\"}\n",
+];
+
+/// Returns what is shown of a document of a profile, and the stop.
+fn shown(
+    alloc: Global,
+    profile: Profile,
+    document: &str,
+    form: InspectForm,
+) -> (Vec<u8>, Result<(), Stop>) {
     let mut opener = OneFile {
         path: "t.json",
         bytes: document.as_bytes(),
@@ -102,7 +121,7 @@ fn shown(alloc: Global, document: &str, form: InspectForm) -> (Vec<u8>, Result<(
     let asked = Inspect {
         base: BASE,
         meta: "t.json",
-        profile: Profile::Core,
+        profile,
         form,
     };
     let mut out = Counted::new(Vec::new(alloc));
@@ -116,6 +135,15 @@ fn text_of(bytes: &[u8]) -> &str {
 }
 
 #[test]
+fn shows_patterns_of_numbers(rt: HostRuntime) {
+    let (bytes, ran) = shown(rt.alloc(), Profile::W3c, PATTERNED, InspectForm::Text);
+    for format in &PATTERNS {
+        assert!(rt; text_of(bytes.as_slice()).contains(*format), "{format}");
+    }
+    assert_eq!(rt; ran, Ok(()));
+}
+
+#[test]
 fn shows_documents(rt: HostRuntime) -> Result<(), Fail> {
     let alloc = rt.alloc();
     for (document, form, expected) in [
@@ -123,7 +151,7 @@ fn shows_documents(rt: HostRuntime) -> Result<(), Fail> {
         (HEADER, InspectForm::Text, HEADER_TEXT),
         (SMALL, InspectForm::Json, SMALL_JSON),
     ] {
-        let (bytes, ran) = shown(alloc, document, form);
+        let (bytes, ran) = shown(alloc, Profile::Core, document, form);
         assert_eq!(rt; text_of(bytes.as_slice()), expected);
         assert_eq!(rt; ran, Ok(()));
     }
@@ -133,7 +161,7 @@ fn shows_documents(rt: HostRuntime) -> Result<(), Fail> {
 #[test]
 fn writes_nothing_of_a_document_with_a_fault(rt: HostRuntime) -> Result<(), Fail> {
     let alloc = rt.alloc();
-    let (bytes, ran) = shown(alloc, "{}", InspectForm::Text);
+    let (bytes, ran) = shown(alloc, Profile::Core, "{}", InspectForm::Text);
     assert!(rt; bytes.is_empty());
     match ran {
         Err(Stop::Meta(fault)) => {
