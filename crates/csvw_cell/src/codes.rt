@@ -10,7 +10,7 @@ use csvw_text::{Code, Seq};
 use std::alloc::{AllocError, Global};
 
 /// The codes that a cell may have, in their order.
-const CELL_CODES: [Code; 14] = [
+const CELL_CODES: [Code; 16] = [
     Code::Required,
     Code::BadBoolean,
     Code::BadInteger,
@@ -20,6 +20,8 @@ const CELL_CODES: [Code; 14] = [
     Code::BadDate,
     Code::BadDateTime,
     Code::BadDouble,
+    Code::BadTime,
+    Code::BadText,
     Code::WrongLength,
     Code::TooShort,
     Code::TooLong,

@@ -54,6 +54,10 @@ pub enum Code {
     BadDateTime,
     /// The text is not a number with an exponent, nor `INF`, `-INF` or `NaN`. The column is of doubles or floats.
     BadDouble,
+    /// The text is not a time of day of the column's format.
+    BadTime,
+    /// The text is not written as texts of its type are. The column is of a type as `language`, `Name` or `NMTOKEN`.
+    BadText,
     /// The text does not have the length that the facet `length` says.
     WrongLength,
     /// The text is shorter than the facet `minLength` says.
@@ -93,6 +97,8 @@ impl Code {
             Code::BadDate => "the text is no date: write a day as `format` spells it",
             Code::BadDateTime => "the text is no date and time: write one as `format` spells it",
             Code::BadDouble => "the text is no double: write digits, as in 1.5E3, or INF or NaN",
+            Code::BadTime => "the text is no time of day: write one as `format` spells it",
+            Code::BadText => "the text is none of its datatype: write it as the datatype asks",
             Code::WrongLength => "the value has another length than `length` says: correct it",
             Code::TooShort => "the value is shorter than `minLength` says: lengthen it",
             Code::TooLong => "the value is longer than `maxLength` says: shorten it",
@@ -145,6 +151,8 @@ impl Code {
             Code::BadDate => "BadDate",
             Code::BadDateTime => "BadDateTime",
             Code::BadDouble => "BadDouble",
+            Code::BadTime => "BadTime",
+            Code::BadText => "BadText",
             Code::WrongLength => "WrongLength",
             Code::TooShort => "TooShort",
             Code::TooLong => "TooLong",

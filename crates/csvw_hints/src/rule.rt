@@ -122,7 +122,9 @@ fn push_column_rule(text: &mut String, column: &Column, code: Code) -> Result<()
         | Code::BadDecimal
         | Code::BadDate
         | Code::BadDateTime
-        | Code::BadDouble => push_datatype(text, datatype),
+        | Code::BadDouble
+        | Code::BadTime
+        | Code::BadText => push_datatype(text, datatype),
         Code::OutOfRange => push_range(text, datatype),
         Code::BelowMinimum | Code::AboveMaximum => push_bounds(text, datatype),
         Code::WrongLength | Code::TooShort | Code::TooLong => push_lengths(text, datatype),

@@ -9,7 +9,7 @@ ghost use Rattle.csvw_report.specs.Report.{kind_name};
 use csvw_text::{Code, Kind};
 
 /// All codes, in their order.
-pub(crate) const CODES: [Code; 23] = [
+pub(crate) const CODES: [Code; 25] = [
     Code::UnknownProperty,
     Code::HeaderMissing,
     Code::HeaderCount,
@@ -23,6 +23,8 @@ pub(crate) const CODES: [Code; 23] = [
     Code::BadDate,
     Code::BadDateTime,
     Code::BadDouble,
+    Code::BadTime,
+    Code::BadText,
     Code::WrongLength,
     Code::TooShort,
     Code::TooLong,
