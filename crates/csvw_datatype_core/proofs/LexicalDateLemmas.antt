@@ -23,10 +23,10 @@ use Rattle.csvw_datatype_core.specs.LexicalDates.{IsDayAndSecond, AppendsDate, A
 use Rattle.csvw_datatype_core.proofs.DateLemmas.{Digits, two_in_front, value_two, value_four, all_append}
 use Rattle.csvw_datatype_core.proofs.TimeLemmas.{seconds_below}
 
-two_are : (n : ℕ) → n < 100 → Digits 2 (two_digits n)
+pub two_are : (n : ℕ) → n < 100 → Digits 2 (two_digits n)
 two_are n h = (((omega arith, omega arith), ((omega arith, omega arith), tt)), refl)
 
-two_value : (n : ℕ) → n < 100 → digits_value 10 (two_digits n) ≡ n
+pub two_value : (n : ℕ) → n < 100 → digits_value 10 (two_digits n) ≡ n
 two_value n h =
     let t = two_in_front (48 + n / 10) (48 + n % 10) [] (two_are n h).0 in
     sym (value_two (48 + n / 10) (48 + n % 10) t.first t.second) ∙ omega arith

@@ -11,6 +11,10 @@ mod LexicalLemmas
 mod ScaledLemmas
 mod LexicalNumber
 mod DateLemmas
+mod PartLemmas
+mod OneDatePart
+mod OneTime
+mod SubtagLemmas
 mod AsciiLemmas
 mod TimeLemmas
 mod LexicalDateLemmas

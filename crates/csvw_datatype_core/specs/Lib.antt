@@ -11,5 +11,9 @@ pub mod Moments
 pub mod TimeFields
 pub mod LexicalDates
 pub mod DatePatterns
+pub mod DateParts
+pub mod Times
+pub mod Languages
+pub mod XmlNames
 pub mod Forms
 pub mod Values

@@ -15,7 +15,6 @@ use Rattle.csvw_datatype_core.specs.declared.number_pattern.Left.TheVariants as 
 use Rattle.csvw_datatype_core.specs.declared.number_pattern.PatternFault.{PatternFault}
 use Rattle.csvw_datatype_core.specs.declared.number_pattern.PatternFault.TheVariants.{Bad, Unknown}
 use Rattle.csvw_datatype_core.specs.Numbers.{mark_text}
-use Rattle.csvw_datatype_core.specs.Scan.{holds}
 
 -- the characters of the rules; without them "." and "," are those of patterns
 abbrev pub point_of : NumberRules → ℕ

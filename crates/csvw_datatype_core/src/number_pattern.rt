@@ -5,7 +5,11 @@ ghost use Rattle.std.specs.List.{list_all, list_any};
 ghost use Rattle.csvw_datatype_core.specs.Numbers.{mark_text};
 ghost use Rattle.csvw_datatype_core.specs.declared.number.NumberRules.{NumberRules as Rules};
 ghost use Rattle.std.specs.Str.{chars};
-ghost use Rattle.csvw_datatype_core.specs.NumberPatterns.{after_character, after_whole, at_group, candidate, count, fits, fraction_count, group_of, has_sign, has_symbols, pattern_form, shown_of, whole_shown, is_boundary, is_left, is_pattern, is_pattern_character, is_sign, is_symbol, is_zero, larger, left, mark_of, pattern_of, point_of, runs, no_runs, sizes_of, symbol, symbols, unsigned, as_symbol, whole_count, with_digits};
+ghost use Rattle.csvw_datatype_core.specs.NumberPatterns.{after_character, after_whole, at_group, candidate, count, fits, fraction_count, group_of};
+ghost use Rattle.csvw_datatype_core.specs.NumberPatterns.{has_sign, has_symbols, pattern_form, shown_of, whole_shown, is_boundary, is_left};
+ghost use Rattle.csvw_datatype_core.specs.NumberPatterns.{is_pattern, is_pattern_character, is_sign, is_symbol, is_zero, larger, left, mark_of};
+ghost use Rattle.csvw_datatype_core.specs.NumberPatterns.{pattern_of, point_of, runs, no_runs, sizes_of, symbol, symbols, unsigned, as_symbol};
+ghost use Rattle.csvw_datatype_core.specs.NumberPatterns.{whole_count, with_digits};
 
 use crate::number::{Mark, NumberRules};
 use std::alloc::AllocError;

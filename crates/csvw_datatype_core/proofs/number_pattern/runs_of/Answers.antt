@@ -1,5 +1,5 @@
 -- After all characters the groups are those of the text.
-use Rattle.std.proofs.Common.{sym, ap, ◌∙◌, map-id, append-nil, [], ◌∷◌}
+use Rattle.std.proofs.Common.{sym, ap, ◌∙◌, map-id, append-nil, []}
 use Rattle.std.proofs.lemmas.Iterator.{YieldsList-from_chars}
 use Rattle.std.proofs.lemmas.Iterator.Consumers.{YieldsList-end}
 use Rattle.csvw_datatype_core.specs.NumberPatterns.{runs, no_runs}

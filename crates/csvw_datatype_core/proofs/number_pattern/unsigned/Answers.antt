@@ -1,5 +1,5 @@
 -- The text after its sign.
-use Rattle.std.proofs.Common.{◌≡◌, refl, sym, ap, ◌∙◌, rules, List, ℕ, ◌∷◌, true}
+use Rattle.std.proofs.Common.{◌≡◌, sym, ap, ◌∙◌, rules, List, ℕ, ◌∷◌, true}
 use Rattle.std.proofs.lemmas.Str.{chars_past_char}
 use Rattle.std.specs.Str.{chars}
 use Rattle.csvw_datatype_core.specs.NumberPatterns.{is_sign, unsigned}

@@ -1,8 +1,7 @@
 -- A symbol of the whole part, and what is left after it.
-use Rattle.std.proofs.Common.{◌≡◌, refl, sym, ap, ◌∙◌, ℕ, zero, suc, ◌-◌, ◌∷◌, ◌++◌, ◌≢◌, List, Bool, true, false, if◌then◌else◌}
+use Rattle.std.proofs.Common.{◌≡◌, refl, sym, ap, ◌∙◌, ℕ, suc, ◌∷◌, ◌++◌, List, Bool, true, false, if◌then◌else◌}
 use Rattle.csvw_datatype_core.specs.declared.number.NumberRules.{NumberRules}
 use Rattle.csvw_datatype_core.specs.declared.number_pattern.NumberPattern.{NumberPattern}
-use Rattle.csvw_datatype_core.specs.declared.number_pattern.Left.{Left}
 use Rattle.csvw_datatype_core.specs.NumberPatterns.{after_whole, group_of, is_boundary, left, symbol, symbols, whole_symbols}
 use Rattle.csvw_datatype_core.proofs.number_pattern.NumberPattern.whole_next.Goals as goal
 
