@@ -2,6 +2,7 @@
 use Rattle.std.proofs.Common.{◌≡◌, ◌↔◌, ◌⊎◌, inl, inr, ℕ, ◌≤◌, ◌||◌, ◌&&◌, not, nat_lt, Bool, true, false, Option, Some, None, is_some, refl, arith}
 use Rattle.std.specs.Prelude.{IsTrue}
 use Rattle.std.proofs.lemmas.Bool.Decides.{nat_tests}
+use Rattle.csvw_datatype_core.specs.declared.date_part.DatePart.{DatePart}
 use Rattle.csvw_datatype.specs.declared.value.Value.{Value}
 use Rattle.csvw_datatype.specs.declared.simple.Simple.{Simple}
 use Rattle.csvw_datatype.specs.declared.simple.Simple.TheVariants as simples
@@ -69,14 +70,40 @@ none_of_them s text other (inl e) = text e
 none_of_them s text other (inr (inl e)) = other types.Token e
 none_of_them s text other (inr (inr (inl e))) = other types.Xml e
 none_of_them s text other (inr (inr (inr (inl e)))) = other types.Html e
-none_of_them s text other (inr (inr (inr (inr e)))) = other types.Json e
+none_of_them s text other (inr (inr (inr (inr (inl e))))) = other types.Json e
+none_of_them s text other (inr (inr (inr (inr (inr (inl e)))))) = other types.Language e
+none_of_them s text other (inr (inr (inr (inr (inr (inr (inl e))))))) = other types.Name e
+none_of_them s text other (inr (inr (inr (inr (inr (inr (inr e))))))) = other types.NameToken e
 
 any_is_none : IsString (simples.Other types.Any) → ⊥
 any_is_none (inl e) = cc
 any_is_none (inr (inl e)) = cc
 any_is_none (inr (inr (inl e))) = cc
 any_is_none (inr (inr (inr (inl e)))) = cc
-any_is_none (inr (inr (inr (inr e)))) = cc
+any_is_none (inr (inr (inr (inr (inl e))))) = cc
+any_is_none (inr (inr (inr (inr (inr (inl e)))))) = cc
+any_is_none (inr (inr (inr (inr (inr (inr (inl e))))))) = cc
+any_is_none (inr (inr (inr (inr (inr (inr (inr e))))))) = cc
+
+time_is_none : IsString (simples.Other types.Time) → ⊥
+time_is_none (inl e) = cc
+time_is_none (inr (inl e)) = cc
+time_is_none (inr (inr (inl e))) = cc
+time_is_none (inr (inr (inr (inl e)))) = cc
+time_is_none (inr (inr (inr (inr (inl e))))) = cc
+time_is_none (inr (inr (inr (inr (inr (inl e)))))) = cc
+time_is_none (inr (inr (inr (inr (inr (inr (inl e))))))) = cc
+time_is_none (inr (inr (inr (inr (inr (inr (inr e))))))) = cc
+
+part_is_none : (p : DatePart) → IsString (simples.Other (types.Part p)) → ⊥
+part_is_none p (inl e) = cc
+part_is_none p (inr (inl e)) = cc
+part_is_none p (inr (inr (inl e))) = cc
+part_is_none p (inr (inr (inr (inl e)))) = cc
+part_is_none p (inr (inr (inr (inr (inl e))))) = cc
+part_is_none p (inr (inr (inr (inr (inr (inl e)))))) = cc
+part_is_none p (inr (inr (inr (inr (inr (inr (inl e))))))) = cc
+part_is_none p (inr (inr (inr (inr (inr (inr (inr e))))))) = cc
 
 is_string : (s : Simple) → IsTrue (has_length s) ↔ IsString s
 is_string simples.Text = (λ h. inl refl, λ h. refl)
@@ -92,7 +119,12 @@ is_string (simples.Other types.Any) = (λ h. absurd (no h), λ h. absurd (any_is
 is_string (simples.Other types.Token) = (λ h. inr (inl refl), λ h. refl)
 is_string (simples.Other types.Xml) = (λ h. inr (inr (inl refl)), λ h. refl)
 is_string (simples.Other types.Html) = (λ h. inr (inr (inr (inl refl))), λ h. refl)
-is_string (simples.Other types.Json) = (λ h. inr (inr (inr (inr refl))), λ h. refl)
+is_string (simples.Other types.Json) = (λ h. inr (inr (inr (inr (inl refl)))), λ h. refl)
+is_string (simples.Other types.Language) = (λ h. inr (inr (inr (inr (inr (inl refl))))), λ h. refl)
+is_string (simples.Other types.Name) = (λ h. inr (inr (inr (inr (inr (inr (inl refl)))))), λ h. refl)
+is_string (simples.Other types.NameToken) = (λ h. inr (inr (inr (inr (inr (inr (inr refl)))))), λ h. refl)
+is_string (simples.Other types.Time) = (λ h. absurd (no h), λ h. absurd (time_is_none h))
+is_string (simples.Other (types.Part p)) = (λ h. absurd (no h), λ h. absurd (part_is_none p h))
 
 one_of : (a b : Bool) (P Q : Type 0) → IsTrue a ↔ P → IsTrue b ↔ Q → IsTrue (a || b) ↔ (P ⊎ Q)
 one_of true b P Q p q = (λ h. inl (p.0 refl), λ h. refl)

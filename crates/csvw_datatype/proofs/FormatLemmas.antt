@@ -36,6 +36,7 @@ whole_lawful (Some (formats.Number f)) h = whole_of f h
 whole_lawful (Some (formats.Truth f)) h = plain_whole
 whole_lawful (Some (formats.Day f)) h = plain_whole
 whole_lawful (Some (formats.Moment f)) h = plain_whole
+whole_lawful (Some (formats.Time f)) h = plain_whole
 
 pub derived_lawful : (w : Width) (o : Option Format) → IsFormatOf (simples.Derived w) o → IsLawful (whole_rules o)
 derived_lawful w None h = plain_whole
@@ -43,6 +44,7 @@ derived_lawful w (Some (formats.Number f)) h = whole_of f h
 derived_lawful w (Some (formats.Truth f)) h = plain_whole
 derived_lawful w (Some (formats.Day f)) h = plain_whole
 derived_lawful w (Some (formats.Moment f)) h = plain_whole
+derived_lawful w (Some (formats.Time f)) h = plain_whole
 
 pub decimal_lawful : (o : Option Format) → IsFormatOf simples.Decimal o → IsLawful (decimal_rules o)
 decimal_lawful None h = plain_decimal
@@ -50,3 +52,4 @@ decimal_lawful (Some (formats.Number f)) h = h
 decimal_lawful (Some (formats.Truth f)) h = plain_decimal
 decimal_lawful (Some (formats.Day f)) h = plain_decimal
 decimal_lawful (Some (formats.Moment f)) h = plain_decimal
+decimal_lawful (Some (formats.Time f)) h = plain_decimal

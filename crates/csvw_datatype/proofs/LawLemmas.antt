@@ -32,6 +32,7 @@ use Rattle.csvw_datatype.specs.declared.simple.Width.{Width}
 use Rattle.csvw_datatype.specs.declared.format.Format.{Format}
 use Rattle.csvw_datatype.specs.declared.format.Format.TheVariants as formats
 use Rattle.csvw_datatype.specs.Formats.{IsFormatOf, fits_format}
+use Rattle.csvw_datatype.specs.TextForms.{text_form}
 use Rattle.csvw_datatype.specs.Widths.{IsInWidth}
 use Rattle.csvw_datatype.specs.Reads.{SpellsTruth, whole_rules, decimal_rules, date_format, moment_format, ReadsAs, ReadsNumberAs, MisreadAs, MisreadsNumber, number_code, double_code}
 use Rattle.csvw_datatype.specs.Sound.{IsNumberSize, IsWholeNumber, IsBoundOf, has_bounds}
@@ -78,6 +79,7 @@ one_truth (Some (formats.Truth f)) text a b ok r s = by_texts (text ≡ f.if_tru
 one_truth (Some (formats.Number f)) text a b ok r s = absurd ok
 one_truth (Some (formats.Day f)) text a b ok r s = absurd ok
 one_truth (Some (formats.Moment f)) text a b ok r s = absurd ok
+one_truth (Some (formats.Time f)) text a b ok r s = absurd ok
 
 -- numbers
 
@@ -147,6 +149,10 @@ one_double_fault text double_faults.TooLong double_faults.Bad p q = absurd (apar
     apart : {b : Bool} → b ≡ false → b ≡ true → ⊥
     apart x y = cc
 
+some_or_none : (o : Option (List ℕ)) (x : List ℕ) → o ≡ Some x → o ≡ None → ⊥
+some_or_none None x is none = cc
+some_or_none (Some y) x is none = cc
+
 inside : (x y : List ℕ) → Some x ≡ Some y → x ≡ y
 inside x y e = ap (λ o. unwrap_or o []) e
 
@@ -156,7 +162,7 @@ pub one_value : OneNumber → OneDate → OneMoment → (s : Simple) (f : Option
     → ReadsAs s f text w → v ≡ w
 one_value one date moment simples.Text f text v w ok r s = r ∙ sym s
 one_value one date moment simples.Uri f text v w ok r s = r ∙ sym s
-one_value one date moment (simples.Other t) f text v w ok r s = r ∙ sym s
+one_value one date moment (simples.Other t) f text v w ok r s = r.2 ∙ ap (λ x. values.Text x) (inside r.0 s.0 (sym r.1 ∙ s.1)) ∙ sym s.2
 one_value one date moment (simples.Floating t) f text v w ok r s = r.2 ∙ ap (λ x. values.Text x) (inside r.0 s.0 (sym r.1 ∙ s.1)) ∙ sym s.2
 one_value one date moment simples.Truth f text v w ok r s = r.2 ∙ ap (λ b. values.Truth b) (one_truth f text r.0 s.0 ok r.1 s.1) ∙ sym s.2
 one_value one date moment simples.Whole f text v w ok r s = same_number one (whole_rules f) (whole_lawful f ok) (chars text) v w r.0 s.0 r.1.0 s.1.0 r.2 s.2
@@ -173,7 +179,7 @@ pub value_or_code : OneNumber → (s : Simple) (f : Option Format) (text : List 
     → MisreadAs s f text code → ⊥
 value_or_code one simples.Text f text v code ok r m = m
 value_or_code one simples.Uri f text v code ok r m = m
-value_or_code one (simples.Other t) f text v code ok r m = m
+value_or_code one (simples.Other t) f text v code ok r m = some_or_none (text_form t f text) r.0 r.1 m.0
 value_or_code one (simples.Floating t) f text v code ok r m = double_or_fault text r.0 m.0 r.1 m.1
 value_or_code one simples.Truth f text v code ok r m = m.0 r.0 r.1
 value_or_code one simples.Whole f text v code ok r m = not_misread_as BadInteger (whole_rules f) f text r.0 code r.1 m
@@ -188,7 +194,7 @@ value_or_code one simples.Moment f text v code ok r m = m.0 r.0 r.1
 pub one_code : (s : Simple) (f : Option Format) (text : List ℕ) (c d : Code) → IsFormatOf s f → MisreadAs s f text c → MisreadAs s f text d → c ≡ d
 one_code simples.Text f text c d ok p q = absurd p
 one_code simples.Uri f text c d ok p q = absurd p
-one_code (simples.Other t) f text c d ok p q = absurd p
+one_code (simples.Other t) f text c d ok p q = p.1 ∙ sym q.1
 one_code (simples.Floating t) f text c d ok p q = p.2 ∙ ap double_code (one_double_fault text p.0 q.0 p.1 q.1) ∙ sym q.2
 one_code simples.Truth f text c d ok p q = p.1 ∙ sym q.1
 one_code simples.Whole f text c d ok p q = one_number_code BadInteger (whole_rules f) f text c d p q
@@ -245,6 +251,7 @@ whole (Some (formats.Number f)) cs z r = whole_group f.group_char cs z r
 whole (Some (formats.Truth f)) cs z r = whole_group None cs z r
 whole (Some (formats.Day f)) cs z r = whole_group None cs z r
 whole (Some (formats.Moment f)) cs z r = whole_group None cs z r
+whole (Some (formats.Time f)) cs z r = whole_group None cs z r
 
 at_value : (P : Value → Type 0) (v w : Value) → v ≡ w → P w → P v
 at_value P v w e h = subst P (sym e) h
@@ -252,7 +259,7 @@ at_value P v w e h = subst P (sym e) h
 pub writable : DatesInRange → MomentsInRange → (s : Simple) (f : Option Format) (text : List ℕ) (v : Value) → ReadsAs s f text v → IsWritable v
 writable dates moments simples.Text f text v r = at_value (λ v. IsWritable v) v (values.Text text) r tt
 writable dates moments simples.Uri f text v r = at_value (λ v. IsWritable v) v (values.Text text) r tt
-writable dates moments (simples.Other t) f text v r = at_value (λ v. IsWritable v) v (values.Text text) r tt
+writable dates moments (simples.Other t) f text v r = at_value (λ v. IsWritable v) v (values.Text r.0) r.2 tt
 writable dates moments (simples.Floating t) f text v r = at_value (λ v. IsWritable v) v (values.Text r.0) r.2 tt
 writable dates moments simples.Truth f text v r = at_value (λ v. IsWritable v) v (values.Truth r.0) r.2 tt
 writable dates moments simples.Whole f text v r = at_value (λ v. IsWritable v) v (values.Number r.0) r.2 (size (whole_rules f) (chars text) r.0 r.1.0)

@@ -20,7 +20,7 @@ AreSame a b = (IsLess a b → ⊥) × (IsLess b a → ⊥)
 -- length, minLength and maxLength are for string and the types derived from it
 abbrev pub IsString : Simple → Type 0
 IsString s = (s ≡ simples.Text) ⊎ (s ≡ simples.Other types.Token) ⊎ (s ≡ simples.Other types.Xml) ⊎ (s ≡ simples.Other types.Html)
-    ⊎ (s ≡ simples.Other types.Json)
+    ⊎ (s ≡ simples.Other types.Json) ⊎ (s ≡ simples.Other types.Language) ⊎ (s ≡ simples.Other types.Name) ⊎ (s ≡ simples.Other types.NameToken)
 
 abbrev pub LengthsApply : Simple → Facets → Type 0
 LengthsApply s f = IsString s ⊎ ((f.length ≡ None) × (f.min_length ≡ None) × (f.max_length ≡ None))

@@ -8,6 +8,7 @@ use Rattle.csvw_datatype.specs.Bars.{IsTruthText}
 use Rattle.csvw_datatype.specs.Characters.{IsCharacterOr, IsOptionalCharacter}
 use Rattle.csvw_datatype.specs.declared.simple.Simple.{Simple}
 use Rattle.csvw_datatype.specs.declared.simple.Simple.TheVariants as simples
+use Rattle.csvw_datatype.specs.declared.simple.TextType.TheVariants as types
 use Rattle.csvw_datatype.specs.declared.format.TruthFormat.{TruthFormat}
 use Rattle.csvw_datatype.specs.declared.format.NumberFormat.{NumberFormat}
 use Rattle.csvw_datatype.specs.declared.format.Format.{Format}
@@ -61,4 +62,5 @@ IsFormatOf (simples.Derived w) (Some (formats.Number f)) = IsLawful (format_rule
 IsFormatOf simples.Decimal (Some (formats.Number f)) = IsLawful (format_rules f)
 IsFormatOf simples.Day (Some (formats.Day f)) = Unit {0}
 IsFormatOf simples.Moment (Some (formats.Moment f)) = Unit {0}
+IsFormatOf (simples.Other types.Time) (Some (formats.Time f)) = Unit {0}
 IsFormatOf _ _ = ⊥

@@ -5,7 +5,9 @@ use Rattle.csvw_datatype.specs.declared.simple.Simple.TheVariants.{Text, Truth, 
 use Rattle.csvw_datatype.specs.declared.simple.Floating.{Floating as FloatingType}
 use Rattle.csvw_datatype.specs.declared.simple.Floating.TheVariants.{Double, Float}
 use Rattle.csvw_datatype.specs.declared.simple.TextType.{TextType}
-use Rattle.csvw_datatype.specs.declared.simple.TextType.TheVariants.{Any, Token, Xml, Html, Json}
+use Rattle.csvw_datatype.specs.declared.simple.TextType.TheVariants.{Any, Token, Language, Name, NameToken, Xml, Html, Json, Time, Part}
+use Rattle.csvw_datatype_core.specs.declared.date_part.DatePart.{DatePart}
+use Rattle.csvw_datatype_core.specs.declared.date_part.DatePart.TheVariants as parts
 use Rattle.csvw_datatype.specs.declared.simple.Width.{Width}
 use Rattle.csvw_datatype.specs.declared.simple.Width.TheVariants.{Long, Int, Short, Byte, UnsignedLong, UnsignedInt, UnsignedShort, UnsignedByte}
 use Rattle.csvw_datatype.specs.declared.simple.Width.TheVariants.{NonNegativeInteger, PositiveInteger, NonPositiveInteger, NegativeInteger}
@@ -33,12 +35,24 @@ abbrev pub IsFloatingNamed : List ℕ → FloatingType → Type 0
 IsFloatingNamed name Double = (name ≡ codes "double") ⊎ (name ≡ codes "number")
 IsFloatingNamed name Float = name ≡ codes "float"
 
+abbrev pub part_name : DatePart → List ℕ
+part_name parts.Year = codes "gYear"
+part_name parts.YearMonth = codes "gYearMonth"
+part_name parts.Month = codes "gMonth"
+part_name parts.MonthDay = codes "gMonthDay"
+part_name parts.Day = codes "gDay"
+
 abbrev pub text_type_name : TextType → List ℕ
 text_type_name Any = codes "anyAtomicType"
 text_type_name Token = codes "token"
+text_type_name Language = codes "language"
+text_type_name Name = codes "Name"
+text_type_name NameToken = codes "NMTOKEN"
 text_type_name Xml = codes "xml"
 text_type_name Html = codes "html"
 text_type_name Json = codes "json"
+text_type_name Time = codes "time"
+text_type_name (Part part) = part_name part
 
 -- the type has this name, or its other name
 abbrev pub IsTextTypeNamed : List ℕ → TextType → Type 0
@@ -46,12 +60,24 @@ IsTextTypeNamed name Any = (name ≡ codes "anyAtomicType") ⊎ (name ≡ codes 
 IsTextTypeNamed name t = name ≡ text_type_name t
 
 -- xml, html and json have IRIs of their own
+abbrev pub part_iri : DatePart → List ℕ
+part_iri parts.Year = codes "http://www.w3.org/2001/XMLSchema#gYear"
+part_iri parts.YearMonth = codes "http://www.w3.org/2001/XMLSchema#gYearMonth"
+part_iri parts.Month = codes "http://www.w3.org/2001/XMLSchema#gMonth"
+part_iri parts.MonthDay = codes "http://www.w3.org/2001/XMLSchema#gMonthDay"
+part_iri parts.Day = codes "http://www.w3.org/2001/XMLSchema#gDay"
+
 abbrev pub text_type_iri : TextType → List ℕ
 text_type_iri Any = codes "http://www.w3.org/2001/XMLSchema#anyAtomicType"
 text_type_iri Token = codes "http://www.w3.org/2001/XMLSchema#token"
+text_type_iri Language = codes "http://www.w3.org/2001/XMLSchema#language"
+text_type_iri Name = codes "http://www.w3.org/2001/XMLSchema#Name"
+text_type_iri NameToken = codes "http://www.w3.org/2001/XMLSchema#NMTOKEN"
 text_type_iri Xml = codes "http://www.w3.org/1999/02/22-rdf-syntax-ns#XMLLiteral"
 text_type_iri Html = codes "http://www.w3.org/1999/02/22-rdf-syntax-ns#HTML"
 text_type_iri Json = codes "http://www.w3.org/ns/csvw#JSON"
+text_type_iri Time = codes "http://www.w3.org/2001/XMLSchema#time"
+text_type_iri (Part part) = part_iri part
 
 abbrev pub name_of : Simple → List ℕ
 name_of Text = codes "string"

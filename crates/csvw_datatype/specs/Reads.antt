@@ -22,10 +22,12 @@ use Rattle.csvw_datatype.specs.declared.value.Value.{Value}
 use Rattle.csvw_datatype.specs.declared.value.Value.TheVariants as values
 use Rattle.csvw_datatype.specs.declared.simple.Simple.{Simple}
 use Rattle.csvw_datatype.specs.declared.simple.Simple.TheVariants as simples
+use Rattle.csvw_datatype.specs.declared.simple.TextType.{TextType}
 use Rattle.csvw_datatype.specs.declared.format.Format.{Format}
 use Rattle.csvw_datatype.specs.declared.format.Format.TheVariants as formats
 use Rattle.csvw_datatype.specs.declared.datatype.Datatype.{Datatype}
 use Rattle.csvw_datatype.specs.Formats.{fits_format, format_rules}
+use Rattle.csvw_datatype.specs.TextForms.{text_form, text_code}
 use Rattle.csvw_datatype.specs.Widths.{IsInWidth}
 
 -- the texts of booleans
@@ -55,6 +57,10 @@ moment_format _ = Seconds
 abbrev pub ReadsDouble : List ℕ → Value → Type 0
 ReadsDouble text v = (form : List ℕ) × (double_form text ≡ Some form) × (v ≡ values.Text form)
 
+-- the value of a type that keeps texts is its one text
+abbrev pub ReadsText : TextType → Option Format → List ℕ → Value → Type 0
+ReadsText t format text v = (form : List ℕ) × (text_form t format text ≡ Some form) × (v ≡ values.Text form)
+
 -- the text is this number, and is written as the format's pattern says
 abbrev pub ReadsNumberAs : NumberRules → Option Format → List ℕ → ℤ → Type 0
 ReadsNumberAs rules format text z = ReadsNumber rules (chars text) z × (fits_format format (chars text) ≡ true)
@@ -63,7 +69,7 @@ ReadsNumberAs rules format text z = ReadsNumber rules (chars text) z × (fits_fo
 abbrev pub ReadsAs : Simple → Option Format → List ℕ → Value → Type 0
 ReadsAs simples.Text format text v = v ≡ values.Text text
 ReadsAs simples.Uri format text v = v ≡ values.Text text
-ReadsAs (simples.Other t) format text v = v ≡ values.Text text
+ReadsAs (simples.Other t) format text v = ReadsText t format text v
 ReadsAs (simples.Floating t) format text v = ReadsDouble text v
 ReadsAs simples.Truth format text v = (b : Bool) × SpellsTruth format text b × (v ≡ values.Truth b)
 ReadsAs simples.Whole format text v = (z : ℤ) × ReadsNumberAs (whole_rules format) format text z × (v ≡ values.Number z)
@@ -95,11 +101,14 @@ MisreadsNumber bad rules format text code =
 abbrev pub MisreadsDouble : List ℕ → Code → Type 0
 MisreadsDouble text code = (fault : DoubleFault) × IsDoubleFault text fault × (code ≡ double_code fault)
 
+abbrev pub MisreadsText : TextType → Option Format → List ℕ → Code → Type 0
+MisreadsText t format text code = (text_form t format text ≡ None) × (code ≡ text_code t)
+
 -- the text is not a value, for this reason
 abbrev pub MisreadAs : Simple → Option Format → List ℕ → Code → Type 0
 MisreadAs simples.Text format text code = ⊥
 MisreadAs simples.Uri format text code = ⊥
-MisreadAs (simples.Other t) format text code = ⊥
+MisreadAs (simples.Other t) format text code = MisreadsText t format text code
 MisreadAs (simples.Floating t) format text code = MisreadsDouble text code
 MisreadAs simples.Truth format text code = ((b : Bool) → ¬ SpellsTruth format text b) × (code ≡ BadBoolean)
 MisreadAs simples.Whole format text code = MisreadsNumber BadInteger (whole_rules format) format text code

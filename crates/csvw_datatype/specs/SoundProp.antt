@@ -8,6 +8,7 @@ use Rattle.csvw_datatype.specs.declared.value.Value.{Value}
 use Rattle.csvw_datatype.specs.declared.value.Value.TheVariants as values
 use Rattle.csvw_datatype.specs.declared.simple.Simple.{Simple}
 use Rattle.csvw_datatype.specs.declared.simple.Simple.TheVariants as simples
+use Rattle.csvw_datatype.specs.declared.simple.TextType.TheVariants as types
 use Rattle.csvw_datatype.specs.declared.simple.Width.{Width}
 use Rattle.csvw_datatype.specs.declared.format.Format.{Format}
 use Rattle.csvw_datatype.specs.declared.format.Format.TheVariants as formats
@@ -36,6 +37,7 @@ format-prop (simples.Derived w) (Some (formats.Number f)) = lawful-prop _
 format-prop simples.Decimal (Some (formats.Number f)) = lawful-prop _
 format-prop simples.Day (Some (formats.Day f)) = Unit-prop
 format-prop simples.Moment (Some (formats.Moment f)) = Unit-prop
+format-prop (simples.Other types.Time) (Some (formats.Time f)) = Unit-prop
 format-prop s (Some f) = λ x y. absurd x
 
 from-prop : (o : Option ℤ) (z : ℤ) → IsProp (IsFrom o z)

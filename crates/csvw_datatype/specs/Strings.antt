@@ -18,14 +18,18 @@ is_string d = is_text d.simple
 abbrev pub has_length : Simple → Bool
 has_length simples.Text = true
 has_length (simples.Other types.Any) = false
+has_length (simples.Other types.Time) = false
+has_length (simples.Other (types.Part part)) = false
 has_length (simples.Other _) = true
 has_length _ = false
 
 -- white space stays as it is in cells of string, xml, html, json and anyAtomicType (Model for Tabular Data, section 6.4)
 abbrev pub space_stays : Simple → Bool
 space_stays simples.Text = true
-space_stays (simples.Other types.Token) = false
-space_stays (simples.Other _) = true
+space_stays (simples.Other types.Any) = true
+space_stays (simples.Other types.Xml) = true
+space_stays (simples.Other types.Html) = true
+space_stays (simples.Other types.Json) = true
 space_stays _ = false
 
 abbrev pub keeps_space : Datatype → Bool

@@ -9,7 +9,7 @@ ghost use Rattle.csvw_datatype.specs.Sound.{lengths_apply, lengths_agree, side_a
 use crate::datatype::{Datatype, Facets};
 use crate::facets::{has_lengths, is_below, is_less, is_not_under, is_over};
 use crate::format::Format;
-use crate::simple::Simple;
+use crate::simple::{Simple, TextType};
 use crate::value::Value;
 use crate::width::{UNIT, is_in_width};
 
@@ -79,6 +79,7 @@ fn is_format_of(simple: Simple, format: &Option<Format>) -> bool
         }
         (Simple::Day, Some(Format::Day(_))) => true,
         (Simple::Moment, Some(Format::Moment(_))) => true,
+        (Simple::Other(TextType::Time), Some(Format::Time(_))) => true,
         _ => false,
     }
 }

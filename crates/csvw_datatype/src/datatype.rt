@@ -122,7 +122,10 @@ impl Datatype {
     {
         match self.simple {
             Simple::Text => true,
-            Simple::Other(text_type) => !matches!(text_type, TextType::Token),
+            Simple::Other(text_type) => matches!(
+                text_type,
+                TextType::Any | TextType::Xml | TextType::Html | TextType::Json
+            ),
             Simple::Truth
             | Simple::Whole
             | Simple::Decimal
@@ -149,8 +152,7 @@ impl Datatype {
             | Simple::Derived(_)
             | Simple::Moment
             | Simple::Floating(_)
-            | Simple::Other(TextType::Token | TextType::Xml | TextType::Html | TextType::Json) =>
-                false,
+            | Simple::Other(_) => false,
         }
     }
 

@@ -25,7 +25,6 @@ pub struct Broken {
 impl Datatype {
     /// Returns whether some facet is about such a value: a length about a text, a bound about a value with an order.
     /// Otherwise the value breaks no facet.
-    /// the value breaks none.
     #[inline(always)]
     pub fn is_faceted(&self, value: &Value) -> bool
         ensures value { result ≡ is_faceted value.now self.now.facets }

@@ -3,7 +3,7 @@ ghost use Rattle.std.specs.Prelude.{◌≡◌, ◌≢◌, ◌↔◌, ◌++◌, I
 ghost use Rattle.csvw_datatype.specs.Characters.{IsCharacter};
 ghost use Rattle.csvw_datatype.specs.Bars.{IsTruthText, has_bar, HasNoSplit, IsOnlySplit};
 
-use csvw_datatype_core::{DateFormat, MomentFormat, NumberPattern, NumberRules};
+use csvw_datatype_core::{DateFormat, MomentFormat, NumberPattern, NumberRules, TimeFormat};
 use csvw_text::{Copied, Text};
 use std::alloc::{AllocError, Global};
 
@@ -38,6 +38,8 @@ pub enum Format {
     Day(DateFormat),
     /// The format of dates with a time of day.
     Moment(MomentFormat),
+    /// The format of times of day.
+    Time(TimeFormat),
 }
 
 impl TruthFormat {
@@ -155,6 +157,7 @@ impl Format {
             Format::Number(format) => Ok(Format::Number(*format)),
             Format::Day(format) => Ok(Format::Day(*format)),
             Format::Moment(format) => Ok(Format::Moment(*format)),
+            Format::Time(format) => Ok(Format::Time(*format)),
         }
     }
 }

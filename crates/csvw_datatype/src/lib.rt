@@ -3,6 +3,8 @@
 //! # Promises
 //!
 //! - `Datatype::read` returns the value of a text exactly if there is one, else the code (`Reads`, `Misread`).
+//! - The value of a double, a time of day or a part of a date is its one text, and so is that of a text that is kept as it
+//!   is (`double_form`, `text_form`).
 //! - The laws `one_value`, `value_or_code` and `one_code`: a text has one value or one code.
 //! - `facets` returns the facets that a value breaks, in the standards' words: the law `broken_facets`.
 //!   `is_faceted` returns false only if the value breaks none (`breaks`).
@@ -29,13 +31,16 @@ mod laws;
 mod lexical;
 mod read;
 mod simple;
+mod text_form;
 mod truth;
 mod value;
 mod width;
 
 pub use bound::bounds_read;
 pub use check::BadDatatype;
-pub use csvw_datatype_core::{DateFormat, FieldDigits, MomentFormat, Separator};
+pub use csvw_datatype_core::{
+    DateFormat, DatePart, FieldDigits, MomentFormat, Separator, TimeFormat,
+};
 pub use datatype::{Datatype, Facets};
 pub use facets::Broken;
 pub use format::{Format, NumberFormat, TruthFormat};

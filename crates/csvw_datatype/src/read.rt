@@ -5,14 +5,15 @@ ghost use Rattle.csvw_datatype.specs.declared.simple.Simple.TheVariants as simpl
 ghost use Rattle.std.specs.Str.{chars};
 ghost use Rattle.csvw_fault.specs.declared.fault.Code.TheVariants.{BadInteger};
 ghost use Rattle.csvw_datatype.specs.Formats.{fits_format};
-ghost use Rattle.csvw_datatype.specs.Reads.{Reads, ReadsNumberAs, MisreadsNumber, Misread, whole_rules, decimal_rules, date_format, moment_format, number_code, double_code, ReadsAs, MisreadAs, ReadsDouble, MisreadsDouble};
+ghost use Rattle.csvw_datatype.specs.Reads.{Reads, ReadsNumberAs, MisreadsNumber, Misread, whole_rules, decimal_rules, date_format, moment_format, number_code, double_code, ReadsAs, MisreadAs, ReadsDouble, MisreadsDouble, ReadsText, MisreadsText};
 ghost use Rattle.csvw_datatype.specs.Sound.{IsSound};
 ghost use Rattle.csvw_datatype.specs.Lexical.{IsWritable};
 
 use crate::datatype::Datatype;
 use crate::format::Format;
 use crate::laws::values_of_texts;
-use crate::simple::{Simple, Width};
+use crate::simple::{Simple, TextType, Width};
+use crate::text_form::{text_code, text_form};
 use crate::truth::read_truth;
 use crate::value::Value;
 use crate::width::is_in_width;
@@ -27,8 +28,8 @@ impl Datatype {
     /// Returns the value that a text is, or the code of why it is none (Model for Tabular Data and Metadata on the
     /// Web, section 6.4). The datatype must have passed `check`.
     ///
-    /// - `BadBoolean`, `BadInteger`, `BadDecimal`, `BadDate`, `BadDateTime` or `BadDouble` if the text isn't written as one, or
-    ///   not as the pattern of numbers says.
+    /// - `BadBoolean`, `BadInteger`, `BadDecimal`, `BadDate`, `BadDateTime`, `BadDouble`, `BadTime` or `BadText` if the text
+    ///   isn't written as a value of the type, or not as the pattern of numbers says.
     /// - `NumberTooLong` if a number is 10^20 or more in size or not a whole multiple of 10^-18, or if the exponent of a
     ///   double has more than 18 digits.
     /// - Otherwise `OutOfRange` if the number is outside its derived type.
@@ -45,9 +46,8 @@ impl Datatype {
         values_of_texts();
         let format = &self.format;
         match self.simple {
-            Simple::Text | Simple::Uri | Simple::Other(_) => Ok(Ok(Value::Text(Text::copied(
-                alloc, text,
-            )?))),
+            Simple::Text | Simple::Uri => Ok(Ok(Value::Text(Text::copied(alloc, text)?))),
+            Simple::Other(text_type) => read_text(alloc, text_type, format, text),
             Simple::Truth => Ok(read_boolean(format, text)),
             Simple::Whole => Ok(read_whole(format, text)),
             Simple::Derived(width) => Ok(read_derived(width, format, text)),
@@ -66,6 +66,21 @@ fn read_double(alloc: Global, text: &str) -> Result<Result<Value, Code>, AllocEr
     match canonical_double(alloc, text)? {
         Ok(form) => Ok(Ok(Value::Text(form))),
         Err(fault) => Ok(Err(double_code(fault))),
+    }
+}
+
+/// Reads a value of a type whose values are kept as texts. The value is its one text.
+fn read_text(
+    alloc: Global,
+    text_type: TextType,
+    format: &Option<Format>,
+    text: &str,
+) -> Result<Result<Value, Code>, AllocError>
+    ensures { IfOk result (λ answer. MatchResult answer (ReadsText text_type format.now text.now) (MisreadsText text_type format.now text.now)) }
+{
+    match text_form(alloc, text_type, format, text)? {
+        Some(form) => Ok(Ok(Value::Text(form))),
+        None => Ok(Err(text_code(text_type))),
     }
 }
 
@@ -94,7 +109,8 @@ fn fits_format(format: &Option<Format>, text: &str) -> bool
 {
     match format {
         Some(Format::Number(format)) => format.fits(text),
-        Some(Format::Truth(_) | Format::Day(_) | Format::Moment(_)) | None => true,
+        Some(Format::Truth(_) | Format::Day(_) | Format::Moment(_) | Format::Time(_)) | None =>
+            true,
     }
 }
 
@@ -190,7 +206,8 @@ pub(crate) fn whole_rules(format: &Option<Format>) -> NumberRules
 {
     let group_char = match format {
         Some(Format::Number(format)) => format.group_char,
-        Some(Format::Truth(_) | Format::Day(_) | Format::Moment(_)) | None => None,
+        Some(Format::Truth(_) | Format::Day(_) | Format::Moment(_) | Format::Time(_)) | None =>
+            None,
     };
     NumberRules {
         decimal_char: None,
@@ -204,11 +221,12 @@ pub(crate) fn decimal_rules(format: &Option<Format>) -> NumberRules
 {
     match format {
         Some(Format::Number(format)) => format.rules(),
-        Some(Format::Truth(_) | Format::Day(_) | Format::Moment(_)) | None => NumberRules {
-            decimal_char: Some('.'),
-            group_char: None,
-            allows_marks: false,
-        },
+        Some(Format::Truth(_) | Format::Day(_) | Format::Moment(_) | Format::Time(_)) | None =>
+            NumberRules {
+                decimal_char: Some('.'),
+                group_char: None,
+                allows_marks: false,
+            },
     }
 }
 
@@ -217,7 +235,7 @@ fn date_format(format: &Option<Format>) -> DateFormat
 {
     match format {
         Some(Format::Day(format)) => *format,
-        Some(Format::Truth(_) | Format::Number(_) | Format::Moment(_)) | None =>
+        Some(Format::Truth(_) | Format::Number(_) | Format::Moment(_) | Format::Time(_)) | None =>
             DateFormat::YearFirst,
     }
 }
@@ -227,7 +245,8 @@ fn moment_format(format: &Option<Format>) -> MomentFormat
 {
     match format {
         Some(Format::Moment(format)) => *format,
-        Some(Format::Truth(_) | Format::Number(_) | Format::Day(_)) | None => MomentFormat::Seconds,
+        Some(Format::Truth(_) | Format::Number(_) | Format::Day(_) | Format::Time(_)) | None =>
+            MomentFormat::Seconds,
     }
 }
 

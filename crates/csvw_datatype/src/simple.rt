@@ -1,7 +1,10 @@
 //! The built-in datatypes and their names.
 ghost use Rattle.std.specs.Prelude.{◌≡◌, MatchOption};
-ghost use Rattle.csvw_datatype.specs.Names.{name_of, IsNamed, width_name, floating_name, IsFloatingNamed, text_type_name, IsTextTypeNamed, text_type_iri, IsNoneNamed};
+ghost use Rattle.csvw_datatype_core.specs.declared.date_part.DatePart.{DatePart as Part};
+ghost use Rattle.csvw_datatype.specs.Names.{part_name, part_iri, name_of, IsNamed, width_name, floating_name, IsFloatingNamed, text_type_name, IsTextTypeNamed, text_type_iri, IsNoneNamed};
 ghost use Rattle.csvw_datatype.specs.Strings.{has_length};
+
+use csvw_datatype_core::DatePart;
 
 /// A derived integer type (XML Schema 1.1 part 2, sections 3.4.14 to 3.4.25).
 #[derive(Clone, Copy, Debug, PartialEq, Eq)]
@@ -41,20 +44,30 @@ pub enum Floating {
     Float,
 }
 
-/// A type of texts besides `string` and `anyURI`, of which each text is a value (Metadata Vocabulary for Tabular Data,
-/// section 5.11.1).
+/// A type besides `string` and `anyURI` whose values are kept as texts (Metadata Vocabulary for Tabular Data, section
+/// 5.11.1). Two of its values are the same if their texts are.
 #[derive(Clone, Copy, Debug, PartialEq, Eq)]
 pub enum TextType {
     /// `anyAtomicType`: the type above all others.
     Any,
     /// `token`: a string without line breaks, tabs and spaces that repeat.
     Token,
+    /// `language`: the tag of a language, as `en-GB`.
+    Language,
+    /// `Name`: a name of XML, as `iso:code`.
+    Name,
+    /// `NMTOKEN`: characters of names of XML, as `2-a`.
+    NameToken,
     /// `xml`: a part of an XML document.
     Xml,
     /// `html`: a part of an HTML document.
     Html,
     /// `json`: a JSON text.
     Json,
+    /// `time`: a time of day.
+    Time,
+    /// `gYear` and the like: a part of a date.
+    Part(DatePart),
 }
 
 /// A built-in datatype (Metadata Vocabulary for Tabular Data, section 5.11.1).
@@ -144,6 +157,46 @@ impl Floating {
     }
 }
 
+/// Returns the name of the type of a part of a date.
+fn part_name(part: DatePart) -> &'static str
+    ensures { result.now ≡ part_name part }
+{
+    match part {
+        DatePart::Year => "gYear",
+        DatePart::YearMonth => "gYearMonth",
+        DatePart::Month => "gMonth",
+        DatePart::MonthDay => "gMonthDay",
+        DatePart::Day => "gDay",
+    }
+}
+
+/// Returns the part of a date whose type has a name.
+fn part_named(name: &str) -> Option<DatePart>
+    ensures { MatchOption result ((p : Part) → ¬ (name.now ≡ part_name p)) (λ p. name.now ≡ part_name p) }
+{
+    match name {
+        "gYear" => Some(DatePart::Year),
+        "gYearMonth" => Some(DatePart::YearMonth),
+        "gMonth" => Some(DatePart::Month),
+        "gMonthDay" => Some(DatePart::MonthDay),
+        "gDay" => Some(DatePart::Day),
+        _ => None,
+    }
+}
+
+/// Returns the IRI of the type of a part of a date.
+fn part_iri(part: DatePart) -> &'static str
+    ensures { result.now ≡ part_iri part }
+{
+    match part {
+        DatePart::Year => "http://www.w3.org/2001/XMLSchema#gYear",
+        DatePart::YearMonth => "http://www.w3.org/2001/XMLSchema#gYearMonth",
+        DatePart::Month => "http://www.w3.org/2001/XMLSchema#gMonth",
+        DatePart::MonthDay => "http://www.w3.org/2001/XMLSchema#gMonthDay",
+        DatePart::Day => "http://www.w3.org/2001/XMLSchema#gDay",
+    }
+}
+
 impl TextType {
     fn name(self) -> &'static str
         ensures { result.now ≡ text_type_name self }
@@ -151,6 +204,11 @@ impl TextType {
         match self {
             TextType::Any => "anyAtomicType",
             TextType::Token => "token",
+            TextType::Language => "language",
+            TextType::Name => "Name",
+            TextType::NameToken => "NMTOKEN",
+            TextType::Time => "time",
+            TextType::Part(part) => part_name(part),
             TextType::Xml => "xml",
             TextType::Html => "html",
             TextType::Json => "json",
@@ -163,10 +221,14 @@ impl TextType {
         match name {
             "any" | "anyAtomicType" => Some(TextType::Any),
             "token" => Some(TextType::Token),
+            "language" => Some(TextType::Language),
+            "Name" => Some(TextType::Name),
+            "NMTOKEN" => Some(TextType::NameToken),
             "xml" => Some(TextType::Xml),
             "html" => Some(TextType::Html),
             "json" => Some(TextType::Json),
-            _ => None,
+            "time" => Some(TextType::Time),
+            _ => part_named(name).map(TextType::Part),
         }
     }
 
@@ -177,6 +239,11 @@ impl TextType {
         match self {
             TextType::Any => "http://www.w3.org/2001/XMLSchema#anyAtomicType",
             TextType::Token => "http://www.w3.org/2001/XMLSchema#token",
+            TextType::Language => "http://www.w3.org/2001/XMLSchema#language",
+            TextType::Name => "http://www.w3.org/2001/XMLSchema#Name",
+            TextType::NameToken => "http://www.w3.org/2001/XMLSchema#NMTOKEN",
+            TextType::Time => "http://www.w3.org/2001/XMLSchema#time",
+            TextType::Part(part) => part_iri(part),
             TextType::Xml => "http://www.w3.org/1999/02/22-rdf-syntax-ns#XMLLiteral",
             TextType::Html => "http://www.w3.org/1999/02/22-rdf-syntax-ns#HTML",
             TextType::Json => "http://www.w3.org/ns/csvw#JSON",
@@ -223,7 +290,12 @@ impl Simple {
     {
         match self {
             Simple::Text => true,
-            Simple::Other(text_type) => !matches!(text_type, TextType::Any),
+            Simple::Other(text_type) => {
+                !matches!(
+                    text_type,
+                    TextType::Any | TextType::Time | TextType::Part(_)
+                )
+            }
             _ => false,
         }
     }

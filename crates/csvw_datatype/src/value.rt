@@ -8,7 +8,7 @@ use std::alloc::{AllocError, Global};
 /// or moments. An integer equals a decimal of the same number.
 #[derive(Debug, Drop, PartialEq, Eq, PartialOrd, Ord)]
 pub enum Value {
-    /// A string or a URI.
+    /// A string or a URI, or the one text of a value that is kept as a text, as of a double.
     Text(Text),
     /// A boolean.
     Truth(bool),
