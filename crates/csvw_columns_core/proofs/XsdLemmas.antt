@@ -3,6 +3,7 @@ use Rattle.std.proofs.Common.{◌≡◌, ◌∙◌, ℕ, List, ◌++◌, refl, a
 use Rattle.std.specs.Prelude.{codes}
 use Rattle.csvw_iri.specs.Safe.{safe}
 use Rattle.csvw_datatype.specs.Names.{name_of, text_type_iri}
+use Rattle.csvw_datatype_core.specs.declared.date_part.DatePart.TheVariants as parts
 use Rattle.csvw_datatype.specs.declared.simple.Simple.{Simple}
 use Rattle.csvw_datatype.specs.declared.simple.Simple.TheVariants as simples
 use Rattle.csvw_datatype.specs.declared.simple.Floating.{Floating}
@@ -32,9 +33,18 @@ raw_text_type : (t : TextType) → safe (xsd_type (simples.Other t)) ≡ xsd_typ
 unfolding safe
 raw_text_type types.Any = refl
 raw_text_type types.Token = refl
+raw_text_type types.Language = refl
+raw_text_type types.Name = refl
+raw_text_type types.NameToken = refl
 raw_text_type types.Xml = refl
 raw_text_type types.Html = refl
 raw_text_type types.Json = refl
+raw_text_type types.Time = refl
+raw_text_type (types.Part parts.Year) = refl
+raw_text_type (types.Part parts.YearMonth) = refl
+raw_text_type (types.Part parts.Month) = refl
+raw_text_type (types.Part parts.MonthDay) = refl
+raw_text_type (types.Part parts.Day) = refl
 
 raw_floating : (t : Floating) → safe (xsd_type (simples.Floating t)) ≡ xsd_type (simples.Floating t)
 unfolding safe
@@ -58,9 +68,18 @@ pub raw_iri : (t : TextType) → safe (text_type_iri t) ≡ text_type_iri t
 unfolding safe
 raw_iri types.Any = refl
 raw_iri types.Token = refl
+raw_iri types.Language = refl
+raw_iri types.Name = refl
+raw_iri types.NameToken = refl
 raw_iri types.Xml = refl
 raw_iri types.Html = refl
 raw_iri types.Json = refl
+raw_iri types.Time = refl
+raw_iri (types.Part parts.Year) = refl
+raw_iri (types.Part parts.YearMonth) = refl
+raw_iri (types.Part parts.Month) = refl
+raw_iri (types.Part parts.MonthDay) = refl
+raw_iri (types.Part parts.Day) = refl
 
 pub safe_type : (s : Simple) (text joined head name : List ℕ) → text ≡ joined → joined ≡ head ++ name
     → head ≡ codes "http://www.w3.org/2001/XMLSchema#" → name ≡ name_of s

@@ -43,6 +43,10 @@ fn push_format(text: &mut String, format: &Format) -> Result<(), AllocError> {
             text.push_str(", format ")?;
             text.push_str(format.pattern())
         }
+        Format::Time(format) => {
+            text.push_str(", format ")?;
+            text.push_str(format.pattern())
+        }
     }
 }
 

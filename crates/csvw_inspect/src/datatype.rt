@@ -78,6 +78,7 @@ pub(crate) fn format_value(alloc: Global, format: &Format) -> Result<Value, Allo
         Format::Number(number) => number_format(alloc, number),
         Format::Day(day) => Value::try_from_str(alloc, day.pattern()),
         Format::Moment(moment) => Value::try_from_str(alloc, moment.pattern()),
+        Format::Time(time) => Value::try_from_str(alloc, time.pattern()),
     }
 }
 

@@ -13,6 +13,7 @@ use Rattle.csvw_datatype.specs.Bars.{has_bar, IsTruthText}
 use Rattle.csvw_datatype.specs.Formats.{AreTruthTexts, IsFormatOf, format_rules}
 use Rattle.csvw_datatype.specs.declared.simple.Simple.{Simple}
 use Rattle.csvw_datatype.specs.declared.simple.Simple.TheVariants as simples
+use Rattle.csvw_datatype.specs.declared.simple.TextType.TheVariants as types
 use Rattle.csvw_datatype.specs.declared.format.NumberFormat.{NumberFormat}
 use Rattle.csvw_datatype.specs.declared.format.Format.{Format}
 use Rattle.csvw_datatype.specs.declared.format.Format.TheVariants as formats
@@ -211,6 +212,7 @@ as_whole (Some (formats.Number f)) h = h
 as_whole (Some (formats.Truth f)) h = absurd h
 as_whole (Some (formats.Day f)) h = absurd h
 as_whole (Some (formats.Moment f)) h = absurd h
+as_whole (Some (formats.Time f)) h = absurd h
 
 -- ---- all types
 
@@ -218,7 +220,16 @@ pub format_sound : (profile : Profile) (simple : Simple) (place : Place) (at : L
 unfolding format
 format_sound profile simples.Text place at d = tt
 format_sound profile simples.Uri place at d = tt
-format_sound profile (simples.Other t) place at d = tt
+format_sound profile (simples.Other types.Any) place at d = tt
+format_sound profile (simples.Other types.Token) place at d = tt
+format_sound profile (simples.Other types.Language) place at d = tt
+format_sound profile (simples.Other types.Name) place at d = tt
+format_sound profile (simples.Other types.NameToken) place at d = tt
+format_sound profile (simples.Other types.Xml) place at d = tt
+format_sound profile (simples.Other types.Html) place at d = tt
+format_sound profile (simples.Other types.Json) place at d = tt
+format_sound profile (simples.Other types.Time) place at d = tt
+format_sound profile (simples.Other (types.Part p)) place at d = tt
 format_sound profile (simples.Floating t) place at d = tt
 format_sound profile simples.Truth place at d = truth_sound at d
 format_sound profile simples.Whole place at d = as_whole (number_format profile place at d).value.format (number_sound profile place at d)

@@ -1,12 +1,13 @@
 -- The type of a name, by its other form.
 use Rattle.std.proofs.Common.{◌≡◌, MatchOption, inl, inr, ℕ, List, [], ◌∷◌, Option, Some, None, Bool, true, false, refl, bytes_eq, codes, sym}
 use Rattle.std.proofs.lemmas.Slice.Eq.{bytes_eq-Decides}
+use Rattle.csvw_datatype_core.specs.declared.date_part.DatePart.TheVariants as parts
 use Rattle.csvw_datatype.specs.declared.simple.Simple.{Simple}
 use Rattle.csvw_datatype.specs.declared.simple.Simple.TheVariants.{Text, Truth, Whole, Decimal, Day, Uri, Derived, Moment, Other, Floating}
 use Rattle.csvw_datatype.specs.declared.simple.Floating.{Floating as FloatingType}
 use Rattle.csvw_datatype.specs.declared.simple.Floating.TheVariants.{Double, Float}
 use Rattle.csvw_datatype.specs.declared.simple.TextType.{TextType}
-use Rattle.csvw_datatype.specs.declared.simple.TextType.TheVariants.{Any, Token, Xml, Html, Json}
+use Rattle.csvw_datatype.specs.declared.simple.TextType.TheVariants.{Any, Token, Language, Name, NameToken, Xml, Html, Json, Time, Part}
 use Rattle.csvw_datatype.specs.declared.simple.Width.{Width}
 use Rattle.csvw_datatype.specs.declared.simple.Width.TheVariants.{Long, Int, Short, Byte, UnsignedLong, UnsignedInt, UnsignedShort, UnsignedByte}
 use Rattle.csvw_datatype.specs.declared.simple.Width.TheVariants.{NonNegativeInteger, PositiveInteger, NonPositiveInteger, NegativeInteger}
@@ -19,6 +20,11 @@ is_text_type_named name Token e = e
 is_text_type_named name Xml e = e
 is_text_type_named name Html e = e
 is_text_type_named name Json e = e
+is_text_type_named name Language e = e
+is_text_type_named name Name e = e
+is_text_type_named name NameToken e = e
+is_text_type_named name Time e = e
+is_text_type_named name (Part p) e = e
 
 is_named : (name : List ℕ) (s : Simple) → name ≡ name_of s → IsNamed name s
 is_named name Text e = e
@@ -73,6 +79,15 @@ text_type_named name Token e = rw e refl
 text_type_named name Xml e = rw e refl
 text_type_named name Html e = rw e refl
 text_type_named name Json e = rw e refl
+text_type_named name Language e = rw e refl
+text_type_named name Name e = rw e refl
+text_type_named name NameToken e = rw e refl
+text_type_named name Time e = rw e refl
+text_type_named name (Part parts.Year) e = rw e refl
+text_type_named name (Part parts.YearMonth) e = rw e refl
+text_type_named name (Part parts.Month) e = rw e refl
+text_type_named name (Part parts.MonthDay) e = rw e refl
+text_type_named name (Part parts.Day) e = rw e refl
 
 floating_named : (name : List ℕ) (t : FloatingType) → IsFloatingNamed name t → type_named name ≡ Some (Floating t)
 floating_named name Double (inl e) = rw e refl

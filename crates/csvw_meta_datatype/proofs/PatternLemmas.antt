@@ -7,8 +7,11 @@ use Rattle.csvw_datatype_core.specs.declared.date.DateFormat.{DateFormat}
 use Rattle.csvw_datatype_core.specs.declared.date.DateFormat.TheVariants.{YearFirst, Compact, DayFirst, MonthFirst}
 use Rattle.csvw_datatype_core.specs.declared.moment.MomentFormat.{MomentFormat}
 use Rattle.csvw_datatype_core.specs.declared.moment.MomentFormat.TheVariants.{Seconds, Minutes}
+use Rattle.csvw_datatype_core.specs.declared.time.TimeFormat.{TimeFormat}
+use Rattle.csvw_datatype_core.specs.declared.time.TimeFormat.TheVariants as times
 use Rattle.csvw_datatype_core.specs.DatePatterns.{date_pattern, moment_pattern}
-use Rattle.csvw_meta_datatype.specs.Patterns.{date_formats, moment_formats, patterned_in, date_format_of, moment_format_of}
+use Rattle.csvw_datatype_core.specs.Times.{time_pattern}
+use Rattle.csvw_meta_datatype.specs.Patterns.{date_formats, moment_formats, time_formats, patterned_in, date_format_of, moment_format_of, time_format_of}
 
 unequal : (b : Bool) → (b ≡ true → ⊥) → b ≡ false
 unequal true h = absurd (h refl)
@@ -41,6 +44,12 @@ one_moment : (text : List ℕ) (f : MomentFormat) → text ≡ moment_pattern f 
 one_moment text Seconds e = rw e refl
 one_moment text Minutes e = rw e refl
 
+one_time : (text : List ℕ) (f : TimeFormat) → text ≡ time_pattern f → time_format_of text ≡ Some f
+one_time text times.Seconds e = rw e refl
+one_time text times.CompactSeconds e = rw e refl
+one_time text times.Minutes e = rw e refl
+one_time text times.CompactMinutes e = rw e refl
+
 pub date_as : (text : List ℕ) (o : Option DateFormat) → MatchOption o ((f : DateFormat) → text ≢ date_pattern f) (λ f. text ≡ date_pattern f)
     → o ≡ date_format_of text
 date_as text None h = sym (none_in date_pattern text h date_formats)
@@ -50,3 +59,8 @@ pub moment_as : (text : List ℕ) (o : Option MomentFormat) → MatchOption o ((
     → o ≡ moment_format_of text
 moment_as text None h = sym (none_in moment_pattern text h moment_formats)
 moment_as text (Some f) h = sym (one_moment text f h)
+
+pub time_as : (text : List ℕ) (o : Option TimeFormat) → MatchOption o ((f : TimeFormat) → text ≢ time_pattern f) (λ f. text ≡ time_pattern f)
+    → o ≡ time_format_of text
+time_as text None h = sym (none_in time_pattern text h time_formats)
+time_as text (Some f) h = sym (one_time text f h)

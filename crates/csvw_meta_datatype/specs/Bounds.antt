@@ -5,15 +5,19 @@ use Rattle.serde_json.specs.Find.{as_integer}
 use Rattle.csvw_datatype.specs.declared.value.Value.{Value}
 use Rattle.csvw_datatype.specs.declared.simple.Simple.{Simple}
 use Rattle.csvw_datatype.specs.declared.simple.Simple.TheVariants as simples
+use Rattle.csvw_datatype.specs.declared.simple.TextType.TheVariants as types
 use Rattle.csvw_datatype.specs.Bounds.{bound_of, bound_of_whole}
 use Rattle.csvw_meta_core.specs.declared.fault.MetaCode.{MetaCode}
 use Rattle.csvw_meta_core.specs.declared.fault.MetaCode.TheVariants.{BadDatatype, NotSupported}
 use Rattle.csvw_meta_core.specs.Read.{Read, fine, faulty, ◌>>=◌, wrong, property}
 use Rattle.csvw_meta_datatype.specs.declared.bounds.Bounds.{Bounds}
 
--- a bound that can't be read, or is on a type without an order, is wrong; one of numbers with an exponent isn't supported
+-- a bound that can't be read, or is on a type without an order, is wrong; one of numbers with an exponent, of times of day or of parts of dates isn't
+-- supported
 abbrev pub no_bound : Simple → MetaCode
 no_bound (simples.Floating t) = NotSupported
+no_bound (simples.Other types.Time) = NotSupported
+no_bound (simples.Other (types.Part p)) = NotSupported
 no_bound _ = BadDatatype
 
 abbrev pub bound_found : Simple → List ℕ → Option Value → Read (Option Value)

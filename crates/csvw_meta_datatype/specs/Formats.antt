@@ -7,6 +7,8 @@ use Rattle.csvw_datatype_core.specs.declared.number_pattern.NumberPattern.{Numbe
 use Rattle.csvw_datatype_core.specs.declared.number_pattern.PatternFault.{PatternFault}
 use Rattle.csvw_datatype.specs.declared.simple.Simple.{Simple}
 use Rattle.csvw_datatype.specs.declared.simple.Simple.TheVariants as simples
+use Rattle.csvw_datatype.specs.declared.simple.TextType.{TextType}
+use Rattle.csvw_datatype.specs.declared.simple.TextType.TheVariants as types
 use Rattle.csvw_datatype.specs.declared.format.Format.{Format}
 use Rattle.csvw_datatype.specs.declared.format.Format.TheVariants as formats
 use Rattle.csvw_meta_core.specs.declared.fault.MetaCode.TheVariants.{NotSupported}
@@ -16,7 +18,7 @@ use Rattle.csvw_meta_core.specs.Read.{Read, fine, faulty, under, on_linked_objec
 use Rattle.csvw_meta_datatype.specs.declared.number.NumberFound.{NumberFound}
 use Rattle.csvw_meta_datatype.specs.declared.format.FormatFound.{FormatFound}
 use Rattle.csvw_meta_datatype.specs.Numbers.{no_characters, number_form, pattern_code, pattern_in, patterned}
-use Rattle.csvw_meta_datatype.specs.Patterns.{date_format, moment_format}
+use Rattle.csvw_meta_datatype.specs.Patterns.{date_format, moment_format, time_format}
 use Rattle.csvw_meta_datatype.specs.Truths.{truth_format}
 
 abbrev pub no_format : FormatFound
@@ -48,11 +50,16 @@ abbrev pub number_format : Profile → Place → List ℕ → Data → Read Form
 number_format profile place at d =
     text_or profile at (as_str d) (on_linked_object at d no_format (under number_found (number_form profile place at d)))
 
--- the format of a type; no format of a type of texts, or of numbers with an exponent, is supported
+-- the format of a type that keeps texts: that of a time of day is a pattern, and no other one is supported
+abbrev pub format_of_texts : TextType → List ℕ → Data → Read FormatFound
+format_of_texts types.Time at d = under (λ f. found (formats.Time f)) (time_format at d)
+format_of_texts _ at d = faulty NotSupported at no_format
+
+-- the format of a type; no format of strings, or of numbers with an exponent, is supported
 unfoldable pub format : Profile → Simple → Place → List ℕ → Data → Read FormatFound
 format profile simples.Text place at d = faulty NotSupported at no_format
 format profile simples.Uri place at d = faulty NotSupported at no_format
-format profile (simples.Other t) place at d = faulty NotSupported at no_format
+format profile (simples.Other t) place at d = format_of_texts t at d
 format profile (simples.Floating t) place at d = faulty NotSupported at no_format
 format profile simples.Truth place at d = under (λ f. found (formats.Truth f)) (truth_format at d)
 format profile simples.Whole place at d = number_format profile place at d

@@ -1,15 +1,16 @@
 -- The names of built-in datatypes, and the properties that are listed for a datatype (Metadata Vocabulary for Tabular Data, sections
 -- 5.11.1 and 5.11.2).
 use Rattle.std.specs.Prelude.{ℕ, List, [], ◌∷◌, Bool, true, false, codes, bytes_eq, filter, if◌then◌else◌, Option, Some, None}
+use Rattle.csvw_datatype_core.specs.declared.date_part.DatePart.TheVariants.{Year, YearMonth, Month, MonthDay, Day as DayOfMonth}
 use Rattle.csvw_datatype.specs.declared.simple.Simple.{Simple}
 use Rattle.csvw_datatype.specs.declared.simple.Simple.TheVariants.{Text, Truth, Whole, Decimal, Day, Uri, Derived, Moment, Other, Floating}
 use Rattle.csvw_datatype.specs.declared.simple.Floating.TheVariants.{Double, Float}
-use Rattle.csvw_datatype.specs.declared.simple.TextType.TheVariants.{Any, Token, Xml, Html, Json}
+use Rattle.csvw_datatype.specs.declared.simple.TextType.TheVariants.{Any, Token, Language, Name, NameToken, Xml, Html, Json, Time, Part}
 use Rattle.csvw_datatype.specs.declared.simple.Width.TheVariants.{Long, Int, Short, Byte, UnsignedLong, UnsignedInt, UnsignedShort, UnsignedByte}
 use Rattle.csvw_datatype.specs.declared.simple.Width.TheVariants.{NonNegativeInteger, PositiveInteger, NonPositiveInteger, NegativeInteger}
 use Rattle.csvw_datatype.specs.Names.{name_of}
 use Rattle.csvw_meta_core.specs.declared.profile.Profile.{Profile}
-use Rattle.csvw_meta_core.specs.declared.profile.Profile.TheVariants.{Core, W3c}
+use Rattle.csvw_meta_core.specs.declared.profile.Profile.TheVariants.{Core}
 
 -- the built-in datatypes of all profiles
 abbrev pub all_simples : List Simple
@@ -17,7 +18,8 @@ all_simples =
     Text ∷ Truth ∷ Whole ∷ Decimal ∷ Day ∷ Uri ∷ Moment ∷ Derived Long ∷ Derived Int ∷ Derived Short ∷ Derived Byte ∷ Derived UnsignedLong
     ∷ Derived UnsignedInt ∷ Derived UnsignedShort ∷ Derived UnsignedByte ∷ Derived NonNegativeInteger ∷ Derived PositiveInteger
     ∷ Derived NonPositiveInteger ∷ Derived NegativeInteger ∷ Other Any ∷ Other Token ∷ Other Xml ∷ Other Html ∷ Other Json
-    ∷ Floating Double ∷ Floating Float ∷ []
+    ∷ Floating Double ∷ Floating Float ∷ Other Language ∷ Other Name ∷ Other NameToken ∷ Other Time ∷ Other (Part Year) ∷ Other (Part YearMonth)
+    ∷ Other (Part Month) ∷ Other (Part MonthDay) ∷ Other (Part DayOfMonth) ∷ []
 
 -- the first of them that has the name
 abbrev pub named_in : List Simple → List ℕ → Option Simple

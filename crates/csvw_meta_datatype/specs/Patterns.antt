@@ -1,4 +1,4 @@
--- The patterns of dates and moments (Model for Tabular Data, section 6.4.4).
+-- The patterns of dates, moments and times of day (Model for Tabular Data, section 6.4.4).
 use Rattle.std.specs.Prelude.{ℕ, List, [], ◌∷◌, bytes_eq, if◌then◌else◌, Option, Some, None}
 use Rattle.serde_json.specs.Data.{Data}
 use Rattle.serde_json.specs.Find.{as_str}
@@ -8,7 +8,10 @@ use Rattle.csvw_datatype_core.specs.declared.date.DateFormat.{DateFormat}
 use Rattle.csvw_datatype_core.specs.declared.date.DateFormat.TheVariants.{YearFirst, Compact, DayFirst, MonthFirst}
 use Rattle.csvw_datatype_core.specs.declared.moment.MomentFormat.{MomentFormat}
 use Rattle.csvw_datatype_core.specs.declared.moment.MomentFormat.TheVariants.{Seconds, Minutes}
+use Rattle.csvw_datatype_core.specs.declared.time.TimeFormat.{TimeFormat}
+use Rattle.csvw_datatype_core.specs.declared.time.TimeFormat.TheVariants as times
 use Rattle.csvw_datatype_core.specs.DatePatterns.{date_pattern, moment_pattern}
+use Rattle.csvw_datatype_core.specs.Times.{time_pattern}
 use Rattle.csvw_meta_core.specs.declared.fault.MetaCode.TheVariants.{NotSupported}
 use Rattle.csvw_meta_core.specs.Read.{Read, fine, faulty, on_kind}
 
@@ -22,6 +25,9 @@ date_formats =
 abbrev pub moment_formats : List MomentFormat
 moment_formats = Seconds ∷ Minutes ∷ []
 
+abbrev pub time_formats : List TimeFormat
+time_formats = times.Seconds ∷ times.CompactSeconds ∷ times.Minutes ∷ times.CompactMinutes ∷ []
+
 -- the first of them that has the pattern
 abbrev pub patterned_in : {F : Type 0} → (F → List ℕ) → List F → List ℕ → Option F
 patterned_in pattern_of [] text = None
@@ -33,6 +39,9 @@ date_format_of text = patterned_in date_pattern date_formats text
 abbrev pub moment_format_of : List ℕ → Option MomentFormat
 moment_format_of text = patterned_in moment_pattern moment_formats text
 
+abbrev pub time_format_of : List ℕ → Option TimeFormat
+time_format_of text = patterned_in time_pattern time_formats text
+
 abbrev pub pattern_found : {F : Type 0} → F → List ℕ → Option F → Read F
 pattern_found dummy at None = faulty NotSupported at dummy
 pattern_found dummy at (Some f) = fine f
@@ -42,3 +51,6 @@ date_format at d = on_kind at d YearFirst (as_str d) (λ s. pattern_found YearFi
 
 abbrev pub moment_format : List ℕ → Data → Read MomentFormat
 moment_format at d = on_kind at d Seconds (as_str d) (λ s. pattern_found Seconds at (moment_format_of s))
+
+abbrev pub time_format : List ℕ → Data → Read TimeFormat
+time_format at d = on_kind at d times.Seconds (as_str d) (λ s. pattern_found times.Seconds at (time_format_of s))

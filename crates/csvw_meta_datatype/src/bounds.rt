@@ -5,13 +5,13 @@ ghost use Rattle.csvw_meta_core.specs.Pointer.{text_of};
 ghost use Rattle.csvw_meta_core.specs.Reads.{Reads};
 ghost use Rattle.csvw_meta_datatype.specs.Bounds.{is_dated, bound, bound_found, bound_of_integer, bounds, no_bound};
 
-use csvw_datatype::{Simple, Value as Bound};
+use csvw_datatype::{Simple, TextType, Value as Bound};
 use csvw_meta_core::{MetaCode, Part, Reader, Refusal};
 use serde_json::Value;
 
 /// Reads a bound: a text in the default format of the type or, for a type of numbers, a whole number. It is
 /// `BadDatatype` if it is not a value of the type, or if the values of the type have no order. A bound of numbers with an
-/// exponent is `NotSupported`.
+/// exponent, of times of day or of parts of dates is `NotSupported`.
 #[derive(Drop)]
 pub struct BoundReader {
     /// The datatype's `base`.
@@ -37,7 +37,9 @@ fn no_bound(simple: Simple) -> MetaCode
     ensures { result ≡ no_bound simple }
 {
     match simple {
-        Simple::Floating(_) => MetaCode::NotSupported,
+        Simple::Floating(_) | Simple::Other(TextType::Time | TextType::Part(_)) => {
+            MetaCode::NotSupported
+        }
         _ => MetaCode::BadDatatype,
     }
 }

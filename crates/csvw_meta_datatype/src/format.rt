@@ -4,13 +4,13 @@ ghost use Rattle.serde_json.specs.View.{view};
 ghost use Rattle.csvw_meta_core.specs.Pointer.{text_of};
 ghost use Rattle.csvw_meta_core.specs.Reads.{Reads};
 ghost use Rattle.csvw_meta_core.specs.Read.{under};
-ghost use Rattle.csvw_meta_datatype.specs.Formats.{number_format, number_found, text_format};
+ghost use Rattle.csvw_meta_datatype.specs.Formats.{format_of_texts, number_format, number_found, text_format};
 ghost use Rattle.csvw_meta_datatype.specs.Numbers.{number_form};
 
 use crate::number::{PLAIN, pattern_code, pattern_in, patterned, read_number_form};
-use crate::pattern::{DatePattern, MomentPattern};
+use crate::pattern::{DatePattern, MomentPattern, TimePattern};
 use crate::truth::TruthPattern;
-use csvw_datatype::{Format, Simple};
+use csvw_datatype::{Format, Simple, TextType};
 use csvw_meta_core::{MetaCode, Part, Profile, Reader, Refusal};
 use csvw_text::{Fault, Place, Seq};
 use serde_json::Value;
@@ -24,10 +24,10 @@ pub struct FormatFound {
     pub warnings: Seq<Fault>,
 }
 
-/// Reads the format of a datatype. For a type of texts or of numbers with an exponent it is `NotSupported`. For a number, a
-/// text is `NotSupported` in the profile core. A pattern of a date or a moment that is not supported is `NotSupported`, and
-/// so is one of a number with a character that isn't. A wrong character or pattern of a number, or a wrong pattern of a
-/// boolean, is `BadDatatype`.
+/// Reads the format of a datatype. For a type of strings or of numbers with an exponent it is `NotSupported`. For a number, a
+/// text is `NotSupported` in the profile core. A pattern of a date, a moment or a time of day that is not supported is
+/// `NotSupported`, and so is one of a number with a character that isn't. A wrong character or pattern of a number, or a
+/// wrong pattern of a boolean, is `BadDatatype`.
 #[derive(Drop)]
 pub struct FormatReader {
     /// The formats that the document may use.
@@ -72,6 +72,30 @@ fn read_number_format(profile: Profile, place: Place, part: &Part) -> Result<For
     }
 }
 
+/// Reads the format of a type that keeps texts.
+fn read_format_of_texts(text_type: TextType, part: &Part) -> Result<FormatFound, Refusal>
+    ensures { Reads result (format_of_texts text_type (text_of part.now.at) (view part.now.value.now)) }
+{
+    match text_type {
+        TextType::Time => {
+            let format = TimePattern.read(part)?;
+            Ok(FormatFound {
+                format: Some(Format::Time(format)),
+                warnings: Seq::new(part.alloc),
+            })
+        }
+        TextType::Any
+        | TextType::Token
+        | TextType::Language
+        | TextType::Name
+        | TextType::NameToken
+        | TextType::Xml
+        | TextType::Html
+        | TextType::Json
+        | TextType::Part(_) => Err(part.refused(MetaCode::NotSupported)),
+    }
+}
+
 impl Reader for FormatReader {
     ghost use Rattle.csvw_meta_datatype.specs.Formats.{format};
 
@@ -82,9 +106,10 @@ impl Reader for FormatReader {
     #[tactic(auto, unfolding(crate::specs::Formats::format))]
     fn read(&self, part: &Part) -> Result<FormatFound, Refusal> {
         let format = match self.simple {
-            Simple::Text | Simple::Uri | Simple::Other(_) | Simple::Floating(_) => {
+            Simple::Text | Simple::Uri | Simple::Floating(_) => {
                 return Err(part.refused(MetaCode::NotSupported));
             }
+            Simple::Other(text_type) => return read_format_of_texts(text_type, part),
             Simple::Whole | Simple::Derived(_) | Simple::Decimal => {
                 return read_number_format(self.profile, self.place, part);
             }

@@ -1,8 +1,8 @@
-//! The patterns of dates and moments (Model for Tabular Data and Metadata on the Web, section 6.4.4).
+//! The patterns of dates, moments and times of day (Model for Tabular Data and Metadata on the Web, section 6.4.4).
 ghost use Rattle.std.specs.Prelude.{◌≡◌};
-ghost use Rattle.csvw_meta_datatype.specs.Patterns.{date_format_of, moment_format_of, date_format, moment_format};
+ghost use Rattle.csvw_meta_datatype.specs.Patterns.{date_format_of, moment_format_of, time_format_of, date_format, moment_format, time_format};
 
-use csvw_datatype::{DateFormat, MomentFormat};
+use csvw_datatype::{DateFormat, MomentFormat, TimeFormat};
 use csvw_meta_core::{MetaCode, Part, Reader, Refusal};
 
 fn date_format_of(pattern: &str) -> Option<DateFormat>
@@ -15,6 +15,12 @@ fn moment_format_of(pattern: &str) -> Option<MomentFormat>
     ensures { result ≡ moment_format_of pattern.now }
 {
     MomentFormat::of(pattern)
+}
+
+fn time_format_of(pattern: &str) -> Option<TimeFormat>
+    ensures { result ≡ time_format_of pattern.now }
+{
+    TimeFormat::of(pattern)
 }
 
 /// Reads the pattern of a date. A pattern that is not one of the fourteen is `NotSupported`.
@@ -51,6 +57,26 @@ impl Reader for MomentPattern {
             return Err(part.wrong());
         };
         match moment_format_of(pattern) {
+            Some(format) => Ok(format),
+            None => Err(part.refused(MetaCode::NotSupported)),
+        }
+    }
+}
+
+/// Reads the pattern of a time of day. A pattern that is not one of the four is `NotSupported`.
+#[derive(Drop)]
+pub struct TimePattern;
+
+impl Reader for TimePattern {
+    type Output = TimeFormat;
+
+    ghost reads = { λ _. time_format };
+
+    fn read(&self, part: &Part) -> Result<TimeFormat, Refusal> {
+        let Some(pattern) = part.value.as_str() else {
+            return Err(part.wrong());
+        };
+        match time_format_of(pattern) {
             Some(format) => Ok(format),
             None => Err(part.refused(MetaCode::NotSupported)),
         }

@@ -12,6 +12,7 @@ use Rattle.csvw_datatype.specs.Strings.{has_length}
 use Rattle.csvw_datatype.specs.Bounds.{bound_of, bound_of_whole}
 use Rattle.csvw_datatype_core.specs.declared.date.DateFormat.TheVariants.{YearFirst}
 use Rattle.csvw_datatype_core.specs.declared.moment.MomentFormat.TheVariants.{Seconds}
+use Rattle.csvw_datatype_core.specs.declared.time.TimeFormat.TheVariants as times
 use Rattle.csvw_template.specs.declared.fault.TemplateFault.{TemplateFault}
 use Rattle.csvw_template.specs.declared.part.Part.{Part}
 use Rattle.csvw_template.specs.Reading as reading
@@ -25,7 +26,7 @@ use Rattle.csvw_meta_datatype.specs.Bounds.{bound, bound_found, bound_of_integer
 use Rattle.csvw_meta_datatype.specs.Numbers.{character, character_found, is_free, pattern_text, sole}
 use Rattle.csvw_meta_datatype.specs.Base.{base, simple_found}
 use Rattle.csvw_meta_datatype.specs.Names.{named_of}
-use Rattle.csvw_meta_datatype.specs.Patterns.{date_format, date_format_of, moment_format, moment_format_of, pattern_found}
+use Rattle.csvw_meta_datatype.specs.Patterns.{date_format, date_format_of, moment_format, moment_format_of, time_format, time_format_of, pattern_found}
 use Rattle.csvw_datatype.specs.declared.format.TruthFormat.{TruthFormat}
 use Rattle.csvw_meta_datatype.specs.Truths.{no_truths, truth_format, truth_format_of, truths_found}
 use Rattle.csvw_meta_inherited.specs.TemplateText.{template_text, told_template, template_code}
@@ -138,6 +139,11 @@ pub moment_has_one : (at : List ℕ) (d : Data) → AtMostOne (moment_format at 
 moment_has_one at d =
     of_kind BadProperty at d Seconds (as_str d) (λ s. pattern_found Seconds at (moment_format_of s))
     (λ s. pattern_has_one Seconds at (moment_format_of s))
+
+pub time_has_one : (at : List ℕ) (d : Data) → AtMostOne (time_format at d).faults
+time_has_one at d =
+    of_kind BadProperty at d times.Seconds (as_str d) (λ s. pattern_found times.Seconds at (time_format_of s))
+    (λ s. pattern_has_one times.Seconds at (time_format_of s))
 
 truths_have_one : (at : List ℕ) (o : Option TruthFormat) → AtMostOne (truths_found at o).faults
 truths_have_one at None = tt

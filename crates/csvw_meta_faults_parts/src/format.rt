@@ -4,15 +4,15 @@ ghost use Rattle.serde_json.specs.View.{view};
 ghost use Rattle.csvw_fault.specs.declared.fault.Place.{Place as ThePlace};
 ghost use Rattle.csvw_meta_core.specs.Pointer.{text_of};
 ghost use Rattle.csvw_meta_core.specs.Read.{property};
-ghost use Rattle.csvw_meta_datatype.specs.Formats.{format, no_format, number_format, text_format};
-ghost use Rattle.csvw_meta_faults_parts.specs.Leaves.{date_has_one, moment_has_one, truth_format_has_one};
+ghost use Rattle.csvw_meta_datatype.specs.Formats.{format, format_of_texts, no_format, number_format, text_format};
+ghost use Rattle.csvw_meta_faults_parts.specs.Leaves.{date_has_one, moment_has_one, time_has_one, truth_format_has_one};
 
 use crate::leaf::{Leaf, OneFault};
 use crate::number::find_number_form;
-use csvw_datatype::Simple;
+use csvw_datatype::{Simple, TextType};
 use csvw_meta_core::{MetaCode, MetaFault, Part, Profile};
 use csvw_meta_datatype::number::{PLAIN, pattern_code, pattern_in};
-use csvw_meta_datatype::pattern::{DatePattern, MomentPattern};
+use csvw_meta_datatype::pattern::{DatePattern, MomentPattern, TimePattern};
 use csvw_meta_datatype::truth::TruthPattern;
 use csvw_meta_faults_core::{add_fault, add_wrong, find_sole};
 use serde_json::Value;
@@ -24,6 +24,10 @@ impl OneFault for DatePattern {
 
 impl OneFault for MomentPattern {
     ghost at_most_one = { λ _. moment_has_one };
+}
+
+impl OneFault for TimePattern {
+    ghost at_most_one = { λ _. time_has_one };
 }
 
 impl OneFault for TruthPattern {
@@ -57,6 +61,33 @@ fn find_number_format(
     }
 }
 
+/// Adds the faults of the format of a type that keeps texts.
+fn find_format_of_texts(
+    text_type: TextType,
+    part: &Part,
+    faults: &mut Vec<MetaFault>,
+) -> Result<(), AllocError>
+    ensures { OnOk result (faults.new.items ≡ faults.old.items ++ (format_of_texts text_type (text_of part.now.at) (view part.now.value.now)).faults) }
+{
+    match text_type {
+        TextType::Time => {
+            let time = Leaf {
+                reader: TimePattern,
+            };
+            find_sole(part, &time, faults)
+        }
+        TextType::Any
+        | TextType::Token
+        | TextType::Language
+        | TextType::Name
+        | TextType::NameToken
+        | TextType::Xml
+        | TextType::Html
+        | TextType::Json
+        | TextType::Part(_) => add_fault(part, MetaCode::NotSupported, faults),
+    }
+}
+
 /// Adds the faults of the format of a datatype of this type.
 #[tactic(auto, unfolding(csvw_meta_datatype::specs::Formats::format))]
 fn find_format_here(
@@ -78,9 +109,10 @@ fn find_format_here(
         reader: MomentPattern,
     };
     match simple {
-        Simple::Text | Simple::Uri | Simple::Other(_) | Simple::Floating(_) => {
+        Simple::Text | Simple::Uri | Simple::Floating(_) => {
             add_fault(part, MetaCode::NotSupported, faults)
         }
+        Simple::Other(text_type) => find_format_of_texts(text_type, part, faults),
         Simple::Whole | Simple::Derived(_) | Simple::Decimal => {
             find_number_format(profile, part, faults)
         }

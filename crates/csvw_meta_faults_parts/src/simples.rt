@@ -2,13 +2,13 @@
 ghost use Rattle.std.specs.Prelude.{◌≡◌, IfOk, filter};
 ghost use Rattle.csvw_meta_datatype.specs.Names.{all_simples, is_in, simples_of};
 
-use csvw_datatype::{Floating, Simple, TextType, Width};
+use csvw_datatype::{DatePart, Floating, Simple, TextType, Width};
 use csvw_meta_core::Profile;
 use csvw_meta_datatype::base::is_in;
 use std::alloc::{AllocError, Global};
 
 /// The built-in datatypes of all profiles.
-static ALL: [Simple; 26] = [
+static ALL: [Simple; 35] = [
     Simple::Text,
     Simple::Truth,
     Simple::Whole,
@@ -35,6 +35,15 @@ static ALL: [Simple; 26] = [
     Simple::Other(TextType::Json),
     Simple::Floating(Floating::Double),
     Simple::Floating(Floating::Float),
+    Simple::Other(TextType::Language),
+    Simple::Other(TextType::Name),
+    Simple::Other(TextType::NameToken),
+    Simple::Other(TextType::Time),
+    Simple::Other(TextType::Part(DatePart::Year)),
+    Simple::Other(TextType::Part(DatePart::YearMonth)),
+    Simple::Other(TextType::Part(DatePart::Month)),
+    Simple::Other(TextType::Part(DatePart::MonthDay)),
+    Simple::Other(TextType::Part(DatePart::Day)),
 ];
 
 /// Returns those of some datatypes that a document in a profile may use, or `AllocError` if there is no memory.

@@ -10,6 +10,7 @@ use Rattle.csvw_datatype_core.specs.declared.number_pattern.NumberPattern.{Numbe
 use Rattle.csvw_datatype_core.specs.declared.number_pattern.PatternFault.{PatternFault}
 use Rattle.csvw_datatype.specs.declared.simple.Simple.{Simple}
 use Rattle.csvw_datatype.specs.declared.simple.Simple.TheVariants as simples
+use Rattle.csvw_datatype.specs.declared.simple.TextType.TheVariants as types
 use Rattle.csvw_meta_core.specs.declared.fault.MetaFault.{MetaFault}
 use Rattle.csvw_meta_core.specs.declared.others.CommonProperty.{CommonProperty}
 use Rattle.csvw_meta_core.specs.declared.others.CommonProperty.TheVariants.{Allowed, Refused}
@@ -204,7 +205,16 @@ format_quiet : (profile : Profile) (simple : Simple) (place : Place) (at : List 
 unfolding format
 format_quiet profile simples.Text place at d = refl
 format_quiet profile simples.Uri place at d = refl
-format_quiet profile (simples.Other t) place at d = refl
+format_quiet profile (simples.Other types.Any) place at d = refl
+format_quiet profile (simples.Other types.Token) place at d = refl
+format_quiet profile (simples.Other types.Language) place at d = refl
+format_quiet profile (simples.Other types.Name) place at d = refl
+format_quiet profile (simples.Other types.NameToken) place at d = refl
+format_quiet profile (simples.Other types.Xml) place at d = refl
+format_quiet profile (simples.Other types.Html) place at d = refl
+format_quiet profile (simples.Other types.Json) place at d = refl
+format_quiet profile (simples.Other types.Time) place at d = refl
+format_quiet profile (simples.Other (types.Part p)) place at d = refl
 format_quiet profile (simples.Floating t) place at d = refl
 format_quiet profile simples.Truth place at d = refl
 format_quiet profile simples.Whole place at d = number_format_quiet profile place at d
