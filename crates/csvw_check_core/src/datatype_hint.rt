@@ -9,30 +9,21 @@ use serde_json::Value;
 use std::alloc::{AllocError, Global};
 
 /// The datatypes of the standard that no profile has, each with the one to write in its place.
-const OTHERS: [(&str, &str); 19] = [
-    ("time", "string"),
+const OTHERS: [(&str, &str); 10] = [
     ("dateTimeStamp", "dateTime"),
     ("duration", "string"),
     ("dayTimeDuration", "string"),
     ("yearMonthDuration", "string"),
-    ("gDay", "string"),
-    ("gMonth", "string"),
-    ("gMonthDay", "string"),
-    ("gYear", "integer"),
-    ("gYearMonth", "string"),
     ("hexBinary", "string"),
     ("base64Binary", "string"),
     ("binary", "string"),
     ("normalizedString", "string"),
-    ("language", "string"),
-    ("Name", "string"),
-    ("NMTOKEN", "string"),
     ("QName", "string"),
     ("anySimpleType", "string"),
 ];
 
 /// The datatypes that there are.
-const NAMES: [&str; 28] = [
+const NAMES: [&str; 37] = [
     "string",
     "anyURI",
     "boolean",
@@ -61,6 +52,15 @@ const NAMES: [&str; 28] = [
     "number",
     "double",
     "float",
+    "language",
+    "Name",
+    "NMTOKEN",
+    "time",
+    "gYear",
+    "gYearMonth",
+    "gMonth",
+    "gMonthDay",
+    "gDay",
 ];
 
 /// Returns the datatype to write in place of one that no profile has.

@@ -135,7 +135,7 @@ Section: XML Schema part 2, section 3.4.
 
 ## BadDate (fault of a table)
 
-The text of a cell is no date of the format of its column, or there is no such day.
+The text of a cell is no date of the format of its column, or there is no such day. Or it is no year, month or day of its datatype, as `gYear`.
 
 Example:
 
@@ -171,6 +171,32 @@ Example:
 Instead: Write digits after the `E`: `1.5E3`. The datatypes `double`, `float` and `number` need `--profile w3c`.
 
 Section: XML Schema part 2, section 3.3.5.
+
+## BadTime (fault of a table)
+
+The text of a cell is no time of day of the format of its column.
+
+Example:
+
+    metadata.json: {"@context":"http://www.w3.org/ns/csvw","url":"t.csv","tableSchema":{"columns":[{"name":"n","datatype":"time"}]}}
+    t.csv: n\n15:02\n
+
+Instead: Write `15:02:00`, without a zone and a fraction, or describe the format: `HH:mm`, `HHmm` or `HHmmss`. The datatype `time` needs `--profile w3c`.
+
+Section: Model for Tabular Data, section 6.4.4.
+
+## BadText (fault of a table)
+
+The text of a cell is not written as texts of its datatype are: no tag of a language, `Name` or `NMTOKEN`.
+
+Example:
+
+    metadata.json: {"@context":"http://www.w3.org/ns/csvw","url":"t.csv","tableSchema":{"columns":[{"name":"n","datatype":"language"}]}}
+    t.csv: n\nen_GB\n
+
+Instead: Write the tag with `-`: `en-GB`. The datatypes `language`, `Name` and `NMTOKEN` need `--profile w3c`.
+
+Section: XML Schema part 2, sections 3.4.3 to 3.4.6.
 
 ## WrongLength (fault of a table)
 
@@ -397,14 +423,14 @@ Section: a limit of this program.
 
 ## NotSupported (fault of a document)
 
-A part of the vocabulary that this program does not support: a datatype as `time` or `duration`, a `format` of strings, a schema or a dialect by its URL, a number with a fraction.
+A part of the vocabulary that this program does not support: a datatype as `duration`, a `format` of strings, a schema or a dialect by its URL, a number with a fraction.
 
 Example:
 
-    metadata.json: {"@context":"http://www.w3.org/ns/csvw","url":"t.csv","tableSchema":{"columns":[{"name":"n","datatype":"time"}]}}
+    metadata.json: {"@context":"http://www.w3.org/ns/csvw","url":"t.csv","tableSchema":{"columns":[{"name":"n","datatype":"duration"}]}}
     t.csv: n\n1\n
 
-Instead: Leave it out, or write what is supported: `--profile w3c` for `number`, `string` for `time`, `"minimum": "0.5"` for 0.5, the schema itself for its URL.
+Instead: Leave it out, or write what is supported: `--profile w3c` for `number`, `string` for `duration`, `"minimum": "0.5"` for 0.5, the schema itself for its URL.
 
 Section: Metadata Vocabulary, section 5.
 
