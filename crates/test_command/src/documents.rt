@@ -147,8 +147,8 @@ static HELPED: [Refusal; 8] = [
         line: b"m.json:3:1: /tableSchema/foreignKeys/0: BadProperty: a value is of a wrong kind, or a property is missing\n    the property \"reference\" is missing\n",
     },
     Refusal {
-        meta: b"{\"@context\":\"http://www.w3.org/ns/csvw\",\"url\":\"p.csv\",\"tableSchema\":{\"columns\":[{\"name\":\"a\",\n\"datatype\":\"time\"}]}}",
-        line: b"m.json:2:1: /tableSchema/columns/0/datatype: NotSupported: this part of the vocabulary is not supported: leave it out\n    the datatype time is of the standard, but isn't supported: write string\n",
+        meta: b"{\"@context\":\"http://www.w3.org/ns/csvw\",\"url\":\"p.csv\",\"tableSchema\":{\"columns\":[{\"name\":\"a\",\n\"datatype\":\"duration\"}]}}",
+        line: b"m.json:2:1: /tableSchema/columns/0/datatype: NotSupported: this part of the vocabulary is not supported: leave it out\n    the datatype duration is of the standard, but isn't supported: write string\n",
     },
     Refusal {
         meta: b"{\"@context\":\"http://www.w3.org/ns/csvw\",\"url\":\"p.csv\",\"tableSchema\":{\"columns\":[{\"name\":\"a\",\"datatype\":{\n\"base\":\"Integer\"}}]}}",

@@ -1,8 +1,5 @@
 //! The example of a foreign key between tables of the Metadata Vocabulary (section 5.5): countries, and the population
 //! of a country by year. The graphs follow the rules of csv2rdf (sections 4.2 to 4.6).
-//!
-//! The Vocabulary gives the column `year` the datatype gYear, which is not supported. Here it is a string whose
-//! literals have the URL of that datatype.
 use crate::examples::writes;
 use csvw_triples_core::Mode;
 use std::test::Fail;
@@ -27,7 +24,7 @@ static META: &str = r#"{
     "tableSchema": {
       "columns": [
         {"name": "countryRef", "valueUrl": "http://example.org/countries.csv{#countryRef}"},
-        {"name": "year", "datatype": {"base": "string", "@id": "http://www.w3.org/2001/XMLSchema#gYear"}},
+        {"name": "year", "datatype": "gYear"},
         {"name": "population", "datatype": "integer"}
       ],
       "foreignKeys": [{

@@ -148,6 +148,86 @@ static PATTERNED: [Case; 7] = [
     },
 ];
 
+/// Parts of dates, times of day and names, which the profile core refuses.
+static KEPT: [Case; 15] = [
+    Case {
+        column: r#""datatype":"gYear""#,
+        field: " 2015 ",
+        object: "\"2015\"^^<http://www.w3.org/2001/XMLSchema#gYear> .\n",
+    },
+    Case {
+        column: r#""datatype":"gYearMonth""#,
+        field: "2015-03+00:00",
+        object: "\"2015-03Z\"^^<http://www.w3.org/2001/XMLSchema#gYearMonth> .\n",
+    },
+    Case {
+        column: r#""datatype":"gMonth""#,
+        field: "--03",
+        object: "\"--03\"^^<http://www.w3.org/2001/XMLSchema#gMonth> .\n",
+    },
+    Case {
+        column: r#""datatype":"gMonthDay""#,
+        field: "--02-29",
+        object: "\"--02-29\"^^<http://www.w3.org/2001/XMLSchema#gMonthDay> .\n",
+    },
+    Case {
+        column: r#""datatype":"gDay""#,
+        field: "---31",
+        object: "\"---31\"^^<http://www.w3.org/2001/XMLSchema#gDay> .\n",
+    },
+    Case {
+        column: r#""datatype":"time""#,
+        field: "15:02:07",
+        object: "\"15:02:07\"^^<http://www.w3.org/2001/XMLSchema#time> .\n",
+    },
+    Case {
+        column: r#""datatype":"language""#,
+        field: " en-GB ",
+        object: "\"en-GB\"^^<http://www.w3.org/2001/XMLSchema#language> .\n",
+    },
+    Case {
+        column: r#""datatype":"Name""#,
+        field: "iso:code",
+        object: "\"iso:code\"^^<http://www.w3.org/2001/XMLSchema#Name> .\n",
+    },
+    Case {
+        column: r#""datatype":"NMTOKEN""#,
+        field: "2-a",
+        object: "\"2-a\"^^<http://www.w3.org/2001/XMLSchema#NMTOKEN> .\n",
+    },
+    Case {
+        column: r#""datatype":{"base":"time","format":"HHmm"}"#,
+        field: "1502",
+        object: "\"15:02:00\"^^<http://www.w3.org/2001/XMLSchema#time> .\n",
+    },
+    Case {
+        column: r#""datatype":{"base":"time","format":"HH:mm","@id":"http://example.org/d"}"#,
+        field: "15:02",
+        object: "\"15:02:00\"^^<http://example.org/d> .\n",
+    },
+    Case {
+        column: r#""datatype":{"base":"language","length":2},"lang":"de""#,
+        field: "fr",
+        object: "\"fr\"^^<http://www.w3.org/2001/XMLSchema#language> .\n",
+    },
+    // a text that is no value stays a string, without a language
+    Case {
+        column: r#""datatype":"gYear""#,
+        field: "15",
+        object: "\"15\" .\n",
+    },
+    Case {
+        column: r#""datatype":"time""#,
+        field: "24:00:00",
+        object: "\"24:00:00\" .\n",
+    },
+    Case {
+        column: r#""datatype":"language","lang":"de""#,
+        field: "en_GB",
+        object: "\"en_GB\" .\n",
+    },
+];
+
 /// A column's datatype, and the fault with which its document is refused in the profile w3c.
 struct Refused {
     /// The datatype as it is in the document.
@@ -158,7 +238,7 @@ struct Refused {
     pointer: &'static str,
 }
 
-static REFUSED: [Refused; 15] = [
+static REFUSED: [Refused; 22] = [
     Refused {
         datatype: r##"{"base":"decimal","format":"0#"}"##,
         code: MetaCode::BadDatatype,
@@ -229,6 +309,41 @@ static REFUSED: [Refused; 15] = [
         datatype: r#"{"base":"number","format":{"decimalChar":","}}"#,
         code: MetaCode::NotSupported,
         pointer: "/format",
+    },
+    Refused {
+        datatype: r#"{"base":"time","format":"H:mm"}"#,
+        code: MetaCode::NotSupported,
+        pointer: "/format",
+    },
+    Refused {
+        datatype: r#"{"base":"time","format":7}"#,
+        code: MetaCode::BadProperty,
+        pointer: "/format",
+    },
+    Refused {
+        datatype: r#"{"base":"gYear","format":"yyyy"}"#,
+        code: MetaCode::NotSupported,
+        pointer: "/format",
+    },
+    Refused {
+        datatype: r#"{"base":"language","format":"[a-z]{2}"}"#,
+        code: MetaCode::NotSupported,
+        pointer: "/format",
+    },
+    Refused {
+        datatype: r#"{"base":"gYear","minimum":2000}"#,
+        code: MetaCode::NotSupported,
+        pointer: "/minimum",
+    },
+    Refused {
+        datatype: r#"{"base":"time","maxExclusive":"12:00:00"}"#,
+        code: MetaCode::NotSupported,
+        pointer: "/maxExclusive",
+    },
+    Refused {
+        datatype: r#"{"base":"gYear","length":4}"#,
+        code: MetaCode::BadDatatype,
+        pointer: "/length",
     },
     Refused {
         datatype: r#"{"base":"xml","minLength":2,"maxLength":1}"#,
@@ -335,6 +450,25 @@ fn the_core_refuses_them(rt: HostRuntime) -> Result<(), Fail> {
         assert!(rt; core_refuses(rt.alloc(), case, "")?, "{}", case.column);
     }
     for case in CASES.iter().skip(6).take(2) {
+        assert!(rt; core_refuses(rt.alloc(), case, "/base")?, "{}", case.column);
+    }
+    Ok(())
+}
+
+#[test]
+fn parts_of_dates_and_names_have_their_literals(rt: HostRuntime) -> Result<(), Fail> {
+    for case in &KEPT {
+        assert!(rt; gives(rt.alloc(), case)?, "{} {}", case.column, case.field);
+    }
+    Ok(())
+}
+
+#[test]
+fn the_core_refuses_those_datatypes(rt: HostRuntime) -> Result<(), Fail> {
+    for case in KEPT.iter().take(9) {
+        assert!(rt; core_refuses(rt.alloc(), case, "")?, "{}", case.column);
+    }
+    for case in KEPT.iter().skip(9).take(3) {
         assert!(rt; core_refuses(rt.alloc(), case, "/base")?, "{}", case.column);
     }
     Ok(())

@@ -1,11 +1,12 @@
 //! Texts under datatypes: their values in lexical form, the facets that those break, and the datatypes that are
 //! sound.
+use crate::kept_texts::{NAMED, PARTS, TIMES};
 use crate::limits::{BREAKS, ONES, SOUND};
 use crate::patterns::PATTERNED;
 use crate::readings::{BOUNDS, DATE_FORMATS, DATES, FULL, NO_FORMATS, NUMBERS, TEXTS};
 use csvw_datatype::{
-    Broken, Datatype, DateFormat, Facets, Floating, Format, MomentFormat, NumberFormat, Simple,
-    TruthFormat, Value, Width,
+    Broken, Datatype, DateFormat, DatePart, Facets, Floating, Format, MomentFormat, NumberFormat,
+    Simple, TextType, TimeFormat, TruthFormat, Value, Width,
 };
 use csvw_datatype_core::NumberPattern;
 use csvw_text::Text;
@@ -28,6 +29,8 @@ pub(crate) enum Pattern {
     Moment(&'static str),
     /// A format of booleans.
     Truth(&'static str),
+    /// A format of times of day.
+    Time(&'static str),
 }
 
 /// A bound of values.
@@ -134,6 +137,7 @@ fn format_of(alloc: Global, pattern: &Pattern) -> Result<Option<Format>, AllocEr
         Pattern::Day(text) => Ok(DateFormat::of(text).map(Format::Day)),
         Pattern::Moment(text) => Ok(MomentFormat::of(text).map(Format::Moment)),
         Pattern::Truth(text) => truth_format_of(alloc, text),
+        Pattern::Time(text) => Ok(TimeFormat::of(text).map(Format::Time)),
     }
 }
 
@@ -294,6 +298,9 @@ fn all_hold(rt: &impl Abort, alloc: Global) -> Result<(), AllocError> {
         &ONES,
         &NO_FORMATS,
         &FULL,
+        &PARTS,
+        &TIMES,
+        &NAMED,
     ] {
         rows_hold(rt, alloc, rows)?;
     }
@@ -306,13 +313,32 @@ fn texts_under_datatypes(rt: HostRuntime) -> Result<(), Fail> {
 }
 
 /// Names of datatypes, and their bases.
-static NAMES: [(&str, Option<Simple>); 6] = [
+static NAMES: [(&str, Option<Simple>); 16] = [
     ("dateTime", Some(Simple::Moment)),
     ("datetime", Some(Simple::Moment)),
     ("unsignedShort", Some(Simple::Derived(Width::UnsignedShort))),
     ("float", Some(Simple::Floating(Floating::Float))),
     ("number", Some(Simple::Floating(Floating::Double))),
-    ("time", None),
+    ("time", Some(Simple::Other(TextType::Time))),
+    ("language", Some(Simple::Other(TextType::Language))),
+    ("Name", Some(Simple::Other(TextType::Name))),
+    ("NMTOKEN", Some(Simple::Other(TextType::NameToken))),
+    ("gYear", Some(Simple::Other(TextType::Part(DatePart::Year)))),
+    (
+        "gYearMonth",
+        Some(Simple::Other(TextType::Part(DatePart::YearMonth))),
+    ),
+    (
+        "gMonth",
+        Some(Simple::Other(TextType::Part(DatePart::Month))),
+    ),
+    (
+        "gMonthDay",
+        Some(Simple::Other(TextType::Part(DatePart::MonthDay))),
+    ),
+    ("gDay", Some(Simple::Other(TextType::Part(DatePart::Day)))),
+    ("name", None),
+    ("duration", None),
 ];
 
 fn names_each(rt: &impl Abort, names: &[(&str, Option<Simple>)]) {

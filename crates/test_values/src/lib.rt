@@ -18,6 +18,8 @@ mod iri_limits;
 #[cfg(test)]
 mod iris;
 #[cfg(test)]
+mod kept_texts;
+#[cfg(test)]
 mod limited;
 #[cfg(test)]
 mod limits;
