@@ -1,5 +1,5 @@
 -- Faults that are added part after part, as a loop does.
-use Rattle.std.proofs.Common.{◌≡◌, ℕ, ◌+◌, ◌<◌, ◌≤◌, List, [], ◌∷◌, ◌++◌, length, drop, get_or, sym, ◌∙◌, refl, append_assoc, arith, nat_lt, false}
+use Rattle.std.proofs.Common.{◌≡◌, ℕ, ◌+◌, ◌<◌, ◌≤◌, List, [], ◌∷◌, ◌++◌, length, drop, get_or, sym, ◌∙◌, refl, append_assoc, arith, flat_map, nat_lt, false}
 use Rattle.std.proofs.lemmas.List.{append-nil, drop_all}
 use Rattle.std.proofs.lemmas.Bool.Decides.{nat_tests}
 use Rattle.serde_json.specs.Data.{Data}
@@ -26,6 +26,16 @@ module _ {A : Type 0} (reads : ℕ → List ℕ → Data → Read A) (at : List 
   pub is_done : (new : List MetaFault) (i : ℕ) (vs : List Value) → length vs ≤ i
       → new ++ (each_numbered reads at i (items_view (drop i vs))).faults ≡ total → new ≡ total
   is_done new i vs le so_far = let none : drop i vs ≡ [] = drop_all i vs le in sym (append-nil new) ∙ (rw none at so_far)
+
+-- the faults of the items of a list, one item after the other
+module _ {X : Type 0} (f : X → List MetaFault) (total : List MetaFault) where
+  pub each_more : (new old : List MetaFault) (i : ℕ) (x : X) (xs : List X) → i < length xs → x ≡ get_or xs i x
+      → old ++ flat_map f (drop i xs) ≡ total → new ≡ old ++ f x → new ++ flat_map f (drop (i + 1) xs) ≡ total
+  each_more new old i x xs lt is so_far h =
+      grows new old (f x) (flat_map f (drop (i + 1) xs)) total h (rw (here xs i x lt is) at so_far)
+
+  pub each_done : (new : List MetaFault) (i : ℕ) (xs : List X) → length xs ≤ i → new ++ flat_map f (drop i xs) ≡ total → new ≡ total
+  each_done new i xs le so_far = let none : drop i xs ≡ [] = drop_all i xs le in sym (append-nil new) ∙ (rw none at so_far)
 
 pub items_len_view : (vs : List Value) → items_len (items_view vs) ≡ length vs
 items_len_view [] = refl

@@ -1,6 +1,7 @@
 -- Reading the values of the items of an array one after another, as a loop does.
-use Rattle.std.proofs.Common.{◌≡◌, ℕ, ◌+◌, ◌<◌, ◌≤◌, List, [], ◌∷◌, ◌++◌, length, drop, sym, ap, ◌∙◌, append_assoc, get_or, suc, add-one, drop-cons, map, refl}
-use Rattle.std.proofs.lemmas.List.{append-nil, drop_all}
+use Rattle.std.proofs.Common.{◌≡◌, ℕ, ◌+◌, ◌<◌, ◌≤◌, List, [], ◌∷◌, ◌++◌, length, drop, sym, ap, ◌∙◌, append_assoc, get_or, suc, add-one, ap₂, drop-cons, map, refl, take}
+use Rattle.std.proofs.Math.Seq.{take-suc}
+use Rattle.std.proofs.lemmas.List.{append-nil, drop_all, map-append}
 use Rattle.serde_json.specs.Data.{Data, null, boolean, number, string, array, object}
 use Rattle.serde_json.specs.View.{view, items_view}
 use Rattle.serde_json.specs.declared.value.Value.{Value}
@@ -30,6 +31,22 @@ module _ {A B : Type 0} (f : A → B) (reads : ℕ → List ℕ → Data → Rea
   values_done front i vs total le so_far =
       let none : drop i vs ≡ [] = drop_all i vs le in
       sym (append-nil front) ∙ (rw none at so_far)
+
+-- the first items and the next one, seen by f
+module _ {X Y : Type 0} (f : X → Y) (xs : List X) (i : ℕ) where
+  pub mapped_at : (x : X) (front : List Y) (y : Y) → i < length xs → front ≡ map f (take i xs) → y ≡ f (get_or xs i x)
+      → front ++ y ∷ [] ≡ map f (take (i + 1) xs)
+  mapped_at x front y lt so_far e =
+      let next : take (i + 1) xs ≡ take i xs ++ get_or xs i x ∷ [] = rw add-one (take-suc xs i x lt) in
+      ap₂ (λ ys z. ys ++ z ∷ []) so_far e ∙ (sym (map-append f (take i xs) (get_or xs i x ∷ [])) ∙ ap (map f) (sym next))
+
+  pub mapped_more : (x : X) (front : List Y) (y : Y) → i < length xs → x ≡ get_or xs i x → front ≡ map f (take i xs) → y ≡ f x
+      → front ++ y ∷ [] ≡ map f (take (i + 1) xs)
+  mapped_more x front y lt is so_far e = mapped_at x front y lt so_far (e ∙ ap f is)
+
+pub map_twice : {X Y Z : Type 0} (f : X → Y) (g : Y → Z) (xs : List X) → map g (map f xs) ≡ map (λ x. g (f x)) xs
+map_twice f g [] = refl
+map_twice f g (x ∷ xs) = ap (λ ys. g (f x) ∷ ys) (map_twice f g xs)
 
 pub map_same : {X : Type 0} (xs : List X) → map (λ x. x) xs ≡ xs
 map_same [] = refl

@@ -5,8 +5,7 @@ ghost use Rattle.csvw_meta_core.specs.Pointer.{text_of};
 ghost use Rattle.csvw_meta.specs.Schema.{column_faults, name_faults, order_faults};
 
 use crate::faults_at::faults_at_items;
-use crate::marks::Marks;
-use crate::names_read::{names_known, property_known};
+use crate::names_read::{names_read, property_read};
 use crate::repeated::repeated_at;
 use crate::virtual_order::misplaced_at;
 use csvw_description::ColumnDescription;
@@ -23,9 +22,7 @@ fn name_faults(
 ) -> Result<Seq<MetaFault>, AllocError>
     ensures { IfOk result (λ fs. fs ≡ name_faults (text_of part.now.at) own.now columns.now) }
 {
-    let at = part.at.text(part.alloc)?;
-    let marks = Marks::of(part.alloc, own)?;
-    let known = names_known(part.alloc, &marks, at.as_str(), columns)?;
+    let known = names_read(part, own, columns)?;
     let names = column_names(part.alloc, columns)?;
     let indices = repeated_at(part.alloc, known.as_slice(), names.as_slice())?;
     faults_at_items(part, MetaCode::DuplicateName, indices.as_slice())
@@ -39,9 +36,7 @@ fn order_faults(
 ) -> Result<Seq<MetaFault>, AllocError>
     ensures { IfOk result (λ fs. fs ≡ order_faults (text_of part.now.at) own.now columns.now) }
 {
-    let at = part.at.text(part.alloc)?;
-    let marks = Marks::of(part.alloc, own)?;
-    let known = property_known(part.alloc, &marks, at.as_str(), "virtual", columns.len())?;
+    let known = property_read(part, own, "virtual", columns.len())?;
     let indices = misplaced_at(part.alloc, known.as_slice(), columns)?;
     faults_at_items(part, MetaCode::VirtualOrder, indices.as_slice())
 }

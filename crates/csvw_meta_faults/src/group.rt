@@ -1,13 +1,14 @@
 //! The faults of groups of tables (Metadata Vocabulary for Tabular Data, section 5.3).
-ghost use Rattle.std.specs.Prelude.{◌≡◌, ◌++◌, [], OnOk, codes, ℕ};
+ghost use Rattle.std.specs.Prelude.{◌≡◌, ◌++◌, [], IfOk, OnOk, codes, ℕ};
 ghost use Rattle.serde_json.specs.View.{items_view, view};
 ghost use Rattle.csvw_meta_core.specs.Pointer.{item_at, text_of};
 ghost use Rattle.csvw_meta_core.specs.Read.{each_numbered, needed};
 ghost use Rattle.csvw_meta_core.specs.Several.{several, some_items};
 ghost use Rattle.csvw_meta.specs.Described.{parts};
-ghost use Rattle.csvw_meta.specs.Group.{group, tables};
+ghost use Rattle.csvw_meta.specs.Group.{group, tables, url_faults};
 ghost use Rattle.csvw_meta.specs.Table.{table};
 
+use crate::add_both::add_both;
 use crate::body::{find_body, find_given_dialect};
 use crate::seen_group::tables_here;
 use crate::table::{find_table, find_table_of};
@@ -16,6 +17,7 @@ use csvw_meta::group::MAX_TABLES;
 use csvw_meta_core::{Context, Fixed, IdReader, MetaCode, MetaFault, Part};
 use csvw_meta_faults_core::{add_fault, add_wrong, find_all_notes, find_optional};
 use csvw_meta_faults_parts::find_count;
+use csvw_text::Seq;
 use serde_json::Value;
 use std::alloc::AllocError;
 
@@ -76,6 +78,19 @@ fn find_several(
     }
 }
 
+/// Returns the faults of the tables of an array together. `own` has the faults of each by itself.
+fn tables_together(
+    context: &Context,
+    part: &Part,
+    own: &[MetaFault],
+) -> Result<Seq<MetaFault>, AllocError>
+    ensures { IfOk result (λ fs. fs ≡ url_faults (text_of part.now.at) own.now
+        (several 1 MAX_TABLES (table context.now) (text_of part.now.at) (view part.now.value.now)).value) }
+{
+    let tables = tables_here(context, part)?;
+    url_faults(part, own, tables.as_slice())
+}
+
 fn find_tables_here(
     context: &Context,
     part: &Part,
@@ -86,11 +101,8 @@ fn find_tables_here(
 {
     let mut own = Vec::new(part.alloc);
     find_several(context, part, &mut own)?;
-    let tables = tables_here(context, part)?;
-    let together = url_faults(part, own.as_slice(), tables.as_slice())?;
-    faults.append(&mut own)?;
-    faults.append(&mut together.into_vec())?;
-    Ok(())
+    let together = tables_together(context, part, own.as_slice())?;
+    add_both(own, together.into_vec(), faults)
 }
 
 /// Adds the faults of the property `tables`.

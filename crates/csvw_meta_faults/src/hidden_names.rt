@@ -1,28 +1,14 @@
 //! Whether a fault hides a name of a schema (Metadata Vocabulary for Tabular Data, section 5.6).
 ghost use Rattle.std.specs.Prelude.{◌≡◌, IfOk};
 ghost use Rattle.std.specs.List.{list_any};
-ghost use Rattle.csvw_meta_core.specs.Pointer.{item_at};
-ghost use Rattle.csvw_meta.specs.NamesRead.{hides_declared, hides_name, hides_one};
+ghost use Rattle.csvw_meta.specs.NamesRead.{hides_declared, hides_one};
 ghost use Rattle.csvw_meta.specs.References.{hides_names};
 
 use crate::marks::Marks;
-use crate::names_read::hides_name;
+use crate::names_read::hides_item;
 use csvw_description::{ColumnDescription, Schema};
-use csvw_meta_faults_core::{below, item_at};
+use csvw_meta_faults_core::below;
 use std::alloc::{AllocError, Global};
-
-fn hides_item(
-    alloc: Global,
-    marks: &Marks,
-    at: &str,
-    index: usize,
-    column: &ColumnDescription,
-) -> Result<bool, AllocError>
-    ensures { IfOk result (λ b. b ≡ list_any (hides_name (item_at at.now index) column.now) marks.now.faults.now) }
-{
-    let item = item_at(alloc, at, index)?;
-    hides_name(alloc, marks, item.as_str(), column)
-}
 
 /// Returns whether a fault hides a name of the columns of the array at this pointer.
 fn hides_one(

@@ -39,6 +39,7 @@
 //! the document's own URL takes the place of the base, and none that of the language (`usable_context`).
 #![tactic(auto)]
 
+mod add_both;
 mod body;
 mod column;
 mod column_rules;

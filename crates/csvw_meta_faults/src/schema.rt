@@ -1,12 +1,13 @@
 //! The faults of schemas (Metadata Vocabulary for Tabular Data, section 5.5).
-ghost use Rattle.std.specs.Prelude.{◌≡◌, ◌++◌, [], OnOk, codes, ℕ};
+ghost use Rattle.std.specs.Prelude.{◌≡◌, ◌++◌, [], IfOk, OnOk, codes, ℕ};
 ghost use Rattle.serde_json.specs.View.{items_view, view};
 ghost use Rattle.csvw_meta_core.specs.Pointer.{item_at, text_of};
 ghost use Rattle.csvw_meta_core.specs.Read.{each_numbered, optional, property};
 ghost use Rattle.csvw_meta_core.specs.Several.{several, some_items};
 ghost use Rattle.csvw_meta.specs.Column.{column};
-ghost use Rattle.csvw_meta.specs.Schema.{columns, schema, schema_of};
+ghost use Rattle.csvw_meta.specs.Schema.{column_faults, columns, schema, schema_of};
 
+use crate::add_both::add_both;
 use crate::column::find_column;
 use crate::column_rules::column_faults;
 use crate::seen_schema::columns_here;
@@ -14,6 +15,7 @@ use csvw_meta::schema::MAX_COLUMNS;
 use csvw_meta_core::{Context, Fixed, IdReader, MetaCode, MetaFault, NotYet, Part};
 use csvw_meta_faults_core::{add_fault, add_wrong, find_optional, find_unlisted};
 use csvw_meta_faults_parts::{find_count, find_inherited, find_keys};
+use csvw_text::Seq;
 use serde_json::Value;
 use std::alloc::AllocError;
 
@@ -74,6 +76,19 @@ fn find_several(
     }
 }
 
+/// Returns the faults of the columns of an array together. `own` has the faults of each by itself.
+fn columns_together(
+    context: &Context,
+    part: &Part,
+    own: &[MetaFault],
+) -> Result<Seq<MetaFault>, AllocError>
+    ensures { (table : ℕ) → IfOk result (λ fs. fs ≡ column_faults (text_of part.now.at) own.now
+        (several 0 MAX_COLUMNS (column context.now table) (text_of part.now.at) (view part.now.value.now)).value) }
+{
+    let columns = columns_here(context, part)?;
+    column_faults(part, own, columns.as_slice())
+}
+
 fn find_columns_here(
     context: &Context,
     part: &Part,
@@ -84,11 +99,8 @@ fn find_columns_here(
 {
     let mut own = Vec::new(part.alloc);
     find_several(context, part, &mut own)?;
-    let columns = columns_here(context, part)?;
-    let together = column_faults(part, own.as_slice(), columns.as_slice())?;
-    faults.append(&mut own)?;
-    faults.append(&mut together.into_vec())?;
-    Ok(())
+    let together = columns_together(context, part, own.as_slice())?;
+    add_both(own, together.into_vec(), faults)
 }
 
 /// Adds the faults of the property `columns`.

@@ -3,7 +3,9 @@
 ghost use Rattle.std.specs.Prelude.{◌≡◌, IfOk, codes, is_some, map};
 ghost use Rattle.serde_json.specs.View.{view};
 ghost use Rattle.serde_json.specs.Find.{get};
+ghost use Rattle.csvw_description.specs.Keys.{declared_names};
 ghost use Rattle.csvw_meta_core.specs.Pointer.{text_of};
+ghost use Rattle.csvw_meta.specs.Group.{url_of as table_url};
 ghost use Rattle.csvw_meta.specs.References.{table_at};
 ghost use Rattle.csvw_meta_faults.specs.Seen.{as_table};
 ghost use Rattle.csvw_meta_faults.specs.Targets.{seen_target, seen_targets};
@@ -12,7 +14,7 @@ use crate::hidden_names::hides_names;
 use crate::marks::Marks;
 use crate::seen::TableSeen;
 use crate::url_rule::url_of;
-use csvw_description::Nulls;
+use csvw_description::{Nulls, Schema};
 use csvw_meta::references::declared_names;
 use csvw_meta_core::Part;
 use csvw_text::{Seq, Text};
@@ -44,10 +46,35 @@ fn target_seen(
 {
     let url_hidden = marks.hides_property(alloc, at, "url")?;
     let names_hidden = hides_names(alloc, marks, at, &table.schema)?;
-    let declared = declared_names(alloc, &table.schema)?;
-    let names = Nulls::of(alloc, declared)?;
+    target_with(alloc, table, url_hidden, names_hidden)
+}
+
+/// Returns the names of the columns of a schema, in a set of texts.
+pub(crate) fn names_of(alloc: Global, schema: &Option<Schema>) -> Result<Nulls, AllocError>
+    ensures { IfOk result (λ n. n ≡ declared_names schema.now) }
+{
+    Nulls::of(alloc, declared_names(alloc, schema)?)
+}
+
+/// Returns what is seen of a table, given what a fault hides of it.
+fn target_with(
+    alloc: Global,
+    table: &TableSeen,
+    url_hidden: bool,
+    names_hidden: bool,
+) -> Result<TargetSeen, AllocError>
+    ensures { IfOk result (λ t. t ≡ record {
+      url = table_url (as_table table.now);
+      names = declared_names table.now.schema;
+      has_schema = is_some table.now.schema;
+      url_hidden = url_hidden;
+      names_hidden = names_hidden;
+    }) }
+{
+    let names = names_of(alloc, &table.schema)?;
+    let url = url_of(alloc, table)?;
     Ok(TargetSeen {
-        url: url_of(alloc, table)?,
+        url,
         names,
         has_schema: table.schema.is_some(),
         url_hidden,

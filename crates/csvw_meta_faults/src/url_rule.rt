@@ -5,8 +5,7 @@ ghost use Rattle.csvw_meta.specs.Group.{url_faults, url_of};
 ghost use Rattle.csvw_meta_faults.specs.Seen.{as_table};
 
 use crate::faults_at::faults_at_members;
-use crate::marks::Marks;
-use crate::names_read::property_known;
+use crate::names_read::property_read;
 use crate::repeated::repeated_at;
 use crate::seen::TableSeen;
 use csvw_meta_core::{MetaCode, MetaFault, Part};
@@ -43,9 +42,7 @@ pub(crate) fn url_faults(
 ) -> Result<Seq<MetaFault>, AllocError>
     ensures { IfOk result (λ fs. fs ≡ url_faults (text_of part.now.at) own.now (map as_table tables.now)) }
 {
-    let at = part.at.text(part.alloc)?;
-    let marks = Marks::of(part.alloc, own)?;
-    let known = property_known(part.alloc, &marks, at.as_str(), "url", tables.len())?;
+    let known = property_read(part, own, "url", tables.len())?;
     let urls = urls(part.alloc, tables)?;
     let indices = repeated_at(part.alloc, known.as_slice(), urls.as_slice())?;
     faults_at_members(part, MetaCode::DuplicateTable, "url", indices.as_slice())

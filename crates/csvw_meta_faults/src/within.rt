@@ -1,26 +1,25 @@
 //! The faults of the document within its context: those of its parts, and those of what its keys name (Metadata Vocabulary
 //! for Tabular Data, section 5).
-ghost use Rattle.std.specs.Prelude.{◌≡◌, ◌++◌, ◌||◌, IfOk, OnOk, codes, is_some, length, not};
+ghost use Rattle.std.specs.Prelude.{◌≡◌, ◌++◌, ◌||◌, IfOk, OnOk, codes, is_some, length, map, not};
 ghost use Rattle.std.specs.List.{list_any};
 ghost use Rattle.serde_json.specs.Find.{get};
 ghost use Rattle.serde_json.specs.View.{view};
-ghost use Rattle.csvw_description.specs.Keys.{declared_names};
 ghost use Rattle.csvw_meta_core.specs.Pointer.{below as further_below, text_of};
 ghost use Rattle.csvw_meta_core.specs.Rules.{is_at};
-ghost use Rattle.csvw_meta.specs.Described.{within};
+ghost use Rattle.csvw_meta.specs.Described.{parts, within};
 ghost use Rattle.csvw_meta.specs.References.{reference_faults, table_at};
 ghost use Rattle.csvw_meta_faults.specs.SeenGroup.{as_group};
-ghost use Rattle.csvw_meta_faults.specs.Targets.{faults_of_group};
+ghost use Rattle.csvw_meta_faults.specs.Seen.{as_table};
+ghost use Rattle.csvw_meta_faults.specs.Targets.{faults_of_group, seen_targets};
 
+use crate::add_both::add_both;
 use crate::group::find_parts;
 use crate::hidden_names::hides_names;
 use crate::marks::Marks;
 use crate::references::{OwnNames, Scene, find_in_schema, find_in_tables};
 use crate::seen::GroupSeen;
 use crate::seen_group::parts_seen;
-use crate::targets::{TargetSeen, targets_seen};
-use csvw_description::{Nulls, Schema};
-use csvw_meta::references::declared_names;
+use crate::targets::{TargetSeen, names_of, targets_seen};
 use csvw_meta_core::{Context, MetaFault, Part};
 use csvw_meta_faults_core::below;
 use std::alloc::{AllocError, Global};
@@ -66,10 +65,33 @@ fn urls_known(
     Ok(!(hidden || url_hidden))
 }
 
-fn names_of(alloc: Global, schema: &Option<Schema>) -> Result<Nulls, AllocError>
-    ensures { IfOk result (λ n. n ≡ declared_names schema.now) }
+/// Adds the faults of what the keys of all schemas of the group name, if its tables are seen as these.
+fn find_to_targets(
+    part: &Part,
+    marks: &Marks,
+    targets: &[TargetSeen],
+    group: &GroupSeen,
+    faults: &mut Vec<MetaFault>,
+) -> Result<(), AllocError>
+    requires { targets.now ≡ seen_targets (table_at (is_some (get (codes "tables") (view part.now.value.now))) (text_of part.now.at))
+        marks.now.faults.now 0 (map as_table group.now.tables) }
+    ensures { OnOk result (faults.new.items ≡ faults.old.items ++ reference_faults
+        (table_at (is_some (get (codes "tables") (view part.now.value.now))) (text_of part.now.at)) (text_of part.now.at)
+        marks.now.faults.now (as_group group.now)) }
 {
-    Nulls::of(alloc, declared_names(alloc, schema)?)
+    let at = part.at.text(part.alloc)?;
+    let group_hidden = hides_names(part.alloc, marks, at.as_str(), &group.schema)?;
+    let urls_known = urls_known(part.alloc, marks, at.as_str(), targets)?;
+    let group_names = names_of(part.alloc, &group.schema)?;
+    let scene = Scene {
+        alloc: part.alloc,
+        marks,
+        targets,
+        group_names: &group_names,
+        group_hidden,
+        urls_known,
+    };
+    find_in_group(&scene, group, faults)
 }
 
 /// Adds the faults of what the keys of all schemas of the group name. `own` has the faults of its parts.
@@ -83,20 +105,25 @@ fn find_references(
         (table_at (is_some (get (codes "tables") (view part.now.value.now))) (text_of part.now.at)) (text_of part.now.at) own.now (as_group group.now)) }
 {
     let marks = Marks::of(part.alloc, own)?;
-    let at = part.at.text(part.alloc)?;
     let targets = targets_seen(part, &marks, group.tables.as_slice())?;
-    let group_names = names_of(part.alloc, &group.schema)?;
-    let group_hidden = hides_names(part.alloc, &marks, at.as_str(), &group.schema)?;
-    let urls_known = urls_known(part.alloc, &marks, at.as_str(), targets.as_slice())?;
-    let scene = Scene {
-        alloc: part.alloc,
-        marks: &marks,
-        targets: targets.as_slice(),
-        group_names: &group_names,
-        group_hidden,
-        urls_known,
-    };
-    find_in_group(&scene, group, faults)
+    find_to_targets(part, &marks, targets.as_slice(), group, faults)
+}
+
+/// Adds the faults of what the keys of the document's schemas name. `own` has the faults of its parts.
+fn find_together(
+    context: &Context,
+    part: &Part,
+    own: &[MetaFault],
+    faults: &mut Vec<MetaFault>,
+) -> Result<(), AllocError>
+    ensures { OnOk result (faults.new.items ≡ faults.old.items ++ reference_faults
+        (table_at (is_some (get (codes "tables") (view part.now.value.now))) (text_of part.now.at)) (text_of part.now.at) own.now
+        (parts context.now (text_of part.now.at) (view part.now.value.now)).value) }
+{
+    let group = parts_seen(context, part)?;
+    let found = find_references(part, own, &group, faults);
+    drop(group);
+    found
 }
 
 /// Adds the faults of the document within its context. It returns `AllocError` if there is no memory for them.
@@ -109,10 +136,7 @@ pub fn find_within(
 {
     let mut own = Vec::new(part.alloc);
     find_parts(context, part, &mut own)?;
-    let group = parts_seen(context, part)?;
     let mut together = Vec::new(part.alloc);
-    find_references(part, own.as_slice(), &group, &mut together)?;
-    faults.append(&mut own)?;
-    faults.append(&mut together)?;
-    Ok(())
+    find_together(context, part, own.as_slice(), &mut together)?;
+    add_both(own, together, faults)
 }

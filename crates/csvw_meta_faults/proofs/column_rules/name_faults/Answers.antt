@@ -22,7 +22,7 @@ returns c =
     let cs = c.args.columns.now in
     let fault : ℕ → MetaFault = λ i. record { code = DuplicateName; pointer = item_at at i } in
     let found = rw (c.as_slice.ensures.value, c.as_slice-2.ensures, c.in_ok-names.ensures) at (c.in_ok-indices.ensures fault) in
-    let known : AreFlags (name_known own at cs) (length cs) c.in_ok-known.known.items = rw (c.as_str.ensures, c.in_ok-at.ensures, c.in_ok-marks.ensures) at c.in_ok-known.ensures in
+    let known : AreFlags (name_known own at cs) (length cs) c.in_ok-known.known.items = c.in_ok-known.ensures in
     let same = repeated_same (λ i. get_or c.in_ok-known.known.items i false) (name_known own at cs) fault [] 0 (numbered_names 0 cs)
     (λ j low high. known.each j (omega (arith, high, length_names 0 cs))) in
     subst (λ (all : List MetaFault). IfOk c.faults_at_items.result (λ fs. fs ≡ all)) (found ∙ same) (rw c.as_slice-3.ensures at c.faults_at_items.ensures)

@@ -15,7 +15,7 @@ returns c =
     let test = λ (i : ℕ). could_read_property c.args.own.now (item_at at i) (codes "virtual") in
     let fault : ℕ → MetaFault = λ i. record { code = VirtualOrder; pointer = item_at at i } in
     let found = rw c.as_slice.ensures.value at (c.in_ok-indices.ensures fault) in
-    let known : AreFlags test (length cs) c.in_ok-known.known.items = rw (c.as_str.ensures, c.in_ok-at.ensures, c.in_ok-marks.ensures) at c.in_ok-known.ensures in
+    let known : AreFlags test (length cs) c.in_ok-known.known.items = c.in_ok-known.ensures in
     let same = misplaced_same (λ i. get_or c.in_ok-known.known.items i false) test fault false 0 cs
     (λ j low high. known.each j (omega (arith, high))) in
     subst (λ (all : List MetaFault). IfOk c.faults_at_items.result (λ fs. fs ≡ all)) (found ∙ same) (rw c.as_slice-2.ensures at c.faults_at_items.ensures)

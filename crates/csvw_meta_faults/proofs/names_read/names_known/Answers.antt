@@ -12,8 +12,7 @@ loop-i-init c = rw c.new-known.ensures.items (no_flags (name_known c.args.marks.
 pub loop-i-preserved : goal.loop-i-preserved
 loop-i-preserved c =
     let faults = c.args.marks.now.faults.now in
-    let is = known_at faults c.args.at.now c.args.columns.now c.loop-i.i c.index-columns-i.result c.in_ok-hidden.hidden c.loop-i-test.true c.index-columns-i.is
-    (rw (c.as_str.ensures, c.in_ok-item.ensures) at c.in_ok-hidden.ensures) in
+    let is = known_at faults c.args.at.now c.args.columns.now c.loop-i.i c.index-columns-i.result c.in_ok-hidden.hidden c.loop-i-test.true c.index-columns-i.is c.in_ok-hidden.ensures in
     rw c.in_ok-push.ensures.items
     (flags_more (name_known faults c.args.at.now c.args.columns.now) c.loop-i.i c.loop-i.known.items (not c.in_ok-hidden.hidden) c.loop-i.invariant is)
 

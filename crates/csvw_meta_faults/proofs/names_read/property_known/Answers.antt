@@ -14,7 +14,7 @@ pub loop-i-preserved : goal.loop-i-preserved
 loop-i-preserved c =
     rw c.in_ok-push.ensures.items
     (flags_more (λ i. could_read_property c.args.marks.now.faults.now (item_at c.args.at.now i) c.args.name.now) c.loop-i.i c.loop-i.known.items
-    (not c.in_ok-hidden.hidden) c.loop-i.invariant (ap not (rw (c.as_str.ensures, c.in_ok-item.ensures) at c.in_ok-hidden.ensures)))
+    (not c.in_ok-hidden.hidden) c.loop-i.invariant (ap not c.in_ok-hidden.ensures))
 
 pub returns : goal.returns
 returns c =

@@ -1,29 +1,9 @@
--- The faults of the scene are those of the references.
-use Rattle.std.proofs.Common.{◌≡◌, ◌∙◌, ◌++◌, List, OnOk, ap, codes, is_some, length, subst, sym}
-use Rattle.serde_json.specs.Find.{get}
-use Rattle.serde_json.specs.View.{view}
-use Rattle.csvw_meta_core.specs.Pointer.{text_of}
-use Rattle.csvw_meta_core.specs.declared.fault.MetaFault.{MetaFault}
-use Rattle.csvw_meta.specs.References.{table_at}
-use Rattle.csvw_meta_faults.proofs.TargetsLemmas.{length_targets, scene_faults}
+-- The marks have the faults, and the targets are those of the tables.
+use Rattle.std.proofs.Common.{◌∙◌}
 use Rattle.csvw_meta_faults.proofs.within.find_references.Goals as goal
 
-pub find_in_group-requires : goal.find_in_group-requires
-find_in_group-requires c =
-    let place = table_at (is_some (get (codes "tables") (view c.args.part.now.value.now))) (text_of c.args.part.now.at) in
-    let seen = rw (c.as_slice.ensures, c.in_ok-marks.ensures) at c.in_ok-targets.ensures in
-    ap length (c.as_slice-3.ensures ∙ seen) ∙ length_targets place c.args.own.now 0 c.args.group.now.tables
+pub find_to_targets-requires : goal.find_to_targets-requires
+find_to_targets-requires c = c.as_slice-2.ensures ∙ (rw c.as_slice.ensures at c.in_ok-targets.ensures)
 
 pub returns : goal.returns
-returns c =
-    let at = text_of c.args.part.now.at in
-    let place = table_at (is_some (get (codes "tables") (view c.args.part.now.value.now))) at in
-    let own = c.args.own.now in
-    let seen = rw (c.as_slice.ensures, c.in_ok-marks.ensures) at c.in_ok-targets.ensures in
-    subst (λ (fs : List MetaFault). OnOk c.find_in_group.result (c.find_in_group.new.faults.items ≡ c.args.faults.now.items ++ fs))
-    (scene_faults _ c.args.group.now place at own c.in_ok-marks.ensures
-    (c.as_slice-3.ensures ∙ seen)
-    c.in_ok-group_names.ensures
-    (rw (c.as_str.ensures, c.in_ok-at.ensures, c.in_ok-marks.ensures) at c.in_ok-group_hidden.ensures)
-    (rw (c.as_str-2.ensures, c.in_ok-at.ensures, c.in_ok-marks.ensures, c.as_slice-2.ensures ∙ sym c.as_slice-3.ensures) at c.in_ok-urls_known.ensures))
-    c.find_in_group.ensures
+returns c = rw c.in_ok-marks.ensures at c.find_to_targets.ensures
