@@ -37,6 +37,7 @@ whole_lawful (Some (formats.Truth f)) h = plain_whole
 whole_lawful (Some (formats.Day f)) h = plain_whole
 whole_lawful (Some (formats.Moment f)) h = plain_whole
 whole_lawful (Some (formats.Time f)) h = plain_whole
+whole_lawful (Some (formats.Expression e)) h = plain_whole
 
 pub derived_lawful : (w : Width) (o : Option Format) → IsFormatOf (simples.Derived w) o → IsLawful (whole_rules o)
 derived_lawful w None h = plain_whole
@@ -45,6 +46,7 @@ derived_lawful w (Some (formats.Truth f)) h = plain_whole
 derived_lawful w (Some (formats.Day f)) h = plain_whole
 derived_lawful w (Some (formats.Moment f)) h = plain_whole
 derived_lawful w (Some (formats.Time f)) h = plain_whole
+derived_lawful w (Some (formats.Expression e)) h = plain_whole
 
 pub decimal_lawful : (o : Option Format) → IsFormatOf simples.Decimal o → IsLawful (decimal_rules o)
 decimal_lawful None h = plain_decimal
@@ -53,3 +55,4 @@ decimal_lawful (Some (formats.Truth f)) h = plain_decimal
 decimal_lawful (Some (formats.Day f)) h = plain_decimal
 decimal_lawful (Some (formats.Moment f)) h = plain_decimal
 decimal_lawful (Some (formats.Time f)) h = plain_decimal
+decimal_lawful (Some (formats.Expression e)) h = plain_decimal

@@ -31,7 +31,7 @@ use Rattle.csvw_datatype.specs.declared.simple.Simple.TheVariants as simples
 use Rattle.csvw_datatype.specs.declared.simple.Width.{Width}
 use Rattle.csvw_datatype.specs.declared.format.Format.{Format}
 use Rattle.csvw_datatype.specs.declared.format.Format.TheVariants as formats
-use Rattle.csvw_datatype.specs.Formats.{IsFormatOf, fits_format}
+use Rattle.csvw_datatype.specs.Formats.{IsFormatOf, fits_format, is_described}
 use Rattle.csvw_datatype.specs.TextForms.{text_form}
 use Rattle.csvw_datatype.specs.Widths.{IsInWidth}
 use Rattle.csvw_datatype.specs.Reads.{SpellsTruth, whole_rules, decimal_rules, date_format, moment_format, ReadsAs, ReadsNumberAs, MisreadAs, MisreadsNumber, number_code, double_code}
@@ -58,6 +58,9 @@ MomentsInRange = (f : MomentFormat) (text : List ℕ) (moment : ℤ) → ReadsMo
 
 -- truths
 
+no_both : (b : Bool) → b ≡ true → b ≡ false → ⊥
+no_both b t f = cc
+
 by_texts : (T F : Type 0) (a b : Bool) → (T → F → ⊥) → ((a ≡ true) × T) ⊎ ((a ≡ false) × F) → ((b ≡ true) × T) ⊎ ((b ≡ false) × F) → a ≡ b
 by_texts T F a b apart (inl r) (inl s) = r.0 ∙ sym s.0
 by_texts T F a b apart (inr r) (inr s) = r.0 ∙ sym s.0
@@ -80,6 +83,7 @@ one_truth (Some (formats.Number f)) text a b ok r s = absurd ok
 one_truth (Some (formats.Day f)) text a b ok r s = absurd ok
 one_truth (Some (formats.Moment f)) text a b ok r s = absurd ok
 one_truth (Some (formats.Time f)) text a b ok r s = absurd ok
+one_truth (Some (formats.Expression e)) text a b ok r s = absurd (no_both false ok refl)
 
 -- numbers
 
@@ -99,9 +103,6 @@ one_fault rules cs faults.Bad faults.Bad p q = refl
 one_fault rules cs faults.TooLong faults.TooLong p q = refl
 one_fault rules cs faults.Bad faults.TooLong p q = absurd (p q.0)
 one_fault rules cs faults.TooLong faults.Bad p q = absurd (q p.0)
-
-no_both : (b : Bool) → b ≡ true → b ≡ false → ⊥
-no_both b t f = cc
 
 not_misread_as : (bad : Code) (rules : NumberRules) (f : Option Format) (text : List ℕ) (z : ℤ) (c : Code) → ReadsNumberAs rules f text z
     → MisreadsNumber bad rules f text c → ⊥
@@ -160,8 +161,8 @@ inside x y e = ap (λ o. unwrap_or o []) e
 
 pub one_value : OneNumber → OneDate → OneMoment → (s : Simple) (f : Option Format) (text : List ℕ) (v w : Value) → IsFormatOf s f → ReadsAs s f text v
     → ReadsAs s f text w → v ≡ w
-one_value one date moment simples.Text f text v w ok r s = r ∙ sym s
-one_value one date moment simples.Uri f text v w ok r s = r ∙ sym s
+one_value one date moment simples.Text f text v w ok r s = r.1 ∙ sym s.1
+one_value one date moment simples.Uri f text v w ok r s = r.1 ∙ sym s.1
 one_value one date moment (simples.Other t) f text v w ok r s = r.2 ∙ ap (λ x. values.Text x) (inside r.0 s.0 (sym r.1 ∙ s.1)) ∙ sym s.2
 one_value one date moment (simples.Floating t) f text v w ok r s = r.2 ∙ ap (λ x. values.Text x) (inside r.0 s.0 (sym r.1 ∙ s.1)) ∙ sym s.2
 one_value one date moment simples.Truth f text v w ok r s = r.2 ∙ ap (λ b. values.Truth b) (one_truth f text r.0 s.0 ok r.1 s.1) ∙ sym s.2
@@ -177,8 +178,8 @@ in_width w x y e h = let P : ℤ → Type 0 = λ z. IsInWidth w z in subst P e h
 
 pub value_or_code : OneNumber → (s : Simple) (f : Option Format) (text : List ℕ) (v : Value) (code : Code) → IsFormatOf s f → ReadsAs s f text v
     → MisreadAs s f text code → ⊥
-value_or_code one simples.Text f text v code ok r m = m
-value_or_code one simples.Uri f text v code ok r m = m
+value_or_code one simples.Text f text v code ok r m = no_both (is_described f text) r.0 m.0
+value_or_code one simples.Uri f text v code ok r m = no_both (is_described f text) r.0 m.0
 value_or_code one (simples.Other t) f text v code ok r m = some_or_none (text_form t f text) r.0 r.1 m.0
 value_or_code one (simples.Floating t) f text v code ok r m = double_or_fault text r.0 m.0 r.1 m.1
 value_or_code one simples.Truth f text v code ok r m = m.0 r.0 r.1
@@ -192,8 +193,8 @@ value_or_code one simples.Day f text v code ok r m = m.0 r.0 r.1
 value_or_code one simples.Moment f text v code ok r m = m.0 r.0 r.1
 
 pub one_code : (s : Simple) (f : Option Format) (text : List ℕ) (c d : Code) → IsFormatOf s f → MisreadAs s f text c → MisreadAs s f text d → c ≡ d
-one_code simples.Text f text c d ok p q = absurd p
-one_code simples.Uri f text c d ok p q = absurd p
+one_code simples.Text f text c d ok p q = p.1 ∙ sym q.1
+one_code simples.Uri f text c d ok p q = p.1 ∙ sym q.1
 one_code (simples.Other t) f text c d ok p q = p.1 ∙ sym q.1
 one_code (simples.Floating t) f text c d ok p q = p.2 ∙ ap double_code (one_double_fault text p.0 q.0 p.1 q.1) ∙ sym q.2
 one_code simples.Truth f text c d ok p q = p.1 ∙ sym q.1
@@ -252,13 +253,14 @@ whole (Some (formats.Truth f)) cs z r = whole_group None cs z r
 whole (Some (formats.Day f)) cs z r = whole_group None cs z r
 whole (Some (formats.Moment f)) cs z r = whole_group None cs z r
 whole (Some (formats.Time f)) cs z r = whole_group None cs z r
+whole (Some (formats.Expression e)) cs z r = whole_group None cs z r
 
 at_value : (P : Value → Type 0) (v w : Value) → v ≡ w → P w → P v
 at_value P v w e h = subst P (sym e) h
 
 pub writable : DatesInRange → MomentsInRange → (s : Simple) (f : Option Format) (text : List ℕ) (v : Value) → ReadsAs s f text v → IsWritable v
-writable dates moments simples.Text f text v r = at_value (λ v. IsWritable v) v (values.Text text) r tt
-writable dates moments simples.Uri f text v r = at_value (λ v. IsWritable v) v (values.Text text) r tt
+writable dates moments simples.Text f text v r = at_value (λ v. IsWritable v) v (values.Text text) r.1 tt
+writable dates moments simples.Uri f text v r = at_value (λ v. IsWritable v) v (values.Text text) r.1 tt
 writable dates moments (simples.Other t) f text v r = at_value (λ v. IsWritable v) v (values.Text r.0) r.2 tt
 writable dates moments (simples.Floating t) f text v r = at_value (λ v. IsWritable v) v (values.Text r.0) r.2 tt
 writable dates moments simples.Truth f text v r = at_value (λ v. IsWritable v) v (values.Truth r.0) r.2 tt

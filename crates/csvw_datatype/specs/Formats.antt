@@ -1,10 +1,12 @@
--- The formats that a datatype may have (Model for Tabular Data, sections 6.4.2 to 6.4.4).
-use Rattle.std.specs.Prelude.{◌≡◌, ◌≢◌, ℕ, Bool, true, Option, Some, None, List, [], ◌∷◌, ◌++◌}
+-- The formats that a datatype may have (Model for Tabular Data, sections 6.4.2 to 6.4.4 and 6.4.6).
+use Rattle.std.specs.Prelude.{◌≡◌, ◌≢◌, ℕ, Bool, true, IsTrue, Option, Some, None, List, [], ◌∷◌, ◌++◌}
 use Rattle.csvw_datatype_core.specs.declared.number.NumberRules.{NumberRules}
 use Rattle.csvw_datatype_core.specs.declared.number_pattern.NumberPattern.{NumberPattern}
 use Rattle.csvw_datatype_core.specs.Numbers.{IsLawful}
 use Rattle.csvw_datatype_core.specs.NumberPatterns.{fits, pattern_form}
+use Rattle.csvw_regex.specs.Expressions.{fits_expression}
 use Rattle.csvw_datatype.specs.Bars.{IsTruthText}
+use Rattle.csvw_datatype.specs.Strings.{takes_expression}
 use Rattle.csvw_datatype.specs.Characters.{IsCharacterOr, IsOptionalCharacter}
 use Rattle.csvw_datatype.specs.declared.simple.Simple.{Simple}
 use Rattle.csvw_datatype.specs.declared.simple.Simple.TheVariants as simples
@@ -53,9 +55,15 @@ abbrev pub fits_format : Option Format → List ℕ → Bool
 fits_format (Some (formats.Number f)) cs = fits_pattern f cs
 fits_format _ cs = true
 
+-- the format's expression describes the text, if it is one
+abbrev pub is_described : Option Format → List ℕ → Bool
+is_described (Some (formats.Expression e)) text = fits_expression e text
+is_described _ text = true
+
 -- a type may have this format
 abbrev pub IsFormatOf : Simple → Option Format → Type 0
 IsFormatOf s None = Unit {0}
+IsFormatOf s (Some (formats.Expression e)) = IsTrue (takes_expression s)
 IsFormatOf simples.Truth (Some (formats.Truth f)) = AreTruthTexts f
 IsFormatOf simples.Whole (Some (formats.Number f)) = IsLawful (format_rules f)
 IsFormatOf (simples.Derived w) (Some (formats.Number f)) = IsLawful (format_rules f)

@@ -3,7 +3,7 @@
 use Rattle.std.specs.Prelude.{◌≡◌, ℕ, ◌⊎◌, Bool, true, false, Option, Some, None, codes, List, ℤ}
 use Rattle.std.specs.Str.{chars}
 use Rattle.csvw_fault.specs.declared.fault.Code.{Code}
-use Rattle.csvw_fault.specs.declared.fault.Code.TheVariants.{BadBoolean, BadInteger, BadDecimal, NumberTooLong, OutOfRange, BadDate, BadDateTime, BadDouble}
+use Rattle.csvw_fault.specs.declared.fault.Code.TheVariants.{BadBoolean, BadInteger, BadDecimal, NumberTooLong, OutOfRange, BadDate, BadDateTime, BadDouble, BadText}
 use Rattle.csvw_datatype_core.specs.declared.number.NumberRules.{NumberRules}
 use Rattle.csvw_datatype_core.specs.declared.number.NumberFault.{NumberFault}
 use Rattle.csvw_datatype_core.specs.declared.number.NumberFault.TheVariants as faults
@@ -26,7 +26,7 @@ use Rattle.csvw_datatype.specs.declared.simple.TextType.{TextType}
 use Rattle.csvw_datatype.specs.declared.format.Format.{Format}
 use Rattle.csvw_datatype.specs.declared.format.Format.TheVariants as formats
 use Rattle.csvw_datatype.specs.declared.datatype.Datatype.{Datatype}
-use Rattle.csvw_datatype.specs.Formats.{fits_format, format_rules}
+use Rattle.csvw_datatype.specs.Formats.{fits_format, format_rules, is_described}
 use Rattle.csvw_datatype.specs.TextForms.{text_form, text_code}
 use Rattle.csvw_datatype.specs.Widths.{IsInWidth}
 
@@ -53,6 +53,10 @@ abbrev pub moment_format : Option Format → MomentFormat
 moment_format (Some (formats.Moment f)) = f
 moment_format _ = Seconds
 
+-- each text is a value of string and anyURI, if the format's expression describes it
+abbrev pub ReadsString : Option Format → List ℕ → Value → Type 0
+ReadsString format text v = (is_described format text ≡ true) × (v ≡ values.Text text)
+
 -- the value of a double is its canonical text
 abbrev pub ReadsDouble : List ℕ → Value → Type 0
 ReadsDouble text v = (form : List ℕ) × (double_form text ≡ Some form) × (v ≡ values.Text form)
@@ -67,8 +71,8 @@ ReadsNumberAs rules format text z = ReadsNumber rules (chars text) z × (fits_fo
 
 -- the text is this value
 abbrev pub ReadsAs : Simple → Option Format → List ℕ → Value → Type 0
-ReadsAs simples.Text format text v = v ≡ values.Text text
-ReadsAs simples.Uri format text v = v ≡ values.Text text
+ReadsAs simples.Text format text v = ReadsString format text v
+ReadsAs simples.Uri format text v = ReadsString format text v
 ReadsAs (simples.Other t) format text v = ReadsText t format text v
 ReadsAs (simples.Floating t) format text v = ReadsDouble text v
 ReadsAs simples.Truth format text v = (b : Bool) × SpellsTruth format text b × (v ≡ values.Truth b)
@@ -98,6 +102,9 @@ MisreadsNumber bad rules format text code =
     ((fits_format format (chars text) ≡ false) × (code ≡ bad))
     ⊎ ((fits_format format (chars text) ≡ true) × (fault : NumberFault) × MisreadNumber rules (chars text) fault × (code ≡ number_code bad fault))
 
+abbrev pub MisreadsString : Option Format → List ℕ → Code → Type 0
+MisreadsString format text code = (is_described format text ≡ false) × (code ≡ BadText)
+
 abbrev pub MisreadsDouble : List ℕ → Code → Type 0
 MisreadsDouble text code = (fault : DoubleFault) × IsDoubleFault text fault × (code ≡ double_code fault)
 
@@ -106,8 +113,8 @@ MisreadsText t format text code = (text_form t format text ≡ None) × (code �
 
 -- the text is not a value, for this reason
 abbrev pub MisreadAs : Simple → Option Format → List ℕ → Code → Type 0
-MisreadAs simples.Text format text code = ⊥
-MisreadAs simples.Uri format text code = ⊥
+MisreadAs simples.Text format text code = MisreadsString format text code
+MisreadAs simples.Uri format text code = MisreadsString format text code
 MisreadAs (simples.Other t) format text code = MisreadsText t format text code
 MisreadAs (simples.Floating t) format text code = MisreadsDouble text code
 MisreadAs simples.Truth format text code = ((b : Bool) → ¬ SpellsTruth format text b) × (code ≡ BadBoolean)

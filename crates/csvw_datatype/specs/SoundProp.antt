@@ -31,6 +31,7 @@ lawful-prop rules x y =
 
 format-prop : (s : Simple) (f : Option Format) → IsProp (IsFormatOf s f)
 format-prop s None = Unit-prop
+format-prop s (Some (formats.Expression e)) = hlevel props
 format-prop simples.Truth (Some (formats.Truth f)) = hlevel props
 format-prop simples.Whole (Some (formats.Number f)) = lawful-prop _
 format-prop (simples.Derived w) (Some (formats.Number f)) = lawful-prop _

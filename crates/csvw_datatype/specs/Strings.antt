@@ -1,6 +1,8 @@
 -- Datatypes of strings (Metadata Vocabulary for Tabular Data, section 5.11.1).
-use Rattle.std.specs.Prelude.{Bool, true, false}
+use Rattle.std.specs.Prelude.{Bool, true, false, not, ◌&&◌, Option, Some}
 use Rattle.csvw_datatype.specs.declared.datatype.Datatype.{Datatype}
+use Rattle.csvw_datatype.specs.declared.format.Format.{Format}
+use Rattle.csvw_datatype.specs.declared.format.Format.TheVariants as formats
 use Rattle.csvw_datatype.specs.declared.simple.Simple.{Simple}
 use Rattle.csvw_datatype.specs.declared.simple.Simple.TheVariants as simples
 use Rattle.csvw_datatype.specs.declared.simple.TextType.TheVariants as types
@@ -31,6 +33,25 @@ space_stays (simples.Other types.Xml) = true
 space_stays (simples.Other types.Html) = true
 space_stays (simples.Other types.Json) = true
 space_stays _ = false
+
+-- a type that may have a regular expression as its format: a text that is neither a number, a truth, a date nor a time (Model for Tabular Data,
+-- section 6.4.6)
+abbrev pub takes_expression : Simple → Bool
+takes_expression simples.Text = true
+takes_expression simples.Uri = true
+takes_expression (simples.Other types.Time) = false
+takes_expression (simples.Other (types.Part part)) = false
+takes_expression (simples.Other _) = true
+takes_expression _ = false
+
+-- the format is a regular expression
+abbrev pub has_expression : Option Format → Bool
+has_expression (Some (formats.Expression e)) = true
+has_expression _ = false
+
+-- each text is a value: the base is string, and no expression describes its texts
+abbrev pub takes_any_text : Datatype → Bool
+takes_any_text d = is_text d.simple && not (has_expression d.format)
 
 abbrev pub keeps_space : Datatype → Bool
 keeps_space d = space_stays d.simple

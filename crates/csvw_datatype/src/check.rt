@@ -73,6 +73,7 @@ fn is_format_of(simple: Simple, format: &Option<Format>) -> bool
 {
     match (simple, format) {
         (_, None) => true,
+        (_, Some(Format::Expression(_))) => simple.takes_expression(),
         (Simple::Truth, Some(Format::Truth(texts))) => texts.is_lawful(),
         (Simple::Whole | Simple::Derived(_) | Simple::Decimal, Some(Format::Number(format))) => {
             format.rules().is_lawful()

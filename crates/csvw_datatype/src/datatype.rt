@@ -1,6 +1,6 @@
 //! `Datatype` and `Facets`: a datatype of a column.
 ghost use Rattle.std.specs.Prelude.{◌≡◌, IfOk};
-ghost use Rattle.csvw_datatype.specs.Strings.{is_string, keeps_space, keeps_ends};
+ghost use Rattle.csvw_datatype.specs.Strings.{is_string, takes_any_text, keeps_space, keeps_ends};
 
 use crate::format::Format;
 use crate::simple::{Simple, TextType};
@@ -113,6 +113,14 @@ impl Datatype {
             | Simple::Other(_)
             | Simple::Floating(_) => false,
         }
+    }
+
+    /// Returns whether each text is a value: the base is `string`, and the format is no regular expression.
+    #[inline(always)]
+    pub fn takes_any_text(&self) -> bool
+        ensures { result ≡ takes_any_text self.now }
+    {
+        self.is_string() && !matches!(self.format, Some(Format::Expression(_)))
     }
 
     /// Returns whether white space in a cell stays as it is (Model for Tabular Data, section 6.4, steps 1 and 2).

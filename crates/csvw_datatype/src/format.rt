@@ -1,9 +1,11 @@
 //! The formats that texts of a datatype are written in.
 ghost use Rattle.std.specs.Prelude.{◌≡◌, ◌≢◌, ◌↔◌, ◌++◌, IfOk, OnOk, IsTrue, MatchOption, option_copied, string_bytes, encode_utf8_all, ℕ};
 ghost use Rattle.csvw_datatype.specs.Characters.{IsCharacter};
+ghost use Rattle.csvw_datatype.specs.Formats.{is_described};
 ghost use Rattle.csvw_datatype.specs.Bars.{IsTruthText, has_bar, HasNoSplit, IsOnlySplit};
 
 use csvw_datatype_core::{DateFormat, MomentFormat, NumberPattern, NumberRules, TimeFormat};
+use csvw_regex::{Expressions, RegularExpression};
 use csvw_text::{Copied, Text};
 use std::alloc::{AllocError, Global};
 
@@ -40,6 +42,8 @@ pub enum Format {
     Moment(MomentFormat),
     /// The format of times of day.
     Time(TimeFormat),
+    /// The regular expression of texts (Model for Tabular Data and Metadata on the Web, section 6.4.6).
+    Expression(RegularExpression),
 }
 
 impl TruthFormat {
@@ -158,6 +162,7 @@ impl Format {
             Format::Day(format) => Ok(Format::Day(*format)),
             Format::Moment(format) => Ok(Format::Moment(*format)),
             Format::Time(format) => Ok(Format::Time(*format)),
+            Format::Expression(expression) => Ok(Format::Expression(expression.clone(alloc)?)),
         }
     }
 }
@@ -165,6 +170,27 @@ impl Format {
 impl Copied for Format {
     fn copied(&self, alloc: Global) -> Result<Format, AllocError> {
         self.clone(alloc)
+    }
+}
+
+/// Returns whether the format's expression describes a text, if it is one. Returns `AllocError` if memory runs out.
+pub(crate) fn is_described(
+    format: &Option<Format>,
+    expressions: &mut Expressions,
+    text: &str,
+) -> Result<bool, AllocError>
+    ensures { IfOk result (λ b. b ≡ is_described format.now text.now) }
+{
+    match format {
+        Some(Format::Expression(expression)) => expressions.fit(expression, text),
+        Some(
+            Format::Truth(_)
+            | Format::Number(_)
+            | Format::Day(_)
+            | Format::Moment(_)
+            | Format::Time(_),
+        )
+        | None => Ok(true),
     }
 }
 

@@ -4,7 +4,7 @@
 //!
 //! - `Datatype::read` returns the value of a text exactly if there is one, else the code (`Reads`, `Misread`).
 //! - The value of a double, a time of day or a part of a date is its one text, and so is that of a text that is kept as it
-//!   is (`double_form`, `text_form`).
+//!   is (`double_form`, `text_form`). A regular expression that is the format describes each value (`is_described`).
 //! - The laws `one_value`, `value_or_code` and `one_code`: a text has one value or one code.
 //! - `facets` returns the facets that a value breaks, in the standards' words: the law `broken_facets`.
 //!   `is_faceted` returns false only if the value breaks none (`breaks`).
@@ -41,6 +41,7 @@ pub use check::BadDatatype;
 pub use csvw_datatype_core::{
     DateFormat, DatePart, FieldDigits, MomentFormat, Separator, TimeFormat,
 };
+pub use csvw_regex::{Expressions, RegularExpression};
 pub use datatype::{Datatype, Facets};
 pub use facets::Broken;
 pub use format::{Format, NumberFormat, TruthFormat};

@@ -5,12 +5,12 @@ ghost use Rattle.csvw_datatype.specs.declared.simple.Simple.TheVariants as simpl
 ghost use Rattle.std.specs.Str.{chars};
 ghost use Rattle.csvw_fault.specs.declared.fault.Code.TheVariants.{BadInteger};
 ghost use Rattle.csvw_datatype.specs.Formats.{fits_format};
-ghost use Rattle.csvw_datatype.specs.Reads.{Reads, ReadsNumberAs, MisreadsNumber, Misread, whole_rules, decimal_rules, date_format, moment_format, number_code, double_code, ReadsAs, MisreadAs, ReadsDouble, MisreadsDouble, ReadsText, MisreadsText};
+ghost use Rattle.csvw_datatype.specs.Reads.{Reads, ReadsNumberAs, MisreadsNumber, Misread, whole_rules, decimal_rules, date_format, moment_format, number_code, double_code, ReadsAs, MisreadAs, ReadsDouble, MisreadsDouble, ReadsText, MisreadsText, ReadsString, MisreadsString};
 ghost use Rattle.csvw_datatype.specs.Sound.{IsSound};
 ghost use Rattle.csvw_datatype.specs.Lexical.{IsWritable};
 
 use crate::datatype::Datatype;
-use crate::format::Format;
+use crate::format::{Format, is_described};
 use crate::laws::values_of_texts;
 use crate::simple::{Simple, TextType, Width};
 use crate::text_form::{text_code, text_form};
@@ -21,6 +21,7 @@ use csvw_datatype_core::{
     DateFormat, MomentFormat, NumberFault, NumberRules, read_date, read_moment, read_number,
 };
 use csvw_double::{DoubleFault, canonical_double};
+use csvw_regex::Expressions;
 use csvw_text::{Code, Text};
 use std::alloc::{AllocError, Global};
 
@@ -29,15 +30,29 @@ impl Datatype {
     /// Web, section 6.4). The datatype must have passed `check`.
     ///
     /// - `BadBoolean`, `BadInteger`, `BadDecimal`, `BadDate`, `BadDateTime`, `BadDouble`, `BadTime` or `BadText` if the text
-    ///   isn't written as a value of the type, or not as the pattern of numbers says.
+    ///   isn't written as a value of the type, or not as the pattern of numbers or the regular expression says.
     /// - `NumberTooLong` if a number is 10^20 or more in size or not a whole multiple of 10^-18, or if the exponent of a
     ///   double has more than 18 digits.
     /// - Otherwise `OutOfRange` if the number is outside its derived type.
     ///
-    /// Returns `AllocError` if memory runs out.
+    /// Returns `AllocError` if memory runs out, or if the automaton of the expression is too large.
+    pub fn read(&self, alloc: Global, text: &str) -> Result<Result<Value, Code>, AllocError>
+        requires { IsSound self.now }
+        ensures value { IfOk result
+            (λ answer. MatchResult answer (Reads self.now text.now) (Misread self.now text.now)) }
+        ensures writable { IfOk result (λ answer. IfOk answer IsWritable) }
+    {
+        self.read_with(&mut Expressions::new(alloc), text)
+    }
+
+    /// Returns the value of a text as `read` does, with the automata of expressions that were made before.
     #[inline(always)]
     #[tactic(auto, using(crate::proofs::LawLemmas::writable_answer))]
-    pub fn read(&self, alloc: Global, text: &str) -> Result<Result<Value, Code>, AllocError>
+    pub fn read_with(
+        &self,
+        expressions: &mut Expressions,
+        text: &str,
+    ) -> Result<Result<Value, Code>, AllocError>
         requires { IsSound self.now }
         ensures value { IfOk result
             (λ answer. MatchResult answer (Reads self.now text.now) (Misread self.now text.now)) }
@@ -46,16 +61,31 @@ impl Datatype {
         values_of_texts();
         let format = &self.format;
         match self.simple {
-            Simple::Text | Simple::Uri => Ok(Ok(Value::Text(Text::copied(alloc, text)?))),
-            Simple::Other(text_type) => read_text(alloc, text_type, format, text),
+            Simple::Text | Simple::Uri => read_string(expressions, format, text),
+            Simple::Other(text_type) => read_text(expressions, text_type, format, text),
             Simple::Truth => Ok(read_boolean(format, text)),
             Simple::Whole => Ok(read_whole(format, text)),
             Simple::Derived(width) => Ok(read_derived(width, format, text)),
             Simple::Decimal => Ok(read_decimal(format, text)),
             Simple::Day => Ok(read_day(format, text)),
             Simple::Moment => Ok(read_date_time(format, text)),
-            Simple::Floating(_) => read_double(alloc, text),
+            Simple::Floating(_) => read_double(expressions.alloc(), text),
         }
+    }
+}
+
+/// Reads a text of `string` or `anyURI`. Its value is the text, if the format's expression describes it.
+fn read_string(
+    expressions: &mut Expressions,
+    format: &Option<Format>,
+    text: &str,
+) -> Result<Result<Value, Code>, AllocError>
+    ensures { IfOk result (λ answer. MatchResult answer (ReadsString format.now text.now) (MisreadsString format.now text.now)) }
+{
+    if is_described(format, expressions, text)? {
+        Ok(Ok(Value::Text(Text::copied(expressions.alloc(), text)?)))
+    } else {
+        Ok(Err(Code::BadText))
     }
 }
 
@@ -71,14 +101,14 @@ fn read_double(alloc: Global, text: &str) -> Result<Result<Value, Code>, AllocEr
 
 /// Reads a value of a type whose values are kept as texts. The value is its one text.
 fn read_text(
-    alloc: Global,
+    expressions: &mut Expressions,
     text_type: TextType,
     format: &Option<Format>,
     text: &str,
 ) -> Result<Result<Value, Code>, AllocError>
     ensures { IfOk result (λ answer. MatchResult answer (ReadsText text_type format.now text.now) (MisreadsText text_type format.now text.now)) }
 {
-    match text_form(alloc, text_type, format, text)? {
+    match text_form(expressions, text_type, format, text)? {
         Some(form) => Ok(Ok(Value::Text(form))),
         None => Ok(Err(text_code(text_type))),
     }
@@ -109,8 +139,14 @@ fn fits_format(format: &Option<Format>, text: &str) -> bool
 {
     match format {
         Some(Format::Number(format)) => format.fits(text),
-        Some(Format::Truth(_) | Format::Day(_) | Format::Moment(_) | Format::Time(_)) | None =>
-            true,
+        Some(
+            Format::Truth(_)
+            | Format::Day(_)
+            | Format::Moment(_)
+            | Format::Time(_)
+            | Format::Expression(_),
+        )
+        | None => true,
     }
 }
 
@@ -206,8 +242,14 @@ pub(crate) fn whole_rules(format: &Option<Format>) -> NumberRules
 {
     let group_char = match format {
         Some(Format::Number(format)) => format.group_char,
-        Some(Format::Truth(_) | Format::Day(_) | Format::Moment(_) | Format::Time(_)) | None =>
-            None,
+        Some(
+            Format::Truth(_)
+            | Format::Day(_)
+            | Format::Moment(_)
+            | Format::Time(_)
+            | Format::Expression(_),
+        )
+        | None => None,
     };
     NumberRules {
         decimal_char: None,
@@ -221,12 +263,18 @@ pub(crate) fn decimal_rules(format: &Option<Format>) -> NumberRules
 {
     match format {
         Some(Format::Number(format)) => format.rules(),
-        Some(Format::Truth(_) | Format::Day(_) | Format::Moment(_) | Format::Time(_)) | None =>
-            NumberRules {
-                decimal_char: Some('.'),
-                group_char: None,
-                allows_marks: false,
-            },
+        Some(
+            Format::Truth(_)
+            | Format::Day(_)
+            | Format::Moment(_)
+            | Format::Time(_)
+            | Format::Expression(_),
+        )
+        | None => NumberRules {
+            decimal_char: Some('.'),
+            group_char: None,
+            allows_marks: false,
+        },
     }
 }
 
@@ -235,8 +283,14 @@ fn date_format(format: &Option<Format>) -> DateFormat
 {
     match format {
         Some(Format::Day(format)) => *format,
-        Some(Format::Truth(_) | Format::Number(_) | Format::Moment(_) | Format::Time(_)) | None =>
-            DateFormat::YearFirst,
+        Some(
+            Format::Truth(_)
+            | Format::Number(_)
+            | Format::Moment(_)
+            | Format::Time(_)
+            | Format::Expression(_),
+        )
+        | None => DateFormat::YearFirst,
     }
 }
 
@@ -245,8 +299,14 @@ fn moment_format(format: &Option<Format>) -> MomentFormat
 {
     match format {
         Some(Format::Moment(format)) => *format,
-        Some(Format::Truth(_) | Format::Number(_) | Format::Day(_) | Format::Time(_)) | None =>
-            MomentFormat::Seconds,
+        Some(
+            Format::Truth(_)
+            | Format::Number(_)
+            | Format::Day(_)
+            | Format::Time(_)
+            | Format::Expression(_),
+        )
+        | None => MomentFormat::Seconds,
     }
 }
 

@@ -2,7 +2,7 @@
 ghost use Rattle.std.specs.Prelude.{◌≡◌, MatchOption};
 ghost use Rattle.csvw_datatype_core.specs.declared.date_part.DatePart.{DatePart as Part};
 ghost use Rattle.csvw_datatype.specs.Names.{part_name, part_iri, name_of, IsNamed, width_name, floating_name, IsFloatingNamed, text_type_name, IsTextTypeNamed, text_type_iri, IsNoneNamed};
-ghost use Rattle.csvw_datatype.specs.Strings.{has_length};
+ghost use Rattle.csvw_datatype.specs.Strings.{has_length, takes_expression};
 
 use csvw_datatype_core::DatePart;
 
@@ -297,6 +297,24 @@ impl Simple {
                 )
             }
             _ => false,
+        }
+    }
+
+    /// Returns whether the format may be a regular expression: the values are texts, and neither dates nor times (Model for
+    /// Tabular Data, section 6.4.6).
+    pub fn takes_expression(self) -> bool
+        ensures { result ≡ takes_expression self }
+    {
+        match self {
+            Simple::Text | Simple::Uri => true,
+            Simple::Other(text_type) => { !matches!(text_type, TextType::Time | TextType::Part(_)) }
+            Simple::Truth
+            | Simple::Whole
+            | Simple::Decimal
+            | Simple::Day
+            | Simple::Derived(_)
+            | Simple::Moment
+            | Simple::Floating(_) => false,
         }
     }
 

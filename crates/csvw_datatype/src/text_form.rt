@@ -1,12 +1,14 @@
 //! The one text of a value whose type keeps texts.
 ghost use Rattle.std.specs.Prelude.{◌≡◌, IfOk, Some, None, if◌then◌else◌};
 ghost use Rattle.csvw_datatype.specs.TextForms.{time_format, text_form, text_code, text_if};
+ghost use Rattle.csvw_datatype.specs.Formats.{is_described};
 
-use crate::format::Format;
+use crate::format::{Format, is_described};
 use crate::simple::TextType;
 use csvw_datatype_core::{
     TimeFormat, date_part_text, is_language, is_name, is_name_token, time_text,
 };
+use csvw_regex::Expressions;
 use csvw_text::{Code, Text};
 use std::alloc::{AllocError, Global};
 
@@ -15,9 +17,14 @@ fn time_format(format: &Option<Format>) -> TimeFormat
 {
     match format {
         Some(Format::Time(format)) => *format,
-        Some(Format::Truth(_) | Format::Number(_) | Format::Day(_) | Format::Moment(_)) | None => {
-            TimeFormat::Seconds
-        }
+        Some(
+            Format::Truth(_)
+            | Format::Number(_)
+            | Format::Day(_)
+            | Format::Moment(_)
+            | Format::Expression(_),
+        )
+        | None => { TimeFormat::Seconds }
     }
 }
 
@@ -37,22 +44,32 @@ fn text_if(alloc: Global, is_one: bool, text: &str) -> Result<Option<Text>, Allo
 /// Returns `None` if the text is no value of the type, and `AllocError` if memory runs out.
 #[tactic(auto, unfolding(crate::specs::TextForms::text_form))]
 pub(crate) fn text_form(
-    alloc: Global,
+    expressions: &mut Expressions,
     text_type: TextType,
     format: &Option<Format>,
     text: &str,
 ) -> Result<Option<Text>, AllocError>
     ensures { IfOk result (λ o. o ≡ text_form text_type format.now text.now) }
 {
+    let alloc = expressions.alloc();
     match text_type {
-        TextType::Any | TextType::Token | TextType::Xml | TextType::Html | TextType::Json => {
-            text_if(alloc, true, text)
-        }
-        TextType::Language => text_if(alloc, is_language(text), text),
-        TextType::Name => text_if(alloc, is_name(text), text),
-        TextType::NameToken => text_if(alloc, is_name_token(text), text),
         TextType::Time => time_text(alloc, time_format(format), text),
         TextType::Part(part) => date_part_text(alloc, part, text),
+        TextType::Any | TextType::Token | TextType::Xml | TextType::Html | TextType::Json => {
+            text_if(alloc, is_described(format, expressions, text)?, text)
+        }
+        TextType::Language => {
+            let is_one = is_language(text) && is_described(format, expressions, text)?;
+            text_if(alloc, is_one, text)
+        }
+        TextType::Name => {
+            let is_one = is_name(text) && is_described(format, expressions, text)?;
+            text_if(alloc, is_one, text)
+        }
+        TextType::NameToken => {
+            let is_one = is_name_token(text) && is_described(format, expressions, text)?;
+            text_if(alloc, is_one, text)
+        }
     }
 }
 

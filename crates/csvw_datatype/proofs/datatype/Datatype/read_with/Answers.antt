@@ -1,6 +1,6 @@
 use Rattle.csvw_datatype.specs.declared.simple.Simple.TheVariants as simples
 use Rattle.csvw_datatype.proofs.LawLemmas.{writable_answer}
-use Rattle.csvw_datatype.proofs.datatype.Datatype.read.Goals as goal
+use Rattle.csvw_datatype.proofs.datatype.Datatype.read_with.Goals as goal
 
 pub returns-in-Day-clause-writable : goal.returns-in-Day-clause-writable
 returns-in-Day-clause-writable c =
