@@ -1,11 +1,11 @@
 -- The cell of a text that isn't null, in a column without a separator. The search doesn't take the two results of a call apart.
-use Rattle.std.proofs.Common.{◌≡◌, ℕ, true, false, List, refl, subst, sym, MatchBool}
+use Rattle.std.proofs.Common.{◌≡◌, ◌&&◌, ℕ, Bool, not, true, false, List, refl, subst, sym, MatchBool}
 use Rattle.std.specs.Prelude.{Result, Ok, Err, OnOk}
 use Rattle.csvw_fault.specs.declared.fault.Code.{Code}
 use Rattle.csvw_datatype.specs.declared.datatype.Datatype.{Datatype}
 use Rattle.csvw_datatype.specs.declared.simple.Simple.{Simple}
 use Rattle.csvw_datatype.specs.declared.simple.Simple.TheVariants as simples
-use Rattle.csvw_datatype.specs.Strings.{is_string, is_text, keeps_space, space_stays}
+use Rattle.csvw_datatype.specs.Strings.{is_text, takes_any_text, has_expression, keeps_space, space_stays}
 use Rattle.csvw_columns_core.specs.declared.properties.Properties.{Properties}
 use Rattle.csvw_cell.specs.declared.cell.CellValue.{CellValue}
 use Rattle.csvw_cell.specs.declared.cell.CellValue.TheVariants.{Null}
@@ -31,6 +31,10 @@ text_stays simples.Moment h = cc
 text_stays (simples.Other t) h = cc
 text_stays (simples.Floating t) h = cc
 
+first : (a b : Bool) → a && b ≡ true → a ≡ true
+first true b h = refl
+first false b h = cc
+
 -- white space stays in a string
-pub string_keeps : (d : Datatype) → is_string d ≡ true → keeps_space d ≡ true
-string_keeps d h = text_stays d.simple h
+pub any_text_keeps : (d : Datatype) → takes_any_text d ≡ true → keeps_space d ≡ true
+any_text_keeps d h = text_stays d.simple (first (is_text d.simple) (not (has_expression d.format)) h)

@@ -2,16 +2,16 @@
 -- 6.4).
 use Rattle.std.specs.Prelude.{ℕ, Bool, true, false, ◌&&◌, not, List, is_some}
 use Rattle.csvw_datatype.specs.Breaks.{has_lengths}
-use Rattle.csvw_datatype.specs.Strings.{is_string}
+use Rattle.csvw_datatype.specs.Strings.{takes_any_text}
 use Rattle.csvw_datatype.specs.declared.value.Value.TheVariants.{Text}
 use Rattle.csvw_columns_core.specs.declared.properties.Properties.{Properties}
 use Rattle.csvw_cell.specs.declared.cell.Item.{Item}
 use Rattle.csvw_cell.specs.declared.cell.CellValue.{CellValue}
 use Rattle.csvw_cell.specs.declared.cell.CellValue.TheVariants.{Null, One, Many}
 
--- a string of any length, in a column without a separator: the cell of a text that isn't null is that text
+-- a string of any length that no expression describes, in a column without a separator: the cell of a text that isn't null is that text
 abbrev pub is_plain : Properties → Bool
-is_plain p = is_string p.datatype && not (is_some p.separator) && not (has_lengths p.datatype.facets)
+is_plain p = takes_any_text p.datatype && not (is_some p.separator) && not (has_lengths p.datatype.facets)
 
 abbrev pub text_item : List ℕ → Item
 text_item text = record { value = Text text; was_read = true }

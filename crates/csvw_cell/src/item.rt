@@ -8,7 +8,7 @@ ghost use Rattle.csvw_cell.specs.Plain.{text_item};
 
 use crate::cell::Item;
 use crate::codes::broken_codes;
-use csvw_datatype::{Datatype, Value};
+use csvw_datatype::{Datatype, Expressions, Value};
 use csvw_text::{Code, Seq, Text};
 use std::alloc::{AllocError, Global};
 
@@ -52,7 +52,7 @@ pub(crate) fn refill_item(alloc: Global, item: &mut Item, text: &str) -> Result<
 /// value, the item is the text, with the code of why it is not. Returns `AllocError` if memory runs out.
 #[inline(always)]
 pub(crate) fn judge(
-    alloc: Global,
+    expressions: &mut Expressions,
     datatype: &Datatype,
     text: &str,
     item: &mut Item,
@@ -60,11 +60,12 @@ pub(crate) fn judge(
     requires { IsSound datatype.now }
     ensures { IfOk result (λ causes. IsItem datatype.now text.now item.new causes) }
 {
-    if datatype.is_string() {
+    let alloc = expressions.alloc();
+    if datatype.takes_any_text() {
         refill_item(alloc, item, text)?;
         return causes_of(alloc, datatype, &item.value);
     }
-    match datatype.read(alloc, text)? {
+    match datatype.read_with(expressions, text)? {
         Ok(value) => {
             let causes = causes_of(alloc, datatype, &value)?;
             *item = Item {

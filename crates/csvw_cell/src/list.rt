@@ -8,7 +8,7 @@ use crate::cell::{Cell, CellValue, Item};
 use crate::codes::{in_order, missing};
 use crate::item::judge;
 use csvw_columns_core::Properties;
-use csvw_datatype::Datatype;
+use csvw_datatype::{Datatype, Expressions};
 use csvw_text::{Code, Seq, strip_end, strip_start};
 use std::alloc::{AllocError, Global};
 
@@ -86,13 +86,14 @@ fn parts<'a>(alloc: Global, separator: &str, text: &'a str) -> Result<Vec<&'a st
 
 /// Returns the items of the parts of a list, without those that are null. Returns `AllocError` if memory runs out.
 fn judge_items(
-    alloc: Global,
+    expressions: &mut Expressions,
     properties: &Properties,
     parts: &[&str],
 ) -> Result<JudgedItems, AllocError>
     requires { IsSound properties.now.datatype }
     ensures { IfOk result (λ r. AreItems properties.now.datatype (texts_of properties.now (map (λ x. x.now) parts.now)) r.items r.causes) }
 {
+    let alloc = expressions.alloc();
     let mut items = Vec::new(alloc);
     let mut causes = Vec::new(alloc);
     for part in parts {
@@ -101,7 +102,7 @@ fn judge_items(
             continue;
         }
         let mut item = Item::new(alloc);
-        let its = judge(alloc, properties.datatype.get(), text, &mut item)?;
+        let its = judge(expressions, properties.datatype.get(), text, &mut item)?;
         items.push(item)?;
         causes.extend_from_slice(its.as_slice())?;
     }
@@ -113,7 +114,7 @@ fn judge_items(
 
 /// Returns the list of a text that is not null.
 fn list_of(
-    alloc: Global,
+    expressions: &mut Expressions,
     properties: &Properties,
     separator: &str,
     text: &str,
@@ -121,8 +122,9 @@ fn list_of(
     requires { IsSound properties.now.datatype }
     ensures { IfOk result (IsListOf properties.now separator.now text.now) }
 {
+    let alloc = expressions.alloc();
     let parts = parts(alloc, separator, text)?;
-    let judged = judge_items(alloc, properties, parts.as_slice())?;
+    let judged = judge_items(expressions, properties, parts.as_slice())?;
     let faults = in_order(alloc, judged.causes.as_slice())?;
     Ok(Cell {
         value: CellValue::Many(judged.items),
@@ -132,7 +134,7 @@ fn list_of(
 
 /// Returns the cell of a text in a column with a separator, or `AllocError` if memory runs out.
 pub(crate) fn list(
-    alloc: Global,
+    expressions: &mut Expressions,
     properties: &Properties,
     separator: &str,
     text: &str,
@@ -140,6 +142,7 @@ pub(crate) fn list(
     requires { IsSound properties.now.datatype }
     ensures { IfOk result (IsList properties.now separator.now text.now) }
 {
+    let alloc = expressions.alloc();
     if text.is_empty() {
         return Ok(Cell {
             value: CellValue::Many(Seq::new(alloc)),
@@ -149,5 +152,5 @@ pub(crate) fn list(
     if is_null(properties, text) {
         return Ok(Cell::new(alloc));
     }
-    list_of(alloc, properties, separator, text)
+    list_of(expressions, properties, separator, text)
 }

@@ -1,12 +1,11 @@
 //! `parse_over`: the text of a cell, read in nine steps over the cell before it.
 //!
 //! A row is annotated in the memory of the row before it. In a column without a separator, the cell of a string of
-//! any length is its text (`is_plain`). That text is copied over the text of the column's cell in the row before.
+//! any length, without a regular expression, is its text (`is_plain`). That text is copied over the text of the column's cell in the row before.
 //! Other cells are read in the nine steps of parsing.
 ghost use Rattle.std.specs.Prelude.{◌≡◌, [], true, OnOk};
 ghost use Rattle.csvw_datatype.specs.Breaks.{has_lengths};
 ghost use Rattle.csvw_datatype.specs.Sound.{IsSound};
-ghost use Rattle.csvw_datatype.specs.Strings.{is_string};
 ghost use Rattle.csvw_cell.specs.Codes.{in_order};
 ghost use Rattle.csvw_cell.specs.CellOf.{CellOf, IsCellBy, IsJudged, IsSingle};
 ghost use Rattle.csvw_cell.specs.Plain.{is_one, is_plain, the_text};
@@ -17,7 +16,7 @@ use crate::item::{judge, refill_item};
 use crate::list::{is_null, list, or_default};
 use crate::normal::is_normal;
 use csvw_columns_core::{Column, Properties};
-use csvw_datatype::{Datatype, Facets, Value};
+use csvw_datatype::{Datatype, Expressions, Facets, Value};
 use csvw_text::{Code, Seq, Text, collapse};
 use std::alloc::{AllocError, Global};
 
@@ -32,7 +31,7 @@ fn is_plain(properties: &Properties) -> bool
     ensures { result ≡ is_plain properties.now }
 {
     let datatype = properties.datatype.get();
-    datatype.is_string() && properties.separator.is_none() && !has_lengths(&datatype.facets)
+    datatype.takes_any_text() && properties.separator.is_none() && !has_lengths(&datatype.facets)
 }
 
 /// Writes the value that is a text over a value, in its memory.
@@ -89,7 +88,7 @@ fn keep_faults(alloc: Global, causes: &[Code], faults: &mut Seq<Code>) -> Result
 /// Writes the value and the faults of a text that isn't null over these.
 #[inline(always)]
 fn judge_over(
-    alloc: Global,
+    expressions: &mut Expressions,
     datatype: &Datatype,
     text: &str,
     value: &mut CellValue,
@@ -98,10 +97,11 @@ fn judge_over(
     requires { IsSound datatype.now }
     ensures { OnOk result (IsJudged datatype.now text.now value.new faults.new) }
 {
+    let alloc = expressions.alloc();
     make_one(alloc, value);
     match value {
         CellValue::One(item) => {
-            let causes = judge(alloc, datatype, text, item)?;
+            let causes = judge(expressions, datatype, text, item)?;
             keep_faults(alloc, causes.as_slice(), faults)
         }
         CellValue::Null | CellValue::Many(_) => unreachable!(),
@@ -110,7 +110,7 @@ fn judge_over(
 
 /// Writes the value and the faults of a text in a column without a separator over these.
 fn single_over(
-    alloc: Global,
+    expressions: &mut Expressions,
     properties: &Properties,
     text: &str,
     value: &mut CellValue,
@@ -121,15 +121,15 @@ fn single_over(
 {
     if is_null(properties, text) {
         *value = CellValue::Null;
-        *faults = missing(alloc, properties)?;
+        *faults = missing(expressions.alloc(), properties)?;
         return Ok(());
     }
-    judge_over(alloc, properties.datatype.get(), text, value, faults)
+    judge_over(expressions, properties.datatype.get(), text, value, faults)
 }
 
 /// Writes the value and the faults of a text over these. Steps 1 to 3 are done.
 fn by_separator(
-    alloc: Global,
+    expressions: &mut Expressions,
     properties: &Properties,
     text: &str,
     value: &mut CellValue,
@@ -140,12 +140,12 @@ fn by_separator(
 {
     match &properties.separator {
         Some(separator) => {
-            let cell = list(alloc, properties, separator.get().as_str(), text)?;
+            let cell = list(expressions, properties, separator.get().as_str(), text)?;
             *value = cell.value;
             *faults = cell.faults;
             Ok(())
         }
-        None => single_over(alloc, properties, text, value, faults),
+        None => single_over(expressions, properties, text, value, faults),
     }
 }
 
@@ -153,9 +153,9 @@ fn by_separator(
 ///
 /// The column's datatype must have passed `Datatype::check`. Returns `AllocError` if memory runs out. Nothing is then
 /// said of the value and the faults.
-#[tactic(auto, using(crate::proofs::OverLemmas::string_keeps))]
+#[tactic(auto, using(crate::proofs::OverLemmas::any_text_keeps))]
 pub fn parse_over(
-    alloc: Global,
+    expressions: &mut Expressions,
     column: &Column,
     text: &str,
     value: &mut CellValue,
@@ -164,6 +164,7 @@ pub fn parse_over(
     requires { IsSound column.now.properties.datatype }
     ensures { OnOk result (CellOf column.now text.now (record { value = value.new; faults = faults.new })) }
 {
+    let alloc = expressions.alloc();
     let properties = &column.properties;
     let shown = or_default(properties.default.get().as_str(), text);
     if is_plain(properties) && !is_null(properties, shown) {
@@ -171,9 +172,9 @@ pub fn parse_over(
         return refill_value(alloc, value, shown);
     }
     if is_normal(properties.datatype.get(), text) {
-        return by_separator(alloc, properties, shown, value, faults);
+        return by_separator(expressions, properties, shown, value, faults);
     }
     let normalized = collapse(alloc, text)?;
     let shown = or_default(properties.default.get().as_str(), normalized.as_str());
-    by_separator(alloc, properties, shown, value, faults)
+    by_separator(expressions, properties, shown, value, faults)
 }

@@ -6,12 +6,13 @@ ghost use Rattle.csvw_cell.specs.CellOf.{CellOf};
 use crate::cell::Cell;
 use crate::over::parse_over;
 use csvw_columns_core::Column;
+use csvw_datatype::Expressions;
 use std::alloc::{AllocError, Global};
 
-/// Returns the same cell as `parse`, in the memory of a cell that is no longer needed. The errors and the condition
-/// are those of `parse`.
+/// Returns the same cell as `parse`, in the memory of a cell that is no longer needed, with the automata that were made
+/// before. The errors and the condition are those of `parse`.
 pub fn parse_into(
-    alloc: Global,
+    expressions: &mut Expressions,
     column: &Column,
     text: &str,
     spare: Cell,
@@ -20,7 +21,7 @@ pub fn parse_into(
     ensures { IfOk result (CellOf column.now text.now) }
 {
     let mut cell = spare;
-    parse_over(alloc, column, text, &mut cell.value, &mut cell.faults)?;
+    parse_over(expressions, column, text, &mut cell.value, &mut cell.faults)?;
     Ok(cell)
 }
 
@@ -32,5 +33,5 @@ pub fn parse(alloc: Global, column: &Column, text: &str) -> Result<Cell, AllocEr
     requires { IsSound column.now.properties.datatype }
     ensures { IfOk result (CellOf column.now text.now) }
 {
-    parse_into(alloc, column, text, Cell::new(alloc))
+    parse_into(&mut Expressions::new(alloc), column, text, Cell::new(alloc))
 }
