@@ -6,14 +6,14 @@ ghost use Rattle.csvw_annotate.specs.Annotated.{IsCell, AreCells, Annotates};
 ghost use Rattle.csvw_columns_core.specs.Sound.{AreSound};
 ghost use Rattle.csvw_annotate.specs.FieldAt.{field_at};
 
-use crate::link_room::LinkRoom;
 use crate::linked_columns::LinkedColumns;
 use crate::linking::link_row;
 use crate::numbers::RowNumbers;
 use crate::row::{AnnCell, Row};
+use crate::row_room::RowRoom;
 use csvw_cell::parse_over;
 use csvw_columns_core::{Column, Columns, TableStop};
-use csvw_datatype::values_of_texts;
+use csvw_datatype::{Expressions, values_of_texts};
 use csvw_iri::Iri;
 use csvw_rows::RawRow;
 use csvw_text::Seq;
@@ -31,7 +31,7 @@ fn clear(link: &mut Option<Iri>)
 
 /// Writes the cell of a text over a cell, in its memory.
 fn fill_cell(
-    alloc: Global,
+    expressions: &mut Expressions,
     column: &Column,
     text: &str,
     cell: &mut AnnCell,
@@ -42,7 +42,7 @@ fn fill_cell(
     clear(&mut cell.about);
     clear(&mut cell.property);
     clear(&mut cell.link);
-    parse_over(alloc, column, text, &mut cell.value, &mut cell.faults)
+    parse_over(expressions, column, text, &mut cell.value, &mut cell.faults)
 }
 
 /// Returns the text of field `i`, from 0, or the empty text if there is no such field.
@@ -65,7 +65,7 @@ fn resized(mut cells: Vec<AnnCell>, alloc: Global, count: usize) -> Result<Vec<A
 
 /// Writes the cells of the columns over these.
 fn fill_cells(
-    alloc: Global,
+    expressions: &mut Expressions,
     columns: &[Column],
     row: &RawRow,
     cells: &mut [AnnCell],
@@ -75,14 +75,14 @@ fn fill_cells(
     ensures { OnOk result (AreCells columns.now (row_of row.now).fields cells.new) }
 {
     for i in 0..columns.len() {
-        fill_cell(alloc, &columns[i], field_at(row, i), &mut cells[i])?;
+        fill_cell(expressions, &columns[i], field_at(row, i), &mut cells[i])?;
     }
     Ok(())
 }
 
 /// Returns the cells of a row, in the memory of others.
 fn refilled(
-    alloc: Global,
+    expressions: &mut Expressions,
     columns: &[Column],
     row: &RawRow,
     cells: Vec<AnnCell>,
@@ -91,13 +91,13 @@ fn refilled(
     ensures cells { IfOk result (λ v. AreCells columns.now (row_of row.now).fields v.items) }
     ensures places { IfOk result (λ v. length v.items ≡ length columns.now) }
 {
-    let mut cells = resized(cells, alloc, columns.len())?;
-    fill_cells(alloc, columns, row, cells.as_mut_slice())?;
+    let mut cells = resized(cells, expressions.alloc(), columns.len())?;
+    fill_cells(expressions, columns, row, cells.as_mut_slice())?;
     Ok(cells)
 }
 
-/// Returns the same row as `annotate`, in the memory of a row that is no longer needed, and its links in memory that
-/// is kept for them.
+/// Returns the same row as `annotate`, in the memory of a row that is no longer needed, with the links and the automata
+/// that the room keeps.
 ///
 /// The datatypes of the columns must have passed `Datatype::check`. Returns `RaggedRow` exactly if the row does not
 /// have one field for each column that isn't virtual. Returns `Memory` if memory runs out.
@@ -106,7 +106,7 @@ pub fn annotate_into(
     columns: &LinkedColumns,
     row: &RawRow,
     spare: Row,
-    room: &mut LinkRoom,
+    room: &mut RowRoom,
 ) -> Result<Row, TableStop>
     requires { AreSound columns.now.columns }
     ensures { Annotates columns.now (row_of row.now) result }
@@ -115,13 +115,24 @@ pub fn annotate_into(
     if row.len() != all.field_count() {
         return Err(TableStop::RaggedRow);
     }
-    let mut cells = refilled(alloc, all.columns.as_slice(), row, spare.cells.into_vec())?;
+    let mut cells = refilled(
+        &mut room.expressions,
+        all.columns.as_slice(),
+        row,
+        spare.cells.into_vec(),
+    )?;
     let numbers = RowNumbers {
         number: row.number(),
         source: row.source(),
     };
     values_of_texts();
-    link_row(alloc, columns, room, numbers, cells.as_mut_slice())?;
+    link_row(
+        alloc,
+        columns,
+        &mut room.links,
+        numbers,
+        cells.as_mut_slice(),
+    )?;
     Ok(Row {
         number: numbers.number,
         source: numbers.source,
@@ -140,6 +151,6 @@ pub fn annotate(alloc: Global, columns: &Columns, row: &RawRow) -> Result<Row, T
     ensures { Annotates columns.now (row_of row.now) result }
 {
     let columns = LinkedColumns::new(alloc, columns.clone(alloc)?)?;
-    let mut room = LinkRoom::new(alloc);
+    let mut room = RowRoom::new(alloc);
     annotate_into(alloc, &columns, row, Row::new(alloc), &mut room)
 }

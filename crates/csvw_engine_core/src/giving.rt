@@ -13,7 +13,7 @@ ghost use Rattle.csvw_engine_core.specs.Tables.{RowFits, is_ended, Gives, TableH
 use crate::step::Step;
 use crate::stop::Stop;
 use crate::table::{Table, next_row};
-use csvw_annotate::{LinkRoom, Row};
+use csvw_annotate::Row;
 use csvw_columns::TablePlan;
 use csvw_keys::KeyBook;
 use csvw_rows::laws::{given_first, given_first_later};
@@ -39,8 +39,8 @@ fn give<S: TripleSink>(
     }
 }
 
-/// Gives each complete row to the sink, adds its keys, and lists its faults. The rows share the memory of one row,
-/// of one literal and of a few links.
+/// Gives each complete row to the sink, adds its keys, and lists its faults. The rows share the memory of one row
+/// and of one literal, and the table's room.
 fn drain<S: TripleSink>(
     plan: &TablePlan,
     table: &mut Table,
@@ -59,9 +59,8 @@ fn drain<S: TripleSink>(
     given_first();
     let mut emitter = Emitter::boxed(alloc)?;
     let mut spare = Row::new(alloc);
-    let mut room = LinkRoom::new(alloc);
     loop {
-        match next_row(plan, table, spare, &mut room)? {
+        match next_row(plan, table, spare)? {
             Step::Row(row) => {
                 table.tell(&row)?;
                 keys.add(table.number, &row)?;

@@ -7,7 +7,7 @@ ghost use Rattle.csvw_engine_core.specs.Stepping.{AnnotatesRow, Begins};
 
 use crate::head::Head;
 use crate::stop::Stop;
-use csvw_annotate::{LinkRoom, Row, annotate_into};
+use csvw_annotate::{Row, RowRoom, annotate_into};
 use csvw_columns::{TablePlan, TableStop};
 use csvw_rows::RawRow;
 use std::alloc::Global;
@@ -44,7 +44,7 @@ impl Head {
         plan: &TablePlan,
         raw: &RawRow,
         spare: Row,
-        room: &mut LinkRoom,
+        room: &mut RowRoom,
     ) -> Result<Step, Stop>
         requires { IsReady plan.now }
         ensures { Begins plan.now (row_of raw.now) self.old self.new result }

@@ -13,7 +13,7 @@ ghost use Rattle.csvw_engine_core.specs.Tables.{IsNewTable, Steps, RowFits, Sett
 use crate::head::Head;
 use crate::step::{Step, annotated};
 use crate::stop::Stop;
-use csvw_annotate::{LinkRoom, Row, annotate_into, annotated_rows_have_forms};
+use csvw_annotate::{Row, RowRoom, annotate_into, annotated_rows_have_forms};
 use csvw_columns::{Column, TablePlan};
 use csvw_rows::Rows;
 use csvw_rows::laws::given_first;
@@ -39,6 +39,8 @@ pub struct Table {
     pub(crate) head: Head,
     /// The faults of its cells so far.
     pub(crate) faults: Seq<Fault>,
+    /// The memory in which its rows are annotated.
+    pub(crate) room: RowRoom,
 }
 
 impl Table {
@@ -54,6 +56,7 @@ impl Table {
             rows: Rows::new(alloc, plan.dialect.clone(alloc)?, MAX_ROWS)?,
             head: Head::new(alloc),
             faults: Seq::new(alloc),
+            room: RowRoom::new(alloc),
         })
     }
 
@@ -72,14 +75,9 @@ impl Table {
     }
 }
 
-/// Reads the next row of a table and annotates it. It uses the memory of a row that is no longer needed and of
-/// earlier links. The loan of the reader ends here.
-pub(crate) fn next_row(
-    plan: &TablePlan,
-    table: &mut Table,
-    spare: Row,
-    room: &mut LinkRoom,
-) -> Result<Step, Stop>
+/// Reads the next row of a table and annotates it, in the memory of a row that is no longer needed and in the table's
+/// room. The loan of the reader ends here.
+pub(crate) fn next_row(plan: &TablePlan, table: &mut Table, spare: Row) -> Result<Step, Stop>
     requires { IsReady plan.now }
     ensures { Steps plan.now table.old table.new result }
 {
@@ -89,6 +87,7 @@ pub(crate) fn next_row(
     match table.rows.next() {
         Ok(Some(raw)) => {
             let head = &mut table.head;
+            let room = &mut table.room;
             match &head.columns {
                 Some(columns) => {
                     let row = annotate_into(alloc, columns, &raw, spare, room);

@@ -8,13 +8,13 @@ use Rattle.csvw_triples_core.specs.declared.mode.Mode.{Mode}
 use Rattle.csvw_engine_core.specs.Tables.{TableHolds, Gone, is_ended, outlets}
 use Rattle.csvw_engine_core.proofs.giving.drain.Given as goal
 
-abbrev pub invariant-loop-room : goal.invariant-loop-room
-invariant-loop-room g l = record {
+abbrev pub invariant-loop-emitter : goal.invariant-loop-emitter
+invariant-loop-emitter g l = record {
   ended : is_ended l.table ≡ is_ended l.initial.table;
   ready : IsAsReady g.S.TripleSink.is_open g.S.TripleSink.failed l.initial.sink l.sink;
   gone : (mode : Mode) (bytes : List ℕ) (ended : Bool) (given : List Given) (rows : List Row) → TableHolds l.plan mode l.initial.table bytes ended given rows
       → Gone g.S.TripleSink.gains l.plan mode bytes ended given rows l.initial.table l.table (outlets l.initial.sink l.initial.keys) (outlets l.sink l.keys);
 }
 
-abbrev pub decreases-loop-room : goal.decreases-loop-room
-decreases-loop-room g l = unread l.table.rows
+abbrev pub decreases-loop-emitter : goal.decreases-loop-emitter
+decreases-loop-emitter g l = unread l.table.rows

@@ -22,6 +22,7 @@ returns-in_err-drain-in-Ok g c = record {
         rows = c.end.new.self;
         head = c.args.table.now.head;
         faults = c.args.table.now.faults;
+        room = c.args.table.now.room;
       } in
       end_moved s.gains s.cuts s.is_open s.failed c.args.plan.now mode bytes given rows c.args.table.now c.drain.new.table c.end.new.self
       (outlets c.args.sink.now c.args.keys.now) (outlets c.drain.new.sink c.drain.new.keys) c.from_residual.result
@@ -47,6 +48,7 @@ returns-in_ok-drain-in-Ok g c = record {
         rows = c.end.new.self;
         head = c.args.table.now.head;
         faults = c.args.table.now.faults;
+        room = c.args.table.now.room;
       } in
       let k = c.in_ok-drain-in-Ok.ensures.drains mode bytes true given rows
       (holds_moved c.args.plan.now mode c.args.table.now c.end.new.self bytes bytes false true given rows

@@ -25,6 +25,7 @@ returns-in-Err-clause-feeds g c = λ mode bytes given rows h.
       rows = c.feed.new.self;
       head = c.args.table.now.head;
       faults = c.args.table.now.faults;
+      room = c.args.table.now.room;
     }) bytes c.args.piece.now given rows
     (outlets c.args.sink.now c.args.keys.now) c.in-Err.stop c.row.result
     c.in-Err.ensures.feeds h)
