@@ -11,6 +11,7 @@ use Rattle.csvw_datatype_core.specs.declared.number_pattern.PatternFault.{Patter
 use Rattle.csvw_datatype_core.specs.Numbers.{IsFree, IsLawful}
 use Rattle.csvw_datatype.specs.Bars.{has_bar, IsTruthText}
 use Rattle.csvw_datatype.specs.Formats.{AreTruthTexts, IsFormatOf, format_rules}
+use Rattle.csvw_datatype.specs.Strings.{takes_expression}
 use Rattle.csvw_datatype.specs.declared.simple.Simple.{Simple}
 use Rattle.csvw_datatype.specs.declared.simple.Simple.TheVariants as simples
 use Rattle.csvw_datatype.specs.declared.simple.TextType.TheVariants as types
@@ -23,7 +24,8 @@ use Rattle.csvw_meta_core.specs.declared.profile.Profile.{Profile}
 use Rattle.csvw_meta_core.specs.declared.profile.Profile.TheVariants.{Core, W3c}
 use Rattle.csvw_meta_core.specs.Read.{Read, fine, faulty, given, under, on_kind, on_linked_object}
 use Rattle.csvw_meta_datatype.specs.declared.format.FormatFound.{FormatFound}
-use Rattle.csvw_meta_datatype.specs.Formats.{no_format, number_found, number_format, format, pattern_read, text_or}
+use Rattle.csvw_meta_datatype.specs.Formats.{no_format, number_found, number_format, format, pattern_read, text_or, expression_found, expression_format}
+use Rattle.csvw_meta_datatype.specs.Expressions.{text_expression}
 use Rattle.csvw_meta_datatype.specs.Numbers.{is_free, character_found, character, sole, number_parts, no_characters, is_character, clashes}
 use Rattle.csvw_meta_datatype.specs.Numbers.{lawful_number, number_form, pattern_in, patterned, default_group, with_group, with_pattern}
 use Rattle.csvw_meta_datatype.specs.Truths.{is_truth_text, are_truth_texts, truth_texts, truth_format_of, no_truths, truths_found, truth_format}
@@ -213,21 +215,32 @@ as_whole (Some (formats.Truth f)) h = absurd h
 as_whole (Some (formats.Day f)) h = absurd h
 as_whole (Some (formats.Moment f)) h = absurd h
 as_whole (Some (formats.Time f)) h = absurd h
+as_whole (Some (formats.Expression e)) h = h
+
+-- ---- expressions
+
+found_fits : (s : Simple) → takes_expression s ≡ true → (o : Option (List ℕ)) → IsFormatOf s (expression_found o).format
+found_fits s h None = tt
+found_fits s h (Some e) = h
+
+expression_sound : (s : Simple) → takes_expression s ≡ true → (profile : Profile) (at : List ℕ) (d : Data)
+    → IsFormatOf s (expression_format profile at d).value.format
+expression_sound s h profile at d = found_fits s h (text_expression profile at d).value
 
 -- ---- all types
 
 pub format_sound : (profile : Profile) (simple : Simple) (place : Place) (at : List ℕ) (d : Data) → IsFormatOf simple (format profile simple place at d).value.format
 unfolding format
-format_sound profile simples.Text place at d = tt
-format_sound profile simples.Uri place at d = tt
-format_sound profile (simples.Other types.Any) place at d = tt
-format_sound profile (simples.Other types.Token) place at d = tt
-format_sound profile (simples.Other types.Language) place at d = tt
-format_sound profile (simples.Other types.Name) place at d = tt
-format_sound profile (simples.Other types.NameToken) place at d = tt
-format_sound profile (simples.Other types.Xml) place at d = tt
-format_sound profile (simples.Other types.Html) place at d = tt
-format_sound profile (simples.Other types.Json) place at d = tt
+format_sound profile simples.Text place at d = expression_sound simples.Text refl profile at d
+format_sound profile simples.Uri place at d = expression_sound simples.Uri refl profile at d
+format_sound profile (simples.Other types.Any) place at d = expression_sound (simples.Other types.Any) refl profile at d
+format_sound profile (simples.Other types.Token) place at d = expression_sound (simples.Other types.Token) refl profile at d
+format_sound profile (simples.Other types.Language) place at d = expression_sound (simples.Other types.Language) refl profile at d
+format_sound profile (simples.Other types.Name) place at d = expression_sound (simples.Other types.Name) refl profile at d
+format_sound profile (simples.Other types.NameToken) place at d = expression_sound (simples.Other types.NameToken) refl profile at d
+format_sound profile (simples.Other types.Xml) place at d = expression_sound (simples.Other types.Xml) refl profile at d
+format_sound profile (simples.Other types.Html) place at d = expression_sound (simples.Other types.Html) refl profile at d
+format_sound profile (simples.Other types.Json) place at d = expression_sound (simples.Other types.Json) refl profile at d
 format_sound profile (simples.Other types.Time) place at d = tt
 format_sound profile (simples.Other (types.Part p)) place at d = tt
 format_sound profile (simples.Floating t) place at d = tt

@@ -17,6 +17,7 @@ use Rattle.csvw_meta_core.specs.declared.profile.Profile.TheVariants.{Core, W3c}
 use Rattle.csvw_meta_core.specs.Read.{Read, fine, faulty, under, on_linked_object}
 use Rattle.csvw_meta_datatype.specs.declared.number.NumberFound.{NumberFound}
 use Rattle.csvw_meta_datatype.specs.declared.format.FormatFound.{FormatFound}
+use Rattle.csvw_meta_datatype.specs.Expressions.{text_expression}
 use Rattle.csvw_meta_datatype.specs.Numbers.{no_characters, number_form, pattern_code, pattern_in, patterned}
 use Rattle.csvw_meta_datatype.specs.Patterns.{date_format, moment_format, time_format}
 use Rattle.csvw_meta_datatype.specs.Truths.{truth_format}
@@ -50,16 +51,26 @@ abbrev pub number_format : Profile → Place → List ℕ → Data → Read Form
 number_format profile place at d =
     text_or profile at (as_str d) (on_linked_object at d no_format (under number_found (number_form profile place at d)))
 
--- the format of a type that keeps texts: that of a time of day is a pattern, and no other one is supported
-abbrev pub format_of_texts : TextType → List ℕ → Data → Read FormatFound
-format_of_texts types.Time at d = under (λ f. found (formats.Time f)) (time_format at d)
-format_of_texts _ at d = faulty NotSupported at no_format
+abbrev pub expression_found : Option (List ℕ) → FormatFound
+expression_found None = no_format
+expression_found (Some e) = found (formats.Expression e)
 
--- the format of a type; no format of strings, or of numbers with an exponent, is supported
+-- a regular expression; in the profile core none is supported
+abbrev pub expression_format : Profile → List ℕ → Data → Read FormatFound
+expression_format profile at d = under expression_found (text_expression profile at d)
+
+-- The format of a type that keeps texts. That of a time of day is a pattern, that of a part of a date is not supported, and
+-- every other one is a regular expression.
+abbrev pub format_of_texts : Profile → TextType → List ℕ → Data → Read FormatFound
+format_of_texts profile types.Time at d = under (λ f. found (formats.Time f)) (time_format at d)
+format_of_texts profile (types.Part part) at d = faulty NotSupported at no_format
+format_of_texts profile _ at d = expression_format profile at d
+
+-- the format of a type; no format of numbers with an exponent is supported
 unfoldable pub format : Profile → Simple → Place → List ℕ → Data → Read FormatFound
-format profile simples.Text place at d = faulty NotSupported at no_format
-format profile simples.Uri place at d = faulty NotSupported at no_format
-format profile (simples.Other t) place at d = format_of_texts t at d
+format profile simples.Text place at d = expression_format profile at d
+format profile simples.Uri place at d = expression_format profile at d
+format profile (simples.Other t) place at d = format_of_texts profile t at d
 format profile (simples.Floating t) place at d = faulty NotSupported at no_format
 format profile simples.Truth place at d = under (λ f. found (formats.Truth f)) (truth_format at d)
 format profile simples.Whole place at d = number_format profile place at d

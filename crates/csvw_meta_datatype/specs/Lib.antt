@@ -1,6 +1,7 @@
 pub mod Base
 pub mod Bounds
 pub mod Datatypes
+pub mod Expressions
 pub mod Facets
 pub mod Fit
 pub mod Formats

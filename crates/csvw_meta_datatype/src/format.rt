@@ -4,9 +4,10 @@ ghost use Rattle.serde_json.specs.View.{view};
 ghost use Rattle.csvw_meta_core.specs.Pointer.{text_of};
 ghost use Rattle.csvw_meta_core.specs.Reads.{Reads};
 ghost use Rattle.csvw_meta_core.specs.Read.{under};
-ghost use Rattle.csvw_meta_datatype.specs.Formats.{format_of_texts, number_format, number_found, text_format};
+ghost use Rattle.csvw_meta_datatype.specs.Formats.{expression_format, format_of_texts, number_format, number_found, text_format};
 ghost use Rattle.csvw_meta_datatype.specs.Numbers.{number_form};
 
+use crate::expression::ExpressionReader;
 use crate::number::{PLAIN, pattern_code, pattern_in, patterned, read_number_form};
 use crate::pattern::{DatePattern, MomentPattern, TimePattern};
 use crate::truth::TruthPattern;
@@ -24,10 +25,14 @@ pub struct FormatFound {
     pub warnings: Seq<Fault>,
 }
 
-/// Reads the format of a datatype. For a type of strings or of numbers with an exponent it is `NotSupported`. For a number, a
-/// text is `NotSupported` in the profile core. A pattern of a date, a moment or a time of day that is not supported is
-/// `NotSupported`, and so is one of a number with a character that isn't. A wrong character or pattern of a number, or a
-/// wrong pattern of a boolean, is `BadDatatype`.
+/// Reads the format of a datatype.
+///
+/// It is `NotSupported` for a number with an exponent and for a part of a date. In the profile core it is `NotSupported` for
+/// a string, and so is a text for a number. A pattern of a date, a moment or a time of day that is not supported is
+/// `NotSupported`, and so is one of a number with a character that isn't.
+///
+/// It is `BadDatatype` if a character or a pattern of a number is wrong, or the pattern of a boolean. In the profile w3c so
+/// is a text for a string that is no regular expression.
 #[derive(Drop)]
 pub struct FormatReader {
     /// The formats that the document may use.
@@ -72,9 +77,27 @@ fn read_number_format(profile: Profile, place: Place, part: &Part) -> Result<For
     }
 }
 
+/// Reads the regular expression that the format is. In the profile core it is `NotSupported`.
+fn read_expression(profile: Profile, part: &Part) -> Result<FormatFound, Refusal>
+    ensures { Reads result (expression_format profile (text_of part.now.at) (view part.now.value.now)) }
+{
+    let format = match (ExpressionReader { profile }).read(part)? {
+        Some(expression) => Some(Format::Expression(expression)),
+        None => None,
+    };
+    Ok(FormatFound {
+        format,
+        warnings: Seq::new(part.alloc),
+    })
+}
+
 /// Reads the format of a type that keeps texts.
-fn read_format_of_texts(text_type: TextType, part: &Part) -> Result<FormatFound, Refusal>
-    ensures { Reads result (format_of_texts text_type (text_of part.now.at) (view part.now.value.now)) }
+fn read_format_of_texts(
+    profile: Profile,
+    text_type: TextType,
+    part: &Part,
+) -> Result<FormatFound, Refusal>
+    ensures { Reads result (format_of_texts profile text_type (text_of part.now.at) (view part.now.value.now)) }
 {
     match text_type {
         TextType::Time => {
@@ -91,8 +114,8 @@ fn read_format_of_texts(text_type: TextType, part: &Part) -> Result<FormatFound,
         | TextType::NameToken
         | TextType::Xml
         | TextType::Html
-        | TextType::Json
-        | TextType::Part(_) => Err(part.refused(MetaCode::NotSupported)),
+        | TextType::Json => read_expression(profile, part),
+        TextType::Part(_) => Err(part.refused(MetaCode::NotSupported)),
     }
 }
 
@@ -106,10 +129,9 @@ impl Reader for FormatReader {
     #[tactic(auto, unfolding(crate::specs::Formats::format))]
     fn read(&self, part: &Part) -> Result<FormatFound, Refusal> {
         let format = match self.simple {
-            Simple::Text | Simple::Uri | Simple::Floating(_) => {
-                return Err(part.refused(MetaCode::NotSupported));
-            }
-            Simple::Other(text_type) => return read_format_of_texts(text_type, part),
+            Simple::Text | Simple::Uri => return read_expression(self.profile, part),
+            Simple::Floating(_) => return Err(part.refused(MetaCode::NotSupported)),
+            Simple::Other(text_type) => return read_format_of_texts(self.profile, text_type, part),
             Simple::Whole | Simple::Derived(_) | Simple::Decimal => {
                 return read_number_format(self.profile, self.place, part);
             }

@@ -14,6 +14,7 @@
 
 pub mod base;
 pub mod bounds;
+pub mod expression;
 mod facet_laws;
 mod facets;
 pub mod form;
