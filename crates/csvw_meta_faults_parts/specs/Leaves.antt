@@ -24,6 +24,8 @@ use Rattle.csvw_meta_core.specs.Read.{Read, fine, faulty, on_kind_as, wrong}
 use Rattle.csvw_meta_datatype.specs.Lengths.{length, length_on}
 use Rattle.csvw_meta_datatype.specs.Bounds.{bound, bound_found, bound_of_integer, is_dated}
 use Rattle.csvw_meta_datatype.specs.Numbers.{character, character_found, is_free, pattern_text, sole}
+use Rattle.csvw_regex.specs.Expressions.{is_expression}
+use Rattle.csvw_meta_datatype.specs.Expressions.{expression_of, text_expression}
 use Rattle.csvw_meta_datatype.specs.Base.{base, simple_found}
 use Rattle.csvw_meta_datatype.specs.Names.{named_of}
 use Rattle.csvw_meta_datatype.specs.Patterns.{date_format, date_format_of, moment_format, moment_format_of, time_format, time_format_of, pattern_found}
@@ -144,6 +146,13 @@ pub time_has_one : (at : List ℕ) (d : Data) → AtMostOne (time_format at d).f
 time_has_one at d =
     of_kind BadProperty at d times.Seconds (as_str d) (λ s. pattern_found times.Seconds at (time_format_of s))
     (λ s. pattern_has_one times.Seconds at (time_format_of s))
+
+expression_of_has_one : (at s : List ℕ) → AtMostOne (expression_of at s).faults
+expression_of_has_one at s = of_test (is_expression s) (fine (Some s)) (faulty BadDatatype at None) tt tt
+
+pub expression_has_one : (profile : Profile) (at : List ℕ) (d : Data) → AtMostOne (text_expression profile at d).faults
+expression_has_one Core at d = tt
+expression_has_one W3c at d = of_kind BadProperty at d None (as_str d) (expression_of at) (expression_of_has_one at)
 
 truths_have_one : (at : List ℕ) (o : Option TruthFormat) → AtMostOne (truths_found at o).faults
 truths_have_one at None = tt

@@ -4,13 +4,14 @@ ghost use Rattle.serde_json.specs.View.{view};
 ghost use Rattle.csvw_fault.specs.declared.fault.Place.{Place as ThePlace};
 ghost use Rattle.csvw_meta_core.specs.Pointer.{text_of};
 ghost use Rattle.csvw_meta_core.specs.Read.{property};
-ghost use Rattle.csvw_meta_datatype.specs.Formats.{format, format_of_texts, no_format, number_format, text_format};
-ghost use Rattle.csvw_meta_faults_parts.specs.Leaves.{date_has_one, moment_has_one, time_has_one, truth_format_has_one};
+ghost use Rattle.csvw_meta_datatype.specs.Formats.{expression_format, format, format_of_texts, no_format, number_format, text_format};
+ghost use Rattle.csvw_meta_faults_parts.specs.Leaves.{date_has_one, expression_has_one, moment_has_one, time_has_one, truth_format_has_one};
 
 use crate::leaf::{Leaf, OneFault};
 use crate::number::find_number_form;
 use csvw_datatype::{Simple, TextType};
 use csvw_meta_core::{MetaCode, MetaFault, Part, Profile};
+use csvw_meta_datatype::expression::ExpressionReader;
 use csvw_meta_datatype::number::{PLAIN, pattern_code, pattern_in};
 use csvw_meta_datatype::pattern::{DatePattern, MomentPattern, TimePattern};
 use csvw_meta_datatype::truth::TruthPattern;
@@ -28,6 +29,10 @@ impl OneFault for MomentPattern {
 
 impl OneFault for TimePattern {
     ghost at_most_one = { λ _. time_has_one };
+}
+
+impl OneFault for ExpressionReader {
+    ghost at_most_one = { λ r. expression_has_one r.profile };
 }
 
 impl OneFault for TruthPattern {
@@ -61,13 +66,28 @@ fn find_number_format(
     }
 }
 
+/// Adds the fault of a regular expression that is a format.
+fn find_expression(
+    profile: Profile,
+    part: &Part,
+    faults: &mut Vec<MetaFault>,
+) -> Result<(), AllocError>
+    ensures { OnOk result (faults.new.items ≡ faults.old.items ++ (expression_format profile (text_of part.now.at) (view part.now.value.now)).faults) }
+{
+    let expression = Leaf {
+        reader: ExpressionReader { profile },
+    };
+    find_sole(part, &expression, faults)
+}
+
 /// Adds the faults of the format of a type that keeps texts.
 fn find_format_of_texts(
+    profile: Profile,
     text_type: TextType,
     part: &Part,
     faults: &mut Vec<MetaFault>,
 ) -> Result<(), AllocError>
-    ensures { OnOk result (faults.new.items ≡ faults.old.items ++ (format_of_texts text_type (text_of part.now.at) (view part.now.value.now)).faults) }
+    ensures { OnOk result (faults.new.items ≡ faults.old.items ++ (format_of_texts profile text_type (text_of part.now.at) (view part.now.value.now)).faults) }
 {
     match text_type {
         TextType::Time => {
@@ -83,8 +103,8 @@ fn find_format_of_texts(
         | TextType::NameToken
         | TextType::Xml
         | TextType::Html
-        | TextType::Json
-        | TextType::Part(_) => add_fault(part, MetaCode::NotSupported, faults),
+        | TextType::Json => find_expression(profile, part, faults),
+        TextType::Part(_) => add_fault(part, MetaCode::NotSupported, faults),
     }
 }
 
@@ -109,10 +129,9 @@ fn find_format_here(
         reader: MomentPattern,
     };
     match simple {
-        Simple::Text | Simple::Uri | Simple::Floating(_) => {
-            add_fault(part, MetaCode::NotSupported, faults)
-        }
-        Simple::Other(text_type) => find_format_of_texts(text_type, part, faults),
+        Simple::Text | Simple::Uri => find_expression(profile, part, faults),
+        Simple::Floating(_) => add_fault(part, MetaCode::NotSupported, faults),
+        Simple::Other(text_type) => find_format_of_texts(profile, text_type, part, faults),
         Simple::Whole | Simple::Derived(_) | Simple::Decimal => {
             find_number_format(profile, part, faults)
         }

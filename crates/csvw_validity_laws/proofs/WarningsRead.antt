@@ -22,7 +22,8 @@ use Rattle.csvw_meta_notes.specs.Members.{has_at}
 use Rattle.csvw_meta_notes.specs.Unlisted.{all_warnings, unlisted}
 use Rattle.csvw_meta_notes.specs.Warnings.{all_warned, annotation_warnings, common_warned, given_warned, members_warned, note_warnings}
 use Rattle.csvw_meta_notes.specs.Warnings.{unless_ignored, warned}
-use Rattle.csvw_meta_datatype.specs.Formats.{format, no_format, number_format, number_found, pattern_read, text_or}
+use Rattle.csvw_meta_datatype.specs.Expressions.{text_expression}
+use Rattle.csvw_meta_datatype.specs.Formats.{expression_format, expression_found, format, no_format, number_format, number_found, pattern_read, text_or}
 use Rattle.csvw_meta_datatype.specs.Numbers.{format_names, no_characters, number_form, pattern_in}
 use Rattle.csvw_meta_datatype.specs.declared.format.FormatFound.{FormatFound}
 use Rattle.csvw_meta_datatype.specs.Base.{base}
@@ -201,18 +202,25 @@ number_format_quiet profile place at d =
     text_or_quiet profile at (as_str d) _
     (linked_value IsQuietFormat at d no_format (under number_found (number_form profile place at d)) refl (number_form_quiet profile place at d))
 
+found_quiet : (o : Option (List ℕ)) → IsQuietFormat (expression_found o)
+found_quiet None = refl
+found_quiet (Some e) = refl
+
+expression_quiet : (profile : Profile) (at : List ℕ) (d : Data) → IsQuietFormat (expression_format profile at d).value
+expression_quiet profile at d = found_quiet (text_expression profile at d).value
+
 format_quiet : (profile : Profile) (simple : Simple) (place : Place) (at : List ℕ) (d : Data) → IsQuietFormat (format profile simple place at d).value
 unfolding format
-format_quiet profile simples.Text place at d = refl
-format_quiet profile simples.Uri place at d = refl
-format_quiet profile (simples.Other types.Any) place at d = refl
-format_quiet profile (simples.Other types.Token) place at d = refl
-format_quiet profile (simples.Other types.Language) place at d = refl
-format_quiet profile (simples.Other types.Name) place at d = refl
-format_quiet profile (simples.Other types.NameToken) place at d = refl
-format_quiet profile (simples.Other types.Xml) place at d = refl
-format_quiet profile (simples.Other types.Html) place at d = refl
-format_quiet profile (simples.Other types.Json) place at d = refl
+format_quiet profile simples.Text place at d = expression_quiet profile at d
+format_quiet profile simples.Uri place at d = expression_quiet profile at d
+format_quiet profile (simples.Other types.Any) place at d = expression_quiet profile at d
+format_quiet profile (simples.Other types.Token) place at d = expression_quiet profile at d
+format_quiet profile (simples.Other types.Language) place at d = expression_quiet profile at d
+format_quiet profile (simples.Other types.Name) place at d = expression_quiet profile at d
+format_quiet profile (simples.Other types.NameToken) place at d = expression_quiet profile at d
+format_quiet profile (simples.Other types.Xml) place at d = expression_quiet profile at d
+format_quiet profile (simples.Other types.Html) place at d = expression_quiet profile at d
+format_quiet profile (simples.Other types.Json) place at d = expression_quiet profile at d
 format_quiet profile (simples.Other types.Time) place at d = refl
 format_quiet profile (simples.Other (types.Part p)) place at d = refl
 format_quiet profile (simples.Floating t) place at d = refl
