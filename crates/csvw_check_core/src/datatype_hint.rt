@@ -1,7 +1,7 @@
 //! What to write in place of a datatype that isn't supported (Metadata Vocabulary for Tabular Data, section 5.11.1).
 
+use crate::format_hint::push_format_hint;
 use crate::near::near_name;
-use crate::pattern_hint::push_pattern_hint;
 use csvw_datatype::Simple;
 use csvw_meta::{MetaCode, MetaFault};
 use csvw_page::push_text;
@@ -110,7 +110,7 @@ fn is_of_datatype(pointer: &str) -> bool {
     pointer.ends_with("/datatype") || pointer.ends_with("/datatype/base")
 }
 
-/// Adds what to write in place of a datatype or a pattern of numbers that is refused, if the fault is at one.
+/// Adds what to write in place of a datatype or a format that is refused, if the fault is at one.
 pub(crate) fn push_datatype_hint(
     hints: &mut String,
     alloc: Global,
@@ -119,7 +119,7 @@ pub(crate) fn push_datatype_hint(
 ) -> Result<(), AllocError> {
     let pointer = fault.pointer.as_str();
     if fault.code == MetaCode::BadDatatype || !is_of_datatype(pointer) {
-        return push_pattern_hint(hints, alloc, bytes, fault.code, pointer);
+        return push_format_hint(hints, alloc, bytes, fault.code, pointer);
     }
     let Ok(document) = Value::from_slice(alloc, bytes) else {
         return Ok(());

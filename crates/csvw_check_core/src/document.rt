@@ -23,6 +23,10 @@ const UNREAD: &str = "the file can't be opened or read: correct its path, or its
 const UNSEEN: &str =
     "    the document can't be read again: give it as a file, and its other faults are listed with their lines\n";
 
+/// What counts as memory that ran out, besides the machine's.
+const EXPRESSION_TOO_LARGE: &str =
+    "    a regular expression that needs more than 10 MiB counts as this, too, as `\\w{1000}{1000}`: repeat less, or a smaller class\n";
+
 /// Reads a document in a profile, and plans its tables.
 pub fn plan_of(alloc: Global, bytes: &[u8], base: &str, profile: Profile) -> Result<Plan, MetaFault>
     ensures { IfOk result (λ plan. AreReady plan.tables) }
@@ -113,6 +117,7 @@ fn push_document_hints(
             push_text(hints, group.base)?;
             hints.push_str(" isn't absolute: write `--base http://example.org/metadata.json`\n")
         }
+        MetaCode::Memory => hints.push_str(EXPRESSION_TOO_LARGE),
         _ => Ok(()),
     }
 }

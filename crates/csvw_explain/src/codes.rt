@@ -187,16 +187,16 @@ Section: Model for Tabular Data, section 6.4.4.
 
 ## BadText (fault of a table)
 
-The text of a cell is not written as texts of its datatype are: no tag of a language, `Name` or `NMTOKEN`.
+The text of a cell is not written as texts of its datatype are: no tag of a language, `Name` or `NMTOKEN`. Or the regular expression that is the `format` of the datatype does not match the whole text.
 
 Example:
 
     metadata.json: {"@context":"http://www.w3.org/ns/csvw","url":"t.csv","tableSchema":{"columns":[{"name":"n","datatype":"language"}]}}
     t.csv: n\nen_GB\n
 
-Instead: Write the tag with `-`: `en-GB`. The datatypes `language`, `Name` and `NMTOKEN` need `--profile w3c`.
+Instead: Write the tag with `-`: `en-GB`. With a regular expression, correct the text or the expression: `[0-9]{3}` matches `123` and not `1234`. These datatypes and regular expressions need `--profile w3c`.
 
-Section: XML Schema part 2, sections 3.4.3 to 3.4.6.
+Section: XML Schema part 2, sections 3.4.3 to 3.4.6. Model for Tabular Data, section 6.4.6.
 
 ## WrongLength (fault of a table)
 
@@ -423,16 +423,16 @@ Section: a limit of this program.
 
 ## NotSupported (fault of a document)
 
-A part of the vocabulary that this program does not support: a datatype as `duration`, a `format` of strings, a schema or a dialect by its URL, a number with a fraction.
+A part of the vocabulary that this program does not support: a datatype as `duration`, a `format` of strings in the profile core, a schema or a dialect by its URL, a number with a fraction.
 
 Example:
 
     metadata.json: {"@context":"http://www.w3.org/ns/csvw","url":"t.csv","tableSchema":{"columns":[{"name":"n","datatype":"duration"}]}}
     t.csv: n\n1\n
 
-Instead: Leave it out, or write what is supported: `--profile w3c` for `number`, `string` for `duration`, `"minimum": "0.5"` for 0.5, the schema itself for its URL.
+Instead: Leave it out, or write what is supported: `--profile w3c` for `number` and regular expressions, `string` for `duration`, `"minimum": "0.5"` for 0.5, the schema itself for its URL.
 
-Section: Metadata Vocabulary, section 5.
+Section: Metadata Vocabulary, section 5. Model for Tabular Data, section 6.4.6.
 
 ## BadDialect (fault of a document)
 
@@ -449,16 +449,16 @@ Section: Metadata Vocabulary, section 5.9.
 
 ## BadDatatype (fault of a document)
 
-A datatype has a format or facets that it can not have, or that contradict each other.
+A datatype has a format or facets that it can not have, or that contradict each other. Or the `format` of texts is no regular expression.
 
 Example:
 
     metadata.json: {"@context":"http://www.w3.org/ns/csvw","url":"t.csv","tableSchema":{"columns":[{"name":"n","datatype":{"base":"integer","minLength":2}}]}}
     t.csv: n\n1\n
 
-Instead: Remove the facet, or correct its value. A bound is in the default format of its datatype, as `2024-02-29`.
+Instead: Remove the facet, or correct its value. A bound is in the default format of its datatype, as `2024-02-29`. Write a regular expression in the syntax of the Rust crate regex, as `[A-Z]{2}[0-9]+`.
 
-Section: Metadata Vocabulary, section 5.11.2.
+Section: Metadata Vocabulary, section 5.11.2. Model for Tabular Data, section 6.4.6.
 
 ## BadTemplate (fault of a document)
 
@@ -702,7 +702,7 @@ Instead: Make room where the output goes, and begin anew.
 
 ## Memory (stop)
 
-Memory ran out.
+Memory ran out, or a regular expression needs more than 10 MiB, as `\w{1000}{1000}`.
 
-Instead: Free some memory, or divide the tables. Keys are kept in memory.
+Instead: Free some memory, or divide the tables. Keys are kept in memory. Repeat less in a regular expression, or a smaller class.
 "##;

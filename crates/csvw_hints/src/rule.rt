@@ -5,7 +5,7 @@ use crate::key_rule::{push_foreign_keys, push_primary_key};
 use crate::tables::{TableAt, declared, field_of};
 use csvw_columns::TablePlan;
 use csvw_columns_core::Column;
-use csvw_datatype::{Datatype, Format, NumberFormat, Simple};
+use csvw_datatype::{Datatype, Format, NumberFormat, RegularExpression, Simple, TextType};
 use csvw_page::{push_quoted, push_text};
 use csvw_text::{Code, Fault};
 use std::alloc::AllocError;
@@ -23,6 +23,13 @@ fn push_number_format(text: &mut String, format: &NumberFormat) -> Result<(), Al
         Some(group) => write!(text, ", group character `{group}`"),
         None => Ok(()),
     }
+}
+
+/// Adds a regular expression.
+fn push_expression(text: &mut String, expression: &RegularExpression) -> Result<(), AllocError> {
+    text.push_str("regular expression `")?;
+    push_text(text, expression.as_str())?;
+    text.push('`')
 }
 
 /// Adds the format of a datatype.
@@ -47,6 +54,10 @@ fn push_format(text: &mut String, format: &Format) -> Result<(), AllocError> {
             text.push_str(", format ")?;
             text.push_str(format.pattern())
         }
+        Format::Expression(expression) => {
+            text.push_str(", ")?;
+            push_expression(text, expression)
+        }
     }
 }
 
@@ -58,6 +69,29 @@ fn push_datatype(text: &mut String, datatype: &Datatype) -> Result<(), AllocErro
         push_format(text, format)?;
     }
     text.push('\n')
+}
+
+/// Returns whether each text is a value of a type that has no format.
+fn takes_all_texts(simple: Simple) -> bool {
+    match simple {
+        Simple::Text | Simple::Uri => true,
+        Simple::Other(
+            TextType::Any | TextType::Token | TextType::Xml | TextType::Html | TextType::Json,
+        ) => true,
+        _ => false,
+    }
+}
+
+/// Adds the rule that a text of a datatype breaks: its regular expression, or that and its type.
+fn push_text_rule(text: &mut String, datatype: &Datatype) -> Result<(), AllocError> {
+    match &datatype.format {
+        Some(Format::Expression(expression)) if takes_all_texts(datatype.simple) => {
+            text.push_str("    the text doesn't match the ")?;
+            push_expression(text, expression)?;
+            text.push('\n')
+        }
+        _ => push_datatype(text, datatype),
+    }
 }
 
 /// Adds the name of a datatype and the range of its numbers.
@@ -127,8 +161,8 @@ fn push_column_rule(text: &mut String, column: &Column, code: Code) -> Result<()
         | Code::BadDate
         | Code::BadDateTime
         | Code::BadDouble
-        | Code::BadTime
-        | Code::BadText => push_datatype(text, datatype),
+        | Code::BadTime => push_datatype(text, datatype),
+        Code::BadText => push_text_rule(text, datatype),
         Code::OutOfRange => push_range(text, datatype),
         Code::BelowMinimum | Code::AboveMaximum => push_bounds(text, datatype),
         Code::WrongLength | Code::TooShort | Code::TooLong => push_lengths(text, datatype),

@@ -79,6 +79,7 @@ pub(crate) fn format_value(alloc: Global, format: &Format) -> Result<Value, Allo
         Format::Day(day) => Value::try_from_str(alloc, day.pattern()),
         Format::Moment(moment) => Value::try_from_str(alloc, moment.pattern()),
         Format::Time(time) => Value::try_from_str(alloc, time.pattern()),
+        Format::Expression(expression) => Value::try_from_str(alloc, expression.as_str()),
     }
 }
 
