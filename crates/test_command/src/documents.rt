@@ -125,7 +125,7 @@ static NO_JSON: [Refusal; 12] = [
 ];
 
 /// Documents that are refused, each with what `csvw check` says and what helps.
-static HELPED: [Refusal; 8] = [
+static HELPED: [Refusal; 9] = [
     Refusal {
         meta: b"{\"@context\":\"http://www.w3.org/ns/csvw\",\"url\":\"p.csv\",\"tableSchema\":{\"columns\":[{\"name\":\"a\",\"datatype\":{\"base\":\"decimal\",\n\"format\":\"#,##0.00\"}}]}}",
         line: b"m.json:2:1: /tableSchema/columns/0/datatype/format: NotSupported: this part of the vocabulary is not supported: leave it out\n    a pattern of numbers needs the profile w3c (`--profile w3c`), and has `0`, `#`, `+`, `%`, `\xe2\x80\xb0`, the decimal and the group character alone\n",
@@ -133,6 +133,10 @@ static HELPED: [Refusal; 8] = [
     Refusal {
         meta: b"{\"@context\":\"http://www.w3.org/ns/csvw\",\"url\":\"p.csv\",\"tableSchema\":{\"columns\":[{\"name\":\"a\",\"datatype\":{\"base\":\"integer\",\"format\":{\n\"pattern\":\"000\"}}}]}}",
         line: b"m.json:2:1: /tableSchema/columns/0/datatype/format/pattern: NotSupported: this part of the vocabulary is not supported: leave it out\n    a pattern of numbers needs the profile w3c (`--profile w3c`), and has `0`, `#`, `+`, `%`, `\xe2\x80\xb0`, the decimal and the group character alone\n",
+    },
+    Refusal {
+        meta: b"{\"@context\":\"http://www.w3.org/ns/csvw\",\"url\":\"p.csv\",\"tableSchema\":{\"columns\":[{\"name\":\"a\",\"datatype\":{\n\"format\":\"[0-9]+\"}}]}}",
+        line: b"m.json:2:1: /tableSchema/columns/0/datatype/format: NotSupported: this part of the vocabulary is not supported: leave it out\n    a regular expression as the format of texts needs the profile w3c (`--profile w3c`)\n",
     },
     Refusal {
         meta: b"{\"@context\":\"http://www.w3.org/ns/csvw\",\"tableSchema\":{}}",

@@ -35,7 +35,47 @@ m.json:1:154: /tableSchema/columns/2/datatype: NotSupported: this part of the vo
     the profile w3c has the datatype token: write `--profile w3c`
 ";
 
-static PROFILES: [Case; 12] = [
+/// A document with regular expressions, and texts that they don't describe.
+const DESCRIBED: &[File<'static>] = &[
+    File {
+        path: "m.json",
+        bytes: br#"{"@context":"http://www.w3.org/ns/csvw","url":"p.csv","tableSchema":{"columns":[{"name":"s","datatype":{"format":"[0-9]{3}"}},{"name":"l","datatype":{"base":"language","format":"[a-z]{2}"}}]}}"#,
+    },
+    File {
+        path: "p.csv",
+        bytes: b"s,l\n123,en\n1234,en-GB\n",
+    },
+];
+
+/// The page of a check of them.
+const UNDESCRIBED: &[u8] =
+    br#"p.csv:3 (row 2), column 1 "s": BadText: "1234": the text is none of its datatype: write it as the datatype asks
+    1234,en-GB
+    ^^^^
+    the text doesn't match the regular expression `[0-9]{3}`
+p.csv:3 (row 2), column 2 "l": BadText: "en-GB": the text is none of its datatype: write it as the datatype asks
+    1234,en-GB
+         ^^^^^
+    datatype language, regular expression `[a-z]{2}`
+table 1: p.csv: 3 records
+  BadText: 1 in table 1, column 1
+  BadText: 1 in table 1, column 2
+not valid
+"#;
+
+/// A document whose format is no regular expression.
+const NO_EXPRESSION: &[File<'static>] = &[File {
+    path: "m.json",
+    bytes: br#"{"@context":"http://www.w3.org/ns/csvw","url":"p.csv","tableSchema":{"columns":[{"name":"s","datatype":{"format":"\\i"}}]}}"#,
+}];
+
+/// The page of a check of it.
+const WRITTEN: &[u8] =
+    br#"m.json:1:105: /tableSchema/columns/0/datatype/format: BadDatatype: the datatype cannot have this format or these facets
+    the text is no regular expression: its syntax is that of the Rust crate regex, as `[A-Z]{2}[0-9]+`, without `\i`, `\c`, look-around and back-references
+"#;
+
+static PROFILES: [Case; 14] = [
     Case {
         what: "w3c, validated",
         words: &[
@@ -134,6 +174,26 @@ static PROFILES: [Case; 12] = [
         end: End {
             status: 0,
             out: SomeText,
+            err: Just(b""),
+        },
+    },
+    Case {
+        what: "w3c, with texts that regular expressions don't describe",
+        words: &["csvw", "check", "--profile", "w3c", "m.json", "p.csv"],
+        files: DESCRIBED,
+        end: End {
+            status: 1,
+            out: Just(UNDESCRIBED),
+            err: Just(b""),
+        },
+    },
+    Case {
+        what: "w3c, with a text that is no regular expression",
+        words: &["csvw", "check", "--profile", "w3c", "m.json", "p.csv"],
+        files: NO_EXPRESSION,
+        end: End {
+            status: 3,
+            out: Just(WRITTEN),
             err: Just(b""),
         },
     },

@@ -15,6 +15,8 @@ mod events;
 #[cfg(test)]
 mod examples;
 #[cfg(test)]
+mod expressions;
+#[cfg(test)]
 mod facets;
 #[cfg(test)]
 mod nulls;

@@ -6,13 +6,14 @@ use std::test::Fail;
 use test_runs::{Ran, run_in_profile};
 
 /// A datatype of the profile w3c, and a row of a column that has it.
-struct Case {
+#[derive(Drop)]
+pub(crate) struct Case {
     /// The properties of the column, except its name.
-    column: &'static str,
+    pub(crate) column: &'static str,
     /// The field of the row.
-    field: &'static str,
+    pub(crate) field: &'static str,
     /// The object of the row's triple, and the end of the line.
-    object: &'static str,
+    pub(crate) object: &'static str,
 }
 
 static CASES: [Case; 17] = [
@@ -229,16 +230,17 @@ static KEPT: [Case; 15] = [
 ];
 
 /// A column's datatype, and the fault with which its document is refused in the profile w3c.
-struct Refused {
+#[derive(Drop)]
+pub(crate) struct Refused {
     /// The datatype as it is in the document.
-    datatype: &'static str,
+    pub(crate) datatype: &'static str,
     /// The code of the fault.
-    code: MetaCode,
+    pub(crate) code: MetaCode,
     /// The pointer of the fault, below the datatype.
-    pointer: &'static str,
+    pub(crate) pointer: &'static str,
 }
 
-static REFUSED: [Refused; 22] = [
+static REFUSED: [Refused; 20] = [
     Refused {
         datatype: r##"{"base":"decimal","format":"0#"}"##,
         code: MetaCode::BadDatatype,
@@ -286,11 +288,6 @@ static REFUSED: [Refused; 22] = [
         pointer: "",
     },
     Refused {
-        datatype: r#"{"base":"token","format":"[a-z]*"}"#,
-        code: MetaCode::NotSupported,
-        pointer: "/format",
-    },
-    Refused {
         datatype: r#"{"base":"any","length":1}"#,
         code: MetaCode::BadDatatype,
         pointer: "/length",
@@ -326,11 +323,6 @@ static REFUSED: [Refused; 22] = [
         pointer: "/format",
     },
     Refused {
-        datatype: r#"{"base":"language","format":"[a-z]{2}"}"#,
-        code: MetaCode::NotSupported,
-        pointer: "/format",
-    },
-    Refused {
         datatype: r#"{"base":"gYear","minimum":2000}"#,
         code: MetaCode::NotSupported,
         pointer: "/minimum",
@@ -360,19 +352,22 @@ fn document_of(alloc: Global, column: &str) -> Result<String, AllocError> {
 }
 
 /// Returns what a run over the row of a case leaves, in a profile.
-fn ran_in(alloc: Global, profile: Profile, case: &Case) -> Result<Ran, AllocError> {
+pub(crate) fn ran_in(alloc: Global, profile: Profile, case: &Case) -> Result<Ran, AllocError> {
     let meta = document_of(alloc, case.column)?;
     let field = case.field;
     let text = format!(in alloc; "id\n{field}\n")?;
     run_in_profile(alloc, profile, meta.as_str(), text.as_str())
 }
 
-/// Whether the graph has the triple of the row alone.
-fn gives(alloc: Global, case: &Case) -> Result<bool, AllocError> {
-    let ran = ran_in(alloc, Profile::W3c, case)?;
-    let object = case.object;
+/// Whether a run reached its end, and the graph has the triple of the row alone, with this object.
+pub(crate) fn has_object(alloc: Global, ran: &Ran, object: &str) -> Result<bool, AllocError> {
     let graph = format!(in alloc; "_:t1r1s <http://example.org/p.csv#id> {object}")?;
     Ok(ran.stop.is_none() && ran.graph.as_slice() == graph.as_bytes())
+}
+
+fn gives(alloc: Global, case: &Case) -> Result<bool, AllocError> {
+    let ran = ran_in(alloc, Profile::W3c, case)?;
+    has_object(alloc, &ran, case.object)
 }
 
 /// Whether a run stopped with a fault of this code at this pointer, below the column's datatype.
@@ -387,7 +382,7 @@ fn stops_at(alloc: Global, ran: &Ran, code: MetaCode, below: &str) -> Result<boo
 }
 
 /// Whether a document with this datatype is refused in the profile w3c, with that fault.
-fn is_refused(alloc: Global, case: &Refused) -> Result<bool, AllocError> {
+pub(crate) fn is_refused(alloc: Global, case: &Refused) -> Result<bool, AllocError> {
     let datatype = case.datatype;
     let column = format!(in alloc; "\"datatype\":{datatype}")?;
     let meta = document_of(alloc, column.as_str())?;
@@ -396,7 +391,7 @@ fn is_refused(alloc: Global, case: &Refused) -> Result<bool, AllocError> {
 }
 
 /// Whether a run in the profile core refuses the document of a case, at a pointer below its datatype.
-fn core_refuses(alloc: Global, case: &Case, below: &str) -> Result<bool, AllocError> {
+pub(crate) fn core_refuses(alloc: Global, case: &Case, below: &str) -> Result<bool, AllocError> {
     let ran = ran_in(alloc, Profile::Core, case)?;
     stops_at(alloc, &ran, MetaCode::NotSupported, below)
 }

@@ -93,18 +93,20 @@ const SMALL: &str =
     r##"{"@context": "http://www.w3.org/ns/csvw", "url": "t.csv", "tableSchema": {"columns": [
   {"name": "n", "aboutUrl": "{#n}", "datatype": {"@id": "http://example.org/short", "base": "string", "length": 3}}]}}"##;
 
-/// A table whose numbers have patterns.
+/// A table whose numbers have patterns, and whose texts have a regular expression.
 const PATTERNED: &str =
     r####"{"@context": "http://www.w3.org/ns/csvw", "url": "t.csv", "tableSchema": {"columns": [
   {"name": "a", "datatype": {"base": "decimal", "format": "###,##0.0#"}},
   {"name": "b", "datatype": {"base": "integer", "format": {"pattern": "+000", "groupChar": "'"}}},
-  {"name": "c", "datatype": {"base": "decimal", "format": {"pattern": "#.##.##0,0%", "decimalChar": ",", "groupChar": "."}}}]}}"####;
+  {"name": "c", "datatype": {"base": "decimal", "format": {"pattern": "#.##.##0,0%", "decimalChar": ",", "groupChar": "."}}},
+  {"name": "d", "datatype": {"base": "token", "format": "[A-Z]\\d{2}"}}]}}"####;
 
 /// The formats that are shown of them.
-const PATTERNS: [&str; 3] = [
+const PATTERNS: [&str; 4] = [
     "format  {\"decimalChar\":\".\",\"groupChar\":\",\",\"pattern\":\"#,##0.0#\"}\n",
     "format  {\"decimalChar\":\".\",\"groupChar\":\"'\",\"pattern\":\"+000\"}\n",
     "format  {\"decimalChar\":\",\",\"groupChar\":\".\",\"pattern\":\"#.##.##0,0%\"}\n",
+    "format  \"[A-Z]\\\\d{2}\"\n",
 ];
 
 /// Returns what is shown of a document of a profile, and the stop.
@@ -135,7 +137,7 @@ fn text_of(bytes: &[u8]) -> &str {
 }
 
 #[test]
-fn shows_patterns_of_numbers(rt: HostRuntime) {
+fn shows_patterns_and_expressions(rt: HostRuntime) {
     let (bytes, ran) = shown(rt.alloc(), Profile::W3c, PATTERNED, InspectForm::Text);
     for format in &PATTERNS {
         assert!(rt; text_of(bytes.as_slice()).contains(*format), "{format}");

@@ -6,7 +6,7 @@ use crate::patterns::PATTERNED;
 use crate::readings::{BOUNDS, DATE_FORMATS, DATES, FULL, NO_FORMATS, NUMBERS, TEXTS};
 use csvw_datatype::{
     Broken, Datatype, DateFormat, DatePart, Facets, Floating, Format, MomentFormat, NumberFormat,
-    Simple, TextType, TimeFormat, TruthFormat, Value, Width,
+    RegularExpression, Simple, TextType, TimeFormat, TruthFormat, Value, Width,
 };
 use csvw_datatype_core::NumberPattern;
 use csvw_text::Text;
@@ -31,6 +31,8 @@ pub(crate) enum Pattern {
     Truth(&'static str),
     /// A format of times of day.
     Time(&'static str),
+    /// A regular expression.
+    Expression(&'static str),
 }
 
 /// A bound of values.
@@ -138,6 +140,7 @@ fn format_of(alloc: Global, pattern: &Pattern) -> Result<Option<Format>, AllocEr
         Pattern::Moment(text) => Ok(MomentFormat::of(text).map(Format::Moment)),
         Pattern::Truth(text) => truth_format_of(alloc, text),
         Pattern::Time(text) => Ok(TimeFormat::of(text).map(Format::Time)),
+        Pattern::Expression(text) => expression_of(alloc, text),
     }
 }
 
@@ -157,6 +160,13 @@ fn patterned_of(decimal_char: char, group_char: Option<char>, text: &str) -> Opt
 fn truth_format_of(alloc: Global, text: &str) -> Result<Option<Format>, AllocError> {
     match TruthFormat::of(alloc, text)? {
         Some(format) => Ok(Some(Format::Truth(format))),
+        None => Ok(None),
+    }
+}
+
+fn expression_of(alloc: Global, text: &str) -> Result<Option<Format>, AllocError> {
+    match RegularExpression::of(alloc, Text::copied(alloc, text)?)? {
+        Some(expression) => Ok(Some(Format::Expression(expression))),
         None => Ok(None),
     }
 }
@@ -271,7 +281,8 @@ fn texts_hold(rt: &impl Abort, alloc: Global, datatype: &Datatype, row: &Row) {
     }
 }
 
-fn row_holds(rt: &impl Abort, alloc: Global, row: &Row) -> Result<(), AllocError> {
+/// Checks a row.
+pub(crate) fn row_holds(rt: &impl Abort, alloc: Global, row: &Row) -> Result<(), AllocError> {
     let datatype = datatype_of(alloc, row)?;
     texts_hold(rt, alloc, &datatype, row);
     Ok(())

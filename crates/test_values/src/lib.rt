@@ -14,6 +14,8 @@ mod doubles;
 #[cfg(test)]
 mod encoded;
 #[cfg(test)]
+mod expressions;
+#[cfg(test)]
 mod iri_limits;
 #[cfg(test)]
 mod iris;
