@@ -36,6 +36,11 @@ LINKS = """{"@context":"http://www.w3.org/ns/csvw","url":"p.csv","tableSchema":{
 NOTES = """{"@context":["http://www.w3.org/ns/csvw",{"@language":"en"}],"url":"p.csv","dc:title":"T",
 "notes":[{"@type":"oa:Annotation","oa:hasBody":{"@value":"ok"},"dc:creator":{"@id":"http://x.org/me","foaf:name":"Me"}}]}"""
 
+EXPRESSIONS = r"""{"@context":"http://www.w3.org/ns/csvw","url":"e.csv","tableSchema":{"columns":[
+{"name":"code","datatype":{"base":"string","format":"[A-Z]{2}([0-9]+|x)"}},
+{"name":"word","datatype":{"base":"token","format":"\\w{1,60}","maxLength":50}},
+{"name":"tags","separator":";","datatype":{"base":"language","format":"(?i)en(-.*)?|de"}}]}}"""
+
 # The small files of the groups that are not in examples/.
 FILES = {
     "keys/meta.json": KEYS,
@@ -45,6 +50,8 @@ FILES = {
     "links/p.csv": "id,u,v\n7,a b%20|,b;a;b\n8,,\n",
     "notes/meta.json": NOTES,
     "notes/p.csv": "id\n1\n",
+    "expressions/meta.json": EXPRESSIONS,
+    "expressions/e.csv": f"code,word,tags\nAB12,é{'ab' * 25},en-GB;de\nABx,a b,EN;fr\na,,\n",
     "ragged.csv": "id\n1\n2\n3,4\n",
     "empty.csv": "",
 }
@@ -73,6 +80,8 @@ RUNS = [
     Run("keys, validate", group("validate", "keys", "a.csv", "b.csv")),
     Run("templates and lists", group("convert", "links", "p.csv")),
     Run("notes", group("convert", "notes", "p.csv")),
+    Run("regular expressions", group("convert --minimal --profile w3c", "expressions", "e.csv")),
+    Run("regular expressions, validate", group("validate --profile w3c", "expressions", "e.csv")),
     Run("a document that is refused", group("convert", "twice", "prices.csv", "prices.csv")),
     Run("too few files", group("convert", "rivers", "stations.csv")),
     Run("help", ["--help"]),
