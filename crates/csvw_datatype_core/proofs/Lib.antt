@@ -25,3 +25,4 @@ mod OneNumberText
 mod FormLemmas
 mod EveryDay
 mod ValueLemmas
+mod DateTimeLemmas

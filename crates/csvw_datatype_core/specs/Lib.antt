@@ -17,3 +17,4 @@ pub mod Languages
 pub mod XmlNames
 pub mod Forms
 pub mod Values
+pub mod DateTimes

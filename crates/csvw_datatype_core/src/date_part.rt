@@ -26,7 +26,7 @@ pub enum DatePart {
 }
 
 /// Returns how many digits a text begins with.
-fn digit_count(bytes: &[u8]) -> usize
+pub(crate) fn digit_count(bytes: &[u8]) -> usize
     ensures { result ≡ digit_count bytes.now }
 {
     bytes.iter().take_while(|b| b.is_ascii_digit()).count()
@@ -144,14 +144,14 @@ fn after_part(part: DatePart, bytes: &[u8]) -> Option<&[u8]>
     }
 }
 
-fn is_offset(hours: u8, minutes: u8) -> bool
+pub(crate) fn is_offset(hours: u8, minutes: u8) -> bool
     ensures { result ≡ is_offset hours minutes }
 {
     (hours < 14 && minutes < 60) || (hours == 14 && minutes == 0)
 }
 
 #[tactic(auto, unfolding(crate::specs::DateParts::offset_fields))]
-fn offset_fields(bytes: &[u8]) -> Option<(u8, u8)>
+pub(crate) fn offset_fields(bytes: &[u8]) -> Option<(u8, u8)>
     ensures { result ≡ offset_fields bytes.now }
 {
     let (hours, rest) = two(bytes)?;

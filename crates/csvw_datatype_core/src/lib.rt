@@ -11,6 +11,8 @@
 //! - The laws `one_number_text`, `one_date_text` and `one_moment_text`: a value has one lexical form.
 //! - `date_part_text` returns the one text of a year, a month or a day alone (`date_part_form`), and `time_text` that of a
 //!   time of day (`time_form`). The laws `one_date_part_text` and `one_time_text`: that text is its own text.
+//! - `read_date_time` returns the moment of a text that may have a zone and parts of a second (`date_time_value`). The law
+//!   `date_times`: a whole second without a zone is in the years 0001 to 9999.
 //! - `is_language`, `is_name` and `is_name_token` return whether a text is of the type `language`, `Name` or `NMTOKEN`.
 //! - `NumberPattern::of` returns the pattern that a text is, or why it is none (`pattern_of`). `fits` returns whether a
 //!   number is written as the pattern says (`fits`). `push_to` writes the pattern (`pattern_form`).
@@ -20,6 +22,7 @@ mod ascii;
 mod date;
 mod date_format;
 mod date_part;
+mod date_time;
 mod language;
 mod lexical_date;
 mod lexical_number;
@@ -33,6 +36,7 @@ mod xml_name;
 
 pub use date::{DateFormat, FieldDigits, Separator, one_date, read_date};
 pub use date_part::{DatePart, date_part_text, one_date_part_text};
+pub use date_time::{DateTime, Zone, date_times, read_date_time};
 pub use language::is_language;
 pub use lexical_date::{
     date_forms, date_text, moment_text, one_date_text, one_moment_text, refill_date, refill_moment,

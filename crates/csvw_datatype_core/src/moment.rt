@@ -23,7 +23,13 @@ const DATE_LEN: usize = 10;
 pub fn read_moment(format: MomentFormat, text: &str) -> Option<i64>
     ensures { MatchOption result ((moment : ℤ) → ReadsMoment format text.now moment → ⊥) (ReadsMoment format text.now) }
 {
-    let bytes = text.as_bytes();
+    moment_at(format, text.as_bytes())
+}
+
+/// Returns the moment that bytes write, as `read_moment` does.
+pub(crate) fn moment_at(format: MomentFormat, bytes: &[u8]) -> Option<i64>
+    ensures { MatchOption result ((moment : ℤ) → ReadsMoment format bytes.now moment → ⊥) (ReadsMoment format bytes.now) }
+{
     if bytes.len() < DATE_LEN {
         return None;
     }
