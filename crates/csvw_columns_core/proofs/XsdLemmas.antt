@@ -8,6 +8,7 @@ use Rattle.csvw_datatype.specs.declared.simple.Simple.{Simple}
 use Rattle.csvw_datatype.specs.declared.simple.Simple.TheVariants as simples
 use Rattle.csvw_datatype.specs.declared.simple.Floating.{Floating}
 use Rattle.csvw_datatype.specs.declared.simple.Floating.TheVariants as floating
+use Rattle.csvw_datatype_core.specs.declared.date_time.Zone.TheVariants as zones
 use Rattle.csvw_datatype.specs.declared.simple.TextType.{TextType}
 use Rattle.csvw_datatype.specs.declared.simple.TextType.TheVariants as types
 use Rattle.csvw_datatype.specs.declared.simple.Width.{Width}
@@ -40,6 +41,8 @@ raw_text_type types.Xml = refl
 raw_text_type types.Html = refl
 raw_text_type types.Json = refl
 raw_text_type types.Time = refl
+raw_text_type (types.DateTime zones.Optional) = refl
+raw_text_type (types.DateTime zones.Required) = refl
 raw_text_type (types.Part parts.Year) = refl
 raw_text_type (types.Part parts.YearMonth) = refl
 raw_text_type (types.Part parts.Month) = refl
@@ -75,6 +78,8 @@ raw_iri types.Xml = refl
 raw_iri types.Html = refl
 raw_iri types.Json = refl
 raw_iri types.Time = refl
+raw_iri (types.DateTime zones.Optional) = refl
+raw_iri (types.DateTime zones.Required) = refl
 raw_iri (types.Part parts.Year) = refl
 raw_iri (types.Part parts.YearMonth) = refl
 raw_iri (types.Part parts.Month) = refl

@@ -6,6 +6,7 @@ use Rattle.csvw_datatype_core.specs.declared.date_part.DatePart.{DatePart}
 use Rattle.csvw_datatype.specs.declared.value.Value.{Value}
 use Rattle.csvw_datatype.specs.declared.simple.Simple.{Simple}
 use Rattle.csvw_datatype.specs.declared.simple.Simple.TheVariants as simples
+use Rattle.csvw_datatype_core.specs.declared.date_time.Zone.{Zone}
 use Rattle.csvw_datatype.specs.declared.simple.TextType.{TextType}
 use Rattle.csvw_datatype.specs.declared.simple.TextType.TheVariants as types
 use Rattle.csvw_datatype.specs.declared.datatype.Facets.{Facets}
@@ -95,6 +96,16 @@ time_is_none (inr (inr (inr (inr (inr (inl e)))))) = cc
 time_is_none (inr (inr (inr (inr (inr (inr (inl e))))))) = cc
 time_is_none (inr (inr (inr (inr (inr (inr (inr e))))))) = cc
 
+date_time_is_none : (z : Zone) → IsString (simples.Other (types.DateTime z)) → ⊥
+date_time_is_none z (inl e) = cc
+date_time_is_none z (inr (inl e)) = cc
+date_time_is_none z (inr (inr (inl e))) = cc
+date_time_is_none z (inr (inr (inr (inl e)))) = cc
+date_time_is_none z (inr (inr (inr (inr (inl e))))) = cc
+date_time_is_none z (inr (inr (inr (inr (inr (inl e)))))) = cc
+date_time_is_none z (inr (inr (inr (inr (inr (inr (inl e))))))) = cc
+date_time_is_none z (inr (inr (inr (inr (inr (inr (inr e))))))) = cc
+
 part_is_none : (p : DatePart) → IsString (simples.Other (types.Part p)) → ⊥
 part_is_none p (inl e) = cc
 part_is_none p (inr (inl e)) = cc
@@ -124,6 +135,7 @@ is_string (simples.Other types.Language) = (λ h. inr (inr (inr (inr (inr (inl r
 is_string (simples.Other types.Name) = (λ h. inr (inr (inr (inr (inr (inr (inl refl)))))), λ h. refl)
 is_string (simples.Other types.NameToken) = (λ h. inr (inr (inr (inr (inr (inr (inr refl)))))), λ h. refl)
 is_string (simples.Other types.Time) = (λ h. absurd (no h), λ h. absurd (time_is_none h))
+is_string (simples.Other (types.DateTime z)) = (λ h. absurd (no h), λ h. absurd (date_time_is_none z h))
 is_string (simples.Other (types.Part p)) = (λ h. absurd (no h), λ h. absurd (part_is_none p h))
 
 one_of : (a b : Bool) (P Q : Type 0) → IsTrue a ↔ P → IsTrue b ↔ Q → IsTrue (a || b) ↔ (P ⊎ Q)

@@ -20,6 +20,10 @@ use Rattle.csvw_datatype_core.specs.declared.moment.MomentFormat.{MomentFormat}
 use Rattle.csvw_datatype_core.specs.Dates.{ReadsDate}
 use Rattle.csvw_datatype_core.specs.Moments.{ReadsMoment}
 use Rattle.csvw_datatype_core.specs.LexicalDates.{IsDayNumber, IsMomentNumber}
+use Rattle.csvw_datatype_core.specs.declared.date_time.DateTime.{DateTime}
+use Rattle.csvw_datatype_core.specs.declared.date_time.DateTime.TheVariants as date_times
+use Rattle.csvw_datatype_core.specs.declared.date_time.Zone.{Zone}
+use Rattle.csvw_datatype_core.specs.DateTimes.{date_time_value}
 use Rattle.csvw_double.specs.declared.numeral.DoubleFault.{DoubleFault}
 use Rattle.csvw_double.specs.declared.numeral.DoubleFault.TheVariants as double_faults
 use Rattle.csvw_double.specs.Doubles.{is_number, is_short}
@@ -28,11 +32,13 @@ use Rattle.csvw_datatype.specs.declared.value.Value.{Value}
 use Rattle.csvw_datatype.specs.declared.value.Value.TheVariants as values
 use Rattle.csvw_datatype.specs.declared.simple.Simple.{Simple}
 use Rattle.csvw_datatype.specs.declared.simple.Simple.TheVariants as simples
+use Rattle.csvw_datatype.specs.declared.simple.TextType.{TextType}
+use Rattle.csvw_datatype.specs.declared.simple.TextType.TheVariants as types
 use Rattle.csvw_datatype.specs.declared.simple.Width.{Width}
 use Rattle.csvw_datatype.specs.declared.format.Format.{Format}
 use Rattle.csvw_datatype.specs.declared.format.Format.TheVariants as formats
 use Rattle.csvw_datatype.specs.Formats.{IsFormatOf, fits_format, is_described}
-use Rattle.csvw_datatype.specs.TextForms.{text_form}
+use Rattle.csvw_datatype.specs.TextValues.{text_value, text_if, kept, date_time_kept}
 use Rattle.csvw_datatype.specs.Widths.{IsInWidth}
 use Rattle.csvw_datatype.specs.Reads.{SpellsTruth, whole_rules, decimal_rules, date_format, moment_format, ReadsAs, ReadsNumberAs, MisreadAs, MisreadsNumber, number_code, double_code}
 use Rattle.csvw_datatype.specs.Sound.{IsNumberSize, IsWholeNumber, IsBoundOf, has_bounds}
@@ -55,6 +61,9 @@ DatesInRange = (f : DateFormat) (text : List ℕ) (day : ℤ) → ReadsDate f te
 
 abbrev MomentsInRange : Type 0
 MomentsInRange = (f : MomentFormat) (text : List ℕ) (moment : ℤ) → ReadsMoment f text moment → IsMomentNumber moment
+
+abbrev pub DateTimesInRange : Type 0
+DateTimesInRange = (zone : Zone) (text : List ℕ) (moment : ℤ) → date_time_value zone text ≡ Some (date_times.Second moment) → IsMomentNumber moment
 
 -- truths
 
@@ -150,12 +159,15 @@ one_double_fault text double_faults.TooLong double_faults.Bad p q = absurd (apar
     apart : {b : Bool} → b ≡ false → b ≡ true → ⊥
     apart x y = cc
 
-some_or_none : (o : Option (List ℕ)) (x : List ℕ) → o ≡ Some x → o ≡ None → ⊥
+some_or_none : {A : Type 0} (o : Option A) (x : A) → o ≡ Some x → o ≡ None → ⊥
 some_or_none None x is none = cc
 some_or_none (Some y) x is none = cc
 
 inside : (x y : List ℕ) → Some x ≡ Some y → x ≡ y
 inside x y e = ap (λ o. unwrap_or o []) e
+
+same_value : {v w : Value} → Some v ≡ Some w → v ≡ w
+same_value {v = v} e = ap (λ o. unwrap_or o v) e
 
 -- values
 
@@ -163,7 +175,7 @@ pub one_value : OneNumber → OneDate → OneMoment → (s : Simple) (f : Option
     → ReadsAs s f text w → v ≡ w
 one_value one date moment simples.Text f text v w ok r s = r.1 ∙ sym s.1
 one_value one date moment simples.Uri f text v w ok r s = r.1 ∙ sym s.1
-one_value one date moment (simples.Other t) f text v w ok r s = r.2 ∙ ap (λ x. values.Text x) (inside r.0 s.0 (sym r.1 ∙ s.1)) ∙ sym s.2
+one_value one date moment (simples.Other t) f text v w ok r s = same_value (sym r ∙ s)
 one_value one date moment (simples.Floating t) f text v w ok r s = r.2 ∙ ap (λ x. values.Text x) (inside r.0 s.0 (sym r.1 ∙ s.1)) ∙ sym s.2
 one_value one date moment simples.Truth f text v w ok r s = r.2 ∙ ap (λ b. values.Truth b) (one_truth f text r.0 s.0 ok r.1 s.1) ∙ sym s.2
 one_value one date moment simples.Whole f text v w ok r s = same_number one (whole_rules f) (whole_lawful f ok) (chars text) v w r.0 s.0 r.1.0 s.1.0 r.2 s.2
@@ -180,7 +192,7 @@ pub value_or_code : OneNumber → (s : Simple) (f : Option Format) (text : List 
     → MisreadAs s f text code → ⊥
 value_or_code one simples.Text f text v code ok r m = no_both (is_described f text) r.0 m.0
 value_or_code one simples.Uri f text v code ok r m = no_both (is_described f text) r.0 m.0
-value_or_code one (simples.Other t) f text v code ok r m = some_or_none (text_form t f text) r.0 r.1 m.0
+value_or_code one (simples.Other t) f text v code ok r m = some_or_none (text_value t f text) v r m.0
 value_or_code one (simples.Floating t) f text v code ok r m = double_or_fault text r.0 m.0 r.1 m.1
 value_or_code one simples.Truth f text v code ok r m = m.0 r.0 r.1
 value_or_code one simples.Whole f text v code ok r m = not_misread_as BadInteger (whole_rules f) f text r.0 code r.1 m
@@ -258,22 +270,57 @@ whole (Some (formats.Expression e)) cs z r = whole_group None cs z r
 at_value : (P : Value → Type 0) (v w : Value) → v ≡ w → P w → P v
 at_value P v w e h = subst P (sym e) h
 
-pub writable : DatesInRange → MomentsInRange → (s : Simple) (f : Option Format) (text : List ℕ) (v : Value) → ReadsAs s f text v → IsWritable v
-writable dates moments simples.Text f text v r = at_value (λ v. IsWritable v) v (values.Text text) r.1 tt
-writable dates moments simples.Uri f text v r = at_value (λ v. IsWritable v) v (values.Text text) r.1 tt
-writable dates moments (simples.Other t) f text v r = at_value (λ v. IsWritable v) v (values.Text r.0) r.2 tt
-writable dates moments (simples.Floating t) f text v r = at_value (λ v. IsWritable v) v (values.Text r.0) r.2 tt
-writable dates moments simples.Truth f text v r = at_value (λ v. IsWritable v) v (values.Truth r.0) r.2 tt
-writable dates moments simples.Whole f text v r = at_value (λ v. IsWritable v) v (values.Number r.0) r.2 (size (whole_rules f) (chars text) r.0 r.1.0)
-writable dates moments (simples.Derived w) f text v r = at_value (λ v. IsWritable v) v (values.Number r.0) r.3 (size (whole_rules f) (chars text) r.0 r.1.0)
-writable dates moments simples.Decimal f text v r = at_value (λ v. IsWritable v) v (values.Number r.0) r.2 (size (decimal_rules f) (chars text) r.0 r.1.0)
-writable dates moments simples.Day f text v r = at_value (λ v. IsWritable v) v (values.Day r.0) r.2 (dates (date_format f) text r.0 r.1)
-writable dates moments simples.Moment f text v r = at_value (λ v. IsWritable v) v (values.Moment r.0) r.2 (moments (moment_format f) text r.0 r.1)
+if_writable : (is_one : Bool) (text : List ℕ) (v : Value) → text_if is_one text ≡ Some v → IsWritable v
+if_writable true text v e = at_value (λ v. IsWritable v) v (values.Text text) (sym (same_value e)) tt
+if_writable false text v e = cc
+
+kept_writable : (o : Option (List ℕ)) (v : Value) → kept o ≡ Some v → IsWritable v
+kept_writable None v e = cc
+kept_writable (Some text) v e = at_value (λ v. IsWritable v) v (values.Text text) (sym (same_value e)) tt
+
+date_time_writable : (o : Option DateTime) (v : Value) → ((moment : ℤ) → o ≡ Some (date_times.Second moment) → IsMomentNumber moment)
+    → date_time_kept o ≡ Some v → IsWritable v
+date_time_writable None v range e = cc
+date_time_writable (Some (date_times.Second moment)) v range e =
+    at_value (λ v. IsWritable v) v (values.Moment moment) (sym (same_value e)) (range moment refl)
+date_time_writable (Some (date_times.Written text)) v range e = at_value (λ v. IsWritable v) v (values.Text text) (sym (same_value e)) tt
+
+text_writable : DateTimesInRange → (t : TextType) (f : Option Format) (text : List ℕ) (v : Value) → text_value t f text ≡ Some v → IsWritable v
+unfolding text_value
+text_writable zoned types.Any f text v e = if_writable _ text v e
+text_writable zoned types.Token f text v e = if_writable _ text v e
+text_writable zoned types.Language f text v e = if_writable _ text v e
+text_writable zoned types.Name f text v e = if_writable _ text v e
+text_writable zoned types.NameToken f text v e = if_writable _ text v e
+text_writable zoned types.Xml f text v e = if_writable _ text v e
+text_writable zoned types.Html f text v e = if_writable _ text v e
+text_writable zoned types.Json f text v e = if_writable _ text v e
+text_writable zoned types.Time f text v e = kept_writable _ v e
+text_writable zoned (types.DateTime zone) f text v e = date_time_writable _ v (zoned zone text) e
+text_writable zoned (types.Part part) f text v e = kept_writable _ v e
+
+pub writable : DatesInRange → MomentsInRange → DateTimesInRange → (s : Simple) (f : Option Format) (text : List ℕ) (v : Value) → ReadsAs s f text v → IsWritable v
+writable dates moments zoned simples.Text f text v r = at_value (λ v. IsWritable v) v (values.Text text) r.1 tt
+writable dates moments zoned simples.Uri f text v r = at_value (λ v. IsWritable v) v (values.Text text) r.1 tt
+writable dates moments zoned (simples.Other t) f text v r = text_writable zoned t f text v r
+writable dates moments zoned (simples.Floating t) f text v r = at_value (λ v. IsWritable v) v (values.Text r.0) r.2 tt
+writable dates moments zoned simples.Truth f text v r = at_value (λ v. IsWritable v) v (values.Truth r.0) r.2 tt
+writable dates moments zoned simples.Whole f text v r = at_value (λ v. IsWritable v) v (values.Number r.0) r.2 (size (whole_rules f) (chars text) r.0 r.1.0)
+writable dates moments zoned (simples.Derived w) f text v r = at_value (λ v. IsWritable v) v (values.Number r.0) r.3 (size (whole_rules f) (chars text) r.0 r.1.0)
+writable dates moments zoned simples.Decimal f text v r = at_value (λ v. IsWritable v) v (values.Number r.0) r.2 (size (decimal_rules f) (chars text) r.0 r.1.0)
+writable dates moments zoned simples.Day f text v r = at_value (λ v. IsWritable v) v (values.Day r.0) r.2 (dates (date_format f) text r.0 r.1)
+writable dates moments zoned simples.Moment f text v r = at_value (λ v. IsWritable v) v (values.Moment r.0) r.2 (moments (moment_format f) text r.0 r.1)
 
 pub writable_answer : ((s : Simple) (f : Option Format) (text : List ℕ) (v : Value) → ReadsAs s f text v → IsWritable v)
     → (s : Simple) (f : Option Format) (text : List ℕ) (r : Result Value Code) → MatchResult r (ReadsAs s f text) (MisreadAs s f text) → IfOk r IsWritable
 writable_answer law s f text (Ok v) h = law s f text v h
 writable_answer law s f text (Err code) h = tt
+
+pub writable_answers : {E : Type 0} → ((s : Simple) (f : Option Format) (text : List ℕ) (v : Value) → ReadsAs s f text v → IsWritable v)
+    → (s : Simple) (f : Option Format) (text : List ℕ) (r : Result (Result Value Code) E) → IfOk r (λ a. MatchResult a (ReadsAs s f text) (MisreadAs s f text))
+    → IfOk r (λ a. IfOk a IsWritable)
+writable_answers law s f text (Ok a) h = writable_answer law s f text a h
+writable_answers law s f text (Err e) h = tt
 
 pub bound : DatesInRange → MomentsInRange → (s : Simple) (f : Option Format) (text : List ℕ) (v : Value) → has_bounds s ≡ true → ReadsAs s f text v
     → IsBoundOf s v

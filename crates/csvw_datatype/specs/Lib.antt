@@ -5,7 +5,7 @@ pub mod Strings
 pub mod Widths
 pub mod Formats
 pub mod Breaks
-pub mod TextForms
+pub mod TextValues
 pub mod Reads
 pub mod Sound
 pub mod SoundProp

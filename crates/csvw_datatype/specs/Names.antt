@@ -5,9 +5,11 @@ use Rattle.csvw_datatype.specs.declared.simple.Simple.TheVariants.{Text, Truth, 
 use Rattle.csvw_datatype.specs.declared.simple.Floating.{Floating as FloatingType}
 use Rattle.csvw_datatype.specs.declared.simple.Floating.TheVariants.{Double, Float}
 use Rattle.csvw_datatype.specs.declared.simple.TextType.{TextType}
-use Rattle.csvw_datatype.specs.declared.simple.TextType.TheVariants.{Any, Token, Language, Name, NameToken, Xml, Html, Json, Time, Part}
+use Rattle.csvw_datatype.specs.declared.simple.TextType.TheVariants.{Any, Token, Language, Name, NameToken, Xml, Html, Json, Time, DateTime, Part}
 use Rattle.csvw_datatype_core.specs.declared.date_part.DatePart.{DatePart}
 use Rattle.csvw_datatype_core.specs.declared.date_part.DatePart.TheVariants as parts
+use Rattle.csvw_datatype_core.specs.declared.date_time.Zone.{Zone}
+use Rattle.csvw_datatype_core.specs.declared.date_time.Zone.TheVariants as zones
 use Rattle.csvw_datatype.specs.declared.simple.Width.{Width}
 use Rattle.csvw_datatype.specs.declared.simple.Width.TheVariants.{Long, Int, Short, Byte, UnsignedLong, UnsignedInt, UnsignedShort, UnsignedByte}
 use Rattle.csvw_datatype.specs.declared.simple.Width.TheVariants.{NonNegativeInteger, PositiveInteger, NonPositiveInteger, NegativeInteger}
@@ -42,6 +44,10 @@ part_name parts.Month = codes "gMonth"
 part_name parts.MonthDay = codes "gMonthDay"
 part_name parts.Day = codes "gDay"
 
+abbrev pub date_time_name : Zone → List ℕ
+date_time_name zones.Optional = codes "dateTime"
+date_time_name zones.Required = codes "dateTimeStamp"
+
 abbrev pub text_type_name : TextType → List ℕ
 text_type_name Any = codes "anyAtomicType"
 text_type_name Token = codes "token"
@@ -52,10 +58,12 @@ text_type_name Xml = codes "xml"
 text_type_name Html = codes "html"
 text_type_name Json = codes "json"
 text_type_name Time = codes "time"
+text_type_name (DateTime zone) = date_time_name zone
 text_type_name (Part part) = part_name part
 
--- the type has this name, or its other name
+-- The type has this name, or its other name. The type that `dateTime` names has no zones.
 abbrev pub IsTextTypeNamed : List ℕ → TextType → Type 0
+IsTextTypeNamed name (DateTime zones.Optional) = ⊥
 IsTextTypeNamed name Any = (name ≡ codes "anyAtomicType") ⊎ (name ≡ codes "any")
 IsTextTypeNamed name t = name ≡ text_type_name t
 
@@ -67,6 +75,10 @@ part_iri parts.Month = codes "http://www.w3.org/2001/XMLSchema#gMonth"
 part_iri parts.MonthDay = codes "http://www.w3.org/2001/XMLSchema#gMonthDay"
 part_iri parts.Day = codes "http://www.w3.org/2001/XMLSchema#gDay"
 
+abbrev pub date_time_iri : Zone → List ℕ
+date_time_iri zones.Optional = codes "http://www.w3.org/2001/XMLSchema#dateTime"
+date_time_iri zones.Required = codes "http://www.w3.org/2001/XMLSchema#dateTimeStamp"
+
 abbrev pub text_type_iri : TextType → List ℕ
 text_type_iri Any = codes "http://www.w3.org/2001/XMLSchema#anyAtomicType"
 text_type_iri Token = codes "http://www.w3.org/2001/XMLSchema#token"
@@ -77,6 +89,7 @@ text_type_iri Xml = codes "http://www.w3.org/1999/02/22-rdf-syntax-ns#XMLLiteral
 text_type_iri Html = codes "http://www.w3.org/1999/02/22-rdf-syntax-ns#HTML"
 text_type_iri Json = codes "http://www.w3.org/ns/csvw#JSON"
 text_type_iri Time = codes "http://www.w3.org/2001/XMLSchema#time"
+text_type_iri (DateTime zone) = date_time_iri zone
 text_type_iri (Part part) = part_iri part
 
 abbrev pub name_of : Simple → List ℕ

@@ -27,7 +27,7 @@ use Rattle.csvw_datatype.specs.declared.format.Format.{Format}
 use Rattle.csvw_datatype.specs.declared.format.Format.TheVariants as formats
 use Rattle.csvw_datatype.specs.declared.datatype.Datatype.{Datatype}
 use Rattle.csvw_datatype.specs.Formats.{fits_format, format_rules, is_described}
-use Rattle.csvw_datatype.specs.TextForms.{text_form, text_code}
+use Rattle.csvw_datatype.specs.TextValues.{text_value, text_code}
 use Rattle.csvw_datatype.specs.Widths.{IsInWidth}
 
 -- the texts of booleans
@@ -61,9 +61,9 @@ ReadsString format text v = (is_described format text ≡ true) × (v ≡ values
 abbrev pub ReadsDouble : List ℕ → Value → Type 0
 ReadsDouble text v = (form : List ℕ) × (double_form text ≡ Some form) × (v ≡ values.Text form)
 
--- the value of a type that keeps texts is its one text
+-- the value of a type that keeps texts
 abbrev pub ReadsText : TextType → Option Format → List ℕ → Value → Type 0
-ReadsText t format text v = (form : List ℕ) × (text_form t format text ≡ Some form) × (v ≡ values.Text form)
+ReadsText t format text v = text_value t format text ≡ Some v
 
 -- the text is this number, and is written as the format's pattern says
 abbrev pub ReadsNumberAs : NumberRules → Option Format → List ℕ → ℤ → Type 0
@@ -109,7 +109,7 @@ abbrev pub MisreadsDouble : List ℕ → Code → Type 0
 MisreadsDouble text code = (fault : DoubleFault) × IsDoubleFault text fault × (code ≡ double_code fault)
 
 abbrev pub MisreadsText : TextType → Option Format → List ℕ → Code → Type 0
-MisreadsText t format text code = (text_form t format text ≡ None) × (code ≡ text_code t)
+MisreadsText t format text code = (text_value t format text ≡ None) × (code ≡ text_code t)
 
 -- the text is not a value, for this reason
 abbrev pub MisreadAs : Simple → Option Format → List ℕ → Code → Type 0

@@ -21,6 +21,7 @@ abbrev pub has_length : Simple → Bool
 has_length simples.Text = true
 has_length (simples.Other types.Any) = false
 has_length (simples.Other types.Time) = false
+has_length (simples.Other (types.DateTime zone)) = false
 has_length (simples.Other (types.Part part)) = false
 has_length (simples.Other _) = true
 has_length _ = false
@@ -40,6 +41,7 @@ abbrev pub takes_expression : Simple → Bool
 takes_expression simples.Text = true
 takes_expression simples.Uri = true
 takes_expression (simples.Other types.Time) = false
+takes_expression (simples.Other (types.DateTime zone)) = false
 takes_expression (simples.Other (types.Part part)) = false
 takes_expression (simples.Other _) = true
 takes_expression _ = false

@@ -33,7 +33,7 @@ impl Datatype {
         match value {
             Value::Text(_) => has_lengths(&self.facets),
             Value::Truth(_) => false,
-            Value::Number(_) | Value::Day(_) | Value::Moment(_) => has_bounds(&self.facets),
+            Value::Number(_) | Value::Day(_) | Value::Moment(_) => self.facets.has_bounds(),
         }
     }
 
@@ -45,7 +45,7 @@ impl Datatype {
         let facets = &self.facets;
         let lengths = broken_lengths(value, facets);
         // most datatypes have no bounds
-        if !has_bounds(facets) {
+        if !facets.has_bounds() {
             return lengths;
         }
         let value = Some(value);
@@ -67,18 +67,14 @@ fn is_one_there(a: &Option<Value>, b: &Option<Value>, c: &Option<Value>) -> bool
     a.is_some() || b.is_some() || c.is_some()
 }
 
-fn has_bounds(facets: &Facets) -> bool
-    ensures { result ≡ has_bounds facets.now }
-{
-    is_one_there(
-        &facets.minimum,
-        &facets.min_inclusive,
-        &facets.min_exclusive,
-    ) || is_one_there(
-        &facets.maximum,
-        &facets.max_inclusive,
-        &facets.max_exclusive,
-    )
+impl Facets {
+    /// Returns whether a facet is a bound.
+    pub fn has_bounds(&self) -> bool
+        ensures { result ≡ has_bounds self.now }
+    {
+        is_one_there(&self.minimum, &self.min_inclusive, &self.min_exclusive)
+            || is_one_there(&self.maximum, &self.max_inclusive, &self.max_exclusive)
+    }
 }
 
 // The text is measured only if a facet asks for its length.

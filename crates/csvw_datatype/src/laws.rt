@@ -15,8 +15,8 @@ use crate::format::Format;
 use crate::simple::Simple;
 use crate::value::Value;
 use csvw_datatype_core::{
-    date_forms, number_forms, one_date, one_date_text, one_moment, one_moment_text, one_number,
-    one_number_text,
+    date_forms, date_times, number_forms, one_date, one_date_text, one_moment, one_moment_text,
+    one_number, one_number_text,
 };
 
 /// A law: a text is one value at most.
@@ -52,6 +52,7 @@ pub fn values_of_texts()
 {
     one_date();
     one_moment();
+    date_times();
 }
 
 /// A law: a value has one lexical form among the texts, which are UTF-8 as each `String` is.

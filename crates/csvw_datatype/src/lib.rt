@@ -3,8 +3,9 @@
 //! # Promises
 //!
 //! - `Datatype::read` returns the value of a text exactly if there is one, else the code (`Reads`, `Misread`).
-//! - The value of a double, a time of day or a part of a date is its one text, and so is that of a text that is kept as it
-//!   is (`double_form`, `text_form`). A regular expression that is the format describes each value (`is_described`).
+//! - The value of a double, a time of day or a part of a date is its one text. So is that of a moment with a zone or with parts
+//!   of a second, and of a text that is kept as it is (`double_form`, `text_value`). A regular expression that is the
+//!   format describes each value (`is_described`).
 //! - The laws `one_value`, `value_or_code` and `one_code`: a text has one value or one code.
 //! - `facets` returns the facets that a value breaks, in the standards' words: the law `broken_facets`.
 //!   `is_faceted` returns false only if the value breaks none (`breaks`).
@@ -31,7 +32,7 @@ mod laws;
 mod lexical;
 mod read;
 mod simple;
-mod text_form;
+mod text_value;
 mod truth;
 mod value;
 mod width;
@@ -39,7 +40,7 @@ mod width;
 pub use bound::bounds_read;
 pub use check::BadDatatype;
 pub use csvw_datatype_core::{
-    DateFormat, DatePart, FieldDigits, MomentFormat, Separator, TimeFormat,
+    DateFormat, DatePart, FieldDigits, MomentFormat, Separator, TimeFormat, Zone,
 };
 pub use csvw_regex::{Expressions, RegularExpression};
 pub use datatype::{Datatype, Facets};

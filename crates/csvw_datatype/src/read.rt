@@ -13,7 +13,7 @@ use crate::datatype::Datatype;
 use crate::format::{Format, is_described};
 use crate::laws::values_of_texts;
 use crate::simple::{Simple, TextType, Width};
-use crate::text_form::{text_code, text_form};
+use crate::text_value::{text_code, text_value};
 use crate::truth::read_truth;
 use crate::value::Value;
 use crate::width::is_in_width;
@@ -99,7 +99,7 @@ fn read_double(alloc: Global, text: &str) -> Result<Result<Value, Code>, AllocEr
     }
 }
 
-/// Reads a value of a type whose values are kept as texts. The value is its one text.
+/// Reads a value of a type that keeps texts.
 fn read_text(
     expressions: &mut Expressions,
     text_type: TextType,
@@ -108,8 +108,8 @@ fn read_text(
 ) -> Result<Result<Value, Code>, AllocError>
     ensures { IfOk result (λ answer. MatchResult answer (ReadsText text_type format.now text.now) (MisreadsText text_type format.now text.now)) }
 {
-    match text_form(expressions, text_type, format, text)? {
-        Some(form) => Ok(Ok(Value::Text(form))),
+    match text_value(expressions, text_type, format, text)? {
+        Some(value) => Ok(Ok(value)),
         None => Ok(Err(text_code(text_type))),
     }
 }

@@ -1,10 +1,10 @@
 //! The built-in datatypes and their names.
 ghost use Rattle.std.specs.Prelude.{◌≡◌, MatchOption};
 ghost use Rattle.csvw_datatype_core.specs.declared.date_part.DatePart.{DatePart as Part};
-ghost use Rattle.csvw_datatype.specs.Names.{part_name, part_iri, name_of, IsNamed, width_name, floating_name, IsFloatingNamed, text_type_name, IsTextTypeNamed, text_type_iri, IsNoneNamed};
+ghost use Rattle.csvw_datatype.specs.Names.{date_time_name, date_time_iri, part_name, part_iri, name_of, IsNamed, width_name, floating_name, IsFloatingNamed, text_type_name, IsTextTypeNamed, text_type_iri, IsNoneNamed};
 ghost use Rattle.csvw_datatype.specs.Strings.{has_length, takes_expression};
 
-use csvw_datatype_core::DatePart;
+use csvw_datatype_core::{DatePart, Zone};
 
 /// A derived integer type (XML Schema 1.1 part 2, sections 3.4.14 to 3.4.25).
 #[derive(Clone, Copy, Debug, PartialEq, Eq)]
@@ -45,7 +45,7 @@ pub enum Floating {
 }
 
 /// A type besides `string` and `anyURI` whose values are kept as texts (Metadata Vocabulary for Tabular Data, section
-/// 5.11.1). Two of its values are the same if their texts are.
+/// 5.11.1), but for whole seconds without a zone. Two of its values are the same if their texts are.
 #[derive(Clone, Copy, Debug, PartialEq, Eq)]
 pub enum TextType {
     /// `anyAtomicType`: the type above all others.
@@ -66,6 +66,8 @@ pub enum TextType {
     Json,
     /// `time`: a time of day.
     Time,
+    /// `dateTime` with zones and parts of seconds, or `dateTimeStamp`, which has to have a zone.
+    DateTime(Zone),
     /// `gYear` and the like: a part of a date.
     Part(DatePart),
 }
@@ -197,6 +199,26 @@ fn part_iri(part: DatePart) -> &'static str
     }
 }
 
+/// Returns the name of the type of moments whose texts may, or have to, have a zone.
+fn date_time_name(zone: Zone) -> &'static str
+    ensures { result.now ≡ date_time_name zone }
+{
+    match zone {
+        Zone::Optional => "dateTime",
+        Zone::Required => "dateTimeStamp",
+    }
+}
+
+/// Returns the IRI of the type of moments whose texts may, or have to, have a zone.
+fn date_time_iri(zone: Zone) -> &'static str
+    ensures { result.now ≡ date_time_iri zone }
+{
+    match zone {
+        Zone::Optional => "http://www.w3.org/2001/XMLSchema#dateTime",
+        Zone::Required => "http://www.w3.org/2001/XMLSchema#dateTimeStamp",
+    }
+}
+
 impl TextType {
     fn name(self) -> &'static str
         ensures { result.now ≡ text_type_name self }
@@ -208,6 +230,7 @@ impl TextType {
             TextType::Name => "Name",
             TextType::NameToken => "NMTOKEN",
             TextType::Time => "time",
+            TextType::DateTime(zone) => date_time_name(zone),
             TextType::Part(part) => part_name(part),
             TextType::Xml => "xml",
             TextType::Html => "html",
@@ -228,6 +251,7 @@ impl TextType {
             "html" => Some(TextType::Html),
             "json" => Some(TextType::Json),
             "time" => Some(TextType::Time),
+            "dateTimeStamp" => Some(TextType::DateTime(Zone::Required)),
             _ => part_named(name).map(TextType::Part),
         }
     }
@@ -243,6 +267,7 @@ impl TextType {
             TextType::Name => "http://www.w3.org/2001/XMLSchema#Name",
             TextType::NameToken => "http://www.w3.org/2001/XMLSchema#NMTOKEN",
             TextType::Time => "http://www.w3.org/2001/XMLSchema#time",
+            TextType::DateTime(zone) => date_time_iri(zone),
             TextType::Part(part) => part_iri(part),
             TextType::Xml => "http://www.w3.org/1999/02/22-rdf-syntax-ns#XMLLiteral",
             TextType::Html => "http://www.w3.org/1999/02/22-rdf-syntax-ns#HTML",
@@ -293,7 +318,7 @@ impl Simple {
             Simple::Other(text_type) => {
                 !matches!(
                     text_type,
-                    TextType::Any | TextType::Time | TextType::Part(_)
+                    TextType::Any | TextType::Time | TextType::DateTime(_) | TextType::Part(_)
                 )
             }
             _ => false,
@@ -307,7 +332,12 @@ impl Simple {
     {
         match self {
             Simple::Text | Simple::Uri => true,
-            Simple::Other(text_type) => { !matches!(text_type, TextType::Time | TextType::Part(_)) }
+            Simple::Other(text_type) => {
+                !matches!(
+                    text_type,
+                    TextType::Time | TextType::DateTime(_) | TextType::Part(_)
+                )
+            }
             Simple::Truth
             | Simple::Whole
             | Simple::Decimal
@@ -318,8 +348,8 @@ impl Simple {
         }
     }
 
-    /// Returns the type of a name, or `None` if no type has it. `datetime` is another name of `dateTime`, `any` of
-    /// `anyAtomicType`, and `number` of `double` (Metadata Vocabulary for Tabular Data, section 5.11.1).
+    /// Returns the type of a name, or `None` if no type has it. `dateTime` is the type without zones. `datetime` is another name of
+    /// `dateTime`, `any` of `anyAtomicType`, and `number` of `double` (Metadata Vocabulary for Tabular Data, section 5.11.1).
     pub fn of(name: &str) -> Option<Simple>
         ensures { MatchOption result ((s : Simple) → ¬ IsNamed name.now s) (IsNamed name.now) }
     {

@@ -1,12 +1,14 @@
-//! The one text of a value whose type keeps texts.
+//! The value of a text under a type that keeps texts.
 ghost use Rattle.std.specs.Prelude.{◌≡◌, IfOk, Some, None, if◌then◌else◌};
-ghost use Rattle.csvw_datatype.specs.TextForms.{time_format, text_form, text_code, text_if};
+ghost use Rattle.csvw_datatype.specs.TextValues.{time_format, text_value, text_code, text_if, kept, date_time_kept};
 ghost use Rattle.csvw_datatype.specs.Formats.{is_described};
 
 use crate::format::{Format, is_described};
 use crate::simple::TextType;
+use crate::value::Value;
 use csvw_datatype_core::{
-    TimeFormat, date_part_text, is_language, is_name, is_name_token, time_text,
+    DateTime, TimeFormat, date_part_text, is_language, is_name, is_name_token, read_date_time,
+    time_text,
 };
 use csvw_regex::Expressions;
 use csvw_text::{Code, Text};
@@ -28,33 +30,55 @@ fn time_format(format: &Option<Format>) -> TimeFormat
     }
 }
 
-/// Returns a text if it is one of its type, or `AllocError` if memory runs out.
-fn text_if(alloc: Global, is_one: bool, text: &str) -> Result<Option<Text>, AllocError>
+/// Returns the value that is the text itself, if the text is one of its type. Returns `AllocError` if memory runs out.
+fn text_if(alloc: Global, is_one: bool, text: &str) -> Result<Option<Value>, AllocError>
     ensures { IfOk result (λ o. o ≡ text_if is_one text.now) }
 {
     if is_one {
-        Ok(Some(Text::copied(alloc, text)?))
+        Ok(Some(Value::Text(Text::copied(alloc, text)?)))
     } else {
         Ok(None)
     }
 }
 
-/// Returns the one text of the value that a text is.
+/// Returns the value that is kept as a text.
+fn kept(form: Option<Text>) -> Option<Value>
+    ensures { result ≡ kept form }
+{
+    match form {
+        Some(text) => Some(Value::Text(text)),
+        None => None,
+    }
+}
+
+/// Returns the value of a moment. One with a zone or with parts of a second is kept as its text.
+fn date_time_kept(found: Option<DateTime>) -> Option<Value>
+    ensures { result ≡ date_time_kept found }
+{
+    match found {
+        Some(DateTime::Second(moment)) => Some(Value::Moment(moment)),
+        Some(DateTime::Written(text)) => Some(Value::Text(text)),
+        None => None,
+    }
+}
+
+/// Returns the value that a text is.
 ///
 /// Returns `None` if the text is no value of the type, and `AllocError` if memory runs out.
-#[tactic(auto, unfolding(crate::specs::TextForms::text_form))]
-pub(crate) fn text_form(
+#[tactic(auto, unfolding(crate::specs::TextValues::text_value))]
+pub(crate) fn text_value(
     expressions: &mut Expressions,
     text_type: TextType,
     format: &Option<Format>,
     text: &str,
-) -> Result<Option<Text>, AllocError>
-    ensures { IfOk result (λ o. o ≡ text_form text_type format.now text.now) }
+) -> Result<Option<Value>, AllocError>
+    ensures { IfOk result (λ o. o ≡ text_value text_type format.now text.now) }
 {
     let alloc = expressions.alloc();
     match text_type {
-        TextType::Time => time_text(alloc, time_format(format), text),
-        TextType::Part(part) => date_part_text(alloc, part, text),
+        TextType::Time => Ok(kept(time_text(alloc, time_format(format), text)?)),
+        TextType::DateTime(zone) => Ok(date_time_kept(read_date_time(alloc, zone, text)?)),
+        TextType::Part(part) => Ok(kept(date_part_text(alloc, part, text)?)),
         TextType::Any | TextType::Token | TextType::Xml | TextType::Html | TextType::Json => {
             text_if(alloc, is_described(format, expressions, text)?, text)
         }
@@ -79,6 +103,7 @@ pub(crate) fn text_code(text_type: TextType) -> Code
 {
     match text_type {
         TextType::Time => Code::BadTime,
+        TextType::DateTime(_) => Code::BadDateTime,
         TextType::Part(_) => Code::BadDate,
         TextType::Any
         | TextType::Token

@@ -1,0 +1,62 @@
+-- The value of a text under a type that keeps texts, and the code of a text that is no value of the type (Metadata Vocabulary for Tabular
+-- Data, section 5.11.1; XML Schema 1.1 Part 2, sections 3.3 and 3.4).
+use Rattle.std.specs.Prelude.{ℕ, Bool, ◌&&◌, Option, Some, None, if◌then◌else◌, List}
+use Rattle.std.specs.Str.{chars}
+use Rattle.csvw_fault.specs.declared.fault.Code.{Code}
+use Rattle.csvw_fault.specs.declared.fault.Code.TheVariants.{BadDate, BadDateTime, BadTime, BadText}
+use Rattle.csvw_datatype_core.specs.declared.time.TimeFormat.{TimeFormat}
+use Rattle.csvw_datatype_core.specs.declared.time.TimeFormat.TheVariants as time_formats
+use Rattle.csvw_datatype_core.specs.DateParts.{date_part_form}
+use Rattle.csvw_datatype_core.specs.Times.{time_form}
+use Rattle.csvw_datatype_core.specs.declared.date_time.DateTime.{DateTime}
+use Rattle.csvw_datatype_core.specs.declared.date_time.DateTime.TheVariants as date_times
+use Rattle.csvw_datatype_core.specs.DateTimes.{date_time_value}
+use Rattle.csvw_datatype_core.specs.Languages.{is_language}
+use Rattle.csvw_datatype_core.specs.XmlNames.{is_name, is_name_token}
+use Rattle.csvw_datatype.specs.declared.simple.TextType.{TextType}
+use Rattle.csvw_datatype.specs.declared.simple.TextType.TheVariants as types
+use Rattle.csvw_datatype.specs.declared.value.Value.{Value}
+use Rattle.csvw_datatype.specs.declared.value.Value.TheVariants as values
+use Rattle.csvw_datatype.specs.declared.format.Format.{Format}
+use Rattle.csvw_datatype.specs.declared.format.Format.TheVariants as formats
+use Rattle.csvw_datatype.specs.Formats.{is_described}
+
+abbrev pub time_format : Option Format → TimeFormat
+time_format (Some (formats.Time f)) = f
+time_format _ = time_formats.Seconds
+
+-- the value that is the text itself
+abbrev pub text_if : Bool → List ℕ → Option Value
+text_if is_one text = if is_one then Some (values.Text text) else None
+
+-- the value that is kept as this text
+abbrev pub kept : Option (List ℕ) → Option Value
+kept None = None
+kept (Some text) = Some (values.Text text)
+
+-- a moment with a zone or with parts of a second is kept as its text
+abbrev pub date_time_kept : Option DateTime → Option Value
+date_time_kept None = None
+date_time_kept (Some (date_times.Second moment)) = Some (values.Moment moment)
+date_time_kept (Some (date_times.Written text)) = Some (values.Text text)
+
+-- The value of a text. Each text is a value of anyAtomicType, token, xml, html and json, since white space was normalized before. If the format is
+-- a regular expression, it describes each value of these and of language, Name and NMTOKEN.
+unfoldable pub text_value : TextType → Option Format → List ℕ → Option Value
+text_value types.Any format text = text_if (is_described format text) text
+text_value types.Token format text = text_if (is_described format text) text
+text_value types.Language format text = text_if (is_language text && is_described format text) text
+text_value types.Name format text = text_if (is_name (chars text) && is_described format text) text
+text_value types.NameToken format text = text_if (is_name_token (chars text) && is_described format text) text
+text_value types.Xml format text = text_if (is_described format text) text
+text_value types.Html format text = text_if (is_described format text) text
+text_value types.Json format text = text_if (is_described format text) text
+text_value types.Time format text = kept (time_form (time_format format) text)
+text_value (types.DateTime zone) format text = date_time_kept (date_time_value zone text)
+text_value (types.Part part) format text = kept (date_part_form part text)
+
+abbrev pub text_code : TextType → Code
+text_code types.Time = BadTime
+text_code (types.DateTime zone) = BadDateTime
+text_code (types.Part part) = BadDate
+text_code _ = BadText
