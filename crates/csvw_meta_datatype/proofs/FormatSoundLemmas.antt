@@ -242,6 +242,7 @@ format_sound profile (simples.Other types.Xml) place at d = expression_sound (si
 format_sound profile (simples.Other types.Html) place at d = expression_sound (simples.Other types.Html) refl profile at d
 format_sound profile (simples.Other types.Json) place at d = expression_sound (simples.Other types.Json) refl profile at d
 format_sound profile (simples.Other types.Time) place at d = tt
+format_sound profile (simples.Other (types.DateTime z)) place at d = tt
 format_sound profile (simples.Other (types.Part p)) place at d = tt
 format_sound profile (simples.Floating t) place at d = tt
 format_sound profile simples.Truth place at d = truth_sound at d

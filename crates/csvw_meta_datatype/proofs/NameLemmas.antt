@@ -2,42 +2,50 @@
 use Rattle.std.proofs.Common.{◌≡◌, MatchOption, inl, inr, ℕ, List, [], ◌∷◌, Option, Some, None, Bool, true, false, refl, bytes_eq, codes, sym}
 use Rattle.std.proofs.lemmas.Slice.Eq.{bytes_eq-Decides}
 use Rattle.csvw_datatype_core.specs.declared.date_part.DatePart.TheVariants as parts
+use Rattle.csvw_datatype_core.specs.declared.date_time.Zone.TheVariants as zones
 use Rattle.csvw_datatype.specs.declared.simple.Simple.{Simple}
 use Rattle.csvw_datatype.specs.declared.simple.Simple.TheVariants.{Text, Truth, Whole, Decimal, Day, Uri, Derived, Moment, Other, Floating}
 use Rattle.csvw_datatype.specs.declared.simple.Floating.{Floating as FloatingType}
 use Rattle.csvw_datatype.specs.declared.simple.Floating.TheVariants.{Double, Float}
 use Rattle.csvw_datatype.specs.declared.simple.TextType.{TextType}
-use Rattle.csvw_datatype.specs.declared.simple.TextType.TheVariants.{Any, Token, Language, Name, NameToken, Xml, Html, Json, Time, Part}
+use Rattle.csvw_datatype.specs.declared.simple.TextType.TheVariants.{Any, Token, Language, Name, NameToken, Xml, Html, Json, Time, DateTime, Part}
 use Rattle.csvw_datatype.specs.declared.simple.Width.{Width}
 use Rattle.csvw_datatype.specs.declared.simple.Width.TheVariants.{Long, Int, Short, Byte, UnsignedLong, UnsignedInt, UnsignedShort, UnsignedByte}
 use Rattle.csvw_datatype.specs.declared.simple.Width.TheVariants.{NonNegativeInteger, PositiveInteger, NonPositiveInteger, NegativeInteger}
 use Rattle.csvw_datatype.specs.Names.{name_of, width_name, text_type_name, IsFloatingNamed, IsTextTypeNamed, IsNamed}
 use Rattle.csvw_meta_datatype.specs.Names.{all_simples, named_in, type_named}
 
-is_text_type_named : (name : List ℕ) (t : TextType) → name ≡ text_type_name t → IsTextTypeNamed name t
-is_text_type_named name Any e = inl e
-is_text_type_named name Token e = e
-is_text_type_named name Xml e = e
-is_text_type_named name Html e = e
-is_text_type_named name Json e = e
-is_text_type_named name Language e = e
-is_text_type_named name Name e = e
-is_text_type_named name NameToken e = e
-is_text_type_named name Time e = e
-is_text_type_named name (Part p) e = e
+-- no type has the name
+abbrev NoneNamed : List ℕ → Type 0
+NoneNamed name = (s : Simple) → IsNamed name s → ⊥
 
-is_named : (name : List ℕ) (s : Simple) → name ≡ name_of s → IsNamed name s
-is_named name Text e = e
-is_named name Truth e = e
-is_named name Whole e = e
-is_named name Decimal e = e
-is_named name Day e = e
-is_named name Uri e = e
-is_named name (Derived w) e = e
-is_named name Moment e = inl e
-is_named name (Other t) e = is_text_type_named name t e
-is_named name (Floating Double) e = inl e
-is_named name (Floating Float) e = e
+-- the name of the type with zones is that of the type without them
+not_text_type : (name : List ℕ) → NoneNamed name → (t : TextType) → name ≡ text_type_name t → ⊥
+not_text_type name none Any e = none (Other Any) (inl e)
+not_text_type name none Token e = none (Other Token) e
+not_text_type name none Xml e = none (Other Xml) e
+not_text_type name none Html e = none (Other Html) e
+not_text_type name none Json e = none (Other Json) e
+not_text_type name none Language e = none (Other Language) e
+not_text_type name none Name e = none (Other Name) e
+not_text_type name none NameToken e = none (Other NameToken) e
+not_text_type name none Time e = none (Other Time) e
+not_text_type name none (DateTime zones.Optional) e = none Moment (inl e)
+not_text_type name none (DateTime zones.Required) e = none (Other (DateTime zones.Required)) e
+not_text_type name none (Part p) e = none (Other (Part p)) e
+
+not_simple : (name : List ℕ) → NoneNamed name → (s : Simple) → name ≡ name_of s → ⊥
+not_simple name none Text e = none Text e
+not_simple name none Truth e = none Truth e
+not_simple name none Whole e = none Whole e
+not_simple name none Decimal e = none Decimal e
+not_simple name none Day e = none Day e
+not_simple name none Uri e = none Uri e
+not_simple name none (Derived w) e = none (Derived w) e
+not_simple name none Moment e = none Moment (inl e)
+not_simple name none (Other t) e = not_text_type name none t e
+not_simple name none (Floating Double) e = none (Floating Double) (inl e)
+not_simple name none (Floating Float) e = none (Floating Float) e
 
 unequal : (b : Bool) → (b ≡ true → ⊥) → b ≡ false
 unequal true h = absurd (h refl)
@@ -46,11 +54,11 @@ unequal false h = refl
 differs : (a b : List ℕ) → (a ≡ b → ⊥) → bytes_eq a b ≡ false
 differs a b h = unequal (bytes_eq a b) (λ e. h ((bytes_eq-Decides a b).0 e))
 
-none_in : (name : List ℕ) → ((s : Simple) → IsNamed name s → ⊥) → (ss : List Simple) → named_in ss name ≡ None
+none_in : (name : List ℕ) → NoneNamed name → (ss : List Simple) → named_in ss name ≡ None
 none_in name h [] = refl
-none_in name h (s ∷ ss) = rw (differs name (name_of s) (λ e. h s (is_named name s e))) (none_in name h ss)
+none_in name h (s ∷ ss) = rw (differs name (name_of s) (λ e. not_simple name h s e)) (none_in name h ss)
 
-pub none_named : (name : List ℕ) → ((s : Simple) → IsNamed name s → ⊥) → type_named name ≡ None
+pub none_named : (name : List ℕ) → NoneNamed name → type_named name ≡ None
 none_named name h =
     rw (
       differs name (codes "datetime") (λ e. h Moment (inr e)),
@@ -83,6 +91,8 @@ text_type_named name Language e = rw e refl
 text_type_named name Name e = rw e refl
 text_type_named name NameToken e = rw e refl
 text_type_named name Time e = rw e refl
+text_type_named name (DateTime zones.Optional) e = absurd e
+text_type_named name (DateTime zones.Required) e = rw e refl
 text_type_named name (Part parts.Year) e = rw e refl
 text_type_named name (Part parts.YearMonth) e = rw e refl
 text_type_named name (Part parts.Month) e = rw e refl

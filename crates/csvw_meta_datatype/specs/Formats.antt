@@ -59,10 +59,11 @@ expression_found (Some e) = found (formats.Expression e)
 abbrev pub expression_format : Profile → List ℕ → Data → Read FormatFound
 expression_format profile at d = under expression_found (text_expression profile at d)
 
--- The format of a type that keeps texts. That of a time of day is a pattern, that of a part of a date is not supported, and
+-- The format of a type that keeps texts. That of a time of day is a pattern, that of a moment or of a part of a date is not supported, and
 -- every other one is a regular expression.
 abbrev pub format_of_texts : Profile → TextType → List ℕ → Data → Read FormatFound
 format_of_texts profile types.Time at d = under (λ f. found (formats.Time f)) (time_format at d)
+format_of_texts profile (types.DateTime zone) at d = faulty NotSupported at no_format
 format_of_texts profile (types.Part part) at d = faulty NotSupported at no_format
 format_of_texts profile _ at d = expression_format profile at d
 

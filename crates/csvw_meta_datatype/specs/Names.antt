@@ -2,10 +2,11 @@
 -- 5.11.1 and 5.11.2).
 use Rattle.std.specs.Prelude.{ℕ, List, [], ◌∷◌, Bool, true, false, codes, bytes_eq, filter, if◌then◌else◌, Option, Some, None}
 use Rattle.csvw_datatype_core.specs.declared.date_part.DatePart.TheVariants.{Year, YearMonth, Month, MonthDay, Day as DayOfMonth}
+use Rattle.csvw_datatype_core.specs.declared.date_time.Zone.TheVariants.{Required}
 use Rattle.csvw_datatype.specs.declared.simple.Simple.{Simple}
 use Rattle.csvw_datatype.specs.declared.simple.Simple.TheVariants.{Text, Truth, Whole, Decimal, Day, Uri, Derived, Moment, Other, Floating}
 use Rattle.csvw_datatype.specs.declared.simple.Floating.TheVariants.{Double, Float}
-use Rattle.csvw_datatype.specs.declared.simple.TextType.TheVariants.{Any, Token, Language, Name, NameToken, Xml, Html, Json, Time, Part}
+use Rattle.csvw_datatype.specs.declared.simple.TextType.TheVariants.{Any, Token, Language, Name, NameToken, Xml, Html, Json, Time, DateTime, Part}
 use Rattle.csvw_datatype.specs.declared.simple.Width.TheVariants.{Long, Int, Short, Byte, UnsignedLong, UnsignedInt, UnsignedShort, UnsignedByte}
 use Rattle.csvw_datatype.specs.declared.simple.Width.TheVariants.{NonNegativeInteger, PositiveInteger, NonPositiveInteger, NegativeInteger}
 use Rattle.csvw_datatype.specs.Names.{name_of}
@@ -19,7 +20,7 @@ all_simples =
     ∷ Derived UnsignedInt ∷ Derived UnsignedShort ∷ Derived UnsignedByte ∷ Derived NonNegativeInteger ∷ Derived PositiveInteger
     ∷ Derived NonPositiveInteger ∷ Derived NegativeInteger ∷ Other Any ∷ Other Token ∷ Other Xml ∷ Other Html ∷ Other Json
     ∷ Floating Double ∷ Floating Float ∷ Other Language ∷ Other Name ∷ Other NameToken ∷ Other Time ∷ Other (Part Year) ∷ Other (Part YearMonth)
-    ∷ Other (Part Month) ∷ Other (Part MonthDay) ∷ Other (Part DayOfMonth) ∷ []
+    ∷ Other (Part Month) ∷ Other (Part MonthDay) ∷ Other (Part DayOfMonth) ∷ Other (DateTime Required) ∷ []
 
 -- the first of them that has the name
 abbrev pub named_in : List Simple → List ℕ → Option Simple

@@ -37,7 +37,8 @@ fn no_bound(simple: Simple) -> MetaCode
     ensures { result ≡ no_bound simple }
 {
     match simple {
-        Simple::Floating(_) | Simple::Other(TextType::Time | TextType::Part(_)) => {
+        Simple::Floating(_)
+        | Simple::Other(TextType::Time | TextType::DateTime(_) | TextType::Part(_)) => {
             MetaCode::NotSupported
         }
         _ => MetaCode::BadDatatype,

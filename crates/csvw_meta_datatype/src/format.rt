@@ -115,7 +115,7 @@ fn read_format_of_texts(
         | TextType::Xml
         | TextType::Html
         | TextType::Json => read_expression(profile, part),
-        TextType::Part(_) => Err(part.refused(MetaCode::NotSupported)),
+        TextType::DateTime(_) | TextType::Part(_) => Err(part.refused(MetaCode::NotSupported)),
     }
 }
 

@@ -1,6 +1,6 @@
 //! Datatypes (Metadata Vocabulary for Tabular Data, section 5.11).
 use crate::base::BaseReader;
-use crate::form::{DatatypeFound, plain, read_form};
+use crate::form::{DatatypeFound, named, read_form};
 use csvw_iri::Base;
 use csvw_meta_core::{Part, Profile, Reader, Refusal};
 use csvw_text::{Place, Seq};
@@ -34,7 +34,7 @@ impl<'a> Reader for DatatypeReader<'a> {
                 }
                 .read(part)?;
                 Ok(DatatypeFound {
-                    datatype: plain(simple, None),
+                    datatype: named(self.profile, simple),
                     warnings: Seq::new(part.alloc),
                 })
             }

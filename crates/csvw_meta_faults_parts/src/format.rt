@@ -104,7 +104,9 @@ fn find_format_of_texts(
         | TextType::Xml
         | TextType::Html
         | TextType::Json => find_expression(profile, part, faults),
-        TextType::Part(_) => add_fault(part, MetaCode::NotSupported, faults),
+        TextType::DateTime(_) | TextType::Part(_) => {
+            add_fault(part, MetaCode::NotSupported, faults)
+        }
     }
 }
 

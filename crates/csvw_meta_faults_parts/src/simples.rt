@@ -2,13 +2,13 @@
 ghost use Rattle.std.specs.Prelude.{◌≡◌, IfOk, filter};
 ghost use Rattle.csvw_meta_datatype.specs.Names.{all_simples, is_in, simples_of};
 
-use csvw_datatype::{DatePart, Floating, Simple, TextType, Width};
+use csvw_datatype::{DatePart, Floating, Simple, TextType, Width, Zone};
 use csvw_meta_core::Profile;
 use csvw_meta_datatype::base::is_in;
 use std::alloc::{AllocError, Global};
 
 /// The built-in datatypes of all profiles.
-static ALL: [Simple; 35] = [
+static ALL: [Simple; 36] = [
     Simple::Text,
     Simple::Truth,
     Simple::Whole,
@@ -44,6 +44,7 @@ static ALL: [Simple; 35] = [
     Simple::Other(TextType::Part(DatePart::Month)),
     Simple::Other(TextType::Part(DatePart::MonthDay)),
     Simple::Other(TextType::Part(DatePart::Day)),
+    Simple::Other(TextType::DateTime(Zone::Required)),
 ];
 
 /// Returns those of some datatypes that a document in a profile may use, or `AllocError` if there is no memory.

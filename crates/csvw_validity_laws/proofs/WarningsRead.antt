@@ -222,6 +222,7 @@ format_quiet profile (simples.Other types.Xml) place at d = expression_quiet pro
 format_quiet profile (simples.Other types.Html) place at d = expression_quiet profile at d
 format_quiet profile (simples.Other types.Json) place at d = expression_quiet profile at d
 format_quiet profile (simples.Other types.Time) place at d = refl
+format_quiet profile (simples.Other (types.DateTime zone)) place at d = refl
 format_quiet profile (simples.Other (types.Part p)) place at d = refl
 format_quiet profile (simples.Floating t) place at d = refl
 format_quiet profile simples.Truth place at d = refl
@@ -245,7 +246,7 @@ whichever_value P values dummy (f ∷ fs) a next none h = none
 based_quiet : (profile : Profile) (id : Option (List ℕ)) (place : Place) (at : List ℕ) (d : Data) → IsQuietDatatype (based profile id place at d).value
 based_quiet profile id place at d =
     let simple = property (base profile) simples.Text at d (codes "base") in
-    whichever_value IsQuietDatatype (simples_of profile) (named simples.Text) simple.faults simple.value (of_type profile id place at d) refl (of_type_quiet profile id place at d)
+    whichever_value IsQuietDatatype (simples_of profile) (named profile simples.Text) simple.faults simple.value (of_type profile id place at d) refl (of_type_quiet profile id place at d)
 
 form_quiet : (profile : Profile) (against : Parts) (place : Place) (at : List ℕ) (d : Data) → IsQuietDatatype (form profile against place at d).value
 unfolding form
