@@ -9,8 +9,7 @@ use serde_json::Value;
 use std::alloc::{AllocError, Global};
 
 /// The datatypes of the standard that no profile has, each with the one to write in its place.
-const OTHERS: [(&str, &str); 10] = [
-    ("dateTimeStamp", "dateTime"),
+const OTHERS: [(&str, &str); 9] = [
     ("duration", "string"),
     ("dayTimeDuration", "string"),
     ("yearMonthDuration", "string"),
@@ -23,7 +22,7 @@ const OTHERS: [(&str, &str); 10] = [
 ];
 
 /// The datatypes that there are.
-const NAMES: [&str; 37] = [
+const NAMES: [&str; 38] = [
     "string",
     "anyURI",
     "boolean",
@@ -44,6 +43,7 @@ const NAMES: [&str; 37] = [
     "date",
     "dateTime",
     "datetime",
+    "dateTimeStamp",
     "any",
     "anyAtomicType",
     "token",

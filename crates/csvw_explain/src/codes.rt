@@ -148,14 +148,14 @@ Section: Model for Tabular Data, section 6.4.4.
 
 ## BadDateTime (fault of a table)
 
-The text of a cell is no date with a time of day of the format of its column.
+The text of a cell is no date with a time of day of the format of its column. Or the zone of a `dateTimeStamp` is missing.
 
 Example:
 
     metadata.json: {"@context":"http://www.w3.org/ns/csvw","url":"t.csv","tableSchema":{"columns":[{"name":"n","datatype":"dateTime"}]}}
     t.csv: n\n2024-02-29\n
 
-Instead: Write `2024-02-29T23:59:00`, without a zone, or describe the format `yyyy-MM-ddTHH:mm`.
+Instead: Write `2024-02-29T23:59:00`, or describe the format `yyyy-MM-ddTHH:mm`. With `--profile w3c` a fraction and a zone may follow, as in `2024-02-29T23:59:00.5Z`, unless the datatype has a format or a bound. A `dateTimeStamp` needs the zone.
 
 Section: Model for Tabular Data, section 6.4.4.
 

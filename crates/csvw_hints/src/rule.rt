@@ -5,7 +5,7 @@ use crate::key_rule::{push_foreign_keys, push_primary_key};
 use crate::tables::{TableAt, declared, field_of};
 use csvw_columns::TablePlan;
 use csvw_columns_core::Column;
-use csvw_datatype::{Datatype, Format, NumberFormat, RegularExpression, Simple, TextType};
+use csvw_datatype::{Datatype, Format, NumberFormat, RegularExpression, Simple, TextType, Zone};
 use csvw_page::{push_quoted, push_text};
 use csvw_text::{Code, Fault};
 use std::alloc::AllocError;
@@ -61,12 +61,25 @@ fn push_format(text: &mut String, format: &Format) -> Result<(), AllocError> {
     }
 }
 
+/// Adds how a type of moments that may have zones is written.
+fn push_zone(text: &mut String, zone: Zone) -> Result<(), AllocError> {
+    let zone = match zone {
+        Zone::Optional => ": with or without a zone",
+        Zone::Required => ": with a zone",
+    };
+    text.push_str(zone)?;
+    text.push_str(", as in 2020-01-31T08:30:00Z")
+}
+
 /// Adds the name and the format of a datatype.
 fn push_datatype(text: &mut String, datatype: &Datatype) -> Result<(), AllocError> {
     text.push_str("    datatype ")?;
     text.push_str(datatype.simple.name())?;
     if let Some(format) = &datatype.format {
         push_format(text, format)?;
+    }
+    if let Simple::Other(TextType::DateTime(zone)) = datatype.simple {
+        push_zone(text, zone)?;
     }
     text.push('\n')
 }
