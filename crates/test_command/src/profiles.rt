@@ -75,7 +75,41 @@ const WRITTEN: &[u8] =
     the text is no regular expression: its syntax is that of the Rust crate regex, as `[A-Z]{2}[0-9]+`, without `\i`, `\c`, look-around and back-references
 "#;
 
-static PROFILES: [Case; 14] = [
+/// A document with moments, and texts that are none: of one the time is missing, of the other the zone.
+const ZONED: &[File<'static>] = &[
+    File {
+        path: "m.json",
+        bytes: br#"{"@context":"http://www.w3.org/ns/csvw","url":"p.csv","tableSchema":{"columns":[{"name":"d","datatype":"dateTime"},{"name":"s","datatype":"dateTimeStamp"}]}}"#,
+    },
+    File {
+        path: "p.csv",
+        bytes: b"d,s\n2020-01-31T08:30:00.5Z,2020-01-31T08:30:00+01:00\n2020-01-31,2020-01-31T08:30:00\n",
+    },
+];
+
+/// The page of a check of them.
+const NO_ZONE: &[u8] =
+    br#"p.csv:3 (row 2), column 1 "d": BadDateTime: "2020-01-31": the text is no date and time: write one as `format` spells it
+    2020-01-31,2020-01-31T08:30:00
+    ^^^^^^^^^^
+    datatype dateTime: with or without a zone, as in 2020-01-31T08:30:00Z
+p.csv:3 (row 2), column 2 "s": BadDateTime: "2020-01-31T08:30:00": the text is no date and time: write one as `format` spells it
+    2020-01-31,2020-01-31T08:30:00
+               ^^^^^^^^^^^^^^^^^^^
+    datatype dateTimeStamp: with a zone, as in 2020-01-31T08:30:00Z
+table 1: p.csv: 3 records
+  BadDateTime: 1 in table 1, column 1
+  BadDateTime: 1 in table 1, column 2
+not valid
+"#;
+
+/// The page of a check of the document in the profile core.
+const NO_STAMPS: &[u8] =
+    b"m.json:1:128: /tableSchema/columns/1/datatype: NotSupported: this part of the vocabulary is not supported: leave it out
+    the profile w3c has the datatype dateTimeStamp: write `--profile w3c`
+";
+
+static PROFILES: [Case; 16] = [
     Case {
         what: "w3c, validated",
         words: &[
@@ -194,6 +228,26 @@ static PROFILES: [Case; 14] = [
         end: End {
             status: 3,
             out: Just(WRITTEN),
+            err: Just(b""),
+        },
+    },
+    Case {
+        what: "w3c, with texts that are no moments",
+        words: &["csvw", "check", "--profile", "w3c", "m.json", "p.csv"],
+        files: ZONED,
+        end: End {
+            status: 1,
+            out: Just(NO_ZONE),
+            err: Just(b""),
+        },
+    },
+    Case {
+        what: "no profile, with moments that have a zone",
+        words: &["csvw", "check", "m.json", "p.csv"],
+        files: ZONED,
+        end: End {
+            status: 3,
+            out: Just(NO_STAMPS),
             err: Just(b""),
         },
     },

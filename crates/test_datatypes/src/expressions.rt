@@ -6,7 +6,7 @@ use std::alloc::{AllocError, Global};
 use std::test::Fail;
 
 /// The properties of a column except its name, a field, the object of its triple, and the lines of the report.
-type Described = (&'static str, &'static str, &'static str, &'static str);
+pub(crate) type Described = (&'static str, &'static str, &'static str, &'static str);
 
 static CASES: [Described; 22] = [
     // strings, whose values alone have a language
@@ -203,7 +203,7 @@ static REFUSED: [(&str, MetaCode, &str); 10] = [
     ),
 ];
 
-fn case_of(described: &Described) -> Case {
+pub(crate) fn case_of(described: &Described) -> Case {
     Case {
         column: described.0,
         field: described.1,
@@ -212,14 +212,24 @@ fn case_of(described: &Described) -> Case {
 }
 
 /// Whether the report has these lines alone after its heading.
-fn has_lines(report: &[u8], lines: &str) -> bool {
+pub(crate) fn has_lines(report: &[u8], lines: &str) -> bool {
     report.strip_prefix(b"kind,code,table,row,column\n") == Some(lines.as_bytes())
 }
 
-fn gives(alloc: Global, described: &Described) -> Result<bool, AllocError> {
+/// Whether a run in a profile has the object and the lines.
+pub(crate) fn gives_in(
+    alloc: Global,
+    profile: Profile,
+    described: &Described,
+) -> Result<bool, AllocError> {
     let case = case_of(described);
-    let ran = ran_in(alloc, Profile::W3c, &case)?;
+    let ran = ran_in(alloc, profile, &case)?;
     Ok(has_object(alloc, &ran, case.object)? && has_lines(ran.report.as_slice(), described.3))
+}
+
+/// Whether a run in the profile w3c has the object and the lines.
+pub(crate) fn gives(alloc: Global, described: &Described) -> Result<bool, AllocError> {
+    gives_in(alloc, Profile::W3c, described)
 }
 
 #[test]

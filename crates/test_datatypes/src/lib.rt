@@ -19,6 +19,8 @@ mod expressions;
 #[cfg(test)]
 mod facets;
 #[cfg(test)]
+mod moments;
+#[cfg(test)]
 mod nulls;
 #[cfg(test)]
 mod profiles;

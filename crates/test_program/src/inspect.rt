@@ -109,6 +109,20 @@ const PATTERNS: [&str; 4] = [
     "format  \"[A-Z]\\\\d{2}\"\n",
 ];
 
+/// A table of moments: with zones, with a bound and so without zones, and stamps.
+const ZONED: &str =
+    r#"{"@context": "http://www.w3.org/ns/csvw", "url": "t.csv", "tableSchema": {"columns": [
+  {"name": "a", "datatype": "dateTime"},
+  {"name": "b", "datatype": {"base": "dateTime", "minimum": "2020-01-01T00:00:00"}},
+  {"name": "c", "datatype": "dateTimeStamp"}]}}"#;
+
+/// The types that are shown of them.
+const TYPES: [&str; 3] = [
+    "      base  \"dateTime\"\n",
+    "      base     \"dateTime\"\n      minimum  \"2020-01-01T00:00:00\"\n",
+    "      base  \"dateTimeStamp\"\n",
+];
+
 /// Returns what is shown of a document of a profile, and the stop.
 fn shown(
     alloc: Global,
@@ -141,6 +155,15 @@ fn shows_patterns_and_expressions(rt: HostRuntime) {
     let (bytes, ran) = shown(rt.alloc(), Profile::W3c, PATTERNED, InspectForm::Text);
     for format in &PATTERNS {
         assert!(rt; text_of(bytes.as_slice()).contains(*format), "{format}");
+    }
+    assert_eq!(rt; ran, Ok(()));
+}
+
+#[test]
+fn shows_moments(rt: HostRuntime) {
+    let (bytes, ran) = shown(rt.alloc(), Profile::W3c, ZONED, InspectForm::Text);
+    for line in &TYPES {
+        assert!(rt; text_of(bytes.as_slice()).contains(*line), "{line}");
     }
     assert_eq!(rt; ran, Ok(()));
 }

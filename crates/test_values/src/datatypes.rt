@@ -1,12 +1,13 @@
 //! Texts under datatypes: their values in lexical form, the facets that those break, and the datatypes that are
 //! sound.
+use crate::date_times::{DATE_TIMES, STAMPS};
 use crate::kept_texts::{NAMED, PARTS, TIMES};
 use crate::limits::{BREAKS, ONES, SOUND};
 use crate::patterns::PATTERNED;
 use crate::readings::{BOUNDS, DATE_FORMATS, DATES, FULL, NO_FORMATS, NUMBERS, TEXTS};
 use csvw_datatype::{
     Broken, Datatype, DateFormat, DatePart, Facets, Floating, Format, MomentFormat, NumberFormat,
-    RegularExpression, Simple, TextType, TimeFormat, TruthFormat, Value, Width,
+    RegularExpression, Simple, TextType, TimeFormat, TruthFormat, Value, Width, Zone,
 };
 use csvw_datatype_core::NumberPattern;
 use csvw_text::Text;
@@ -312,6 +313,8 @@ fn all_hold(rt: &impl Abort, alloc: Global) -> Result<(), AllocError> {
         &PARTS,
         &TIMES,
         &NAMED,
+        &DATE_TIMES,
+        &STAMPS,
     ] {
         rows_hold(rt, alloc, rows)?;
     }
@@ -324,9 +327,14 @@ fn texts_under_datatypes(rt: HostRuntime) -> Result<(), Fail> {
 }
 
 /// Names of datatypes, and their bases.
-static NAMES: [(&str, Option<Simple>); 16] = [
+static NAMES: [(&str, Option<Simple>); 18] = [
     ("dateTime", Some(Simple::Moment)),
     ("datetime", Some(Simple::Moment)),
+    (
+        "dateTimeStamp",
+        Some(Simple::Other(TextType::DateTime(Zone::Required))),
+    ),
+    ("datetimestamp", None),
     ("unsignedShort", Some(Simple::Derived(Width::UnsignedShort))),
     ("float", Some(Simple::Floating(Floating::Float))),
     ("number", Some(Simple::Floating(Floating::Double))),
@@ -358,9 +366,32 @@ fn names_each(rt: &impl Abort, names: &[(&str, Option<Simple>)]) {
     }
 }
 
+/// Types of moments with zones, their names and their IRIs.
+static ZONED: [(Zone, &str, &str); 2] = [
+    (
+        Zone::Optional,
+        "dateTime",
+        "http://www.w3.org/2001/XMLSchema#dateTime",
+    ),
+    (
+        Zone::Required,
+        "dateTimeStamp",
+        "http://www.w3.org/2001/XMLSchema#dateTimeStamp",
+    ),
+];
+
+fn zoned_each(rt: &impl Abort, rows: &[(Zone, &str, &str)]) {
+    for (zone, name, iri) in rows {
+        let text_type = TextType::DateTime(*zone);
+        assert!(rt; Simple::Other(text_type).name() == *name, "{name}");
+        assert!(rt; text_type.iri() == *iri, "{iri}");
+    }
+}
+
 #[test]
 fn names(rt: HostRuntime) {
     names_each(&rt, &NAMES);
+    zoned_each(&rt, &ZONED);
     assert!(rt; Simple::Moment.name() == "dateTime" && Simple::Uri.name() == "anyURI");
 }
 

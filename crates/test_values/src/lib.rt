@@ -10,6 +10,8 @@ mod copies;
 #[cfg(test)]
 mod datatypes;
 #[cfg(test)]
+mod date_times;
+#[cfg(test)]
 mod doubles;
 #[cfg(test)]
 mod encoded;
