@@ -41,6 +41,10 @@ EXPRESSIONS = r"""{"@context":"http://www.w3.org/ns/csvw","url":"e.csv","tableSc
 {"name":"word","datatype":{"base":"token","format":"\\w{1,60}","maxLength":50}},
 {"name":"tags","separator":";","datatype":{"base":"language","format":"(?i)en(-.*)?|de"}}]}}"""
 
+MOMENTS = """{"@context":"http://www.w3.org/ns/csvw","url":"m.csv","tableSchema":{"primaryKey":"at","columns":[
+{"name":"at","datatype":"dateTime"},
+{"name":"stamp","separator":";","datatype":"dateTimeStamp"}]}}"""
+
 # The small files of the groups that are not in examples/.
 FILES = {
     "keys/meta.json": KEYS,
@@ -52,6 +56,9 @@ FILES = {
     "notes/p.csv": "id\n1\n",
     "expressions/meta.json": EXPRESSIONS,
     "expressions/e.csv": f"code,word,tags\nAB12,é{'ab' * 25},en-GB;de\nABx,a b,EN;fr\na,,\n",
+    "moments/meta.json": MOMENTS,
+    "moments/m.csv": f"at,stamp\n2020-01-31T08:30:00.{'12' * 30}+01:00,2020-01-31T08:30:00Z;2020-02-29T23:59:59.5-14:00\n"
+                     "2020-01-31T08:30:00,2020-01-31T08:30:00\n2020-01-31T08:30:00.0,\n",
     "ragged.csv": "id\n1\n2\n3,4\n",
     "empty.csv": "",
 }
@@ -82,6 +89,7 @@ RUNS = [
     Run("notes", group("convert", "notes", "p.csv")),
     Run("regular expressions", group("convert --minimal --profile w3c", "expressions", "e.csv")),
     Run("regular expressions, validate", group("validate --profile w3c", "expressions", "e.csv")),
+    Run("moments with zones", group("convert --minimal --profile w3c", "moments", "m.csv")),
     Run("a document that is refused", group("convert", "twice", "prices.csv", "prices.csv")),
     Run("too few files", group("convert", "rivers", "stations.csv")),
     Run("help", ["--help"]),
