@@ -88,6 +88,7 @@ fn run_draft<O: Opener, W: Write, V: Write>(
     let asked = Draft {
         base: asked.base,
         files: asked.files.as_slice(),
+        profile: profile_of(asked.profile),
     };
     match draft(alloc, &asked, opener, out, err) {
         Ok(()) => SUCCESS,

@@ -92,9 +92,10 @@ inspect_app =
     with_rule (with_rule (with_rule (with_rule (with_rule (new_app (codes "inspect")) (option_rule (codes "base"))) (required_rule (codes "META")))
     (flag_rule (codes "json"))) (flag_rule (codes "explain"))) (option_rule (codes "profile"))
 
--- the subcommand `draft [--base URL] FILE..`
+-- the subcommand `draft [--base URL] FILE.. [--profile NAME]`
 abbrev pub draft_app : App
-draft_app = with_rule (with_rule (new_app (codes "draft")) (option_rule (codes "base"))) files_rule
+draft_app =
+    with_rule (with_rule (with_rule (new_app (codes "draft")) (option_rule (codes "base"))) files_rule) (option_rule (codes "profile"))
 
 -- the subcommand `split --parts N --base URL META FILE.. [--profile NAME]`
 abbrev pub split_app : App
@@ -208,6 +209,7 @@ pub record ReadsDraft (name : Text) (rows : List Row) (asked : DraftedFiles) : T
   pub name_is : name ≡ codes "draft"
   pub base_is : first_of (codes "base") rows ≡ option_map (λ base. base.now) asked.base
   pub files_are : texts_of (all_of (codes "FILE") rows) ≡ map (λ file. file.now) asked.files.items
+  pub profile_is : first_of (codes "profile") rows ≡ option_map (λ profile. profile.now) asked.profile
 
 -- the word writes a number that is a u32
 abbrev pub IsCountWord : Text → Type 0

@@ -51,6 +51,7 @@ pub(crate) const DRAFT: &str = "\
 Examples:
   csvw draft t.csv > t.json
   csvw draft --base http://example.org/ a.csv b.csv > tables.json
+  csvw draft --profile w3c t.csv > t.json      with the datatypes of the profile w3c
 
 What it finds in the tables is a first guess: read it, and then run `csvw check` with it.";
 

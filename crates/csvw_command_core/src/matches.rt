@@ -128,6 +128,7 @@ fn draft_in<'a>(alloc: Global, matches: &ArgMatches<'a>) -> Result<Request<'a>, 
     Ok(Request::Draft(DraftedFiles {
         base: matches.get_str(BASE),
         files: files_in(alloc, matches)?,
+        profile: matches.get_str(PROFILE),
     }))
 }
 

@@ -131,11 +131,11 @@ fn has_known_profile(request: &Request<'_>) -> bool
         Request::Convert { group, .. } => knows_profile(group.profile),
         Request::Check(asked) => knows_profile(asked.profile),
         Request::Inspect(asked) => knows_profile(asked.profile),
+        Request::Draft(asked) => knows_profile(asked.profile),
         Request::Split(asked) => knows_profile(asked.profile),
         Request::Keys(asked) => knows_profile(asked.profile),
         Request::Plain { .. }
         | Request::Explain(_)
-        | Request::Draft(_)
         | Request::Report(_)
         | Request::Completions(_)
         | Request::Manual => true,

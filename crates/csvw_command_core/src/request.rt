@@ -87,6 +87,8 @@ pub struct DraftedFiles<'a> {
     pub base: Option<&'a str>,
     /// The files of the tables, in the order of the words.
     pub files: Vec<&'a str>,
+    /// The name of the profile of the document, if one is given.
+    pub profile: Option<&'a str>,
 }
 
 /// Tables whose files are split into parts.

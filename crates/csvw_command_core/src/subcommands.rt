@@ -193,6 +193,7 @@ fn draft_command<'a>(alloc: Global) -> Result<Command<'a>, AllocError>
     let args = vec![in alloc;
         option(alloc, BASE, URL, argument_help::DRAFT_BASE),
         files(alloc, argument_help::FILES),
+        option(alloc, PROFILE, "core|w3c", argument_help::PROFILE),
     ]?;
     Command::new(alloc, DRAFT)
         .about("Drafts a metadata document for CSV files")

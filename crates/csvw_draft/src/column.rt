@@ -1,7 +1,9 @@
 //! One column of a table while its cells are read.
 
-use crate::kept::{Kept, Purpose, Room};
+use crate::aim::Aim;
+use crate::kept::{Kept, Room};
 use crate::kind::Kind;
+use crate::marker::marker_of;
 use crate::narrowed::Narrowed;
 use csvw_datatype::Value;
 use csvw_text::collapse;
@@ -13,8 +15,10 @@ pub(crate) struct Column {
     alloc: Global,
     /// The text of its header cell.
     pub(crate) title: String,
-    /// The datatypes that its texts have.
+    /// The datatypes that its texts have, except for the markers of missing values.
     narrowed: Narrowed,
+    /// The different markers of missing values among its texts.
+    markers: Vec<&'static str>,
     /// Whether a cell is empty.
     has_empty: bool,
     /// Whether a cell that isn't empty has only white space.
@@ -31,15 +35,21 @@ fn has_white(text: &str) -> bool {
 }
 
 impl Column {
-    /// Makes a column with no cell yet. Returns `AllocError` if memory runs out.
-    pub(crate) fn new(alloc: Global, title: &str, purpose: Purpose) -> Result<Column, AllocError> {
+    /// Makes a column with no cell yet, of a file with this delimiter. Returns `AllocError` if memory runs out.
+    pub(crate) fn new(
+        alloc: Global,
+        title: &str,
+        aim: Aim,
+        delimiter: char,
+    ) -> Result<Column, AllocError> {
         Ok(Column {
             alloc,
             title: String::from_str(alloc, title)?,
-            narrowed: Narrowed::new(alloc)?,
+            narrowed: Narrowed::new(alloc, aim.profile, delimiter)?,
+            markers: Vec::new(alloc),
             has_empty: false,
             has_blank: false,
-            kept: Kept::new(alloc, purpose),
+            kept: Kept::new(alloc, aim.purpose),
         })
     }
 
@@ -54,16 +64,23 @@ impl Column {
             return Ok(());
         }
         if !has_white(text) {
-            self.narrowed.take(text);
-            return Ok(());
+            return self.narrow(text);
         }
         let collapsed = collapse(self.alloc, text)?;
         if collapsed.is_empty() {
             self.has_blank = true;
-        } else {
-            self.narrowed.take(collapsed.as_str());
+            return Ok(());
         }
-        Ok(())
+        self.narrow(collapsed.as_str())
+    }
+
+    /// Takes a text whose white space is collapsed. Returns `AllocError` if memory runs out.
+    fn narrow(&mut self, text: &str) -> Result<(), AllocError> {
+        match marker_of(text) {
+            Some(marker) if self.markers.contains(&marker) => Ok(()),
+            Some(marker) => Ok(self.markers.push(marker)?),
+            None => self.narrowed.take(self.alloc, text),
+        }
     }
 
     /// Takes a cell that is empty.
@@ -76,9 +93,20 @@ impl Column {
         self.narrowed.kind()
     }
 
+    /// Returns the markers of missing values among its texts. In a column of texts a marker is a text as others.
+    pub(crate) fn markers(&self) -> &[&'static str] {
+        if self.kind() == Kind::Text {
+            &[]
+        } else {
+            self.markers.as_slice()
+        }
+    }
+
     /// Returns whether no cell is null by its datatype. Only texts keep white space.
     pub(crate) fn is_full(&self) -> bool {
-        !self.has_empty && (!self.has_blank || self.kind() == Kind::Text)
+        !self.has_empty
+            && (!self.has_blank || self.kind() == Kind::Text)
+            && self.markers().is_empty()
     }
 
     /// Returns its different values in order if each cell has one and no two have the same. Returns `None` if that isn't so,

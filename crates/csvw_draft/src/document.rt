@@ -1,9 +1,10 @@
 //! The document of a draft.
 
+use crate::column::Column;
 use crate::form::{Comments, Form};
 use crate::keys::{ForeignKey, Named, foreign_keys, key_name, name_at};
 use crate::kind::Kind;
-use csvw_datatype_core::{DateFormat, MomentFormat};
+use csvw_datatype_core::{DateFormat, MomentFormat, TimeFormat};
 use serde::Serialize;
 use serde_json::to_string_pretty;
 use std::alloc::{AllocError, Global};
@@ -44,6 +45,13 @@ struct DialectPart {
     skip_blank_rows: Option<bool>,
 }
 
+/// How numbers are written.
+#[derive(Drop, Serialize)]
+#[serde(rename_all = "camelCase")]
+struct NumberFormatPart {
+    decimal_char: char,
+}
+
 /// A datatype.
 #[derive(Drop, Serialize)]
 #[serde(untagged)]
@@ -52,6 +60,10 @@ enum DatatypePart {
     WithFormat {
         base: &'static str,
         format: &'static str,
+    },
+    WithNumberFormat {
+        base: &'static str,
+        format: NumberFormatPart,
     },
 }
 
@@ -64,6 +76,8 @@ struct ColumnPart<'a> {
     titles: Option<&'a str>,
     #[serde(skip_serializing_if = "Option::is_none")]
     datatype: Option<DatatypePart>,
+    #[serde(skip_serializing_if = "Option::is_none")]
+    null: Option<Vec<&'a str>>,
     #[serde(skip_serializing_if = "Option::is_none")]
     required: Option<bool>,
 }
@@ -164,6 +178,10 @@ fn datatype_part(kind: Kind) -> Option<DatatypePart> {
         Kind::Truth => Some(DatatypePart::Name("boolean")),
         Kind::Whole => Some(DatatypePart::Name("integer")),
         Kind::Decimal => Some(DatatypePart::Name("decimal")),
+        Kind::DecimalComma => Some(DatatypePart::WithNumberFormat {
+            base: "decimal",
+            format: NumberFormatPart { decimal_char: ',' },
+        }),
         Kind::Day(DateFormat::YearFirst) => Some(DatatypePart::Name("date")),
         Kind::Day(format) => Some(DatatypePart::WithFormat {
             base: "date",
@@ -174,7 +192,27 @@ fn datatype_part(kind: Kind) -> Option<DatatypePart> {
             base: "dateTime",
             format: format.pattern(),
         }),
+        Kind::Double => Some(DatatypePart::Name("double")),
+        Kind::Time(TimeFormat::Seconds) => Some(DatatypePart::Name("time")),
+        Kind::Time(format) => Some(DatatypePart::WithFormat {
+            base: "time",
+            format: format.pattern(),
+        }),
+        Kind::MomentWithZone => Some(DatatypePart::Name("dateTime")),
     }
+}
+
+/// Returns the texts of cells that are null, or `None` if only empty cells are, which is the default.
+fn null_part<'a>(alloc: Global, column: &'a Column) -> Result<Option<Vec<&'a str>>, AllocError> {
+    if column.markers().is_empty() {
+        return Ok(None);
+    }
+    let mut texts = Vec::new(alloc);
+    texts.push("")?;
+    for marker in column.markers() {
+        texts.push(*marker)?;
+    }
+    Ok(Some(texts))
 }
 
 /// Returns the columns of a table.
@@ -186,6 +224,7 @@ fn column_parts<'a>(alloc: Global, named: &'a Named) -> Result<Vec<ColumnPart<'a
             name,
             titles: name.map(|_| column.title.as_str()),
             datatype: datatype_part(column.kind()),
+            null: null_part(alloc, column)?,
             required: (named.table.has_row && column.is_full()).then_some(true),
         })?;
     }

@@ -3,6 +3,7 @@ ghost use Rattle.std.specs.Prelude.{◌≡◌, ◌≢◌, true, false, Ok, Err, 
 ghost use Rattle.csvw_streams.specs.Streams.{IsCut, IsIdle, Sends, stream_of};
 ghost use Rattle.csvw_draft.specs.Drafts.{IsDocument, SendsDocument, CutsDocument, url_of};
 
+use crate::aim::Aim;
 use crate::asked::Draft;
 use crate::document::document;
 use crate::halt::Halt;
@@ -15,7 +16,7 @@ use crate::urls::{last_part, urls_of};
 use csvw_columns::Plan;
 use csvw_engine_core::Stop;
 use csvw_files::{Opener, note_unread};
-use csvw_meta::{Description, MetaFault, ReadDescription};
+use csvw_meta::{Description, MetaFault, Profile, ReadDescription};
 use csvw_streams::{Counted, write_out};
 use std::alloc::{AllocError, Global};
 use std::io::Write;
@@ -25,7 +26,7 @@ const UNKNOWN_URL: &str = "file:///metadata.json";
 
 /// Writes a first metadata document of some tables to `out`. It reads each file once.
 ///
-/// The document has no fault at the URL of `base`, or at `UNKNOWN_URL`. `Read` comes if a file can't be opened or read. `Rows` and
+/// The document has no fault in its profile at the URL of `base`, or at `UNKNOWN_URL`. `Read` comes if a file can't be opened or read. `Rows` and
 /// `Table` come if a text has no rows, or its rows no columns, as in a run. `Meta` comes if the document would have a fault: the base
 /// is no URL, two files have one URL, or there is no file, more than 64 or too much text. Of the columns whose values weren't all kept,
 /// `err` has a line each.
@@ -36,8 +37,8 @@ pub fn draft<O: Opener, W: Write, V: Write>(
     out: &mut Counted<W>,
     err: &mut Counted<V>,
 ) -> Result<(), Stop>
-    ensures sent { OnOk result (SendsDocument (url_of asked.now) (stream_of W.contents out.old out.new)) }
-    ensures cut { result ≡ Err Stop.Write → CutsDocument (url_of asked.now) (stream_of W.contents out.old out.new) }
+    ensures sent { OnOk result (SendsDocument asked.now.profile (url_of asked.now) (stream_of W.contents out.old out.new)) }
+    ensures cut { result ≡ Err Stop.Write → CutsDocument asked.now.profile (url_of asked.now) (stream_of W.contents out.old out.new) }
     ensures idle { IfErr result (λ stop. stop ≢ Stop.Write → IsIdle (stream_of W.contents out.old out.new)) }
 {
     match drafted(alloc, asked, opener, err) {
@@ -80,10 +81,10 @@ fn drafted<O: Opener, V: Write>(
     opener: &mut O,
     err: &mut Counted<V>,
 ) -> Result<String, Halt>
-    ensures { IfOk result (λ text. IsDocument (url_of asked.now) (string_bytes text)) }
+    ensures { IfOk result (λ text. IsDocument asked.now.profile (url_of asked.now) (string_bytes text)) }
 {
     let text = written(alloc, asked, opener, err)?;
-    match judged(alloc, text.as_bytes(), url_of(asked)) {
+    match judged(alloc, text.as_bytes(), url_of(asked), asked.profile) {
         Ok(()) => Ok(text),
         Err(fault) => Err(Halt::of_fault(fault)),
     }
@@ -97,16 +98,16 @@ fn written<O: Opener, V: Write>(
     err: &mut Counted<V>,
 ) -> Result<String, Halt> {
     let mut tables = Vec::new(alloc);
-    push_tables(&mut tables, asked.files, opener, err)?;
+    push_tables(&mut tables, asked, opener, err)?;
     let urls = urls_of(alloc, asked.files)?;
     Ok(document(alloc, asked.base, tables.as_slice(), urls.as_slice())?)
 }
 
 /// Reads the document as a run does. Fails with its fault, if it has one.
-fn judged(alloc: Global, bytes: &[u8], url: &str) -> Result<(), MetaFault>
-    ensures { OnOk result (IsDocument url.now bytes.now) }
+fn judged(alloc: Global, bytes: &[u8], url: &str, profile: Profile) -> Result<(), MetaFault>
+    ensures { OnOk result (IsDocument profile url.now bytes.now) }
 {
-    let description = Description::read(alloc, bytes, url)?;
+    let description = Description::read_by(alloc, bytes, url, profile)?;
     Plan::build(alloc, description)?;
     Ok(())
 }
@@ -130,7 +131,7 @@ fn read_named<O: Opener, V: Write>(
 /// Adds the table of each file.
 fn push_tables<O: Opener, V: Write>(
     tables: &mut Vec<Named>,
-    files: &[&str],
+    asked: &Draft<'_>,
     opener: &mut O,
     err: &mut Counted<V>,
 ) -> Result<(), Halt> {
@@ -138,13 +139,16 @@ fn push_tables<O: Opener, V: Write>(
     let mut room = Room::new();
     let mut place = Place {
         number: 0,
-        purpose: if files.len() > 1 {
-            Purpose::AnyKey
-        } else {
-            Purpose::PrimaryKey
+        aim: Aim {
+            purpose: if asked.files.len() > 1 {
+                Purpose::AnyKey
+            } else {
+                Purpose::PrimaryKey
+            },
+            profile: asked.profile,
         },
     };
-    for path in files {
+    for path in asked.files {
         place.number = place.number.saturating_add(1);
         let table = read_named(path, opener, place, &mut room, (alloc, err))?;
         tables.push(Named::new(alloc, table))?;

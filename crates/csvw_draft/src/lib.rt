@@ -1,14 +1,14 @@
 //! A first metadata document of tables: their dialects, columns, datatypes and keys, as far as their rows show them.
 //!
 //! ```text
-//! let asked = Draft { base: None, files: &["stations.csv", "readings.csv"] };
+//! let asked = Draft { base: None, files: &["stations.csv", "readings.csv"], profile: Profile::Core };
 //! draft(alloc, &asked, &mut opener, &mut out, &mut err)?;
 //! ```
 //!
 //! # Promises
 //!
-//! - `draft` sends a metadata document that has no fault at its URL (`IsDocument`), or a front of it before the stream fails. If it
-//!   stops for another reason than `Write`, it sends nothing.
+//! - `draft` sends a metadata document that has no fault at its URL in its profile (`IsDocument`), or a front of it before the stream
+//!   fails. If it stops for another reason than `Write`, it sends nothing.
 //! - The datatype of a column reads each text that it was narrowed by (`Narrowed::take` and `kind`, `ReadAll`).
 //! - Only tests check the rest: that the document fits its tables, its dialect, names and keys, and the lines on `err`.
 //!
@@ -18,6 +18,9 @@
 //!   `'`. Lines without the delimiter above the header are skipped, and so are blank rows that don't fit the table.
 //! - A column has its header cell as `titles`, and a `name` made from it. A column whose header cell is empty has neither.
 //! - Its datatype is the narrowest one that reads each of its texts: `boolean`, `integer`, `decimal`, `date`, `dateTime` or `string`.
+//!   In the profile w3c it may also be `double`, `time`, or `dateTime` with a zone or parts of a second. A decimal may have a comma if
+//!   the delimiter is `;`.
+//! - If its texts have that datatype except for markers of missing values, as `NA` or `-`, these markers are its `null`.
 //! - It is `required` if no cell is null by that datatype.
 //! - The primary key is the first column in which each cell has a value and no two have the same.
 //! - A column refers to the key of another table if its name says so, it has the same datatype, and each of its values is one of the key.
@@ -25,6 +28,7 @@
 //!   which more would be needed.
 #![tactic(auto)]
 
+mod aim;
 mod asked;
 mod column;
 mod document;
@@ -34,6 +38,7 @@ mod halt;
 mod kept;
 mod keys;
 mod kind;
+mod marker;
 mod names;
 mod narrowed;
 mod note;

@@ -1,8 +1,9 @@
 //! Reads the file of a table, once.
 
+use crate::aim::Aim;
 use crate::form::{Front, form_of};
 use crate::halt::Halt;
-use crate::kept::{Purpose, Room};
+use crate::kept::Room;
 use crate::table::Table;
 use csvw_files::Opener;
 use csvw_records::RowStop;
@@ -17,13 +18,13 @@ const PIECE: usize = 65_536;
 /// How many rows of all kinds a table may have.
 const MAX_ROWS: u64 = 4_000_000_000;
 
-/// A table's number from 1, and what its texts are kept for.
+/// A table's number from 1, and what its columns are read for.
 #[derive(Clone, Copy)]
 pub(crate) struct Place {
     /// The number.
     pub(crate) number: u32,
-    /// The purpose.
-    pub(crate) purpose: Purpose,
+    /// What its columns are read for.
+    pub(crate) aim: Aim,
 }
 
 /// Reads until the room is full or the reader ends. Returns how many bytes it read.
@@ -124,7 +125,7 @@ fn read_pieces<R: Read>(
     let Some(mut rows) = form.rows(alloc, MAX_ROWS)? else {
         return Err(Halt::Memory);
     };
-    let mut table = Table::new(alloc, form, place.purpose);
+    let mut table = Table::new(alloc, form, place.aim);
     let mut reading = Reading {
         table: &mut table,
         rows: &mut rows,

@@ -1,8 +1,9 @@
 //! One table while its rows are read.
 
+use crate::aim::Aim;
 use crate::column::Column;
 use crate::form::{Comments, Form, is_blank};
-use crate::kept::{Purpose, Room};
+use crate::kept::Room;
 use csvw_rows::RawRow;
 use std::alloc::{AllocError, AllocFailed, Global};
 
@@ -38,8 +39,8 @@ pub(crate) struct Table {
     alloc: Global,
     /// What its dialect was found to be.
     pub(crate) form: Form,
-    /// What its texts are kept for.
-    purpose: Purpose,
+    /// What its columns are read for.
+    aim: Aim,
     /// Its columns, once its header was read.
     pub(crate) columns: Vec<Column>,
     /// Whether its header was read.
@@ -56,11 +57,11 @@ pub(crate) struct Table {
 
 impl Table {
     /// Makes a table with no row yet. It takes no memory.
-    pub(crate) fn new(alloc: Global, form: Form, purpose: Purpose) -> Table {
+    pub(crate) fn new(alloc: Global, form: Form, aim: Aim) -> Table {
         Table {
             alloc,
             form,
-            purpose,
+            aim,
             columns: Vec::new(alloc),
             has_header: false,
             has_row: false,
@@ -107,8 +108,12 @@ impl Table {
         }
         self.has_header = true;
         for i in 0..row.len() {
-            self.columns
-                .push(Column::new(self.alloc, row.field(i), self.purpose)?)?;
+            self.columns.push(Column::new(
+                self.alloc,
+                row.field(i),
+                self.aim,
+                self.form.delimiter,
+            )?)?;
         }
         Ok(())
     }
