@@ -1,7 +1,7 @@
-//! What to write in place of a pattern of numbers or a regular expression that is refused (Model for Tabular Data and
-//! Metadata on the Web, sections 6.4.2 and 6.4.6).
+//! What to write in place of a format that is refused (Model for Tabular Data and Metadata on the Web, sections 6.4.2, 6.4.4
+//! and 6.4.6).
 
-use csvw_datatype::Simple;
+use csvw_datatype::{Simple, TextType};
 use csvw_meta::MetaCode;
 use serde_json::Value;
 use std::alloc::{AllocError, Global};
@@ -22,6 +22,17 @@ const EXPRESSION_NEEDED: &str =
 const EXPRESSION_WRITTEN: &str =
     "    the text is no regular expression: its syntax is that of the Rust crate regex, as `[A-Z]{2}[0-9]+`, without `\\i`, `\\c`, look-around and back-references\n";
 
+/// The patterns of dates.
+const DATE_PATTERNS: &str =
+    "    the format of a date is yyyy-MM-dd, yyyyMMdd, dd-MM-yyyy, d-M-yyyy, MM-dd-yyyy or M-d-yyyy: the last four may have `/` or `.` in place of `-`\n";
+
+/// The patterns of moments.
+const MOMENT_PATTERNS: &str =
+    "    the format of a dateTime is yyyy-MM-ddTHH:mm:ss or yyyy-MM-ddTHH:mm\n";
+
+/// The patterns of times of day.
+const TIME_PATTERNS: &str = "    the format of a time is HH:mm:ss, HHmmss, HH:mm or HHmm\n";
+
 /// What a format describes.
 #[derive(Clone, Copy)]
 enum Described {
@@ -29,9 +40,15 @@ enum Described {
     Numbers,
     /// Texts, by a regular expression.
     Texts,
+    /// Dates, by a pattern.
+    Dates,
+    /// Moments, by a pattern.
+    Moments,
+    /// Times of day, by a pattern.
+    Times,
 }
 
-/// Returns what a text as the format of a datatype describes, if it may be a pattern of numbers or a regular expression.
+/// Returns what a text as the format of a datatype describes, if it may be a pattern or a regular expression.
 fn described_by(datatype: &Value) -> Option<Described> {
     let simple = match datatype.get("base") {
         Some(base) => base.as_str().and_then(Simple::of)?,
@@ -39,6 +56,9 @@ fn described_by(datatype: &Value) -> Option<Described> {
     };
     match simple {
         Simple::Whole | Simple::Decimal | Simple::Derived(_) => Some(Described::Numbers),
+        Simple::Day => Some(Described::Dates),
+        Simple::Moment => Some(Described::Moments),
+        Simple::Other(TextType::Time) => Some(Described::Times),
         simple if simple.takes_expression() => Some(Described::Texts),
         _ => None,
     }
@@ -52,13 +72,26 @@ fn described_at(document: &Value, pointer: &str) -> Option<Described> {
     match pointer.strip_suffix("/format/pattern") {
         Some(datatype) => match described_by(document.pointer(datatype)?)? {
             Described::Numbers => Some(Described::Numbers),
-            Described::Texts => None,
+            _ => None,
         },
         None => described_by(document.pointer(pointer.strip_suffix("/format")?)?),
     }
 }
 
-/// Adds what patterns of numbers or regular expressions need, or how they are written, if the pointer is that of one.
+/// Returns what a format of this kind needs, or how it is written.
+fn hint_of(described: Described, code: MetaCode) -> &'static str {
+    match (described, code) {
+        (Described::Numbers, MetaCode::NotSupported) => PATTERN_NEEDED,
+        (Described::Numbers, _) => PATTERN_WRITTEN,
+        (Described::Texts, MetaCode::NotSupported) => EXPRESSION_NEEDED,
+        (Described::Texts, _) => EXPRESSION_WRITTEN,
+        (Described::Dates, _) => DATE_PATTERNS,
+        (Described::Moments, _) => MOMENT_PATTERNS,
+        (Described::Times, _) => TIME_PATTERNS,
+    }
+}
+
+/// Adds what a pattern or a regular expression needs, or how it is written, if the pointer is that of one.
 pub(crate) fn push_format_hint(
     hints: &mut String,
     alloc: Global,
@@ -69,11 +102,8 @@ pub(crate) fn push_format_hint(
     let Ok(document) = Value::from_slice(alloc, bytes) else {
         return Ok(());
     };
-    match (described_at(&document, pointer), code) {
-        (Some(Described::Numbers), MetaCode::NotSupported) => hints.push_str(PATTERN_NEEDED),
-        (Some(Described::Numbers), _) => hints.push_str(PATTERN_WRITTEN),
-        (Some(Described::Texts), MetaCode::NotSupported) => hints.push_str(EXPRESSION_NEEDED),
-        (Some(Described::Texts), _) => hints.push_str(EXPRESSION_WRITTEN),
-        (None, _) => Ok(()),
+    match described_at(&document, pointer) {
+        Some(described) => hints.push_str(hint_of(described, code)),
+        None => Ok(()),
     }
 }
