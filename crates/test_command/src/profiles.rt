@@ -335,7 +335,7 @@ static PROFILES: [Case; 16] = [
 /// The line if a profile isn't known.
 const UNKNOWN: &[u8] = b"csvw: --profile takes core or w3c\n";
 
-static MISTAKES: [Case; 3] = [
+static MISTAKES: [Case; 4] = [
     Case {
         what: "a profile that there is not, validated",
         words: &[
@@ -368,6 +368,16 @@ static MISTAKES: [Case; 3] = [
     Case {
         what: "a profile that there is not, inspected",
         words: &["csvw", "inspect", "--profile", "", "m.json"],
+        files: &[],
+        end: End {
+            status: 2,
+            out: Just(b""),
+            err: Just(UNKNOWN),
+        },
+    },
+    Case {
+        what: "a profile that there is not, drafted",
+        words: &["csvw", "draft", "p.csv", "--profile", "w3"],
         files: &[],
         end: End {
             status: 2,

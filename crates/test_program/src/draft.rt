@@ -3,6 +3,7 @@
 use csvw_draft::{Draft, draft};
 use csvw_engine_core::Stop;
 use csvw_files::Opener;
+use csvw_meta::Profile;
 use csvw_streams::Counted;
 use serde_json::Value;
 use std::alloc::Global;
@@ -104,6 +105,7 @@ fn drafted(
     alloc: Global,
     files: &'static [File],
     base: Option<&str>,
+    profile: Profile,
     reads: u64,
 ) -> Option<String> {
     let mut paths = Vec::new(alloc);
@@ -115,6 +117,7 @@ fn drafted(
     let asked = Draft {
         base,
         files: paths.as_slice(),
+        profile,
     };
     match draft(
         alloc,
@@ -158,7 +161,7 @@ macro_rules! one {
     };
 }
 
-static DOCUMENTS: [Case; 14] = [
+static DOCUMENTS: [Case; 17] = [
     one!(
         "data/types.csv",
         "id,First Name,n,when,ok\n1,Ann,1.5,01/02/2023,true\n2,,2,13/02/2023,false\n",
@@ -256,6 +259,33 @@ static DOCUMENTS: [Case; 14] = [
             {"name":"k","titles":"k","datatype":"integer","required":true}]}}"#
     ),
     one!(
+        "commas.csv",
+        "a;b;c\n1,5;1,234;NA\n2;-0,5;\n",
+        r#"{"@context":"http://www.w3.org/ns/csvw","url":"commas.csv","dialect":{"delimiter":";"},"tableSchema":{"columns":[
+            {"name":"a","titles":"a","datatype":{"base":"decimal","format":{"decimalChar":","}},"required":true},
+            {"name":"b","titles":"b","datatype":{"base":"decimal","format":{"decimalChar":","}},"required":true},
+            {"name":"c","titles":"c"}],
+            "primaryKey":"a"}}"#
+    ),
+    one!(
+        "quoted.csv",
+        "a,b\n\"1,5\",1\n",
+        r#"{"@context":"http://www.w3.org/ns/csvw","url":"quoted.csv","tableSchema":{"columns":[
+            {"name":"a","titles":"a","required":true},
+            {"name":"b","titles":"b","datatype":"integer","required":true}],
+            "primaryKey":"a"}}"#
+    ),
+    one!(
+        "markers.csv",
+        "id,v,w,x\n1,NA,-,n/a\n2,1.5, : ,a\n3,,2,b\n4,NA,-,c\n",
+        r#"{"@context":"http://www.w3.org/ns/csvw","url":"markers.csv","tableSchema":{"columns":[
+            {"name":"id","titles":"id","datatype":"integer","required":true},
+            {"name":"v","titles":"v","datatype":"decimal","null":["","NA"]},
+            {"name":"w","titles":"w","datatype":"integer","null":["","-",":"]},
+            {"name":"x","titles":"x","required":true}],
+            "primaryKey":"id"}}"#
+    ),
+    one!(
         "comments.csv",
         "#id,name\n1,a\n",
         r##"{"@context":"http://www.w3.org/ns/csvw","url":"comments.csv","dialect":{"commentPrefix":null},"tableSchema":{"columns":[
@@ -288,16 +318,130 @@ static DOCUMENTS: [Case; 14] = [
     },
 ];
 
-#[test]
-fn tables_have_their_documents(rt: HostRuntime) {
-    let alloc = rt.alloc();
-    for case in &DOCUMENTS {
-        let found = drafted(alloc, case.files, None, u64::MAX).expect(&rt, "a draft");
+/// Drafts in the profile w3c. The last three have no text that only the profile w3c has a datatype for.
+static W3C_DOCUMENTS: [Case; 9] = [
+    one!(
+        "types.csv",
+        "n,d,t,c,m\n1,1e5,08:30,08:30:00,2020-01-31T08:30:00Z\n2,-INF,09:15,09:15:30,2020-01-31T09:00:00.5\n",
+        r#"{"@context":"http://www.w3.org/ns/csvw","url":"types.csv","tableSchema":{"columns":[
+            {"name":"n","titles":"n","datatype":"integer","required":true},
+            {"name":"d","titles":"d","datatype":"double","required":true},
+            {"name":"t","titles":"t","datatype":{"base":"time","format":"HH:mm"},"required":true},
+            {"name":"c","titles":"c","datatype":"time","required":true},
+            {"name":"m","titles":"m","datatype":"dateTime","required":true}],
+            "primaryKey":"n"}}"#
+    ),
+    one!(
+        "equal.csv",
+        "d,m\n1.0,2020-01-01T01:00:00+02:00\n1e0,2019-12-31T23:00:00Z\n",
+        r#"{"@context":"http://www.w3.org/ns/csvw","url":"equal.csv","tableSchema":{"columns":[
+            {"name":"d","titles":"d","datatype":"double","required":true},
+            {"name":"m","titles":"m","datatype":"dateTime","required":true}]}}"#
+    ),
+    one!(
+        "key.csv",
+        "d\n1\n INF \nNaN\n",
+        r#"{"@context":"http://www.w3.org/ns/csvw","url":"key.csv","tableSchema":{"columns":[
+            {"name":"d","titles":"d","datatype":"double","required":true}],
+            "primaryKey":"d"}}"#
+    ),
+    one!(
+        "seconds.csv",
+        "m,t\n2020-01-31T08:30:00.25,08:30:00\n2020-01-31T08:30:00,\n",
+        r#"{"@context":"http://www.w3.org/ns/csvw","url":"seconds.csv","tableSchema":{"columns":[
+            {"name":"m","titles":"m","datatype":"dateTime","required":true},
+            {"name":"t","titles":"t","datatype":"time"}],
+            "primaryKey":"m"}}"#
+    ),
+    Case {
+        files: &[
+            File {
+                path: "times.csv",
+                text: "id,name\n08:30,A\n09:15,B\n",
+            },
+            File {
+                path: "readings.csv",
+                text: "times_id,value\n09:15,2E0\n09:15,2\n",
+            },
+        ],
+        end: r#"{"@context":"http://www.w3.org/ns/csvw","tables":[
+            {"url":"times.csv","tableSchema":{"columns":[
+            {"name":"id","titles":"id","datatype":{"base":"time","format":"HH:mm"},"required":true},
+            {"name":"name","titles":"name","required":true}],
+            "primaryKey":"id"}},
+            {"url":"readings.csv","tableSchema":{"columns":[
+            {"name":"times_id","titles":"times_id","datatype":{"base":"time","format":"HH:mm"},"required":true},
+            {"name":"value","titles":"value","datatype":"double","required":true}],
+            "foreignKeys":[{"columnReference":"times_id","reference":{"resource":"times.csv","columnReference":"id"}}]}}]}"#,
+    },
+    one!(
+        "none.csv",
+        "t,h,m,z\n08:30,24:00,2020-01-31T08:30:00+15:00,2020-01-31\n08:30:15,00:00,2020-01-31T08:30:00Z,2020-01-31Z\n",
+        r#"{"@context":"http://www.w3.org/ns/csvw","url":"none.csv","tableSchema":{"columns":[
+            {"name":"t","titles":"t","required":true},
+            {"name":"h","titles":"h","required":true},
+            {"name":"m","titles":"m","required":true},
+            {"name":"z","titles":"z","required":true}],
+            "primaryKey":"t"}}"#
+    ),
+    one!(
+        "narrow.csv",
+        "a,b,c,d,e\n1,1.5,2020-01-31T08:30:00,20200131,true\n",
+        r#"{"@context":"http://www.w3.org/ns/csvw","url":"narrow.csv","tableSchema":{"columns":[
+            {"name":"a","titles":"a","datatype":"integer","required":true},
+            {"name":"b","titles":"b","datatype":"decimal","required":true},
+            {"name":"c","titles":"c","datatype":"dateTime","required":true},
+            {"name":"d","titles":"d","datatype":"integer","required":true},
+            {"name":"e","titles":"e","datatype":"boolean","required":true}],
+            "primaryKey":"a"}}"#
+    ),
+    one!(
+        "digits.csv",
+        "t\n0830\n08:30\n",
+        r#"{"@context":"http://www.w3.org/ns/csvw","url":"digits.csv","tableSchema":{"columns":[
+            {"name":"t","titles":"t","required":true}],
+            "primaryKey":"t"}}"#
+    ),
+    one!(
+        "minutes.csv",
+        "m\n2020-01-31T08:30\n2020-01-31T08:31\n",
+        r#"{"@context":"http://www.w3.org/ns/csvw","url":"minutes.csv","tableSchema":{"columns":[
+            {"name":"m","titles":"m","datatype":{"base":"dateTime","format":"yyyy-MM-ddTHH:mm"},"required":true}],
+            "primaryKey":"m"}}"#
+    ),
+];
+
+/// Drafts in the profile core of texts that only the profile w3c has a datatype for.
+static CORE_DOCUMENTS: [Case; 1] = [one!(
+    "strings.csv",
+    "d,t,m\n1e5,08:30,2020-01-31T08:30:00Z\n",
+    r#"{"@context":"http://www.w3.org/ns/csvw","url":"strings.csv","tableSchema":{"columns":[
+        {"name":"d","titles":"d","required":true},
+        {"name":"t","titles":"t","required":true},
+        {"name":"m","titles":"m","required":true}],
+        "primaryKey":"d"}}"#
+)];
+
+/// Fails if a case in a profile hasn't its document.
+fn each_has_its_document(rt: &impl Abort, alloc: Global, cases: &[Case], profile: Profile) {
+    for case in cases {
+        let found = drafted(alloc, case.files, None, profile, u64::MAX).expect(rt, "a draft");
         assert!(rt; found.as_str().ends_with("\n}\n"), "{found}");
-        let found = compact(alloc, found.as_str()).expect(&rt, "a document");
-        let wanted = compact(alloc, case.end).expect(&rt, "a wanted document");
+        let found = compact(alloc, found.as_str()).expect(rt, "a document");
+        let wanted = compact(alloc, case.end).expect(rt, "a wanted document");
         assert_eq!(rt; found.as_str(), wanted.as_str());
     }
+}
+
+#[test]
+fn tables_have_their_documents(rt: HostRuntime) {
+    each_has_its_document(&rt, rt.alloc(), &DOCUMENTS, Profile::Core);
+    each_has_its_document(&rt, rt.alloc(), &CORE_DOCUMENTS, Profile::Core);
+}
+
+#[test]
+fn a_profile_has_its_documents(rt: HostRuntime) {
+    each_has_its_document(&rt, rt.alloc(), &W3C_DOCUMENTS, Profile::W3c);
 }
 
 /// The text of a document, byte by byte.
@@ -331,7 +475,7 @@ static TABLE: [File; 1] = [File {
 #[test]
 fn documents_have_a_base(rt: HostRuntime) {
     let base = Some("http://example.org/");
-    let found = drafted(rt.alloc(), &TABLE, base, u64::MAX).expect(&rt, "a draft");
+    let found = drafted(rt.alloc(), &TABLE, base, Profile::Core, u64::MAX).expect(&rt, "a draft");
     assert_eq!(rt; found.as_str(), TEXT);
 }
 
@@ -374,7 +518,7 @@ static STOPS: [Case; 5] = [
 fn other_texts_have_stops(rt: HostRuntime) {
     let alloc = rt.alloc();
     for case in &STOPS {
-        let found = drafted(alloc, case.files, None, u64::MAX).expect(&rt, "a stop");
+        let found = drafted(alloc, case.files, None, Profile::Core, u64::MAX).expect(&rt, "a stop");
         assert_eq!(rt; found.as_str(), case.end);
     }
 }
@@ -383,13 +527,13 @@ fn other_texts_have_stops(rt: HostRuntime) {
 fn streams_fail(rt: HostRuntime) {
     let alloc = rt.alloc();
     assert_eq!(rt;
-        drafted(alloc, &TABLE, None, 0)
+        drafted(alloc, &TABLE, None, Profile::Core, 0)
             .expect(&rt, "a stop")
             .as_str(),
         "Read"
     );
     assert_eq!(rt;
-        drafted(alloc, &TABLE, None, 1)
+        drafted(alloc, &TABLE, None, Profile::Core, 1)
             .expect(&rt, "a stop")
             .as_str(),
         "Read"
@@ -403,12 +547,14 @@ fn streams_fail(rt: HostRuntime) {
     let here = Draft {
         base: None,
         files: &["t.csv"],
+        profile: Profile::Core,
     };
     let stop = draft(alloc, &here, &mut opener, &mut out, &mut err);
     assert_eq!(rt; stop, Err(Stop::Write));
     let missing = Draft {
         base: None,
         files: &["t.csv", "u.csv"],
+        profile: Profile::Core,
     };
     let stop = draft(alloc, &missing, &mut opener, &mut out, &mut err);
     assert_eq!(rt; stop, Err(Stop::Read));
